@@ -1,0 +1,9 @@
+pub mod Tables
+pub mod Find
+pub mod Bytes
+pub mod Gaps
+pub mod Codes
+pub mod Values
+pub mod Lexemes
+pub mod Steps
+pub mod Edges

@@ -1,0 +1,8 @@
+pub mod Find
+pub mod Bytes
+pub mod Gaps
+pub mod Words
+pub mod Slots
+pub mod Numbers
+pub mod Tokens
+pub mod Lexing
