@@ -5,8 +5,6 @@ use Rattle.token.proofs.Tables.{at}
 use borrow.Author.Needs.{needs}
 use Rattle.token.proofs.words.candidate.Statement.{statement}
 use Rattle.token.proofs.words.candidate.Tie as tie
-use Rattle.token.proofs.words.candidate.Reads as reads
-use Rattle.token.proofs.words.candidate.Lts as lts
 
 -- src/words.rt:107:5
 array-read-result : tie.Need-array-read-result

@@ -7,11 +7,6 @@ use Rattle.token.specs.Slots.{slotOf, candidateOf}
 use Rattle.token.proofs.Codes.{code-empty, code-long, code-no-candidate, code-other, code-is, candidate-below, slot-below}
 use Rattle.token.proofs.words.code.Statement.{statement}
 use Rattle.token.proofs.words.code.Tie as tie
-use Rattle.token.proofs.words.code.Reads as reads
-use Rattle.token.proofs.words.code.Lts as lts
-use Rattle.token.proofs.words.candidate.Reads as candidate-reads
-use Rattle.token.proofs.words.is_known.Reads as is-known-reads
-use Rattle.token.proofs.words.slot.Reads as slot-reads
 
 returns : tie.Need-returns
 returns c = sym (code-empty _ (c .if1 .taken))

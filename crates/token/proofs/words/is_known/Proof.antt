@@ -10,10 +10,6 @@ use Rattle.token.proofs.Codes.{short, different, same-end, same-next, s
 use borrow.Author.Needs.{needs}
 use Rattle.token.proofs.words.is_known.Statement.{statement}
 use Rattle.token.proofs.words.is_known.Tie as tie
-use Rattle.token.proofs.words.is_known.Reads as reads
-use Rattle.token.proofs.words.is_known.Lts as lts
-use Rattle.token.proofs.words.known_length.Reads as known-length-reads
-use Rattle.token.proofs.words.letter.Reads as letter-reads
 
 abbrev Inv-loop : tie.InvT-loop
 Inv-loop word k n j₀ j = (length (getD known k []) ≡ length word) × (j ≤ length word) × (same (drop j word) (drop j (getD known k [])) ≡ same word (getD known k []))

@@ -5,8 +5,6 @@ use Rattle.token.specs.Slots.{slotBy}
 use borrow.Author.Needs.{needs}
 use Rattle.token.proofs.words.slot.Statement.{statement}
 use Rattle.token.proofs.words.slot.Tie as tie
-use Rattle.token.proofs.words.slot.Reads as reads
-use Rattle.token.proofs.words.slot.Lts as lts
 
 -- src/words.rt:115:10
 mul-result : tie.Need-mul-result
