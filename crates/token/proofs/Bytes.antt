@@ -1,14 +1,18 @@
 -- What the number of a byte's class says of the byte.
 -- Assumes nothing.
 use Prim.Native.Nat.{ℕ, zero, suc, _+_, _≤_, _<_}
-use mathlib.Core.List.{List}
+use mathlib.Core.List.{List, [], _∷_}
+use mathlib.Core.Logic.{inl, inr}
+use native.Mathlib.Omega.{arith}
+use types.Run.{OneOf}
 use lib.ListN.{length, List·getD-eq-default}
-use mathlib.Core.Path.{_≡_, refl, sym, _∙_, ap}
+use mathlib.Core.Path.{_≡_, refl, sym, _∙_, ap, subst}
 use mathlib.Core.Bool.{Bool, true, false, not}
-use lib.Dec.{ltb, eqb}
-use borrow.Author.Tests.{lt-ltb, le-ltb, eq-eqb, ne-eqb, ltb-true}
+use lib.Dec.{T, leb, ltb, eqb, eqb→eq}
+use borrow.Author.Tests.{lt-ltb, le-ltb, le-leb, lt-leb, eq-eqb, ne-eqb, ltb-true}
 use Rattle.token.specs.Find.{pick, both, either, byte}
 use Rattle.token.specs.Bytes.{Class, letter, digit, blank, plusMinus, quote, punctuator, dot, slash, other, classOf, classCode, isLetter, isDigit, isBlank, isPlusMinus, isPunctuator, isWordByte, pairAt, wordEnd, findByte}
+use Rattle.token.proofs.Tables.{upTo, below}
 use Rattle.token.proofs.Find.{find-low, find-high}
 
 pub both-false : (a : Bool) → both a false ≡ false
@@ -18,6 +22,92 @@ both-false false = refl
 pub both-true : (a b : Bool) → both a b ≡ true → a ≡ true
 both-true true b e = refl
 both-true false b e = e
+
+either-false : (a : Bool) → either a false ≡ a
+either-false true = refl
+either-false false = refl
+
+-- ---- the tests of a byte, one after the other
+
+module _ (b : ℕ) where
+  pub letter-small : 97 ≤ b → leb b 122 ≡ isLetter b
+  letter-small h =
+      rw (le-leb 65 b (omega arith), lt-leb b 90 (omega arith), le-leb 97 b h, ne-eqb b 95 (λ e. omega arith)) (sym (either-false (leb b 122)))
+
+  pub letter-capital : 65 ≤ b → b < 97 → (b ≡ 95 → ⊥) → leb b 90 ≡ isLetter b
+  letter-capital h l f = rw (le-leb 65 b h, lt-leb 97 b l, ne-eqb b 95 f) (sym (either-false (leb b 90)))
+
+  pub letter-low : b < 65 → false ≡ isLetter b
+  letter-low h = rw (lt-leb 65 b h, lt-leb 97 b (omega arith), ne-eqb b 95 (λ e. omega arith))
+
+  pub digit-high : 48 ≤ b → leb b 57 ≡ isDigit b
+  digit-high h = rw (le-leb 48 b h)
+
+  pub digit-low : b < 48 → false ≡ isDigit b
+  digit-low h = rw (lt-leb 48 b h)
+
+  pub blank-high : 9 ≤ b → (b ≡ 32 → ⊥) → leb b 13 ≡ isBlank b
+  blank-high h f = rw (le-leb 9 b h, ne-eqb b 32 f) (sym (either-false (leb b 13)))
+
+  pub blank-low : b < 9 → false ≡ isBlank b
+  blank-low h = rw (lt-leb 9 b h, ne-eqb b 32 (λ e. omega arith))
+
+  pub punctuator-brackets : OneOf (91 ∷ 93 ∷ 123 ∷ 125 ∷ []) b → true ≡ isPunctuator b
+  punctuator-brackets (inl e) = sym (ap isPunctuator e)
+  punctuator-brackets (inr (inl e)) = sym (ap isPunctuator e)
+  punctuator-brackets (inr (inr (inl e))) = sym (ap isPunctuator e)
+  punctuator-brackets (inr (inr (inr e))) = sym (ap isPunctuator e)
+
+  pub punctuator-stop : OneOf (59 ∷ 61 ∷ []) b → true ≡ isPunctuator b
+  punctuator-stop (inl e) = sym (ap isPunctuator e)
+  punctuator-stop (inr e) = sym (ap isPunctuator e)
+
+  pub punctuator-comma : OneOf (44 ∷ 58 ∷ []) b → true ≡ isPunctuator b
+  punctuator-comma (inl e) = sym (ap isPunctuator e)
+  punctuator-comma (inr e) = sym (ap isPunctuator e)
+
+  pub punctuator-none : (OneOf (91 ∷ 93 ∷ 123 ∷ 125 ∷ []) b → ⊥) → (OneOf (59 ∷ 61 ∷ []) b → ⊥) → (OneOf (44 ∷ 58 ∷ []) b → ⊥) →
+      false ≡ isPunctuator b
+  punctuator-none f g h =
+      rw
+      (ne-eqb b 123 (λ e. f (inr (inr (inl e)))), ne-eqb b 125 (λ e. f (inr (inr (inr e)))), ne-eqb b 91 (λ e. f (inl e)),
+      ne-eqb b 93 (λ e. f (inr (inl e))), ne-eqb b 61 (λ e. g (inr e)), ne-eqb b 59 (λ e. g (inl e)), ne-eqb b 58 (λ e. h (inr e)),
+      ne-eqb b 44 (λ e. h (inl e)))
+
+-- where a test passes that only bytes of one class pass, which antt computes
+class-when : (t : ℕ → Bool) (v : ℕ) → T (upTo (λ b. either (not (t b)) (eqb (classCode (classOf b)) v)) 256) → (b : ℕ) → b < 256 →
+    t b ≡ true → v ≡ classCode (classOf b)
+class-when t v all b h e =
+    sym (eqb→eq _ v (subst (λ (a : Bool). T (either (not a) (eqb (classCode (classOf b)) v))) e (below (λ n. either (not (t n)) (eqb (classCode (classOf n)) v)) 256 all b h)))
+
+module _ (b : ℕ) where
+  pub class-letter : b < 256 → isLetter b ≡ true → 0 ≡ classCode (classOf b)
+  unfolding classOf
+  class-letter = class-when isLetter 0 tt b
+
+  pub class-digit : b < 256 → isDigit b ≡ true → 1 ≡ classCode (classOf b)
+  unfolding classOf
+  class-digit = class-when isDigit 1 tt b
+
+  pub class-blank : b < 256 → isBlank b ≡ true → 2 ≡ classCode (classOf b)
+  unfolding classOf
+  class-blank = class-when isBlank 2 tt b
+
+  pub class-punctuator : b < 256 → isPunctuator b ≡ true → 5 ≡ classCode (classOf b)
+  unfolding classOf
+  class-punctuator = class-when isPunctuator 5 tt b
+
+  pub class-sign : OneOf (43 ∷ 45 ∷ []) b → 3 ≡ classCode (classOf b)
+  unfolding classOf
+  class-sign (inl e) = sym (ap (λ (n : ℕ). classCode (classOf n)) e)
+  class-sign (inr e) = sym (ap (λ (n : ℕ). classCode (classOf n)) e)
+
+  pub class-other : isLetter b ≡ false → isDigit b ≡ false → isBlank b ≡ false → isPunctuator b ≡ false →
+      (OneOf (43 ∷ 45 ∷ []) b → ⊥) → (b ≡ 34 → ⊥) → (b ≡ 46 → ⊥) → (b ≡ 47 → ⊥) → 8 ≡ classCode (classOf b)
+  unfolding classOf
+  class-other l d k m s q o f =
+      rw
+      (l, d, k, ne-eqb b 43 (λ e. s (inl e)), ne-eqb b 45 (λ e. s (inr e)), ne-eqb b 34 q, m, ne-eqb b 46 o, ne-eqb b 47 f)
 
 low-two : (l d b p q m o s : Bool) →
     either l d

@@ -1,6 +1,6 @@
 -- The laws of comparing a word with the known words.
 -- Assumes nothing.
-use Prim.Native.Nat.{ℕ, zero, suc, _+_, _-_, _≤_, _<_}
+use Prim.Native.Nat.{ℕ, zero, suc, _+_, _-_, _*_, _/_, _%_, _≤_, _<_}
 use mathlib.Core.Path.{_≡_, refl, sym, _∙_, ap, ap₂, subst}
 use mathlib.Core.List.{List, [], _∷_}
 use mathlib.Core.Bool.{Bool, true, false, false≢true}
@@ -17,7 +17,7 @@ use Rattle.token.specs.Words.{known, same, codeIn, codeOf}
 use Rattle.token.proofs.Bytes.{both-false}
 use Rattle.token.specs.Slots.{slotBy, slotOf, candidateIn, candidateOf}
 use Rattle.token.proofs.Find.{by-test}
-use Rattle.token.proofs.Tables.{below}
+use Rattle.token.proofs.Tables.{valuesFrom, at, below}
 
 -- the known words have bytes, and less than twenty
 pub long : (k : ℕ) → k < 41 → 0 < length (getD known k [])
@@ -25,6 +25,17 @@ long k h = ltb→lt 0 (length (getD known k [])) (below (λ i. ltb 0 (length (ge
 
 pub short : (k : ℕ) → k < 41 → length (getD known k []) < 20
 short k h = ltb→lt (length (getD known k [])) 20 (below (λ i. ltb (length (getD known i [])) 20) 41 tt k h)
+
+-- the letters of the known words, twenty to a word: past a word's end spaces
+abbrev pub letters : List ℕ
+letters = valuesFrom (λ i. getD (getD known (i / 20) []) (i % 20) 32) 0 820
+
+pub letter-at : (k j : ℕ) → k < 41 → j < 20 → getD letters (k * 20 + j) 0 ≡ getD (getD known k []) j 32
+letter-at k j h l =
+    let row : (k * 20 + j) / 20 ≡ k = omega arith in
+    let column : (k * 20 + j) % 20 ≡ j = omega arith in
+    at (λ (i : ℕ). getD (getD known (i / 20) []) (i % 20) 32) 820 (k * 20 + j) (omega arith)
+    ∙ ap₂ (λ (n m : ℕ). getD (getD known n []) m 32) row column
 
 pub different : (xs ys : List ℕ) → (length ys ≡ length xs → ⊥) → same xs ys ≡ false
 unfolding same

@@ -49,14 +49,6 @@ const LETTERS: [u8; 820] = *b"TRUE                \
           BOOLEAN             \
           ENUM                ";
 
-// A letter of a known word, or a space past its end.
-pub fn letter(k: usize, j: usize) -> u8
-    requires { ⌜ (k < 41) × (j < 20) ⌝ }
-    ensures { λ r. ⌜ r ≡ getD (getD known k []) j 32 ⌝ }
-{
-    LETTERS[k * 20 + j]
-}
-
 // The lengths of the known words.
 const LENGTHS: [u8; 41] = *b"\x04\x05\x04\x0a\x09\x0b\x0e\x03\x02\x07\x04\x03\x07\x05\x08\x05\
     \x03\x07\x0e\x04\x02\x07\x0c\x09\x08\x0c\x0a\x0d\x0a\x08\x0c\x13\
@@ -79,9 +71,10 @@ pub fn is_known(word: &[u8], k: usize) -> bool
     if length != word.len() {
         return false;
     }
+    let letters = LETTERS;
     let mut j = 0;
     while j < word.len() {
-        if word[j] != letter(k, j) {
+        if word[j] != letters[k * 20 + j] {
             return false;
         }
         j += 1;

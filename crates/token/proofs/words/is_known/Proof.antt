@@ -6,16 +6,16 @@ use mathlib.Core.List.{[]}
 use Prim.Native.Nat.{_≤_, _-_}
 use lib.ListN.{length, getD, drop}
 use Rattle.token.specs.Words.{known, same}
-use Rattle.token.proofs.Codes.{short, different, same-end, same-next, same-stop}
+use Rattle.token.proofs.Codes.{short, letter-at, different, same-end, same-next, same-stop}
 use borrow.Author.Needs.{needs}
 use Rattle.token.proofs.words.is_known.Statement.{statement}
 use Rattle.token.proofs.words.is_known.Tie as tie
 
 abbrev Inv-loop : tie.InvT-loop
-Inv-loop word k n j₀ j = (length (getD known k []) ≡ length word) × (j ≤ length word) × (same (drop j word) (drop j (getD known k [])) ≡ same word (getD known k []))
+Inv-loop word k n letters j₀ j = (length (getD known k []) ≡ length word) × (j ≤ length word) × (same (drop j word) (drop j (getD known k [])) ≡ same word (getD known k []))
 
 abbrev μ-loop : tie.MeasureT-loop
-μ-loop word k n j₀ j = length word - j
+μ-loop word k n letters j₀ j = length word - j
 
 known-length-requires : tie.Need-known-length-requires Inv-loop μ-loop
 known-length-requires c κs = search needs
@@ -32,15 +32,25 @@ loop-holds c = (sym (c .before .known-length .ensures) ∙ c .if1 .left, omega a
 shared-slice-read-if2 : tie.Need-shared-slice-read-if2 Inv-loop μ-loop
 shared-slice-read-if2 c = search needs
 
-letter-requires : tie.Need-letter-requires Inv-loop μ-loop
-letter-requires c κs =
+mul-if2 : tie.Need-mul-if2 Inv-loop μ-loop
+mul-if2 c = search needs
+
+add-if2 : tie.Need-add-if2 Inv-loop μ-loop
+add-if2 c =
     let s = c .before .before .before .before .before .before in
-    (search needs, omega (arith, short (s .args .k) (s .pre)))
+    omega (arith, short (s .args .k) (s .pre))
+
+array-read-if2 : tie.Need-array-read-if2 Inv-loop μ-loop
+array-read-if2 c =
+    let s = c .before .before .before .before .before .before in
+    omega (arith, short (s .args .k) (s .pre))
 
 returns-2 : tie.Need-returns-2 Inv-loop μ-loop
 returns-2 c =
-    let l = c .before .before .before .before .loop in
-    sym (same-stop _ _ (l .j) (omega arith) (omega arith) (λ e. c .if2 .taken (e ∙ sym (c .before .letter .ensures)))) ∙ l .inv .2
+    let s = c .before .before .before .before .before .before .before in
+    let l = c .before .before .before .loop in
+    let b = short (s .args .k) (s .pre) in
+    sym (same-stop _ _ (l .j) (omega arith) (omega arith) (λ e. c .if2 .taken (e ∙ sym (letter-at (s .args .k) (l .j) (s .pre) (omega arith))))) ∙ l .inv .2
 
 add-j : tie.Need-add-j Inv-loop μ-loop
 add-j c = search needs
@@ -50,8 +60,11 @@ loop-less c = search needs
 
 loop-again : tie.Need-loop-again Inv-loop μ-loop
 loop-again c =
-    let l = c .before .before .before .before .loop in
-    (l .inv .0, omega arith, sym (same-next _ _ (l .j) (omega arith) (omega arith) (c .if2 .left ∙ c .before .letter .ensures)) ∙ l .inv .2)
+    let s = c .before .before .before .before .before .before .before in
+    let l = c .before .before .before .loop in
+    let b = short (s .args .k) (s .pre) in
+    let e = letter-at (s .args .k) (l .j) (s .pre) (omega arith) in
+    (l .inv .0, omega arith, sym (same-next _ _ (l .j) (omega arith) (omega arith) (c .if2 .left ∙ e)) ∙ l .inv .2)
 
 returns-3 : tie.Need-returns-3 Inv-loop μ-loop
 returns-3 c =
@@ -69,7 +82,9 @@ is-known-spec =
     returns
     loop-holds
     shared-slice-read-if2
-    letter-requires
+    mul-if2
+    add-if2
+    array-read-if2
     returns-2
     add-j
     loop-less

@@ -1,0 +1,9 @@
+//! A reference implementation of document 01, written from the paper alone, and the
+//! means to compare the proved implementation with it.
+
+pub mod corpus;
+pub mod grammar;
+pub mod proved;
+pub mod random;
+pub mod texts;
+pub mod token;

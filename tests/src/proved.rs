@@ -1,0 +1,132 @@
+//! The proved library. This is the only module with `unsafe` in it: it hands every
+//! function a slice as its pointer and length, as the library's declarations ask.
+
+/// Whether the library is linked with the functions of `layer`. Where it is not, a test
+/// that compares with it has nothing to do; but it fails where `KAUKSLINI_REQUIRE_PROVED`
+/// is 1 and the layer is among those asked for.
+pub fn is_linked(layer: &str) -> bool {
+    let linked = match layer {
+        "token" => cfg!(proved_token),
+        "grammar" => cfg!(proved_grammar),
+        _ => panic!("no layer {layer}"),
+    };
+    let mut asked = env!("KAUKSLINI_LAYERS_ASKED").split(',');
+    let required = std::env::var("KAUKSLINI_REQUIRE_PROVED").is_ok_and(|value| value == "1");
+    if !linked && required && asked.any(|asked| asked == layer) {
+        panic!("the proved library is required for the layer {layer}, and it is not built");
+    }
+    if !linked {
+        eprintln!("NOT COMPARED: the proved library's layer {layer} is not linked");
+    }
+    linked
+}
+
+#[cfg(proved_token)]
+pub mod token {
+    use crate::token::{Sort, Step, Token};
+
+    extern "C" {
+        fn kaukslini_step_sort(text: *const u8, length: usize, place: usize) -> u8;
+        fn kaukslini_step_place(text: *const u8, length: usize, place: usize) -> usize;
+        fn kaukslini_step_next(text: *const u8, length: usize, place: usize) -> usize;
+        fn kaukslini_step_detail(text: *const u8, length: usize, place: usize) -> u64;
+        fn kaukslini_step_negative(text: *const u8, length: usize, place: usize) -> bool;
+        fn kaukslini_part_place(text: *const u8, length: usize, at: usize, part: usize) -> usize;
+        fn kaukslini_part_length(text: *const u8, length: usize, at: usize, part: usize) -> usize;
+    }
+
+    /// The numbers that the library's five questions answer for one step.
+    #[derive(Clone, Copy, Debug, PartialEq, Eq)]
+    pub struct Answers {
+        pub sort: u8,
+        pub place: usize,
+        pub next: usize,
+        pub detail: u64,
+        pub negative: bool,
+    }
+
+    /// What the proved token reader answers.
+    pub fn step(text: &[u8], place: usize) -> Answers {
+        let (text, length) = (text.as_ptr(), text.len());
+        unsafe {
+            Answers {
+                sort: kaukslini_step_sort(text, length, place),
+                place: kaukslini_step_place(text, length, place),
+                next: kaukslini_step_next(text, length, place),
+                detail: kaukslini_step_detail(text, length, place),
+                negative: kaukslini_step_negative(text, length, place),
+            }
+        }
+    }
+
+    /// Only the place after the token.
+    pub fn next(text: &[u8], place: usize) -> usize {
+        unsafe { kaukslini_step_next(text.as_ptr(), text.len(), place) }
+    }
+
+    /// Only the sort: 0 end, 1 refused, and the tokens above these.
+    pub fn sort(text: &[u8], place: usize) -> u8 {
+        unsafe { kaukslini_step_sort(text.as_ptr(), text.len(), place) }
+    }
+
+    /// Place and length of the part handed back for a place and a length.
+    pub fn part(text: &[u8], place: usize, part: usize) -> (usize, usize) {
+        let (text, length) = (text.as_ptr(), text.len());
+        unsafe {
+            (
+                kaukslini_part_place(text, length, place, part),
+                kaukslini_part_length(text, length, place, part),
+            )
+        }
+    }
+
+    /// The numbers that the library's questions answer for a step.
+    pub fn answers(step: Step) -> Answers {
+        let (sort, place, next, detail, negative) = match step {
+            Step::End(place) => (0, place, place, 0, false),
+            Step::Refused(place) => (1, place, place, 0, false),
+            Step::Token(Token { sort, place, .. }, next) => match sort {
+                Sort::Word(code) => (2, place, next, u64::from(code), false),
+                Sort::Number { negative, amount } => (3, place, next, amount, negative),
+                Sort::Quoted => (4, place, next, 0, false),
+                Sort::Punctuator(byte) => (5, place, next, u64::from(byte), false),
+            },
+        };
+        Answers {
+            sort,
+            place,
+            next,
+            detail,
+            negative,
+        }
+    }
+}
+
+#[cfg(proved_grammar)]
+pub mod grammar {
+    use crate::grammar::Stage;
+
+    extern "C" {
+        fn kaukslini_stage_number(text: *const u8, length: usize) -> u8;
+        fn kaukslini_stage_place(text: *const u8, length: usize) -> usize;
+    }
+
+    /// Number and place that the proved grammar stage answers; 0 and 0 where a text passes.
+    pub fn stage(text: &[u8]) -> (u8, usize) {
+        let (text, length) = (text.as_ptr(), text.len());
+        unsafe {
+            (
+                kaukslini_stage_number(text, length),
+                kaukslini_stage_place(text, length),
+            )
+        }
+    }
+
+    /// The two numbers for a stage's answer.
+    pub fn answers(stage: Stage) -> (u8, usize) {
+        match stage {
+            Stage::Passes => (0, 0),
+            Stage::Refused { number, place } => (number, place),
+        }
+    }
+}
