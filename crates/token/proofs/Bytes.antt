@@ -8,7 +8,7 @@ use types.Run.{OneOf}
 use lib.ListN.{length, List·getD-eq-default}
 use mathlib.Core.Path.{_≡_, refl, sym, _∙_, ap, subst}
 use mathlib.Core.Bool.{Bool, true, false, not}
-use lib.Dec.{T, leb, ltb, eqb, eqb→eq}
+use lib.Dec.{T, T-not, leb, ltb, eqb, eqb→eq, eqb-refl}
 use borrow.Author.Tests.{lt-ltb, le-ltb, le-leb, lt-leb, eq-eqb, ne-eqb, ltb-true}
 use Rattle.token.specs.Find.{pick, both, either, byte}
 use Rattle.token.specs.Bytes.{Class, letter, digit, blank, plusMinus, quote, punctuator, dot, slash, other, classOf, classCode, isLetter, isDigit, isBlank, isPlusMinus, isPunctuator, isWordByte, pairAt, wordEnd, findByte}
@@ -46,6 +46,14 @@ module _ (b : ℕ) where
   pub digit-low : b < 48 → false ≡ isDigit b
   digit-low h = rw (lt-leb 48 b h)
 
+  pub word-letter : isLetter b ≡ true → true ≡ isWordByte b
+  unfolding isWordByte
+  word-letter e = rw e
+
+  pub word-digit : isLetter b ≡ false → isDigit b ≡ isWordByte b
+  unfolding isWordByte
+  word-digit e = rw e
+
   pub blank-high : 9 ≤ b → (b ≡ 32 → ⊥) → leb b 13 ≡ isBlank b
   blank-high h f = rw (le-leb 9 b h, ne-eqb b 32 f) (sym (either-false (leb b 13)))
 
@@ -69,10 +77,16 @@ module _ (b : ℕ) where
   pub punctuator-none : (OneOf (91 ∷ 93 ∷ 123 ∷ 125 ∷ []) b → ⊥) → (OneOf (59 ∷ 61 ∷ []) b → ⊥) → (OneOf (44 ∷ 58 ∷ []) b → ⊥) →
       false ≡ isPunctuator b
   punctuator-none f g h =
-      rw
-      (ne-eqb b 123 (λ e. f (inr (inr (inl e)))), ne-eqb b 125 (λ e. f (inr (inr (inr e)))), ne-eqb b 91 (λ e. f (inl e)),
-      ne-eqb b 93 (λ e. f (inr (inl e))), ne-eqb b 61 (λ e. g (inr e)), ne-eqb b 59 (λ e. g (inl e)), ne-eqb b 58 (λ e. h (inr e)),
-      ne-eqb b 44 (λ e. h (inl e)))
+      rw (
+        ne-eqb b 123 (λ e. f (inr (inr (inl e)))),
+        ne-eqb b 125 (λ e. f (inr (inr (inr e)))),
+        ne-eqb b 91 (λ e. f (inl e)),
+        ne-eqb b 93 (λ e. f (inr (inl e))),
+        ne-eqb b 61 (λ e. g (inr e)),
+        ne-eqb b 59 (λ e. g (inl e)),
+        ne-eqb b 58 (λ e. h (inr e)),
+        ne-eqb b 44 (λ e. h (inl e)),
+      )
 
 -- where a test passes that only bytes of one class pass, which antt computes
 class-when : (t : ℕ → Bool) (v : ℕ) → T (upTo (λ b. either (not (t b)) (eqb (classCode (classOf b)) v)) 256) → (b : ℕ) → b < 256 →
@@ -80,7 +94,28 @@ class-when : (t : ℕ → Bool) (v : ℕ) → T (upTo (λ b. either (not (t b)) 
 class-when t v all b h e =
     sym (eqb→eq _ v (subst (λ (a : Bool). T (either (not a) (eqb (classCode (classOf b)) v))) e (below (λ n. either (not (t n)) (eqb (classCode (classOf n)) v)) 256 all b h)))
 
+-- where a test fails that all bytes of a class pass
+class-unless : (t : ℕ → Bool) (v : ℕ) → T (upTo (λ b. either (t b) (not (eqb (classCode (classOf b)) v))) 256) → (b : ℕ) → b < 256 →
+    t b ≡ false → classCode (classOf b) ≡ v → ⊥
+class-unless t v all b h e f =
+    T-not (eqb (classCode (classOf b)) v)
+    (subst (λ (a : Bool). T (either a (not (eqb (classCode (classOf b)) v)))) e
+    (below (λ n. either (t n) (not (eqb (classCode (classOf n)) v))) 256 all b h))
+    (subst (λ (n : ℕ). T (eqb (classCode (classOf b)) n)) f (eqb-refl (classCode (classOf b))))
+
 module _ (b : ℕ) where
+  pub class-no-blank : b < 256 → isBlank b ≡ false → classCode (classOf b) ≡ 2 → ⊥
+  unfolding classOf
+  class-no-blank = class-unless isBlank 2 tt b
+
+  pub class-slash : b ≡ 47 → 7 ≡ classCode (classOf b)
+  unfolding classOf
+  class-slash e = sym (ap (λ (n : ℕ). classCode (classOf n)) e)
+
+  pub class-no-slash : b < 256 → (b ≡ 47 → ⊥) → classCode (classOf b) ≡ 7 → ⊥
+  unfolding classOf
+  class-no-slash h f = class-unless (λ n. eqb n 47) 7 tt b h (ne-eqb b 47 f)
+
   pub class-letter : b < 256 → isLetter b ≡ true → 0 ≡ classCode (classOf b)
   unfolding classOf
   class-letter = class-when isLetter 0 tt b
@@ -126,12 +161,6 @@ low-two false false false false false false false false = refl
 pub word-byte : (b : ℕ) → isWordByte b ≡ ltb (classCode (classOf b)) 2
 unfolding classOf isWordByte
 word-byte b = low-two (isLetter b) (isDigit b) (isBlank b) (isPlusMinus b) (eqb b 34) (isPunctuator b) (eqb b 46) (eqb b 47)
-
-pub in-word : (b k : ℕ) → k ≡ classCode (classOf b) → k < 2 → not (isWordByte b) ≡ false
-in-word b k e h = ap not (word-byte b ∙ ap (λ (n : ℕ). ltb n 2) (sym e) ∙ lt-ltb k 2 h)
-
-pub not-in-word : (b k : ℕ) → k ≡ classCode (classOf b) → 2 ≤ k → not (isWordByte b) ≡ true
-not-in-word b k e h = ap not (word-byte b ∙ ap (λ (n : ℕ). ltb n 2) (sym e) ∙ le-ltb k 2 h)
 
 module _ (s : List ℕ) (p a b : ℕ) where
   pub pair-short : length s ≤ p + 1 → pairAt s p a b ≡ false

@@ -1,6 +1,6 @@
 -- The laws of comparing a word with the known words.
 -- Assumes nothing.
-use Prim.Native.Nat.{ℕ, zero, suc, _+_, _-_, _*_, _/_, _%_, _≤_, _<_}
+use Prim.Native.Nat.{ℕ, suc, _+_, _-_, _*_, _/_, _%_, _≤_, _<_}
 use mathlib.Core.Path.{_≡_, refl, sym, _∙_, ap, ap₂, subst}
 use mathlib.Core.List.{List, [], _∷_}
 use mathlib.Core.Bool.{Bool, true, false, false≢true}
@@ -10,9 +10,9 @@ use native.Mathlib.Numerals.{add-one}
 use native.Mathlib.Nat.{suc-le-suc-iff, zero-lt-suc}
 use lib.ListN.{length, getD, drop, drop-of-length-le}
 use lib.Seq.{drop-cons}
-use lib.Dec.{T, eqb, ltb, leb, ltb→lt, leb→le, eqb→eq}
+use lib.Dec.{eqb, ltb, leb, ltb→lt, leb→le, eqb→eq}
 use borrow.Author.Tests.{eq-eqb, ne-eqb, eqb-true}
-use Rattle.token.specs.Find.{pick, both}
+use Rattle.token.specs.Find.{both}
 use Rattle.token.specs.Words.{known, same, codeIn, codeOf}
 use Rattle.token.proofs.Bytes.{both-false}
 use Rattle.token.specs.Slots.{slotBy, slotOf, candidateIn, candidateOf}

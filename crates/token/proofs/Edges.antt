@@ -4,8 +4,7 @@ use Prim.Native.Nat.{ℕ, suc}
 use Prim.Native.String.{String as Literal}
 use mathlib.Core.Path.{_≡_, refl}
 use mathlib.Core.List.{List, [], _∷_}
-use mathlib.Core.Bool.{Bool, true, false}
-use lib.ListN.{length}
+use mathlib.Core.Bool.{true, false}
 use Rattle.token.specs.Find.{firstOf, find}
 use Rattle.token.specs.Bytes.{classOf, isWordByte, wordEnd, findByte, pairAt, findClose}
 use Rattle.token.specs.Gaps.{commentAt, gapOf, gapAt, skipN, skip}

@@ -1,24 +1,21 @@
 -- The laws of tokens: which case of `stepAt` holds.
 -- Assumes nothing.
 use Prim.Native.Nat.{ℕ, _+_, _-_, _≤_, _<_}
-use mathlib.Core.Path.{_≡_, refl, sym, _∙_, ap}
+use mathlib.Core.Path.{_≡_, refl, _∙_, ap}
 use mathlib.Core.List.{List, []}
 use mathlib.Core.Bool.{Bool, true, false}
 use lib.ListN.{length, take, drop}
 use lib.Dec.{leb, ltb, eqb}
 use borrow.Author.Tests.{lt-ltb, le-ltb, le-leb, lt-leb}
-use Rattle.token.specs.Find.{pick, both, byte}
+use Rattle.token.specs.Find.{byte}
 use Rattle.token.specs.Bytes.{Class, letter, digit, blank, plusMinus, quote, punctuator, dot, slash, other, classOf, classCode, wordEnd, findByte, pairAt}
 use Rattle.token.specs.Gaps.{skip}
 use Rattle.token.specs.Words.{codeOf}
 use Rattle.token.specs.Numbers.{numeral}
-use Rattle.token.specs.Tokens.{bytesBetween, found, wordAt, limitOf, isNegative, numberOf, numberAt, stringAt, dotsAt, tokenOf, tokenAt, afterSkip, stepAt, partOf}
+use Rattle.token.specs.Tokens.{bytesBetween, found, wordAt, limitOf, isNegative, numberAt, stringAt, dotsAt, tokenOf, tokenAt, afterSkip, stepAt, partOf}
 use Rattle.token.specs.declared.Sort.the-variants.{Word, Number, String, Punctuator}
-use Rattle.token.specs.declared.Step.{Step}
-use Rattle.token.specs.declared.Step.the-variants.{Found, Refused, End}
-use Rattle.token.specs.declared.Skip.{Skip}
+use Rattle.token.specs.declared.Step.the-variants.{Refused, End}
 use Rattle.token.specs.declared.Skip.the-variants.{At, Open}
-use Rattle.token.specs.declared.Amount.{Amount}
 use Rattle.token.specs.declared.Amount.the-variants.{Is, Not}
 use Rattle.token.proofs.Bytes.{classAt, class-is, both-false}
 

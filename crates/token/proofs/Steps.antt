@@ -4,23 +4,22 @@
 use Prim.Native.Nat.{ℕ, zero, suc, _+_, _-_, _≤_, _<_}
 use mathlib.Core.Path.{_≡_, refl, sym, _∙_, ap, subst}
 use mathlib.Core.List.{List}
-use mathlib.Core.Bool.{Bool, true, false, not}
+use mathlib.Core.Bool.{Bool, not}
 use native.Mathlib.Omega.{arith}
 use native.Mathlib.Nat.{le-trans}
 use lib.ListN.{length}
 use lib.Dec.{ltb, eqb}
 use borrow.Author.Tests.{lt-ltb, ltb-true}
-use Rattle.token.specs.Find.{pick, both, byte, find}
+use Rattle.token.specs.Find.{byte}
 use Rattle.token.specs.Bytes.{Class, letter, digit, blank, plusMinus, quote, punctuator, dot, slash, other, classOf, classCode, isWordByte, wordEnd, findByte, pairAt}
 use Rattle.token.specs.Gaps.{gapAt, afterGap, skipN, skip}
-use Rattle.token.specs.Words.{codeOf}
 use Rattle.token.specs.Numbers.{numeral}
 use Rattle.token.specs.Tokens.{bytesBetween, found, wordAt, limitOf, isNegative, numberOf, numberAt, stringAt, dotsAt, tokenOf, tokenAt, afterSkip, stepAt}
 use Rattle.token.specs.Lexing.{Lexed, more, ended, refused, afterStep, lexN, lexFrom}
 use Rattle.token.specs.declared.Cursor.{Cursor}
 use Rattle.token.specs.declared.Token.{Token}
 use Rattle.token.specs.declared.Sort.{Sort}
-use Rattle.token.specs.declared.Sort.the-variants.{Word, Number, String, Punctuator}
+use Rattle.token.specs.declared.Sort.the-variants.{Number, String, Punctuator}
 use Rattle.token.specs.declared.Step.{Step}
 use Rattle.token.specs.declared.Step.the-variants.{Found, Refused, End}
 use Rattle.token.specs.declared.Gap.{Gap}
@@ -29,7 +28,7 @@ use Rattle.token.specs.declared.Skip.{Skip}
 use Rattle.token.specs.declared.Skip.the-variants.{At, Open}
 use Rattle.token.specs.declared.Amount.{Amount}
 use Rattle.token.specs.declared.Amount.the-variants.{Is, Not}
-use Rattle.token.proofs.Find.{by-test, find-next, find-low, find-high}
+use Rattle.token.proofs.Find.{by-test, find-next, find-low}
 use Rattle.token.proofs.Bytes.{word-byte, word-low, word-high, byte-low, pair-inside}
 use Rattle.token.proofs.Gaps.{GapOk, gap-ok, gap-past, skip-here, skip-open}
 use Rattle.token.proofs.Lexemes.{token-end, step-token, step-open}

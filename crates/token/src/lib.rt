@@ -6,7 +6,6 @@ mod lexeme;
 mod numbers;
 mod scan;
 mod skipping;
-mod table;
 mod words;
 
 // A place of a text.

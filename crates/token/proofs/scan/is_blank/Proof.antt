@@ -1,10 +1,10 @@
+-- `token::scan::is_blank` meets its contract: the test that led to each `return` says which case of `isBlank` holds.
+-- Assumes nothing.
 use Rattle.token.proofs.Bytes.{blank-high, blank-low}
 use Rattle.token.specs.Bytes.{isBlank}
 use mathlib.Core.Path.{sym, ap}
 use Rattle.token.proofs.scan.is_blank.Statement.{statement}
 use Rattle.token.proofs.scan.is_blank.Tie as tie
-use Rattle.token.proofs.scan.is_blank.Reads as reads
-use Rattle.token.proofs.scan.is_blank.Lts as lts
 
 returns : tie.Need-returns
 returns c = sym (ap isBlank (c .if1 .taken))

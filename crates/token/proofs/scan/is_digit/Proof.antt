@@ -1,8 +1,8 @@
+-- `token::scan::is_digit` meets its contract: the test that led to each `return` says which case of `isDigit` holds.
+-- Assumes nothing.
 use Rattle.token.proofs.Bytes.{digit-high, digit-low}
 use Rattle.token.proofs.scan.is_digit.Statement.{statement}
 use Rattle.token.proofs.scan.is_digit.Tie as tie
-use Rattle.token.proofs.scan.is_digit.Reads as reads
-use Rattle.token.proofs.scan.is_digit.Lts as lts
 
 returns : tie.Need-returns
 returns c = digit-high _ (c .if1 .taken)

@@ -1,10 +1,10 @@
+-- `token::scan::is_letter` meets its contract: the test that led to each `return` says which case of `isLetter` holds.
+-- Assumes nothing.
 use Rattle.token.proofs.Bytes.{letter-small, letter-capital, letter-low}
 use Rattle.token.specs.Bytes.{isLetter}
 use mathlib.Core.Path.{sym, ap}
 use Rattle.token.proofs.scan.is_letter.Statement.{statement}
 use Rattle.token.proofs.scan.is_letter.Tie as tie
-use Rattle.token.proofs.scan.is_letter.Reads as reads
-use Rattle.token.proofs.scan.is_letter.Lts as lts
 
 returns : tie.Need-returns
 returns c = letter-small _ (c .if1 .taken)

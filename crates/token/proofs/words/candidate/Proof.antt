@@ -6,11 +6,9 @@ use borrow.Author.Needs.{needs}
 use Rattle.token.proofs.words.candidate.Statement.{statement}
 use Rattle.token.proofs.words.candidate.Tie as tie
 
--- src/words.rt:107:5
 array-read-result : tie.Need-array-read-result
 array-read-result c = search needs
 
--- src/words.rt:103:1
 returns : tie.Need-returns
 unfolding candidateOf candidateIn slotOf slotBy
 returns c = at candidateOf 128 (c .args .slot) (c .pre)

@@ -6,23 +6,18 @@ use borrow.Author.Needs.{needs}
 use Rattle.token.proofs.words.slot.Statement.{statement}
 use Rattle.token.proofs.words.slot.Tie as tie
 
--- src/words.rt:115:10
 mul-result : tie.Need-mul-result
 mul-result c = search needs
 
--- src/words.rt:115:6
 add-result : tie.Need-add-result
 add-result c = search needs
 
--- src/words.rt:115:29
 mul-result-2 : tie.Need-mul-result-2
 mul-result-2 c = search needs
 
--- src/words.rt:115:6
 add-result-2 : tie.Need-add-result-2
 add-result-2 c = search needs
 
--- src/words.rt:111:1
 returns : tie.Need-returns
 unfolding slotBy
 returns c = refl
