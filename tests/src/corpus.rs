@@ -32,7 +32,7 @@ fn folder() -> PathBuf {
 pub fn samples() -> Vec<Sample> {
     let folder = folder();
     let mut names: Vec<String> = fs::read_dir(&folder)
-        .unwrap_or_else(|fault| panic!("{}: {fault}", folder.display()))
+        .unwrap_or_else(|fault| panic!("the corpus is not there: {}: {fault}", folder.display()))
         .map(|entry| entry.expect("an entry of the corpus").file_name())
         .filter_map(|name| Some(name.to_str()?.strip_suffix(".oil")?.to_string()))
         .collect();

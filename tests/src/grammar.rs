@@ -129,42 +129,36 @@ impl Hopes {
         }
     }
 
-    /// The stacks below each token that may come next, and whether there may be none: on top
-    /// of each stack a rule is replaced by each of its forms until there is a token.
-    fn expanded(&mut self) -> (Vec<(Symbol, usize)>, bool) {
-        let mut next = Vec::new();
-        let mut may_end = false;
+    /// Puts the symbols of a form on a stack, its first one on top.
+    fn put(&mut self, form: &[Symbol], onto: usize) -> usize {
+        form.iter().rev().fold(onto, |below, &symbol| {
+            self.stacks.push((symbol, below));
+            self.stacks.len() - 1
+        })
+    }
+
+    /// Reads a token, or the end where there is none; tells whether there is hope with it. On
+    /// top of each stack a rule gives way to each of its forms, until there is a token.
+    fn read(&mut self, sort: Option<Sort>) -> bool {
         let mut waiting = std::mem::take(&mut self.alive);
+        let mut next = Vec::new();
         while let Some(stack) = waiting.pop() {
-            let (symbol, below) = self.stacks[stack];
-            match symbol {
-                _ if stack == EMPTY => may_end = true,
-                Symbol::Rule(rule) => {
+            if stack == EMPTY {
+                next.extend(sort.is_none().then_some(EMPTY));
+                continue;
+            }
+            match self.stacks[stack] {
+                (Symbol::Rule(rule), below) => {
                     for form in &self.grammar.forms[rule] {
-                        let onto = form.iter().rev().fold(below, |below, &symbol| {
-                            self.stacks.push((symbol, below));
-                            self.stacks.len() - 1
-                        });
-                        waiting.push(onto);
+                        waiting.push(self.put(form, below));
                     }
                 }
-                token => next.push((token, below)),
+                (token, below) if sort.is_some_and(|sort| token.admits(sort)) => next.push(below),
+                _ => (),
             }
         }
-        (next, may_end)
-    }
-
-    /// Reads a token; tells whether there is hope with it.
-    fn read(&mut self, sort: Sort) -> bool {
-        let (next, _) = self.expanded();
-        let admitted = next.into_iter().filter(|(symbol, _)| symbol.admits(sort));
-        self.alive = admitted.map(|(_, below)| below).collect();
+        self.alive = next;
         !self.alive.is_empty()
-    }
-
-    /// Whether the tokens read are a whole file.
-    fn may_end(&mut self) -> bool {
-        self.expanded().1
     }
 }
 
@@ -185,14 +179,14 @@ pub fn stage(text: &[u8]) -> Stage {
     loop {
         let token = match step(text, from) {
             Step::Refused(place) => return refused(3, place),
-            Step::End(_) if hopes.may_end() => return Stage::Passes,
+            Step::End(_) if hopes.read(None) => return Stage::Passes,
             Step::End(place) => return refused(4, place),
             Step::Token(token, next) => {
                 from = next;
                 token
             }
         };
-        if !hopes.read(token.sort) {
+        if !hopes.read(Some(token.sort)) {
             return refused(4, token.place);
         }
         match token.sort {

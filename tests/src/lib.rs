@@ -1,6 +1,7 @@
 //! A reference implementation of document 01, written from the paper alone, and the
 //! means to compare the proved implementation with it.
 
+pub mod configuration;
 pub mod corpus;
 pub mod grammar;
 pub mod proved;

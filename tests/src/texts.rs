@@ -417,6 +417,14 @@ pub fn any_token(random: &mut Random) -> Vec<u8> {
     a_token(random, symbol)
 }
 
+/// One token for each that the grammar can tell from the others.
+pub fn every_token() -> impl Iterator<Item = &'static [u8]> {
+    let others = [
+        "a", "1", "\"a\"", "{", "}", "[", "]", "=", ";", ":", ",", "..",
+    ];
+    WORDS.into_iter().chain(others).map(str::as_bytes)
+}
+
 /// A list of tokens with one token deleted, inserted, replaced, or swapped with the next
 /// or with any other.
 pub fn one_token_off(random: &mut Random, tokens: &[Vec<u8>]) -> Vec<Vec<u8>> {

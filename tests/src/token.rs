@@ -45,6 +45,9 @@ pub const WORDS: [&str; 41] = [
     "ENUM",
 ];
 
+/// The thirteen kinds, in document 01's order.
+pub const KINDS: [&str; 13] = *WORDS.split_at(8).1.first_chunk().unwrap();
+
 /// What a token is. A known word has its code, every other word 0. A punctuator is
 /// told by its byte, `..` by its dot. The number 0 is never negative.
 #[derive(Clone, Copy, Debug, PartialEq, Eq)]

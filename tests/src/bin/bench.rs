@@ -6,7 +6,8 @@ use tests::token::{step, Step};
 fn main() {
     let arguments: Vec<String> = std::env::args().collect();
     let [_, what, file] = &arguments[..] else {
-        eprintln!("bench tokens-proved|tokens-reference|stage-proved|stage-reference FILE");
+        eprintln!("bench WHAT FILE, WHAT one of tokens-proved, tokens-reference, stage-proved,");
+        eprintln!("stage-reference");
         exit(2);
     };
     let text = std::fs::read(file).unwrap_or_else(|fault| {
