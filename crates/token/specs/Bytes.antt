@@ -1,4 +1,4 @@
--- The classes of bytes.
+-- The bytes that document 01, section "Tokens", names, and where runs of them end.
 -- Assumes nothing.
 use Prim.Native.Nat.{ℕ, _+_}
 use mathlib.Core.Bool.{Bool, true, false, not}
@@ -10,28 +10,29 @@ use Rattle.token.specs.Find.{pick, both, either, byte, find}
 abbrev pub between : ℕ → ℕ → ℕ → Bool
 between lo hi b = both (leb lo b) (leb b hi)
 
--- an ASCII letter or `_`
+-- "an ASCII letter or underscore"
 abbrev pub isLetter : ℕ → Bool
 isLetter b = either (between 65 90 b) (either (between 97 122 b) (eqb b 95))
 
 abbrev pub isDigit : ℕ → Bool
 isDigit b = between 48 57 b
 
--- tab, LF, VT, FF, CR and space
+-- "Space, tab, CR, LF, VT, FF": tab, LF, VT, FF and CR are 9 to 13
 abbrev pub isBlank : ℕ → Bool
 isBlank b = either (between 9 13 b) (eqb b 32)
 
--- `+` and `-`
+-- "an optional sign (`+` or `-`)"
 abbrev pub isPlusMinus : ℕ → Bool
 isPlusMinus b = either (eqb b 43) (eqb b 45)
 
--- `{ } [ ] = ; : ,`
+-- "`{ } [ ] = ; : ,`"
 abbrev pub isPunctuator : ℕ → Bool
 isPunctuator b =
     either (either (eqb b 123) (eqb b 125))
     (either (either (eqb b 91) (eqb b 93)) (either (either (eqb b 61) (eqb b 59)) (either (eqb b 58) (eqb b 44))))
 
--- what a token that begins with a byte can be
+-- what a byte begins: a word, a number, nothing but a gap, a number after its sign, a string, a punctuator of one byte, `..`, a comment,
+-- nothing
 pub data Class : Type 0 where
   letter : Class
   digit : Class
@@ -51,7 +52,7 @@ classOf b =
     (pick (isPlusMinus b) plusMinus
     (pick (eqb b 34) quote (pick (isPunctuator b) punctuator (pick (eqb b 46) dot (pick (eqb b 47) slash other)))))))
 
--- the number that the code has for a class
+-- the number by which the code knows a class
 abbrev pub classCode : Class → ℕ
 classCode letter = 0
 classCode digit = 1
@@ -63,11 +64,11 @@ classCode dot = 6
 classCode slash = 7
 classCode other = 8
 
--- a letter, a digit or `_`
+-- "letters, digits, underscores"
 unfoldable pub isWordByte : ℕ → Bool
 isWordByte b = either (isLetter b) (isDigit b)
 
--- the place after the longest run of letters, digits and `_` that begins at p
+-- "the longest run of letters, digits, underscores": the place after the one that begins at p, which may be empty
 unfoldable pub wordEnd : List ℕ → ℕ → ℕ
 wordEnd s p = find (λ i. not (isWordByte (byte s i))) (length s) p
 

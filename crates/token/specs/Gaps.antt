@@ -1,4 +1,4 @@
--- What parts tokens: blanks and comments.
+-- "Space, tab, CR, LF, VT, FF and comments part tokens."
 -- Assumes nothing.
 use Prim.Native.Nat.{ℕ, zero, suc, _+_, _-_}
 use mathlib.Core.List.{List}
@@ -11,7 +11,7 @@ use Rattle.token.specs.declared.Gap.the-variants.{Nothing, Past, Unended
 use Rattle.token.specs.declared.Skip.{Skip}
 use Rattle.token.specs.declared.Skip.the-variants.{At, Open}
 
--- `//` ends at the next LF or the end of the text, `/*` after the next `*/` that begins after both its bytes
+-- "`/*` ends at the next `*/` after both its bytes, without nesting; `//` ends at LF or at the end of the text."
 unfoldable pub commentAt : List ℕ → ℕ → Gap
 commentAt s p =
     pick (pairAt s p 47 47) (Past (findByte 10 s (p + 2)))
@@ -19,6 +19,7 @@ commentAt s p =
     (pick (ltb (findClose s (p + 2)) (length s)) (Past (findClose s (p + 2) + 2)) Unended)
     Nothing)
 
+-- what a byte of a class at p begins, as far as it parts tokens
 unfoldable pub gapOf : Class → List ℕ → ℕ → Gap
 gapOf letter s p = Nothing
 gapOf digit s p = Nothing
@@ -34,6 +35,7 @@ gapOf other s p = Nothing
 unfoldable pub gapAt : List ℕ → ℕ → Gap
 gapAt s p = gapOf (classOf (byte s p)) s p
 
+-- past one blank or comment, and then on by k
 abbrev pub afterGap : Gap → ℕ → (ℕ → Skip) → Skip
 afterGap Nothing p k = At p
 afterGap (Past q) p k = k q

@@ -20,12 +20,14 @@ tokensOf (more t l) = t ∷ tokensOf l
 tokensOf (ended n) = []
 tokensOf (refused p) = []
 
--- the text divides wholly into tokens
+-- "A text divides wholly into tokens if each byte, taken from the left by the token rules, is in a token or an ended comment or is one of
+-- the six that part tokens."
 abbrev pub Divides : Lexed → Type 0
 Divides (more t l) = Divides l
 Divides (ended n) = Unit {0}
 Divides (refused p) = ⊥
 
+-- what a step found, and then on by k
 abbrev pub afterStep : Step → (ℕ → Lexed) → Lexed
 afterStep (Found t c) k = more t (k (c .at))
 afterStep (Refused p) k = refused p

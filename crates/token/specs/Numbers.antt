@@ -1,4 +1,5 @@
--- The values of numbers.
+-- Numbers: "The run must be `0`, or decimal with no leading zero, or (unsigned only) `0x` with one or more hex digits. Value from
+-- -9223372036854775808 to 18446744073709551615. Else there is no token at its first byte."
 -- Assumes nothing.
 use Prim.Native.Nat.{ℕ, zero, suc, _+_, _-_, _*_, _^_}
 use mathlib.Core.List.{List, [], _∷_}
@@ -14,6 +15,7 @@ use Rattle.token.specs.declared.Amount.the-variants.{Is, Not}
 unfoldable pub digitOf : ℕ → ℕ
 digitOf b = pick (between 48 57 b) (b - 48) (pick (between 65 70 b) (b - 55) (pick (between 97 102 b) (b - 87) 16))
 
+-- all bytes are digits of the base
 abbrev pub allDigits : ℕ → List ℕ → Bool
 allDigits base [] = true
 allDigits base (x ∷ xs) = both (ltb (digitOf x) base) (allDigits base xs)
@@ -23,7 +25,7 @@ unfoldable pub valueAfter : ℕ → ℕ → List ℕ → ℕ
 valueAfter base a [] = a
 valueAfter base a (x ∷ xs) = valueAfter base (a * base + digitOf x) xs
 
--- a number, if it is at most max
+-- a value, if it is at most max
 unfoldable pub atMost : ℕ → ℕ → Amount
 atMost max n = pick (leb n max) (Is n) Not
 
@@ -31,7 +33,14 @@ atMost max n = pick (leb n max) (Is n) Not
 unfoldable pub digitsAfter : ℕ → ℕ → ℕ → List ℕ → Amount
 digitsAfter base max a xs = pick (allDigits base xs) (atMost max (valueAfter base a xs)) Not
 
--- `0`; or `0x` and one or more hex digits, with no sign before it; or decimal digits that do not begin with `0`
+-- the amounts of the least number and of the greatest number of w bits: -2 ^ (w - 1) with a sign bit, 2 ^ w - 1 without
+abbrev pub leastAmount : ℕ → ℕ
+leastAmount w = 2 ^ (w - 1)
+
+abbrev pub greatestAmount : ℕ → ℕ
+greatestAmount w = 2 ^ w - 1
+
+-- "The run must be `0`, or decimal with no leading zero, or (unsigned only) `0x` with one or more hex digits."
 unfoldable pub numeral : Bool → ℕ → List ℕ → Amount
 numeral signed max w =
     pick (eqb (length w) 0) Not

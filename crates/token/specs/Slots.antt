@@ -1,4 +1,5 @@
--- How a known word is found without comparing a word with all of them. No rule of document 01: what the code of `words` promises inside.
+-- How a known word is found without comparing a word with all of them. This is no rule of document 01: only the contracts inside the code
+-- of `words` speak of it, and no public contract does.
 -- Assumes nothing.
 use Prim.Native.Nat.{ℕ, suc, _+_, _-_, _*_, _%_}
 use mathlib.Core.List.{List, [], _∷_}

@@ -1,4 +1,4 @@
--- The tokens of a text.
+-- The token at a place: document 01, section "Tokens", and the last sentence of its section "Meaning".
 -- Assumes nothing.
 use Prim.Native.Nat.{ℕ, zero, suc, _+_, _-_}
 use mathlib.Core.List.{List, []}
@@ -9,7 +9,7 @@ use Rattle.token.specs.Find.{pick, both, byte}
 use Rattle.token.specs.Bytes.{Class, letter, digit, blank, plusMinus, quote, punctuator, dot, slash, other, classOf, wordEnd, findByte, pairAt}
 use Rattle.token.specs.Gaps.{skip}
 use Rattle.token.specs.Words.{codeOf}
-use Rattle.token.specs.Numbers.{numeral}
+use Rattle.token.specs.Numbers.{leastAmount, greatestAmount, numeral}
 use Rattle.token.specs.declared.Cursor.{Cursor}
 use Rattle.token.specs.declared.Sort.{Sort}
 use Rattle.token.specs.declared.Sort.the-variants.{Word, Number, String, Punctuator}
@@ -29,36 +29,39 @@ bytesBetween s p e = take (e - p) (drop p s)
 unfoldable pub found : Sort → ℕ → ℕ → Step
 found k p e = Found (record { sort = k; at = p; len = e - p }) (record { at = e })
 
--- a word is the longest run of letters, digits and `_`
+-- "Word: an ASCII letter or underscore, then the longest run of letters, digits, underscores."
 unfoldable pub wordAt : List ℕ → ℕ → Step
 wordAt s p = found (Word (codeOf (bytesBetween s p (wordEnd s p)))) p (wordEnd s p)
 
--- a number goes from -9223372036854775808 to 18446744073709551615
+-- "Value from -9223372036854775808 to 18446744073709551615": the largest amount after a minus and after none
 unfoldable pub limitOf : Bool → ℕ
-limitOf true = 9223372036854775808
-limitOf false = 18446744073709551615
+limitOf true = leastAmount 64
+limitOf false = greatestAmount 64
 
--- zero is not negative, whatever its sign
+-- `-0` is 0: it is not negative
 unfoldable pub isNegative : Bool → ℕ → Bool
 isNegative minus m = both minus (ltb 0 m)
 
+-- "Else there is no token at its first byte."
 abbrev pub numberOf : Bool → Amount → ℕ → ℕ → Step
 numberOf minus (Is m) p e = found (Number (isNegative minus m) m) p e
 numberOf minus Not p e = Refused p
 
--- the number that begins at p, whose longest run of letters, digits and `_` begins at q: at p, or after a sign
+-- "Number: an optional sign (`+` or `-`), then the longest run of letters, digits and underscores." It begins at p and its run at q: at p
+-- itself, or after a sign
 unfoldable pub numberAt : List ℕ → ℕ → ℕ → Step
 numberAt s p q =
     numberOf (eqb (byte s p) 45) (numeral (ltb p q) (limitOf (eqb (byte s p) 45)) (bytesBetween s q (wordEnd s q))) p (wordEnd s q)
 
--- a string ends after the next `"`
+-- "String: `"`, any bytes but `"`, then `"`." The refusal of one that is not ended is at its first byte
 unfoldable pub stringAt : List ℕ → ℕ → Step
 stringAt s p = pick (ltb (findByte 34 s (p + 1)) (length s)) (found String p (findByte 34 s (p + 1) + 1)) (Refused p)
 
+-- "and `..`": two bytes that touch
 unfoldable pub dotsAt : List ℕ → ℕ → Step
 dotsAt s p = pick (pairAt s p 46 46) (found (Punctuator 46) p (p + 2)) (Refused p)
 
--- the token that begins with a byte of a class
+-- the token that a byte of a class at p begins
 unfoldable pub tokenOf : Class → List ℕ → ℕ → Step
 tokenOf letter s p = wordAt s p
 tokenOf digit s p = numberAt s p p
@@ -70,18 +73,21 @@ tokenOf dot s p = dotsAt s p
 tokenOf slash s p = Refused p
 tokenOf other s p = Refused p
 
--- the token at p, where no blank and no comment stands
+-- the token at p, where no blank and no comment stands. "Where no token is left, or the place is past the text, it hands back the end, at
+-- the text's length."
 unfoldable pub tokenAt : List ℕ → ℕ → Step
 tokenAt s p = pick (ltb p (length s)) (tokenOf (classOf (byte s p)) s p) (End (length s))
 
+-- a comment that is not ended is refused at its first byte
 abbrev pub afterSkip : List ℕ → Skip → Step
 afterSkip s (At p) = tokenAt s p
 afterSkip s (Open p) = Refused p
 
--- the first token at or after p and the place after it, or the refusal, or the end
+-- "It is given the text and a place, and hands back the token and the place after it, or the refusal."
 unfoldable pub stepAt : List ℕ → ℕ → Step
 stepAt s p = afterSkip s (skip s p)
 
--- the n bytes from p on, or nothing where they do not lie inside
+-- "Given the text, a place and a length, a public call hands back that part of the lent text itself; where it does not lie inside, the empty
+-- part at the start."
 unfoldable pub partOf : List ℕ → ℕ → ℕ → List ℕ
 partOf s p n = pick (both (leb p (length s)) (leb n (length s - p))) (take n (drop p s)) []

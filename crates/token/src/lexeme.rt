@@ -37,7 +37,7 @@ pub fn word_at(text: &[u8], at: usize) -> Step
     found(Sort::Word(code), at, end)
 }
 
-// The largest amount.
+// The largest amount after a minus, and after none.
 pub fn limit(minus: bool) -> u64
     ensures { λ r. ⌜ r ≡ limitOf minus ⌝ }
 {
@@ -48,7 +48,7 @@ pub fn limit(minus: bool) -> u64
     }
 }
 
-// Whether the number with a amount is negative.
+// Whether a number is negative: 0 is not, whatever its sign.
 pub fn is_negative(minus: bool, m: u64) -> bool
     ensures { λ r. ⌜ r ≡ isNegative minus m ⌝ }
 {

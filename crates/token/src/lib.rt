@@ -42,7 +42,7 @@ pub enum Step {
 }
 
 // What stands at a place, as far as it parts tokens.
-pub enum Gap {
+enum Gap {
     // Neither a blank nor a comment.
     Nothing,
     // A blank or a comment, and the place after it.
@@ -52,14 +52,14 @@ pub enum Gap {
 }
 
 // Where the blanks and comments from a place on end.
-pub enum Skip {
+enum Skip {
     At(usize),
     // A comment that is not ended begins at the place.
     Open(usize),
 }
 
 // The value of a numeral.
-pub enum Amount {
+enum Amount {
     Is(u64),
     // It is none, or its value is too large.
     Not,
