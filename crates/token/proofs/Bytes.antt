@@ -1,4 +1,4 @@
--- What the number of a byte's class says of the byte.
+-- The laws of bytes: which case of a test of a byte holds, what the number of its class says of it, and where runs and searches end.
 -- Assumes nothing.
 use Prim.Native.Nat.{ℕ, zero, suc, _+_, _≤_, _<_}
 use mathlib.Core.List.{List, [], _∷_}
@@ -162,6 +162,8 @@ pub word-byte : (b : ℕ) → isWordByte b ≡ ltb (classCode (classOf b)) 2
 unfolding classOf isWordByte
 word-byte b = low-two (isLetter b) (isDigit b) (isBlank b) (isPlusMinus b) (eqb b 34) (isPunctuator b) (eqb b 46) (eqb b 47)
 
+-- ---- two bytes
+
 module _ (s : List ℕ) (p a b : ℕ) where
   pub pair-short : length s ≤ p + 1 → pairAt s p a b ≡ false
   unfolding pairAt
@@ -205,12 +207,12 @@ class-back other = refl
 pub class-is : (b k : ℕ) → k ≡ classCode (classOf b) → classOf b ≡ classAt k
 class-is b k e = class-back (classOf b) ∙ ap classAt (sym e)
 
--- past the end there is a byte of no class
+-- the byte past the end of a text begins nothing
 pub class-past : (s : List ℕ) (p : ℕ) → length s ≤ p → classOf (byte s p) ≡ other
 unfolding classOf
 class-past s p h = ap classOf (List·getD-eq-default s 0 h)
 
--- where a run and a search end
+-- ---- where a run and a search end
 module _ (s : List ℕ) (p : ℕ) where
   pub word-low : p ≤ wordEnd s p
   unfolding wordEnd

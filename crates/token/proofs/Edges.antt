@@ -1,6 +1,6 @@
--- The edges that the document names, at the layer of tokens: what a step from the start of each text finds. And the tokens of a range.
+-- The edges of document 01 that concern tokens, as one table: a text, the tokens that the steps from its start find, and how they end.
 -- Assumes nothing.
-use Prim.Native.Nat.{ℕ, suc}
+use Prim.Native.Nat.{ℕ}
 use Prim.Native.String.{String as Literal}
 use mathlib.Core.Path.{_≡_, refl}
 use mathlib.Core.List.{List, [], _∷_}
@@ -12,68 +12,106 @@ use Rattle.token.specs.Words.{bytesOf, same, codeIn, codeOf}
 use Rattle.token.specs.Numbers.{digitOf, valueAfter, atMost, digitsAfter, numeral}
 use Rattle.token.specs.Tokens.{found, wordAt, limitOf, isNegative, numberAt, stringAt, dotsAt, tokenOf, tokenAt, stepAt}
 use Rattle.token.specs.Lexing.{Lexed, more, ended, refused, lexN, lexFrom}
-use Rattle.token.specs.declared.Sort.{Sort}
 use Rattle.token.specs.declared.Sort.the-variants.{Word, Number, String, Punctuator}
 use Rattle.token.specs.declared.Token.{Token}
-use Rattle.token.specs.declared.Step.{Step}
-use Rattle.token.specs.declared.Step.the-variants.{Found, Refused, End}
 
--- a text, and what a step from its start finds
 pub record Edge : Type 0 where
   pub text : Literal
-  pub result : Step
+  pub tokens : List Token
+  pub last : Lexed
 
-abbrev token : Sort → ℕ → ℕ → Token
-token k p n = record { sort = k; at = p; len = n }
+abbrev edge : Literal → List Token → Lexed → Edge
+edge text tokens last = record { text = text; tokens = tokens; last = last }
 
-abbrev all : List Edge → Type 0
-all [] = Unit {0}
-all (e ∷ es) = (stepAt (bytesOf (e .text)) 0 ≡ e .result) × all es
+-- a token of each sort at a place, with its length
+abbrev word : ℕ → ℕ → ℕ → Token
+word code p n = record { sort = Word code; at = p; len = n }
+
+abbrev plus : ℕ → ℕ → ℕ → Token
+plus amount p n = record { sort = Number false amount; at = p; len = n }
+
+abbrev minus : ℕ → ℕ → ℕ → Token
+minus amount p n = record { sort = Number true amount; at = p; len = n }
+
+abbrev string : ℕ → ℕ → Token
+string p n = record { sort = String; at = p; len = n }
+
+abbrev punctuator : ℕ → ℕ → ℕ → Token
+punctuator b p n = record { sort = Punctuator b; at = p; len = n }
+
+-- the tokens, and then the last
+abbrev followed : List Token → Lexed → Lexed
+followed [] l = l
+followed (t ∷ ts) l = more t (followed ts l)
 
 abbrev edges : List Edge
 edges =
-    record { text = ""; result = End 0 } ∷
-    record { text = "}"; result = Found (token (Punctuator 125) 0 1) (record { at = 1 }) } ∷
-    record { text = "007"; result = Refused 0 } ∷
-    record { text = "#"; result = Refused 0 } ∷
-    record { text = "/* x"; result = Refused 0 } ∷
-    record { text = "/*/"; result = Refused 0 } ∷
-    record { text = " /**/ //"; result = End 8 } ∷
-    record { text = "\"2.5"; result = Refused 0 } ∷
-    record { text = "\n\"2.5\""; result = Found (token String 1 5) (record { at = 6 }) } ∷
-    record { text = "18446744073709551615"; result = Found (token (Number false 18446744073709551615) 0 20) (record { at = 20 }) } ∷
-    record { text = "18446744073709551616"; result = Refused 0 } ∷
-    record { text = "-9223372036854775808"; result = Found (token (Number true 9223372036854775808) 0 20) (record { at = 20 }) } ∷
-    record { text = "-9223372036854775809"; result = Refused 0 } ∷
-    record { text = "-0"; result = Found (token (Number false 0) 0 2) (record { at = 2 }) } ∷
-    record { text = "0xfF"; result = Found (token (Number false 255) 0 4) (record { at = 4 }) } ∷
-    record { text = "+0xff"; result = Refused 0 } ∷
-    record { text = "0x"; result = Refused 0 } ∷
-    record { text = "+"; result = Refused 0 } ∷
-    record { text = "1a"; result = Refused 0 } ∷
-    record { text = "TASK_TYPE"; result = Found (token (Word 24) 0 9) (record { at = 9 }) } ∷
-    record { text = "task "; result = Found (token (Word 0) 0 4) (record { at = 4 }) } ∷
-    record { text = "."; result = Refused 0 } ∷
+    -- the starred edges of document 01
+    edge "" [] (ended 0) ∷
+    edge "}" (punctuator 125 0 1 ∷ []) (ended 1) ∷
+    edge "007" [] (refused 0) ∷
+    edge "#" [] (refused 0) ∷
+    edge "/* x" [] (refused 0) ∷
+    edge "18446744073709551615" (plus 18446744073709551615 0 20 ∷ []) (ended 20) ∷
+    edge "18446744073709551616" [] (refused 0) ∷
+    edge "OIL_VERSION = 2;" (word 6 0 11 ∷ punctuator 61 12 1 ∷ plus 2 14 1 ∷ punctuator 59 15 1 ∷ []) (ended 16) ∷
+    edge "OIL_VERSION = \"2.5\"" (word 6 0 11 ∷ punctuator 61 12 1 ∷ string 14 5 ∷ []) (ended 19) ∷
+    edge "OIL_VERSION = AUTO" (word 6 0 11 ∷ punctuator 61 12 1 ∷ word 3 14 4 ∷ []) (ended 18) ∷
+    -- the worked example, 54 tokens
+    edge
+    "OIL_VERSION = \"2.5\";\nIMPLEMENTATION m { OS { BOOLEAN H = FALSE; }; TASK { UINT32 [1..0xff] STACKSIZE = 16; }; };\nCPU c { OS o; APPMODE a {}; TASK t { STACKSIZE = 0x20; }; };\n"
+    (word 6 0 11 ∷ punctuator 61 12 1 ∷ string 14 5 ∷ punctuator 59 19 1 ∷ word 7 21 14 ∷ word 0 36 1 ∷
+    punctuator 123 38 1 ∷ word 9 40 2 ∷ punctuator 123 43 1 ∷ word 40 45 7 ∷ word 0 53 1 ∷ punctuator 61 55 1 ∷
+    word 2 57 5 ∷ punctuator 59 62 1 ∷ punctuator 125 64 1 ∷ punctuator 59 65 1 ∷ word 11 67 4 ∷ punctuator 123 72 1 ∷
+    word 35 74 6 ∷ punctuator 91 81 1 ∷ plus 1 82 1 ∷ punctuator 46 83 2 ∷ plus 255 85 4 ∷ punctuator 93 89 1 ∷
+    word 0 91 9 ∷ punctuator 61 101 1 ∷ plus 16 103 2 ∷ punctuator 59 105 1 ∷ punctuator 125 107 1 ∷ punctuator 59 108 1 ∷
+    punctuator 125 110 1 ∷ punctuator 59 111 1 ∷ word 8 113 3 ∷ word 0 117 1 ∷ punctuator 123 119 1 ∷ word 9 121 2 ∷
+    word 0 124 1 ∷ punctuator 59 125 1 ∷ word 10 127 7 ∷ word 0 135 1 ∷ punctuator 123 137 1 ∷ punctuator 125 138 1 ∷
+    punctuator 59 139 1 ∷ word 11 141 4 ∷ word 0 146 1 ∷ punctuator 123 148 1 ∷ word 0 150 9 ∷ punctuator 61 160 1 ∷
+    plus 32 162 4 ∷ punctuator 59 166 1 ∷ punctuator 125 168 1 ∷ punctuator 59 169 1 ∷ punctuator 125 171 1 ∷ punctuator 59 172 1 ∷
+    []) (ended 174) ∷
+    -- a range is three tokens, and no number with a dot
+    edge "1..0xff" (plus 1 0 1 ∷ punctuator 46 1 2 ∷ plus 255 3 4 ∷ []) (ended 7) ∷
+    edge "1.0xff" (plus 1 0 1 ∷ []) (refused 1) ∷
+    edge "..." (punctuator 46 0 2 ∷ []) (refused 2) ∷
+    -- signs
+    edge "-0x1" [] (refused 0) ∷
+    edge "+0xff" [] (refused 0) ∷
+    edge "+" [] (refused 0) ∷
+    edge "- 5" [] (refused 0) ∷
+    edge "-0" (plus 0 0 2 ∷ []) (ended 2) ∷
+    edge "+0" (plus 0 0 2 ∷ []) (ended 2) ∷
+    edge "1-2" (plus 1 0 1 ∷ minus 2 1 2 ∷ []) (ended 3) ∷
+    -- bounds
+    edge "-9223372036854775808" (minus 9223372036854775808 0 20 ∷ []) (ended 20) ∷
+    edge "-9223372036854775809" [] (refused 0) ∷
+    edge "0xffffffffffffffff" (plus 18446744073709551615 0 18 ∷ []) (ended 18) ∷
+    edge "0x10000000000000000" [] (refused 0) ∷
+    -- runs that are numbers, and runs that are none
+    edge "0xfF" (plus 255 0 4 ∷ []) (ended 4) ∷
+    edge "0x" [] (refused 0) ∷
+    edge "0X1" [] (refused 0) ∷
+    edge "00" [] (refused 0) ∷
+    edge "12ab" [] (refused 0) ∷
+    -- strings and comments
+    edge "\"" [] (refused 0) ∷
+    edge "\"a" [] (refused 0) ∷
+    edge " \"a\n\"" (string 1 4 ∷ []) (ended 5) ∷
+    edge "/*/" [] (refused 0) ∷
+    edge "/**/" [] (ended 4) ∷
+    edge "a//" (word 0 0 1 ∷ []) (ended 3) ∷
+    edge "a // b\nc" (word 0 0 1 ∷ word 0 7 1 ∷ []) (ended 8) ∷
+    edge "TA/**/SK" (word 0 0 2 ∷ word 0 6 2 ∷ []) (ended 8) ∷
+    edge "\"/*\"" (string 0 4 ∷ []) (ended 4) ∷
+    -- words
+    edge "TASK task TASK_TYPE" (word 11 0 4 ∷ word 0 5 4 ∷ word 24 10 9 ∷ []) (ended 19) ∷
+    edge "NETWORKMESSAGE_TYPE CPU_TYPE FLOAT" (word 32 0 19 ∷ word 0 20 8 ∷ word 0 29 5 ∷ []) (ended 34) ∷
     []
 
+abbrev all : List Edge → Type 0
+all [] = Unit {0}
+all (e ∷ es) = (lexFrom (bytesOf (e .text)) 0 ≡ followed (e .tokens) (e .last)) × all es
+
 pub edges-hold : all edges
-unfolding stepAt skip skipN gapAt gapOf commentAt findByte findClose pairAt find firstOf classOf isWordByte wordEnd codeOf codeIn same digitOf valueAfter atMost digitsAfter numeral found wordAt limitOf isNegative numberAt stringAt dotsAt tokenOf tokenAt
-edges-hold =
-    (refl, (refl, (refl, (refl, (refl, (refl, (refl, (refl, (refl, (refl, (refl, (refl, (refl, (refl, (refl, (refl, (refl, (refl, (refl, (refl, (refl, (refl, tt))))))))))))))))))))))
-
--- a range is three tokens, and no number with a dot
-pub range : lexFrom (bytesOf "1..0xff") 0
-    ≡ more (token (Number false 1) 0 1) (more (token (Punctuator 46) 1 2) (more (token (Number false 255) 3 4) (ended 7)))
 unfolding lexFrom lexN stepAt skip skipN gapAt gapOf commentAt findByte findClose pairAt find firstOf classOf isWordByte wordEnd codeOf codeIn same digitOf valueAfter atMost digitsAfter numeral found wordAt limitOf isNegative numberAt stringAt dotsAt tokenOf tokenAt
-range = refl
-
-abbrev count : Lexed → ℕ
-count (more t l) = suc (count l)
-count (ended n) = 0
-count (refused p) = 0
-
--- the document's whole example has 54 tokens
-pub whole :
-    count (lexFrom (bytesOf "OIL_VERSION = \"2.5\";\nIMPLEMENTATION m { OS { BOOLEAN H = FALSE; }; TASK { UINT32 [1..0xff] STACKSIZE = 16; }; };\nCPU c { OS o; APPMODE a {}; TASK t { STACKSIZE = 0x20; }; };\n") 0) ≡ 54
-unfolding lexFrom lexN stepAt skip skipN gapAt gapOf commentAt findByte findClose pairAt find firstOf classOf isWordByte wordEnd codeOf codeIn same digitOf valueAfter atMost digitsAfter numeral found wordAt limitOf isNegative numberAt stringAt dotsAt tokenOf tokenAt
-whole = refl
+edges-hold = (refl, (refl, (refl, (refl, (refl, (refl, (refl, (refl, (refl, (refl, (refl, (refl, (refl, (refl, (refl, (refl, (refl, (refl, (refl, (refl, (refl, (refl, (refl, (refl, (refl, (refl, (refl, (refl, (refl, (refl, (refl, (refl, (refl, (refl, (refl, (refl, (refl, (refl, (refl, (refl, (refl, tt)))))))))))))))))))))))))))))))))))))))))

@@ -35,7 +35,7 @@ use Rattle.token.proofs.Lexemes.{token-end, step-token, step-open}
 
 -- ---- skipping
 
--- where skipping from p in a text of n bytes can end
+-- where skipping from p can end
 abbrev pub SkipOk : List ℕ → ℕ → Skip → Type 0
 SkipOk s p (At q) = (p ≤ q) × (gapAt s q ≡ Nothing)
 SkipOk s p (Open q) = (p ≤ q) × (q < length s) × (gapAt s q ≡ Unended)

@@ -1,4 +1,4 @@
--- `token::words::slot` meets its contract.
+-- `token::words::slot` meets its contract: no sum of numbers so small wraps.
 -- Assumes nothing.
 use mathlib.Core.Path.{refl}
 use Rattle.token.specs.Slots.{slotBy}
