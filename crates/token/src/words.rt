@@ -71,6 +71,7 @@ pub fn is_known(word: &[u8], k: usize) -> bool
     if length != word.len() {
         return false;
     }
+    // Laid out once here, and not at each letter.
     let letters = LETTERS;
     let mut j = 0;
     while j < word.len() {
