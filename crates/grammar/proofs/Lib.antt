@@ -1,0 +1,9 @@
+pub mod Choices
+pub mod Splits
+pub mod Checks
+pub mod Uniqueness
+pub mod Braces
+pub mod Literal
+pub mod Viable
+pub mod Runs
+pub mod Steps
