@@ -1,3 +1,7 @@
+-- Demand 3.
+pub mod Demand
+pub mod Answering
+-- The grammar: unique derivations, the factored grammar, viable prefixes.
 pub mod Choices
 pub mod Splits
 pub mod Checks
@@ -6,4 +10,10 @@ pub mod Braces
 pub mod Literal
 pub mod Viable
 pub mod Runs
+-- The readers.
 pub mod Steps
+pub mod Codes
+pub mod Meeting
+pub mod Lookaheads
+pub mod Terminals
+pub mod Rules

@@ -11,24 +11,24 @@ use Rattle.grammar.specs.Grammar.{Class, Token, file, _▸_, ∎, matche
 use Rattle.grammar.specs.Stage.{bit, opens, closes, Shallow}
 use Rattle.grammar.specs.Factored.{Symbols, paper}
 use Rattle.grammar.specs.Machine.{hollow, after, feed, Stream, ended, bad, _▹_, prepend, opened, deeper-by, deeper, at-end, next, run}
-use Rattle.grammar.specs.declared.Stage.{Stage}
-use Rattle.grammar.specs.declared.Stage.the-variants.{Passes, NoToken, NotAdmitted, TooDeep}
+use Rattle.grammar.specs.declared.Answer.{Answer}
+use Rattle.grammar.specs.declared.Answer.the-variants.{Passes, NoToken, NotAdmitted, TooDeep}
 use Rattle.grammar.proofs.Uniqueness.{reach, bind, Fed, feed-fed, cons≢[], none≢some, some-inj}
 use Rattle.grammar.proofs.Braces.{true-T, T-true}
 use Rattle.grammar.proofs.Viable.{start, viable, not-viable, derived, not-derived, Turn, turn-open, turn-close, turn-plain, Nest, nest-nil, nest-rule, move-nest}
 
--- The whole of the stage of 3 to 5: what the answer to a stream s is. Whatever is refused, the braces before it were never too deep.
-pub data Ends (s : Stream) : Stage → Type 0 where
-  well : (l : List Token) (n : ℕ) → s ≡ prepend l (ended n) → Shallow l → Derivation l → Ends s Passes
+-- What a run of the stream s can come to. Whatever is refused, the braces before it were never too deep.
+pub data Outcome (s : Stream) : Answer → Type 0 where
+  well : (l : List Token) (n : ℕ) → s ≡ prepend l (ended n) → Shallow l → Derivation l → Outcome s Passes
   -- Refusal 3: where no token is, and the tokens before it begin a list that the grammar derives.
-  no-token : (l : List Token) (p : ℕ) → s ≡ prepend l (bad p) → Shallow l → Begins l → Ends s (NoToken p)
+  nowhere : (l : List Token) (p : ℕ) → s ≡ prepend l (bad p) → Shallow l → Begins l → Outcome s (NoToken p)
   -- Refusal 4: at a token that the grammar does not admit, or at the end.
-  not-admitted : (l : List Token) (t : Token) (r : Stream) → s ≡ prepend l (t ▹ r) → Shallow l → Begins l → (Begins (l ++ (t ∷ [])) → ⊥)
-      → Ends s (NotAdmitted (t .place))
-  ends-early : (l : List Token) (n : ℕ) → s ≡ prepend l (ended n) → Shallow l → Begins l → (Derivation l → ⊥) → Ends s (NotAdmitted n)
+  not-taken : (l : List Token) (t : Token) (r : Stream) → s ≡ prepend l (t ▹ r) → Shallow l → Begins l → (Begins (l ++ (t ∷ [])) → ⊥)
+      → Outcome s (NotAdmitted (t .place))
+  unfinished : (l : List Token) (n : ℕ) → s ≡ prepend l (ended n) → Shallow l → Begins l → (Derivation l → ⊥) → Outcome s (NotAdmitted n)
   -- Refusal 5: at a `{` that the grammar admits, where sixteen are open.
-  too-deep : (l : List Token) (t : Token) (r : Stream) → s ≡ prepend l (t ▹ r) → Shallow l → Begins (l ++ (t ∷ []))
-      → matches (sg lbrace) (t .class) ≡ true → opens l ≡ closes l + 16 → Ends s (TooDeep (t .place))
+  seventeenth : (l : List Token) (t : Token) (r : Stream) → s ≡ prepend l (t ▹ r) → Shallow l → Begins (l ++ (t ∷ []))
+      → matches (sg lbrace) (t .class) ≡ true → opens l ≡ closes l + 16 → Outcome s (TooDeep (t .place))
 
 -- Lists ----------------------------------------------------------------------------------------------------------------------------------
 
@@ -115,20 +115,20 @@ turn-step (turn-open {d}) h = go (ltb d 16) refl
 turn-step turn-close h = inl (refl, omega arith)
 turn-step turn-plain h = inl (refl, h)
 
-stage-from : (s₀ s : Stream) (l : List Token) (k : Symbols) (d : ℕ) → s₀ ≡ prepend l s → reach start l ≡ some k → Nest d k → Behind l d → Ends s₀ (run d k s)
+run-from : (s₀ s : Stream) (l : List Token) (k : Symbols) (d : ℕ) → s₀ ≡ prepend l s → reach start l ≡ some k → Nest d k → Behind l d → Outcome s₀ (run d k s)
 unfolding run
-stage-from s₀ (ended n) l k d q e nest w = go (hollow k) refl
+run-from s₀ (ended n) l k d q e nest w = go (hollow k) refl
   where
-    go : (b : Bool) → hollow k ≡ b → Ends s₀ (at-end b n)
+    go : (b : Bool) → hollow k ≡ b → Outcome s₀ (at-end b n)
     go true h = well l n q (w .shallow) (derived l e h)
-    go false h = ends-early l n q (w .shallow) (viable l e) (not-derived l e h)
-stage-from s₀ (bad p) l k d q e nest w = no-token l p q (w .shallow) (viable l e)
-stage-from s₀ (t ▹ s) l k d q e nest w = go (feed k (t .class)) refl (λ j. stage-from s₀ s (l ++ (t ∷ [])) j)
+    go false h = unfinished l n q (w .shallow) (viable l e) (not-derived l e h)
+run-from s₀ (bad p) l k d q e nest w = nowhere l p q (w .shallow) (viable l e)
+run-from s₀ (t ▹ s) l k d q e nest w = go (feed k (t .class)) refl (λ j. run-from s₀ s (l ++ (t ∷ [])) j)
   where
     go : (o : Option Symbols) → feed k (t .class) ≡ o
-        → ((j : Symbols) (n : ℕ) → s₀ ≡ prepend (l ++ (t ∷ [])) s → reach start (l ++ (t ∷ [])) ≡ some j → Nest n j → Behind (l ++ (t ∷ [])) n → Ends s₀ (run n j s))
-        → Ends s₀ (next o (deeper d (t .class)) (t .place) (λ j n. run n j s))
-    go none f ih = not-admitted l t s q (w .shallow) (viable l e) (not-viable (l ++ (t ∷ [])) (reach-one l t start e ∙ f))
+        → ((j : Symbols) (n : ℕ) → s₀ ≡ prepend (l ++ (t ∷ [])) s → reach start (l ++ (t ∷ [])) ≡ some j → Nest n j → Behind (l ++ (t ∷ [])) n → Outcome s₀ (run n j s))
+        → Outcome s₀ (next o (deeper d (t .class)) (t .place) (λ j n. run n j s))
+    go none f ih = not-taken l t s q (w .shallow) (viable l e) (not-viable (l ++ (t ∷ [])) (reach-one l t start e ∙ f))
     go (some j) f ih = step (turn-step (r .1) (omega (arith, w .open-now, w .shallow l [] (sym (append-nil l)))))
       where
         v : Fed k (t .class) j
@@ -141,18 +141,18 @@ stage-from s₀ (t ▹ s) l k d q e nest w = go (feed k (t .class)) refl (λ j. 
         reached = reach-one l t start e ∙ f
 
         step : ((deeper d (t .class) ≡ some (r .0)) × (r .0 ≤ 16)) ⊎ ((deeper d (t .class) ≡ none) × (matches (sg lbrace) (t .class) ≡ true) × (d ≡ 16))
-            → Ends s₀ (next (some j) (deeper d (t .class)) (t .place) (λ i n. run n i s))
+            → Outcome s₀ (next (some j) (deeper d (t .class)) (t .place) (λ i n. run n i s))
         step (inl p) =
-            subst (λ o. Ends s₀ (next (some j) o (t .place) (λ i n. run n i s))) (sym (p .0))
+            subst (λ o. Outcome s₀ (next (some j) o (t .place) (λ i n. run n i s))) (sym (p .0))
             (ih j (r .0) (q ∙ sym (prepend-one l t s)) reached (subst (λ i. Nest (r .0) i) (append-nil (after (v .fed)) ∙ v .leaves) (r .2)) (one-more l t (r .1) (p .1) w))
         step (inr p) =
-            subst (λ o. Ends s₀ (next (some j) o (t .place) (λ i n. run n i s))) (sym (p .0))
-            (too-deep l t s q (w .shallow) (viable (l ++ (t ∷ [])) reached) (p .1) (omega (arith, w .open-now, p .2)))
+            subst (λ o. Outcome s₀ (next (some j) o (t .place) (λ i n. run n i s))) (sym (p .0))
+            (seventeenth l t s q (w .shallow) (viable (l ++ (t ∷ [])) reached) (p .1) (omega (arith, w .open-now, p .2)))
 
--- THE STAGE of 3 to 5, for any text.
-pub stage : (s : Stream) → Ends s (run 0 (paper file ▸ ∎) s)
+-- The run of any stream.
+pub run-is : (s : Stream) → Outcome s (run 0 (paper file ▸ ∎) s)
 unfolding prepend reach opens closes
-stage s = stage-from s s [] start 0 refl refl (nest-rule nest-nil) (record { shallow = nothing; open-now = refl })
+run-is s = run-from s s [] start 0 refl refl (nest-rule nest-nil) (record { shallow = nothing; open-now = refl })
   where
     nothing : Shallow []
     nothing [] l₂ f = omega arith

@@ -9,8 +9,8 @@ use Rattle.grammar.specs.Grammar.{Symbol, Terminal, Class, Token, tok, r
 use Rattle.grammar.specs.Factored.{Nonterminal, Symbols, _⟹_, Choice, by, choices}
 use Rattle.grammar.specs.Machine.{nullable, hollow, Move, after, Start, start, test, is-some, take-step, skip-step, rule-step, form-step, tries, begin, move, takes, starts, left-of, feed, Stream, ended, bad, _▹_, prepend, deeper, at-end, next, run}
 use Rattle.grammar.specs.Readers.{Took}
-use Rattle.grammar.specs.declared.Stage.{Stage}
-use Rattle.grammar.specs.declared.Stage.the-variants.{Passes, NoToken, NotAdmitted, TooDeep}
+use Rattle.grammar.specs.declared.Answer.{Answer}
+use Rattle.grammar.specs.declared.Answer.the-variants.{Passes, NoToken, NotAdmitted, TooDeep}
 use Rattle.grammar.proofs.Choices.{listed}
 use Rattle.grammar.proofs.Splits.{join, tokens-join}
 use Rattle.grammar.proofs.Checks.{begin-is, clear-is}

@@ -7,8 +7,8 @@ use lib.ListN.{length}
 use Rattle.grammar.specs.Grammar.{Token, Derivation, Begins}
 use Rattle.grammar.specs.Terminals.{tokens}
 use Rattle.grammar.specs.Stage.{numberOf, placeOf, Divides, Shallow}
-use Rattle.grammar.specs.declared.Stage.{Stage}
-use Rattle.grammar.specs.declared.Stage.the-variants.{Passes}
+use Rattle.grammar.specs.declared.Answer.{Answer}
+use Rattle.grammar.specs.declared.Answer.the-variants.{Passes}
 
 -- "any text of at most 65,535 bytes that divides wholly into tokens, with never more than sixteen braces open"
 pub record Suits (s : List ℕ) : Type 0 where
@@ -30,7 +30,7 @@ pub data Place (s : List ℕ) : ℕ → Type 0 where
   at-token : (t : Token) → NotViable (tokens s) t → Place s (t .place)
   at-end : Begins (tokens s) → Place s (length s)
 
-pub record Demand-3 (s : List ℕ) (r : Stage) : Type 0 where
+pub record Demand-3 (s : List ℕ) (r : Answer) : Type 0 where
   -- "The reading passes the grammar stage exactly when document 01's grammar derives the text's tokens"
   pub passes-exactly : Suits s → (r ≡ Passes) ↔ Derivation (tokens s)
   -- "any two derivations of them are the same"

@@ -8,8 +8,8 @@ use Prim.Native.Nat.{ℕ, zero, suc, pred}
 use lib.Dec.{ltb}
 use Rattle.grammar.specs.Grammar.{Terminal, Class, Token, tok, rule, matches, sg, lbrace, rbrace}
 use Rattle.grammar.specs.Factored.{Nonterminal, Symbols, _⟹_, Choice, by, choices}
-use Rattle.grammar.specs.declared.Stage.{Stage}
-use Rattle.grammar.specs.declared.Stage.the-variants.{Passes, NoToken, NotAdmitted, TooDeep}
+use Rattle.grammar.specs.declared.Answer.{Answer}
+use Rattle.grammar.specs.declared.Answer.the-variants.{Passes, NoToken, NotAdmitted, TooDeep}
 
 -- Rules that can be empty ------------------------------------------------------------------------------------------------------------
 
@@ -159,17 +159,17 @@ unfoldable pub deeper : ℕ → Class → Option ℕ
 unfolding deeper-by matches
 deeper d c = deeper-by (matches (sg lbrace) c) (matches (sg rbrace) c) d
 
-unfoldable pub at-end : Bool → ℕ → Stage
+unfoldable pub at-end : Bool → ℕ → Answer
 at-end true n = Passes
 at-end false n = NotAdmitted n
 
-unfoldable pub next : Option Symbols → Option ℕ → ℕ → (Symbols → ℕ → Stage) → Stage
+unfoldable pub next : Option Symbols → Option ℕ → ℕ → (Symbols → ℕ → Answer) → Answer
 next none o p f = NotAdmitted p
 next (some k) none p f = TooDeep p
 next (some k) (some d) p f = f k d
 
 -- With d braces open and the symbols k still to be read.
-unfoldable pub run : ℕ → Symbols → Stream → Stage
+unfoldable pub run : ℕ → Symbols → Stream → Answer
 unfolding hollow at-end next feed deeper
 run d k (ended n) = at-end (hollow k) n
 run d k (bad p) = NoToken p

@@ -18,8 +18,8 @@ use Rattle.grammar.specs.Terminals.{words, tokenOf}
 use Rattle.grammar.specs.Factored.{Symbols, paper, lift, _⟹_}
 use Rattle.grammar.specs.Machine.{Stream, ended, bad, _▹_, prepend, run}
 use Rattle.grammar.specs.declared.Look.{Look}
-use Rattle.grammar.specs.declared.Stage.{Stage}
-use Rattle.grammar.specs.declared.Stage.the-variants.{Passes, NoToken, NotAdmitted, TooDeep}
+use Rattle.grammar.specs.declared.Answer.{Answer}
+use Rattle.grammar.specs.declared.Answer.the-variants.{Passes, NoToken, NotAdmitted, TooDeep}
 
 -- Codes ------------------------------------------------------------------------------------------------------------------------------
 
@@ -37,9 +37,12 @@ codeOf String = 43
 codeOf (Punctuator b) = punctuatorCode b
 
 -- The class of each code.
+abbrev pub others : List Class
+others =
+    numeral ∷ quoted ∷ sign lbrace ∷ sign rbrace ∷ sign lsquare ∷ sign rsquare ∷ sign equals ∷ sign semicolon ∷ sign colon ∷ sign comma ∷ sign dots ∷ []
+
 abbrev pub classes : List Class
-classes =
-    words ++ (numeral ∷ quoted ∷ sign lbrace ∷ sign rbrace ∷ sign lsquare ∷ sign rsquare ∷ sign equals ∷ sign semicolon ∷ sign colon ∷ sign comma ∷ sign dots ∷ [])
+classes = words ++ others
 
 unfoldable pub classAt : ℕ → Class
 classAt n = getD classes n other
@@ -100,11 +103,11 @@ fitting booleans n = either (eqb n 1) (eqb n 2)
 fitting enums n = matches name (classAt n)
 
 -- A refusal by its code: 57, 58, 59 for 3, 4, 5.
-unfoldable pub refusalOf : ℕ → ℕ → Stage
+unfoldable pub refusalOf : ℕ → ℕ → Answer
 refusalOf n p = pick (eqb n 57) (NoToken p) (pick (eqb n 58) (NotAdmitted p) (TooDeep p))
 
 -- The answer at the look behind the file.
-unfoldable pub answerOf : Look → Stage
+unfoldable pub answerOf : Look → Answer
 unfolding refusalOf
 answerOf a = pick (eqb (a .code) 54) Passes (pick (ltb (a .code) 54) (NotAdmitted (a .at)) (refusalOf (a .code) (a .at)))
 
@@ -114,13 +117,13 @@ unfolding classAt
 seen a = record { class = classAt (a .code); place = a .at; length = a .next - a .at }
 
 -- The answer of a reading that has come to the look a, with the symbols k still to be read.
-unfoldable pub onBy : Bool → Bool → List ℕ → Look → Symbols → Stage
+unfoldable pub onBy : Bool → Bool → List ℕ → Look → Symbols → Answer
 unfolding seen lexAt run refusalOf
 onBy true e s a k = run (a .depth) k (seen a ▹ lexAt s (a .next))
 onBy false true s a k = run (a .depth) k (ended (a .at))
 onBy false false s a k = refusalOf (a .code) (a .at)
 
-unfoldable pub on : List ℕ → Look → Symbols → Stage
+unfoldable pub on : List ℕ → Look → Symbols → Answer
 unfolding onBy
 on s a k = onBy (ltb (a .code) 54) (eqb (a .code) 54) s a k
 

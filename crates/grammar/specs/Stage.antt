@@ -7,17 +7,17 @@ use lib.ListN.{length}
 use Rattle.token.specs.Lexing.{lexFrom, Lexed, more, ended, refused, Divides as Wholly}
 use Rattle.grammar.specs.Grammar.{Token, matches, sg, lbrace, rbrace, Derivation, Begins}
 use Rattle.grammar.specs.Terminals.{tokens}
-use Rattle.grammar.specs.declared.Stage.{Stage}
-use Rattle.grammar.specs.declared.Stage.the-variants.{Passes, NoToken, NotAdmitted, TooDeep}
+use Rattle.grammar.specs.declared.Answer.{Answer}
+use Rattle.grammar.specs.declared.Answer.the-variants.{Passes, NoToken, NotAdmitted, TooDeep}
 
 -- The number that document 01 has for each answer; 0 where there is no refusal.
-unfoldable pub numberOf : Stage → ℕ
+unfoldable pub numberOf : Answer → ℕ
 numberOf Passes = 0
 numberOf (NoToken p) = 3
 numberOf (NotAdmitted p) = 4
 numberOf (TooDeep p) = 5
 
-unfoldable pub placeOf : Stage → ℕ
+unfoldable pub placeOf : Answer → ℕ
 placeOf Passes = 0
 placeOf (NoToken p) = p
 placeOf (NotAdmitted p) = p
@@ -53,7 +53,7 @@ Shallow l = (l₁ l₂ : List Token) → l ≡ l₁ ++ l₂ → opens l₁ ≤ c
 
 -- What the stage answers to a text, whatever its bytes: the leftmost fault of 3, 4 and 5. Each case says that there is none before it: the
 -- tokens before the place begin a list that the grammar derives, with never more than sixteen braces open.
-pub data Answers (s : List ℕ) : Stage → Type 0 where
+pub data Answers (s : List ℕ) : Answer → Type 0 where
   -- no fault
   passes : Divides s → Shallow (tokens s) → Derivation (tokens s) → Answers s Passes
   -- 3: "no token; string or `/*` unended", at "its first byte"
