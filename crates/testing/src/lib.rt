@@ -1,0 +1,2 @@
+// Calls for tests and benchmarks in other languages.
+mod stage;
