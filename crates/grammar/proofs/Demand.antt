@@ -27,7 +27,7 @@ pub derived-begins : {l : List Token} → Derivation l → Begins l
 derived-begins {l} d = record { more = []; derivation = subst Derivation (sym (append-nil l)) d }
 
 -- A front part, and the token behind it.
-one-more : (l : List Token) (t : Token) (r : List Token) → l ++ (t ∷ r) ≡ (l ++ (t ∷ [])) ++ r
+pub one-more : (l : List Token) (t : Token) (r : List Token) → l ++ (t ∷ r) ≡ (l ++ (t ∷ [])) ++ r
 one-more l t r = sym (append-assoc l (t ∷ []) r)
 
 opens-one : (l : List Token) (t : Token) → opens (l ++ (t ∷ [])) ≡ opens l + bit (matches (sg lbrace) (t .class))
@@ -57,7 +57,7 @@ not-shallow l t m o h =
 not-derived : (s : List ℕ) (l : List Token) (t : Token) (r : List Token) → tokens s ≡ l ++ (t ∷ r) → (Begins (l ++ (t ∷ [])) → ⊥) → Derivation (tokens s) → ⊥
 not-derived s l t r e n d = n (begins-front (l ++ (t ∷ [])) r (subst Begins (e ∙ one-more l t r) (derived-begins d)))
 
-stops-not : (l : Lexed) (p : ℕ) → StopsAt l p → Wholly l → ⊥
+pub stops-not : (l : Lexed) (p : ℕ) → StopsAt l p → Wholly l → ⊥
 unfolding StopsAt
 stops-not (more t l) p h w = stops-not l p h w
 stops-not (ended n) p h w = h

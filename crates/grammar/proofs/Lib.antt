@@ -1,5 +1,7 @@
 -- Demand 3.
 pub mod Demand
+-- The answer to a text is decided.
+pub mod Decided
 pub mod Answering
 -- The grammar: unique derivations, the factored grammar, viable prefixes.
 pub mod Choices
