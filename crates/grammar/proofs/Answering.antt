@@ -104,5 +104,12 @@ answered s (seventeenth l t u e h b m o) =
     let w = token-is (lexFrom s 0) l t u e in
     too-deep l t (w .0) (w .1) h b m o
 
+-- An answer to every text, found by the machine.
+abbrev pub answerTo : List ℕ → Answer
+answerTo s = run 0 (paper file ▸ ∎) (lexAt s 0)
+
+pub answer-to : (s : List ℕ) → Answers s (answerTo s)
+answer-to s = answered s (run-is (lexAt s 0))
+
 pub stage-answers : (s : List ℕ) (a b : Look) (r : Answer) → a ≡ lookAt s 0 0 → Meets 1 (file ▸ ∎) s a b → r ≡ answerOf b → Answers s r
-stage-answers s a b r e m v = answered s (subst (Outcome (lexAt s 0)) (sym (stage-runs s a b r e m v)) (run-is (lexAt s 0)))
+stage-answers s a b r e m v = subst (Answers s) (sym (stage-runs s a b r e m v)) (answer-to s)

@@ -10,7 +10,7 @@ use Rattle.grammar.specs.Terminals.{tokens}
 use Rattle.grammar.specs.Stage.{Divides, StopsAt, Shallow, Answers, passes, no-token, not-admitted, ends-early, too-deep}
 use Rattle.grammar.specs.declared.Answer.{Answer}
 use Rattle.grammar.specs.declared.Answer.the-variants.{Passes, NoToken, NotAdmitted, TooDeep}
-use Rattle.grammar.proofs.Demand.{one-more, begins-front, shallow-front, derived-begins, not-shallow, stops-not}
+use Rattle.grammar.proofs.Fronts.{one-more, begins-front, shallow-front, derived-begins, not-shallow, stops-not}
 
 -- Of two front parts of a list, each with the token behind it, they are the same or one goes on past the other's token.
 abbrev Past : List Token → Token → List Token → Type 0

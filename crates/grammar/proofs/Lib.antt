@@ -3,6 +3,8 @@ pub mod Demand
 -- The answer to a text is decided.
 pub mod Decided
 pub mod Answering
+pub mod Edges
+pub mod Fronts
 -- The grammar: unique derivations, the factored grammar, viable prefixes.
 pub mod Choices
 pub mod Splits

@@ -48,12 +48,12 @@ unfolding prepend
 prepend-one [] t s = refl
 prepend-one (u ∷ l) t s = ap (u ▹_) (prepend-one l t s)
 
-opens-one : (l : List Token) (t : Token) → opens (l ++ (t ∷ [])) ≡ opens l + bit (matches (sg lbrace) (t .class))
+pub opens-one : (l : List Token) (t : Token) → opens (l ++ (t ∷ [])) ≡ opens l + bit (matches (sg lbrace) (t .class))
 unfolding opens
 opens-one [] t = omega arith
 opens-one (u ∷ l) t = let e = opens-one l t in omega arith
 
-closes-one : (l : List Token) (t : Token) → closes (l ++ (t ∷ [])) ≡ closes l + bit (matches (sg rbrace) (t .class))
+pub closes-one : (l : List Token) (t : Token) → closes (l ++ (t ∷ [])) ≡ closes l + bit (matches (sg rbrace) (t .class))
 unfolding closes
 closes-one [] t = omega arith
 closes-one (u ∷ l) t = let e = closes-one l t in omega arith
