@@ -160,10 +160,11 @@ pub fn refuse(a: Look) -> Look
     ensures { λ r. ⌜ r ≡ refusal a ⌝ }
 {
     let code = a.code;
+    let place = a.at;
     if code <= END {
         return Look {
             code: NOT_ADMITTED,
-            at: a.at,
+            at: place,
             next: a.next,
             depth: a.depth,
         };
