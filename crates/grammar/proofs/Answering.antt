@@ -1,8 +1,7 @@
 -- What the whole stage answers. Assumes nothing.
 use mathlib.Core.Path.{_≡_, refl, sym, _∙_, ap, ap₂, subst}
 use mathlib.Core.List.{List, [], _∷_, _++_}
-use mathlib.Core.Bool.{Bool, true, false}
-use Prim.Native.Nat.{ℕ, _-_, _<_, _≤_}
+use Prim.Native.Nat.{ℕ, _≤_}
 use native.Mathlib.Omega.{arith}
 use lib.ListN.{length}
 use borrow.Author.Tests.{eq-eqb, ne-eqb, lt-ltb, le-ltb}
@@ -17,7 +16,7 @@ use Rattle.grammar.specs.Machine.{hollow, feed, Stream, ended, bad, _▹
 use Rattle.grammar.specs.Readers.{streamOf, lexAt, lookAt, refusalOf, answerOf, seen, on, restBy, rest, Took, Meets}
 use Rattle.grammar.specs.declared.Look.{Look}
 use Rattle.grammar.specs.declared.Answer.{Answer}
-use Rattle.grammar.specs.declared.Answer.the-variants.{Passes, NoToken, NotAdmitted, TooDeep}
+use Rattle.grammar.specs.declared.Answer.the-variants.{NotAdmitted}
 use Rattle.grammar.proofs.Meeting.{by-look, on-look, rest-look}
 use Rattle.grammar.proofs.Runs.{Outcome, well, nowhere, not-taken, unfinished, seventeenth, run-is}
 

@@ -1,11 +1,9 @@
 -- What is found of the factored grammar by computation: it is LL(1). Assumes nothing.
-use mathlib.Core.Path.{_≡_, refl, sym, _∙_, ap}
-use mathlib.Core.List.{List, [], _∷_, _++_}
-use mathlib.Core.Bool.{Bool, true, false, _&&_, _||_, not, false≢true}
-use mathlib.Core.Option.{Option, none, some}
-use Prim.Native.Nat.{ℕ, zero, suc}
+use mathlib.Core.Path.{_≡_, refl, sym}
+use mathlib.Core.List.{List, [], _∷_}
+use mathlib.Core.Bool.{Bool, true, false, _&&_, _||_, not}
 use Rattle.grammar.specs.Grammar.{Terminal, Class, Kind, Integer, tok, rule, matches, file, version, implementation, specs, spec, definitions, definition, attribute, reference, D, P, auto, mark, integer-range, numbers, boolean-range, enumerator, enumerators, default, own, application, objects, object, block, statements, statement, value, integers, strings, booleans, enums, name, number, string, kind, type, integer, the, sg, OIL-VERSION, IMPLEMENTATION, CPU, STRING, BOOLEAN, ENUM, TRUE, FALSE, AUTO, NO-DEFAULT, WITH-AUTO, lbrace, rbrace, lsquare, rsquare, equals, semicolon, colon, comma, dots}
-use Rattle.grammar.specs.Factored.{Nonterminal, paper, span, Symbols, _⟹_, Choice, by, choices}
+use Rattle.grammar.specs.Factored.{Nonterminal, paper, span, Symbols, Choice, by, choices}
 use Rattle.grammar.specs.Machine.{nullable, hollow, tries, begin, takes, starts}
 use Rattle.grammar.proofs.Choices.{all, nonterminals, classes, every-rule, every-class}
 

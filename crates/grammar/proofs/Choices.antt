@@ -5,7 +5,7 @@ use mathlib.Core.Bool.{Bool, true, false, _&&_, false≢true, Bool-set}
 use Prim.Native.Nat.{ℕ, zero, suc}
 use lib.ListN.{getD}
 use Rattle.grammar.specs.Grammar.{Form, Rule, _⟶_, Class, Kind, Integer, OS, UINT32, integers, strings, booleans, enums, file, version, implementation, specs, spec, definitions, definition, attribute, reference, D, P, auto, mark, integer-range, numbers, boolean-range, enumerator, enumerators, default, own, application, objects, object, block, statements, statement, value, file-is, version-is, implementation-is, no-spec, a-spec, spec-is, no-definition, a-definition, an-attribute, a-reference, an-integer, a-string, a-boolean, an-enum, reference-is, no-D, a-D, no-P, a-P, no-auto, with-auto, no-mark, a-mark, no-range, a-range, a-list, no-number, a-number, no-boolean-range, a-boolean-range, enumerator-is, no-enumerator, an-enumerator, no-default, a-default, own-auto, own-none, own-number, own-string, own-true, own-false, own-name, application-is, no-object, an-object, an-object-alone, an-object-with, no-block, a-block, no-statement, a-statement, statement-is, value-number, value-string, value-auto, value-name, value-true, value-false, ordinary, numeral, quoted, other, kind-word, type-word, integer-word, word, sign, OIL-VERSION, IMPLEMENTATION, CPU, STRING, BOOLEAN, ENUM, TRUE, FALSE, AUTO, NO-DEFAULT, WITH-AUTO, lbrace, rbrace, lsquare, rsquare, equals, semicolon, colon, comma, dots}
-use Rattle.grammar.specs.Factored.{Written, written, forms, Changed, Status, same, changed, status, is-same, kept, Nonterminal, paper, span, Symbols, _⟹_, keep, object-is, range-none, range-is, one-number, up-to, many-numbers, Choice, by, kept-choices, new-choices, choices-by, choices}
+use Rattle.grammar.specs.Factored.{Written, written, forms, Status, same, changed, status, is-same, kept, Nonterminal, paper, span, Symbols, _⟹_, keep, object-is, range-none, range-is, one-number, up-to, many-numbers, by, kept-choices, choices-by, choices}
 
 -- `In a l`: a is an element of l.
 pub data In {A : Type 0} : A → List A → Type 0 where

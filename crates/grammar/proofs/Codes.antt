@@ -1,20 +1,20 @@
 -- What is known of a code's class from tests of the code: found by computation over the 54 codes. Assumes nothing.
-use mathlib.Core.Path.{_≡_, refl, sym, _∙_, ap, subst}
+use mathlib.Core.Path.{_≡_, refl, sym, _∙_, ap}
 use mathlib.Core.List.{List, [], _∷_, _++_}
 use mathlib.Core.Bool.{Bool, true, false, not, false≢true}
 use mathlib.Core.Logic.{_⊎_, inl, inr, ⊎-elim}
-use Prim.Native.Nat.{ℕ, zero, suc, _+_, _-_, _≤_, _<_}
+use Prim.Native.Nat.{ℕ, zero, suc, _≤_, _<_}
 use native.Mathlib.Omega.{arith}
 use lib.Dec.{T, ltb, leb, eqb}
 use lib.ListN.{length, getD, List·getD-eq-default}
-use borrow.Author.Tests.{ltb-true, ltb-false, leb-true, eqb-true, lt-ltb, lt-leb, le-ltb, eq-eqb, ne-eqb, not-true}
+use borrow.Author.Tests.{ltb-true, ltb-false, lt-leb, ne-eqb, not-true}
 use Rattle.token.specs.Find.{pick, both, either}
 use Rattle.token.proofs.Tables.{upTo, below}
 use Rattle.token.proofs.Find.{by-test}
 use Rattle.token.specs.declared.Sort.{Sort}
 use Rattle.token.specs.declared.Sort.the-variants.{Word, Number, String, Punctuator}
-use Rattle.grammar.specs.Grammar.{Class, Terminal, matches, other, sign, name, kind, type, integer, definition, sg, lbrace, rbrace, lsquare, rsquare, equals, semicolon, colon, comma, dots}
-use Rattle.grammar.proofs.Braces.{T-true, true-T}
+use Rattle.grammar.specs.Grammar.{Class, matches, other, sign, name, kind, type, integer, definition, sg, lbrace, rbrace, lsquare, rsquare, equals, semicolon, colon, comma, dots}
+use Rattle.grammar.proofs.Braces.{T-true}
 use Rattle.grammar.specs.Factored.{paper}
 use Rattle.grammar.specs.Machine.{starts}
 use Rattle.grammar.specs.Terminals.{words, signOf, classOf}

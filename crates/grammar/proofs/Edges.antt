@@ -1,5 +1,4 @@
 -- Document 01's starred edges, as far as the stage goes, and more: one table of texts with their answers. Assumes nothing.
-use Prim.Native.Nat.{ℕ}
 use Prim.Native.String.{String}
 use mathlib.Core.Path.{_≡_, refl, subst}
 use mathlib.Core.List.{List, [], _∷_}
@@ -10,7 +9,6 @@ use Rattle.token.specs.Words.{bytesOf, same, codeIn, codeOf}
 use Rattle.token.specs.Numbers.{digitOf, valueAfter, atMost, digitsAfter, numeral}
 use Rattle.token.specs.Tokens.{found, wordAt, limitOf, isNegative, numberAt, stringAt, dotsAt, tokenOf, tokenAt, stepAt}
 use Rattle.token.specs.Lexing.{lexN, lexFrom}
-use Rattle.grammar.specs.Grammar.{_▸_, ∎, file}
 use Rattle.grammar.specs.Terminals.{signOf}
 use Rattle.grammar.specs.Terminals.{classOf as classOfToken, tokenOf as tokenOfToken}
 use Rattle.grammar.specs.Stage.{Answers}

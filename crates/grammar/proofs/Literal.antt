@@ -1,6 +1,6 @@
 -- The factored grammar has the same trees as the grammar of document 01: they are carried over and back, with the same tokens. Assumes nothing.
 use mathlib.Core.Path.{_≡_, refl, sym, _∙_, ap, ap₂}
-use mathlib.Core.List.{List, [], _∷_, _++_, append-assoc}
+use mathlib.Core.List.{[], _∷_, _++_, append-assoc}
 use Rattle.grammar.specs.Grammar.{Form, Rule, Terminal, tok, rule, _⟶_, _·_, _▸_, ∎, number, sg, semicolon, comma, rsquare, D, numbers, Trees, nil, leaf, node, tokens, an-object-alone, an-object-with, no-block, a-block, no-range, a-range, a-list, no-number, a-number}
 use Rattle.grammar.specs.Factored.{Changed, object-changed, range-changed, Status, same, changed, status, is-same, kept, paper, Symbols, lift, _⟹_, keep, object-is, range-none, range-is, one-number, up-to, many-numbers}
 

@@ -1,12 +1,12 @@
 -- What the functions of `lookahead` cite. Assumes nothing.
-use mathlib.Core.Path.{_≡_, refl, sym, _∙_, ap, ap₂}
-use mathlib.Core.List.{List, [], _∷_}
-use mathlib.Core.Bool.{Bool, true, false}
-use Prim.Native.Nat.{ℕ, zero, suc, _+_, _-_, _≤_, _<_}
+use mathlib.Core.Path.{_≡_, refl, sym, _∙_, ap}
+use mathlib.Core.List.{List}
+use mathlib.Core.Bool.{true, false}
+use Prim.Native.Nat.{ℕ, _+_, _-_, _≤_, _<_}
 use native.Mathlib.Omega.{arith}
-use lib.Dec.{ltb, leb, eqb}
+use lib.Dec.{leb, eqb}
 use borrow.Author.Tests.{lt-ltb, le-ltb, le-leb, lt-leb, eq-eqb, ne-eqb}
-use Rattle.token.specs.Find.{pick, both}
+use Rattle.token.specs.Find.{pick}
 use Rattle.token.specs.Tokens.{stepAt}
 use Rattle.token.specs.declared.Cursor.{Cursor}
 use Rattle.token.specs.declared.Token.{Token}
@@ -15,7 +15,7 @@ use Rattle.token.specs.declared.Step.the-variants.{Found, Refused, End}
 use Rattle.token.specs.declared.Sort.{Sort}
 use Rattle.token.specs.declared.Sort.the-variants.{Word}
 use Rattle.grammar.specs.Grammar.{matches, name}
-use Rattle.grammar.specs.Readers.{punctuatorCode, codeOf, classAt, lookOf, lookAt, stop, advanced, refusal, expected, between, sortAt, fitting, refusalOf, answerOf}
+use Rattle.grammar.specs.Readers.{punctuatorCode, codeOf, classAt, lookOf, lookAt, advanced, refusal, expected, between, sortAt, fitting, refusalOf, answerOf}
 use Rattle.grammar.specs.declared.Answer.the-variants.{Passes, NoToken, NotAdmitted, TooDeep}
 use Rattle.grammar.specs.declared.Look.{Look}
 

@@ -1,25 +1,24 @@
 -- The rules: one law for each way in which a reader answers. Assumes nothing.
-use mathlib.Core.Path.{_≡_, refl, sym, _∙_, ap, subst}
-use mathlib.Core.List.{List, [], _∷_, _++_}
-use mathlib.Core.Bool.{Bool, true, false, not, false≢true}
-use Prim.Native.Nat.{ℕ, zero, suc, _+_, _-_, _*_, _≤_, _<_}
+use mathlib.Core.Path.{_≡_, refl, _∙_}
+use mathlib.Core.List.{List, [], _∷_}
+use mathlib.Core.Bool.{Bool, true, false}
+use Prim.Native.Nat.{ℕ, _+_, _*_, _<_}
 use native.Mathlib.Omega.{arith}
-use lib.Dec.{T, ltb, leb, eqb}
-use borrow.Author.Tests.{eqb-true, eqb-false, ne-eqb, eq-eqb}
-use Rattle.token.specs.Find.{pick, both, either}
-use Rattle.token.proofs.Tables.{upTo}
-use Rattle.grammar.specs.Grammar.{Form, Rule, Terminal, Class, _·_, _▸_, ∎, matches, name, kind, type, integer, number, string, the, sg, TRUE, FALSE, AUTO, NO-DEFAULT, WITH-AUTO, STRING, BOOLEAN, ENUM, OIL-VERSION, IMPLEMENTATION, CPU, lbrace, rbrace, lsquare, rsquare, equals, semicolon, colon, comma, dots, Sort, integers, strings, booleans, enums, file, version, implementation, specs, spec, definitions, definition, attribute, reference, D, P, auto, mark, integer-range, numbers, boolean-range, enumerator, enumerators, default, own, application, objects, object, block, statements, statement, value, file-is, version-is, implementation-is, a-spec, spec-is, a-definition, an-attribute, a-reference, an-integer, a-string, a-boolean, an-enum, reference-is, a-D, a-P, with-auto, a-mark, a-number, a-boolean-range, enumerator-is, an-enumerator, a-default, own-auto, own-none, own-number, own-string, own-true, own-false, own-name, application-is, an-object, a-block, a-statement, statement-is, value-number, value-string, value-auto, value-name, value-true, value-false}
+use lib.Dec.{T, ltb, eqb}
+use borrow.Author.Tests.{eqb-true, ne-eqb}
+use Rattle.token.specs.Find.{either}
+use Rattle.grammar.specs.Grammar.{Rule, Terminal, _·_, _▸_, ∎, matches, name, kind, type, integer, number, string, the, sg, TRUE, FALSE, AUTO, NO-DEFAULT, WITH-AUTO, STRING, BOOLEAN, ENUM, OIL-VERSION, IMPLEMENTATION, CPU, lbrace, rbrace, lsquare, rsquare, equals, semicolon, colon, comma, dots, Sort, integers, strings, booleans, enums, file, version, implementation, specs, spec, definitions, definition, attribute, reference, D, P, auto, mark, integer-range, numbers, boolean-range, enumerator, enumerators, default, own, application, objects, object, block, statements, statement, value, file-is, version-is, implementation-is, a-spec, spec-is, a-definition, an-attribute, a-reference, an-integer, a-string, a-boolean, an-enum, reference-is, a-D, a-P, with-auto, a-mark, a-number, a-boolean-range, enumerator-is, an-enumerator, a-default, own-auto, own-none, own-number, own-string, own-true, own-false, own-name, application-is, an-object, a-block, a-statement, statement-is, value-number, value-string, value-auto, value-name, value-true, value-false}
 use Rattle.grammar.specs.Factored.{Nonterminal, paper, span, Symbols, lift, _⟹_, keep, kept, choices, object-is, range-is, up-to, many-numbers}
 use Rattle.grammar.specs.Machine.{nullable, hollow}
 use Rattle.grammar.specs.Machine.{takes, starts}
 use Rattle.grammar.proofs.Uniqueness.{takes-tok}
 use Rattle.grammar.proofs.Steps.{took-nil}
 use Rattle.grammar.specs.Readers.{classAt}
-use Rattle.grammar.specs.Readers.{advanced, refusal, expected, fitting, on, left, rest, Reads, Meets, Still}
+use Rattle.grammar.specs.Readers.{advanced, refusal, expected, fitting, left, rest, Reads, Meets, Still}
 use Rattle.grammar.specs.declared.Look.{Look}
-use Rattle.grammar.proofs.Codes.{Yes, No, at-code, not-code, not-any, in-set, not-in}
-use Rattle.grammar.proofs.Meeting.{_⊳_, loosen, take, not-taken, pass, not-begun, form, only, still, again, done, fell, went-on}
-use Rattle.grammar.proofs.Terminals.{number-is, string-is, rbrace-is, rsquare-is}
+use Rattle.grammar.proofs.Codes.{Yes, at-code, not-code, not-any, in-set, not-in}
+use Rattle.grammar.proofs.Meeting.{_⊳_, loosen, take, not-taken, pass, not-begun, form, only, again, done, fell, went-on}
+use Rattle.grammar.proofs.Terminals.{number-is, string-is, rsquare-is}
 
 pub nothing : {s : List ℕ} {a : Look} → Reads 0 ∎ s a a
 nothing {s} {a} = record { reads = λ k. refl; falls = omega arith; took = λ h. (h, took-nil (rest s a)) }

@@ -1,13 +1,13 @@
 -- What the run of any stream is: refusals 3, 4 and 5. Assumes nothing.
 use mathlib.Core.Path.{_≡_, refl, sym, _∙_, ap, ap₂, subst}
 use mathlib.Core.Logic.{_⊎_, inl, inr}
-use mathlib.Core.List.{List, [], _∷_, _++_, append-assoc, append-nil}
+use mathlib.Core.List.{List, [], _∷_, _++_, append-nil}
 use mathlib.Core.Bool.{Bool, true, false, false≢true}
 use mathlib.Core.Option.{Option, none, some}
-use Prim.Native.Nat.{ℕ, zero, suc, pred, _+_, _≤_, _<_}
+use Prim.Native.Nat.{ℕ, suc, _+_, _≤_, _<_}
 use native.Mathlib.Omega.{arith}
-use lib.Dec.{ltb, ltb→lt, lt→ltb, T}
-use Rattle.grammar.specs.Grammar.{Class, Token, file, _▸_, ∎, matches, sg, lbrace, rbrace, Derivation, Begins}
+use lib.Dec.{ltb, ltb→lt, lt→ltb}
+use Rattle.grammar.specs.Grammar.{Token, file, _▸_, ∎, matches, sg, lbrace, rbrace, Derivation, Begins}
 use Rattle.grammar.specs.Stage.{bit, opens, closes, Shallow}
 use Rattle.grammar.specs.Factored.{Symbols, paper}
 use Rattle.grammar.specs.Machine.{hollow, after, feed, Stream, ended, bad, _▹_, prepend, opened, deeper-by, deeper, at-end, next, run}

@@ -1,7 +1,7 @@
 -- Trees of a form in two parts. Assumes nothing.
 use mathlib.Core.Path.{_≡_, refl, sym, _∙_, ap}
 use mathlib.Core.List.{List, [], _∷_, _++_, append-assoc}
-use Rattle.grammar.specs.Grammar.{Symbol, Token, tok, rule, Trees, nil, leaf, node, tokens}
+use Rattle.grammar.specs.Grammar.{Symbol, tok, rule, Trees, nil, leaf, node, tokens}
 
 module _ {N : Type 0} {G : N → List (Symbol N) → Type 0} where
   unfoldable pub left : (g k : List (Symbol N)) → Trees G (g ++ k) → Trees G g

@@ -1,16 +1,14 @@
 -- The machine, symbol by symbol; and what was read. Assumes nothing.
-use mathlib.Core.Path.{_≡_, refl, sym, _∙_, ap, ap₂, subst}
-use mathlib.Core.List.{List, [], _∷_, _++_, append-assoc, append-nil}
-use mathlib.Core.Bool.{Bool, true, false, _&&_, _||_, not, false≢true}
+use mathlib.Core.Path.{_≡_, refl, sym, _∙_, ap, ap₂}
+use mathlib.Core.List.{List, [], _∷_, _++_, append-assoc}
+use mathlib.Core.Bool.{Bool, true, false, _&&_, _||_, false≢true}
 use mathlib.Core.Option.{Option, none, some}
-use Prim.Native.Nat.{ℕ, zero, suc, pred, _+_, _≤_, _<_}
-use lib.Dec.{ltb}
-use Rattle.grammar.specs.Grammar.{Symbol, Terminal, Class, Token, tok, rule, _▸_, _·_, ∎, matches, Trees, nil, leaf, node, tokens}
+use Prim.Native.Nat.{ℕ}
+use Rattle.grammar.specs.Grammar.{Symbol, Terminal, Class, Token, tok, rule, _▸_, _·_, ∎, matches, nil, leaf, node, tokens}
 use Rattle.grammar.specs.Factored.{Nonterminal, Symbols, _⟹_, Choice, by, choices}
-use Rattle.grammar.specs.Machine.{nullable, hollow, Move, after, Start, start, test, is-some, take-step, skip-step, rule-step, form-step, tries, begin, move, takes, starts, left-of, feed, Stream, ended, bad, _▹_, prepend, deeper, at-end, next, run}
+use Rattle.grammar.specs.Machine.{nullable, hollow, Move, after, Start, start, test, is-some, take-step, skip-step, rule-step, form-step, tries, begin, move, takes, starts, left-of, feed, Stream, ended, _▹_, prepend, deeper, at-end, next, run}
 use Rattle.grammar.specs.Readers.{Took}
-use Rattle.grammar.specs.declared.Answer.{Answer}
-use Rattle.grammar.specs.declared.Answer.the-variants.{Passes, NoToken, NotAdmitted, TooDeep}
+use Rattle.grammar.specs.declared.Answer.the-variants.{NotAdmitted}
 use Rattle.grammar.proofs.Choices.{listed}
 use Rattle.grammar.proofs.Splits.{join, tokens-join}
 use Rattle.grammar.proofs.Checks.{begin-is, clear-is}

@@ -1,5 +1,5 @@
 -- The terminals that have one code. Assumes nothing.
-use mathlib.Core.Path.{_≡_, refl}
+use mathlib.Core.Path.{_≡_}
 use mathlib.Core.List.{List}
 use Prim.Native.Nat.{ℕ}
 use Rattle.grammar.specs.Grammar.{_·_, ∎, matches, sg, the, number, string, OIL-VERSION, IMPLEMENTATION, CPU, TRUE, FALSE, lbrace, rbrace, lsquare, rsquare, equals, semicolon, comma}

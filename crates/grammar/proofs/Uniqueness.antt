@@ -5,10 +5,10 @@ use mathlib.Core.Bool.{Bool, true, false, _&&_, _||_, not, false≢true, Bool-se
 use mathlib.Core.Option.{Option, none, some}
 use Prim.Native.Nat.{ℕ, zero, suc}
 use native.Mathlib.Omega.{arith}
-use lib.Dec.{eqb, eqb-refl, T}
+use lib.Dec.{eqb-refl, T}
 use Rattle.grammar.specs.Grammar.{Symbol, Terminal, Class, Token, Kind, Integer, tok, rule, matches, Trees, nil, leaf, node, tokens, name, number, string, kind, type, integer, the, sg, ordinary, numeral, quoted, kind-word, type-word, integer-word, word, sign, OS, UINT32, given-code, sign-code}
 use Rattle.grammar.specs.Factored.{Nonterminal, Symbols, _⟹_, Choice, by, choices}
-use Rattle.grammar.specs.Machine.{bare?, bare-of, nullable, bare, hollow, Move, take, enter, skip, after, Start, start, test, is-some, take-step, skip-step, rule-step, form-step, move-with, tries, begin-within, begin, move, takes, starts, left-of, feed}
+use Rattle.grammar.specs.Machine.{bare?, bare-of, nullable, bare, hollow, Move, take, enter, skip, after, Start, start, test, is-some, take-step, skip-step, rule-step, form-step, tries, begin, move, takes, starts, left-of, feed}
 use Rattle.grammar.proofs.Choices.{In, here, there, listed, all, nonterminals, classes, both, every, every-rule, every-class}
 use Rattle.grammar.proofs.Splits.{left, right, join, tokens-parts, left-join, right-join}
 use Rattle.grammar.proofs.Checks.{begin-is, none-takes, clear, clear-is, follows, apart, apart-is, implies, link, linked, linked?, linked-all, solid?, proper, proper-is}

@@ -1,15 +1,12 @@
 -- Viable prefixes: what the machine takes begins a list that the grammar derives, and what it does not take begins none. Assumes nothing.
-use mathlib.Core.Path.{_≡_, refl, sym, _∙_, ap, ap₂, subst}
+use mathlib.Core.Path.{_≡_, refl, sym, _∙_, ap}
 use mathlib.Core.List.{List, [], _∷_, _++_, append-assoc, append-nil}
-use mathlib.Core.Bool.{Bool, true, false, _&&_, _||_, not, false≢true}
-use mathlib.Core.Option.{Option, none, some}
-use mathlib.Core.Logic.{_↔_}
-use Prim.Native.Nat.{ℕ, zero, suc, pred, _+_, _≤_, _<_}
-use native.Mathlib.Omega.{arith}
-use lib.Dec.{ltb, eqb, eqb→eq, lt→ltb, T}
+use mathlib.Core.Bool.{Bool, true, false, false≢true}
+use mathlib.Core.Option.{none, some}
+use Prim.Native.Nat.{ℕ, zero, suc}
 use Rattle.grammar.specs.Grammar.{Terminal, Class, Token, file, tok, rule, _▸_, ∎, matches, sg, lbrace, rbrace, tokens, Derivation, Begins}
 use Rattle.grammar.specs.Factored.{Nonterminal, paper, Symbols, _⟹_, Choice, by, choices}
-use Rattle.grammar.specs.Machine.{hollow, Move, take, enter, skip, after, feed}
+use Rattle.grammar.specs.Machine.{hollow, Move, take, enter, skip, after}
 use Rattle.grammar.proofs.Choices.{all, nonterminals, listed, every, every-rule}
 use Rattle.grammar.proofs.Literal.{lifted, to, from, back, tokens-to, tokens-from}
 use Rattle.grammar.proofs.Uniqueness.{Whole, one-good, unique, reach, reach-sound, reach-complete, finish, hollow-of, empty, tokens-empty, some-inj, none≢some}
