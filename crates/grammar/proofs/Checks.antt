@@ -1,8 +1,8 @@
 -- What is found of the factored grammar by computation: it is LL(1). Assumes nothing.
-use mathlib.Core.Path.{_≡_, refl, sym}
+use mathlib.Core.Path.{_≡_, refl}
 use mathlib.Core.List.{List, [], _∷_}
 use mathlib.Core.Bool.{Bool, true, false, _&&_, _||_, not}
-use Rattle.grammar.specs.Grammar.{Terminal, Class, Kind, Integer, tok, rule, matches, file, version, implementation, specs, spec, definitions, definition, attribute, reference, D, P, auto, mark, integer-range, numbers, boolean-range, enumerator, enumerators, default, own, application, objects, object, block, statements, statement, value, integers, strings, booleans, enums, name, number, string, kind, type, integer, the, sg, OIL-VERSION, IMPLEMENTATION, CPU, STRING, BOOLEAN, ENUM, TRUE, FALSE, AUTO, NO-DEFAULT, WITH-AUTO, lbrace, rbrace, lsquare, rsquare, equals, semicolon, colon, comma, dots}
+use Rattle.grammar.specs.Grammar.{Terminal, Class, Kind, Integer, tok, rule, matches, file, version, implementation, specs, spec, definitions, definition, attribute, reference, D, P, auto, mark, integer-range, numbers, boolean-range, enumerator, enumerators, default, own, application, objects, object, block, statements, statement, value, integers, strings, booleans, enums, name, kind, type, integer, the, sg, IMPLEMENTATION, CPU, STRING, BOOLEAN, ENUM, rbrace, lsquare, rsquare, equals, semicolon, colon, comma}
 use Rattle.grammar.specs.Factored.{Nonterminal, paper, span, Symbols, Choice, by, choices}
 use Rattle.grammar.specs.Machine.{nullable, hollow, tries, begin, takes, starts}
 use Rattle.grammar.proofs.Choices.{all, nonterminals, classes, every-rule, every-class}
@@ -155,61 +155,3 @@ proper-all = refl
 
 pub proper-is : (x : Nonterminal) → proper (choices x) ≡ true
 proper-is = every-rule (λ x. proper (choices x)) proper-all
-
--- What a rule starts with, as a table: so that `starts` is a few tests of the next token.
-unfoldable pub first : Nonterminal → List Terminal
-first (paper file) = the OIL-VERSION ∷ []
-first (paper version) = the OIL-VERSION ∷ []
-first (paper implementation) = the IMPLEMENTATION ∷ []
-first (paper specs) = kind ∷ []
-first (paper spec) = kind ∷ []
-first (paper definitions) = integer ∷ the STRING ∷ the BOOLEAN ∷ the ENUM ∷ type ∷ []
-first (paper definition) = integer ∷ the STRING ∷ the BOOLEAN ∷ the ENUM ∷ type ∷ []
-first (paper attribute) = integer ∷ the STRING ∷ the BOOLEAN ∷ the ENUM ∷ []
-first (paper reference) = type ∷ []
-first (paper D) = sg colon ∷ []
-first (paper P) = sg lbrace ∷ []
-first (paper auto) = the WITH-AUTO ∷ []
-first (paper mark) = sg lsquare ∷ []
-first (paper integer-range) = sg lsquare ∷ []
-first span = sg dots ∷ sg comma ∷ []
-first (paper numbers) = sg comma ∷ []
-first (paper boolean-range) = sg lsquare ∷ []
-first (paper enumerator) = name ∷ []
-first (paper enumerators) = sg comma ∷ []
-first (paper (default s)) = sg equals ∷ []
-first (paper (own integers)) = the AUTO ∷ the NO-DEFAULT ∷ number ∷ []
-first (paper (own strings)) = the AUTO ∷ the NO-DEFAULT ∷ string ∷ []
-first (paper (own booleans)) = the AUTO ∷ the NO-DEFAULT ∷ the TRUE ∷ the FALSE ∷ []
-first (paper (own enums)) = the AUTO ∷ the NO-DEFAULT ∷ name ∷ []
-first (paper application) = the CPU ∷ []
-first (paper objects) = kind ∷ []
-first (paper object) = kind ∷ []
-first (paper block) = sg lbrace ∷ []
-first (paper statements) = name ∷ []
-first (paper statement) = name ∷ []
-first (paper value) = number ∷ string ∷ the AUTO ∷ name ∷ the TRUE ∷ the FALSE ∷ []
-
-alike : Bool → Bool → Bool
-alike true b = b
-alike false b = not b
-
-alike-is : (a b : Bool) → alike a b ≡ true → a ≡ b
-unfolding alike
-alike-is true b e = sym e
-alike-is false true e = e
-alike-is false false e = refl
-
-first-by : Nonterminal → Class → Bool
-unfolding alike starts first any-of
-first-by x c = alike (starts x c) (any-of (first x) c)
-
-first-all : (k : Kind) (i : Integer) → all (λ x. all (first-by x) (classes k i)) nonterminals ≡ true
-unfolding first-by
-first-all k i = refl
-
-pub starts-first : (x : Nonterminal) (c : Class) → starts x c ≡ any-of (first x) c
-unfolding first-by
-starts-first x c =
-    alike-is (starts x c) (any-of (first x) c)
-    (every-class (first-by x) (λ k i. every-rule (λ y. all (first-by y) (classes k i)) (first-all k i) x) c)

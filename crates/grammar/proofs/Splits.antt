@@ -37,12 +37,6 @@ module _ {N : Type 0} {G : N → List (Symbol N) → Type 0} where
   right-join (leaf t m ts) ks = right-join ts ks
   right-join (node p us ts) ks = right-join ts ks
 
-  pub join-parts : (g k : List (Symbol N)) (ts : Trees G (g ++ k)) → join (left g k ts) (right g k ts) ≡ ts
-  unfolding left right join
-  join-parts [] k ts = refl
-  join-parts (tok a ∷ g) k (leaf t m ts) = ap (leaf t m) (join-parts g k ts)
-  join-parts (rule x ∷ g) k (node p us ts) = ap (node p us) (join-parts g k ts)
-
   pub tokens-join : {g k : List (Symbol N)} (ts : Trees G g) (us : Trees G k) → tokens (join ts us) ≡ tokens ts ++ tokens us
   unfolding tokens join
   tokens-join nil us = refl

@@ -28,7 +28,7 @@ pub fn parameters(text: &[u8], a: Look) -> Look
     lookahead::expect(text, c, RBRACE)
 }
 
-// A name, P and D.
+// An enumerator: name P D.
 pub fn enumerator(text: &[u8], a: Look) -> Look
     ensures { λ r. ⌜ Meets 1 (enumerator ▸ ∎) (now (text .entry)) a r ⌝ }
 {
@@ -37,7 +37,7 @@ pub fn enumerator(text: &[u8], a: Look) -> Look
     parts::description(text, c)
 }
 
-// An attribute or a reference, whole.
+// A definition: an attribute or a reference.
 pub fn definition(text: &[u8], a: Look) -> Look
     ensures { λ r. ⌜ Meets 1 (definition ▸ ∎) (now (text .entry)) a r ⌝ }
 {
@@ -86,6 +86,7 @@ pub fn definition(text: &[u8], a: Look) -> Look
     lookahead::refuse(a)
 }
 
+// Definitions, none or more.
 pub fn definitions(text: &[u8], from: Look) -> Look
     ensures { λ r. ⌜ Meets 0 (definitions ▸ ∎) (now (text .entry)) from r ⌝ }
 {

@@ -1,5 +1,7 @@
-// The grammar stage of a reading: the refusals 3, 4 and 5 of a text. Readers by recursive descent. Each goes from a look at the next token to
-// the look behind what it reads; once a look is a refusal, it stays.
+// The grammar stage of a reading: refusals 3, 4 and 5. Readers by recursive descent, one for each rule of document 01's grammar. Each goes from
+// a look at the next token to the look behind what it reads; a look that is a refusal goes through every reader unchanged.
+// Lists are loops. Calls nest by braces alone, of which at most sixteen are open: the four readers of definitions, and the four of statements,
+// are each at work at most eighteen times at once, whatever the text.
 ghost use mathlib.Core.Path.{_≡_};
 ghost use Rattle.grammar.specs.Grammar.{_▸_, ∎, version, implementation, specs, spec, application, objects, object, file};
 ghost use Rattle.grammar.specs.Readers.{Meets, answerOf};
@@ -40,6 +42,7 @@ pub enum Answer {
     TooDeep(usize),
 }
 
+// OIL_VERSION `=` string D `;`
 fn version(text: &[u8], a: Look) -> Look
     ensures { λ r. ⌜ Meets 1 (version ▸ ∎) (now (text .entry)) a r ⌝ }
 {
@@ -49,6 +52,7 @@ fn version(text: &[u8], a: Look) -> Look
     parts::finish(text, d)
 }
 
+// kind `{` definitions `}` D `;`
 fn spec(text: &[u8], a: Look) -> Look
     ensures { λ r. ⌜ Meets 1 (spec ▸ ∎) (now (text .entry)) a r ⌝ }
 {
@@ -58,6 +62,7 @@ fn spec(text: &[u8], a: Look) -> Look
     parts::close(text, d)
 }
 
+// Specs, none or more.
 fn specs(text: &[u8], from: Look) -> Look
     ensures { λ r. ⌜ Meets 0 (specs ▸ ∎) (now (text .entry)) from r ⌝ }
 {
@@ -68,6 +73,7 @@ fn specs(text: &[u8], from: Look) -> Look
     a
 }
 
+// IMPLEMENTATION name `{` specs `}` D `;`
 fn implementation(text: &[u8], a: Look) -> Look
     ensures { λ r. ⌜ Meets 1 (implementation ▸ ∎) (now (text .entry)) a r ⌝ }
 {
@@ -78,6 +84,7 @@ fn implementation(text: &[u8], a: Look) -> Look
     parts::close(text, e)
 }
 
+// kind name D `;` or kind name `{` statements `}` D `;`
 fn object(text: &[u8], a: Look) -> Look
     ensures { λ r. ⌜ Meets 1 (object ▸ ∎) (now (text .entry)) a r ⌝ }
 {
@@ -87,6 +94,7 @@ fn object(text: &[u8], a: Look) -> Look
     parts::finish(text, d)
 }
 
+// Objects, none or more.
 fn objects(text: &[u8], from: Look) -> Look
     ensures { λ r. ⌜ Meets 0 (objects ▸ ∎) (now (text .entry)) from r ⌝ }
 {
@@ -97,6 +105,7 @@ fn objects(text: &[u8], from: Look) -> Look
     a
 }
 
+// CPU name `{` objects `}` D `;`
 fn application(text: &[u8], a: Look) -> Look
     ensures { λ r. ⌜ Meets 1 (application ▸ ∎) (now (text .entry)) a r ⌝ }
 {
@@ -107,6 +116,7 @@ fn application(text: &[u8], a: Look) -> Look
     parts::close(text, e)
 }
 
+// version, implementation, application
 fn file(text: &[u8], a: Look) -> Look
     ensures { λ r. ⌜ Meets 1 (file ▸ ∎) (now (text .entry)) a r ⌝ }
 {

@@ -83,7 +83,7 @@ pub fn punctuator_code(b: u8) -> u8
     }
 }
 
-// A token's code: a known word's number, and 0 for any other word.
+// A token's code: a word's own code, 0 for one that no form names; OTHER for a token that the grammar has no terminal for.
 pub fn code_of(sort: Sort) -> u8
     ensures { λ r. ⌜ r ≡ codeOf sort ⌝ }
 {
@@ -182,6 +182,7 @@ pub fn expect(text: &[u8], a: Look, code: u8) -> Look
     refuse(a)
 }
 
+// Whether a code is at least low and at most high.
 pub fn is_between(low: u8, code: u8, high: u8) -> bool
     ensures { λ r. ⌜ r ≡ between low code high ⌝ }
 {
@@ -191,6 +192,7 @@ pub fn is_between(low: u8, code: u8, high: u8) -> bool
     code <= high
 }
 
+// Whether a token may be a name: any word but the five reserved.
 pub fn is_name(code: u8) -> bool
     ensures { λ r. ⌜ r ≡ matches name (classAt code) ⌝ }
 {
@@ -200,18 +202,21 @@ pub fn is_name(code: u8) -> bool
     is_between(6, code, 41)
 }
 
+// Whether a token is one of the thirteen kinds.
 pub fn is_kind(code: u8) -> bool
     ensures { λ r. ⌜ r ≡ matches kind (classAt code) ⌝ }
 {
     is_between(9, code, 21)
 }
 
+// Whether a token is a kind followed by `_TYPE`.
 pub fn is_type(code: u8) -> bool
     ensures { λ r. ⌜ r ≡ matches type (classAt code) ⌝ }
 {
     is_between(22, code, 34)
 }
 
+// Whether a token is one of the four integer types.
 pub fn is_integer(code: u8) -> bool
     ensures { λ r. ⌜ r ≡ matches integer (classAt code) ⌝ }
 {
@@ -225,6 +230,7 @@ pub fn is_definition(code: u8) -> bool
     is_between(22, code, 41)
 }
 
+// A name.
 pub fn expect_name(text: &[u8], a: Look) -> Look
     ensures { λ r. ⌜ Meets 1 (name · ∎) (now (text .entry)) a r ⌝ }
 {
@@ -234,6 +240,7 @@ pub fn expect_name(text: &[u8], a: Look) -> Look
     refuse(a)
 }
 
+// A kind.
 pub fn expect_kind(text: &[u8], a: Look) -> Look
     ensures { λ r. ⌜ Meets 1 (kind · ∎) (now (text .entry)) a r ⌝ }
 {

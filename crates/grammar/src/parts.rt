@@ -97,6 +97,7 @@ pub fn span(text: &[u8], a: Look) -> Look
     a
 }
 
+// An integer range: nothing, `[` number `..` number `]`, or `[` one or more numbers parted by commas `]`.
 pub fn integer_range(text: &[u8], a: Look) -> Look
     ensures { λ r. ⌜ Meets 0 (integer-range ▸ ∎) (now (text .entry)) a r ⌝ }
 {
@@ -128,6 +129,7 @@ pub fn is_own(sort: u8, code: u8) -> bool
     lookahead::is_name(code)
 }
 
+// AUTO, NO_DEFAULT, or the own form of a default.
 pub fn own(text: &[u8], a: Look, sort: u8) -> Look
     ensures { λ r. ⌜ Meets 1 (own (sortAt sort) ▸ ∎) (now (text .entry)) a r ⌝ }
 {
@@ -144,6 +146,7 @@ pub fn own(text: &[u8], a: Look, sort: u8) -> Look
     lookahead::refuse(a)
 }
 
+// A default: nothing, or `=` and one of these.
 pub fn default(text: &[u8], a: Look, sort: u8) -> Look
     ensures { λ r. ⌜ Meets 0 (default (sortAt sort) ▸ ∎) (now (text .entry)) a r ⌝ }
 {
@@ -164,7 +167,7 @@ pub fn named(text: &[u8], a: Look, sort: u8) -> Look
     finish(text, d)
 }
 
-// An attribute behind its type: an integer, a string.
+// An integer attribute behind its type.
 pub fn integer_rest(text: &[u8], a: Look) -> Look
     ensures { λ r. ⌜ Meets 0 (auto ▸ integer-range ▸ name · mark ▸ default integers ▸ D ▸ sg semicolon · ∎) (now (text .entry)) a r ⌝ }
 {
@@ -173,6 +176,7 @@ pub fn integer_rest(text: &[u8], a: Look) -> Look
     named(text, c, 0)
 }
 
+// A string attribute behind its type.
 pub fn string_rest(text: &[u8], a: Look) -> Look
     ensures { λ r. ⌜ Meets 0 (auto ▸ name · mark ▸ default strings ▸ D ▸ sg semicolon · ∎) (now (text .entry)) a r ⌝ }
 {

@@ -26,6 +26,7 @@ pub fn block(text: &[u8], a: Look) -> Look
     lookahead::expect(text, c, RBRACE)
 }
 
+// A number, string, AUTO, or a name, TRUE or FALSE with or without `{` statements `}`.
 pub fn value(text: &[u8], a: Look) -> Look
     ensures { λ r. ⌜ Meets 1 (value ▸ ∎) (now (text .entry)) a r ⌝ }
 {
@@ -54,6 +55,7 @@ pub fn value(text: &[u8], a: Look) -> Look
     lookahead::refuse(a)
 }
 
+// name `=` value D `;`
 pub fn statement(text: &[u8], a: Look) -> Look
     ensures { λ r. ⌜ Meets 1 (statement ▸ ∎) (now (text .entry)) a r ⌝ }
 {
@@ -63,6 +65,7 @@ pub fn statement(text: &[u8], a: Look) -> Look
     parts::finish(text, d)
 }
 
+// Statements, none or more.
 pub fn statements(text: &[u8], from: Look) -> Look
     ensures { λ r. ⌜ Meets 0 (statements ▸ ∎) (now (text .entry)) from r ⌝ }
 {
