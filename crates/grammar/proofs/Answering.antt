@@ -12,17 +12,17 @@ use Rattle.grammar.specs.Grammar.{Token, file, _▸_, ∎, Derivation, B
 use Rattle.grammar.specs.Terminals.{tokenOf, tokensIn, tokens}
 use Rattle.grammar.specs.Stage.{StopsAt, Shallow, Answers, passes, no-token, not-admitted, ends-early, too-deep}
 use Rattle.grammar.specs.Factored.{paper, _⟹_}
-use Rattle.grammar.specs.Machine.{hollow, feed, Stream, ended, bad, _▹_, prepend, next, at-end, run}
+use Rattle.grammar.specs.Machine.{nullable-form, feed, Stream, ended, bad, _▹_, prepend, next, at-end, run}
 use Rattle.grammar.specs.Readers.{streamOf, lexAt, lookAt, refusalOf, answerOf, seen, on, restBy, rest, Took, Meets}
 use Rattle.grammar.specs.declared.Look.{Look}
 use Rattle.grammar.specs.declared.Answer.{Answer}
 use Rattle.grammar.specs.declared.Answer.the-variants.{NotAdmitted}
 use Rattle.grammar.proofs.Meeting.{by-look, on-look, rest-look}
-use Rattle.grammar.proofs.Runs.{Outcome, well, nowhere, not-taken, unfinished, seventeenth, run-is}
+use Rattle.grammar.proofs.Runs.{Outcome, well, no-token-at, not-taken, unfinished, seventeenth, run-is}
 
 -- With nothing to be read behind it, a look is what it answers.
 answer-is : (s : List ℕ) (a : Look) → on s a ∎ ≡ answerOf a
-unfolding answerOf refusalOf run next at-end hollow feed seen
+unfolding answerOf refusalOf run next at-end nullable-form feed seen
 answer-is s a =
     by-look s a (λ o. o ∎ ≡ answerOf a)
     (λ h. rw (ne-eqb (a .code) 54 (λ e. omega arith), lt-ltb (a .code) 54 h) refl)
@@ -89,7 +89,7 @@ unfolding lexAt tokens
 answered s (well l n e h d) =
     let w = ended-is (length s) (lexFrom s 0) l n (lex-ends s 0) e in
     passes (w .0) (subst Shallow (sym (w .1)) h) (subst Derivation (sym (w .1)) d)
-answered s (nowhere l p e h b) =
+answered s (no-token-at l p e h b) =
     let w = bad-is (lexFrom s 0) l p e in
     no-token p (w .0) (subst Shallow (sym (w .1)) h) (subst Begins (sym (w .1)) b)
 answered s (not-taken l t u e h b n) =

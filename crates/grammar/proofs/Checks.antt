@@ -4,7 +4,7 @@ use mathlib.Core.List.{List, [], _∷_}
 use mathlib.Core.Bool.{Bool, true, false, _&&_, _||_, not}
 use Rattle.grammar.specs.Grammar.{Terminal, Class, Kind, Integer, tok, rule, matches, file, version, implementation, specs, spec, definitions, definition, attribute, reference, D, P, auto, mark, integer-range, numbers, boolean-range, enumerator, enumerators, default, own, application, objects, object, block, statements, statement, value, integers, strings, booleans, enums, name, kind, type, integer, the, sg, IMPLEMENTATION, CPU, STRING, BOOLEAN, ENUM, rbrace, lsquare, rsquare, equals, semicolon, colon, comma}
 use Rattle.grammar.specs.Factored.{Nonterminal, paper, span, Symbols, Choice, by, choices}
-use Rattle.grammar.specs.Machine.{nullable, hollow, tries, begin, takes, starts}
+use Rattle.grammar.specs.Machine.{nullable, nullable-form, tries, begin, takes, starts}
 use Rattle.grammar.proofs.Choices.{all, nonterminals, classes, every-rule, every-class}
 
 -- Trying a rule's forms one step deeper finds nothing else.
@@ -121,8 +121,8 @@ implies true b = b
 implies false b = true
 
 unfoldable pub link : Nonterminal → Nonterminal → Symbols → Class → Bool
-unfolding implies takes follows hollow
-link x y f c = implies (takes f c) (follows y c) && implies (hollow f && follows x c) (follows y c)
+unfolding implies takes follows nullable-form
+link x y f c = implies (takes f c) (follows y c) && implies (nullable-form f && follows x c) (follows y c)
 
 unfoldable pub linked : Kind → Integer → Nonterminal → Symbols → Bool
 unfolding link
@@ -139,15 +139,15 @@ unfolding linked? choices
 linked-all k i = refl
 
 -- Of the forms of a rule only the first may be `nothing`, and every other holds something that cannot be empty.
-unfoldable pub solid? : {x : Nonterminal} → Choice x → Bool
-unfolding hollow
-solid? (by {f} p) = not (hollow f)
+unfoldable pub not-nullable? : {x : Nonterminal} → Choice x → Bool
+unfolding nullable-form
+not-nullable? (by {f} p) = not (nullable-form f)
 
 unfoldable pub proper : {x : Nonterminal} → List (Choice x) → Bool
-unfolding solid?
+unfolding not-nullable?
 proper [] = true
-proper (by {f = []} p ∷ cs) = all solid? cs
-proper (by {f = s ∷ f} p ∷ cs) = not (hollow (s ∷ f)) && all solid? cs
+proper (by {f = []} p ∷ cs) = all not-nullable? cs
+proper (by {f = s ∷ f} p ∷ cs) = not (nullable-form (s ∷ f)) && all not-nullable? cs
 
 proper-all : all (λ x. proper (choices x)) nonterminals ≡ true
 unfolding proper choices

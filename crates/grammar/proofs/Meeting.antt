@@ -21,13 +21,13 @@ use Rattle.token.proofs.Steps.{found-fits, lex-found, lex-bad, lex-end}
 use Rattle.grammar.specs.Grammar.{Form, _⟶_, Rule, Terminal, Class, _·_, _▸_, ∎, matches}
 use Rattle.grammar.specs.Terminals.{tokenOf}
 use Rattle.grammar.specs.Factored.{Nonterminal, paper, Symbols, lift, _⟹_, choices, by}
-use Rattle.grammar.specs.Machine.{nullable, hollow, bare, takes, starts, Stream, ended, _▹_, prepend, opened, deeper-by, deeper, at-end, next, run}
+use Rattle.grammar.specs.Machine.{nullable, nullable-form, empty-form, takes, starts, Stream, ended, _▹_, prepend, opened, deeper-by, deeper, at-end, next, run}
 use Rattle.grammar.specs.Readers.{punctuatorCode, codeOf, classAt, streamOf, lexAt, lookOf, lookAt, stop, advanced, refusal, expected, refusalOf, seen, onBy, on, left, restBy, rest, Took, Reads, Still}
 use Rattle.grammar.specs.declared.Look.{Look}
 use Rattle.grammar.specs.declared.Answer.{Answer}
 use Rattle.grammar.specs.declared.Answer.the-variants.{NotAdmitted}
 use Rattle.grammar.proofs.Literal.{lifted, from, tokens-from}
-use Rattle.grammar.proofs.Steps.{when, feed-tok, feed-enter, feed-only, hollow-append, run-tok-no, run-pass, run-pass-end, run-no, run-no-end, took-nil, took-tok, took-rule, took-then}
+use Rattle.grammar.proofs.Steps.{when, feed-tok, feed-enter, feed-only, nullable-append, run-tok-no, run-pass, run-pass-end, run-no, run-no-end, took-nil, took-tok, took-rule, took-then}
 use Rattle.grammar.proofs.Codes.{Yes, No, at-code, not-code, brace-open, brace-close, class-code}
 
 -- Looks ----------------------------------------------------------------------------------------------------------------------------------
@@ -218,7 +218,7 @@ stays s a e f t n = go (leb (a .code) 54) refl
         }
 
 pub not-taken : (t : Terminal) {s : List ℕ} {a r : Look} → No (matches t) (a .code) → r ≡ refusal a → Reads 1 (t · ∎) s a r
-unfolding seen run hollow at-end
+unfolding seen run nullable-form at-end
 not-taken t {s} {a} h e =
     subst (Reads 1 (t · ∎) s a) (sym e)
     (stays s a 1 (t · ∎) (λ l k. run-tok-no (a .depth) t k (seen a) (lexAt s (a .next)) (h l)) (λ k. refl))
@@ -243,7 +243,7 @@ pass x {s} {a} n h =
       reads = by-look s a (λ o. (k : Symbols) → o (x ▸ k) ≡ o k) (λ l k. run-pass (a .depth) x k (seen a) (lexAt s (a .next)) n (h l))
           (λ _ k. run-pass-end (a .depth) x k (a .at) n) (λ _ k. refl);
       falls = omega arith;
-      took = λ h. (h, took-rule (bare x n) (took-nil (rest s a)) (took-nil (rest s a)));
+      took = λ h. (h, took-rule (empty-form x n) (took-nil (rest s a)) (took-nil (rest s a)));
     }
 
 pub not-begun : (x : Nonterminal) {s : List ℕ} {a r : Look} → nullable x ≡ false → No (starts x) (a .code) → r ≡ refusal a → Reads 1 (x ▸ ∎) s a r
@@ -267,14 +267,14 @@ form p {s} {a} {b} y m =
       took = λ h. let w = m .took h in (w .0, took-rule p (w .1) (took-nil (rest s b)));
     }
 
-pub only : {x : Nonterminal} {g : Symbols} (p : x ⟹ g) {e : ℕ} {s : List ℕ} {a b : Look} → choices x ≡ by p ∷ [] → nullable x ≡ false → hollow g ≡ false
+pub only : {x : Nonterminal} {g : Symbols} (p : x ⟹ g) {e : ℕ} {s : List ℕ} {a b : Look} → choices x ≡ by p ∷ [] → nullable x ≡ false → nullable-form g ≡ false
     → Reads e g s a b → Reads e (x ▸ ∎) s a b
-unfolding run hollow seen
+unfolding run nullable-form seen
 only {x} {g} p {s} {a} {b} c n h m =
     record {
       reads = λ k. by-look s a (λ o. o (x ▸ k) ≡ o (g ++ k))
           (λ _. ap (λ o. next o (deeper (a .depth) (classAt (a .code))) (a .at) (λ j i. run i j (lexAt s (a .next)))) (feed-only p k (classAt (a .code)) c n h))
-          (λ _. ap (λ b. at-end (b && hollow k) (a .at)) n ∙ sym (ap (λ b. at-end b (a .at)) (hollow-append g k h)))
+          (λ _. ap (λ b. at-end (b && nullable-form k) (a .at)) n ∙ sym (ap (λ b. at-end b (a .at)) (nullable-append g k h)))
           (λ _. refl)
           ∙ m .reads k;
       falls = m .falls;

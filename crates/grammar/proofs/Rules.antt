@@ -9,7 +9,7 @@ use borrow.Author.Tests.{eqb-true, ne-eqb}
 use Rattle.token.specs.Find.{either}
 use Rattle.grammar.specs.Grammar.{Rule, Terminal, _·_, _▸_, ∎, matches, name, kind, type, integer, number, string, the, sg, TRUE, FALSE, AUTO, NO-DEFAULT, WITH-AUTO, STRING, BOOLEAN, ENUM, OIL-VERSION, IMPLEMENTATION, CPU, lbrace, rbrace, lsquare, rsquare, equals, semicolon, colon, comma, dots, Sort, integers, strings, booleans, enums, file, version, implementation, specs, spec, definitions, definition, attribute, reference, D, P, auto, mark, integer-range, numbers, boolean-range, enumerator, enumerators, default, own, application, objects, object, block, statements, statement, value, file-is, version-is, implementation-is, a-spec, spec-is, a-definition, an-attribute, a-reference, an-integer, a-string, a-boolean, an-enum, reference-is, a-D, a-P, with-auto, a-mark, a-number, a-boolean-range, enumerator-is, an-enumerator, a-default, own-auto, own-none, own-number, own-string, own-true, own-false, own-name, application-is, an-object, a-block, a-statement, statement-is, value-number, value-string, value-auto, value-name, value-true, value-false}
 use Rattle.grammar.specs.Factored.{Nonterminal, paper, span, Symbols, lift, _⟹_, keep, kept, choices, object-is, range-is, up-to, many-numbers}
-use Rattle.grammar.specs.Machine.{nullable, hollow}
+use Rattle.grammar.specs.Machine.{nullable, nullable-form}
 use Rattle.grammar.specs.Machine.{takes, starts}
 use Rattle.grammar.proofs.Uniqueness.{takes-tok}
 use Rattle.grammar.proofs.Steps.{took-nil}
@@ -167,7 +167,7 @@ module _ {s : List ℕ} {a : Look} where
   P-by h p m = loosen (enter (keep a-P refl) (lbrace-at h) p m)
 
   pub enumerator-by : {r : Look} → Meets 1 (name · P ▸ D ▸ ∎) s a r → Meets 1 (enumerator ▸ ∎) s a r
-  unfolding kept choices nullable hollow
+  unfolding kept choices nullable nullable-form
   enumerator-by m = only (keep enumerator-is refl) refl refl refl m
 
   pub enumerators-item : {b r : Look} → a .code ≡ 51 → b ≡ advanced s a → Meets 1 (enumerator ▸ ∎) s b r → Meets 1 (sg comma · enumerator ▸ ∎) s a r
@@ -182,14 +182,14 @@ module _ {s : List ℕ} {a : Look} where
   unfolding nullable starts classAt
   enumerators-done z h = done enumerators z refl (not-code (starts (paper enumerators)) 51 tt h)
 
-  pub truths-pass : (a .code ≡ 46 → ⊥) → Meets 0 (boolean-range ▸ ∎) s a a
+  pub boolean-range-pass : (a .code ≡ 46 → ⊥) → Meets 0 (boolean-range ▸ ∎) s a a
   unfolding nullable starts classAt
-  truths-pass h = pass (paper boolean-range) refl (not-code (starts (paper boolean-range)) 46 tt h)
+  boolean-range-pass h = pass (paper boolean-range) refl (not-code (starts (paper boolean-range)) 46 tt h)
 
-  pub truths-by : {e : ℕ} {b r : Look} → a .code ≡ 46 → b ≡ advanced s a
+  pub boolean-range-by : {e : ℕ} {b r : Look} → a .code ≡ 46 → b ≡ advanced s a
       → Meets e (the TRUE · P ▸ D ▸ sg comma · the FALSE · P ▸ D ▸ sg rsquare · ∎) s b r → Meets 0 (boolean-range ▸ ∎) s a r
   unfolding kept
-  truths-by h p m = loosen (enter (keep a-boolean-range refl) (lsquare-at h) p m)
+  boolean-range-by h p m = loosen (enter (keep a-boolean-range refl) (lsquare-at h) p m)
 
   pub boolean-by : {e : ℕ} {b r : Look} → a .code ≡ 40 → b ≡ advanced s a
       → Meets e (auto ▸ boolean-range ▸ name · mark ▸ default booleans ▸ D ▸ sg semicolon · ∎) s b r → Meets 1 (definition ▸ ∎) s a r
@@ -293,7 +293,7 @@ module _ {s : List ℕ} {a : Look} where
       (ne-eqb (a .code) 42 h, (ne-eqb (a .code) 43 i, (ne-eqb (a .code) 3 j, (ne-eqb (a .code) 1 k, (ne-eqb (a .code) 2 l, (m, tt)))))))
 
   pub statement-by : {r : Look} → Meets 1 (name · sg equals · value ▸ D ▸ sg semicolon · ∎) s a r → Meets 1 (statement ▸ ∎) s a r
-  unfolding kept choices nullable hollow
+  unfolding kept choices nullable nullable-form
   statement-by m = only (keep statement-is refl) refl refl refl m
 
   pub statements-again : {o r : Look} → Still statements s o a → matches name (classAt (a .code)) ≡ true → Meets 1 (statement ▸ ∎) s a r
@@ -316,11 +316,11 @@ module _ {s : List ℕ} {a : Look} where
   kind-less h m = fell (in-set (matches kind) (matches kind) refl tt h .0) m
 
   pub version-by : {r : Look} → Meets 1 (the OIL-VERSION · sg equals · string · D ▸ sg semicolon · ∎) s a r → Meets 1 (version ▸ ∎) s a r
-  unfolding kept choices nullable hollow
+  unfolding kept choices nullable nullable-form
   version-by m = only (keep version-is refl) refl refl refl m
 
   pub spec-by : {r : Look} → Meets 1 (kind · sg lbrace · definitions ▸ sg rbrace · D ▸ sg semicolon · ∎) s a r → Meets 1 (spec ▸ ∎) s a r
-  unfolding kept choices nullable hollow
+  unfolding kept choices nullable nullable-form
   spec-by m = only (keep spec-is refl) refl refl refl m
 
   pub specs-again : {o r : Look} → Still specs s o a → matches kind (classAt (a .code)) ≡ true → Meets 1 (spec ▸ ∎) s a r → Still specs s o r
@@ -333,11 +333,11 @@ module _ {s : List ℕ} {a : Look} where
 
   pub implementation-by : {r : Look} → Meets 1 (the IMPLEMENTATION · name · sg lbrace · specs ▸ sg rbrace · D ▸ sg semicolon · ∎) s a r
       → Meets 1 (implementation ▸ ∎) s a r
-  unfolding kept choices nullable hollow
+  unfolding kept choices nullable nullable-form
   implementation-by m = only (keep implementation-is refl) refl refl refl m
 
   pub object-by : {r : Look} → Meets 1 (kind · name · block ▸ D ▸ sg semicolon · ∎) s a r → Meets 1 (object ▸ ∎) s a r
-  unfolding choices nullable hollow
+  unfolding choices nullable nullable-form
   object-by m = only object-is refl refl refl m
 
   pub objects-again : {o r : Look} → Still objects s o a → matches kind (classAt (a .code)) ≡ true → Meets 1 (object ▸ ∎) s a r → Still objects s o r
@@ -350,11 +350,11 @@ module _ {s : List ℕ} {a : Look} where
 
   pub application-by : {r : Look} → Meets 1 (the CPU · name · sg lbrace · objects ▸ sg rbrace · D ▸ sg semicolon · ∎) s a r
       → Meets 1 (application ▸ ∎) s a r
-  unfolding kept choices nullable hollow
+  unfolding kept choices nullable nullable-form
   application-by m = only (keep application-is refl) refl refl refl m
 
   pub file-by : {r : Look} → Meets 1 (version ▸ implementation ▸ application ▸ ∎) s a r → Meets 1 (file ▸ ∎) s a r
-  unfolding kept choices nullable hollow
+  unfolding kept choices nullable nullable-form
   file-by m = only (keep file-is refl) refl refl refl m
 
 -- What falls in the cycle of definitions: behind a token and more, and in the loop over commas.

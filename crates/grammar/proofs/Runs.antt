@@ -10,7 +10,7 @@ use lib.Dec.{ltb, ltb→lt, lt→ltb}
 use Rattle.grammar.specs.Grammar.{Token, file, _▸_, ∎, matches, sg, lbrace, rbrace, Derivation, Begins}
 use Rattle.grammar.specs.Stage.{bit, opens, closes, Shallow}
 use Rattle.grammar.specs.Factored.{Symbols, paper}
-use Rattle.grammar.specs.Machine.{hollow, after, feed, Stream, ended, bad, _▹_, prepend, opened, deeper-by, deeper, at-end, next, run}
+use Rattle.grammar.specs.Machine.{nullable-form, after, feed, Stream, ended, bad, _▹_, prepend, opened, deeper-by, deeper, at-end, next, run}
 use Rattle.grammar.specs.declared.Answer.{Answer}
 use Rattle.grammar.specs.declared.Answer.the-variants.{Passes, NoToken, NotAdmitted, TooDeep}
 use Rattle.grammar.proofs.Uniqueness.{reach, bind, Fed, feed-fed, cons≢[], none≢some, some-inj}
@@ -21,7 +21,7 @@ use Rattle.grammar.proofs.Viable.{start, viable, not-viable, derived, n
 pub data Outcome (s : Stream) : Answer → Type 0 where
   well : (l : List Token) (n : ℕ) → s ≡ prepend l (ended n) → Shallow l → Derivation l → Outcome s Passes
   -- Refusal 3: where no token is, and the tokens before it begin a list that the grammar derives.
-  nowhere : (l : List Token) (p : ℕ) → s ≡ prepend l (bad p) → Shallow l → Begins l → Outcome s (NoToken p)
+  no-token-at : (l : List Token) (p : ℕ) → s ≡ prepend l (bad p) → Shallow l → Begins l → Outcome s (NoToken p)
   -- Refusal 4: at a token that the grammar does not admit, or at the end.
   not-taken : (l : List Token) (t : Token) (r : Stream) → s ≡ prepend l (t ▹ r) → Shallow l → Begins l → (Begins (l ++ (t ∷ [])) → ⊥)
       → Outcome s (NotAdmitted (t .place))
@@ -117,12 +117,12 @@ turn-step turn-plain h = inl (refl, h)
 
 run-from : (s₀ s : Stream) (l : List Token) (k : Symbols) (d : ℕ) → s₀ ≡ prepend l s → reach start l ≡ some k → Nest d k → Behind l d → Outcome s₀ (run d k s)
 unfolding run
-run-from s₀ (ended n) l k d q e nest w = go (hollow k) refl
+run-from s₀ (ended n) l k d q e nest w = go (nullable-form k) refl
   where
-    go : (b : Bool) → hollow k ≡ b → Outcome s₀ (at-end b n)
+    go : (b : Bool) → nullable-form k ≡ b → Outcome s₀ (at-end b n)
     go true h = well l n q (w .shallow) (derived l e h)
     go false h = unfinished l n q (w .shallow) (viable l e) (not-derived l e h)
-run-from s₀ (bad p) l k d q e nest w = nowhere l p q (w .shallow) (viable l e)
+run-from s₀ (bad p) l k d q e nest w = no-token-at l p q (w .shallow) (viable l e)
 run-from s₀ (t ▹ s) l k d q e nest w = go (feed k (t .class)) refl (λ j. run-from s₀ s (l ++ (t ∷ [])) j)
   where
     go : (o : Option Symbols) → feed k (t .class) ≡ o

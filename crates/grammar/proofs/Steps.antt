@@ -6,7 +6,7 @@ use mathlib.Core.Option.{Option, none, some}
 use Prim.Native.Nat.{ℕ}
 use Rattle.grammar.specs.Grammar.{Symbol, Terminal, Class, Token, tok, rule, _▸_, _·_, ∎, matches, nil, leaf, node, tokens}
 use Rattle.grammar.specs.Factored.{Nonterminal, Symbols, _⟹_, Choice, by, choices}
-use Rattle.grammar.specs.Machine.{nullable, hollow, Move, after, Start, start, test, is-some, take-step, skip-step, rule-step, form-step, tries, begin, move, takes, starts, left-of, feed, Stream, ended, _▹_, prepend, deeper, at-end, next, run}
+use Rattle.grammar.specs.Machine.{nullable, nullable-form, Move, after, Start, start, test, is-some, take-step, skip-step, rule-step, form-step, tries, begin, move, takes, starts, left-of, feed, Stream, ended, _▹_, prepend, deeper, at-end, next, run}
 use Rattle.grammar.specs.Readers.{Took}
 use Rattle.grammar.specs.declared.Answer.the-variants.{NotAdmitted}
 use Rattle.grammar.proofs.Choices.{listed}
@@ -71,8 +71,8 @@ else-onto k none g true h none u = refl
 else-onto k none g false h o u = refl
 
 -- What f leaves, with k behind it; and where f can be empty, what k leaves.
-pub feed-append : (f k : Symbols) (c : Class) → feed (f ++ k) c ≡ else (onto k (feed f c)) (when (hollow f) (feed k c))
-unfolding feed hollow else onto when
+pub feed-append : (f k : Symbols) (c : Class) → feed (f ++ k) c ≡ else (onto k (feed f c)) (when (nullable-form f) (feed k c))
+unfolding feed nullable-form else onto when
 feed-append [] k c = refl
 feed-append (tok a ∷ f) k c = feed-tok a (f ++ k) c ∙ go (matches a c) ∙ ap (λ o. else (onto k o) none) (sym (feed-tok a f c))
   where
@@ -81,8 +81,8 @@ feed-append (tok a ∷ f) k c = feed-tok a (f ++ k) c ∙ go (matches a c) ∙ a
     go false = refl
 feed-append (rule x ∷ f) k c =
     feed-rule x (f ++ k) c ∙ ap (λ o. else (onto (f ++ k) (rest-of x c)) (when (nullable x) o)) (feed-append f k c)
-    ∙ else-onto k (rest-of x c) f (nullable x) (hollow f) (feed f c) (feed k c)
-    ∙ ap (λ o. else (onto k o) (when (nullable x && hollow f) (feed k c))) (sym (feed-rule x f c))
+    ∙ else-onto k (rest-of x c) f (nullable x) (nullable-form f) (feed f c) (feed k c)
+    ∙ ap (λ o. else (onto k o) (when (nullable x && nullable-form f) (feed k c))) (sym (feed-rule x f c))
 
 -- A rule whose form g takes the class leaves what g leaves.
 pub takes-move : {c : Class} {k : Symbols} (o : Option (Move c k)) → is-some o ≡ true → (v : Move c k) × (o ≡ some v)
@@ -96,7 +96,7 @@ feed-enter {x} {g} p k c h =
     let m = takes-move (move c g) h in
     let b : begin c x ≡ some (start p (m .0)) = begin-is c x ∙ found (clear-is x c) (listed p) (m .1) in
     feed-rule x k c ∙ ap (λ s. else (onto k (start-left s)) (when (nullable x) (feed k c))) b
-    ∙ sym (feed-append g k c ∙ ap (λ o. else (onto k (left-of o)) (when (hollow g) (feed k c))) (m .1))
+    ∙ sym (feed-append g k c ∙ ap (λ o. else (onto k (left-of o)) (when (nullable-form g) (feed k c))) (m .1))
 
 -- A rule that does not start with the class is passed over if it can be empty, and takes nothing if it cannot.
 pub feed-pass : (x : Nonterminal) (k : Symbols) (c : Class) → starts x c ≡ false → feed (rule x ∷ k) c ≡ when (nullable x) (feed k c)
@@ -137,8 +137,8 @@ run-pass d x k t s e h =
     ap (λ o. next o (deeper d (t .class)) (t .place) (λ j i. run i j s)) (feed-pass x k (t .class) h ∙ ap (λ b. when b (feed k (t .class))) e)
 
 pub run-pass-end : (d : ℕ) (x : Nonterminal) (k : Symbols) (n : ℕ) → nullable x ≡ true → run d (x ▸ k) (ended n) ≡ run d k (ended n)
-unfolding run hollow
-run-pass-end d x k n e = ap (λ b. at-end (b && hollow k) n) e
+unfolding run nullable-form
+run-pass-end d x k n e = ap (λ b. at-end (b && nullable-form k) n) e
 
 pub run-no : (d : ℕ) (x : Nonterminal) (k : Symbols) (t : Token) (s : Stream) → nullable x ≡ false → starts x (t .class) ≡ false
     → run d (x ▸ k) (t ▹ s) ≡ NotAdmitted (t .place)
@@ -147,15 +147,15 @@ run-no d x k t s e h =
     ap (λ o. next o (deeper d (t .class)) (t .place) (λ j i. run i j s)) (feed-pass x k (t .class) h ∙ ap (λ b. when b (feed k (t .class))) e)
 
 pub run-no-end : (d : ℕ) (x : Nonterminal) (k : Symbols) (n : ℕ) → nullable x ≡ false → run d (x ▸ k) (ended n) ≡ NotAdmitted n
-unfolding run hollow at-end
-run-no-end d x k n e = ap (λ b. at-end (b && hollow k) n) e
+unfolding run nullable-form at-end
+run-no-end d x k n e = ap (λ b. at-end (b && nullable-form k) n) e
 
 -- A rule with one form only is read as that form, whatever comes: no look at the next token is needed.
-pub hollow-append : (f k : Symbols) → hollow f ≡ false → hollow (f ++ k) ≡ false
-unfolding hollow
-hollow-append [] k h = absurd (false≢true (sym h))
-hollow-append (tok a ∷ f) k h = refl
-hollow-append (rule x ∷ f) k h = go (nullable x) (hollow f) (hollow (f ++ k)) h (hollow-append f k)
+pub nullable-append : (f k : Symbols) → nullable-form f ≡ false → nullable-form (f ++ k) ≡ false
+unfolding nullable-form
+nullable-append [] k h = absurd (false≢true (sym h))
+nullable-append (tok a ∷ f) k h = refl
+nullable-append (rule x ∷ f) k h = go (nullable x) (nullable-form f) (nullable-form (f ++ k)) h (nullable-append f k)
   where
     go : (n a b : Bool) → (n && a) ≡ false → (a ≡ false → b ≡ false) → (n && b) ≡ false
     go true a b e f = f e
@@ -166,7 +166,7 @@ unfolding left-of is-some
 no-move none e = refl
 no-move (some v) e = absurd (false≢true (sym e))
 
-pub feed-only : {x : Nonterminal} {g : Symbols} (p : x ⟹ g) (k : Symbols) (c : Class) → choices x ≡ by p ∷ [] → nullable x ≡ false → hollow g ≡ false
+pub feed-only : {x : Nonterminal} {g : Symbols} (p : x ⟹ g) (k : Symbols) (c : Class) → choices x ≡ by p ∷ [] → nullable x ≡ false → nullable-form g ≡ false
     → feed (rule x ∷ k) c ≡ feed (g ++ k) c
 unfolding feed takes when else onto any-takes
 feed-only {x} {g} p k c only e h = go (takes g c) refl

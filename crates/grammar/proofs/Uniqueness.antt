@@ -8,18 +8,18 @@ use native.Mathlib.Omega.{arith}
 use lib.Dec.{eqb-refl, T}
 use Rattle.grammar.specs.Grammar.{Symbol, Terminal, Class, Token, Kind, Integer, tok, rule, matches, Trees, nil, leaf, node, tokens, name, number, string, kind, type, integer, the, sg, ordinary, numeral, quoted, kind-word, type-word, integer-word, word, sign, OS, UINT32, given-code, sign-code}
 use Rattle.grammar.specs.Factored.{Nonterminal, Symbols, _⟹_, Choice, by, choices}
-use Rattle.grammar.specs.Machine.{bare?, bare-of, nullable, bare, hollow, Move, take, enter, skip, after, Start, start, test, is-some, take-step, skip-step, rule-step, form-step, tries, begin, move, takes, starts, left-of, feed}
+use Rattle.grammar.specs.Machine.{has-empty, empty-of, nullable, empty-form, nullable-form, Move, take, enter, skip, after, Start, start, test, is-some, take-step, skip-step, rule-step, form-step, tries, begin, move, takes, starts, left-of, feed}
 use Rattle.grammar.proofs.Choices.{In, here, there, listed, all, nonterminals, classes, both, every, every-rule, every-class}
 use Rattle.grammar.proofs.Splits.{left, right, join, tokens-parts, left-join, right-join}
-use Rattle.grammar.proofs.Checks.{begin-is, none-takes, clear, clear-is, follows, apart, apart-is, implies, link, linked, linked?, linked-all, solid?, proper, proper-is}
+use Rattle.grammar.proofs.Checks.{begin-is, none-takes, clear, clear-is, follows, apart, apart-is, implies, link, linked, linked?, linked-all, not-nullable?, proper, proper-is}
 
 -- A move and the trees of what is left make trees ------------------------------------------------------------------------------------
 
 unfoldable pub back : (t : Token) {k : Symbols} (v : Move (t .class) k) → Trees _⟹_ (after v) → Trees _⟹_ k
-unfolding after left right bare
+unfolding after left right empty-form
 back t (take m) ts = leaf t m ts
 back t (enter {k} p v) ts = node p (back t v (left (after v) k ts)) (right (after v) k ts)
-back t (skip e v) ts = node (bare _ e) nil (back t v ts)
+back t (skip e v) ts = node (empty-form _ e) nil (back t v ts)
 
 pub tokens-back : (t : Token) {k : Symbols} (v : Move (t .class) k) (ts : Trees _⟹_ (after v)) → tokens (back t v ts) ≡ t ∷ tokens ts
 unfolding back tokens
@@ -48,68 +48,68 @@ not-false : (b : Bool) → not b ≡ true → b ≡ true → ⊥
 not-false true h e = false≢true h
 not-false false h e = false≢true e
 
--- A form `nothing` is the rule's first, and no other form is hollow.
-one-bare-of : {x : Nonterminal} (p : x ⟹ []) {cs : List (Choice x)} → proper cs ≡ true → In (by p) cs → (e : bare? cs ≡ true) × (p ≡ bare-of cs e)
-unfolding bare? bare-of proper
-one-bare-of p h here = (refl, refl)
-one-bare-of p h (there {b = by {f = []} q} m) = absurd (false≢true (every solid? h m))
-one-bare-of p h (there {b = by {f = s ∷ f} q} {l} m) = absurd (false≢true (every solid? (both (not (hollow (s ∷ f))) (all solid? l) h .1) m))
+-- A form `nothing` is the rule's first, and no other form is nullable-form.
+one-empty-of : {x : Nonterminal} (p : x ⟹ []) {cs : List (Choice x)} → proper cs ≡ true → In (by p) cs → (e : has-empty cs ≡ true) × (p ≡ empty-of cs e)
+unfolding has-empty empty-of proper
+one-empty-of p h here = (refl, refl)
+one-empty-of p h (there {b = by {f = []} q} m) = absurd (false≢true (every not-nullable? h m))
+one-empty-of p h (there {b = by {f = s ∷ f} q} {l} m) = absurd (false≢true (every not-nullable? (both (not (nullable-form (s ∷ f))) (all not-nullable? l) h .1) m))
 
-one-bare : {x : Nonterminal} (p : x ⟹ []) → (e : nullable x ≡ true) × (p ≡ bare x e)
-unfolding nullable bare
-one-bare {x} p = one-bare-of p (proper-is x) (listed p)
+one-empty : {x : Nonterminal} (p : x ⟹ []) → (e : nullable x ≡ true) × (p ≡ empty-form x e)
+unfolding nullable empty-form
+one-empty {x} p = one-empty-of p (proper-is x) (listed p)
 
-solid-of : {x : Nonterminal} {s : Symbol Nonterminal} {f : Symbols} (p : x ⟹ s ∷ f) {cs : List (Choice x)} → proper cs ≡ true → In (by p) cs → not (hollow (s ∷ f)) ≡ true
-unfolding proper solid?
-solid-of {s} {f} p h (here {l}) = both (not (hollow (s ∷ f))) (all solid? l) h .0
-solid-of p h (there {b = by {f = []} q} m) = every solid? h m
-solid-of p h (there {b = by {f = s′ ∷ f′} q} {l} m) = every solid? (both (not (hollow (s′ ∷ f′))) (all solid? l) h .1) m
+not-nullable-of : {x : Nonterminal} {s : Symbol Nonterminal} {f : Symbols} (p : x ⟹ s ∷ f) {cs : List (Choice x)} → proper cs ≡ true → In (by p) cs → not (nullable-form (s ∷ f)) ≡ true
+unfolding proper not-nullable?
+not-nullable-of {s} {f} p h (here {l}) = both (not (nullable-form (s ∷ f))) (all not-nullable? l) h .0
+not-nullable-of p h (there {b = by {f = []} q} m) = every not-nullable? h m
+not-nullable-of p h (there {b = by {f = s′ ∷ f′} q} {l} m) = every not-nullable? (both (not (nullable-form (s′ ∷ f′))) (all not-nullable? l) h .1) m
 
-solid : {x : Nonterminal} {s : Symbol Nonterminal} {f : Symbols} → x ⟹ s ∷ f → hollow (s ∷ f) ≡ true → ⊥
-solid {x} {s} {f} p = not-false (hollow (s ∷ f)) (solid-of p (proper-is x) (listed p))
+not-nullable : {x : Nonterminal} {s : Symbol Nonterminal} {f : Symbols} → x ⟹ s ∷ f → nullable-form (s ∷ f) ≡ true → ⊥
+not-nullable {x} {s} {f} p = not-false (nullable-form (s ∷ f)) (not-nullable-of p (proper-is x) (listed p))
 
-form-bare : {x : Nonterminal} (g : Symbols) → x ⟹ g → hollow g ≡ true → nullable x ≡ true
-form-bare [] p h = one-bare p .0
-form-bare (s ∷ g) p h = absurd (solid p h)
+form-empty : {x : Nonterminal} (g : Symbols) → x ⟹ g → nullable-form g ≡ true → nullable x ≡ true
+form-empty [] p h = one-empty p .0
+form-empty (s ∷ g) p h = absurd (not-nullable p h)
 
-pub hollow-of : {k : Symbols} (ts : Trees _⟹_ k) → tokens ts ≡ [] → hollow k ≡ true
-unfolding tokens hollow
-hollow-of nil h = refl
-hollow-of (leaf t m ts) h = absurd (cons≢[] h)
-hollow-of (node {x} {g} {f} p us ts) h =
+pub nullable-of : {k : Symbols} (ts : Trees _⟹_ k) → tokens ts ≡ [] → nullable-form k ≡ true
+unfolding tokens nullable-form
+nullable-of nil h = refl
+nullable-of (leaf t m ts) h = absurd (cons≢[] h)
+nullable-of (node {x} {g} {f} p us ts) h =
     let e = append-nothing (tokens us) (tokens ts) h in
-    and-true (form-bare g p (hollow-of us (e .0))) (hollow-of ts (e .1))
+    and-true (form-empty g p (nullable-of us (e .0))) (nullable-of ts (e .1))
 
 -- Where the trees under a rule have no token, its form is `nothing`.
-bare-node : {x : Nonterminal} {g k : Symbols} (p : x ⟹ g) (us : Trees _⟹_ g) (ts : Trees _⟹_ k) → tokens us ≡ [] → (e : nullable x ≡ true) × (node p us ts ≡ node (bare x e) nil ts)
+empty-node : {x : Nonterminal} {g k : Symbols} (p : x ⟹ g) (us : Trees _⟹_ g) (ts : Trees _⟹_ k) → tokens us ≡ [] → (e : nullable x ≡ true) × (node p us ts ≡ node (empty-form x e) nil ts)
 unfolding tokens
-bare-node p nil ts h = (one-bare p .0, ap (λ q. node q nil ts) (one-bare p .1))
-bare-node p (leaf t m us) ts h = absurd (cons≢[] h)
-bare-node p (node q vs us) ts h = absurd (solid p (hollow-of (node q vs us) h))
+empty-node p nil ts h = (one-empty p .0, ap (λ q. node q nil ts) (one-empty p .1))
+empty-node p (leaf t m us) ts h = absurd (cons≢[] h)
+empty-node p (node q vs us) ts h = absurd (not-nullable p (nullable-of (node q vs us) h))
 
--- A form has at most one tree list without a token, and has one if it is hollow.
-pub bare-unique : {k : Symbols} (ts us : Trees _⟹_ k) → tokens ts ≡ [] → tokens us ≡ [] → ts ≡ us
+-- A form has at most one tree list without a token, and has one if it is nullable-form.
+pub empty-unique : {k : Symbols} (ts us : Trees _⟹_ k) → tokens ts ≡ [] → tokens us ≡ [] → ts ≡ us
 unfolding tokens
-bare-unique nil nil h h′ = refl
-bare-unique (leaf t m ts) (leaf u n us) h h′ = absurd (cons≢[] h)
-bare-unique (node {x} p vs ts) (node q ws us) h h′ =
+empty-unique nil nil h h′ = refl
+empty-unique (leaf t m ts) (leaf u n us) h h′ = absurd (cons≢[] h)
+empty-unique (node {x} p vs ts) (node q ws us) h h′ =
     let e = append-nothing (tokens vs) (tokens ts) h in
     let e′ = append-nothing (tokens ws) (tokens us) h′ in
-    let b = bare-node p vs ts (e .0) in
-    let b′ = bare-node q ws us (e′ .0) in
-    b .1 ∙ ap₂ (λ n rest. node (bare x n) nil rest) (Bool-set (nullable x) true (b .0) (b′ .0)) (bare-unique ts us (e .1) (e′ .1)) ∙ sym (b′ .1)
+    let b = empty-node p vs ts (e .0) in
+    let b′ = empty-node q ws us (e′ .0) in
+    b .1 ∙ ap₂ (λ n rest. node (empty-form x n) nil rest) (Bool-set (nullable x) true (b .0) (b′ .0)) (empty-unique ts us (e .1) (e′ .1)) ∙ sym (b′ .1)
 
-unfoldable pub empty : (k : Symbols) → hollow k ≡ true → Trees _⟹_ k
-unfolding hollow
+unfoldable pub empty : (k : Symbols) → nullable-form k ≡ true → Trees _⟹_ k
+unfolding nullable-form
 empty [] h = nil
 empty (tok a ∷ k) h = absurd (false≢true h)
-empty (rule x ∷ k) h = node (bare x (both (nullable x) (hollow k) h .0)) nil (empty k (both (nullable x) (hollow k) h .1))
+empty (rule x ∷ k) h = node (empty-form x (both (nullable x) (nullable-form k) h .0)) nil (empty k (both (nullable x) (nullable-form k) h .1))
 
-pub tokens-empty : (k : Symbols) (h : hollow k ≡ true) → tokens (empty k h) ≡ []
+pub tokens-empty : (k : Symbols) (h : nullable-form k ≡ true) → tokens (empty k h) ≡ []
 unfolding empty tokens
 tokens-empty [] h = refl
 tokens-empty (tok a ∷ k) h = absurd (false≢true h)
-tokens-empty (rule x ∷ k) h = tokens-empty k (both (nullable x) (hollow k) h .1)
+tokens-empty (rule x ∷ k) h = tokens-empty k (both (nullable x) (nullable-form k) h .1)
 
 -- Trees _⟹_ with a token -----------------------------------------------------------------------------------------------------------------
 
@@ -124,8 +124,8 @@ seen-node p us ts (moved t v r e) s =
     moved t (enter p v) (join r ts) (ap₂ (node p) (e ∙ ap (back t v) (sym (left-join r ts))) (sym (right-join r ts)))
 seen-node p us ts (still h) (still h′) = still (ap₂ _++_ h h′)
 seen-node {x} p us ts (still h) (moved t v r e) =
-    let b = bare-node p us ts h in
-    moved t (skip (b .0) v) r (b .1 ∙ ap (node (bare x (b .0)) nil) e)
+    let b = empty-node p us ts h in
+    moved t (skip (b .0) v) r (b .1 ∙ ap (node (empty-form x (b .0)) nil) e)
 
 pub seen : {k : Symbols} (ts : Trees _⟹_ k) → Seen ts
 unfolding back tokens
@@ -171,8 +171,8 @@ takes-rule x k c =
     steps c x k (begin c x) (skip-step (test (nullable x)) (move c k))
     ∙ ap (starts x c ||_) (skips c x k (test (nullable x)) (move c k) ∙ ap (_&& takes k c) (test-some (nullable x)))
 
-pub takes-append : (f j : Symbols) (c : Class) → takes (f ++ j) c ≡ (takes f c || hollow f && takes j c)
-unfolding hollow takes
+pub takes-append : (f j : Symbols) (c : Class) → takes (f ++ j) c ≡ (takes f c || nullable-form f && takes j c)
+unfolding nullable-form takes
 takes-append [] j c = refl
 takes-append (tok a ∷ f) j c = takes-tok a (f ++ j) c ∙ sym (takes-tok a f c) ∙ or-nothing (takes (tok a ∷ f) c)
   where
@@ -181,8 +181,8 @@ takes-append (tok a ∷ f) j c = takes-tok a (f ++ j) c ∙ sym (takes-tok a f c
     or-nothing false = refl
 takes-append (rule x ∷ f) j c =
     takes-rule x (f ++ j) c ∙ ap (λ b. starts x c || nullable x && b) (takes-append f j c)
-    ∙ regroup (starts x c) (nullable x) (takes f c) (hollow f) (takes j c)
-    ∙ ap (λ b. b || (nullable x && hollow f) && takes j c) (sym (takes-rule x f c))
+    ∙ regroup (starts x c) (nullable x) (takes f c) (nullable-form f) (takes j c)
+    ∙ ap (λ b. b || (nullable x && nullable-form f) && takes j c) (sym (takes-rule x f c))
   where
     regroup : (s n t h u : Bool) → (s || n && (t || h && u)) ≡ ((s || n && t) || (n && h) && u)
     regroup true n t h u = refl
@@ -197,7 +197,7 @@ pub data Good : Symbols → Type 0 where
 
 link-good : (x y : Nonterminal) (f j : Symbols) (c : Class) → link x y f c ≡ true → (takes j c ≡ true → follows x c ≡ true) → takes (f ++ j) c ≡ true → follows y c ≡ true
 unfolding link implies
-link-good x y f j c l fol h = go (takes f c) (hollow f) (takes j c) (follows x c) (follows y c) l fol (sym (takes-append f j c) ∙ h)
+link-good x y f j c l fol h = go (takes f c) (nullable-form f) (takes j c) (follows x c) (follows y c) l fol (sym (takes-append f j c) ∙ h)
   where
     go : (t h u a b : Bool) → (implies t b && implies (h && a) b) ≡ true → (u ≡ true → a ≡ true) → (t || h && u) ≡ true → b ≡ true
     go t h u a true l fol e = refl
@@ -317,7 +317,7 @@ pub left-good : {c : Class} {k : Symbols} → Good k → (v : Move c k) → Good
 left-good {k} g v = rw append-nil at (after-good v [] (rw append-nil g))
 
 unique-of : (l : List Token) {k : Symbols} → Good k → (ts us : Trees _⟹_ k) → tokens ts ≡ l → tokens us ≡ l → ts ≡ us
-unique-of [] g ts us p q = bare-unique ts us p q
+unique-of [] g ts us p q = empty-unique ts us p q
 unique-of (t ∷ l) g ts us p q =
     let a = forth ts t l p in
     let b = forth us t l q in

@@ -6,10 +6,10 @@ use mathlib.Core.Option.{none, some}
 use Prim.Native.Nat.{ℕ, zero, suc}
 use Rattle.grammar.specs.Grammar.{Terminal, Class, Token, file, tok, rule, _▸_, ∎, matches, sg, lbrace, rbrace, tokens, Derivation, Begins}
 use Rattle.grammar.specs.Factored.{Nonterminal, paper, Symbols, _⟹_, Choice, by, choices}
-use Rattle.grammar.specs.Machine.{hollow, Move, take, enter, skip, after}
+use Rattle.grammar.specs.Machine.{nullable-form, Move, take, enter, skip, after}
 use Rattle.grammar.proofs.Choices.{all, nonterminals, listed, every, every-rule}
 use Rattle.grammar.proofs.Literal.{lifted, to, from, back, tokens-to, tokens-from}
-use Rattle.grammar.proofs.Uniqueness.{Whole, one-good, unique, reach, reach-sound, reach-complete, finish, hollow-of, empty, tokens-empty, some-inj, none≢some}
+use Rattle.grammar.proofs.Uniqueness.{Whole, one-good, unique, reach, reach-sound, reach-complete, finish, nullable-of, empty, tokens-empty, some-inj, none≢some}
 use Rattle.grammar.proofs.Braces.{terminal-code, opening, closing, agree}
 
 -- Viable prefixes ---------------------------------------------------------------------------------------------------------------------------------
@@ -30,14 +30,14 @@ viable l {j} e =
 pub not-viable : (l : List Token) → reach start l ≡ none → Begins l → ⊥
 not-viable l e b = none≢some (sym e ∙ reach-complete l (b .more) (one-good (paper file)) (whole (b .derivation)) .1)
 
-pub derived : (l : List Token) {j : Symbols} → reach start l ≡ some j → hollow j ≡ true → Derivation l
+pub derived : (l : List Token) {j : Symbols} → reach start l ≡ some j → nullable-form j ≡ true → Derivation l
 derived l {j} e h = rw append-nil at (lit (reach-sound l [] e (record { trees = empty j h; yield = tokens-empty j h })))
 
-pub not-derived : (l : List Token) {j : Symbols} → reach start l ≡ some j → hollow j ≡ false → Derivation l → ⊥
+pub not-derived : (l : List Token) {j : Symbols} → reach start l ≡ some j → nullable-form j ≡ false → Derivation l → ⊥
 not-derived l {j} e h d =
     let r = reach-complete l [] (one-good (paper file)) (rw append-nil (whole d)) in
     let i : j ≡ r .0 = some-inj (sym e ∙ r .1) in
-    false≢true (sym h ∙ ap hollow i ∙ hollow-of (r .3 .trees) (r .3 .yield))
+    false≢true (sym h ∙ ap nullable-form i ∙ nullable-of (r .3 .trees) (r .3 .yield))
 
 -- Any two derivations are the same.
 pub one-derivation : (l : List Token) (a b : Derivation l) → a .tree ≡ b .tree

@@ -14,31 +14,31 @@ use Rattle.grammar.specs.declared.Answer.the-variants.{Passes, NoToken, 
 -- Rules that can be empty ------------------------------------------------------------------------------------------------------------
 
 -- The form `nothing`, where a rule has it, is its first.
-unfoldable pub bare? : {x : Nonterminal} → List (Choice x) → Bool
-bare? [] = false
-bare? (by {f = []} p ∷ cs) = true
-bare? (by {f = s ∷ f} p ∷ cs) = false
+unfoldable pub has-empty : {x : Nonterminal} → List (Choice x) → Bool
+has-empty [] = false
+has-empty (by {f = []} p ∷ cs) = true
+has-empty (by {f = s ∷ f} p ∷ cs) = false
 
-unfoldable pub bare-of : {x : Nonterminal} (cs : List (Choice x)) → bare? cs ≡ true → x ⟹ []
-unfolding bare?
-bare-of [] e = absurd (false≢true e)
-bare-of (by {f = []} p ∷ cs) e = p
-bare-of (by {f = s ∷ f} p ∷ cs) e = absurd (false≢true e)
+unfoldable pub empty-of : {x : Nonterminal} (cs : List (Choice x)) → has-empty cs ≡ true → x ⟹ []
+unfolding has-empty
+empty-of [] e = absurd (false≢true e)
+empty-of (by {f = []} p ∷ cs) e = p
+empty-of (by {f = s ∷ f} p ∷ cs) e = absurd (false≢true e)
 
 unfoldable pub nullable : Nonterminal → Bool
-unfolding bare? choices
-nullable x = bare? (choices x)
+unfolding has-empty choices
+nullable x = has-empty (choices x)
 
-unfoldable pub bare : (x : Nonterminal) → nullable x ≡ true → x ⟹ []
-unfolding nullable bare-of
-bare x e = bare-of (choices x) e
+unfoldable pub empty-form : (x : Nonterminal) → nullable x ≡ true → x ⟹ []
+unfolding nullable empty-of
+empty-form x e = empty-of (choices x) e
 
 -- Every symbol of the form can be empty.
-unfoldable pub hollow : Symbols → Bool
+unfoldable pub nullable-form : Symbols → Bool
 unfolding nullable
-hollow [] = true
-hollow (tok a ∷ f) = false
-hollow (rule x ∷ f) = nullable x && hollow f
+nullable-form [] = true
+nullable-form (tok a ∷ f) = false
+nullable-form (rule x ∷ f) = nullable x && nullable-form f
 
 -- Moves ------------------------------------------------------------------------------------------------------------------------------
 
@@ -170,7 +170,7 @@ next (some k) (some d) p f = f k d
 
 -- With d braces open and the symbols k still to be read.
 unfoldable pub run : ℕ → Symbols → Stream → Answer
-unfolding hollow at-end next feed deeper
-run d k (ended n) = at-end (hollow k) n
+unfolding nullable-form at-end next feed deeper
+run d k (ended n) = at-end (nullable-form k) n
 run d k (bad p) = NoToken p
 run d k (t ▹ s) = next (feed k (t .class)) (deeper d (t .class)) (t .place) (λ j e. run e j s)

@@ -1,6 +1,6 @@
 use native.Mathlib.Omega.{arith}
 use borrow.Author.Needs.{needs}
-use Rattle.grammar.proofs.Rules.{comma-less, lsquare-taken, P-pass, P-by, enumerator-by, enumerators-item, enumerators-again, enumerators-done, truths-pass, truths-by, boolean-by, enum-by, string-by, integer-by, reference-by, definition-no, definitions-again, definitions-done, definitions-less, twice-less, twice-one-less, comma-one-less}
+use Rattle.grammar.proofs.Rules.{comma-less, lsquare-taken, P-pass, P-by, enumerator-by, enumerators-item, enumerators-again, enumerators-done, boolean-range-pass, boolean-range-by, boolean-by, enum-by, string-by, integer-by, reference-by, definition-no, definitions-again, definitions-done, definitions-less, twice-less, twice-one-less, comma-one-less}
 use Rattle.grammar.proofs.Terminals.{rbrace-is, lsquare-is, rsquare-is, true-is, false-is, comma-is}
 use Rattle.grammar.proofs.Meeting.{_⊳_, still, went-on}
 use Rattle.grammar.specs.Readers.{Still, left, sortAt}
@@ -212,7 +212,7 @@ definition-returns : (t : ℕ) → definition-lts.Need-returns (
   refuse-reads.Learnt,
 ) (definition-at t) definition.Post definition-Inv-loop definition-μ-loop
 unfolding sortAt
-definition-returns t c = boolean-by (c .before .before .before .before .before .if1 .taken) (c .before .before .before .before .advance .ensures) ((c .before .before .before .auto .ensures) ⊳ truths-pass (c .before .if2 .taken) ⊳ (c .named .ensures))
+definition-returns t c = boolean-by (c .before .before .before .before .before .if1 .taken) (c .before .before .before .before .advance .ensures) ((c .before .before .before .auto .ensures) ⊳ boolean-range-pass (c .before .if2 .taken) ⊳ (c .named .ensures))
 
 definition-advance-requires-2 : (t : ℕ) → definition-lts.Need-advance-requires-2 (
   advance-reads.Asked,
@@ -543,7 +543,7 @@ definition-returns-2 : (t : ℕ) → definition-lts.Need-returns-2 (
   refuse-reads.Learnt,
 ) (definition-at t) definition.Post definition-Inv-loop definition-μ-loop
 unfolding sortAt
-definition-returns-2 t c = boolean-by (c .before .before .before .before .before .before .before .before .before .before .before .before .before .before .if1 .taken) (c .before .before .before .before .before .before .before .before .before .before .before .before .before .advance .ensures) ((c .before .before .before .before .before .before .before .before .before .before .before .before .auto .ensures) ⊳ truths-by (c .before .before .before .before .before .before .before .before .before .before .if2 .left) (c .before .before .before .before .before .before .before .before .before .advance2 .ensures) (true-is (c .before .before .before .before .before .before .before .before .expect .ensures) ⊳ (c .before .before .before .before .before .before .before .parameters .ensures) ⊳ (c .before .before .before .before .before .before .description .ensures) ⊳ comma-is (c .before .before .before .before .before .expect2 .ensures) ⊳ false-is (c .before .before .before .before .expect3 .ensures) ⊳ (c .before .before .before .parameters2 .ensures) ⊳ (c .before .before .description2 .ensures) ⊳ rsquare-is (c .before .expect4 .ensures)) ⊳ (c .named2 .ensures))
+definition-returns-2 t c = boolean-by (c .before .before .before .before .before .before .before .before .before .before .before .before .before .before .if1 .taken) (c .before .before .before .before .before .before .before .before .before .before .before .before .before .advance .ensures) ((c .before .before .before .before .before .before .before .before .before .before .before .before .auto .ensures) ⊳ boolean-range-by (c .before .before .before .before .before .before .before .before .before .before .if2 .left) (c .before .before .before .before .before .before .before .before .before .advance2 .ensures) (true-is (c .before .before .before .before .before .before .before .before .expect .ensures) ⊳ (c .before .before .before .before .before .before .before .parameters .ensures) ⊳ (c .before .before .before .before .before .before .description .ensures) ⊳ comma-is (c .before .before .before .before .before .expect2 .ensures) ⊳ false-is (c .before .before .before .before .expect3 .ensures) ⊳ (c .before .before .before .parameters2 .ensures) ⊳ (c .before .before .description2 .ensures) ⊳ rsquare-is (c .before .expect4 .ensures)) ⊳ (c .named2 .ensures))
 
 definition-advance-requires-3 : (t : ℕ) → definition-lts.Need-advance-requires-3 (
   advance-reads.Asked,
