@@ -126,9 +126,9 @@ matches (sg s) c = eqb (sign-code s) (code c)
 pub data Sort : Type 0 where
   integers strings booleans enums : Sort
 
--- The rules. `auto` is "WITH_AUTO or nothing", `mark` "list mark or nothing", `block` "with or without `{` statements `}`"; what may be
--- none or more is a rule of its own (`specs`), and so is what follows the first of "one or more .. parted by commas" (`numbers`,
--- `enumerators`), and what follows the `=` of a default (`own`).
+-- The rules. `auto` is "WITH_AUTO or nothing", `mark` "list mark or nothing", `block` "with or without `{` statements `}`", `own` what follows
+-- the `=` of a default. "Specs, definitions, objects and statements may be none": each of these is a rule, none or one and more of them; so
+-- is what follows the first of "one or more .. parted by commas" (`numbers`, `enumerators`).
 pub data Rule : Type 0 where
   file version implementation specs spec definitions definition attribute reference : Rule
   D P auto mark integer-range numbers boolean-range enumerator enumerators : Rule
@@ -157,42 +157,51 @@ abbrev pub ∎ : {N : Type 0} → List (Symbol N)
 -- The forms. `x ⟶ f`: the rule x has the form f. A constructor names the form.
 infix 20 _⟶_
 pub data _⟶_ : Rule → Form → Type 0 where
+  -- "D is nothing or `:` string"
+  no-D : D ⟶ ∎
+  a-D : D ⟶ sg colon · string · ∎
+  -- "file: version, implementation, application, end." The end is that of the list: nothing follows.
   file-is : file ⟶ version ▸ implementation ▸ application ▸ ∎
+  -- "version: OIL_VERSION `=` string D `;`"
   version-is : version ⟶ the OIL-VERSION · sg equals · string · D ▸ sg semicolon · ∎
+  -- "implementation: IMPLEMENTATION name `{` specs `}` D `;` with each spec: kind `{` definitions `}` D `;`"
   implementation-is : implementation ⟶ the IMPLEMENTATION · name · sg lbrace · specs ▸ sg rbrace · D ▸ sg semicolon · ∎
   no-spec : specs ⟶ ∎
   a-spec : specs ⟶ spec ▸ specs ▸ ∎
   spec-is : spec ⟶ kind · sg lbrace · definitions ▸ sg rbrace · D ▸ sg semicolon · ∎
+  -- a definition is an attribute or a reference
   no-definition : definitions ⟶ ∎
   a-definition : definitions ⟶ definition ▸ definitions ▸ ∎
   an-attribute : definition ⟶ attribute ▸ ∎
   a-reference : definition ⟶ reference ▸ ∎
-  -- attribute: type, WITH_AUTO or nothing, range, name, list mark or nothing, default, D `;`
+  -- "attribute: type, WITH_AUTO or nothing, range, name, list mark `[` `]` or nothing, default, D `;`", a form for each sort of type
   an-integer : attribute ⟶ integer · auto ▸ integer-range ▸ name · mark ▸ default integers ▸ D ▸ sg semicolon · ∎
   a-string : attribute ⟶ the STRING · auto ▸ name · mark ▸ default strings ▸ D ▸ sg semicolon · ∎
   a-boolean : attribute ⟶ the BOOLEAN · auto ▸ boolean-range ▸ name · mark ▸ default booleans ▸ D ▸ sg semicolon · ∎
   an-enum : attribute ⟶ the ENUM · auto ▸ sg lsquare · enumerator ▸ enumerators ▸ sg rsquare · name · mark ▸ default enums ▸ D ▸ sg semicolon · ∎
-  reference-is : reference ⟶ type · name · mark ▸ D ▸ sg semicolon · ∎
-  no-D : D ⟶ ∎
-  a-D : D ⟶ sg colon · string · ∎
-  no-P : P ⟶ ∎
-  a-P : P ⟶ sg lbrace · definitions ▸ sg rbrace · ∎
   no-auto : auto ⟶ ∎
   with-auto : auto ⟶ the WITH-AUTO · ∎
   no-mark : mark ⟶ ∎
   a-mark : mark ⟶ sg lsquare · sg rsquare · ∎
-  -- nothing, `[` number `..` number `]`, or `[` one or more numbers parted by commas `]`
+  -- "reference: a kind followed by `_TYPE` as one word, name, list mark or nothing, D `;`"
+  reference-is : reference ⟶ type · name · mark ▸ D ▸ sg semicolon · ∎
+  -- "types: UINT32, INT32, UINT64, INT64 with a range of nothing, `[` number `..` number `]` or `[` one or more numbers parted by commas `]`;"
   no-range : integer-range ⟶ ∎
   a-range : integer-range ⟶ sg lsquare · number · sg dots · number · sg rsquare · ∎
   a-list : integer-range ⟶ sg lsquare · number · numbers ▸ sg rsquare · ∎
   no-number : numbers ⟶ ∎
   a-number : numbers ⟶ sg comma · number · numbers ▸ ∎
+  -- "STRING and no range; BOOLEAN with nothing or `[` TRUE P D `,` FALSE P D `]`;"
   no-boolean-range : boolean-range ⟶ ∎
   a-boolean-range : boolean-range ⟶ sg lsquare · the TRUE · P ▸ D ▸ sg comma · the FALSE · P ▸ D ▸ sg rsquare · ∎
+  -- "ENUM with `[` one or more of name P D parted by commas `]`."
   enumerator-is : enumerator ⟶ name · P ▸ D ▸ ∎
   no-enumerator : enumerators ⟶ ∎
   an-enumerator : enumerators ⟶ sg comma · enumerator ▸ enumerators ▸ ∎
-  -- default: nothing, or `=` and AUTO, NO_DEFAULT, or the type's own form
+  -- "P: nothing or `{` definitions `}`."
+  no-P : P ⟶ ∎
+  a-P : P ⟶ sg lbrace · definitions ▸ sg rbrace · ∎
+  -- "default: nothing, or `=` and AUTO, NO_DEFAULT, or the type's own form (number, string, TRUE or FALSE, name)."
   no-default : {s : Sort} → default s ⟶ ∎
   a-default : {s : Sort} → default s ⟶ sg equals · own s ▸ ∎
   own-auto : {s : Sort} → own s ⟶ the AUTO · ∎
@@ -202,13 +211,13 @@ pub data _⟶_ : Rule → Form → Type 0 where
   own-true : own booleans ⟶ the TRUE · ∎
   own-false : own booleans ⟶ the FALSE · ∎
   own-name : own enums ⟶ name · ∎
+  -- "application: CPU name `{` objects `}` D `;` with each object: kind name D `;` or kind name `{` statements `}` D `;`"
   application-is : application ⟶ the CPU · name · sg lbrace · objects ▸ sg rbrace · D ▸ sg semicolon · ∎
   no-object : objects ⟶ ∎
   an-object : objects ⟶ object ▸ objects ▸ ∎
   an-object-alone : object ⟶ kind · name · D ▸ sg semicolon · ∎
   an-object-with : object ⟶ kind · name · sg lbrace · statements ▸ sg rbrace · D ▸ sg semicolon · ∎
-  no-block : block ⟶ ∎
-  a-block : block ⟶ sg lbrace · statements ▸ sg rbrace · ∎
+  -- "statement: name `=` value D `;` where value is a number, string, AUTO, or a name, TRUE or FALSE with or without `{` statements `}`."
   no-statement : statements ⟶ ∎
   a-statement : statements ⟶ statement ▸ statements ▸ ∎
   statement-is : statement ⟶ name · sg equals · value ▸ D ▸ sg semicolon · ∎
@@ -218,6 +227,8 @@ pub data _⟶_ : Rule → Form → Type 0 where
   value-name : value ⟶ name · block ▸ ∎
   value-true : value ⟶ the TRUE · block ▸ ∎
   value-false : value ⟶ the FALSE · block ▸ ∎
+  no-block : block ⟶ ∎
+  a-block : block ⟶ sg lbrace · statements ▸ sg rbrace · ∎
 
 -- Derivations ------------------------------------------------------------------------------------------------------------------------
 
