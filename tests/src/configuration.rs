@@ -166,14 +166,15 @@ pub fn configuration(bytes: usize) -> String {
 #[cfg(test)]
 mod tests {
     use super::*;
-    use crate::grammar::{stage, Stage};
+    use crate::meaning::read;
 
     #[test]
-    fn passes_the_grammar() {
+    fn is_accepted() {
         for bytes in [0, 3_000, 10_000, 51_000, 65_535] {
             let text = configuration(bytes);
-            assert_eq!(stage(text.as_bytes()), Stage::Passes);
+            let reading = read(text.as_bytes()).expect("an accepted text");
             assert!(text.len() <= bytes.max(2_000));
+            assert!(bytes != 51_000 || reading.objects.len() == 250);
         }
     }
 }

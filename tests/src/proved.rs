@@ -122,6 +122,11 @@ pub mod grammar {
         }
     }
 
+    /// Only the number.
+    pub fn number(text: &[u8]) -> u8 {
+        unsafe { kaukslini_stage_number(text.as_ptr(), text.len()) }
+    }
+
     /// The two numbers for a stage's answer.
     pub fn answers(stage: Stage) -> (u8, usize) {
         match stage {

@@ -458,16 +458,12 @@ pub fn spaced(random: &mut Random, tokens: &[Vec<u8>]) -> Vec<u8> {
         |byte: Option<&u8>| byte.is_some_and(|&byte| byte.is_ascii_alphanumeric() || byte == b'_');
     let mut text = Vec::new();
     for token in tokens {
-        let between = random.pick(&BETWEEN);
         let touch = run(text.last()) && run(token.first());
-        text.extend(
-            if between.is_empty() && touch {
-                " "
-            } else {
-                between
-            }
-            .bytes(),
-        );
+        let between = match random.pick(&BETWEEN) {
+            "" if touch => " ",
+            between => between,
+        };
+        text.extend(between.bytes());
         text.extend(token);
     }
     text

@@ -49,8 +49,12 @@ mod compare {
     fn at_every_place(name: &str, text: &[u8]) -> usize {
         let past = [1, 2, 1000].map(|more| text.len() + more);
         let far = [usize::MAX - 1, usize::MAX, 1 << 63, 1 << 32];
-        let places = (0..=text.len()).chain(past).chain(far);
-        places.map(|place| agree(name, text, place)).count()
+        let mut steps = 0;
+        for place in (0..=text.len()).chain(past).chain(far) {
+            agree(name, text, place);
+            steps += 1;
+        }
+        steps
     }
 
     /// Along the tokens; after a refusal, from the byte after it.

@@ -6,6 +6,8 @@ use token::Cursor;
 use token::Sort;
 use token::Step;
 
+mod stage;
+
 // The number of a token's sort.
 fn number_of_sort(sort: Sort) -> u8
     ensures { λ r. ⌜ r ≡ numberOfSort sort ⌝ }

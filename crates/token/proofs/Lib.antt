@@ -7,3 +7,4 @@ pub mod Values
 pub mod Lexemes
 pub mod Steps
 pub mod Edges
+pub mod Promises

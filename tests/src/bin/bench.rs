@@ -7,7 +7,7 @@ fn main() {
     let arguments: Vec<String> = std::env::args().collect();
     let [_, what, file] = &arguments[..] else {
         eprintln!("bench WHAT FILE, WHAT one of tokens-proved, tokens-reference, stage-proved,");
-        eprintln!("stage-reference");
+        eprintln!("stage-reference, program-reference");
         exit(2);
     };
     let text = std::fs::read(file).unwrap_or_else(|fault| {
@@ -20,7 +20,8 @@ fn main() {
         "tokens-proved" => println!("{}", tokens_proved(&text)),
         "stage-reference" => println!("{:?}", tests::grammar::stage(&text)),
         #[cfg(proved_grammar)]
-        "stage-proved" => println!("{:?}", tests::proved::grammar::stage(&text)),
+        "stage-proved" => println!("{}", tests::proved::grammar::number(&text)),
+        "program-reference" => println!("{}", tests::normal::program(&text).len()),
         _ => {
             eprintln!("{what}: not known, or the proved library is not linked");
             exit(2);

@@ -1,0 +1,25 @@
+use Rattle.grammar.proofs.Meeting.{_⊳_}
+use borrow.Author.Needs.{needs}
+use Rattle.grammar.proofs.parts.reference_rest.Statement.{statement}
+use Rattle.grammar.proofs.parts.reference_rest.Tie as tie
+use Rattle.grammar.proofs.parts.reference_rest.Reads as reads
+use Rattle.grammar.proofs.parts.reference_rest.Lts as lts
+use Rattle.grammar.proofs.lookahead.expect_name.Reads as expect-name-reads
+use Rattle.grammar.proofs.parts.finish.Reads as finish-reads
+use Rattle.grammar.proofs.parts.mark.Reads as mark-reads
+
+expect-name-requires : tie.Need-expect-name-requires
+expect-name-requires c κs = search needs
+
+mark-requires : tie.Need-mark-requires
+mark-requires c κs = search needs
+
+finish-requires : tie.Need-finish-requires
+finish-requires c κs = search needs
+
+returns : tie.Need-returns
+returns c = (c .before .before .expect-name .ensures) ⊳ (c .before .mark .ensures) ⊳ (c .finish .ensures)
+
+pub reference-rest-spec : {M : Type 1} → statement M
+reference-rest-spec =
+    tie.close (tie.spec expect-name-requires mark-requires finish-requires returns)

@@ -1,0 +1,22 @@
+use Rattle.grammar.proofs.Meeting.{_⊳_}
+use Rattle.grammar.specs.Readers.{sortAt}
+use borrow.Author.Needs.{needs}
+use Rattle.grammar.proofs.parts.string_rest.Statement.{statement}
+use Rattle.grammar.proofs.parts.string_rest.Tie as tie
+use Rattle.grammar.proofs.parts.string_rest.Reads as reads
+use Rattle.grammar.proofs.parts.string_rest.Lts as lts
+use Rattle.grammar.proofs.parts.auto.Reads as auto-reads
+use Rattle.grammar.proofs.parts.named.Reads as named-reads
+
+auto-requires : tie.Need-auto-requires
+auto-requires c κs = search needs
+
+named-requires : tie.Need-named-requires
+named-requires c κs = search needs
+
+returns : tie.Need-returns
+unfolding sortAt
+returns c = (c .before .auto .ensures) ⊳ (c .named .ensures)
+
+pub string-rest-spec : {M : Type 1} → statement M
+string-rest-spec = tie.close (tie.spec auto-requires named-requires returns)

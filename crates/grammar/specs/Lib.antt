@@ -1,0 +1,11 @@
+-- The statements: the grammar of document 01, how the text's tokens are its tokens, what the stage answers, demand 3.
+pub mod Grammar
+pub mod Terminals
+pub mod Stage
+pub mod Demand
+-- For the layers above.
+pub mod Actions
+-- The contracts of the inner readers, and the machine that they are stated with.
+pub mod Factored
+pub mod Machine
+pub mod Readers

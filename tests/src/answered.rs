@@ -1,0 +1,934 @@
+//! Texts made together with what the rules say of them: accepted ones with their normal
+//! text, and ones in which faults were planted, with the refusal that must come.
+
+use crate::meaning::Refusal;
+use crate::random::Random;
+use crate::token::KINDS;
+use crate::tree::Kind;
+use std::collections::HashMap;
+
+/// A text and its answer, known from how it was made: the normal text or the refusal.
+pub struct Answered {
+    pub text: Vec<u8>,
+    pub answer: Result<Vec<u8>, Refusal>,
+}
+
+/// A text with nothing wrong in it.
+pub fn accepted(seed: u64) -> Answered {
+    let (answered, _) = make(seed, Plan::default());
+    answered
+}
+
+/// The text of the same seed with faults of these numbers planted in it. There is none where
+/// it has no site for one of them.
+pub fn with_faults(seed: u64, numbers: &[u8]) -> Option<Answered> {
+    let (_, sites) = make(seed, Plan::default());
+    let random = &mut Random::new(!seed);
+    let mut wanted = Vec::new();
+    for &number in numbers {
+        let sites = sites[number as usize];
+        if sites == 0 {
+            return None;
+        }
+        wanted.push((number, random.below(sites)));
+    }
+    let plan = Plan {
+        wanted,
+        ..Plan::default()
+    };
+    let (answered, _) = make(seed, plan);
+    // After the first fault the sites may be others, so that a later one is not met.
+    answered.answer.is_err().then_some(answered)
+}
+
+/// Makes the text of a seed; also counts the sites at which each number may be planted.
+fn make(seed: u64, plan: Plan) -> (Answered, [usize; 21]) {
+    let mut maker = Maker {
+        random: Random::new(seed),
+        plan,
+        text: Vec::new(),
+        objects: Vec::new(),
+    };
+    let answered = maker.file();
+    (answered, maker.plan.sites)
+}
+
+/// Which faults are to be planted, at which of their sites, and which were.
+#[derive(Default)]
+struct Plan {
+    wanted: Vec<(u8, usize)>,
+    sites: [usize; 21],
+    planted: Vec<Refusal>,
+}
+
+/// The stage that a refusal's number belongs to.
+fn stage_of(number: u8) -> u8 {
+    match number {
+        6..=10 => 1,
+        11 | 12 | 17 => 2,
+        _ => 3,
+    }
+}
+
+/// An attribute or reference of the implementation that is being made.
+struct Attribute {
+    name: &'static str,
+    type_word: &'static str,
+    domain: Domain,
+    with_auto: bool,
+    is_list: bool,
+    default: Preset,
+}
+
+enum Domain {
+    Integer {
+        bounds: (i128, i128),
+        range: Range,
+    },
+    String,
+    /// The values of a BOOLEAN or ENUM with what is under them, and whether they are written.
+    Choices(Vec<(&'static str, Vec<Attribute>)>, bool),
+    Reference(Kind),
+}
+
+enum Range {
+    Nothing,
+    Between(i128, i128),
+    Listed(Vec<i128>),
+}
+
+enum Preset {
+    Nothing,
+    NoDefault,
+    Given(Given),
+}
+
+/// A value that fits its attribute.
+#[derive(Clone)]
+enum Given {
+    Number(i128),
+    String(Vec<u8>),
+    /// A BOOLEAN's or ENUM's value by its index.
+    Choice(usize),
+    Auto,
+    Object(&'static str),
+}
+
+/// A statement that is to be made.
+struct Entry<'m> {
+    attribute: &'m Attribute,
+    value: Given,
+    inside: Vec<Entry<'m>>,
+}
+
+const TYPES: [&str; 8] = [
+    "UINT32",
+    "INT32",
+    "UINT64",
+    "INT64",
+    "STRING",
+    "BOOLEAN",
+    "ENUM",
+    "reference",
+];
+
+const REFERENCE_TYPES: [&str; 13] = [
+    "OS_TYPE",
+    "APPMODE_TYPE",
+    "TASK_TYPE",
+    "ISR_TYPE",
+    "COUNTER_TYPE",
+    "ALARM_TYPE",
+    "RESOURCE_TYPE",
+    "EVENT_TYPE",
+    "COM_TYPE",
+    "MESSAGE_TYPE",
+    "NETWORKMESSAGE_TYPE",
+    "IPDU_TYPE",
+    "NM_TYPE",
+];
+
+const LEAST_NUMBER: i128 = i64::MIN as i128;
+const GREATEST_NUMBER: i128 = u64::MAX as i128;
+
+fn bounds_of(type_word: &str) -> (i128, i128) {
+    match type_word {
+        "UINT32" => (0, 4_294_967_295),
+        "INT32" => (-2_147_483_648, 2_147_483_647),
+        "UINT64" => (0, GREATEST_NUMBER),
+        "INT64" => (LEAST_NUMBER, 9_223_372_036_854_775_807),
+        _ => panic!("no integer type"),
+    }
+}
+
+impl Attribute {
+    /// What is under a value.
+    fn under(&self, value: &Given) -> &[Attribute] {
+        match (&self.domain, value) {
+            (Domain::Choices(choices, _), Given::Choice(index)) => &choices[*index].1,
+            _ => &[],
+        }
+    }
+
+    /// Whether something is amiss where the attribute is not stated.
+    fn must_be_stated(&self) -> bool {
+        match &self.default {
+            Preset::Given(value) => self.under(value).iter().any(Attribute::must_be_stated),
+            _ => !self.is_list,
+        }
+    }
+}
+
+struct Maker {
+    random: Random,
+    plan: Plan,
+    text: Vec<u8>,
+    /// The names of the objects of each kind.
+    objects: Vec<Vec<&'static str>>,
+}
+
+impl Maker {
+    /// Whether a fault of this number is to be planted here.
+    fn plants(&mut self, number: u8) -> bool {
+        let site = self.plan.sites[number as usize];
+        self.plan.sites[number as usize] += 1;
+        self.plan.wanted.contains(&(number, site))
+    }
+
+    fn planted(&mut self, number: u8, place: usize) {
+        self.plan.planted.push(Refusal { number, place });
+    }
+
+    /// Some of the choices, each once, in random order.
+    fn some(&mut self, choices: &[&'static str], count: usize) -> Vec<&'static str> {
+        let mut all = choices.to_vec();
+        self.shuffle(&mut all);
+        all.truncate(count);
+        all
+    }
+
+    fn shuffle<T>(&mut self, all: &mut [T]) {
+        for index in (1..all.len()).rev() {
+            all.swap(index, self.random.below(index + 1));
+        }
+    }
+
+    // ---- what the text means ----
+
+    /// The names of all objects: as many of each kind as may be.
+    fn make_objects(&mut self) {
+        const NAMES: [&str; 7] = ["o", "t1", "t2", "a", "TASK", "x", "NONE"];
+        for kind in KINDS {
+            let count = match kind {
+                "OS" => 1,
+                "APPMODE" => self.random.from_to(1, 2),
+                "COM" | "NM" => self.random.below(2),
+                _ => self.random.below(3),
+            };
+            let names = self.some(&NAMES, count);
+            self.objects.push(names);
+        }
+    }
+
+    /// Attributes of different names. `types` holds the type words that the names have under
+    /// other values of the same attribute.
+    fn make_scope(
+        &mut self,
+        depth: usize,
+        types: &mut HashMap<&'static str, &'static str>,
+    ) -> Vec<Attribute> {
+        const NAMES: [&str; 10] = [
+            "A", "B", "MASK", "TASK", "EVENT", "x", "y_1", "UINT32", "PRIORITY", "CPU",
+        ];
+        let count = self.random.below(if depth == 0 { 5 } else { 4 });
+        let mut scope = Vec::new();
+        for name in self.some(&NAMES, count) {
+            let type_word = match types.get(name) {
+                Some(type_word) => type_word,
+                None => self.make_type(depth),
+            };
+            types.insert(name, type_word);
+            scope.push(self.make_attribute(name, type_word, depth));
+        }
+        scope
+    }
+
+    fn make_type(&mut self, depth: usize) -> &'static str {
+        let simple = if depth < 3 { 0 } else { 2 };
+        match TYPES[self.random.below(TYPES.len() - simple)] {
+            "reference" => {
+                let there = |kind: &usize| !self.objects[*kind].is_empty();
+                let kinds: Vec<usize> = (0..KINDS.len()).filter(there).collect();
+                REFERENCE_TYPES[kinds[self.random.below(kinds.len())]]
+            }
+            type_word => type_word,
+        }
+    }
+
+    fn make_attribute(
+        &mut self,
+        name: &'static str,
+        type_word: &'static str,
+        depth: usize,
+    ) -> Attribute {
+        let reference = REFERENCE_TYPES.iter().position(|word| *word == type_word);
+        let domain = match (type_word, reference) {
+            (_, Some(kind)) => Domain::Reference(kind),
+            ("STRING", _) => Domain::String,
+            ("BOOLEAN", _) => {
+                let listed = depth < 3 && self.random.once_in(2);
+                let words = ["TRUE", "FALSE"];
+                Domain::Choices(self.make_choices(&words, depth, listed), listed)
+            }
+            ("ENUM", _) => {
+                const NAMES: [&str; 7] = ["NONE", "A", "B", "ON", "OFF", "TASK", "SOME"];
+                let count = self.random.from_to(1, 3);
+                let words = self.some(&NAMES, count);
+                Domain::Choices(self.make_choices(&words, depth, depth < 3), true)
+            }
+            _ => {
+                let bounds = bounds_of(type_word);
+                let range = self.make_range(bounds);
+                Domain::Integer { bounds, range }
+            }
+        };
+        let mut attribute = Attribute {
+            name,
+            type_word,
+            with_auto: reference.is_none() && self.random.once_in(3),
+            is_list: self.random.once_in(3),
+            default: Preset::Nothing,
+            domain,
+        };
+        if reference.is_none() {
+            attribute.default = match self.random.below(4) {
+                0 => Preset::Nothing,
+                1 => Preset::NoDefault,
+                _ => Preset::Given(self.make_value(&attribute)),
+            };
+        }
+        attribute
+    }
+
+    fn make_choices(
+        &mut self,
+        words: &[&'static str],
+        depth: usize,
+        hold: bool,
+    ) -> Vec<(&'static str, Vec<Attribute>)> {
+        let mut types = HashMap::new();
+        let mut choices = Vec::new();
+        for &word in words {
+            let under = match hold && self.random.once_in(2) {
+                true => self.make_scope(depth + 1, &mut types),
+                false => Vec::new(),
+            };
+            choices.push((word, under));
+        }
+        choices
+    }
+
+    fn make_range(&mut self, (least, greatest): (i128, i128)) -> Range {
+        let mut numbers: Vec<i128> = (0..self.random.from_to(1, 4))
+            .map(|_| match self.random.below(4) {
+                0 => least,
+                1 => greatest,
+                2 => self.random.below(10) as i128,
+                _ => i128::from(self.random.number()).clamp(least, greatest),
+            })
+            .collect();
+        match self.random.below(3) {
+            0 => Range::Nothing,
+            1 => Range::Listed(numbers),
+            _ => {
+                numbers.sort();
+                Range::Between(numbers[0], numbers[numbers.len() - 1])
+            }
+        }
+    }
+
+    fn make_value(&mut self, attribute: &Attribute) -> Given {
+        if attribute.with_auto && self.random.once_in(4) {
+            return Given::Auto;
+        }
+        match &attribute.domain {
+            Domain::Integer { bounds, range } => Given::Number(match range {
+                Range::Listed(numbers) => numbers[self.random.below(numbers.len())],
+                Range::Between(low, high) => self.number_between(*low, *high),
+                Range::Nothing => self.number_between(bounds.0, bounds.1),
+            }),
+            Domain::String => Given::String(self.make_string()),
+            Domain::Choices(choices, _) => Given::Choice(self.random.below(choices.len())),
+            Domain::Reference(kind) => {
+                let names = &self.objects[*kind];
+                Given::Object(names[self.random.below(names.len())])
+            }
+        }
+    }
+
+    /// A number from `low` to `high`, often an end of these.
+    fn number_between(&mut self, low: i128, high: i128) -> i128 {
+        match self.random.below(4) {
+            0 => low,
+            1 => high,
+            2 => 0.clamp(low, high),
+            _ => low + i128::from(self.random.number()) % (high - low + 1),
+        }
+    }
+
+    fn make_string(&mut self) -> Vec<u8> {
+        const PIECES: [&[u8]; 8] = [b"", b"a", b" b ", b"//", b"/*", b"\n", b"\xc3\x84", b"};"];
+        let count = self.random.below(4);
+        let pieces: Vec<&[u8]> = (0..count).map(|_| self.random.pick(&PIECES)).collect();
+        [b"\"", &pieces.concat()[..], b"\""].concat()
+    }
+
+    /// Statements for a scope, in the order in which they are to stand in the text.
+    fn make_entries<'m>(&mut self, scope: &'m [Attribute]) -> Vec<Entry<'m>> {
+        let mut entries = Vec::new();
+        for attribute in scope {
+            let least = usize::from(attribute.must_be_stated());
+            let most = if attribute.is_list { 3 } else { 1 };
+            for _ in 0..self.random.from_to(least, most) {
+                let value = self.make_value(attribute);
+                let inside = self.make_entries(attribute.under(&value));
+                entries.push(Entry {
+                    attribute,
+                    value,
+                    inside,
+                });
+            }
+        }
+        self.shuffle(&mut entries);
+        entries
+    }
+
+    // ---- the text ----
+
+    /// Writes a token after random blanks, and hands back its place.
+    fn put(&mut self, token: impl AsRef<[u8]>) -> usize {
+        let token = token.as_ref();
+        const BETWEEN: [&str; 12] = [
+            "", "", " ", " ", " ", "\n", "\n", "\r\n", "\t", "\x0c", "/* ; */", "//}\n",
+        ];
+        let run = |byte: &u8| byte.is_ascii_alphanumeric() || *byte == b'_';
+        let touch = self.text.last().is_some_and(run) && run(&token[0]);
+        let between = match self.random.pick(&BETWEEN) {
+            "" if touch => " ",
+            between => between,
+        };
+        self.text.extend(between.bytes());
+        let place = self.text.len();
+        self.text.extend(token);
+        place
+    }
+
+    /// Writes tokens that stand parted by blanks.
+    fn put_all(&mut self, tokens: &str) {
+        for token in tokens.split(' ') {
+            self.put(token);
+        }
+    }
+
+    /// D and the semicolon.
+    fn end(&mut self) {
+        self.description();
+        self.put(";");
+    }
+
+    fn description(&mut self) {
+        if self.random.once_in(10) {
+            self.put_all(": \"; }\"");
+        }
+    }
+
+    fn file(&mut self) -> Answered {
+        self.make_objects();
+        let mut schemes: Vec<(Kind, Vec<Attribute>)> = Vec::new();
+        for kind in 0..KINDS.len() {
+            if self.random.once_in(2) {
+                let scope = self.make_scope(0, &mut HashMap::new());
+                schemes.push((kind, scope));
+            }
+        }
+        self.shuffle(&mut schemes);
+
+        self.version();
+        let first = self.put("IMPLEMENTATION");
+        self.put("m");
+        self.put("{");
+        for (kind, scope) in &schemes {
+            self.spec(*kind, scope);
+        }
+        if !schemes.is_empty() && self.plants(8) {
+            let (kind, _) = schemes[self.random.below(schemes.len())];
+            let place = self.put(KINDS[kind]);
+            self.planted(8, place);
+            self.put_all("{ } ;");
+        }
+        self.put("}");
+        self.end();
+        let implementation = self.text[first..].to_vec();
+
+        let lines = self.application(&schemes);
+        let planted = self.plan.planted.iter();
+        let order = |fault: &&Refusal| (stage_of(fault.number), fault.place, fault.number);
+        let answer = match planted.min_by_key(order) {
+            Some(fault) => Err(*fault),
+            None => Ok([
+                &b"OIL_VERSION = \"2.5\";\n"[..],
+                &implementation,
+                b"\nCPU c {\n",
+                &lines,
+                b"};\n",
+            ]
+            .concat()),
+        };
+        Answered {
+            text: std::mem::take(&mut self.text),
+            answer,
+        }
+    }
+
+    fn version(&mut self) {
+        self.put_all("OIL_VERSION =");
+        if self.plants(6) {
+            let version = self
+                .random
+                .pick(&["\"2.4\"", "\"2.5 \"", "\"\"", "\"2.50\"", "\"2,5\""]);
+            let place = self.put(version);
+            self.planted(6, place);
+        } else {
+            self.put("\"2.5\"");
+        }
+        self.end();
+    }
+
+    fn spec(&mut self, kind: Kind, scope: &[Attribute]) {
+        self.put(KINDS[kind]);
+        self.scope(scope, None);
+        self.end();
+    }
+
+    /// Definitions in braces; `again` is a name and a type word that it has elsewhere.
+    fn scope(&mut self, scope: &[Attribute], again: Option<(&str, &str)>) {
+        self.put("{");
+        for attribute in scope {
+            self.definition(attribute);
+        }
+        if !scope.is_empty() && self.plants(8) {
+            let name = scope[self.random.below(scope.len())].name;
+            let type_word = self
+                .random
+                .pick(&["UINT32", "STRING", "BOOLEAN", "TASK_TYPE"]);
+            self.put(type_word);
+            let place = self.put(name);
+            self.planted(8, place);
+            self.end();
+        }
+        if let Some((name, type_word)) = again {
+            let others = ["UINT32", "STRING", "TASK_TYPE", "INT64"];
+            let others: Vec<&str> = others
+                .into_iter()
+                .filter(|word| *word != type_word)
+                .collect();
+            let other = self.random.pick(&others);
+            self.put(other);
+            let place = self.put(name);
+            self.planted(9, place);
+            self.end();
+        }
+        self.put("}");
+    }
+
+    fn definition(&mut self, attribute: &Attribute) {
+        self.put(attribute.type_word);
+        if attribute.with_auto {
+            self.put("WITH_AUTO");
+        }
+        match &attribute.domain {
+            Domain::Integer { bounds, range } => self.range(*bounds, range),
+            Domain::Choices(choices, true) => self.choices(attribute, choices),
+            _ => (),
+        }
+        self.put(attribute.name);
+        if attribute.is_list {
+            self.put_all("[ ]");
+        }
+        self.default(attribute);
+        self.end();
+    }
+
+    fn number(&mut self, number: i128) -> usize {
+        let written = match self.random.below(6) {
+            0 if number >= 0 => format!("0x{number:x}"),
+            1 if number >= 0 => format!("0x00{number:X}"),
+            2 if number >= 0 => format!("+{number}"),
+            3 if number == 0 => "-0".to_string(),
+            _ => number.to_string(),
+        };
+        self.put(written)
+    }
+
+    fn range(&mut self, (least, greatest): (i128, i128), range: &Range) {
+        match range {
+            Range::Nothing => return,
+            Range::Listed(numbers) => {
+                self.put("[");
+                for (index, &number) in numbers.iter().enumerate() {
+                    if index > 0 {
+                        self.put(",");
+                    }
+                    self.number(number);
+                }
+                if self.plants(10) {
+                    self.put(",");
+                    let number = match least > LEAST_NUMBER {
+                        true => least - 1,
+                        false => greatest + 1,
+                    };
+                    let place = self.number(number);
+                    self.planted(10, place);
+                }
+            }
+            Range::Between(low, high) => {
+                let (mut low, mut high) = (*low, *high);
+                let low_below = least > LEAST_NUMBER && self.plants(10);
+                let high_above = greatest < GREATEST_NUMBER && !low_below && self.plants(10);
+                let crossed = low < high && !low_below && !high_above && self.plants(10);
+                if low_below {
+                    low = least - 1;
+                }
+                if high_above {
+                    high = greatest + 1;
+                }
+                if crossed {
+                    (low, high) = (high, low);
+                }
+                self.put("[");
+                let low_place = self.number(low);
+                self.put("..");
+                let high_place = self.number(high);
+                if low_below || crossed {
+                    self.planted(10, low_place);
+                }
+                if high_above {
+                    self.planted(10, high_place);
+                }
+            }
+        }
+        self.put("]");
+    }
+
+    fn choices(&mut self, attribute: &Attribute, choices: &[(&'static str, Vec<Attribute>)]) {
+        self.put("[");
+        for (index, (word, under)) in choices.iter().enumerate() {
+            if index > 0 {
+                self.put(",");
+            }
+            self.put(word);
+            // A name from an earlier value that this one does not have.
+            let earlier = choices[..index].iter().flat_map(|(_, under)| under);
+            let mut earlier = earlier.filter(|one| under.iter().all(|here| here.name != one.name));
+            let again = match earlier.next() {
+                Some(one) if self.plants(9) => Some((one.name, one.type_word)),
+                _ => None,
+            };
+            if !under.is_empty() || again.is_some() || self.random.once_in(5) {
+                self.scope(under, again);
+            }
+            self.description();
+        }
+        if attribute.type_word == "ENUM" && self.plants(8) {
+            self.put(",");
+            let (word, _) = choices[self.random.below(choices.len())];
+            let place = self.put(word);
+            self.planted(8, place);
+        }
+        self.put("]");
+    }
+
+    fn default(&mut self, attribute: &Attribute) {
+        if matches!(attribute.domain, Domain::Reference(_)) {
+            return;
+        }
+        if !attribute.with_auto && self.plants(10) {
+            self.put("=");
+            let place = self.put("AUTO");
+            self.planted(10, place);
+            return;
+        }
+        if self.outside_can_be_default(attribute) && self.plants(10) {
+            self.put("=");
+            let place = self.outside(attribute);
+            self.planted(10, place);
+            return;
+        }
+        match &attribute.default {
+            Preset::Nothing => (),
+            Preset::NoDefault => self.put_all("= NO_DEFAULT"),
+            Preset::Given(value) => {
+                self.put("=");
+                self.value(attribute, value);
+            }
+        }
+    }
+
+    /// Whether there are values of the attribute's own form that are not inside.
+    fn outside_can_be_default(&self, attribute: &Attribute) -> bool {
+        matches!(attribute.domain, Domain::Integer { .. }) || attribute.type_word == "ENUM"
+    }
+
+    /// Writes a number outside of type, range or list, or an enumerator of no or another list.
+    fn outside(&mut self, attribute: &Attribute) -> usize {
+        match &attribute.domain {
+            Domain::Integer { bounds, range } => {
+                let near: Vec<i128> = match range {
+                    Range::Nothing => vec![bounds.0 - 1, bounds.1 + 1],
+                    Range::Between(low, high) => vec![low - 1, high + 1],
+                    Range::Listed(numbers) => {
+                        let near = numbers.iter().flat_map(|number| [number - 1, number + 1]);
+                        near.filter(|number| !numbers.contains(number)).collect()
+                    }
+                };
+                let is_token = |number: &i128| (LEAST_NUMBER..=GREATEST_NUMBER).contains(number);
+                let near: Vec<i128> = near.into_iter().filter(is_token).collect();
+                let number = near[self.random.below(near.len())];
+                self.number(number)
+            }
+            Domain::Choices(choices, _) => {
+                let words = ["NONE", "A", "B", "a", "none", "SOMEE"];
+                let known = |word: &&str| choices.iter().all(|(choice, _)| choice != word);
+                let words: Vec<&str> = words.into_iter().filter(known).collect();
+                let word = self.random.pick(&words);
+                self.put(word)
+            }
+            _ => panic!("nothing is outside"),
+        }
+    }
+
+    fn value(&mut self, attribute: &Attribute, value: &Given) -> usize {
+        match value {
+            Given::Number(number) => self.number(*number),
+            Given::Auto => self.put("AUTO"),
+            _ => self.put(written(attribute, value)),
+        }
+    }
+
+    /// The CPU; hands back the lines of its objects in the normal text.
+    fn application(&mut self, schemes: &[(Kind, Vec<Attribute>)]) -> Vec<u8> {
+        self.put("CPU");
+        let cpu_name = self.put("c");
+        let mut objects: Vec<(Kind, &'static str)> = Vec::new();
+        for kind in 0..KINDS.len() {
+            if kind < 2 && self.plants(17) {
+                self.planted(17, cpu_name);
+            } else {
+                objects.extend(self.objects[kind].iter().map(|name| (kind, *name)));
+            }
+        }
+        self.shuffle(&mut objects);
+        let mut lines = Vec::new();
+        self.put("{");
+        for &(kind, name) in &objects {
+            let scheme = schemes.iter().find(|(of, _)| *of == kind);
+            let scope = scheme.map_or(&[][..], |(_, scope)| scope);
+            let entries = self.make_entries(scope);
+            self.put(KINDS[kind]);
+            let place = self.put(name);
+            if !entries.is_empty() || self.random.once_in(2) {
+                self.block(scope, &entries, place);
+            }
+            self.end();
+            lines.extend(format!("{} {name} {{\n", KINDS[kind]).bytes());
+            write_lines(scope, &entries, &mut lines);
+            lines.extend(b"};\n");
+        }
+        self.more_objects(&objects);
+        self.put("}");
+        self.end();
+        lines
+    }
+
+    /// Objects that there may not be.
+    fn more_objects(&mut self, objects: &[(Kind, &'static str)]) {
+        for &(kind, name) in objects {
+            if ["OS", "COM", "NM"].contains(&KINDS[kind]) {
+                if self.plants(17) {
+                    let place = self.put(KINDS[kind]);
+                    self.put("another");
+                    self.end();
+                    self.planted(17, place);
+                }
+            } else if self.plants(12) {
+                self.put(KINDS[kind]);
+                let place = self.put(name);
+                self.end();
+                self.planted(12, place);
+            }
+        }
+    }
+
+    /// Statements in braces under an owner that is stated.
+    fn block(&mut self, scope: &[Attribute], entries: &[Entry], owner: usize) {
+        self.put("{");
+        let mut stated: Vec<&Attribute> = Vec::new();
+        for (index, entry) in entries.iter().enumerate() {
+            let is_same = |other: &Entry| std::ptr::eq(other.attribute, entry.attribute);
+            let only = entries.iter().filter(|other| is_same(other)).count() == 1;
+            if only && entry.attribute.must_be_stated() && self.plants(16) {
+                self.planted(16, owner);
+                continue;
+            }
+            if self.plants(13) {
+                self.undefined(scope);
+            }
+            self.statement(entry);
+            stated.push(entry.attribute);
+            let again = stated[self.random.below(stated.len())];
+            if index + 1 == entries.len() && !again.is_list && self.plants(14) {
+                let place = self.put(again.name);
+                self.planted(14, place);
+                self.put_all("= a { nothing = 1 ; } ;");
+            }
+        }
+        if self.plants(13) {
+            self.undefined(scope);
+        }
+        self.put("}");
+    }
+
+    /// A statement whose name the scope does not have.
+    fn undefined(&mut self, scope: &[Attribute]) {
+        let names = ["A", "B", "MASK", "x", "y_1", "a", "mask", "Undefined"];
+        let unknown = |name: &&str| scope.iter().all(|attribute| attribute.name != *name);
+        let names: Vec<&str> = names.into_iter().filter(unknown).collect();
+        let name = self.random.pick(&names);
+        let place = self.put(name);
+        self.planted(13, place);
+        let rest = self
+            .random
+            .pick(&["= 1 ;", "= TRUE { A = 1 ; } ;", "= AUTO ;", "= \"\" ;"]);
+        self.put_all(rest);
+    }
+
+    fn statement(&mut self, entry: &Entry) {
+        let attribute = entry.attribute;
+        self.put(attribute.name);
+        self.put("=");
+        if self.plants(15) {
+            let place = self.wrong_value(attribute);
+            self.planted(15, place);
+            self.end();
+            return;
+        }
+        let is_reference = matches!(attribute.domain, Domain::Reference(_));
+        if is_reference && self.plants(18) {
+            let place = self.unknown_object(attribute);
+            self.planted(18, place);
+            self.end();
+            return;
+        }
+        let place = self.value(attribute, &entry.value);
+        if is_reference && self.plants(15) {
+            let brace = self.put("{");
+            self.planted(15, brace);
+            self.put_all("A = 1 ; }");
+        }
+        let under = attribute.under(&entry.value);
+        let needed = under.iter().any(Attribute::must_be_stated);
+        let may_open = matches!(entry.value, Given::Choice(_));
+        if needed && self.plants(16) {
+            self.planted(16, place);
+        } else if !entry.inside.is_empty() || (may_open && self.random.once_in(4)) {
+            self.block(under, &entry.inside, place);
+        }
+        self.end();
+    }
+
+    /// Writes a value that the attribute may not have, with braces where the grammar has them.
+    fn wrong_value(&mut self, attribute: &Attribute) -> usize {
+        let outside = self.outside_can_be_default(attribute);
+        if outside && self.random.once_in(2) {
+            return self.outside(attribute);
+        }
+        if !attribute.with_auto && self.random.once_in(3) {
+            return self.put("AUTO");
+        }
+        let is_other = |form: &&str| match (&attribute.domain, *form) {
+            (Domain::Integer { .. }, "1") | (Domain::String, "\"2.5\"") => false,
+            (Domain::Choices(..), "TRUE") => attribute.type_word != "BOOLEAN",
+            (Domain::Choices(..), "name") => attribute.type_word != "ENUM",
+            (Domain::Reference(_), "name") => false,
+            _ => true,
+        };
+        let forms = ["1", "\"2.5\"", "TRUE", "name"];
+        let forms: Vec<&str> = forms.into_iter().filter(is_other).collect();
+        let form = self.random.pick(&forms);
+        let place = self.put(form);
+        if ["TRUE", "name"].contains(&form) && self.random.once_in(2) {
+            self.put_all("{ A = 1 ; A = 2 ; }");
+        }
+        place
+    }
+
+    /// Writes a name that no object of the reference's kind has.
+    fn unknown_object(&mut self, attribute: &Attribute) -> usize {
+        let Domain::Reference(kind) = attribute.domain else {
+            panic!("a reference");
+        };
+        let names = ["o", "t1", "t2", "a", "TASK", "x", "NONE", "O", "T1"];
+        let unknown = |name: &&str| !self.objects[kind].contains(name);
+        let names: Vec<&str> = names.into_iter().filter(unknown).collect();
+        let name = self.random.pick(&names);
+        let place = self.put(name);
+        if self.random.once_in(3) {
+            self.put_all("{ A = 1 ; }");
+        }
+        place
+    }
+}
+
+/// A value as the normal text writes it.
+fn written(attribute: &Attribute, value: &Given) -> Vec<u8> {
+    match (value, &attribute.domain) {
+        (Given::Number(number), _) => number.to_string().into_bytes(),
+        (Given::String(string), _) => string.clone(),
+        (Given::Choice(index), Domain::Choices(choices, _)) => choices[*index].0.into(),
+        (Given::Object(name), _) => (*name).into(),
+        _ => "AUTO".into(),
+    }
+}
+
+/// The lines of the normal text for a scope and the statements that belong to it.
+fn write_lines(scope: &[Attribute], entries: &[Entry], lines: &mut Vec<u8>) {
+    for attribute in scope {
+        let stated = |entry: &&Entry| std::ptr::eq(entry.attribute, attribute);
+        let mut is_stated = false;
+        for entry in entries.iter().filter(stated) {
+            write_line(attribute, &entry.value, &entry.inside, lines);
+            is_stated = true;
+        }
+        match &attribute.default {
+            Preset::Given(value) if !is_stated => write_line(attribute, value, &[], lines),
+            _ => (),
+        }
+    }
+}
+
+fn write_line(attribute: &Attribute, value: &Given, inside: &[Entry], lines: &mut Vec<u8>) {
+    lines.extend(
+        [
+            attribute.name.as_bytes(),
+            b" = ",
+            &written(attribute, value),
+        ]
+        .concat(),
+    );
+    let mut under = Vec::new();
+    write_lines(attribute.under(value), inside, &mut under);
+    if !under.is_empty() {
+        lines.extend([&b" {\n"[..], &under, b"}"].concat());
+    }
+    lines.extend(b";\n");
+}

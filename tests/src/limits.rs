@@ -1,0 +1,272 @@
+//! Texts at each limit of document 01, and one past it, with their refusal.
+
+use crate::meaning::Refusal;
+
+/// A text and its refusal; none where it is accepted.
+pub struct Limit {
+    pub name: String,
+    pub text: Vec<u8>,
+    pub refusal: Option<Refusal>,
+}
+
+const OBJECTS: &str = "OS o;\nAPPMODE a;\n";
+
+/// A text with these specs and objects. Where there is an `@`, it is taken out, and the text
+/// is refused by this number at that place.
+fn limit(name: String, specs: &str, objects: &str, number: u8) -> Limit {
+    let text = format!(
+        "OIL_VERSION = \"2.5\";\nIMPLEMENTATION m {{\n{specs}}};\nCPU c {{\n{objects}}};\n"
+    );
+    let refusal = text.find('@').map(|place| Refusal { number, place });
+    Limit {
+        name,
+        text: text.replacen('@', "", 1).into_bytes(),
+        refusal,
+    }
+}
+
+/// What `one` writes for each number from 1 to `count`, which is told whether to mark it.
+fn each(count: usize, marked: usize, one: impl Fn(usize, &str) -> String) -> String {
+    (1..=count)
+        .map(|number| one(number, if number == marked { "@" } else { "" }))
+        .collect()
+}
+
+/// All texts at the limits.
+pub fn limits() -> Vec<Limit> {
+    let mut all = Vec::new();
+    for count in [511, 512, 513, 514, 600] {
+        all.extend(definitions(count));
+    }
+    for count in [1_023, 1_024, 1_025, 1_100] {
+        all.extend(enumerators(count));
+    }
+    for count in [255, 256, 257, 300] {
+        all.extend(objects(count));
+    }
+    for count in [2_047, 2_048, 2_049, 2_060] {
+        all.extend(statements(count));
+        all.extend(values(count));
+    }
+    for count in [65_534, 65_535, 65_536, 70_000] {
+        all.extend(bytes(count));
+    }
+    for count in 14..=18 {
+        all.extend(braces(count));
+    }
+    all.extend(two_limits());
+    all
+}
+
+fn definitions(count: usize) -> Vec<Limit> {
+    let name = |shape: &str| format!("{count} definitions, {shape}");
+    let one = |number, mark: &str| format!("UINT32 {mark}d{number} = 1;\n");
+    let flat = format!("OS {{\n{}}};\n", each(count, 513, one));
+
+    // The attribute's name stands after its list, so that it is the last one.
+    let inside = each(count - 1, 513, one);
+    let mark = if count == 513 { "@" } else { "" };
+    let nested = format!("TASK {{\nENUM [A {{\n{inside}}}, B] {mark}last = B;\n}};\n");
+
+    // The attribute of the last list is definition 512 or the next one after it.
+    let first = each(count - 2, 513, one);
+    let mark = if count == 514 { "@" } else { "" };
+    let next = if count == 513 { "@" } else { "" };
+    let parted = format!(
+        "OS {{\n{first}}};\nTASK {{\nBOOLEAN [TRUE {{ TASK_TYPE {mark}x; }}, FALSE] {next}b = FALSE;\n}};\n"
+    );
+    vec![
+        limit(name("in one kind"), &flat, OBJECTS, 7),
+        limit(name("under a value"), &nested, OBJECTS, 7),
+        limit(name("in two kinds"), &parted, OBJECTS, 7),
+    ]
+}
+
+fn enumerators(count: usize) -> Vec<Limit> {
+    let name = |shape: &str| format!("{count} enumerators, {shape}");
+    let one = |number, mark: &str| format!(", {mark}e{number}");
+    let list = each(count, 1_025, one);
+    let flat = format!("OS {{\nENUM [{}] x = e1;\n}};\n", &list[2..]);
+
+    // Eight in each list, TRUE and FALSE not counted.
+    let eight = |number, mark: &str| match number % 8 {
+        1 => format!("BOOLEAN [TRUE {{ ENUM [{mark}e1"),
+        0 => format!(", {mark}e8] x = e1; }}, FALSE] b{number} = FALSE;\n"),
+        index => format!(", {mark}e{index}"),
+    };
+    let rest = match count % 8 {
+        0 => "",
+        _ => "] x = e1; }, FALSE] b = FALSE;\n",
+    };
+    let eights = format!("TASK {{\n{}{rest}}};\n", each(count, 1_025, eight));
+    vec![
+        limit(name("in one list"), &flat, OBJECTS, 7),
+        limit(name("in many lists"), &eights, OBJECTS, 7),
+    ]
+}
+
+fn objects(count: usize) -> Vec<Limit> {
+    let name = |shape: &str| format!("{count} objects, {shape}");
+    let task = |number, mark: &str| format!("{mark}TASK t{number};\n");
+    let after = format!("{OBJECTS}{}", each(count - 2, 255, task));
+
+    // The OS is the last object.
+    let mark = if count == 257 { "@" } else { "" };
+    let before = each(count - 2, 256, |number, mark| {
+        format!("{mark}EVENT e{number} {{}};\n")
+    });
+    let last = format!("APPMODE a;\n{before}{mark}OS o;\n");
+    vec![
+        limit(name("OS first"), "", &after, 11),
+        limit(name("OS last"), "", &last, 11),
+    ]
+}
+
+fn statements(count: usize) -> Vec<Limit> {
+    let name = |shape: &str| format!("{count} statements, {shape}");
+    let specs = "TASK { BOOLEAN [TRUE { UINT32 x[]; }, FALSE] b[]; };\n";
+    let flat = each(count, 2_049, |_, mark| format!("{mark}b = FALSE;\n"));
+    let flat = format!("{OBJECTS}TASK t {{\n{flat}}};\n");
+
+    // One statement holds all others.
+    let inside = each(count - 1, 2_048, |_, mark| format!("{mark}x = 1;\n"));
+    let nested = format!("{OBJECTS}TASK t {{\nb = TRUE {{\n{inside}}};\n}};\n");
+
+    // Statements that are at fault count too; those faults are of a later stage.
+    let wrong = each(count, 2_049, |_, mark| format!("{mark}y = 1;\n"));
+    let mut wrong = limit(
+        name("none of them defined"),
+        specs,
+        &format!("{OBJECTS}TASK t {{\n{wrong}}};\n"),
+        11,
+    );
+    wrong.refusal = wrong.refusal.or(Some(Refusal {
+        number: 13,
+        place: find(&wrong.text, "y = 1"),
+    }));
+    vec![
+        limit(name("in one block"), specs, &flat, 11),
+        limit(name("under a value"), specs, &nested, 11),
+        wrong,
+    ]
+}
+
+fn find(text: &[u8], word: &str) -> usize {
+    let places = text.windows(word.len());
+    let mut places = places.map(|window| window == word.as_bytes());
+    places.position(|is_there| is_there).expect("the word")
+}
+
+/// Resolved values: eight by default for each of 254 tasks, and the entries of a list.
+fn values(count: usize) -> Vec<Limit> {
+    let defaults = each(8, 0, |number, _| format!("UINT32 d{number} = {number};\n"));
+    let specs = format!("OS {{ UINT32 x[]; }};\nTASK {{\n{defaults}}};\n");
+    let tasks = each(254, 0, |number, _| format!("TASK t{number};\n"));
+    let entries = each(count - 254 * 8, 0, |number, _| format!("x = {number};\n"));
+    let objects = format!("OS o {{\n{entries}}};\nAPPMODE a;\n{tasks}");
+    let mut all = limit(format!("{count} values"), &specs, &objects, 19);
+    if count > 2_048 {
+        all.refusal = Some(Refusal {
+            number: 19,
+            place: 0,
+        });
+    }
+    vec![all]
+}
+
+/// Texts of this length.
+fn bytes(count: usize) -> Vec<Limit> {
+    let small = limit(String::new(), "", OBJECTS, 0).text;
+    let refusal = (count > 65_535).then_some(Refusal {
+        number: 2,
+        place: 0,
+    });
+    let padded = |name: &str, pad: u8| {
+        let mut text = small.clone();
+        text.extend(b"//");
+        text.resize(count, pad);
+        Limit {
+            name: format!("{count} bytes, {name}"),
+            text,
+            refusal,
+        }
+    };
+    // No token at all, but the length comes first.
+    let nothing = Limit {
+        name: format!("{count} bytes, no token"),
+        text: vec![b'#'; count],
+        refusal: refusal.or(Some(Refusal {
+            number: 3,
+            place: 0,
+        })),
+    };
+    vec![
+        padded("a comment", b'x'),
+        padded("empty lines", b'\n'),
+        nothing,
+    ]
+}
+
+/// Braces open at once, of definitions and of statements.
+fn braces(count: usize) -> Vec<Limit> {
+    let open = |start: usize, one: &dyn Fn(&str) -> String| -> String {
+        let marked = |number| if number == 17 { "@" } else { "" };
+        (start..=count).map(|number| one(marked(number))).collect()
+    };
+    let definitions = open(3, &|mark| format!("ENUM [A {mark}{{ "));
+    let ends = "} ] e = A; ".repeat(count - 2);
+    let specs = format!("TASK {{ {definitions}{ends}}};\n");
+    let deep = limit(format!("{count} braces in definitions"), &specs, OBJECTS, 5);
+
+    let specs = "TASK { BOOLEAN [TRUE { UINT32 x[]; }, FALSE] b[]; };\n";
+    let statements = open(3, &|mark| format!("b = TRUE {mark}{{ "));
+    let ends = "}; ".repeat(count - 2);
+    let objects = format!("{OBJECTS}TASK t {{ {statements}{ends}}};\n");
+    let mut blocks = limit(format!("{count} braces in statements"), specs, &objects, 5);
+    // The second b is in a scope that does not have it.
+    blocks.refusal = blocks.refusal.or(Some(Refusal {
+        number: 13,
+        place: find(&blocks.text, "{ b = TRUE { b") + 13,
+    }));
+    vec![deep, blocks]
+}
+
+/// Two limits passed in one stage, or one of them and another fault.
+fn two_limits() -> Vec<Limit> {
+    let definition = |number, mark: &str| format!("UINT32 {mark}d{number} = 1;\n");
+    let enumerator = |number, mark: &str| format!(", {mark}e{number}");
+    let task = |number, mark: &str| format!("{mark}TASK t{number};\n");
+    let statement = |_, mark: &str| format!("{mark}x = 1;\n");
+    let lists = "OS { UINT32 x[]; };\n";
+
+    let definitions = each(513, 513, definition);
+    let enumerators = each(1_025, 0, enumerator);
+    let first = format!(
+        "OS {{\n{definitions}ENUM [{}] e = e1;\n}};\n",
+        &enumerators[2..]
+    );
+    let definitions = each(513, 0, definition);
+    let enumerators = each(1_025, 1_025, enumerator);
+    let second = format!(
+        "OS {{\nENUM [{}] e = e1;\n{definitions}}};\n",
+        &enumerators[2..]
+    );
+
+    let statements = each(2_049, 2_049, statement);
+    let tasks = each(255, 0, task);
+    let early = format!("OS o {{\n{statements}}};\nAPPMODE a;\n{tasks}");
+    let statements = each(2_049, 0, statement);
+    let tasks = each(256, 255, task);
+    let late = format!("COM p;\nAPPMODE a;\n{tasks}OS o {{\n{statements}}};\n");
+
+    // Object 257 is a second OS of the same name: 11, 17 and 12.
+    let tasks = each(254, 0, task);
+    let again = format!("OS o;\nAPPMODE a;\n{tasks}@OS o;\n");
+    vec![
+        limit("definition before enumerator".into(), &first, OBJECTS, 7),
+        limit("enumerator before definition".into(), &second, OBJECTS, 7),
+        limit("statement before object".into(), lists, &early, 11),
+        limit("object before statement".into(), lists, &late, 11),
+        limit("object, kind and name".into(), "", &again, 11),
+    ]
+}
