@@ -13,7 +13,7 @@ use super::scan;
 use super::words;
 
 // The token from at to end.
-pub fn found(sort: Sort, at: usize, end: usize) -> Step
+fn found(sort: Sort, at: usize, end: usize) -> Step
     requires { ⌜ at ≤ end ⌝ }
     ensures { λ r. ⌜ r ≡ found sort at end ⌝ }
 {
@@ -28,7 +28,7 @@ pub fn found(sort: Sort, at: usize, end: usize) -> Step
 }
 
 // The word at a place.
-pub fn word_at(text: &[u8], at: usize) -> Step
+fn word_at(text: &[u8], at: usize) -> Step
     requires { ⌜ at ≤ length (now text) ⌝ }
     ensures { λ r. ⌜ r ≡ wordAt (now (text .entry)) at ⌝ }
 {
@@ -38,7 +38,7 @@ pub fn word_at(text: &[u8], at: usize) -> Step
 }
 
 // The largest amount after a minus, and after none.
-pub fn limit(minus: bool) -> u64
+fn limit(minus: bool) -> u64
     ensures { λ r. ⌜ r ≡ limitOf minus ⌝ }
 {
     if minus {
@@ -49,14 +49,14 @@ pub fn limit(minus: bool) -> u64
 }
 
 // Whether a number is negative: 0 is not, whatever its sign.
-pub fn is_negative(minus: bool, m: u64) -> bool
+fn is_negative(minus: bool, m: u64) -> bool
     ensures { λ r. ⌜ r ≡ isNegative minus m ⌝ }
 {
     if minus { 0 < m } else { false }
 }
 
 // The number at a place, whose run begins at from.
-pub fn number_at(text: &[u8], at: usize, from: usize) -> Step
+fn number_at(text: &[u8], at: usize, from: usize) -> Step
     requires { ⌜ (at < length (now text)) × ((at ≤ from) × (from ≤ length (now text))) ⌝ }
     ensures { λ r. ⌜ r ≡ numberAt (now (text .entry)) at from ⌝ }
 {
@@ -73,7 +73,7 @@ pub fn number_at(text: &[u8], at: usize, from: usize) -> Step
 }
 
 // The string at a place.
-pub fn string_at(text: &[u8], at: usize) -> Step
+fn string_at(text: &[u8], at: usize) -> Step
     requires { ⌜ at < length (now text) ⌝ }
     ensures { λ r. ⌜ r ≡ stringAt (now (text .entry)) at ⌝ }
 {
@@ -85,7 +85,7 @@ pub fn string_at(text: &[u8], at: usize) -> Step
 }
 
 // `..` at a place.
-pub fn dots_at(text: &[u8], at: usize) -> Step
+fn dots_at(text: &[u8], at: usize) -> Step
     ensures { λ r. ⌜ r ≡ dotsAt (now (text .entry)) at ⌝ }
 {
     if scan::pair(text, at, b'.', b'.') {

@@ -24,7 +24,7 @@ const DIGITS: [u8; 256] = *b"\x10\x10\x10\x10\x10\x10\x10\x10\x10\x10\x10\x10\x1
     \x10\x10\x10\x10\x10\x10\x10\x10\x10\x10\x10\x10\x10\x10\x10\x10";
 
 // The value of a byte as a digit, 16 where it is none.
-pub fn digit(b: u8) -> u8
+fn digit(b: u8) -> u8
     ensures { λ r. ⌜ r ≡ digitOf b ⌝ }
 {
     let i = b as usize;
@@ -32,7 +32,7 @@ pub fn digit(b: u8) -> u8
 }
 
 // A number with one digit more, if that is at most max.
-pub fn push(a: u64, base: u64, d: u64, max: u64) -> Amount
+fn push(a: u64, base: u64, d: u64, max: u64) -> Amount
     requires { ⌜ 0 < base ⌝ }
     ensures { λ r. ⌜ r ≡ atMost max (a * base + d) ⌝ }
 {
@@ -46,7 +46,7 @@ pub fn push(a: u64, base: u64, d: u64, max: u64) -> Amount
 }
 
 // The value of the digits from a place to the end of a word, if it is at most max.
-pub fn digits(word: &[u8], from: usize, base: u64, max: u64) -> Amount
+fn digits(word: &[u8], from: usize, base: u64, max: u64) -> Amount
     requires { ⌜ 0 < base ⌝ }
     ensures { λ r. ⌜ r ≡ digitsAfter base max 0 (drop from (now (word .entry))) ⌝ }
 {

@@ -55,7 +55,7 @@ const LENGTHS: [u8; 41] = *b"\x04\x05\x04\x0a\x09\x0b\x0e\x03\x02\x07\x04\x03\x0
     \x09\x07\x06\x05\x06\x05\x06\x07\x04";
 
 // How long a known word is.
-pub fn known_length(k: usize) -> u8
+fn known_length(k: usize) -> u8
     requires { ⌜ k < 41 ⌝ }
     ensures { λ r. ⌜ r ≡ length (getD known k []) ⌝ }
 {
@@ -63,7 +63,7 @@ pub fn known_length(k: usize) -> u8
 }
 
 // Whether a word is the known word k.
-pub fn is_known(word: &[u8], k: usize) -> bool
+fn is_known(word: &[u8], k: usize) -> bool
     requires { ⌜ k < 41 ⌝ }
     ensures { λ r. ⌜ r ≡ same (now (word .entry)) (getD known k []) ⌝ }
 {
@@ -94,7 +94,7 @@ const CANDIDATES: [u8; 128] = *b"\x00\x11\x00\x00\x00\x00\x00\x00\x29\x00\x00\x2
     \x1c\x00\x18\x00\x00\x00\x00\x00\x00\x00\x00\x00\x00\x0e\x27\x00";
 
 // The code of the one known word that has the slot, or 0.
-pub fn candidate(slot: usize) -> u8
+fn candidate(slot: usize) -> u8
     requires { ⌜ slot < 128 ⌝ }
     ensures { λ r. ⌜ r ≡ candidateOf slot ⌝ }
 {
@@ -102,7 +102,7 @@ pub fn candidate(slot: usize) -> u8
 }
 
 // The slot of a word of n bytes that begins with a and ends with z. No two known words have the same.
-pub fn slot(n: usize, a: u8, z: u8) -> usize
+fn slot(n: usize, a: u8, z: u8) -> usize
     requires { ⌜ n < 20 ⌝ }
     ensures { λ r. ⌜ r ≡ slotBy n a z ⌝ }
 {
