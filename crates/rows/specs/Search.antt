@@ -1,0 +1,70 @@
+-- Lookups by key over rows. A cell past the end of the list is 0.
+-- Assumes nothing.
+use Prim.Native.Nat.{ℕ, _+_, _*_, _≤_, _<_}
+use mathlib.Core.Path.{_≡_}
+use mathlib.Core.Bool.{Bool, true, false}
+use mathlib.Core.List.{List, _∷_, _++_}
+use lib.ListN.{length, getD}
+use lib.Dec.{eqb, ltb}
+use Rattle.token.specs.Find.{pick, both, find}
+use Rattle.token.specs.Words.{same}
+use Rattle.token.specs.Tokens.{partOf}
+use Rattle.rows.specs.Table.{anyOf}
+use Rattle.rows.specs.declared.Found.{Found}
+use Rattle.rows.specs.declared.Found.the-variants.{At, Nothing}
+
+-- a row that was found below n
+unfoldable pub foundBelow : ℕ → ℕ → Found
+foundBelow n i = pick (ltb i n) (At i) Nothing
+
+-- the first row from i on, below n, for which t holds
+unfoldable pub findFrom : (ℕ → Bool) → ℕ → ℕ → Found
+findFrom t n i = foundBelow n (find t n i)
+
+-- the cell in column c of the row that begins at a is k
+unfoldable pub hasKey : List ℕ → ℕ → ℕ → ℕ → Bool
+hasKey l a c k = eqb (getD l (a + c) 0) k
+
+-- and the name whose place and length stand in columns m and m2 is the same bytes as the part of the text s
+unfoldable pub isNamed : List ℕ → List ℕ → ℕ → ℕ → ℕ → ℕ → ℕ → ℕ → ℕ → Bool
+isNamed s l a c k m m2 p n = both (hasKey l a c k) (same (partOf s (getD l (a + m) 0) (getD l (a + m2) 0)) (partOf s p n))
+
+-- the first row from i on, below n, whose cell in column c is k
+unfoldable pub findRow : List ℕ → ℕ → ℕ → ℕ → ℕ → ℕ → Found
+findRow l w n c k i = findFrom (λ j. hasKey l (j * w) c k) n i
+
+-- the first row from i on, below n, whose cell in column c is k and whose name, in columns m and m + 1, is the part of s
+unfoldable pub findNamed : List ℕ → List ℕ → ℕ → ℕ → ℕ → ℕ → ℕ → ℕ → ℕ → ℕ → Found
+findNamed s l w n c k m p len i = findFrom (λ j. isNamed s l (j * w) c k m (m + 1) p len) n i
+
+-- something was found
+abbrev pub isFound : Found → Bool
+isFound (At i) = true
+isFound Nothing = false
+
+-- j is the first from i on, below n, for which t holds
+pub record IsFirst (t : ℕ → Bool) (n i j : ℕ) : Type 0 where
+  pub low : i ≤ j
+  pub high : j < n
+  pub holds : t j ≡ true
+  pub fails : (k : ℕ) → i ≤ k → k < j → t k ≡ false
+
+-- row j, of rows that are counted from i, is the first for which p holds
+pub record FirstOf {R : Type 0} (p : R → Bool) (i : ℕ) (rs : List R) (j : ℕ) : Type 0 where
+  pub front : List R
+  pub row : R
+  pub rest : List R
+  pub whole : rs ≡ front ++ (row ∷ rest)
+  pub place : j ≡ i + length front
+  pub holds : p row ≡ true
+  pub fails : anyOf p front ≡ false
+
+-- the two tests, of a row whose key, and whose name's place and length, the functions give
+module _ {R : Type 0} (key : R → ℕ) where
+  unfoldable pub keyed : ℕ → R → Bool
+  keyed k r = eqb (key r) k
+
+  module _ (place size : R → ℕ) (s : List ℕ) where
+    unfoldable pub named : ℕ → ℕ → ℕ → R → Bool
+    unfolding keyed
+    named k p n r = both (keyed k r) (same (partOf s (place r) (size r)) (partOf s p n))
