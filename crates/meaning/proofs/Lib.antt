@@ -1,0 +1,22 @@
+-- Examples and theorems of the meaning. Assumes nothing.
+pub mod Everything
+pub mod Edges
+pub mod Samples
+pub mod Nineteen
+pub mod Limits
+pub mod Order
+pub mod Sooner
+pub mod Sites
+pub mod Leaves
+pub mod Numbering
+pub mod Standing
+pub mod Choices
+pub mod Entries
+pub mod Lookups
+pub mod Found
+pub mod Whole
+pub mod Settled
+pub mod Walks
+pub mod Rooms
+pub mod Unplaced
+pub mod UnplacedFaults

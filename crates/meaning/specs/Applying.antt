@@ -1,0 +1,69 @@
+-- The application: the rows of objects, the counts of the kinds, and the stage of 11, 12 and 17, its faults in the order of their places
+-- (document 01, "Meaning" and "Refusals and their order"). Assumes nothing.
+use mathlib.Core.List.{List, [], _∷_, _++_}
+use mathlib.Core.Bool.{Bool, true, false}
+use mathlib.Core.Option.{Option, none, some}
+use Prim.Native.Nat.{ℕ, _+_}
+use lib.Dec.{eqb, ltb, leb}
+use Rattle.grammar.specs.Grammar.{Kind}
+use Rattle.meaning.specs.Syntax.{Word, Span, span-of, Statements, done, state, Object, File}
+use Rattle.meaning.specs.Kinds.{same-kind, kinds, fewest, most}
+use Rattle.meaning.specs.Faults.{Fault, fault-if}
+use Rattle.meaning.specs.Scopes.{is-there, find-object}
+
+-- "an object row its kind, name and block": the kind with its word.
+pub record ObjectRow : Type 0 where
+  pub kind : Kind
+  pub word : Span
+  pub name : Span
+  pub block : Span
+
+unfoldable pub object-rows : List Object → List ObjectRow
+object-rows [] = []
+object-rows (x ∷ xs) = record { kind = x .kind; word = span-of (x .word); name = span-of (x .name); block = x .block } ∷ object-rows xs
+
+-- How many objects are of a kind.
+unfoldable pub one-if : Bool → ℕ
+one-if true = 1
+one-if false = 0
+
+unfoldable pub how-many : Kind → List Object → ℕ
+how-many k [] = 0
+how-many k (x ∷ xs) = one-if (same-kind k (x .kind)) + how-many k xs
+
+-- "An accepted answer also counts the objects of each of the thirteen kinds."
+unfoldable pub counts-of : List Kind → List Object → List ℕ
+counts-of [] os = []
+counts-of (k ∷ ks) os = how-many k os ∷ counts-of ks os
+
+unfoldable pub counts : List Object → List ℕ
+counts os = counts-of kinds os
+
+-- 17, "no OS or no APPMODE", at the "CPU name": for each kind with fewer objects than its fewest.
+unfoldable pub too-few : List Kind → List Object → Word → List Fault
+too-few [] os cpu = []
+too-few (k ∷ ks) os cpu = fault-if (ltb (how-many k os) (fewest k)) cpu 17 ++ too-few ks os cpu
+
+-- 17, "second OS, COM or NM": where n objects are a kind's most, one more is too many.
+unfoldable pub full : Option ℕ → ℕ → Bool
+full none n = false
+full (some m) n = leb m n
+
+-- 11, "statement 2,049", at its "name".
+unfoldable pub statement-faults : Statements → List Fault
+statement-faults done = []
+statement-faults (state x inside rest) = (fault-if (eqb (x .number) 2048) (x .name) 11 ++ statement-faults inside) ++ statement-faults rest
+
+-- 11 ("object 257") and 17 at the kind word, 12 ("object name used before in its kind") at the name: before are the objects before it.
+unfoldable pub each-object : (before : List Object) → List Object → List Fault
+each-object before [] = []
+each-object before (x ∷ xs) =
+    (fault-if (eqb (x .row) 256) (x .word) 11
+    ++ (fault-if (full (most (x .kind)) (how-many (x .kind) before)) (x .word) 17
+    ++ (fault-if (is-there (find-object (x .kind) before (x .name))) (x .name) 12
+    ++ statement-faults (x .statements))))
+    ++ each-object (before ++ (x ∷ [])) xs
+
+-- The stage of 11, 12 and 17.
+unfoldable pub object-faults : File → List Fault
+object-faults f = too-few kinds (f .objects) (f .cpu) ++ each-object [] (f .objects)
