@@ -47,7 +47,7 @@ tree-of s a b e m h =
     subst (λ u. Took _⟹_ (paper file ▸ ∎) u (ended (b .at))) q (subst (λ u. Took _⟹_ (paper file ▸ ∎) (rest s a) u) r (w .1))
 
 -- From the stream of a text to its tokens.
-ended-is : (m : ℕ) (l : Lexed) (ts : List Token) (n : ℕ) → Ends m l → streamOf l ≡ prepend ts (ended n) → Wholly l × (tokensIn l ≡ ts) × (n ≡ m)
+pub ended-is : (m : ℕ) (l : Lexed) (ts : List Token) (n : ℕ) → Ends m l → streamOf l ≡ prepend ts (ended n) → Wholly l × (tokensIn l ≡ ts) × (n ≡ m)
 unfolding streamOf prepend tokensIn
 ended-is m (found t l) [] n h e = absurd (let z : _≡_ {A = ℕ} 0 1 = cc in omega arith)
 ended-is m (found t l) (u ∷ ts) n h e =

@@ -126,7 +126,7 @@ fn file(text: &[u8], a: Look) -> Look
 }
 
 // The answer at the look behind the file.
-fn answer_of(a: Look) -> Answer
+pub fn answer_of(a: Look) -> Answer
     ensures { λ r. ⌜ r ≡ answerOf a ⌝ }
 {
     let code = a.code;

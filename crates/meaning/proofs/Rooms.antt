@@ -11,7 +11,7 @@ use lib.Dec.{eqb, ltb}
 use borrow.Author.Tests.{eqb-false, ltb-false}
 use Rattle.token.specs.Words.{bytesOf, same}
 use Rattle.grammar.specs.Grammar.{file, _▸_, ∎, _⟶_, Trees}
-use Rattle.meaning.specs.Syntax.{Word, Definition, Definitions, no-more, define, Values, no-value, value, Spec, Object, is-enum}
+use Rattle.meaning.specs.Syntax.{Word, Definition, Definitions, no-more, define, Values, no-value, value, Spec, Statements, done, state, Object, is-enum}
 use Rattle.meaning.specs.Words.{choose, among}
 use Rattle.meaning.specs.Faults.{Fault, fault-if, sooner, first}
 use Rattle.meaning.specs.Actions.{syntax}
@@ -24,7 +24,7 @@ use Rattle.meaning.specs.Resolving.{ValueRow, Resolved, all-values, valu
 use Rattle.meaning.specs.Answers.{Tables, Answer, accepted, tables, unless, answer}
 use Rattle.meaning.specs.Cells.{definition-cells, enumerator-cells, object-cells, value-cells, cells, zeros, room-cells, definition-room, enumerator-room, object-room, value-room}
 use Rattle.meaning.proofs.Entries.{length-values}
-use Rattle.meaning.proofs.Numbering.{Counts, counts-more, definition-numbers, numbers-under, number-if, enumerator-numbers, enumerator-numbers-of, spec-numbers, spec-enumerator-numbers, object-numbers, length-definitions, length-enumerators, numbered}
+use Rattle.meaning.proofs.Numbering.{Counts, counts-more, definition-numbers, numbers-under, number-if, enumerator-numbers, enumerator-numbers-of, spec-numbers, spec-enumerator-numbers, statement-numbers, object-numbers, all-statement-numbers, length-definitions, length-enumerators, numbered}
 use Rattle.meaning.proofs.Standing.{length-rows}
 use Rattle.meaning.proofs.Choices.{length-rows as length-enumerator-rows}
 
@@ -82,7 +82,7 @@ not-faulty true t n e = absurd (let z : _≡_ {A = ℕ} 0 1 = cc in omega arith)
 not-faulty false t n e = refl
 
 -- A stage that does not answer has no fault.
-no-first : (fs : List Fault) → first fs ≡ none → fs ≡ []
+pub no-first : (fs : List Fault) → first fs ≡ none → fs ≡ []
 unfolding first sooner
 no-first [] e = refl
 no-first (f ∷ fs) e = absurd (go (first fs) e)
@@ -253,12 +253,39 @@ objects-without before (x ∷ xs) e =
       objects-without (before ++ (x ∷ [])) xs (nothing-back (a ++ b) c e),
     )
 
+statements-without : (ss : Statements) → statement-faults ss ≡ [] → Without 2048 (statement-numbers ss)
+unfolding statement-faults statement-numbers
+statements-without done e = tt
+statements-without (state x inside rest) e =
+    let a = fault-if (eqb (x .number) 2048) (x .name) 11 in
+    let b = statement-faults inside in
+    let c = statement-faults rest in
+    let front = nothing-front (a ++ b) c e in (
+      eqb-false (x .number) 2048 (not-faulty (eqb (x .number) 2048) (x .name) 11 (nothing-front a b front)),
+      without-append 2048 (statement-numbers inside) (statement-numbers rest) (statements-without inside (nothing-back a b front))
+          (statements-without rest (nothing-back (a ++ b) c e)),
+    )
+
+all-statements-without : (before xs : List Object) → each-object before xs ≡ [] → Without 2048 (all-statement-numbers xs)
+unfolding each-object all-statement-numbers
+all-statements-without before [] e = tt
+all-statements-without before (x ∷ xs) e =
+    let a = fault-if (eqb (x .row) 256) (x .word) 11 in
+    let b = fault-if (full (most (x .kind)) (how-many (x .kind) before)) (x .word) 17 in
+    let c = fault-if (is-there (find-object (x .kind) before (x .name))) (x .name) 12 in
+    let d = statement-faults (x .statements) in
+    let r = each-object (before ++ (x ∷ [])) xs in
+    let i = nothing-back a (b ++ (c ++ d)) (nothing-front (a ++ (b ++ (c ++ d))) r e) in
+    without-append 2048 (statement-numbers (x .statements)) (all-statement-numbers xs)
+    (statements-without (x .statements) (nothing-back c d (nothing-back b (c ++ d) i)))
+    (all-statements-without (before ++ (x ∷ [])) xs (nothing-back (a ++ (b ++ (c ++ d))) r e))
+
 object-rows-length : (xs : List Object) → length (object-rows xs) ≡ length (object-numbers xs)
 unfolding object-rows object-numbers
 object-rows-length [] = refl
 object-rows-length (x ∷ xs) = ap suc (object-rows-length xs)
 
-value-rows-length : (rs : List Resolved) (o n : ℕ) → length (all-value-rows rs o n) ≡ how-many-in-all rs
+pub value-rows-length : (rs : List Resolved) (o n : ℕ) → length (all-value-rows rs o n) ≡ how-many-in-all rs
 unfolding all-value-rows how-many-in-all
 value-rows-length [] o n = refl
 value-rows-length (r ∷ rs) o n =
@@ -275,6 +302,31 @@ few-values n e = ltb-false 2048 n (go (ltb 2048 n) e)
 
 -- The rooms ----------------------------------------------------------------------------------------------------------------------------------
 
+-- Where the stage of 6 to 10 has no fault, definitions and enumerators fit; where that of 11, 12 and 17 has none, objects and statements do.
+pub definitions-fit : (s : List ℕ) (t : Trees _⟶_ (file ▸ ∎)) → first (definition-faults (syntax s t)) ≡ none
+    → (length (all-definition-rows (syntax s t .specs)) ≤ 512) × (length (all-enumerator-rows (syntax s t .specs)) ≤ 1024)
+unfolding definition-faults
+definitions-fit s t e =
+    let f = syntax s t in
+    let ds = specs-without [] (f .specs) (nothing-back (fault-if (not (same (f .version .bytes) (bytesOf "\"2.5\""))) (f .version) 6) (spec-faults [] (f .specs)) (no-first (definition-faults f) e)) in
+    let n = numbered s t in (
+      (let a = stays (spec-numbers (f .specs)) 0 512 (n .0 .0) (omega arith) (ds .0) in let l = definition-rows-length (f .specs) in omega arith),
+      (let a = stays (spec-enumerator-numbers (f .specs)) 0 1024 (n .0 .1) (omega arith) (ds .1) in let l = enumerator-rows-length (f .specs) in omega arith),
+    )
+
+pub objects-fit : (s : List ℕ) (t : Trees _⟶_ (file ▸ ∎)) → first (object-faults (syntax s t)) ≡ none
+    → (length (object-rows (syntax s t .objects)) ≤ 256) × (length (all-statement-numbers (syntax s t .objects)) ≤ 2048)
+unfolding object-faults
+objects-fit s t e =
+    let f = syntax s t in
+    let z = nothing-back (too-few kinds (f .objects) (f .cpu)) (each-object [] (f .objects)) (no-first (object-faults f) e) in
+    let os = objects-without [] (f .objects) z in
+    let ss = all-statements-without [] (f .objects) z in
+    let n = numbered s t in (
+      (let a = stays (object-numbers (f .objects)) 0 256 (n .1 .0) (omega arith) os in let l = object-rows-length (f .objects) in omega arith),
+      (let a = stays (all-statement-numbers (f .objects)) 0 2048 (n .1 .1) (omega arith) ss in omega arith),
+    )
+
 -- The rows of the tables fit into the stated rooms.
 pub record Fits (t : Tables) : Type 0 where
   pub definitions : length (t .definitions) ≤ 512
@@ -289,7 +341,7 @@ passed (some f) k t e = absurd (let z : _≡_ {A = ℕ} 0 1 = cc in omega arith)
 
 -- A text that is accepted has rows that fit.
 pub accepted-fits : (s : List ℕ) (t : Trees _⟶_ (file ▸ ∎)) (x : Tables) → answer (syntax s t) ≡ accepted x → Fits x
-unfolding answer tables definition-faults object-faults
+unfolding answer tables
 accepted-fits s t x e =
     let f = syntax s t in
     let rs = all-values f (f .objects) in
@@ -297,15 +349,14 @@ accepted-fits s t x e =
     let p₂ = passed (first (object-faults f)) _ x (p₁ .1) in
     let p₃ = passed (first (statement-stage f)) _ x (p₂ .1) in
     let p₄ = passed (first (too-many (how-many-in-all rs))) _ x (p₃ .1) in
-    let ds = specs-without [] (f .specs) (nothing-back (fault-if (not (same (f .version .bytes) (bytesOf "\"2.5\""))) (f .version) 6) (spec-faults [] (f .specs)) (no-first (definition-faults f) (p₁ .0))) in
-    let os = objects-without [] (f .objects) (nothing-back (too-few kinds (f .objects) (f .cpu)) (each-object [] (f .objects)) (no-first (object-faults f) (p₂ .0))) in
+    let ds = definitions-fit s t (p₁ .0) in
+    let os = objects-fit s t (p₂ .0) in
     let vs = few-values (how-many-in-all rs) (no-first (too-many (how-many-in-all rs)) (p₄ .0)) in
-    let n = numbered s t in
     let q : tables f rs ≡ x = cc in
     subst Fits q (record {
-      definitions = let a = stays (spec-numbers (f .specs)) 0 512 (n .0 .0) (omega arith) (ds .0) in let l = definition-rows-length (f .specs) in omega arith;
-      enumerators = let a = stays (spec-enumerator-numbers (f .specs)) 0 1024 (n .0 .1) (omega arith) (ds .1) in let l = enumerator-rows-length (f .specs) in omega arith;
-      objects = let a = stays (object-numbers (f .objects)) 0 256 (n .1 .0) (omega arith) os in let l = object-rows-length (f .objects) in omega arith;
+      definitions = ds .0;
+      enumerators = ds .1;
+      objects = os .0;
       values = let l = value-rows-length rs 0 0 in omega arith;
     })
 

@@ -1,0 +1,4 @@
+pub mod Firsts
+pub mod Turns
+pub mod Rows
+pub mod Applications

@@ -1,0 +1,52 @@
+use Rattle.checks.proofs.Applications.{objects-answer}
+use borrow.Author.Needs.{needs}
+use Rattle.checks.proofs.objects.object_faults.Statement.{statement}
+use Rattle.checks.proofs.objects.object_faults.Tie as tie
+use Rattle.checks.proofs.objects.object_faults.Reads as reads
+use Rattle.checks.proofs.objects.object_faults.Lts as lts
+use Rattle.checks.proofs.objects.each_object.Reads as each-object-reads
+use Rattle.checks.proofs.objects.too_few.Reads as too-few-reads
+use Rattle.checks.proofs.parts.least_of.Reads as least-of-reads
+use Rattle.checks.proofs.parts.room_fault.Reads as room-fault-reads
+use Rattle.rows.proofs.faults.sooner.Reads as sooner-reads
+
+too-few-requires : tie.Need-too-few-requires
+too-few-requires c κs = search needs
+
+least-of-requires : tie.Need-least-of-requires
+least-of-requires c κs = search needs
+
+each-object-requires : tie.Need-each-object-requires
+each-object-requires c κs = search needs
+
+room-fault-requires : tie.Need-room-fault-requires
+room-fault-requires c κs = search needs
+
+room-fault-requires-2 : tie.Need-room-fault-requires-2
+room-fault-requires-2 c κs = search needs
+
+sooner-requires : tie.Need-sooner-requires
+sooner-requires c κs = search needs
+
+sooner-requires-2 : tie.Need-sooner-requires-2
+sooner-requires-2 c κs = search needs
+
+sooner-requires-3 : tie.Need-sooner-requires-3
+sooner-requires-3 c κs = search needs
+
+returns : tie.Need-returns
+returns c = objects-answer _ _ _ _ _ _ _ _ _ _ _ _ _ _ _ ((c .before .before .before .before .before .before .before .too-few .ensures)) ((c .before .before .before .before .before .before .least-of .ensures)) ((c .before .before .before .before .before .each-object .ensures)) ((c .before .before .before .before .room-fault .ensures)) ((c .before .before .before .room-fault2 .ensures)) ((c .before .before .sooner .ensures)) ((c .before .sooner2 .ensures)) ((c .sooner3 .ensures))
+
+pub object-faults-spec : {M : Type 1} → statement M
+object-faults-spec =
+    tie.close
+    (tie.spec
+    too-few-requires
+    least-of-requires
+    each-object-requires
+    room-fault-requires
+    room-fault-requires-2
+    sooner-requires
+    sooner-requires-2
+    sooner-requires-3
+    returns)

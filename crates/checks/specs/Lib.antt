@@ -1,0 +1,4 @@
+-- What the checks of kept rows promise. Assumes nothing.
+pub mod Listing
+pub mod Cells
+pub mod Promises

@@ -1,0 +1,126 @@
+// The faults 11, 12 and 17 of the application.
+ghost use mathlib.Core.Path.{_≡_};
+ghost use Rattle.meaning.specs.Applying.{one-if};
+ghost use Rattle.rows.specs.Order.{none, soonest};
+ghost use Rattle.checks.specs.Cells.{fault-found, lacking-from, count-rows, full-of, too-many, name-again, object-codes};
+ghost use Rattle.checks.specs.Promises.{ObjectFaults};
+use super::parts;
+use kinds::Kind;
+use kinds::Most;
+use rows::Fault;
+use rows::faults;
+use rows::finding;
+use scopes::lookups;
+
+// 17 at the CPU's name, where a kind has fewer objects than its least count.
+fn too_few(counts: [usize; 13], cpu: usize) -> Fault
+    ensures { λ r. ⌜ r ≡ fault-found (lacking-from counts 0) 17 cpu ⌝ }
+{
+    let mut i = 0;
+    while i < Kind::COUNT {
+        let kind = Kind::of(i);
+        if counts[i] < kind.least() {
+            return Fault {
+                number: 17,
+                place: cpu,
+            };
+        }
+        i += 1;
+    }
+    Fault {
+        number: 0,
+        place: 0,
+    }
+}
+
+fn one_if(test: bool) -> usize
+    ensures { λ r. ⌜ r ≡ one-if test ⌝ }
+{
+    if test {
+        return 1;
+    }
+    0
+}
+
+// How many of the first rows have a key in a column.
+fn rows_with(t: &[usize], width: usize, rows: usize, column: usize, key: usize) -> usize
+    ensures { λ r. ⌜ r ≡ count-rows (now (t .entry)) width column key rows 0 ⌝ }
+{
+    let mut n = 0;
+    let mut i = 0;
+    while i < rows {
+        let x = lookups::cell_of(t, width, i, column);
+        n = n + one_if(x == key);
+        i += 1;
+    }
+    n
+}
+
+// Whether a kind has as many objects as it may.
+fn is_full(most: Most, n: usize) -> bool
+    ensures { λ r. ⌜ r ≡ full-of most n ⌝ }
+{
+    match most {
+        Most::Of(m) => m <= n,
+        Most::Any => false,
+    }
+}
+
+// 17 at the kind word of object j, where the kind had its greatest count before.
+fn too_many(o: &[usize], j: usize) -> Fault
+    ensures { λ r. ⌜ r ≡ too-many (now (o .entry)) j ⌝ }
+{
+    let number = lookups::cell_of(o, 9, j, 0);
+    let kind = Kind::of(number);
+    let n = rows_with(o, 9, j, 0, number);
+    let place = lookups::cell_of(o, 9, j, 1);
+    faults::fault_if(is_full(kind.most(), n), 17, place)
+}
+
+// 12 at the name of object j, where an earlier object of its kind has it.
+fn name_again(text: &[u8], o: &[usize], j: usize) -> Fault
+    ensures { λ r. ⌜ r ≡ name-again (now (text .entry)) (now (o .entry)) j ⌝ }
+{
+    let kind = lookups::cell_of(o, 9, j, 0);
+    let at = lookups::cell_of(o, 9, j, 3);
+    let len = lookups::cell_of(o, 9, j, 4);
+    let found = finding::find_named(text, o, 9, j, 0, kind, 3, at, len, 0);
+    parts::fault_found(found, 12, at)
+}
+
+// 17 and 12 of the first n objects.
+fn each_object(text: &[u8], o: &[usize], n: usize) -> Fault
+    ensures { λ r. ⌜ r ≡ soonest none (object-codes (now (text .entry)) (now (o .entry)) n 0) ⌝ }
+{
+    let mut best = Fault {
+        number: 0,
+        place: 0,
+    };
+    let mut j = 0;
+    while j < n {
+        let a = too_many(o, j);
+        let b = name_again(text, o, j);
+        best = faults::sooner(best, faults::sooner(a, b));
+        j += 1;
+    }
+    best
+}
+
+// The fault by which the stage of 11, 12 and 17 answers.
+pub fn object_faults(
+    text: &[u8],
+    o: &[usize],
+    st: &[usize],
+    objects: usize,
+    statements: usize,
+    counts: [usize; 13],
+    cpu: usize,
+) -> Fault
+    ensures { λ r. ⌜ ObjectFaults (now (text .entry)) (now (o .entry)) (now (st .entry)) objects statements counts cpu r ⌝ }
+{
+    let a = too_few(counts, cpu);
+    let b = each_object(text, o, parts::least_of(objects, 257));
+    let c = parts::room_fault(o, 9, 256, 1, objects, 11);
+    let d = parts::room_fault(st, 7, 2048, 0, statements, 11);
+    faults::sooner(a, faults::sooner(b, faults::sooner(c, d)))
+}

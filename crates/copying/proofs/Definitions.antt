@@ -1,0 +1,91 @@
+-- The first 13 cells of the kept definitions are the rows of the lent table. Assumes nothing.
+use Prim.Native.Nat.{ℕ, _+_}
+use mathlib.Core.Path.{_≡_, refl, sym, ap, ap₂, _∙_}
+use mathlib.Core.List.{List, [], _∷_, _++_}
+use mathlib.Core.Bool.{Bool, true, false}
+use native.Mathlib.Omega.{arith}
+use lib.ListN.{length, take, length-append}
+use Rattle.grammar.specs.Grammar.{Integer, UINT32, INT32, UINT64, INT64}
+use Rattle.meaning.specs.Syntax.{Word, span-of, span-or, Definition, Definitions, no-more, define, Values, no-value, value, Spec, is-enum}
+use Rattle.meaning.specs.Defining.{definition-row, definition-rows, definition-rows-under, all-definition-rows}
+use Rattle.meaning.specs.Cells.{flag, integer-code, type-code, cells}
+use Rattle.meaning.specs.Cells.{definition-cells as lent-cells}
+use Rattle.layout.specs.Kept.{Entry, entries, entries-under, spec-entries, list-key, bit, code-of, integer-number, truth-cells, default-code, definition-cells}
+use Rattle.scopes.specs.Forms.{Formed, an-integer, a-string, a-boolean, an-enum, a-reference, AllFormed, none-formed, more-formed, AllFormedUnder, none-under, more-under}
+use Rattle.scopes.proofs.Forming.{FormedSpecs}
+use Rattle.copying.proofs.Rooms.{cells-append}
+
+truth-three : (b : Bool) (vs : Values) → length (truth-cells b vs) ≡ 3
+unfolding truth-cells
+truth-three true vs = refl
+truth-three false no-value = refl
+truth-three false (value t e us no-value) = refl
+truth-three false (value t e us (value f e′ us′ vs)) = refl
+
+pub definition-wide : (x : Entry) → length (definition-cells x) ≡ 19
+unfolding definition-cells
+definition-wide x =
+    let a = truth-three (is-enum (x .definition .type)) (x .values) in
+    let b = length-append (truth-cells (is-enum (x .definition .type)) (x .values)) (default-code (x .definition .default) ∷ []) in
+    omega arith
+
+bit-flag : (b : Bool) → bit b ≡ flag b
+unfolding bit flag
+bit-flag true = refl
+bit-flag false = refl
+
+integer-coded : (i : Integer) → 35 + integer-number i ≡ integer-code i
+unfolding integer-number integer-code
+integer-coded UINT32 = refl
+integer-coded INT32 = refl
+integer-coded UINT64 = refl
+integer-coded INT64 = refl
+
+-- The code of a definition's type word is that of its type.
+type-coded : {s : List ℕ} {d : Definition} {vs : Values} → Formed s d vs → code-of (d .word) ≡ type-code (d .type)
+unfolding type-code
+type-coded (an-integer i t c r) = c ∙ integer-coded i ∙ sym (ap type-code t)
+type-coded (a-string t c b) = c ∙ sym (ap type-code t)
+type-coded (a-boolean t c b v) = c ∙ sym (ap type-code t)
+type-coded (an-enum t c b v) = c ∙ sym (ap type-code t)
+type-coded (a-reference k t c b) = c ∙ sym (ap type-code t)
+
+-- What is copied of an entry.
+unfoldable pub head : Entry → List ℕ
+head x = take 13 (definition-cells x)
+
+head-lent : (x : Entry) → code-of (x .definition .word) ≡ type-code (x .definition .type) → head x ≡ lent-cells (definition-row (x .under) (x .definition))
+unfolding head definition-cells lent-cells definition-row span-of
+head-lent x e =
+    let d = x .definition in
+    ap₂ (λ (a b : ℕ). x .under .place ∷ x .under .length ∷ d .name .place ∷ d .name .length ∷ d .word .place ∷ d .word .length
+    ∷ a ∷ b ∷ d .range .place ∷ d .range .length ∷ span-or (d .default) .place ∷ span-or (d .default) .length ∷ code-of (d .word) ∷ [])
+    (bit-flag (d .list)) (bit-flag (d .auto))
+    ∙ ap (λ (k : ℕ). x .under .place ∷ x .under .length ∷ d .name .place ∷ d .name .length ∷ d .word .place ∷ d .word .length
+    ∷ flag (d .list) ∷ flag (d .auto) ∷ d .range .place ∷ d .range .length ∷ span-or (d .default) .place ∷ span-or (d .default) .length ∷ k ∷ []) e
+
+mutual
+  unfolding entries definition-rows cells
+
+  heads : {s : List ℕ} (ds : Definitions) (u : Word) (o : ℕ) → AllFormed s ds → cells head (entries ds u o) ≡ cells lent-cells (definition-rows ds u)
+  heads no-more u o none-formed = refl
+  heads (define d vs ds) u o (more-formed h t i j) =
+      let x : Entry = record { under = u; outer = o; definition = d; values = vs } in
+      cells-append head (entries-under vs (list-key vs)) (x ∷ entries ds u o)
+      ∙ ap₂ _++_ (heads-under vs (list-key vs) i) (ap₂ _++_ (head-lent x (type-coded h)) (heads ds u o j))
+      ∙ sym (cells-append lent-cells (definition-rows-under vs) (definition-row u d ∷ definition-rows ds u))
+
+  heads-under : {s : List ℕ} (vs : Values) (o : ℕ) → AllFormedUnder s vs → cells head (entries-under vs o) ≡ cells lent-cells (definition-rows-under vs)
+  heads-under no-value o none-under = refl
+  heads-under (value w e us vs) o (more-under h i) =
+      cells-append head (entries us w o) (entries-under vs o)
+      ∙ ap₂ _++_ (heads us w o h) (heads-under vs o i)
+      ∙ sym (cells-append lent-cells (definition-rows us w) (definition-rows-under vs))
+
+pub spec-heads : (s : List ℕ) (xs : List Spec) → FormedSpecs s xs → cells head (spec-entries xs) ≡ cells lent-cells (all-definition-rows xs)
+unfolding spec-entries all-definition-rows cells
+spec-heads s [] h = refl
+spec-heads s (x ∷ xs) h =
+    cells-append head (entries (x .definitions) (x .word) 0) (spec-entries xs)
+    ∙ ap₂ _++_ (heads (x .definitions) (x .word) 0 (h .0)) (spec-heads s xs (h .1))
+    ∙ sym (cells-append lent-cells (definition-rows (x .definitions) (x .word)) (all-definition-rows xs))

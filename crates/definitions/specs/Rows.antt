@@ -1,0 +1,109 @@
+-- The rows that the walk of the implementation puts, by the meaning of what it reads. They hold places, lengths and codes, no numbers of rows:
+-- so each is said for every numbering n, e of definitions and enumerators. Assumes nothing.
+use mathlib.Core.Path.{_≡_}
+use mathlib.Core.List.{List, [], _∷_, _++_}
+use mathlib.Core.Bool.{Bool, true, false}
+use mathlib.Core.Option.{Option, none, some}
+use Prim.Native.Nat.{ℕ, _-_}
+use Rattle.grammar.specs.declared.Look.{Look}
+use Rattle.meaning.specs.Syntax.{Word, Span, span-or, Definition, Definitions, no-more, define, Values, Defined}
+use Rattle.meaning.specs.Actions.{Enumerator}
+use Rattle.layout.specs.Kept.{bit, default-code, entries, entries-under, choices, choices-of, definition-cells, choice-cells, map-cells}
+use Rattle.filling.specs.Tables.{Wrote}
+use Rattle.filling.specs.Fills.{Seen}
+use Rattle.definitions.specs.declared.Under.{Under}
+use Rattle.definitions.specs.declared.Head.{Head}
+
+-- One table, with the number of its rows.
+abbrev pub Table : Type 0
+Table = List ℕ × ℕ
+
+abbrev pub Puts : ℕ → Table → List (List ℕ) → Table → Type 0
+Puts c x w y = Wrote c (x .0) (x .1) w (y .0) (y .1)
+
+-- The tables of definitions and of enumerators; what is done are rows of each.
+abbrev pub Done : Type 0
+Done = List (List ℕ) × List (List ℕ)
+
+abbrev pub then : Done → Done → Done
+then a b = (a .0 ++ b .0, a .1 ++ b .1)
+
+abbrev pub Fill : Table × Table → Done → Table × Table → Type 0
+Fill x w y = Puts 19 (x .0) (w .0) (y .0) × Puts 3 (x .1) (w .1) (y .1)
+
+-- The rows of definitions, of what stands under the values of a list, and the enumerators.
+abbrev pub rows-of : Definitions → Word → ℕ → List (List ℕ)
+rows-of ds u o = map-cells definition-cells (entries ds u o)
+
+abbrev pub rows-in : Values → ℕ → List (List ℕ)
+rows-in vs o = map-cells definition-cells (entries-under vs o)
+
+abbrev pub choice-rows : Definitions → List (List ℕ)
+choice-rows ds = map-cells choice-cells (choices ds)
+
+abbrev pub choice-rows-in : Values → Bool → ℕ → List (List ℕ)
+choice-rows-in vs b o = map-cells choice-cells (choices-of vs b o)
+
+abbrev pub one : Defined → Definitions
+one x = define (x .definition) (x .values) no-more
+
+-- The word that definitions stand under.
+abbrev pub Stands : Under → Word → Type 0
+Stands x u = (u .place ≡ x .at) × (u .length ≡ x .len)
+
+-- The cells of a definition whose type, range and list are told by h, with the name x, the list mark l and the default d.
+unfoldable pub row-of : Under → Head → Word → Bool → Option Word → List ℕ
+row-of u h x l d =
+    u .at ∷ u .len ∷ x .place ∷ x .length ∷ h .word ∷ h .length ∷ bit l ∷ h .auto ∷ h .range ∷ h .extent ∷ span-or d .place ∷ span-or d .length ∷ h .code
+    ∷ u .list ∷ h .key ∷ h .truth ∷ h .falsity ∷ h .width ∷ default-code d ∷ []
+
+-- What is known of a definition behind its type's word t: without a list of values.
+abbrev pub head-of : Look → ℕ → ℕ → ℕ → Head
+head-of t auto range extent =
+    record {
+      word = t .at;
+      length = t .next - t .at;
+      code = t .code;
+      auto = auto;
+      range = range;
+      extent = extent;
+      key = 0;
+      truth = 0;
+      falsity = 0;
+      width = 0;
+    }
+
+-- With one: its first value word, and the length of TRUE and the word FALSE where it has them.
+abbrev pub list-head : Look → ℕ → ℕ → ℕ → ℕ → ℕ → ℕ → ℕ → Head
+list-head t auto range extent key truth falsity width =
+    record {
+      word = t .at;
+      length = t .next - t .at;
+      code = t .code;
+      auto = auto;
+      range = range;
+      extent = extent;
+      key = key;
+      truth = truth;
+      falsity = falsity;
+      width = width;
+    }
+
+-- The row is that of a definition.
+unfoldable pub Named : Under → Head → List (List ℕ) → Word → Bool → Option Word → Type 0
+unfolding row-of
+Named u h w x l d = (row-of u h x l d ∷ []) ≡ w
+
+-- The rows are those of definitions under a word.
+unfoldable pub Rows : Under → Done → (ℕ → ℕ → Definitions) → Type 0
+Rows x w m = (u : Word) → Stands x u → (n e : ℕ) → (rows-of (m n e) u (x .list) ≡ w .0) × (choice-rows (m n e) ≡ w .1)
+
+-- The rows are those of an enumerator of the list k, whose word is seen at a,
+unfoldable pub EnumeratorRows : List ℕ → Look → ℕ → Done → (ℕ → ℕ → Enumerator) → Type 0
+EnumeratorRows s a k w m =
+    (n e : ℕ) → Seen s a (m n e .word) × (rows-of (m n e .under) (m n e .word) k ≡ w .0)
+    × ((choice-cells (record { list = k; word = m n e .word }) ∷ choice-rows (m n e .under)) ≡ w .1)
+
+-- and of the values of an ENUM's list.
+unfoldable pub ValueRows : ℕ → Done → (ℕ → ℕ → Values) → Type 0
+ValueRows k w m = (n e : ℕ) → (rows-in (m n e) k ≡ w .0) × (choice-rows-in (m n e) true k ≡ w .1)

@@ -1,0 +1,22 @@
+use Rattle.implementation.proofs.Noting.{cell-past}
+use native.Mathlib.Omega.{arith}
+use borrow.Author.Needs.{needs}
+use Rattle.implementation.proofs.cell.Statement.{statement}
+use Rattle.implementation.proofs.cell.Tie as tie
+use Rattle.implementation.proofs.cell.Reads as reads
+use Rattle.implementation.proofs.cell.Lts as lts
+
+returns : tie.Need-returns
+returns c = cell-past (c .before .args .t1) (c .before .args .i) (omega arith)
+
+mul-result : tie.Need-mul-result
+mul-result c = search needs
+
+array-read-result : tie.Need-array-read-result
+array-read-result c = search needs
+
+returns-2 : tie.Need-returns-2
+returns-2 c = search needs
+
+pub cell-spec : {M : Type 1} → statement M
+cell-spec = tie.close (tie.spec returns mul-result array-read-result returns-2)

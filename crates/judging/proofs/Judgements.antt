@@ -1,0 +1,640 @@
+-- The laws of judging: the faults of a statement, of a block, of all objects, by the rows. Assumes nothing.
+use mathlib.Core.Path.{_≡_, refl, sym, _∙_, ap, ap₂, subst}
+use mathlib.Core.List.{List, [], _∷_, _++_, append-assoc, append-nil}
+use mathlib.Core.Bool.{Bool, true, false, not, false≢true}
+use mathlib.Core.Option.{Option, none, some}
+use Prim.Native.Nat.{ℕ, suc, _+_, _*_, _-_, _≤_, _<_}
+use native.Mathlib.Omega.{arith}
+use lib.ListN.{length, length-append, getD}
+use lib.Dec.{eqb, leb}
+use borrow.Author.Tests.{eq-eqb, ne-eqb, le-leb, eqb-true}
+use Rattle.token.specs.Find.{pick, both}
+use Rattle.token.specs.Tokens.{partOf, stepAt}
+use Rattle.grammar.specs.Grammar.{Class, Kind, Integer, ordinary, numeral, quoted, other, kind-word, type-word, integer-word, word, sign, OS, APPMODE, TASK, ISR, COUNTER, ALARM, RESOURCE, EVENT, COM, MESSAGE, NETWORKMESSAGE, IPDU, NM, UINT32, INT32, UINT64, INT64, OIL-VERSION, IMPLEMENTATION, CPU, STRING, BOOLEAN, ENUM, TRUE, FALSE, AUTO, NO-DEFAULT, WITH-AUTO, lbrace, rbrace, lsquare, rsquare, equals, semicolon, colon, comma, dots}
+use Rattle.rows.specs.declared.Fault.{Fault}
+use Rattle.rows.specs.declared.Found.{Found}
+use Rattle.rows.specs.declared.Found.the-variants.{At, Nothing}
+use Rattle.rows.specs.Search.{isFound}
+use Rattle.rows.specs.Order.{faultIf, isFault}
+use Rattle.rows.specs.Order.{sooner as sooner-of}
+use Rattle.meaning.specs.Syntax.{Word, AttributeType, integer, string, boolean, enum, reference, Definitions, Values, Defined, Statement, Statements, done, state, Object, File, statements-in}
+use Rattle.meaning.specs.Words.{among}
+use Rattle.meaning.specs.Actions.{num-of-step}
+use Rattle.meaning.specs.Kinds.{kind-number}
+use Rattle.meaning.specs.Faults.{first, fault-if}
+use Rattle.meaning.specs.Faults.{Fault as Refusal}
+use Rattle.meaning.specs.Scopes.{sort-of, sort-of-word, names, find-definition, find-object, is-there, fits, under, of-kind}
+use Rattle.meaning.specs.Judging.{lacks, reference-faults, brace-faults, faults-as, own-faults, and-inside, judged, judge, judge-object, judge-objects, statement-stage}
+use Rattle.meaning.proofs.Sites.{object-words}
+use Rattle.layout.specs.Kept.{bit, class-number, given-number, sign-number, integer-number, code-of, place-or, statement-cells, statement-count, object-cells, kind-place}
+use Rattle.blocks.specs.Blocks.{AllIn, BraceIn, no-brace, a-brace, then, BlockAt, row-after, IsStated}
+use Rattle.scopes.specs.Situations.{Situation, HasDefinition, this-definition, later-definition, Stands, ScopeAt, no-scope, scope, ReadAt, RowOf}
+use Rattle.scopes.specs.Promises.{fault-of, row-found, object-found, FindsDefinition, FindsWord, FindsObject, Takes}
+use Rattle.scopes.specs.Forms.{AllFormed, more-formed, Formed, an-integer, a-string, a-boolean, an-enum, a-reference}
+use Rattle.scopes.proofs.Descents.{scope-facts, found-definition, scope-under, scope-of-kind}
+use Rattle.judging.specs.Promises.{Case, name-code, ReferenceFault, StatedAs, OwnFault, Marked, Lacks, LackFault, Scoped, Judges, JudgesOne, JudgesBlock, Places, JudgesObject, JudgesObjects}
+use Rattle.judging.specs.declared.Sizes.{Sizes}
+use Rattle.judging.proofs.Standings.{stands-at, row-of, file-stands}
+use Rattle.judging.proofs.Tables.{cell-list, cell-type}
+use Rattle.judging.proofs.Lacking.{in-room, row-less, row-room, all-reached}
+use Rattle.judging.proofs.Ordering.{Positive, positive-append, positive-if, fault-append, fault-one, no-fault, positive-reference, positive-brace, positive-as, positive-own, positive-judged, positive-judge}
+use Rattle.blocks.proofs.Ranges.{first-cell, first-name, first-value, first-brace, first-after, inside-at, in-then, then-assoc, then-done, front-at, back-at}
+use Rattle.blocks.proofs.Files.{file-in, objects-in, object-cell, object-block}
+
+-- Names ------------------------------------------------------------------------------------------------------------------------------------
+
+kind-below : (k : Kind) → kind-number k < 13
+unfolding kind-number
+kind-below OS = omega arith
+kind-below APPMODE = omega arith
+kind-below TASK = omega arith
+kind-below ISR = omega arith
+kind-below COUNTER = omega arith
+kind-below ALARM = omega arith
+kind-below RESOURCE = omega arith
+kind-below EVENT = omega arith
+kind-below COM = omega arith
+kind-below MESSAGE = omega arith
+kind-below NETWORKMESSAGE = omega arith
+kind-below IPDU = omega arith
+kind-below NM = omega arith
+
+integer-below : (i : Integer) → integer-number i < 4
+unfolding integer-number
+integer-below UINT32 = omega arith
+integer-below INT32 = omega arith
+integer-below UINT64 = omega arith
+integer-below INT64 = omega arith
+
+-- The cases of a code.
+module _ (c : ℕ) where
+  pub code-number : c ≡ 42 → name-code c ≡ false
+  unfolding name-code
+  code-number h = ap (λ b. pick b false (pick (eqb c 43) false (pick (eqb c 0) true (leb 5 c)))) (eq-eqb c 42 h)
+
+  code-not-number : (c ≡ 42 → ⊥) → name-code c ≡ pick (eqb c 43) false (pick (eqb c 0) true (leb 5 c))
+  unfolding name-code
+  code-not-number h = ap (λ b. pick b false (pick (eqb c 43) false (pick (eqb c 0) true (leb 5 c)))) (ne-eqb c 42 h)
+
+  pub code-string : (c ≡ 42 → ⊥) → c ≡ 43 → name-code c ≡ false
+  code-string h i = code-not-number h ∙ ap (λ b. pick b false (pick (eqb c 0) true (leb 5 c))) (eq-eqb c 43 i)
+
+  code-not-string : (c ≡ 42 → ⊥) → (c ≡ 43 → ⊥) → name-code c ≡ pick (eqb c 0) true (leb 5 c)
+  code-not-string h i = code-not-number h ∙ ap (λ b. pick b false (pick (eqb c 0) true (leb 5 c))) (ne-eqb c 43 i)
+
+  pub code-ordinary : (c ≡ 42 → ⊥) → (c ≡ 43 → ⊥) → c ≡ 0 → name-code c ≡ true
+  code-ordinary h i k = code-not-string h i ∙ ap (λ b. pick b true (leb 5 c)) (eq-eqb c 0 k)
+
+  pub code-other : (c ≡ 42 → ⊥) → (c ≡ 43 → ⊥) → (c ≡ 0 → ⊥) → name-code c ≡ leb 5 c
+  code-other h i k = code-not-string h i ∙ ap (λ b. pick b true (leb 5 c)) (ne-eqb c 0 k)
+
+name-kind : (k : Kind) → name-code (9 + kind-number k) ≡ true
+name-kind k =
+    let b = kind-below k in
+    code-other (9 + kind-number k) (λ h. omega arith) (λ h. omega arith) (λ h. omega arith) ∙ le-leb 5 (9 + kind-number k) (omega arith)
+
+name-type : (k : Kind) → name-code (22 + kind-number k) ≡ true
+name-type k =
+    let b = kind-below k in
+    code-other (22 + kind-number k) (λ h. omega arith) (λ h. omega arith) (λ h. omega arith) ∙ le-leb 5 (22 + kind-number k) (omega arith)
+
+name-integer : (i : Integer) → name-code (35 + integer-number i) ≡ true
+name-integer i =
+    let b = integer-below i in
+    code-other (35 + integer-number i) (λ h. omega arith) (λ h. omega arith) (λ h. omega arith) ∙ le-leb 5 (35 + integer-number i) (omega arith)
+
+module _ (os : List Object) (k : Kind) (t : Word) where
+  -- The faults of a reference's value, by whether it is a name.
+  named-by : (b : Bool) → b ≡ true → fault-if (not (is-there (find-object k os t))) t 18 ≡ pick b (fault-if (not (is-there (find-object k os t))) t 18) (fault-if true t 15)
+  named-by b h = sym (ap (λ a. pick a (fault-if (not (is-there (find-object k os t))) t 18) (fault-if true t 15)) h)
+
+  reference-by : (c : Class) → reference-faults os k (sort-of c) t ≡ pick (name-code (class-number c)) (fault-if (not (is-there (find-object k os t))) t 18) (fault-if true t 15)
+  unfolding reference-faults sort-of sort-of-word class-number given-number sign-number name-code
+  reference-by ordinary = refl
+  reference-by numeral = refl
+  reference-by quoted = refl
+  reference-by other = refl
+  reference-by (kind-word q) = named-by (name-code (9 + kind-number q)) (name-kind q)
+  reference-by (type-word q) = named-by (name-code (22 + kind-number q)) (name-type q)
+  reference-by (integer-word i) = named-by (name-code (35 + integer-number i)) (name-integer i)
+  reference-by (word OIL-VERSION) = refl
+  reference-by (word IMPLEMENTATION) = refl
+  reference-by (word CPU) = refl
+  reference-by (word STRING) = refl
+  reference-by (word BOOLEAN) = refl
+  reference-by (word ENUM) = refl
+  reference-by (word TRUE) = refl
+  reference-by (word FALSE) = refl
+  reference-by (word AUTO) = refl
+  reference-by (word NO-DEFAULT) = refl
+  reference-by (word WITH-AUTO) = refl
+  reference-by (sign lbrace) = refl
+  reference-by (sign rbrace) = refl
+  reference-by (sign lsquare) = refl
+  reference-by (sign rsquare) = refl
+  reference-by (sign equals) = refl
+  reference-by (sign semicolon) = refl
+  reference-by (sign colon) = refl
+  reference-by (sign comma) = refl
+  reference-by (sign dots) = refl
+
+found-there : (o : Option Object) → isFound (object-found o) ≡ is-there o
+unfolding object-found is-there
+found-there none = refl
+found-there (some x) = refl
+
+pub not-true : (b : Bool) → not b ≡ true → b ≡ false
+not-true true h = absurd (false≢true h)
+not-true false h = refl
+
+pub not-false : (b : Bool) → not b ≡ false → b ≡ true
+not-false true h = refl
+not-false false h = absurd (false≢true (sym h))
+
+-- A reference's value: no name; no object; an object.
+module _ (s o : List ℕ) (n kind at len code : ℕ) where
+  pub reference-no-name : name-code code ≡ false → ReferenceFault s o n kind at len code (record { number = 15; place = at })
+  unfolding code-of faultIf
+  reference-no-name h f k t p q l m i b pl e =
+      fault-one true t 15 at pl
+      ∙ ap (λ l. fault-of (first l)) (sym (reference-by (f .objects) k t (t .class) ∙ ap (λ b. pick b (fault-if (not (is-there (find-object k (f .objects) t))) t 18) (fault-if true t 15)) (ap name-code e ∙ h)))
+
+  pub reference-name : (r : Found) → name-code code ≡ true → FindsObject s o n kind at len r → ReferenceFault s o n kind at len code (faultIf (not (isFound r)) 18 at)
+  unfolding code-of
+  reference-name r h g f k t p q l m i b pl e =
+      let there : isFound r ≡ is-there (find-object k (f .objects) t) = ap isFound (g f k t p q l m i b) ∙ found-there (find-object k (f .objects) t) in
+      ap (λ b. faultIf (not b) 18 at) there
+      ∙ fault-one (not (is-there (find-object k (f .objects) t))) t 18 at pl
+      ∙ ap (λ l. fault-of (first l)) (sym (reference-by (f .objects) k t (t .class) ∙ ap (λ b. pick b (fault-if (not (is-there (find-object k (f .objects) t))) t 18) (fault-if true t 15)) (ap name-code e ∙ h)))
+
+  pub reference-nothing : name-code code ≡ true → FindsObject s o n kind at len Nothing → ReferenceFault s o n kind at len code (record { number = 18; place = at })
+  unfolding faultIf
+  reference-nothing h g = reference-name Nothing h g
+
+  pub reference-object : (i : ℕ) → name-code code ≡ true → FindsObject s o n kind at len (At i) → ReferenceFault s o n kind at len code (record { number = 0; place = 0 })
+  unfolding faultIf
+  reference-object i h g = reference-name (At i) h g
+
+-- A statement's cells ----------------------------------------------------------------------------------------------------------------------
+
+formed-in : {s : List ℕ} {ds : Definitions} {y : Defined} → AllFormed s ds → HasDefinition ds y → Formed s (y .definition) (y .values)
+formed-in (more-formed g w v r) this-definition = g
+formed-in (more-formed g w v r) (later-definition h) = formed-in r h
+
+formed-at : {s : List ℕ} {f : File} {u : Word} {ds : Definitions} {y : Defined} → Situation s f → Stands (f .specs) u ds → HasDefinition ds y → Formed s (y .definition) (y .values)
+formed-at p q h = formed-in (scope-facts p q .facts .formed) h
+
+one-zero : 0 ≡ bit true → ⊥
+unfolding bit
+one-zero h = omega arith
+
+brace-fault : {s : List ℕ} (o : Option Word) (p : ℕ) → p ≡ place-or o → BraceIn s o → faultIf (not (eqb p 0)) 15 p ≡ fault-of (first (brace-faults o))
+unfolding place-or brace-faults fault-of faultIf first
+brace-fault none p e no-brace = ap (λ q. faultIf (not (eqb q 0)) 15 q) e
+brace-fault (some t) p e (a-brace w) =
+    let l = w .later in
+    ap (λ b. faultIf (not b) 15 p) (ne-eqb p 0 (λ h. omega arith)) ∙ fault-one true t 15 p (sym e)
+
+module _ {s d e o st : List ℕ} {z : Sizes} {k j : ℕ} {f : File} {x : Statement} {y : Defined} (a : StatedAs s d e o st z k j f x y) where
+  value-place : getD st (k * 7 + 2) 0 ≡ x .value .place
+  unfolding statement-cells
+  value-place = first-cell (a .block) 2 (omega arith)
+
+  value-size : getD st (k * 7 + 3) 0 ≡ x .value .length
+  unfolding statement-cells
+  value-size = first-cell (a .block) 3 (omega arith)
+
+  value-code : getD st (k * 7 + 4) 0 ≡ code-of (x .value)
+  unfolding statement-cells
+  value-code = first-cell (a .block) 4 (omega arith)
+
+  brace-place : getD st (k * 7 + 5) 0 ≡ place-or (x .brace)
+  unfolding statement-cells
+  brace-place = first-cell (a .block) 5 (omega arith)
+
+  name-place : getD st (k * 7 + 0) 0 ≡ x .name .place
+  unfolding statement-cells
+  name-place = first-cell (a .block) 0 (omega arith)
+
+  name-size : getD st (k * 7 + 1) 0 ≡ x .name .length
+  unfolding statement-cells
+  name-size = first-cell (a .block) 1 (omega arith)
+
+  type-cell : getD d (j * 19 + 12) 0 ≡ code-of (y .definition .word)
+  type-cell = ap (λ i. getD d (i * 19 + 12) 0) (sym (a .row)) ∙ cell-type f (a .case .definitions) (in-room (a .case)) (stands-at (a .case .situation) (a .stands) (a .has) .nth)
+
+  list-cell : getD d (j * 19 + 6) 0 ≡ bit (y .definition .list)
+  list-cell = ap (λ i. getD d (i * 19 + 6) 0) (sym (a .row)) ∙ cell-list f (a .case .definitions) (in-room (a .case)) (stands-at (a .case .situation) (a .stands) (a .has) .nth)
+
+  type-formed : Formed s (y .definition) (y .values)
+  type-formed = formed-at (a .case .situation) (a .stands) (a .has)
+
+  -- No type's word has a code below 22.
+  pub value-none : (c : ℕ) → c ≡ getD d (j * 19 + 12) 0 → c < 22 → ⊥
+  value-none c e h = go (e ∙ type-cell) type-formed
+    where
+      go : c ≡ code-of (y .definition .word) → {vs : Values} → Formed s (y .definition) vs → ⊥
+      go q (an-integer i t w b) = omega arith
+      go q (a-string t w b) = omega arith
+      go q (a-boolean t w b v) = omega arith
+      go q (an-enum t w b v) = omega arith
+      go q (a-reference r t w b) = omega arith
+
+  -- From 22 up to 34 it is a reference.
+  pub value-reference : (c at len code brace : ℕ) (g : Fault) → c ≡ getD d (j * 19 + 12) 0 → 22 ≤ c → c < 35
+      → at ≡ getD st (k * 7 + 2) 0 → len ≡ getD st (k * 7 + 3) 0 → code ≡ getD st (k * 7 + 4) 0 → brace ≡ getD st (k * 7 + 5) 0
+      → ReferenceFault s o (z .objects) (c - 22) at len code g
+      → sooner-of g (faultIf (not (eqb brace 0)) 15 brace) ≡ fault-of (first (faults-as (y .definition .type) (f .objects) x y))
+  unfolding faults-as bit
+  value-reference c at len code brace g e l h pa pl pc pb r = go (e ∙ type-cell) type-formed
+    where
+      unfolded : (q : Kind) → y .definition .type ≡ reference q
+          → fault-of (first (reference-faults (f .objects) q (sort-of (x .value .class)) (x .value) ++ brace-faults (x .brace))) ≡ fault-of (first (faults-as (y .definition .type) (f .objects) x y))
+      unfolded q t = sym (ap (λ u. fault-of (first (faults-as u (f .objects) x y))) t)
+
+      go : c ≡ code-of (y .definition .word) → {vs : Values} → Formed s (y .definition) vs
+          → sooner-of g (faultIf (not (eqb brace 0)) 15 brace) ≡ fault-of (first (faults-as (y .definition .type) (f .objects) x y))
+      go m (an-integer i t w b) = absurd (omega arith)
+      go m (a-string t w b) = absurd (omega arith)
+      go m (a-boolean t w b v) = absurd (omega arith)
+      go m (an-enum t w b v) = absurd (omega arith)
+      go m (a-reference q t w b) =
+          let n : c - 22 ≡ kind-number q = omega arith in
+          let room-of = a .case .object-room in
+          let v = first-value (a .block) in
+          let g-is : g ≡ fault-of (first (reference-faults (f .objects) q (sort-of (x .value .class)) (x .value))) =
+          r f q (x .value) (a .case .situation) (a .case .objects) (a .case .object-count) (omega arith) n (v .bytes ∙ sym (ap₂ (partOf s) (pa ∙ value-place) (pl ∙ value-size)))
+          (sym (pa ∙ value-place)) (sym (pc ∙ value-code)) in
+          ap₂ sooner-of g-is (brace-fault (x .brace) brace (pb ∙ brace-place) (first-brace (a .block)))
+          ∙ sym (fault-append (reference-faults (f .objects) q (sort-of (x .value .class)) (x .value)) (brace-faults (x .brace))
+          (positive-reference (f .objects) q (sort-of (x .value .class)) (x .value)) (positive-brace (x .brace)))
+          ∙ unfolded q t
+
+  -- From 35 on it is not.
+  pub value-other : (c at len code : ℕ) (b : Bool) → c ≡ getD d (j * 19 + 12) 0 → 35 ≤ c
+      → at ≡ getD st (k * 7 + 2) 0 → len ≡ getD st (k * 7 + 3) 0 → code ≡ getD st (k * 7 + 4) 0
+      → Takes s d e (z .enumerators) j at len code b → faultIf (not b) 15 at ≡ fault-of (first (faults-as (y .definition .type) (f .objects) x y))
+  unfolding faults-as bit
+  value-other c at len code b e h pa pl pc r =
+      let v = first-value (a .block) in
+      let same-place = pa ∙ value-place in
+      let read : ReadAt s (x .value) at len = record { bytes = v .bytes ∙ sym (ap₂ (partOf s) same-place (pl ∙ value-size)); number = v .number ∙ ap (λ p. num-of-step (stepAt s p)) (sym same-place) } in
+      let taken : b ≡ fits (y .definition) (y .values) (x .value) =
+      r f y (x .value) (a .case .situation) (a .case .definitions) (a .case .enumerators)
+      (subst (λ i. RowOf f i y) (a .row) (row-of (a .case .situation) (a .stands) (a .has)))
+      (row-room j (a .case) (a .stands) (a .has) (a .row)) (all-reached (a .case) (y .values)) read (sym (pc ∙ value-code)) in
+      ap (λ t. faultIf (not t) 15 at) taken
+      ∙ fault-one (not (fits (y .definition) (y .values) (x .value))) (x .value) 15 at (sym same-place)
+      ∙ go (e ∙ type-cell) type-formed
+    where
+      no-reference : (u : AttributeType) → y .definition .type ≡ u
+          → faults-as u (f .objects) x y ≡ fault-if (not (fits (y .definition) (y .values) (x .value))) (x .value) 15
+          → fault-of (first (fault-if (not (fits (y .definition) (y .values) (x .value))) (x .value) 15)) ≡ fault-of (first (faults-as (y .definition .type) (f .objects) x y))
+      no-reference u t q = ap (λ l. fault-of (first l)) (sym q ∙ sym (ap (λ w. faults-as w (f .objects) x y) t))
+
+      go : c ≡ code-of (y .definition .word) → {vs : Values} → Formed s (y .definition) vs
+          → fault-of (first (fault-if (not (fits (y .definition) (y .values) (x .value))) (x .value) 15)) ≡ fault-of (first (faults-as (y .definition .type) (f .objects) x y))
+      go m (an-integer i t w b) = no-reference (integer i) t refl
+      go m (a-string t w b) = no-reference string t refl
+      go m (a-boolean t w b v) = no-reference boolean t refl
+      go m (an-enum t w b v) = no-reference enum t refl
+      go m (a-reference q t w b) = let l = kind-below q in absurd (omega arith)
+
+  -- A list may be stated again.
+  pub again-list : (c : ℕ) (before : Statements) → c ≡ getD d (j * 19 + 6) 0 → (c ≡ 0 → ⊥) → false ≡ both (not (y .definition .list)) (among (x .name) (names before))
+  unfolding faults-as bit
+  again-list c before e h = go (y .definition .list) (e ∙ list-cell)
+    where
+      go : (b : Bool) → c ≡ bit b → false ≡ both (not b) (among (x .name) (names before))
+      go true q = refl
+      go false q = absurd (h q)
+
+  -- A single attribute may not.
+  pub again-single : (c name size m : ℕ) (r : Bool) (before : Statements) → c ≡ getD d (j * 19 + 6) 0 → c ≡ 0 → name ≡ getD st (k * 7 + 0) 0 → size ≡ getD st (k * 7 + 1) 0
+      → BlockAt s st m k before → IsStated s st m k name size r → r ≡ both (not (y .definition .list)) (among (x .name) (names before))
+  unfolding faults-as bit
+  again-single c name size m r before e h n l b g =
+      g before (x .name) b (first-name (a .block) .bytes ∙ sym (ap₂ (partOf s) (n ∙ name-place) (l ∙ name-size))) ∙ go (y .definition .list) (sym h ∙ e ∙ list-cell)
+    where
+      go : (t : Bool) → 0 ≡ bit t → among (x .name) (names before) ≡ both (not t) (among (x .name) (names before))
+      go true q = absurd (one-zero q)
+      go false q = refl
+
+  -- 14, and then those of the value.
+  pub own-by : (name : ℕ) (r : Bool) (g : Fault) (before : Statements) → name ≡ getD st (k * 7 + 0) 0 → r ≡ both (not (y .definition .list)) (among (x .name) (names before))
+      → g ≡ fault-of (first (faults-as (y .definition .type) (f .objects) x y)) → sooner-of (faultIf r 14 name) g ≡ fault-of (first (own-faults (f .objects) x y (names before)))
+  unfolding own-faults
+  own-by name r g before n e q =
+      let t = both (not (y .definition .list)) (among (x .name) (names before)) in
+      ap₂ sooner-of (ap (λ b. faultIf b 14 name) e ∙ fault-one t (x .name) 14 name (sym (n ∙ name-place))) q
+      ∙ sym (fault-append (fault-if t (x .name) 14) (faults-as (y .definition .type) (f .objects) x y) (positive-if t (x .name) 14 (omega arith)) (positive-as (y .definition .type) (f .objects) x y))
+
+-- 16 ---------------------------------------------------------------------------------------------------------------------------------------
+
+module _ (s d st ms : List ℕ) (z : Sizes) (key m n owner : ℕ) where
+  -- The place 0 is no word's.
+  pub lack-none : key ≡ 0 → LackFault s d st ms z key m n owner (record { number = 0; place = 0 })
+  unfolding lacks fault-if first fault-of
+  lack-none h e o f ds ss w c b p = go (c .scope) h
+    where
+      go : {k : ℕ} {us : Definitions} → ScopeAt f k us → k ≡ 0 → record { number = 0; place = 0 } ≡ fault-of (first (fault-if (lacks us (names ss)) w 16))
+      go no-scope q = refl
+      go (scope g t) q = let l = file-stands (c .case .situation) t .0 .later in absurd (omega arith)
+
+  pub lack-some : (r : Bool) → (key ≡ 0 → ⊥) → Lacks s d st ms (z .definitions) key m n r → LackFault s d st ms z key m n owner (faultIf r 16 owner)
+  lack-some r h l e o f ds ss w c b p = ap (λ t. faultIf t 16 owner) (go (c .scope) h l b) ∙ fault-one (lacks ds (names ss)) w 16 owner p
+    where
+      go : {k : ℕ} {us : Definitions} → ScopeAt f k us → (k ≡ 0 → ⊥) → Lacks s d st ms (z .definitions) k m n r → BlockAt s st m n ss → r ≡ lacks us (names ss)
+      go no-scope q g t = absurd (q refl)
+      go (scope {u} {ds = us} i t) q g t′ =
+          g f u us ss
+          (record {
+            enumerator-table = e;
+            object-table = o;
+            sizes = z;
+            case = c .case;
+            most = omega arith;
+            marked = c .marked;
+            stands = t;
+            place = i;
+            block = t′;
+          })
+          (λ x y. row-less (c .case) t y)
+
+-- One statement ----------------------------------------------------------------------------------------------------------------------------
+
+row-nothing : (o : Option Defined) → Nothing ≡ row-found o → o ≡ none
+unfolding row-found
+row-nothing none h = refl
+row-nothing (some y) h = absurd (false≢true (ap isFound h))
+
+record FoundAs (o : Option Defined) (j : ℕ) : Type 0 where
+  defined : Defined
+  is : o ≡ some defined
+  row : defined .definition .row ≡ j
+
+at-row : Found → ℕ
+at-row (At i) = i
+at-row Nothing = 0
+
+row-found-as : (o : Option Defined) (j : ℕ) → At j ≡ row-found o → FoundAs o j
+unfolding row-found at-row
+row-found-as none j h = absurd (false≢true (sym (ap isFound h)))
+row-found-as (some y) j h = record { defined = y; is = refl; row = sym (ap at-row h) }
+
+-- The word that a found definition stands under.
+record Standing-under (f : File) (ds : Definitions) : Type 0 where
+  word-of : Word
+  stands : Stands (f .specs) word-of ds
+
+stands-of : {f : File} {key : ℕ} {ds : Definitions} {y : Defined} → ScopeAt f key ds → HasDefinition ds y → Standing-under f ds
+stands-of (scope {u} g t) h = record { word-of = u; stands = t }
+
+inside-fault : (l : List Refusal) (x : Statement) (us : Definitions) (ns : List Word) (k : Definitions → List Refusal) → isFault (fault-of (first l)) ≡ true → and-inside l x us ns k ≡ l
+unfolding and-inside first fault-of isFault
+inside-fault [] x us ns k h = absurd (false≢true h)
+inside-fault (f ∷ fs) x us ns k h = refl
+
+fault-number : (g : Fault) → isFault g ≡ false → g .number ≡ 0
+unfolding isFault
+fault-number g h = eqb-true (g .number) 0 (not-false (eqb (g .number) 0) h)
+
+module _ (s d e o st ms : List ℕ) (z : Sizes) (key m k n name size : ℕ) (pn : name ≡ getD st (k * 7 + 0) 0) (ps : size ≡ getD st (k * 7 + 1) 0) where
+  -- The definition of the statement's name.
+  looked-up : {f : File} {ds : Definitions} {x : Statement} {inside rest : Statements} {after : ℕ} (r : Found) → Scoped s d e o st ms z key f ds → BlockAt s st k after (state x inside rest)
+      → FindsDefinition s d (z .definitions) key name size r → r ≡ row-found (find-definition ds (x .name))
+  unfolding statement-cells
+  looked-up {f} {ds} {x} r c b g =
+      let l = c .case .definition-room in
+      g f ds (x .name) (c .case .situation) (c .case .definitions) (c .case .definition-count) (omega arith) (c .scope)
+      (first-name b .bytes ∙ sym (ap₂ (partOf s) (pn ∙ first-cell b 0 (omega arith)) (ps ∙ first-cell b 1 (omega arith))))
+
+  pub one-undefined : FindsDefinition s d (z .definitions) key name size Nothing → JudgesOne s d e o st ms z key m k n (record { number = 13; place = name })
+  unfolding judged faultIf statement-cells
+  one-undefined g f ds before x inside rest after c b a q =
+      let h = row-nothing (find-definition ds (x .name)) (looked-up Nothing c a g) in
+      fault-one true (x .name) 13 name (sym (pn ∙ first-cell a 0 (omega arith)))
+      ∙ ap (λ t. fault-of (first (judged t (f .objects) x (names before) (names inside) (λ us. judge inside (f .objects) us [])))) (sym h)
+
+  stated-as : {f : File} {ds : Definitions} {x : Statement} {inside rest : Statements} {after : ℕ} (j : ℕ) (y : Defined) → Scoped s d e o st ms z key f ds
+      → BlockAt s st k after (state x inside rest) → find-definition ds (x .name) ≡ some y → y .definition .row ≡ j → StatedAs s d e o st z k j f x y
+  stated-as {f} {ds} {x} {inside} {rest} {after} j y c b h r =
+      let t = found-definition ds (x .name) h in
+      let u = stands-of (c .scope) t in
+      record { case = c .case; inside = inside; rest = rest; after = after; block = b; under = u .word-of; scope = ds; stands = u .stands; has = t; row = r }
+
+  pub one-fault : (j : ℕ) (g : Fault) → FindsDefinition s d (z .definitions) key name size (At j) → OwnFault s d e o st z m k j g → isFault g ≡ true → JudgesOne s d e o st ms z key m k n g
+  unfolding judged
+  one-fault j g p w h f ds before x inside rest after c b a q =
+      let y = row-found-as (find-definition ds (x .name)) j (looked-up (At j) c a p) in
+      let i = w f x (y .defined) before (stated-as j (y .defined) c a (y .is) (y .row)) b in
+      i
+      ∙ ap (λ l. fault-of (first l)) (sym (inside-fault (own-faults (f .objects) x (y .defined) (names before)) x (under (y .defined .values) (x .value)) (names inside) (λ us. judge inside (f .objects) us [])
+      (ap isFault (sym i) ∙ h)))
+      ∙ ap (λ t. fault-of (first (judged t (f .objects) x (names before) (names inside) (λ us. judge inside (f .objects) us [])))) (sym (y .is))
+
+  pub one-inside : (j at len key′ : ℕ) (g r : Fault) → FindsDefinition s d (z .definitions) key name size (At j) → OwnFault s d e o st z m k j g → isFault g ≡ false
+      → at ≡ getD st (k * 7 + 2) 0 → len ≡ getD st (k * 7 + 3) 0 → FindsWord s d e (z .enumerators) j at len key′ → JudgesBlock s d e o st ms z key′ (k + 1) n at r
+      → JudgesOne s d e o st ms z key m k n r
+  unfolding judged and-inside statement-cells
+  one-inside j at len key′ g r p w h pa pl v l f ds before x inside rest after c b a q =
+      let y = row-found-as (find-definition ds (x .name)) j (looked-up (At j) c a p) in
+      let t = y .defined in
+      let sa = stated-as j t c a (y .is) (y .row) in
+      let i = w f x t before sa b in
+      let none-own = no-fault (own-faults (f .objects) x t (names before)) (positive-own (f .objects) x t (names before)) (ap (λ (u : Fault). u .number) (sym i) ∙ fault-number g h) in
+      let vi = first-value a in
+      let pa′ = pa ∙ first-cell a 2 (omega arith) in
+      let key-is = v f t (x .value) (c .case .situation) (c .case .definitions) (c .case .enumerators)
+      (subst (λ u. RowOf f u t) (y .row) (row-of (c .case .situation) (sa .stands) (sa .has))) (row-room j (c .case) (sa .stands) (sa .has) (y .row)) (all-reached (c .case) (t .values))
+      (vi .bytes ∙ sym (ap₂ (partOf s) pa′ (pl ∙ first-cell a 3 (omega arith)))) in
+      let sc : ScopeAt f key′ (under (t .values) (x .value)) = subst (λ u. ScopeAt f u (under (t .values) (x .value))) (sym key-is) (scope-under (x .value) (c .case .situation) (row-of (c .case .situation) (sa .stands) (sa .has))) in
+      let k₁ : suc k ≡ k + 1 = omega arith in
+      let bi : BlockAt s st (k + 1) n inside = subst (λ u. BlockAt s st u n inside) k₁ (subst (λ u. BlockAt s st (suc k) u inside) (sym q) (inside-at a)) in
+      l f (under (t .values) (x .value)) inside (x .value) (record { case = c .case; marked = c .marked; scope = sc }) bi (sym pa′)
+      ∙ ap (λ w. fault-of (first (and-inside w x (under (t .values) (x .value)) (names inside) (λ us. judge inside (f .objects) us [])))) (sym none-own)
+      ∙ ap (λ t. fault-of (first (judged t (f .objects) x (names before) (names inside) (λ us. judge inside (f .objects) us [])))) (sym (y .is))
+
+-- A block ----------------------------------------------------------------------------------------------------------------------------------
+
+pub block-by : (s d e o st ms : List ℕ) (z : Sizes) (key m n owner : ℕ) (a b r : Fault) → r ≡ sooner-of a b → LackFault s d st ms z key m n owner a → Judges s d e o st ms z key m n b
+    → JudgesBlock s d e o st ms z key m n owner r
+block-by s d e o st ms z key m n owner a b r i g h f ds ss w c t p =
+    i
+    ∙ ap₂ sooner-of (g e o f ds ss w c t p) (h f ds ss c t)
+    ∙ sym (fault-append (fault-if (lacks ds (names ss)) w 16) (judge ss (f .objects) ds []) (positive-if (lacks ds (names ss)) w 16 (omega arith)) (positive-judge ss (f .objects) ds []))
+
+-- The loop over a block's own statements: those in front are judged.
+pub record Gone (m k : ℕ) (f : File) (ds : Definitions) (ss : Statements) (best : Fault) : Type 0 where
+  pub front : Statements
+  pub rest : Statements
+  pub whole : ss ≡ then front rest
+  pub row : k ≡ m + statements-in front
+  pub found : best ≡ fault-of (first (judge front (f .objects) ds []))
+
+abbrev pub Judging : (s d e o st ms : List ℕ) → Sizes → (key m n k : ℕ) → Fault → Type 0
+Judging s d e o st ms z key m n k best =
+    (f : File) (ds : Definitions) (ss : Statements) → Scoped s d e o st ms z key f ds → BlockAt s st m n ss → Gone m k f ds ss best
+
+judge-then : (a b : Statements) (os : List Object) (ds : Definitions) (ns : List Word) → judge (then a b) os ds ns ≡ judge a os ds ns ++ judge b os ds (ns ++ names a)
+unfolding then judge names
+judge-then done b os ds ns = ap (judge b os ds) (sym (append-nil ns))
+judge-then (state x inside rest) b os ds ns =
+    let l = judged (find-definition ds (x .name)) os x ns (names inside) (λ us. judge inside os us []) in
+    ap (λ r. l ++ r) (judge-then rest b os ds (ns ++ (x .name ∷ [])))
+    ∙ ap (λ r. l ++ (judge rest os ds (ns ++ (x .name ∷ [])) ++ judge b os ds r)) (append-assoc ns (x .name ∷ []) (names rest))
+    ∙ sym (append-assoc l (judge rest os ds (ns ++ (x .name ∷ []))) (judge b os ds (ns ++ (x .name ∷ names rest))))
+
+module _ (s d e o st ms : List ℕ) (z : Sizes) (key m n : ℕ) where
+  pub judging-start : Judging s d e o st ms z key m n m (record { number = 0; place = 0 })
+  unfolding then statements-in judge first fault-of
+  judging-start f ds ss c b = record { front = done; rest = ss; whole = refl; row = omega arith; found = refl }
+
+  pub judging-more : (k : ℕ) (best g : Fault) → k < n → JudgesOne s d e o st ms z key m k (row-after st k n) g → Judging s d e o st ms z key m n k best
+      → Judging s d e o st ms z key m n (row-after st k n) (sooner-of best g)
+  unfolding then statements-in judge
+  judging-more k best g h w i f ds ss c b = go (i f ds ss c b .front) (i f ds ss c b .rest) (i f ds ss c b .whole) (i f ds ss c b .row) (i f ds ss c b .found)
+    where
+      go : (front rest : Statements) → ss ≡ then front rest → k ≡ m + statements-in front → best ≡ fault-of (first (judge front (f .objects) ds []))
+          → Gone m (row-after st k n) f ds ss (sooner-of best g)
+      go front done p q t =
+          let l = b .after in
+          let l′ = ap statements-in p in
+          let l″ = in-then front done in
+          absurd (omega arith)
+      go front (state x inside rest) p q t =
+          let b′ : BlockAt s st m n (then front (state x inside rest)) = subst (BlockAt s st m n) p b in
+          let bf : BlockAt s st m k front = subst (λ u. BlockAt s st m u front) (sym q) (front-at front (state x inside rest) b′) in
+          let bb : BlockAt s st k n (state x inside rest) = subst (λ u. BlockAt s st u n (state x inside rest)) (sym q) (back-at front (state x inside rest) b′) in
+          let a = first-after bb in
+          let v = w f ds front x inside rest n c bf bb a in
+          let j = judged (find-definition ds (x .name)) (f .objects) x (names front) (names inside) (λ us. judge inside (f .objects) us []) in
+          let one : judge (state x inside done) (f .objects) ds (names front) ≡ j = append-nil j in
+          let l = in-then front (state x inside done) in
+          record {
+            front = then front (state x inside done);
+            rest = rest;
+            whole = p ∙ sym (then-assoc front (state x inside done) rest);
+            row = omega arith;
+            found = ap₂ sooner-of t v
+                ∙ sym (fault-append (judge front (f .objects) ds []) j (positive-judge front (f .objects) ds [])
+                (positive-judged (find-definition ds (x .name)) (f .objects) x (names front) (names inside) (λ us. judge inside (f .objects) us []) (λ us. positive-judge inside (f .objects) us [])))
+                ∙ ap (λ r. fault-of (first (judge front (f .objects) ds [] ++ r))) (sym one)
+                ∙ ap (λ r. fault-of (first r)) (sym (judge-then front (state x inside done) (f .objects) ds []));
+          }
+
+  pub judging-step : (k next : ℕ) (best g r : Fault) → next ≡ row-after st k n → r ≡ sooner-of best g → k < n → JudgesOne s d e o st ms z key m k next g
+      → Judging s d e o st ms z key m n k best → Judging s d e o st ms z key m n next r
+  judging-step k next best g r p q h w i =
+      subst (λ b. Judging s d e o st ms z key m n next b) (sym q)
+      (subst (λ a. Judging s d e o st ms z key m n a (sooner-of best g)) (sym p)
+      (judging-more k best g h (subst (λ a. JudgesOne s d e o st ms z key m k a g) p w) i))
+
+  pub judging-end : (k : ℕ) (best : Fault) → n ≤ k → Judging s d e o st ms z key m n k best → Judges s d e o st ms z key m n best
+  unfolding statements-in
+  judging-end k best h i f ds ss c b = go (i f ds ss c b .front) (i f ds ss c b .rest) (i f ds ss c b .whole) (i f ds ss c b .row) (i f ds ss c b .found)
+    where
+      go : (front rest : Statements) → ss ≡ then front rest → k ≡ m + statements-in front → best ≡ fault-of (first (judge front (f .objects) ds []))
+          → best ≡ fault-of (first (judge ss (f .objects) ds []))
+      go front done p q t = t ∙ ap (λ r. fault-of (first (judge r (f .objects) ds []))) (sym (p ∙ then-done front))
+      go front (state x inside rest) p q t =
+          let l = b .after in
+          let l′ = ap statements-in p in
+          let l″ = in-then front (state x inside rest) in
+          absurd (omega arith)
+
+-- All objects ------------------------------------------------------------------------------------------------------------------------------
+
+pub object-by : (s d e o st ms : List ℕ) (z : Sizes) (ps : List ℕ) (i kind key owner m n : ℕ) (r : Fault)
+    → kind ≡ getD o (i * 9 + 0) 0 → key ≡ getD ps kind 0 → owner ≡ getD o (i * 9 + 3) 0 → m ≡ getD o (i * 9 + 7) 0 → n ≡ getD o (i * 9 + 8) 0
+    → JudgesBlock s d e o st ms z key m n owner r → JudgesObject s d e o st ms z ps i r
+unfolding object-cells judge-object
+object-by s d e o st ms z ps i kind key owner m n r pk py po pm pn g f front x rest c mk pl w q =
+    let l = c .object-room in
+    let l′ = c .object-count in
+    let l″ = c .statement-room in
+    let cell : (a : ℕ) → a < 9 → getD o (i * 9 + a) 0 ≡ getD (object-cells x (statement-count front)) a 0 =
+    λ a h. ap (λ j. getD o (j * 9 + a) 0) (sym q) ∙ object-cell s f front x rest w o (c .objects) (omega arith) a h in
+    let kind-is : kind ≡ kind-number (x .kind) = pk ∙ cell 0 (omega arith) in
+    let key-is : key ≡ kind-place (kind-number (x .kind)) (f .specs) = py ∙ ap (λ a. getD ps a 0) kind-is ∙ pl (x .kind) in
+    let m-is : m ≡ statement-count front = pm ∙ cell 7 (omega arith) in
+    let n-is : n ≡ statement-count front + statements-in (x .statements) = pn ∙ cell 8 (omega arith) in
+    let ws = subst (λ h. AllIn s (object-words (h .objects))) (sym (c .situation .syntax-of)) (objects-in s _ (file-in s (c .situation .derivation))) in
+    let b = object-block s f front x rest w st (c .statements) (omega arith) ws in
+    g f (of-kind (x .kind) (f .specs)) (x .statements) (x .name)
+    (record { case = c; marked = mk; scope = subst (λ a. ScopeAt f a (of-kind (x .kind) (f .specs))) (sym key-is) (scope-of-kind f (x .kind)) })
+    (subst (λ a. BlockAt s st a n (x .statements)) (sym m-is) (subst (λ a. BlockAt s st (statement-count front) a (x .statements)) (sym n-is) b))
+    (sym (po ∙ cell 3 (omega arith)))
+
+positive-object : (f : File) (x : Object) (ds : Definitions) → Positive (judge-object f x ds)
+unfolding judge-object
+positive-object f x ds =
+    positive-append (fault-if (lacks ds (names (x .statements))) (x .name) 16) (judge (x .statements) (f .objects) ds [])
+    (positive-if (lacks ds (names (x .statements))) (x .name) 16 (omega arith)) (positive-judge (x .statements) (f .objects) ds [])
+
+positive-objects : (f : File) (xs : List Object) → Positive (judge-objects f xs)
+unfolding judge-objects
+positive-objects f [] = tt
+positive-objects f (x ∷ xs) =
+    positive-append (judge-object f x (of-kind (x .kind) (f .specs))) (judge-objects f xs) (positive-object f x (of-kind (x .kind) (f .specs))) (positive-objects f xs)
+
+objects-append : (f : File) (a : List Object) (x : Object) → judge-objects f (a ++ (x ∷ [])) ≡ judge-objects f a ++ judge-object f x (of-kind (x .kind) (f .specs))
+unfolding judge-objects
+objects-append f [] x = append-nil (judge-object f x (of-kind (x .kind) (f .specs)))
+objects-append f (y ∷ a) x =
+    let l = judge-object f y (of-kind (y .kind) (f .specs)) in
+    ap (λ r. l ++ r) (objects-append f a x) ∙ sym (append-assoc l (judge-objects f a) (judge-object f x (of-kind (x .kind) (f .specs))))
+
+-- The loop over the objects: those in front are judged.
+pub record GoneObjects (i : ℕ) (f : File) (best : Fault) : Type 0 where
+  pub front : List Object
+  pub rest : List Object
+  pub whole : f .objects ≡ front ++ rest
+  pub row : length front ≡ i
+  pub found : best ≡ fault-of (first (judge-objects f front))
+
+abbrev pub JudgingObjects : (s d e o st ms : List ℕ) → Sizes → (ps : List ℕ) → ℕ → Fault → Type 0
+JudgingObjects s d e o st ms z ps i best = (f : File) → Case s d e o st z f → Marked f ms (z .definitions) → Places f ps → GoneObjects i f best
+
+module _ (s d e o st ms : List ℕ) (z : Sizes) (ps : List ℕ) where
+  pub objects-start : JudgingObjects s d e o st ms z ps 0 (record { number = 0; place = 0 })
+  unfolding judge-objects first fault-of
+  objects-start f c mk pl = record { front = []; rest = f .objects; whole = refl; row = refl; found = refl }
+
+  pub objects-more : (i : ℕ) (best g : Fault) → i < z .objects → JudgesObject s d e o st ms z ps i g → JudgingObjects s d e o st ms z ps i best
+      → JudgingObjects s d e o st ms z ps (i + 1) (sooner-of best g)
+  objects-more i best g h w v f c mk pl = go (v f c mk pl .front) (v f c mk pl .rest) (v f c mk pl .whole) (v f c mk pl .row) (v f c mk pl .found)
+    where
+      go : (front rest : List Object) → f .objects ≡ front ++ rest → length front ≡ i → best ≡ fault-of (first (judge-objects f front)) → GoneObjects (i + 1) f (sooner-of best g)
+      go front [] p q t =
+          let l = c .object-count in
+          let l′ = ap (λ (a : List Object). length a) (p ∙ append-nil front) in
+          absurd (omega arith)
+      go front (x ∷ rest) p q t =
+          let j = judge-object f x (of-kind (x .kind) (f .specs)) in
+          let l = length-append front (x ∷ []) in
+          record {
+            front = front ++ (x ∷ []);
+            rest = rest;
+            whole = p ∙ sym (append-assoc front (x ∷ []) rest);
+            row = omega arith;
+            found = ap₂ sooner-of t (w f front x rest c mk pl p q)
+                ∙ sym (fault-append (judge-objects f front) j (positive-objects f front) (positive-object f x (of-kind (x .kind) (f .specs))))
+                ∙ ap (λ r. fault-of (first r)) (sym (objects-append f front x));
+          }
+
+  pub objects-step : (i : ℕ) (best g r : Fault) → r ≡ sooner-of best g → i < z .objects → JudgesObject s d e o st ms z ps i g → JudgingObjects s d e o st ms z ps i best
+      → JudgingObjects s d e o st ms z ps (i + 1) r
+  objects-step i best g r q h w v = subst (λ b. JudgingObjects s d e o st ms z ps (i + 1) b) (sym q) (objects-more i best g h w v)
+
+  pub objects-end : (i : ℕ) (best : Fault) → z .objects ≤ i → JudgingObjects s d e o st ms z ps i best → JudgesObjects s d e o st ms z ps best
+  unfolding statement-stage
+  objects-end i best h v f c mk pl = go (v f c mk pl .front) (v f c mk pl .rest) (v f c mk pl .whole) (v f c mk pl .row) (v f c mk pl .found)
+    where
+      go : (front rest : List Object) → f .objects ≡ front ++ rest → length front ≡ i → best ≡ fault-of (first (judge-objects f front)) → best ≡ fault-of (first (judge-objects f (f .objects)))
+      go front [] p q t = t ∙ ap (λ r. fault-of (first (judge-objects f r))) (sym (p ∙ append-nil front))
+      go front (x ∷ rest) p q t =
+          let l = c .object-count in
+          let l′ = ap (λ (a : List Object). length a) p in
+          let l″ = length-append front (x ∷ rest) in
+          absurd (omega arith)

@@ -1,0 +1,5 @@
+pub mod Standings
+pub mod Tables
+pub mod Lacking
+pub mod Ordering
+pub mod Judgements

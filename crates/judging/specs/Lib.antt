@@ -1,0 +1,2 @@
+-- What the functions that judge statements promise. Assumes nothing.
+pub mod Promises

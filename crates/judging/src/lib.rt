@@ -1,0 +1,198 @@
+// The faults 13 to 16 and 18: the statements of a text, judged over the rows kept while it was read.
+ghost use mathlib.Core.Path.{_≡_};
+ghost use Prim.Native.Nat.{_<_};
+ghost use Rattle.judging.specs.Promises.{LackFault, Judges, JudgesOne, JudgesBlock, JudgesObject, JudgesObjects, JudgesAll};
+use blocks::after;
+use blocks::cell_at;
+use rows::Fault;
+use rows::Found;
+use rows::cells;
+use rows::faults;
+use scopes::lookups::find_definition;
+use scopes::lookups::word_under;
+
+mod marking;
+mod values;
+
+// How many rows there are.
+pub struct Sizes {
+    pub definitions: usize,
+    pub enumerators: usize,
+    pub objects: usize,
+}
+
+// 16 at the owner's word, where the block lacks an attribute of the scope of the word at key; 0 is no word's place.
+fn lack_fault(
+    text: &[u8],
+    d: &[usize],
+    st: &[usize],
+    missing: &[usize],
+    z: Sizes,
+    key: usize,
+    from: usize,
+    end: usize,
+    owner: usize,
+) -> Fault
+    ensures { λ r. ⌜ LackFault (now (text .entry)) (now (d .entry)) (now (st .entry)) (now (missing .entry)) z key from end owner r ⌝ }
+{
+    if key == 0 {
+        return Fault {
+            number: 0,
+            place: 0,
+        };
+    }
+    faults::fault_if(
+        marking::lacks(text, d, st, missing, z.definitions, key, from, end),
+        16,
+        owner,
+    )
+}
+
+// The faults of the statements of a block, in the scope of the word at key.
+fn judge(
+    text: &[u8],
+    d: &[usize],
+    e: &[usize],
+    o: &[usize],
+    st: &[usize],
+    missing: &[usize],
+    z: Sizes,
+    key: usize,
+    from: usize,
+    end: usize,
+) -> Fault
+    ensures { λ r. ⌜ Judges (now (text .entry)) (now (d .entry)) (now (e .entry)) (now (o .entry)) (now (st .entry)) (now (missing .entry)) z key from end r ⌝ }
+{
+    let mut best = Fault {
+        number: 0,
+        place: 0,
+    };
+    let mut k = from;
+    while k < end {
+        let next = after(st, k, end);
+        let f = judge_one(text, d, e, o, st, missing, z, key, from, k, next);
+        best = faults::sooner(best, f);
+        k = next;
+    }
+    best
+}
+
+// The faults of one statement, and of those in its braces, the rows from k + 1 to `end`.
+fn judge_one(
+    text: &[u8],
+    d: &[usize],
+    e: &[usize],
+    o: &[usize],
+    st: &[usize],
+    missing: &[usize],
+    z: Sizes,
+    key: usize,
+    from: usize,
+    k: usize,
+    end: usize,
+) -> Fault
+    requires { ⌜ k < end ⌝ }
+    ensures { λ r. ⌜ JudgesOne (now (text .entry)) (now (d .entry)) (now (e .entry)) (now (o .entry)) (now (st .entry)) (now (missing .entry)) z key from k end r ⌝ }
+{
+    let name = cell_at(st, 7, k, 0);
+    let size = cell_at(st, 7, k, 1);
+    let Found::At(j) = find_definition(text, d, z.definitions, key, name, size) else {
+        return Fault {
+            number: 13,
+            place: name,
+        };
+    };
+    let f = values::own_fault(text, d, e, o, st, z, from, k, j);
+    if faults::is_fault(f) {
+        return f;
+    }
+    let at = cell_at(st, 7, k, 2);
+    let len = cell_at(st, 7, k, 3);
+    let under = word_under(text, d, e, z.enumerators, j, at, len);
+    judge_block(text, d, e, o, st, missing, z, under, k + 1, end, at)
+}
+
+// 16 at the owner's word, and the faults of the statements of its block.
+fn judge_block(
+    text: &[u8],
+    d: &[usize],
+    e: &[usize],
+    o: &[usize],
+    st: &[usize],
+    missing: &[usize],
+    z: Sizes,
+    key: usize,
+    from: usize,
+    end: usize,
+    owner: usize,
+) -> Fault
+    ensures { λ r. ⌜ JudgesBlock (now (text .entry)) (now (d .entry)) (now (e .entry)) (now (o .entry)) (now (st .entry)) (now (missing .entry)) z key from end owner r ⌝ }
+{
+    let a = lack_fault(text, d, st, missing, z, key, from, end, owner);
+    let b = judge(text, d, e, o, st, missing, z, key, from, end);
+    faults::sooner(a, b)
+}
+
+// The faults of the object of row i, in the scope of its kind.
+fn judge_object(
+    text: &[u8],
+    d: &[usize],
+    e: &[usize],
+    o: &[usize],
+    st: &[usize],
+    missing: &[usize],
+    z: Sizes,
+    places: &[usize],
+    i: usize,
+) -> Fault
+    ensures { λ r. ⌜ JudgesObject (now (text .entry)) (now (d .entry)) (now (e .entry)) (now (o .entry)) (now (st .entry)) (now (missing .entry)) z (now (places .entry)) i r ⌝ }
+{
+    let kind = cell_at(o, 9, i, 0);
+    let key = cells::get(places, kind);
+    let owner = cell_at(o, 9, i, 3);
+    let from = cell_at(o, 9, i, 7);
+    let end = cell_at(o, 9, i, 8);
+    judge_block(text, d, e, o, st, missing, z, key, from, end, owner)
+}
+
+// The faults of all objects.
+fn judge_objects(
+    text: &[u8],
+    d: &[usize],
+    e: &[usize],
+    o: &[usize],
+    st: &[usize],
+    missing: &[usize],
+    z: Sizes,
+    places: &[usize],
+) -> Fault
+    ensures { λ r. ⌜ JudgesObjects (now (text .entry)) (now (d .entry)) (now (e .entry)) (now (o .entry)) (now (st .entry)) (now (missing .entry)) z (now (places .entry)) r ⌝ }
+{
+    let mut best = Fault {
+        number: 0,
+        place: 0,
+    };
+    let mut i = 0;
+    while i < z.objects {
+        let f = judge_object(text, d, e, o, st, missing, z, places, i);
+        best = faults::sooner(best, f);
+        i += 1;
+    }
+    best
+}
+
+// The fault by which the stage of 13 to 16 and 18 answers; `places` are those of the thirteen kinds' words.
+pub fn judge_all(
+    text: &[u8],
+    d: &[usize],
+    e: &[usize],
+    o: &[usize],
+    st: &[usize],
+    z: Sizes,
+    places: [usize; 13],
+) -> Fault
+    ensures { λ r. ⌜ JudgesAll (now (text .entry)) (now (d .entry)) (now (e .entry)) (now (o .entry)) (now (st .entry)) z places r ⌝ }
+{
+    let missing = marking::marks(text, d, e, st, z);
+    judge_objects(text, d, e, o, st, &missing, z, &places)
+}

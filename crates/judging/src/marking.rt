@@ -1,0 +1,117 @@
+// Which attributes need to be stated: a mark for each row of definitions, and what a block lacks by the marks.
+ghost use mathlib.Core.Path.{_≡_};
+ghost use Prim.Native.Nat.{_+_, _*_};
+ghost use lib.Dec.{eqb};
+ghost use lib.ListN.{getD};
+ghost use Rattle.layout.specs.Kept.{bit};
+ghost use Rattle.judging.specs.Promises.{LacksRow, Lacks, Needs, Marks};
+use super::Sizes;
+use blocks::cell_at;
+use blocks::is_stated;
+use rows::cells;
+use scopes::lookups::word_under;
+
+// Whether row i stands under the word at key and is marked, and the block does not state it.
+fn lacks_row(
+    text: &[u8],
+    d: &[usize],
+    st: &[usize],
+    missing: &[usize],
+    key: usize,
+    i: usize,
+    from: usize,
+    end: usize,
+) -> bool
+    ensures { λ r. ⌜ LacksRow (now (text .entry)) (now (d .entry)) (now (st .entry)) (now (missing .entry)) key i from end r ⌝ }
+{
+    if cell_at(d, 19, i, 0) != key {
+        return false;
+    }
+    if cells::get(missing, i) == 0 {
+        return false;
+    }
+    let name = cell_at(d, 19, i, 2);
+    let size = cell_at(d, 19, i, 3);
+    !is_stated(text, st, from, end, name, size)
+}
+
+// Whether a block lacks one of the attributes under the word at key, among the first n rows.
+pub fn lacks(
+    text: &[u8],
+    d: &[usize],
+    st: &[usize],
+    missing: &[usize],
+    n: usize,
+    key: usize,
+    from: usize,
+    end: usize,
+) -> bool
+    ensures { λ r. ⌜ Lacks (now (text .entry)) (now (d .entry)) (now (st .entry)) (now (missing .entry)) n key from end r ⌝ }
+{
+    let mut i = 0;
+    while i < n {
+        if lacks_row(text, d, st, missing, key, i, from, end) {
+            return true;
+        }
+        i += 1;
+    }
+    false
+}
+
+// 1 where the attribute of row j is single, 0 for a list.
+fn single(d: &[usize], j: usize) -> usize
+    ensures { λ r. ⌜ r ≡ bit (eqb (getD (now (d .entry)) (j * 19 + 6) 0) 0) ⌝ }
+{
+    if cell_at(d, 19, j, 6) == 0 {
+        return 1;
+    }
+    0
+}
+
+// 1 where the attribute of row j needs to be stated, by its default and the marks of the rows before it.
+fn needs(
+    text: &[u8],
+    d: &[usize],
+    e: &[usize],
+    st: &[usize],
+    missing: &[usize],
+    z: Sizes,
+    j: usize,
+) -> usize
+    ensures { λ r. ⌜ Needs (now (text .entry)) (now (d .entry)) (now (e .entry)) (now (st .entry)) (now (missing .entry)) z j r ⌝ }
+{
+    let len = cell_at(d, 19, j, 11);
+    if len == 0 {
+        return single(d, j);
+    }
+    let code = cell_at(d, 19, j, 18);
+    if code == 4 {
+        return single(d, j);
+    }
+    let at = cell_at(d, 19, j, 10);
+    let key = word_under(text, d, e, z.enumerators, j, at, len);
+    if key == 0 {
+        return 0;
+    }
+    if lacks(text, d, st, missing, j, key, 0, 0) {
+        return 1;
+    }
+    0
+}
+
+// The marks of all rows.
+pub fn marks(text: &[u8], d: &[usize], e: &[usize], st: &[usize], z: Sizes) -> [usize; 512]
+    ensures { λ r. ⌜ Marks (now (text .entry)) (now (d .entry)) (now (e .entry)) (now (st .entry)) z r ⌝ }
+{
+    let mut missing = [0; 512];
+    let mut j = 0;
+    while j < z.definitions {
+        if 512 <= j {
+            return missing;
+        }
+        let m = needs(text, d, e, st, &missing, z, j);
+        missing[j] = m;
+        j += 1;
+    }
+    missing
+}

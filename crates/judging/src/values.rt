@@ -1,0 +1,131 @@
+// The faults 14, 15 and 18 of one statement.
+ghost use mathlib.Core.Path.{_≡_};
+ghost use Rattle.judging.specs.Promises.{name-code, ReferenceFault, ValueFault, Again, OwnFault};
+use super::Sizes;
+use blocks::cell_at;
+use blocks::is_stated;
+use rows::Fault;
+use rows::Found;
+use rows::faults;
+use scopes::lookups::find_object;
+use scopes::lookups::takes;
+
+// Whether a word with this code is a name.
+fn is_name(code: usize) -> bool
+    ensures { λ r. ⌜ r ≡ name-code code ⌝ }
+{
+    if code == 42 {
+        return false;
+    }
+    if code == 43 {
+        return false;
+    }
+    if code == 0 {
+        return true;
+    }
+    5 <= code
+}
+
+// 15 and 18 at the value of a reference to a kind.
+fn reference_fault(
+    text: &[u8],
+    o: &[usize],
+    objects: usize,
+    kind: usize,
+    at: usize,
+    len: usize,
+    code: usize,
+) -> Fault
+    ensures { λ r. ⌜ ReferenceFault (now (text .entry)) (now (o .entry)) objects kind at len code r ⌝ }
+{
+    if !is_name(code) {
+        return Fault {
+            number: 15,
+            place: at,
+        };
+    }
+    let Found::At(_) = find_object(text, o, objects, kind, at, len) else {
+        return Fault {
+            number: 18,
+            place: at,
+        };
+    };
+    Fault {
+        number: 0,
+        place: 0,
+    }
+}
+
+// 15 and 18 of the statement of row k, whose attribute has the row j.
+fn value_fault(
+    text: &[u8],
+    d: &[usize],
+    e: &[usize],
+    o: &[usize],
+    st: &[usize],
+    z: Sizes,
+    k: usize,
+    j: usize,
+) -> Fault
+    ensures { λ r. ⌜ ValueFault (now (text .entry)) (now (d .entry)) (now (e .entry)) (now (o .entry)) (now (st .entry)) z k j r ⌝ }
+{
+    let at = cell_at(st, 7, k, 2);
+    let len = cell_at(st, 7, k, 3);
+    let code = cell_at(st, 7, k, 4);
+    let kind = cell_at(d, 19, j, 12);
+    if kind < 22 {
+        return Fault {
+            number: 15,
+            place: at,
+        };
+    }
+    if kind < 35 {
+        let a = reference_fault(text, o, z.objects, kind - 22, at, len, code);
+        let brace = cell_at(st, 7, k, 5);
+        let b = faults::fault_if(brace != 0, 15, brace);
+        return faults::sooner(a, b);
+    }
+    faults::fault_if(!takes(text, d, e, z.enumerators, j, at, len, code), 15, at)
+}
+
+// Whether the attribute of row j is single and stated before the statement of row k, in the block from `from` on.
+fn again(
+    text: &[u8],
+    d: &[usize],
+    e: &[usize],
+    o: &[usize],
+    st: &[usize],
+    z: Sizes,
+    from: usize,
+    k: usize,
+    j: usize,
+) -> bool
+    ensures { λ r. ⌜ Again (now (text .entry)) (now (d .entry)) (now (e .entry)) (now (o .entry)) (now (st .entry)) z from k j r ⌝ }
+{
+    if cell_at(d, 19, j, 6) != 0 {
+        return false;
+    }
+    let name = cell_at(st, 7, k, 0);
+    let size = cell_at(st, 7, k, 1);
+    is_stated(text, st, from, k, name, size)
+}
+
+// 14, 15 and 18 of the statement of row k.
+pub fn own_fault(
+    text: &[u8],
+    d: &[usize],
+    e: &[usize],
+    o: &[usize],
+    st: &[usize],
+    z: Sizes,
+    from: usize,
+    k: usize,
+    j: usize,
+) -> Fault
+    ensures { λ r. ⌜ OwnFault (now (text .entry)) (now (d .entry)) (now (e .entry)) (now (o .entry)) (now (st .entry)) z from k j r ⌝ }
+{
+    let name = cell_at(st, 7, k, 0);
+    let a = faults::fault_if(again(text, d, e, o, st, z, from, k, j), 14, name);
+    let b = value_fault(text, d, e, o, st, z, k, j);
+    faults::sooner(a, b)
+}

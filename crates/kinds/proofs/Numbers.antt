@@ -1,0 +1,25 @@
+-- The kinds by their numbers. Assumes nothing.
+use mathlib.Core.Path.{_≡_, refl, ap, _∙_}
+use Prim.Native.Nat.{ℕ, suc, _≤_}
+use native.Mathlib.Omega.{arith}
+use native.Mathlib.Decide.{ℕ-discrete}
+use lib.ListN.{length, List·getD-eq-default}
+use Rattle.grammar.specs.Grammar.{NM}
+use Rattle.meaning.specs.Kinds.{kinds}
+use Rattle.kinds.specs.Kinds.{kind-at}
+
+-- The last kind is that of 12, and of every number past it.
+pub last-kind : (n : ℕ) → 12 ≤ n → kind-at n ≡ NM
+unfolding kind-at
+last-kind n h = by (ℕ-discrete n 12)
+  where
+    by : Dec (n ≡ 12) → kind-at n ≡ NM
+    by (yes e) = ap kind-at e
+    by (no d) = let k : length kinds ≤ n = omega (arith, d) in List·getD-eq-default kinds NM k
+
+-- A number that is none of the first ones is past them.
+pub zero-least : (n : ℕ) → 0 ≤ n
+zero-least n = omega arith
+
+pub past : (n k : ℕ) → k ≤ n → (n ≡ k → ⊥) → suc k ≤ n
+past n k h d = omega (arith, h, d)

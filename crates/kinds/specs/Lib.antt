@@ -1,0 +1,2 @@
+-- The kinds as the code has them. Assumes nothing.
+pub mod Kinds

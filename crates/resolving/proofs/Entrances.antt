@@ -1,0 +1,331 @@
+-- A value and what is under it, the values that a block states of an attribute, and the one that it takes by default. Assumes nothing.
+use mathlib.Core.Path.{_≡_, refl, sym, _∙_, ap, ap₂, subst}
+use mathlib.Core.List.{List, [], append-nil}
+use mathlib.Core.Bool.{Bool, true, false, false≢true}
+use mathlib.Core.Option.{Option, none, some}
+use Prim.Native.Nat.{ℕ, suc, _+_, _*_, _≤_, _<_}
+use native.Mathlib.Omega.{arith}
+use lib.ListN.{length, getD}
+use lib.Seq.{length-sets}
+use lib.Dec.{eqb}
+use borrow.Author.Tests.{ne-eqb}
+use Rattle.token.specs.Find.{pick}
+use Rattle.token.specs.Words.{same}
+use Rattle.token.specs.Tokens.{partOf, stepAt}
+use Rattle.meaning.specs.Actions.{num-of-step}
+use Rattle.meaning.specs.Syntax.{Word, span-of, span-or, absent, Definition, Definitions, no-more, define, Values, no-value, value, Defined, Statement, Statements, done, state, Object, File, statements-in}
+use Rattle.meaning.specs.Words.{alike, choose}
+use Rattle.meaning.specs.Scopes.{a-number, a-string, a-truth, an-auto, a-no-default, a-name, Under, find-value, definitions-or, under}
+use Rattle.meaning.specs.Judging.{is-no-default, taken-by, taken}
+use Rattle.meaning.specs.Resolving.{Resolved, end, resolved, Owner, of-value, take-value, entries, default-entry, resolve, resolve-under, value-row}
+use Rattle.meaning.specs.Cells.{owner-sort, owner-row, value-cells, flag}
+use Rattle.meaning.proofs.Entries.{joins}
+use Rattle.meaning.proofs.Sites.{option-words}
+use Rattle.layout.specs.Kept.{spec-choices, statement-cells, default-code, code-of, class-number, statement-rows, all-statement-rows}
+use Rattle.blocks.specs.Blocks.{WordIn, AllIn, Holds, StatementsIn, none-in, more-in, BlockAt, row-after}
+use Rattle.blocks.proofs.Ranges.{first-cell, first-name, first-after, inside-at, rest-at}
+use Rattle.blocks.proofs.Files.{statements-held}
+use Rattle.scopes.specs.Situations.{Situation, HasDefinition, this-definition, later-definition, ScopeAt, Reached}
+use Rattle.scopes.specs.Promises.{FindsWord}
+use Rattle.resolving.specs.declared.Sizes.{Sizes}
+use Rattle.resolving.specs.declared.Owner.{Owner as OwnerOf}
+use Rattle.resolving.specs.Tables.{Tables, Given, Attribute, Below}
+use Rattle.resolving.specs.Written.{Wrote, Owns}
+use Rattle.resolving.specs.Promises.{WordAt, PutValue, inner-of, one-entry, stated-entries, default-entries, Room, Enters, EntersStated, ResolvesStated, ResolvesDefault, Resolves}
+use Rattle.resolving.proofs.Sorts.{sort-coded, tells}
+use Rattle.resolving.proofs.Standings.{under-below, value-has, scope-under}
+use Rattle.resolving.proofs.Turns.{known}
+use Rattle.resolving.proofs.Writes.{wrote-length, wrote-none, wrote-full, wrote-joins, wrote-entry, wrote-same, joins-end, joins-joins}
+
+-- A value and what is under it --------------------------------------------------------------------------------------------------------------
+
+-- Under a value is the scope of the list's value that has its word.
+under-is : (vs : Values) (os : List Object) (t : Word) (us : Statements) → resolve (under vs t) os us ≡ resolve-under vs os t us
+unfolding resolve under definitions-or find-value choose
+under-is no-value os t us = refl
+under-is (value w e ds vs) os t us = by (alike w t) (under-is vs os t us)
+  where
+    by : (b : Bool) → resolve (definitions-or (find-value vs t)) os us ≡ resolve-under vs os t us
+        → resolve (definitions-or (pick b (some (record { word = w; number = e; definitions = ds })) (find-value vs t))) os us
+        ≡ choose b (λ _. resolve ds os us) (λ _. resolve-under vs os t us)
+    by true h = refl
+    by false h = h
+
+is-more : Definitions → Bool
+is-more no-more = false
+is-more (define d vs ds) = true
+
+define≢no-more : {d : Definition} {vs : Values} {ds : Definitions} → define d vs ds ≡ no-more → ⊥
+unfolding is-more
+define≢no-more e = false≢true (sym (ap is-more e))
+
+none-has : (k : ℕ) (x : Defined) (ds : Definitions) → ds ≡ no-more → HasDefinition ds x → x .definition .row < k
+none-has k x (define d vs ds) e (this-definition) = absurd (define≢no-more e)
+none-has k x (define d vs ds) e (later-definition h) = absurd (define≢no-more e)
+
+pub none-below : (k : ℕ) → Below k no-more
+none-below k x h = none-has k x no-more refl h
+
+-- Its definitions stand before the attribute.
+below-under : {s : List ℕ} {f : File} {j : ℕ} {x : Defined} (t : Word) → Situation s f → Attribute f j x → Below j (under (x .values) t)
+unfolding under definitions-or
+below-under {s} {f} {j} {x} t p a = by (find-value (x .values) t) refl
+  where
+    by : (o : Option Under) → find-value (x .values) t ≡ o → Below j (definitions-or o)
+    by none e = none-below j
+    by (some v) e = λ y h. let k = under-below p (a .stands) (a .has) (value-has (x .values) t v e) h in let r = a .row in omega arith
+
+-- All enumerators are in the table.
+pub reached : {s d e o : List ℕ} {z : Sizes} {f : File} (vs : Values) → Tables s d e o z f → Reached f (z .enumerators) vs
+reached {z = z} {f = f} vs g = record {
+  front = spec-choices (f .specs);
+  rest = [];
+  whole = sym (append-nil (spec-choices (f .specs)));
+  many = sym (g .enumerators);
+  room = let h = g .enumerators-fit in omega arith;
+  free = tt;
+}
+
+word-at : {s : List ℕ} {t : Word} {at len code : ℕ} → WordIn s t → at ≡ t .place → len ≡ t .length → code ≡ code-of t → WordAt s t at len code
+word-at {s} {t} {at} {len} {code} h p l c = record {
+  read = record {
+    bytes = h .bytes ∙ ap₂ (partOf s) (sym p) (sym l);
+    number = h .number ∙ ap (λ i. num-of-step (stepAt s i)) (sym p);
+  };
+  place = sym p;
+  length = sym l;
+  coded = sym c;
+}
+
+block-at : {s st : List ℕ} {a b a′ b′ : ℕ} {us : Statements} → a′ ≡ a → b′ ≡ b → BlockAt s st a b us → BlockAt s st a′ b′ us
+block-at {s} {st} {a} {b} {a′} {b′} {us} p q h = subst (λ i. BlockAt s st i b′ us) (sym p) (subst (λ i. BlockAt s st a i us) (sym q) h)
+
+module _ {s d e o st v : List ℕ} {z : Sizes} {j stated at len code from till : ℕ} {w : OwnerOf} {n : ℕ} where
+  pub enter-full : 2048 < n → Enters s d e o st v z j stated at len code from till w n v n
+  enter-full h f x t us b ow g a wa bl own fl room = wrote-full v n (one-entry b f x t us) ow (room .room) h (room .low)
+
+  pub enter-more : {v₁ : List ℕ} {key : ℕ} {v₂ : List ℕ} {r : ℕ} → n ≤ 2048 → PutValue s d e o v z n w j stated at len code v₁
+      → FindsWord s d e (z .enumerators) j at len key → Resolves s d e o st v₁ z j key from till (record { sort = 1; row = n }) (n + 1) v₂ r
+      → Enters s d e o st v z j stated at len code from till w n v₂ r
+  unfolding one-entry inner-of owner-sort owner-row
+  enter-more {v₁} {key} {v₂} {r} h put finds res f x t us b ow g a wa bl own fl room =
+      let T = g .tables in
+      let k = known T a in
+      let lo = k .low in
+      let below = k .inside in
+      let count = T .definitions in
+      let tk = take-value b (f .objects) (x .definition) (x .values) t in
+      let p = put f x t b ow T a wa own fl in
+      let q = finds f x t (T .situation) (T .in-definitions) (T .in-enumerators) (k .row-of) lo (reached (x .values) T) (wa .read .bytes) in
+      let sc = subst (λ i. ScopeAt f i (under (x .values) t)) (sym q) (scope-under t (a .stands) (a .has)) in
+      let l : length v₁ ≡ length v = ap length p ∙ length-sets v (n * 9) (value-cells (value-row tk ow)) in
+      let m = room .room in
+      wrote-entry tk p
+      (wrote-same (under-is (x .values) (f .objects) t us)
+      (res f (under (x .values) t) us (of-value n) g sc (below-under t (T .situation) a) (omega arith) bl (record { sort = refl; row = refl }) (record { room = omega arith; low = omega arith })))
+
+-- The values that a block states -------------------------------------------------------------------------------------------------------------
+
+value-in : {s : List ℕ} {y : Statement} {inside rest : Statements} → StatementsIn s (state y inside rest) → WordIn s (y .value)
+value-in (more-in n v p i r) = v
+
+entries-none : (f : File) (x : Defined) → stated-entries f x done ≡ end
+unfolding stated-entries entries
+entries-none f x = refl
+
+entries-this : (f : File) (x : Defined) (y : Statement) (inside : Statements) → alike (y .name) (x .definition .name) ≡ true
+    → one-entry true f x (y .value) inside ≡ stated-entries f x (state y inside done)
+unfolding stated-entries entries one-entry choose
+entries-this f x y inside e = rw e
+
+entries-other : (f : File) (x : Defined) (y : Statement) (inside : Statements) → alike (y .name) (x .definition .name) ≡ false
+    → end ≡ stated-entries f x (state y inside done)
+unfolding stated-entries entries choose
+entries-other f x y inside e = rw e
+
+entries-more : (f : File) (x : Defined) (y : Statement) (inside rest : Statements)
+    → stated-entries f x (state y inside rest) ≡ joins (stated-entries f x (state y inside done)) (stated-entries f x rest)
+unfolding stated-entries entries joins choose
+entries-more f x y inside rest = by (alike (y .name) (x .definition .name))
+  where
+    R : Resolved
+    R = entries rest (f .objects) (x .definition) (x .values) (λ t us. inner-of f x t us) end
+
+    by : (b : Bool) → choose b (λ _. resolved (take-value true (f .objects) (x .definition) (x .values) (y .value)) (inner-of f x (y .value) inside) R) (λ _. R)
+        ≡ joins (choose b (λ _. resolved (take-value true (f .objects) (x .definition) (x .values) (y .value)) (inner-of f x (y .value) inside) end) (λ _. end)) R
+    by true = refl
+    by false = refl
+
+names-are : {s d e o st : List ℕ} {z : Sizes} {j k a₀ a₁ b₀ b₁ : ℕ} {f : File} {x : Defined} {y : Statement} {inside rest : Statements} {till : ℕ}
+    → a₀ ≡ getD st (k * 7 + 0) 0 → a₁ ≡ getD st (k * 7 + 1) 0 → b₀ ≡ getD d (j * 19 + 2) 0 → b₁ ≡ getD d (j * 19 + 3) 0 → Tables s d e o z f → Attribute f j x
+    → BlockAt s st k till (state y inside rest) → same (partOf s a₀ a₁) (partOf s b₀ b₁) ≡ alike (y .name) (x .definition .name)
+unfolding alike statement-cells
+names-are {s} {y = y} c₀ c₁ c₂ c₃ g a b =
+    let K = known g a in
+    ap₂ same
+    (ap₂ (partOf s) (c₀ ∙ first-cell b 0 (omega arith)) (c₁ ∙ first-cell b 1 (omega arith)) ∙ sym (first-name b .bytes))
+    (ap₂ (partOf s) (c₂ ∙ K .name-place) (c₃ ∙ K .name-length) ∙ sym (K .name .bytes))
+
+module _ {s d e o st v : List ℕ} {z : Sizes} {j k inner next : ℕ} {w : OwnerOf} {n : ℕ} {a₀ a₁ b₀ b₁ : ℕ} (c₀ : a₀ ≡ getD st (k * 7 + 0) 0) (c₁ : a₁ ≡ getD st (k * 7 + 1) 0) (c₂ : b₀ ≡ getD d (j * 19 + 2) 0) (c₃ : b₁ ≡ getD d (j * 19 + 3) 0) where
+  pub stated-other : same (partOf s a₀ a₁) (partOf s b₀ b₁) ≡ false → EntersStated s d e o st v z j k inner next w n v n
+  stated-other q f x y inside rest till ow g a b i₁ i₂ own room =
+      wrote-same (entries-other f x y inside (sym (names-are c₀ c₁ c₂ c₃ (g .tables) a b) ∙ q)) (wrote-none v n ow (room .low))
+
+  pub stated-this : {at len code : ℕ} {v′ : List ℕ} {r : ℕ} → same (partOf s a₀ a₁) (partOf s b₀ b₁) ≡ true
+      → at ≡ getD st (k * 7 + 2) 0 → len ≡ getD st (k * 7 + 3) 0 → code ≡ getD st (k * 7 + 4) 0
+      → Enters s d e o st v z j 1 at len code inner next w n v′ r → EntersStated s d e o st v z j k inner next w n v′ r
+  unfolding statement-cells flag
+  stated-this {at} {len} {code} q e₂ e₃ e₄ en f x y inside rest till ow g a b i₁ i₂ own room =
+      let vi = value-in (b .words) in
+      let p : at ≡ y .value .place = e₂ ∙ first-cell b 2 (omega arith) in
+      let l : len ≡ y .value .length = e₃ ∙ first-cell b 3 (omega arith) in
+      let c : code ≡ code-of (y .value) = e₄ ∙ first-cell b 4 (omega arith) in
+      wrote-same (entries-this f x y inside (sym (names-are c₀ c₁ c₂ c₃ (g .tables) a b) ∙ q))
+      (en f x (y .value) inside true ow g a (word-at vi p l c) (block-at i₁ i₂ (inside-at b)) own refl room)
+
+-- The loop over a block at row k: what is made so far, and the statements left.
+pub record Stating (s st : List ℕ) (f : File) (x : Defined) (ss : Statements) (k till : ℕ) (v : List ℕ) (n : ℕ) (ow : Owner) (v′ : List ℕ) (m : ℕ) : Type 0 where
+  pub left : Statements
+  pub made : Resolved
+  pub block : BlockAt s st k till left
+  pub wrote : Wrote v n made ow v′ m
+  pub whole : stated-entries f x ss ≡ joins made (stated-entries f x left)
+
+abbrev pub States : (s d e o st v : List ℕ) (z : Sizes) (j from till : ℕ) (w : OwnerOf) (n : ℕ) (v′ : List ℕ) (m k : ℕ) → Type 0
+States s d e o st v z j from till w n v′ m k =
+    (f : File) (x : Defined) (ss : Statements) (ow : Owner) → Given s d e o st z f → Attribute f j x → BlockAt s st from till ss → Owns w ow → Room v n
+    → Stating s st f x ss k till v n ow v′ m
+
+states-next : {s d e o st v : List ℕ} {z : Sizes} {j till : ℕ} {w : OwnerOf} {n : ℕ} {v₁ : List ℕ} {m k next inner : ℕ} {v₂ : List ℕ} {r : ℕ}
+    {ow : Owner} (f : File) (x : Defined) (ss left : Statements) (made : Resolved)
+    → k < till → next ≡ row-after st k till → inner ≡ k + 1 → EntersStated s d e o st v₁ z j k inner next w m v₂ r
+    → Given s d e o st z f → Attribute f j x → Owns w ow → Room v n → BlockAt s st k till left → Wrote v n made ow v₁ m
+    → stated-entries f x ss ≡ joins made (stated-entries f x left) → Stating s st f x ss next till v n ow v₂ r
+unfolding statements-in
+states-next {st = st} {till = till} {k = k} f x ss done made h e i en g a own room b wr wh = absurd (let q = b .after in omega arith)
+states-next {s} {d} {e} {o} {st} {v} {z} {j} {till} {w} {n} {v₁} {m} {k} {next} {inner} {v₂} {r} {ow} f x ss (state y inside rest) made h eq i en g a own room b wr wh =
+    let q : next ≡ suc k + statements-in inside = eq ∙ first-after b in
+    let l = wrote-length wr in
+    let c = wr .count in
+    let u = room .room in
+    let p : inner ≡ suc k = omega arith in
+    let t = en f x y inside rest till ow g a b p q own (record { room = omega arith; low = omega arith }) in
+    let M = stated-entries f x (state y inside done) in
+    record {
+      left = rest;
+      made = joins made M;
+      block = subst (λ z. BlockAt s st z till rest) (sym q) (rest-at b);
+      wrote = wrote-joins u wr t;
+      whole = wh ∙ ap (joins made) (entries-more f x y inside rest) ∙ sym (joins-joins made M (stated-entries f x rest));
+    }
+
+states-done : {s st v : List ℕ} {till : ℕ} {n : ℕ} {v′ : List ℕ} {m k : ℕ} {ow : Owner} (f : File) (x : Defined) (ss left : Statements) (made : Resolved)
+    → till ≤ k → BlockAt s st k till left → Wrote v n made ow v′ m → stated-entries f x ss ≡ joins made (stated-entries f x left)
+    → Wrote v n (stated-entries f x ss) ow v′ m
+unfolding statements-in
+states-done f x ss done made h b wr wh = wrote-same (sym (wh ∙ ap (joins made) (entries-none f x) ∙ joins-end made)) wr
+states-done {till = till} {k = k} f x ss (state y inside rest) made h b wr wh = absurd (let q = b .after in omega arith)
+
+module _ {s d e o st v : List ℕ} {z : Sizes} {j from till : ℕ} {w : OwnerOf} {n : ℕ} where
+  pub states-start : States s d e o st v z j from till w n v n from
+  unfolding joins
+  states-start f x ss ow g a b own room = record { left = ss; made = end; block = b; wrote = wrote-none v n ow (room .low); whole = refl }
+
+  pub states-more : {v₁ : List ℕ} {m k next inner : ℕ} {v₂ : List ℕ} {r : ℕ} → k < till → next ≡ row-after st k till → inner ≡ k + 1
+      → States s d e o st v z j from till w n v₁ m k → EntersStated s d e o st v₁ z j k inner next w m v₂ r → States s d e o st v z j from till w n v₂ r next
+  states-more h p i t en f x ss ow g a b own room =
+      let k = t f x ss ow g a b own room in
+      states-next f x ss (k .left) (k .made) h p i en g a own room (k .block) (k .wrote) (k .whole)
+
+  pub states-end : {v′ : List ℕ} {m k : ℕ} → till ≤ k → States s d e o st v z j from till w n v′ m k → ResolvesStated s d e o st v z j from till w n v′ m
+  states-end h t f x ss ow g a b own room =
+      let k = t f x ss ow g a b own room in
+      states-done f x ss (k .left) (k .made) h (k .block) (k .wrote) (k .whole)
+
+-- The value taken by default -----------------------------------------------------------------------------------------------------------------
+
+no-code : (n : ℕ) → (n ≡ 4 → ⊥) → is-no-default (sort-coded n) ≡ false
+unfolding sort-coded is-no-default
+no-code n h = ap (λ b. is-no-default (pick (eqb n 42) a-number (pick (eqb n 43) a-string (pick (eqb n 1) a-truth (pick (eqb n 2) a-truth (pick (eqb n 3) an-auto (pick b a-no-default a-name))))))) (ne-eqb n 4 h)
+    ∙ by (eqb n 42) (eqb n 43) (eqb n 1) (eqb n 2) (eqb n 3)
+  where
+    by : (a b c d e : Bool) → is-no-default (pick a a-number (pick b a-string (pick c a-truth (pick d a-truth (pick e an-auto a-name))))) ≡ false
+    by true b c d e = refl
+    by false true c d e = refl
+    by false false true d e = refl
+    by false false false true e = refl
+    by false false false false true = refl
+    by false false false false false = refl
+
+taken-none : (t : Word) → code-of t ≡ 4 → taken (some t) ≡ none
+unfolding taken taken-by code-of sort-coded is-no-default
+taken-none t e = ap (λ q. taken-by (is-no-default q) t) (tells (t .class) .sort ∙ ap sort-coded e)
+
+taken-some : (t : Word) → (code-of t ≡ 4 → ⊥) → taken (some t) ≡ some t
+unfolding taken taken-by code-of
+taken-some t h = ap (λ q. taken-by (is-no-default q) t) (tells (t .class) .sort) ∙ ap (λ b. taken-by b t) (no-code (class-number (t .class)) h)
+
+default-end : (f : File) (x : Defined) → taken (x .definition .default) ≡ none → end ≡ default-entries f x
+unfolding default-entries default-entry
+default-end f x e = rw e
+
+default-one : (f : File) (x : Defined) (t : Word) → taken (x .definition .default) ≡ some t → one-entry false f x t done ≡ default-entries f x
+unfolding default-entries default-entry one-entry
+default-one f x t e = rw e
+
+-- A block of nothing.
+nothing-at : {s d e o st : List ℕ} {z : Sizes} {f : File} → Given s d e o st z f → BlockAt s st 0 0 done
+unfolding statements-in statement-rows
+nothing-at {f = f} g =
+    let h = g .statements-fit in
+    record {
+      rows = all-statement-rows (f .objects) 0;
+      holds = subst (λ t. Holds 2049 7 t (all-statement-rows (f .objects) 0)) (sym (g .in-statements)) (statements-held f (omega arith));
+      block = record { front = []; rest = all-statement-rows (f .objects) 0; whole = refl; place = refl };
+      words = none-in;
+      after = refl;
+    }
+
+-- The cells of a default: its length is 0 where there is none.
+data DefaultCells (s : List ℕ) (o : Option Word) (at len code : ℕ) : Type 0 where
+  no-default : o ≡ none → len ≡ 0 → DefaultCells s o at len code
+  a-default : (t : Word) → o ≡ some t → WordIn s t → at ≡ t .place → len ≡ t .length → code ≡ code-of t → DefaultCells s o at len code
+
+default-cells : {s : List ℕ} (o : Option Word) {at len code : ℕ} → AllIn s (option-words o) → at ≡ span-or o .place → len ≡ span-or o .length → code ≡ default-code o
+    → DefaultCells s o at len code
+unfolding option-words span-or span-of absent default-code
+default-cells none w p l c = no-default refl l
+default-cells (some t) w p l c = a-default t refl (w .0) p l c
+
+module _ {s d e o st v : List ℕ} {z : Sizes} {j : ℕ} {w : OwnerOf} {n : ℕ} {len : ℕ} (c₁ : len ≡ getD d (j * 19 + 11) 0) where
+  pub default-none : len ≡ 0 → ResolvesDefault s d e o st v z j w n v n
+  unfolding taken
+  default-none h f x ow g a own room =
+      let k = known (g .tables) a in
+      wrote-same (default-end f x (by (default-cells (x .definition .default) (k .default) (k .default-place) (c₁ ∙ k .default-length) (k .default-is)))) (wrote-none v n ow (room .low))
+    where
+      by : {at code : ℕ} {q : Option Word} → DefaultCells s q at len code → taken q ≡ none
+      by (no-default e l) = ap taken e
+      by (a-default t e u p l c) = let i = u .long in absurd (omega arith)
+
+  module _ (nz : len ≡ 0 → ⊥) {code : ℕ} (c₂ : code ≡ getD d (j * 19 + 18) 0) where
+    pub default-not : code ≡ 4 → ResolvesDefault s d e o st v z j w n v n
+    default-not h f x ow g a own room =
+        let k = known (g .tables) a in
+        wrote-same (default-end f x (by (default-cells (x .definition .default) (k .default) (k .default-place) (c₁ ∙ k .default-length) (c₂ ∙ k .default-is)))) (wrote-none v n ow (room .low))
+      where
+        by : {at : ℕ} {q : Option Word} → DefaultCells s q at len code → taken q ≡ none
+        by (no-default e l) = absurd (nz l)
+        by (a-default t e u p l c) = ap taken e ∙ taken-none t (sym c ∙ h)
+
+    pub default-taken : {at : ℕ} {v′ : List ℕ} {r : ℕ} → (code ≡ 4 → ⊥) → at ≡ getD d (j * 19 + 10) 0
+        → Enters s d e o st v z j 0 at len code 0 0 w n v′ r → ResolvesDefault s d e o st v z j w n v′ r
+    unfolding flag
+    default-taken {at} {v′} {r} h c₀ en f x ow g a own room =
+        let k = known (g .tables) a in
+        by (default-cells (x .definition .default) (k .default) (c₀ ∙ k .default-place) (c₁ ∙ k .default-length) (c₂ ∙ k .default-is))
+      where
+        by : DefaultCells s (x .definition .default) at len code → Wrote v n (default-entries f x) ow v′ r
+        by (no-default e l) = absurd (nz l)
+        by (a-default t e u p l c) =
+            wrote-same (default-one f x t (ap taken e ∙ taken-some t (λ q. h (c ∙ q)))) (en f x t done false ow g a (word-at u p l c) (nothing-at g) own refl room)

@@ -1,0 +1,127 @@
+-- The sorts of words by their codes. Assumes nothing.
+use mathlib.Core.Path.{_≡_, refl}
+use Prim.Native.Nat.{ℕ, _≤_}
+use native.Mathlib.Omega.{arith}
+use lib.Dec.{eqb}
+use borrow.Author.Tests.{ne-eqb}
+use Rattle.token.specs.Find.{pick}
+use Rattle.grammar.specs.Grammar.{Class, Kind, Integer, Given, Sign, ordinary, numeral, quoted, other, kind-word, type-word, integer-word, word, sign, UINT32, INT32, UINT64, INT64, OIL-VERSION, IMPLEMENTATION, CPU, STRING, BOOLEAN, ENUM, TRUE, FALSE, AUTO, NO-DEFAULT, WITH-AUTO, lbrace, rbrace, lsquare, rsquare, equals, semicolon, colon, comma, dots, given-code, sign-code, code}
+use Rattle.grammar.specs.Grammar.{OS, APPMODE, TASK, ISR, COUNTER, ALARM, RESOURCE, EVENT, COM, MESSAGE, NETWORKMESSAGE, IPDU, NM}
+use Rattle.meaning.specs.Kinds.{kind-number}
+use Rattle.meaning.specs.Scopes.{Sort, a-number, a-string, a-truth, an-auto, a-no-default, a-name, sort-of, sort-of-word}
+use Rattle.meaning.specs.Resolving.{is-true}
+use Rattle.layout.specs.Kept.{class-number, given-number, sign-number, integer-number}
+
+unfoldable pub sort-coded : ℕ → Sort
+sort-coded n =
+    pick (eqb n 42) a-number (pick (eqb n 43) a-string (pick (eqb n 1) a-truth (pick (eqb n 2) a-truth (pick (eqb n 3) an-auto (pick (eqb n 4) a-no-default a-name)))))
+
+-- The sort and the truth that a code tells.
+pub record Tells (c : Class) : Type 0 where
+  pub sort : sort-of c ≡ sort-coded (class-number c)
+  pub truth : is-true c ≡ eqb (class-number c) 1
+
+tells-kind : (x : Kind) → Tells (kind-word x)
+unfolding sort-of sort-of-word sort-coded class-number given-number sign-number integer-number kind-number is-true code given-code sign-code
+tells-kind OS = record { sort = refl; truth = refl }
+tells-kind APPMODE = record { sort = refl; truth = refl }
+tells-kind TASK = record { sort = refl; truth = refl }
+tells-kind ISR = record { sort = refl; truth = refl }
+tells-kind COUNTER = record { sort = refl; truth = refl }
+tells-kind ALARM = record { sort = refl; truth = refl }
+tells-kind RESOURCE = record { sort = refl; truth = refl }
+tells-kind EVENT = record { sort = refl; truth = refl }
+tells-kind COM = record { sort = refl; truth = refl }
+tells-kind MESSAGE = record { sort = refl; truth = refl }
+tells-kind NETWORKMESSAGE = record { sort = refl; truth = refl }
+tells-kind IPDU = record { sort = refl; truth = refl }
+tells-kind NM = record { sort = refl; truth = refl }
+
+tells-type : (x : Kind) → Tells (type-word x)
+unfolding sort-of sort-of-word sort-coded class-number given-number sign-number integer-number kind-number is-true code given-code sign-code
+tells-type OS = record { sort = refl; truth = refl }
+tells-type APPMODE = record { sort = refl; truth = refl }
+tells-type TASK = record { sort = refl; truth = refl }
+tells-type ISR = record { sort = refl; truth = refl }
+tells-type COUNTER = record { sort = refl; truth = refl }
+tells-type ALARM = record { sort = refl; truth = refl }
+tells-type RESOURCE = record { sort = refl; truth = refl }
+tells-type EVENT = record { sort = refl; truth = refl }
+tells-type COM = record { sort = refl; truth = refl }
+tells-type MESSAGE = record { sort = refl; truth = refl }
+tells-type NETWORKMESSAGE = record { sort = refl; truth = refl }
+tells-type IPDU = record { sort = refl; truth = refl }
+tells-type NM = record { sort = refl; truth = refl }
+
+tells-integer : (x : Integer) → Tells (integer-word x)
+unfolding sort-of sort-of-word sort-coded class-number given-number sign-number integer-number kind-number is-true code given-code sign-code
+tells-integer UINT32 = record { sort = refl; truth = refl }
+tells-integer INT32 = record { sort = refl; truth = refl }
+tells-integer UINT64 = record { sort = refl; truth = refl }
+tells-integer INT64 = record { sort = refl; truth = refl }
+
+tells-word : (x : Given) → Tells (word x)
+unfolding sort-of sort-of-word sort-coded class-number given-number sign-number integer-number kind-number is-true code given-code sign-code
+tells-word OIL-VERSION = record { sort = refl; truth = refl }
+tells-word IMPLEMENTATION = record { sort = refl; truth = refl }
+tells-word CPU = record { sort = refl; truth = refl }
+tells-word STRING = record { sort = refl; truth = refl }
+tells-word BOOLEAN = record { sort = refl; truth = refl }
+tells-word ENUM = record { sort = refl; truth = refl }
+tells-word TRUE = record { sort = refl; truth = refl }
+tells-word FALSE = record { sort = refl; truth = refl }
+tells-word AUTO = record { sort = refl; truth = refl }
+tells-word NO-DEFAULT = record { sort = refl; truth = refl }
+tells-word WITH-AUTO = record { sort = refl; truth = refl }
+
+tells-sign : (x : Sign) → Tells (sign x)
+unfolding sort-of sort-of-word sort-coded class-number given-number sign-number integer-number kind-number is-true code given-code sign-code
+tells-sign lbrace = record { sort = refl; truth = refl }
+tells-sign rbrace = record { sort = refl; truth = refl }
+tells-sign lsquare = record { sort = refl; truth = refl }
+tells-sign rsquare = record { sort = refl; truth = refl }
+tells-sign equals = record { sort = refl; truth = refl }
+tells-sign semicolon = record { sort = refl; truth = refl }
+tells-sign colon = record { sort = refl; truth = refl }
+tells-sign comma = record { sort = refl; truth = refl }
+tells-sign dots = record { sort = refl; truth = refl }
+
+pub tells : (c : Class) → Tells c
+unfolding sort-of sort-coded class-number is-true code given-code
+tells ordinary = record { sort = refl; truth = refl }
+tells numeral = record { sort = refl; truth = refl }
+tells quoted = record { sort = refl; truth = refl }
+tells other = record { sort = refl; truth = refl }
+tells (kind-word k) = tells-kind k
+tells (type-word k) = tells-type k
+tells (integer-word i) = tells-integer i
+tells (word g) = tells-word g
+tells (sign x) = tells-sign x
+
+-- A code that is none of the others is a name's.
+pub name-coded : (n : ℕ) → (n ≡ 42 → ⊥) → (n ≡ 43 → ⊥) → (n ≡ 1 → ⊥) → (n ≡ 2 → ⊥) → (n ≡ 3 → ⊥) → (n ≡ 4 → ⊥) → sort-coded n ≡ a-name
+unfolding sort-coded
+name-coded n a b c d e f = rw (ne-eqb n 42 a, ne-eqb n 43 b, ne-eqb n 1 c, ne-eqb n 2 d, ne-eqb n 3 e, ne-eqb n 4 f)
+
+pub kind-low : (k : Kind) → kind-number k ≤ 12
+unfolding kind-number
+kind-low OS = omega arith
+kind-low APPMODE = omega arith
+kind-low TASK = omega arith
+kind-low ISR = omega arith
+kind-low COUNTER = omega arith
+kind-low ALARM = omega arith
+kind-low RESOURCE = omega arith
+kind-low EVENT = omega arith
+kind-low COM = omega arith
+kind-low MESSAGE = omega arith
+kind-low NETWORKMESSAGE = omega arith
+kind-low IPDU = omega arith
+kind-low NM = omega arith
+
+pub integer-low : (i : Integer) → integer-number i ≤ 3
+unfolding integer-number
+integer-low UINT32 = omega arith
+integer-low INT32 = omega arith
+integer-low UINT64 = omega arith
+integer-low INT64 = omega arith

@@ -1,0 +1,74 @@
+-- `resolving::values::named_value` meets its contract: by the attribute's type, each answer its own law.
+-- Assumes nothing.
+use mathlib.Core.Path.{refl, sym, ap}
+use native.Mathlib.Omega.{arith}
+use Rattle.resolving.proofs.Valuing.{named-string, named-enumerator, named-object, found-or}
+use borrow.Author.Needs.{needs}
+use Rattle.resolving.proofs.values.named_value.Statement.{statement}
+use Rattle.resolving.proofs.values.named_value.Tie as tie
+use Rattle.resolving.proofs.values.named_value.Reads as reads
+use Rattle.resolving.proofs.values.named_value.Lts as lts
+use Rattle.blocks.proofs.cell_at.Reads as cell-at-reads
+use Rattle.scopes.proofs.lookups.find_enumerator.Reads as find-enumerator-reads
+use Rattle.scopes.proofs.lookups.find_object.Reads as find-object-reads
+
+cell-at-requires : tie.Need-cell-at-requires
+cell-at-requires c κs = search needs
+
+find-enumerator-requires : tie.Need-find-enumerator-requires
+find-enumerator-requires c κs = tt
+
+enum-known-i : tie.Need-enum-known-i
+enum-known-i c = search needs
+
+enum-told : tie.Need-enum-told
+enum-told c = search needs
+
+returns : tie.Need-returns
+unfolding found-or
+returns c = named-enumerator (c .before .before .before .before .cell-at .ensures) (c .before .before .before .if1 .taken) (c .before .before .find-enumerator .ensures) (sym (ap found-or ((c .enum-told .given) .1)))
+
+returns-2 : tie.Need-returns-2
+unfolding found-or
+returns-2 c = named-enumerator (c .before .before .before .before .before .cell-at .ensures) (c .before .before .before .before .if1 .taken) (c .before .before .before .find-enumerator .ensures) (sym (ap found-or ((c .before .i .given) .1)))
+
+returns-3 : tie.Need-returns-3
+returns-3 c = named-string (c .before .before .cell-at .ensures) (λ q. omega arith) (λ q. omega arith)
+
+returns-4 : tie.Need-returns-4
+returns-4 c = named-string (c .before .before .before .cell-at .ensures) (λ q. omega arith) (λ q. omega arith)
+
+find-object-requires : tie.Need-find-object-requires
+find-object-requires c κs = tt
+
+enum-known-i-2 : tie.Need-enum-known-i-2
+enum-known-i-2 c = search needs
+
+enum-told-2 : tie.Need-enum-told-2
+enum-told-2 c = search needs
+
+returns-5 : tie.Need-returns-5
+unfolding found-or
+returns-5 c = named-object (c .before .before .before .before .before .before .cell-at .ensures) (λ q. omega arith) (omega arith) (omega arith) refl (c .before .before .find-object .ensures) (sym (ap found-or (c .enum-told2 .given .1)))
+
+returns-6 : tie.Need-returns-6
+unfolding found-or
+returns-6 c = named-object (c .before .before .before .before .before .before .before .cell-at .ensures) (λ q. omega arith) (omega arith) (omega arith) refl (c .before .before .before .find-object .ensures) (sym (ap found-or (c .before .i2 .given .1)))
+
+pub named-value-spec : {M : Type 1} → statement M
+named-value-spec =
+    tie.close
+    (tie.spec
+    cell-at-requires
+    find-enumerator-requires
+    enum-known-i
+    enum-told
+    returns
+    returns-2
+    returns-3
+    returns-4
+    find-object-requires
+    enum-known-i-2
+    enum-told-2
+    returns-5
+    returns-6)

@@ -1,0 +1,13 @@
+pub mod Rooms
+pub mod Finding
+pub mod Chains
+pub mod Coding
+pub mod Forming
+pub mod Goodness
+pub mod Runs
+pub mod Lists
+pub mod Descents
+pub mod Answering
+pub mod Deciding
+pub mod Taking
+pub mod Ranging

@@ -1,0 +1,149 @@
+-- One law for each way in which a reader of the whole text answers. Assumes nothing.
+use mathlib.Core.Path.{_≡_, refl, sym, _∙_, ap, ap₂, subst}
+use mathlib.Core.List.{List, [], _∷_, _++_}
+use Prim.Native.Nat.{ℕ, suc, _+_, _-_, _*_, _≤_, _<_, min}
+use native.Mathlib.Omega.{arith}
+use lib.ListN.{length, length-append, replicate}
+use lib.Seq.{sets}
+use Rattle.grammar.specs.Grammar.{_·_, _▸_, ∎, name, string, the, sg, OIL-VERSION, CPU, lbrace, rbrace, equals, semicolon, D, version, implementation, application, objects, file, version-is, application-is, file-is}
+use Rattle.grammar.specs.Readers.{lookAt, rest, Meets}
+use Rattle.grammar.specs.declared.Look.{Look}
+use Rattle.grammar.proofs.Rules.{version-by, application-by, file-by}
+use Rattle.meaning.specs.Syntax.{Word, File, Object, statements-in}
+use Rattle.meaning.specs.Actions.{means}
+use Rattle.layout.specs.Kept.{spec-entries, spec-choices, definition-cells, choice-cells, map-cells, object-rows, all-statement-rows, statement-rows, statement-count, join}
+use Rattle.rows.specs.Tally.{countOn}
+use Rattle.filling.specs.Fills.{Told, Fills, Walks, front-of, behind}
+use Rattle.filling.specs.Tables.{Wrote}
+use Rattle.filling.proofs.Filling.{plain, first, _▻_, told-as, told-rule}
+use Rattle.filling.proofs.Codes.{seen-place, seen-length}
+use Rattle.definitions.specs.Rows.{Table}
+use Rattle.implementation.specs.Places.{Noted, note-all, heads, ImplementationRows}
+use Rattle.implementation.specs.Places.{FillAll as FillSpecs}
+use Rattle.objects.specs.Rows.{FillAll, AllRows, numbers}
+use Rattle.objects.proofs.Stated.{rows-in}
+use Rattle.walk.specs.declared.Walked.{Walked}
+use Rattle.walk.specs.Whole.{Rooms, Stands, Tells, Few, SameSizes, Whole, ApplicationRows}
+use Rattle.grammar.specs.Machine.{Stream}
+use Rattle.walk.proofs.Tallying.{tallied}
+use Rattle.walk.proofs.Fewer.{few-rows}
+use Rattle.walk.proofs.Placing.{none-noted, all-places, first-again}
+
+length-map : {A : Type 0} (f : A → List ℕ) (xs : List A) → length (map-cells f xs) ≡ length xs
+unfolding map-cells
+length-map f [] = refl
+length-map f (x ∷ xs) = let e = length-map f xs in omega (arith, e)
+
+length-objects : (os : List Object) (k : ℕ) → length (object-rows os k) ≡ length os
+unfolding object-rows
+length-objects [] k = refl
+length-objects (x ∷ xs) k = let e = length-objects xs (k + statements-in (x .statements)) in omega (arith, e)
+
+length-statements : (os : List Object) (k : ℕ) → length (all-statement-rows os k) ≡ statement-count os
+unfolding all-statement-rows statement-count
+length-statements [] k = refl
+length-statements (x ∷ xs) k =
+    let i = k + statements-in (x .statements) in
+    length-append (statement-rows (x .statements) k) (all-statement-rows xs i) ∙ ap₂ _+_ (rows-in (x .statements) k) (length-statements xs i)
+
+-- A table that was filled from its first row on.
+table-is : {w : ℕ} {l l′ : List ℕ} {n : ℕ} {rs : List (List ℕ)} (xs : List (List ℕ)) → Wrote w l 0 rs l′ n → xs ≡ rs → length xs ≤ 65536 → l′ ≡ sets l 0 (join xs)
+table-is {w} {l} xs u e h =
+    let z : 0 * w ≡ 0 = omega arith in
+    let k = ap (λ (t : List (List ℕ)). length t) e in
+    u .table (omega (arith, h, k)) ∙ ap₂ (λ (i : ℕ) (t : List (List ℕ)). sets l i (join t)) z (sym e)
+
+count-is : {w : ℕ} {l l′ : List ℕ} {n : ℕ} {rs : List (List ℕ)} (xs : List (List ℕ)) → Wrote w l 0 rs l′ n → xs ≡ rs → n ≡ min 65536 (length xs)
+count-is xs u e = let k = ap (λ (t : List (List ℕ)). length t) e in omega (arith, u .count, k)
+
+module _ {s : List ℕ} {a c : Look} where
+  pub version-there : {e e′ v : ℕ} {b d r : Look} → Meets 1 (the OIL-VERSION · ∎) s a b → Meets e (sg equals · ∎) s b c → Meets e′ (string · ∎) s c d
+      → Meets 0 (D ▸ sg semicolon · ∎) s d r → v ≡ c .next - c .at → Fills 1 (version ▸ ∎) s a r (λ m. Stands (m .0) (c .at) v)
+  unfolding means front-of behind
+  version-there {v} x y z w p =
+      let f = plain (the OIL-VERSION · ∎) x ▻ plain (sg equals · ∎) y ▻ first string z ▻ plain (D ▸ sg semicolon · ∎) w in
+      record {
+        meets = version-by (f .meets);
+        told = λ k. told-rule (λ m. Stands m (c .at) v) version-is (told-as (f .told k) (λ m q. (seen-place (q .1 .1 .0), seen-length (q .1 .1 .0) ∙ sym p)));
+      }
+
+module _ {s : List ℕ} {a b : Look} {x y : List ℕ × (Table × Table)} where
+  pub application-there : {e e′ e″ v : ℕ} {c d f r : Look} → Meets 1 (the CPU · ∎) s a b → Meets e (name · ∎) s b c → Meets e′ (sg lbrace · ∎) s c d
+      → Walks FillAll 0 (objects ▸ ∎) (λ w m. AllRows w (m .0)) s d f x y → Meets e″ (sg rbrace · D ▸ sg semicolon · ∎) s f r → v ≡ b .next - b .at
+      → Walks FillAll 1 (application ▸ ∎) (λ w m. ApplicationRows (b .at) v w (m .0)) s a r x y
+  unfolding means front-of behind AllRows ApplicationRows
+  application-there {v} k n o w c p =
+      let f = plain (the CPU · ∎) k ▻ first name n ▻ plain (sg lbrace · ∎) o ▻ w .fills ▻ plain (sg rbrace · D ▸ sg semicolon · ∎) c in
+      record {
+        what = w .what;
+        does = w .does;
+        fills = record {
+          meets = application-by (f .meets);
+          told = λ h.
+              told-rule (λ m. ApplicationRows (b .at) v (w .what) m) application-is
+              (told-as (f .told h) (λ m q.
+              let r = q .1 .1 .1 .0 0 0 in
+              ((seen-place (q .1 .0), seen-length (q .1 .0) ∙ sym p), r .0, r .1, r .2)));
+        };
+      }
+
+few : {s : List ℕ} {x y : Rooms} {r : Walked} {v : Stream} → lookAt s 0 0 .code ≤ 54 → Told s (file ▸ ∎) (rest s (lookAt s 0 0)) v (λ m. Tells (m .0) x y r)
+    → Told s (file ▸ ∎) (rest s (lookAt s 0 0)) v (λ m. Tells (m .0) x y r × Few s (m .0))
+few {s} {v} c d = record { trees = d .trees; split = d .split; holds = (d .holds, few-rows s v (d .trees) c (d .split)) }
+
+-- The whole text.
+module _ {s : List ℕ} {a : Look} {x y : Rooms} {r : Walked} where
+  pub file-there : {marks : List ℕ} {found : ℕ} {b c : Look} → a ≡ lookAt s 0 0 → Fills 1 (version ▸ ∎) s a b (λ m. Stands (m .0) (r .«version_at») (r .«version_len»))
+      → Walks FillSpecs 1 (implementation ▸ ∎) (λ w m. ImplementationRows (r .«implementation_at») (r .«implementation_len») w (m .0)) s b c
+      (record { marks = replicate 13 0; places = replicate 13 0; again = 0; found = 0 }, ((x .definitions, 0), (x .enumerators, 0)))
+      (record { marks = marks; places = r .places; again = r .again; found = found }, ((y .definitions, r .definitions), (y .enumerators, r .enumerators)))
+      → Walks FillAll 1 (application ▸ ∎) (λ w m. ApplicationRows (r .«cpu_at») (r .«cpu_len») w (m .0)) s c (r .look)
+      (replicate 13 0, ((x .objects, 0), (x .statements, 0))) (r .counts, ((y .objects, r .objects), (y .statements, r .statements)))
+      → Whole s x y r
+  unfolding means front-of behind ImplementationRows ApplicationRows
+  file-there {b} e v i p =
+      let v′ : Fills 1 (version ▸ ∎) s (lookAt s 0 0) b (λ m. Stands (m .0) (r .«version_at») (r .«version_len»)) =
+      subst (λ (a : Look). Fills 1 (version ▸ ∎) s a b (λ m. Stands (m .0) (r .«version_at») (r .«version_len»))) e v in
+      let f = v′ ▻ i .fills ▻ p .fills in
+      record {
+        meets = file-by (f .meets);
+        sizes = record {
+          definitions = i .does .1 .0 .size;
+          enumerators = i .does .1 .1 .size;
+          objects = p .does .1 .size;
+          statements = p .does .1 .lines .1 .size;
+        };
+        told = λ k.
+            few (file-by (f .meets) .took k .0)
+            (told-rule (λ m. Tells m x y r) file-is
+            (told-as (f .told k) (λ m q.
+            let xs = m .1 .0 .specs in
+            let os = m .1 .1 .0 .objects in
+            let im = q .1 .0 .1 in
+            let pa = q .1 .1 in
+            let ds = map-cells definition-cells (spec-entries xs) in
+            let es = map-cells choice-cells (spec-choices xs) in
+            let ld = length-map definition-cells (spec-entries xs) in
+            let le = length-map choice-cells (spec-choices xs) in
+            let lo = length-objects os 0 in
+            let ls = length-statements os 0 in
+            let ko = ap (λ (l : List (List ℕ)). length l) (pa .2) in
+            let ks = ap (λ (l : List (List ℕ)). length l) (pa .3) in
+            record {
+              version = q .0;
+              implementation = q .1 .0 .0;
+              cpu = pa .0;
+              definitions = count-is ds (i .does .1 .0) (im .1) ∙ ap (min 65536) ld;
+              enumerators = count-is es (i .does .1 .1) (im .2) ∙ ap (min 65536) le;
+              objects = omega (arith, p .does .1 .count, lo, ko);
+              statements = count-is (all-statement-rows os 0) (p .does .1 .lines .1) (pa .3) ∙ ap (min 65536) ls;
+              definition-rows = λ h. table-is ds (i .does .1 .0) (im .1) (omega (arith, h, ld));
+              enumerator-rows = λ h. table-is es (i .does .1 .1) (im .2) (omega (arith, h, le));
+              object-table = λ h h′.
+                  p .does .1 .table (omega (arith, h, lo, ko)) (omega (arith, h′, ls, ks)) ∙ ap (λ (l : List (List ℕ)). sets (x .objects) 0 (join l)) (sym (pa .2));
+              statement-table = λ h. table-is (all-statement-rows os 0) (p .does .1 .lines .1) (pa .3) (omega (arith, h, ls));
+              places = ap (λ (n : Noted). n .places) (i .does .0) ∙ ap (λ (h : List (ℕ × ℕ)). note-all none-noted h .places) (sym (im .0)) ∙ all-places xs;
+              again = ap (λ (n : Noted). n .again) (i .does .0) ∙ ap (λ (h : List (ℕ × ℕ)). note-all none-noted h .again) (sym (im .0)) ∙ first-again xs;
+              counted = λ h. p .does .0 ∙ ap (countOn (replicate 13 0)) (sym (pa .1)) ∙ tallied os h;
+            })));
+      }
