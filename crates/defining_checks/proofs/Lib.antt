@@ -1,0 +1,11 @@
+pub mod Firsts
+pub mod Telling
+pub mod Clearing
+pub mod Rowwise
+pub mod Rising
+pub mod Reaching
+pub mod Covers
+pub mod Stages
+pub mod Naming
+pub mod Defaulting
+pub mod Turns

@@ -1,0 +1,55 @@
+use Rattle.defining_checks.proofs.Defaulting.{default-none, default-late, default-unset, default-judged}
+use borrow.Author.Needs.{needs}
+use Rattle.defining_checks.proofs.definitions.default_fault.Statement.{statement}
+use Rattle.defining_checks.proofs.definitions.default_fault.Tie as tie
+use Rattle.defining_checks.proofs.definitions.default_fault.Reads as reads
+use Rattle.defining_checks.proofs.definitions.default_fault.Lts as lts
+use Rattle.defining_checks.proofs.definitions.is_late.Reads as is-late-reads
+use Rattle.rows.proofs.faults.fault_if.Reads as fault-if-reads
+use Rattle.scopes.proofs.lookups.cell_of.Reads as cell-of-reads
+use Rattle.scopes.proofs.lookups.takes.Reads as takes-reads
+
+cell-of-requires : tie.Need-cell-of-requires
+cell-of-requires c κs = search needs
+
+returns : tie.Need-returns
+returns c = default-none _ _ _ _ _ _ _ _ (c .before .cell-of .ensures) (c .if1 .taken)
+
+is-late-requires : tie.Need-is-late-requires
+is-late-requires c κs = search needs
+
+returns-2 : tie.Need-returns-2
+returns-2 c = default-late _ _ _ _ _ _ _ _ (c .before .before .before .cell-of .ensures) _ (c .before .is-late .ensures) (c .if2 .taken)
+
+cell-of-requires-2 : tie.Need-cell-of-requires-2
+cell-of-requires-2 c κs = search needs
+
+cell-of-requires-3 : tie.Need-cell-of-requires-3
+cell-of-requires-3 c κs = search needs
+
+returns-3 : tie.Need-returns-3
+returns-3 c = default-unset _ _ _ _ _ _ _ _ (c .before .before .before .before .before .before .cell-of .ensures) (c .before .before .before .before .before .if1 .left) _ (c .before .before .before .before .is-late .ensures) (c .before .before .before .if2 .left) _ _ (c .before .before .cell-of2 .ensures) (c .before .cell-of3 .ensures) (c .if3 .taken)
+
+takes-requires : tie.Need-takes-requires
+takes-requires c κs = search needs
+
+fault-if-requires : tie.Need-fault-if-requires
+fault-if-requires c κs = search needs
+
+returns-4 : tie.Need-returns-4
+returns-4 c = default-judged _ _ _ _ _ _ _ _ (c .before .before .before .before .before .before .before .before .cell-of .ensures) (c .before .before .before .before .before .before .before .if1 .left) _ (c .before .before .before .before .before .before .is-late .ensures) (c .before .before .before .before .before .if2 .left) _ _ (c .before .before .before .before .cell-of2 .ensures) (c .before .before .before .cell-of3 .ensures) _ _ (c .before .before .if3 .left) (c .before .takes .ensures) (c .fault-if .ensures)
+
+pub default-fault-spec : {M : Type 1} → statement M
+default-fault-spec =
+    tie.close
+    (tie.spec
+    cell-of-requires
+    returns
+    is-late-requires
+    returns-2
+    cell-of-requires-2
+    cell-of-requires-3
+    returns-3
+    takes-requires
+    fault-if-requires
+    returns-4)

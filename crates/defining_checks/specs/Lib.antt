@@ -1,0 +1,3 @@
+-- What the checks of definitions and enumerators promise. Assumes nothing.
+pub mod Listing
+pub mod Promises

@@ -1,0 +1,133 @@
+-- The stages from 6 to 18 of a text whose rows are kept, one after the other. Assumes nothing.
+use mathlib.Core.Path.{_≡_, refl, sym, _∙_, ap, subst}
+use mathlib.Core.List.{List, [], _∷_}
+use mathlib.Core.Bool.{Bool, true, false}
+use mathlib.Core.Option.{Option, none, some}
+use Prim.Native.Nat.{ℕ, _≤_, _<_}
+use native.Mathlib.Omega.{arith}
+use lib.ListN.{length, getD}
+use Rattle.grammar.specs.Grammar.{Kind, OS, APPMODE, TASK, ISR, COUNTER, ALARM, RESOURCE, EVENT, COM, MESSAGE, NETWORKMESSAGE, IPDU, NM}
+use Rattle.grammar.specs.Stage.{numberOf}
+use Rattle.grammar.specs.Readers.{answerOf}
+use Rattle.rows.specs.declared.Fault.{Fault}
+use Rattle.rows.specs.Order.{isFault}
+use Rattle.meaning.specs.Syntax.{Spec, File}
+use Rattle.meaning.specs.Kinds.{kind-number}
+use Rattle.meaning.specs.Faults.{first}
+use Rattle.meaning.specs.Faults.{Fault as Refusal}
+use Rattle.meaning.specs.Defining.{definition-faults}
+use Rattle.meaning.specs.Applying.{object-faults}
+use Rattle.meaning.specs.Judging.{statement-stage}
+use Rattle.meaning.specs.Answers.{refused}
+use Rattle.meaning.specs.Reading.{reading}
+use Rattle.layout.specs.Kept.{kind-place}
+use Rattle.scopes.specs.Promises.{fault-of}
+use Rattle.checks.specs.Promises.{ObjectFaults}
+use Rattle.defining_checks.specs.Promises.{DefinitionFaults}
+use Rattle.judging.specs.Promises.{Case, Places, JudgesAll}
+use Rattle.judging.specs.declared.Sizes.{Sizes}
+use Rattle.walk.specs.Whole.{Rooms, kind-places, Whole}
+use Rattle.walk.specs.declared.Walked.{Walked}
+use Rattle.reading.specs.Decisions.{grammarFault, Kept, orElse, stageFault, StageFault, Decided, Decides, blank}
+use Rattle.reading.specs.declared.Decision.{Decision}
+use Rattle.reading.proofs.Numbered.{NumberedOne, of-definitions, of-objects, of-first}
+use Rattle.reading.proofs.Arriving.{is-one, is-none, refused-early, Arrived, arrived, answers-first, answers-next, decided}
+use Rattle.reading.proofs.Settling.{Fitting, fitting}
+
+-- The places of the kinds, as the stages take them.
+pub places-of : (xs : List Spec) (ps : List ℕ) → ps ≡ kind-places xs → (k : Kind) → getD ps (kind-number k) 0 ≡ kind-place (kind-number k) xs
+unfolding kind-number
+places-of xs ps e OS = ap (λ l. getD l 0 0) e
+places-of xs ps e APPMODE = ap (λ l. getD l 1 0) e
+places-of xs ps e TASK = ap (λ l. getD l 2 0) e
+places-of xs ps e ISR = ap (λ l. getD l 3 0) e
+places-of xs ps e COUNTER = ap (λ l. getD l 4 0) e
+places-of xs ps e ALARM = ap (λ l. getD l 5 0) e
+places-of xs ps e RESOURCE = ap (λ l. getD l 6 0) e
+places-of xs ps e EVENT = ap (λ l. getD l 7 0) e
+places-of xs ps e COM = ap (λ l. getD l 8 0) e
+places-of xs ps e MESSAGE = ap (λ l. getD l 9 0) e
+places-of xs ps e NETWORKMESSAGE = ap (λ l. getD l 10 0) e
+places-of xs ps e IPDU = ap (λ l. getD l 11 0) e
+places-of xs ps e NM = ap (λ l. getD l 12 0) e
+
+-- A stage without a fault has none.
+none-there : (o : Option Refusal) (r : Fault) → NumberedOne o → r ≡ fault-of o → r .number ≡ 0 → o ≡ none
+unfolding fault-of
+none-there none r h e n = refl
+none-there (some x) r h e n = absurd (let m : r .number ≡ x .number = ap (λ (q : Fault). q .number) e in omega arith)
+
+module _ (s : List ℕ) (y : Rooms) (w : Walked) (a : Fault)
+    (p : DefinitionFaults s (y .definitions) (y .enumerators) (w .definitions) (w .enumerators) (w .«version_at») (w .«version_len») (w .again) a) where
+  stage-one : (f : File) → Kept s y w f → a ≡ fault-of (first (definition-faults f))
+  stage-one f k = p f (k .situation) (k .in-definitions) (k .in-enumerators) (k .definitions) (k .enumerators) (sym (k .version .0)) (sym (k .version .1)) (k .again)
+
+  pub by-first : isFault a ≡ true → StageFault s y w a
+  unfolding stageFault
+  by-first h f k = answers-first _ (first (definition-faults f)) a (stage-one f k) (is-one a h)
+
+  module _ (h : isFault a ≡ false) (b : Fault)
+      (q : ObjectFaults s (y .objects) (y .statements) (w .objects) (w .statements) (w .counts) (w .«cpu_at») b) where
+    stage-two : (f : File) → Kept s y w f → b ≡ fault-of (first (object-faults f))
+    stage-two f k = q f (k .situation) (k .in-objects) (k .in-statements) (k .objects) (k .statements) (k .counted) (sym (k .cpu .0))
+
+    after-first : (f : File) → Kept s y w f → (o : Option Refusal) → fault-of o ≡ fault-of (orElse (first (definition-faults f)) o)
+    after-first f k o = answers-next o (first (definition-faults f)) a (of-first (definition-faults f) (of-definitions f)) (stage-one f k) (is-none a h)
+
+    pub by-second : isFault b ≡ true → StageFault s y w b
+    unfolding stageFault
+    by-second i f k = answers-first _ (first (object-faults f)) b (stage-two f k) (is-one b i) ∙ after-first f k _
+
+    pub by-third : isFault b ≡ false → (z : Sizes) (c : Fault) → z .definitions ≡ w .definitions → z .enumerators ≡ w .enumerators → z .objects ≡ w .objects
+        → JudgesAll s (y .definitions) (y .enumerators) (y .objects) (y .statements) z (w .places) c → StageFault s y w c
+    unfolding stageFault
+    by-third i z c d e o j f k =
+        let n₁ = none-there (first (definition-faults f)) a (of-first (definition-faults f) (of-definitions f)) (stage-one f k) (is-none a h) in
+        let n₂ = none-there (first (object-faults f)) b (of-first (object-faults f) (of-objects f)) (stage-two f k) (is-none b i) in
+        let t = fitting s f (k .situation) n₁ n₂ in
+        let t₀ = t .definitions in
+        let t₁ = t .enumerators in
+        let t₂ = t .objects in
+        let k₀ = k .definitions in
+        let k₁ = k .enumerators in
+        let k₂ = k .objects in
+        j f
+        (record {
+          situation = k .situation;
+          definitions = k .in-definitions;
+          enumerators = k .in-enumerators;
+          objects = k .in-objects;
+          statements = k .in-statements;
+          definition-count = omega arith;
+          definition-room = omega arith;
+          enumerator-count = omega arith;
+          enumerator-room = omega arith;
+          object-count = omega arith;
+          object-room = omega arith;
+          statement-room = t .statements;
+        })
+        (places-of (f .specs) (w .places) (k .places))
+        ∙ answers-next _ (first (object-faults f)) b (of-first (object-faults f) (of-objects f)) (stage-two f k) (is-none b i)
+        ∙ after-first f k _
+
+-- The decision -----------------------------------------------------------------------------------------------------------------------------
+
+pub decides-early : (s : List ℕ) (x y : Rooms) (w : Walked) (g : Fault) → Whole s x y w → g ≡ grammarFault (answerOf (w .look)) → isFault g ≡ true
+    → Decides s x y (record { fault = g; walked = w })
+decides-early s x y w g h e i =
+    record {
+      sizes = h .sizes;
+      decided = λ l b. record { refused-by = λ n. refused-early s x y w h l g e n; passes = λ n. absurd (is-one g i n) };
+    }
+
+pub decides-late : (s : List ℕ) (x y : Rooms) (w : Walked) (g r : Fault) → Whole s x y w → g ≡ grammarFault (answerOf (w .look)) → isFault g ≡ false
+    → StageFault s y w r → Decides s x y (record { fault = r; walked = w })
+unfolding grammarFault
+decides-late s x y w g r h e i k =
+    record {
+      sizes = h .sizes;
+      decided = λ l b.
+          let z : numberOf (answerOf (w .look)) ≡ 0 = sym (ap (λ (q : Fault). q .number) e) ∙ is-none g i in
+          let t = arrived s y w (subst (λ q. Whole s q y w) b h) l z in
+          decided s y (record { fault = r; walked = w }) t (k (t .file) (t .kept));
+    }

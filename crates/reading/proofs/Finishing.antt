@@ -1,0 +1,136 @@
+-- Resolved values, refusal 19 and the lent rows of a text without a fault up to 18. Assumes nothing.
+use mathlib.Core.Path.{_≡_, refl, sym, _∙_, ap, subst}
+use mathlib.Core.List.{List, [], _∷_}
+use mathlib.Core.Bool.{true, false}
+use Prim.Native.Nat.{ℕ, zero, suc, _≤_, _<_, min}
+use native.Mathlib.Omega.{arith}
+use lib.ListN.{length, getD, replicate, length-replicate}
+use lib.Seq.{sets, length-sets}
+use Rattle.meaning.specs.Syntax.{Spec, File}
+use Rattle.meaning.specs.Answers.{refused}
+use Rattle.meaning.specs.Resolving.{all-values, all-value-rows, how-many-in-all}
+use Rattle.meaning.specs.Cells.{cells, value-cells}
+use Rattle.layout.specs.Kept.{kind-place}
+use Rattle.resolving.specs.Tables.{Given}
+use Rattle.resolving.specs.Written.{WroteAll}
+use Rattle.resolving.specs.Promises.{Places, ResolvesAll}
+use Rattle.resolving.specs.declared.Sizes.{Sizes}
+use Rattle.copying.specs.Promises.{CopiesDefinitions, CopiesEnumerators, CopiesObjects}
+use Rattle.copying.proofs.Rooms.{cleared-zeros}
+use Rattle.walk.specs.Whole.{Rooms, kind-places}
+use Rattle.walk.specs.declared.Walked.{Walked}
+use Rattle.reading.specs.Results.{readingOf}
+use Rattle.reading.specs.Decisions.{Passed, Decides, blank, RoomSizes, BlankRooms, Settles, Filled}
+use Rattle.reading.specs.declared.Decision.{Decision}
+use Rattle.rows.specs.declared.Fault.{Fault}
+use Rattle.rows.specs.Order.{isFault}
+use Rattle.meaning.proofs.Found.{reading-long}
+use Rattle.reading.proofs.Arriving.{is-one, is-none}
+use Rattle.reading.specs.declared.Answer.the-variants.{Accepted}
+use Rattle.reading.specs.declared.Reading.{Reading}
+use Rattle.reading.proofs.Settling.{fitting, refused-fills, too-many-values, accepted-fills}
+
+kind-cell : (xs : List Spec) (k : ℕ) → k < 13 → getD (kind-places xs) k 0 ≡ kind-place k xs
+kind-cell xs zero h = refl
+kind-cell xs (suc zero) h = refl
+kind-cell xs (suc (suc zero)) h = refl
+kind-cell xs (suc (suc (suc zero))) h = refl
+kind-cell xs (suc (suc (suc (suc zero)))) h = refl
+kind-cell xs (suc (suc (suc (suc (suc zero))))) h = refl
+kind-cell xs (suc (suc (suc (suc (suc (suc zero)))))) h = refl
+kind-cell xs (suc (suc (suc (suc (suc (suc (suc zero))))))) h = refl
+kind-cell xs (suc (suc (suc (suc (suc (suc (suc (suc zero)))))))) h = refl
+kind-cell xs (suc (suc (suc (suc (suc (suc (suc (suc (suc zero))))))))) h = refl
+kind-cell xs (suc (suc (suc (suc (suc (suc (suc (suc (suc (suc zero)))))))))) h = refl
+kind-cell xs (suc (suc (suc (suc (suc (suc (suc (suc (suc (suc (suc zero))))))))))) h = refl
+kind-cell xs (suc (suc (suc (suc (suc (suc (suc (suc (suc (suc (suc (suc zero)))))))))))) h = refl
+kind-cell xs (suc (suc (suc (suc (suc (suc (suc (suc (suc (suc (suc (suc (suc n))))))))))))) h = absurd (omega arith)
+
+module _ (s : List ℕ) (y : Rooms) (w : Walked) (z : Sizes) (p : Passed s y w) (a : z .definitions ≡ w .definitions) (b : z .enumerators ≡ w .enumerators)
+    (c : z .objects ≡ w .objects) where
+  given : Given s (y .definitions) (y .enumerators) (y .objects) (y .statements) z (p .file)
+  given =
+      let k = p .kept in
+      let t = fitting s (p .file) (k .situation) (p .no-definition-fault) (p .no-object-fault) in
+      let t₀ = t .definitions in
+      let t₁ = t .enumerators in
+      let t₂ = t .objects in
+      let k₀ = k .definitions in
+      let k₁ = k .enumerators in
+      let k₂ = k .objects in
+      record {
+        tables = record {
+          situation = k .situation;
+          in-definitions = k .in-definitions;
+          in-enumerators = k .in-enumerators;
+          in-objects = k .in-objects;
+          definitions = omega arith;
+          enumerators = omega arith;
+          objects = omega arith;
+          definitions-fit = omega arith;
+          enumerators-fit = omega arith;
+          objects-fit = omega arith;
+        };
+        in-statements = k .in-statements;
+        statements-fit = t .statements;
+      }
+
+  places : Places (w .places) (p .file)
+  places = record { places = λ k h. ap (λ (l : List ℕ). getD l k 0) (p .kept .places) ∙ kind-cell (p .file .specs) k h }
+
+  pub wrote : (v v′ : List ℕ) (n : ℕ) → ResolvesAll s (y .definitions) (y .enumerators) (y .objects) (y .statements) v z (w .places) v′ n → v ≡ replicate 18432 0
+      → WroteAll v (all-values (p .file) (p .file .objects)) v′ n
+  wrote v v′ n r e = r (p .file) given places (ap length e ∙ length-replicate {A = ℕ} 18432 0)
+
+module _ (s : List ℕ) (y : Rooms) (w : Walked) (z : Sizes) (a : z .definitions ≡ w .definitions) (b : z .enumerators ≡ w .enumerators)
+    (c : z .objects ≡ w .objects) (d e o v v₁ : List ℕ) (n : ℕ)
+    (x : ResolvesAll s (y .definitions) (y .enumerators) (y .objects) (y .statements) v z (w .places) v₁ n) where
+  pub settles-too-many : (v₂ : List ℕ) (r : Reading) → 2048 < n → v₂ ≡ replicate (length v₁) 0 → r ≡ readingOf (refused 19 0) → Settles s y w d e o v d e o v₂ r
+  settles-too-many v₂ r h q t p k =
+      let u = wrote s y w z p a b c v v₁ n x (k .values) in
+      let m = u .count in
+      let l : length v₁ ≡ 18432 = ap length (u .table) ∙ length-sets v 0 (cells value-cells (all-value-rows (all-values (p .file) (p .file .objects)) 0 0)) ∙ ap length (k .values) ∙ length-replicate {A = ℕ} 18432 0 in
+      refused-fills s 19 0 d e o v₂ r (too-many-values s y w p (omega arith)) t (k .definitions) (k .enumerators) (k .objects) (q ∙ ap (λ (i : ℕ). replicate i 0) l)
+
+  pub settles-accepted : (d₂ e₂ o₂ : List ℕ) → n ≤ 2048 → CopiesDefinitions (y .definitions) (w .definitions) d d₂
+      → CopiesEnumerators (y .definitions) (w .definitions) (y .enumerators) (w .enumerators) e e₂ → CopiesObjects (y .objects) (w .objects) o o₂
+      → Settles s y w d e o v d₂ e₂ o₂ v₁ (record { answer = Accepted; definitions = w .definitions; enumerators = w .enumerators; objects = w .objects; values = n; counts = w .counts })
+  settles-accepted d₂ e₂ o₂ h i j l p k =
+      let u = wrote s y w z p a b c v v₁ n x (k .values) in
+      let g = p .kept in
+      let t = fitting s (p .file) (g .situation) (p .no-definition-fault) (p .no-object-fault) in
+      let t₀ = t .definitions in
+      let t₁ = t .enumerators in
+      let t₂ = t .objects in
+      let g₀ = g .definitions in
+      let g₁ = g .enumerators in
+      let g₂ = g .objects in
+      accepted-fills s y w p n d₂ e₂ o₂ v₁ v (u .count) h (k .values) (u .table)
+      (i .1 s (p .file) (g .situation) (g .in-definitions) (g .definitions) (omega arith) (k .definitions ∙ cleared-zeros 6656))
+      (j .1 s (p .file) (g .situation) (g .in-definitions) (g .definitions) (omega arith) (g .in-enumerators) (g .enumerators) (omega arith) (k .enumerators ∙ cleared-zeros 3072))
+      (l .1 s (p .file) (g .situation) (g .in-objects) (g .objects) (omega arith) (k .objects ∙ cleared-zeros 1792))
+
+-- Rooms that were cleared first --------------------------------------------------------------------------------------------------------------
+
+module _ (s d₀ e₀ o₀ v₀ d e o v : List ℕ) (z : RoomSizes d₀ e₀ o₀ v₀) (a : d ≡ replicate (length d₀) 0) (b : e ≡ replicate (length e₀) 0)
+    (c : o ≡ replicate (length o₀) 0) (g : v ≡ replicate (length v₀) 0) where
+  blanks : BlankRooms d e o v
+  blanks =
+      record {
+        definitions = a ∙ ap (λ (i : ℕ). replicate i 0) (z .definitions);
+        enumerators = b ∙ ap (λ (i : ℕ). replicate i 0) (z .enumerators);
+        objects = c ∙ ap (λ (i : ℕ). replicate i 0) (z .objects);
+        values = g ∙ ap (λ (i : ℕ). replicate i 0) (z .values);
+      }
+
+  pub fill-long : (r : Reading) → 65535 < length s → r ≡ readingOf (refused 2 0) → Filled s d e o v r
+  fill-long r h q = refused-fills s 2 0 d e o v r (reading-long s h) q (blanks .definitions) (blanks .enumerators) (blanks .objects) (blanks .values)
+
+  module _ (h : length s ≤ 65535) (y : Rooms) (x : Decision) (t : Decides s blank y x) where
+    pub fill-refused : (r : Reading) → isFault (x .fault) ≡ true → r ≡ readingOf (refused (x .fault .number) (x .fault .place)) → Filled s d e o v r
+    fill-refused r i q =
+        refused-fills s (x .fault .number) (x .fault .place) d e o v r (t .decided h refl .refused-by (is-one (x .fault) i)) q (blanks .definitions) (blanks .enumerators)
+        (blanks .objects) (blanks .values)
+
+    pub fill-settled : (d′ e′ o′ v′ : List ℕ) (r : Reading) → isFault (x .fault) ≡ false → Settles s y (x .walked) d e o v d′ e′ o′ v′ r → Filled s d′ e′ o′ v′ r
+    fill-settled d′ e′ o′ v′ r i k = k (t .decided h refl .passes (is-none (x .fault) i)) blanks

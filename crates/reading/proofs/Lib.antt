@@ -1,0 +1,7 @@
+-- Laws of the public calls. Assumes nothing.
+pub mod Numbered
+pub mod Arriving
+pub mod Settling
+pub mod Deciding
+pub mod Finishing
+pub mod Lending

@@ -1,0 +1,186 @@
+-- Where no stage up to 18 has a fault: what the rows written come to. Assumes nothing.
+use mathlib.Core.Path.{_≡_, refl, sym, _∙_, ap, ap₂, subst}
+use mathlib.Core.List.{List, [], _∷_, _++_}
+use mathlib.Core.Option.{Option, none, some}
+use Prim.Native.Nat.{ℕ, zero, suc, _+_, _-_, _*_, _≤_, _<_, min}
+use native.Mathlib.Omega.{arith}
+use lib.ListN.{length, replicate, length-append}
+use lib.Seq.{sets}
+use lib.Dec.{ltb}
+use borrow.Author.Tests.{lt-ltb, le-ltb}
+use Rattle.meaning.specs.Syntax.{Word, Definitions, Spec, Object, File, Statements, statements-in}
+use Rattle.meaning.specs.Actions.{syntax}
+use Rattle.meaning.specs.Words.{choose}
+use Rattle.meaning.specs.Faults.{first, sooner}
+use Rattle.meaning.specs.Defining.{definition-rows, all-definition-rows, enumerator-rows, all-enumerator-rows, definition-faults}
+use Rattle.meaning.specs.Applying.{object-rows, counts, object-faults}
+use Rattle.meaning.specs.Judging.{statement-stage}
+use Rattle.meaning.specs.Resolving.{ValueRow, Resolved, all-values, all-value-rows, how-many-in-all, too-many}
+use Rattle.meaning.specs.Answers.{Answer as Meant, Tables, accepted, refused, unless, tables, answer}
+use Rattle.meaning.specs.Cells.{cells, zeros, room-cells, definition-room, enumerator-room, object-room, value-room, rooms-after, definition-cells, enumerator-cells, object-cells, value-cells}
+use Rattle.meaning.proofs.Rooms.{definitions-fit, objects-fit, value-rows-length, value-width, cells-length}
+use Rattle.meaning.proofs.Numbering.{statement-numbers, all-statement-numbers, length-statements}
+use Rattle.meaning.proofs.Standing.{length-rows}
+use Rattle.meaning.proofs.Choices.{length-rows as length-enumerator-rows}
+use Rattle.layout.specs.Kept.{entries, spec-entries, choices, spec-choices, statement-count}
+use Rattle.scopes.specs.Situations.{Situation}
+use Rattle.scopes.proofs.Lists.{length-choices}
+use Rattle.copying.proofs.Keys.{length-entries}
+use Rattle.copying.proofs.Rooms.{cleared-zeros, room-of}
+use Rattle.meaning.specs.Reading.{reading}
+use Rattle.walk.specs.Whole.{Rooms}
+use Rattle.walk.specs.declared.Walked.{Walked}
+use Rattle.reading.specs.Results.{readingOf}
+use Rattle.reading.specs.Decisions.{Kept, Passed, Filled, BlankRooms}
+use Rattle.reading.specs.declared.Answer.{Answer}
+use Rattle.reading.specs.declared.Answer.the-variants.{Accepted, Refused}
+use Rattle.reading.specs.declared.Reading.{Reading}
+use Rattle.reading.proofs.Arriving.{reading-is}
+
+-- Numbers of rows ------------------------------------------------------------------------------------------------------------------------------
+
+definitions-as-many : (xs : List Spec) → length (all-definition-rows xs) ≡ length (spec-entries xs)
+unfolding all-definition-rows spec-entries
+definitions-as-many [] = refl
+definitions-as-many (x ∷ xs) =
+    let a = length-append (definition-rows (x .definitions) (x .word)) (all-definition-rows xs) in
+    let b = length-append (entries (x .definitions) (x .word) 0) (spec-entries xs) in
+    let c = length-rows (x .definitions) (x .word) in
+    let d = length-entries (x .definitions) (x .word) 0 in
+    let e = definitions-as-many xs in
+    omega arith
+
+enumerators-as-many : (xs : List Spec) → length (all-enumerator-rows xs) ≡ length (spec-choices xs)
+unfolding all-enumerator-rows spec-choices
+enumerators-as-many [] = refl
+enumerators-as-many (x ∷ xs) =
+    let a = length-append (enumerator-rows (x .definitions)) (all-enumerator-rows xs) in
+    let b = length-append (choices (x .definitions)) (spec-choices xs) in
+    let c = length-enumerator-rows (x .definitions) in
+    let d = length-choices (x .definitions) in
+    let e = enumerators-as-many xs in
+    omega arith
+
+objects-as-many : (xs : List Object) → length (object-rows xs) ≡ length xs
+unfolding object-rows
+objects-as-many [] = refl
+objects-as-many (x ∷ xs) = ap suc (objects-as-many xs)
+
+statements-as-many : (xs : List Object) → length (all-statement-numbers xs) ≡ statement-count xs
+unfolding all-statement-numbers statement-count
+statements-as-many [] = refl
+statements-as-many (x ∷ xs) =
+    let a = length-append (statement-numbers (x .statements)) (all-statement-numbers xs) in
+    let b = length-statements (x .statements) in
+    let c = statements-as-many xs in
+    omega arith
+
+-- The rows fit into the rooms.
+pub record Fitting (f : File) : Type 0 where
+  pub definitions : length (spec-entries (f .specs)) ≤ 512
+  pub enumerators : length (spec-choices (f .specs)) ≤ 1024
+  pub objects : length (f .objects) ≤ 256
+  pub statements : statement-count (f .objects) ≤ 2048
+
+fitting-by : (s : List ℕ) (f : File) (t : Situation s f) → first (definition-faults (syntax s (t .derivation .tree))) ≡ none
+    → first (object-faults (syntax s (t .derivation .tree))) ≡ none → Fitting (syntax s (t .derivation .tree))
+fitting-by s f t a b =
+    let g = syntax s (t .derivation .tree) in
+    let d = definitions-fit s (t .derivation .tree) a in
+    let o = objects-fit s (t .derivation .tree) b in
+    let d₀ = d .0 in
+    let d₁ = d .1 in
+    let o₀ = o .0 in
+    let o₁ = o .1 in
+    let i = definitions-as-many (g .specs) in
+    let j = enumerators-as-many (g .specs) in
+    let k = objects-as-many (g .objects) in
+    let l = statements-as-many (g .objects) in
+    record { definitions = omega arith; enumerators = omega arith; objects = omega arith; statements = omega arith }
+
+pub fitting : (s : List ℕ) (f : File) → Situation s f → first (definition-faults f) ≡ none → first (object-faults f) ≡ none → Fitting f
+fitting s f t a b =
+    subst Fitting (sym (t .syntax-of))
+    (fitting-by s f t (subst (λ g. first (definition-faults g) ≡ none) (t .syntax-of) a) (subst (λ g. first (object-faults g) ≡ none) (t .syntax-of) b))
+
+-- Rooms ----------------------------------------------------------------------------------------------------------------------------------------
+
+pub blank-room : {R : Type 0} (n : ℕ) (f : R → List ℕ) (l : List ℕ) → l ≡ replicate n 0 → l ≡ room-cells n f []
+unfolding room-cells cells
+blank-room n f l e = let z : n ≡ n - 0 = omega arith in e ∙ cleared-zeros n ∙ ap zeros z
+
+-- Refusals ---------------------------------------------------------------------------------------------------------------------------------
+
+-- A refusal leaves the rooms blank.
+pub refused-fills : (s : List ℕ) (n p : ℕ) (d e o v : List ℕ) (r : Reading) → reading s ≡ refused n p → r ≡ readingOf (refused n p)
+    → d ≡ replicate 6656 0 → e ≡ replicate 3072 0 → o ≡ replicate 1792 0 → v ≡ replicate 18432 0 → Filled s d e o v r
+unfolding rooms-after definition-room enumerator-room object-room value-room
+refused-fills s n p d e o v r q h d₀ e₀ o₀ v₀ =
+    record {
+      result = h ∙ ap readingOf (sym q);
+      definitions = blank-room 6656 definition-cells d d₀ ∙ ap (λ a. rooms-after a .definitions) (sym q);
+      enumerators = blank-room 3072 enumerator-cells e e₀ ∙ ap (λ a. rooms-after a .enumerators) (sym q);
+      objects = blank-room 1792 object-cells o o₀ ∙ ap (λ a. rooms-after a .objects) (sym q);
+      values = blank-room 18432 value-cells v v₀ ∙ ap (λ a. rooms-after a .values) (sym q);
+    }
+
+-- Refusal 19, and an accepted text -----------------------------------------------------------------------------------------------------------
+
+module _ (s : List ℕ) (y : Rooms) (w : Walked) (p : Passed s y w) where
+  file : File
+  file = p .file
+
+  values : List Resolved
+  values = all-values (p .file) (p .file .objects)
+
+  settled : answer (p .file) ≡ unless (first (too-many (how-many-in-all (all-values (p .file) (p .file .objects))))) (λ _. accepted (tables (p .file) (all-values (p .file) (p .file .objects))))
+  unfolding answer unless
+  settled = rw (p .no-definition-fault, p .no-object-fault, p .no-statement-fault)
+
+  pub too-many-values : 2048 < how-many-in-all (all-values (p .file) (p .file .objects)) → reading s ≡ refused 19 0
+  unfolding too-many choose first sooner unless
+  too-many-values h =
+      reading-is s (p .file) (p .kept .situation) (p .covered) ∙ settled
+      ∙ rw (lt-ltb 2048 (how-many-in-all (all-values (p .file) (p .file .objects))) h)
+
+  pub few-values : how-many-in-all (all-values (p .file) (p .file .objects)) ≤ 2048
+      → reading s ≡ accepted (tables (p .file) (all-values (p .file) (p .file .objects)))
+  unfolding too-many choose first unless
+  few-values h =
+      reading-is s (p .file) (p .kept .situation) (p .covered) ∙ settled
+      ∙ rw (le-ltb 2048 (how-many-in-all (all-values (p .file) (p .file .objects))) h)
+
+accepted-is : (a b c n : ℕ) (k : List ℕ) (t : Tables) → a ≡ length (t .definitions) → b ≡ length (t .enumerators) → c ≡ length (t .objects) → n ≡ length (t .values) → k ≡ t .counts
+    → record { answer = Accepted; definitions = a; enumerators = b; objects = c; values = n; counts = k } ≡ readingOf (accepted t)
+unfolding readingOf
+accepted-is a b c n k t p q r h e = rw (p, q, r, h, e)
+
+module _ (s : List ℕ) (y : Rooms) (w : Walked) (p : Passed s y w) where
+  -- The rooms of an accepted text.
+  pub accepted-fills : (n : ℕ) (d e o v v₀ : List ℕ) → n ≡ min 2049 (how-many-in-all (all-values (p .file) (p .file .objects))) → n ≤ 2048 → v₀ ≡ replicate 18432 0
+      → v ≡ sets v₀ 0 (cells value-cells (all-value-rows (all-values (p .file) (p .file .objects)) 0 0))
+      → d ≡ definition-room (all-definition-rows (p .file .specs)) → e ≡ enumerator-room (all-enumerator-rows (p .file .specs)) → o ≡ object-room (object-rows (p .file .objects))
+      → Filled s d e o v (record { answer = Accepted; definitions = w .definitions; enumerators = w .enumerators; objects = w .objects; values = n; counts = w .counts })
+  unfolding rooms-after value-room tables
+  accepted-fills n d e o v v₀ c h b vs ds es os =
+      let f = p .file in
+      let rs = all-values f (f .objects) in
+      let rows = all-value-rows rs 0 0 in
+      let few : how-many-in-all rs ≤ 2048 = omega arith in
+      let q = few-values s y w p few in
+      let k = p .kept in
+      let l : n ≡ length rows = let i = value-rows-length rs 0 0 in omega arith in
+      let m = cells-length 9 value-cells value-width rows in
+      let i₀ = k .definitions in
+      let i₁ = k .enumerators in
+      let i₂ = k .objects in
+      let j₀ = definitions-as-many (f .specs) in
+      let j₁ = enumerators-as-many (f .specs) in
+      let j₂ = objects-as-many (f .objects) in
+      record {
+        result = accepted-is (w .definitions) (w .enumerators) (w .objects) n (w .counts) (tables f rs) (omega arith) (omega arith) (omega arith) l (k .counted) ∙ ap readingOf (sym q);
+        definitions = ds ∙ ap (λ a. rooms-after a .definitions) (sym q);
+        enumerators = es ∙ ap (λ a. rooms-after a .enumerators) (sym q);
+        objects = os ∙ ap (λ a. rooms-after a .objects) (sym q);
+        values = room-of value-cells rows 18432 v₀ v (cells value-cells rows) (b ∙ cleared-zeros 18432) vs refl (omega arith) ∙ ap (λ a. rooms-after a .values) (sym q);
+      }

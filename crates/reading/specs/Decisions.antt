@@ -1,0 +1,106 @@
+-- The contracts of the inner functions of `read`. No part of the public contract. Assumes nothing.
+use mathlib.Core.Path.{_≡_}
+use mathlib.Core.List.{List, [], _∷_, _++_}
+use mathlib.Core.Option.{Option, none, some}
+use Prim.Native.Nat.{ℕ, _≤_}
+use lib.ListN.{length, replicate}
+use Rattle.grammar.specs.Stage.{numberOf, placeOf}
+use Rattle.grammar.specs.Demand.{Covered}
+use Rattle.grammar.specs.declared.Answer.{Answer as GrammarAnswer}
+use Rattle.rows.specs.declared.Fault.{Fault}
+use Rattle.meaning.specs.Syntax.{File}
+use Rattle.meaning.specs.Faults.{first}
+use Rattle.meaning.specs.Faults.{Fault as Refusal}
+use Rattle.meaning.specs.Defining.{definition-faults}
+use Rattle.meaning.specs.Applying.{object-faults, counts}
+use Rattle.meaning.specs.Judging.{statement-stage}
+use Rattle.meaning.specs.Answers.{refused}
+use Rattle.meaning.specs.Reading.{reading}
+use Rattle.meaning.specs.Cells.{rooms-after}
+use Rattle.layout.specs.Kept.{spec-entries, spec-choices, statement-count, kept-definitions, kept-enumerators, kept-objects, kept-statements, again-place}
+use Rattle.scopes.specs.Situations.{Situation}
+use Rattle.scopes.specs.Promises.{fault-of}
+use Rattle.walk.specs.Whole.{Rooms, Stands, kind-places, SameSizes}
+use Rattle.walk.specs.declared.Walked.{Walked}
+use Rattle.reading.specs.Results.{readingOf}
+use Rattle.reading.specs.declared.Decision.{Decision}
+use Rattle.reading.specs.declared.Reading.{Reading}
+
+-- What the grammar stage answers, as a fault; the number 0 where it passes.
+unfoldable pub grammarFault : GrammarAnswer → Fault
+grammarFault a = record { number = numberOf a; place = placeOf a }
+
+-- The text s is f, and its rows are in the tables y, as w says.
+pub record Kept (s : List ℕ) (y : Rooms) (w : Walked) (f : File) : Type 0 where
+  pub situation : Situation s f
+  pub in-definitions : y .definitions ≡ kept-definitions f
+  pub in-enumerators : y .enumerators ≡ kept-enumerators f
+  pub in-objects : y .objects ≡ kept-objects f
+  pub in-statements : y .statements ≡ kept-statements f
+  pub definitions : w .definitions ≡ length (spec-entries (f .specs))
+  pub enumerators : w .enumerators ≡ length (spec-choices (f .specs))
+  pub objects : w .objects ≡ length (f .objects)
+  pub statements : w .statements ≡ statement-count (f .objects)
+  pub version : Stands (f .version) (w .«version_at») (w .«version_len»)
+  pub cpu : Stands (f .cpu) (w .«cpu_at») (w .«cpu_len»)
+  pub places : w .places ≡ kind-places (f .specs)
+  pub again : w .again ≡ again-place [] (f .specs)
+  pub counted : w .counts ≡ counts (f .objects)
+
+-- The first of two faults that there is.
+unfoldable pub orElse : Option Refusal → Option Refusal → Option Refusal
+orElse none o = o
+orElse (some x) o = some x
+
+-- The fault by which the stages from 6 to 18 answer.
+unfoldable pub stageFault : File → Option Refusal
+stageFault f = orElse (first (definition-faults f)) (orElse (first (object-faults f)) (first (statement-stage f)))
+
+abbrev pub StageFault : (s : List ℕ) → Rooms → Walked → Fault → Type 0
+StageFault s y w r = (f : File) → Kept s y w f → r ≡ fault-of (stageFault f)
+
+-- No stage up to 18 has a fault.
+pub record Passed (s : List ℕ) (y : Rooms) (w : Walked) : Type 0 where
+  pub file : File
+  pub kept : Kept s y w file
+  pub covered : Covered s
+  pub no-definition-fault : first (definition-faults file) ≡ none
+  pub no-object-fault : first (object-faults file) ≡ none
+  pub no-statement-fault : first (statement-stage file) ≡ none
+
+pub record Decided (s : List ℕ) (y : Rooms) (r : Decision) : Type 0 where
+  pub refused-by : (r .fault .number ≡ 0 → ⊥) → reading s ≡ refused (r .fault .number) (r .fault .place)
+  pub passes : r .fault .number ≡ 0 → Passed s y (r .walked)
+
+-- Blank tables for the rows that are kept.
+abbrev pub blank : Rooms
+blank = record { definitions = replicate 9747 0; enumerators = replicate 3075 0; objects = replicate 2313 0; statements = replicate 14343 0 }
+
+pub record Decides (s : List ℕ) (x y : Rooms) (r : Decision) : Type 0 where
+  pub sizes : SameSizes x y
+  pub decided : length s ≤ 65535 → x ≡ blank → Decided s y r
+
+-- The rooms of the lent tables, and the answer, are those of the text s.
+pub record Filled (s d′ e′ o′ v′ : List ℕ) (r : Reading) : Type 0 where
+  pub result : r ≡ readingOf (reading s)
+  pub definitions : d′ ≡ rooms-after (reading s) .definitions
+  pub enumerators : e′ ≡ rooms-after (reading s) .enumerators
+  pub objects : o′ ≡ rooms-after (reading s) .objects
+  pub values : v′ ≡ rooms-after (reading s) .values
+
+-- Blank rooms are filled.
+pub record BlankRooms (d e o v : List ℕ) : Type 0 where
+  pub definitions : d ≡ replicate 6656 0
+  pub enumerators : e ≡ replicate 3072 0
+  pub objects : o ≡ replicate 1792 0
+  pub values : v ≡ replicate 18432 0
+
+abbrev pub Settles : (s : List ℕ) → Rooms → Walked → (d e o v d′ e′ o′ v′ : List ℕ) → Reading → Type 0
+Settles s y w d e o v d′ e′ o′ v′ r = Passed s y w → BlankRooms d e o v → Filled s d′ e′ o′ v′ r
+
+-- The lent parts are the rooms.
+pub record RoomSizes (d e o v : List ℕ) : Type 0 where
+  pub definitions : length d ≡ 6656
+  pub enumerators : length e ≡ 3072
+  pub objects : length o ≡ 1792
+  pub values : length v ≡ 18432

@@ -1,0 +1,3 @@
+-- What the public calls promise. Assumes nothing.
+pub mod Results
+pub mod Decisions

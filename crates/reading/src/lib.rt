@@ -1,0 +1,244 @@
+// Reading a text into four lent tables.
+ghost use mathlib.Core.Path.{_≡_};
+ghost use lib.ListN.{length};
+ghost use Rattle.meaning.specs.Answers.{refused};
+ghost use Rattle.grammar.specs.Readers.{answerOf};
+ghost use Rattle.reading.specs.Results.{readingOf, Reads};
+ghost use Rattle.reading.specs.Decisions.{grammarFault, StageFault, Decides, Settles, RoomSizes, Filled};
+use grammar::Answer as Grammar;
+use grammar::Look;
+use judging::Sizes;
+use rows::Fault;
+use rows::cells;
+use rows::faults;
+use walk::Walked;
+
+// The answer: the text is accepted, or refused with a number and a place.
+pub enum Answer {
+    Accepted,
+    Refused(u8, usize),
+}
+
+// The answer, how many rows of each table are used, and how many objects there are of each of the thirteen kinds; all 0 where it is refused.
+pub struct Reading {
+    pub answer: Answer,
+    pub definitions: usize,
+    pub enumerators: usize,
+    pub objects: usize,
+    pub values: usize,
+    pub counts: [usize; 13],
+}
+
+// The fault by which the text is refused, or one of number 0, with what was kept of the text.
+pub struct Decision {
+    pub fault: Fault,
+    pub walked: Walked,
+}
+
+fn refusal(number: u8, place: usize) -> Reading
+    ensures { λ r. ⌜ r ≡ readingOf (refused number place) ⌝ }
+{
+    let counts = [0; 13];
+    Reading {
+        answer: Answer::Refused(number, place),
+        definitions: 0,
+        enumerators: 0,
+        objects: 0,
+        values: 0,
+        counts: counts,
+    }
+}
+
+// What the grammar stage answers at the look behind the file, as a fault.
+fn grammar_fault(look: Look) -> Fault
+    ensures { λ r. ⌜ r ≡ grammarFault (answerOf look) ⌝ }
+{
+    match grammar::answer_of(look) {
+        Grammar::Passes => Fault {
+            number: 0,
+            place: 0,
+        },
+        Grammar::NoToken(p) => Fault {
+            number: 3,
+            place: p,
+        },
+        Grammar::NotAdmitted(p) => Fault {
+            number: 4,
+            place: p,
+        },
+        Grammar::TooDeep(p) => Fault {
+            number: 5,
+            place: p,
+        },
+    }
+}
+
+// The fault by which the stages from 6 to 18 answer.
+fn stage_fault(text: &[u8], d: &[usize], e: &[usize], o: &[usize], s: &[usize], w: Walked) -> Fault
+    ensures { λ r. ⌜ StageFault (now (text .entry)) (record { definitions = now (d .entry); enumerators = now (e .entry); objects = now (o .entry); statements = now (s .entry) }) w r ⌝ }
+{
+    let a = defining_checks::definition_faults(
+        text,
+        d,
+        e,
+        w.definitions,
+        w.enumerators,
+        w.version_at,
+        w.version_len,
+        w.again,
+    );
+    if faults::is_fault(a) {
+        return a;
+    }
+    let counts = w.counts;
+    let b = checks::objects::object_faults(text, o, s, w.objects, w.statements, counts, w.cpu_at);
+    if faults::is_fault(b) {
+        return b;
+    }
+    let places = w.places;
+    let z = Sizes {
+        definitions: w.definitions,
+        enumerators: w.enumerators,
+        objects: w.objects,
+    };
+    judging::judge_all(text, d, e, o, s, z, places)
+}
+
+// The walk of the text and the faults up to 18.
+fn decide(
+    text: &[u8],
+    d: &mut [usize],
+    e: &mut [usize],
+    o: &mut [usize],
+    s: &mut [usize],
+) -> Decision
+    ensures { λ r. ⌜ Decides (now (text .entry)) (record { definitions = now (d .entry); enumerators = now (e .entry); objects = now (o .entry); statements = now (s .entry) }) (record { definitions = now (d .exit); enumerators = now (e .exit); objects = now (o .exit); statements = now (s .exit) }) r ⌝ }
+{
+    let w = walk::walk(text, d, e, o, s);
+    let look = w.look;
+    let g = grammar_fault(look);
+    if faults::is_fault(g) {
+        return Decision {
+            fault: g,
+            walked: w,
+        };
+    }
+    let f = stage_fault(text, d, e, o, s, w);
+    Decision {
+        fault: f,
+        walked: w,
+    }
+}
+
+// The values, refusal 19, and the rows of the lent tables.
+fn settle(
+    text: &[u8],
+    d: &[usize],
+    e: &[usize],
+    o: &[usize],
+    s: &[usize],
+    w: Walked,
+    definitions: &mut [usize],
+    enumerators: &mut [usize],
+    objects: &mut [usize],
+    values: &mut [usize],
+) -> Reading
+    ensures { λ r. ⌜ Settles (now (text .entry)) (record { definitions = now (d .entry); enumerators = now (e .entry); objects = now (o .entry); statements = now (s .entry) }) w (now (definitions .entry)) (now (enumerators .entry)) (now (objects .entry)) (now (values .entry)) (now (definitions .exit)) (now (enumerators .exit)) (now (objects .exit)) (now (values .exit)) r ⌝ }
+{
+    let places = w.places;
+    let z = resolving::Sizes {
+        definitions: w.definitions,
+        enumerators: w.enumerators,
+        objects: w.objects,
+    };
+    let n = resolving::entering::resolve_all(text, d, e, o, s, values, z, places);
+    if 2048 < n {
+        cells::clear(values);
+        return refusal(19, 0);
+    }
+    copying::copy_definitions(d, w.definitions, definitions);
+    copying::copy_enumerators(d, w.definitions, e, w.enumerators, enumerators);
+    copying::copy_objects(o, w.objects, objects);
+    let counts = w.counts;
+    Reading {
+        answer: Answer::Accepted,
+        definitions: w.definitions,
+        enumerators: w.enumerators,
+        objects: w.objects,
+        values: n,
+        counts: counts,
+    }
+}
+
+// The text is read into rooms of the stated sizes.
+fn fill(
+    text: &[u8],
+    definitions: &mut [usize],
+    enumerators: &mut [usize],
+    objects: &mut [usize],
+    values: &mut [usize],
+) -> Reading
+    requires { ⌜ RoomSizes (now definitions) (now enumerators) (now objects) (now values) ⌝ }
+    ensures { λ r. ⌜ Filled (now (text .entry)) (now (definitions .exit)) (now (enumerators .exit)) (now (objects .exit)) (now (values .exit)) r ⌝ }
+{
+    cells::clear(definitions);
+    cells::clear(enumerators);
+    cells::clear(objects);
+    cells::clear(values);
+    if 65535 < text.len() {
+        return refusal(2, 0);
+    }
+    let mut d = [0; 9747];
+    let mut e = [0; 3075];
+    let mut o = [0; 2313];
+    let mut s = [0; 14343];
+    let r = decide(text, &mut d, &mut e, &mut o, &mut s);
+    let f = r.fault;
+    if faults::is_fault(f) {
+        return refusal(f.number, f.place);
+    }
+    let w = r.walked;
+    settle(
+        text,
+        &d,
+        &e,
+        &o,
+        &s,
+        w,
+        definitions,
+        enumerators,
+        objects,
+        values,
+    )
+}
+
+// Reads a text into four lent tables. Refusal 1 where one of them is shorter than its room: nothing is touched then.
+pub fn read(
+    text: &[u8],
+    definitions: &mut [usize],
+    enumerators: &mut [usize],
+    objects: &mut [usize],
+    values: &mut [usize],
+) -> Reading
+    ensures { λ r. ⌜ Reads (now (text .entry)) (now (definitions .entry)) (now (enumerators .entry)) (now (objects .entry)) (now (values .entry)) (now (definitions .exit)) (now (enumerators .exit)) (now (objects .exit)) (now (values .exit)) r ⌝ }
+{
+    if definitions.len() < 6656 {
+        return refusal(1, 0);
+    }
+    if enumerators.len() < 3072 {
+        return refusal(1, 0);
+    }
+    if objects.len() < 1792 {
+        return refusal(1, 0);
+    }
+    if values.len() < 18432 {
+        return refusal(1, 0);
+    }
+    fill(
+        text,
+        &mut definitions[..6656],
+        &mut enumerators[..3072],
+        &mut objects[..1792],
+        &mut values[..18432],
+    )
+}
