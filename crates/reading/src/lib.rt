@@ -213,7 +213,7 @@ fn fill(
 }
 
 // Reads a text into four lent tables. Refusal 1 where one of them is shorter than its room: nothing is touched then.
-pub fn read(
+fn read(
     text: &[u8],
     definitions: &mut [usize],
     enumerators: &mut [usize],
