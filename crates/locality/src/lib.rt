@@ -1,0 +1,1 @@
+// The token reader is local: a theorem about tokens, see specs/ and proofs/. This crate has no function.

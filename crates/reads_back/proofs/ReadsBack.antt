@@ -1,0 +1,130 @@
+-- READS BACK: demand 2, second half. Normal text is accepted, gives the same values, and is its own normal text. Assumes nothing.
+use mathlib.Core.Path.{_≡_, refl, sym, _∙_, ap, ap₂, subst}
+use mathlib.Core.List.{List, [], _∷_, _++_}
+use mathlib.Core.Bool.{Bool, true, false, false≢true}
+use Prim.Native.Nat.{ℕ, _≤_}
+use lib.ListN.{length}
+use Rattle.token.specs.Words.{bytesOf}
+use Rattle.grammar.specs.Grammar.{Token, Derivation}
+use Rattle.grammar.specs.Terminals.{tokens}
+use Rattle.grammar.specs.Stage.{Divides, Shallow}
+use Rattle.grammar.specs.Demand.{Covered}
+use Rattle.meaning.specs.Syntax.{Word, Span, File, through}
+use Rattle.meaning.specs.Actions.{word-of, syntax}
+use Rattle.meaning.specs.Resolving.{all-values}
+use Rattle.meaning.specs.Normal.{part, application-lines, normal}
+use Rattle.meaning.specs.Places.{each, unplaced}
+use Rattle.meaning.specs.Answers.{Tables, Answer, accepted, answer}
+use Rattle.meaning.specs.Reading.{Answers, too-long, not-grammar, meant, reading, normal-text}
+use Rattle.meaning.proofs.Found.{reading-derived, normal-derived}
+use Rattle.meaning.proofs.Whole.{answers}
+use Rattle.meaning.proofs.Unplaced.{each-append, application-unplaced}
+use Rattle.meaning.proofs.UnplacedFaults.{SameAnswer, both-accept, both-refuse, answer-unplaced}
+use Rattle.reads_back.specs.ReadsBack.{bare, ReadsBack}
+use Rattle.reads_back.proofs.Restated.{plain-word, version-words, application-words, restated-file, Said, ShallowWords}
+use Rattle.reads_back.proofs.SayingAlone.{tokens-alone, number-alone}
+use Rattle.reads_back.proofs.SayingTokens.{NormalTokens, normal-tokens}
+use Rattle.reads_back.proofs.Planting.{implementation-leaves, ImplementationTokens, implementation-tokens, Planted, planted-text}
+use Rattle.reads_back.proofs.WordingValues.{said}
+use Rattle.reads_back.proofs.DepthWords.{shallow-by-words}
+use Rattle.reads_back.proofs.DepthLines.{normal-shallow}
+use Rattle.reads_back.proofs.SameTables.{bare-unplaced}
+use Rattle.reads_back.proofs.SameMeaning.{MeansSame, means-same}
+
+-- Where the syntax without its places is accepted, so is the syntax, with the same tables but places.
+record Accepts (a : Answer) (t : Tables) : Type 0 where
+  placed : Tables
+  accepted-as : a ≡ accepted placed
+  same-as : bare placed ≡ bare t
+
+accepts : {a b : Answer} (t : Tables) → SameAnswer a b → b ≡ accepted t → Accepts a t
+accepts t (both-accept u) e = record { placed = u; accepted-as = refl; same-as = sym (bare-unplaced u) ∙ ap bare cc }
+accepts t (both-refuse n p m q) e = absurd (let z : _≡_ {A = Bool} false true = cc in false≢true z)
+
+-- The lines of a file's application.
+lines-of : File → List ℕ
+lines-of f = application-lines f (all-values f (f .objects))
+
+module _ (s : List ℕ) (w : Covered s) (d : Derivation (tokens s)) (n : List ℕ) (e : n ≡ normal s (syntax s (d .tree))) (h : length n ≤ 65535) where
+  -- The tokens of the normal text, and a tree of them.
+  words-said : Said (syntax s (d .tree))
+  words-said = said s d (tokens-alone s) number-alone
+
+  parts : ImplementationTokens s d
+  parts = implementation-tokens s d
+
+  normal-parts : NormalTokens s n (parts .first ∷ (parts .mid ++ (parts .final ∷ []))) (syntax s (d .tree)) (all-values (syntax s (d .tree)) (syntax s (d .tree) .objects))
+  unfolding normal
+  normal-parts =
+      subst (λ m. NormalTokens s m (parts .first ∷ (parts .mid ++ (parts .final ∷ []))) (syntax s (d .tree)) (all-values (syntax s (d .tree)) (syntax s (d .tree) .objects))) (sym e)
+      (normal-tokens s (parts .before) (parts .after) (parts .mid) (parts .first) (parts .final) (syntax s (d .tree)) _ (w .divides) (parts .whole) (parts .final-is)
+      (parts .span-is) (words-said .cpu) (words-said .objects))
+
+  normal-tree : Planted s n d (normal-parts .middle) (normal-parts .heading ++ (normal-parts .middle ++ normal-parts .last))
+  normal-tree =
+      planted-text s n d parts words-said (normal-parts .heading) (normal-parts .middle) (normal-parts .last) (normal-parts .heading-words)
+      (normal-parts .middle-words) (normal-parts .last-words)
+
+  normal-derivation : Derivation (tokens n)
+  normal-derivation = record { tree = normal-tree .tree; leaves = normal-tree .leaves ∙ sym (normal-parts .whole) }
+
+  normal-words : each (plain-word n) (tokens n)
+      ≡ version-words ++ (each (plain-word s) (implementation-leaves (d .tree)) ++ application-words (syntax s (d .tree)) (all-values (syntax s (d .tree)) (syntax s (d .tree) .objects)))
+  normal-words =
+      ap (each (plain-word n)) (normal-parts .whole)
+      ∙ each-append (plain-word n) (normal-parts .heading) (normal-parts .middle ++ normal-parts .last)
+      ∙ ap₂ _++_ (normal-parts .heading-words)
+      (each-append (plain-word n) (normal-parts .middle) (normal-parts .last)
+      ∙ ap₂ _++_ (normal-parts .middle-words ∙ ap (each (plain-word s)) (sym (parts .leaves-are))) (normal-parts .last-words))
+
+  normal-covered : Covered n
+  normal-covered = record {
+    short = h;
+    divides = normal-parts .divides;
+    shallow = shallow-by-words n (tokens n) (subst (λ l. ShallowWords l) (sym normal-words) (normal-shallow s d (w .shallow) words-said));
+  }
+
+  -- What it means.
+  module _ (t : Tables) (q : answer (syntax s (d .tree)) ≡ accepted t) where
+    same-meaning : MeansSame (syntax s (d .tree)) t
+    same-meaning = means-same s d t q
+
+    accepted-back : Accepts (answer (syntax n (normal-tree .tree))) (same-meaning .back)
+    accepted-back =
+        accepts (same-meaning .back) (answer-unplaced (syntax n (normal-tree .tree))) (ap answer (normal-tree .syntax-is) ∙ same-meaning .accepts)
+
+    lines-again : lines-of (syntax n (normal-tree .tree)) ≡ lines-of (syntax s (d .tree))
+    unfolding lines-of
+    lines-again = sym (application-unplaced (syntax n (normal-tree .tree))) ∙ ap lines-of (normal-tree .syntax-is) ∙ same-meaning .lines
+
+    copied-again : part n (syntax n (normal-tree .tree) .implementation) ≡ part s (syntax s (d .tree) .implementation)
+    copied-again =
+        ap (part n) (normal-tree .span-is) ∙ normal-parts .copied (normal-tree .first) (normal-tree .final) (normal-tree .mid) (normal-tree .middle-is)
+
+    normal-again : normal n (syntax n (normal-tree .tree)) ≡ n
+    unfolding normal lines-of
+    normal-again =
+        ap₂ (λ i l. bytesOf "OIL_VERSION = \"2.5\";\n" ++ (i ++ (bytesOf "\n" ++ l))) copied-again lines-again ∙ sym e
+
+    reads-back-derived : reading n ≡ accepted (accepted-back .placed)
+    unfolding normal-derivation
+    reads-back-derived = reading-derived n normal-covered normal-derivation ∙ accepted-back .accepted-as
+
+    same-again : bare (accepted-back .placed) ≡ bare t
+    same-again = accepted-back .same-as ∙ same-meaning .same
+
+    own-normal : normal-text n ≡ n
+    unfolding normal-derivation
+    own-normal = normal-derived n normal-covered normal-derivation ∙ normal-again
+
+by-derivation : {s : List ℕ} {a : Answer} (t : Tables) → Answers s a → a ≡ accepted t → length (normal-text s) ≤ 65535 → ReadsBack s t
+by-derivation t (too-long k) e h = absurd (let z : _≡_ {A = Bool} false true = cc in false≢true z)
+by-derivation t (not-grammar a k m q) e h = absurd (let z : _≡_ {A = Bool} false true = cc in false≢true z)
+by-derivation {s} t (meant w d) e h =
+    let n = normal-text s in
+    let i = normal-derived s w d in
+    record { back = accepted-back s w d n i h t e .placed; accepts = reads-back-derived s w d n i h t e; same = same-again s w d n i h t e; again = own-normal s w d n i h t e }
+
+-- "an accepted text written out in full reads back to the same values": for every accepted text whose normal text is at most 65,535 bytes.
+pub reads-back : (s : List ℕ) (t : Tables) → reading s ≡ accepted t → length (normal-text s) ≤ 65535 → ReadsBack s t
+reads-back s t e h = by-derivation t (answers s) e h

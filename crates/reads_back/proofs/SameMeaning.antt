@@ -1,0 +1,153 @@
+-- The syntax of a normal text means the same as that of the text. Assumes nothing.
+use mathlib.Core.Path.{_≡_, refl, sym, _∙_, ap, ap₂}
+use mathlib.Core.List.{List, [], _∷_, _++_}
+use mathlib.Core.Bool.{Bool, true, false, not, false≢true}
+use mathlib.Core.Option.{Option, none, some}
+use Prim.Native.Nat.{ℕ, _≤_}
+use native.Mathlib.Omega.{arith}
+use lib.Dec.{ltb}
+use borrow.Author.Tests.{ltb-false}
+use Rattle.token.specs.Words.{bytesOf, same}
+use Rattle.grammar.specs.Grammar.{Derivation}
+use Rattle.grammar.specs.Terminals.{tokens}
+use Rattle.meaning.specs.Syntax.{File}
+use Rattle.meaning.specs.Words.{choose}
+use Rattle.meaning.specs.Kinds.{kinds}
+use Rattle.meaning.specs.Faults.{Fault, fault-if, first}
+use Rattle.meaning.specs.Actions.{syntax}
+use Rattle.meaning.specs.Defining.{spec-faults, definition-faults}
+use Rattle.meaning.specs.Applying.{counts, too-few, each-object, object-faults}
+use Rattle.meaning.specs.Judging.{statement-stage}
+use Rattle.meaning.specs.Resolving.{number, all-values, how-many-in-all, too-many}
+use Rattle.meaning.specs.Normal.{application-lines}
+use Rattle.meaning.specs.Answers.{Tables, Answer, accepted, tables, unless, answer}
+use Rattle.meaning.specs.Places.{unplaced-tables}
+use Rattle.meaning.proofs.Rooms.{no-first}
+use Rattle.meaning.proofs.Unplaced.{application-unplaced}
+use Rattle.meaning.proofs.UnplacedFaults.{answer-unplaced}
+use Rattle.reads_back.specs.ReadsBack.{bare}
+use Rattle.reads_back.proofs.Restated.{given, restated-file}
+use Rattle.reads_back.proofs.RestatingUnplaced.{kept-file, unplaced-kept}
+use Rattle.reads_back.proofs.SameValues.{SameAll, all-same-many, all-same-rows}
+use Rattle.reads_back.proofs.SameTables.{tables-same, bare-unplaced, accepts-unplaced}
+use Rattle.reads_back.proofs.RestatingPlain.{PlainSpecs, syntax-plain}
+use Rattle.reads_back.proofs.RestatingFaultless.{none-front, none-back}
+use Rattle.reads_back.proofs.SameKindred.{AllKindred, no-kindred, kindred-objects, kindred-counts, kindred-rows}
+use Rattle.reads_back.proofs.RestatingObjects.{SettledObjects, settle-objects, restated-kindred, all-restated-values, restated-objects-judged, kindred-few, restated-each, restated-lines}
+
+-- Stages -------------------------------------------------------------------------------------------------------------------------------------
+
+-- An accepted syntax has no fault of any stage.
+record NoFaults (f : File) (t : Tables) : Type 0 where
+  definitions : definition-faults f ≡ []
+  objects : object-faults f ≡ []
+  statements : statement-stage f ≡ []
+  values : too-many (how-many-in-all (all-values f (f .objects))) ≡ []
+  tables-are : tables f (all-values f (f .objects)) ≡ t
+
+passed : (fs : List Fault) (k : Unit {0} → Answer) (t : Tables) → unless (first fs) k ≡ accepted t → (fs ≡ []) × (k tt ≡ accepted t)
+unfolding unless
+passed fs k t e = go (first fs) refl e
+  where
+    go : (o : Option Fault) → first fs ≡ o → unless o k ≡ accepted t → (fs ≡ []) × (k tt ≡ accepted t)
+    go none q h = (no-first fs q, h)
+    go (some f) q h = absurd (let z : _≡_ {A = Bool} false true = cc in false≢true z)
+
+no-faults : (f : File) (t : Tables) → answer f ≡ accepted t → NoFaults f t
+unfolding answer
+no-faults f t e =
+    let p₁ = passed (definition-faults f) _ t e in
+    let p₂ = passed (object-faults f) _ t (p₁ .1) in
+    let p₃ = passed (statement-stage f) _ t (p₂ .1) in
+    let p₄ = passed (too-many (how-many-in-all (all-values f (f .objects)))) _ t (p₃ .1) in
+    record { definitions = p₁ .0; objects = p₂ .0; statements = p₃ .0; values = p₄ .0; tables-are = let q = p₄ .1 in cc }
+
+pass : (fs : List Fault) (k : Unit {0} → Answer) → fs ≡ [] → unless (first fs) k ≡ k tt
+unfolding unless first
+pass fs k e = ap (λ l. unless (first l) k) e
+
+accepts-it : (f : File) → definition-faults f ≡ [] → object-faults f ≡ [] → statement-stage f ≡ [] → too-many (how-many-in-all (all-values f (f .objects))) ≡ []
+    → answer f ≡ accepted (tables f (all-values f (f .objects)))
+unfolding answer
+accepts-it f a b c d =
+    pass (definition-faults f) _ a ∙ pass (object-faults f) _ b ∙ pass (statement-stage f) _ c ∙ pass (too-many (how-many-in-all (all-values f (f .objects)))) _ d
+
+few-values : (n : ℕ) → too-many n ≡ [] → n ≤ 2048
+unfolding too-many choose
+few-values n e = ltb-false 2048 n (go (ltb 2048 n) e)
+  where
+    go : (b : Bool) → _≡_ {A = List Fault} (choose b (λ _. record { place = 0; number = 19 } ∷ []) (λ _. [])) [] → b ≡ false
+    go true h = absurd (let z : _≡_ {A = Bool} false true = cc in false≢true z)
+    go false h = refl
+
+specs-free : (f : File) → definition-faults f ≡ [] → spec-faults [] (f .specs) ≡ []
+unfolding definition-faults
+specs-free f e = none-back (fault-if (not (same (f .version .bytes) (bytesOf "\"2.5\""))) (f .version) 6) (spec-faults [] (f .specs)) e
+
+definitions-kept : (f : File) → definition-faults f ≡ [] → definition-faults (kept-file f) ≡ []
+unfolding definition-faults kept-file given same fault-if
+definitions-kept f e = specs-free f e
+
+kept-kindred : (f : File) → AllKindred (kept-file f .objects) (f .objects)
+unfolding kept-file
+kept-kindred f = restated-kindred f (f .objects) 0
+
+objects-kept : (f : File) → object-faults f ≡ [] → how-many-in-all (all-values f (f .objects)) ≤ 2048 → object-faults (kept-file f) ≡ []
+unfolding object-faults kept-file
+objects-kept f e h =
+    let a = too-few kinds (f .objects) (f .cpu) in
+    let b = each-object [] (f .objects) in
+    ap₂ _++_ (kindred-few kinds (f .cpu) (kept-kindred f) (none-front a b e)) (restated-each f [] [] (f .objects) 0 no-kindred (none-back a b e) (omega arith))
+
+kept-specs : (f : File) → kept-file f .specs ≡ f .specs
+unfolding kept-file
+kept-specs f = refl
+
+module _ (f : File) (s : SettledObjects f (f .objects)) where
+  statements-kept : statement-stage (kept-file f) ≡ []
+  unfolding statement-stage kept-file
+  statements-kept = restated-objects-judged f (kept-file f) (kept-specs f) (kindred-objects (kept-kindred f)) 0 s
+
+  values-kept : SameAll (all-values (kept-file f) (kept-file f .objects)) (all-values f (f .objects))
+  unfolding kept-file
+  values-kept = all-restated-values f (kept-file f) (kept-specs f) (kindred-objects (kept-kindred f)) 0 s
+
+  lines-kept : application-lines (kept-file f) (all-values (kept-file f) (kept-file f .objects)) ≡ application-lines f (all-values f (f .objects))
+  unfolding application-lines kept-file
+  lines-kept = ap (λ l. bytesOf "CPU " ++ (f .cpu .bytes ++ (bytesOf " {\n" ++ (l ++ bytesOf "};\n")))) (restated-lines (f .objects) 0 values-kept)
+
+  tables-kept : bare (tables (kept-file f) (all-values (kept-file f) (kept-file f .objects))) ≡ bare (tables f (all-values f (f .objects)))
+  unfolding bare tables kept-file unplaced-tables counts
+  tables-kept = tables-same refl refl (kindred-rows (kept-kindred f)) (all-same-rows 0 0 values-kept) (kindred-counts kinds (kept-kindred f))
+
+-- The theorem --------------------------------------------------------------------------------------------------------------------------------
+
+-- The syntax of the normal text of f, with the tables t, is accepted, with the same tables but places, lengths and the stated mark, and has the
+-- same lines.
+pub record MeansSame (f : File) (t : Tables) : Type 0 where
+  pub back : Tables
+  pub accepts : answer (restated-file f) ≡ accepted back
+  pub same : bare back ≡ bare t
+  pub lines : application-lines (restated-file f) (all-values (restated-file f) (restated-file f .objects)) ≡ application-lines f (all-values f (f .objects))
+
+-- An accepted syntax with plain definitions.
+same-of : (f : File) (t : Tables) → PlainSpecs (f .specs) → answer f ≡ accepted t → MeansSame f t
+unfolding statement-stage
+same-of f t p e =
+    let n = no-faults f t e in
+    let s = settle-objects f (f .objects) (specs-free f (n .definitions)) p (n .statements) in
+    let g = kept-file f in
+    let rs = all-values g (g .objects) in
+    let many = all-same-many (values-kept f s) in
+    let a = accepts-it g (definitions-kept f (n .definitions)) (objects-kept f (n .objects) (few-values (how-many-in-all (all-values f (f .objects))) (n .values)))
+    (statements-kept f s) (ap too-many many ∙ n .values) in
+    record {
+      back = unplaced-tables (tables g rs);
+      accepts = ap answer (sym (unplaced-kept f)) ∙ accepts-unplaced (tables g rs) (answer-unplaced g) a;
+      same = bare-unplaced (tables g rs) ∙ tables-kept f s ∙ ap bare (n .tables-are);
+      lines = ap (λ z. application-lines z (all-values z (z .objects))) (sym (unplaced-kept f)) ∙ application-unplaced g ∙ lines-kept f s;
+    }
+
+-- So it is for the syntax of an accepted text.
+pub means-same : (s : List ℕ) (d : Derivation (tokens s)) (t : Tables) → answer (syntax s (d .tree)) ≡ accepted t → MeansSame (syntax s (d .tree)) t
+means-same s d t e = same-of (syntax s (d .tree)) t (syntax-plain s (d .tree)) e
