@@ -146,6 +146,7 @@ arrived s y w h l z =
         objects = omega arith;
         statements = omega arith;
         version = k .version;
+        implementation = k .implementation;
         cpu = k .cpu;
         places = k .places;
         again = k .again;

@@ -26,7 +26,7 @@ asked-none w (accepted t) = refl
 asked-none w (refused n p) = refl
 
 module _ (s d e o v : List ℕ) where
-  call-enough : enough (roomsOf d e o v) ≡ true → call (roomsOf d e o v) none s ≡ reading s
+  pub call-enough : enough (roomsOf d e o v) ≡ true → call (roomsOf d e o v) none s ≡ reading s
   unfolding call choose
   call-enough h = rw h (asked-none (normal-text s) (reading s))
 

@@ -5,3 +5,5 @@ pub mod Settling
 pub mod Deciding
 pub mod Finishing
 pub mod Lending
+pub mod Spans
+pub mod Demand

@@ -1,4 +1,5 @@
--- Every fault of a stage has a number that is not 0: a stage without a fault is told from one with a fault by the number. Assumes nothing.
+-- Every fault of a stage behind the grammar's has a number above 5: a stage without a fault is told from one with a fault by the number, and
+-- the grammar stage's refusals from later ones. Assumes nothing.
 use mathlib.Core.Path.{_≡_, refl, sym, _∙_, ap, subst}
 use mathlib.Core.List.{List, [], _∷_, _++_}
 use mathlib.Core.Bool.{Bool, true, false, not}
@@ -17,16 +18,16 @@ use Rattle.meaning.specs.Defining.{outside, bound-faults, range-faults, default
 use Rattle.meaning.specs.Applying.{too-few, statement-faults, each-object, object-faults}
 use Rattle.meaning.specs.Judging.{reference-faults, brace-faults, faults-as, own-faults, and-inside, judged, judge, judge-object, judge-objects, statement-stage}
 
--- None of the faults has the number 0.
+-- Each of the faults has a number above 5.
 pub data Numbered : List Fault → Type 0 where
   no-fault : Numbered []
-  a-fault : {f : Fault} {fs : List Fault} → 0 < f .number → Numbered fs → Numbered (f ∷ fs)
+  a-fault : {f : Fault} {fs : List Fault} → 5 < f .number → Numbered fs → Numbered (f ∷ fs)
 
 with-more : {a b : List Fault} → Numbered a → Numbered b → Numbered (a ++ b)
 with-more no-fault q = q
 with-more (a-fault h p) q = a-fault h (with-more p q)
 
-at-if : (b : Bool) (t : Word) (n : ℕ) → 0 < n → Numbered (fault-if b t n)
+at-if : (b : Bool) (t : Word) (n : ℕ) → 5 < n → Numbered (fault-if b t n)
 unfolding fault-if
 at-if true t n h = a-fault h no-fault
 at-if false t n h = no-fault
@@ -177,12 +178,12 @@ of-stage f = of-objects-judged f (f .objects)
 
 abbrev pub NumberedOne : Option Fault → Type 0
 NumberedOne none = Unit {0}
-NumberedOne (some f) = 0 < f .number
+NumberedOne (some f) = 5 < f .number
 
-of-sooner : (a : Fault) (o : Option Fault) → 0 < a .number → NumberedOne o → NumberedOne (sooner (some a) o)
+of-sooner : (a : Fault) (o : Option Fault) → 5 < a .number → NumberedOne o → NumberedOne (sooner (some a) o)
 unfolding sooner
 of-sooner a none p q = p
-of-sooner a (some b) p q = by-test (λ (x : Fault). 0 < x .number) (ahead a b) a b (λ _. p) (λ _. q)
+of-sooner a (some b) p q = by-test (λ (x : Fault). 5 < x .number) (ahead a b) a b (λ _. p) (λ _. q)
 
 pub of-first : (fs : List Fault) → Numbered fs → NumberedOne (first fs)
 unfolding first

@@ -22,9 +22,11 @@ use Rattle.scopes.specs.Situations.{Situation}
 use Rattle.scopes.specs.Promises.{fault-of}
 use Rattle.walk.specs.Whole.{Rooms, Stands, kind-places, SameSizes}
 use Rattle.walk.specs.declared.Walked.{Walked}
-use Rattle.reading.specs.Results.{readingOf}
+use Rattle.reading.specs.Results.{readingOf, SpansOf}
+use Rattle.reading.specs.declared.Answer.the-variants.{Accepted}
 use Rattle.reading.specs.declared.Decision.{Decision}
 use Rattle.reading.specs.declared.Reading.{Reading}
+use Rattle.reading.specs.declared.Spanned.{Spanned}
 
 -- What the grammar stage answers, as a fault; the number 0 where it passes.
 unfoldable pub grammarFault : GrammarAnswer → Fault
@@ -42,6 +44,7 @@ pub record Kept (s : List ℕ) (y : Rooms) (w : Walked) (f : File) : Type 0 wher
   pub objects : w .objects ≡ length (f .objects)
   pub statements : w .statements ≡ statement-count (f .objects)
   pub version : Stands (f .version) (w .«version_at») (w .«version_len»)
+  pub implementation : (f .implementation .place ≡ w .«implementation_at») × (f .implementation .length ≡ w .«implementation_len»)
   pub cpu : Stands (f .cpu) (w .«cpu_at») (w .«cpu_len»)
   pub places : w .places ≡ kind-places (f .specs)
   pub again : w .again ≡ again-place [] (f .specs)
@@ -87,6 +90,11 @@ pub record Filled (s d′ e′ o′ v′ : List ℕ) (r : Reading) : Type 0 wher
   pub enumerators : e′ ≡ rooms-after (reading s) .enumerators
   pub objects : o′ ≡ rooms-after (reading s) .objects
   pub values : v′ ≡ rooms-after (reading s) .values
+
+-- The same, with the spans of an accepted text.
+pub record FilledSpanned (s d′ e′ o′ v′ : List ℕ) (r : Spanned) : Type 0 where
+  pub filled : Filled s d′ e′ o′ v′ (r .reading)
+  pub spans : r .reading .answer ≡ Accepted → SpansOf s r
 
 -- Blank rooms are filled.
 pub record BlankRooms (d e o v : List ℕ) : Type 0 where

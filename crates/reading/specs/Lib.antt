@@ -1,3 +1,4 @@
 -- What the public calls promise. Assumes nothing.
 pub mod Results
 pub mod Decisions
+pub mod Demand

@@ -5,13 +5,17 @@ use mathlib.Core.Bool.{Bool, true, false}
 use mathlib.Core.Option.{none}
 use Prim.Native.Nat.{ℕ, _/_}
 use lib.ListN.{length, drop, replicate}
-use Rattle.meaning.specs.Answers.{Answer as Meant, accepted, refused}
+use Rattle.grammar.specs.Demand.{Covered}
+use Rattle.meaning.specs.Syntax.{File}
+use Rattle.meaning.specs.Answers.{Answer as Meant, accepted, refused, answer}
 use Rattle.meaning.specs.Reading.{reading}
 use Rattle.meaning.specs.Calls.{Rooms, enough, call}
 use Rattle.meaning.specs.Cells.{RoomCells, rooms-after}
+use Rattle.scopes.specs.Situations.{Situation}
 use Rattle.reading.specs.declared.Answer.{Answer}
 use Rattle.reading.specs.declared.Answer.the-variants.{Accepted, Refused}
 use Rattle.reading.specs.declared.Reading.{Reading}
+use Rattle.reading.specs.declared.Spanned.{Spanned}
 
 -- The answer as `read` gives it: document 01's number and place, or how many rows there are of each table and how many objects of each kind.
 unfoldable pub readingOf : Meant → Reading
@@ -43,3 +47,17 @@ pub record Reads (s d e o v d′ e′ o′ v′ : List ℕ) (r : Reading) : Type
   pub enumerators : e′ ≡ tableAfter (enough (roomsOf d e o v)) (rooms-after (reading s) .enumerators) 3072 e
   pub objects : o′ ≡ tableAfter (enough (roomsOf d e o v)) (rooms-after (reading s) .objects) 1792 o
   pub values : v′ ≡ tableAfter (enough (roomsOf d e o v)) (rooms-after (reading s) .values) 18432 v
+
+-- The text s is the file, by which it is answered, and these are the spans of its implementation and its CPU's name.
+pub record SpansOf (s : List ℕ) (r : Spanned) : Type 0 where
+  pub file : File
+  pub situation : Situation s file
+  pub covered : Covered s
+  pub answered : reading s ≡ answer file
+  pub implementation : (file .implementation .place ≡ r .«implementation_at») × (file .implementation .length ≡ r .«implementation_len»)
+  pub cpu : (file .cpu .place ≡ r .«cpu_at») × (file .cpu .length ≡ r .«cpu_len»)
+
+-- THE CONTRACT of `read_spanned`: that of `read`, and where the text is accepted the spans are its own.
+pub record ReadsSpanned (s d e o v d′ e′ o′ v′ : List ℕ) (r : Spanned) : Type 0 where
+  pub reads : Reads s d e o v d′ e′ o′ v′ (r .reading)
+  pub spans : r .reading .answer ≡ Accepted → SpansOf s r

@@ -1,10 +1,13 @@
 // Reading a text into four lent tables.
 ghost use mathlib.Core.Path.{_≡_};
 ghost use lib.ListN.{length};
+ghost use mathlib.Core.Bool.{true};
 ghost use Rattle.meaning.specs.Answers.{refused};
+ghost use Rattle.meaning.specs.Calls.{enough};
 ghost use Rattle.grammar.specs.Readers.{answerOf};
-ghost use Rattle.reading.specs.Results.{readingOf, Reads};
-ghost use Rattle.reading.specs.Decisions.{grammarFault, StageFault, Decides, Settles, RoomSizes, Filled};
+ghost use Rattle.reading.specs.Results.{readingOf, roomsOf, Reads, ReadsSpanned};
+ghost use Rattle.reading.specs.Demand.{Demand-3};
+ghost use Rattle.reading.specs.Decisions.{grammarFault, StageFault, Decides, Settles, RoomSizes, FilledSpanned};
 use grammar::Answer as Grammar;
 use grammar::Look;
 use judging::Sizes;
@@ -29,6 +32,15 @@ pub struct Reading {
     pub counts: [usize; 13],
 }
 
+// A reading, with place and length of the implementation and of the CPU's name; they mean something where it is accepted.
+pub struct Spanned {
+    pub reading: Reading,
+    pub implementation_at: usize,
+    pub implementation_len: usize,
+    pub cpu_at: usize,
+    pub cpu_len: usize,
+}
+
 // The fault by which the text is refused, or one of number 0, with what was kept of the text.
 pub struct Decision {
     pub fault: Fault,
@@ -46,6 +58,19 @@ fn refusal(number: u8, place: usize) -> Reading
         objects: 0,
         values: 0,
         counts: counts,
+    }
+}
+
+fn refused(number: u8, place: usize) -> Spanned
+    ensures { λ r. ⌜ r .reading ≡ readingOf (refused number place) ⌝ }
+{
+    let r = refusal(number, place);
+    Spanned {
+        reading: r,
+        implementation_at: 0,
+        implementation_len: 0,
+        cpu_at: 0,
+        cpu_len: 0,
     }
 }
 
@@ -177,16 +202,16 @@ fn fill(
     enumerators: &mut [usize],
     objects: &mut [usize],
     values: &mut [usize],
-) -> Reading
+) -> Spanned
     requires { ⌜ RoomSizes (now definitions) (now enumerators) (now objects) (now values) ⌝ }
-    ensures { λ r. ⌜ Filled (now (text .entry)) (now (definitions .exit)) (now (enumerators .exit)) (now (objects .exit)) (now (values .exit)) r ⌝ }
+    ensures { λ r. ⌜ FilledSpanned (now (text .entry)) (now (definitions .exit)) (now (enumerators .exit)) (now (objects .exit)) (now (values .exit)) r ⌝ }
 {
     cells::clear(definitions);
     cells::clear(enumerators);
     cells::clear(objects);
     cells::clear(values);
     if 65535 < text.len() {
-        return refusal(2, 0);
+        return refused(2, 0);
     }
     let mut d = [0; 9747];
     let mut e = [0; 3075];
@@ -195,10 +220,10 @@ fn fill(
     let r = decide(text, &mut d, &mut e, &mut o, &mut s);
     let f = r.fault;
     if faults::is_fault(f) {
-        return refusal(f.number, f.place);
+        return refused(f.number, f.place);
     }
     let w = r.walked;
-    settle(
+    let reading = settle(
         text,
         &d,
         &e,
@@ -209,30 +234,38 @@ fn fill(
         enumerators,
         objects,
         values,
-    )
+    );
+    Spanned {
+        reading: reading,
+        implementation_at: w.implementation_at,
+        implementation_len: w.implementation_len,
+        cpu_at: w.cpu_at,
+        cpu_len: w.cpu_len,
+    }
 }
 
-// Reads a text into four lent tables. Refusal 1 where one of them is shorter than its room: nothing is touched then.
-fn read(
+// Reads a text into four lent tables, and tells where the implementation and the CPU's name stand: what the writer of normal text asks.
+// Refusal 1 where one of the tables is shorter than its room: nothing is touched then.
+pub fn read_spanned(
     text: &[u8],
     definitions: &mut [usize],
     enumerators: &mut [usize],
     objects: &mut [usize],
     values: &mut [usize],
-) -> Reading
-    ensures { λ r. ⌜ Reads (now (text .entry)) (now (definitions .entry)) (now (enumerators .entry)) (now (objects .entry)) (now (values .entry)) (now (definitions .exit)) (now (enumerators .exit)) (now (objects .exit)) (now (values .exit)) r ⌝ }
+) -> Spanned
+    ensures { λ r. ⌜ ReadsSpanned (now (text .entry)) (now (definitions .entry)) (now (enumerators .entry)) (now (objects .entry)) (now (values .entry)) (now (definitions .exit)) (now (enumerators .exit)) (now (objects .exit)) (now (values .exit)) r ⌝ }
 {
     if definitions.len() < 6656 {
-        return refusal(1, 0);
+        return refused(1, 0);
     }
     if enumerators.len() < 3072 {
-        return refusal(1, 0);
+        return refused(1, 0);
     }
     if objects.len() < 1792 {
-        return refusal(1, 0);
+        return refused(1, 0);
     }
     if values.len() < 18432 {
-        return refusal(1, 0);
+        return refused(1, 0);
     }
     fill(
         text,
@@ -241,4 +274,19 @@ fn read(
         &mut objects[..1792],
         &mut values[..18432],
     )
+}
+
+// Reads a text into four lent tables. Refusal 1 where one of them is shorter than its room: nothing is touched then.
+pub fn read(
+    text: &[u8],
+    definitions: &mut [usize],
+    enumerators: &mut [usize],
+    objects: &mut [usize],
+    values: &mut [usize],
+) -> Reading
+    ensures reads { λ r. ⌜ Reads (now (text .entry)) (now (definitions .entry)) (now (enumerators .entry)) (now (objects .entry)) (now (values .entry)) (now (definitions .exit)) (now (enumerators .exit)) (now (objects .exit)) (now (values .exit)) r ⌝ }
+    ensures demand_3 { λ r. ⌜ (enough (roomsOf (now (definitions .entry)) (now (enumerators .entry)) (now (objects .entry)) (now (values .entry))) ≡ true → Demand-3 (now (text .entry)) (r .answer)) ⌝ }
+{
+    let r = read_spanned(text, definitions, enumerators, objects, values);
+    r.reading
 }

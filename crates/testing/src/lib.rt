@@ -6,6 +6,7 @@ use token::Cursor;
 use token::Sort;
 use token::Step;
 
+mod reads;
 mod stage;
 
 // The number of a token's sort.
