@@ -184,14 +184,14 @@ fn settle(
     copying::copy_definitions(d, w.definitions, definitions);
     copying::copy_enumerators(d, w.definitions, e, w.enumerators, enumerators);
     copying::copy_objects(o, w.objects, objects);
-    let counts = w.counts;
+    let of_kinds = w.counts;
     Reading {
         answer: Answer::Accepted,
         definitions: w.definitions,
         enumerators: w.enumerators,
         objects: w.objects,
         values: n,
-        counts: counts,
+        counts: of_kinds,
     }
 }
 
