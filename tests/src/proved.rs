@@ -8,6 +8,7 @@ pub fn is_linked(layer: &str) -> bool {
     let linked = match layer {
         "token" => cfg!(proved_token),
         "grammar" => cfg!(proved_grammar),
+        "reading" => cfg!(proved_reading),
         _ => panic!("no layer {layer}"),
     };
     let mut asked = env!("KAUKSLINI_LAYERS_ASKED").split(',');
@@ -132,6 +133,49 @@ pub mod grammar {
         match stage {
             Stage::Passes => (0, 0),
             Stage::Refused { number, place } => (number, place),
+        }
+    }
+}
+
+#[cfg(proved_reading)]
+pub mod reading {
+    extern "C" {
+        fn kaukslini_read(
+            text: *const u8,
+            text_length: usize,
+            definitions: *mut usize,
+            definitions_length: usize,
+            enumerators: *mut usize,
+            enumerators_length: usize,
+            objects: *mut usize,
+            objects_length: usize,
+            values: *mut usize,
+            values_length: usize,
+            told: *mut usize,
+            told_length: usize,
+        ) -> u8;
+    }
+
+    /// Reads a text into lent tables of definitions, enumerators, objects and values. The
+    /// number of the refusal, 0 where the text is accepted; what else is answered is told in
+    /// `told`: the place, how many rows of each table are used, the objects of each kind.
+    pub fn read(text: &[u8], tables: [&mut [usize]; 4], told: &mut [usize]) -> u8 {
+        let [definitions, enumerators, objects, values] = tables;
+        unsafe {
+            kaukslini_read(
+                text.as_ptr(),
+                text.len(),
+                definitions.as_mut_ptr(),
+                definitions.len(),
+                enumerators.as_mut_ptr(),
+                enumerators.len(),
+                objects.as_mut_ptr(),
+                objects.len(),
+                values.as_mut_ptr(),
+                values.len(),
+                told.as_mut_ptr(),
+                told.len(),
+            )
         }
     }
 }

@@ -1,0 +1,303 @@
+//! Texts that take much work: full tables, and texts made against loops over rows or over
+//! the text, as heavy as they get within the longest text.
+
+use crate::configuration::configuration;
+use crate::meaning::LONGEST_TEXT;
+
+/// A text, and the number of its refusal; 0 where it is accepted.
+pub struct Heavy {
+    pub name: &'static str,
+    pub text: Vec<u8>,
+    pub number: u8,
+}
+
+/// All heavy texts.
+pub fn heavy() -> Vec<Heavy> {
+    let mut all = full();
+    all.extend(against_numbers());
+    all.extend(against_names());
+    all.extend(against_defaults());
+    all
+}
+
+fn file(specs: &str, objects: &str) -> String {
+    format!("OIL_VERSION=\"2.5\";IMPLEMENTATION m{{{specs}}};CPU c{{OS o;APPMODE a;{objects}}};")
+}
+
+fn accepted(name: &'static str, specs: &str, objects: &str) -> Heavy {
+    refused(name, specs, objects, 0)
+}
+
+fn refused(name: &'static str, specs: &str, objects: &str, number: u8) -> Heavy {
+    Heavy {
+        name,
+        text: file(specs, objects).into_bytes(),
+        number,
+    }
+}
+
+/// An accepted text in which `#` stands for as many pieces as there is room for.
+fn filled(name: &'static str, specs: &str, objects: &str, piece: &str) -> Heavy {
+    let text = file(specs, objects);
+    let count = (LONGEST_TEXT + 1 - text.len()) / piece.len();
+    Heavy {
+        name,
+        text: text.replacen('#', &piece.repeat(count), 1).into_bytes(),
+        number: 0,
+    }
+}
+
+/// What `one` writes for each number below `count`.
+fn each(count: usize, one: impl Fn(usize) -> String) -> String {
+    (0..count).map(one).collect()
+}
+
+/// A name of so many bytes; names of one length differ in their last two bytes only.
+fn name(length: usize, number: usize) -> String {
+    const BYTES: &[u8; 63] = b"abcdefghijklmnopqrstuvwxyzABCDEFGHIJKLMNOPQRSTUVWXYZ0123456789_";
+    let last = [BYTES[number / 63], BYTES[number % 63]].map(char::from);
+    "n".repeat(length - 2) + &String::from_iter(last)
+}
+
+/// Texts that fill the tables.
+fn full() -> Vec<Heavy> {
+    let definitions = each(512, |number| format!("UINT32 d{number}=1;"));
+    let enumerators = each(1_023, |number| format!("e{number},"));
+    let lists = each(500, |number| format!("UINT32 d{number}[];"));
+    let tasks = each(254, |number| format!("TASK t{number};"));
+    let comment = "x".repeat(65_000);
+    vec![
+        Heavy {
+            name: "51 KB, 250 objects",
+            text: configuration(51_000).into_bytes(),
+            number: 0,
+        },
+        accepted(
+            "512 definitions in one scope",
+            &format!("OS{{{definitions}}};"),
+            "",
+        ),
+        accepted(
+            "1,024 enumerators",
+            &format!("OS{{ENUM[{enumerators}e]x=e;}};"),
+            "",
+        ),
+        accepted(
+            "2,048 statements in one object",
+            "TASK{UINT32 x[];};",
+            &format!("TASK t{{{}}};", "x=1;".repeat(2_048)),
+        ),
+        accepted(
+            "256 objects, 500 list attributes",
+            &format!("TASK{{{lists}}};"),
+            &tasks,
+        ),
+        accepted(
+            "one comment of 65,000 bytes",
+            &format!("/*{comment}*/"),
+            "TASK t;",
+        ),
+    ]
+}
+
+/// Numbers and ranges that are read from the text again and again.
+fn against_numbers() -> Vec<Heavy> {
+    let stated = format!("TASK t{{{}}};", "x=0;".repeat(2_048));
+    vec![
+        filled(
+            "a number sought in a long list",
+            "TASK{UINT32[#0]x[];};",
+            &stated,
+            "1,",
+        ),
+        filled(
+            "a range with a long comment",
+            "TASK{UINT32[0../*#*/9]x[];};",
+            &stated,
+            "x",
+        ),
+        filled(
+            "a range with many small comments",
+            "TASK{UINT32[0..#9]x[];};",
+            &stated,
+            "/**/",
+        ),
+        filled(
+            "a range with many blanks",
+            "TASK{UINT32[0..#9]x[];};",
+            &stated,
+            " ",
+        ),
+        filled(
+            "a range with a long bound",
+            "TASK{UINT32[0..0x#9]x[];};",
+            &stated,
+            "0",
+        ),
+        filled(
+            "a long number by default, taken 1,024 times",
+            "TASK{ENUM[A{UINT32 y=0x#9;}]x[];};",
+            &format!("TASK t{{{}}};", "x=A;".repeat(1_024)),
+            "0",
+        ),
+    ]
+}
+
+/// Names that agree but in their last two bytes, sought in the rows.
+fn against_names() -> Vec<Heavy> {
+    let definitions = |count, length, mark: &str| {
+        each(count, |number| {
+            format!("INT32 {}{mark};", name(length, number))
+        })
+    };
+    let statements = |count, length, from: usize, step: usize| {
+        each(count, |number| {
+            format!("{}=1;", name(length, from + step * number))
+        })
+    };
+    // All but the last definition must be stated, and are so behind a long list.
+    let needed = format!(
+        "TASK{{{}INT32 {}[];}};",
+        definitions(511, 20, ""),
+        name(20, 511)
+    );
+    let late = format!(
+        "TASK t{{{}{}}};",
+        statements(1_520, 20, 511, 0),
+        statements(511, 20, 0, 1)
+    );
+    let lists = format!("TASK{{{}}};", definitions(512, 20, "[]"));
+    let spread = each(254, |number| {
+        format!("TASK {}{{{}}};", name(2, number), statements(7, 20, 505, 1))
+    });
+
+    let behind = format!(
+        "TASK{{{}ENUM[A]{}[];}};",
+        definitions(511, 2, "[]"),
+        name(2, 511)
+    );
+    let list = format!("{}=A;", name(2, 511)).repeat(2_048);
+
+    let enumerators = |length| each(1_024, |number| format!(",{}", name(length, number)));
+    let enumerated = format!("TASK{{ENUM[{}]x[];}};", &enumerators(18)[1..]);
+    let values = format!("x={};", name(18, 1_023)).repeat(2_048);
+    let long = format!("TASK{{ENUM[{}]x;}};", &enumerators(62)[1..]);
+
+    let objects = |count, length| each(count, |number| format!("TASK {};", name(length, number)));
+    let references = format!("x={};", name(25, 252)).repeat(2_048);
+    let halves = format!(
+        "TASK{{ENUM[A{{{}}},B{{{}}}]x;}};",
+        definitions(255, 117, ""),
+        each(256, |number| format!("INT32 {};", name(117, 255 + number)))
+    );
+    vec![
+        accepted(
+            "511 needed attributes stated behind a long list",
+            &needed,
+            &late,
+        ),
+        refused(
+            "statements of no definition",
+            &lists,
+            &format!("TASK t{{{}}};", statements(2_040, 20, 600, 1)),
+            13,
+        ),
+        refused(
+            "one attribute stated again and again",
+            &format!("TASK{{{}}};", definitions(512, 20, "=1")),
+            &format!("TASK t{{{}}};", statements(2_040, 20, 511, 0)),
+            14,
+        ),
+        accepted("statements in 254 objects", &lists, &spread),
+        accepted(
+            "a list behind 511 others, stated 2,048 times",
+            &behind,
+            &format!("TASK t{{{list}}};"),
+        ),
+        accepted(
+            "an enumerator sought 2,048 times",
+            &enumerated,
+            &format!("TASK t{{{values}}};"),
+        ),
+        refused(
+            "no enumerator, sought 2,048 times",
+            &enumerated,
+            &format!(
+                "TASK t{{{}}};",
+                format!("x={};", name(18, 1_024)).repeat(2_048)
+            ),
+            15,
+        ),
+        accepted("long enumerators", &long, ""),
+        accepted(
+            "an object sought 2,048 times",
+            "ISR{TASK_TYPE x[];};",
+            &format!("{}ISR i{{{references}}};", objects(253, 25)),
+        ),
+        accepted("long object names", "", &objects(254, 250)),
+        accepted(
+            "512 long definitions in one scope",
+            &format!("TASK{{{}}};", definitions(512, 120, "")),
+            "",
+        ),
+        accepted("512 long definitions under two values", &halves, ""),
+    ]
+}
+
+/// Values taken by default.
+fn against_defaults() -> Vec<Heavy> {
+    let stated = format!("TASK t{{{}}};", "x=A;".repeat(1_024));
+    let enumerators = each(1_022, |number| format!("{},", name(56, number)));
+    let long = "n".repeat(30_500);
+    let open = "ENUM[A{".repeat(14);
+    let close = each(14, |number| format!("}}]{}=A;", name(2, number)));
+    let rows = each(498, |number| format!("INT32 {}[];", name(3, number)));
+    let tasks = each(146, |number| format!("TASK {};", name(2, number)));
+    let presets = each(512, |number| format!("INT32 {}=1;", name(60, number)));
+    vec![
+        accepted(
+            "an enumerator by default, sought 1,024 times",
+            &format!(
+                "TASK{{ENUM[A{{ENUM[{enumerators}{last}]y={last};}}]x[];}};",
+                last = name(56, 1_022)
+            ),
+            &stated,
+        ),
+        accepted(
+            "a long enumerator by default, taken 1,024 times",
+            &format!("TASK{{ENUM[A{{ENUM[{long}]y={long};}}]x[];}};"),
+            &stated,
+        ),
+        accepted(
+            "defaults fourteen deep",
+            &format!("TASK{{{rows}{open}{close}}};"),
+            &tasks,
+        ),
+        refused(
+            "more values than there may be",
+            &format!("TASK{{{presets}}};"),
+            &each(254, |number| format!("TASK {};", name(2, number))),
+            19,
+        ),
+    ]
+}
+
+#[cfg(test)]
+mod tests {
+    use super::*;
+    use crate::meaning::read;
+
+    #[test]
+    fn are_answered() {
+        for heavy in heavy() {
+            let number = read(&heavy.text).map_or_else(|refusal| refusal.number, |_| 0);
+            assert!(
+                heavy.text.len() <= LONGEST_TEXT,
+                "{}: {} bytes",
+                heavy.name,
+                heavy.text.len()
+            );
+            assert_eq!(number, heavy.number, "{}", heavy.name);
+        }
+    }
+}
