@@ -6,7 +6,7 @@ use mathlib.Core.Option.{Option, none, some}
 use Prim.Native.Nat.{ℕ, suc, _≤_}
 use native.Mathlib.Omega.{arith}
 use Rattle.token.specs.Find.{pick}
-use Rattle.grammar.specs.Grammar.{Token, Kind, Terminal, matches, name, number, string, kind, the, AUTO, TRUE, FALSE, given-code, Derivation, file, _▸_, ∎, _⟶_, Trees, nil, node, file-is}
+use Rattle.grammar.specs.Grammar.{Kind, Terminal, matches, name, number, string, kind, the, AUTO, TRUE, FALSE, given-code, Derivation, file, _▸_, ∎, _⟶_, Trees, nil, node, file-is}
 use Rattle.grammar.specs.Grammar.{tokens as leaf-tokens}
 use Rattle.grammar.specs.Stage.{Shallow}
 use Rattle.grammar.specs.Terminals.{tokens}
@@ -21,6 +21,7 @@ use Rattle.meaning.specs.Judging.{taken}
 use Rattle.meaning.specs.Resolving.{take-value, Resolved, end, resolved, entries, default-entry, resolve, resolve-under, object-values, all-values}
 use Rattle.meaning.specs.Places.{each, unplaced-word}
 use Rattle.reads_back.proofs.Restated.{given, equal-sign, stop, version-words, closed-words, line-words, object-words, application-words, restated-word, plain-word, Stateable, as-number, as-string, as-auto, as-name, as-true, as-false, Named, SaidLines, SaidObjects, Said, ShallowWords}
+use Rattle.reads_back.proofs.SameWords.{by-choose}
 use Rattle.reads_back.proofs.Planting.{implementation-leaves}
 use Rattle.reads_back.proofs.DepthWords.{Low, low-shift, low-front, low-back, tokens-low, Level, Flat, level-none, level-append, level-word, level-braces, level-shallow}
 use Rattle.reads_back.proofs.DepthTrees.{plain-leaves, plain-leaves-are, trees-balanced, Room, room-none, room-more, RoomUnder, under-more, RoomSpecs, specs-room}
@@ -50,11 +51,6 @@ module _ (os : List Object) where
   default-room none d vs inner rest k h i r = r
   default-room (some t) d vs inner rest k h i r = (h, i t done, r)
 
-  chosen-room : (b : Bool) (x y : Unit {0} → Resolved) (k : ℕ) → RoomLines k (x tt) → RoomLines k (y tt) → RoomLines k (choose b x y)
-  unfolding choose
-  chosen-room true x y k p q = p
-  chosen-room false x y k p q = q
-
   mutual
     unfolding resolve
 
@@ -63,11 +59,11 @@ module _ (os : List Object) where
     resolve-room (define d vs ds) ss k (room-more h u r) =
         let m = resolve-room ds ss k r in
         let i : (t : Word) (us : Statements) → RoomLines (suc k) (resolve-under vs os t us) = λ t us. under-room vs t us k u in
-        chosen-room (among (d .name) (names ss)) _ _ k (entries-room ss d vs _ _ k h i m) (default-room (taken (d .default)) d vs _ _ k h i m)
+        by-choose (RoomLines k) (among (d .name) (names ss)) _ _ (λ _. entries-room ss d vs _ _ k h i m) (λ _. default-room (taken (d .default)) d vs _ _ k h i m)
 
     under-room : (vs : Values) (t : Word) (ss : Statements) (k : ℕ) → RoomUnder k vs → RoomLines (suc k) (resolve-under vs os t ss)
     under-room no-value t ss k r = tt
-    under-room (value w e us vs) t ss k (under-more p q) = chosen-room (alike w t) _ _ (suc k) (resolve-room us ss (suc k) p) (under-room vs t ss k q)
+    under-room (value w e us vs) t ss k (under-more p q) = by-choose (RoomLines (suc k)) (alike w t) _ _ (λ _. resolve-room us ss (suc k) p) (λ _. under-room vs t ss k q)
 
 kind-room : (k : Kind) (xs : List Spec) (n : ℕ) → RoomSpecs n xs → Room n (of-kind k xs)
 unfolding of-kind

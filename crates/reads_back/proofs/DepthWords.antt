@@ -9,6 +9,7 @@ use Rattle.grammar.specs.Stage.{bit, opens, closes, Shallow}
 use Rattle.meaning.specs.Syntax.{Word}
 use Rattle.meaning.specs.Actions.{word-of}
 use Rattle.meaning.specs.Places.{each, unplaced-word}
+use Rattle.meaning.proofs.Unplaced.{each-append}
 use Rattle.reads_back.proofs.Restated.{given, opening, closing, plain-word, word-opens, word-closes, ShallowWords}
 
 -- Front parts -------------------------------------------------------------------------------------------------------------------------------
@@ -77,12 +78,6 @@ closes-words : (s : List ℕ) (l : List Token) → word-closes (each (plain-word
 unfolding word-closes closes each plain-word unplaced-word word-of
 closes-words s [] = refl
 closes-words s (t ∷ l) = ap (bit (matches (sg rbrace) (t .class)) +_) (closes-words s l)
-
--- A function for each of two lists.
-pub each-append : {A B : Type 0} (f : A → B) (l m : List A) → each f (l ++ m) ≡ each f l ++ each f m
-unfolding each
-each-append f [] m = refl
-each-append f (a ∷ l) m = ap (f a ∷_) (each-append f l m)
 
 -- Tokens are never deeper than their words.
 pub shallow-by-words : (n : List ℕ) (ts : List Token) → ShallowWords (each (plain-word n) ts) → Shallow ts

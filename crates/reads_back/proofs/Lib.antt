@@ -1,6 +1,9 @@
 -- Normal text reads back. Assumes nothing.
 pub mod Restated
+pub mod SameWords
+pub mod RestatingUnplaced
 pub mod SayingAlone
+pub mod SayingOffsets
 pub mod SayingPieces
 pub mod SayingLines
 pub mod SayingCopied
@@ -11,13 +14,12 @@ pub mod RestatedTrees
 pub mod Planting
 pub mod WordingClasses
 pub mod WordingSyntax
+pub mod RestatingScopes
+pub mod RestatingValues
 pub mod WordingValues
 pub mod DepthWords
 pub mod DepthTrees
 pub mod DepthLines
-pub mod SameWords
-pub mod RestatingScopes
-pub mod RestatingValues
 pub mod SameValues
 pub mod RestatingResolved
 pub mod RestatingJudged
@@ -27,6 +29,8 @@ pub mod RestatingSettled
 pub mod SameKindred
 pub mod RestatingObjects
 pub mod SameTables
-pub mod RestatingUnplaced
+pub mod SameRanges
+pub mod SameNames
+pub mod SameNamesText
 pub mod SameMeaning
 pub mod ReadsBack

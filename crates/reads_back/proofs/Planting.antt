@@ -7,6 +7,7 @@ use Rattle.token.specs.Words.{bytesOf}
 use Rattle.grammar.specs.Grammar.{Token, matches, sg, word, OIL-VERSION, semicolon, _▸_, ∎, _⟶_, Trees, nil, leaf, node, file, version, implementation, application, file-is, no-D, version-is, implementation-is, Derivation}
 use Rattle.grammar.specs.Grammar.{tokens as leaves-of}
 use Rattle.grammar.specs.Terminals.{tokens}
+use Rattle.grammar.proofs.Viable.{one-derivation}
 use Rattle.meaning.specs.Syntax.{Word, absent, through, File}
 use Rattle.meaning.specs.Actions.{word-of, Implementation, Application, means, meaning, syntax}
 use Rattle.meaning.specs.Resolving.{all-values}
@@ -97,6 +98,30 @@ implementation-part : (v : Trees _⟶_ (version ▸ ∎)) (i : Trees _⟶_ (impl
 unfolding whole-tree implementation-leaves leaves-of
 implementation-part (node p us nil) (node q vs nil) (node r ws nil) = sym (append-nil (leaves-of vs))
 
+-- The tree of the implementation in a file's tree.
+unfoldable pub implementation-tree : Trees _⟶_ (file ▸ ∎) → Trees _⟶_ (implementation ▸ ∎)
+implementation-tree (node file-is (node _ v (node p i (node _ a nil))) nil) = node p i nil
+
+-- It has the implementation's tokens.
+pub implementation-tree-leaves : (t : Trees _⟶_ (file ▸ ∎)) → leaves-of (implementation-tree t) ≡ implementation-leaves t
+unfolding implementation-tree implementation-leaves leaves-of
+implementation-tree-leaves (node file-is (node _ v (node p i (node _ a nil))) nil) = append-nil (leaves-of i)
+
+-- Any tree of the implementation's tokens means the definitions of the file.
+pub implementation-specs : (s : List ℕ) (t : Trees _⟶_ (file ▸ ∎)) (i : Trees _⟶_ (implementation ▸ ∎)) → leaves-of i ≡ implementation-leaves t
+    → syntax s t .specs ≡ meaning s i .0 .specs
+unfolding file-of means
+implementation-specs s t i e =
+    let k = three t in
+    let v = k .version-tree in
+    let j = k .implementation-tree in
+    let a = k .application-part in
+    let l : leaves-of (whole-tree v i a) ≡ leaves-of t =
+    whole-leaves v i a ∙ ap (λ z. leaves-of v ++ (z ++ leaves-of a)) (e ∙ ap implementation-leaves (k .whole) ∙ implementation-part v j a) ∙ sym (whole-leaves v j a)
+    ∙ sym (ap leaves-of (k .whole)) in
+    ap (λ z. syntax s z .specs) (one-derivation (leaves-of t) (record { tree = t; leaves = refl }) (record { tree = whole-tree v i a; leaves = l }))
+    ∙ ap (λ (x : File). x .specs) (whole-syntax s v i a)
+
 -- The tokens of the implementation among those of the text s.
 pub record ImplementationTokens (s : List ℕ) (d : Derivation (tokens s)) : Type 0 where
   pub before : List Token
@@ -151,6 +176,7 @@ pub record Planted (s n : List ℕ) (d : Derivation (tokens s)) (middle ts : Lis
   pub mid : List Token
   pub final : Token
   pub middle-is : middle ≡ first ∷ (mid ++ (final ∷ []))
+  pub leaves-are : implementation-leaves tree ≡ middle
   pub span-is : syntax n tree .implementation ≡ through (word-of n first) (word-of n final)
 
 restated-parts : (f : File) → file-of version-string (restated-implementation f) (restated-application f) ≡ restated-file f
@@ -181,5 +207,6 @@ planted-text s n d im said heading middle last h m l =
       mid = e .mid;
       final = e .final;
       middle-is = sym (i .leaves) ∙ e .leaves;
+      leaves-are = implementation-part (v .tree) (i .tree) (a .tree) ∙ i .leaves;
       span-is = ap (λ (x : File). x .implementation) w ∙ e .span-is;
     }

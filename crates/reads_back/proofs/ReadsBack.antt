@@ -1,35 +1,38 @@
 -- READS BACK: demand 2, second half. Normal text is accepted, gives the same values, and is its own normal text. Assumes nothing.
-use mathlib.Core.Path.{_≡_, refl, sym, _∙_, ap, ap₂, subst}
+use mathlib.Core.Path.{_≡_, refl, sym, _∙_, ap, ap₂, subst, subst₂}
 use mathlib.Core.List.{List, [], _∷_, _++_}
 use mathlib.Core.Bool.{Bool, true, false, false≢true}
 use Prim.Native.Nat.{ℕ, _≤_}
 use lib.ListN.{length}
 use Rattle.token.specs.Words.{bytesOf}
-use Rattle.grammar.specs.Grammar.{Token, Derivation}
+use Rattle.grammar.specs.Grammar.{Derivation}
 use Rattle.grammar.specs.Terminals.{tokens}
-use Rattle.grammar.specs.Stage.{Divides, Shallow}
 use Rattle.grammar.specs.Demand.{Covered}
-use Rattle.meaning.specs.Syntax.{Word, Span, File, through}
-use Rattle.meaning.specs.Actions.{word-of, syntax}
+use Rattle.meaning.specs.Syntax.{File}
+use Rattle.meaning.specs.Actions.{syntax}
 use Rattle.meaning.specs.Resolving.{all-values}
 use Rattle.meaning.specs.Normal.{part, application-lines, normal}
-use Rattle.meaning.specs.Places.{each, unplaced}
-use Rattle.meaning.specs.Answers.{Tables, Answer, accepted, answer}
+use Rattle.meaning.specs.Places.{each}
+use Rattle.meaning.specs.Answers.{Tables, Answer, accepted, tables, answer}
 use Rattle.meaning.specs.Reading.{Answers, too-long, not-grammar, meant, reading, normal-text}
 use Rattle.meaning.proofs.Found.{reading-derived, normal-derived}
 use Rattle.meaning.proofs.Whole.{answers}
 use Rattle.meaning.proofs.Unplaced.{each-append, application-unplaced}
 use Rattle.meaning.proofs.UnplacedFaults.{SameAnswer, both-accept, both-refuse, answer-unplaced}
-use Rattle.reads_back.specs.ReadsBack.{bare, ReadsBack}
-use Rattle.reads_back.proofs.Restated.{plain-word, version-words, application-words, restated-file, Said, ShallowWords}
+use Rattle.reads_back.specs.ReadsBack.{bare, words-of, ranges-of, ReadsBack}
+use Rattle.reads_back.proofs.Restated.{plain-word, version-words, application-words, Said, ShallowWords}
 use Rattle.reads_back.proofs.SayingAlone.{tokens-alone, number-alone}
+use Rattle.reads_back.proofs.SayingOffsets.{Copied}
 use Rattle.reads_back.proofs.SayingTokens.{NormalTokens, normal-tokens}
 use Rattle.reads_back.proofs.Planting.{implementation-leaves, ImplementationTokens, implementation-tokens, Planted, planted-text}
 use Rattle.reads_back.proofs.WordingValues.{said}
 use Rattle.reads_back.proofs.DepthWords.{shallow-by-words}
 use Rattle.reads_back.proofs.DepthLines.{normal-shallow}
 use Rattle.reads_back.proofs.SameTables.{bare-unplaced}
-use Rattle.reads_back.proofs.SameMeaning.{MeansSame, means-same}
+use Rattle.reads_back.proofs.SameRanges.{ranges-same}
+use Rattle.reads_back.proofs.SameNames.{names-of, names-unplaced}
+use Rattle.reads_back.proofs.SameNamesText.{names-there}
+use Rattle.reads_back.proofs.SameMeaning.{accepted-tables, MeansSame, means-same}
 
 -- Where the syntax without its places is accepted, so is the syntax, with the same tables but places.
 record Accepts (a : Answer) (t : Tables) : Type 0 where
@@ -113,6 +116,24 @@ module _ (s : List ℕ) (w : Covered s) (d : Derivation (tokens s)) (n : List �
     same-again : bare (accepted-back .placed) ≡ bare t
     same-again = accepted-back .same-as ∙ same-meaning .same
 
+    -- The words of the rows are those of the syntax, in either text.
+    row-words-again : words-of n (accepted-back .placed) ≡ words-of s t
+    row-words-again =
+        let f = syntax n (normal-tree .tree) in
+        ap (words-of n) (sym (accepted-tables f (accepted-back .placed) (accepted-back .accepted-as))) ∙ names-there n (normal-tree .tree)
+        ∙ sym (names-unplaced f) ∙ ap names-of (normal-tree .syntax-is) ∙ same-meaning .names
+        ∙ sym (names-there s (d .tree)) ∙ ap (words-of s) (accepted-tables (syntax s (d .tree)) t q)
+
+    -- Nor do ranges change, which are copied with the implementation.
+    ranges-again : ranges-of n (accepted-back .placed) ≡ ranges-of s t
+    unfolding ranges-of tables
+    ranges-again =
+        let f = syntax n (normal-tree .tree) in
+        ap (ranges-of n) (sym (accepted-tables f (accepted-back .placed) (accepted-back .accepted-as)))
+        ∙ sym (ranges-same s n (d .tree) (normal-tree .tree)
+        (subst₂ (λ a b. Copied s n a b) (sym (parts .leaves-are)) (sym (normal-tree .leaves-are)) (normal-parts .at-offset)))
+        ∙ ap (ranges-of s) (accepted-tables (syntax s (d .tree)) t q)
+
     own-normal : normal-text n ≡ n
     unfolding normal-derivation
     own-normal = normal-derived n normal-covered normal-derivation ∙ normal-again
@@ -123,7 +144,14 @@ by-derivation t (not-grammar a k m q) e h = absurd (let z : _≡_ {A = Bool} fal
 by-derivation {s} t (meant w d) e h =
     let n = normal-text s in
     let i = normal-derived s w d in
-    record { back = accepted-back s w d n i h t e .placed; accepts = reads-back-derived s w d n i h t e; same = same-again s w d n i h t e; again = own-normal s w d n i h t e }
+    record {
+      back = accepted-back s w d n i h t e .placed;
+      accepts = reads-back-derived s w d n i h t e;
+      same = same-again s w d n i h t e;
+      words = row-words-again s w d n i h t e;
+      ranges = ranges-again s w d n i h t e;
+      again = own-normal s w d n i h t e;
+    }
 
 -- "an accepted text written out in full reads back to the same values": for every accepted text whose normal text is at most 65,535 bytes.
 pub reads-back : (s : List ℕ) (t : Tables) → reading s ≡ accepted t → length (normal-text s) ≤ 65535 → ReadsBack s t

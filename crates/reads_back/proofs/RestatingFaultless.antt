@@ -15,7 +15,8 @@ use Rattle.meaning.specs.Scopes.{Sort, a-number, a-string, a-truth, an-auto, a-
 use Rattle.meaning.specs.Defining.{range-faults, default-wrong, default-faults, defined-in, differs, name-faults, word-faults, scope-faults, value-faults}
 use Rattle.meaning.specs.Judging.{is-no-default, taken-by, taken, lacking, lacks, lacks-under, reference-faults, brace-faults, faults-as, own-faults, and-inside, judged, judge}
 use Rattle.reads_back.proofs.SameWords.{neither-left, neither-right}
-use Rattle.reads_back.proofs.RestatingScopes.{is-reference, is-number, Taking, numbered, told, referred}
+use Rattle.reads_back.proofs.WordingClasses.{is-number}
+use Rattle.reads_back.proofs.RestatingScopes.{is-reference, Taking, numbered, told, referred}
 use Rattle.reads_back.proofs.RestatingPlain.{Plain, plain-integer, plain-string, plain-boolean, plain-enum, plain-reference}
 
 -- Lists of faults --------------------------------------------------------------------------------------------------------------------------

@@ -6,10 +6,11 @@ use mathlib.Core.Option.{none, some}
 use Rattle.grammar.specs.Grammar.{Kind}
 use Rattle.token.specs.Find.{pick}
 use Rattle.meaning.specs.Syntax.{Word, AttributeType, integer, string, boolean, enum, reference, Definition, Definitions, no-more, define, Values, no-value, Object}
-use Rattle.meaning.specs.Scopes.{Sort, a-number, a-string, a-truth, an-auto, a-no-default, a-name, sort-of, under, find-definition, find-object, is-there, fits-number, fits}
+use Rattle.meaning.specs.Scopes.{a-number, a-name, sort-of, under, find-definition, find-object, is-there, fits-number, fits}
 use Rattle.meaning.specs.Defining.{defined-in}
 use Rattle.meaning.specs.Judging.{taken}
 use Rattle.meaning.specs.Resolving.{Taken, Resolved, end, resolved, take-value}
+use Rattle.reads_back.proofs.WordingClasses.{is-number}
 use Rattle.reads_back.proofs.SameWords.{defined-before, defined-last, defined-bytes, bytes-alike}
 
 -- Definitions of a scope -------------------------------------------------------------------------------------------------------------------
@@ -44,15 +45,6 @@ is-reference string = false
 is-reference boolean = false
 is-reference enum = false
 is-reference (reference k) = true
-
--- The sort is that of numbers.
-unfoldable pub is-number : Sort → Bool
-is-number a-number = true
-is-number a-string = false
-is-number a-truth = false
-is-number an-auto = false
-is-number a-no-default = false
-is-number a-name = false
 
 -- The word t is a value of the attribute d with the values vs of its list, among the objects os: a number; any other but a reference; or the
 -- name of an object.

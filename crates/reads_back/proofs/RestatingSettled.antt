@@ -11,7 +11,7 @@ use Rattle.meaning.specs.Scopes.{find-value, definitions-or, under, heads, name
 use Rattle.meaning.specs.Defining.{defined-in, default-faults, scope-faults, value-faults}
 use Rattle.meaning.specs.Judging.{taken, lacking, lacks, lacks-under, judge}
 use Rattle.meaning.specs.Resolving.{Resolved, resolved, take-value, entries, default-entry, resolve, resolve-under}
-use Rattle.reads_back.proofs.SameWords.{among-first, among-behind, alike-bytes, bytes-alike, alike-turned, among-bytes}
+use Rattle.reads_back.proofs.SameWords.{by-choose, among-first, among-behind, alike-bytes, bytes-alike, alike-turned, among-bytes}
 use Rattle.reads_back.proofs.RestatingScopes.{Last, whole, behind, find-this, Settled, settled, none-of, one-of, More, again, no-more-of}
 use Rattle.reads_back.proofs.RestatingPlain.{Plain, AllPlain, AllPlainUnder, plain-first, plain-inside, plain-rest, plain-under, plain-others}
 use Rattle.reads_back.proofs.RestatingFaultless.{free-definition, free-value, free-lack, free-lacks, free-list, default-taking, free-statement, free-rest, again-list}
@@ -34,13 +34,6 @@ lacks-there (value w e us vs) t = go (alike w t) (lacks-there vs t)
         → choose b (λ _. lacks us []) (λ _. lacks-under vs t) ≡ lacks (definitions-or (pick b (some (record { word = w; number = e; definitions = us })) (find-value vs t))) []
     go true h = refl
     go false h = h
-
--- By a test.
-chosen : {os : List Object} {before : List Definition} {ds : Definitions} {x y : Resolved} (b : Bool) → (b ≡ true → Settled os before ds x) → (b ≡ false → Settled os before ds y)
-    → Settled os before ds (choose b (λ _. x) (λ _. y))
-unfolding choose
-chosen true p q = p refl
-chosen false p q = q refl
 
 -- Under the first of some values, or under another.
 under-either : (us : Definitions) (vs : Values) (w : Word) (n : ℕ) (t : Word) (os : List Object) (ss : Statements)
@@ -125,7 +118,7 @@ mutual
       let f : Word → Statements → Resolved = λ t us. resolve-under vs os t us in
       let inner : Inner os vs f = λ t us i k. settle-under os vs (is-enum (d .type)) [] [] t us (y .inside) (plain-inside p) i k in
       let s = settle os ds others (before ++ (d ∷ [])) ss (behind z) (y .rest) (plain-rest p) (free-lacks d vs ds (names ss) h) j in
-      chosen (among (d .name) (names ss))
+      by-choose (Settled os before (define d vs ds)) (among (d .name) (names ss)) _ _
       (λ i. some-entries f (resolve ds os ss) z (y .name) (plain-first p) inner s ss [] i j)
       (λ i. default-settled f (resolve ds os ss) z (y .name) (plain-first p) inner s (y .default) (free-lack d vs ds (names ss) h i))
 

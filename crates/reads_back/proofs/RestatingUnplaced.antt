@@ -20,7 +20,8 @@ kept-file f = record {
 
 -- Without places -----------------------------------------------------------------------------------------------------------------------------
 
-unplaced-restated-word : (v : Value) (t : Word) → unplaced-word (restated-word v t) ≡ restated-word v t
+-- The word that is written for a value has no place.
+pub unplaced-restated-word : (v : Value) (t : Word) → unplaced-word (restated-word v t) ≡ restated-word v t
 unfolding unplaced-word restated-word
 unplaced-restated-word (number n) t = refl
 unplaced-restated-word (truth b) t = refl

@@ -17,7 +17,8 @@ use Rattle.meaning.specs.Resolving.{string as string-value}
 use Rattle.meaning.specs.Normal.{written}
 use Rattle.meaning.specs.Places.{unplaced-word}
 use Rattle.reads_back.proofs.Restated.{restated-word}
-use Rattle.reads_back.proofs.RestatingScopes.{is-reference, is-number, Taking, numbered, told, referred}
+use Rattle.reads_back.proofs.WordingClasses.{is-number}
+use Rattle.reads_back.proofs.RestatingScopes.{is-reference, Taking, numbered, told, referred}
 
 -- Words are looked up by their bytes -------------------------------------------------------------------------------------------------------
 
@@ -107,19 +108,20 @@ named-kept boolean os vs t = refl
 named-kept enum os vs t = refl
 named-kept (reference k) os vs t = refl
 
-kept : (o : Sort) (os : List Object) (d : Definition) (vs : Values) (t : Word) → is-number o ≡ false → restated-word (valued o os d vs t) t ≡ unplaced-word t
+-- What is no number is written as it stands.
+pub valued-kept : (o : Sort) (os : List Object) (d : Definition) (vs : Values) (t : Word) → is-number o ≡ false → restated-word (valued o os d vs t) t ≡ unplaced-word t
 unfolding restated-word valued is-number
-kept a-number os d vs t e = absurd (false≢true (sym e))
-kept a-string os d vs t e = refl
-kept a-truth os d vs t e = refl
-kept an-auto os d vs t e = refl
-kept a-no-default os d vs t e = refl
-kept a-name os d vs t e = named-kept (d .type) os vs t
+valued-kept a-number os d vs t e = absurd (false≢true (sym e))
+valued-kept a-string os d vs t e = refl
+valued-kept a-truth os d vs t e = refl
+valued-kept an-auto os d vs t e = refl
+valued-kept a-no-default os d vs t e = refl
+valued-kept a-name os d vs t e = named-kept (d .type) os vs t
 
 -- A value is written as it stands, unless it is a number.
 word-kept : (os : List Object) (d : Definition) (vs : Values) (t : Word) → is-number (sort-of (t .class)) ≡ false → value-word os d vs t ≡ unplaced-word t
 unfolding value-word
-word-kept os d vs t e = kept (sort-of (t .class)) os d vs t e
+word-kept os d vs t e = valued-kept (sort-of (t .class)) os d vs t e
 
 word-number : (os : List Object) (d : Definition) (vs : Values) (t : Word) → sort-of (t .class) ≡ a-number → value-word os d vs t ≡ number-word t
 unfolding value-word number-word valued

@@ -30,6 +30,7 @@ use Rattle.reads_back.proofs.Restated.{given, restated-file}
 use Rattle.reads_back.proofs.RestatingUnplaced.{kept-file, unplaced-kept}
 use Rattle.reads_back.proofs.SameValues.{SameAll, all-same-many, all-same-rows}
 use Rattle.reads_back.proofs.SameTables.{tables-same, bare-unplaced, accepts-unplaced}
+use Rattle.reads_back.proofs.SameNames.{names-of, words-same, names-unplaced, objects-restated, all-same-names}
 use Rattle.reads_back.proofs.RestatingPlain.{PlainSpecs, syntax-plain}
 use Rattle.reads_back.proofs.RestatingFaultless.{none-front, none-back}
 use Rattle.reads_back.proofs.SameKindred.{AllKindred, no-kindred, kindred-objects, kindred-counts, kindred-rows}
@@ -61,6 +62,10 @@ no-faults f t e =
     let p₃ = passed (statement-stage f) _ t (p₂ .1) in
     let p₄ = passed (too-many (how-many-in-all (all-values f (f .objects)))) _ t (p₃ .1) in
     record { definitions = p₁ .0; objects = p₂ .0; statements = p₃ .0; values = p₄ .0; tables-are = let q = p₄ .1 in cc }
+
+-- It is accepted with its tables.
+pub accepted-tables : (f : File) (t : Tables) → answer f ≡ accepted t → tables f (all-values f (f .objects)) ≡ t
+accepted-tables f t e = no-faults f t e .tables-are
 
 pass : (fs : List Fault) (k : Unit {0} → Answer) → fs ≡ [] → unless (first fs) k ≡ k tt
 unfolding unless first
@@ -120,14 +125,19 @@ module _ (f : File) (s : SettledObjects f (f .objects)) where
   unfolding bare tables kept-file unplaced-tables counts
   tables-kept = tables-same refl refl (kindred-rows (kept-kindred f)) (all-same-rows 0 0 values-kept) (kindred-counts kinds (kept-kindred f))
 
+  names-kept : names-of (kept-file f) ≡ names-of f
+  unfolding names-of kept-file
+  names-kept = words-same refl refl (objects-restated f (f .objects) 0) (all-same-names values-kept)
+
 -- The theorem --------------------------------------------------------------------------------------------------------------------------------
 
 -- The syntax of the normal text of f, with the tables t, is accepted, with the same tables but places, lengths and the stated mark, and has the
--- same lines.
+-- same words and lines.
 pub record MeansSame (f : File) (t : Tables) : Type 0 where
   pub back : Tables
   pub accepts : answer (restated-file f) ≡ accepted back
   pub same : bare back ≡ bare t
+  pub names : names-of (restated-file f) ≡ names-of f
   pub lines : application-lines (restated-file f) (all-values (restated-file f) (restated-file f .objects)) ≡ application-lines f (all-values f (f .objects))
 
 -- An accepted syntax with plain definitions.
@@ -145,6 +155,7 @@ same-of f t p e =
       back = unplaced-tables (tables g rs);
       accepts = ap answer (sym (unplaced-kept f)) ∙ accepts-unplaced (tables g rs) (answer-unplaced g) a;
       same = bare-unplaced (tables g rs) ∙ tables-kept f s ∙ ap bare (n .tables-are);
+      names = ap names-of (sym (unplaced-kept f)) ∙ names-unplaced g ∙ names-kept f s;
       lines = ap (λ z. application-lines z (all-values z (z .objects))) (sym (unplaced-kept f)) ∙ application-unplaced g ∙ lines-kept f s;
     }
 

@@ -9,7 +9,7 @@ use Rattle.token.specs.Find.{both, either}
 use Rattle.token.specs.Words.{same}
 use Rattle.token.proofs.Find.{by-test}
 use Rattle.meaning.specs.Syntax.{Word, Definition}
-use Rattle.meaning.specs.Words.{alike, among}
+use Rattle.meaning.specs.Words.{choose, alike, among}
 use Rattle.meaning.specs.Defining.{defined-in}
 
 -- Booleans ---------------------------------------------------------------------------------------------------------------------------------
@@ -32,6 +32,12 @@ neither p q = ap₂ either p q
 pub not-true : (b : Bool) → (b ≡ true → ⊥) → b ≡ false
 not-true true h = absurd (h refl)
 not-true false h = refl
+
+-- What holds of either branch holds of the one that is taken.
+pub by-choose : {A : Type 0} (P : A → Type 0) (b : Bool) (f g : Unit {0} → A) → (b ≡ true → P (f tt)) → (b ≡ false → P (g tt)) → P (choose b f g)
+unfolding choose
+by-choose P true f g h k = h refl
+by-choose P false f g h k = k refl
 
 -- Bytes ------------------------------------------------------------------------------------------------------------------------------------
 

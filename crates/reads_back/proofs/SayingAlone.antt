@@ -24,11 +24,11 @@ use Rattle.grammar.specs.Grammar.{Class, other, numeral, matches}
 use Rattle.grammar.specs.Grammar.{number as a-number}
 use Rattle.grammar.specs.Terminals.{words, signOf, classOf, tokenOf, tokensIn, tokens}
 use Rattle.meaning.specs.Syntax.{Num, Word}
-use Rattle.meaning.specs.Words.{choose}
 use Rattle.meaning.specs.Actions.{num-of-sort, num-of-step, word-of}
 use Rattle.meaning.specs.Resolving.{number}
 use Rattle.meaning.specs.Normal.{digits-in, minus, decimal}
 use Rattle.meaning.specs.Places.{each, unplaced-word}
+use Rattle.reads_back.proofs.SameWords.{by-choose}
 use Rattle.reads_back.proofs.Restated.{restated-word, Alone, plain-word, AllAlone}
 
 -- ---- each token alone
@@ -67,11 +67,6 @@ pub fails-at : (f : Class → Bool) (l : List Class) → fails f l ≡ true → 
 fails-at f [] h k = not-true (f other) h
 fails-at f (c ∷ l) h zero = first-fails (f c) (fails f l) h .0
 fails-at f (c ∷ l) h (suc k) = fails-at f l (first-fails (f c) (fails f l) h .1) k
-
-by-choose : {A : Type 0} (P : A → Type 0) (b : Bool) (f g : Unit {0} → A) → (b ≡ true → P (f tt)) → (b ≡ false → P (g tt)) → P (choose b f g)
-unfolding choose
-by-choose P true f g h k = h refl
-by-choose P false f g h k = k refl
 
 -- the digits of a number that has no more than so many
 digits-decimal : (k n : ℕ) → n < 10 ^ suc k → Decimal n (digits-in (suc k) n)

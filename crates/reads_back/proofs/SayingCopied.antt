@@ -5,6 +5,7 @@ use mathlib.Core.List.{List, [], _∷_, _++_, map}
 use mathlib.Core.Bool.{true, false}
 use native.Mathlib.Omega.{arith}
 use lib.ListN.{length, take, drop}
+use lib.Seq.{take-append-seam}
 use Rattle.token.specs.Tokens.{bytesBetween, stepAt}
 use Rattle.token.specs.Lexing.{tokensOf, lexFrom}
 use Rattle.token.specs.declared.Cursor.{Cursor}
@@ -91,11 +92,15 @@ first-zero p (u ∷ us) ts e f = let k = ap firstAt e ∙ f in omega arith
 
 -- ---- the implementation
 
--- the text a says the words that the tokens im are in the text s, and these begin where it begins and end where it ends
+-- the text a says the words that the tokens im are in the text s, and these begin where it begins and end where it ends; in s they are its
+-- tokens from a place on, and a is what s has from there on
 pub record Copy (s : List ℕ) (im : List Token) (a : List ℕ) : Type 0 where
   pub says : Says false a (each (plain-word s) im)
   pub starts : firstAt (says .tokens) ≡ 0
   pub finishes : lastEnd 0 (says .tokens) ≡ length a
+  pub from : ℕ
+  pub tokens-are : map tokenOf (map (moved from) (says .tokens)) ≡ im
+  pub bytes-are : take (length a) (drop from s) ≡ a
 
 module _ (s : List ℕ) (p : ℕ) (ts : List Lexeme) (inside : p ≤ length s) (x : Slice s p ts) (q : ℕ) (r : Run s q p ts) where
   slice-words : each (lexeme-word (bytesBetween s p (x .end))) (x .tokens) ≡ each (plain-word s) (map tokenOf ts)
@@ -123,6 +128,9 @@ module _ (s : List ℕ) (p : ℕ) (ts : List Lexeme) (inside : p ≤ length s) (
         };
         starts = first-zero p (x .tokens) ts (x .moved-are) f;
         finishes = run-last (a ++ drop n s) (length a) 0 (x .tokens) (x .run);
+        from = p;
+        tokens-are = ap (map tokenOf) (x .moved-are) ∙ e;
+        bytes-are = ap (take (length a)) (halves s p n (x .low) (x .high)) ∙ take-append-seam a (drop n s);
       }
 
 module _ (s : List ℕ) (q : ℕ) (us : List Lexeme) (i c : Token) (mid : List Token) (m : matches (sg semicolon) (c .class) ≡ true) where

@@ -22,6 +22,7 @@ use Rattle.meaning.specs.Resolving.{Value, number, truth, auto, string, enumera
 use Rattle.meaning.specs.Normal.{written, closed, lines, object-lines, application-lines}
 use Rattle.meaning.specs.Places.{unplaced-word}
 use Rattle.reads_back.proofs.Restated.{given, opening, closing, equal-sign, stop, version-string, restated-word, version-words, closed-words, line-words, object-words, application-words, Alone, Named, SaidLines, SaidObjects}
+use Rattle.reads_back.proofs.RestatingUnplaced.{unplaced-restated-word}
 use Rattle.reads_back.proofs.SayingPieces.{Says, says-append, says-none, says-blank, says-alone, says-sign}
 
 -- ---- what a normal text has of itself
@@ -88,18 +89,9 @@ written-is string t = refl
 written-is (enumerator e) t = refl
 written-is (object o) t = refl
 
-unplaced-restated : (v : Value) (t : Word) → unplaced-word (restated-word v t) ≡ restated-word v t
-unfolding restated-word unplaced-word
-unplaced-restated (number n) t = refl
-unplaced-restated (truth b) t = refl
-unplaced-restated auto t = refl
-unplaced-restated string t = refl
-unplaced-restated (enumerator e) t = refl
-unplaced-restated (object o) t = refl
-
 says-value : (v : Value) (t : Word) → Alone (restated-word v t) → Says true (written v t) (restated-word v t ∷ [])
 says-value v t a =
-    subst (λ (w : Word). Says true (written v t) (w ∷ [])) (unplaced-restated v t)
+    subst (λ (w : Word). Says true (written v t) (w ∷ [])) (unplaced-restated-word v t)
     (subst (λ (b : List ℕ). Says true b (unplaced-word (restated-word v t) ∷ [])) (written-is v t) (says-alone (restated-word v t) a))
 
 says-word : (w : Word) → Alone (unplaced-word w) → Says true (w .bytes) (unplaced-word w ∷ [])

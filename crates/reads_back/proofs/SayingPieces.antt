@@ -17,6 +17,7 @@ use Rattle.grammar.specs.Terminals.{classOf}
 use Rattle.meaning.specs.Syntax.{Word}
 use Rattle.meaning.specs.Actions.{num-of-sort}
 use Rattle.meaning.specs.Places.{each, unplaced-word}
+use Rattle.meaning.proofs.Unplaced.{each-append}
 use Rattle.reads_back.proofs.Restated.{Alone}
 
 -- a token of the text s, as a word without its place
@@ -43,11 +44,6 @@ module _ (a b : List ℕ) where
       let l = length-drop (t .at) a in
       ap₂ (λ (v : List ℕ) (ws : List Word). record { class = classOf (t .sort); bytes = v; number = num-of-sort (t .sort); place = 0; length = 0 } ∷ ws)
       (ap (take (t .len)) (drop-append-le (t .at) a b (omega arith)) ∙ take-append-le (t .len) (drop (t .at) a) b (omega arith)) (words-kept ts (i .1))
-
-each-append : {A B : Type 0} (f : A → B) (xs ys : List A) → each f (xs ++ ys) ≡ each f xs ++ each f ys
-unfolding each
-each-append f [] ys = refl
-each-append {A} {B} f (x ∷ xs) ys = ap (λ (l : List B). f x ∷ l) (each-append f xs ys)
 
 -- ---- pieces
 

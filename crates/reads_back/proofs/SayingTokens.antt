@@ -25,6 +25,7 @@ use Rattle.meaning.specs.Resolving.{Resolved}
 use Rattle.meaning.specs.Normal.{part, application-lines}
 use Rattle.meaning.specs.Places.{each}
 use Rattle.reads_back.proofs.Restated.{version-words, application-words, plain-word, Named, SaidObjects}
+use Rattle.reads_back.proofs.SayingOffsets.{Offsets, moved-offsets, Copied}
 use Rattle.reads_back.proofs.SayingPieces.{words-moved, words-kept, Says}
 use Rattle.reads_back.proofs.SayingLines.{says-heading, says-application}
 use Rattle.reads_back.proofs.SayingCopied.{run-words, last-place, firstAt, Copy, copy}
@@ -42,6 +43,8 @@ pub record NormalTokens (s n : List ℕ) (im : List Token) (f : File) (rs : List
   -- the implementation is copied byte for byte, from its first token through its last
   pub copied : (i c : Token) (mid : List Token) → middle ≡ i ∷ (mid ++ (c ∷ [])) →
       part n (through (word-of n i) (word-of n c)) ≡ part s (f .implementation)
+  -- its tokens with it, at one offset
+  pub at-offset : Copied s n im middle
 
 tokens-are : (l : Lexed) → tokensIn l ≡ map tokenOf (tokensOf l)
 unfolding tokensIn tokensOf
@@ -136,6 +139,14 @@ module _ (s : List ℕ) (im : List Token) (f : File) (rs : List Resolved) (h a r
             run-words n (l .end) (k .end) lasts (l .run) ∙ words-moved h (a ++ r) (map (moved (length a)) (z .tokens))
             ∙ words-moved a r (z .tokens) ∙ z .words;
         copied = λ i c mid e. copied-part i c mid e ∙ same;
+        at-offset = record {
+          from = y .from;
+          to = length h;
+          many = length a;
+          bytes = y .bytes-are ∙ sym (ap (take (length a)) (drop-append-seam h (a ++ r)) ∙ take-append-seam a r);
+          offsets = subst (λ l. Offsets (y .from) (length h) (length a) l (map tokenOf middles)) (y .tokens-are)
+              (moved-offsets (y .from) (length h) (length a) (y .says .tokens) (y .says .piece .inside));
+        };
       }
 
 -- The normal text of a text s whose implementation has the tokens from i through the `;` c.

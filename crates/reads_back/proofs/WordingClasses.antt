@@ -1,17 +1,12 @@
 -- Words that stand alone have the class that their bytes give; what the classes of values and defaults are. Assumes nothing.
-use mathlib.Core.Path.{_≡_, refl, sym, _∙_, ap, ap₂}
-use mathlib.Core.List.{List, [], _∷_}
+use mathlib.Core.Path.{_≡_, refl, sym, _∙_, ap}
 use mathlib.Core.Bool.{Bool, true, false, not, false≢true}
-use Prim.Native.Nat.{ℕ}
-use lib.Dec.{eqb, eqb→eq}
 use Rattle.token.specs.Find.{both, either}
-use Rattle.token.specs.Words.{same}
 use Rattle.token.specs.Lexing.{Lexed, lexFrom, more, ended, refused}
 use Rattle.token.specs.declared.Sort.{Sort as TokenSort}
 use Rattle.grammar.specs.Grammar.{Class, Kind, Integer, matches, the, ordinary, numeral, quoted, other, kind-word, type-word, integer-word, word, sign, AUTO, NO-DEFAULT, TRUE, FALSE}
 use Rattle.grammar.specs.Grammar.{name, number, string}
 use Rattle.grammar.specs.Terminals.{classOf}
-use Rattle.grammar.proofs.Braces.{true-T}
 use Rattle.grammar.proofs.Choices.{all, classes, every-class}
 use Rattle.meaning.specs.Syntax.{Word}
 use Rattle.meaning.specs.Scopes.{Sort, a-number, a-string, a-truth, an-auto, a-no-default, a-name, sort-of, sort-of-word}
@@ -19,18 +14,6 @@ use Rattle.meaning.specs.Judging.{is-no-default}
 use Rattle.reads_back.proofs.Restated.{Alone}
 
 -- Words of the same bytes -------------------------------------------------------------------------------------------------------------------
-
--- Lists that compare as the same are equal.
-pub same-bytes : (a b : List ℕ) → same a b ≡ true → a ≡ b
-unfolding same
-same-bytes [] [] h = refl
-same-bytes [] (y ∷ ys) h = absurd (false≢true h)
-same-bytes (x ∷ xs) [] h = absurd (false≢true h)
-same-bytes (x ∷ xs) (y ∷ ys) h = go (eqb x y) refl h (λ k. same-bytes xs ys k)
-  where
-    go : (b : Bool) → eqb x y ≡ b → both b (same xs ys) ≡ true → (same xs ys ≡ true → xs ≡ ys) → x ∷ xs ≡ y ∷ ys
-    go true e k r = ap₂ _∷_ (eqb→eq x y (true-T e)) (r k)
-    go false e k r = absurd (false≢true k)
 
 -- The sort of the first token, or d where there is none.
 unfoldable first-sort : Lexed → TokenSort → TokenSort

@@ -7,19 +7,20 @@ use Prim.Native.Nat.{ℕ, suc}
 use Rattle.token.specs.Find.{pick}
 use Rattle.grammar.specs.Grammar.{Kind, Derivation, numeral, matches}
 use Rattle.grammar.specs.Terminals.{tokens}
-use Rattle.meaning.specs.Syntax.{Word, AttributeType, integer, boolean, enum, reference, Definition, Definitions, no-more, define, Values, no-value, value, Statements, done, state, Spec, Object, File}
-use Rattle.meaning.specs.Syntax.{string as string-type}
+use Rattle.meaning.specs.Syntax.{Word, Definition, Definitions, no-more, define, Values, no-value, value, Statements, done, state, Spec, Object, File}
 use Rattle.meaning.specs.Words.{alike, among, choose}
 use Rattle.meaning.specs.Actions.{syntax}
 use Rattle.meaning.specs.Kinds.{same-kind}
-use Rattle.meaning.specs.Scopes.{Sort, a-number, a-string, a-truth, an-auto, a-no-default, a-name, sort-of, of-kind, names}
+use Rattle.meaning.specs.Scopes.{sort-of, of-kind, names}
 use Rattle.meaning.specs.Judging.{taken}
-use Rattle.meaning.specs.Resolving.{number, named, valued, take-value, Resolved, end, resolved, entries, default-entry, resolve, resolve-under, object-values, all-values}
+use Rattle.meaning.specs.Resolving.{number, valued, take-value, Resolved, end, resolved, entries, default-entry, resolve, resolve-under, object-values, all-values}
 use Rattle.meaning.specs.Places.{each, unplaced-word}
 use Rattle.meaning.proofs.Numbering.{Counts, object-numbers, numbered}
 use Rattle.meaning.proofs.Standing.{counts-head, counts-tail}
 use Rattle.reads_back.proofs.Restated.{restated-word, plain-word, Alone, AllAlone, Named, Stateable, as-number, as-string, as-auto, as-name, as-true, as-false, SaidTaken, SaidLines, SaidObjects, Said}
-use Rattle.reads_back.proofs.WordingClasses.{same-bytes, alone-class, in-list, is-number, ValueForm, number-form, string-form, auto-form, name-form, true-form, false-form, number-class, number-apart, string-apart, auto-apart, name-within, true-within, false-within}
+use Rattle.reads_back.proofs.SameWords.{by-choose, alike-bytes}
+use Rattle.reads_back.proofs.RestatingValues.{valued-kept}
+use Rattle.reads_back.proofs.WordingClasses.{alone-class, in-list, is-number, ValueForm, number-form, string-form, auto-form, name-form, true-form, false-form, number-class, number-apart, string-apart, auto-apart, name-within, true-within, false-within}
 use Rattle.reads_back.proofs.WordingSyntax.{WordedValue, WordedOption, Worded, worded-none, worded-more, WordedList, list-more, WordedSpecs, WordedStatements, worded-done, worded-state, WordedObjects, worded}
 
 -- A number that stands alone still does so in decimal.
@@ -27,25 +28,6 @@ abbrev pub DecimalAlone : Type 0
 DecimalAlone = (w : Word) → Alone w → w .class ≡ numeral → Alone (restated-word (number (w .number)) w)
 
 -- One value ---------------------------------------------------------------------------------------------------------------------------------
-
-named-plain : (y : AttributeType) (os : List Object) (vs : Values) (t : Word) → restated-word (named y os vs t) t ≡ unplaced-word t
-unfolding named restated-word
-named-plain (integer i) os vs t = refl
-named-plain string-type os vs t = refl
-named-plain boolean os vs t = refl
-named-plain enum os vs t = refl
-named-plain (reference k) os vs t = refl
-
--- What is no number is written as it stands.
-valued-plain : (k : Sort) (os : List Object) (d : Definition) (vs : Values) (t : Word) → is-number k ≡ false
-    → restated-word (valued k os d vs t) t ≡ unplaced-word t
-unfolding valued restated-word is-number
-valued-plain a-number os d vs t h = absurd (false≢true (sym h))
-valued-plain a-string os d vs t h = refl
-valued-plain a-truth os d vs t h = refl
-valued-plain an-auto os d vs t h = refl
-valued-plain a-no-default os d vs t h = refl
-valued-plain a-name os d vs t h = named-plain (d .type) os vs t
 
 -- Under what is in no list there is nothing.
 under-end : (vs : Values) → WordedList vs → (os : List Object) (t : Word) (ss : Statements) → Alone (unplaced-word t) → in-list (t .class) ≡ false
@@ -57,7 +39,7 @@ under-end (value w e us vs) (list-more b c p q) os t ss a h =
     go (alike w t) refl r
   where
     go : (x : Bool) → alike w t ≡ x → resolve-under vs os t ss ≡ end → choose x (λ _. resolve us os ss) (λ _. resolve-under vs os t ss) ≡ end
-    go true k r = absurd (false≢true (sym h ∙ ap in-list (sym (alone-class (unplaced-word w) (unplaced-word t) b a (same-bytes (w .bytes) (t .bytes) k))) ∙ c))
+    go true k r = absurd (false≢true (sym h ∙ ap in-list (sym (alone-class (unplaced-word w) (unplaced-word t) b a (alike-bytes w t k))) ∙ c))
     go false k r = r
 
 module _ (decimal-alone : DecimalAlone) (os : List Object) where
@@ -77,7 +59,7 @@ module _ (decimal-alone : DecimalAlone) (os : List Object) where
         → SaidTaken (take-value b os d vs t) us
     unfolding take-value unplaced-word
     plain-said n a h f =
-        let k = valued-plain (sort-of (t .class)) os d vs t h in
+        let k = valued-kept (sort-of (t .class)) os d vs t h in
         record { name = n; alone = subst Alone (sym k) a; form = subst (λ w. Stateable (w .class) us) (sym k) f }
 
     value-said : Named (d .name) → Alone (unplaced-word t) → ValueForm (t .class) → (in-list (t .class) ≡ false → us ≡ end)
@@ -117,11 +99,6 @@ module _ (decimal-alone : DecimalAlone) (os : List Object) where
   default-said none d vs inner rest w k r = r
   default-said (some t) d vs inner rest w k r = let y = k false t done w worded-done in (y .0, y .1, r)
 
-  chosen-said : (b : Bool) (x y : Unit {0} → Resolved) → SaidLines (x tt) → SaidLines (y tt) → SaidLines (choose b x y)
-  unfolding choose
-  chosen-said true x y p q = p
-  chosen-said false x y p q = q
-
   mutual
     unfolding resolve
 
@@ -131,11 +108,11 @@ module _ (decimal-alone : DecimalAlone) (os : List Object) where
         let r = resolve-said ds ss w v in
         let i : Inner d vs (λ t us. resolve-under vs os t us) =
         λ b t us x y. (value-said b d vs t (resolve-under vs os t us) n (x .alone) (x .form) (λ h. under-end vs l os t us (x .alone) h), under-said vs t us l y) in
-        chosen-said (among (d .name) (names ss)) _ _ (entries-said ss d vs _ _ v i r) (default-said (taken (d .default)) d vs _ _ o i r)
+        by-choose SaidLines (among (d .name) (names ss)) _ _ (λ _. entries-said ss d vs _ _ v i r) (λ _. default-said (taken (d .default)) d vs _ _ o i r)
 
     under-said : (vs : Values) (t : Word) (ss : Statements) → WordedList vs → WordedStatements ss → SaidLines (resolve-under vs os t ss)
     under-said no-value t ss w v = tt
-    under-said (value u e us vs) t ss (list-more a c p q) v = chosen-said (alike u t) _ _ (resolve-said us ss p v) (under-said vs t ss q v)
+    under-said (value u e us vs) t ss (list-more a c p q) v = by-choose SaidLines (alike u t) _ _ (λ _. resolve-said us ss p v) (λ _. under-said vs t ss q v)
 
 -- Objects -----------------------------------------------------------------------------------------------------------------------------------
 
