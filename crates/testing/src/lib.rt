@@ -8,6 +8,7 @@ use token::Step;
 
 mod reads;
 mod stage;
+mod writes;
 
 // The number of a token's sort.
 fn number_of_sort(sort: Sort) -> u8

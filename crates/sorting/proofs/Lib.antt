@@ -1,0 +1,4 @@
+pub mod Cells
+pub mod Merges
+pub mod Turns
+pub mod Halves

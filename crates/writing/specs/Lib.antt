@@ -1,0 +1,5 @@
+-- What the writer promises. Assumes nothing.
+pub mod Results
+pub mod Wrote
+pub mod Lines
+pub mod Promises
