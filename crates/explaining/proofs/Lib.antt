@@ -1,0 +1,10 @@
+pub mod Counting
+pub mod Starts
+pub mod Ends
+pub mod Whole
+pub mod Frames
+pub mod Glyphs
+pub mod Stores
+pub mod Told
+pub mod Marks
+pub mod Edges

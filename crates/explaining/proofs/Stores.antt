@@ -1,0 +1,141 @@
+-- The laws of writing the two lines: each run of bytes is stored behind the one before.
+-- Assumes nothing.
+use Prim.Native.Nat.{ℕ, suc, _+_, _-_, _<_, _≤_}
+use mathlib.Core.Path.{_≡_, refl, _∙_, ap, sym}
+use mathlib.Core.Bool.{true, false}
+use mathlib.Core.List.{List, [], _∷_, _++_, map}
+use native.Mathlib.Omega.{arith}
+use native.Mathlib.Numerals.{add-one}
+use lib.ListN.{length, drop, getD, set, drop-of-length-le, length-append, length-map, length-drop}
+use lib.Seq.{sets, drop-cons, length-take-le}
+use Rattle.rows.proofs.Stores.{sets-append, sets-out}
+use Rattle.explaining.specs.declared.View.{View}
+use Rattle.explaining.specs.Windows.{Fits, viewOf}
+use Rattle.explaining.specs.Pictures.{drawn, dots, bytesFrom, lineBytes, markBytes, shownLine, markLine, picture}
+
+-- a loop that stores one byte a turn
+module _ (l : List ℕ) (j : ℕ) (f : ℕ → ℕ) (s : List ℕ) (i : ℕ) where
+  pub puts-more : (v : ℕ) → v ≡ f (getD s i 0) → i < length s → sets l j (map f (drop i s)) ≡ sets (set l j v) (j + 1) (map f (drop (i + 1) s))
+  puts-more v e h = rw (drop-cons s i 0 h, add-one i, add-one j, e)
+
+  pub puts-past : length l ≤ j → l ≡ sets l j (map f (drop i s))
+  puts-past h = sym (sets-out l j (map f (drop i s)) h)
+
+  pub puts-end : length s ≤ i → l ≡ sets l j (map f (drop i s))
+  puts-end h = rw (drop-of-length-le s h)
+
+map-append : (f : ℕ → ℕ) (xs ys : List ℕ) → map f (xs ++ ys) ≡ map f xs ++ map f ys
+map-append f [] ys = refl
+map-append f (x ∷ xs) ys = ap (f x ∷_) (map-append f xs ys)
+
+-- a run behind another
+sets-next : (l : List ℕ) (i : ℕ) (xs : List ℕ) (j : ℕ) (ys : List ℕ) → j ≡ i + length xs → sets (sets l i xs) j ys ≡ sets l i (xs ++ ys)
+sets-next l i xs j ys e = ap (λ (k : ℕ). sets (sets l i xs) k ys) e ∙ sym (sets-append l i xs ys)
+
+-- the same, drawn
+draws-next : (f : ℕ → ℕ) (l : List ℕ) (i : ℕ) (xs : List ℕ) (j : ℕ) (ys : List ℕ) → j ≡ i + length xs
+    → sets (sets l i (map f xs)) j (map f ys) ≡ sets l i (map f (xs ++ ys))
+draws-next f l i xs j ys e =
+    sets-next l i (map f xs) j (map f ys) (e ∙ ap (i +_) (sym (length-map xs f))) ∙ ap (sets l i) (sym (map-append f xs ys))
+
+dots-long : (n : ℕ) → n ≤ 3 → length (dots n) ≡ n
+unfolding dots
+dots-long n h = length-take-le n (46 ∷ 46 ∷ 46 ∷ []) h
+
+pub bytes-long : (s : List ℕ) (a b : ℕ) → b ≤ length s → length (bytesFrom s a b) ≡ b - a
+unfolding bytesFrom
+bytes-long s a b h = length-take-le (b - a) (drop a s) (omega (arith, length-drop a s))
+
+module _ (s : List ℕ) (v : View) (h : Fits s v) where
+  line-bytes-long : length (lineBytes s v) ≡ v .front + (v .to - v .from) + v .behind
+  unfolding lineBytes
+  line-bytes-long =
+      omega (
+        arith,
+        length-append (dots (v .front) ++ bytesFrom s (v .from) (v .to)) (dots (v .behind)),
+        length-append (dots (v .front)) (bytesFrom s (v .from) (v .to)),
+        dots-long (v .front) (h .front),
+        dots-long (v .behind) (h .behind),
+        bytes-long s (v .from) (v .to) (h .inside),
+      )
+
+  mark-bytes-long : length (markBytes s v) ≡ v .front + (v .at - v .from)
+  unfolding markBytes
+  mark-bytes-long =
+      omega (
+        arith,
+        length-append (dots (v .front)) (bytesFrom s (v .from) (v .at)),
+        dots-long (v .front) (h .front),
+        bytes-long s (v .from) (v .at) (h .placed),
+      )
+
+  pub line-long : v .front + (v .to - v .from) + v .behind + 1 ≡ length (shownLine s v)
+  unfolding shownLine
+  line-long =
+      omega (arith, length-append (map (drawn false) (lineBytes s v)) (10 ∷ []), length-map (lineBytes s v) (drawn false), line-bytes-long)
+
+  pub mark-long : v .front + (v .at - v .from) + 2 ≡ length (markLine s v)
+  unfolding markLine
+  mark-long =
+      omega (arith, length-append (map (drawn true) (markBytes s v)) (94 ∷ 10 ∷ []), length-map (markBytes s v) (drawn true), mark-bytes-long)
+
+  -- the four runs of the line shown
+  pub line-written : (l l₁ l₂ l₃ l₄ : List ℕ)
+      → l₁ ≡ sets l 0 (map (drawn false) (dots (v .front)))
+      → l₂ ≡ sets l₁ (v .front) (map (drawn false) (bytesFrom s (v .from) (v .to)))
+      → l₃ ≡ sets l₂ (v .front + (v .to - v .from)) (map (drawn false) (dots (v .behind)))
+      → l₄ ≡ sets l₃ (v .front + (v .to - v .from) + v .behind) (10 ∷ [])
+      → l₄ ≡ sets l 0 (shownLine s v)
+  unfolding shownLine lineBytes
+  line-written l l₁ l₂ l₃ l₄ e₁ e₂ e₃ e₄ =
+      let front = dots (v .front) in
+      let middle = bytesFrom s (v .from) (v .to) in
+      let f : ℕ → ℕ = drawn false in
+      let n₁ : v .front ≡ 0 + length front = omega (arith, dots-long (v .front) (h .front)) in
+      let n₂ : v .front + (v .to - v .from) ≡ 0 + length (front ++ middle) =
+      omega (arith, length-append front middle, dots-long (v .front) (h .front), bytes-long s (v .from) (v .to) (h .inside)) in
+      let n₃ : v .front + (v .to - v .from) + v .behind ≡ 0 + length (map f (front ++ middle ++ dots (v .behind))) =
+      omega (arith, length-map (lineBytes s v) f, line-bytes-long) in
+      let m₂ : l₂ ≡ sets l 0 (map f (front ++ middle)) =
+      e₂ ∙ ap (λ (k : List ℕ). sets k (v .front) (map f middle)) e₁ ∙ draws-next f l 0 front (v .front) middle n₁ in
+      let m₃ : l₃ ≡ sets l 0 (map f (front ++ middle ++ dots (v .behind))) =
+      e₃ ∙ ap (λ (k : List ℕ). sets k (v .front + (v .to - v .from)) (map f (dots (v .behind)))) m₂ ∙ draws-next f l 0 (front ++ middle) _ (dots (v .behind)) n₂ in
+      e₄ ∙ ap (λ (k : List ℕ). sets k (v .front + (v .to - v .from) + v .behind) (10 ∷ [])) m₃ ∙ sets-next l 0 (map f (front ++ middle ++ dots (v .behind))) _ (10 ∷ []) n₃
+
+  -- the four runs of the mark's line
+  pub mark-written : (a : ℕ) (l l₁ l₂ l₃ l₄ : List ℕ)
+      → l₁ ≡ sets l a (map (drawn true) (dots (v .front)))
+      → l₂ ≡ sets l₁ (a + v .front) (map (drawn true) (bytesFrom s (v .from) (v .at)))
+      → l₃ ≡ sets l₂ (a + v .front + (v .at - v .from)) (94 ∷ [])
+      → l₄ ≡ sets l₃ (a + v .front + (v .at - v .from) + 1) (10 ∷ [])
+      → l₄ ≡ sets l a (markLine s v)
+  unfolding markLine markBytes
+  mark-written a l l₁ l₂ l₃ l₄ e₁ e₂ e₃ e₄ =
+      let front = dots (v .front) in
+      let middle = bytesFrom s (v .from) (v .at) in
+      let f : ℕ → ℕ = drawn true in
+      let n₁ : a + v .front ≡ a + length front = omega (arith, dots-long (v .front) (h .front)) in
+      let n₂ : a + v .front + (v .at - v .from) ≡ a + length (map f (front ++ middle)) =
+      omega (arith, length-map (markBytes s v) f, mark-bytes-long) in
+      let n₃ : a + v .front + (v .at - v .from) + 1 ≡ suc (a + v .front + (v .at - v .from)) = omega arith in
+      let m₂ : l₂ ≡ sets l a (map f (front ++ middle)) =
+      e₂ ∙ ap (λ (k : List ℕ). sets k (a + v .front) (map f middle)) e₁ ∙ draws-next f l a front (a + v .front) middle n₁ in
+      let m₄ : l₄ ≡ sets l₂ (a + v .front + (v .at - v .from)) (94 ∷ 10 ∷ []) =
+      e₄ ∙ ap (λ (k : List ℕ). sets k (a + v .front + (v .at - v .from) + 1) (10 ∷ [])) e₃
+      ∙ ap (λ (k : ℕ). sets (sets l₂ (a + v .front + (v .at - v .from)) (94 ∷ [])) k (10 ∷ [])) n₃ in
+      m₄ ∙ ap (λ (k : List ℕ). sets k (a + v .front + (v .at - v .from)) (94 ∷ 10 ∷ [])) m₂ ∙ sets-next l a (map f (front ++ middle)) _ (94 ∷ 10 ∷ []) n₂
+
+-- both lines, one behind the other
+pub picture-written : (s : List ℕ) (p : ℕ) (v : View) → v ≡ viewOf s p → (n m : ℕ) (l l₁ l₂ : List ℕ)
+    → l₁ ≡ sets l 0 (shownLine s v) → n ≡ length (shownLine s v)
+    → l₂ ≡ sets l₁ n (markLine s v) → m ≡ n + length (markLine s v)
+    → (m ≡ length (picture s p)) × (l₂ ≡ sets l 0 (picture s p))
+unfolding picture
+picture-written s p v e n m l l₁ l₂ e₁ k e₂ j =
+    let w : length (shownLine s v ++ markLine s v) ≡ m = length-append (shownLine s v) (markLine s v) ∙ ap (_+ length (markLine s v)) (sym k) ∙ sym j in
+    let o : n ≡ 0 + length (shownLine s v) = omega (arith, k) in
+    let d : l₂ ≡ sets l 0 (shownLine s v ++ markLine s v) = e₂ ∙ ap (λ (x : List ℕ). sets x n (markLine s v)) e₁ ∙ sets-next l 0 (shownLine s v) n (markLine s v) o in
+    (sym w ∙ ap (λ (x : View). length (shownLine s x ++ markLine s x)) e, d ∙ ap (λ (x : View). sets l 0 (shownLine s x ++ markLine s x)) e)
+
+pub line-short : (s : List ℕ) (v : View) → Fits s v → length (shownLine s v) ≤ 79
+line-short s v h = omega (arith, line-long s v h, h .front, h .behind, h .most)

@@ -1,0 +1,98 @@
+// Reads the text on standard input and writes `accepted`, or why it is refused: line, column, number and meaning of the refusal, the line of
+// its place, and a mark under the place. Refusals that have no place in the text take the first of these lines alone, without line and column.
+use libc::STDIN_FILENO;
+use libc::STDOUT_FILENO;
+use reading::Answer;
+
+fn write(bytes: &[u8]) {
+    io::write_all(STDOUT_FILENO, bytes);
+}
+
+fn write_number(n: usize) {
+    io::print_decimal(STDOUT_FILENO, n as u64);
+}
+
+// What a refusal means.
+fn write_meaning(number: u8) {
+    match number {
+        1 => write(b"the lent tables are too short"),
+        2 => write(b"the text is longer than 65,535 bytes"),
+        3 => write(b"no token begins here, or a string or comment that begins here is not ended"),
+        4 => write(b"the grammar does not admit this token here, or the text ends too early"),
+        5 => write(b"this brace is the seventeenth open one; at most sixteen may be open"),
+        6 => write(b"the version string is not 2.5"),
+        7 => write(
+            b"more than 512 definitions, or more than 1,024 enumerators, TRUE and FALSE not counted",
+        ),
+        8 => write(
+            b"a kind specified, an attribute defined in its scope, or an enumerator listed a second time",
+        ),
+        9 => write(
+            b"the name stands under another value of the same attribute with other type words",
+        ),
+        10 => write(
+            b"a bound outside the type, a low bound above the high one, a default outside type, range or list, or AUTO without WITH_AUTO",
+        ),
+        11 => write(b"more than 256 objects, or more than 2,048 statements"),
+        12 => write(b"the name is used before by an object of the same kind"),
+        13 => write(b"the name is not defined in its scope"),
+        14 => write(b"an attribute that is no list is stated again in its block"),
+        15 => write(
+            b"the value does not fit its attribute: wrong sort, out of range, unknown enumerator, or AUTO not allowed; or braces after a reference",
+        ),
+        16 => write(b"an attribute of this object or value must be stated and is not"),
+        17 => write(b"a second OS, COM or NM, or no OS or no APPMODE"),
+        18 => write(b"the reference names no object of its kind"),
+        19 => write(b"more than 2,048 resolved values"),
+        20 => write(b"the written text is longer than the output's room"),
+        _ => write(b"unknown"),
+    }
+}
+
+fn write_refusal(number: u8) {
+    write(b"refusal ");
+    write_number(number as usize);
+    write(b": ");
+    write_meaning(number);
+    write(b"\n");
+}
+
+fn write_placed(text: &[u8], number: u8, place: usize) {
+    let mut lines = [0; 160];
+    let told = explaining::explain(text, place, &mut lines);
+    write(b"line ");
+    write_number(told.line);
+    write(b", column ");
+    write_number(told.column);
+    write(b": ");
+    write_refusal(number);
+    write(token::part(&lines, 0, told.len));
+}
+
+fn write_answer(text: &[u8], answer: Answer) {
+    match answer {
+        Answer::Accepted => write(b"accepted\n"),
+        Answer::Refused(number, place) => match number {
+            1 | 2 | 19 | 20 => write_refusal(number),
+            _ => write_placed(text, number, place),
+        },
+    }
+}
+
+fn main() {
+    let mut buffer = io::large_buffer();
+    let n = io::read_full(STDIN_FILENO, &mut buffer);
+    let mut definitions = [0; 6656];
+    let mut enumerators = [0; 3072];
+    let mut objects = [0; 1792];
+    let mut values = [0; 18432];
+    let r = reading::read(
+        &buffer[..n],
+        &mut definitions,
+        &mut enumerators,
+        &mut objects,
+        &mut values,
+    );
+    let answer = r.answer;
+    write_answer(&buffer[..n], answer);
+}

@@ -1,0 +1,236 @@
+//! The program `oil_explain` against an implementation of its own: the answer is the
+//! reference's, the line, the column and the mark are worked out here.
+
+use std::io::Write;
+use std::path::Path;
+use std::process::{Command, Stdio};
+use tests::meaning::{read, Refusal};
+use tests::random::Random;
+use tests::{answered, corpus, texts};
+
+/// What the program writes for a text on standard input.
+fn written(text: &[u8]) -> Vec<u8> {
+    let program = Path::new(env!("CARGO_MANIFEST_DIR")).join("../target/bin/oil_explain");
+    let mut child = Command::new(&program)
+        .stdin(Stdio::piped())
+        .stdout(Stdio::piped())
+        .spawn()
+        .unwrap_or_else(|fault| panic!("{}: {fault}", program.display()));
+    let mut input = child.stdin.take().expect("a standard input");
+    let text = text.to_vec();
+    // A text longer than the program reads may meet a closed pipe.
+    let writer = std::thread::spawn(move || input.write_all(&text).ok());
+    let output = child.wait_with_output().expect("what the program writes");
+    writer.join().expect("the writer ends");
+    output.stdout
+}
+
+/// What the refusals mean, from 1 on.
+const MEANINGS: [&str; 20] = [
+    "the lent tables are too short",
+    "the text is longer than 65,535 bytes",
+    "no token begins here, or a string or comment that begins here is not ended",
+    "the grammar does not admit this token here, or the text ends too early",
+    "this brace is the seventeenth open one; at most sixteen may be open",
+    "the version string is not 2.5",
+    "more than 512 definitions, or more than 1,024 enumerators, TRUE and FALSE not counted",
+    "a kind specified, an attribute defined in its scope, or an enumerator listed a second time",
+    "the name stands under another value of the same attribute with other type words",
+    "a bound outside the type, a low bound above the high one, a default outside type, range or list, or AUTO without WITH_AUTO",
+    "more than 256 objects, or more than 2,048 statements",
+    "the name is used before by an object of the same kind",
+    "the name is not defined in its scope",
+    "an attribute that is no list is stated again in its block",
+    "the value does not fit its attribute: wrong sort, out of range, unknown enumerator, or AUTO not allowed; or braces after a reference",
+    "an attribute of this object or value must be stated and is not",
+    "a second OS, COM or NM, or no OS or no APPMODE",
+    "the reference names no object of its kind",
+    "more than 2,048 resolved values",
+    "the written text is longer than the output's room",
+];
+
+/// The most bytes of a line that are shown, and those before the place where more follow.
+const SHOWN: usize = 72;
+const BEFORE: usize = 36;
+
+/// The two lines that show a column, counted from 0, of a line.
+fn picture(line: &[u8], column: usize) -> Vec<u8> {
+    let mut over = Vec::new();
+    let mut under = Vec::new();
+    let first = column
+        .saturating_sub(BEFORE)
+        .min(line.len().saturating_sub(SHOWN));
+    let last = line.len().min(first + SHOWN);
+    if first > 0 {
+        over.extend(b"...");
+        under.extend(b"   ");
+    }
+    for (at, &byte) in line.iter().enumerate().take(last).skip(first) {
+        let shown = match byte {
+            b'\t' | b' '..=b'~' => byte,
+            _ => b'?',
+        };
+        over.push(shown);
+        if at < column {
+            under.push(if byte == b'\t' { b'\t' } else { b' ' });
+        }
+    }
+    if last < line.len() {
+        over.extend(b"...");
+    }
+    under.push(b'^');
+    [over, under].join(&b'\n')
+}
+
+/// What the program is to write for a text.
+fn expected(text: &[u8]) -> Vec<u8> {
+    let Err(Refusal { number, place }) = read(text) else {
+        return b"accepted\n".to_vec();
+    };
+    let meaning = MEANINGS[usize::from(number) - 1];
+    let refusal = format!("refusal {number}: {meaning}\n");
+    if [1, 2, 19, 20].contains(&number) {
+        return refusal.into_bytes();
+    }
+    // The line of the place is that of the last LF before it; all lines but the last may
+    // end in CR, which belongs to the line's end.
+    let lines: Vec<&[u8]> = text.split(|&byte| byte == b'\n').collect();
+    let mut start = 0;
+    let mut number_of_line = 0;
+    while place > start + lines[number_of_line].len() {
+        start += lines[number_of_line].len() + 1;
+        number_of_line += 1;
+    }
+    let mut line = lines[number_of_line];
+    if number_of_line + 1 < lines.len() {
+        line = line.strip_suffix(b"\r").unwrap_or(line);
+    }
+    let (row, column) = (number_of_line + 1, place - start + 1);
+    let mut whole = format!("line {row}, column {column}: {refusal}").into_bytes();
+    whole.extend(picture(line, place - start));
+    whole.push(b'\n');
+    whole
+}
+
+/// Holds the program to `expected`; gives the refusal's number, or 0.
+fn compare(text: &[u8], name: &str) -> u8 {
+    let (found, wanted) = (written(text), expected(text));
+    assert_eq!(
+        String::from_utf8_lossy(&found),
+        String::from_utf8_lossy(&wanted),
+        "{name}: {:?}",
+        String::from_utf8_lossy(&text[..text.len().min(2000)])
+    );
+    assert_eq!(found, wanted, "{name}");
+    read(text).err().map_or(0, |refusal| refusal.number)
+}
+
+#[test]
+fn explains_the_corpus() {
+    let mut numbers = [0; 21];
+    for sample in corpus::samples() {
+        numbers[usize::from(compare(&sample.text, &sample.name))] += 1;
+    }
+    // Refusal 1 needs other tables, and 20 an output.
+    for number in (2..=19).chain([0]) {
+        assert!(numbers[number] > 0, "no text with refusal {number}");
+    }
+}
+
+/// The two lines as they are written out, by hand.
+#[test]
+fn shows_known_places() {
+    let mut known: Vec<(Vec<u8>, String)> = Vec::new();
+    let mut add = |text: &[u8], place: &str, lines: &str| {
+        known.push((text.to_vec(), format!("{place}: |{lines}\n")))
+    };
+    add(b"", "line 1, column 1", "\n^");
+    add(
+        b"OIL_VERSION",
+        "line 1, column 12",
+        "OIL_VERSION\n           ^",
+    );
+    add(b"OIL_VERSION\n", "line 2, column 1", "\n^");
+    add(b"OIL_VERSION\r\n", "line 2, column 1", "\n^");
+    add(
+        b"OIL_VERSION\r",
+        "line 1, column 13",
+        "OIL_VERSION?\n            ^",
+    );
+    add(b"\r\n\t=\t}\r\n", "line 2, column 2", "\t=\t}\n\t^");
+    add(
+        b"OIL_VERSION\t=\t}\r\n;",
+        "line 1, column 15",
+        "OIL_VERSION\t=\t}\n           \t \t^",
+    );
+    add(
+        b"/*\x1b[2J\xff*/ #\x7f",
+        "line 1, column 11",
+        "/*?[2J?*/ #?\n          ^",
+    );
+    for (text, whole) in known {
+        let (place, lines) = whole.split_once('|').expect("a place and its lines");
+        let found = String::from_utf8(written(&text)).expect("printable bytes");
+        let (first, rest) = found.split_once('\n').expect("a first line");
+        assert!(first.starts_with(place), "{first}");
+        assert_eq!(rest, lines);
+        assert_eq!(found.as_bytes(), expected(&text));
+    }
+}
+
+/// A place in a line of each length about the window's, with few and many bytes before it.
+#[test]
+fn cuts_long_lines() {
+    for before in (0..=4).chain(34..=40).chain(68..=80).chain([500]) {
+        for behind in (0..=3).chain(33..=40).chain(68..=76).chain([500]) {
+            for end in ["", "\n", "\r\n", "\r"] {
+                let mut text = b"OIL_VERSION\n".to_vec();
+                text.extend(b" \t  ".iter().cycle().take(before));
+                text.push(b'#');
+                text.extend(b"ab \t\x80".iter().cycle().take(behind));
+                text.extend(end.bytes());
+                compare(&text, &format!("{before} before, {behind} behind"));
+            }
+        }
+    }
+}
+
+#[test]
+fn explains_generated_texts() {
+    for seed in 0..600 {
+        let random = &mut Random::new(seed);
+        let length = random.below(300);
+        compare(&texts::few_bytes(random, length), "few bytes");
+        compare(&texts::any(seed), "any text");
+        let sound = answered::accepted(seed).text;
+        compare(&sound, "an accepted text");
+        let number = 6 + (seed % 13) as u8;
+        if let Some(planted) = answered::with_faults(seed, &[number]) {
+            compare(&planted.text, "a planted fault");
+        }
+        compare(&texts::damaged(random, &sound), "a damaged text");
+        // The same with CR LF, and with tabs.
+        let damaged = texts::damaged(random, &sound);
+        let with_cr: Vec<u8> = damaged
+            .iter()
+            .flat_map(|&byte| match byte {
+                b'\n' => b"\r\n".to_vec(),
+                b' ' if random.once_in(3) => b"\t".to_vec(),
+                byte => vec![byte],
+            })
+            .collect();
+        compare(&with_cr, "a damaged text with CR LF and tabs");
+        let cut = random.below(sound.len() + 1);
+        compare(&sound[..cut], "a text cut short");
+    }
+}
+
+#[test]
+fn explains_long_texts() {
+    for length in [65_534, 65_535, 65_536, 65_537, 200_000] {
+        for part in ["a ", "\n", "\r\n", "a"] {
+            let text = part.repeat(length).into_bytes()[..length].to_vec();
+            compare(&text, &format!("{length} bytes of {part:?}"));
+        }
+    }
+}
