@@ -1,0 +1,5 @@
+pub mod Hashes
+pub mod Places
+pub mod Fillings
+pub mod Passes
+pub mod Befores
