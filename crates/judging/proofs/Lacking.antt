@@ -6,8 +6,8 @@ use mathlib.Core.Option.{Option, none, some}
 use Prim.Native.Nat.{ℕ, zero, suc, _+_, _*_, _≤_, _<_}
 use native.Mathlib.Omega.{arith}
 use native.Mathlib.Decide.{ℕ-discrete}
-use lib.ListN.{length, length-append, getD, set}
-use lib.Seq.{getD-set-same, getD-set-other}
+use lib.ListN.{length, length-append, getD, set, drop, List·getD-append}
+use lib.Seq.{getD-set-same, getD-set-other, sets, sets-eq}
 use lib.Dec.{eqb}
 use borrow.Author.Tests.{eq-eqb, ne-eqb}
 use Rattle.token.specs.Find.{pick, both, either}
@@ -20,6 +20,8 @@ use Rattle.meaning.specs.Scopes.{Under, find-value, definitions-or, under, name
 use Rattle.meaning.specs.Judging.{is-no-default, taken-by, taken, lacking, lacks, lacks-under}
 use Rattle.meaning.proofs.Sites.{option-words}
 use Rattle.layout.specs.Kept.{spec-entries, spec-choices, bit, class-number, given-number, sign-number, integer-number, code-of, default-code, statement-rows, all-statement-rows}
+use Rattle.amounts.specs.Known.{Known}
+use Rattle.amounts.proofs.Frames.{known-marked}
 use Rattle.blocks.specs.Blocks.{Holds, AllIn, none-in, IsStated}
 use Rattle.blocks.proofs.Files.{statements-held}
 use Rattle.scopes.specs.Situations.{HasDefinition, this-definition, later-definition, Stands, under-value, Nth, RowOf, Reached}
@@ -355,3 +357,21 @@ marks-more {o = o} {f = f} ms j m c l n k u ds x q h i = go (ℕ-discrete (x .de
 
 pub marks-past : (f : File) (ms : List ℕ) (j n : ℕ) → n ≤ j → Marked f ms j → Marked f ms n
 marks-past f ms j n l k u ds x q h i = k u ds x q h (omega arith)
+
+-- The marks as the first cells of a table.
+marks-put : (f : File) (t ms : List ℕ) (n : ℕ) → length ms ≡ 512 → n ≤ 512 → 512 ≤ length t → Marked f ms n → Marked f (sets t 0 ms) n
+marks-put f t ms n l h k m u ds x a b c =
+    ap (λ r. getD r (x .definition .row) 0) (sets-eq ms t 0 (omega (arith, l, k)))
+    ∙ List·getD-append ms (drop (0 + length ms) t) 0 (x .definition .row) (omega (arith, l, h, c))
+    ∙ m u ds x a b c
+
+-- They leave the numbers of the definitions as they are.
+module _ (s d t ms : List ℕ) (k : Known s d t) (l : length ms ≡ 512) (t′ : List ℕ) (e : t′ ≡ sets t 0 ms) where
+  pub table-known : Known s d t′
+  table-known = subst (Known s d) (sym e) (known-marked s d t ms (omega (arith, l)) k)
+
+  pub table-marked : (f : File) (n : ℕ) → n ≤ 512 → Marked f ms n → Marked f t′ n
+  table-marked f n h m =
+      let a = k .noted .room in
+      let b = k .noted .inside in
+      subst (λ r. Marked f r n) (sym e) (marks-put f t ms n l h (omega (arith, a, b)) m)

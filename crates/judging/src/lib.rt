@@ -1,6 +1,7 @@
 // The faults 13 to 16 and 18: the statements of a text, judged over the rows kept while it was read.
 ghost use mathlib.Core.Path.{_≡_};
 ghost use Prim.Native.Nat.{_<_};
+ghost use Rattle.amounts.specs.Known.{Known};
 ghost use Rattle.judging.specs.Promises.{LackFault, Judges, JudgesOne, JudgesBlock, JudgesObject, JudgesObjects, JudgesAll};
 use blocks::after;
 use blocks::cell_at;
@@ -48,20 +49,22 @@ fn lack_fault(
     )
 }
 
-// The faults of the statements of a block, in the scope of the word at key.
+// The faults of the statements of a block, in the scope of the word at key. Here and below `known` has the marks of the rows, and behind them what is
+// known of the ranges.
 fn judge(
     text: &[u8],
     d: &[usize],
     e: &[usize],
     o: &[usize],
     st: &[usize],
-    missing: &[usize],
+    known: &[usize],
     z: Sizes,
     key: usize,
     from: usize,
     end: usize,
 ) -> Fault
-    ensures { λ r. ⌜ Judges (now (text .entry)) (now (d .entry)) (now (e .entry)) (now (o .entry)) (now (st .entry)) (now (missing .entry)) z key from end r ⌝ }
+    requires { ⌜ Known (now text) (now d) (now known) ⌝ }
+    ensures { λ r. ⌜ Judges (now (text .entry)) (now (d .entry)) (now (e .entry)) (now (o .entry)) (now (st .entry)) (now (known .entry)) z key from end r ⌝ }
 {
     let mut best = Fault {
         number: 0,
@@ -70,7 +73,7 @@ fn judge(
     let mut k = from;
     while k < end {
         let next = after(st, k, end);
-        let f = judge_one(text, d, e, o, st, missing, z, key, from, k, next);
+        let f = judge_one(text, d, e, o, st, known, z, key, from, k, next);
         best = faults::sooner(best, f);
         k = next;
     }
@@ -84,15 +87,15 @@ fn judge_one(
     e: &[usize],
     o: &[usize],
     st: &[usize],
-    missing: &[usize],
+    known: &[usize],
     z: Sizes,
     key: usize,
     from: usize,
     k: usize,
     end: usize,
 ) -> Fault
-    requires { ⌜ k < end ⌝ }
-    ensures { λ r. ⌜ JudgesOne (now (text .entry)) (now (d .entry)) (now (e .entry)) (now (o .entry)) (now (st .entry)) (now (missing .entry)) z key from k end r ⌝ }
+    requires { ⌜ (k < end) × Known (now text) (now d) (now known) ⌝ }
+    ensures { λ r. ⌜ JudgesOne (now (text .entry)) (now (d .entry)) (now (e .entry)) (now (o .entry)) (now (st .entry)) (now (known .entry)) z key from k end r ⌝ }
 {
     let name = cell_at(st, 7, k, 0);
     let size = cell_at(st, 7, k, 1);
@@ -102,14 +105,14 @@ fn judge_one(
             place: name,
         };
     };
-    let f = values::own_fault(text, d, e, o, st, z, from, k, j);
+    let f = values::own_fault(text, d, e, o, st, known, z, from, k, j);
     if faults::is_fault(f) {
         return f;
     }
     let at = cell_at(st, 7, k, 2);
     let len = cell_at(st, 7, k, 3);
     let under = word_under(text, d, e, z.enumerators, j, at, len);
-    judge_block(text, d, e, o, st, missing, z, under, k + 1, end, at)
+    judge_block(text, d, e, o, st, known, z, under, k + 1, end, at)
 }
 
 // 16 at the owner's word, and the faults of the statements of its block.
@@ -119,17 +122,18 @@ fn judge_block(
     e: &[usize],
     o: &[usize],
     st: &[usize],
-    missing: &[usize],
+    known: &[usize],
     z: Sizes,
     key: usize,
     from: usize,
     end: usize,
     owner: usize,
 ) -> Fault
-    ensures { λ r. ⌜ JudgesBlock (now (text .entry)) (now (d .entry)) (now (e .entry)) (now (o .entry)) (now (st .entry)) (now (missing .entry)) z key from end owner r ⌝ }
+    requires { ⌜ Known (now text) (now d) (now known) ⌝ }
+    ensures { λ r. ⌜ JudgesBlock (now (text .entry)) (now (d .entry)) (now (e .entry)) (now (o .entry)) (now (st .entry)) (now (known .entry)) z key from end owner r ⌝ }
 {
-    let a = lack_fault(text, d, st, missing, z, key, from, end, owner);
-    let b = judge(text, d, e, o, st, missing, z, key, from, end);
+    let a = lack_fault(text, d, st, known, z, key, from, end, owner);
+    let b = judge(text, d, e, o, st, known, z, key, from, end);
     faults::sooner(a, b)
 }
 
@@ -140,19 +144,20 @@ fn judge_object(
     e: &[usize],
     o: &[usize],
     st: &[usize],
-    missing: &[usize],
+    known: &[usize],
     z: Sizes,
     places: &[usize],
     i: usize,
 ) -> Fault
-    ensures { λ r. ⌜ JudgesObject (now (text .entry)) (now (d .entry)) (now (e .entry)) (now (o .entry)) (now (st .entry)) (now (missing .entry)) z (now (places .entry)) i r ⌝ }
+    requires { ⌜ Known (now text) (now d) (now known) ⌝ }
+    ensures { λ r. ⌜ JudgesObject (now (text .entry)) (now (d .entry)) (now (e .entry)) (now (o .entry)) (now (st .entry)) (now (known .entry)) z (now (places .entry)) i r ⌝ }
 {
     let kind = cell_at(o, 9, i, 0);
     let key = cells::get(places, kind);
     let owner = cell_at(o, 9, i, 3);
     let from = cell_at(o, 9, i, 7);
     let end = cell_at(o, 9, i, 8);
-    judge_block(text, d, e, o, st, missing, z, key, from, end, owner)
+    judge_block(text, d, e, o, st, known, z, key, from, end, owner)
 }
 
 // The faults of all objects.
@@ -162,11 +167,12 @@ fn judge_objects(
     e: &[usize],
     o: &[usize],
     st: &[usize],
-    missing: &[usize],
+    known: &[usize],
     z: Sizes,
     places: &[usize],
 ) -> Fault
-    ensures { λ r. ⌜ JudgesObjects (now (text .entry)) (now (d .entry)) (now (e .entry)) (now (o .entry)) (now (st .entry)) (now (missing .entry)) z (now (places .entry)) r ⌝ }
+    requires { ⌜ Known (now text) (now d) (now known) ⌝ }
+    ensures { λ r. ⌜ JudgesObjects (now (text .entry)) (now (d .entry)) (now (e .entry)) (now (o .entry)) (now (st .entry)) (now (known .entry)) z (now (places .entry)) r ⌝ }
 {
     let mut best = Fault {
         number: 0,
@@ -174,7 +180,7 @@ fn judge_objects(
     };
     let mut i = 0;
     while i < z.objects {
-        let f = judge_object(text, d, e, o, st, missing, z, places, i);
+        let f = judge_object(text, d, e, o, st, known, z, places, i);
         best = faults::sooner(best, f);
         i += 1;
     }
@@ -194,5 +200,9 @@ pub fn judge_all(
     ensures { λ r. ⌜ JudgesAll (now (text .entry)) (now (d .entry)) (now (e .entry)) (now (o .entry)) (now (st .entry)) z places r ⌝ }
 {
     let missing = marking::marks(text, d, e, st, z);
-    judge_objects(text, d, e, o, st, &missing, z, &places)
+    let mut known = [0; 35840];
+    let mut spare = [0; 16384];
+    amounts::noting::note_ranges(text, d, z.definitions, &mut known, &mut spare);
+    cells::put_cells(&mut known, 0, &missing);
+    judge_objects(text, d, e, o, st, &known, z, &places)
 }

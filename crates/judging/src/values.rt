@@ -1,14 +1,15 @@
 // The faults 14, 15 and 18 of one statement.
 ghost use mathlib.Core.Path.{_≡_};
+ghost use Rattle.amounts.specs.Known.{Known};
 ghost use Rattle.judging.specs.Promises.{name-code, ReferenceFault, ValueFault, Again, OwnFault};
 use super::Sizes;
+use amounts::asking::takes;
 use blocks::cell_at;
 use blocks::is_stated;
 use rows::Fault;
 use rows::Found;
 use rows::faults;
 use scopes::lookups::find_object;
-use scopes::lookups::takes;
 
 // Whether a word with this code is a name.
 fn is_name(code: usize) -> bool
@@ -63,10 +64,12 @@ fn value_fault(
     e: &[usize],
     o: &[usize],
     st: &[usize],
+    known: &[usize],
     z: Sizes,
     k: usize,
     j: usize,
 ) -> Fault
+    requires { ⌜ Known (now text) (now d) (now known) ⌝ }
     ensures { λ r. ⌜ ValueFault (now (text .entry)) (now (d .entry)) (now (e .entry)) (now (o .entry)) (now (st .entry)) z k j r ⌝ }
 {
     let at = cell_at(st, 7, k, 2);
@@ -85,7 +88,11 @@ fn value_fault(
         let b = faults::fault_if(brace != 0, 15, brace);
         return faults::sooner(a, b);
     }
-    faults::fault_if(!takes(text, d, e, z.enumerators, j, at, len, code), 15, at)
+    faults::fault_if(
+        !takes(text, d, e, known, z.enumerators, j, at, len, code),
+        15,
+        at,
+    )
 }
 
 // Whether the attribute of row j is single and stated before the statement of row k, in the block from `from` on.
@@ -117,15 +124,17 @@ pub fn own_fault(
     e: &[usize],
     o: &[usize],
     st: &[usize],
+    known: &[usize],
     z: Sizes,
     from: usize,
     k: usize,
     j: usize,
 ) -> Fault
+    requires { ⌜ Known (now text) (now d) (now known) ⌝ }
     ensures { λ r. ⌜ OwnFault (now (text .entry)) (now (d .entry)) (now (e .entry)) (now (o .entry)) (now (st .entry)) z from k j r ⌝ }
 {
     let name = cell_at(st, 7, k, 0);
     let a = faults::fault_if(again(text, d, e, o, st, z, from, k, j), 14, name);
-    let b = value_fault(text, d, e, o, st, z, k, j);
+    let b = value_fault(text, d, e, o, st, known, z, k, j);
     faults::sooner(a, b)
 }

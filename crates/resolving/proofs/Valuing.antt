@@ -19,9 +19,8 @@ use Rattle.meaning.specs.Scopes.{Sort, a-number, a-string, a-truth, an-auto, a-
 use Rattle.meaning.specs.Resolving.{number, truth, is-true, number-or, row-or, named, valued, take-value, value-row}
 use Rattle.meaning.specs.Resolving.{string as string-value}
 use Rattle.meaning.specs.Cells.{value-sort, value-negative, value-amount, flag, value-cells}
-use Rattle.layout.specs.Kept.{code-of}
-use Rattle.scopes.specs.declared.Num.{Num as NumOf}
-use Rattle.scopes.specs.Items.{num}
+use Rattle.layout.specs.Kept.{bit, code-of}
+use Rattle.amounts.specs.Known.{InCells}
 use Rattle.scopes.specs.Forms.{Formed, an-integer, a-string, a-boolean, an-enum, a-reference}
 use Rattle.scopes.specs.Forms as forms
 use Rattle.scopes.specs.Promises.{FindsEnumerator, FindsObject, number-found, object-found}
@@ -49,14 +48,15 @@ found-or Nothing = 0
 abbrev held : ℕ → ℕ → ℕ → Held
 held k n a = record { sort = k; negative = n; amount = a }
 
+bit-flag : (b : Bool) → bit b ≡ flag b
+unfolding bit flag
+bit-flag true = refl
+bit-flag false = refl
+
 -- A number.
-pub holds-number : (b : Bool) (n k : ℕ) (x : NumOf) (y : Num) → num x ≡ y → x .negative ≡ b → n ≡ flag b → k ≡ x .amount → Holds (held 0 n k) (number y)
+pub holds-number : (y : Num) (n k : ℕ) → InCells y n k → Holds (held 0 n k) (number y)
 unfolding value-sort value-negative value-amount
-holds-number b n k x y e h i j = record {
-  sort = refl;
-  negative = i ∙ ap flag (sym h ∙ ap (λ (z : Num). z .negative) e);
-  amount = j ∙ ap (λ (z : Num). z .amount) e;
-}
+holds-number y n k h = record { sort = refl; negative = h .negative ∙ bit-flag (y .negative); amount = h .amount }
 
 -- Names ------------------------------------------------------------------------------------------------------------------------------------
 

@@ -1,4 +1,5 @@
 // Resolved values, each followed by what is under it. Each function gives the number of the row behind those that it puts.
+ghost use Rattle.amounts.specs.Known.{KnownDefaults};
 ghost use Rattle.resolving.specs.Promises.{Enters, EntersStated, ResolvesStated, ResolvesDefault, ResolvesRow, Resolves, ResolvesAll};
 use super::Owner;
 use super::Sizes;
@@ -14,6 +15,7 @@ fn enter(
     e: &[usize],
     o: &[usize],
     st: &[usize],
+    known: &[usize],
     v: &mut [usize],
     z: Sizes,
     j: usize,
@@ -26,12 +28,13 @@ fn enter(
     w: Owner,
     n: usize,
 ) -> usize
+    requires { ⌜ KnownDefaults (now text) (now d) (now known) ⌝ }
     ensures { λ r. ⌜ Enters (now (text .entry)) (now (d .entry)) (now (e .entry)) (now (o .entry)) (now (st .entry)) (now (v .entry)) z j stated at len code from end w n (now (v .exit)) r ⌝ }
 {
     if 2048 < n {
         return n;
     }
-    values::put_value(text, d, e, o, v, z, n, w, j, stated, at, len, code);
+    values::put_value(text, d, e, o, known, v, z, n, w, j, stated, at, len, code);
     let key = lookups::word_under(text, d, e, z.enumerators, j, at, len);
     resolve(
         text,
@@ -39,6 +42,7 @@ fn enter(
         e,
         o,
         st,
+        known,
         v,
         z,
         j,
@@ -58,6 +62,7 @@ fn enter_stated(
     e: &[usize],
     o: &[usize],
     st: &[usize],
+    known: &[usize],
     v: &mut [usize],
     z: Sizes,
     j: usize,
@@ -67,6 +72,7 @@ fn enter_stated(
     w: Owner,
     n: usize,
 ) -> usize
+    requires { ⌜ KnownDefaults (now text) (now d) (now known) ⌝ }
     ensures { λ r. ⌜ EntersStated (now (text .entry)) (now (d .entry)) (now (e .entry)) (now (o .entry)) (now (st .entry)) (now (v .entry)) z j k inner next w n (now (v .exit)) r ⌝ }
 {
     let name = blocks::cell_at(st, 7, k, 0);
@@ -85,6 +91,7 @@ fn enter_stated(
         e,
         o,
         st,
+        known,
         v,
         z,
         j,
@@ -106,6 +113,7 @@ fn resolve_stated(
     e: &[usize],
     o: &[usize],
     st: &[usize],
+    known: &[usize],
     v: &mut [usize],
     z: Sizes,
     j: usize,
@@ -114,13 +122,14 @@ fn resolve_stated(
     w: Owner,
     n: usize,
 ) -> usize
+    requires { ⌜ KnownDefaults (now text) (now d) (now known) ⌝ }
     ensures { λ r. ⌜ ResolvesStated (now (text .entry)) (now (d .entry)) (now (e .entry)) (now (o .entry)) (now (st .entry)) (now (v .entry)) z j from end w n (now (v .exit)) r ⌝ }
 {
     let mut m = n;
     let mut k = from;
     while k < end {
         let next = blocks::after(st, k, end);
-        m = enter_stated(text, d, e, o, st, v, z, j, k, k + 1, next, w, m);
+        m = enter_stated(text, d, e, o, st, known, v, z, j, k, k + 1, next, w, m);
         k = next;
     }
     m
@@ -133,12 +142,14 @@ fn resolve_default(
     e: &[usize],
     o: &[usize],
     st: &[usize],
+    known: &[usize],
     v: &mut [usize],
     z: Sizes,
     j: usize,
     w: Owner,
     n: usize,
 ) -> usize
+    requires { ⌜ KnownDefaults (now text) (now d) (now known) ⌝ }
     ensures { λ r. ⌜ ResolvesDefault (now (text .entry)) (now (d .entry)) (now (e .entry)) (now (o .entry)) (now (st .entry)) (now (v .entry)) z j w n (now (v .exit)) r ⌝ }
 {
     let len = blocks::cell_at(d, 19, j, 11);
@@ -150,7 +161,25 @@ fn resolve_default(
         return n;
     }
     let at = blocks::cell_at(d, 19, j, 10);
-    enter(text, d, e, o, st, v, z, j, 0, at, len, code, 0, 0, w, n)
+    enter(
+        text,
+        d,
+        e,
+        o,
+        st,
+        known,
+        v,
+        z,
+        j,
+        0,
+        at,
+        len,
+        code,
+        0,
+        0,
+        w,
+        n,
+    )
 }
 
 // The values of the attribute of row j, if it stands under the word at key.
@@ -160,6 +189,7 @@ fn resolve_row(
     e: &[usize],
     o: &[usize],
     st: &[usize],
+    known: &[usize],
     v: &mut [usize],
     z: Sizes,
     j: usize,
@@ -169,6 +199,7 @@ fn resolve_row(
     w: Owner,
     n: usize,
 ) -> usize
+    requires { ⌜ KnownDefaults (now text) (now d) (now known) ⌝ }
     ensures { λ r. ⌜ ResolvesRow (now (text .entry)) (now (d .entry)) (now (e .entry)) (now (o .entry)) (now (st .entry)) (now (v .entry)) z j key from end w n (now (v .exit)) r ⌝ }
 {
     if blocks::cell_at(d, 19, j, 0) != key {
@@ -177,9 +208,9 @@ fn resolve_row(
     let name = blocks::cell_at(d, 19, j, 2);
     let len = blocks::cell_at(d, 19, j, 3);
     if blocks::is_stated(text, st, from, end, name, len) {
-        return resolve_stated(text, d, e, o, st, v, z, j, from, end, w, n);
+        return resolve_stated(text, d, e, o, st, known, v, z, j, from, end, w, n);
     }
-    resolve_default(text, d, e, o, st, v, z, j, w, n)
+    resolve_default(text, d, e, o, st, known, v, z, j, w, n)
 }
 
 // The values of the scope of the word at key, in the order of its definitions, whose rows are below a limit; the place 0 has no scope.
@@ -189,6 +220,7 @@ pub fn resolve(
     e: &[usize],
     o: &[usize],
     st: &[usize],
+    known: &[usize],
     v: &mut [usize],
     z: Sizes,
     limit: usize,
@@ -198,6 +230,7 @@ pub fn resolve(
     w: Owner,
     n: usize,
 ) -> usize
+    requires { ⌜ KnownDefaults (now text) (now d) (now known) ⌝ }
     ensures { λ r. ⌜ Resolves (now (text .entry)) (now (d .entry)) (now (e .entry)) (now (o .entry)) (now (st .entry)) (now (v .entry)) z limit key from end w n (now (v .exit)) r ⌝ }
 {
     if key == 0 {
@@ -206,23 +239,25 @@ pub fn resolve(
     let mut m = n;
     let mut j = 0;
     while j < limit {
-        m = resolve_row(text, d, e, o, st, v, z, j, key, from, end, w, m);
+        m = resolve_row(text, d, e, o, st, known, v, z, j, key, from, end, w, m);
         j += 1;
     }
     m
 }
 
 // The values of all objects, object by object; gives how many there are, or 2049 where there are more than 2048.
-pub fn resolve_all(
+fn resolve_objects(
     text: &[u8],
     d: &[usize],
     e: &[usize],
     o: &[usize],
     st: &[usize],
+    known: &[usize],
     v: &mut [usize],
     z: Sizes,
     places: [usize; 13],
 ) -> usize
+    requires { ⌜ KnownDefaults (now text) (now d) (now known) ⌝ }
     ensures { λ r. ⌜ ResolvesAll (now (text .entry)) (now (d .entry)) (now (e .entry)) (now (o .entry)) (now (st .entry)) (now (v .entry)) z places (now (v .exit)) r ⌝ }
 {
     let mut n = 0;
@@ -241,6 +276,7 @@ pub fn resolve_all(
             e,
             o,
             st,
+            known,
             v,
             z,
             z.definitions,
@@ -253,4 +289,22 @@ pub fn resolve_all(
         i += 1;
     }
     n
+}
+
+// The same; the defaults that are numbers are read once before.
+pub fn resolve_all(
+    text: &[u8],
+    d: &[usize],
+    e: &[usize],
+    o: &[usize],
+    st: &[usize],
+    v: &mut [usize],
+    z: Sizes,
+    places: [usize; 13],
+) -> usize
+    ensures { λ r. ⌜ ResolvesAll (now (text .entry)) (now (d .entry)) (now (e .entry)) (now (o .entry)) (now (st .entry)) (now (v .entry)) z places (now (v .exit)) r ⌝ }
+{
+    let mut known = [0; 1536];
+    amounts::defaults::note_defaults(text, d, z.definitions, &mut known);
+    resolve_objects(text, d, e, o, st, &known, v, z, places)
 }

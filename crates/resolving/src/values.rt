@@ -4,32 +4,27 @@ ghost use Prim.Native.Nat.{_≤_};
 ghost use Rattle.meaning.specs.Resolving.{number};
 ghost use Rattle.meaning.specs.Actions.{num-of-step};
 ghost use Rattle.token.specs.Tokens.{stepAt};
+ghost use Rattle.amounts.specs.Known.{KnownDefaults};
 ghost use Rattle.resolving.specs.Written.{Holds};
 ghost use Rattle.resolving.specs.Promises.{NamedValue, ValueOf, PutValue};
 use super::Held;
 use super::Owner;
 use super::Sizes;
+use amounts::defaults;
 use rows::Found;
 use rows::cells;
 use scopes::lookups;
-use scopes::numbers;
 
-// The number at a place.
-fn number_value(text: &[u8], at: usize) -> Held
+// The number at a place, of the attribute of row j.
+fn number_value(text: &[u8], d: &[usize], known: &[usize], j: usize, at: usize) -> Held
+    requires { ⌜ KnownDefaults (now text) (now d) (now known) ⌝ }
     ensures { λ r. ⌜ Holds r (number (num-of-step (stepAt (now (text .entry)) at))) ⌝ }
 {
-    let n = numbers::number_at(text, at);
-    if n.negative {
-        return Held {
-            sort: 0,
-            negative: 1,
-            amount: n.amount as usize,
-        };
-    }
+    let n = defaults::number_at(text, d, known, j, at);
     Held {
         sort: 0,
-        negative: 0,
-        amount: n.amount as usize,
+        negative: n.negative,
+        amount: n.amount,
     }
 }
 
@@ -96,16 +91,18 @@ pub fn value_of(
     d: &[usize],
     e: &[usize],
     o: &[usize],
+    known: &[usize],
     z: Sizes,
     j: usize,
     at: usize,
     len: usize,
     code: usize,
 ) -> Held
+    requires { ⌜ KnownDefaults (now text) (now d) (now known) ⌝ }
     ensures { λ r. ⌜ ValueOf (now (text .entry)) (now (d .entry)) (now (e .entry)) (now (o .entry)) z j at len code r ⌝ }
 {
     if code == 42 {
-        return number_value(text, at);
+        return number_value(text, d, known, j, at);
     }
     if code == 43 {
         return Held {
@@ -151,6 +148,7 @@ pub fn put_value(
     d: &[usize],
     e: &[usize],
     o: &[usize],
+    known: &[usize],
     v: &mut [usize],
     z: Sizes,
     n: usize,
@@ -161,10 +159,10 @@ pub fn put_value(
     len: usize,
     code: usize,
 )
-    requires { ⌜ n ≤ 2048 ⌝ }
+    requires { ⌜ (n ≤ 2048) × KnownDefaults (now text) (now d) (now known) ⌝ }
     ensures { λ _. ⌜ PutValue (now (text .entry)) (now (d .entry)) (now (e .entry)) (now (o .entry)) (now (v .entry)) z n w j stated at len code (now (v .exit)) ⌝ }
 {
-    let x = value_of(text, d, e, o, z, j, at, len, code);
+    let x = value_of(text, d, e, o, known, z, j, at, len, code);
     let row = [
         j,
         w.sort,

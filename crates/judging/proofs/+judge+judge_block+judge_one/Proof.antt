@@ -94,7 +94,7 @@ judge-judge-one-requires : (t : ℕ) → judge-lts.Need-judge-one-requires (
   sooner-reads.Asked,
   sooner-reads.Learnt,
 ) (judge-at t) judge.Post judge-Inv-loop judge-μ-loop
-judge-judge-one-requires t c κs = omega (arith, (c .after .ensures), after-later (c .before .before .before .before .before .before .before .before .before .args .st .now) (c .before .before .loop .k) (c .before .before .before .before .before .before .before .before .before .args .end) (c .before .loop-test .taken), after-inside (c .before .before .before .before .before .before .before .before .before .args .st .now) (c .before .before .loop .k) (c .before .before .before .before .before .before .before .before .before .args .end), (c .before .before .loop .inv .0), (c .before .before .before .before .before .before .before .before .before .pre .0))
+judge-judge-one-requires t c κs = (omega (arith, (c .after .ensures), after-later (c .before .before .before .before .before .before .before .before .before .args .st .now) (c .before .before .loop .k) (c .before .before .before .before .before .before .before .before .before .args .end) (c .before .loop-test .taken), after-inside (c .before .before .before .before .before .before .before .before .before .args .st .now) (c .before .before .loop .k) (c .before .before .before .before .before .before .before .before .before .args .end), (c .before .before .loop .inv .0), (c .before .before .before .before .before .before .before .before .before .pre .0)), (omega (arith, (c .after .ensures), after-later (c .before .before .before .before .before .before .before .before .before .args .st .now) (c .before .before .loop .k) (c .before .before .before .before .before .before .before .before .before .args .end) (c .before .loop-test .taken), after-inside (c .before .before .before .before .before .before .before .before .before .args .st .now) (c .before .before .loop .k) (c .before .before .before .before .before .before .before .before .before .args .end), (c .before .before .loop .inv .0), (c .before .before .before .before .before .before .before .before .before .pre .0)), (c .before .before .before .before .before .before .before .before .before .pre .1)))
 
 judge-sooner-requires : (t : ℕ) → judge-lts.Need-sooner-requires (
   after-reads.Asked,
@@ -154,7 +154,7 @@ judge-block-judge-requires : (t : ℕ) → judge-block-lts.Need-judge-requires (
   sooner-reads.Asked,
   sooner-reads.Learnt,
 ) (judge-block-at t) judge-block.Post
-judge-block-judge-requires t c κs = omega (arith, (c .before .before .before .before .before .before .before .pre .0))
+judge-block-judge-requires t c κs = (omega (arith, (c .before .before .before .before .before .before .before .pre .0)), (c .before .before .before .before .before .before .before .pre .1))
 
 judge-block-sooner-requires : (t : ℕ) → judge-block-lts.Need-sooner-requires (
   lack-fault-reads.Asked,
@@ -286,7 +286,7 @@ judge-one-own-fault-requires : (t : ℕ) → judge-one-lts.Need-own-fault-requir
   judge-block-below t,
   judge-block.Post,
 ) (judge-one-at t) judge-one.Post
-judge-one-own-fault-requires t c κs = tt
+judge-one-own-fault-requires t c κs = (c .before .before .before .before .before .before .before .before .before .before .before .before .pre .1 .1)
 
 judge-one-is-fault-requires : (t : ℕ) → judge-one-lts.Need-is-fault-requires (
   cell-at-reads.Asked,
@@ -398,7 +398,7 @@ judge-one-judge-block-requires : (t : ℕ) → judge-one-lts.Need-judge-block-re
   judge-block-below t,
   judge-block.Post,
 ) (judge-one-at t) judge-one.Post
-judge-one-judge-block-requires t c κs = omega (arith, (c .before .before .before .before .before .before .before .before .before .before .before .before .before .before .before .before .before .before .pre .0), (c .before .before .before .before .before .before .before .before .before .before .before .before .before .before .before .before .before .before .pre .1))
+judge-one-judge-block-requires t c κs = (omega (arith, (c .before .before .before .before .before .before .before .before .before .before .before .before .before .before .before .before .before .before .pre .0), (c .before .before .before .before .before .before .before .before .before .before .before .before .before .before .before .before .before .before .pre .1)), (c .before .before .before .before .before .before .before .before .before .before .before .before .before .before .before .before .before .before .pre .1 .1))
 
 judge-one-returns-3 : (t : ℕ) → judge-one-lts.Need-returns-3 (
   cell-at-reads.Asked,

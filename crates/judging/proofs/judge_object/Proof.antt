@@ -29,7 +29,7 @@ judge-block-requires : tie.Need-judge-block-requires
 judge-block-requires c κs = search needs
 
 returns : tie.Need-returns
-returns c = object-by _ _ _ _ _ (c .before .before .before .before .before .before .before .before .before .before .before .before .before .args .missing .now) _ (c .before .before .before .before .before .before .before .before .before .before .before .before .before .args .places .now) (c .before .before .before .before .before .before .before .before .before .before .before .before .before .args .i) (c .before .before .before .before .before .cell-at .result) (c .before .before .before .before .get .result) (c .before .before .before .cell-at2 .result) (c .before .before .cell-at3 .result) (c .before .cell-at4 .result) (c .judge-block .result) (c .before .before .before .before .before .cell-at .ensures) (c .before .before .before .before .get .ensures) (c .before .before .before .cell-at2 .ensures) (c .before .before .cell-at3 .ensures) (c .before .cell-at4 .ensures) (c .judge-block .ensures)
+returns c = object-by _ _ _ _ _ (c .before .before .before .before .before .before .before .before .before .before .before .before .before .args .known .now) _ (c .before .before .before .before .before .before .before .before .before .before .before .before .before .args .places .now) (c .before .before .before .before .before .before .before .before .before .before .before .before .before .args .i) (c .before .before .before .before .before .cell-at .result) (c .before .before .before .before .get .result) (c .before .before .before .cell-at2 .result) (c .before .before .cell-at3 .result) (c .before .cell-at4 .result) (c .judge-block .result) (c .before .before .before .before .before .cell-at .ensures) (c .before .before .before .before .get .ensures) (c .before .before .before .cell-at2 .ensures) (c .before .before .cell-at3 .ensures) (c .before .cell-at4 .ensures) (c .judge-block .ensures)
 
 pub judge-object-spec : {M : Type 1} → statement M
 judge-object-spec =

@@ -10,7 +10,7 @@ use Rattle.judging.proofs.values.value_fault.Tie as tie
 use Rattle.judging.proofs.values.value_fault.Reads as reads
 use Rattle.judging.proofs.values.value_fault.Lts as lts
 use Rattle.blocks.proofs.cell_at.Reads as cell-at-reads
-use Rattle.scopes.proofs.lookups.takes.Reads as takes-reads
+use Rattle.amounts.proofs.asking.takes.Reads as takes-reads
 use Rattle.judging.proofs.values.reference_fault.Reads as reference-fault-reads
 use Rattle.rows.proofs.faults.fault_if.Reads as fault-if-reads
 use Rattle.rows.proofs.faults.sooner.Reads as sooner-reads

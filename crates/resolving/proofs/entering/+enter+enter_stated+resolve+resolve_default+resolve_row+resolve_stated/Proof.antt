@@ -2,7 +2,7 @@
 -- Assumes nothing.
 use lib.ListN.{length}
 use Prim.Native.Nat.{_+_, _-_, _*_, _≤_}
-use mathlib.Core.Path.{_≡_, refl, sym, ap, _∙_}
+use mathlib.Core.Path.{_≡_, refl, sym, _∙_}
 use borrow.Author.Tests.{not-true, not-false}
 use native.Mathlib.Omega.{arith}
 use Rattle.blocks.proofs.Ranges.{after-later}
@@ -42,86 +42,86 @@ use Rattle.resolving.proofs.entering.+enter+enter_stated+resolve+resolv
   close,
 }
 
-abbrev μ-enter : Measures 6 enter-kinds.ps ℕ
-μ-enter κs a = 6 * a .1 .1 .1 .1 .1 .1 .1 .0 + 1
+abbrev μ-enter : Measures 7 enter-kinds.ps ℕ
+μ-enter κs a = 6 * a .1 .1 .1 .1 .1 .1 .1 .1 .0 + 1
 
-abbrev μ-enter-stated : Measures 6 enter-stated-kinds.ps ℕ
-μ-enter-stated κs a = 6 * a .1 .1 .1 .1 .1 .1 .1 .0 + 2
+abbrev μ-enter-stated : Measures 7 enter-stated-kinds.ps ℕ
+μ-enter-stated κs a = 6 * a .1 .1 .1 .1 .1 .1 .1 .1 .0 + 2
 
-abbrev μ-resolve : Measures 6 resolve-kinds.ps ℕ
-μ-resolve κs a = 6 * a .1 .1 .1 .1 .1 .1 .1 .0
+abbrev μ-resolve : Measures 7 resolve-kinds.ps ℕ
+μ-resolve κs a = 6 * a .1 .1 .1 .1 .1 .1 .1 .1 .0
 
-abbrev μ-resolve-default : Measures 6 resolve-default-kinds.ps ℕ
-μ-resolve-default κs a = 6 * a .1 .1 .1 .1 .1 .1 .1 .0 + 2
+abbrev μ-resolve-default : Measures 7 resolve-default-kinds.ps ℕ
+μ-resolve-default κs a = 6 * a .1 .1 .1 .1 .1 .1 .1 .1 .0 + 2
 
-abbrev μ-resolve-row : Measures 6 resolve-row-kinds.ps ℕ
-μ-resolve-row κs a = 6 * a .1 .1 .1 .1 .1 .1 .1 .0 + 4
+abbrev μ-resolve-row : Measures 7 resolve-row-kinds.ps ℕ
+μ-resolve-row κs a = 6 * a .1 .1 .1 .1 .1 .1 .1 .1 .0 + 4
 
-abbrev μ-resolve-stated : Measures 6 resolve-stated-kinds.ps ℕ
-μ-resolve-stated κs a = 6 * a .1 .1 .1 .1 .1 .1 .1 .0 + 3
+abbrev μ-resolve-stated : Measures 7 resolve-stated-kinds.ps ℕ
+μ-resolve-stated κs a = 6 * a .1 .1 .1 .1 .1 .1 .1 .1 .0 + 3
 
-abbrev enter-at : ℕ → In 6 enter-kinds.ps
-enter-at t = and 6 enter-kinds.ps (is 6 enter-kinds.ps μ-enter t) enter.Pre
+abbrev enter-at : ℕ → In 7 enter-kinds.ps
+enter-at t = and 7 enter-kinds.ps (is 7 enter-kinds.ps μ-enter t) enter.Pre
 
-abbrev enter-below : ℕ → In 6 enter-kinds.ps
-enter-below t = and 6 enter-kinds.ps (falls 6 enter-kinds.ps _<_ μ-enter t) enter.Pre
+abbrev enter-below : ℕ → In 7 enter-kinds.ps
+enter-below t = and 7 enter-kinds.ps (falls 7 enter-kinds.ps _<_ μ-enter t) enter.Pre
 
-abbrev enter-stated-at : ℕ → In 6 enter-stated-kinds.ps
+abbrev enter-stated-at : ℕ → In 7 enter-stated-kinds.ps
 enter-stated-at t =
-    and 6 enter-stated-kinds.ps (is 6 enter-stated-kinds.ps μ-enter-stated t) enter-stated.Pre
+    and 7 enter-stated-kinds.ps (is 7 enter-stated-kinds.ps μ-enter-stated t) enter-stated.Pre
 
-abbrev enter-stated-below : ℕ → In 6 enter-stated-kinds.ps
+abbrev enter-stated-below : ℕ → In 7 enter-stated-kinds.ps
 enter-stated-below t =
     and
-    6
+    7
     enter-stated-kinds.ps
-    (falls 6 enter-stated-kinds.ps _<_ μ-enter-stated t)
+    (falls 7 enter-stated-kinds.ps _<_ μ-enter-stated t)
     enter-stated.Pre
 
-abbrev resolve-at : ℕ → In 6 resolve-kinds.ps
-resolve-at t = and 6 resolve-kinds.ps (is 6 resolve-kinds.ps μ-resolve t) resolve.Pre
+abbrev resolve-at : ℕ → In 7 resolve-kinds.ps
+resolve-at t = and 7 resolve-kinds.ps (is 7 resolve-kinds.ps μ-resolve t) resolve.Pre
 
-abbrev resolve-below : ℕ → In 6 resolve-kinds.ps
-resolve-below t = and 6 resolve-kinds.ps (falls 6 resolve-kinds.ps _<_ μ-resolve t) resolve.Pre
+abbrev resolve-below : ℕ → In 7 resolve-kinds.ps
+resolve-below t = and 7 resolve-kinds.ps (falls 7 resolve-kinds.ps _<_ μ-resolve t) resolve.Pre
 
-abbrev resolve-default-at : ℕ → In 6 resolve-default-kinds.ps
+abbrev resolve-default-at : ℕ → In 7 resolve-default-kinds.ps
 resolve-default-at t =
     and
-    6
+    7
     resolve-default-kinds.ps
-    (is 6 resolve-default-kinds.ps μ-resolve-default t)
+    (is 7 resolve-default-kinds.ps μ-resolve-default t)
     resolve-default.Pre
 
-abbrev resolve-default-below : ℕ → In 6 resolve-default-kinds.ps
+abbrev resolve-default-below : ℕ → In 7 resolve-default-kinds.ps
 resolve-default-below t =
     and
-    6
+    7
     resolve-default-kinds.ps
-    (falls 6 resolve-default-kinds.ps _<_ μ-resolve-default t)
+    (falls 7 resolve-default-kinds.ps _<_ μ-resolve-default t)
     resolve-default.Pre
 
-abbrev resolve-row-at : ℕ → In 6 resolve-row-kinds.ps
+abbrev resolve-row-at : ℕ → In 7 resolve-row-kinds.ps
 resolve-row-at t =
-    and 6 resolve-row-kinds.ps (is 6 resolve-row-kinds.ps μ-resolve-row t) resolve-row.Pre
+    and 7 resolve-row-kinds.ps (is 7 resolve-row-kinds.ps μ-resolve-row t) resolve-row.Pre
 
-abbrev resolve-row-below : ℕ → In 6 resolve-row-kinds.ps
+abbrev resolve-row-below : ℕ → In 7 resolve-row-kinds.ps
 resolve-row-below t =
-    and 6 resolve-row-kinds.ps (falls 6 resolve-row-kinds.ps _<_ μ-resolve-row t) resolve-row.Pre
+    and 7 resolve-row-kinds.ps (falls 7 resolve-row-kinds.ps _<_ μ-resolve-row t) resolve-row.Pre
 
-abbrev resolve-stated-at : ℕ → In 6 resolve-stated-kinds.ps
+abbrev resolve-stated-at : ℕ → In 7 resolve-stated-kinds.ps
 resolve-stated-at t =
     and
-    6
+    7
     resolve-stated-kinds.ps
-    (is 6 resolve-stated-kinds.ps μ-resolve-stated t)
+    (is 7 resolve-stated-kinds.ps μ-resolve-stated t)
     resolve-stated.Pre
 
-abbrev resolve-stated-below : ℕ → In 6 resolve-stated-kinds.ps
+abbrev resolve-stated-below : ℕ → In 7 resolve-stated-kinds.ps
 resolve-stated-below t =
     and
-    6
+    7
     resolve-stated-kinds.ps
-    (falls 6 resolve-stated-kinds.ps _<_ μ-resolve-stated t)
+    (falls 7 resolve-stated-kinds.ps _<_ μ-resolve-stated t)
     resolve-stated.Pre
 
 enter-returns : (t : ℕ) → enter-lts.Need-returns (
@@ -142,7 +142,7 @@ enter-put-value-requires : (t : ℕ) → enter-lts.Need-put-value-requires (
   resolve-below t,
   resolve.Post,
 ) (enter-at t) enter.Post
-enter-put-value-requires t c κs = omega arith
+enter-put-value-requires t c κs = (omega arith, (c .before .before .before .before .before .before .before .before .before .pre .1))
 
 enter-word-under-requires : (t : ℕ) → enter-lts.Need-word-under-requires (
   put-value-reads.Asked,
@@ -172,7 +172,7 @@ enter-resolve-requires : (t : ℕ) → enter-lts.Need-resolve-requires (
   resolve-below t,
   resolve.Post,
 ) (enter-at t) enter.Post
-enter-resolve-requires t c κs = omega arith
+enter-resolve-requires t c κs = (omega arith, (c .before .before .before .before .before .before .before .before .before .before .before .before .before .before .pre .1))
 
 enter-same-length : (t : ℕ) → enter-lts.Need-same-length (
   put-value-reads.Asked,
@@ -292,7 +292,7 @@ enter-stated-enter-requires : (t : ℕ) → enter-stated-lts.Need-enter-requires
   enter-below t,
   enter.Post,
 ) (enter-stated-at t) enter-stated.Post
-enter-stated-enter-requires t c κs = omega arith
+enter-stated-enter-requires t c κs = (omega arith, (c .before .before .before .before .before .before .before .before .before .before .before .before .before .before .before .before .before .pre .1))
 
 enter-stated-same-length : (t : ℕ) → enter-stated-lts.Need-same-length (
   cell-at-reads.Asked,
@@ -315,10 +315,10 @@ enter-stated-returns-2 : (t : ℕ) → enter-stated-lts.Need-returns-2 (
 enter-stated-returns-2 t c = stated-this (c .before .before .before .before .before .before .before .before .before .before .before .before .cell-at .ensures) (c .before .before .before .before .before .before .before .before .before .before .before .cell-at2 .ensures) (c .before .before .before .before .before .before .before .before .before .before .cell-at3 .ensures) (c .before .before .before .before .before .before .before .before .before .cell-at4 .ensures) (sym (c .before .before .before .before .before .before .before .before .same-part .ensures) ∙ not-false _ (c .before .before .before .before .before .before .before .if1 .left)) (c .before .before .before .before .before .before .cell-at5 .ensures) (c .before .before .before .before .before .cell-at6 .ensures) (c .before .before .before .before .cell-at7 .ensures) (c .before .before .enter .ensures)
 
 abbrev resolve-Inv-loop : resolve-lts.InvT-loop
-resolve-Inv-loop text d e o st v₀ z limit key from end w n m₀ j₀ v m j = (length v ≡ length v₀) × ((j ≤ limit) × Goes text d e o st v₀ z limit key from end w n v m j)
+resolve-Inv-loop text d e o st known v₀ z limit key from end w n m₀ j₀ v m j = (length v ≡ length v₀) × ((j ≤ limit) × Goes text d e o st v₀ z limit key from end w n v m j)
 
 abbrev resolve-μ-loop : resolve-lts.MeasureT-loop
-resolve-μ-loop text d e o st v₀ z limit key from end w n m₀ j₀ v m j = limit - j
+resolve-μ-loop text d e o st known v₀ z limit key from end w n m₀ j₀ v m j = limit - j
 
 resolve-returns :
     (t : ℕ) →
@@ -344,7 +344,7 @@ resolve-resolve-row-requires : (t : ℕ) → resolve-lts.Need-resolve-row-requir
   resolve-row-below t,
   resolve-row.Post,
 ) (resolve-at t) resolve.Post resolve-Inv-loop resolve-μ-loop
-resolve-resolve-row-requires t c κs = omega arith
+resolve-resolve-row-requires t c κs = (omega arith, (c .before .before .before .before .before .before .before .before .before .before .before .pre .1))
 
 resolve-add-j :
     (t : ℕ) →
@@ -438,7 +438,7 @@ resolve-default-enter-requires : (t : ℕ) → resolve-default-lts.Need-enter-re
   enter-below t,
   enter.Post,
 ) (resolve-default-at t) resolve-default.Post
-resolve-default-enter-requires t c κs = omega arith
+resolve-default-enter-requires t c κs = (omega arith, (c .before .before .before .before .before .before .before .before .before .before .before .before .before .pre .1))
 
 resolve-default-same-length : (t : ℕ) → resolve-default-lts.Need-same-length (
   cell-at-reads.Asked,
@@ -526,7 +526,7 @@ resolve-row-resolve-stated-requires : (t : ℕ) → resolve-row-lts.Need-resolve
   resolve-default-below t,
   resolve-default.Post,
 ) (resolve-row-at t) resolve-row.Post
-resolve-row-resolve-stated-requires t c κs = omega arith
+resolve-row-resolve-stated-requires t c κs = (omega arith, (c .before .before .before .before .before .before .before .before .before .before .before .before .before .before .pre .1))
 
 resolve-row-same-length : (t : ℕ) → resolve-row-lts.Need-same-length (
   cell-at-reads.Asked,
@@ -562,7 +562,7 @@ resolve-row-resolve-default-requires : (t : ℕ) → resolve-row-lts.Need-resolv
   resolve-default-below t,
   resolve-default.Post,
 ) (resolve-row-at t) resolve-row.Post
-resolve-row-resolve-default-requires t c κs = omega arith
+resolve-row-resolve-default-requires t c κs = (omega arith, (c .before .before .before .before .before .before .before .before .before .before .before .before .before .before .pre .1))
 
 resolve-row-same-length-2 : (t : ℕ) → resolve-row-lts.Need-same-length-2 (
   cell-at-reads.Asked,
@@ -589,10 +589,10 @@ resolve-row-returns-3 : (t : ℕ) → resolve-row-lts.Need-returns-3 (
 resolve-row-returns-3 t c = row-default (sym (c .before .before .before .before .before .before .before .before .before .cell-at .ensures) ∙ (c .before .before .before .before .before .before .before .before .if1 .left)) (c .before .before .before .before .before .before .before .cell-at2 .ensures) (c .before .before .before .before .before .before .cell-at3 .ensures) (c .before .before .before .before .before .is-stated .ensures) (c .before .before .before .before .if2 .left) (c .before .before .resolve-default .ensures)
 
 abbrev resolve-stated-Inv-loop : resolve-stated-lts.InvT-loop
-resolve-stated-Inv-loop text d e o st v₀ z j from end w n m₀ k₀ v m k = (length v ≡ length v₀) × States text d e o st v₀ z j from end w n v m k
+resolve-stated-Inv-loop text d e o st known v₀ z j from end w n m₀ k₀ v m k = (length v ≡ length v₀) × States text d e o st v₀ z j from end w n v m k
 
 abbrev resolve-stated-μ-loop : resolve-stated-lts.MeasureT-loop
-resolve-stated-μ-loop text d e o st v₀ z j from end w n m₀ k₀ v m k = end - k
+resolve-stated-μ-loop text d e o st known v₀ z j from end w n m₀ k₀ v m k = end - k
 
 resolve-stated-loop-holds : (t : ℕ) → resolve-stated-lts.Need-loop-holds (
   after-reads.Asked,
@@ -624,7 +624,7 @@ resolve-stated-enter-stated-requires : (t : ℕ) → resolve-stated-lts.Need-ent
   enter-stated-below t,
   enter-stated.Post,
 ) (resolve-stated-at t) resolve-stated.Post resolve-stated-Inv-loop resolve-stated-μ-loop
-resolve-stated-enter-stated-requires t c κs = omega arith
+resolve-stated-enter-stated-requires t c κs = (omega arith, (c .before .before .before .before .before .before .before .before .before .before .before .pre .1))
 
 resolve-stated-loop-less : (t : ℕ) → resolve-stated-lts.Need-loop-less (
   after-reads.Asked,
@@ -632,7 +632,7 @@ resolve-stated-loop-less : (t : ℕ) → resolve-stated-lts.Need-loop-less (
   enter-stated-below t,
   enter-stated.Post,
 ) (resolve-stated-at t) resolve-stated.Post resolve-stated-Inv-loop resolve-stated-μ-loop
-resolve-stated-loop-less t c = omega (arith, (c .before .before .before .before .after .ensures), after-later ((c .before .before .before .before .before .before .before .before .before .before .before .before .before .args) .st .now) ((c .before .before .before .before .before .before .loop .k)) ((c .before .before .before .before .before .before .before .before .before .before .before .before .before .args) .end) (omega arith))
+resolve-stated-loop-less t c = omega (arith, (c .before .before .before .before .after .ensures), after-later ((c .before .before .before .before .before .before .before .before .before .before .before .before .before .before .args) .st .now) ((c .before .before .before .before .before .before .loop .k)) ((c .before .before .before .before .before .before .before .before .before .before .before .before .before .before .args) .end) (omega arith))
 
 resolve-stated-loop-again : (t : ℕ) → resolve-stated-lts.Need-loop-again (
   after-reads.Asked,

@@ -1,0 +1,7 @@
+-- The laws of the tables of numbers. Assumes nothing.
+pub mod Keyings
+pub mod Listings
+pub mod Frames
+pub mod Rowwise
+pub mod Answers
+pub mod Remembering

@@ -1,0 +1,94 @@
+// Whether an attribute takes a number, by the table of ranges.
+ghost use Rattle.scopes.specs.Items.{num};
+ghost use Rattle.scopes.specs.Promises.{TakesNumber, Takes};
+ghost use Rattle.amounts.specs.Known.{Known};
+ghost use Rattle.amounts.specs.Promises.{InRangeOf};
+use super::keys;
+use rows::cells;
+use scopes::Num;
+use scopes::bounds;
+use scopes::lookups;
+use scopes::numbers;
+
+// Whether a number is in the range of the definition of row j.
+fn in_range(text: &[u8], d: &[usize], known: &[usize], j: usize, n: Num) -> bool
+    requires { ⌜ Known (now text) (now d) (now known) ⌝ }
+    ensures { λ r. ⌜ InRangeOf (now (text .entry)) (now (d .entry)) j (num n) r ⌝ }
+{
+    let range = lookups::cell_of(d, 19, j, 8);
+    if 512 <= j {
+        return bounds::in_range(text, range, n);
+    }
+    let row = 512 + j * 5;
+    let sort = cells::cell(known, row, 0);
+    if sort == 1 {
+        let low = Num {
+            negative: cells::cell(known, row, 1) != 0,
+            amount: cells::cell(known, row, 2) as u64,
+        };
+        if !numbers::at_most(low, n) {
+            return false;
+        }
+        let high = Num {
+            negative: cells::cell(known, row, 3) != 0,
+            amount: cells::cell(known, row, 4) as u64,
+        };
+        return numbers::at_most(n, high);
+    }
+    if sort != 2 {
+        return bounds::in_range(text, range, n);
+    }
+    let sign = keys::is_signed(lookups::cell_of(d, 19, j, 12));
+    if !keys::has_key(sign, n) {
+        return bounds::in_range(text, range, n);
+    }
+    let from = cells::cell(known, row, 1);
+    let end = cells::cell(known, row, 2);
+    if end < from {
+        return bounds::in_range(text, range, n);
+    }
+    if known.len() < end {
+        return bounds::in_range(text, range, n);
+    }
+    sorting::has(&known[from..end], keys::key(n))
+}
+
+// Whether the attribute of row j takes the number at a place.
+fn takes_number(text: &[u8], d: &[usize], known: &[usize], j: usize, at: usize) -> bool
+    requires { ⌜ Known (now text) (now d) (now known) ⌝ }
+    ensures { λ r. ⌜ TakesNumber (now (text .entry)) (now (d .entry)) j at r ⌝ }
+{
+    let code = lookups::cell_of(d, 19, j, 12);
+    if code < 35 {
+        return false;
+    }
+    if 38 < code {
+        return false;
+    }
+    let n = numbers::number_at(text, at);
+    if numbers::in_type(code, n) {
+        return in_range(text, d, known, j, n);
+    }
+    false
+}
+
+// Whether the attribute of row j takes the word at a place, with a code.
+pub fn takes(
+    text: &[u8],
+    d: &[usize],
+    e: &[usize],
+    known: &[usize],
+    enumerators: usize,
+    j: usize,
+    at: usize,
+    len: usize,
+    code: usize,
+) -> bool
+    requires { ⌜ Known (now text) (now d) (now known) ⌝ }
+    ensures { λ r. ⌜ Takes (now (text .entry)) (now (d .entry)) (now (e .entry)) enumerators j at len code r ⌝ }
+{
+    if code == 42 {
+        return takes_number(text, d, known, j, at);
+    }
+    lookups::takes(text, d, e, enumerators, j, at, len, code)
+}
