@@ -2,6 +2,7 @@
 //! means to compare the proved implementation with it.
 
 pub mod answered;
+pub mod comparing;
 pub mod configuration;
 pub mod corpus;
 pub mod grammar;
@@ -11,6 +12,7 @@ pub mod meaning;
 pub mod normal;
 pub mod proved;
 pub mod random;
+pub mod sorts;
 pub mod tables;
 pub mod tempting;
 pub mod texts;

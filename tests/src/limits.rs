@@ -1,6 +1,7 @@
 //! Texts at each limit of document 01, and one past it, with their refusal.
 
 use crate::meaning::Refusal;
+use crate::normal::normal;
 
 /// A text and its refusal; none where it is accepted.
 pub struct Limit {
@@ -229,6 +230,36 @@ fn braces(count: usize) -> Vec<Limit> {
         place: find(&blocks.text, "{ b = TRUE { b") + 13,
     }));
     vec![deep, blocks]
+}
+
+/// Accepted texts whose normal text has this length: the implementation, which is copied, has a
+/// comment in the place of `#`.
+pub fn written(length: usize) -> Vec<Limit> {
+    let string = "s".repeat(32_000);
+    let strings = format!("OS {{ STRING s = \"{string}\"; /*#*/ }};\n");
+    let defaults = each(8, 0, |number, _| format!("UINT32 d{number} = {number};\n"));
+    let defaults = format!("TASK {{\n{defaults}}}; // #\n");
+    let tasks = each(254, 0, |number, _| format!("TASK t{number};\n"));
+    let shapes = [
+        ("nothing but a comment", "/*#*/".to_string(), OBJECTS.into()),
+        ("a long string by default", strings, OBJECTS.into()),
+        (
+            "many values by default",
+            defaults,
+            format!("{OBJECTS}{tasks}"),
+        ),
+    ];
+    shapes
+        .into_iter()
+        .map(|(shape, specs, objects)| {
+            let made = |pad: usize| {
+                let name = format!("{length} bytes written, {shape}");
+                limit(name, &specs.replacen('#', &"x".repeat(pad), 1), &objects, 0)
+            };
+            let least = normal(&made(0).text).expect("an accepted text").len();
+            made(length - least)
+        })
+        .collect()
 }
 
 /// Two limits passed in one stage, or one of them and another fault.

@@ -1,11 +1,15 @@
 //! Document 01, "Normal text": an accepted text written out with every value stated.
 
 use crate::meaning::{read, Owner, Reading, Refusal, Resolved};
-use crate::tree;
+use crate::tree::{self, Part};
 
 /// The normal text of a text, whatever its length.
 pub fn normal(text: &[u8]) -> Result<Vec<u8>, Refusal> {
-    let reading = read(text)?;
+    Ok(write(text, &read(text)?))
+}
+
+/// The normal text of an accepted text, of what was read from it.
+pub fn write(text: &[u8], reading: &Reading) -> Vec<u8> {
     let file = tree::file(text);
     let mut written = b"OIL_VERSION = \"2.5\";\n".to_vec();
     written.extend(
@@ -17,7 +21,7 @@ pub fn normal(text: &[u8]) -> Result<Vec<u8>, Refusal> {
         .concat(),
     );
     written.extend(b" {\n");
-    let writer = Writer::new(text, &reading);
+    let writer = Writer::new(text, reading);
     for (row, object) in reading.objects.iter().enumerate() {
         written.extend(
             [
@@ -34,7 +38,7 @@ pub fn normal(text: &[u8]) -> Result<Vec<u8>, Refusal> {
         written.extend(b"};\n");
     }
     written.extend(b"};\n");
-    Ok(written)
+    written
 }
 
 /// The normal text, refused by 20 where it is longer than the lent output.
@@ -56,6 +60,37 @@ pub fn program(text: &[u8]) -> Vec<u8> {
         Ok(written) => written,
         Err(Refusal { number, place }) => format!("refused\t{number}\t{place}\n").into_bytes(),
     }
+}
+
+/// All that a reading says but places, lengths and the stated mark, with words in their place:
+/// "Read back, all is the same."
+pub fn without_places(text: &[u8], reading: &Reading) -> String {
+    let word = |part: Part| part.of(text).escape_ascii().to_string();
+    let mut all = format!("{:?}\n", reading.counts);
+    for row in &reading.definitions {
+        let words = [row.under, row.name, row.type_word, row.range, row.default].map(word);
+        all += &format!(
+            "{words:?} {:?} {} {}\n",
+            row.sort, row.is_list, row.with_auto
+        );
+    }
+    for row in &reading.enumerators {
+        all += &format!("{} {}\n", row.attribute, word(row.name));
+    }
+    for row in &reading.objects {
+        all += &format!("{} {} {}\n", row.kind, word(row.kind_word), word(row.name));
+    }
+    for row in &reading.values {
+        let string = match row.value {
+            Resolved::String => word(row.word),
+            _ => String::new(),
+        };
+        all += &format!(
+            "{} {:?} {:?} {string}\n",
+            row.definition, row.owner, row.value
+        );
+    }
+    all
 }
 
 /// The rows of the values that each object and each value owns.

@@ -9,6 +9,7 @@ pub fn is_linked(layer: &str) -> bool {
         "token" => cfg!(proved_token),
         "grammar" => cfg!(proved_grammar),
         "reading" => cfg!(proved_reading),
+        "writing" => cfg!(proved_writing),
         _ => panic!("no layer {layer}"),
     };
     let mut asked = env!("KAUKSLINI_LAYERS_ASKED").split(',');
@@ -173,6 +174,58 @@ pub mod reading {
                 objects.len(),
                 values.as_mut_ptr(),
                 values.len(),
+                told.as_mut_ptr(),
+                told.len(),
+            )
+        }
+    }
+}
+
+#[cfg(proved_writing)]
+pub mod writing {
+    extern "C" {
+        fn kaukslini_write(
+            text: *const u8,
+            text_length: usize,
+            definitions: *mut usize,
+            definitions_length: usize,
+            enumerators: *mut usize,
+            enumerators_length: usize,
+            objects: *mut usize,
+            objects_length: usize,
+            values: *mut usize,
+            values_length: usize,
+            output: *mut u8,
+            output_length: usize,
+            told: *mut usize,
+            told_length: usize,
+        ) -> u8;
+    }
+
+    /// Writes the normal text of a text into a lent output, over lent tables of definitions,
+    /// enumerators, objects and values. The number of the refusal, 0 where the text is
+    /// accepted; told in `told` are the place and the length of the normal text.
+    pub fn write(
+        text: &[u8],
+        tables: [&mut [usize]; 4],
+        output: &mut [u8],
+        told: &mut [usize],
+    ) -> u8 {
+        let [definitions, enumerators, objects, values] = tables;
+        unsafe {
+            kaukslini_write(
+                text.as_ptr(),
+                text.len(),
+                definitions.as_mut_ptr(),
+                definitions.len(),
+                enumerators.as_mut_ptr(),
+                enumerators.len(),
+                objects.as_mut_ptr(),
+                objects.len(),
+                values.as_mut_ptr(),
+                values.len(),
+                output.as_mut_ptr(),
+                output.len(),
                 told.as_mut_ptr(),
                 told.len(),
             )

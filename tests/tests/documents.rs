@@ -1,12 +1,14 @@
-//! The examples of docs/REFUSALS.md against the reference and, where it is linked, the proved
-//! call `read`.
+//! The examples of docs/REFUSALS.md against the reference and, where they are linked, the proved
+//! calls `read` and `write`. What docs/STATEMENTS.md and docs/READING.md name is there.
 
+use std::collections::{HashMap, HashSet};
 use std::fs;
-use std::path::Path;
-use tests::meaning::Refusal;
+use std::path::{Path, PathBuf};
+use tests::comparing::{answer_within, Lent};
+use tests::meaning::{self, Refusal};
 use tests::normal::normal_within;
 use tests::proved;
-use tests::tables::ROOMS;
+use tests::tables::{self, ROOMS};
 
 /// An example of the document: a text, what is lent, and the answer that stands below it.
 struct Example {
@@ -25,9 +27,13 @@ enum At {
     End,
 }
 
-fn document() -> String {
-    let path = Path::new(env!("CARGO_MANIFEST_DIR")).join("../docs/REFUSALS.md");
-    fs::read_to_string(&path).unwrap_or_else(|fault| panic!("{}: {fault}", path.display()))
+/// The path of a file of the repository.
+fn path(file: &str) -> PathBuf {
+    Path::new(env!("CARGO_MANIFEST_DIR")).join("..").join(file)
+}
+
+fn document(file: &str) -> String {
+    fs::read_to_string(path(file)).unwrap_or_else(|fault| panic!("{file}: {fault}"))
 }
 
 /// The examples, each from its line "```oil" through the line with its answer.
@@ -133,25 +139,27 @@ fn reference(example: &Example) -> Option<Refusal> {
     normal_within(&example.text, example.output).err()
 }
 
-#[cfg(proved_reading)]
-fn read(example: &Example) -> Option<Refusal> {
-    let mut tables = example.lent.map(|cells| vec![1; cells]);
-    let mut told = [0; tests::tables::TOLD];
-    let lent = tables.each_mut().map(Vec::as_mut_slice);
-    let number = proved::reading::read(&example.text, lent, &mut told);
-    let place = told[0];
-    (number != 0).then_some(Refusal { number, place })
-}
-
-#[cfg(not(proved_reading))]
-fn read(_: &Example) -> Option<Refusal> {
-    unreachable!("only asked where it is linked")
+/// What the proved calls do otherwise than the reference, of what they answer and of the memory
+/// that they are lent. Refusal 20 is of `write`: `read` asks for no output.
+fn calls_agree(lent: &mut Lent, example: &Example) -> Result<(), String> {
+    let (text, lengths) = (&example.text, example.lent);
+    let read = answer_within(lengths, &meaning::read(text));
+    lent.read(text, lengths, &read)?;
+    match (reference(example), normal_within(text, example.output)) {
+        (None, Ok(written)) => lent.write(text, lengths, example.output, &read, &written),
+        (Some(Refusal { number, place }), _) => {
+            let refused = tables::refused(number, place);
+            lent.write(text, lengths, example.output, &refused, b"")
+        }
+        (None, Err(refusal)) => Err(format!("{refusal:?}")),
+    }
 }
 
 #[test]
 fn refusals() {
-    let examples = examples(&document());
-    let is_linked = proved::is_linked("reading");
+    let examples = examples(&document("docs/REFUSALS.md"));
+    let is_linked = proved::is_linked("writing");
+    let mut lent = Lent::default();
     for example in &examples {
         let (line, answer) = (example.line, example.answer);
         assert_eq!(reference(example), answer, "line {line}");
@@ -163,9 +171,7 @@ fn refusals() {
             }
         }
         if is_linked {
-            // Refusal 20 is of the writer: `read` asks for no output.
-            let asked = answer.filter(|refusal| refusal.number != 20);
-            assert_eq!(read(example), asked, "line {line}: read");
+            assert_eq!(calls_agree(&mut lent, example), Ok(()), "line {line}");
         }
     }
     for number in 1..=20 {
@@ -176,4 +182,133 @@ fn refusals() {
         );
     }
     println!("docs/REFUSALS.md: {} examples", examples.len());
+}
+
+/// The names before a colon: definitions, types, constructors, fields.
+fn declared_by_definitions(source: &str) -> HashSet<String> {
+    const MARKS: [&str; 5] = ["pub", "abbrev", "unfoldable", "data", "record"];
+    let mut names = HashSet::new();
+    for line in source.lines() {
+        let code = line.split("--").next().unwrap_or_default();
+        let Some((front, _)) = code.split_once(" : ") else {
+            continue;
+        };
+        let words = front
+            .split_whitespace()
+            .filter(|word| !MARKS.contains(word));
+        // Of a type with parameters only its own name.
+        let count = match front.contains(['(', ')', '{', '}', '=', 'λ', '→']) {
+            true => 1,
+            false => usize::MAX,
+        };
+        names.extend(words.take(count).map(str::to_string));
+    }
+    names
+}
+
+/// The names of functions, types and constants; a method's also as `Type::method`.
+fn declared_by_code(source: &str) -> HashSet<String> {
+    let word = |text: &str| -> String {
+        let is_in_word = |letter: &char| letter.is_alphanumeric() || *letter == '_';
+        text.chars().take_while(is_in_word).collect()
+    };
+    let mut names = HashSet::new();
+    let mut owner = None;
+    for line in source.lines() {
+        if let Some(behind) = line.strip_prefix("impl ") {
+            owner = Some(word(behind));
+        } else if line.starts_with('}') {
+            owner = None;
+        }
+        let mut code = line.trim_start();
+        for mark in ["pub ", "extern \"C\" "] {
+            code = code.strip_prefix(mark).unwrap_or(code);
+        }
+        let marks = ["fn ", "struct ", "enum ", "const "];
+        let Some(behind) = marks.iter().find_map(|mark| code.strip_prefix(mark)) else {
+            continue;
+        };
+        let name = word(behind);
+        names.extend(owner.as_ref().map(|owner| format!("{owner}::{name}")));
+        names.insert(name);
+    }
+    names
+}
+
+/// What the documents name, and what of it is missing.
+#[derive(Default)]
+struct Named {
+    names: usize,
+    files: usize,
+    edits: usize,
+    blocks: usize,
+    missing: Vec<String>,
+    declared: HashMap<String, HashSet<String>>,
+}
+
+impl Named {
+    /// A document's blocks whose fence names a file, and what stands in backquotes elsewhere.
+    fn document(&mut self, name: &str) {
+        let document = document(name);
+        let mut lines = document.lines();
+        while let Some(line) = lines.next() {
+            if let Some(marks) = line.strip_prefix("```") {
+                let block: Vec<&str> = lines.by_ref().take_while(|line| *line != "```").collect();
+                if let Some((_, file)) = marks.split_once(' ') {
+                    self.block(file, &block.join("\n"));
+                }
+                continue;
+            }
+            for quoted in line.split('`').skip(1).step_by(2) {
+                if quoted.starts_with("crates/") && !quoted.contains('*') {
+                    self.quoted(quoted);
+                }
+            }
+        }
+    }
+
+    /// The block stands in the file as printed.
+    fn block(&mut self, file: &str, block: &str) {
+        self.blocks += 1;
+        let source = fs::read_to_string(path(file)).unwrap_or_default();
+        if !source.contains(block) {
+            self.missing.push(format!("{file}: the block\n{block}"));
+        }
+    }
+
+    /// `file` is there; of `file: name, name` each name is declared in the file.
+    fn quoted(&mut self, quoted: &str) {
+        let (file, names) = quoted.split_once(": ").unwrap_or((quoted, ""));
+        self.files += 1;
+        self.edits += usize::from(file.ends_with(".edit"));
+        if !path(file).exists() {
+            self.missing.push(file.to_string());
+        }
+        let declared = self.declared.entry(file.to_string()).or_insert_with(|| {
+            let source = fs::read_to_string(path(file)).unwrap_or_default();
+            match file.ends_with(".rt") {
+                true => declared_by_code(&source),
+                false => declared_by_definitions(&source),
+            }
+        });
+        for name in names.split(", ").filter(|name| !name.is_empty()) {
+            self.names += 1;
+            if !declared.contains(name) {
+                self.missing.push(format!("{file}: {name}"));
+            }
+        }
+    }
+}
+
+#[test]
+fn statements() {
+    let mut named = Named::default();
+    named.document("docs/STATEMENTS.md");
+    named.document("docs/READING.md");
+    assert!(named.missing.is_empty(), "{}", named.missing.join("\n"));
+    assert!(named.names > 0 && named.edits > 0 && named.blocks > 0);
+    println!(
+        "docs: {} names, {} files, of them {} edits, {} blocks",
+        named.names, named.files, named.edits, named.blocks
+    );
 }

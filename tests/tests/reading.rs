@@ -4,8 +4,9 @@
 use std::collections::BTreeMap;
 use tests::answered::{self, Answered};
 use tests::meaning::{read, Owner, Reading, Refusal, Resolved, LONGEST_TEXT};
-use tests::normal::{normal, normal_within, program};
+use tests::normal::{normal, normal_within, program, without_places};
 use tests::random::Random;
+use tests::sorts::PLANTED;
 use tests::texts;
 use tests::tree::Part;
 use tests::{corpus, limits};
@@ -44,36 +45,6 @@ fn reads_back(name: &str, text: &[u8]) {
     );
     assert!(second.values.iter().all(|value| value.stated), "{name}");
     assert!(normal(&written).as_ref() == Ok(&written), "{name}");
-}
-
-/// All that a reading says, with words in the place of places and lengths.
-fn without_places(text: &[u8], reading: &Reading) -> String {
-    let word = |part: Part| part.of(text).escape_ascii().to_string();
-    let mut all = format!("{:?}\n", reading.counts);
-    for row in &reading.definitions {
-        let words = [row.under, row.name, row.type_word, row.range, row.default].map(word);
-        all += &format!(
-            "{words:?} {:?} {} {}\n",
-            row.sort, row.is_list, row.with_auto
-        );
-    }
-    for row in &reading.enumerators {
-        all += &format!("{} {}\n", row.attribute, word(row.name));
-    }
-    for row in &reading.objects {
-        all += &format!("{} {} {}\n", row.kind, word(row.kind_word), word(row.name));
-    }
-    for row in &reading.values {
-        let string = match row.value {
-            Resolved::String => word(row.word),
-            _ => String::new(),
-        };
-        all += &format!(
-            "{} {:?} {:?} {string}\n",
-            row.definition, row.owner, row.value
-        );
-    }
-    all
 }
 
 /// What must hold of the rows of any accepted text.
@@ -268,9 +239,6 @@ fn accepted_texts() {
     }
     println!("accepted texts: {SEEDS}, with {values} resolved values");
 }
-
-/// The numbers of which a fault can be planted anywhere.
-const PLANTED: [u8; 11] = [6, 8, 9, 10, 12, 13, 14, 15, 16, 17, 18];
 
 #[test]
 fn one_fault() {

@@ -1,0 +1,312 @@
+//! The sorts of texts on which the proved calls `read` and `write` are compared with the
+//! reference.
+
+use crate::configuration::configuration;
+use crate::meaning::Refusal;
+use crate::random::Random;
+use crate::texts;
+use crate::token::{step, Step, Token};
+use crate::tree::file;
+use crate::{answered, corpus, grammar, heavy, limits, tempting, token};
+
+/// A text, and what is known of the answer that `read` gives.
+pub struct Case {
+    pub name: String,
+    pub text: Vec<u8>,
+    pub known: Known,
+}
+
+pub enum Known {
+    Nothing,
+    Accepted,
+    Refused(Refusal),
+}
+
+impl From<Option<Refusal>> for Known {
+    fn from(refusal: Option<Refusal>) -> Known {
+        refusal.map_or(Known::Accepted, Known::Refused)
+    }
+}
+
+/// What is given each text of a sort.
+type Each<'a> = &'a mut dyn FnMut(Case);
+
+/// A sort of texts, of which at least so many are different.
+pub struct Sort {
+    pub name: &'static str,
+    pub least: usize,
+    pub texts: fn(Each),
+}
+
+const fn sort(name: &'static str, least: usize, texts: fn(Each)) -> Sort {
+    Sort { name, least, texts }
+}
+
+pub const CORPUS: Sort = sort("corpus", 300, corpus_texts);
+pub const TEMPTING: Sort = sort("tempting but wrong", 12, tempting_texts);
+pub const ACCEPTED: Sort = sort("accepted texts", 14_000, accepted);
+pub const ONE_FAULT: Sort = sort("one fault", 10_000, one_fault);
+pub const ONE_STAGE: Sort = sort("two faults of one stage", 2_000, |each| {
+    two_faults(true, each);
+});
+pub const TWO_STAGES: Sort = sort("two faults of two stages", 4_000, |each| {
+    two_faults(false, each);
+});
+pub const LIMITS: Sort = sort("limits", 60, limit_texts);
+pub const DAMAGED_LIMITS: Sort = sort("limits, damaged", 200, damaged_limits);
+pub const EXCHANGED: Sort = sort("tokens exchanged", 15_000, tokens_exchanged);
+pub const ONE_OFF: Sort = sort("one token off", 4_000, one_token_off);
+pub const DAMAGED: Sort = sort("damaged texts", 13_000, damaged);
+pub const TRUNCATIONS: Sort = sort("truncations", 10_000, truncations);
+pub const BYTES: Sort = sort("bytes and token soup", 15_000, bytes_and_tokens);
+pub const DERIVED: Sort = sort("derived texts", 7_000, derived);
+pub const HEAVY: Sort = sort("heavy texts", 20, heavy_texts);
+
+/// How many times as many generated texts are compared as usual: `KAUKSLINI_TEXTS`.
+fn times() -> u64 {
+    match std::env::var("KAUKSLINI_TEXTS") {
+        Ok(times) => times.parse().expect("KAUKSLINI_TEXTS is a number"),
+        Err(_) => 1,
+    }
+}
+
+/// A text of which nothing is known.
+fn unknown(name: &str, text: Vec<u8>) -> Case {
+    Case {
+        name: name.into(),
+        text,
+        known: Known::Nothing,
+    }
+}
+
+fn corpus_texts(each: Each) {
+    for sample in corpus::samples() {
+        // Refusal 20 is of the writer: the text is accepted.
+        let refusal = sample.refusal().filter(|(number, _)| *number != 20);
+        let refusal = refusal.map(|(number, place)| Refusal { number, place });
+        each(Case {
+            name: sample.name,
+            text: sample.text,
+            known: refusal.into(),
+        });
+    }
+}
+
+fn tempting_texts(each: Each) {
+    for tempting in tempting::tempting() {
+        each(Case {
+            name: tempting.name.into(),
+            text: tempting.text,
+            known: tempting.refusal.into(),
+        });
+    }
+}
+
+fn accepted(each: Each) {
+    for seed in 0..15_000 * times() {
+        each(Case {
+            name: format!("seed {seed}"),
+            text: answered::accepted(seed).text,
+            known: Known::Accepted,
+        });
+    }
+    for bytes in (0..=65_535).step_by(1_111) {
+        each(Case {
+            name: format!("{bytes} bytes"),
+            text: configuration(bytes).into_bytes(),
+            known: Known::Accepted,
+        });
+    }
+}
+
+/// The numbers of which a fault can be planted anywhere.
+pub const PLANTED: [u8; 11] = [6, 8, 9, 10, 12, 13, 14, 15, 16, 17, 18];
+
+fn with_faults(seed: u64, numbers: &[u8], each: Each) {
+    if let Some(made) = answered::with_faults(seed, numbers) {
+        each(Case {
+            name: format!("faults {numbers:?}, seed {seed}"),
+            text: made.text,
+            known: made.answer.err().into(),
+        });
+    }
+}
+
+fn one_fault(each: Each) {
+    for number in PLANTED {
+        for seed in 0..1_500 * times() {
+            with_faults(seed, &[number], each);
+        }
+    }
+}
+
+/// The stage of a number of which a fault can be planted.
+fn stage_of(number: u8) -> u8 {
+    match number {
+        6..=10 => 1,
+        11 | 12 | 17 => 2,
+        _ => 3,
+    }
+}
+
+fn two_faults(of_one_stage: bool, each: Each) {
+    for first in PLANTED {
+        for second in PLANTED {
+            if (stage_of(first) == stage_of(second)) != of_one_stage {
+                continue;
+            }
+            for seed in 0..180 * times() {
+                with_faults(seed, &[first, second], each);
+            }
+        }
+    }
+}
+
+fn limit_texts(each: Each) {
+    for limit in limits::limits() {
+        each(Case {
+            name: limit.name,
+            text: limit.text,
+            known: limit.refusal.into(),
+        });
+    }
+}
+
+fn damaged_limits(each: Each) {
+    for limit in limits::limits() {
+        let random = &mut Random::new(limit.text.len() as u64);
+        for _ in 0..4 * times() {
+            each(unknown(&limit.name, texts::damaged(random, &limit.text)));
+        }
+    }
+}
+
+/// The tokens of a text.
+fn tokens_of(text: &[u8]) -> Vec<Token> {
+    let mut tokens = Vec::new();
+    let mut place = 0;
+    while let Step::Token(token, next) = step(text, place) {
+        tokens.push(token);
+        place = next;
+    }
+    tokens
+}
+
+/// The bytes of a token.
+fn word(text: &[u8], token: &Token) -> Vec<u8> {
+    text[token.place..token.place + token.length].to_vec()
+}
+
+/// The tokens of a text, a few of them put in the place of others of their sort: words for
+/// words, numbers for numbers, so that the grammar mostly admits them.
+fn exchanged(random: &mut Random, text: &[u8]) -> Vec<u8> {
+    let tokens = tokens_of(text);
+    let sort = |token: &Token| match token.sort {
+        token::Sort::Word(_) => 0,
+        token::Sort::Number { .. } => 1,
+        token::Sort::Quoted => 2,
+        token::Sort::Punctuator(byte) => byte,
+    };
+    let mut words: Vec<Vec<u8>> = tokens.iter().map(|token| word(text, token)).collect();
+    for _ in 0..random.from_to(1, 4) {
+        let place = random.below(tokens.len());
+        let is_alike = |other: &&Token| sort(other) == sort(&tokens[place]);
+        let alike: Vec<&Token> = tokens.iter().filter(is_alike).collect();
+        words[place] = word(text, random.pick(&alike));
+    }
+    texts::spaced(random, &words)
+}
+
+fn tokens_exchanged(each: Each) {
+    for seed in 0..5_000 * times() {
+        let random = &mut Random::new(seed);
+        let text = answered::accepted(seed).text;
+        for _ in 0..4 {
+            each(unknown(&format!("seed {seed}"), exchanged(random, &text)));
+        }
+    }
+}
+
+fn one_token_off(each: Each) {
+    for seed in 0..5_000 * times() {
+        let random = &mut Random::new(seed);
+        let text = answered::accepted(seed).text;
+        let tokens = tokens_of(&text);
+        let tokens: Vec<Vec<u8>> = tokens.iter().map(|token| word(&text, token)).collect();
+        let off = texts::one_token_off(random, &tokens);
+        each(unknown(
+            &format!("seed {seed}"),
+            texts::spaced(random, &off),
+        ));
+    }
+}
+
+fn damaged(each: Each) {
+    let samples = corpus::samples();
+    for seed in 0..15_000 * times() {
+        let random = &mut Random::new(seed);
+        let text = match random.below(3) {
+            0 => samples[random.below(samples.len())].text.clone(),
+            _ => answered::accepted(seed % 2_000).text,
+        };
+        each(unknown(
+            &format!("seed {seed}"),
+            texts::damaged(random, &text),
+        ));
+    }
+}
+
+fn truncations(each: Each) {
+    for seed in 0..30 {
+        let text = answered::accepted(seed).text;
+        for end in 0..=text.len() {
+            let name = format!("seed {seed}, cut at {end}");
+            each(unknown(&name, text[..end].to_vec()));
+        }
+    }
+}
+
+fn bytes_and_tokens(each: Each) {
+    for seed in 0..12_000 * times() {
+        let name = format!("seed {seed}");
+        each(unknown(&name, texts::any(seed)));
+        let random = &mut Random::new(seed);
+        let tokens: Vec<_> = (0..random.below(30))
+            .map(|_| texts::any_token(random))
+            .collect();
+        each(unknown(&name, texts::spaced(random, &tokens)));
+    }
+    for seed in 0..200 * times() {
+        each(unknown(&format!("long, seed {seed}"), texts::long(seed)));
+    }
+}
+
+fn derived(each: Each) {
+    for seed in 0..8_000 * times() {
+        let random = &mut Random::new(seed);
+        let shape = texts::Shape {
+            tokens: random.from_to(20, 150),
+            deepest: random.from_to(2, 16),
+            steep: [None, Some("implementation"), Some("application")][random.below(3)],
+        };
+        let mut tokens = texts::derived(random, shape);
+        // Mostly the right version, so that the later stages have something to say.
+        if !random.once_in(10) {
+            tokens[2] = b"\"2.5\"".to_vec();
+        }
+        let mut text = texts::spaced(random, &tokens);
+        if grammar::stage(&text) == grammar::Stage::Passes && random.once_in(2) {
+            let name = file(&text).cpu_name;
+            if let Step::Token(_, next) = step(&text, name.place + name.length) {
+                text.splice(next..next, *b" OS o; APPMODE a; ");
+            }
+        }
+        each(unknown(&format!("seed {seed}"), text));
+    }
+}
+
+fn heavy_texts(each: Each) {
+    for heavy in heavy::heavy() {
+        each(unknown(heavy.name, heavy.text));
+    }
+}
