@@ -2,3 +2,4 @@ pub mod Firsts
 pub mod Turns
 pub mod Rows
 pub mod Applications
+pub mod Throughs

@@ -1,15 +1,16 @@
 // The faults 11, 12 and 17 of the application.
 ghost use mathlib.Core.Path.{_≡_};
+ghost use Prim.Native.Nat.{_≤_};
+ghost use lib.ListN.{length};
 ghost use Rattle.meaning.specs.Applying.{one-if};
 ghost use Rattle.rows.specs.Order.{none, soonest};
 ghost use Rattle.checks.specs.Cells.{fault-found, lacking-from, count-rows, full-of, too-many, name-again, object-codes};
-ghost use Rattle.checks.specs.Promises.{ObjectFaults};
+ghost use Rattle.checks.specs.Promises.{Through, Fits, ObjectFaults};
 use super::parts;
 use kinds::Kind;
 use kinds::Most;
 use rows::Fault;
 use rows::faults;
-use rows::finding;
 use scopes::lookups;
 
 // 17 at the CPU's name, where a kind has fewer objects than its least count.
@@ -77,20 +78,20 @@ fn too_many(o: &[usize], j: usize) -> Fault
     faults::fault_if(is_full(kind.most(), n), 17, place)
 }
 
-// 12 at the name of object j, where an earlier object of its kind has it.
-fn name_again(text: &[u8], o: &[usize], j: usize) -> Fault
-    ensures { λ r. ⌜ r ≡ name-again (now (text .entry)) (now (o .entry)) j ⌝ }
+// 12 at the name of object j, where an earlier object of its kind has it; x is the index of the objects.
+fn name_again(text: &[u8], o: &[usize], j: usize, x: &[usize]) -> Fault
+    ensures { λ r. ⌜ Through (now (text .entry)) (now (o .entry)) (now (x .entry)) j r (name-again (now (text .entry)) (now (o .entry)) j) ⌝ }
 {
     let kind = lookups::cell_of(o, 9, j, 0);
     let at = lookups::cell_of(o, 9, j, 3);
     let len = lookups::cell_of(o, 9, j, 4);
-    let found = finding::find_named(text, o, 9, j, 0, kind, 3, at, len, 0);
+    let found = indexes::find_before(text, o, 9, j, 0, kind, 3, at, len, x);
     parts::fault_found(found, 12, at)
 }
 
-// 17 and 12 of the first n objects.
-fn each_object(text: &[u8], o: &[usize], n: usize) -> Fault
-    ensures { λ r. ⌜ r ≡ soonest none (object-codes (now (text .entry)) (now (o .entry)) n 0) ⌝ }
+// 17 and 12 of the first n objects; x is the index of the objects.
+fn each_object(text: &[u8], o: &[usize], n: usize, x: &[usize]) -> Fault
+    ensures { λ r. ⌜ Through (now (text .entry)) (now (o .entry)) (now (x .entry)) n r (soonest none (object-codes (now (text .entry)) (now (o .entry)) n 0)) ⌝ }
 {
     let mut best = Fault {
         number: 0,
@@ -99,11 +100,30 @@ fn each_object(text: &[u8], o: &[usize], n: usize) -> Fault
     let mut j = 0;
     while j < n {
         let a = too_many(o, j);
-        let b = name_again(text, o, j);
+        let b = name_again(text, o, j, x);
         best = faults::sooner(best, faults::sooner(a, b));
         j += 1;
     }
     best
+}
+
+// 17 and 12 of the first n objects; x is room for their index, and b for half of it.
+fn indexed_objects(text: &[u8], o: &[usize], n: usize, x: &mut [usize], b: &mut [usize]) -> Fault
+    requires { ⌜ Fits n (length (now x)) (length (now b)) ⌝ }
+    ensures { λ r. ⌜ r ≡ soonest none (object-codes (now (text .entry)) (now (o .entry)) n 0) ⌝ }
+{
+    indexes::index(text, o, 9, 3, x, b);
+    each_object(text, o, n, x)
+}
+
+// 17 and 12 of the first n objects.
+fn first_objects(text: &[u8], o: &[usize], n: usize) -> Fault
+    requires { ⌜ n ≤ 257 ⌝ }
+    ensures { λ r. ⌜ r ≡ soonest none (object-codes (now (text .entry)) (now (o .entry)) n 0) ⌝ }
+{
+    let mut x = [0; 257];
+    let mut b = [0; 128];
+    indexed_objects(text, o, n, &mut x[..n], &mut b)
 }
 
 // The fault by which the stage of 11, 12 and 17 answers.
@@ -119,7 +139,7 @@ pub fn object_faults(
     ensures { λ r. ⌜ ObjectFaults (now (text .entry)) (now (o .entry)) (now (st .entry)) objects statements counts cpu r ⌝ }
 {
     let a = too_few(counts, cpu);
-    let b = each_object(text, o, parts::least_of(objects, 257));
+    let b = first_objects(text, o, parts::least_of(objects, 257));
     let c = parts::room_fault(o, 9, 256, 1, objects, 11);
     let d = parts::room_fault(st, 7, 2048, 0, statements, 11);
     faults::sooner(a, faults::sooner(b, faults::sooner(c, d)))

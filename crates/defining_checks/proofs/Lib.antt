@@ -9,3 +9,4 @@ pub mod Stages
 pub mod Naming
 pub mod Defaulting
 pub mod Turns
+pub mod Throughs

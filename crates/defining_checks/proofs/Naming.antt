@@ -2,10 +2,10 @@
 use mathlib.Core.Path.{_≡_, refl, sym, _∙_, ap, ap₂, subst}
 use mathlib.Core.List.{List, [], _∷_, _++_, append-assoc}
 use mathlib.Core.Bool.{Bool, true, false, not, false≢true}
-use Prim.Native.Nat.{ℕ, zero, suc, _+_, _*_, _≤_, _<_}
+use Prim.Native.Nat.{ℕ, _+_, _*_, _≤_, _<_}
 use native.Mathlib.Omega.{arith}
 use lib.ListN.{length, getD, length-append}
-use lib.Dec.{eqb, leb}
+use lib.Dec.{eqb}
 use borrow.Author.Tests.{eq-eqb, ne-eqb}
 use Rattle.token.specs.Find.{pick, both, either}
 use Rattle.token.specs.Words.{same}
@@ -14,20 +14,20 @@ use Rattle.rows.specs.declared.Fault.{Fault}
 use Rattle.rows.specs.declared.Found.{Found}
 use Rattle.rows.specs.declared.Found.the-variants.{At, Nothing}
 use Rattle.rows.specs.Table.{first, anyOf}
-use Rattle.rows.specs.Search.{findNamed, findFrom, isFound}
+use Rattle.rows.specs.Search.{findNamed, findFrom, isNamed, hasKey, isFound}
 use Rattle.rows.specs.Order.{faultIf}
-use Rattle.rows.proofs.Searches.{find-stop, find-more, find-end, first-any, first-is, first-nothing}
-use Rattle.meaning.specs.Syntax.{Word, Definition, File}
+use Rattle.rows.proofs.Searches.{found-first, first-found, nothing-none, none-nothing, first-any, first-is, first-nothing}
+use Rattle.meaning.specs.Syntax.{Definition, File}
 use Rattle.meaning.specs.Words.{alike}
 use Rattle.meaning.specs.Defining.{defined-in, differs}
 use Rattle.layout.specs.Kept.{Entry, spec-entries, kept-definitions, definition-cells}
-use Rattle.scopes.specs.Situations.{Situation, Nth, ReadAt}
+use Rattle.scopes.specs.Situations.{Situation, Nth}
 use Rattle.scopes.proofs.Goodness.{Good}
 use Rattle.scopes.proofs.Rooms.{definition-cell}
 use Rattle.scopes.proofs.Finding.{is-row, find-in-definitions, seek-all}
 use Rattle.scopes.proofs.Descents.{In, here, there, nth-in, entry-facts}
 use Rattle.defining_checks.specs.Listing.{keep-if, under-of, others-of, others-for}
-use Rattle.defining_checks.specs.Promises.{AgainFault, is-other, first-other, TypeFault}
+use Rattle.defining_checks.specs.Promises.{AgainFault, first-again, TypeFault}
 
 -- A fault by what is found.
 pub found-some : (z : Found) (i n p : ℕ) → z ≡ At i → record { number = n; place = p } ≡ faultIf (isFound z) n p
@@ -76,49 +76,49 @@ again-is s d j u at len z r e₀ e₂ e₃ k h f x st hd q l =
     ∙ again-any s x (entry-facts st (nth-in q) .facts .name) (q .front) (names-before st q) in
     h ∙ ap₂ (λ (b : Bool) (n : ℕ). faultIf b 8 n) v c₂
 
+-- The search, from the cells of row j.
+pub again-found : (s d : List ℕ) (j u at len : ℕ) (z : Found) → u ≡ getD d (j * 19 + 0) 0 → at ≡ getD d (j * 19 + 2) 0 → len ≡ getD d (j * 19 + 3) 0
+    → z ≡ findNamed s d 19 j 0 u 2 at len 0 → z ≡ first-again s d j
+unfolding first-again
+again-found s d j u at len z e₀ e₂ e₃ k =
+    k ∙ ap (λ y. findNamed s d 19 j 0 y 2 at len 0) e₀ ∙ ap₂ (λ a b. findNamed s d 19 j 0 (getD d (j * 19 + 0) 0) 2 a b 0) e₂ e₃
+
 -- 9 ------------------------------------------------------------------------------------------------------------------------------------------
 
--- The three cases of the test.
-pub other-list : (s d : List ℕ) (outer under at len i a : ℕ) → a ≡ getD d (i * 19 + 13) 0 → (a ≡ outer → ⊥) → false ≡ is-other s d outer under at len i
-unfolding is-other
-other-list s d outer under at len i a e n =
-    sym (ap (λ b. both (both b (not (eqb (getD d (i * 19 + 0) 0) under))) (same (partOf s (getD d (i * 19 + 2) 0) (getD d (i * 19 + 3) 0)) (partOf s at len)))
-    (ne-eqb (getD d (i * 19 + 13) 0) outer (λ h. n (e ∙ h))))
+-- Row i is under a value of the list with the key outer, other than the one at under, and has the name at a place.
+unfoldable is-other : (s d : List ℕ) → (outer under at len i : ℕ) → Bool
+is-other s d outer under at len i =
+    both (both (eqb (getD d (i * 19 + 13) 0) outer) (not (eqb (getD d (i * 19 + 0) 0) under)))
+    (same (partOf s (getD d (i * 19 + 2) 0) (getD d (i * 19 + 3) 0)) (partOf s at len))
 
-both-no : (b : Bool) → both b false ≡ false
-both-no true = refl
-both-no false = refl
+-- The first such row from i on, below n.
+unfoldable first-other : (s d : List ℕ) → (outer under at len n i : ℕ) → Found
+first-other s d outer under at len n i = findFrom (λ k. is-other s d outer under at len k) n i
 
-pub other-value : (s d : List ℕ) (outer under at len i a : ℕ) → a ≡ getD d (i * 19 + 0) 0 → a ≡ under → false ≡ is-other s d outer under at len i
-unfolding is-other
-other-value s d outer under at len i a e h =
-    let t = same (partOf s (getD d (i * 19 + 2) 0) (getD d (i * 19 + 3) 0)) (partOf s at len) in
-    sym (ap (λ b. both (both (eqb (getD d (i * 19 + 13) 0) outer) (not b)) t) (eq-eqb (getD d (i * 19 + 0) 0) under (sym e ∙ h))
-    ∙ ap (λ b. both b t) (both-no (eqb (getD d (i * 19 + 13) 0) outer)))
+-- Tests that agree below n find the same.
+find-agree : (t u : ℕ → Bool) (n : ℕ) → ((k : ℕ) → k < n → t k ≡ u k) → findFrom t n 0 ≡ findFrom u n 0
+find-agree t u n h = by (findFrom t n 0) refl
+  where
+    by : (r : Found) → findFrom t n 0 ≡ r → findFrom t n 0 ≡ findFrom u n 0
+    by (At j) e =
+        let i = found-first t n 0 j e in
+        let g = i .high in
+        e ∙ sym (first-found u n 0 j (record { low = i .low; high = g; holds = sym (h j g) ∙ i .holds; fails = λ k a b. sym (h k (omega (arith, g))) ∙ i .fails k a b }))
+    by Nothing e = e ∙ sym (none-nothing u n 0 (λ k a b. sym (h k b) ∙ nothing-none t n 0 e k a b))
 
-pub other-name : (s d : List ℕ) (outer under at len i a b p n : ℕ) (r : Bool) → a ≡ getD d (i * 19 + 13) 0 → a ≡ outer → b ≡ getD d (i * 19 + 0) 0 → (b ≡ under → ⊥)
-    → p ≡ getD d (i * 19 + 2) 0 → n ≡ getD d (i * 19 + 3) 0 → r ≡ same (partOf s p n) (partOf s at len) → r ≡ is-other s d outer under at len i
-unfolding is-other
-other-name s d outer under at len i a b p n r e h f k u v w =
-    w ∙ ap₂ (λ (x y : ℕ). same (partOf s x y) (partOf s at len)) u v
-    ∙ sym (ap₂ (λ (x y : Bool). both (both x (not y)) (same (partOf s (getD d (i * 19 + 2) 0) (getD d (i * 19 + 3) 0)) (partOf s at len)))
-    (eq-eqb (getD d (i * 19 + 13) 0) outer (sym e ∙ h)) (ne-eqb (getD d (i * 19 + 0) 0) under (λ z. k (f ∙ z))))
+new-other : (a b c : Bool) → both b c ≡ false → both a c ≡ both (both a (not b)) c
+new-other true true c e = e
+new-other false true c e = refl
+new-other true false c e = refl
+new-other false false c e = refl
 
--- The search.
-pub other-here : (s d : List ℕ) (outer under at len n i : ℕ) (r : Bool) → i < n → r ≡ is-other s d outer under at len i → r ≡ true
-    → first-other s d outer under at len n i ≡ first-other s d outer under at len n 0 → At i ≡ first-other s d outer under at len n 0
-unfolding first-other
-other-here s d outer under at len n i r h e t k = sym (find-stop (λ j. is-other s d outer under at len j) n i h (sym e ∙ t)) ∙ k
-
-pub other-more : (s d : List ℕ) (outer under at len n i : ℕ) (r : Bool) → i < n → r ≡ is-other s d outer under at len i → r ≡ false
-    → first-other s d outer under at len n i ≡ first-other s d outer under at len n 0 → first-other s d outer under at len n (i + 1) ≡ first-other s d outer under at len n 0
-unfolding first-other
-other-more s d outer under at len n i r h e t k = sym (find-more (λ j. is-other s d outer under at len j) n i h (sym e ∙ t)) ∙ k
-
-pub other-end : (s d : List ℕ) (outer under at len n i : ℕ) → n ≤ i
-    → first-other s d outer under at len n i ≡ first-other s d outer under at len n 0 → Nothing ≡ first-other s d outer under at len n 0
-unfolding first-other
-other-end s d outer under at len n i h k = sym (find-end (λ j. is-other s d outer under at len j) n i h) ∙ k
+-- Where no row before row j under the same word has its name, the first row of the list that has it is under another value.
+other-is : (s d : List ℕ) (j o u at len : ℕ) → findNamed s d 19 j 0 u 2 at len 0 ≡ Nothing → findNamed s d 19 j 13 o 2 at len 0 ≡ first-other s d o u at len j 0
+unfolding findNamed isNamed hasKey first-other is-other
+other-is s d j o u at len e =
+    find-agree (λ i. isNamed s d (i * 19) 13 o 2 3 at len) (λ i. is-other s d o u at len i) j (λ k h.
+    new-other (eqb (getD d (k * 19 + 13) 0) o) (eqb (getD d (k * 19 + 0) 0) u) (same (partOf s (getD d (k * 19 + 2) 0) (getD d (k * 19 + 3) 0)) (partOf s at len))
+    (nothing-none (λ i. isNamed s d (i * 19) 0 u 2 3 at len) j 0 e k (omega arith) h))
 
 -- The test of a row itself.
 unfoldable is-other-row : List ℕ → (o p at len : ℕ) → Entry → Bool
@@ -212,17 +212,21 @@ module _ (s d : List ℕ) (j o : ℕ) (e₁₃ : o ≡ getD d (j * 19 + 13) 0) w
       let c : o ≡ x .outer = e₁₃ ∙ definition-cell f d j 13 x hd q l (omega arith) in
       none-if _ (x .definition .name .place) (ap (differs (x .definition)) (others-zero (x .outer) (x .under .place) (q .front) (sym c ∙ n)) ∙ differs-nothing (x .definition))
 
-  module _ (n : o ≡ 0 → ⊥) (u at len : ℕ) (e₀ : u ≡ getD d (j * 19 + 0) 0) (e₂ : at ≡ getD d (j * 19 + 2) 0) (e₃ : len ≡ getD d (j * 19 + 3) 0)
-      (z : Found) (k : z ≡ first-other s d o u at len j 0) where
+  module _ (n : o ≡ 0 → ⊥) (at len : ℕ) (e₂ : at ≡ getD d (j * 19 + 2) 0) (e₃ : len ≡ getD d (j * 19 + 3) 0)
+      (z : Found) (k : z ≡ findNamed s d 19 j 13 o 2 at len 0) (new : first-again s d j ≡ Nothing) where
+    other-first : z ≡ first-other s d o (getD d (j * 19 + 0) 0) at len j 0
+    unfolding first-again
+    other-first = k ∙ other-is s d j o (getD d (j * 19 + 0) 0) at len (ap₂ (λ a b. findNamed s d 19 j 0 (getD d (j * 19 + 0) 0) 2 a b 0) e₂ e₃ ∙ new)
+
     search-is : (f : File) (x : Entry) → d ≡ kept-definitions f → (q : Nth (spec-entries (f .specs)) j x) → j < 513
         → z ≡ first (is-other-row s (x .outer) (x .under .place) (x .definition .name .place) (x .definition .name .length)) At Nothing 0 (q .front)
     unfolding definition-cells
     search-is f x hd q l =
         let c : o ≡ x .outer = e₁₃ ∙ definition-cell f d j 13 x hd q l (omega arith) in
-        let c₀ : u ≡ x .under .place = e₀ ∙ definition-cell f d j 0 x hd q l (omega arith) in
+        let c₀ : getD d (j * 19 + 0) 0 ≡ x .under .place = definition-cell f d j 0 x hd q l (omega arith) in
         let c₂ : at ≡ x .definition .name .place = e₂ ∙ definition-cell f d j 2 x hd q l (omega arith) in
         let c₃ : len ≡ x .definition .name .length = e₃ ∙ definition-cell f d j 3 x hd q l (omega arith) in
-        k ∙ ap₂ (λ (a b : ℕ). first-other s d a b at len j 0) c c₀ ∙ ap₂ (λ (a b : ℕ). first-other s d (x .outer) (x .under .place) a b j 0) c₂ c₃
+        other-first ∙ ap₂ (λ (a b : ℕ). first-other s d a b at len j 0) c c₀ ∙ ap₂ (λ (a b : ℕ). first-other s d (x .outer) (x .under .place) a b j 0) c₂ c₃
         ∙ find-others f s d (q .front) (x ∷ q .rest) j (x .outer) (x .under .place) (x .definition .name .place) (x .definition .name .length) hd (q .whole) (sym (q .place)) (omega arith)
 
     outer-some : (f : File) (x : Entry) → d ≡ kept-definitions f → Nth (spec-entries (f .specs)) j x → j < 513 → x .outer ≡ 0 → ⊥

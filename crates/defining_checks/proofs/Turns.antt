@@ -2,7 +2,7 @@
 use mathlib.Core.Path.{_≡_, refl, sym, _∙_, ap, ap₂, subst}
 use mathlib.Core.List.{List, [], _∷_, _++_, append-assoc}
 use mathlib.Core.Bool.{Bool, true, false, not}
-use Prim.Native.Nat.{ℕ, zero, suc, _+_, _*_, _≤_, _<_, min}
+use Prim.Native.Nat.{ℕ, _+_, _*_, _≤_, _<_, min}
 use native.Mathlib.Omega.{arith}
 use native.Mathlib.Decide.{ℕ-discrete}
 use lib.ListN.{length, getD}
@@ -13,50 +13,92 @@ use Rattle.token.specs.Words.{same, bytesOf}
 use Rattle.token.specs.Tokens.{partOf}
 use Rattle.rows.specs.declared.Fault.{Fault}
 use Rattle.rows.specs.declared.Found.{Found}
+use Rattle.rows.specs.declared.Found.the-variants.{At, Nothing}
 use Rattle.rows.specs.Table.{anyOf}
 use Rattle.rows.specs.Search.{findNamed, isFound}
-use Rattle.rows.specs.Order.{faultIf, sooner}
+use Rattle.rows.specs.Order.{none, before, faultIf, sooner}
 use Rattle.rows.proofs.Searches.{first-any}
-use Rattle.meaning.specs.Syntax.{Word, Definition, Definitions, no-more, define, Values, no-value, value, Spec, File, is-enum}
+use Rattle.meaning.specs.Syntax.{Word, Definitions, no-more, define, Values, no-value, value, Spec, File, is-enum}
 use Rattle.meaning.specs.Words.{alike, among}
 use Rattle.meaning.specs.Faults.{fault-if, first}
 use Rattle.meaning.specs.Defining.{range-faults, defined-in, differs, name-faults, word-faults}
 use Rattle.meaning.proofs.Sites.{bound-words, option-words, definition-words, value-words, spec-words}
-use Rattle.layout.specs.Kept.{Entry, Choice, list-key, choice-if, choices, choices-of, spec-entries, spec-choices, kept-definitions, kept-enumerators, choice-cells, definition-cells}
-use Rattle.scopes.specs.Situations.{Situation, Nth, RowOf}
+use Rattle.layout.specs.Kept.{Entry, Choice, list-key, choice-if, choices, choices-of, spec-entries, spec-choices, kept-definitions, choice-cells, definition-cells}
+use Rattle.scopes.specs.Situations.{Situation, Nth}
 use Rattle.scopes.specs.Promises.{fault-of, RangeFault}
 use Rattle.scopes.proofs.Goodness.{Good, Goods, good-front, good-back, spec-good}
 use Rattle.scopes.proofs.Rooms.{definition-cell, choice-cell}
 use Rattle.scopes.proofs.Finding.{is-choice, find-in-enumerators}
 use Rattle.scopes.proofs.Descents.{whole}
 use Rattle.defining_checks.specs.Listing.{each, others-for, under-of, row-name-faults, judged-faults, kept-row-faults, word-if, list-of, choice-faults}
-use Rattle.defining_checks.specs.Promises.{Room, AgainFault, TypeFault, NameFault, DefaultFault, RowFault, RowsFault, EnumeratorFault, EnumeratorsFault, version-code, DefinitionFaults}
-use Rattle.defining_checks.proofs.Firsts.{Real, real-append, real-if, fault-append, fault-one, each-snoc, real-each}
+use Rattle.defining_checks.specs.Promises.{Room, AgainFault, first-again, NewTypeFault, NameFault, DefaultFault, RowFault, RowsFault, EnumeratorFault, EnumeratorsFault, version-code, DefinitionFaults}
+use Rattle.defining_checks.proofs.Firsts.{real-append, real-if, fault-append, fault-one, each-snoc, real-each}
 use Rattle.defining_checks.proofs.Reaching.{split, last-of}
 use Rattle.defining_checks.proofs.Covers.{row-is}
+use Rattle.defining_checks.proofs.Naming.{found-some, found-none, again-is}
 use Rattle.defining_checks.proofs.Stages.{real-range, real-judged, real-row-name, real-row, real-choice, stage-is}
 
 -- A row of a definition --------------------------------------------------------------------------------------------------------------------------
 
-pub name-is : (s d : List ℕ) (j at : ℕ) (a b c t r : Fault) → at ≡ getD d (j * 19 + 2) 0 → a ≡ faultIf (eqb j 512) 7 at → AgainFault s d j b → TypeFault s d j c
-    → t ≡ sooner b c → r ≡ sooner a t → NameFault s d j r
-unfolding definition-cells row-name-faults name-faults
-name-is s d j at a b c t r e ha hb hc ht hr f x st hd q l =
-    let y = x .definition in
-    let u = under-of (x .under .place) (q .front) in
-    let o = others-for (x .outer) (x .under .place) (q .front) in
-    let n : at ≡ y .name .place = e ∙ definition-cell f d j 2 x hd q l (omega arith) in
-    let k : j ≡ y .row = sym (row-is (q .front) x (q .rest) (whole st .rows) (q .whole) ∙ q .place) in
-    let W₇ = fault-if (eqb (y .row) 512) (y .name) 7 in
-    let W₈ = fault-if (defined-in (y .name) u) (y .name) 8 in
-    let W₉ = fault-if (differs y o) (y .name) 9 in
-    let g₇ : a ≡ fault-of (first W₇) = ha ∙ ap₂ (λ (i p : ℕ). faultIf (eqb i 512) 7 p) k n ∙ sym (fault-one (eqb (y .row) 512) (y .name) 7) in
-    let g₈ : b ≡ fault-of (first W₈) = hb f x st hd q l ∙ sym (fault-one (defined-in (y .name) u) (y .name) 8) in
-    let g₉ : c ≡ fault-of (first W₉) = hc f x st hd q l ∙ sym (fault-one (differs y o) (y .name) 9) in
-    let r₈ = real-if (defined-in (y .name) u) (y .name) 8 (omega arith) in
-    let r₉ = real-if (differs y o) (y .name) 9 (omega arith) in
-    hr ∙ ap₂ sooner g₇ (ht ∙ ap₂ sooner g₈ g₉ ∙ sym (fault-append W₈ W₉ r₈ r₉))
-    ∙ sym (fault-append W₇ (W₈ ++ W₉) (real-if (eqb (y .row) 512) (y .name) 7 (omega arith)) (real-append W₈ W₉ r₈ r₉))
+eight-first : (p : ℕ) (b : Bool) → sooner (record { number = 8; place = p }) (faultIf b 9 p) ≡ record { number = 8; place = p }
+unfolding sooner before faultIf
+eight-first p true = ap (λ t. pick (pick t false (ltb p p)) (record { number = 9; place = p }) (record { number = 8; place = p })) (eq-eqb p p refl)
+eight-first p false = refl
+
+none-last : (b : Bool) (p : ℕ) → sooner none (faultIf b 9 p) ≡ faultIf b 9 p
+unfolding sooner before faultIf
+none-last true p = refl
+none-last false p = refl
+
+cell-name : (f : File) (d : List ℕ) (j : ℕ) (x : Entry) → d ≡ kept-definitions f → Nth (spec-entries (f .specs)) j x → j < 513 → getD d (j * 19 + 2) 0 ≡ x .definition .name .place
+unfolding definition-cells
+cell-name f d j x hd q l = definition-cell f d j 2 x hd q l (omega arith)
+
+module _ (s d : List ℕ) (j at : ℕ) (a : Fault) (e : at ≡ getD d (j * 19 + 2) 0) (ha : a ≡ faultIf (eqb j 512) 7 at) where
+  name-is : (b c r : Fault) (f : File) (x : Entry) → Situation s f → d ≡ kept-definitions f → (q : Nth (spec-entries (f .specs)) j x) → j < 513
+      → b ≡ faultIf (defined-in (x .definition .name) (under-of (x .under .place) (q .front))) 8 (x .definition .name .place)
+      → c ≡ faultIf (differs (x .definition) (others-for (x .outer) (x .under .place) (q .front))) 9 (x .definition .name .place)
+      → r ≡ sooner a (sooner b c) → r ≡ fault-of (first (row-name-faults (q .front) x))
+  unfolding definition-cells row-name-faults name-faults
+  name-is b c r f x st hd q l hb hc hr =
+      let y = x .definition in
+      let u = under-of (x .under .place) (q .front) in
+      let o = others-for (x .outer) (x .under .place) (q .front) in
+      let n : at ≡ y .name .place = e ∙ definition-cell f d j 2 x hd q l (omega arith) in
+      let k : j ≡ y .row = sym (row-is (q .front) x (q .rest) (whole st .rows) (q .whole) ∙ q .place) in
+      let W₇ = fault-if (eqb (y .row) 512) (y .name) 7 in
+      let W₈ = fault-if (defined-in (y .name) u) (y .name) 8 in
+      let W₉ = fault-if (differs y o) (y .name) 9 in
+      let g₇ : a ≡ fault-of (first W₇) = ha ∙ ap₂ (λ (i p : ℕ). faultIf (eqb i 512) 7 p) k n ∙ sym (fault-one (eqb (y .row) 512) (y .name) 7) in
+      let g₈ : b ≡ fault-of (first W₈) = hb ∙ sym (fault-one (defined-in (y .name) u) (y .name) 8) in
+      let g₉ : c ≡ fault-of (first W₉) = hc ∙ sym (fault-one (differs y o) (y .name) 9) in
+      let r₈ = real-if (defined-in (y .name) u) (y .name) 8 (omega arith) in
+      let r₉ = real-if (differs y o) (y .name) 9 (omega arith) in
+      hr ∙ ap₂ sooner g₇ (ap₂ sooner g₈ g₉ ∙ sym (fault-append W₈ W₉ r₈ r₉))
+      ∙ sym (fault-append W₇ (W₈ ++ W₉) (real-if (eqb (y .row) 512) (y .name) 7 (omega arith)) (real-append W₈ W₉ r₈ r₉))
+
+  again-at : (z : Found) → z ≡ first-again s d j → AgainFault s d j (faultIf (isFound z) 8 at)
+  unfolding first-again
+  again-at z k =
+      again-is s d j (getD d (j * 19 + 0) 0) at (getD d (j * 19 + 3) 0) z (faultIf (isFound z) 8 at) refl e refl
+      (k ∙ ap (λ p. findNamed s d 19 j 0 (getD d (j * 19 + 0) 0) 2 p (getD d (j * 19 + 3) 0) 0) (sym e)) refl
+
+  -- Where an earlier row has the name, 9 does not come before 8.
+  pub name-again : (z : Found) (i : ℕ) (r : Fault) → z ≡ At i → r ≡ sooner a (record { number = 8; place = at }) → z ≡ first-again s d j → NameFault s d j r
+  name-again z i r h hr k f x st hd q l =
+      let y = x .definition in
+      let D = differs y (others-for (x .outer) (x .under .place) (q .front)) in
+      let n : at ≡ y .name .place = e ∙ cell-name f d j x hd q l in
+      name-is (record { number = 8; place = at }) (faultIf D 9 at) r f x st hd q l
+      (found-some z i 8 at h ∙ again-at z k f x st hd q l) (ap (faultIf D 9) n) (hr ∙ ap (sooner a) (sym (eight-first at D)))
+
+  pub name-new : (z : Found) (c r : Fault) → z ≡ Nothing → r ≡ sooner a c → z ≡ first-again s d j → NewTypeFault s d j c → NameFault s d j r
+  name-new z c r h hr k hc f x st hd q l =
+      let y = x .definition in
+      let t = hc (sym k ∙ h) f x st hd q l in
+      name-is none c r f x st hd q l
+      (found-none z 8 at h ∙ again-at z k f x st hd q l) t
+      (hr ∙ ap (sooner a) (t ∙ sym (none-last (differs y (others-for (x .outer) (x .under .place) (q .front))) (y .name .place)) ∙ ap (sooner none) (sym t)))
 
 pub row-all : (s d e : List ℕ) (m : ℕ) (full : Bool) (limit j : ℕ) (a b c t r : Fault) → RangeFault s d j a → NameFault s d j b → DefaultFault s d e m full limit j c
     → t ≡ sooner b c → r ≡ sooner a t → RowFault s d e m full limit j r

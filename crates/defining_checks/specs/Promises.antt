@@ -4,14 +4,15 @@ use mathlib.Core.List.{List, [], _++_}
 use mathlib.Core.Bool.{Bool, not}
 use Prim.Native.Nat.{ℕ, _+_, _*_, _<_, _≤_, min}
 use lib.ListN.{length, getD}
-use lib.Dec.{eqb, ltb, leb}
-use Rattle.token.specs.Find.{both}
+use lib.Dec.{ltb}
 use Rattle.token.specs.Words.{same, bytesOf}
 use Rattle.token.specs.Tokens.{partOf}
 use Rattle.rows.specs.declared.Fault.{Fault}
 use Rattle.rows.specs.declared.Found.{Found}
-use Rattle.rows.specs.Search.{findFrom}
+use Rattle.rows.specs.declared.Found.the-variants.{Nothing}
+use Rattle.rows.specs.Search.{findNamed}
 use Rattle.rows.specs.Order.{faultIf}
+use Rattle.indexes.specs.Indexing.{Indexed}
 use Rattle.meaning.specs.Syntax.{File}
 use Rattle.meaning.specs.Faults.{first}
 use Rattle.meaning.specs.Defining.{defined-in, differs, definition-faults}
@@ -19,6 +20,16 @@ use Rattle.layout.specs.Kept.{Entry, Choice, spec-entries, spec-choices, kept-d
 use Rattle.scopes.specs.Situations.{Situation, Nth}
 use Rattle.scopes.specs.Promises.{fault-of}
 use Rattle.defining_checks.specs.Listing.{each, under-of, others-for, row-name-faults, judged-faults, kept-row-faults, choice-faults}
+
+-- A, if x is the index of at least the first j rows by their names, which stand in column m.
+pub record Through (s t : List ℕ) (w m : ℕ) (x : List ℕ) (j : ℕ) (A : Type 0) : Type 0 where
+  pub holds : (n : ℕ) → Indexed s t w n m x → n ≤ 65536 → j ≤ n → A
+
+-- An index of n rows takes the room of a cells, and is sorted with b cells beside them.
+pub record Fits (n a b : ℕ) : Type 0 where
+  pub index : n ≡ a
+  pub beside : n ≤ 2 * b + 1
+  pub few : n ≤ 65536
 
 -- How many enumerators are kept, whether one is too many, and where that one stands.
 pub record Room (f : File) (m : ℕ) (full : Bool) (limit : ℕ) : Type 0 where
@@ -34,21 +45,19 @@ AgainFault s d j r =
     (f : File) (x : Entry) → Situation s f → d ≡ kept-definitions f → (q : Nth (spec-entries (f .specs)) j x) → j < 513
     → r ≡ faultIf (defined-in (x .definition .name) (under-of (x .under .place) (q .front))) 8 (x .definition .name .place)
 
--- Row i is under a value of the list with the key outer, other than the one at under, and has the name at a place.
-unfoldable pub is-other : (s d : List ℕ) → (outer under at len i : ℕ) → Bool
-is-other s d outer under at len i =
-    both (both (eqb (getD d (i * 19 + 13) 0) outer) (not (eqb (getD d (i * 19 + 0) 0) under)))
-    (same (partOf s (getD d (i * 19 + 2) 0) (getD d (i * 19 + 3) 0)) (partOf s at len))
-
--- The first such row from i on, below n.
-unfoldable pub first-other : (s d : List ℕ) → (outer under at len n i : ℕ) → Found
-first-other s d outer under at len n i = findFrom (λ k. is-other s d outer under at len k) n i
+-- The first row before row j that is under the same word and has the same name.
+unfoldable pub first-again : (s d : List ℕ) → ℕ → Found
+first-again s d j = findNamed s d 19 j 0 (getD d (j * 19 + 0) 0) 2 (getD d (j * 19 + 2) 0) (getD d (j * 19 + 3) 0) 0
 
 -- 9 at the name of row j: the first row under another value of the same attribute that has it has another type word.
 abbrev pub TypeFault : (s d : List ℕ) → ℕ → Fault → Type 0
 TypeFault s d j r =
     (f : File) (x : Entry) → Situation s f → d ≡ kept-definitions f → (q : Nth (spec-entries (f .specs)) j x) → j < 513
     → r ≡ faultIf (differs (x .definition) (others-for (x .outer) (x .under .place) (q .front))) 9 (x .definition .name .place)
+
+-- The same, where 8 does not stand at the name.
+abbrev pub NewTypeFault : (s d : List ℕ) → ℕ → Fault → Type 0
+NewTypeFault s d j r = first-again s d j ≡ Nothing → TypeFault s d j r
 
 -- 7, 8 and 9 at the name of row j.
 abbrev pub NameFault : (s d : List ℕ) → ℕ → Fault → Type 0

@@ -1,14 +1,15 @@
 // The faults of rows of definitions: 10 at the bounds, 7, 8 and 9 at the name, 10 at the default.
 ghost use mathlib.Core.Path.{_≡_};
+ghost use Prim.Native.Nat.{_≤_};
+ghost use lib.ListN.{length};
 ghost use lib.Dec.{leb};
 ghost use Rattle.token.specs.Find.{both};
 ghost use Rattle.rows.specs.Order.{faultIf};
 ghost use Rattle.rows.specs.Search.{isFound};
-ghost use Rattle.defining_checks.specs.Promises.{AgainFault, is-other, first-other, TypeFault, NameFault, DefaultFault, RowFault, RowsFault};
+ghost use Rattle.defining_checks.specs.Promises.{Fits, Through, first-again, NewTypeFault, NameFault, DefaultFault, RowFault, RowsFault};
 use rows::Fault;
 use rows::Found;
 use rows::faults;
-use rows::finding;
 use rows::parts;
 use scopes::lookups;
 
@@ -28,67 +29,20 @@ pub fn fault_found(found: Found, number: u8, place: usize) -> Fault
     }
 }
 
-// 8 at the name of row j, if an earlier row under the same word has it.
-fn again_fault(text: &[u8], d: &[usize], j: usize) -> Fault
-    ensures { λ r. ⌜ AgainFault (now (text .entry)) (now (d .entry)) j r ⌝ }
+// The first row before row j that is under the same word, and has the same name; x is the index of the rows.
+fn again(text: &[u8], d: &[usize], j: usize, x: &[usize]) -> Found
+    ensures { λ r. ⌜ Through (now (text .entry)) (now (d .entry)) 19 2 (now (x .entry)) j (r ≡ first-again (now (text .entry)) (now (d .entry)) j) ⌝ }
 {
     let under = lookups::cell_of(d, 19, j, 0);
     let at = lookups::cell_of(d, 19, j, 2);
     let len = lookups::cell_of(d, 19, j, 3);
-    let found = finding::find_named(text, d, 19, j, 0, under, 2, at, len, 0);
-    fault_found(found, 8, at)
+    indexes::find_before(text, d, 19, j, 0, under, 2, at, len, x)
 }
 
-// Whether row i is under another value of the list than the one at under, and has a name.
-fn is_other(
-    text: &[u8],
-    d: &[usize],
-    i: usize,
-    outer: usize,
-    under: usize,
-    at: usize,
-    len: usize,
-) -> bool
-    ensures { λ r. ⌜ r ≡ is-other (now (text .entry)) (now (d .entry)) outer under at len i ⌝ }
-{
-    let list = lookups::cell_of(d, 19, i, 13);
-    if list != outer {
-        return false;
-    }
-    let value = lookups::cell_of(d, 19, i, 0);
-    if value == under {
-        return false;
-    }
-    let name = lookups::cell_of(d, 19, i, 2);
-    let size = lookups::cell_of(d, 19, i, 3);
-    parts::same_part(text, name, size, at, len)
-}
-
-// The first of n rows that is so.
-fn first_other(
-    text: &[u8],
-    d: &[usize],
-    n: usize,
-    outer: usize,
-    under: usize,
-    at: usize,
-    len: usize,
-) -> Found
-    ensures { λ r. ⌜ r ≡ first-other (now (text .entry)) (now (d .entry)) outer under at len n 0 ⌝ }
-{
-    let mut i = 0;
-    while i < n {
-        if is_other(text, d, i, outer, under, at, len) {
-            return Found::At(i);
-        }
-        i += 1;
-    }
-    Found::Nothing
-}
-
-// 9 at the name of row j, if the first row under another value of its attribute that has it has another type word.
-fn type_fault(text: &[u8], d: &[usize], j: usize) -> Fault
-    ensures { λ r. ⌜ TypeFault (now (text .entry)) (now (d .entry)) j r ⌝ }
+// 9 at the name of row j, which no row before it under the same word has, if the first row under another value of its attribute that has it
+// has another type word.
+fn type_fault(text: &[u8], d: &[usize], j: usize, x: &[usize]) -> Fault
+    ensures { λ r. ⌜ Through (now (text .entry)) (now (d .entry)) 19 2 (now (x .entry)) j (NewTypeFault (now (text .entry)) (now (d .entry)) j r) ⌝ }
 {
     let outer = lookups::cell_of(d, 19, j, 13);
     if outer == 0 {
@@ -97,10 +51,9 @@ fn type_fault(text: &[u8], d: &[usize], j: usize) -> Fault
             place: 0,
         };
     }
-    let under = lookups::cell_of(d, 19, j, 0);
     let at = lookups::cell_of(d, 19, j, 2);
     let len = lookups::cell_of(d, 19, j, 3);
-    let Found::At(i) = first_other(text, d, j, outer, under, at, len) else {
+    let Found::At(i) = indexes::find_before(text, d, 19, j, 13, outer, 2, at, len, x) else {
         return Fault {
             number: 0,
             place: 0,
@@ -114,15 +67,25 @@ fn type_fault(text: &[u8], d: &[usize], j: usize) -> Fault
     faults::fault_if(!same, 9, at)
 }
 
-// 7, 8 and 9 at the name of row j.
-fn name_fault(text: &[u8], d: &[usize], j: usize) -> Fault
-    ensures { λ r. ⌜ NameFault (now (text .entry)) (now (d .entry)) j r ⌝ }
+// 7, 8 and 9 at the name of row j; x is the index of the rows.
+fn name_fault(text: &[u8], d: &[usize], j: usize, x: &[usize]) -> Fault
+    ensures { λ r. ⌜ Through (now (text .entry)) (now (d .entry)) 19 2 (now (x .entry)) j (NameFault (now (text .entry)) (now (d .entry)) j r) ⌝ }
 {
     let at = lookups::cell_of(d, 19, j, 2);
     let a = faults::fault_if(j == 512, 7, at);
-    let b = again_fault(text, d, j);
-    let c = type_fault(text, d, j);
-    faults::sooner(a, faults::sooner(b, c))
+    match again(text, d, j, x) {
+        Found::At(_) => {
+            let b = Fault {
+                number: 8,
+                place: at,
+            };
+            faults::sooner(a, b)
+        }
+        Found::Nothing => {
+            let c = type_fault(text, d, j, x);
+            faults::sooner(a, c)
+        }
+    }
 }
 
 // Whether a place is not before the limit, if there is one.
@@ -172,7 +135,7 @@ fn default_fault(
     faults::fault_if(!taken, 10, at)
 }
 
-// The faults of row j.
+// The faults of row j; x is the index of the rows.
 fn row_fault(
     text: &[u8],
     d: &[usize],
@@ -181,13 +144,59 @@ fn row_fault(
     full: bool,
     limit: usize,
     j: usize,
+    x: &[usize],
 ) -> Fault
-    ensures { λ r. ⌜ RowFault (now (text .entry)) (now (d .entry)) (now (e .entry)) m full limit j r ⌝ }
+    ensures { λ r. ⌜ Through (now (text .entry)) (now (d .entry)) 19 2 (now (x .entry)) j (RowFault (now (text .entry)) (now (d .entry)) (now (e .entry)) m full limit j r) ⌝ }
 {
     let a = lookups::range_fault(text, d, j);
-    let b = name_fault(text, d, j);
+    let b = name_fault(text, d, j, x);
     let c = default_fault(text, d, e, m, full, limit, j);
     faults::sooner(a, faults::sooner(b, c))
+}
+
+// The faults of the first n rows; x is the index of the rows.
+fn each_fault(
+    text: &[u8],
+    d: &[usize],
+    e: &[usize],
+    m: usize,
+    full: bool,
+    limit: usize,
+    n: usize,
+    x: &[usize],
+) -> Fault
+    ensures { λ r. ⌜ Through (now (text .entry)) (now (d .entry)) 19 2 (now (x .entry)) n (RowsFault (now (text .entry)) (now (d .entry)) (now (e .entry)) m full limit n r) ⌝ }
+{
+    let mut best = Fault {
+        number: 0,
+        place: 0,
+    };
+    let mut j = 0;
+    while j < n {
+        let f = row_fault(text, d, e, m, full, limit, j, x);
+        best = faults::sooner(best, f);
+        j += 1;
+    }
+    best
+}
+
+// The faults of the first n rows; x is room for their index, and b for half of it.
+fn indexed_fault(
+    text: &[u8],
+    d: &[usize],
+    e: &[usize],
+    m: usize,
+    full: bool,
+    limit: usize,
+    n: usize,
+    x: &mut [usize],
+    b: &mut [usize],
+) -> Fault
+    requires { ⌜ Fits n (length (now x)) (length (now b)) ⌝ }
+    ensures { λ r. ⌜ RowsFault (now (text .entry)) (now (d .entry)) (now (e .entry)) m full limit n r ⌝ }
+{
+    indexes::index(text, d, 19, 2, x, b);
+    each_fault(text, d, e, m, full, limit, n, x)
 }
 
 // The faults of the first n rows; m enumerators are kept, and the one that is one too many, if there is one (full), stands at limit.
@@ -200,17 +209,10 @@ pub fn rows_fault(
     limit: usize,
     n: usize,
 ) -> Fault
+    requires { ⌜ n ≤ 513 ⌝ }
     ensures { λ r. ⌜ RowsFault (now (text .entry)) (now (d .entry)) (now (e .entry)) m full limit n r ⌝ }
 {
-    let mut best = Fault {
-        number: 0,
-        place: 0,
-    };
-    let mut j = 0;
-    while j < n {
-        let x = row_fault(text, d, e, m, full, limit, j);
-        best = faults::sooner(best, x);
-        j += 1;
-    }
-    best
+    let mut x = [0; 513];
+    let mut b = [0; 256];
+    indexed_fault(text, d, e, m, full, limit, n, &mut x[..n], &mut b)
 }

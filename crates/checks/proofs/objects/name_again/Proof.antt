@@ -1,11 +1,12 @@
-use Rattle.checks.proofs.Turns.{name-again-is}
+-- `objects::name_again` meets its contract: it finds through the index. Assumes nothing.
+use Rattle.checks.proofs.Throughs.{again-through}
 use borrow.Author.Needs.{needs}
 use Rattle.checks.proofs.objects.name_again.Statement.{statement}
 use Rattle.checks.proofs.objects.name_again.Tie as tie
 use Rattle.checks.proofs.objects.name_again.Reads as reads
 use Rattle.checks.proofs.objects.name_again.Lts as lts
 use Rattle.checks.proofs.parts.fault_found.Reads as fault-found-reads
-use Rattle.rows.proofs.finding.find_named.Reads as find-named-reads
+use Rattle.indexes.proofs.find_before.Reads as find-before-reads
 use Rattle.scopes.proofs.lookups.cell_of.Reads as cell-of-reads
 
 cell-of-requires : tie.Need-cell-of-requires
@@ -17,14 +18,14 @@ cell-of-requires-2 c κs = search needs
 cell-of-requires-3 : tie.Need-cell-of-requires-3
 cell-of-requires-3 c κs = search needs
 
-find-named-requires : tie.Need-find-named-requires
-find-named-requires c κs = search needs
+find-before-requires : tie.Need-find-before-requires
+find-before-requires c κs = search needs
 
 fault-found-requires : tie.Need-fault-found-requires
 fault-found-requires c κs = search needs
 
 returns : tie.Need-returns
-returns c = name-again-is _ _ _ _ _ _ _ _ ((c .before .before .before .before .cell-of .ensures)) ((c .before .before .before .cell-of2 .ensures)) ((c .before .before .cell-of3 .ensures)) ((c .before .find-named .ensures)) ((c .fault-found .ensures))
+returns c = again-through _ _ _ _ _ _ _ _ _ ((c .before .before .before .before .cell-of .ensures)) ((c .before .before .before .cell-of2 .ensures)) ((c .before .before .cell-of3 .ensures)) ((c .before .find-before .ensures)) ((c .fault-found .ensures))
 
 pub name-again-spec : {M : Type 1} → statement M
 name-again-spec =
@@ -33,6 +34,6 @@ name-again-spec =
     cell-of-requires
     cell-of-requires-2
     cell-of-requires-3
-    find-named-requires
+    find-before-requires
     fault-found-requires
     returns)

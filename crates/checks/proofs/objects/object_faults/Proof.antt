@@ -4,7 +4,7 @@ use Rattle.checks.proofs.objects.object_faults.Statement.{statement}
 use Rattle.checks.proofs.objects.object_faults.Tie as tie
 use Rattle.checks.proofs.objects.object_faults.Reads as reads
 use Rattle.checks.proofs.objects.object_faults.Lts as lts
-use Rattle.checks.proofs.objects.each_object.Reads as each-object-reads
+use Rattle.checks.proofs.objects.first_objects.Reads as first-objects-reads
 use Rattle.checks.proofs.objects.too_few.Reads as too-few-reads
 use Rattle.checks.proofs.parts.least_of.Reads as least-of-reads
 use Rattle.checks.proofs.parts.room_fault.Reads as room-fault-reads
@@ -16,8 +16,8 @@ too-few-requires c κs = search needs
 least-of-requires : tie.Need-least-of-requires
 least-of-requires c κs = search needs
 
-each-object-requires : tie.Need-each-object-requires
-each-object-requires c κs = search needs
+first-objects-requires : tie.Need-first-objects-requires
+first-objects-requires c κs = search needs
 
 room-fault-requires : tie.Need-room-fault-requires
 room-fault-requires c κs = search needs
@@ -35,7 +35,7 @@ sooner-requires-3 : tie.Need-sooner-requires-3
 sooner-requires-3 c κs = search needs
 
 returns : tie.Need-returns
-returns c = objects-answer _ _ _ _ _ _ _ _ _ _ _ _ _ _ _ ((c .before .before .before .before .before .before .before .too-few .ensures)) ((c .before .before .before .before .before .before .least-of .ensures)) ((c .before .before .before .before .before .each-object .ensures)) ((c .before .before .before .before .room-fault .ensures)) ((c .before .before .before .room-fault2 .ensures)) ((c .before .before .sooner .ensures)) ((c .before .sooner2 .ensures)) ((c .sooner3 .ensures))
+returns c = objects-answer _ _ _ _ _ _ _ _ _ _ _ _ _ _ _ ((c .before .before .before .before .before .before .before .too-few .ensures)) ((c .before .before .before .before .before .before .least-of .ensures)) ((c .before .before .before .before .before .first-objects .ensures)) ((c .before .before .before .before .room-fault .ensures)) ((c .before .before .before .room-fault2 .ensures)) ((c .before .before .sooner .ensures)) ((c .before .sooner2 .ensures)) ((c .sooner3 .ensures))
 
 pub object-faults-spec : {M : Type 1} → statement M
 object-faults-spec =
@@ -43,7 +43,7 @@ object-faults-spec =
     (tie.spec
     too-few-requires
     least-of-requires
-    each-object-requires
+    first-objects-requires
     room-fault-requires
     room-fault-requires-2
     sooner-requires

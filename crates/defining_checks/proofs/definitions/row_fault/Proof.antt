@@ -1,3 +1,5 @@
+-- `definitions::row_fault` meets its contract: the faults of its three parts. Assumes nothing.
+use Rattle.defining_checks.proofs.Throughs.{through-one}
 use Rattle.defining_checks.proofs.Turns.{row-all}
 use borrow.Author.Needs.{needs}
 use Rattle.defining_checks.proofs.definitions.row_fault.Statement.{statement}
@@ -25,7 +27,7 @@ sooner-requires-2 : tie.Need-sooner-requires-2
 sooner-requires-2 c κs = search needs
 
 returns : tie.Need-returns
-returns c = row-all _ _ _ _ _ _ _ _ _ _ _ _ (c .before .before .before .before .range-fault .ensures) (c .before .before .before .name-fault .ensures) (c .before .before .default-fault .ensures) (c .before .sooner .ensures) (c .sooner2 .ensures)
+returns c = through-one (λ h. row-all _ _ _ _ _ _ _ _ _ _ _ _ (c .before .before .before .before .range-fault .ensures) h (c .before .before .default-fault .ensures) (c .before .sooner .ensures) (c .sooner2 .ensures)) (c .before .before .before .name-fault .ensures)
 
 pub row-fault-spec : {M : Type 1} → statement M
 row-fault-spec =
