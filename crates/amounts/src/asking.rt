@@ -1,8 +1,8 @@
-// Whether an attribute takes a number, by the table of ranges.
+// Whether an attribute takes a value; of a number by the table of ranges.
 ghost use Rattle.scopes.specs.Items.{num};
-ghost use Rattle.scopes.specs.Promises.{TakesNumber, Takes};
+ghost use Rattle.scopes.specs.Promises.{TakesNumber};
 ghost use Rattle.amounts.specs.Known.{Known};
-ghost use Rattle.amounts.specs.Promises.{InRangeOf};
+ghost use Rattle.amounts.specs.Promises.{InRangeOf, TakesUnder};
 use super::keys;
 use rows::cells;
 use scopes::Num;
@@ -72,23 +72,40 @@ fn takes_number(text: &[u8], d: &[usize], known: &[usize], j: usize, at: usize) 
     false
 }
 
-// Whether the attribute of row j takes the word at a place, with a code.
+// Whether the attribute of row j takes the word at a place, with a code; `under` is the place of the value word that it is, 0 for none.
 pub fn takes(
     text: &[u8],
     d: &[usize],
-    e: &[usize],
     known: &[usize],
-    enumerators: usize,
     j: usize,
     at: usize,
-    len: usize,
     code: usize,
+    under: usize,
 ) -> bool
     requires { ⌜ Known (now text) (now d) (now known) ⌝ }
-    ensures { λ r. ⌜ Takes (now (text .entry)) (now (d .entry)) (now (e .entry)) enumerators j at len code r ⌝ }
+    ensures { λ r. ⌜ TakesUnder (now (text .entry)) (now (d .entry)) j at code under r ⌝ }
 {
     if code == 42 {
         return takes_number(text, d, known, j, at);
     }
-    lookups::takes(text, d, e, enumerators, j, at, len, code)
+    if code == 3 {
+        return lookups::cell_of(d, 19, j, 7) == 1;
+    }
+    if code == 4 {
+        return false;
+    }
+    let t = lookups::cell_of(d, 19, j, 12);
+    if code == 43 {
+        return t == 39;
+    }
+    if code == 1 {
+        return t == 40;
+    }
+    if code == 2 {
+        return t == 40;
+    }
+    if t != 41 {
+        return false;
+    }
+    under != 0
 }

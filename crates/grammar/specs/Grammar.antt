@@ -60,6 +60,7 @@ may-name AUTO = false
 may-name NO-DEFAULT = false
 may-name WITH-AUTO = false
 
+-- "Every other word may be a name, also TASK or UINT32"
 unfoldable pub is-name : Class → Bool
 unfolding may-name
 is-name ordinary = true

@@ -29,7 +29,8 @@ use Rattle.meaning.proofs.Sites.{object-words}
 use Rattle.layout.specs.Kept.{bit, class-number, given-number, sign-number, integer-number, code-of, place-or, statement-cells, statement-count, object-cells, kind-place}
 use Rattle.blocks.specs.Blocks.{AllIn, BraceIn, no-brace, a-brace, then, BlockAt, row-after, IsStated}
 use Rattle.scopes.specs.Situations.{Situation, HasDefinition, this-definition, later-definition, Stands, ScopeAt, no-scope, scope, ReadAt, RowOf}
-use Rattle.scopes.specs.Promises.{fault-of, row-found, object-found, FindsDefinition, FindsWord, FindsObject, Takes}
+use Rattle.amounts.specs.Promises.{TakesUnder}
+use Rattle.scopes.specs.Promises.{fault-of, row-found, object-found, FindsDefinition, FindsWord, FindsObject}
 use Rattle.scopes.specs.Forms.{AllFormed, more-formed, Formed, an-integer, a-string, a-boolean, an-enum, a-reference}
 use Rattle.scopes.proofs.Descents.{scope-facts, found-definition, scope-under, scope-of-kind}
 use Rattle.judging.specs.Promises.{Case, name-code, ReferenceFault, StatedAs, OwnFault, Marked, Lacks, LackFault, Scoped, Judges, JudgesOne, JudgesBlock, Places, JudgesObject, JudgesObjects}
@@ -271,21 +272,22 @@ module _ {s d e o st : List ℕ} {z : Sizes} {k j : ℕ} {f : File} {x : Stateme
           ∙ unfolded q t
 
   -- From 35 on it is not.
-  pub value-other : (c at len code : ℕ) (b : Bool) → c ≡ getD d (j * 19 + 12) 0 → 35 ≤ c
-      → at ≡ getD st (k * 7 + 2) 0 → len ≡ getD st (k * 7 + 3) 0 → code ≡ getD st (k * 7 + 4) 0
-      → Takes s d e (z .enumerators) j at len code b → faultIf (not b) 15 at ≡ fault-of (first (faults-as (y .definition .type) (f .objects) x y))
+  pub value-other : (c at code u : ℕ) (b : Bool) → c ≡ getD d (j * 19 + 12) 0 → 35 ≤ c
+      → at ≡ getD st (k * 7 + 2) 0 → code ≡ getD st (k * 7 + 4) 0 → FindsWord s d e (z .enumerators) j (getD st (k * 7 + 2) 0) (getD st (k * 7 + 3) 0) u
+      → TakesUnder s d j at code u b → faultIf (not b) 15 at ≡ fault-of (first (faults-as (y .definition .type) (f .objects) x y))
   unfolding faults-as bit
-  value-other c at len code b e h pa pl pc r =
+  value-other c at code u b q h pa pc w r =
       let v = first-value (a .block) in
+      let len = getD st (k * 7 + 3) 0 in
       let same-place = pa ∙ value-place in
-      let read : ReadAt s (x .value) at len = record { bytes = v .bytes ∙ sym (ap₂ (partOf s) same-place (pl ∙ value-size)); number = v .number ∙ ap (λ p. num-of-step (stepAt s p)) (sym same-place) } in
+      let read : ReadAt s (x .value) at len = record { bytes = v .bytes ∙ sym (ap₂ (partOf s) same-place value-size); number = v .number ∙ ap (λ p. num-of-step (stepAt s p)) (sym same-place) } in
       let taken : b ≡ fits (y .definition) (y .values) (x .value) =
-      r f y (x .value) (a .case .situation) (a .case .definitions) (a .case .enumerators)
+      r e (z .enumerators) len (subst (λ p. FindsWord s d e (z .enumerators) j p len u) (sym pa) w) f y (x .value) (a .case .situation) (a .case .definitions) (a .case .enumerators)
       (subst (λ i. RowOf f i y) (a .row) (row-of (a .case .situation) (a .stands) (a .has)))
       (row-room j (a .case) (a .stands) (a .has) (a .row)) (all-reached (a .case) (y .values)) read (sym (pc ∙ value-code)) in
       ap (λ t. faultIf (not t) 15 at) taken
       ∙ fault-one (not (fits (y .definition) (y .values) (x .value))) (x .value) 15 at (sym same-place)
-      ∙ go (e ∙ type-cell) type-formed
+      ∙ go (q ∙ type-cell) type-formed
     where
       no-reference : (u : AttributeType) → y .definition .type ≡ u
           → faults-as u (f .objects) x y ≡ fault-if (not (fits (y .definition) (y .values) (x .value))) (x .value) 15
@@ -310,11 +312,11 @@ module _ {s d e o st : List ℕ} {z : Sizes} {k j : ℕ} {f : File} {x : Stateme
       go false q = absurd (h q)
 
   -- A single attribute may not.
-  pub again-single : (c name size m : ℕ) (r : Bool) (before : Statements) → c ≡ getD d (j * 19 + 6) 0 → c ≡ 0 → name ≡ getD st (k * 7 + 0) 0 → size ≡ getD st (k * 7 + 1) 0
-      → BlockAt s st m k before → IsStated s st m k name size r → r ≡ both (not (y .definition .list)) (among (x .name) (names before))
+  pub again-single : (c m : ℕ) (r : Bool) (before : Statements) → c ≡ getD d (j * 19 + 6) 0 → c ≡ 0 → BlockAt s st m k before
+      → IsStated s st m k (getD st (k * 7 + 0) 0) (getD st (k * 7 + 1) 0) r → r ≡ both (not (y .definition .list)) (among (x .name) (names before))
   unfolding faults-as bit
-  again-single c name size m r before e h n l b g =
-      g before (x .name) b (first-name (a .block) .bytes ∙ sym (ap₂ (partOf s) (n ∙ name-place) (l ∙ name-size))) ∙ go (y .definition .list) (sym h ∙ e ∙ list-cell)
+  again-single c m r before e h b g =
+      g before (x .name) b (first-name (a .block) .bytes ∙ sym (ap₂ (partOf s) name-place name-size)) ∙ go (y .definition .list) (sym h ∙ e ∙ list-cell)
     where
       go : (t : Bool) → 0 ≡ bit t → among (x .name) (names before) ≡ both (not t) (among (x .name) (names before))
       go true q = absurd (one-zero q)
@@ -454,6 +456,12 @@ module _ (s d e o st ms : List ℕ) (z : Sizes) (key m k n name size : ℕ) (pn 
       l f (under (t .values) (x .value)) inside (x .value) (record { case = c .case; marked = c .marked; scope = sc }) bi (sym pa′)
       ∙ ap (λ w. fault-of (first (and-inside w x (under (t .values) (x .value)) (names inside) (λ us. judge inside (f .objects) us [])))) (sym none-own)
       ∙ ap (λ t. fault-of (first (judged t (f .objects) x (names before) (names inside) (λ us. judge inside (f .objects) us [])))) (sym (y .is))
+
+-- The value word, by the cells of the statement's row.
+pub under-at : (s d e st : List ℕ) (m j k at len u : ℕ) → at ≡ getD st (k * 7 + 2) 0 → len ≡ getD st (k * 7 + 3) 0 → FindsWord s d e m j at len u
+    → FindsWord s d e m j (getD st (k * 7 + 2) 0) (getD st (k * 7 + 3) 0) u
+under-at s d e st m j k at len u pa pl w =
+    subst (λ p. FindsWord s d e m j p (getD st (k * 7 + 3) 0) u) pa (subst (λ l. FindsWord s d e m j at l u) pl w)
 
 -- A block ----------------------------------------------------------------------------------------------------------------------------------
 

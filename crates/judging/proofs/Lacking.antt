@@ -5,14 +5,17 @@ use mathlib.Core.Bool.{Bool, true, false, not, false≢true}
 use mathlib.Core.Option.{Option, none, some}
 use Prim.Native.Nat.{ℕ, zero, suc, _+_, _*_, _≤_, _<_}
 use native.Mathlib.Omega.{arith}
-use native.Mathlib.Decide.{ℕ-discrete}
+use native.Mathlib.Decide.{ℕ-discrete, decLt}
 use lib.ListN.{length, length-append, getD, set, drop, List·getD-append}
 use lib.Seq.{getD-set-same, getD-set-other, sets, sets-eq}
 use lib.Dec.{eqb}
-use borrow.Author.Tests.{eq-eqb, ne-eqb}
+use borrow.Author.Tests.{eq-eqb, ne-eqb, eqb-true}
 use Rattle.token.specs.Find.{pick, both, either}
 use Rattle.token.specs.Tokens.{partOf}
 use Rattle.grammar.specs.Grammar.{Class, ordinary, numeral, quoted, other, kind-word, type-word, integer-word, word, sign, OIL-VERSION, IMPLEMENTATION, CPU, STRING, BOOLEAN, ENUM, TRUE, FALSE, AUTO, NO-DEFAULT, WITH-AUTO, lbrace, rbrace, lsquare, rsquare, equals, semicolon, colon, comma, dots}
+use Rattle.rows.specs.declared.Found.the-variants.{At, Nothing}
+use Rattle.rows.specs.Search.{hasKey, findRow}
+use Rattle.rows.proofs.Searches.{found-first, nothing-none}
 use Rattle.meaning.specs.Syntax.{Word, span-of, span-or, absent, Definitions, no-more, define, Values, no-value, value, Defined, Statements, done, File, statements-in}
 use Rattle.meaning.specs.Words.{alike, among, choose}
 use Rattle.meaning.specs.Kinds.{kind-number}
@@ -147,25 +150,64 @@ Passed s d st ms n key m e i =
     (f : File) (u : Word) (ds : Definitions) (ss : Statements) → Owned s d st ms n key m e f u ds ss
     → (x : Defined) → HasDefinition ds x → x .definition .row < i → lack x (names ss) ≡ false
 
+no-key : (d : List ℕ) (i key : ℕ) → hasKey d (i * 19) 0 key ≡ false → getD d (i * 19 + 0) 0 ≡ key → ⊥
+unfolding hasKey
+no-key d i key h e = false≢true (sym h ∙ eq-eqb (getD d (i * 19 + 0) 0) key e)
+
+has-key : (d : List ℕ) (i key : ℕ) → hasKey d (i * 19) 0 key ≡ true → getD d (i * 19 + 0) 0 ≡ key
+unfolding hasKey
+has-key d i key h = eqb-true (getD d (i * 19 + 0) 0) key h
+
+-- The row found is not before, and one of the first n.
+module _ (d : List ℕ) (n key i j : ℕ) (g : findRow d 19 n 0 key i ≡ At j) where
+  pub found-low : i ≤ j
+  unfolding findRow
+  found-low = found-first (λ k. hasKey d (k * 19) 0 key) n i j g .low
+
+  pub found-high : j < n
+  unfolding findRow
+  found-high = found-first (λ k. hasKey d (k * 19) 0 key) n i j g .high
+
 module _ (s d st ms : List ℕ) (n key m e : ℕ) where
   pub passed-start : Passed s d st ms n key m e 0
   passed-start f u ds ss o x h k = absurd (omega arith)
 
-  pub passed-stop : (i : ℕ) → i < n → LacksRow s d st ms key i m e true → Lacks s d st ms n key m e true
-  passed-stop i h l f u ds ss o b =
-      let r = l n f u ds ss o h in
-      let y = r .some refl in
-      sym (has-lacks (names ss) (y .has) (sym (r .own (y .defined) (y .has) (y .row))))
+  -- The rows up to the next one under the word.
+  passed-on : (i j : ℕ) → ((k : ℕ) → i ≤ k → k < j → hasKey d (k * 19) 0 key ≡ false) → Passed s d st ms n key m e i → Passed s d st ms n key m e j
+  passed-on i j g p f u ds ss o x q k = go (decLt (x .definition .row) i)
+    where
+      go : Dec (x .definition .row < i) → lack x (names ss) ≡ false
+      go (yes r) = p f u ds ss o x q r
+      go (no r) = sym (row-other o (x .definition .row) (no-key d (x .definition .row) key (g (x .definition .row) (omega (arith, r)) k)) .own x q refl)
 
-  pub passed-more : (i : ℕ) → i < n → LacksRow s d st ms key i m e false → Passed s d st ms n key m e i → Passed s d st ms n key m e (i + 1)
-  passed-more i h l p f u ds ss o x q k = go (ℕ-discrete (x .definition .row) i)
+  passed-one : (i : ℕ) → i < n → getD d (i * 19 + 0) 0 ≡ key → LacksRow s d st ms i m e false → Passed s d st ms n key m e i → Passed s d st ms n key m e (i + 1)
+  passed-one i h a l p f u ds ss o x q k = go (ℕ-discrete (x .definition .row) i)
     where
       go : Dec (x .definition .row ≡ i) → lack x (names ss) ≡ false
-      go (yes r) = sym (l n f u ds ss o h .own x q r)
+      go (yes r) = sym (l n key f u ds ss o h a .own x q r)
       go (no r) = p f u ds ss o x q (omega (arith, r, k))
 
   pub passed-end : (i : ℕ) → n ≤ i → Passed s d st ms n key m e i → Lacks s d st ms n key m e false
   passed-end i h p f u ds ss o b = sym (none-lacks ds (names ss) (λ x q. let k = b x q in p f u ds ss o x q (omega arith)))
+
+  pub passed-stop : (i j : ℕ) → findRow d 19 n 0 key i ≡ At j → LacksRow s d st ms j m e true → Lacks s d st ms n key m e true
+  unfolding findRow
+  passed-stop i j g l f u ds ss o b =
+      let a = found-first (λ k. hasKey d (k * 19) 0 key) n i j g in
+      let r = l n key f u ds ss o (a .high) (has-key d j key (a .holds)) in
+      let y = r .some refl in
+      sym (has-lacks (names ss) (y .has) (sym (r .own (y .defined) (y .has) (y .row))))
+
+  pub passed-more : (i j : ℕ) → findRow d 19 n 0 key i ≡ At j → LacksRow s d st ms j m e false → Passed s d st ms n key m e i → Passed s d st ms n key m e (j + 1)
+  unfolding findRow
+  passed-more i j g l p =
+      let a = found-first (λ k. hasKey d (k * 19) 0 key) n i j g in
+      passed-one j (a .high) (has-key d j key (a .holds)) l (passed-on i j (a .fails) p)
+
+  -- There is none left.
+  pub passed-none : (i : ℕ) → findRow d 19 n 0 key i ≡ Nothing → Passed s d st ms n key m e i → Lacks s d st ms n key m e false
+  unfolding findRow
+  passed-none i g p = passed-end n (omega arith) (passed-on i n (nothing-none (λ k. hasKey d (k * 19) 0 key) n i g) p)
 
 -- Attributes that are not stated -----------------------------------------------------------------------------------------------------------
 

@@ -1,2 +1,3 @@
 -- What the functions that judge statements promise. Assumes nothing.
+pub mod Names
 pub mod Promises

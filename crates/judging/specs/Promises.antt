@@ -2,7 +2,7 @@
 use mathlib.Core.Path.{_≡_}
 use mathlib.Core.List.{List, [], _∷_, _++_}
 use mathlib.Core.Bool.{Bool, true, false, not}
-use Prim.Native.Nat.{ℕ, suc, _+_, _≤_, _<_}
+use Prim.Native.Nat.{ℕ, suc, _+_, _*_, _≤_, _<_}
 use lib.ListN.{length, getD}
 use lib.Dec.{eqb, leb}
 use Rattle.token.specs.Find.{pick, both}
@@ -79,9 +79,11 @@ pub record RowLacks (ds : Definitions) (ns : List Word) (i : ℕ) (r : Bool) : T
   pub own : (x : Defined) → HasDefinition ds x → x .definition .row ≡ i → r ≡ lack x ns
   pub some : r ≡ true → HasRow ds i
 
-abbrev pub LacksRow : (s d st ms : List ℕ) → (key i m e : ℕ) → Bool → Type 0
-LacksRow s d st ms key i m e r =
-    (n : ℕ) (f : File) (u : Word) (ds : Definitions) (ss : Statements) → Owned s d st ms n key m e f u ds ss → i < n → RowLacks ds (names ss) i r
+-- Whether the attribute of row i, one of those under the word at key, needs to be stated and is not.
+abbrev pub LacksRow : (s d st ms : List ℕ) → (i m e : ℕ) → Bool → Type 0
+LacksRow s d st ms i m e r =
+    (n key : ℕ) (f : File) (u : Word) (ds : Definitions) (ss : Statements) → Owned s d st ms n key m e f u ds ss → i < n → getD d (i * 19 + 0) 0 ≡ key
+    → RowLacks ds (names ss) i r
 
 -- Whether a block lacks an attribute of the scope of the word at key, whose definitions are among the first n rows.
 abbrev pub Lacks : (s d st ms : List ℕ) → (n key m e : ℕ) → Bool → Type 0

@@ -2,6 +2,7 @@
 ghost use mathlib.Core.Path.{_≡_};
 ghost use Prim.Native.Nat.{_<_};
 ghost use Rattle.amounts.specs.Known.{Known};
+ghost use Rattle.judging.specs.Names.{Hashes, Named};
 ghost use Rattle.judging.specs.Promises.{LackFault, Judges, JudgesOne, JudgesBlock, JudgesObject, JudgesObjects, JudgesAll};
 use blocks::after;
 use blocks::cell_at;
@@ -9,10 +10,9 @@ use rows::Fault;
 use rows::Found;
 use rows::cells;
 use rows::faults;
-use scopes::lookups::find_definition;
-use scopes::lookups::word_under;
 
 mod marking;
+mod names;
 mod values;
 
 // How many rows there are.
@@ -27,6 +27,7 @@ fn lack_fault(
     text: &[u8],
     d: &[usize],
     st: &[usize],
+    names: &[usize],
     missing: &[usize],
     z: Sizes,
     key: usize,
@@ -34,6 +35,7 @@ fn lack_fault(
     end: usize,
     owner: usize,
 ) -> Fault
+    requires { ⌜ Hashes (now text) (now d) (now st) (now names) ⌝ }
     ensures { λ r. ⌜ LackFault (now (text .entry)) (now (d .entry)) (now (st .entry)) (now (missing .entry)) z key from end owner r ⌝ }
 {
     if key == 0 {
@@ -43,27 +45,28 @@ fn lack_fault(
         };
     }
     faults::fault_if(
-        marking::lacks(text, d, st, missing, z.definitions, key, from, end),
+        marking::lacks(text, d, st, names, missing, z.definitions, key, from, end),
         16,
         owner,
     )
 }
 
-// The faults of the statements of a block, in the scope of the word at key. Here and below `known` has the marks of the rows, and behind them what is
-// known of the ranges.
+// The faults of the statements of a block, in the scope of the word at key. Here and below `names` is the table of names; `known` has the marks of the
+// rows, and behind them what is known of the ranges.
 fn judge(
     text: &[u8],
     d: &[usize],
     e: &[usize],
     o: &[usize],
     st: &[usize],
+    names: &[usize],
     known: &[usize],
     z: Sizes,
     key: usize,
     from: usize,
     end: usize,
 ) -> Fault
-    requires { ⌜ Known (now text) (now d) (now known) ⌝ }
+    requires { ⌜ Known (now text) (now d) (now known) × Named (now text) (now d) (now e) (now o) (now st) z (now names) ⌝ }
     ensures { λ r. ⌜ Judges (now (text .entry)) (now (d .entry)) (now (e .entry)) (now (o .entry)) (now (st .entry)) (now (known .entry)) z key from end r ⌝ }
 {
     let mut best = Fault {
@@ -73,7 +76,7 @@ fn judge(
     let mut k = from;
     while k < end {
         let next = after(st, k, end);
-        let f = judge_one(text, d, e, o, st, known, z, key, from, k, next);
+        let f = judge_one(text, d, e, o, st, names, known, z, key, from, k, next);
         best = faults::sooner(best, f);
         k = next;
     }
@@ -87,6 +90,7 @@ fn judge_one(
     e: &[usize],
     o: &[usize],
     st: &[usize],
+    names: &[usize],
     known: &[usize],
     z: Sizes,
     key: usize,
@@ -94,25 +98,25 @@ fn judge_one(
     k: usize,
     end: usize,
 ) -> Fault
-    requires { ⌜ (k < end) × Known (now text) (now d) (now known) ⌝ }
+    requires { ⌜ (k < end) × Known (now text) (now d) (now known) × Named (now text) (now d) (now e) (now o) (now st) z (now names) ⌝ }
     ensures { λ r. ⌜ JudgesOne (now (text .entry)) (now (d .entry)) (now (e .entry)) (now (o .entry)) (now (st .entry)) (now (known .entry)) z key from k end r ⌝ }
 {
     let name = cell_at(st, 7, k, 0);
     let size = cell_at(st, 7, k, 1);
-    let Found::At(j) = find_definition(text, d, z.definitions, key, name, size) else {
+    let Found::At(j) = names::find_definition(text, d, names, z.definitions, key, name, size) else {
         return Fault {
             number: 13,
             place: name,
         };
     };
-    let f = values::own_fault(text, d, e, o, st, known, z, from, k, j);
+    let at = cell_at(st, 7, k, 2);
+    let len = cell_at(st, 7, k, 3);
+    let under = names::word_under(text, d, e, names, z.enumerators, j, at, len);
+    let f = values::own_fault(text, d, e, o, st, names, known, z, from, k, j, under);
     if faults::is_fault(f) {
         return f;
     }
-    let at = cell_at(st, 7, k, 2);
-    let len = cell_at(st, 7, k, 3);
-    let under = word_under(text, d, e, z.enumerators, j, at, len);
-    judge_block(text, d, e, o, st, known, z, under, k + 1, end, at)
+    judge_block(text, d, e, o, st, names, known, z, under, k + 1, end, at)
 }
 
 // 16 at the owner's word, and the faults of the statements of its block.
@@ -122,6 +126,7 @@ fn judge_block(
     e: &[usize],
     o: &[usize],
     st: &[usize],
+    names: &[usize],
     known: &[usize],
     z: Sizes,
     key: usize,
@@ -129,11 +134,11 @@ fn judge_block(
     end: usize,
     owner: usize,
 ) -> Fault
-    requires { ⌜ Known (now text) (now d) (now known) ⌝ }
+    requires { ⌜ Known (now text) (now d) (now known) × Named (now text) (now d) (now e) (now o) (now st) z (now names) ⌝ }
     ensures { λ r. ⌜ JudgesBlock (now (text .entry)) (now (d .entry)) (now (e .entry)) (now (o .entry)) (now (st .entry)) (now (known .entry)) z key from end owner r ⌝ }
 {
-    let a = lack_fault(text, d, st, known, z, key, from, end, owner);
-    let b = judge(text, d, e, o, st, known, z, key, from, end);
+    let a = lack_fault(text, d, st, names, known, z, key, from, end, owner);
+    let b = judge(text, d, e, o, st, names, known, z, key, from, end);
     faults::sooner(a, b)
 }
 
@@ -144,12 +149,13 @@ fn judge_object(
     e: &[usize],
     o: &[usize],
     st: &[usize],
+    names: &[usize],
     known: &[usize],
     z: Sizes,
     places: &[usize],
     i: usize,
 ) -> Fault
-    requires { ⌜ Known (now text) (now d) (now known) ⌝ }
+    requires { ⌜ Known (now text) (now d) (now known) × Named (now text) (now d) (now e) (now o) (now st) z (now names) ⌝ }
     ensures { λ r. ⌜ JudgesObject (now (text .entry)) (now (d .entry)) (now (e .entry)) (now (o .entry)) (now (st .entry)) (now (known .entry)) z (now (places .entry)) i r ⌝ }
 {
     let kind = cell_at(o, 9, i, 0);
@@ -157,7 +163,7 @@ fn judge_object(
     let owner = cell_at(o, 9, i, 3);
     let from = cell_at(o, 9, i, 7);
     let end = cell_at(o, 9, i, 8);
-    judge_block(text, d, e, o, st, known, z, key, from, end, owner)
+    judge_block(text, d, e, o, st, names, known, z, key, from, end, owner)
 }
 
 // The faults of all objects.
@@ -167,11 +173,12 @@ fn judge_objects(
     e: &[usize],
     o: &[usize],
     st: &[usize],
+    names: &[usize],
     known: &[usize],
     z: Sizes,
     places: &[usize],
 ) -> Fault
-    requires { ⌜ Known (now text) (now d) (now known) ⌝ }
+    requires { ⌜ Known (now text) (now d) (now known) × Named (now text) (now d) (now e) (now o) (now st) z (now names) ⌝ }
     ensures { λ r. ⌜ JudgesObjects (now (text .entry)) (now (d .entry)) (now (e .entry)) (now (o .entry)) (now (st .entry)) (now (known .entry)) z (now (places .entry)) r ⌝ }
 {
     let mut best = Fault {
@@ -180,7 +187,7 @@ fn judge_objects(
     };
     let mut i = 0;
     while i < z.objects {
-        let f = judge_object(text, d, e, o, st, known, z, places, i);
+        let f = judge_object(text, d, e, o, st, names, known, z, places, i);
         best = faults::sooner(best, f);
         i += 1;
     }
@@ -199,10 +206,29 @@ pub fn judge_all(
 ) -> Fault
     ensures { λ r. ⌜ JudgesAll (now (text .entry)) (now (d .entry)) (now (e .entry)) (now (o .entry)) (now (st .entry)) z places r ⌝ }
 {
-    let missing = marking::marks(text, d, e, st, z);
+    if 512 < z.definitions {
+        return Fault {
+            number: 0,
+            place: 0,
+        };
+    }
+    if 1024 < z.enumerators {
+        return Fault {
+            number: 0,
+            place: 0,
+        };
+    }
+    if 256 < z.objects {
+        return Fault {
+            number: 0,
+            place: 0,
+        };
+    }
+    let names = names::note(text, d, e, o, st, z);
+    let missing = marking::marks(text, d, e, st, &names, z);
     let mut known = [0; 35840];
     let mut spare = [0; 16384];
     amounts::noting::note_ranges(text, d, z.definitions, &mut known, &mut spare);
     cells::put_cells(&mut known, 0, &missing);
-    judge_objects(text, d, e, o, st, &known, z, &places)
+    judge_objects(text, d, e, o, st, &names, &known, z, &places)
 }

@@ -4,35 +4,33 @@ ghost use Prim.Native.Nat.{_+_, _*_};
 ghost use lib.Dec.{eqb};
 ghost use lib.ListN.{getD};
 ghost use Rattle.layout.specs.Kept.{bit};
+ghost use Rattle.judging.specs.Names.{IndexAt, Hashes};
 ghost use Rattle.judging.specs.Promises.{LacksRow, Lacks, Needs, Marks};
 use super::Sizes;
+use super::names;
 use blocks::cell_at;
-use blocks::is_stated;
+use rows::Found;
 use rows::cells;
-use scopes::lookups::word_under;
+use rows::finding;
 
-// Whether row i stands under the word at key and is marked, and the block does not state it.
+// Whether the attribute of row i, which stands under the word at key, is marked, and the block does not state it.
 fn lacks_row(
     text: &[u8],
     d: &[usize],
     st: &[usize],
+    names: &[usize],
     missing: &[usize],
-    key: usize,
     i: usize,
     from: usize,
     end: usize,
 ) -> bool
-    ensures { λ r. ⌜ LacksRow (now (text .entry)) (now (d .entry)) (now (st .entry)) (now (missing .entry)) key i from end r ⌝ }
+    requires { ⌜ Hashes (now text) (now d) (now st) (now names) ⌝ }
+    ensures { λ r. ⌜ LacksRow (now (text .entry)) (now (d .entry)) (now (st .entry)) (now (missing .entry)) i from end r ⌝ }
 {
-    if cell_at(d, 19, i, 0) != key {
-        return false;
-    }
     if cells::get(missing, i) == 0 {
         return false;
     }
-    let name = cell_at(d, 19, i, 2);
-    let size = cell_at(d, 19, i, 3);
-    !is_stated(text, st, from, end, name, size)
+    !names::is_stated(text, d, st, names, i, from, end)
 }
 
 // Whether a block lacks one of the attributes under the word at key, among the first n rows.
@@ -40,20 +38,25 @@ pub fn lacks(
     text: &[u8],
     d: &[usize],
     st: &[usize],
+    names: &[usize],
     missing: &[usize],
     n: usize,
     key: usize,
     from: usize,
     end: usize,
 ) -> bool
+    requires { ⌜ Hashes (now text) (now d) (now st) (now names) ⌝ }
     ensures { λ r. ⌜ Lacks (now (text .entry)) (now (d .entry)) (now (st .entry)) (now (missing .entry)) n key from end r ⌝ }
 {
     let mut i = 0;
     while i < n {
-        if lacks_row(text, d, st, missing, key, i, from, end) {
+        let Found::At(j) = finding::find_row(d, 19, n, 0, key, i) else {
+            return false;
+        };
+        if lacks_row(text, d, st, names, missing, j, from, end) {
             return true;
         }
-        i += 1;
+        i = j + 1;
     }
     false
 }
@@ -74,10 +77,12 @@ fn needs(
     d: &[usize],
     e: &[usize],
     st: &[usize],
+    names: &[usize],
     missing: &[usize],
     z: Sizes,
     j: usize,
 ) -> usize
+    requires { ⌜ IndexAt (now text) (now e) 3 1 (z .enumerators) 512 (now names) × Hashes (now text) (now d) (now st) (now names) ⌝ }
     ensures { λ r. ⌜ Needs (now (text .entry)) (now (d .entry)) (now (e .entry)) (now (st .entry)) (now (missing .entry)) z j r ⌝ }
 {
     let len = cell_at(d, 19, j, 11);
@@ -89,18 +94,26 @@ fn needs(
         return single(d, j);
     }
     let at = cell_at(d, 19, j, 10);
-    let key = word_under(text, d, e, z.enumerators, j, at, len);
+    let key = names::word_under(text, d, e, names, z.enumerators, j, at, len);
     if key == 0 {
         return 0;
     }
-    if lacks(text, d, st, missing, j, key, 0, 0) {
+    if lacks(text, d, st, names, missing, j, key, 0, 0) {
         return 1;
     }
     0
 }
 
 // The marks of all rows.
-pub fn marks(text: &[u8], d: &[usize], e: &[usize], st: &[usize], z: Sizes) -> [usize; 512]
+pub fn marks(
+    text: &[u8],
+    d: &[usize],
+    e: &[usize],
+    st: &[usize],
+    names: &[usize],
+    z: Sizes,
+) -> [usize; 512]
+    requires { ⌜ IndexAt (now text) (now e) 3 1 (z .enumerators) 512 (now names) × Hashes (now text) (now d) (now st) (now names) ⌝ }
     ensures { λ r. ⌜ Marks (now (text .entry)) (now (d .entry)) (now (e .entry)) (now (st .entry)) z r ⌝ }
 {
     let mut missing = [0; 512];
@@ -109,7 +122,7 @@ pub fn marks(text: &[u8], d: &[usize], e: &[usize], st: &[usize], z: Sizes) -> [
         if 512 <= j {
             return missing;
         }
-        let m = needs(text, d, e, st, &missing, z, j);
+        let m = needs(text, d, e, st, names, &missing, z, j);
         missing[j] = m;
         j += 1;
     }

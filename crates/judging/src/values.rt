@@ -1,15 +1,18 @@
 // The faults 14, 15 and 18 of one statement.
 ghost use mathlib.Core.Path.{_≡_};
+ghost use Prim.Native.Nat.{_+_, _*_};
+ghost use lib.ListN.{getD};
 ghost use Rattle.amounts.specs.Known.{Known};
+ghost use Rattle.scopes.specs.Promises.{FindsWord};
+ghost use Rattle.judging.specs.Names.{IndexAt, Hashes, Named};
 ghost use Rattle.judging.specs.Promises.{name-code, ReferenceFault, ValueFault, Again, OwnFault};
 use super::Sizes;
+use super::names;
 use amounts::asking::takes;
 use blocks::cell_at;
-use blocks::is_stated;
 use rows::Fault;
 use rows::Found;
 use rows::faults;
-use scopes::lookups::find_object;
 
 // Whether a word with this code is a name.
 fn is_name(code: usize) -> bool
@@ -31,12 +34,14 @@ fn is_name(code: usize) -> bool
 fn reference_fault(
     text: &[u8],
     o: &[usize],
+    names: &[usize],
     objects: usize,
     kind: usize,
     at: usize,
     len: usize,
     code: usize,
 ) -> Fault
+    requires { ⌜ IndexAt (now text) (now o) 9 3 objects 1536 (now names) ⌝ }
     ensures { λ r. ⌜ ReferenceFault (now (text .entry)) (now (o .entry)) objects kind at len code r ⌝ }
 {
     if !is_name(code) {
@@ -45,7 +50,7 @@ fn reference_fault(
             place: at,
         };
     }
-    let Found::At(_) = find_object(text, o, objects, kind, at, len) else {
+    let Found::At(_) = names::find_object(text, o, names, objects, kind, at, len) else {
         return Fault {
             number: 18,
             place: at,
@@ -64,12 +69,14 @@ fn value_fault(
     e: &[usize],
     o: &[usize],
     st: &[usize],
+    names: &[usize],
     known: &[usize],
     z: Sizes,
     k: usize,
     j: usize,
+    under: usize,
 ) -> Fault
-    requires { ⌜ Known (now text) (now d) (now known) ⌝ }
+    requires { ⌜ Known (now text) (now d) (now known) × Named (now text) (now d) (now e) (now o) (now st) z (now names) × FindsWord (now text) (now d) (now e) (z .enumerators) j (getD (now st) (k * 7 + 2) 0) (getD (now st) (k * 7 + 3) 0) under ⌝ }
     ensures { λ r. ⌜ ValueFault (now (text .entry)) (now (d .entry)) (now (e .entry)) (now (o .entry)) (now (st .entry)) z k j r ⌝ }
 {
     let at = cell_at(st, 7, k, 2);
@@ -83,16 +90,12 @@ fn value_fault(
         };
     }
     if kind < 35 {
-        let a = reference_fault(text, o, z.objects, kind - 22, at, len, code);
+        let a = reference_fault(text, o, names, z.objects, kind - 22, at, len, code);
         let brace = cell_at(st, 7, k, 5);
         let b = faults::fault_if(brace != 0, 15, brace);
         return faults::sooner(a, b);
     }
-    faults::fault_if(
-        !takes(text, d, e, known, z.enumerators, j, at, len, code),
-        15,
-        at,
-    )
+    faults::fault_if(!takes(text, d, known, j, at, code, under), 15, at)
 }
 
 // Whether the attribute of row j is single and stated before the statement of row k, in the block from `from` on.
@@ -102,19 +105,19 @@ fn again(
     e: &[usize],
     o: &[usize],
     st: &[usize],
+    names: &[usize],
     z: Sizes,
     from: usize,
     k: usize,
     j: usize,
 ) -> bool
+    requires { ⌜ Hashes (now text) (now d) (now st) (now names) ⌝ }
     ensures { λ r. ⌜ Again (now (text .entry)) (now (d .entry)) (now (e .entry)) (now (o .entry)) (now (st .entry)) z from k j r ⌝ }
 {
     if cell_at(d, 19, j, 6) != 0 {
         return false;
     }
-    let name = cell_at(st, 7, k, 0);
-    let size = cell_at(st, 7, k, 1);
-    is_stated(text, st, from, k, name, size)
+    names::is_before(text, d, st, names, from, k)
 }
 
 // 14, 15 and 18 of the statement of row k.
@@ -124,17 +127,19 @@ pub fn own_fault(
     e: &[usize],
     o: &[usize],
     st: &[usize],
+    names: &[usize],
     known: &[usize],
     z: Sizes,
     from: usize,
     k: usize,
     j: usize,
+    under: usize,
 ) -> Fault
-    requires { ⌜ Known (now text) (now d) (now known) ⌝ }
+    requires { ⌜ Known (now text) (now d) (now known) × Named (now text) (now d) (now e) (now o) (now st) z (now names) × FindsWord (now text) (now d) (now e) (z .enumerators) j (getD (now st) (k * 7 + 2) 0) (getD (now st) (k * 7 + 3) 0) under ⌝ }
     ensures { λ r. ⌜ OwnFault (now (text .entry)) (now (d .entry)) (now (e .entry)) (now (o .entry)) (now (st .entry)) z from k j r ⌝ }
 {
     let name = cell_at(st, 7, k, 0);
-    let a = faults::fault_if(again(text, d, e, o, st, z, from, k, j), 14, name);
-    let b = value_fault(text, d, e, o, st, known, z, k, j);
+    let a = faults::fault_if(again(text, d, e, o, st, names, z, from, k, j), 14, name);
+    let b = value_fault(text, d, e, o, st, names, known, z, k, j, under);
     faults::sooner(a, b)
 }

@@ -22,7 +22,7 @@ unfoldable pub object-rows : List Object → List ObjectRow
 object-rows [] = []
 object-rows (x ∷ xs) = record { kind = x .kind; word = span-of (x .word); name = span-of (x .name); block = x .block } ∷ object-rows xs
 
--- How many objects are of a kind.
+-- How many objects are of a kind: what is counted, and what "fewest and most objects" bound.
 unfoldable pub one-if : Bool → ℕ
 one-if true = 1
 one-if false = 0

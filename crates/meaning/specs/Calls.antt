@@ -23,7 +23,7 @@ pub record Rooms : Type 0 where
 abbrev pub stated-rooms : Rooms
 stated-rooms = record { definitions = 512; enumerators = 1024; objects = 256; values = 2048 }
 
--- "lent memory with less is refused".
+-- "lent memory with less is refused"; "full room is the room stated above or more".
 unfoldable pub enough : Rooms → Bool
 enough r = both (leb 512 (r .definitions)) (both (leb 1024 (r .enumerators)) (both (leb 256 (r .objects)) (leb 2048 (r .values))))
 

@@ -55,7 +55,7 @@ unfoldable mutual
   definition-rows-under no-value = []
   definition-rows-under (value w e us vs) = definition-rows us w ++ definition-rows-under vs
 
--- The row of the word w, of the attribute a: TRUE and FALSE have none.
+-- "an enumerator row its attribute and name": the row of the word w, of the attribute a. TRUE and FALSE have none.
 unfoldable pub enumerator-row : Bool → ℕ → Word → List EnumeratorRow
 enumerator-row true a w = record { attribute = a; name = span-of w } ∷ []
 enumerator-row false a w = []
@@ -69,7 +69,7 @@ unfoldable mutual
   enumerator-rows-of no-value b a = []
   enumerator-rows-of (value w e us vs) b a = enumerator-row b a w ++ (enumerator-rows us ++ enumerator-rows-of vs b a)
 
--- The two tables.
+-- The two tables, "in the order of their names in the text".
 unfoldable pub all-definition-rows : List Spec → List DefinitionRow
 all-definition-rows [] = []
 all-definition-rows (x ∷ xs) = definition-rows (x .definitions) (x .word) ++ all-definition-rows xs

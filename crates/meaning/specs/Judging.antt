@@ -25,7 +25,7 @@ unfoldable pub taken-by : Bool → Word → Option Word
 taken-by true t = none
 taken-by false t = some t
 
--- What an attribute that is not stated takes.
+-- What an attribute that is not stated takes: its default, which "NO_DEFAULT and no default" are not.
 unfoldable pub taken : Option Word → Option Word
 taken none = none
 taken (some t) = taken-by (is-no-default (sort-of (t .class))) t
@@ -90,7 +90,7 @@ unfoldable pub judged : Option Defined → List Object → Statement → (before
 judged none os x before ns k = fault-if true (x .name) 13
 judged (some d) os x before ns k = and-inside (own-faults os x d before) x (under (d .values) (x .value)) ns k
 
--- The statements of a block whose scope has the definitions ds.
+-- The statements of a block whose scope has the definitions ds: "statements in braces after a value belong to the definitions under that value".
 unfoldable pub judge : Statements → List Object → Definitions → (before : List Word) → List Fault
 judge done os ds before = []
 judge (state x inside rest) os ds before =
@@ -101,6 +101,7 @@ judge (state x inside rest) os ds before =
 unfoldable pub judge-object : File → Object → Definitions → List Fault
 judge-object f x ds = fault-if (lacks ds (names (x .statements))) (x .name) 16 ++ judge (x .statements) (f .objects) ds []
 
+-- Each object in the scope of its kind: "an object's statements belong to the definitions of its kind".
 unfoldable pub judge-objects : File → List Object → List Fault
 judge-objects f [] = []
 judge-objects f (x ∷ xs) = judge-object f x (of-kind (x .kind) (f .specs)) ++ judge-objects f xs

@@ -21,7 +21,7 @@ minus false = []
 unfoldable pub decimal : Num → List ℕ
 decimal n = minus (n .negative) ++ digits-in 20 (n .amount)
 
--- A value: a number in decimal, any other as its word stands.
+-- A value: "Numbers are decimal, with `-` if negative"; any other as its word stands.
 unfoldable pub written : Value → Word → List ℕ
 written (number n) t = decimal n
 written (truth b) t = t .bytes
@@ -35,10 +35,12 @@ unfoldable pub closed : Resolved → List ℕ → List ℕ
 closed end ls = bytesOf ";\n"
 closed (resolved t us rest) ls = bytesOf " {\n" ++ (ls ++ bytesOf "};\n")
 
+-- The lines of resolved values: name, ` = ` and value. "Every line ends in LF."
 unfoldable pub lines : Resolved → List ℕ
 lines end = []
 lines (resolved t us rest) = t .definition .name .bytes ++ (bytesOf " = " ++ (written (t .value) (t .word) ++ (closed us (lines us) ++ lines rest)))
 
+-- The objects in text order, each with its lines in braces, also where there are none.
 unfoldable pub object-lines : List Object → List Resolved → List ℕ
 object-lines [] rs = []
 object-lines (x ∷ xs) [] = []

@@ -26,7 +26,7 @@ use Rattle.meaning.specs.Answers.{Answer, refused, answer}
 
 -- What the answer to a text is, where the lent tables are long enough and no output is asked for.
 pub data Answers (s : List ℕ) : Answer → Type 0 where
-  -- 2: "text too long", at 0
+  -- 2: "text too long", at 0. "The text is at most 65,535 bytes."
   too-long : 65535 < length s → Answers s (refused 2 0)
   -- 3, 4 and 5: what the grammar stage answers
   not-grammar : (a : GrammarAnswer) → length s ≤ 65535 → (a ≡ Passes → ⊥) → StageAnswers s a → Answers s (refused (numberOf a) (placeOf a))

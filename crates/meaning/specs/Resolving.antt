@@ -45,7 +45,7 @@ unfoldable pub row-or : Option Object → ℕ
 row-or none = 0
 row-or (some x) = x .row
 
--- A name is an enumerator of the attribute's list, or an object of the reference's kind.
+-- A name is "an enumerator's or object's row": of the attribute's list, or of the reference's own kind.
 unfoldable pub named : AttributeType → List Object → Values → Word → Value
 named (integer i) os vs t = string
 named string-type os vs t = string
@@ -62,6 +62,7 @@ valued an-auto os d vs t = auto
 valued a-no-default os d vs t = auto
 valued a-name os d vs t = named (d .type) os vs t
 
+-- The value that an attribute takes by the word t, stated or not.
 unfoldable pub take-value : Bool → List Object → Definition → Values → Word → Taken
 take-value b os d vs t = record { definition = d; value = valued (sort-of (t .class)) os d vs t; stated = b; word = t }
 
@@ -89,11 +90,12 @@ unfoldable mutual
       (λ _. entries ss os d vs (λ t us. resolve-under vs os t us) rest)
       (λ _. default-entry (taken (d .default)) os d vs (λ t us. resolve-under vs os t us) rest)
 
-  -- Under the value t of a list: nothing where no value has that word, so nothing under AUTO.
+  -- Under the value t of a list: nothing where no value has that word. "AUTO stays AUTO, with nothing under it."
   pub resolve-under : Values → List Object → Word → Statements → Resolved
   resolve-under no-value os t ss = end
   resolve-under (value w e us vs) os t ss = choose (alike w t) (λ _. resolve us os ss) (λ _. resolve-under vs os t ss)
 
+-- The values of an object, in the scope of its kind.
 unfoldable pub object-values : File → Object → Resolved
 object-values f x = resolve (of-kind (x .kind) (f .specs)) (f .objects) (x .statements)
 
@@ -108,7 +110,7 @@ all-values f (x ∷ xs) = object-values f x ∷ all-values f xs
 pub data Owner : Type 0 where
   of-object of-value : ℕ → Owner
 
--- "Each holds its definition, owner, value, whether it was stated, and the place and length of the value word".
+-- "Each holds its definition, owner (..), value (..), whether it was stated, and the place and length of the value word".
 pub record ValueRow : Type 0 where
   pub definition : ℕ
   pub owner : Owner
@@ -128,6 +130,7 @@ unfoldable pub value-rows : Resolved → ℕ → Owner → List ValueRow
 value-rows end n o = []
 value-rows (resolved t us rest) n o = value-row t o ∷ (value-rows us (suc n) (of-value n) ++ value-rows rest (suc n + how-many-values us) o)
 
+-- The rows of all objects' values, "object by object in text order".
 unfoldable pub all-value-rows : List Resolved → (object number : ℕ) → List ValueRow
 all-value-rows [] o n = []
 all-value-rows (r ∷ rs) o n = value-rows r n (of-object o) ++ all-value-rows rs (suc o) (n + how-many-values r)

@@ -35,7 +35,7 @@ definitions-or (some u) = u .definitions
 unfoldable pub under : Values → Word → Definitions
 under vs t = definitions-or (find-value vs t)
 
--- The definition that a name has in a scope.
+-- The definition that a name has in a scope: what "name not defined in its scope" asks for.
 unfoldable pub find-definition : Definitions → Word → Option Defined
 find-definition no-more t = none
 find-definition (define d vs ds) t = let r = find-definition ds t in pick (alike (d .name) t) (some (record { definition = d; values = vs })) r
@@ -45,7 +45,7 @@ unfoldable pub heads : Definitions → List Definition
 heads no-more = []
 heads (define d vs ds) = d ∷ heads ds
 
--- The names of a block's own statements.
+-- The names of a block's own statements, also of one at fault: "for 16 it counts as stated".
 unfoldable pub names : Statements → List Word
 names done = []
 names (state x inside rest) = x .name ∷ names rest
@@ -103,7 +103,7 @@ is-boolean boolean = true
 is-boolean enum = false
 is-boolean (reference k) = false
 
--- A number is in the type and in the range.
+-- "Integer bounds are the type's and the range's": a number is in both.
 unfoldable pub fits-number : AttributeType → Bounds → Num → Bool
 fits-number (integer i) b n = both (in-type i n) (in-bounds n b)
 fits-number string b n = false
@@ -121,6 +121,7 @@ fits-as an-auto d vs t = d .auto
 fits-as a-no-default d vs t = false
 fits-as a-name d vs t = both (is-enum (d .type)) (is-there (find-value vs t))
 
--- The attribute d with the values vs of its list, no reference, takes the value t.
+-- The attribute d with the values vs of its list, no reference, takes the value t: else 15, "wrong sort of value, out of range, unknown
+-- enumerator, AUTO not allowed".
 unfoldable pub fits : Definition → Values → Word → Bool
 fits d vs t = fits-as (sort-of (t .class)) d vs t

@@ -44,7 +44,7 @@ through t u = record { place = t .place; length = (u .place + u .length) - t .pl
 
 -- Definitions ------------------------------------------------------------------------------------------------------------------------------
 
--- "types: UINT32, INT32, UINT64, INT64 ..; STRING ..; BOOLEAN ..; ENUM" and "reference: a kind followed by _TYPE".
+-- "types: UINT32, INT32, UINT64, INT64 ..; STRING ..; BOOLEAN ..; ENUM .." and "reference: a kind followed by `_TYPE`".
 pub data AttributeType : Type 0 where
   integer : Integer → AttributeType
   string boolean enum : AttributeType

@@ -27,6 +27,7 @@ among t (u ∷ us) = either (alike t u) (among t us)
 
 -- Numbers ----------------------------------------------------------------------------------------------------------------------------------
 
+-- The order of numbers, by sign and amount: "both ends included".
 unfoldable pub at-most : Num → Num → Bool
 at-most a b =
     pick (a .negative) (either (not (b .negative)) (leb (b .amount) (a .amount))) (both (not (b .negative)) (leb (a .amount) (b .amount)))
@@ -43,6 +44,7 @@ unfoldable pub greatest-of : Bool → ℕ → Num
 greatest-of true w = record { negative = false; amount = 2 ^ (w - 1) - 1 }
 greatest-of false w = record { negative = false; amount = 2 ^ w - 1 }
 
+-- "types: UINT32, INT32, UINT64, INT64": with a sign or without, and their bits.
 unfoldable pub signed : Integer → Bool
 signed UINT32 = false
 signed INT32 = true

@@ -22,8 +22,8 @@ use Rattle.scopes.specs.Situations.{Situation}
 use Rattle.scopes.specs.Promises.{fault-of}
 use Rattle.walk.specs.Whole.{Rooms, Stands, kind-places, SameSizes}
 use Rattle.walk.specs.declared.Walked.{Walked}
-use Rattle.reading.specs.Results.{readingOf, SpansOf}
-use Rattle.reading.specs.declared.Answer.the-variants.{Accepted}
+use Rattle.reading.specs.Results.{readingOf, SpansOf, NoSpans}
+use Rattle.reading.specs.declared.Answer.the-variants.{Accepted, Refused}
 use Rattle.reading.specs.declared.Decision.{Decision}
 use Rattle.reading.specs.declared.Reading.{Reading}
 use Rattle.reading.specs.declared.Spanned.{Spanned}
@@ -91,10 +91,16 @@ pub record Filled (s d′ e′ o′ v′ : List ℕ) (r : Reading) : Type 0 wher
   pub objects : o′ ≡ rooms-after (reading s) .objects
   pub values : v′ ≡ rooms-after (reading s) .values
 
+-- A refusal, without spans.
+pub record Unspanned (n p : ℕ) (r : Spanned) : Type 0 where
+  pub reading : r .reading ≡ readingOf (refused n p)
+  pub none : NoSpans r
+
 -- The same, with the spans of an accepted text.
 pub record FilledSpanned (s d′ e′ o′ v′ : List ℕ) (r : Spanned) : Type 0 where
   pub filled : Filled s d′ e′ o′ v′ (r .reading)
   pub spans : r .reading .answer ≡ Accepted → SpansOf s r
+  pub no-spans : (n p : ℕ) → r .reading .answer ≡ Refused n p → NoSpans r
 
 -- Blank rooms are filled.
 pub record BlankRooms (d e o v : List ℕ) : Type 0 where

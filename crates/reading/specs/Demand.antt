@@ -10,7 +10,7 @@ use Rattle.grammar.specs.Demand.{Covered, Place}
 use Rattle.reading.specs.declared.Answer.{Answer}
 use Rattle.reading.specs.declared.Answer.the-variants.{Accepted, Refused}
 
--- "A reading passes the grammar stage": it is accepted, or refused by a stage behind that one ("Stages: .. 3 to 5; 6 to 10; ..").
+-- "The grammar stage is that of 3 to 5; a reading passes it if it gives no refusal of that stage or an earlier one."
 abbrev pub PassesGrammar : Answer → Type 0
 PassesGrammar Accepted = Unit {0}
 PassesGrammar (Refused n p) = 5 < n

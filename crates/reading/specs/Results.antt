@@ -57,7 +57,13 @@ pub record SpansOf (s : List ℕ) (r : Spanned) : Type 0 where
   pub implementation : (file .implementation .place ≡ r .«implementation_at») × (file .implementation .length ≡ r .«implementation_len»)
   pub cpu : (file .cpu .place ≡ r .«cpu_at») × (file .cpu .length ≡ r .«cpu_len»)
 
--- THE CONTRACT of `read_spanned`: that of `read`, and where the text is accepted the spans are its own.
+-- There are no spans.
+pub record NoSpans (r : Spanned) : Type 0 where
+  pub implementation : (r .«implementation_at» ≡ 0) × (r .«implementation_len» ≡ 0)
+  pub cpu : (r .«cpu_at» ≡ 0) × (r .«cpu_len» ≡ 0)
+
+-- THE CONTRACT of `read_spanned`: that of `read`, and where the text is accepted the spans are its own; where it is refused there are none.
 pub record ReadsSpanned (s d e o v d′ e′ o′ v′ : List ℕ) (r : Spanned) : Type 0 where
   pub reads : Reads s d e o v d′ e′ o′ v′ (r .reading)
   pub spans : r .reading .answer ≡ Accepted → SpansOf s r
+  pub no-spans : (n p : ℕ) → r .reading .answer ≡ Refused n p → NoSpans r

@@ -7,7 +7,7 @@ ghost use Rattle.meaning.specs.Calls.{enough};
 ghost use Rattle.grammar.specs.Readers.{answerOf};
 ghost use Rattle.reading.specs.Results.{readingOf, roomsOf, Reads, ReadsSpanned};
 ghost use Rattle.reading.specs.Demand.{Demand-3};
-ghost use Rattle.reading.specs.Decisions.{grammarFault, StageFault, Decides, Settles, RoomSizes, FilledSpanned};
+ghost use Rattle.reading.specs.Decisions.{grammarFault, StageFault, Decides, Settles, RoomSizes, Unspanned, FilledSpanned};
 use grammar::Answer as Grammar;
 use grammar::Look;
 use judging::Sizes;
@@ -32,7 +32,7 @@ pub struct Reading {
     pub counts: [usize; 13],
 }
 
-// A reading, with place and length of the implementation and of the CPU's name; they mean something where it is accepted.
+// A reading, with place and length of the implementation and of the CPU's name; all 0 where it is refused.
 pub struct Spanned {
     pub reading: Reading,
     pub implementation_at: usize,
@@ -62,7 +62,7 @@ fn refusal(number: u8, place: usize) -> Reading
 }
 
 fn refused(number: u8, place: usize) -> Spanned
-    ensures { λ r. ⌜ r .reading ≡ readingOf (refused number place) ⌝ }
+    ensures { λ r. ⌜ Unspanned number place r ⌝ }
 {
     let r = refusal(number, place);
     Spanned {
@@ -235,12 +235,16 @@ fn fill(
         objects,
         values,
     );
-    Spanned {
-        reading: reading,
-        implementation_at: w.implementation_at,
-        implementation_len: w.implementation_len,
-        cpu_at: w.cpu_at,
-        cpu_len: w.cpu_len,
+    let answer = reading.answer;
+    match answer {
+        Answer::Refused(number, place) => refused(number, place),
+        Answer::Accepted => Spanned {
+            reading: reading,
+            implementation_at: w.implementation_at,
+            implementation_len: w.implementation_len,
+            cpu_at: w.cpu_at,
+            cpu_len: w.cpu_len,
+        },
     }
 }
 

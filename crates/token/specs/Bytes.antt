@@ -14,6 +14,7 @@ between lo hi b = both (leb lo b) (leb b hi)
 abbrev pub isLetter : ℕ → Bool
 isLetter b = either (between 65 90 b) (either (between 97 122 b) (eqb b 95))
 
+-- "digits"
 abbrev pub isDigit : ℕ → Bool
 isDigit b = between 48 57 b
 
@@ -44,6 +45,7 @@ pub data Class : Type 0 where
   slash : Class
   other : Class
 
+-- what a byte can begin, by the rules of "Tokens"
 unfoldable pub classOf : ℕ → Class
 classOf b =
     pick (isLetter b) letter

@@ -1,6 +1,6 @@
 -- `judging::judge`, `judging::judge_block` and `judging::judge_one` meet their contracts: the rows of a block in braces are fewer.
 -- Assumes nothing.
-use Rattle.judging.proofs.Judgements.{Judging, judging-start, judging-step, judging-end, block-by, one-undefined, one-fault, one-inside}
+use Rattle.judging.proofs.Judgements.{Judging, judging-start, judging-step, judging-end, block-by, one-undefined, one-fault, one-inside, under-at}
 use Rattle.blocks.proofs.Ranges.{after-later, after-inside}
 use Rattle.scopes.specs.Promises.{FindsDefinition}
 use Prim.Native.Nat.{_+_, _*_, _-_, _≤_}
@@ -22,49 +22,49 @@ use Rattle.judging.proofs.+judge+judge_block+judge_one.Lts-judge_one as
 use Rattle.blocks.proofs.after.Reads as after-reads
 use Rattle.blocks.proofs.cell_at.Reads as cell-at-reads
 use Rattle.judging.proofs.lack_fault.Reads as lack-fault-reads
-use Rattle.scopes.proofs.lookups.find_definition.Reads as find-definition-reads
-use Rattle.scopes.proofs.lookups.word_under.Reads as word-under-reads
+use Rattle.judging.proofs.names.find_definition.Reads as find-definition-reads
+use Rattle.judging.proofs.names.word_under.Reads as word-under-reads
 use Rattle.judging.proofs.values.own_fault.Reads as own-fault-reads
 use Rattle.rows.proofs.faults.is_fault.Reads as is-fault-reads
 use Rattle.rows.proofs.faults.sooner.Reads as sooner-reads
 use Rattle.judging.proofs.+judge+judge_block+judge_one.{statement}
 use Rattle.judging.proofs.+judge+judge_block+judge_one.Tie.{close}
 
-abbrev μ-judge : Measures 6 judge-kinds.ps ℕ
-μ-judge κs a = 3 * (a .1 .1 .1 .1 .1 .1 .1 .1 .1 .0 - a .1 .1 .1 .1 .1 .1 .1 .1 .0) + 1
+abbrev μ-judge : Measures 7 judge-kinds.ps ℕ
+μ-judge κs a = 3 * (a .1 .1 .1 .1 .1 .1 .1 .1 .1 .1 .0 - a .1 .1 .1 .1 .1 .1 .1 .1 .1 .0) + 1
 
-abbrev μ-judge-block : Measures 6 judge-block-kinds.ps ℕ
-μ-judge-block κs a = 3 * (a .1 .1 .1 .1 .1 .1 .1 .1 .1 .0 - a .1 .1 .1 .1 .1 .1 .1 .1 .0) + 2
+abbrev μ-judge-block : Measures 7 judge-block-kinds.ps ℕ
+μ-judge-block κs a = 3 * (a .1 .1 .1 .1 .1 .1 .1 .1 .1 .1 .0 - a .1 .1 .1 .1 .1 .1 .1 .1 .1 .0) + 2
 
-abbrev μ-judge-one : Measures 6 judge-one-kinds.ps ℕ
-μ-judge-one κs a = 3 * (a .1 .1 .1 .1 .1 .1 .1 .1 .1 .1 .0 - a .1 .1 .1 .1 .1 .1 .1 .1 .1 .0)
+abbrev μ-judge-one : Measures 7 judge-one-kinds.ps ℕ
+μ-judge-one κs a = 3 * (a .1 .1 .1 .1 .1 .1 .1 .1 .1 .1 .1 .0 - a .1 .1 .1 .1 .1 .1 .1 .1 .1 .1 .0)
 
-abbrev judge-at : ℕ → In 6 judge-kinds.ps
-judge-at t = and 6 judge-kinds.ps (is 6 judge-kinds.ps μ-judge t) judge.Pre
+abbrev judge-at : ℕ → In 7 judge-kinds.ps
+judge-at t = and 7 judge-kinds.ps (is 7 judge-kinds.ps μ-judge t) judge.Pre
 
-abbrev judge-below : ℕ → In 6 judge-kinds.ps
-judge-below t = and 6 judge-kinds.ps (falls 6 judge-kinds.ps _<_ μ-judge t) judge.Pre
+abbrev judge-below : ℕ → In 7 judge-kinds.ps
+judge-below t = and 7 judge-kinds.ps (falls 7 judge-kinds.ps _<_ μ-judge t) judge.Pre
 
-abbrev judge-block-at : ℕ → In 6 judge-block-kinds.ps
+abbrev judge-block-at : ℕ → In 7 judge-block-kinds.ps
 judge-block-at t =
-    and 6 judge-block-kinds.ps (is 6 judge-block-kinds.ps μ-judge-block t) judge-block.Pre
+    and 7 judge-block-kinds.ps (is 7 judge-block-kinds.ps μ-judge-block t) judge-block.Pre
 
-abbrev judge-block-below : ℕ → In 6 judge-block-kinds.ps
+abbrev judge-block-below : ℕ → In 7 judge-block-kinds.ps
 judge-block-below t =
-    and 6 judge-block-kinds.ps (falls 6 judge-block-kinds.ps _<_ μ-judge-block t) judge-block.Pre
+    and 7 judge-block-kinds.ps (falls 7 judge-block-kinds.ps _<_ μ-judge-block t) judge-block.Pre
 
-abbrev judge-one-at : ℕ → In 6 judge-one-kinds.ps
-judge-one-at t = and 6 judge-one-kinds.ps (is 6 judge-one-kinds.ps μ-judge-one t) judge-one.Pre
+abbrev judge-one-at : ℕ → In 7 judge-one-kinds.ps
+judge-one-at t = and 7 judge-one-kinds.ps (is 7 judge-one-kinds.ps μ-judge-one t) judge-one.Pre
 
-abbrev judge-one-below : ℕ → In 6 judge-one-kinds.ps
+abbrev judge-one-below : ℕ → In 7 judge-one-kinds.ps
 judge-one-below t =
-    and 6 judge-one-kinds.ps (falls 6 judge-one-kinds.ps _<_ μ-judge-one t) judge-one.Pre
+    and 7 judge-one-kinds.ps (falls 7 judge-one-kinds.ps _<_ μ-judge-one t) judge-one.Pre
 
 abbrev judge-Inv-loop : judge-lts.InvT-loop
-judge-Inv-loop text d e o st missing z key from end best₀ k₀ best k = (from ≤ k) × Judging text d e o st missing z key from end k best
+judge-Inv-loop text d e o st names missing z key from end best₀ k₀ best k = (from ≤ k) × Judging text d e o st missing z key from end k best
 
 abbrev judge-μ-loop : judge-lts.MeasureT-loop
-judge-μ-loop text d e o st missing z key from end best₀ k₀ best k = end - k
+judge-μ-loop text d e o st names missing z key from end best₀ k₀ best k = end - k
 
 judge-loop-holds : (t : ℕ) → judge-lts.Need-loop-holds (
   after-reads.Asked,
@@ -94,7 +94,7 @@ judge-judge-one-requires : (t : ℕ) → judge-lts.Need-judge-one-requires (
   sooner-reads.Asked,
   sooner-reads.Learnt,
 ) (judge-at t) judge.Post judge-Inv-loop judge-μ-loop
-judge-judge-one-requires t c κs = (omega (arith, (c .after .ensures), after-later (c .before .before .before .before .before .before .before .before .before .args .st .now) (c .before .before .loop .k) (c .before .before .before .before .before .before .before .before .before .args .end) (c .before .loop-test .taken), after-inside (c .before .before .before .before .before .before .before .before .before .args .st .now) (c .before .before .loop .k) (c .before .before .before .before .before .before .before .before .before .args .end), (c .before .before .loop .inv .0), (c .before .before .before .before .before .before .before .before .before .pre .0)), (omega (arith, (c .after .ensures), after-later (c .before .before .before .before .before .before .before .before .before .args .st .now) (c .before .before .loop .k) (c .before .before .before .before .before .before .before .before .before .args .end) (c .before .loop-test .taken), after-inside (c .before .before .before .before .before .before .before .before .before .args .st .now) (c .before .before .loop .k) (c .before .before .before .before .before .before .before .before .before .args .end), (c .before .before .loop .inv .0), (c .before .before .before .before .before .before .before .before .before .pre .0)), (c .before .before .before .before .before .before .before .before .before .pre .1)))
+judge-judge-one-requires t c κs = (omega (arith, (c .after .ensures), after-later (c .before .before .before .before .before .before .before .before .before .before .args .st .now) (c .before .before .loop .k) (c .before .before .before .before .before .before .before .before .before .before .args .end) (c .before .loop-test .taken), after-inside (c .before .before .before .before .before .before .before .before .before .before .args .st .now) (c .before .before .loop .k) (c .before .before .before .before .before .before .before .before .before .before .args .end), (c .before .before .loop .inv .0), (c .before .before .before .before .before .before .before .before .before .before .pre .0)), (omega (arith, (c .after .ensures), after-later (c .before .before .before .before .before .before .before .before .before .before .args .st .now) (c .before .before .loop .k) (c .before .before .before .before .before .before .before .before .before .before .args .end) (c .before .loop-test .taken), after-inside (c .before .before .before .before .before .before .before .before .before .before .args .st .now) (c .before .before .loop .k) (c .before .before .before .before .before .before .before .before .before .before .args .end), (c .before .before .loop .inv .0), (c .before .before .before .before .before .before .before .before .before .before .pre .0)), (c .before .before .before .before .before .before .before .before .before .before .pre .1 .0), (c .before .before .before .before .before .before .before .before .before .before .pre .1 .1)))
 
 judge-sooner-requires : (t : ℕ) → judge-lts.Need-sooner-requires (
   after-reads.Asked,
@@ -114,7 +114,7 @@ judge-loop-less : (t : ℕ) → judge-lts.Need-loop-less (
   sooner-reads.Asked,
   sooner-reads.Learnt,
 ) (judge-at t) judge.Post judge-Inv-loop judge-μ-loop
-judge-loop-less t c = omega (arith, (c .before .before .after .ensures), after-later (c .before .before .before .before .before .before .before .before .before .before .before .args .st .now) (c .before .before .before .before .loop .k) (c .before .before .before .before .before .before .before .before .before .before .before .args .end) (c .before .before .before .loop-test .taken), after-inside (c .before .before .before .before .before .before .before .before .before .before .before .args .st .now) (c .before .before .before .before .loop .k) (c .before .before .before .before .before .before .before .before .before .before .before .args .end))
+judge-loop-less t c = omega (arith, (c .before .before .after .ensures), after-later (c .before .before .before .before .before .before .before .before .before .before .before .before .args .st .now) (c .before .before .before .before .loop .k) (c .before .before .before .before .before .before .before .before .before .before .before .before .args .end) (c .before .before .before .loop-test .taken), after-inside (c .before .before .before .before .before .before .before .before .before .before .before .before .args .st .now) (c .before .before .before .before .loop .k) (c .before .before .before .before .before .before .before .before .before .before .before .before .args .end))
 
 judge-loop-again : (t : ℕ) → judge-lts.Need-loop-again (
   after-reads.Asked,
@@ -124,7 +124,7 @@ judge-loop-again : (t : ℕ) → judge-lts.Need-loop-again (
   sooner-reads.Asked,
   sooner-reads.Learnt,
 ) (judge-at t) judge.Post judge-Inv-loop judge-μ-loop
-judge-loop-again t c = (omega (arith, (c .before .before .after .ensures), after-later (c .before .before .before .before .before .before .before .before .before .before .before .args .st .now) (c .before .before .before .before .loop .k) (c .before .before .before .before .before .before .before .before .before .before .before .args .end) (c .before .before .before .loop-test .taken), (c .before .before .before .before .loop .inv .0)), judging-step _ _ _ _ _ _ _ _ _ _ (c .before .before .before .before .loop .k) (c .before .before .after .result) (c .before .before .before .before .loop .best) (c .before .judge-one .result) (c .sooner .result) (c .before .before .after .ensures) (c .sooner .ensures) (c .before .before .before .loop-test .taken) (c .before .judge-one .ensures) (c .before .before .before .before .loop .inv .1))
+judge-loop-again t c = (omega (arith, (c .before .before .after .ensures), after-later (c .before .before .before .before .before .before .before .before .before .before .before .before .args .st .now) (c .before .before .before .before .loop .k) (c .before .before .before .before .before .before .before .before .before .before .before .before .args .end) (c .before .before .before .loop-test .taken), (c .before .before .before .before .loop .inv .0)), judging-step _ _ _ _ _ _ _ _ _ _ (c .before .before .before .before .loop .k) (c .before .before .after .result) (c .before .before .before .before .loop .best) (c .before .judge-one .result) (c .sooner .result) (c .before .before .after .ensures) (c .sooner .ensures) (c .before .before .before .loop-test .taken) (c .before .judge-one .ensures) (c .before .before .before .before .loop .inv .1))
 
 judge-returns : (t : ℕ) → judge-lts.Need-returns (
   after-reads.Asked,
@@ -144,7 +144,7 @@ judge-block-lack-fault-requires : (t : ℕ) → judge-block-lts.Need-lack-fault-
   sooner-reads.Asked,
   sooner-reads.Learnt,
 ) (judge-block-at t) judge-block.Post
-judge-block-lack-fault-requires t c κs = tt
+judge-block-lack-fault-requires t c κs = (c .before .before .before .before .before .before .before .pre .1 .1 .hashes)
 
 judge-block-judge-requires : (t : ℕ) → judge-block-lts.Need-judge-requires (
   lack-fault-reads.Asked,
@@ -154,7 +154,7 @@ judge-block-judge-requires : (t : ℕ) → judge-block-lts.Need-judge-requires (
   sooner-reads.Asked,
   sooner-reads.Learnt,
 ) (judge-block-at t) judge-block.Post
-judge-block-judge-requires t c κs = (omega (arith, (c .before .before .before .before .before .before .before .pre .0)), (c .before .before .before .before .before .before .before .pre .1))
+judge-block-judge-requires t c κs = (omega (arith, (c .before .before .before .before .before .before .before .before .pre .0)), (c .before .before .before .before .before .before .before .before .pre .1))
 
 judge-block-sooner-requires : (t : ℕ) → judge-block-lts.Need-sooner-requires (
   lack-fault-reads.Asked,
@@ -181,12 +181,12 @@ judge-one-cell-at-requires : (t : ℕ) → judge-one-lts.Need-cell-at-requires (
   cell-at-reads.Learnt,
   find-definition-reads.Asked,
   find-definition-reads.Learnt,
+  word-under-reads.Asked,
+  word-under-reads.Learnt,
   own-fault-reads.Asked,
   own-fault-reads.Learnt,
   is-fault-reads.Asked,
   is-fault-reads.Learnt,
-  word-under-reads.Asked,
-  word-under-reads.Learnt,
   judge-block-below t,
   judge-block.Post,
 ) (judge-one-at t) judge-one.Post
@@ -197,12 +197,12 @@ judge-one-cell-at-requires-2 : (t : ℕ) → judge-one-lts.Need-cell-at-requires
   cell-at-reads.Learnt,
   find-definition-reads.Asked,
   find-definition-reads.Learnt,
+  word-under-reads.Asked,
+  word-under-reads.Learnt,
   own-fault-reads.Asked,
   own-fault-reads.Learnt,
   is-fault-reads.Asked,
   is-fault-reads.Learnt,
-  word-under-reads.Asked,
-  word-under-reads.Learnt,
   judge-block-below t,
   judge-block.Post,
 ) (judge-one-at t) judge-one.Post
@@ -213,28 +213,28 @@ judge-one-find-definition-requires : (t : ℕ) → judge-one-lts.Need-find-defin
   cell-at-reads.Learnt,
   find-definition-reads.Asked,
   find-definition-reads.Learnt,
+  word-under-reads.Asked,
+  word-under-reads.Learnt,
   own-fault-reads.Asked,
   own-fault-reads.Learnt,
   is-fault-reads.Asked,
   is-fault-reads.Learnt,
-  word-under-reads.Asked,
-  word-under-reads.Learnt,
   judge-block-below t,
   judge-block.Post,
 ) (judge-one-at t) judge-one.Post
-judge-one-find-definition-requires t c κs = tt
+judge-one-find-definition-requires t c κs = (c .before .before .before .before .before .before .before .before .before .pre .1 .2 .definitions)
 
 judge-one-enum-known-j : (t : ℕ) → judge-one-lts.Need-enum-known-j (
   cell-at-reads.Asked,
   cell-at-reads.Learnt,
   find-definition-reads.Asked,
   find-definition-reads.Learnt,
+  word-under-reads.Asked,
+  word-under-reads.Learnt,
   own-fault-reads.Asked,
   own-fault-reads.Learnt,
   is-fault-reads.Asked,
   is-fault-reads.Learnt,
-  word-under-reads.Asked,
-  word-under-reads.Learnt,
   judge-block-below t,
   judge-block.Post,
 ) (judge-one-at t) judge-one.Post
@@ -245,12 +245,12 @@ judge-one-enum-told : (t : ℕ) → judge-one-lts.Need-enum-told (
   cell-at-reads.Learnt,
   find-definition-reads.Asked,
   find-definition-reads.Learnt,
+  word-under-reads.Asked,
+  word-under-reads.Learnt,
   own-fault-reads.Asked,
   own-fault-reads.Learnt,
   is-fault-reads.Asked,
   is-fault-reads.Learnt,
-  word-under-reads.Asked,
-  word-under-reads.Learnt,
   judge-block-below t,
   judge-block.Post,
 ) (judge-one-at t) judge-one.Post
@@ -261,76 +261,28 @@ judge-one-returns : (t : ℕ) → judge-one-lts.Need-returns (
   cell-at-reads.Learnt,
   find-definition-reads.Asked,
   find-definition-reads.Learnt,
+  word-under-reads.Asked,
+  word-under-reads.Learnt,
   own-fault-reads.Asked,
   own-fault-reads.Learnt,
   is-fault-reads.Asked,
   is-fault-reads.Learnt,
-  word-under-reads.Asked,
-  word-under-reads.Learnt,
   judge-block-below t,
   judge-block.Post,
 ) (judge-one-at t) judge-one.Post
-judge-one-returns t c = one-undefined _ _ _ _ _ _ _ _ _ _ _ (c .before .before .before .before .cell-at .result) (c .before .before .before .cell-at2 .result) (c .before .before .before .before .cell-at .ensures) (c .before .before .before .cell-at2 .ensures) (subst (λ r. FindsDefinition (c .before .before .before .before .before .before .before .before .before .before .before .args .text .now) (c .before .before .before .before .before .before .before .before .before .before .before .args .d .now) ((c .before .before .before .before .before .before .before .before .before .before .before .args .z) .definitions) (c .before .before .before .before .before .before .before .before .before .before .before .args .key) (c .before .before .before .before .cell-at .result) (c .before .before .before .cell-at2 .result) r) ((c .enum-told .given) .1) (c .before .before .find-definition .ensures))
-
-judge-one-own-fault-requires : (t : ℕ) → judge-one-lts.Need-own-fault-requires (
-  cell-at-reads.Asked,
-  cell-at-reads.Learnt,
-  find-definition-reads.Asked,
-  find-definition-reads.Learnt,
-  own-fault-reads.Asked,
-  own-fault-reads.Learnt,
-  is-fault-reads.Asked,
-  is-fault-reads.Learnt,
-  word-under-reads.Asked,
-  word-under-reads.Learnt,
-  judge-block-below t,
-  judge-block.Post,
-) (judge-one-at t) judge-one.Post
-judge-one-own-fault-requires t c κs = (c .before .before .before .before .before .before .before .before .before .before .before .before .pre .1 .1)
-
-judge-one-is-fault-requires : (t : ℕ) → judge-one-lts.Need-is-fault-requires (
-  cell-at-reads.Asked,
-  cell-at-reads.Learnt,
-  find-definition-reads.Asked,
-  find-definition-reads.Learnt,
-  own-fault-reads.Asked,
-  own-fault-reads.Learnt,
-  is-fault-reads.Asked,
-  is-fault-reads.Learnt,
-  word-under-reads.Asked,
-  word-under-reads.Learnt,
-  judge-block-below t,
-  judge-block.Post,
-) (judge-one-at t) judge-one.Post
-judge-one-is-fault-requires t c κs = tt
-
-judge-one-returns-2 : (t : ℕ) → judge-one-lts.Need-returns-2 (
-  cell-at-reads.Asked,
-  cell-at-reads.Learnt,
-  find-definition-reads.Asked,
-  find-definition-reads.Learnt,
-  own-fault-reads.Asked,
-  own-fault-reads.Learnt,
-  is-fault-reads.Asked,
-  is-fault-reads.Learnt,
-  word-under-reads.Asked,
-  word-under-reads.Learnt,
-  judge-block-below t,
-  judge-block.Post,
-) (judge-one-at t) judge-one.Post
-judge-one-returns-2 t c = one-fault _ _ _ _ _ _ _ _ _ _ _ (c .before .before .before .before .before .before .before .before .cell-at .result) (c .before .before .before .before .before .before .before .cell-at2 .result) (c .before .before .before .before .before .before .before .before .cell-at .ensures) (c .before .before .before .before .before .before .before .cell-at2 .ensures) _ (c .before .before .own-fault .result) (subst (λ r. FindsDefinition (c .before .before .before .before .before .before .before .before .before .before .before .before .before .before .before .args .text .now) (c .before .before .before .before .before .before .before .before .before .before .before .before .before .before .before .args .d .now) ((c .before .before .before .before .before .before .before .before .before .before .before .before .before .before .before .args .z) .definitions) (c .before .before .before .before .before .before .before .before .before .before .before .before .before .before .before .args .key) (c .before .before .before .before .before .before .before .before .cell-at .result) (c .before .before .before .before .before .before .before .cell-at2 .result) r) ((c .before .before .before .before .j .given) .1) (c .before .before .before .before .before .before .find-definition .ensures)) (c .before .before .own-fault .ensures) (sym (c .before .is-fault .ensures) ∙ (c .if1 .taken))
+judge-one-returns t c = one-undefined _ _ _ _ _ _ _ _ _ _ _ (c .before .before .before .before .cell-at .result) (c .before .before .before .cell-at2 .result) (c .before .before .before .before .cell-at .ensures) (c .before .before .before .cell-at2 .ensures) (subst (λ r. FindsDefinition (c .before .before .before .before .before .before .before .before .before .before .before .before .args .text .now) (c .before .before .before .before .before .before .before .before .before .before .before .before .args .d .now) ((c .before .before .before .before .before .before .before .before .before .before .before .before .args .z) .definitions) (c .before .before .before .before .before .before .before .before .before .before .before .before .args .key) (c .before .before .before .before .cell-at .result) (c .before .before .before .cell-at2 .result) r) ((c .enum-told .given) .1) (c .before .before .find-definition .ensures))
 
 judge-one-cell-at-requires-3 : (t : ℕ) → judge-one-lts.Need-cell-at-requires-3 (
   cell-at-reads.Asked,
   cell-at-reads.Learnt,
   find-definition-reads.Asked,
   find-definition-reads.Learnt,
+  word-under-reads.Asked,
+  word-under-reads.Learnt,
   own-fault-reads.Asked,
   own-fault-reads.Learnt,
   is-fault-reads.Asked,
   is-fault-reads.Learnt,
-  word-under-reads.Asked,
-  word-under-reads.Learnt,
   judge-block-below t,
   judge-block.Post,
 ) (judge-one-at t) judge-one.Post
@@ -341,12 +293,12 @@ judge-one-cell-at-requires-4 : (t : ℕ) → judge-one-lts.Need-cell-at-requires
   cell-at-reads.Learnt,
   find-definition-reads.Asked,
   find-definition-reads.Learnt,
+  word-under-reads.Asked,
+  word-under-reads.Learnt,
   own-fault-reads.Asked,
   own-fault-reads.Learnt,
   is-fault-reads.Asked,
   is-fault-reads.Learnt,
-  word-under-reads.Asked,
-  word-under-reads.Learnt,
   judge-block-below t,
   judge-block.Post,
 ) (judge-one-at t) judge-one.Post
@@ -357,64 +309,112 @@ judge-one-word-under-requires : (t : ℕ) → judge-one-lts.Need-word-under-requ
   cell-at-reads.Learnt,
   find-definition-reads.Asked,
   find-definition-reads.Learnt,
+  word-under-reads.Asked,
+  word-under-reads.Learnt,
   own-fault-reads.Asked,
   own-fault-reads.Learnt,
   is-fault-reads.Asked,
   is-fault-reads.Learnt,
-  word-under-reads.Asked,
-  word-under-reads.Learnt,
   judge-block-below t,
   judge-block.Post,
 ) (judge-one-at t) judge-one.Post
-judge-one-word-under-requires t c κs = tt
+judge-one-word-under-requires t c κs = (c .before .before .before .before .before .before .before .before .before .before .before .before .before .before .before .pre .1 .2 .enumerators)
+
+judge-one-own-fault-requires : (t : ℕ) → judge-one-lts.Need-own-fault-requires (
+  cell-at-reads.Asked,
+  cell-at-reads.Learnt,
+  find-definition-reads.Asked,
+  find-definition-reads.Learnt,
+  word-under-reads.Asked,
+  word-under-reads.Learnt,
+  own-fault-reads.Asked,
+  own-fault-reads.Learnt,
+  is-fault-reads.Asked,
+  is-fault-reads.Learnt,
+  judge-block-below t,
+  judge-block.Post,
+) (judge-one-at t) judge-one.Post
+judge-one-own-fault-requires t c κs = ((c .before .before .before .before .before .before .before .before .before .before .before .before .before .before .before .before .pre .1 .1), (c .before .before .before .before .before .before .before .before .before .before .before .before .before .before .before .before .pre .1 .2), under-at _ _ _ (c .before .before .before .before .before .before .before .before .before .before .before .before .before .before .before .before .args .st .now) _ _ (c .before .before .before .before .before .before .before .before .before .before .before .before .before .before .before .before .args .k) _ _ _ (c .before .before .cell-at3 .ensures) (c .before .cell-at4 .ensures) (c .word-under .ensures))
+
+judge-one-is-fault-requires : (t : ℕ) → judge-one-lts.Need-is-fault-requires (
+  cell-at-reads.Asked,
+  cell-at-reads.Learnt,
+  find-definition-reads.Asked,
+  find-definition-reads.Learnt,
+  word-under-reads.Asked,
+  word-under-reads.Learnt,
+  own-fault-reads.Asked,
+  own-fault-reads.Learnt,
+  is-fault-reads.Asked,
+  is-fault-reads.Learnt,
+  judge-block-below t,
+  judge-block.Post,
+) (judge-one-at t) judge-one.Post
+judge-one-is-fault-requires t c κs = tt
+
+judge-one-returns-2 : (t : ℕ) → judge-one-lts.Need-returns-2 (
+  cell-at-reads.Asked,
+  cell-at-reads.Learnt,
+  find-definition-reads.Asked,
+  find-definition-reads.Learnt,
+  word-under-reads.Asked,
+  word-under-reads.Learnt,
+  own-fault-reads.Asked,
+  own-fault-reads.Learnt,
+  is-fault-reads.Asked,
+  is-fault-reads.Learnt,
+  judge-block-below t,
+  judge-block.Post,
+) (judge-one-at t) judge-one.Post
+judge-one-returns-2 t c = one-fault _ _ _ _ _ _ _ _ _ _ _ (c .before .before .before .before .before .before .before .before .before .before .before .cell-at .result) (c .before .before .before .before .before .before .before .before .before .before .cell-at2 .result) (c .before .before .before .before .before .before .before .before .before .before .before .cell-at .ensures) (c .before .before .before .before .before .before .before .before .before .before .cell-at2 .ensures) _ (c .before .before .own-fault .result) (subst (λ r. FindsDefinition (c .before .before .before .before .before .before .before .before .before .before .before .before .before .before .before .before .before .before .before .args .text .now) (c .before .before .before .before .before .before .before .before .before .before .before .before .before .before .before .before .before .before .before .args .d .now) ((c .before .before .before .before .before .before .before .before .before .before .before .before .before .before .before .before .before .before .before .args .z) .definitions) (c .before .before .before .before .before .before .before .before .before .before .before .before .before .before .before .before .before .before .before .args .key) (c .before .before .before .before .before .before .before .before .before .before .before .cell-at .result) (c .before .before .before .before .before .before .before .before .before .before .cell-at2 .result) r) ((c .before .before .before .before .before .before .before .j .given) .1) (c .before .before .before .before .before .before .before .before .before .find-definition .ensures)) (c .before .before .own-fault .ensures) (sym (c .before .is-fault .ensures) ∙ (c .if1 .taken))
 
 judge-one-add-judge-block : (t : ℕ) → judge-one-lts.Need-add-judge-block (
   cell-at-reads.Asked,
   cell-at-reads.Learnt,
   find-definition-reads.Asked,
   find-definition-reads.Learnt,
+  word-under-reads.Asked,
+  word-under-reads.Learnt,
   own-fault-reads.Asked,
   own-fault-reads.Learnt,
   is-fault-reads.Asked,
   is-fault-reads.Learnt,
-  word-under-reads.Asked,
-  word-under-reads.Learnt,
   judge-block-below t,
   judge-block.Post,
 ) (judge-one-at t) judge-one.Post
-judge-one-add-judge-block t c = omega (arith, (c .before .before .before .before .before .before .before .before .before .before .before .before .before .before .before .before .before .before .pre .1), (c .before .before .before .before .before .before .before .before .before .before .before .before .before .before .before .before .before .before .fits .end))
+judge-one-add-judge-block t c = omega (arith, (c .before .before .before .before .before .before .before .before .before .before .before .before .before .before .before .before .before .before .before .pre .1), (c .before .before .before .before .before .before .before .before .before .before .before .before .before .before .before .before .before .before .before .fits .end))
 
 judge-one-judge-block-requires : (t : ℕ) → judge-one-lts.Need-judge-block-requires (
   cell-at-reads.Asked,
   cell-at-reads.Learnt,
   find-definition-reads.Asked,
   find-definition-reads.Learnt,
+  word-under-reads.Asked,
+  word-under-reads.Learnt,
   own-fault-reads.Asked,
   own-fault-reads.Learnt,
   is-fault-reads.Asked,
   is-fault-reads.Learnt,
-  word-under-reads.Asked,
-  word-under-reads.Learnt,
   judge-block-below t,
   judge-block.Post,
 ) (judge-one-at t) judge-one.Post
-judge-one-judge-block-requires t c κs = (omega (arith, (c .before .before .before .before .before .before .before .before .before .before .before .before .before .before .before .before .before .before .pre .0), (c .before .before .before .before .before .before .before .before .before .before .before .before .before .before .before .before .before .before .pre .1)), (c .before .before .before .before .before .before .before .before .before .before .before .before .before .before .before .before .before .before .pre .1 .1))
+judge-one-judge-block-requires t c κs = (omega (arith, (c .before .before .before .before .before .before .before .before .before .before .before .before .before .before .before .before .before .before .before .pre .0), (c .before .before .before .before .before .before .before .before .before .before .before .before .before .before .before .before .before .before .before .pre .1)), ((c .before .before .before .before .before .before .before .before .before .before .before .before .before .before .before .before .before .before .before .pre .1 .1), (c .before .before .before .before .before .before .before .before .before .before .before .before .before .before .before .before .before .before .before .pre .1 .2)))
 
 judge-one-returns-3 : (t : ℕ) → judge-one-lts.Need-returns-3 (
   cell-at-reads.Asked,
   cell-at-reads.Learnt,
   find-definition-reads.Asked,
   find-definition-reads.Learnt,
+  word-under-reads.Asked,
+  word-under-reads.Learnt,
   own-fault-reads.Asked,
   own-fault-reads.Learnt,
   is-fault-reads.Asked,
   is-fault-reads.Learnt,
-  word-under-reads.Asked,
-  word-under-reads.Learnt,
   judge-block-below t,
   judge-block.Post,
 ) (judge-one-at t) judge-one.Post
-judge-one-returns-3 t c = one-inside _ _ _ _ _ _ _ _ _ _ _ (c .before .before .before .before .before .before .before .before .before .before .before .before .cell-at .result) (c .before .before .before .before .before .before .before .before .before .before .before .cell-at2 .result) (c .before .before .before .before .before .before .before .before .before .before .before .before .cell-at .ensures) (c .before .before .before .before .before .before .before .before .before .before .before .cell-at2 .ensures) _ (c .before .before .before .cell-at3 .result) (c .before .before .cell-at4 .result) (c .before .word-under .result) (c .before .before .before .before .before .before .own-fault .result) (c .judge-block .result) (subst (λ r. FindsDefinition (c .before .before .before .before .before .before .before .before .before .before .before .before .before .before .before .before .before .before .before .args .text .now) (c .before .before .before .before .before .before .before .before .before .before .before .before .before .before .before .before .before .before .before .args .d .now) ((c .before .before .before .before .before .before .before .before .before .before .before .before .before .before .before .before .before .before .before .args .z) .definitions) (c .before .before .before .before .before .before .before .before .before .before .before .before .before .before .before .before .before .before .before .args .key) (c .before .before .before .before .before .before .before .before .before .before .before .before .cell-at .result) (c .before .before .before .before .before .before .before .before .before .before .before .cell-at2 .result) r) ((c .before .before .before .before .before .before .before .before .j .given) .1) (c .before .before .before .before .before .before .before .before .before .before .find-definition .ensures)) (c .before .before .before .before .before .before .own-fault .ensures) (sym (c .before .before .before .before .before .is-fault .ensures) ∙ (c .before .before .before .before .if1 .left)) (c .before .before .before .cell-at3 .ensures) (c .before .before .cell-at4 .ensures) (c .before .word-under .ensures) (c .judge-block .ensures)
+judge-one-returns-3 t c = one-inside _ _ _ _ _ _ _ _ _ _ _ (c .before .before .before .before .before .before .before .before .before .before .before .before .cell-at .result) (c .before .before .before .before .before .before .before .before .before .before .before .cell-at2 .result) (c .before .before .before .before .before .before .before .before .before .before .before .before .cell-at .ensures) (c .before .before .before .before .before .before .before .before .before .before .before .cell-at2 .ensures) _ (c .before .before .before .before .before .before .cell-at3 .result) (c .before .before .before .before .before .cell-at4 .result) (c .before .before .before .before .word-under .result) (c .before .before .before .own-fault .result) (c .judge-block .result) (subst (λ r. FindsDefinition (c .before .before .before .before .before .before .before .before .before .before .before .before .before .before .before .before .before .before .before .before .args .text .now) (c .before .before .before .before .before .before .before .before .before .before .before .before .before .before .before .before .before .before .before .before .args .d .now) ((c .before .before .before .before .before .before .before .before .before .before .before .before .before .before .before .before .before .before .before .before .args .z) .definitions) (c .before .before .before .before .before .before .before .before .before .before .before .before .before .before .before .before .before .before .before .before .args .key) (c .before .before .before .before .before .before .before .before .before .before .before .before .cell-at .result) (c .before .before .before .before .before .before .before .before .before .before .before .cell-at2 .result) r) ((c .before .before .before .before .before .before .before .before .j .given) .1) (c .before .before .before .before .before .before .before .before .before .before .find-definition .ensures)) (c .before .before .before .own-fault .ensures) (sym (c .before .before .is-fault .ensures) ∙ (c .before .if1 .left)) (c .before .before .before .before .before .before .cell-at3 .ensures) (c .before .before .before .before .before .cell-at4 .ensures) (c .before .before .before .before .word-under .ensures) (c .judge-block .ensures)
 
 pub +judge+judge-block+judge-one-spec : {M : Type 1} → statement M
 +judge+judge-block+judge-one-spec = close μ-judge μ-judge-block μ-judge-one (λ t. judge-lts.spec (
@@ -455,12 +455,12 @@ pub +judge+judge-block+judge-one-spec : {M : Type 1} → statement M
       cell-at-reads.Learnt,
       find-definition-reads.Asked,
       find-definition-reads.Learnt,
+      word-under-reads.Asked,
+      word-under-reads.Learnt,
       own-fault-reads.Asked,
       own-fault-reads.Learnt,
       is-fault-reads.Asked,
       is-fault-reads.Learnt,
-      word-under-reads.Asked,
-      word-under-reads.Learnt,
       judge-block-below t,
       judge-block.Post,
     )
@@ -472,12 +472,12 @@ pub +judge+judge-block+judge-one-spec : {M : Type 1} → statement M
     (judge-one-enum-known-j t)
     (judge-one-enum-told t)
     (judge-one-returns t)
-    (judge-one-own-fault-requires t)
-    (judge-one-is-fault-requires t)
-    (judge-one-returns-2 t)
     (judge-one-cell-at-requires-3 t)
     (judge-one-cell-at-requires-4 t)
     (judge-one-word-under-requires t)
+    (judge-one-own-fault-requires t)
+    (judge-one-is-fault-requires t)
+    (judge-one-returns-2 t)
     (judge-one-add-judge-block t)
     (judge-one-judge-block-requires t)
     (judge-one-returns-3 t)

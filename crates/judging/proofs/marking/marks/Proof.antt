@@ -11,15 +11,12 @@ use borrow.Author.Needs.{needs}
 use native.Mathlib.Omega.{arith}
 use Rattle.judging.proofs.marking.marks.Statement.{statement}
 use Rattle.judging.proofs.marking.marks.Tie as tie
-use Rattle.judging.proofs.marking.marks.Reads as reads
-use Rattle.judging.proofs.marking.marks.Lts as lts
-use Rattle.judging.proofs.marking.needs.Reads as needs-reads
 
 abbrev Inv-loop : tie.InvT-loop
-Inv-loop text d e st z missing₀ j₀ missing j = (length missing ≡ 512) × ((o : List ℕ) (f : File) → Case text d e o st z f → Marked f missing j)
+Inv-loop text d e st names z missing₀ j₀ missing j = (length missing ≡ 512) × ((o : List ℕ) (f : File) → Case text d e o st z f → Marked f missing j)
 
 abbrev μ-loop : tie.MeasureT-loop
-μ-loop text d e st z missing₀ j₀ missing j = z .definitions - j
+μ-loop text d e st names z missing₀ j₀ missing j = z .definitions - j
 
 loop-holds : tie.Need-loop-holds Inv-loop μ-loop
 loop-holds c = (refl, λ o f c′. marks-start f (replicate 512 0))
@@ -31,7 +28,7 @@ slice-aggregate-needs : tie.Need-slice-aggregate-needs Inv-loop μ-loop
 slice-aggregate-needs c = sym (c .before .before .before .before .loop .inv .0)
 
 needs-requires : tie.Need-needs-requires Inv-loop μ-loop
-needs-requires c κs = tt
+needs-requires c κs = (c .before .before .before .before .before .before .before .before .before .before .pre)
 
 mul-missing : tie.Need-mul-missing Inv-loop μ-loop
 mul-missing c = omega arith

@@ -6,25 +6,18 @@ use mathlib.Core.Path.{_∙_, ap}
 use borrow.Author.Needs.{needs}
 use Rattle.judging.proofs.values.own_fault.Statement.{statement}
 use Rattle.judging.proofs.values.own_fault.Tie as tie
-use Rattle.judging.proofs.values.own_fault.Reads as reads
-use Rattle.judging.proofs.values.own_fault.Lts as lts
-use Rattle.blocks.proofs.cell_at.Reads as cell-at-reads
-use Rattle.judging.proofs.values.again.Reads as again-reads
-use Rattle.judging.proofs.values.value_fault.Reads as value-fault-reads
-use Rattle.rows.proofs.faults.fault_if.Reads as fault-if-reads
-use Rattle.rows.proofs.faults.sooner.Reads as sooner-reads
 
 cell-at-requires : tie.Need-cell-at-requires
 cell-at-requires c κs = search needs
 
 again-requires : tie.Need-again-requires
-again-requires c κs = search needs
+again-requires c κs = (c .before .before .before .before .before .before .before .before .pre .1 .hashes)
 
 fault-if-requires : tie.Need-fault-if-requires
 fault-if-requires c κs = search needs
 
 value-fault-requires : tie.Need-value-fault-requires
-value-fault-requires c κs = search needs
+value-fault-requires c κs = (c .before .before .before .before .before .before .before .before .before .before .pre)
 
 sooner-requires : tie.Need-sooner-requires
 sooner-requires c κs = search needs

@@ -7,13 +7,6 @@ use native.Mathlib.Omega.{arith}
 use borrow.Author.Needs.{needs}
 use Rattle.judging.proofs.values.value_fault.Statement.{statement}
 use Rattle.judging.proofs.values.value_fault.Tie as tie
-use Rattle.judging.proofs.values.value_fault.Reads as reads
-use Rattle.judging.proofs.values.value_fault.Lts as lts
-use Rattle.blocks.proofs.cell_at.Reads as cell-at-reads
-use Rattle.amounts.proofs.asking.takes.Reads as takes-reads
-use Rattle.judging.proofs.values.reference_fault.Reads as reference-fault-reads
-use Rattle.rows.proofs.faults.fault_if.Reads as fault-if-reads
-use Rattle.rows.proofs.faults.sooner.Reads as sooner-reads
 
 cell-at-requires : tie.Need-cell-at-requires
 cell-at-requires c κs = search needs
@@ -31,7 +24,7 @@ returns : tie.Need-returns
 returns c = λ f x y a. absurd (value-none a (c .before .cell-at4 .result) (c .before .cell-at4 .ensures) (c .if1 .taken))
 
 reference-fault-requires : tie.Need-reference-fault-requires
-reference-fault-requires c κs = search needs
+reference-fault-requires c κs = (c .before .before .before .before .before .before .before .before .before .before .before .before .before .pre .1 .objects)
 
 cell-at-requires-5 : tie.Need-cell-at-requires-5
 cell-at-requires-5 c κs = search needs
@@ -46,13 +39,13 @@ returns-2 : tie.Need-returns-2
 returns-2 c = λ f x y a. (c .sooner .ensures) ∙ ap (sooner-of (c .before .before .before .reference-fault .result)) (c .before .fault-if .ensures) ∙ value-reference a (c .before .before .before .before .before .before .cell-at4 .result) (c .before .before .before .before .before .before .before .before .before .cell-at .result) (c .before .before .before .before .before .before .before .before .cell-at2 .result) (c .before .before .before .before .before .before .before .cell-at3 .result) (c .before .before .cell-at5 .result) (c .before .before .before .reference-fault .result) (c .before .before .before .before .before .before .cell-at4 .ensures) (omega arith) (c .before .before .before .before .if2 .taken) (c .before .before .before .before .before .before .before .before .before .cell-at .ensures) (c .before .before .before .before .before .before .before .before .cell-at2 .ensures) (c .before .before .before .before .before .before .before .cell-at3 .ensures) (c .before .before .cell-at5 .ensures) (c .before .before .before .reference-fault .ensures)
 
 takes-requires : tie.Need-takes-requires
-takes-requires c κs = search needs
+takes-requires c κs = (c .before .before .before .before .before .before .before .before .before .before .before .before .before .pre .0)
 
 fault-if-requires-2 : tie.Need-fault-if-requires-2
 fault-if-requires-2 c κs = search needs
 
 returns-3 : tie.Need-returns-3
-returns-3 c = λ f x y a. (c .fault-if2 .ensures) ∙ value-other a (c .before .before .before .before .cell-at4 .result) (c .before .before .before .before .before .before .before .cell-at .result) (c .before .before .before .before .before .before .cell-at2 .result) (c .before .before .before .before .before .cell-at3 .result) (c .before .takes .result) (c .before .before .before .before .cell-at4 .ensures) (c .before .before .if2 .left) (c .before .before .before .before .before .before .before .cell-at .ensures) (c .before .before .before .before .before .before .cell-at2 .ensures) (c .before .before .before .before .before .cell-at3 .ensures) (c .before .takes .ensures)
+returns-3 c = λ f x y a. (c .fault-if2 .ensures) ∙ value-other a (c .before .before .before .before .cell-at4 .result) (c .before .before .before .before .before .before .before .cell-at .result) (c .before .before .before .before .before .cell-at3 .result) _ (c .before .takes .result) (c .before .before .before .before .cell-at4 .ensures) (c .before .before .if2 .left) (c .before .before .before .before .before .before .before .cell-at .ensures) (c .before .before .before .before .before .cell-at3 .ensures) (c .before .before .before .before .before .before .before .before .before .before .before .before .before .before .before .pre .2) (c .before .takes .ensures)
 
 pub value-fault-spec : {M : Type 1} → statement M
 value-fault-spec =

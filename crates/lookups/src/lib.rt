@@ -1,0 +1,256 @@
+// Names looked up in the kept rows through indexes and hashes: each answer is the one that comparing all bytes gives.
+ghost use mathlib.Core.Path.{_≡_};
+ghost use Prim.Native.Nat.{min};
+ghost use Rattle.scopes.specs.Promises.{FindsTruth};
+ghost use Rattle.lookups.specs.Hashes.{Hashed, HashOfRow, NameIs, HasName, SameName, NextRow, StatedHashed, IsStatedHashed};
+ghost use Rattle.lookups.specs.Answers.{DefinitionIndexed, ObjectIndexed, EnumeratorIndexed, WordIndexed};
+use rows::Found;
+use rows::cells;
+use rows::parts;
+
+// The definition that a name has in the scope of the word at key; x is the index of the definitions.
+pub fn find_definition(
+    text: &[u8],
+    d: &[usize],
+    x: &[usize],
+    key: usize,
+    at: usize,
+    len: usize,
+) -> Found
+    ensures { λ r. ⌜ DefinitionIndexed (now (text .entry)) (now (d .entry)) (now (x .entry)) key at len r ⌝ }
+{
+    indexes::find_indexed(text, d, 19, 0, key, 2, at, len, x)
+}
+
+// The object of a kind that has a name; x is the index of the objects.
+pub fn find_object(
+    text: &[u8],
+    o: &[usize],
+    x: &[usize],
+    kind: usize,
+    at: usize,
+    len: usize,
+) -> Found
+    ensures { λ r. ⌜ ObjectIndexed (now (text .entry)) (now (o .entry)) (now (x .entry)) kind at len r ⌝ }
+{
+    indexes::find_indexed(text, o, 9, 0, kind, 3, at, len, x)
+}
+
+// The enumerator of the list of the ENUM of row j that a word is; x is the index of the enumerators.
+pub fn find_enumerator(
+    text: &[u8],
+    d: &[usize],
+    e: &[usize],
+    x: &[usize],
+    j: usize,
+    at: usize,
+    len: usize,
+) -> Found
+    ensures { λ r. ⌜ EnumeratorIndexed (now (text .entry)) (now (d .entry)) (now (e .entry)) (now (x .entry)) j at len r ⌝ }
+{
+    let key = blocks::cell_at(d, 19, j, 14);
+    indexes::find_indexed(text, e, 3, 0, key, 1, at, len, x)
+}
+
+// The word TRUE or FALSE of the list of the BOOLEAN of row j that a word is; 0 for none.
+fn truth_under(text: &[u8], d: &[usize], j: usize, at: usize, len: usize) -> usize
+    ensures { λ r. ⌜ FindsTruth (now (text .entry)) (now (d .entry)) j at len r ⌝ }
+{
+    let first = blocks::cell_at(d, 19, j, 14);
+    let size = blocks::cell_at(d, 19, j, 15);
+    if parts::same_part(text, first, size, at, len) {
+        return first;
+    }
+    let second = blocks::cell_at(d, 19, j, 16);
+    let size2 = blocks::cell_at(d, 19, j, 17);
+    if parts::same_part(text, second, size2, at, len) {
+        return second;
+    }
+    0
+}
+
+// The value word of the list of the attribute of row j that a word is, 0 for none; x is the index of the enumerators.
+pub fn word_under(
+    text: &[u8],
+    d: &[usize],
+    e: &[usize],
+    x: &[usize],
+    j: usize,
+    at: usize,
+    len: usize,
+) -> usize
+    ensures { λ r. ⌜ WordIndexed (now (text .entry)) (now (d .entry)) (now (e .entry)) (now (x .entry)) j at len r ⌝ }
+{
+    let code = blocks::cell_at(d, 19, j, 12);
+    if code == 40 {
+        return truth_under(text, d, j, at, len);
+    }
+    if code != 41 {
+        return 0;
+    }
+    let Found::At(i) = find_enumerator(text, d, e, x, j, at, len) else {
+        return 0;
+    };
+    blocks::cell_at(e, 3, i, 1)
+}
+
+// Makes h the hashes of the names of the first rows, as many as h has cells.
+pub fn note_hashes(text: &[u8], t: &[usize], width: usize, name: usize, h: &mut [usize])
+    ensures { λ _. ⌜ Hashed (now (text .entry)) (now (t .entry)) width name (now (h .exit)) ⌝ }
+{
+    let second = cells::place_after(t.len(), name, 1);
+    let mut start = 0;
+    let mut i = 0;
+    while i < h.len() {
+        let p = cells::cell(t, start, name);
+        let n = cells::cell(t, start, second);
+        h[i] = indexes::hash(text, p, n);
+        start = cells::place_after(t.len(), start, width);
+        i += 1;
+    }
+}
+
+// The hash of a row's name; h has the hashes of the first rows.
+pub fn name_hash(
+    text: &[u8],
+    t: &[usize],
+    width: usize,
+    name: usize,
+    h: &[usize],
+    row: usize,
+) -> usize
+    ensures { λ r. ⌜ HashOfRow (now (text .entry)) (now (t .entry)) width name (now (h .entry)) row r ⌝ }
+{
+    if row < h.len() {
+        return h[row];
+    }
+    let second = cells::place_after(t.len(), name, 1);
+    let start = cells::row_start(t.len(), width, row);
+    let p = cells::cell(t, start, name);
+    let n = cells::cell(t, start, second);
+    indexes::hash(text, p, n)
+}
+
+// Whether the statement of row k, whose name's hash is q, has the name at a place, whose hash is given.
+fn name_is(
+    text: &[u8],
+    st: &[usize],
+    k: usize,
+    q: usize,
+    at: usize,
+    len: usize,
+    hash: usize,
+) -> bool
+    ensures { λ r. ⌜ NameIs (now (text .entry)) (now (st .entry)) k q at len hash r ⌝ }
+{
+    if q != hash {
+        return false;
+    }
+    let place = blocks::cell_at(st, 7, k, 0);
+    let size = blocks::cell_at(st, 7, k, 1);
+    parts::same_part(text, at, len, place, size)
+}
+
+// Whether the statement of row k has the name at a place, whose hash is given; h has the statements' hashes.
+pub fn has_name(
+    text: &[u8],
+    st: &[usize],
+    h: &[usize],
+    k: usize,
+    at: usize,
+    len: usize,
+    hash: usize,
+) -> bool
+    ensures { λ r. ⌜ HasName (now (text .entry)) (now (st .entry)) (now (h .entry)) k at len hash r ⌝ }
+{
+    name_is(text, st, k, name_hash(text, st, 7, 0, h, k), at, len, hash)
+}
+
+// Whether the statement of row k has the name of the definition of row j; h and hd have the hashes of the statements and the definitions.
+pub fn same_name(
+    text: &[u8],
+    st: &[usize],
+    h: &[usize],
+    k: usize,
+    d: &[usize],
+    hd: &[usize],
+    j: usize,
+) -> bool
+    ensures { λ r. ⌜ SameName (now (text .entry)) (now (st .entry)) (now (h .entry)) k (now (d .entry)) (now (hd .entry)) j r ⌝ }
+{
+    if name_hash(text, st, 7, 0, h, k) != name_hash(text, d, 19, 2, hd, j) {
+        return false;
+    }
+    let place = blocks::cell_at(st, 7, k, 0);
+    let size = blocks::cell_at(st, 7, k, 1);
+    let place2 = blocks::cell_at(d, 19, j, 2);
+    let size2 = blocks::cell_at(d, 19, j, 3);
+    parts::same_part(text, place, size, place2, size2)
+}
+
+// The lesser of two numbers.
+fn least(a: usize, b: usize) -> usize
+    ensures { λ r. ⌜ r ≡ min a b ⌝ }
+{
+    if a <= b {
+        return a;
+    }
+    b
+}
+
+// The row after the statement of row k and those in its braces, in a block that ends before row `end`; v is its last cell.
+fn next_row(k: usize, v: usize, end: usize) -> usize
+    ensures { λ r. ⌜ NextRow k v end r ⌝ }
+{
+    if v <= k {
+        return end;
+    }
+    if end < v {
+        return end;
+    }
+    v
+}
+
+// The first statement of a block that has a name, whose hash is given; h has the statements' hashes. Rows that have no hash, or that the
+// table has not, are left to the search that compares bytes.
+pub fn stated(
+    text: &[u8],
+    st: &[usize],
+    h: &[usize],
+    from: usize,
+    end: usize,
+    at: usize,
+    len: usize,
+    hash: usize,
+) -> Found
+    ensures { λ r. ⌜ StatedHashed (now (text .entry)) (now (st .entry)) (now (h .entry)) from end at len hash r ⌝ }
+{
+    let limit = least(end, least(h.len(), st.len() / 7));
+    let mut k = from;
+    while k < limit {
+        if name_is(text, st, k, h[k], at, len, hash) {
+            return Found::At(k);
+        }
+        k = next_row(k, st[k * 7 + 6], end);
+    }
+    blocks::stated(text, st, k, end, at, len)
+}
+
+// Whether a block has a statement with a name, whose hash is given; h has the statements' hashes.
+pub fn is_stated(
+    text: &[u8],
+    st: &[usize],
+    h: &[usize],
+    from: usize,
+    end: usize,
+    at: usize,
+    len: usize,
+    hash: usize,
+) -> bool
+    ensures { λ r. ⌜ IsStatedHashed (now (text .entry)) (now (st .entry)) (now (h .entry)) from end at len hash r ⌝ }
+{
+    match stated(text, st, h, from, end, at, len, hash) {
+        Found::At(_) => true,
+        Found::Nothing => false,
+    }
+}
