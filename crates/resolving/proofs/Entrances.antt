@@ -3,39 +3,38 @@ use mathlib.Core.Path.{_≡_, refl, sym, _∙_, ap, ap₂, subst}
 use mathlib.Core.List.{List, [], append-nil}
 use mathlib.Core.Bool.{Bool, true, false, false≢true}
 use mathlib.Core.Option.{Option, none, some}
-use Prim.Native.Nat.{ℕ, suc, _+_, _*_, _≤_, _<_}
+use Prim.Native.Nat.{ℕ, _+_, _*_, _≤_, _<_}
 use native.Mathlib.Omega.{arith}
 use lib.ListN.{length, getD}
 use lib.Seq.{length-sets}
 use lib.Dec.{eqb}
 use borrow.Author.Tests.{ne-eqb}
 use Rattle.token.specs.Find.{pick}
-use Rattle.token.specs.Words.{same}
 use Rattle.token.specs.Tokens.{partOf, stepAt}
 use Rattle.meaning.specs.Actions.{num-of-step}
 use Rattle.meaning.specs.Syntax.{Word, span-of, span-or, absent, Definition, Definitions, no-more, define, Values, no-value, value, Defined, Statement, Statements, done, state, Object, File, statements-in}
 use Rattle.meaning.specs.Words.{alike, choose}
 use Rattle.meaning.specs.Scopes.{a-number, a-string, a-truth, an-auto, a-no-default, a-name, Under, find-value, definitions-or, under}
 use Rattle.meaning.specs.Judging.{is-no-default, taken-by, taken}
-use Rattle.meaning.specs.Resolving.{Resolved, end, resolved, Owner, of-value, take-value, entries, default-entry, resolve, resolve-under, value-row}
+use Rattle.meaning.specs.Resolving.{Resolved, end, resolved, of-value, take-value, entries, default-entry, resolve, resolve-under, value-row}
 use Rattle.meaning.specs.Cells.{owner-sort, owner-row, value-cells, flag}
 use Rattle.meaning.proofs.Entries.{joins}
 use Rattle.meaning.proofs.Sites.{option-words}
 use Rattle.layout.specs.Kept.{spec-choices, statement-cells, default-code, code-of, class-number, statement-rows, all-statement-rows}
-use Rattle.blocks.specs.Blocks.{WordIn, AllIn, Holds, StatementsIn, none-in, more-in, BlockAt, row-after}
-use Rattle.blocks.proofs.Ranges.{first-cell, first-name, first-after, inside-at, rest-at}
+use Rattle.blocks.specs.Blocks.{WordIn, AllIn, Holds, StatementsIn, none-in, more-in, BlockAt}
+use Rattle.blocks.proofs.Ranges.{first-cell, inside-at}
 use Rattle.blocks.proofs.Files.{statements-held}
 use Rattle.scopes.specs.Situations.{Situation, HasDefinition, this-definition, later-definition, ScopeAt, Reached}
 use Rattle.scopes.specs.Promises.{FindsWord}
 use Rattle.resolving.specs.declared.Sizes.{Sizes}
 use Rattle.resolving.specs.declared.Owner.{Owner as OwnerOf}
 use Rattle.resolving.specs.Tables.{Tables, Given, Attribute, Below}
-use Rattle.resolving.specs.Written.{Wrote, Owns}
-use Rattle.resolving.specs.Promises.{WordAt, PutValue, inner-of, one-entry, stated-entries, default-entries, Room, Enters, EntersStated, ResolvesStated, ResolvesDefault, Resolves}
+use Rattle.resolving.specs.Written.{Wrote}
+use Rattle.resolving.specs.Promises.{WordAt, PutValue, inner-of, one-entry, stated-entries, default-entries, Enters, EntersStated, ResolvesDefault, Resolves}
 use Rattle.resolving.proofs.Sorts.{sort-coded, tells}
 use Rattle.resolving.proofs.Standings.{under-below, value-has, scope-under}
 use Rattle.resolving.proofs.Turns.{known}
-use Rattle.resolving.proofs.Writes.{wrote-length, wrote-none, wrote-full, wrote-joins, wrote-entry, wrote-same, joins-end, joins-joins}
+use Rattle.resolving.proofs.Writes.{wrote-none, wrote-full, wrote-entry, wrote-same}
 
 -- A value and what is under it --------------------------------------------------------------------------------------------------------------
 
@@ -129,7 +128,7 @@ module _ {s d e o st v : List ℕ} {z : Sizes} {j stated at len code from till :
 value-in : {s : List ℕ} {y : Statement} {inside rest : Statements} → StatementsIn s (state y inside rest) → WordIn s (y .value)
 value-in (more-in n v p i r) = v
 
-entries-none : (f : File) (x : Defined) → stated-entries f x done ≡ end
+pub entries-none : (f : File) (x : Defined) → stated-entries f x done ≡ end
 unfolding stated-entries entries
 entries-none f x = refl
 
@@ -138,12 +137,12 @@ entries-this : (f : File) (x : Defined) (y : Statement) (inside : Statements) �
 unfolding stated-entries entries one-entry choose
 entries-this f x y inside e = rw e
 
-entries-other : (f : File) (x : Defined) (y : Statement) (inside : Statements) → alike (y .name) (x .definition .name) ≡ false
+pub entries-other : (f : File) (x : Defined) (y : Statement) (inside : Statements) → alike (y .name) (x .definition .name) ≡ false
     → end ≡ stated-entries f x (state y inside done)
 unfolding stated-entries entries choose
 entries-other f x y inside e = rw e
 
-entries-more : (f : File) (x : Defined) (y : Statement) (inside rest : Statements)
+pub entries-more : (f : File) (x : Defined) (y : Statement) (inside rest : Statements)
     → stated-entries f x (state y inside rest) ≡ joins (stated-entries f x (state y inside done)) (stated-entries f x rest)
 unfolding stated-entries entries joins choose
 entries-more f x y inside rest = by (alike (y .name) (x .definition .name))
@@ -156,91 +155,16 @@ entries-more f x y inside rest = by (alike (y .name) (x .definition .name))
     by true = refl
     by false = refl
 
-names-are : {s d e o st : List ℕ} {z : Sizes} {j k a₀ a₁ b₀ b₁ : ℕ} {f : File} {x : Defined} {y : Statement} {inside rest : Statements} {till : ℕ}
-    → a₀ ≡ getD st (k * 7 + 0) 0 → a₁ ≡ getD st (k * 7 + 1) 0 → b₀ ≡ getD d (j * 19 + 2) 0 → b₁ ≡ getD d (j * 19 + 3) 0 → Tables s d e o z f → Attribute f j x
-    → BlockAt s st k till (state y inside rest) → same (partOf s a₀ a₁) (partOf s b₀ b₁) ≡ alike (y .name) (x .definition .name)
-unfolding alike statement-cells
-names-are {s} {y = y} c₀ c₁ c₂ c₃ g a b =
-    let K = known g a in
-    ap₂ same
-    (ap₂ (partOf s) (c₀ ∙ first-cell b 0 (omega arith)) (c₁ ∙ first-cell b 1 (omega arith)) ∙ sym (first-name b .bytes))
-    (ap₂ (partOf s) (c₂ ∙ K .name-place) (c₃ ∙ K .name-length) ∙ sym (K .name .bytes))
-
-module _ {s d e o st v : List ℕ} {z : Sizes} {j k inner next : ℕ} {w : OwnerOf} {n : ℕ} {a₀ a₁ b₀ b₁ : ℕ} (c₀ : a₀ ≡ getD st (k * 7 + 0) 0) (c₁ : a₁ ≡ getD st (k * 7 + 1) 0) (c₂ : b₀ ≡ getD d (j * 19 + 2) 0) (c₃ : b₁ ≡ getD d (j * 19 + 3) 0) where
-  pub stated-other : same (partOf s a₀ a₁) (partOf s b₀ b₁) ≡ false → EntersStated s d e o st v z j k inner next w n v n
-  stated-other q f x y inside rest till ow g a b i₁ i₂ own room =
-      wrote-same (entries-other f x y inside (sym (names-are c₀ c₁ c₂ c₃ (g .tables) a b) ∙ q)) (wrote-none v n ow (room .low))
-
-  pub stated-this : {at len code : ℕ} {v′ : List ℕ} {r : ℕ} → same (partOf s a₀ a₁) (partOf s b₀ b₁) ≡ true
-      → at ≡ getD st (k * 7 + 2) 0 → len ≡ getD st (k * 7 + 3) 0 → code ≡ getD st (k * 7 + 4) 0
+module _ {s d e o st v : List ℕ} {z : Sizes} {j k inner next : ℕ} {w : OwnerOf} {n : ℕ} where
+  pub stated-this : {at len code : ℕ} {v′ : List ℕ} {r : ℕ} → at ≡ getD st (k * 7 + 2) 0 → len ≡ getD st (k * 7 + 3) 0 → code ≡ getD st (k * 7 + 4) 0
       → Enters s d e o st v z j 1 at len code inner next w n v′ r → EntersStated s d e o st v z j k inner next w n v′ r
   unfolding statement-cells flag
-  stated-this {at} {len} {code} q e₂ e₃ e₄ en f x y inside rest till ow g a b i₁ i₂ own room =
+  stated-this {at} {len} {code} e₂ e₃ e₄ en f x y inside rest till ow g a b q i₁ i₂ own room =
       let vi = value-in (b .words) in
       let p : at ≡ y .value .place = e₂ ∙ first-cell b 2 (omega arith) in
       let l : len ≡ y .value .length = e₃ ∙ first-cell b 3 (omega arith) in
       let c : code ≡ code-of (y .value) = e₄ ∙ first-cell b 4 (omega arith) in
-      wrote-same (entries-this f x y inside (sym (names-are c₀ c₁ c₂ c₃ (g .tables) a b) ∙ q))
-      (en f x (y .value) inside true ow g a (word-at vi p l c) (block-at i₁ i₂ (inside-at b)) own refl room)
-
--- The loop over a block at row k: what is made so far, and the statements left.
-pub record Stating (s st : List ℕ) (f : File) (x : Defined) (ss : Statements) (k till : ℕ) (v : List ℕ) (n : ℕ) (ow : Owner) (v′ : List ℕ) (m : ℕ) : Type 0 where
-  pub left : Statements
-  pub made : Resolved
-  pub block : BlockAt s st k till left
-  pub wrote : Wrote v n made ow v′ m
-  pub whole : stated-entries f x ss ≡ joins made (stated-entries f x left)
-
-abbrev pub States : (s d e o st v : List ℕ) (z : Sizes) (j from till : ℕ) (w : OwnerOf) (n : ℕ) (v′ : List ℕ) (m k : ℕ) → Type 0
-States s d e o st v z j from till w n v′ m k =
-    (f : File) (x : Defined) (ss : Statements) (ow : Owner) → Given s d e o st z f → Attribute f j x → BlockAt s st from till ss → Owns w ow → Room v n
-    → Stating s st f x ss k till v n ow v′ m
-
-states-next : {s d e o st v : List ℕ} {z : Sizes} {j till : ℕ} {w : OwnerOf} {n : ℕ} {v₁ : List ℕ} {m k next inner : ℕ} {v₂ : List ℕ} {r : ℕ}
-    {ow : Owner} (f : File) (x : Defined) (ss left : Statements) (made : Resolved)
-    → k < till → next ≡ row-after st k till → inner ≡ k + 1 → EntersStated s d e o st v₁ z j k inner next w m v₂ r
-    → Given s d e o st z f → Attribute f j x → Owns w ow → Room v n → BlockAt s st k till left → Wrote v n made ow v₁ m
-    → stated-entries f x ss ≡ joins made (stated-entries f x left) → Stating s st f x ss next till v n ow v₂ r
-unfolding statements-in
-states-next {st = st} {till = till} {k = k} f x ss done made h e i en g a own room b wr wh = absurd (let q = b .after in omega arith)
-states-next {s} {d} {e} {o} {st} {v} {z} {j} {till} {w} {n} {v₁} {m} {k} {next} {inner} {v₂} {r} {ow} f x ss (state y inside rest) made h eq i en g a own room b wr wh =
-    let q : next ≡ suc k + statements-in inside = eq ∙ first-after b in
-    let l = wrote-length wr in
-    let c = wr .count in
-    let u = room .room in
-    let p : inner ≡ suc k = omega arith in
-    let t = en f x y inside rest till ow g a b p q own (record { room = omega arith; low = omega arith }) in
-    let M = stated-entries f x (state y inside done) in
-    record {
-      left = rest;
-      made = joins made M;
-      block = subst (λ z. BlockAt s st z till rest) (sym q) (rest-at b);
-      wrote = wrote-joins u wr t;
-      whole = wh ∙ ap (joins made) (entries-more f x y inside rest) ∙ sym (joins-joins made M (stated-entries f x rest));
-    }
-
-states-done : {s st v : List ℕ} {till : ℕ} {n : ℕ} {v′ : List ℕ} {m k : ℕ} {ow : Owner} (f : File) (x : Defined) (ss left : Statements) (made : Resolved)
-    → till ≤ k → BlockAt s st k till left → Wrote v n made ow v′ m → stated-entries f x ss ≡ joins made (stated-entries f x left)
-    → Wrote v n (stated-entries f x ss) ow v′ m
-unfolding statements-in
-states-done f x ss done made h b wr wh = wrote-same (sym (wh ∙ ap (joins made) (entries-none f x) ∙ joins-end made)) wr
-states-done {till = till} {k = k} f x ss (state y inside rest) made h b wr wh = absurd (let q = b .after in omega arith)
-
-module _ {s d e o st v : List ℕ} {z : Sizes} {j from till : ℕ} {w : OwnerOf} {n : ℕ} where
-  pub states-start : States s d e o st v z j from till w n v n from
-  unfolding joins
-  states-start f x ss ow g a b own room = record { left = ss; made = end; block = b; wrote = wrote-none v n ow (room .low); whole = refl }
-
-  pub states-more : {v₁ : List ℕ} {m k next inner : ℕ} {v₂ : List ℕ} {r : ℕ} → k < till → next ≡ row-after st k till → inner ≡ k + 1
-      → States s d e o st v z j from till w n v₁ m k → EntersStated s d e o st v₁ z j k inner next w m v₂ r → States s d e o st v z j from till w n v₂ r next
-  states-more h p i t en f x ss ow g a b own room =
-      let k = t f x ss ow g a b own room in
-      states-next f x ss (k .left) (k .made) h p i en g a own room (k .block) (k .wrote) (k .whole)
-
-  pub states-end : {v′ : List ℕ} {m k : ℕ} → till ≤ k → States s d e o st v z j from till w n v′ m k → ResolvesStated s d e o st v z j from till w n v′ m
-  states-end h t f x ss ow g a b own room =
-      let k = t f x ss ow g a b own room in
-      states-done f x ss (k .left) (k .made) h (k .block) (k .wrote) (k .whole)
+      wrote-same (entries-this f x y inside q) (en f x (y .value) inside true ow g a (word-at vi p l c) (block-at i₁ i₂ (inside-at b)) own refl room)
 
 -- The value taken by default -----------------------------------------------------------------------------------------------------------------
 

@@ -24,7 +24,7 @@ use Rattle.resolving.specs.declared.Sizes.{Sizes}
 use Rattle.resolving.specs.declared.Owner.{Owner as OwnerOf}
 use Rattle.resolving.specs.Tables.{Tables, Given, Attribute, Below, rows-of, Left}
 use Rattle.resolving.specs.Written.{Wrote, Owns}
-use Rattle.resolving.specs.Promises.{inner-of, stated-entries, default-entries, Room, ResolvesStated, ResolvesDefault, Turn, ResolvesRow, Resolves}
+use Rattle.resolving.specs.Promises.{inner-of, stated-entries, default-entries, Room, ResolvesStated, ResolvesDefault, Turn, ResolvesRow, ResolvesUnder, Resolves}
 use Rattle.resolving.proofs.Standings.{stands-at, file-scope, rows-are-specs, file-stands, words-definition}
 use Rattle.resolving.proofs.Writes.{wrote-none, wrote-length, wrote-joins, wrote-same, joins-end, joins-joins}
 
@@ -226,7 +226,7 @@ contributed-default : (f : File) (x : Defined) (ss : Statements) → among (x .d
 unfolding contributed choose default-entries inner-of
 contributed-default f x ss e = rw e
 
-name-at : {s d e o : List ℕ} {z : Sizes} {j : ℕ} {f : File} {x : Defined} (at len : ℕ) → Tables s d e o z f → Attribute f j x → at ≡ getD d (j * 19 + 2) 0 → len ≡ getD d (j * 19 + 3) 0
+pub name-at : {s d e o : List ℕ} {z : Sizes} {j : ℕ} {f : File} {x : Defined} (at len : ℕ) → Tables s d e o z f → Attribute f j x → at ≡ getD d (j * 19 + 2) 0 → len ≡ getD d (j * 19 + 3) 0
     → x .definition .name .bytes ≡ partOf s at len
 name-at {s} at len g a p q = let k = known g a in k .name .bytes ∙ ap₂ (partOf s) (sym (p ∙ k .name-place)) (sym (q ∙ k .name-length))
 
@@ -256,27 +256,31 @@ module _ {s d e o st v : List ℕ} {z : Sizes} {j key from till : ℕ} {w : Owne
       }
 
   -- An attribute of the scope: stated, or not.
-  pub row-stated : {at len : ℕ} {q : Bool} {v′ : List ℕ} {r : ℕ} → getD d (j * 19 + 0) 0 ≡ key → at ≡ getD d (j * 19 + 2) 0 → len ≡ getD d (j * 19 + 3) 0
-      → IsStated s st from till at len q → q ≡ true → ResolvesStated s d e o st v z j from till w n v′ r → ResolvesRow s d e o st v z j key from till w n v′ r
-  row-stated {at} {len} c a₁ a₂ is eq res f u ds left ss ow g p l h b own room =
-      let i = g .tables .definitions in
-      let k = peek l (omega arith) in
-      let t = k .hit (sym (row-place g l h) ∙ c ∙ sym p) in
-      let a = attribute l t in
-      let y = t .defined in
-      let m = is ss (y .definition .name) b (name-at at len (g .tables) a a₁ a₂) in
-      turn t (wrote-same (contributed-stated f y ss (sym m ∙ eq)) (res f y ss ow g a b own room))
+  pub row-stated : {at len : ℕ} {q : Bool} {v′ : List ℕ} {r : ℕ} → at ≡ getD d (j * 19 + 2) 0 → len ≡ getD d (j * 19 + 3) 0
+      → IsStated s st from till at len q → q ≡ true → ResolvesStated s d e o st v z j from till w n v′ r → ResolvesUnder s d e o st v z j key from till w n v′ r
+  row-stated {at} {len} a₁ a₂ is eq res = record {
+    resolves = λ c f u ds left ss ow g p l h b own room.
+        let i = g .tables .definitions in
+        let k = peek l (omega arith) in
+        let t = k .hit (sym (row-place g l h) ∙ c ∙ sym p) in
+        let a = attribute l t in
+        let y = t .defined in
+        let m = is ss (y .definition .name) b (name-at at len (g .tables) a a₁ a₂) in
+        turn t (wrote-same (contributed-stated f y ss (sym m ∙ eq)) (res f y ss ow g a b own room));
+  }
 
-  pub row-default : {at len : ℕ} {q : Bool} {v′ : List ℕ} {r : ℕ} → getD d (j * 19 + 0) 0 ≡ key → at ≡ getD d (j * 19 + 2) 0 → len ≡ getD d (j * 19 + 3) 0
-      → IsStated s st from till at len q → q ≡ false → ResolvesDefault s d e o st v z j w n v′ r → ResolvesRow s d e o st v z j key from till w n v′ r
-  row-default {at} {len} c a₁ a₂ is eq res f u ds left ss ow g p l h b own room =
-      let i = g .tables .definitions in
-      let k = peek l (omega arith) in
-      let t = k .hit (sym (row-place g l h) ∙ c ∙ sym p) in
-      let a = attribute l t in
-      let y = t .defined in
-      let m = is ss (y .definition .name) b (name-at at len (g .tables) a a₁ a₂) in
-      turn t (wrote-same (contributed-default f y ss (sym m ∙ eq)) (res f y ow g a own room))
+  pub row-default : {at len : ℕ} {q : Bool} {v′ : List ℕ} {r : ℕ} → at ≡ getD d (j * 19 + 2) 0 → len ≡ getD d (j * 19 + 3) 0
+      → IsStated s st from till at len q → q ≡ false → ResolvesDefault s d e o st v z j w n v′ r → ResolvesUnder s d e o st v z j key from till w n v′ r
+  row-default {at} {len} a₁ a₂ is eq res = record {
+    resolves = λ c f u ds left ss ow g p l h b own room.
+        let i = g .tables .definitions in
+        let k = peek l (omega arith) in
+        let t = k .hit (sym (row-place g l h) ∙ c ∙ sym p) in
+        let a = attribute l t in
+        let y = t .defined in
+        let m = is ss (y .definition .name) b (name-at at len (g .tables) a a₁ a₂) in
+        turn t (wrote-same (contributed-default f y ss (sym m ∙ eq)) (res f y ow g a own room));
+  }
 
 -- The loop ---------------------------------------------------------------------------------------------------------------------------------
 

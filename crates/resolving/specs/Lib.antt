@@ -1,3 +1,4 @@
 pub mod Tables
 pub mod Written
+pub mod Noted
 pub mod Promises

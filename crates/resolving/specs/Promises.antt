@@ -1,11 +1,12 @@
 -- What the functions that resolve values promise, for every file whose text and rows these are. Assumes nothing.
 use mathlib.Core.Path.{_≡_}
 use mathlib.Core.List.{List}
-use mathlib.Core.Bool.{Bool}
+use mathlib.Core.Bool.{Bool, true}
 use Prim.Native.Nat.{ℕ, suc, _+_, _*_, _≤_, _<_}
 use lib.ListN.{length, getD}
 use lib.Seq.{sets}
 use Rattle.meaning.specs.Syntax.{Word, Definitions, Defined, Statement, Statements, done, state, File, statements-in}
+use Rattle.meaning.specs.Words.{alike}
 use Rattle.meaning.specs.Scopes.{sort-of}
 use Rattle.meaning.specs.Judging.{taken}
 use Rattle.meaning.specs.Resolving.{Resolved, end, resolved, Owner, valued, named, take-value, entries, default-entry, resolve, resolve-under, value-row, all-values}
@@ -77,11 +78,11 @@ Enters s d e o st v z j stated at len code from till w n v′ r =
     (f : File) (x : Defined) (t : Word) (us : Statements) (b : Bool) (ow : Owner) → Given s d e o st z f → Attribute f j x → WordAt s t at len code
     → BlockAt s st from till us → Owns w ow → stated ≡ flag b → Room v n → Wrote v n (one-entry b f x t us) ow v′ r
 
--- The value of the statement of row k, where it states the attribute of row j; the statements in its braces are the rows from `inner` up to `next`.
+-- The value of the statement of row k, which states the attribute of row j; the statements in its braces are the rows from `inner` up to `next`.
 abbrev pub EntersStated : (s d e o st v : List ℕ) (z : Sizes) (j k inner next : ℕ) (w : OwnerOf) (n : ℕ) (v′ : List ℕ) (r : ℕ) → Type 0
 EntersStated s d e o st v z j k inner next w n v′ r =
     (f : File) (x : Defined) (y : Statement) (inside rest : Statements) (till : ℕ) (ow : Owner) → Given s d e o st z f → Attribute f j x
-    → BlockAt s st k till (state y inside rest) → inner ≡ suc k → next ≡ suc k + statements-in inside → Owns w ow → Room v n
+    → BlockAt s st k till (state y inside rest) → alike (y .name) (x .definition .name) ≡ true → inner ≡ suc k → next ≡ suc k + statements-in inside → Owns w ow → Room v n
     → Wrote v n (stated-entries f x (state y inside done)) ow v′ r
 
 -- The values that a block states of the attribute of row j.
@@ -109,6 +110,10 @@ abbrev pub ResolvesRow : (s d e o st v : List ℕ) (z : Sizes) (j key from till 
 ResolvesRow s d e o st v z j key from till w n v′ r =
     (f : File) (u : Word) (ds left : Definitions) (ss : Statements) (ow : Owner) → Given s d e o st z f → u .place ≡ key → Left f u ds j left → j < z .definitions
     → BlockAt s st from till ss → Owns w ow → Room v n → Turn f u ds ss j left v n ow v′ r
+
+-- So it is where it does.
+pub record ResolvesUnder (s d e o st v : List ℕ) (z : Sizes) (j key from till : ℕ) (w : OwnerOf) (n : ℕ) (v′ : List ℕ) (r : ℕ) : Type 0 where
+  pub resolves : getD d (j * 19 + 0) 0 ≡ key → ResolvesRow s d e o st v z j key from till w n v′ r
 
 -- The values of the scope of the word at key, whose rows are below a limit.
 abbrev pub Resolves : (s d e o st v : List ℕ) (z : Sizes) (limit key from till : ℕ) (w : OwnerOf) (n : ℕ) (v′ : List ℕ) (r : ℕ) → Type 0

@@ -1,11 +1,13 @@
 // Resolved values, each followed by what is under it. Each function gives the number of the row behind those that it puts.
 ghost use Rattle.amounts.specs.Known.{KnownDefaults};
-ghost use Rattle.resolving.specs.Promises.{Enters, EntersStated, ResolvesStated, ResolvesDefault, ResolvesRow, Resolves, ResolvesAll};
+ghost use Rattle.resolving.specs.Noted.{Noted, Rooms};
+ghost use Rattle.resolving.specs.Promises.{Enters, EntersStated, ResolvesStated, ResolvesDefault, ResolvesUnder, Resolves, ResolvesAll};
 use super::Owner;
 use super::Sizes;
+use super::scanning;
 use super::values;
-use rows::parts;
-use scopes::lookups;
+use super::words;
+use rows::Found;
 
 // The value of the word at a place, of the attribute of row j, and what is under it; the statements in its braces are the rows from one up to
 // another.
@@ -16,6 +18,11 @@ fn enter(
     o: &[usize],
     st: &[usize],
     known: &[usize],
+    noted: &[usize],
+    xe: &[usize],
+    xo: &[usize],
+    hs: &[usize],
+    hd: &[usize],
     v: &mut [usize],
     z: Sizes,
     j: usize,
@@ -28,14 +35,32 @@ fn enter(
     w: Owner,
     n: usize,
 ) -> usize
-    requires { ⌜ KnownDefaults (now text) (now d) (now known) ⌝ }
+    requires { ⌜ Noted (now text) (now d) (now e) (now o) (now st) z (now known) (now noted) (now xe) (now xo) (now hs) (now hd) ⌝ }
     ensures { λ r. ⌜ Enters (now (text .entry)) (now (d .entry)) (now (e .entry)) (now (o .entry)) (now (st .entry)) (now (v .entry)) z j stated at len code from end w n (now (v .exit)) r ⌝ }
 {
     if 2048 < n {
         return n;
     }
-    values::put_value(text, d, e, o, known, v, z, n, w, j, stated, at, len, code);
-    let key = lookups::word_under(text, d, e, z.enumerators, j, at, len);
+    values::put_value(
+        text,
+        d,
+        e,
+        o,
+        known,
+        noted,
+        xe,
+        xo,
+        v,
+        z,
+        n,
+        w,
+        j,
+        stated,
+        at,
+        len,
+        code,
+    );
+    let key = words::word_of(text, d, e, xe, noted, j, at, len);
     resolve(
         text,
         d,
@@ -43,6 +68,11 @@ fn enter(
         o,
         st,
         known,
+        noted,
+        xe,
+        xo,
+        hs,
+        hd,
         v,
         z,
         j,
@@ -54,7 +84,7 @@ fn enter(
     )
 }
 
-// The value of the statement of row k, if it has the name of the attribute of row j; the statements in its braces are the rows from `inner` up
+// The value of the statement of row k, which has the name of the attribute of row j; the statements in its braces are the rows from `inner` up
 // to `next`.
 fn enter_stated(
     text: &[u8],
@@ -63,6 +93,11 @@ fn enter_stated(
     o: &[usize],
     st: &[usize],
     known: &[usize],
+    noted: &[usize],
+    xe: &[usize],
+    xo: &[usize],
+    hs: &[usize],
+    hd: &[usize],
     v: &mut [usize],
     z: Sizes,
     j: usize,
@@ -72,16 +107,9 @@ fn enter_stated(
     w: Owner,
     n: usize,
 ) -> usize
-    requires { ⌜ KnownDefaults (now text) (now d) (now known) ⌝ }
+    requires { ⌜ Noted (now text) (now d) (now e) (now o) (now st) z (now known) (now noted) (now xe) (now xo) (now hs) (now hd) ⌝ }
     ensures { λ r. ⌜ EntersStated (now (text .entry)) (now (d .entry)) (now (e .entry)) (now (o .entry)) (now (st .entry)) (now (v .entry)) z j k inner next w n (now (v .exit)) r ⌝ }
 {
-    let name = blocks::cell_at(st, 7, k, 0);
-    let size = blocks::cell_at(st, 7, k, 1);
-    let name2 = blocks::cell_at(d, 19, j, 2);
-    let size2 = blocks::cell_at(d, 19, j, 3);
-    if !parts::same_part(text, name, size, name2, size2) {
-        return n;
-    }
     let at = blocks::cell_at(st, 7, k, 2);
     let len = blocks::cell_at(st, 7, k, 3);
     let code = blocks::cell_at(st, 7, k, 4);
@@ -92,6 +120,11 @@ fn enter_stated(
         o,
         st,
         known,
+        noted,
+        xe,
+        xo,
+        hs,
+        hd,
         v,
         z,
         j,
@@ -114,6 +147,11 @@ fn resolve_stated(
     o: &[usize],
     st: &[usize],
     known: &[usize],
+    noted: &[usize],
+    xe: &[usize],
+    xo: &[usize],
+    hs: &[usize],
+    hd: &[usize],
     v: &mut [usize],
     z: Sizes,
     j: usize,
@@ -122,14 +160,46 @@ fn resolve_stated(
     w: Owner,
     n: usize,
 ) -> usize
-    requires { ⌜ KnownDefaults (now text) (now d) (now known) ⌝ }
+    requires { ⌜ Noted (now text) (now d) (now e) (now o) (now st) z (now known) (now noted) (now xe) (now xo) (now hs) (now hd) ⌝ }
     ensures { λ r. ⌜ ResolvesStated (now (text .entry)) (now (d .entry)) (now (e .entry)) (now (o .entry)) (now (st .entry)) (now (v .entry)) z j from end w n (now (v .exit)) r ⌝ }
 {
+    let name = blocks::cell_at(d, 19, j, 2);
+    let len = blocks::cell_at(d, 19, j, 3);
+    let hash = lookups::name_hash(text, d, 19, 2, hd, j);
     let mut m = n;
     let mut k = from;
     while k < end {
-        let next = blocks::after(st, k, end);
-        m = enter_stated(text, d, e, o, st, known, v, z, j, k, k + 1, next, w, m);
+        let Found::At(i) = lookups::stated(text, st, hs, k, end, name, len, hash) else {
+            return m;
+        };
+        if i < k {
+            return m;
+        }
+        if end <= i {
+            return m;
+        }
+        let next = blocks::after(st, i, end);
+        m = enter_stated(
+            text,
+            d,
+            e,
+            o,
+            st,
+            known,
+            noted,
+            xe,
+            xo,
+            hs,
+            hd,
+            v,
+            z,
+            j,
+            i,
+            i + 1,
+            next,
+            w,
+            m,
+        );
         k = next;
     }
     m
@@ -143,13 +213,18 @@ fn resolve_default(
     o: &[usize],
     st: &[usize],
     known: &[usize],
+    noted: &[usize],
+    xe: &[usize],
+    xo: &[usize],
+    hs: &[usize],
+    hd: &[usize],
     v: &mut [usize],
     z: Sizes,
     j: usize,
     w: Owner,
     n: usize,
 ) -> usize
-    requires { ⌜ KnownDefaults (now text) (now d) (now known) ⌝ }
+    requires { ⌜ Noted (now text) (now d) (now e) (now o) (now st) z (now known) (now noted) (now xe) (now xo) (now hs) (now hd) ⌝ }
     ensures { λ r. ⌜ ResolvesDefault (now (text .entry)) (now (d .entry)) (now (e .entry)) (now (o .entry)) (now (st .entry)) (now (v .entry)) z j w n (now (v .exit)) r ⌝ }
 {
     let len = blocks::cell_at(d, 19, j, 11);
@@ -168,6 +243,11 @@ fn resolve_default(
         o,
         st,
         known,
+        noted,
+        xe,
+        xo,
+        hs,
+        hd,
         v,
         z,
         j,
@@ -182,7 +262,7 @@ fn resolve_default(
     )
 }
 
-// The values of the attribute of row j, if it stands under the word at key.
+// The values of the attribute of row j, which stands under the word at key.
 fn resolve_row(
     text: &[u8],
     d: &[usize],
@@ -190,6 +270,11 @@ fn resolve_row(
     o: &[usize],
     st: &[usize],
     known: &[usize],
+    noted: &[usize],
+    xe: &[usize],
+    xo: &[usize],
+    hs: &[usize],
+    hd: &[usize],
     v: &mut [usize],
     z: Sizes,
     j: usize,
@@ -199,18 +284,52 @@ fn resolve_row(
     w: Owner,
     n: usize,
 ) -> usize
-    requires { ⌜ KnownDefaults (now text) (now d) (now known) ⌝ }
-    ensures { λ r. ⌜ ResolvesRow (now (text .entry)) (now (d .entry)) (now (e .entry)) (now (o .entry)) (now (st .entry)) (now (v .entry)) z j key from end w n (now (v .exit)) r ⌝ }
+    requires { ⌜ Noted (now text) (now d) (now e) (now o) (now st) z (now known) (now noted) (now xe) (now xo) (now hs) (now hd) ⌝ }
+    ensures { λ r. ⌜ ResolvesUnder (now (text .entry)) (now (d .entry)) (now (e .entry)) (now (o .entry)) (now (st .entry)) (now (v .entry)) z j key from end w n (now (v .exit)) r ⌝ }
 {
-    if blocks::cell_at(d, 19, j, 0) != key {
-        return n;
-    }
     let name = blocks::cell_at(d, 19, j, 2);
     let len = blocks::cell_at(d, 19, j, 3);
-    if blocks::is_stated(text, st, from, end, name, len) {
-        return resolve_stated(text, d, e, o, st, known, v, z, j, from, end, w, n);
+    let hash = lookups::name_hash(text, d, 19, 2, hd, j);
+    if lookups::is_stated(text, st, hs, from, end, name, len, hash) {
+        return resolve_stated(
+            text,
+            d,
+            e,
+            o,
+            st,
+            known,
+            noted,
+            xe,
+            xo,
+            hs,
+            hd,
+            v,
+            z,
+            j,
+            from,
+            end,
+            w,
+            n,
+        );
     }
-    resolve_default(text, d, e, o, st, known, v, z, j, w, n)
+    resolve_default(
+        text,
+        d,
+        e,
+        o,
+        st,
+        known,
+        noted,
+        xe,
+        xo,
+        hs,
+        hd,
+        v,
+        z,
+        j,
+        w,
+        n,
+    )
 }
 
 // The values of the scope of the word at key, in the order of its definitions, whose rows are below a limit; the place 0 has no scope.
@@ -221,6 +340,11 @@ pub fn resolve(
     o: &[usize],
     st: &[usize],
     known: &[usize],
+    noted: &[usize],
+    xe: &[usize],
+    xo: &[usize],
+    hs: &[usize],
+    hd: &[usize],
     v: &mut [usize],
     z: Sizes,
     limit: usize,
@@ -230,17 +354,43 @@ pub fn resolve(
     w: Owner,
     n: usize,
 ) -> usize
-    requires { ⌜ KnownDefaults (now text) (now d) (now known) ⌝ }
+    requires { ⌜ Noted (now text) (now d) (now e) (now o) (now st) z (now known) (now noted) (now xe) (now xo) (now hs) (now hd) ⌝ }
     ensures { λ r. ⌜ Resolves (now (text .entry)) (now (d .entry)) (now (e .entry)) (now (o .entry)) (now (st .entry)) (now (v .entry)) z limit key from end w n (now (v .exit)) r ⌝ }
 {
     if key == 0 {
         return n;
     }
+    if 512 < limit {
+        return n;
+    }
+    if 2048 < n {
+        return n;
+    }
     let mut m = n;
-    let mut j = 0;
+    let mut j = scanning::next_row(text, d, st, hs, hd, limit, key, from, end, 0);
     while j < limit {
-        m = resolve_row(text, d, e, o, st, known, v, z, j, key, from, end, w, m);
-        j += 1;
+        m = resolve_row(
+            text,
+            d,
+            e,
+            o,
+            st,
+            known,
+            noted,
+            xe,
+            xo,
+            hs,
+            hd,
+            v,
+            z,
+            j,
+            key,
+            from,
+            end,
+            w,
+            m,
+        );
+        j = scanning::next_row(text, d, st, hs, hd, limit, key, from, end, j + 1);
     }
     m
 }
@@ -253,11 +403,16 @@ fn resolve_objects(
     o: &[usize],
     st: &[usize],
     known: &[usize],
+    noted: &[usize],
+    xe: &[usize],
+    xo: &[usize],
+    hs: &[usize],
+    hd: &[usize],
     v: &mut [usize],
     z: Sizes,
     places: [usize; 13],
 ) -> usize
-    requires { ⌜ KnownDefaults (now text) (now d) (now known) ⌝ }
+    requires { ⌜ Noted (now text) (now d) (now e) (now o) (now st) z (now known) (now noted) (now xe) (now xo) (now hs) (now hd) ⌝ }
     ensures { λ r. ⌜ ResolvesAll (now (text .entry)) (now (d .entry)) (now (e .entry)) (now (o .entry)) (now (st .entry)) (now (v .entry)) z places (now (v .exit)) r ⌝ }
 {
     let mut n = 0;
@@ -277,6 +432,11 @@ fn resolve_objects(
             o,
             st,
             known,
+            noted,
+            xe,
+            xo,
+            hs,
+            hd,
             v,
             z,
             z.definitions,
@@ -289,6 +449,50 @@ fn resolve_objects(
         i += 1;
     }
     n
+}
+
+// The same; the names are indexed and hashed before, in lent slices.
+fn resolve_noted(
+    text: &[u8],
+    d: &[usize],
+    e: &[usize],
+    o: &[usize],
+    st: &[usize],
+    known: &[usize],
+    noted: &mut [usize],
+    xe: &mut [usize],
+    xo: &mut [usize],
+    hs: &mut [usize],
+    hd: &mut [usize],
+    spare: &mut [usize],
+    v: &mut [usize],
+    z: Sizes,
+    places: [usize; 13],
+) -> usize
+    requires { ⌜ KnownDefaults (now text) (now d) (now known) × Rooms (now d) z (now xe) (now xo) (now spare) ⌝ }
+    ensures { λ r. ⌜ ResolvesAll (now (text .entry)) (now (d .entry)) (now (e .entry)) (now (o .entry)) (now (st .entry)) (now (v .entry)) z places (now (v .exit)) r ⌝ }
+{
+    indexes::index(text, e, 3, 1, xe, spare);
+    indexes::index(text, o, 9, 3, xo, spare);
+    words::note_words(text, d, e, xe, noted);
+    lookups::note_hashes(text, st, 7, 0, hs);
+    lookups::note_hashes(text, d, 19, 2, hd);
+    resolve_objects(
+        text,
+        d,
+        e,
+        o,
+        st,
+        known,
+        noted,
+        xe,
+        xo,
+        hs,
+        hd,
+        v,
+        z,
+        places,
+    )
 }
 
 // The same; the defaults that are numbers are read once before.
@@ -304,7 +508,38 @@ pub fn resolve_all(
 ) -> usize
     ensures { λ r. ⌜ ResolvesAll (now (text .entry)) (now (d .entry)) (now (e .entry)) (now (o .entry)) (now (st .entry)) (now (v .entry)) z places (now (v .exit)) r ⌝ }
 {
+    if d.len() != 9747 {
+        return 0;
+    }
+    if 1024 < z.enumerators {
+        return 0;
+    }
+    if 256 < z.objects {
+        return 0;
+    }
     let mut known = [0; 1536];
     amounts::defaults::note_defaults(text, d, z.definitions, &mut known);
-    resolve_objects(text, d, e, o, st, &known, v, z, places)
+    let mut noted = [0; 512];
+    let mut xe = [0; 1024];
+    let mut xo = [0; 256];
+    let mut hs = [0; 2048];
+    let mut hd = [0; 512];
+    let mut spare = [0; 512];
+    resolve_noted(
+        text,
+        d,
+        e,
+        o,
+        st,
+        &known,
+        &mut noted,
+        &mut xe[..z.enumerators],
+        &mut xo[..z.objects],
+        &mut hs,
+        &mut hd,
+        &mut spare,
+        v,
+        z,
+        places,
+    )
 }

@@ -1,6 +1,8 @@
 // The resolved values of a text, written as rows over the rows that were kept while it was read.
 pub mod entering;
+pub mod scanning;
 pub mod values;
+pub mod words;
 
 // How many rows the tables of definitions, enumerators and objects have.
 pub struct Sizes {

@@ -7,13 +7,14 @@ ghost use Rattle.token.specs.Tokens.{stepAt};
 ghost use Rattle.amounts.specs.Known.{KnownDefaults};
 ghost use Rattle.resolving.specs.Written.{Holds};
 ghost use Rattle.resolving.specs.Promises.{NamedValue, ValueOf, PutValue};
+ghost use Rattle.resolving.specs.Noted.{Indexes};
 use super::Held;
 use super::Owner;
 use super::Sizes;
+use super::words;
 use amounts::defaults;
 use rows::Found;
 use rows::cells;
-use scopes::lookups;
 
 // The number at a place, of the attribute of row j.
 fn number_value(text: &[u8], d: &[usize], known: &[usize], j: usize, at: usize) -> Held
@@ -34,16 +35,20 @@ fn named_value(
     d: &[usize],
     e: &[usize],
     o: &[usize],
+    noted: &[usize],
+    xe: &[usize],
+    xo: &[usize],
     z: Sizes,
     j: usize,
     at: usize,
     len: usize,
 ) -> Held
+    requires { ⌜ Indexes (now text) (now d) (now e) (now o) z (now noted) (now xe) (now xo) ⌝ }
     ensures { λ r. ⌜ NamedValue (now (text .entry)) (now (d .entry)) (now (e .entry)) (now (o .entry)) z j at len r ⌝ }
 {
     let t = blocks::cell_at(d, 19, j, 12);
     if t == 41 {
-        let Found::At(i) = lookups::find_enumerator(text, d, e, z.enumerators, j, at, len) else {
+        let Found::At(i) = words::enumerator_of(text, d, e, xe, noted, j, at, len) else {
             return Held {
                 sort: 4,
                 negative: 0,
@@ -70,7 +75,7 @@ fn named_value(
             amount: 0,
         };
     }
-    let Found::At(i) = lookups::find_object(text, o, z.objects, t - 22, at, len) else {
+    let Found::At(i) = lookups::find_object(text, o, xo, t - 22, at, len) else {
         return Held {
             sort: 5,
             negative: 0,
@@ -92,13 +97,16 @@ pub fn value_of(
     e: &[usize],
     o: &[usize],
     known: &[usize],
+    noted: &[usize],
+    xe: &[usize],
+    xo: &[usize],
     z: Sizes,
     j: usize,
     at: usize,
     len: usize,
     code: usize,
 ) -> Held
-    requires { ⌜ KnownDefaults (now text) (now d) (now known) ⌝ }
+    requires { ⌜ KnownDefaults (now text) (now d) (now known) × Indexes (now text) (now d) (now e) (now o) z (now noted) (now xe) (now xo) ⌝ }
     ensures { λ r. ⌜ ValueOf (now (text .entry)) (now (d .entry)) (now (e .entry)) (now (o .entry)) z j at len code r ⌝ }
 {
     if code == 42 {
@@ -139,7 +147,7 @@ pub fn value_of(
             amount: 0,
         };
     }
-    named_value(text, d, e, o, z, j, at, len)
+    named_value(text, d, e, o, noted, xe, xo, z, j, at, len)
 }
 
 // Puts row n: the value of the word at a place, for the attribute of row j.
@@ -149,6 +157,9 @@ pub fn put_value(
     e: &[usize],
     o: &[usize],
     known: &[usize],
+    noted: &[usize],
+    xe: &[usize],
+    xo: &[usize],
     v: &mut [usize],
     z: Sizes,
     n: usize,
@@ -159,10 +170,10 @@ pub fn put_value(
     len: usize,
     code: usize,
 )
-    requires { ⌜ (n ≤ 2048) × KnownDefaults (now text) (now d) (now known) ⌝ }
+    requires { ⌜ (n ≤ 2048) × (KnownDefaults (now text) (now d) (now known) × Indexes (now text) (now d) (now e) (now o) z (now noted) (now xe) (now xo)) ⌝ }
     ensures { λ _. ⌜ PutValue (now (text .entry)) (now (d .entry)) (now (e .entry)) (now (o .entry)) (now (v .entry)) z n w j stated at len code (now (v .exit)) ⌝ }
 {
-    let x = value_of(text, d, e, o, known, z, j, at, len, code);
+    let x = value_of(text, d, e, o, known, noted, xe, xo, z, j, at, len, code);
     let row = [
         j,
         w.sort,

@@ -1,13 +1,15 @@
 -- The functions of the cycle that resolves a scope meet their contracts: under an attribute stand only rows before it.
 -- Assumes nothing.
-use lib.ListN.{length}
-use Prim.Native.Nat.{_+_, _-_, _*_, _≤_}
-use mathlib.Core.Path.{_≡_, refl, sym, _∙_}
-use borrow.Author.Tests.{not-true, not-false}
+use Rattle.resolving.proofs.Passing.{after-grows, finds-hashed, is-hashed, goes-pass, resolves-past, resolves-full}
+use Rattle.resolving.proofs.Namings.{word-is}
+use Rattle.resolving.proofs.Statings.{States, states-start, states-none, states-out, states-more, states-end}
+use Rattle.resolving.proofs.Entrances.{enter-full, enter-more, stated-this, default-none, default-not, default-taken}
+use Rattle.resolving.proofs.Turns.{row-stated, row-default, Goes, goes-start, goes-more, goes-end, resolves-none}
 use native.Mathlib.Omega.{arith}
-use Rattle.blocks.proofs.Ranges.{after-later}
-use Rattle.resolving.proofs.Turns.{row-other, row-stated, row-default, Goes, goes-start, goes-more, goes-end, resolves-none}
-use Rattle.resolving.proofs.Entrances.{enter-full, enter-more, stated-other, stated-this, States, states-start, states-more, states-end, default-none, default-not, default-taken}
+use borrow.Author.Needs.{needs}
+use mathlib.Core.Path.{_≡_, refl}
+use Prim.Native.Nat.{_+_, _-_, _*_, _≤_}
+use lib.ListN.{length, getD}
 use Prim.Native.Nat.{ℕ, _<_}
 use borrow.Fn.Kinds.{In}
 use borrow.Fn.PlainCycle.{Measures, is, falls, and}
@@ -31,10 +33,12 @@ use Rattle.resolving.proofs.entering.resolve_stated.Kinds as resolve-st
 use Rattle.resolving.proofs.entering.+enter+enter_stated+resolve+resolve_default+resolve_row+resolve_stated.Lts-resolve_stated as resolve-stated-lts
 use Rattle.blocks.proofs.after.Reads as after-reads
 use Rattle.blocks.proofs.cell_at.Reads as cell-at-reads
-use Rattle.blocks.proofs.is_stated.Reads as is-stated-reads
+use Rattle.lookups.proofs.is_stated.Reads as is-stated-reads
+use Rattle.lookups.proofs.name_hash.Reads as name-hash-reads
+use Rattle.lookups.proofs.stated.Reads as stated-reads
+use Rattle.resolving.proofs.scanning.next_row.Reads as next-row-reads
 use Rattle.resolving.proofs.values.put_value.Reads as put-value-reads
-use Rattle.rows.proofs.parts.same_part.Reads as same-part-reads
-use Rattle.scopes.proofs.lookups.word_under.Reads as word-under-reads
+use Rattle.resolving.proofs.words.word_of.Reads as word-of-reads
 use Rattle.resolving.proofs.entering.+enter+enter_stated+resolve+resolve_default+resolve_row+resolve_stated.{
   statement,
 }
@@ -42,93 +46,93 @@ use Rattle.resolving.proofs.entering.+enter+enter_stated+resolve+resolv
   close,
 }
 
-abbrev μ-enter : Measures 7 enter-kinds.ps ℕ
-μ-enter κs a = 6 * a .1 .1 .1 .1 .1 .1 .1 .1 .0 + 1
+abbrev μ-enter : Measures 12 enter-kinds.ps ℕ
+μ-enter κs a = 6 * a .1 .1 .1 .1 .1 .1 .1 .1 .1 .1 .1 .1 .1 .0 + 1
 
-abbrev μ-enter-stated : Measures 7 enter-stated-kinds.ps ℕ
-μ-enter-stated κs a = 6 * a .1 .1 .1 .1 .1 .1 .1 .1 .0 + 2
+abbrev μ-enter-stated : Measures 12 enter-stated-kinds.ps ℕ
+μ-enter-stated κs a = 6 * a .1 .1 .1 .1 .1 .1 .1 .1 .1 .1 .1 .1 .1 .0 + 2
 
-abbrev μ-resolve : Measures 7 resolve-kinds.ps ℕ
-μ-resolve κs a = 6 * a .1 .1 .1 .1 .1 .1 .1 .1 .0
+abbrev μ-resolve : Measures 12 resolve-kinds.ps ℕ
+μ-resolve κs a = 6 * a .1 .1 .1 .1 .1 .1 .1 .1 .1 .1 .1 .1 .1 .0
 
-abbrev μ-resolve-default : Measures 7 resolve-default-kinds.ps ℕ
-μ-resolve-default κs a = 6 * a .1 .1 .1 .1 .1 .1 .1 .1 .0 + 2
+abbrev μ-resolve-default : Measures 12 resolve-default-kinds.ps ℕ
+μ-resolve-default κs a = 6 * a .1 .1 .1 .1 .1 .1 .1 .1 .1 .1 .1 .1 .1 .0 + 2
 
-abbrev μ-resolve-row : Measures 7 resolve-row-kinds.ps ℕ
-μ-resolve-row κs a = 6 * a .1 .1 .1 .1 .1 .1 .1 .1 .0 + 4
+abbrev μ-resolve-row : Measures 12 resolve-row-kinds.ps ℕ
+μ-resolve-row κs a = 6 * a .1 .1 .1 .1 .1 .1 .1 .1 .1 .1 .1 .1 .1 .0 + 4
 
-abbrev μ-resolve-stated : Measures 7 resolve-stated-kinds.ps ℕ
-μ-resolve-stated κs a = 6 * a .1 .1 .1 .1 .1 .1 .1 .1 .0 + 3
+abbrev μ-resolve-stated : Measures 12 resolve-stated-kinds.ps ℕ
+μ-resolve-stated κs a = 6 * a .1 .1 .1 .1 .1 .1 .1 .1 .1 .1 .1 .1 .1 .0 + 3
 
-abbrev enter-at : ℕ → In 7 enter-kinds.ps
-enter-at t = and 7 enter-kinds.ps (is 7 enter-kinds.ps μ-enter t) enter.Pre
+abbrev enter-at : ℕ → In 12 enter-kinds.ps
+enter-at t = and 12 enter-kinds.ps (is 12 enter-kinds.ps μ-enter t) enter.Pre
 
-abbrev enter-below : ℕ → In 7 enter-kinds.ps
-enter-below t = and 7 enter-kinds.ps (falls 7 enter-kinds.ps _<_ μ-enter t) enter.Pre
+abbrev enter-below : ℕ → In 12 enter-kinds.ps
+enter-below t = and 12 enter-kinds.ps (falls 12 enter-kinds.ps _<_ μ-enter t) enter.Pre
 
-abbrev enter-stated-at : ℕ → In 7 enter-stated-kinds.ps
+abbrev enter-stated-at : ℕ → In 12 enter-stated-kinds.ps
 enter-stated-at t =
-    and 7 enter-stated-kinds.ps (is 7 enter-stated-kinds.ps μ-enter-stated t) enter-stated.Pre
+    and 12 enter-stated-kinds.ps (is 12 enter-stated-kinds.ps μ-enter-stated t) enter-stated.Pre
 
-abbrev enter-stated-below : ℕ → In 7 enter-stated-kinds.ps
+abbrev enter-stated-below : ℕ → In 12 enter-stated-kinds.ps
 enter-stated-below t =
     and
-    7
+    12
     enter-stated-kinds.ps
-    (falls 7 enter-stated-kinds.ps _<_ μ-enter-stated t)
+    (falls 12 enter-stated-kinds.ps _<_ μ-enter-stated t)
     enter-stated.Pre
 
-abbrev resolve-at : ℕ → In 7 resolve-kinds.ps
-resolve-at t = and 7 resolve-kinds.ps (is 7 resolve-kinds.ps μ-resolve t) resolve.Pre
+abbrev resolve-at : ℕ → In 12 resolve-kinds.ps
+resolve-at t = and 12 resolve-kinds.ps (is 12 resolve-kinds.ps μ-resolve t) resolve.Pre
 
-abbrev resolve-below : ℕ → In 7 resolve-kinds.ps
-resolve-below t = and 7 resolve-kinds.ps (falls 7 resolve-kinds.ps _<_ μ-resolve t) resolve.Pre
+abbrev resolve-below : ℕ → In 12 resolve-kinds.ps
+resolve-below t = and 12 resolve-kinds.ps (falls 12 resolve-kinds.ps _<_ μ-resolve t) resolve.Pre
 
-abbrev resolve-default-at : ℕ → In 7 resolve-default-kinds.ps
+abbrev resolve-default-at : ℕ → In 12 resolve-default-kinds.ps
 resolve-default-at t =
     and
-    7
+    12
     resolve-default-kinds.ps
-    (is 7 resolve-default-kinds.ps μ-resolve-default t)
+    (is 12 resolve-default-kinds.ps μ-resolve-default t)
     resolve-default.Pre
 
-abbrev resolve-default-below : ℕ → In 7 resolve-default-kinds.ps
+abbrev resolve-default-below : ℕ → In 12 resolve-default-kinds.ps
 resolve-default-below t =
     and
-    7
+    12
     resolve-default-kinds.ps
-    (falls 7 resolve-default-kinds.ps _<_ μ-resolve-default t)
+    (falls 12 resolve-default-kinds.ps _<_ μ-resolve-default t)
     resolve-default.Pre
 
-abbrev resolve-row-at : ℕ → In 7 resolve-row-kinds.ps
+abbrev resolve-row-at : ℕ → In 12 resolve-row-kinds.ps
 resolve-row-at t =
-    and 7 resolve-row-kinds.ps (is 7 resolve-row-kinds.ps μ-resolve-row t) resolve-row.Pre
+    and 12 resolve-row-kinds.ps (is 12 resolve-row-kinds.ps μ-resolve-row t) resolve-row.Pre
 
-abbrev resolve-row-below : ℕ → In 7 resolve-row-kinds.ps
+abbrev resolve-row-below : ℕ → In 12 resolve-row-kinds.ps
 resolve-row-below t =
-    and 7 resolve-row-kinds.ps (falls 7 resolve-row-kinds.ps _<_ μ-resolve-row t) resolve-row.Pre
+    and 12 resolve-row-kinds.ps (falls 12 resolve-row-kinds.ps _<_ μ-resolve-row t) resolve-row.Pre
 
-abbrev resolve-stated-at : ℕ → In 7 resolve-stated-kinds.ps
+abbrev resolve-stated-at : ℕ → In 12 resolve-stated-kinds.ps
 resolve-stated-at t =
     and
-    7
+    12
     resolve-stated-kinds.ps
-    (is 7 resolve-stated-kinds.ps μ-resolve-stated t)
+    (is 12 resolve-stated-kinds.ps μ-resolve-stated t)
     resolve-stated.Pre
 
-abbrev resolve-stated-below : ℕ → In 7 resolve-stated-kinds.ps
+abbrev resolve-stated-below : ℕ → In 12 resolve-stated-kinds.ps
 resolve-stated-below t =
     and
-    7
+    12
     resolve-stated-kinds.ps
-    (falls 7 resolve-stated-kinds.ps _<_ μ-resolve-stated t)
+    (falls 12 resolve-stated-kinds.ps _<_ μ-resolve-stated t)
     resolve-stated.Pre
 
 enter-returns : (t : ℕ) → enter-lts.Need-returns (
   put-value-reads.Asked,
   put-value-reads.Learnt,
-  word-under-reads.Asked,
-  word-under-reads.Learnt,
+  word-of-reads.Asked,
+  word-of-reads.Learnt,
   resolve-below t,
   resolve.Post,
 ) (enter-at t) enter.Post
@@ -137,28 +141,28 @@ enter-returns t c = enter-full (c .if1 .taken)
 enter-put-value-requires : (t : ℕ) → enter-lts.Need-put-value-requires (
   put-value-reads.Asked,
   put-value-reads.Learnt,
-  word-under-reads.Asked,
-  word-under-reads.Learnt,
+  word-of-reads.Asked,
+  word-of-reads.Learnt,
   resolve-below t,
   resolve.Post,
 ) (enter-at t) enter.Post
-enter-put-value-requires t c κs = (omega arith, (c .before .before .before .before .before .before .before .before .before .pre .1))
+enter-put-value-requires t c κs = (omega arith, ((c .before .before .before .before .before .before .before .before .before .before .before .before .before .before .pre .1 .defaults), (c .before .before .before .before .before .before .before .before .before .before .before .before .before .before .pre .1 .indexes)))
 
-enter-word-under-requires : (t : ℕ) → enter-lts.Need-word-under-requires (
+enter-word-of-requires : (t : ℕ) → enter-lts.Need-word-of-requires (
   put-value-reads.Asked,
   put-value-reads.Learnt,
-  word-under-reads.Asked,
-  word-under-reads.Learnt,
+  word-of-reads.Asked,
+  word-of-reads.Learnt,
   resolve-below t,
   resolve.Post,
 ) (enter-at t) enter.Post
-enter-word-under-requires t c κs = tt
+enter-word-of-requires t c κs = tt
 
 enter-add-resolve : (t : ℕ) → enter-lts.Need-add-resolve (
   put-value-reads.Asked,
   put-value-reads.Learnt,
-  word-under-reads.Asked,
-  word-under-reads.Learnt,
+  word-of-reads.Asked,
+  word-of-reads.Learnt,
   resolve-below t,
   resolve.Post,
 ) (enter-at t) enter.Post
@@ -167,18 +171,18 @@ enter-add-resolve t c = omega arith
 enter-resolve-requires : (t : ℕ) → enter-lts.Need-resolve-requires (
   put-value-reads.Asked,
   put-value-reads.Learnt,
-  word-under-reads.Asked,
-  word-under-reads.Learnt,
+  word-of-reads.Asked,
+  word-of-reads.Learnt,
   resolve-below t,
   resolve.Post,
 ) (enter-at t) enter.Post
-enter-resolve-requires t c κs = (omega arith, (c .before .before .before .before .before .before .before .before .before .before .before .before .before .before .pre .1))
+enter-resolve-requires t c κs = (omega arith, (c .before .before .before .before .before .before .before .before .before .before .before .before .before .before .before .before .before .before .before .pre .1))
 
 enter-same-length : (t : ℕ) → enter-lts.Need-same-length (
   put-value-reads.Asked,
   put-value-reads.Learnt,
-  word-under-reads.Asked,
-  word-under-reads.Learnt,
+  word-of-reads.Asked,
+  word-of-reads.Learnt,
   resolve-below t,
   resolve.Post,
 ) (enter-at t) enter.Post
@@ -187,18 +191,16 @@ enter-same-length t c = omega arith
 enter-returns-2 : (t : ℕ) → enter-lts.Need-returns-2 (
   put-value-reads.Asked,
   put-value-reads.Learnt,
-  word-under-reads.Asked,
-  word-under-reads.Learnt,
+  word-of-reads.Asked,
+  word-of-reads.Learnt,
   resolve-below t,
   resolve.Post,
 ) (enter-at t) enter.Post
-enter-returns-2 t c = enter-more (omega arith) (c .before .before .before .before .before .before .before .put-value .ensures) (c .before .before .before .before .word-under .ensures) (c .before .before .resolve .ensures)
+enter-returns-2 t c = enter-more (omega arith) (c .before .before .before .before .before .before .before .put-value .ensures) (word-is (c .before .before .before .before .before .before .before .before .before .before .before .before .before .before .before .before .before .before .before .before .before .before .pre .1 .indexes) (c .before .before .before .before .word-of .ensures)) (c .before .before .resolve .ensures)
 
 enter-stated-cell-at-requires : (t : ℕ) → enter-stated-lts.Need-cell-at-requires (
   cell-at-reads.Asked,
   cell-at-reads.Learnt,
-  same-part-reads.Asked,
-  same-part-reads.Learnt,
   enter-below t,
   enter.Post,
 ) (enter-stated-at t) enter-stated.Post
@@ -207,8 +209,6 @@ enter-stated-cell-at-requires t c κs = tt
 enter-stated-cell-at-requires-2 : (t : ℕ) → enter-stated-lts.Need-cell-at-requires-2 (
   cell-at-reads.Asked,
   cell-at-reads.Learnt,
-  same-part-reads.Asked,
-  same-part-reads.Learnt,
   enter-below t,
   enter.Post,
 ) (enter-stated-at t) enter-stated.Post
@@ -217,180 +217,136 @@ enter-stated-cell-at-requires-2 t c κs = tt
 enter-stated-cell-at-requires-3 : (t : ℕ) → enter-stated-lts.Need-cell-at-requires-3 (
   cell-at-reads.Asked,
   cell-at-reads.Learnt,
-  same-part-reads.Asked,
-  same-part-reads.Learnt,
   enter-below t,
   enter.Post,
 ) (enter-stated-at t) enter-stated.Post
 enter-stated-cell-at-requires-3 t c κs = tt
 
-enter-stated-cell-at-requires-4 : (t : ℕ) → enter-stated-lts.Need-cell-at-requires-4 (
-  cell-at-reads.Asked,
-  cell-at-reads.Learnt,
-  same-part-reads.Asked,
-  same-part-reads.Learnt,
-  enter-below t,
-  enter.Post,
-) (enter-stated-at t) enter-stated.Post
-enter-stated-cell-at-requires-4 t c κs = tt
-
-enter-stated-same-part-requires : (t : ℕ) → enter-stated-lts.Need-same-part-requires (
-  cell-at-reads.Asked,
-  cell-at-reads.Learnt,
-  same-part-reads.Asked,
-  same-part-reads.Learnt,
-  enter-below t,
-  enter.Post,
-) (enter-stated-at t) enter-stated.Post
-enter-stated-same-part-requires t c κs = tt
-
-enter-stated-returns : (t : ℕ) → enter-stated-lts.Need-returns (
-  cell-at-reads.Asked,
-  cell-at-reads.Learnt,
-  same-part-reads.Asked,
-  same-part-reads.Learnt,
-  enter-below t,
-  enter.Post,
-) (enter-stated-at t) enter-stated.Post
-enter-stated-returns t c = stated-other (c .before .before .before .before .before .cell-at .ensures) (c .before .before .before .before .cell-at2 .ensures) (c .before .before .before .cell-at3 .ensures) (c .before .before .cell-at4 .ensures) (sym (c .before .same-part .ensures) ∙ not-true _ (c .if1 .taken))
-
-enter-stated-cell-at-requires-5 : (t : ℕ) → enter-stated-lts.Need-cell-at-requires-5 (
-  cell-at-reads.Asked,
-  cell-at-reads.Learnt,
-  same-part-reads.Asked,
-  same-part-reads.Learnt,
-  enter-below t,
-  enter.Post,
-) (enter-stated-at t) enter-stated.Post
-enter-stated-cell-at-requires-5 t c κs = tt
-
-enter-stated-cell-at-requires-6 : (t : ℕ) → enter-stated-lts.Need-cell-at-requires-6 (
-  cell-at-reads.Asked,
-  cell-at-reads.Learnt,
-  same-part-reads.Asked,
-  same-part-reads.Learnt,
-  enter-below t,
-  enter.Post,
-) (enter-stated-at t) enter-stated.Post
-enter-stated-cell-at-requires-6 t c κs = tt
-
-enter-stated-cell-at-requires-7 : (t : ℕ) → enter-stated-lts.Need-cell-at-requires-7 (
-  cell-at-reads.Asked,
-  cell-at-reads.Learnt,
-  same-part-reads.Asked,
-  same-part-reads.Learnt,
-  enter-below t,
-  enter.Post,
-) (enter-stated-at t) enter-stated.Post
-enter-stated-cell-at-requires-7 t c κs = tt
-
 enter-stated-enter-requires : (t : ℕ) → enter-stated-lts.Need-enter-requires (
   cell-at-reads.Asked,
   cell-at-reads.Learnt,
-  same-part-reads.Asked,
-  same-part-reads.Learnt,
   enter-below t,
   enter.Post,
 ) (enter-stated-at t) enter-stated.Post
-enter-stated-enter-requires t c κs = (omega arith, (c .before .before .before .before .before .before .before .before .before .before .before .before .before .before .before .before .before .pre .1))
+enter-stated-enter-requires t c κs = (omega arith, (c .before .before .before .before .before .before .before .before .before .before .before .before .before .before .before .before .pre .1))
 
 enter-stated-same-length : (t : ℕ) → enter-stated-lts.Need-same-length (
   cell-at-reads.Asked,
   cell-at-reads.Learnt,
-  same-part-reads.Asked,
-  same-part-reads.Learnt,
   enter-below t,
   enter.Post,
 ) (enter-stated-at t) enter-stated.Post
 enter-stated-same-length t c = omega arith
 
-enter-stated-returns-2 : (t : ℕ) → enter-stated-lts.Need-returns-2 (
+enter-stated-returns : (t : ℕ) → enter-stated-lts.Need-returns (
   cell-at-reads.Asked,
   cell-at-reads.Learnt,
-  same-part-reads.Asked,
-  same-part-reads.Learnt,
   enter-below t,
   enter.Post,
 ) (enter-stated-at t) enter-stated.Post
-enter-stated-returns-2 t c = stated-this (c .before .before .before .before .before .before .before .before .before .before .before .before .cell-at .ensures) (c .before .before .before .before .before .before .before .before .before .before .before .cell-at2 .ensures) (c .before .before .before .before .before .before .before .before .before .before .cell-at3 .ensures) (c .before .before .before .before .before .before .before .before .before .cell-at4 .ensures) (sym (c .before .before .before .before .before .before .before .before .same-part .ensures) ∙ not-false _ (c .before .before .before .before .before .before .before .if1 .left)) (c .before .before .before .before .before .before .cell-at5 .ensures) (c .before .before .before .before .before .cell-at6 .ensures) (c .before .before .before .before .cell-at7 .ensures) (c .before .before .enter .ensures)
+enter-stated-returns t c = stated-this (c .before .before .before .before .before .before .cell-at .ensures) (c .before .before .before .before .before .cell-at2 .ensures) (c .before .before .before .before .cell-at3 .ensures) (c .before .before .enter .ensures)
 
 abbrev resolve-Inv-loop : resolve-lts.InvT-loop
-resolve-Inv-loop text d e o st known v₀ z limit key from end w n m₀ j₀ v m j = (length v ≡ length v₀) × ((j ≤ limit) × Goes text d e o st v₀ z limit key from end w n v m j)
+resolve-Inv-loop text d e o st known noted xe xo hs hd v₀ z limit key from end w n m₀ j₀ v m j = (length v ≡ length v₀) × ((j ≤ limit) × ((j < limit → getD d (j * 19 + 0) 0 ≡ key) × Goes text d e o st v₀ z limit key from end w n v m j))
 
 abbrev resolve-μ-loop : resolve-lts.MeasureT-loop
-resolve-μ-loop text d e o st known v₀ z limit key from end w n m₀ j₀ v m j = limit - j
+resolve-μ-loop text d e o st known noted xe xo hs hd v₀ z limit key from end w n m₀ j₀ v m j = limit - j
 
-resolve-returns :
-    (t : ℕ) →
-    resolve-lts.Need-returns
-    (resolve-row-below t, resolve-row.Post)
-    (resolve-at t)
-    resolve.Post
-    resolve-Inv-loop
-    resolve-μ-loop
-resolve-returns t c = resolves-none (c .if1 .taken)
-
-resolve-loop-holds :
-    (t : ℕ) →
-    resolve-lts.Need-loop-holds
-    (resolve-row-below t, resolve-row.Post)
-    (resolve-at t)
-    resolve.Post
-    resolve-Inv-loop
-    resolve-μ-loop
-resolve-loop-holds t c = (refl, (omega arith, goes-start))
-
-resolve-resolve-row-requires : (t : ℕ) → resolve-lts.Need-resolve-row-requires (
+resolve-returns : (t : ℕ) → resolve-lts.Need-returns (
+  next-row-reads.Asked,
+  next-row-reads.Learnt,
   resolve-row-below t,
   resolve-row.Post,
 ) (resolve-at t) resolve.Post resolve-Inv-loop resolve-μ-loop
-resolve-resolve-row-requires t c κs = (omega arith, (c .before .before .before .before .before .before .before .before .before .before .before .pre .1))
+resolve-returns t c = resolves-none (c .if1 .taken)
 
-resolve-add-j :
-    (t : ℕ) →
-    resolve-lts.Need-add-j
-    (resolve-row-below t, resolve-row.Post)
-    (resolve-at t)
-    resolve.Post
-    resolve-Inv-loop
-    resolve-μ-loop
-resolve-add-j t c = omega arith
+resolve-returns-2 : (t : ℕ) → resolve-lts.Need-returns-2 (
+  next-row-reads.Asked,
+  next-row-reads.Learnt,
+  resolve-row-below t,
+  resolve-row.Post,
+) (resolve-at t) resolve.Post resolve-Inv-loop resolve-μ-loop
+resolve-returns-2 t c = resolves-past (omega arith)
 
-resolve-loop-less :
-    (t : ℕ) →
-    resolve-lts.Need-loop-less
-    (resolve-row-below t, resolve-row.Post)
-    (resolve-at t)
-    resolve.Post
-    resolve-Inv-loop
-    resolve-μ-loop
-resolve-loop-less t c = omega arith
+resolve-returns-3 : (t : ℕ) → resolve-lts.Need-returns-3 (
+  next-row-reads.Asked,
+  next-row-reads.Learnt,
+  resolve-row-below t,
+  resolve-row.Post,
+) (resolve-at t) resolve.Post resolve-Inv-loop resolve-μ-loop
+resolve-returns-3 t c = resolves-full (omega arith)
 
-resolve-loop-again :
-    (t : ℕ) →
-    resolve-lts.Need-loop-again
-    (resolve-row-below t, resolve-row.Post)
-    (resolve-at t)
-    resolve.Post
-    resolve-Inv-loop
-    resolve-μ-loop
-resolve-loop-again t c = (omega arith, (omega arith, goes-more (omega arith) ((c .before .before .before .before .before .loop .inv) .1 .1) (c .before .before .resolve-row .ensures)))
+resolve-next-row-requires : (t : ℕ) → resolve-lts.Need-next-row-requires (
+  next-row-reads.Asked,
+  next-row-reads.Learnt,
+  resolve-row-below t,
+  resolve-row.Post,
+) (resolve-at t) resolve.Post resolve-Inv-loop resolve-μ-loop
+resolve-next-row-requires t c κs = (omega arith, (omega arith, (c .before .before .before .before .before .before .before .before .before .before .before .before .before .before .before .pre .1 .hashes)))
+
+resolve-loop-holds : (t : ℕ) → resolve-lts.Need-loop-holds (
+  next-row-reads.Asked,
+  next-row-reads.Learnt,
+  resolve-row-below t,
+  resolve-row.Post,
+) (resolve-at t) resolve.Post resolve-Inv-loop resolve-μ-loop
+resolve-loop-holds t c = (refl, ((c .next-row .ensures .high), ((c .next-row .ensures .here), goes-pass (c .next-row .ensures) goes-start)))
+
+resolve-resolve-row-requires : (t : ℕ) → resolve-lts.Need-resolve-row-requires (
+  next-row-reads.Asked,
+  next-row-reads.Learnt,
+  resolve-row-below t,
+  resolve-row.Post,
+) (resolve-at t) resolve.Post resolve-Inv-loop resolve-μ-loop
+resolve-resolve-row-requires t c κs = (omega arith, (c .before .before .before .before .before .before .before .before .before .before .before .before .before .before .before .before .before .before .before .pre .1))
+
+resolve-add-next-row : (t : ℕ) → resolve-lts.Need-add-next-row (
+  next-row-reads.Asked,
+  next-row-reads.Learnt,
+  resolve-row-below t,
+  resolve-row.Post,
+) (resolve-at t) resolve.Post resolve-Inv-loop resolve-μ-loop
+resolve-add-next-row t c = omega arith
+
+resolve-next-row-requires-2 : (t : ℕ) → resolve-lts.Need-next-row-requires-2 (
+  next-row-reads.Asked,
+  next-row-reads.Learnt,
+  resolve-row-below t,
+  resolve-row.Post,
+) (resolve-at t) resolve.Post resolve-Inv-loop resolve-μ-loop
+resolve-next-row-requires-2 t c κs = (omega arith, (omega arith, (c .before .before .before .before .before .before .before .before .before .before .before .before .before .before .before .before .before .before .before .before .before .before .pre .1 .hashes)))
+
+resolve-loop-less : (t : ℕ) → resolve-lts.Need-loop-less (
+  next-row-reads.Asked,
+  next-row-reads.Learnt,
+  resolve-row-below t,
+  resolve-row.Post,
+) (resolve-at t) resolve.Post resolve-Inv-loop resolve-μ-loop
+resolve-loop-less t c = omega (arith, (c .next-row2 .ensures .low))
+
+resolve-loop-again : (t : ℕ) → resolve-lts.Need-loop-again (
+  next-row-reads.Asked,
+  next-row-reads.Learnt,
+  resolve-row-below t,
+  resolve-row.Post,
+) (resolve-at t) resolve.Post resolve-Inv-loop resolve-μ-loop
+resolve-loop-again t c = (omega arith, ((c .next-row2 .ensures .high), ((c .next-row2 .ensures .here), goes-pass (c .next-row2 .ensures) (goes-more (omega arith) ((c .before .before .before .before .before .before .loop .inv) .1 .1 .1) ((c .before .before .before .resolve-row .ensures .resolves) ((c .before .before .before .before .before .before .loop .inv) .1 .1 .0 (omega arith)))))))
 
 resolve-same-length : (t : ℕ) → resolve-lts.Need-same-length (
+  next-row-reads.Asked,
+  next-row-reads.Learnt,
   resolve-row-below t,
   resolve-row.Post,
 ) (resolve-at t) resolve.Post resolve-Inv-loop resolve-μ-loop
 resolve-same-length t c = (c .before .loop .inv) .0
 
-resolve-returns-2 :
-    (t : ℕ) →
-    resolve-lts.Need-returns-2
-    (resolve-row-below t, resolve-row.Post)
-    (resolve-at t)
-    resolve.Post
-    resolve-Inv-loop
-    resolve-μ-loop
-resolve-returns-2 t c = goes-end (omega arith) (c .before .before .if1 .left) ((c .before .loop .inv) .1 .1)
+resolve-returns-4 : (t : ℕ) → resolve-lts.Need-returns-4 (
+  next-row-reads.Asked,
+  next-row-reads.Learnt,
+  resolve-row-below t,
+  resolve-row.Post,
+) (resolve-at t) resolve.Post resolve-Inv-loop resolve-μ-loop
+resolve-returns-4 t c = goes-end (omega arith) (c .before .before .before .before .before .if1 .left) ((c .before .loop .inv) .1 .1 .1)
 
 resolve-default-cell-at-requires : (t : ℕ) → resolve-default-lts.Need-cell-at-requires (
   cell-at-reads.Asked,
@@ -438,7 +394,7 @@ resolve-default-enter-requires : (t : ℕ) → resolve-default-lts.Need-enter-re
   enter-below t,
   enter.Post,
 ) (resolve-default-at t) resolve-default.Post
-resolve-default-enter-requires t c κs = (omega arith, (c .before .before .before .before .before .before .before .before .before .before .before .before .before .pre .1))
+resolve-default-enter-requires t c κs = (omega arith, (c .before .before .before .before .before .before .before .before .before .before .before .before .before .before .before .before .before .before .pre .1))
 
 resolve-default-same-length : (t : ℕ) → resolve-default-lts.Need-same-length (
   cell-at-reads.Asked,
@@ -459,6 +415,8 @@ resolve-default-returns-3 t c = default-taken (c .before .before .before .before
 resolve-row-cell-at-requires : (t : ℕ) → resolve-row-lts.Need-cell-at-requires (
   cell-at-reads.Asked,
   cell-at-reads.Learnt,
+  name-hash-reads.Asked,
+  name-hash-reads.Learnt,
   is-stated-reads.Asked,
   is-stated-reads.Learnt,
   resolve-stated-below t,
@@ -468,21 +426,11 @@ resolve-row-cell-at-requires : (t : ℕ) → resolve-row-lts.Need-cell-at-requir
 ) (resolve-row-at t) resolve-row.Post
 resolve-row-cell-at-requires t c κs = tt
 
-resolve-row-returns : (t : ℕ) → resolve-row-lts.Need-returns (
-  cell-at-reads.Asked,
-  cell-at-reads.Learnt,
-  is-stated-reads.Asked,
-  is-stated-reads.Learnt,
-  resolve-stated-below t,
-  resolve-stated.Post,
-  resolve-default-below t,
-  resolve-default.Post,
-) (resolve-row-at t) resolve-row.Post
-resolve-row-returns t c = row-other (λ q. (c .if1 .taken) ((c .before .cell-at .ensures) ∙ q))
-
 resolve-row-cell-at-requires-2 : (t : ℕ) → resolve-row-lts.Need-cell-at-requires-2 (
   cell-at-reads.Asked,
   cell-at-reads.Learnt,
+  name-hash-reads.Asked,
+  name-hash-reads.Learnt,
   is-stated-reads.Asked,
   is-stated-reads.Learnt,
   resolve-stated-below t,
@@ -492,9 +440,11 @@ resolve-row-cell-at-requires-2 : (t : ℕ) → resolve-row-lts.Need-cell-at-requ
 ) (resolve-row-at t) resolve-row.Post
 resolve-row-cell-at-requires-2 t c κs = tt
 
-resolve-row-cell-at-requires-3 : (t : ℕ) → resolve-row-lts.Need-cell-at-requires-3 (
+resolve-row-name-hash-requires : (t : ℕ) → resolve-row-lts.Need-name-hash-requires (
   cell-at-reads.Asked,
   cell-at-reads.Learnt,
+  name-hash-reads.Asked,
+  name-hash-reads.Learnt,
   is-stated-reads.Asked,
   is-stated-reads.Learnt,
   resolve-stated-below t,
@@ -502,11 +452,13 @@ resolve-row-cell-at-requires-3 : (t : ℕ) → resolve-row-lts.Need-cell-at-requ
   resolve-default-below t,
   resolve-default.Post,
 ) (resolve-row-at t) resolve-row.Post
-resolve-row-cell-at-requires-3 t c κs = tt
+resolve-row-name-hash-requires t c κs = tt
 
 resolve-row-is-stated-requires : (t : ℕ) → resolve-row-lts.Need-is-stated-requires (
   cell-at-reads.Asked,
   cell-at-reads.Learnt,
+  name-hash-reads.Asked,
+  name-hash-reads.Learnt,
   is-stated-reads.Asked,
   is-stated-reads.Learnt,
   resolve-stated-below t,
@@ -519,6 +471,8 @@ resolve-row-is-stated-requires t c κs = tt
 resolve-row-resolve-stated-requires : (t : ℕ) → resolve-row-lts.Need-resolve-stated-requires (
   cell-at-reads.Asked,
   cell-at-reads.Learnt,
+  name-hash-reads.Asked,
+  name-hash-reads.Learnt,
   is-stated-reads.Asked,
   is-stated-reads.Learnt,
   resolve-stated-below t,
@@ -526,11 +480,13 @@ resolve-row-resolve-stated-requires : (t : ℕ) → resolve-row-lts.Need-resolve
   resolve-default-below t,
   resolve-default.Post,
 ) (resolve-row-at t) resolve-row.Post
-resolve-row-resolve-stated-requires t c κs = (omega arith, (c .before .before .before .before .before .before .before .before .before .before .before .before .before .before .pre .1))
+resolve-row-resolve-stated-requires t c κs = (omega arith, (c .before .before .before .before .before .before .before .before .before .before .before .before .before .before .before .before .before .before .pre .1))
 
 resolve-row-same-length : (t : ℕ) → resolve-row-lts.Need-same-length (
   cell-at-reads.Asked,
   cell-at-reads.Learnt,
+  name-hash-reads.Asked,
+  name-hash-reads.Learnt,
   is-stated-reads.Asked,
   is-stated-reads.Learnt,
   resolve-stated-below t,
@@ -540,9 +496,11 @@ resolve-row-same-length : (t : ℕ) → resolve-row-lts.Need-same-length (
 ) (resolve-row-at t) resolve-row.Post
 resolve-row-same-length t c = omega arith
 
-resolve-row-returns-2 : (t : ℕ) → resolve-row-lts.Need-returns-2 (
+resolve-row-returns : (t : ℕ) → resolve-row-lts.Need-returns (
   cell-at-reads.Asked,
   cell-at-reads.Learnt,
+  name-hash-reads.Asked,
+  name-hash-reads.Learnt,
   is-stated-reads.Asked,
   is-stated-reads.Learnt,
   resolve-stated-below t,
@@ -550,11 +508,13 @@ resolve-row-returns-2 : (t : ℕ) → resolve-row-lts.Need-returns-2 (
   resolve-default-below t,
   resolve-default.Post,
 ) (resolve-row-at t) resolve-row.Post
-resolve-row-returns-2 t c = row-stated (sym (c .before .before .before .before .before .before .before .before .before .cell-at .ensures) ∙ (c .before .before .before .before .before .before .before .before .if1 .left)) (c .before .before .before .before .before .before .before .cell-at2 .ensures) (c .before .before .before .before .before .before .cell-at3 .ensures) (c .before .before .before .before .before .is-stated .ensures) (c .before .before .before .before .if2 .taken) (c .before .before .resolve-stated .ensures)
+resolve-row-returns t c = row-stated (c .before .before .before .before .before .before .before .before .cell-at .ensures) (c .before .before .before .before .before .before .before .cell-at2 .ensures) (is-hashed (c .before .before .before .before .before .before .before .before .before .before .before .before .before .before .before .before .before .before .before .before .before .pre .1 .hashes) _ _ _ _ (c .before .before .before .before .before .before .before .before .cell-at .ensures) (c .before .before .before .before .before .before .before .cell-at2 .ensures) (c .before .before .before .before .before .before .name-hash .ensures) _ _ _ (c .before .before .before .before .before .is-stated .ensures)) (c .before .before .before .before .if1 .taken) (c .before .before .resolve-stated .ensures)
 
 resolve-row-resolve-default-requires : (t : ℕ) → resolve-row-lts.Need-resolve-default-requires (
   cell-at-reads.Asked,
   cell-at-reads.Learnt,
+  name-hash-reads.Asked,
+  name-hash-reads.Learnt,
   is-stated-reads.Asked,
   is-stated-reads.Learnt,
   resolve-stated-below t,
@@ -562,11 +522,13 @@ resolve-row-resolve-default-requires : (t : ℕ) → resolve-row-lts.Need-resolv
   resolve-default-below t,
   resolve-default.Post,
 ) (resolve-row-at t) resolve-row.Post
-resolve-row-resolve-default-requires t c κs = (omega arith, (c .before .before .before .before .before .before .before .before .before .before .before .before .before .before .pre .1))
+resolve-row-resolve-default-requires t c κs = (omega arith, (c .before .before .before .before .before .before .before .before .before .before .before .before .before .before .before .before .before .before .pre .1))
 
 resolve-row-same-length-2 : (t : ℕ) → resolve-row-lts.Need-same-length-2 (
   cell-at-reads.Asked,
   cell-at-reads.Learnt,
+  name-hash-reads.Asked,
+  name-hash-reads.Learnt,
   is-stated-reads.Asked,
   is-stated-reads.Learnt,
   resolve-stated-below t,
@@ -576,9 +538,11 @@ resolve-row-same-length-2 : (t : ℕ) → resolve-row-lts.Need-same-length-2 (
 ) (resolve-row-at t) resolve-row.Post
 resolve-row-same-length-2 t c = omega arith
 
-resolve-row-returns-3 : (t : ℕ) → resolve-row-lts.Need-returns-3 (
+resolve-row-returns-2 : (t : ℕ) → resolve-row-lts.Need-returns-2 (
   cell-at-reads.Asked,
   cell-at-reads.Learnt,
+  name-hash-reads.Asked,
+  name-hash-reads.Learnt,
   is-stated-reads.Asked,
   is-stated-reads.Learnt,
   resolve-stated-below t,
@@ -586,15 +550,63 @@ resolve-row-returns-3 : (t : ℕ) → resolve-row-lts.Need-returns-3 (
   resolve-default-below t,
   resolve-default.Post,
 ) (resolve-row-at t) resolve-row.Post
-resolve-row-returns-3 t c = row-default (sym (c .before .before .before .before .before .before .before .before .before .cell-at .ensures) ∙ (c .before .before .before .before .before .before .before .before .if1 .left)) (c .before .before .before .before .before .before .before .cell-at2 .ensures) (c .before .before .before .before .before .before .cell-at3 .ensures) (c .before .before .before .before .before .is-stated .ensures) (c .before .before .before .before .if2 .left) (c .before .before .resolve-default .ensures)
+resolve-row-returns-2 t c = row-default (c .before .before .before .before .before .before .before .before .cell-at .ensures) (c .before .before .before .before .before .before .before .cell-at2 .ensures) (is-hashed (c .before .before .before .before .before .before .before .before .before .before .before .before .before .before .before .before .before .before .before .before .before .pre .1 .hashes) _ _ _ _ (c .before .before .before .before .before .before .before .before .cell-at .ensures) (c .before .before .before .before .before .before .before .cell-at2 .ensures) (c .before .before .before .before .before .before .name-hash .ensures) _ _ _ (c .before .before .before .before .before .is-stated .ensures)) (c .before .before .before .before .if1 .left) (c .before .before .resolve-default .ensures)
 
 abbrev resolve-stated-Inv-loop : resolve-stated-lts.InvT-loop
-resolve-stated-Inv-loop text d e o st known v₀ z j from end w n m₀ k₀ v m k = (length v ≡ length v₀) × States text d e o st v₀ z j from end w n v m k
+resolve-stated-Inv-loop text d e o st known noted xe xo hs hd v₀ z j from end w n name len hash m₀ k₀ v m k = (length v ≡ length v₀) × States text d e o st v₀ z j from end w n v m k
 
 abbrev resolve-stated-μ-loop : resolve-stated-lts.MeasureT-loop
-resolve-stated-μ-loop text d e o st known v₀ z j from end w n m₀ k₀ v m k = end - k
+resolve-stated-μ-loop text d e o st known noted xe xo hs hd v₀ z j from end w n name len hash m₀ k₀ v m k = end - k
+
+resolve-stated-cell-at-requires : (t : ℕ) → resolve-stated-lts.Need-cell-at-requires (
+  cell-at-reads.Asked,
+  cell-at-reads.Learnt,
+  name-hash-reads.Asked,
+  name-hash-reads.Learnt,
+  stated-reads.Asked,
+  stated-reads.Learnt,
+  after-reads.Asked,
+  after-reads.Learnt,
+  enter-stated-below t,
+  enter-stated.Post,
+) (resolve-stated-at t) resolve-stated.Post resolve-stated-Inv-loop resolve-stated-μ-loop
+resolve-stated-cell-at-requires t c κs = tt
+
+resolve-stated-cell-at-requires-2 : (t : ℕ) → resolve-stated-lts.Need-cell-at-requires-2 (
+  cell-at-reads.Asked,
+  cell-at-reads.Learnt,
+  name-hash-reads.Asked,
+  name-hash-reads.Learnt,
+  stated-reads.Asked,
+  stated-reads.Learnt,
+  after-reads.Asked,
+  after-reads.Learnt,
+  enter-stated-below t,
+  enter-stated.Post,
+) (resolve-stated-at t) resolve-stated.Post resolve-stated-Inv-loop resolve-stated-μ-loop
+resolve-stated-cell-at-requires-2 t c κs = tt
+
+resolve-stated-name-hash-requires : (t : ℕ) → resolve-stated-lts.Need-name-hash-requires (
+  cell-at-reads.Asked,
+  cell-at-reads.Learnt,
+  name-hash-reads.Asked,
+  name-hash-reads.Learnt,
+  stated-reads.Asked,
+  stated-reads.Learnt,
+  after-reads.Asked,
+  after-reads.Learnt,
+  enter-stated-below t,
+  enter-stated.Post,
+) (resolve-stated-at t) resolve-stated.Post resolve-stated-Inv-loop resolve-stated-μ-loop
+resolve-stated-name-hash-requires t c κs = tt
 
 resolve-stated-loop-holds : (t : ℕ) → resolve-stated-lts.Need-loop-holds (
+  cell-at-reads.Asked,
+  cell-at-reads.Learnt,
+  name-hash-reads.Asked,
+  name-hash-reads.Learnt,
+  stated-reads.Asked,
+  stated-reads.Learnt,
   after-reads.Asked,
   after-reads.Learnt,
   enter-stated-below t,
@@ -602,7 +614,139 @@ resolve-stated-loop-holds : (t : ℕ) → resolve-stated-lts.Need-loop-holds (
 ) (resolve-stated-at t) resolve-stated.Post resolve-stated-Inv-loop resolve-stated-μ-loop
 resolve-stated-loop-holds t c = (refl, states-start)
 
+resolve-stated-stated-requires : (t : ℕ) → resolve-stated-lts.Need-stated-requires (
+  cell-at-reads.Asked,
+  cell-at-reads.Learnt,
+  name-hash-reads.Asked,
+  name-hash-reads.Learnt,
+  stated-reads.Asked,
+  stated-reads.Learnt,
+  after-reads.Asked,
+  after-reads.Learnt,
+  enter-stated-below t,
+  enter-stated.Post,
+) (resolve-stated-at t) resolve-stated.Post resolve-stated-Inv-loop resolve-stated-μ-loop
+resolve-stated-stated-requires t c κs = tt
+
+resolve-stated-enum-known-i : (t : ℕ) → resolve-stated-lts.Need-enum-known-i (
+  cell-at-reads.Asked,
+  cell-at-reads.Learnt,
+  name-hash-reads.Asked,
+  name-hash-reads.Learnt,
+  stated-reads.Asked,
+  stated-reads.Learnt,
+  after-reads.Asked,
+  after-reads.Learnt,
+  enter-stated-below t,
+  enter-stated.Post,
+) (resolve-stated-at t) resolve-stated.Post resolve-stated-Inv-loop resolve-stated-μ-loop
+resolve-stated-enum-known-i t c = search needs
+
+resolve-stated-enum-told : (t : ℕ) → resolve-stated-lts.Need-enum-told (
+  cell-at-reads.Asked,
+  cell-at-reads.Learnt,
+  name-hash-reads.Asked,
+  name-hash-reads.Learnt,
+  stated-reads.Asked,
+  stated-reads.Learnt,
+  after-reads.Asked,
+  after-reads.Learnt,
+  enter-stated-below t,
+  enter-stated.Post,
+) (resolve-stated-at t) resolve-stated.Post resolve-stated-Inv-loop resolve-stated-μ-loop
+resolve-stated-enum-told t c = search needs
+
+resolve-stated-same-length : (t : ℕ) → resolve-stated-lts.Need-same-length (
+  cell-at-reads.Asked,
+  cell-at-reads.Learnt,
+  name-hash-reads.Asked,
+  name-hash-reads.Learnt,
+  stated-reads.Asked,
+  stated-reads.Learnt,
+  after-reads.Asked,
+  after-reads.Learnt,
+  enter-stated-below t,
+  enter-stated.Post,
+) (resolve-stated-at t) resolve-stated.Post resolve-stated-Inv-loop resolve-stated-μ-loop
+resolve-stated-same-length t c = (c .before .before .before .before .loop .inv) .0
+
+resolve-stated-returns : (t : ℕ) → resolve-stated-lts.Need-returns (
+  cell-at-reads.Asked,
+  cell-at-reads.Learnt,
+  name-hash-reads.Asked,
+  name-hash-reads.Learnt,
+  stated-reads.Asked,
+  stated-reads.Learnt,
+  after-reads.Asked,
+  after-reads.Learnt,
+  enter-stated-below t,
+  enter-stated.Post,
+) (resolve-stated-at t) resolve-stated.Post resolve-stated-Inv-loop resolve-stated-μ-loop
+resolve-stated-returns t c = states-none (c .before .before .before .before .before .before .before .cell-at .ensures) (c .before .before .before .before .before .before .cell-at2 .ensures) ((c .before .before .before .before .loop .inv) .1) (finds-hashed (c .before .before .before .before .before .before .before .before .before .before .before .before .before .before .before .before .before .before .before .before .pre .1 .hashes) _ _ _ _ (c .before .before .before .before .before .before .before .cell-at .ensures) (c .before .before .before .before .before .before .cell-at2 .ensures) (c .before .before .before .before .before .name-hash .ensures) _ _ _ (c .before .before .stated .ensures)) ((c .enum-told .given) .1)
+
+resolve-stated-same-length-2 : (t : ℕ) → resolve-stated-lts.Need-same-length-2 (
+  cell-at-reads.Asked,
+  cell-at-reads.Learnt,
+  name-hash-reads.Asked,
+  name-hash-reads.Learnt,
+  stated-reads.Asked,
+  stated-reads.Learnt,
+  after-reads.Asked,
+  after-reads.Learnt,
+  enter-stated-below t,
+  enter-stated.Post,
+) (resolve-stated-at t) resolve-stated.Post resolve-stated-Inv-loop resolve-stated-μ-loop
+resolve-stated-same-length-2 t c = (c .before .before .before .before .before .before .loop .inv) .0
+
+resolve-stated-returns-2 : (t : ℕ) → resolve-stated-lts.Need-returns-2 (
+  cell-at-reads.Asked,
+  cell-at-reads.Learnt,
+  name-hash-reads.Asked,
+  name-hash-reads.Learnt,
+  stated-reads.Asked,
+  stated-reads.Learnt,
+  after-reads.Asked,
+  after-reads.Learnt,
+  enter-stated-below t,
+  enter-stated.Post,
+) (resolve-stated-at t) resolve-stated.Post resolve-stated-Inv-loop resolve-stated-μ-loop
+resolve-stated-returns-2 t c = states-out (c .before .before .before .before .before .before .before .before .before .cell-at .ensures) (c .before .before .before .before .before .before .before .before .cell-at2 .ensures) ((c .before .before .before .before .before .before .loop .inv) .1) (finds-hashed (c .before .before .before .before .before .before .before .before .before .before .before .before .before .before .before .before .before .before .before .before .before .before .pre .1 .hashes) _ _ _ _ (c .before .before .before .before .before .before .before .before .before .cell-at .ensures) (c .before .before .before .before .before .before .before .before .cell-at2 .ensures) (c .before .before .before .before .before .before .before .name-hash .ensures) _ _ _ (c .before .before .before .before .stated .ensures)) ((c .before .before .i .given) .1) (λ q. omega arith)
+
+resolve-stated-same-length-3 : (t : ℕ) → resolve-stated-lts.Need-same-length-3 (
+  cell-at-reads.Asked,
+  cell-at-reads.Learnt,
+  name-hash-reads.Asked,
+  name-hash-reads.Learnt,
+  stated-reads.Asked,
+  stated-reads.Learnt,
+  after-reads.Asked,
+  after-reads.Learnt,
+  enter-stated-below t,
+  enter-stated.Post,
+) (resolve-stated-at t) resolve-stated.Post resolve-stated-Inv-loop resolve-stated-μ-loop
+resolve-stated-same-length-3 t c = (c .before .before .before .before .before .before .before .loop .inv) .0
+
+resolve-stated-returns-3 : (t : ℕ) → resolve-stated-lts.Need-returns-3 (
+  cell-at-reads.Asked,
+  cell-at-reads.Learnt,
+  name-hash-reads.Asked,
+  name-hash-reads.Learnt,
+  stated-reads.Asked,
+  stated-reads.Learnt,
+  after-reads.Asked,
+  after-reads.Learnt,
+  enter-stated-below t,
+  enter-stated.Post,
+) (resolve-stated-at t) resolve-stated.Post resolve-stated-Inv-loop resolve-stated-μ-loop
+resolve-stated-returns-3 t c = states-out (c .before .before .before .before .before .before .before .before .before .before .cell-at .ensures) (c .before .before .before .before .before .before .before .before .before .cell-at2 .ensures) ((c .before .before .before .before .before .before .before .loop .inv) .1) (finds-hashed (c .before .before .before .before .before .before .before .before .before .before .before .before .before .before .before .before .before .before .before .before .before .before .before .pre .1 .hashes) _ _ _ _ (c .before .before .before .before .before .before .before .before .before .before .cell-at .ensures) (c .before .before .before .before .before .before .before .before .before .cell-at2 .ensures) (c .before .before .before .before .before .before .before .before .name-hash .ensures) _ _ _ (c .before .before .before .before .before .stated .ensures)) ((c .before .before .before .i .given) .1) (λ q. omega arith)
+
 resolve-stated-after-requires : (t : ℕ) → resolve-stated-lts.Need-after-requires (
+  cell-at-reads.Asked,
+  cell-at-reads.Learnt,
+  name-hash-reads.Asked,
+  name-hash-reads.Learnt,
+  stated-reads.Asked,
+  stated-reads.Learnt,
   after-reads.Asked,
   after-reads.Learnt,
   enter-stated-below t,
@@ -611,52 +755,88 @@ resolve-stated-after-requires : (t : ℕ) → resolve-stated-lts.Need-after-requ
 resolve-stated-after-requires t c κs = tt
 
 resolve-stated-add-enter-stated : (t : ℕ) → resolve-stated-lts.Need-add-enter-stated (
+  cell-at-reads.Asked,
+  cell-at-reads.Learnt,
+  name-hash-reads.Asked,
+  name-hash-reads.Learnt,
+  stated-reads.Asked,
+  stated-reads.Learnt,
   after-reads.Asked,
   after-reads.Learnt,
   enter-stated-below t,
   enter-stated.Post,
 ) (resolve-stated-at t) resolve-stated.Post resolve-stated-Inv-loop resolve-stated-μ-loop
-resolve-stated-add-enter-stated t c = omega arith
+resolve-stated-add-enter-stated t c = omega (arith, (c .before .before .before .before .before .before .before .before .before .before .before .before .before .before .before .before .before .before .before .before .before .before .before .before .before .fits .end), (c .before .before .if2 .left))
 
 resolve-stated-enter-stated-requires : (t : ℕ) → resolve-stated-lts.Need-enter-stated-requires (
+  cell-at-reads.Asked,
+  cell-at-reads.Learnt,
+  name-hash-reads.Asked,
+  name-hash-reads.Learnt,
+  stated-reads.Asked,
+  stated-reads.Learnt,
   after-reads.Asked,
   after-reads.Learnt,
   enter-stated-below t,
   enter-stated.Post,
 ) (resolve-stated-at t) resolve-stated.Post resolve-stated-Inv-loop resolve-stated-μ-loop
-resolve-stated-enter-stated-requires t c κs = (omega arith, (c .before .before .before .before .before .before .before .before .before .before .before .pre .1))
+resolve-stated-enter-stated-requires t c κs = (omega (arith, (c .before .before .before .before .before .before .before .before .before .before .before .before .before .before .before .before .before .before .before .before .before .before .before .before .before .pre .0)), (c .before .before .before .before .before .before .before .before .before .before .before .before .before .before .before .before .before .before .before .before .before .before .before .before .before .pre .1))
 
 resolve-stated-loop-less : (t : ℕ) → resolve-stated-lts.Need-loop-less (
+  cell-at-reads.Asked,
+  cell-at-reads.Learnt,
+  name-hash-reads.Asked,
+  name-hash-reads.Learnt,
+  stated-reads.Asked,
+  stated-reads.Learnt,
   after-reads.Asked,
   after-reads.Learnt,
   enter-stated-below t,
   enter-stated.Post,
 ) (resolve-stated-at t) resolve-stated.Post resolve-stated-Inv-loop resolve-stated-μ-loop
-resolve-stated-loop-less t c = omega (arith, (c .before .before .before .before .after .ensures), after-later ((c .before .before .before .before .before .before .before .before .before .before .before .before .before .before .args) .st .now) ((c .before .before .before .before .before .before .loop .k)) ((c .before .before .before .before .before .before .before .before .before .before .before .before .before .before .args) .end) (omega arith))
+resolve-stated-loop-less t c = omega (arith, (c .before .before .before .before .before .before .if1 .left), after-grows _ _ _ _ (c .before .before .before .before .after .ensures) (c .before .before .before .before .before .if2 .left))
 
 resolve-stated-loop-again : (t : ℕ) → resolve-stated-lts.Need-loop-again (
+  cell-at-reads.Asked,
+  cell-at-reads.Learnt,
+  name-hash-reads.Asked,
+  name-hash-reads.Learnt,
+  stated-reads.Asked,
+  stated-reads.Learnt,
   after-reads.Asked,
   after-reads.Learnt,
   enter-stated-below t,
   enter-stated.Post,
 ) (resolve-stated-at t) resolve-stated.Post resolve-stated-Inv-loop resolve-stated-μ-loop
-resolve-stated-loop-again t c = (omega arith, states-more (omega arith) (c .before .before .before .before .after .ensures) refl ((c .before .before .before .before .before .before .loop .inv) .1) (c .before .before .enter-stated .ensures))
+resolve-stated-loop-again t c = (omega arith, states-more (c .before .before .before .before .before .before .before .before .before .before .before .before .before .before .before .cell-at .ensures) (c .before .before .before .before .before .before .before .before .before .before .before .before .before .before .cell-at2 .ensures) ((c .before .before .before .before .before .before .before .before .before .before .before .before .loop .inv) .1) (finds-hashed (c .before .before .before .before .before .before .before .before .before .before .before .before .before .before .before .before .before .before .before .before .before .before .before .before .before .before .before .before .pre .1 .hashes) _ _ _ _ (c .before .before .before .before .before .before .before .before .before .before .before .before .before .before .before .cell-at .ensures) (c .before .before .before .before .before .before .before .before .before .before .before .before .before .before .cell-at2 .ensures) (c .before .before .before .before .before .before .before .before .before .before .before .before .before .name-hash .ensures) _ _ _ (c .before .before .before .before .before .before .before .before .before .before .stated .ensures)) ((c .before .before .before .before .before .before .before .before .i .given) .1) (c .before .before .before .before .after .ensures) refl (c .before .before .enter-stated .ensures))
 
-resolve-stated-same-length : (t : ℕ) → resolve-stated-lts.Need-same-length (
+resolve-stated-same-length-4 : (t : ℕ) → resolve-stated-lts.Need-same-length-4 (
+  cell-at-reads.Asked,
+  cell-at-reads.Learnt,
+  name-hash-reads.Asked,
+  name-hash-reads.Learnt,
+  stated-reads.Asked,
+  stated-reads.Learnt,
   after-reads.Asked,
   after-reads.Learnt,
   enter-stated-below t,
   enter-stated.Post,
 ) (resolve-stated-at t) resolve-stated.Post resolve-stated-Inv-loop resolve-stated-μ-loop
-resolve-stated-same-length t c = (c .before .loop .inv) .0
+resolve-stated-same-length-4 t c = (c .before .loop .inv) .0
 
-resolve-stated-returns : (t : ℕ) → resolve-stated-lts.Need-returns (
+resolve-stated-returns-4 : (t : ℕ) → resolve-stated-lts.Need-returns-4 (
+  cell-at-reads.Asked,
+  cell-at-reads.Learnt,
+  name-hash-reads.Asked,
+  name-hash-reads.Learnt,
+  stated-reads.Asked,
+  stated-reads.Learnt,
   after-reads.Asked,
   after-reads.Learnt,
   enter-stated-below t,
   enter-stated.Post,
 ) (resolve-stated-at t) resolve-stated.Post resolve-stated-Inv-loop resolve-stated-μ-loop
-resolve-stated-returns t c = states-end (omega arith) ((c .before .loop .inv) .1)
+resolve-stated-returns-4 t c = states-end (omega arith) ((c .before .loop .inv) .1)
 
 pub +enter+enter-stated+resolve+resolve-default+resolve-row+resolve-stated-spec :
     {M : Type 1} → statement M
@@ -671,8 +851,8 @@ pub +enter+enter-stated+resolve+resolve-default+resolve-row+resolve-stated-spec 
     (λ t. enter-lts.spec (
       put-value-reads.Asked,
       put-value-reads.Learnt,
-      word-under-reads.Asked,
-      word-under-reads.Learnt,
+      word-of-reads.Asked,
+      word-of-reads.Learnt,
       resolve-below t,
       resolve.Post,
     )
@@ -680,7 +860,7 @@ pub +enter+enter-stated+resolve+resolve-default+resolve-row+resolve-stated-spec 
     enter.Post
     (enter-returns t)
     (enter-put-value-requires t)
-    (enter-word-under-requires t)
+    (enter-word-of-requires t)
     (enter-add-resolve t)
     (enter-resolve-requires t)
     (enter-same-length t)
@@ -688,8 +868,6 @@ pub +enter+enter-stated+resolve+resolve-default+resolve-row+resolve-stated-spec 
     (λ t. enter-stated-lts.spec (
       cell-at-reads.Asked,
       cell-at-reads.Learnt,
-      same-part-reads.Asked,
-      same-part-reads.Learnt,
       enter-below t,
       enter.Post,
     )
@@ -698,29 +876,31 @@ pub +enter+enter-stated+resolve+resolve-default+resolve-row+resolve-stated-spec 
     (enter-stated-cell-at-requires t)
     (enter-stated-cell-at-requires-2 t)
     (enter-stated-cell-at-requires-3 t)
-    (enter-stated-cell-at-requires-4 t)
-    (enter-stated-same-part-requires t)
-    (enter-stated-returns t)
-    (enter-stated-cell-at-requires-5 t)
-    (enter-stated-cell-at-requires-6 t)
-    (enter-stated-cell-at-requires-7 t)
     (enter-stated-enter-requires t)
     (enter-stated-same-length t)
-    (enter-stated-returns-2 t))
-    (λ t. resolve-lts.spec
-    (resolve-row-below t, resolve-row.Post)
+    (enter-stated-returns t))
+    (λ t. resolve-lts.spec (
+      next-row-reads.Asked,
+      next-row-reads.Learnt,
+      resolve-row-below t,
+      resolve-row.Post,
+    )
     (resolve-at t)
     resolve.Post
     resolve-Inv-loop
     resolve-μ-loop
     (resolve-returns t)
+    (resolve-returns-2 t)
+    (resolve-returns-3 t)
+    (resolve-next-row-requires t)
     (resolve-loop-holds t)
     (resolve-resolve-row-requires t)
-    (resolve-add-j t)
+    (resolve-add-next-row t)
+    (resolve-next-row-requires-2 t)
     (resolve-loop-less t)
     (resolve-loop-again t)
     (resolve-same-length t)
-    (resolve-returns-2 t))
+    (resolve-returns-4 t))
     (λ t. resolve-default-lts.spec (
       cell-at-reads.Asked,
       cell-at-reads.Learnt,
@@ -740,6 +920,8 @@ pub +enter+enter-stated+resolve+resolve-default+resolve-row+resolve-stated-spec 
     (λ t. resolve-row-lts.spec (
       cell-at-reads.Asked,
       cell-at-reads.Learnt,
+      name-hash-reads.Asked,
+      name-hash-reads.Learnt,
       is-stated-reads.Asked,
       is-stated-reads.Learnt,
       resolve-stated-below t,
@@ -750,27 +932,48 @@ pub +enter+enter-stated+resolve+resolve-default+resolve-row+resolve-stated-spec 
     (resolve-row-at t)
     resolve-row.Post
     (resolve-row-cell-at-requires t)
-    (resolve-row-returns t)
     (resolve-row-cell-at-requires-2 t)
-    (resolve-row-cell-at-requires-3 t)
+    (resolve-row-name-hash-requires t)
     (resolve-row-is-stated-requires t)
     (resolve-row-resolve-stated-requires t)
     (resolve-row-same-length t)
-    (resolve-row-returns-2 t)
+    (resolve-row-returns t)
     (resolve-row-resolve-default-requires t)
     (resolve-row-same-length-2 t)
-    (resolve-row-returns-3 t))
-    λ t. resolve-stated-lts.spec
-    (after-reads.Asked, after-reads.Learnt, enter-stated-below t, enter-stated.Post)
+    (resolve-row-returns-2 t))
+    λ t. resolve-stated-lts.spec (
+      cell-at-reads.Asked,
+      cell-at-reads.Learnt,
+      name-hash-reads.Asked,
+      name-hash-reads.Learnt,
+      stated-reads.Asked,
+      stated-reads.Learnt,
+      after-reads.Asked,
+      after-reads.Learnt,
+      enter-stated-below t,
+      enter-stated.Post,
+    )
     (resolve-stated-at t)
     resolve-stated.Post
     resolve-stated-Inv-loop
     resolve-stated-μ-loop
+    (resolve-stated-cell-at-requires t)
+    (resolve-stated-cell-at-requires-2 t)
+    (resolve-stated-name-hash-requires t)
     (resolve-stated-loop-holds t)
+    (resolve-stated-stated-requires t)
+    (resolve-stated-enum-known-i t)
+    (resolve-stated-enum-told t)
+    (resolve-stated-same-length t)
+    (resolve-stated-returns t)
+    (resolve-stated-same-length-2 t)
+    (resolve-stated-returns-2 t)
+    (resolve-stated-same-length-3 t)
+    (resolve-stated-returns-3 t)
     (resolve-stated-after-requires t)
     (resolve-stated-add-enter-stated t)
     (resolve-stated-enter-stated-requires t)
     (resolve-stated-loop-less t)
     (resolve-stated-loop-again t)
-    (resolve-stated-same-length t)
-    (resolve-stated-returns t)
+    (resolve-stated-same-length-4 t)
+    (resolve-stated-returns-4 t)

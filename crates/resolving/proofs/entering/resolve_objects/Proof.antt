@@ -1,11 +1,11 @@
 -- `resolving::entering::resolve_objects` meets its contract: at object i, those before it are done.
 -- Assumes nothing.
-use lib.ListN.{length}
-use Prim.Native.Nat.{_-_}
-use mathlib.Core.Path.{_≡_, refl}
-use borrow.Author.Needs.{needs}
-use native.Mathlib.Omega.{arith}
 use Rattle.resolving.proofs.Objects.{Does, does-start, does-end, does-stop, does-more}
+use native.Mathlib.Omega.{arith}
+use borrow.Author.Needs.{needs}
+use mathlib.Core.Path.{_≡_, refl}
+use Prim.Native.Nat.{_-_}
+use lib.ListN.{length}
 use Rattle.resolving.proofs.entering.resolve_objects.Statement.{statement}
 use Rattle.resolving.proofs.entering.resolve_objects.Tie as tie
 use Rattle.resolving.proofs.entering.resolve_objects.Reads as reads
@@ -14,10 +14,10 @@ use Rattle.blocks.proofs.cell_at.Reads as cell-at-reads
 use Rattle.resolving.proofs.entering.resolve.Reads as resolve-reads
 
 abbrev Inv-loop : tie.InvT-loop
-Inv-loop text d e o st known v₀ z places n₀ i₀ v n i = (length v ≡ length v₀) × Does text d e o st v₀ z places v n i
+Inv-loop text d e o st known noted xe xo hs hd v₀ z places n₀ i₀ v n i = (length v ≡ length v₀) × Does text d e o st v₀ z places v n i
 
 abbrev μ-loop : tie.MeasureT-loop
-μ-loop text d e o st known v₀ z places n₀ i₀ v n i = z .objects - i
+μ-loop text d e o st known noted xe xo hs hd v₀ z places n₀ i₀ v n i = z .objects - i
 
 loop-holds : tie.Need-loop-holds Inv-loop μ-loop
 loop-holds c = (refl, does-start)
@@ -44,7 +44,7 @@ cell-at-requires-3 : tie.Need-cell-at-requires-3 Inv-loop μ-loop
 cell-at-requires-3 c κs = tt
 
 resolve-requires : tie.Need-resolve-requires Inv-loop μ-loop
-resolve-requires c κs = (c .before .before .before .before .before .before .before .before .before .before .before .before .before .before .before .pre)
+resolve-requires c κs = (c .before .before .before .before .before .before .before .before .before .before .before .before .before .before .before .before .before .before .before .before .pre)
 
 add-i : tie.Need-add-i Inv-loop μ-loop
 add-i c = omega arith

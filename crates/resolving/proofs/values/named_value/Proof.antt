@@ -1,22 +1,23 @@
 -- `resolving::values::named_value` meets its contract: by the attribute's type, each answer its own law.
 -- Assumes nothing.
-use mathlib.Core.Path.{refl, sym, ap}
-use native.Mathlib.Omega.{arith}
 use Rattle.resolving.proofs.Valuing.{named-string, named-enumerator, named-object, found-or}
+use native.Mathlib.Omega.{arith}
+use mathlib.Core.Path.{refl, sym, ap}
+use Rattle.resolving.proofs.Namings.{enumerator-is, object-is}
 use borrow.Author.Needs.{needs}
 use Rattle.resolving.proofs.values.named_value.Statement.{statement}
 use Rattle.resolving.proofs.values.named_value.Tie as tie
 use Rattle.resolving.proofs.values.named_value.Reads as reads
 use Rattle.resolving.proofs.values.named_value.Lts as lts
 use Rattle.blocks.proofs.cell_at.Reads as cell-at-reads
-use Rattle.scopes.proofs.lookups.find_enumerator.Reads as find-enumerator-reads
-use Rattle.scopes.proofs.lookups.find_object.Reads as find-object-reads
+use Rattle.lookups.proofs.find_object.Reads as find-object-reads
+use Rattle.resolving.proofs.words.enumerator_of.Reads as enumerator-of-reads
 
 cell-at-requires : tie.Need-cell-at-requires
 cell-at-requires c κs = search needs
 
-find-enumerator-requires : tie.Need-find-enumerator-requires
-find-enumerator-requires c κs = tt
+enumerator-of-requires : tie.Need-enumerator-of-requires
+enumerator-of-requires c κs = search needs
 
 enum-known-i : tie.Need-enum-known-i
 enum-known-i c = search needs
@@ -26,11 +27,11 @@ enum-told c = search needs
 
 returns : tie.Need-returns
 unfolding found-or
-returns c = named-enumerator (c .before .before .before .before .cell-at .ensures) (c .before .before .before .if1 .taken) (c .before .before .find-enumerator .ensures) (sym (ap found-or ((c .enum-told .given) .1)))
+returns c = named-enumerator (c .before .before .before .before .cell-at .ensures) (c .before .before .before .if1 .taken) (enumerator-is (c .before .before .before .before .before .before .before .before .before .before .before .before .pre) (c .before .before .enumerator-of .ensures)) (sym (ap found-or ((c .enum-told .given) .1)))
 
 returns-2 : tie.Need-returns-2
 unfolding found-or
-returns-2 c = named-enumerator (c .before .before .before .before .before .cell-at .ensures) (c .before .before .before .before .if1 .taken) (c .before .before .before .find-enumerator .ensures) (sym (ap found-or ((c .before .i .given) .1)))
+returns-2 c = named-enumerator (c .before .before .before .before .before .cell-at .ensures) (c .before .before .before .before .if1 .taken) (enumerator-is (c .before .before .before .before .before .before .before .before .before .before .before .before .before .pre) (c .before .before .before .enumerator-of .ensures)) (sym (ap found-or ((c .before .i .given) .1)))
 
 returns-3 : tie.Need-returns-3
 returns-3 c = named-string (c .before .before .cell-at .ensures) (λ q. omega arith) (λ q. omega arith)
@@ -39,7 +40,7 @@ returns-4 : tie.Need-returns-4
 returns-4 c = named-string (c .before .before .before .cell-at .ensures) (λ q. omega arith) (λ q. omega arith)
 
 find-object-requires : tie.Need-find-object-requires
-find-object-requires c κs = tt
+find-object-requires c κs = search needs
 
 enum-known-i-2 : tie.Need-enum-known-i-2
 enum-known-i-2 c = search needs
@@ -49,18 +50,18 @@ enum-told-2 c = search needs
 
 returns-5 : tie.Need-returns-5
 unfolding found-or
-returns-5 c = named-object (c .before .before .before .before .before .before .cell-at .ensures) (λ q. omega arith) (omega arith) (omega arith) refl (c .before .before .find-object .ensures) (sym (ap found-or (c .enum-told2 .given .1)))
+returns-5 c = named-object (c .before .before .before .before .before .before .cell-at .ensures) (λ q. omega arith) (omega arith) (omega arith) refl (object-is (c .before .before .before .before .before .before .before .before .before .before .before .before .before .before .pre) _ _ _ _ (c .before .before .find-object .ensures)) (sym (ap found-or ((c .enum-told2 .given) .1)))
 
 returns-6 : tie.Need-returns-6
 unfolding found-or
-returns-6 c = named-object (c .before .before .before .before .before .before .before .cell-at .ensures) (λ q. omega arith) (omega arith) (omega arith) refl (c .before .before .before .find-object .ensures) (sym (ap found-or (c .before .i2 .given .1)))
+returns-6 c = named-object (c .before .before .before .before .before .before .before .cell-at .ensures) (λ q. omega arith) (omega arith) (omega arith) refl (object-is (c .before .before .before .before .before .before .before .before .before .before .before .before .before .before .before .pre) _ _ _ _ (c .before .before .before .find-object .ensures)) (sym (ap found-or ((c .before .i2 .given) .1)))
 
 pub named-value-spec : {M : Type 1} → statement M
 named-value-spec =
     tie.close
     (tie.spec
     cell-at-requires
-    find-enumerator-requires
+    enumerator-of-requires
     enum-known-i
     enum-told
     returns

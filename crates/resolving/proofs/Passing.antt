@@ -1,0 +1,197 @@
+-- The rows that give no value are passed; what is noted of names is right. Assumes nothing.
+use mathlib.Core.Path.{_≡_, refl, sym, _∙_, ap, ap₂, subst}
+use mathlib.Core.List.{List}
+use mathlib.Core.Bool.{Bool, true, false, false≢true}
+use Prim.Native.Nat.{ℕ, zero, suc, _+_, _-_, _*_, _≤_, _<_}
+use native.Mathlib.Omega.{arith}
+use native.Mathlib.Decide.{ℕ-discrete, decLe}
+use lib.ListN.{length, getD, replicate, length-replicate}
+use lib.Seq.{length-sets}
+use Rattle.token.specs.Tokens.{partOf}
+use Rattle.rows.specs.declared.Found.{Found}
+use Rattle.meaning.specs.Syntax.{done, state, statements-in}
+use Rattle.meaning.specs.Words.{among}
+use Rattle.meaning.specs.Scopes.{names}
+use Rattle.meaning.specs.Resolving.{resolve}
+use Rattle.indexes.specs.Hashing.{hashOf}
+use Rattle.indexes.specs.Indexing.{rowHash, Indexed, Makes}
+use Rattle.lookups.specs.Hashes.{Hashed, HashOfRow, StatedHashed, IsStatedHashed}
+use Rattle.amounts.specs.Known.{KnownDefaults}
+use Rattle.layout.specs.Kept.{spec-entries, definition-cells, map-cells, join, kept, kept-definitions}
+use Rattle.blocks.specs.Blocks.{row-after, FindsStated, IsStated}
+use Rattle.blocks.proofs.Ranges.{after-later}
+use Rattle.resolving.specs.declared.Sizes.{Sizes}
+use Rattle.resolving.specs.declared.Owner.{Owner as OwnerOf}
+use Rattle.resolving.specs.Noted.{NotesTo, NamesHashed, Rooms, Noted, Bare, no-default, not-taken, Quiet, elsewhere, silent, Defaults, Stirs, Elsewhere, NextUnder, Passes, NextRow}
+use Rattle.resolving.specs.Promises.{ResolvesDefault, ResolvesRow, Resolves, ResolvesAll}
+use Rattle.resolving.proofs.Turns.{row-other, row-default, Goes, goes-more}
+use Rattle.resolving.proofs.Namings.{words-noted}
+use Rattle.resolving.proofs.Entrances.{default-none, default-not}
+use Rattle.resolving.proofs.Writes.{wrote-full}
+
+-- Hashes -----------------------------------------------------------------------------------------------------------------------------------
+
+module _ {s d st hs hd : List ℕ} (h : NamesHashed s d st hs hd) (j at len g : ℕ) (c₁ : at ≡ getD d (j * 19 + 2) 0) (c₂ : len ≡ getD d (j * 19 + 3) 0) (k : HashOfRow s d 19 2 hd j g) where
+  hash-is : g ≡ hashOf (partOf s at len)
+  unfolding HashOfRow rowHash
+  hash-is = k (h .definitions) ∙ ap₂ (λ p n. hashOf (partOf s p n)) (sym c₁) (sym c₂)
+
+  pub finds-hashed : (m e : ℕ) (r : Found) → StatedHashed s st hs m e at len g r → FindsStated s st m e at len r
+  unfolding StatedHashed
+  finds-hashed m e r f = f (h .statements) hash-is
+
+  pub is-hashed : (m e : ℕ) (r : Bool) → IsStatedHashed s st hs m e at len g r → IsStated s st m e at len r
+  unfolding IsStatedHashed
+  is-hashed m e r f = f (h .statements) hash-is
+
+-- The row after a statement comes later.
+pub after-grows : (st : List ℕ) (i e next : ℕ) → next ≡ row-after st i e → i < e → i < next
+after-grows st i e next p h = let k = after-later st i e h in omega arith
+
+-- Rows that give no value ------------------------------------------------------------------------------------------------------------------
+
+pub bare-none : {d : List ℕ} {p c : ℕ} {r : Bool} → c ≡ getD d (p + 11) 0 → c ≡ 0 → Defaults d p r
+bare-none {d} a b = record { bare = λ q j e. no-default (sym (ap (λ i. getD d (i + 11) 0) e) ∙ sym a ∙ b) }
+
+pub bare-not : {d : List ℕ} {p c : ℕ} {r : Bool} → c ≡ getD d (p + 18) 0 → c ≡ 4 → Defaults d p r
+bare-not {d} a b = record { bare = λ q j e. not-taken (sym (ap (λ i. getD d (i + 18) 0) e) ∙ sym a ∙ b) }
+
+pub not-bare : {d : List ℕ} {p : ℕ} → Defaults d p true
+not-bare = record { bare = λ q j e. absurd (false≢true (sym q)) }
+
+pub stirs-yes : {s d st : List ℕ} {key from till j p : ℕ} → Stirs s d st key from till j p true
+stirs-yes = record { quiet = λ q e. absurd (false≢true (sym q)) }
+
+none-stated : {s st : List ℕ} {from till : ℕ} (at len : ℕ) → till ≤ from → IsStated s st from till at len false
+unfolding among names statements-in
+none-stated at len h done t b e = refl
+none-stated {from = from} {till = till} at len h (state y inside rest) t b e = absurd (let q = b .after in omega arith)
+
+pub stirs-none : {s d st : List ℕ} {key from till j p : ℕ} {q : Bool} → Defaults d p q → q ≡ false → till ≤ from → Stirs s d st key from till j p false
+stirs-none {j = j} k e h = record { quiet = λ _ p. silent (k .bare e j p) (none-stated _ _ h) }
+
+pub stirs-stated : {s d st hs hd : List ℕ} {key from till j p at len : ℕ} (g : ℕ) {q r : Bool} → NamesHashed s d st hs hd → Defaults d p q → q ≡ false
+    → at ≡ getD d (p + 2) 0 → len ≡ getD d (p + 3) 0 → HashOfRow s d 19 2 hd j g → IsStatedHashed s st hs from till at len g r → Stirs s d st key from till j p r
+stirs-stated {s} {d} {st} {hs} {hd} {key} {from} {till} {j} {p} {at} {len} g {q} {r} h k e c₁ c₂ n i = record {
+  quiet = λ no pe.
+      let a₁ : at ≡ getD d (j * 19 + 2) 0 = c₁ ∙ ap (λ i. getD d (i + 2) 0) pe in
+      let a₂ : len ≡ getD d (j * 19 + 3) 0 = c₂ ∙ ap (λ i. getD d (i + 3) 0) pe in
+      silent (k .bare e j pe) (λ ss t b m. sym no ∙ is-hashed h j at len g a₁ a₂ n from till r i ss t b (m ∙ ap₂ (partOf s) (sym a₁) (sym a₂)));
+}
+
+-- Passing them -----------------------------------------------------------------------------------------------------------------------------
+
+pub elsewhere-none : {d : List ℕ} {key j : ℕ} → Elsewhere d key j j
+elsewhere-none = record { other = λ i a b. absurd (omega arith) }
+
+pub elsewhere-more : {d : List ℕ} {key j i p : ℕ} → Elsewhere d key j i → p ≡ i * 19 → (getD d p 0 ≡ key → ⊥) → Elsewhere d key j (i + 1)
+elsewhere-more {d} {key} {j} {i} {p} h e n = record { other = λ k a b. by k a b (ℕ-discrete k i) }
+  where
+    by : (k : ℕ) → j ≤ k → k < i + 1 → Dec (k ≡ i) → getD d (k * 19 + 0) 0 ≡ key → ⊥
+    by k a b (yes m) q = let u : p ≡ k * 19 + 0 = omega arith in n (ap (λ i. getD d i 0) u ∙ q)
+    by k a b (no m) q = h .other k a (omega arith) q
+
+pub next-here : {d : List ℕ} {limit key j i p : ℕ} → j ≤ i → i < limit → Elsewhere d key j i → p ≡ i * 19 → getD d p 0 ≡ key → NextUnder d limit key j i
+next-here {d} {i = i} {p = p} a b h e q =
+    record { low = a; high = omega arith; elsewhere = h; here = λ _. let u : i * 19 + 0 ≡ p = omega arith in ap (λ k. getD d k 0) u ∙ q }
+
+pub next-none : {d : List ℕ} {limit key j i : ℕ} → j ≤ i → i ≤ limit → limit ≤ i → Elsewhere d key j i → NextUnder d limit key j limit
+next-none {d} {limit} {key} {j} {i} a b c h =
+    let e : i ≡ limit = omega arith in
+    record { low = omega arith; high = omega arith; elsewhere = subst (Elsewhere d key j) e h; here = λ l. absurd (omega arith) }
+
+pub passes-start : {s d st : List ℕ} {limit key from till j r : ℕ} → NextUnder d limit key j r → Passes s d st key from till j r
+passes-start h = record { quiet = λ i a b. elsewhere (h .elsewhere .other i a b) }
+
+pub passes-more : {s d st : List ℕ} {limit key from till j i p r : ℕ} {q : Bool} → Passes s d st key from till j i → Stirs s d st key from till i p q → q ≡ false → p ≡ i * 19
+    → NextUnder d limit key (i + 1) r → Passes s d st key from till j r
+passes-more {s} {d} {st} {limit} {key} {from} {till} {j} {i} {p} {r} g h q e n = record { quiet = λ k a b. by k a b (ℕ-discrete k i) (decLe i k) }
+  where
+    by : (k : ℕ) → j ≤ k → k < r → Dec (k ≡ i) → Dec (i ≤ k) → Quiet s d st key from till k
+    by k a b (yes m) _ = subst (Quiet s d st key from till) (sym m) (h .quiet q e)
+    by k a b (no m) (yes l) = elsewhere (n .elsewhere .other k (omega arith) b)
+    by k a b (no m) (no l) = g .quiet k a (omega arith)
+
+pub row-here : {s d st : List ℕ} {limit key from till j i : ℕ} → j ≤ i → i ≤ limit → Passes s d st key from till j i → (i < limit → getD d (i * 19 + 0) 0 ≡ key)
+    → NextRow s d st limit key from till j i
+row-here a b p h = record { low = a; high = b; passes = p; here = h }
+
+pub row-none : {s d st : List ℕ} {limit key from till j i : ℕ} → j ≤ i → i ≤ limit → limit ≤ i → Passes s d st key from till j i → NextRow s d st limit key from till j limit
+row-none {s} {d} {st} {limit} {key} {from} {till} {j} {i} a b c p =
+    let e : i ≡ limit = omega arith in
+    record { low = omega arith; high = omega arith; passes = subst (Passes s d st key from till j) e p; here = λ l. absurd (omega arith) }
+
+module _ {s d e o st v : List ℕ} {z : Sizes} {j : ℕ} {w : OwnerOf} {n : ℕ} where
+  bare-default : Bare d j → ResolvesDefault s d e o st v z j w n v n
+  bare-default (no-default h) = default-none refl h
+  bare-default (not-taken h) = by (ℕ-discrete (getD d (j * 19 + 11) 0) 0)
+    where
+      by : Dec (getD d (j * 19 + 11) 0 ≡ 0) → ResolvesDefault s d e o st v z j w n v n
+      by (yes q) = default-none refl q
+      by (no q) = default-not refl q refl h
+
+module _ {s d e o st v : List ℕ} {z : Sizes} {j key from till : ℕ} {w : OwnerOf} {n : ℕ} where
+  quiet-row : Quiet s d st key from till j → ResolvesRow s d e o st v z j key from till w n v n
+  quiet-row (elsewhere h) = row-other h
+  quiet-row (silent b i) = by (ℕ-discrete (getD d (j * 19 + 0) 0) key)
+    where
+      by : Dec (getD d (j * 19 + 0) 0 ≡ key) → ResolvesRow s d e o st v z j key from till w n v n
+      by (yes q) = row-default refl refl i refl (bare-default b) .resolves q
+      by (no q) = row-other q
+
+module _ {s d e o st v : List ℕ} {z : Sizes} {limit key from till : ℕ} {w : OwnerOf} {n : ℕ} where
+  passing : {v₁ : List ℕ} {m : ℕ} (c j r : ℕ) → r ≡ j + c → r ≤ limit → Passes s d st key from till j r → Goes s d e o st v z limit key from till w n v₁ m j
+      → Goes s d e o st v z limit key from till w n v₁ m r
+  passing {v₁} {m} zero j r q l p g = let h : j ≡ r = omega arith in subst (λ i. Goes s d e o st v z limit key from till w n v₁ m i) h g
+  passing (suc c) j r q l p g =
+      passing c (j + 1) r (omega arith) l (record { quiet = λ i a b. p .quiet i (omega arith) b }) (goes-more (omega arith) g (quiet-row (p .quiet j (omega arith) (omega arith))))
+
+  pub goes-pass : {v₁ : List ℕ} {m j r : ℕ} → NextRow s d st limit key from till j r → Goes s d e o st v z limit key from till w n v₁ m j
+      → Goes s d e o st v z limit key from till w n v₁ m r
+  goes-pass {v₁} {m} {j} {r} x g = let l = x .low in passing (r - j) j r (omega arith) (x .high) (x .passes) g
+
+  pub resolves-past : 512 < limit → Resolves s d e o st v z limit key from till w n v n
+  resolves-past h f ds ss ow g sc b lim bl own room = absurd (let k = g .tables .definitions-fit in omega arith)
+
+  pub resolves-full : 2048 < n → Resolves s d e o st v z limit key from till w n v n
+  resolves-full h f ds ss ow g sc b lim bl own room = wrote-full v n (resolve ds (f .objects) ss) ow (room .room) h (room .low)
+
+-- What is noted ----------------------------------------------------------------------------------------------------------------------------
+
+pub noted-all : {s d e o st : List ℕ} {z : Sizes} {known words xe₀ xo₀ spare₀ hs hd xe xo : List ℕ} {n m k k₂ : ℕ} → KnownDefaults s d known × Rooms d z xe₀ xo₀ spare₀
+    → n ≡ length xe₀ → k ≡ length spare₀ → Makes s e 3 n 1 k xe → m ≡ length xo₀ → k₂ ≡ length spare₀ → Makes s o 9 m 3 k₂ xo
+    → NotesTo s d e xe (length words) words → Hashed s st 7 0 hs → Hashed s d 19 2 hd → Noted s d e o st z known words xe xo hs hd
+unfolding Makes
+noted-all {s} {d} {e} {o} {st} {z} {known} {words} {xe₀} {xo₀} {spare₀} {hs} {hd} {xe} {xo} {n} {m} {k} {k₂} h a₁ a₂ ie b₁ b₂ io w p q =
+    let R = h .1 in
+    let l₁ = R .enumerators in
+    let l₂ = R .objects in
+    let f₁ = R .enumerators-fit in
+    let f₂ = R .objects-fit in
+    let sp = R .spare-room in
+    let u : n ≡ z .enumerators = omega arith in
+    let t : m ≡ z .objects = omega arith in
+    let x : Indexed s e 3 (z .enumerators) 1 xe = subst (λ i. Indexed s e 3 i 1 xe) u (ie (omega arith)) in
+    let y : Indexed s o 9 (z .objects) 3 xo = subst (λ i. Indexed s o 9 i 3 xo) t (io (omega arith)) in
+    record {
+      defaults = h .0;
+      indexes = record {
+        defaults = words-noted (z .enumerators) words x (omega arith) w;
+        enumerators = x;
+        objects = y;
+        enumerators-fit = f₁;
+        objects-fit = f₂;
+      };
+      hashes = record { statements = p; definitions = q; room = R .room };
+    }
+
+kept-long : (n : ℕ) (rs : List (List ℕ)) → length (kept n rs) ≡ n
+unfolding kept
+kept-long n rs = length-sets {A = ℕ} (replicate n 0) 0 (join rs) ∙ length-replicate {A = ℕ} n 0
+
+module _ {s d e o st v : List ℕ} {z : Sizes} {ps : List ℕ} where
+  -- The tables of a text have their sizes.
+  pub not-sized : (length d ≡ 9747 → z .enumerators ≤ 1024 → z .objects ≤ 256 → ⊥) → ResolvesAll s d e o st v z ps v 0
+  unfolding kept-definitions
+  not-sized h f g p l =
+      absurd (h (ap length (g .tables .in-definitions) ∙ kept-long (513 * 19) (map-cells definition-cells (spec-entries (f .specs)))) (g .tables .enumerators-fit) (g .tables .objects-fit))

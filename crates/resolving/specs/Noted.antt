@@ -1,0 +1,110 @@
+-- What is noted of a text's names before its values are resolved, and which rows a loop over the definitions may pass. Assumes nothing.
+use mathlib.Core.Path.{_≡_}
+use mathlib.Core.List.{List}
+use mathlib.Core.Bool.{Bool, false}
+use Prim.Native.Nat.{ℕ, suc, _+_, _*_, _≤_, _<_}
+use lib.ListN.{length, getD}
+use Rattle.rows.specs.declared.Found.{Found}
+use Rattle.rows.specs.declared.Found.the-variants.{At}
+use Rattle.indexes.specs.Indexing.{Indexed}
+use Rattle.lookups.specs.Hashes.{Hashed}
+use Rattle.amounts.specs.Known.{KnownDefaults}
+use Rattle.blocks.specs.Blocks.{IsStated}
+use Rattle.scopes.specs.Promises.{FindsEnumerator, FindsWord}
+use Rattle.resolving.specs.declared.Sizes.{Sizes}
+
+-- What is noted ----------------------------------------------------------------------------------------------------------------------------
+
+-- The number c notes the enumerator that the default of row j is: one more than its row, or 0 where nothing is noted.
+pub record WordNoted (s d e : List ℕ) (n j c : ℕ) : Type 0 where
+  pub told : (i : ℕ) → c ≡ suc i → FindsEnumerator s d e n j (getD d (j * 19 + 10) 0) (getD d (j * 19 + 11) 0) (At i)
+
+-- So do the cells of t; of the enumerators the first n are looked at.
+pub record WordsNoted (s d e : List ℕ) (n : ℕ) (t : List ℕ) : Type 0 where
+  pub cell : (j : ℕ) → WordNoted s d e n j (getD t j 0)
+
+-- The names of enumerators and of objects are indexed.
+pub record Indexes (s d e o : List ℕ) (z : Sizes) (words xe xo : List ℕ) : Type 0 where
+  pub defaults : WordsNoted s d e (z .enumerators) words
+  pub enumerators : Indexed s e 3 (z .enumerators) 1 xe
+  pub objects : Indexed s o 9 (z .objects) 3 xo
+  pub enumerators-fit : z .enumerators ≤ 1024
+  pub objects-fit : z .objects ≤ 256
+
+-- The names of statements and of definitions are hashed; the table of definitions has 513 rows.
+pub record NamesHashed (s d st hs hd : List ℕ) : Type 0 where
+  pub statements : Hashed s st 7 0 hs
+  pub definitions : Hashed s d 19 2 hd
+  pub room : length d ≡ 9747
+
+-- The indexes have a cell for each row, and there is room for sorting them.
+pub record Rooms (d : List ℕ) (z : Sizes) (xe xo spare : List ℕ) : Type 0 where
+  pub room : length d ≡ 9747
+  pub enumerators : length xe ≡ z .enumerators
+  pub objects : length xo ≡ z .objects
+  pub enumerators-fit : z .enumerators ≤ 1024
+  pub objects-fit : z .objects ≤ 256
+  pub spare-room : length spare ≡ 512
+
+-- All that is noted.
+pub record Noted (s d e o st : List ℕ) (z : Sizes) (known words xe xo hs hd : List ℕ) : Type 0 where
+  pub defaults : KnownDefaults s d known
+  pub indexes : Indexes s d e o z words xe xo
+  pub hashes : NamesHashed s d st hs hd
+
+-- What the functions promise ---------------------------------------------------------------------------------------------------------------
+
+-- A default more is looked up, or all are, through the index x of the enumerators.
+pub record NotesWord (s d e x : List ℕ) (j c : ℕ) : Type 0 where
+  pub noted : (n : ℕ) → Indexed s e 3 n 1 x → n ≤ 65536 → WordNoted s d e n j c
+
+pub record NotesTo (s d e x : List ℕ) (i : ℕ) (t : List ℕ) : Type 0 where
+  pub cell : (j : ℕ) → j < i → NotesWord s d e x j (getD t j 0)
+
+-- The enumerator that a word is, and its value word, where the defaults are noted.
+pub record EnumeratorNoted (s d e x words : List ℕ) (j at len : ℕ) (r : Found) : Type 0 where
+  pub finds : (n : ℕ) → Indexed s e 3 n 1 x → n ≤ 65536 → WordsNoted s d e n words → FindsEnumerator s d e n j at len r
+
+pub record WordFound (s d e x words : List ℕ) (j at len r : ℕ) : Type 0 where
+  pub finds : (n : ℕ) → Indexed s e 3 n 1 x → n ≤ 65536 → WordsNoted s d e n words → FindsWord s d e n j at len r
+
+-- Rows -------------------------------------------------------------------------------------------------------------------------------------
+
+-- Row j has no default that is taken.
+pub data Bare (d : List ℕ) (j : ℕ) : Type 0 where
+  no-default : getD d (j * 19 + 11) 0 ≡ 0 → Bare d j
+  not-taken : getD d (j * 19 + 18) 0 ≡ 4 → Bare d j
+
+-- Row j gives no value: it stands elsewhere, or has no default and is not stated.
+pub data Quiet (s d st : List ℕ) (key from till j : ℕ) : Type 0 where
+  elsewhere : (getD d (j * 19 + 0) 0 ≡ key → ⊥) → Quiet s d st key from till j
+  silent : Bare d j → IsStated s st from till (getD d (j * 19 + 2) 0) (getD d (j * 19 + 3) 0) false → Quiet s d st key from till j
+
+-- Where r says no, the row that begins at p has no default that is taken, or gives no value.
+pub record Defaults (d : List ℕ) (p : ℕ) (r : Bool) : Type 0 where
+  pub bare : r ≡ false → (j : ℕ) → p ≡ j * 19 → Bare d j
+
+pub record Stirs (s d st : List ℕ) (key from till j p : ℕ) (r : Bool) : Type 0 where
+  pub quiet : r ≡ false → p ≡ j * 19 → Quiet s d st key from till j
+
+-- The rows from j up to r stand elsewhere.
+pub record Elsewhere (d : List ℕ) (key j r : ℕ) : Type 0 where
+  pub other : (i : ℕ) → j ≤ i → i < r → getD d (i * 19 + 0) 0 ≡ key → ⊥
+
+-- So it is, and r is not past the limit; row r stands under the word at key.
+pub record NextUnder (d : List ℕ) (limit key j r : ℕ) : Type 0 where
+  pub low : j ≤ r
+  pub high : r ≤ limit
+  pub elsewhere : Elsewhere d key j r
+  pub here : r < limit → getD d (r * 19 + 0) 0 ≡ key
+
+-- The rows from j up to r give no value.
+pub record Passes (s d st : List ℕ) (key from till j r : ℕ) : Type 0 where
+  pub quiet : (i : ℕ) → j ≤ i → i < r → Quiet s d st key from till i
+
+-- Likewise.
+pub record NextRow (s d st : List ℕ) (limit key from till j r : ℕ) : Type 0 where
+  pub low : j ≤ r
+  pub high : r ≤ limit
+  pub passes : Passes s d st key from till j r
+  pub here : r < limit → getD d (r * 19 + 0) 0 ≡ key

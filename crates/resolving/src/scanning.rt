@@ -1,0 +1,90 @@
+// The rows of the definitions of a scope that give values.
+ghost use mathlib.Core.Path.{_≡_};
+ghost use Prim.Native.Nat.{_≤_};
+ghost use lib.ListN.{length};
+ghost use Rattle.resolving.specs.Noted.{NamesHashed, Defaults, Stirs, NextUnder, NextRow};
+use rows::cells;
+
+// Whether the attribute whose cells begin at p has a default that is taken.
+fn has_default(d: &[usize], p: usize) -> bool
+    ensures { λ r. ⌜ Defaults (now (d .entry)) p r ⌝ }
+{
+    if cells::cell(d, p, 11) == 0 {
+        return false;
+    }
+    if cells::cell(d, p, 18) == 4 {
+        return false;
+    }
+    true
+}
+
+// Whether the attribute of row j, whose cells begin at p, has a default or is stated in a block.
+fn stirs(
+    text: &[u8],
+    d: &[usize],
+    st: &[usize],
+    hs: &[usize],
+    hd: &[usize],
+    key: usize,
+    from: usize,
+    end: usize,
+    j: usize,
+    p: usize,
+) -> bool
+    requires { ⌜ NamesHashed (now text) (now d) (now st) (now hs) (now hd) ⌝ }
+    ensures { λ r. ⌜ Stirs (now (text .entry)) (now (d .entry)) (now (st .entry)) key from end j p r ⌝ }
+{
+    if has_default(d, p) {
+        return true;
+    }
+    if end <= from {
+        return false;
+    }
+    let name = cells::cell(d, p, 2);
+    let len = cells::cell(d, p, 3);
+    let hash = lookups::name_hash(text, d, 19, 2, hd, j);
+    lookups::is_stated(text, st, hs, from, end, name, len, hash)
+}
+
+// The first row from j on, below a limit, that stands under the word at key; the limit for none.
+fn next_under(d: &[usize], limit: usize, key: usize, j: usize) -> usize
+    requires { ⌜ (limit ≤ 512) × ((j ≤ limit) × (length (now d) ≡ 9747)) ⌝ }
+    ensures { λ r. ⌜ NextUnder (now (d .entry)) limit key j r ⌝ }
+{
+    let mut p = j * 19;
+    let mut i = j;
+    while i < limit {
+        if d[p] == key {
+            return i;
+        }
+        p += 19;
+        i += 1;
+    }
+    limit
+}
+
+// The first of these rows that has a default or is stated in a block.
+pub fn next_row(
+    text: &[u8],
+    d: &[usize],
+    st: &[usize],
+    hs: &[usize],
+    hd: &[usize],
+    limit: usize,
+    key: usize,
+    from: usize,
+    end: usize,
+    j: usize,
+) -> usize
+    requires { ⌜ (limit ≤ 512) × ((j ≤ limit) × NamesHashed (now text) (now d) (now st) (now hs) (now hd)) ⌝ }
+    ensures { λ r. ⌜ NextRow (now (text .entry)) (now (d .entry)) (now (st .entry)) limit key from end j r ⌝ }
+{
+    let mut i = next_under(d, limit, key, j);
+    while i < limit {
+        if stirs(text, d, st, hs, hd, key, from, end, i, i * 19) {
+            return i;
+        }
+        i = next_under(d, limit, key, i + 1);
+    }
+    limit
+}
