@@ -17,6 +17,8 @@ pub fn heavy() -> Vec<Heavy> {
     all.extend(against_numbers());
     all.extend(against_names());
     all.extend(against_defaults());
+    all.extend(against_scopes());
+    all.extend(against_all());
     all
 }
 
@@ -280,6 +282,91 @@ fn against_defaults() -> Vec<Heavy> {
             19,
         ),
     ]
+}
+
+/// One name in many lists or scopes.
+fn against_scopes() -> Vec<Heavy> {
+    let lists = format!(
+        "TASK{{{}}};",
+        each(512, |number| format!("ENUM[A]{}[];", name(2, number)))
+    );
+    let stated = |from, count| each(count, |number| format!("{}=A;", name(2, from + number)));
+    let last = stated(511, 1);
+    let four = each(4, |number| {
+        format!("TASK {}{{{}}};", name(2, number), stated(0, 511))
+    });
+    let needed = format!(
+        "TASK{{{}ENUM[A]{}[];}};",
+        each(511, |number| format!("ENUM[A]{};", name(2, number))),
+        name(2, 511)
+    );
+    let scopes = each(511, |number| format!(",{}{{INT32 n;}}", name(2, number)));
+    let subs = each(500, |number| format!("INT32 {}[];", name(2, number)));
+    let opened = format!("TASK{{ENUM[A{{{subs}}}]x[];}};");
+    vec![
+        accepted(
+            "one word in 512 lists, that of the last sought 2,048 times",
+            &lists,
+            &format!("TASK t{{{}}};", last.repeat(2_048)),
+        ),
+        accepted(
+            "one word in 512 lists, that of each sought four times",
+            &lists,
+            &format!("TASK t{{{}}};", stated(0, 512).repeat(4)),
+        ),
+        accepted(
+            "one word in 512 lists, sought by four objects",
+            &lists,
+            &four,
+        ),
+        accepted(
+            "one word in 512 lists, 511 stated behind the last",
+            &needed,
+            &format!("TASK t{{{}{}}};", last.repeat(1_537), stated(0, 511)),
+        ),
+        accepted(
+            "one name under 511 values, the last opened 1,024 times",
+            &format!("TASK{{ENUM[{}]x[];}};", &scopes[1..]),
+            &format!(
+                "TASK t{{{}}};",
+                format!("x={}{{n=1;}};", name(2, 510)).repeat(1_024)
+            ),
+        ),
+        accepted(
+            "500 lists under a value, opened 2,048 times",
+            &opened,
+            &format!("TASK t{{{}}};", "x=A;".repeat(2_048)),
+        ),
+        accepted(
+            "500 lists under a value, one stated 1,024 times",
+            &opened,
+            &format!(
+                "TASK t{{{}}};",
+                format!("x=A{{{}=1;}};", name(2, 499)).repeat(1_024)
+            ),
+        ),
+        accepted(
+            "500 lists under a value, one stated 64 times in each of 31 blocks",
+            &opened,
+            &format!(
+                "TASK t{{{}}};",
+                format!("x=A{{{}}};", format!("{}=1;", name(2, 499)).repeat(64)).repeat(31)
+            ),
+        ),
+    ]
+}
+
+/// Two of these at once.
+fn against_all() -> Vec<Heavy> {
+    let needed = each(511, |number| format!("INT32 {};", name(2, number)));
+    let late = each(511, |number| format!("{}=1;", name(2, number)));
+    let list = name(2, 511);
+    vec![filled(
+        "511 attributes behind a list of numbers from a long list",
+        &format!("TASK{{{needed}UINT32[#0]{list}[];}};"),
+        &format!("TASK t{{{}{late}}};", format!("{list}=0;").repeat(1_537)),
+        "1,",
+    )]
 }
 
 #[cfg(test)]

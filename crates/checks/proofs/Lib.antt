@@ -2,4 +2,3 @@ pub mod Firsts
 pub mod Turns
 pub mod Rows
 pub mod Applications
-pub mod Throughs

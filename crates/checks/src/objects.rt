@@ -5,7 +5,8 @@ ghost use lib.ListN.{length};
 ghost use Rattle.meaning.specs.Applying.{one-if};
 ghost use Rattle.rows.specs.Order.{none, soonest};
 ghost use Rattle.checks.specs.Cells.{fault-found, lacking-from, count-rows, full-of, too-many, name-again, object-codes};
-ghost use Rattle.checks.specs.Promises.{Through, Fits, ObjectFaults};
+ghost use Rattle.indexes.specs.Indexing.{Fits, Through, By};
+ghost use Rattle.checks.specs.Promises.{ObjectFaults};
 use super::parts;
 use kinds::Kind;
 use kinds::Most;
@@ -80,7 +81,7 @@ fn too_many(o: &[usize], j: usize) -> Fault
 
 // 12 at the name of object j, where an earlier object of its kind has it; x is the index of the objects.
 fn name_again(text: &[u8], o: &[usize], j: usize, x: &[usize]) -> Fault
-    ensures { λ r. ⌜ Through (now (text .entry)) (now (o .entry)) (now (x .entry)) j r (name-again (now (text .entry)) (now (o .entry)) j) ⌝ }
+    ensures { λ r. ⌜ Through (By (now (text .entry)) (now (o .entry)) 9 0 3 (now (x .entry))) j (r ≡ name-again (now (text .entry)) (now (o .entry)) j) ⌝ }
 {
     let kind = lookups::cell_of(o, 9, j, 0);
     let at = lookups::cell_of(o, 9, j, 3);
@@ -91,7 +92,7 @@ fn name_again(text: &[u8], o: &[usize], j: usize, x: &[usize]) -> Fault
 
 // 17 and 12 of the first n objects; x is the index of the objects.
 fn each_object(text: &[u8], o: &[usize], n: usize, x: &[usize]) -> Fault
-    ensures { λ r. ⌜ Through (now (text .entry)) (now (o .entry)) (now (x .entry)) n r (soonest none (object-codes (now (text .entry)) (now (o .entry)) n 0)) ⌝ }
+    ensures { λ r. ⌜ Through (By (now (text .entry)) (now (o .entry)) 9 0 3 (now (x .entry))) n (r ≡ soonest none (object-codes (now (text .entry)) (now (o .entry)) n 0)) ⌝ }
 {
     let mut best = Fault {
         number: 0,
@@ -112,7 +113,7 @@ fn indexed_objects(text: &[u8], o: &[usize], n: usize, x: &mut [usize], b: &mut 
     requires { ⌜ Fits n (length (now x)) (length (now b)) ⌝ }
     ensures { λ r. ⌜ r ≡ soonest none (object-codes (now (text .entry)) (now (o .entry)) n 0) ⌝ }
 {
-    indexes::index(text, o, 9, 3, x, b);
+    indexes::index(text, o, 9, 0, 3, x, b);
     each_object(text, o, n, x)
 }
 

@@ -9,4 +9,3 @@ pub mod Stages
 pub mod Naming
 pub mod Defaulting
 pub mod Turns
-pub mod Throughs

@@ -12,7 +12,6 @@ use Rattle.rows.specs.declared.Found.{Found}
 use Rattle.rows.specs.declared.Found.the-variants.{Nothing}
 use Rattle.rows.specs.Search.{findNamed}
 use Rattle.rows.specs.Order.{faultIf}
-use Rattle.indexes.specs.Indexing.{Indexed}
 use Rattle.meaning.specs.Syntax.{File}
 use Rattle.meaning.specs.Faults.{first}
 use Rattle.meaning.specs.Defining.{defined-in, differs, definition-faults}
@@ -20,16 +19,6 @@ use Rattle.layout.specs.Kept.{Entry, Choice, spec-entries, spec-choices, kept-d
 use Rattle.scopes.specs.Situations.{Situation, Nth}
 use Rattle.scopes.specs.Promises.{fault-of}
 use Rattle.defining_checks.specs.Listing.{each, under-of, others-for, row-name-faults, judged-faults, kept-row-faults, choice-faults}
-
--- A, if x is the index of at least the first j rows by their names, which stand in column m.
-pub record Through (s t : List ℕ) (w m : ℕ) (x : List ℕ) (j : ℕ) (A : Type 0) : Type 0 where
-  pub holds : (n : ℕ) → Indexed s t w n m x → n ≤ 65536 → j ≤ n → A
-
--- An index of n rows takes the room of a cells, and is sorted with b cells beside them.
-pub record Fits (n a b : ℕ) : Type 0 where
-  pub index : n ≡ a
-  pub beside : n ≤ 2 * b + 1
-  pub few : n ≤ 65536
 
 -- How many enumerators are kept, whether one is too many, and where that one stands.
 pub record Room (f : File) (m : ℕ) (full : Bool) (limit : ℕ) : Type 0 where

@@ -6,7 +6,8 @@ ghost use lib.Dec.{leb};
 ghost use Rattle.token.specs.Find.{both};
 ghost use Rattle.rows.specs.Order.{faultIf};
 ghost use Rattle.rows.specs.Search.{isFound};
-ghost use Rattle.defining_checks.specs.Promises.{Fits, Through, first-again, NewTypeFault, NameFault, DefaultFault, RowFault, RowsFault};
+ghost use Rattle.indexes.specs.Indexing.{Fits, Through, By, ByTwo};
+ghost use Rattle.defining_checks.specs.Promises.{first-again, NewTypeFault, NameFault, DefaultFault, RowFault, RowsFault};
 use rows::Fault;
 use rows::Found;
 use rows::faults;
@@ -29,9 +30,9 @@ pub fn fault_found(found: Found, number: u8, place: usize) -> Fault
     }
 }
 
-// The first row before row j that is under the same word, and has the same name; x is the index of the rows.
+// The first row before row j that is under the same word, and has the same name; x is the index of the rows by these.
 fn again(text: &[u8], d: &[usize], j: usize, x: &[usize]) -> Found
-    ensures { λ r. ⌜ Through (now (text .entry)) (now (d .entry)) 19 2 (now (x .entry)) j (r ≡ first-again (now (text .entry)) (now (d .entry)) j) ⌝ }
+    ensures { λ r. ⌜ Through (By (now (text .entry)) (now (d .entry)) 19 0 2 (now (x .entry))) j (r ≡ first-again (now (text .entry)) (now (d .entry)) j) ⌝ }
 {
     let under = lookups::cell_of(d, 19, j, 0);
     let at = lookups::cell_of(d, 19, j, 2);
@@ -40,9 +41,9 @@ fn again(text: &[u8], d: &[usize], j: usize, x: &[usize]) -> Found
 }
 
 // 9 at the name of row j, which no row before it under the same word has, if the first row under another value of its attribute that has it
-// has another type word.
-fn type_fault(text: &[u8], d: &[usize], j: usize, x: &[usize]) -> Fault
-    ensures { λ r. ⌜ Through (now (text .entry)) (now (d .entry)) 19 2 (now (x .entry)) j (NewTypeFault (now (text .entry)) (now (d .entry)) j r) ⌝ }
+// has another type word; y is the index of the rows by the attributes whose values they stand under, and by their names.
+fn type_fault(text: &[u8], d: &[usize], j: usize, y: &[usize]) -> Fault
+    ensures { λ r. ⌜ Through (By (now (text .entry)) (now (d .entry)) 19 13 2 (now (y .entry))) j (NewTypeFault (now (text .entry)) (now (d .entry)) j r) ⌝ }
 {
     let outer = lookups::cell_of(d, 19, j, 13);
     if outer == 0 {
@@ -53,7 +54,7 @@ fn type_fault(text: &[u8], d: &[usize], j: usize, x: &[usize]) -> Fault
     }
     let at = lookups::cell_of(d, 19, j, 2);
     let len = lookups::cell_of(d, 19, j, 3);
-    let Found::At(i) = indexes::find_before(text, d, 19, j, 13, outer, 2, at, len, x) else {
+    let Found::At(i) = indexes::find_before(text, d, 19, j, 13, outer, 2, at, len, y) else {
         return Fault {
             number: 0,
             place: 0,
@@ -67,9 +68,9 @@ fn type_fault(text: &[u8], d: &[usize], j: usize, x: &[usize]) -> Fault
     faults::fault_if(!same, 9, at)
 }
 
-// 7, 8 and 9 at the name of row j; x is the index of the rows.
-fn name_fault(text: &[u8], d: &[usize], j: usize, x: &[usize]) -> Fault
-    ensures { λ r. ⌜ Through (now (text .entry)) (now (d .entry)) 19 2 (now (x .entry)) j (NameFault (now (text .entry)) (now (d .entry)) j r) ⌝ }
+// 7, 8 and 9 at the name of row j; x and y are the indexes of the rows.
+fn name_fault(text: &[u8], d: &[usize], j: usize, x: &[usize], y: &[usize]) -> Fault
+    ensures { λ r. ⌜ Through (ByTwo (now (text .entry)) (now (d .entry)) 19 0 13 2 (now (x .entry)) (now (y .entry))) j (NameFault (now (text .entry)) (now (d .entry)) j r) ⌝ }
 {
     let at = lookups::cell_of(d, 19, j, 2);
     let a = faults::fault_if(j == 512, 7, at);
@@ -82,7 +83,7 @@ fn name_fault(text: &[u8], d: &[usize], j: usize, x: &[usize]) -> Fault
             faults::sooner(a, b)
         }
         Found::Nothing => {
-            let c = type_fault(text, d, j, x);
+            let c = type_fault(text, d, j, y);
             faults::sooner(a, c)
         }
     }
@@ -135,7 +136,7 @@ fn default_fault(
     faults::fault_if(!taken, 10, at)
 }
 
-// The faults of row j; x is the index of the rows.
+// The faults of row j; x and y are the indexes of the rows.
 fn row_fault(
     text: &[u8],
     d: &[usize],
@@ -145,16 +146,17 @@ fn row_fault(
     limit: usize,
     j: usize,
     x: &[usize],
+    y: &[usize],
 ) -> Fault
-    ensures { λ r. ⌜ Through (now (text .entry)) (now (d .entry)) 19 2 (now (x .entry)) j (RowFault (now (text .entry)) (now (d .entry)) (now (e .entry)) m full limit j r) ⌝ }
+    ensures { λ r. ⌜ Through (ByTwo (now (text .entry)) (now (d .entry)) 19 0 13 2 (now (x .entry)) (now (y .entry))) j (RowFault (now (text .entry)) (now (d .entry)) (now (e .entry)) m full limit j r) ⌝ }
 {
     let a = lookups::range_fault(text, d, j);
-    let b = name_fault(text, d, j, x);
+    let b = name_fault(text, d, j, x, y);
     let c = default_fault(text, d, e, m, full, limit, j);
     faults::sooner(a, faults::sooner(b, c))
 }
 
-// The faults of the first n rows; x is the index of the rows.
+// The faults of the first n rows; x and y are the indexes of the rows.
 fn each_fault(
     text: &[u8],
     d: &[usize],
@@ -164,8 +166,9 @@ fn each_fault(
     limit: usize,
     n: usize,
     x: &[usize],
+    y: &[usize],
 ) -> Fault
-    ensures { λ r. ⌜ Through (now (text .entry)) (now (d .entry)) 19 2 (now (x .entry)) n (RowsFault (now (text .entry)) (now (d .entry)) (now (e .entry)) m full limit n r) ⌝ }
+    ensures { λ r. ⌜ Through (ByTwo (now (text .entry)) (now (d .entry)) 19 0 13 2 (now (x .entry)) (now (y .entry))) n (RowsFault (now (text .entry)) (now (d .entry)) (now (e .entry)) m full limit n r) ⌝ }
 {
     let mut best = Fault {
         number: 0,
@@ -173,14 +176,14 @@ fn each_fault(
     };
     let mut j = 0;
     while j < n {
-        let f = row_fault(text, d, e, m, full, limit, j, x);
+        let f = row_fault(text, d, e, m, full, limit, j, x, y);
         best = faults::sooner(best, f);
         j += 1;
     }
     best
 }
 
-// The faults of the first n rows; x is room for their index, and b for half of it.
+// The faults of the first n rows; x and y are room for their indexes, and b for half of one.
 fn indexed_fault(
     text: &[u8],
     d: &[usize],
@@ -190,13 +193,15 @@ fn indexed_fault(
     limit: usize,
     n: usize,
     x: &mut [usize],
+    y: &mut [usize],
     b: &mut [usize],
 ) -> Fault
-    requires { ⌜ Fits n (length (now x)) (length (now b)) ⌝ }
+    requires { ⌜ Fits n (length (now x)) (length (now b)) × Fits n (length (now y)) (length (now b)) ⌝ }
     ensures { λ r. ⌜ RowsFault (now (text .entry)) (now (d .entry)) (now (e .entry)) m full limit n r ⌝ }
 {
-    indexes::index(text, d, 19, 2, x, b);
-    each_fault(text, d, e, m, full, limit, n, x)
+    indexes::index(text, d, 19, 0, 2, x, b);
+    indexes::index(text, d, 19, 13, 2, y, b);
+    each_fault(text, d, e, m, full, limit, n, x, y)
 }
 
 // The faults of the first n rows; m enumerators are kept, and the one that is one too many, if there is one (full), stands at limit.
@@ -213,6 +218,18 @@ pub fn rows_fault(
     ensures { λ r. ⌜ RowsFault (now (text .entry)) (now (d .entry)) (now (e .entry)) m full limit n r ⌝ }
 {
     let mut x = [0; 513];
+    let mut y = [0; 513];
     let mut b = [0; 256];
-    indexed_fault(text, d, e, m, full, limit, n, &mut x[..n], &mut b)
+    indexed_fault(
+        text,
+        d,
+        e,
+        m,
+        full,
+        limit,
+        n,
+        &mut x[..n],
+        &mut y[..n],
+        &mut b,
+    )
 }

@@ -1,7 +1,8 @@
 // The faults of rows of enumerators: 7 and 8.
 ghost use Prim.Native.Nat.{_≤_};
 ghost use lib.ListN.{length};
-ghost use Rattle.defining_checks.specs.Promises.{Fits, Through, EnumeratorFault, EnumeratorsFault};
+ghost use Rattle.indexes.specs.Indexing.{Fits, Through, By};
+ghost use Rattle.defining_checks.specs.Promises.{EnumeratorFault, EnumeratorsFault};
 use super::definitions;
 use rows::Fault;
 use rows::faults;
@@ -9,7 +10,7 @@ use scopes::lookups;
 
 // 7 and 8 at the enumerator of row j; x is the index of the rows.
 fn row_fault(text: &[u8], e: &[usize], j: usize, x: &[usize]) -> Fault
-    ensures { λ r. ⌜ Through (now (text .entry)) (now (e .entry)) 3 1 (now (x .entry)) j (EnumeratorFault (now (text .entry)) (now (e .entry)) j r) ⌝ }
+    ensures { λ r. ⌜ Through (By (now (text .entry)) (now (e .entry)) 3 0 1 (now (x .entry))) j (EnumeratorFault (now (text .entry)) (now (e .entry)) j r) ⌝ }
 {
     let list = lookups::cell_of(e, 3, j, 0);
     let at = lookups::cell_of(e, 3, j, 1);
@@ -22,7 +23,7 @@ fn row_fault(text: &[u8], e: &[usize], j: usize, x: &[usize]) -> Fault
 
 // The faults of the first n rows; x is the index of the rows.
 fn each_fault(text: &[u8], e: &[usize], n: usize, x: &[usize]) -> Fault
-    ensures { λ r. ⌜ Through (now (text .entry)) (now (e .entry)) 3 1 (now (x .entry)) n (EnumeratorsFault (now (text .entry)) (now (e .entry)) n r) ⌝ }
+    ensures { λ r. ⌜ Through (By (now (text .entry)) (now (e .entry)) 3 0 1 (now (x .entry))) n (EnumeratorsFault (now (text .entry)) (now (e .entry)) n r) ⌝ }
 {
     let mut best = Fault {
         number: 0,
@@ -42,7 +43,7 @@ fn indexed_fault(text: &[u8], e: &[usize], n: usize, x: &mut [usize], b: &mut [u
     requires { ⌜ Fits n (length (now x)) (length (now b)) ⌝ }
     ensures { λ r. ⌜ EnumeratorsFault (now (text .entry)) (now (e .entry)) n r ⌝ }
 {
-    indexes::index(text, e, 3, 1, x, b);
+    indexes::index(text, e, 3, 0, 1, x, b);
     each_fault(text, e, n, x)
 }
 

@@ -1,5 +1,8 @@
-pub mod Hashes
+pub mod Same
+pub mod Digits
+pub mod Comparisons
 pub mod Places
 pub mod Fillings
 pub mod Passes
 pub mod Befores
+pub mod Throughs

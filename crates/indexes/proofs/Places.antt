@@ -1,17 +1,22 @@
--- The laws of places: where one of the cells stands, and where rising cells are parted.
+-- The laws of places: where one of the cells stands, where rows in order are parted, and how many stand before that.
 -- Assumes nothing.
-use Prim.Native.Nat.{ℕ, suc, _+_, _<_, _≤_}
-use mathlib.Core.Path.{_≡_, subst}
+use Prim.Native.Nat.{ℕ, zero, suc, _+_, _<_, _≤_}
+use mathlib.Core.Path.{_≡_, refl, sym, ap, subst, _∙_}
 use mathlib.Core.Bool.{Bool, true, false≢true}
-use mathlib.Core.List.{List, [], _∷_}
+use mathlib.Core.List.{List, [], _∷_, map}
+use native.Mathlib.Nat.{not-suc-le-zero, le-of-suc-le-suc}
 use native.Mathlib.Omega.{arith}
-use lib.ListN.{length, getD}
+use lib.ListN.{length, getD, length-map}
 use lib.Dec.{eqb}
-use borrow.Author.Tests.{eqb-true}
+use borrow.Author.Tests.{eqb-true, lt-ltb, le-ltb}
+use Rattle.token.specs.Find.{pick}
 use Rattle.token.proofs.Find.{by-test}
-use Rattle.sorting.specs.Sorted.{among-cells}
+use Rattle.sorting.specs.Sorted.{Rising, among-cells}
 use Rattle.sorting.proofs.Cells.{rising-places}
-use Rattle.indexes.specs.Indexing.{PartsRising}
+use Rattle.indexes.specs.declared.Order.{Order}
+use Rattle.indexes.specs.declared.Order.the-variants.{Less, Same, More}
+use Rattle.indexes.specs.Indexing.{rowCell, leastOf, RowCompared, rank, Parts, PartsAt, nameRank, Ranks}
+use Rattle.indexes.proofs.Comparisons.{cell-less, cell-same, cell-more}
 
 -- a place of l with the cell c
 pub record Place (l : List ℕ) (c : ℕ) : Type 0 where
@@ -31,22 +36,61 @@ among-place (y ∷ l) c =
     later : Place l c → Place (y ∷ l) c
     later p = record { at = suc (p .at); inside = omega (arith, p .inside); cell = p .cell }
 
--- nothing is known of any place
-pub parts-all : (x : List ℕ) (v : ℕ) → PartsRising x v 0 (length x)
-unfolding PartsRising
-parts-all x v r = record { less = λ k h g. absurd (omega arith); more = λ k h g. absurd (omega arith) }
+module _ (f : ℕ → ℕ) where
+  -- the number of the row at a place
+  number-at : (x : List ℕ) (i : ℕ) → i < length x → getD (map f x) i 0 ≡ f (getD x i 0)
+  number-at [] i h = absurd (not-suc-le-zero h)
+  number-at (y ∷ x) zero h = refl
+  number-at (y ∷ x) (suc i) h = number-at x i (le-of-suc-le-suc h)
 
-module _ (x : List ℕ) (v low high m : ℕ) (p : PartsRising x v low high) (g : m < length x) where
-  -- the cell at m is less
-  pub parts-above : getD x m 0 < v → PartsRising x v (m + 1) high
-  unfolding PartsRising
-  parts-above l r = record { less = λ k h i. omega (arith, rising-places x k m r (omega arith) g); more = p r .more }
+  -- of rows in order a later one is no less than an earlier
+  pub rising-rows : (x : List ℕ) (p q : ℕ) → Rising (map f x) → p ≤ q → q < length x → f (getD x p 0) ≤ f (getD x q 0)
+  rising-rows x p q r h g = omega (arith, rising-places (map f x) p q r h (omega (arith, length-map x f)), number-at x p (omega arith), number-at x q g)
 
-  -- the cell at m is not
-  pub parts-below : v ≤ getD x m 0 → PartsRising x v low m
-  unfolding PartsRising
-  parts-below l r = record { less = p r .less; more = λ k h i. omega (arith, rising-places x m k r h i) }
+  -- the place where rows are parted is the rank
+  pub parts-rank : (x : List ℕ) (v r : ℕ) → Parts f x v r r → r ≡ rank (map f x) v
+  unfolding rank
+  parts-rank [] v r p = omega (arith, p .inside)
+  parts-rank (y ∷ x) v zero p = ap (λ (b : Bool). pick b (suc (rank (map f x) v)) 0) (sym (le-ltb (f y) v (p .more 0 (omega arith) (omega arith))))
+  parts-rank (y ∷ x) v (suc r) p =
+      ap suc (parts-rank x v r (record { inside = le-of-suc-le-suc (p .inside); less = λ i h g. p .less (suc i) (omega arith) (omega arith); more = λ i h g. p .more (suc i) (omega arith) (omega arith) }))
+      ∙ ap (λ (b : Bool). pick b (suc (rank (map f x) v)) 0) (sym (lt-ltb (f y) v (p .less 0 (omega arith) (omega arith))))
 
--- no place is left
-pub parts-end : (x : List ℕ) (v low high : ℕ) → PartsRising x v low high → high ≡ low → PartsRising x v low low
-parts-end x v low high p e = subst (PartsRising x v low) e p
+module _ (s t : List ℕ) (w c k m : ℕ) (x l : List ℕ) where
+  -- nothing is known of any place
+  pub parts-all : PartsAt s t w c k m x l 0 (length x)
+  unfolding PartsAt
+  parts-all r = record { inside = omega arith; less = λ i h g. absurd (omega arith); more = λ i h g. absurd (omega arith) }
+
+  module _ (low high i : ℕ) (p : PartsAt s t w c k m x l low high) (g : i < length x) where
+    at-or-past : leastOf l k ≤ rowCell s t w c m (getD x i 0) → PartsAt s t w c k m x l low i
+    unfolding PartsAt
+    at-or-past h d = record { inside = p d .inside; less = p d .less; more = λ j a b. omega (arith, rising-rows (rowCell s t w c m) x i j d a b) }
+
+    module _ (r : Order) (o : RowCompared s t w c m (getD x i 0) k l r) where
+      -- the row at i is less
+      pub parts-less : r ≡ Less → ((j : ℕ) → getD x j 0 < 18446744073709551616) → PartsAt s t w c k m x l (i + 1) high
+      unfolding PartsAt
+      parts-less e h d =
+          let below = cell-less s t w c m (getD x i 0) k l (subst (RowCompared s t w c m (getD x i 0) k l) e o) (h i) in
+          record {
+            inside = omega arith;
+            less = λ j a b. omega (arith, rising-rows (rowCell s t w c m) x j i d (omega arith) g);
+            more = p d .more;
+          }
+
+      -- it is not
+      pub parts-same : r ≡ Same → PartsAt s t w c k m x l low i
+      parts-same e = at-or-past (omega (arith, cell-same s t w c m (getD x i 0) k l (subst (RowCompared s t w c m (getD x i 0) k l) e o)))
+
+      pub parts-more : r ≡ More → PartsAt s t w c k m x l low i
+      parts-more e = at-or-past (omega (arith, cell-more s t w c m (getD x i 0) k l (subst (RowCompared s t w c m (getD x i 0) k l) e o)))
+
+  -- no place is left
+  pub parts-end : (low high : ℕ) → PartsAt s t w c k m x l low high → high ≡ low → PartsAt s t w c k m x l low low
+  parts-end low high p e = subst (PartsAt s t w c k m x l low) e p
+
+-- the place for a name and the key 0 is the name's rank
+pub parts-ranks : (s t : List ℕ) (w c m : ℕ) (x l : List ℕ) (r : ℕ) → PartsAt s t w c 0 m x l r r → Ranks s t w c m x l r
+unfolding PartsAt Ranks nameRank
+parts-ranks s t w c m x l r p n d b = parts-rank (rowCell s t w c m) x (leastOf l 0) r (p (d .rising))

@@ -1,2 +1,2 @@
-pub mod Hashing
+pub mod Numbers
 pub mod Indexing

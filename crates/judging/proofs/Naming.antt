@@ -12,13 +12,12 @@ use Rattle.token.specs.Tokens.{partOf}
 use Rattle.rows.specs.Table.{part}
 use Rattle.rows.specs.declared.Found.{Found}
 use Rattle.rows.proofs.Stores.{part-sets-same, part-sets-before, part-sets-after}
-use Rattle.indexes.specs.Hashing.{hashOf}
-use Rattle.indexes.specs.Indexing.{Indexed, Makes, rowHash}
+use Rattle.indexes.specs.Indexing.{Indexed, Makes, nameRank}
 use Rattle.lookups.specs.Answers.{DefinitionIndexed, ObjectIndexed, WordIndexed}
-use Rattle.lookups.specs.Hashes.{Hashed, HashOfRow, IsStatedHashed}
+use Rattle.lookups.specs.Ranks.{Ranked, NotesRanks, IsRowStated}
 use Rattle.blocks.specs.Blocks.{IsStated}
 use Rattle.scopes.specs.Promises.{FindsDefinition, FindsObject, FindsWord}
-use Rattle.judging.specs.Names.{IndexAt, Hashes, Named, FewRows, Within, PutsIndex, PutsHashes}
+use Rattle.judging.specs.Names.{IndexAt, Ranks, Named, FewRows, Within, PutsIndex, PutsRanks}
 use Rattle.judging.specs.declared.Sizes.{Sizes}
 
 -- Parts ------------------------------------------------------------------------------------------------------------------------------------
@@ -36,8 +35,8 @@ module _ (t : List ℕ) (at n : ℕ) where
 -- What is found ----------------------------------------------------------------------------------------------------------------------------
 
 module _ (s t x y : List ℕ) (w m n at : ℕ) (i : IndexAt s t w m n at x) (e : y ≡ part x at n) where
-  index-of : Indexed s t w n m y
-  index-of = subst (λ (l : List ℕ). Indexed s t w n m l) (sym e) (i .index)
+  index-of : Indexed s t w n 0 m y
+  index-of = subst (λ (l : List ℕ). Indexed s t w n 0 m l) (sym e) (i .index)
 
   few-of : n ≤ 65536
   few-of = let l = i .few in omega arith
@@ -57,21 +56,19 @@ pub word-found : (s d a x y : List ℕ) (n j at len r : ℕ) → IndexAt s a 3 1
 unfolding WordIndexed
 word-found s d a x y n j at len r i e g = g n (index-of s a x y 3 1 n 512 i e) (few-of s a x y 3 1 n 512 i e)
 
--- A block that states the name of a row, whose hash is noted.
-pub row-stated : (s t st y v : List ℕ) (w m i from end hash name size : ℕ) (r : Bool) → Hashed s t w m y → Hashed s st 7 0 v → HashOfRow s t w m y i hash
-    → name ≡ getD t (i * w + m) 0 → size ≡ getD t (i * w + (m + 1)) 0 → IsStatedHashed s st v from end name size hash r
-    → IsStated s st from end (getD t (i * w + m) 0) (getD t (i * w + (m + 1)) 0) r
-unfolding HashOfRow IsStatedHashed rowHash
-row-stated s t st y v w m i from end hash name size r h k g pn ps q =
-    let e : hash ≡ hashOf (partOf s name size) = g h ∙ sym (ap₂ (λ (a b : ℕ). hashOf (partOf s a b)) pn ps) in
-    subst (λ (a : ℕ). IsStated s st from end a (getD t (i * w + (m + 1)) 0) r) pn (subst (λ (b : ℕ). IsStated s st from end name b r) ps (q k e))
+-- A block that states the name of a row, whose rank is noted.
+module _ (s d st x : List ℕ) (h : Ranks s d st x) (v : List ℕ) (i a e : ℕ) (r : Bool) (q : v ≡ part x 1792 2049) where
+  of-statements : Ranked (h .rank) s st 7 0 v
+  of-statements = subst (λ (l : List ℕ). Ranked (h .rank) s st 7 0 l) (sym q) (h .statements)
 
-module _ (s d st x : List ℕ) (h : Hashes s d st x) where
-  pub definition-hashes : (y : List ℕ) → y ≡ part x 3841 512 → Hashed s d 19 2 y
-  definition-hashes y e = subst (λ (l : List ℕ). Hashed s d 19 2 l) (sym e) (h .definitions)
+  pub definition-stated : (y : List ℕ) → y ≡ part x 3841 512 → IsRowStated s d 19 2 y i st v a e r
+      → IsStated s st a e (getD d (i * 19 + 2) 0) (getD d (i * 19 + 3) 0) r
+  unfolding IsRowStated
+  definition-stated y p g = g (h .rank) (subst (λ (l : List ℕ). Ranked (h .rank) s d 19 2 l) (sym p) (h .definitions)) of-statements
 
-  pub statement-hashes : (y : List ℕ) → y ≡ part x 1792 2049 → Hashed s st 7 0 y
-  statement-hashes y e = subst (λ (l : List ℕ). Hashed s st 7 0 l) (sym e) (h .statements)
+  pub statement-stated : IsRowStated s st 7 0 v i st v a e r → IsStated s st a e (getD st (i * 7 + 0) 0) (getD st (i * 7 + 1) 0) r
+  unfolding IsRowStated
+  statement-stated g = g (h .rank) of-statements of-statements
 
 -- How it is made ---------------------------------------------------------------------------------------------------------------------------
 
@@ -93,51 +90,54 @@ module _ (x y : List ℕ) (at n : ℕ) (h : at + n ≤ length x) (l : length y �
   sets-part : part (sets x at y) at n ≡ y
   sets-part = ap (λ (k : ℕ). part (sets x at y) at k) (sym l) ∙ part-sets-same x at y (omega arith)
 
-  pub puts-index : (s t : List ℕ) (w m room k : ℕ) → k ≡ n → Makes s t w k m room y → PutsIndex s t w m n at room x (putMid at ((at + n) - at) x y)
+  pub puts-index : (s t : List ℕ) (w m room k : ℕ) → k ≡ n → Makes s t w k 0 m room y → PutsIndex s t w m n at room x (putMid at ((at + n) - at) x y)
   unfolding Makes
   puts-index s t w m room k e g =
       subst (λ (v : List ℕ). PutsIndex s t w m n at room x v) (sym mid-sets)
       (record {
         within = sets-within;
-        index = λ c. subst (λ (v : List ℕ). Indexed s t w n m v) (sym sets-part) (subst (λ (a : ℕ). Indexed s t w a m y) e (g (omega (arith, c, e))));
+        index = λ c. subst (λ (v : List ℕ). Indexed s t w n 0 m v) (sym sets-part) (subst (λ (a : ℕ). Indexed s t w a 0 m y) e (g (omega (arith, c, e))));
       })
 
-  pub puts-hashes : (s t : List ℕ) (w m : ℕ) → Hashed s t w m y → PutsHashes s t w m n at x (putMid at ((at + n) - at) x y)
-  puts-hashes s t w m g =
-      subst (λ (v : List ℕ). PutsHashes s t w m n at x v) (sym mid-sets)
-      (record { within = sets-within; hashes = subst (λ (v : List ℕ). Hashed s t w m v) (sym sets-part) g })
+  pub puts-ranks : (s d v t : List ℕ) (w m : ℕ) → NotesRanks s d v t w m y → PutsRanks s d v t w m n at x (putMid at ((at + n) - at) x y)
+  puts-ranks s d v t w m g =
+      subst (λ (u : List ℕ). PutsRanks s d v t w m n at x u) (sym mid-sets)
+      (record { within = sets-within; ranks = subst (λ (u : List ℕ). NotesRanks s d v t w m u) (sym sets-part) g })
 
 -- as many cells as are lent
 pub lent-count : (x : List ℕ) (at n : ℕ) → at + n ≤ length x → length (take ((at + n) - at) (drop at x)) ≡ n
 lent-count x at n h = mid-len at (at + n) x h ∙ add-sub-cancel-left at n
 
-pub named-by : (s d e o st : List ℕ) (z : Sizes) (x₀ x₁ x₂ x₃ x₄ x₅ : List ℕ) (r₁ r₂ r₃ : ℕ) → FewRows z → 512 ≤ r₁ → 512 ≤ r₂ → 512 ≤ r₃
+pub named-by : (s d e o st : List ℕ) (z : Sizes) (x₀ x₁ x₂ x₃ x₄ x₅ v : List ℕ) (r₁ r₂ r₃ : ℕ) → FewRows z → 512 ≤ r₁ → 512 ≤ r₂ → 512 ≤ r₃
     → PutsIndex s d 19 2 (z .definitions) 0 r₁ x₀ x₁ → PutsIndex s e 3 1 (z .enumerators) 512 r₂ x₁ x₂ → PutsIndex s o 9 3 (z .objects) 1536 r₃ x₂ x₃
-    → PutsHashes s st 7 0 2049 1792 x₃ x₄ → PutsHashes s d 19 2 512 3841 x₄ x₅ → Named s d e o st z x₅
-named-by s d e o st z x₀ x₁ x₂ x₃ x₄ x₅ r₁ r₂ r₃ f g₁ g₂ g₃ p₁ p₂ p₃ p₄ p₅ =
+    → v ≡ part x₃ 0 (z .definitions) → PutsRanks s d v st 7 0 2049 1792 x₃ x₄ → PutsRanks s d v d 19 2 512 3841 x₄ x₅ → Named s d e o st z x₅
+unfolding NotesRanks
+named-by s d e o st z x₀ x₁ x₂ x₃ x₄ x₅ v r₁ r₂ r₃ f g₁ g₂ g₃ p₁ p₂ p₃ ev p₄ p₅ =
     let fd = f .definitions in
     let fe = f .enumerators in
     let fo = f .objects in
+    let first : part x₃ 0 (z .definitions) ≡ part x₁ 0 (z .definitions) = p₃ .within .before 0 (z .definitions) (omega (arith, fd)) ∙ p₂ .within .before 0 (z .definitions) (omega (arith, fd)) in
+    let iv : Indexed s d 19 (z .definitions) 0 2 v = subst (λ (u : List ℕ). Indexed s d 19 (z .definitions) 0 2 u) (sym (ev ∙ first)) (p₁ .index (omega (arith, fd, g₁))) in
+    let few : z .definitions ≤ 65536 = omega (arith, fd) in
     let last : (a k : ℕ) → a + k ≤ 1792 → part x₅ a k ≡ part x₃ a k = λ a k h. p₅ .within .before a k (omega (arith, h)) ∙ p₄ .within .before a k h in
     record {
       definitions = record {
         few = omega (arith, fd);
-        index = subst (λ (v : List ℕ). Indexed s d 19 (z .definitions) 2 v)
-            (sym (last 0 (z .definitions) (omega (arith, fd)) ∙ p₃ .within .before 0 (z .definitions) (omega (arith, fd)) ∙ p₂ .within .before 0 (z .definitions) (omega (arith, fd))))
-            (p₁ .index (omega (arith, fd, g₁)));
+        index = subst (λ (u : List ℕ). Indexed s d 19 (z .definitions) 0 2 u) (sym (last 0 (z .definitions) (omega (arith, fd)) ∙ sym ev)) iv;
       };
       enumerators = record {
         few = fe;
-        index = subst (λ (v : List ℕ). Indexed s e 3 (z .enumerators) 1 v)
+        index = subst (λ (v : List ℕ). Indexed s e 3 (z .enumerators) 0 1 v)
             (sym (last 512 (z .enumerators) (omega (arith, fe)) ∙ p₃ .within .before 512 (z .enumerators) (omega (arith, fe))))
             (p₂ .index (omega (arith, fe, g₂)));
       };
       objects = record {
         few = omega (arith, fo);
-        index = subst (λ (v : List ℕ). Indexed s o 9 (z .objects) 3 v) (sym (last 1536 (z .objects) (omega (arith, fo)))) (p₃ .index (omega (arith, fo, g₃)));
+        index = subst (λ (v : List ℕ). Indexed s o 9 (z .objects) 0 3 v) (sym (last 1536 (z .objects) (omega (arith, fo)))) (p₃ .index (omega (arith, fo, g₃)));
       };
-      hashes = record {
-        definitions = p₅ .hashes;
-        statements = subst (λ (v : List ℕ). Hashed s st 7 0 v) (sym (p₅ .within .before 1792 2049 (omega arith))) (p₄ .hashes);
+      ranks = record {
+        rank = nameRank s d 19 0 2 v;
+        definitions = p₅ .ranks (z .definitions) iv few;
+        statements = subst (λ (u : List ℕ). Ranked (nameRank s d 19 0 2 v) s st 7 0 u) (sym (p₅ .within .before 1792 2049 (omega arith))) (p₄ .ranks (z .definitions) iv few);
       };
     }

@@ -2,7 +2,7 @@
 ghost use mathlib.Core.Path.{_≡_};
 ghost use Prim.Native.Nat.{_<_};
 ghost use Rattle.amounts.specs.Known.{Known};
-ghost use Rattle.judging.specs.Names.{Hashes, Named};
+ghost use Rattle.judging.specs.Names.{Ranks, Named};
 ghost use Rattle.judging.specs.Promises.{LackFault, Judges, JudgesOne, JudgesBlock, JudgesObject, JudgesObjects, JudgesAll};
 use blocks::after;
 use blocks::cell_at;
@@ -35,7 +35,7 @@ fn lack_fault(
     end: usize,
     owner: usize,
 ) -> Fault
-    requires { ⌜ Hashes (now text) (now d) (now st) (now names) ⌝ }
+    requires { ⌜ Ranks (now text) (now d) (now st) (now names) ⌝ }
     ensures { λ r. ⌜ LackFault (now (text .entry)) (now (d .entry)) (now (st .entry)) (now (missing .entry)) z key from end owner r ⌝ }
 {
     if key == 0 {

@@ -4,7 +4,7 @@ ghost use Prim.Native.Nat.{_+_, _*_};
 ghost use lib.Dec.{eqb};
 ghost use lib.ListN.{getD};
 ghost use Rattle.layout.specs.Kept.{bit};
-ghost use Rattle.judging.specs.Names.{IndexAt, Hashes};
+ghost use Rattle.judging.specs.Names.{IndexAt, Ranks};
 ghost use Rattle.judging.specs.Promises.{LacksRow, Lacks, Needs, Marks};
 use super::Sizes;
 use super::names;
@@ -24,7 +24,7 @@ fn lacks_row(
     from: usize,
     end: usize,
 ) -> bool
-    requires { ⌜ Hashes (now text) (now d) (now st) (now names) ⌝ }
+    requires { ⌜ Ranks (now text) (now d) (now st) (now names) ⌝ }
     ensures { λ r. ⌜ LacksRow (now (text .entry)) (now (d .entry)) (now (st .entry)) (now (missing .entry)) i from end r ⌝ }
 {
     if cells::get(missing, i) == 0 {
@@ -45,7 +45,7 @@ pub fn lacks(
     from: usize,
     end: usize,
 ) -> bool
-    requires { ⌜ Hashes (now text) (now d) (now st) (now names) ⌝ }
+    requires { ⌜ Ranks (now text) (now d) (now st) (now names) ⌝ }
     ensures { λ r. ⌜ Lacks (now (text .entry)) (now (d .entry)) (now (st .entry)) (now (missing .entry)) n key from end r ⌝ }
 {
     let mut i = 0;
@@ -82,7 +82,7 @@ fn needs(
     z: Sizes,
     j: usize,
 ) -> usize
-    requires { ⌜ IndexAt (now text) (now e) 3 1 (z .enumerators) 512 (now names) × Hashes (now text) (now d) (now st) (now names) ⌝ }
+    requires { ⌜ IndexAt (now text) (now e) 3 1 (z .enumerators) 512 (now names) × Ranks (now text) (now d) (now st) (now names) ⌝ }
     ensures { λ r. ⌜ Needs (now (text .entry)) (now (d .entry)) (now (e .entry)) (now (st .entry)) (now (missing .entry)) z j r ⌝ }
 {
     let len = cell_at(d, 19, j, 11);
@@ -113,7 +113,7 @@ pub fn marks(
     names: &[usize],
     z: Sizes,
 ) -> [usize; 512]
-    requires { ⌜ IndexAt (now text) (now e) 3 1 (z .enumerators) 512 (now names) × Hashes (now text) (now d) (now st) (now names) ⌝ }
+    requires { ⌜ IndexAt (now text) (now e) 3 1 (z .enumerators) 512 (now names) × Ranks (now text) (now d) (now st) (now names) ⌝ }
     ensures { λ r. ⌜ Marks (now (text .entry)) (now (d .entry)) (now (e .entry)) (now (st .entry)) z r ⌝ }
 {
     let mut missing = [0; 512];

@@ -1,12 +1,12 @@
 // The names of all rows in one table, 4353 cells: the index of the definitions, from 0 on, that of the enumerators, from 512, that of the objects, from
-// 1536, the hashes of the statements' names, from 1792, and those of the definitions' names, from 3841.
+// 1536, the ranks of the statements' names, from 1792, and those of the definitions' names, from 3841.
 ghost use mathlib.Core.Path.{_≡_};
 ghost use Prim.Native.Nat.{_+_, _*_, _≤_};
 ghost use lib.ListN.{length, getD};
 ghost use Rattle.rows.specs.Table.{part};
 ghost use Rattle.blocks.specs.Blocks.{IsStated};
 ghost use Rattle.scopes.specs.Promises.{FindsDefinition, FindsObject, FindsWord};
-ghost use Rattle.judging.specs.Names.{IndexAt, Hashes, PutsIndex, PutsHashes, FewRows, Named};
+ghost use Rattle.judging.specs.Names.{IndexAt, Ranks, PutsIndex, PutsRanks, FewRows, Named};
 use super::Sizes;
 use blocks::cell_at;
 use rows::Found;
@@ -85,21 +85,21 @@ pub fn is_stated(
     from: usize,
     end: usize,
 ) -> bool
-    requires { ⌜ Hashes (now text) (now d) (now st) (now names) ⌝ }
+    requires { ⌜ Ranks (now text) (now d) (now st) (now names) ⌝ }
     ensures { λ r. ⌜ IsStated (now (text .entry)) (now (st .entry)) from end (getD (now (d .entry)) (i * 19 + 2) 0) (getD (now (d .entry)) (i * 19 + 3) 0) r ⌝ }
 {
-    let hash = lookups::name_hash(text, d, 19, 2, cells_from(names, 3841, 512), i);
-    let name = cell_at(d, 19, i, 2);
-    let size = cell_at(d, 19, i, 3);
-    lookups::is_stated(
+    let ranks = cells_from(names, 3841, 512);
+    lookups::is_row_stated(
         text,
+        d,
+        19,
+        2,
+        ranks,
+        i,
         st,
         cells_from(names, 1792, 2049),
         from,
         end,
-        name,
-        size,
-        hash,
     )
 }
 
@@ -112,14 +112,11 @@ pub fn is_before(
     from: usize,
     k: usize,
 ) -> bool
-    requires { ⌜ Hashes (now text) (now d) (now st) (now names) ⌝ }
+    requires { ⌜ Ranks (now text) (now d) (now st) (now names) ⌝ }
     ensures { λ r. ⌜ IsStated (now (text .entry)) (now (st .entry)) from k (getD (now (st .entry)) (k * 7 + 0) 0) (getD (now (st .entry)) (k * 7 + 1) 0) r ⌝ }
 {
-    let hashes = cells_from(names, 1792, 2049);
-    let hash = lookups::name_hash(text, st, 7, 0, hashes, k);
-    let name = cell_at(st, 7, k, 0);
-    let size = cell_at(st, 7, k, 1);
-    lookups::is_stated(text, st, hashes, from, k, name, size, hash)
+    let ranks = cells_from(names, 1792, 2049);
+    lookups::is_row_stated(text, st, 7, 0, ranks, k, st, ranks, from, k)
 }
 
 // Puts the index of the first n rows at a place; `spare` is room for half of them.
@@ -136,12 +133,14 @@ fn put_index(
     requires { ⌜ at + n ≤ length (now names) ⌝ }
     ensures { λ _. ⌜ PutsIndex (now (text .entry)) (now (t .entry)) width name n at (length (now (spare .entry))) (now (names .entry)) (now (names .exit)) ⌝ }
 {
-    indexes::index(text, t, width, name, &mut names[at..at + n], spare);
+    indexes::index(text, t, width, 0, name, &mut names[at..at + n], spare);
 }
 
-// Puts the hashes of the names of the first n rows at a place.
-fn put_hashes(
+// Puts the ranks of the names of the first n rows of t at a place; x is the index of the definitions.
+fn put_ranks(
     text: &[u8],
+    d: &[usize],
+    x: &[usize],
     t: &[usize],
     width: usize,
     name: usize,
@@ -150,9 +149,9 @@ fn put_hashes(
     names: &mut [usize],
 )
     requires { ⌜ at + n ≤ length (now names) ⌝ }
-    ensures { λ _. ⌜ PutsHashes (now (text .entry)) (now (t .entry)) width name n at (now (names .entry)) (now (names .exit)) ⌝ }
+    ensures { λ _. ⌜ PutsRanks (now (text .entry)) (now (d .entry)) (now (x .entry)) (now (t .entry)) width name n at (now (names .entry)) (now (names .exit)) ⌝ }
 {
-    lookups::note_hashes(text, t, width, name, &mut names[at..at + n]);
+    lookups::note_ranks(text, d, x, t, width, name, &mut names[at..at + n]);
 }
 
 // The table of names.
@@ -172,7 +171,9 @@ pub fn note(
     put_index(text, d, 19, 2, z.definitions, 0, &mut names, &mut spare);
     put_index(text, e, 3, 1, z.enumerators, 512, &mut names, &mut spare);
     put_index(text, o, 9, 3, z.objects, 1536, &mut names, &mut spare);
-    put_hashes(text, st, 7, 0, 2049, 1792, &mut names);
-    put_hashes(text, d, 19, 2, 512, 3841, &mut names);
+    let indexes = names;
+    let x = cells_from(&indexes, 0, z.definitions);
+    put_ranks(text, d, x, st, 7, 0, 2049, 1792, &mut names);
+    put_ranks(text, d, x, d, 19, 2, 512, 3841, &mut names);
     names
 }

@@ -4,7 +4,7 @@ ghost use Prim.Native.Nat.{_+_, _*_};
 ghost use lib.ListN.{getD};
 ghost use Rattle.amounts.specs.Known.{Known};
 ghost use Rattle.scopes.specs.Promises.{FindsWord};
-ghost use Rattle.judging.specs.Names.{IndexAt, Hashes, Named};
+ghost use Rattle.judging.specs.Names.{IndexAt, Ranks, Named};
 ghost use Rattle.judging.specs.Promises.{name-code, ReferenceFault, ValueFault, Again, OwnFault};
 use super::Sizes;
 use super::names;
@@ -111,7 +111,7 @@ fn again(
     k: usize,
     j: usize,
 ) -> bool
-    requires { ⌜ Hashes (now text) (now d) (now st) (now names) ⌝ }
+    requires { ⌜ Ranks (now text) (now d) (now st) (now names) ⌝ }
     ensures { λ r. ⌜ Again (now (text .entry)) (now (d .entry)) (now (e .entry)) (now (o .entry)) (now (st .entry)) z from k j r ⌝ }
 {
     if cell_at(d, 19, j, 6) != 0 {

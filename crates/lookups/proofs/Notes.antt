@@ -1,7 +1,7 @@
--- The laws of noted hashes, and of names that are compared by them first.
+-- The laws of noted ranks, and of names that are compared by them first.
 -- Assumes nothing.
-use Prim.Native.Nat.{ℕ, _+_, _*_, _<_}
-use mathlib.Core.Path.{_≡_, sym, ap₂, subst, _∙_}
+use Prim.Native.Nat.{ℕ, _+_, _*_, _<_, _≤_, min}
+use mathlib.Core.Path.{_≡_, sym, ap, ap₂, subst, _∙_}
 use mathlib.Core.Bool.{Bool, false}
 use mathlib.Core.List.{List}
 use native.Mathlib.Omega.{arith}
@@ -10,64 +10,56 @@ use lib.ListN.{length, getD, set}
 use lib.Seq.{getD-set-same, getD-set-other}
 use Rattle.token.specs.Words.{same}
 use Rattle.token.specs.Tokens.{partOf}
-use Rattle.indexes.specs.Indexing.{rowHash}
-use Rattle.indexes.proofs.Hashes.{same-hash, differ}
-use Rattle.lookups.specs.Hashes.{Hashed, HashedTo, nameOf, HashOfRow, NameIs, HasName, SameName}
+use Rattle.rows.proofs.Starts.{cell-start, cell-column}
+use Rattle.indexes.specs.Indexing.{Indexed, Ranks, nameRank}
+use Rattle.indexes.proofs.Same.{same-equal, differ}
+use Rattle.lookups.specs.Ranks.{nameOf, Ranked, RankedTo, NotesRanks, NotesRanksTo, NameIs}
 
-module _ (s t : List ℕ) (w m : ℕ) where
-  -- no hash is noted
-  pub noted-none : (h : List ℕ) → HashedTo s t w m 0 h
-  noted-none h = record { cell = λ i g. absurd (omega arith) }
+-- the cells of a row's name, by a place where the row begins that is no larger than the end
+module _ (t : List ℕ) (w m i a m2 p n : ℕ) (d : m2 ≡ min (length t) (m + 1)) (e : a ≡ min (length t) (i * w)) where
+  pub row-place : p ≡ getD t (a + m) 0 → p ≡ getD t (i * w + m) 0
+  row-place f = f ∙ ap (λ (k : ℕ). getD t (k + m) 0) e ∙ cell-start t (i * w) m
+
+  pub row-size : n ≡ getD t (a + m2) 0 → n ≡ getD t (i * w + (m + 1)) 0
+  row-size g =
+      g ∙ ap₂ (λ (k j : ℕ). getD t (k + j) 0) e d ∙ cell-start t (i * w) (min (length t) (m + 1)) ∙ cell-column t (i * w) (m + 1)
+
+module _ (s d x t : List ℕ) (w m : ℕ) where
+  -- no rank is noted
+  pub noted-none : (h : List ℕ) → NotesRanksTo s d x t w m 0 h
+  unfolding NotesRanksTo
+  noted-none h k g l = record { cell = λ i b. absurd (omega arith) }
 
   -- one more
-  pub noted-more : (j : ℕ) (h : List ℕ) (v : ℕ) → HashedTo s t w m j h → j < length h → v ≡ rowHash s t w m j → HashedTo s t w m (j + 1) (set h j v)
-  noted-more j h v f g e = record { cell = λ i l. by i l (ℕ-discrete i j) }
+  pub noted-more : (j : ℕ) (h : List ℕ) (m2 y p n v : ℕ) → NotesRanksTo s d x t w m j h → j < length h → m2 ≡ min (length t) (m + 1)
+      → y ≡ min (length t) (j * w) → p ≡ getD t (y + m) 0 → n ≡ getD t (y + m2) 0 → Ranks s d 19 0 2 x (partOf s p n) v
+      → NotesRanksTo s d x t w m (j + 1) (set h j v)
+  unfolding NotesRanksTo Ranks nameOf
+  noted-more j h m2 y p n v f g c e a b r k z q = record { cell = λ i l. by i l (ℕ-discrete i j) }
     where
-      by : (i : ℕ) → i < j + 1 → Dec (i ≡ j) → getD (set h j v) i 0 ≡ rowHash s t w m i
-      by i l (yes d) = subst (λ (k : ℕ). getD (set h j v) k 0 ≡ rowHash s t w m k) (sym d) (getD-set-same h j v 0 g ∙ e)
-      by i l (no d) = getD-set-other h j i v 0 d ∙ f .cell i (omega arith)
+      number : List ℕ → ℕ
+      number = nameRank s d 19 0 2 x
+
+      by : (i : ℕ) → i < j + 1 → Dec (i ≡ j) → getD (set h j v) i 0 ≡ number (partOf s (getD t (i * w + m) 0) (getD t (i * w + (m + 1)) 0))
+      by i l (yes o) =
+          subst (λ (u : ℕ). getD (set h j v) u 0 ≡ number (partOf s (getD t (u * w + m) 0) (getD t (u * w + (m + 1)) 0))) (sym o)
+          (getD-set-same h j v 0 g ∙ r k z q ∙ ap₂ (λ (i l : ℕ). number (partOf s i l)) (row-place t w m j y m2 p n c e a) (row-size t w m j y m2 p n c e b))
+      by i l (no o) = getD-set-other h j i v 0 o ∙ f k z q .cell i (omega arith)
 
   -- all
-  pub noted-all : (j : ℕ) (h : List ℕ) → HashedTo s t w m j h → j ≡ length h → Hashed s t w m h
-  noted-all j h f e = record { cell = λ i l. f .cell i (omega arith) }
-
-  -- a row's hash is noted
-  pub hash-noted : (h : List ℕ) (i : ℕ) → i < length h → HashOfRow s t w m h i (getD h i 0)
-  unfolding HashOfRow
-  hash-noted h i l f = f .cell i l
-
-  -- or made
-  pub hash-made : (h : List ℕ) (i r : ℕ) → r ≡ rowHash s t w m i → HashOfRow s t w m h i r
-  unfolding HashOfRow
-  hash-made h i r e f = e
+  pub noted-all : (j : ℕ) (h : List ℕ) → NotesRanksTo s d x t w m j h → j ≡ length h → NotesRanks s d x t w m h
+  unfolding NotesRanksTo NotesRanks
+  noted-all j h f e k g l = record { cell = λ i b. f k g l .cell i (omega arith) }
 
 module _ (s st : List ℕ) (k q at len g : ℕ) where
-  -- the statement's name has another hash
+  -- the statement's name has another rank
   pub name-other : (q ≡ g → ⊥) → NameIs s st k q at len g false
-  unfolding NameIs rowHash nameOf
-  name-other f e c =
-      sym (differ (same (partOf s at len) (nameOf s st 7 0 k)) (λ b. f (e ∙ sym (c ∙ same-hash (partOf s at len) (nameOf s st 7 0 k) b))))
+  unfolding NameIs
+  name-other n f e c =
+      sym (differ (same (partOf s at len) (nameOf s st 7 0 k)) (λ b. n (e ∙ sym (c ∙ ap f (same-equal (partOf s at len) (nameOf s st 7 0 k) b)))))
 
   -- the bytes are compared
   pub name-bytes : (p n : ℕ) (r : Bool) → p ≡ getD st (k * 7 + 0) 0 → n ≡ getD st (k * 7 + 1) 0 → r ≡ same (partOf s at len) (partOf s p n)
       → NameIs s st k q at len g r
   unfolding NameIs nameOf
-  name-bytes p n r e f b d c = b ∙ ap₂ (λ (x y : ℕ). same (partOf s at len) (partOf s x y)) e f
-
-  -- the hash is the row's
-  pub name-hashed : (h : List ℕ) (r : Bool) → HashOfRow s st 7 0 h k q → NameIs s st k q at len g r → HasName s st h k at len g r
-  unfolding HashOfRow NameIs HasName
-  name-hashed h r e f d c = f (e d) c
-
-module _ (s st h : List ℕ) (k : ℕ) (d hd : List ℕ) (j : ℕ) where
-  -- the two names have two hashes
-  pub names-other : (q q2 : ℕ) → HashOfRow s st 7 0 h k q → HashOfRow s d 19 2 hd j q2 → (q ≡ q2 → ⊥) → SameName s st h k d hd j false
-  unfolding SameName HashOfRow rowHash nameOf
-  names-other q q2 e e2 f a b =
-      sym (differ (same (nameOf s st 7 0 k) (nameOf s d 19 2 j)) (λ c. f (e a ∙ same-hash (nameOf s st 7 0 k) (nameOf s d 19 2 j) c ∙ sym (e2 b))))
-
-  -- the bytes are compared
-  pub names-bytes : (p n p2 n2 : ℕ) (r : Bool) → p ≡ getD st (k * 7 + 0) 0 → n ≡ getD st (k * 7 + 1) 0 → p2 ≡ getD d (j * 19 + 2) 0
-      → n2 ≡ getD d (j * 19 + 3) 0 → r ≡ same (partOf s p n) (partOf s p2 n2) → SameName s st h k d hd j r
-  unfolding SameName nameOf
-  names-bytes p n p2 n2 r e f e2 f2 c a b = c ∙ ap₂ same (ap₂ (partOf s) e f) (ap₂ (partOf s) e2 f2)
+  name-bytes p n r e f b number d c = b ∙ ap₂ (λ (x y : ℕ). same (partOf s at len) (partOf s x y)) e f

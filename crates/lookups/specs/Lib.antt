@@ -1,2 +1,2 @@
-pub mod Hashes
+pub mod Ranks
 pub mod Answers

@@ -1,8 +1,8 @@
-// Names looked up in the kept rows through indexes and hashes: each answer is the one that comparing all bytes gives.
+// Names looked up in the kept rows through indexes and noted ranks: each answer is the one that comparing all bytes gives.
 ghost use mathlib.Core.Path.{_≡_};
 ghost use Prim.Native.Nat.{min};
 ghost use Rattle.scopes.specs.Promises.{FindsTruth};
-ghost use Rattle.lookups.specs.Hashes.{Hashed, HashOfRow, NameIs, HasName, SameName, NextRow, StatedHashed, IsStatedHashed};
+ghost use Rattle.lookups.specs.Ranks.{NotesRanks, NameIs, NextRow, StatedRanked, RowStated, IsRowStated};
 ghost use Rattle.lookups.specs.Answers.{DefinitionIndexed, ObjectIndexed, EnumeratorIndexed, WordIndexed};
 use rows::Found;
 use rows::cells;
@@ -94,9 +94,17 @@ pub fn word_under(
     blocks::cell_at(e, 3, i, 1)
 }
 
-// Makes h the hashes of the names of the first rows, as many as h has cells.
-pub fn note_hashes(text: &[u8], t: &[usize], width: usize, name: usize, h: &mut [usize])
-    ensures { λ _. ⌜ Hashed (now (text .entry)) (now (t .entry)) width name (now (h .exit)) ⌝ }
+// Makes h the ranks of the names of the first rows, as many as h has cells, among the names of the definitions; x is the index of these.
+pub fn note_ranks(
+    text: &[u8],
+    d: &[usize],
+    x: &[usize],
+    t: &[usize],
+    width: usize,
+    name: usize,
+    h: &mut [usize],
+)
+    ensures { λ _. ⌜ NotesRanks (now (text .entry)) (now (d .entry)) (now (x .entry)) (now (t .entry)) width name (now (h .exit)) ⌝ }
 {
     let second = cells::place_after(t.len(), name, 1);
     let mut start = 0;
@@ -104,34 +112,13 @@ pub fn note_hashes(text: &[u8], t: &[usize], width: usize, name: usize, h: &mut 
     while i < h.len() {
         let p = cells::cell(t, start, name);
         let n = cells::cell(t, start, second);
-        h[i] = indexes::hash(text, p, n);
+        h[i] = indexes::rank(text, d, 19, 0, 2, p, n, x);
         start = cells::place_after(t.len(), start, width);
         i += 1;
     }
 }
 
-// The hash of a row's name; h has the hashes of the first rows.
-pub fn name_hash(
-    text: &[u8],
-    t: &[usize],
-    width: usize,
-    name: usize,
-    h: &[usize],
-    row: usize,
-) -> usize
-    ensures { λ r. ⌜ HashOfRow (now (text .entry)) (now (t .entry)) width name (now (h .entry)) row r ⌝ }
-{
-    if row < h.len() {
-        return h[row];
-    }
-    let second = cells::place_after(t.len(), name, 1);
-    let start = cells::row_start(t.len(), width, row);
-    let p = cells::cell(t, start, name);
-    let n = cells::cell(t, start, second);
-    indexes::hash(text, p, n)
-}
-
-// Whether the statement of row k, whose name's hash is q, has the name at a place, whose hash is given.
+// Whether the statement of row k, whose name's rank is q, has the name at a place, whose rank is given.
 fn name_is(
     text: &[u8],
     st: &[usize],
@@ -139,53 +126,16 @@ fn name_is(
     q: usize,
     at: usize,
     len: usize,
-    hash: usize,
+    rank: usize,
 ) -> bool
-    ensures { λ r. ⌜ NameIs (now (text .entry)) (now (st .entry)) k q at len hash r ⌝ }
+    ensures { λ r. ⌜ NameIs (now (text .entry)) (now (st .entry)) k q at len rank r ⌝ }
 {
-    if q != hash {
+    if q != rank {
         return false;
     }
     let place = blocks::cell_at(st, 7, k, 0);
     let size = blocks::cell_at(st, 7, k, 1);
     parts::same_part(text, at, len, place, size)
-}
-
-// Whether the statement of row k has the name at a place, whose hash is given; h has the statements' hashes.
-pub fn has_name(
-    text: &[u8],
-    st: &[usize],
-    h: &[usize],
-    k: usize,
-    at: usize,
-    len: usize,
-    hash: usize,
-) -> bool
-    ensures { λ r. ⌜ HasName (now (text .entry)) (now (st .entry)) (now (h .entry)) k at len hash r ⌝ }
-{
-    name_is(text, st, k, name_hash(text, st, 7, 0, h, k), at, len, hash)
-}
-
-// Whether the statement of row k has the name of the definition of row j; h and hd have the hashes of the statements and the definitions.
-pub fn same_name(
-    text: &[u8],
-    st: &[usize],
-    h: &[usize],
-    k: usize,
-    d: &[usize],
-    hd: &[usize],
-    j: usize,
-) -> bool
-    ensures { λ r. ⌜ SameName (now (text .entry)) (now (st .entry)) (now (h .entry)) k (now (d .entry)) (now (hd .entry)) j r ⌝ }
-{
-    if name_hash(text, st, 7, 0, h, k) != name_hash(text, d, 19, 2, hd, j) {
-        return false;
-    }
-    let place = blocks::cell_at(st, 7, k, 0);
-    let size = blocks::cell_at(st, 7, k, 1);
-    let place2 = blocks::cell_at(d, 19, j, 2);
-    let size2 = blocks::cell_at(d, 19, j, 3);
-    parts::same_part(text, place, size, place2, size2)
 }
 
 // The lesser of two numbers.
@@ -211,9 +161,9 @@ fn next_row(k: usize, v: usize, end: usize) -> usize
     v
 }
 
-// The first statement of a block that has a name, whose hash is given; h has the statements' hashes. Rows that have no hash, or that the
+// The first statement of a block that has a name, whose rank is given; h has the statements' ranks. Rows that have no rank, or that the
 // table has not, are left to the search that compares bytes.
-pub fn stated(
+fn stated(
     text: &[u8],
     st: &[usize],
     h: &[usize],
@@ -221,14 +171,14 @@ pub fn stated(
     end: usize,
     at: usize,
     len: usize,
-    hash: usize,
+    rank: usize,
 ) -> Found
-    ensures { λ r. ⌜ StatedHashed (now (text .entry)) (now (st .entry)) (now (h .entry)) from end at len hash r ⌝ }
+    ensures { λ r. ⌜ StatedRanked (now (text .entry)) (now (st .entry)) (now (h .entry)) from end at len rank r ⌝ }
 {
     let limit = least(end, least(h.len(), st.len() / 7));
     let mut k = from;
     while k < limit {
-        if name_is(text, st, k, h[k], at, len, hash) {
+        if name_is(text, st, k, h[k], at, len, rank) {
             return Found::At(k);
         }
         k = next_row(k, st[k * 7 + 6], end);
@@ -236,20 +186,49 @@ pub fn stated(
     blocks::stated(text, st, k, end, at, len)
 }
 
-// Whether a block has a statement with a name, whose hash is given; h has the statements' hashes.
-pub fn is_stated(
+// The first statement of a block that has the name of row i of a table; ranks and h have the ranks of the names of its rows and of the
+// statements.
+pub fn row_stated(
     text: &[u8],
+    t: &[usize],
+    width: usize,
+    name: usize,
+    ranks: &[usize],
+    i: usize,
     st: &[usize],
     h: &[usize],
     from: usize,
     end: usize,
-    at: usize,
-    len: usize,
-    hash: usize,
-) -> bool
-    ensures { λ r. ⌜ IsStatedHashed (now (text .entry)) (now (st .entry)) (now (h .entry)) from end at len hash r ⌝ }
+) -> Found
+    ensures { λ r. ⌜ RowStated (now (text .entry)) (now (t .entry)) width name (now (ranks .entry)) i (now (st .entry)) (now (h .entry)) from end r ⌝ }
 {
-    match stated(text, st, h, from, end, at, len, hash) {
+    let second = cells::place_after(t.len(), name, 1);
+    let start = cells::row_start(t.len(), width, i);
+    let at = cells::cell(t, start, name);
+    let len = cells::cell(t, start, second);
+    if ranks.len() <= i {
+        return blocks::stated(text, st, from, end, at, len);
+    }
+    stated(text, st, h, from, end, at, len, ranks[i])
+}
+
+// Whether a block has a statement with the name of row i of a table; ranks and h have the ranks of the names of its rows and of the
+// statements.
+pub fn is_row_stated(
+    text: &[u8],
+    t: &[usize],
+    width: usize,
+    name: usize,
+    ranks: &[usize],
+    i: usize,
+    st: &[usize],
+    h: &[usize],
+    from: usize,
+    end: usize,
+) -> bool
+    ensures { λ r. ⌜ IsRowStated (now (text .entry)) (now (t .entry)) width name (now (ranks .entry)) i (now (st .entry)) (now (h .entry)) from end r ⌝ }
+{
+    match row_stated(text, t, width, name, ranks, i, st, h, from, end) {
         Found::At(_) => true,
         Found::Nothing => false,
     }

@@ -49,7 +49,7 @@ module _ {s d e x : List ℕ} where
   notes-all {t} p q = subst (λ k. NotesTo s d e x k t) q p
 
   -- All defaults are noted.
-  pub words-noted : (n : ℕ) (t : List ℕ) → Indexed s e 3 n 1 x → n ≤ 65536 → NotesTo s d e x (length t) t → WordsNoted s d e n t
+  pub words-noted : (n : ℕ) (t : List ℕ) → Indexed s e 3 n 0 1 x → n ≤ 65536 → NotesTo s d e x (length t) t → WordsNoted s d e n t
   words-noted n t h l p = record { cell = λ j. by j (decLe (length t) j) }
     where
       by : (j : ℕ) → Dec (length t ≤ j) → WordNoted s d e n j (getD t j 0)

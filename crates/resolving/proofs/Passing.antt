@@ -13,36 +13,31 @@ use Rattle.meaning.specs.Syntax.{done, state, statements-in}
 use Rattle.meaning.specs.Words.{among}
 use Rattle.meaning.specs.Scopes.{names}
 use Rattle.meaning.specs.Resolving.{resolve}
-use Rattle.indexes.specs.Hashing.{hashOf}
-use Rattle.indexes.specs.Indexing.{rowHash, Indexed, Makes}
-use Rattle.lookups.specs.Hashes.{Hashed, HashOfRow, StatedHashed, IsStatedHashed}
+use Rattle.indexes.specs.Indexing.{Indexed, Makes, nameRank}
+use Rattle.lookups.specs.Ranks.{NotesRanks, RowStated, IsRowStated}
 use Rattle.amounts.specs.Known.{KnownDefaults}
 use Rattle.layout.specs.Kept.{spec-entries, definition-cells, map-cells, join, kept, kept-definitions}
 use Rattle.blocks.specs.Blocks.{row-after, FindsStated, IsStated}
 use Rattle.blocks.proofs.Ranges.{after-later}
 use Rattle.resolving.specs.declared.Sizes.{Sizes}
 use Rattle.resolving.specs.declared.Owner.{Owner as OwnerOf}
-use Rattle.resolving.specs.Noted.{NotesTo, NamesHashed, Rooms, Noted, Bare, no-default, not-taken, Quiet, elsewhere, silent, Defaults, Stirs, Elsewhere, NextUnder, Passes, NextRow}
+use Rattle.resolving.specs.Noted.{NotesTo, NamesRanked, Rooms, Noted, Bare, no-default, not-taken, Quiet, elsewhere, silent, Defaults, Stirs, Elsewhere, NextUnder, Passes, NextRow}
 use Rattle.resolving.specs.Promises.{ResolvesDefault, ResolvesRow, Resolves, ResolvesAll}
 use Rattle.resolving.proofs.Turns.{row-other, row-default, Goes, goes-more}
 use Rattle.resolving.proofs.Namings.{words-noted}
 use Rattle.resolving.proofs.Entrances.{default-none, default-not}
 use Rattle.resolving.proofs.Writes.{wrote-full}
 
--- Hashes -----------------------------------------------------------------------------------------------------------------------------------
+-- Ranks ------------------------------------------------------------------------------------------------------------------------------------
 
-module _ {s d st hs hd : List ℕ} (h : NamesHashed s d st hs hd) (j at len g : ℕ) (c₁ : at ≡ getD d (j * 19 + 2) 0) (c₂ : len ≡ getD d (j * 19 + 3) 0) (k : HashOfRow s d 19 2 hd j g) where
-  hash-is : g ≡ hashOf (partOf s at len)
-  unfolding HashOfRow rowHash
-  hash-is = k (h .definitions) ∙ ap₂ (λ p n. hashOf (partOf s p n)) (sym c₁) (sym c₂)
+module _ {s d st rs rd : List ℕ} (h : NamesRanked s d st rs rd) (j m e : ℕ) where
+  pub finds-ranked : (r : Found) → RowStated s d 19 2 rd j st rs m e r → FindsStated s st m e (getD d (j * 19 + 2) 0) (getD d (j * 19 + 3) 0) r
+  unfolding RowStated
+  finds-ranked r f = f (h .rank) (h .definitions) (h .statements)
 
-  pub finds-hashed : (m e : ℕ) (r : Found) → StatedHashed s st hs m e at len g r → FindsStated s st m e at len r
-  unfolding StatedHashed
-  finds-hashed m e r f = f (h .statements) hash-is
-
-  pub is-hashed : (m e : ℕ) (r : Bool) → IsStatedHashed s st hs m e at len g r → IsStated s st m e at len r
-  unfolding IsStatedHashed
-  is-hashed m e r f = f (h .statements) hash-is
+  pub is-ranked : (r : Bool) → IsRowStated s d 19 2 rd j st rs m e r → IsStated s st m e (getD d (j * 19 + 2) 0) (getD d (j * 19 + 3) 0) r
+  unfolding IsRowStated
+  is-ranked r f = f (h .rank) (h .definitions) (h .statements)
 
 -- The row after a statement comes later.
 pub after-grows : (st : List ℕ) (i e next : ℕ) → next ≡ row-after st i e → i < e → i < next
@@ -70,13 +65,10 @@ none-stated {from = from} {till = till} at len h (state y inside rest) t b e = a
 pub stirs-none : {s d st : List ℕ} {key from till j p : ℕ} {q : Bool} → Defaults d p q → q ≡ false → till ≤ from → Stirs s d st key from till j p false
 stirs-none {j = j} k e h = record { quiet = λ _ p. silent (k .bare e j p) (none-stated _ _ h) }
 
-pub stirs-stated : {s d st hs hd : List ℕ} {key from till j p at len : ℕ} (g : ℕ) {q r : Bool} → NamesHashed s d st hs hd → Defaults d p q → q ≡ false
-    → at ≡ getD d (p + 2) 0 → len ≡ getD d (p + 3) 0 → HashOfRow s d 19 2 hd j g → IsStatedHashed s st hs from till at len g r → Stirs s d st key from till j p r
-stirs-stated {s} {d} {st} {hs} {hd} {key} {from} {till} {j} {p} {at} {len} g {q} {r} h k e c₁ c₂ n i = record {
-  quiet = λ no pe.
-      let a₁ : at ≡ getD d (j * 19 + 2) 0 = c₁ ∙ ap (λ i. getD d (i + 2) 0) pe in
-      let a₂ : len ≡ getD d (j * 19 + 3) 0 = c₂ ∙ ap (λ i. getD d (i + 3) 0) pe in
-      silent (k .bare e j pe) (λ ss t b m. sym no ∙ is-hashed h j at len g a₁ a₂ n from till r i ss t b (m ∙ ap₂ (partOf s) (sym a₁) (sym a₂)));
+pub stirs-stated : {s d st rs rd : List ℕ} {key from till j p : ℕ} {q r : Bool} → NamesRanked s d st rs rd → Defaults d p q → q ≡ false
+    → IsRowStated s d 19 2 rd j st rs from till r → Stirs s d st key from till j p r
+stirs-stated {s} {d} {st} {rs} {rd} {key} {from} {till} {j} {p} {q} {r} h k e i = record {
+  quiet = λ no pe. silent (k .bare e j pe) (λ ss t b m. sym no ∙ is-ranked h j from till r i ss t b m);
 }
 
 -- Passing them -----------------------------------------------------------------------------------------------------------------------------
@@ -158,21 +150,25 @@ module _ {s d e o st v : List ℕ} {z : Sizes} {limit key from till : ℕ} {w : 
 
 -- What is noted ----------------------------------------------------------------------------------------------------------------------------
 
-pub noted-all : {s d e o st : List ℕ} {z : Sizes} {known words xe₀ xo₀ spare₀ hs hd xe xo : List ℕ} {n m k k₂ : ℕ} → KnownDefaults s d known × Rooms d z xe₀ xo₀ spare₀
-    → n ≡ length xe₀ → k ≡ length spare₀ → Makes s e 3 n 1 k xe → m ≡ length xo₀ → k₂ ≡ length spare₀ → Makes s o 9 m 3 k₂ xo
-    → NotesTo s d e xe (length words) words → Hashed s st 7 0 hs → Hashed s d 19 2 hd → Noted s d e o st z known words xe xo hs hd
-unfolding Makes
-noted-all {s} {d} {e} {o} {st} {z} {known} {words} {xe₀} {xo₀} {spare₀} {hs} {hd} {xe} {xo} {n} {m} {k} {k₂} h a₁ a₂ ie b₁ b₂ io w p q =
+pub noted-all : {s d e o st : List ℕ} {z : Sizes} {known words xd₀ xe₀ xo₀ spare₀ rs rd : List ℕ} (xd : List ℕ) {xe xo : List ℕ} {l n m k₀ k k₂ : ℕ} → KnownDefaults s d known × Rooms d z xd₀ xe₀ xo₀ spare₀
+    → l ≡ length xd₀ → k₀ ≡ length spare₀ → Makes s d 19 l 0 2 k₀ xd → n ≡ length xe₀ → k ≡ length spare₀ → Makes s e 3 n 0 1 k xe → m ≡ length xo₀ → k₂ ≡ length spare₀ → Makes s o 9 m 0 3 k₂ xo
+    → NotesTo s d e xe (length words) words → NotesRanks s d xd st 7 0 rs → NotesRanks s d xd d 19 2 rd → Noted s d e o st z known words xe xo rs rd
+unfolding Makes NotesRanks
+noted-all {s} {d} {e} {o} {st} {z} {known} {words} {xd₀} {xe₀} {xo₀} {spare₀} {rs} {rd} xd {xe} {xo} {l} {n} {m} {k₀} {k} {k₂} h d₁ d₂ ix a₁ a₂ ie b₁ b₂ io w p q =
     let R = h .1 in
+    let l₀ = R .definitions in
+    let f₀ = R .definitions-fit in
     let l₁ = R .enumerators in
     let l₂ = R .objects in
     let f₁ = R .enumerators-fit in
     let f₂ = R .objects-fit in
     let sp = R .spare-room in
+    let few : l ≤ 65536 = omega arith in
+    let r = ix (omega arith) in
     let u : n ≡ z .enumerators = omega arith in
     let t : m ≡ z .objects = omega arith in
-    let x : Indexed s e 3 (z .enumerators) 1 xe = subst (λ i. Indexed s e 3 i 1 xe) u (ie (omega arith)) in
-    let y : Indexed s o 9 (z .objects) 3 xo = subst (λ i. Indexed s o 9 i 3 xo) t (io (omega arith)) in
+    let x : Indexed s e 3 (z .enumerators) 0 1 xe = subst (λ i. Indexed s e 3 i 0 1 xe) u (ie (omega arith)) in
+    let y : Indexed s o 9 (z .objects) 0 3 xo = subst (λ i. Indexed s o 9 i 0 3 xo) t (io (omega arith)) in
     record {
       defaults = h .0;
       indexes = record {
@@ -182,7 +178,7 @@ noted-all {s} {d} {e} {o} {st} {z} {known} {words} {xe₀} {xo₀} {spare₀} {h
         enumerators-fit = f₁;
         objects-fit = f₂;
       };
-      hashes = record { statements = p; definitions = q; room = R .room };
+      ranks = record { rank = nameRank s d 19 0 2 xd; statements = p l r few; definitions = q l r few; room = R .room };
     }
 
 kept-long : (n : ℕ) (rs : List (List ℕ)) → length (kept n rs) ≡ n
@@ -191,7 +187,7 @@ kept-long n rs = length-sets {A = ℕ} (replicate n 0) 0 (join rs) ∙ length-re
 
 module _ {s d e o st v : List ℕ} {z : Sizes} {ps : List ℕ} where
   -- The tables of a text have their sizes.
-  pub not-sized : (length d ≡ 9747 → z .enumerators ≤ 1024 → z .objects ≤ 256 → ⊥) → ResolvesAll s d e o st v z ps v 0
+  pub not-sized : (length d ≡ 9747 → z .definitions ≤ 512 → z .enumerators ≤ 1024 → z .objects ≤ 256 → ⊥) → ResolvesAll s d e o st v z ps v 0
   unfolding kept-definitions
   not-sized h f g p l =
-      absurd (h (ap length (g .tables .in-definitions) ∙ kept-long (513 * 19) (map-cells definition-cells (spec-entries (f .specs)))) (g .tables .enumerators-fit) (g .tables .objects-fit))
+      absurd (h (ap length (g .tables .in-definitions) ∙ kept-long (513 * 19) (map-cells definition-cells (spec-entries (f .specs)))) (g .tables .definitions-fit) (g .tables .enumerators-fit) (g .tables .objects-fit))

@@ -18,13 +18,13 @@ use Rattle.meaning.specs.Words.{alike}
 use Rattle.meaning.specs.Resolving.{Resolved, end, Owner}
 use Rattle.meaning.proofs.Entries.{joins}
 use Rattle.blocks.specs.Blocks.{BlockAt, row-after, first-stated, FindsStated}
-use Rattle.blocks.proofs.Ranges.{first-after, rest-at}
+use Rattle.blocks.proofs.Ranges.{first-after, rest-at, is-stated}
 use Rattle.resolving.specs.declared.Sizes.{Sizes}
 use Rattle.resolving.specs.declared.Owner.{Owner as OwnerOf}
 use Rattle.resolving.specs.Tables.{Given, Attribute}
 use Rattle.resolving.specs.Written.{Wrote, Owns}
-use Rattle.resolving.specs.Promises.{stated-entries, Room, EntersStated, ResolvesStated}
-use Rattle.resolving.proofs.Turns.{name-at}
+use Rattle.resolving.specs.Promises.{stated-entries, Room, EntersStated, ResolvesStated, ResolvesDefault, ResolvesUnder}
+use Rattle.resolving.proofs.Turns.{name-at, row-stated, row-default}
 use Rattle.resolving.proofs.Entrances.{entries-none, entries-other, entries-more}
 use Rattle.resolving.proofs.Writes.{wrote-length, wrote-none, wrote-joins, wrote-same, joins-end, joins-joins}
 
@@ -190,3 +190,19 @@ module _ {s d e o st v : List ℕ} {z : Sizes} {j from till : ℕ} {w : OwnerOf}
           wrote = wrote-joins u (K .wrote) h;
           whole = K .whole ∙ ap (joins (K .made)) (M .skips ∙ entries-more f x y (M .inside) (M .rest)) ∙ sym (joins-joins (K .made) E (stated-entries f x (M .rest)));
         }
+
+module _ {s d e o st v : List ℕ} {z : Sizes} {j from till : ℕ} {w : OwnerOf} {n : ℕ} where
+  -- The values that a block states are those that it states from the first one on.
+  pub stated-from : {at len : ℕ} → at ≡ getD d (j * 19 + 2) 0 → len ≡ getD d (j * 19 + 3) 0 → {q : Found} {i : ℕ} {v′ : List ℕ} {r : ℕ}
+      → FindsStated s st from till at len q → q ≡ At i → ResolvesStated s d e o st v z j i till w n v′ r → ResolvesStated s d e o st v z j from till w n v′ r
+  stated-from {at} {len} c₁ c₂ finds p res f x ss ow g a b own room =
+      let M = match f x ss b (sym p ∙ finds ss (x .definition .name) b (name-at at len (g .tables) a c₁ c₂)) in
+      wrote-same (sym (M .skips)) (res f x (state (M .statement) (M .inside) (M .rest)) ow g a (M .block) own room)
+
+  -- The attribute of a row is stated, first by the statement of row i, or it is not.
+  module _ {key : ℕ} {q : Found} {v′ : List ℕ} {r : ℕ} (finds : FindsStated s st from till (getD d (j * 19 + 2) 0) (getD d (j * 19 + 3) 0) q) where
+    pub row-found : {i : ℕ} → q ≡ At i → ResolvesStated s d e o st v z j i till w n v′ r → ResolvesUnder s d e o st v z j key from till w n v′ r
+    row-found p res = row-stated refl refl (is-stated _ _ finds) (ap isFound p) (stated-from refl refl finds p res)
+
+    pub row-missing : q ≡ Nothing → ResolvesDefault s d e o st v z j w n v′ r → ResolvesUnder s d e o st v z j key from till w n v′ r
+    row-missing p res = row-default refl refl (is-stated _ _ finds) (ap isFound p) res

@@ -7,7 +7,7 @@ use lib.ListN.{length, getD}
 use Rattle.rows.specs.declared.Found.{Found}
 use Rattle.rows.specs.declared.Found.the-variants.{At}
 use Rattle.indexes.specs.Indexing.{Indexed}
-use Rattle.lookups.specs.Hashes.{Hashed}
+use Rattle.lookups.specs.Ranks.{Ranked}
 use Rattle.amounts.specs.Known.{KnownDefaults}
 use Rattle.blocks.specs.Blocks.{IsStated}
 use Rattle.scopes.specs.Promises.{FindsEnumerator, FindsWord}
@@ -26,47 +26,50 @@ pub record WordsNoted (s d e : List ℕ) (n : ℕ) (t : List ℕ) : Type 0 where
 -- The names of enumerators and of objects are indexed.
 pub record Indexes (s d e o : List ℕ) (z : Sizes) (words xe xo : List ℕ) : Type 0 where
   pub defaults : WordsNoted s d e (z .enumerators) words
-  pub enumerators : Indexed s e 3 (z .enumerators) 1 xe
-  pub objects : Indexed s o 9 (z .objects) 3 xo
+  pub enumerators : Indexed s e 3 (z .enumerators) 0 1 xe
+  pub objects : Indexed s o 9 (z .objects) 0 3 xo
   pub enumerators-fit : z .enumerators ≤ 1024
   pub objects-fit : z .objects ≤ 256
 
--- The names of statements and of definitions are hashed; the table of definitions has 513 rows.
-pub record NamesHashed (s d st hs hd : List ℕ) : Type 0 where
-  pub statements : Hashed s st 7 0 hs
-  pub definitions : Hashed s d 19 2 hd
+-- The names of statements and of definitions have their ranks; the table of definitions has 513 rows.
+pub record NamesRanked (s d st rs rd : List ℕ) : Type 0 where
+  pub rank : List ℕ → ℕ
+  pub statements : Ranked rank s st 7 0 rs
+  pub definitions : Ranked rank s d 19 2 rd
   pub room : length d ≡ 9747
 
 -- The indexes have a cell for each row, and there is room for sorting them.
-pub record Rooms (d : List ℕ) (z : Sizes) (xe xo spare : List ℕ) : Type 0 where
+pub record Rooms (d : List ℕ) (z : Sizes) (xd xe xo spare : List ℕ) : Type 0 where
   pub room : length d ≡ 9747
+  pub definitions : length xd ≡ z .definitions
   pub enumerators : length xe ≡ z .enumerators
   pub objects : length xo ≡ z .objects
+  pub definitions-fit : z .definitions ≤ 512
   pub enumerators-fit : z .enumerators ≤ 1024
   pub objects-fit : z .objects ≤ 256
   pub spare-room : length spare ≡ 512
 
 -- All that is noted.
-pub record Noted (s d e o st : List ℕ) (z : Sizes) (known words xe xo hs hd : List ℕ) : Type 0 where
+pub record Noted (s d e o st : List ℕ) (z : Sizes) (known words xe xo rs rd : List ℕ) : Type 0 where
   pub defaults : KnownDefaults s d known
   pub indexes : Indexes s d e o z words xe xo
-  pub hashes : NamesHashed s d st hs hd
+  pub ranks : NamesRanked s d st rs rd
 
 -- What the functions promise ---------------------------------------------------------------------------------------------------------------
 
 -- A default more is looked up, or all are, through the index x of the enumerators.
 pub record NotesWord (s d e x : List ℕ) (j c : ℕ) : Type 0 where
-  pub noted : (n : ℕ) → Indexed s e 3 n 1 x → n ≤ 65536 → WordNoted s d e n j c
+  pub noted : (n : ℕ) → Indexed s e 3 n 0 1 x → n ≤ 65536 → WordNoted s d e n j c
 
 pub record NotesTo (s d e x : List ℕ) (i : ℕ) (t : List ℕ) : Type 0 where
   pub cell : (j : ℕ) → j < i → NotesWord s d e x j (getD t j 0)
 
 -- The enumerator that a word is, and its value word, where the defaults are noted.
 pub record EnumeratorNoted (s d e x words : List ℕ) (j at len : ℕ) (r : Found) : Type 0 where
-  pub finds : (n : ℕ) → Indexed s e 3 n 1 x → n ≤ 65536 → WordsNoted s d e n words → FindsEnumerator s d e n j at len r
+  pub finds : (n : ℕ) → Indexed s e 3 n 0 1 x → n ≤ 65536 → WordsNoted s d e n words → FindsEnumerator s d e n j at len r
 
 pub record WordFound (s d e x words : List ℕ) (j at len r : ℕ) : Type 0 where
-  pub finds : (n : ℕ) → Indexed s e 3 n 1 x → n ≤ 65536 → WordsNoted s d e n words → FindsWord s d e n j at len r
+  pub finds : (n : ℕ) → Indexed s e 3 n 0 1 x → n ≤ 65536 → WordsNoted s d e n words → FindsWord s d e n j at len r
 
 -- Rows -------------------------------------------------------------------------------------------------------------------------------------
 

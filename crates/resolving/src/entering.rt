@@ -21,8 +21,8 @@ fn enter(
     noted: &[usize],
     xe: &[usize],
     xo: &[usize],
-    hs: &[usize],
-    hd: &[usize],
+    rs: &[usize],
+    rd: &[usize],
     v: &mut [usize],
     z: Sizes,
     j: usize,
@@ -35,7 +35,7 @@ fn enter(
     w: Owner,
     n: usize,
 ) -> usize
-    requires { ⌜ Noted (now text) (now d) (now e) (now o) (now st) z (now known) (now noted) (now xe) (now xo) (now hs) (now hd) ⌝ }
+    requires { ⌜ Noted (now text) (now d) (now e) (now o) (now st) z (now known) (now noted) (now xe) (now xo) (now rs) (now rd) ⌝ }
     ensures { λ r. ⌜ Enters (now (text .entry)) (now (d .entry)) (now (e .entry)) (now (o .entry)) (now (st .entry)) (now (v .entry)) z j stated at len code from end w n (now (v .exit)) r ⌝ }
 {
     if 2048 < n {
@@ -71,8 +71,8 @@ fn enter(
         noted,
         xe,
         xo,
-        hs,
-        hd,
+        rs,
+        rd,
         v,
         z,
         j,
@@ -96,8 +96,8 @@ fn enter_stated(
     noted: &[usize],
     xe: &[usize],
     xo: &[usize],
-    hs: &[usize],
-    hd: &[usize],
+    rs: &[usize],
+    rd: &[usize],
     v: &mut [usize],
     z: Sizes,
     j: usize,
@@ -107,7 +107,7 @@ fn enter_stated(
     w: Owner,
     n: usize,
 ) -> usize
-    requires { ⌜ Noted (now text) (now d) (now e) (now o) (now st) z (now known) (now noted) (now xe) (now xo) (now hs) (now hd) ⌝ }
+    requires { ⌜ Noted (now text) (now d) (now e) (now o) (now st) z (now known) (now noted) (now xe) (now xo) (now rs) (now rd) ⌝ }
     ensures { λ r. ⌜ EntersStated (now (text .entry)) (now (d .entry)) (now (e .entry)) (now (o .entry)) (now (st .entry)) (now (v .entry)) z j k inner next w n (now (v .exit)) r ⌝ }
 {
     let at = blocks::cell_at(st, 7, k, 2);
@@ -123,8 +123,8 @@ fn enter_stated(
         noted,
         xe,
         xo,
-        hs,
-        hd,
+        rs,
+        rd,
         v,
         z,
         j,
@@ -150,8 +150,8 @@ fn resolve_stated(
     noted: &[usize],
     xe: &[usize],
     xo: &[usize],
-    hs: &[usize],
-    hd: &[usize],
+    rs: &[usize],
+    rd: &[usize],
     v: &mut [usize],
     z: Sizes,
     j: usize,
@@ -160,16 +160,13 @@ fn resolve_stated(
     w: Owner,
     n: usize,
 ) -> usize
-    requires { ⌜ Noted (now text) (now d) (now e) (now o) (now st) z (now known) (now noted) (now xe) (now xo) (now hs) (now hd) ⌝ }
+    requires { ⌜ Noted (now text) (now d) (now e) (now o) (now st) z (now known) (now noted) (now xe) (now xo) (now rs) (now rd) ⌝ }
     ensures { λ r. ⌜ ResolvesStated (now (text .entry)) (now (d .entry)) (now (e .entry)) (now (o .entry)) (now (st .entry)) (now (v .entry)) z j from end w n (now (v .exit)) r ⌝ }
 {
-    let name = blocks::cell_at(d, 19, j, 2);
-    let len = blocks::cell_at(d, 19, j, 3);
-    let hash = lookups::name_hash(text, d, 19, 2, hd, j);
     let mut m = n;
     let mut k = from;
     while k < end {
-        let Found::At(i) = lookups::stated(text, st, hs, k, end, name, len, hash) else {
+        let Found::At(i) = lookups::row_stated(text, d, 19, 2, rd, j, st, rs, k, end) else {
             return m;
         };
         if i < k {
@@ -189,8 +186,8 @@ fn resolve_stated(
             noted,
             xe,
             xo,
-            hs,
-            hd,
+            rs,
+            rd,
             v,
             z,
             j,
@@ -216,15 +213,15 @@ fn resolve_default(
     noted: &[usize],
     xe: &[usize],
     xo: &[usize],
-    hs: &[usize],
-    hd: &[usize],
+    rs: &[usize],
+    rd: &[usize],
     v: &mut [usize],
     z: Sizes,
     j: usize,
     w: Owner,
     n: usize,
 ) -> usize
-    requires { ⌜ Noted (now text) (now d) (now e) (now o) (now st) z (now known) (now noted) (now xe) (now xo) (now hs) (now hd) ⌝ }
+    requires { ⌜ Noted (now text) (now d) (now e) (now o) (now st) z (now known) (now noted) (now xe) (now xo) (now rs) (now rd) ⌝ }
     ensures { λ r. ⌜ ResolvesDefault (now (text .entry)) (now (d .entry)) (now (e .entry)) (now (o .entry)) (now (st .entry)) (now (v .entry)) z j w n (now (v .exit)) r ⌝ }
 {
     let len = blocks::cell_at(d, 19, j, 11);
@@ -246,8 +243,8 @@ fn resolve_default(
         noted,
         xe,
         xo,
-        hs,
-        hd,
+        rs,
+        rd,
         v,
         z,
         j,
@@ -273,8 +270,8 @@ fn resolve_row(
     noted: &[usize],
     xe: &[usize],
     xo: &[usize],
-    hs: &[usize],
-    hd: &[usize],
+    rs: &[usize],
+    rd: &[usize],
     v: &mut [usize],
     z: Sizes,
     j: usize,
@@ -284,14 +281,11 @@ fn resolve_row(
     w: Owner,
     n: usize,
 ) -> usize
-    requires { ⌜ Noted (now text) (now d) (now e) (now o) (now st) z (now known) (now noted) (now xe) (now xo) (now hs) (now hd) ⌝ }
+    requires { ⌜ Noted (now text) (now d) (now e) (now o) (now st) z (now known) (now noted) (now xe) (now xo) (now rs) (now rd) ⌝ }
     ensures { λ r. ⌜ ResolvesUnder (now (text .entry)) (now (d .entry)) (now (e .entry)) (now (o .entry)) (now (st .entry)) (now (v .entry)) z j key from end w n (now (v .exit)) r ⌝ }
 {
-    let name = blocks::cell_at(d, 19, j, 2);
-    let len = blocks::cell_at(d, 19, j, 3);
-    let hash = lookups::name_hash(text, d, 19, 2, hd, j);
-    if lookups::is_stated(text, st, hs, from, end, name, len, hash) {
-        return resolve_stated(
+    let Found::At(k) = lookups::row_stated(text, d, 19, 2, rd, j, st, rs, from, end) else {
+        return resolve_default(
             text,
             d,
             e,
@@ -301,18 +295,16 @@ fn resolve_row(
             noted,
             xe,
             xo,
-            hs,
-            hd,
+            rs,
+            rd,
             v,
             z,
             j,
-            from,
-            end,
             w,
             n,
         );
-    }
-    resolve_default(
+    };
+    resolve_stated(
         text,
         d,
         e,
@@ -322,11 +314,13 @@ fn resolve_row(
         noted,
         xe,
         xo,
-        hs,
-        hd,
+        rs,
+        rd,
         v,
         z,
         j,
+        k,
+        end,
         w,
         n,
     )
@@ -343,8 +337,8 @@ pub fn resolve(
     noted: &[usize],
     xe: &[usize],
     xo: &[usize],
-    hs: &[usize],
-    hd: &[usize],
+    rs: &[usize],
+    rd: &[usize],
     v: &mut [usize],
     z: Sizes,
     limit: usize,
@@ -354,7 +348,7 @@ pub fn resolve(
     w: Owner,
     n: usize,
 ) -> usize
-    requires { ⌜ Noted (now text) (now d) (now e) (now o) (now st) z (now known) (now noted) (now xe) (now xo) (now hs) (now hd) ⌝ }
+    requires { ⌜ Noted (now text) (now d) (now e) (now o) (now st) z (now known) (now noted) (now xe) (now xo) (now rs) (now rd) ⌝ }
     ensures { λ r. ⌜ Resolves (now (text .entry)) (now (d .entry)) (now (e .entry)) (now (o .entry)) (now (st .entry)) (now (v .entry)) z limit key from end w n (now (v .exit)) r ⌝ }
 {
     if key == 0 {
@@ -367,7 +361,7 @@ pub fn resolve(
         return n;
     }
     let mut m = n;
-    let mut j = scanning::next_row(text, d, st, hs, hd, limit, key, from, end, 0);
+    let mut j = scanning::next_row(text, d, st, rs, rd, limit, key, from, end, 0);
     while j < limit {
         m = resolve_row(
             text,
@@ -379,8 +373,8 @@ pub fn resolve(
             noted,
             xe,
             xo,
-            hs,
-            hd,
+            rs,
+            rd,
             v,
             z,
             j,
@@ -390,7 +384,7 @@ pub fn resolve(
             w,
             m,
         );
-        j = scanning::next_row(text, d, st, hs, hd, limit, key, from, end, j + 1);
+        j = scanning::next_row(text, d, st, rs, rd, limit, key, from, end, j + 1);
     }
     m
 }
@@ -406,13 +400,13 @@ fn resolve_objects(
     noted: &[usize],
     xe: &[usize],
     xo: &[usize],
-    hs: &[usize],
-    hd: &[usize],
+    rs: &[usize],
+    rd: &[usize],
     v: &mut [usize],
     z: Sizes,
     places: [usize; 13],
 ) -> usize
-    requires { ⌜ Noted (now text) (now d) (now e) (now o) (now st) z (now known) (now noted) (now xe) (now xo) (now hs) (now hd) ⌝ }
+    requires { ⌜ Noted (now text) (now d) (now e) (now o) (now st) z (now known) (now noted) (now xe) (now xo) (now rs) (now rd) ⌝ }
     ensures { λ r. ⌜ ResolvesAll (now (text .entry)) (now (d .entry)) (now (e .entry)) (now (o .entry)) (now (st .entry)) (now (v .entry)) z places (now (v .exit)) r ⌝ }
 {
     let mut n = 0;
@@ -435,8 +429,8 @@ fn resolve_objects(
             noted,
             xe,
             xo,
-            hs,
-            hd,
+            rs,
+            rd,
             v,
             z,
             z.definitions,
@@ -451,7 +445,7 @@ fn resolve_objects(
     n
 }
 
-// The same; the names are indexed and hashed before, in lent slices.
+// The same; the names are indexed and ranked before, in lent slices.
 fn resolve_noted(
     text: &[u8],
     d: &[usize],
@@ -460,23 +454,25 @@ fn resolve_noted(
     st: &[usize],
     known: &[usize],
     noted: &mut [usize],
+    xd: &mut [usize],
     xe: &mut [usize],
     xo: &mut [usize],
-    hs: &mut [usize],
-    hd: &mut [usize],
+    rs: &mut [usize],
+    rd: &mut [usize],
     spare: &mut [usize],
     v: &mut [usize],
     z: Sizes,
     places: [usize; 13],
 ) -> usize
-    requires { ⌜ KnownDefaults (now text) (now d) (now known) × Rooms (now d) z (now xe) (now xo) (now spare) ⌝ }
+    requires { ⌜ KnownDefaults (now text) (now d) (now known) × Rooms (now d) z (now xd) (now xe) (now xo) (now spare) ⌝ }
     ensures { λ r. ⌜ ResolvesAll (now (text .entry)) (now (d .entry)) (now (e .entry)) (now (o .entry)) (now (st .entry)) (now (v .entry)) z places (now (v .exit)) r ⌝ }
 {
-    indexes::index(text, e, 3, 1, xe, spare);
-    indexes::index(text, o, 9, 3, xo, spare);
+    indexes::index(text, d, 19, 0, 2, xd, spare);
+    indexes::index(text, e, 3, 0, 1, xe, spare);
+    indexes::index(text, o, 9, 0, 3, xo, spare);
     words::note_words(text, d, e, xe, noted);
-    lookups::note_hashes(text, st, 7, 0, hs);
-    lookups::note_hashes(text, d, 19, 2, hd);
+    lookups::note_ranks(text, d, xd, st, 7, 0, rs);
+    lookups::note_ranks(text, d, xd, d, 19, 2, rd);
     resolve_objects(
         text,
         d,
@@ -487,8 +483,8 @@ fn resolve_noted(
         noted,
         xe,
         xo,
-        hs,
-        hd,
+        rs,
+        rd,
         v,
         z,
         places,
@@ -511,6 +507,9 @@ pub fn resolve_all(
     if d.len() != 9747 {
         return 0;
     }
+    if 512 < z.definitions {
+        return 0;
+    }
     if 1024 < z.enumerators {
         return 0;
     }
@@ -520,10 +519,11 @@ pub fn resolve_all(
     let mut known = [0; 1536];
     amounts::defaults::note_defaults(text, d, z.definitions, &mut known);
     let mut noted = [0; 512];
+    let mut xd = [0; 512];
     let mut xe = [0; 1024];
     let mut xo = [0; 256];
-    let mut hs = [0; 2048];
-    let mut hd = [0; 512];
+    let mut rs = [0; 2048];
+    let mut rd = [0; 512];
     let mut spare = [0; 512];
     resolve_noted(
         text,
@@ -533,10 +533,11 @@ pub fn resolve_all(
         st,
         &known,
         &mut noted,
+        &mut xd[..z.definitions],
         &mut xe[..z.enumerators],
         &mut xo[..z.objects],
-        &mut hs,
-        &mut hd,
+        &mut rs,
+        &mut rd,
         &mut spare,
         v,
         z,

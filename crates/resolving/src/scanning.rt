@@ -2,7 +2,7 @@
 ghost use mathlib.Core.Path.{_≡_};
 ghost use Prim.Native.Nat.{_≤_};
 ghost use lib.ListN.{length};
-ghost use Rattle.resolving.specs.Noted.{NamesHashed, Defaults, Stirs, NextUnder, NextRow};
+ghost use Rattle.resolving.specs.Noted.{NamesRanked, Defaults, Stirs, NextUnder, NextRow};
 use rows::cells;
 
 // Whether the attribute whose cells begin at p has a default that is taken.
@@ -18,20 +18,21 @@ fn has_default(d: &[usize], p: usize) -> bool
     true
 }
 
-// Whether the attribute of row j, whose cells begin at p, has a default or is stated in a block.
+// Whether the attribute of row j, whose cells begin at p, has a default or is stated in a block, as far as it is quick to see: a long block is
+// not searched here.
 fn stirs(
     text: &[u8],
     d: &[usize],
     st: &[usize],
-    hs: &[usize],
-    hd: &[usize],
+    rs: &[usize],
+    rd: &[usize],
     key: usize,
     from: usize,
     end: usize,
     j: usize,
     p: usize,
 ) -> bool
-    requires { ⌜ NamesHashed (now text) (now d) (now st) (now hs) (now hd) ⌝ }
+    requires { ⌜ NamesRanked (now text) (now d) (now st) (now rs) (now rd) ⌝ }
     ensures { λ r. ⌜ Stirs (now (text .entry)) (now (d .entry)) (now (st .entry)) key from end j p r ⌝ }
 {
     if has_default(d, p) {
@@ -40,10 +41,10 @@ fn stirs(
     if end <= from {
         return false;
     }
-    let name = cells::cell(d, p, 2);
-    let len = cells::cell(d, p, 3);
-    let hash = lookups::name_hash(text, d, 19, 2, hd, j);
-    lookups::is_stated(text, st, hs, from, end, name, len, hash)
+    if 64 < end - from {
+        return true;
+    }
+    lookups::is_row_stated(text, d, 19, 2, rd, j, st, rs, from, end)
 }
 
 // The first row from j on, below a limit, that stands under the word at key; the limit for none.
@@ -63,25 +64,25 @@ fn next_under(d: &[usize], limit: usize, key: usize, j: usize) -> usize
     limit
 }
 
-// The first of these rows that has a default or is stated in a block.
+// The first of these rows that may have a default or be stated in a block: those before it have and are not.
 pub fn next_row(
     text: &[u8],
     d: &[usize],
     st: &[usize],
-    hs: &[usize],
-    hd: &[usize],
+    rs: &[usize],
+    rd: &[usize],
     limit: usize,
     key: usize,
     from: usize,
     end: usize,
     j: usize,
 ) -> usize
-    requires { ⌜ (limit ≤ 512) × ((j ≤ limit) × NamesHashed (now text) (now d) (now st) (now hs) (now hd)) ⌝ }
+    requires { ⌜ (limit ≤ 512) × ((j ≤ limit) × NamesRanked (now text) (now d) (now st) (now rs) (now rd)) ⌝ }
     ensures { λ r. ⌜ NextRow (now (text .entry)) (now (d .entry)) (now (st .entry)) limit key from end j r ⌝ }
 {
     let mut i = next_under(d, limit, key, j);
     while i < limit {
-        if stirs(text, d, st, hs, hd, key, from, end, i, i * 19) {
+        if stirs(text, d, st, rs, rd, key, from, end, i, i * 19) {
             return i;
         }
         i = next_under(d, limit, key, i + 1);

@@ -144,7 +144,7 @@ judge-block-lack-fault-requires : (t : ℕ) → judge-block-lts.Need-lack-fault-
   sooner-reads.Asked,
   sooner-reads.Learnt,
 ) (judge-block-at t) judge-block.Post
-judge-block-lack-fault-requires t c κs = (c .before .before .before .before .before .before .before .pre .1 .1 .hashes)
+judge-block-lack-fault-requires t c κs = (c .before .before .before .before .before .before .before .pre .1 .1 .ranks)
 
 judge-block-judge-requires : (t : ℕ) → judge-block-lts.Need-judge-requires (
   lack-fault-reads.Asked,

@@ -21,7 +21,7 @@ slice-aggregate-marks : tie.Need-slice-aggregate-marks
 slice-aggregate-marks c = search needs
 
 marks-requires : tie.Need-marks-requires
-marks-requires c κs = ((c .before .note .ensures) .enumerators, (c .before .note .ensures) .hashes)
+marks-requires c κs = ((c .before .note .ensures) .enumerators, (c .before .note .ensures) .ranks)
 
 slice-aggregate-note-ranges : tie.Need-slice-aggregate-note-ranges
 slice-aggregate-note-ranges c = search needs

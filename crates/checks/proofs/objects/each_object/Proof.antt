@@ -1,10 +1,12 @@
 -- `objects::each_object` meets its contract: object by object, through the index. Assumes nothing.
 use Prim.Native.Nat.{_-_}
+use mathlib.Core.Path.{_≡_}
 use native.Mathlib.Omega.{arith}
 use Rattle.rows.specs.Order.{none, soonest}
 use Rattle.checks.specs.Cells.{object-codes}
-use Rattle.checks.specs.Promises.{Through}
-use Rattle.checks.proofs.Throughs.{start-through, more-through, end-through}
+use Rattle.indexes.specs.Indexing.{Through, By}
+use Rattle.indexes.proofs.Throughs.{through, through-one, through-two}
+use Rattle.checks.proofs.Turns.{objects-start, objects-more, objects-end}
 use Rattle.checks.proofs.objects.each_object.Statement.{statement}
 use Rattle.checks.proofs.objects.each_object.Tie as tie
 use Rattle.checks.proofs.objects.each_object.Reads as reads
@@ -14,13 +16,13 @@ use Rattle.checks.proofs.objects.too_many.Reads as too-many-reads
 use Rattle.rows.proofs.faults.sooner.Reads as sooner-reads
 
 abbrev Inv-loop : tie.InvT-loop
-Inv-loop text o n x best₀ j₀ best j = Through text o x n (soonest best (object-codes text o (n - j) j)) (soonest none (object-codes text o n 0))
+Inv-loop text o n x best₀ j₀ best j = Through (By text o 9 0 3 x) n (soonest best (object-codes text o (n - j) j) ≡ soonest none (object-codes text o n 0))
 
 abbrev μ-loop : tie.MeasureT-loop
 μ-loop text o n x best₀ j₀ best j = n - j
 
 loop-holds : tie.Need-loop-holds Inv-loop μ-loop
-loop-holds c = start-through _ _ _ _
+loop-holds c = through (objects-start _ _ _)
 
 too-many-requires : tie.Need-too-many-requires Inv-loop μ-loop
 too-many-requires c κs = tt
@@ -41,10 +43,10 @@ loop-less : tie.Need-loop-less Inv-loop μ-loop
 loop-less c = omega arith
 
 loop-again : tie.Need-loop-again Inv-loop μ-loop
-loop-again c = more-through _ _ _ _ ((c .before .before .before .before .before .loop .j)) ((c .before .before .before .before .before .loop .best)) _ _ _ _ _ (omega arith) ((c .before .before .before .too-many .ensures)) ((c .before .before .name-again .ensures)) ((c .before .sooner .ensures)) ((c .sooner2 .ensures)) ((c .before .before .before .before .before .loop .inv))
+loop-again c = through-two (omega arith) (λ k h. objects-more _ _ _ (c .before .before .before .before .before .loop .j) (c .before .before .before .before .before .loop .best) _ _ _ _ _ (omega arith) (c .before .before .before .too-many .ensures) h (c .before .sooner .ensures) (c .sooner2 .ensures) k) (c .before .before .before .before .before .loop .inv) (c .before .before .name-again .ensures)
 
 returns : tie.Need-returns Inv-loop μ-loop
-returns c = end-through _ _ _ _ ((c .before .loop .j)) _ _ (omega arith) ((c .before .loop .inv))
+returns c = through-one (objects-end _ _ _ (c .before .loop .j) _ _ (omega arith)) (c .before .loop .inv)
 
 pub each-object-spec : {M : Type 1} → statement M
 each-object-spec =

@@ -1,5 +1,5 @@
 -- `objects::first_objects` meets its contract: the room for the index is large enough. Assumes nothing.
-use Rattle.checks.proofs.Throughs.{room-long, room-fits}
+use Rattle.indexes.proofs.Throughs.{room-long, room-fits}
 use native.Mathlib.Omega.{arith}
 use borrow.Author.Needs.{needs}
 use Rattle.checks.proofs.objects.first_objects.Statement.{statement}

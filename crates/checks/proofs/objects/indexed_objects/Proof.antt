@@ -1,5 +1,5 @@
 -- `objects::indexed_objects` meets its contract: the index is made first. Assumes nothing.
-use Rattle.checks.proofs.Throughs.{through-made}
+use Rattle.indexes.proofs.Throughs.{through-made}
 use borrow.Author.Needs.{needs}
 use Rattle.checks.proofs.objects.indexed_objects.Statement.{statement}
 use Rattle.checks.proofs.objects.indexed_objects.Tie as tie
@@ -21,7 +21,7 @@ same-length-2 : tie.Need-same-length-2
 same-length-2 c = search needs
 
 returns : tie.Need-returns
-returns c = through-made _ _ _ _ _ _ _ _ (c .before .before .before .before .before .before .before .before .before .before .before .before .before .pre) (c .before .before .before .before .before .before .index .ensures) (c .each-object .ensures)
+returns c = through-made _ _ _ _ _ _ _ _ _ (c .before .before .before .before .before .before .before .before .before .before .before .before .before .pre) (c .before .before .before .before .before .before .index .ensures) (c .each-object .ensures)
 
 pub indexed-objects-spec : {M : Type 1} → statement M
 indexed-objects-spec =

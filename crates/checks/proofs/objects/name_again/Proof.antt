@@ -1,5 +1,6 @@
 -- `objects::name_again` meets its contract: it finds through the index. Assumes nothing.
-use Rattle.checks.proofs.Throughs.{again-through}
+use Rattle.indexes.proofs.Throughs.{through-one, through-found}
+use Rattle.checks.proofs.Turns.{name-again-is}
 use borrow.Author.Needs.{needs}
 use Rattle.checks.proofs.objects.name_again.Statement.{statement}
 use Rattle.checks.proofs.objects.name_again.Tie as tie
@@ -25,7 +26,7 @@ fault-found-requires : tie.Need-fault-found-requires
 fault-found-requires c κs = search needs
 
 returns : tie.Need-returns
-returns c = again-through _ _ _ _ _ _ _ _ _ ((c .before .before .before .before .cell-of .ensures)) ((c .before .before .before .cell-of2 .ensures)) ((c .before .before .cell-of3 .ensures)) ((c .before .find-before .ensures)) ((c .fault-found .ensures))
+returns c = through-one (λ h. name-again-is _ _ _ _ _ _ _ _ (c .before .before .before .before .cell-of .ensures) (c .before .before .before .cell-of2 .ensures) (c .before .before .cell-of3 .ensures) h (c .fault-found .ensures)) (through-found _ _ _ _ _ _ _ _ _ _ _ (c .before .find-before .ensures))
 
 pub name-again-spec : {M : Type 1} → statement M
 name-again-spec =

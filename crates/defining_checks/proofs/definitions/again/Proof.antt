@@ -1,5 +1,5 @@
 -- `definitions::again` meets its contract: it finds through the index. Assumes nothing.
-use Rattle.defining_checks.proofs.Throughs.{through-one, through-found}
+use Rattle.indexes.proofs.Throughs.{through-one, through-found}
 use Rattle.defining_checks.proofs.Naming.{again-found}
 use borrow.Author.Needs.{needs}
 use Rattle.defining_checks.proofs.definitions.again.Statement.{statement}

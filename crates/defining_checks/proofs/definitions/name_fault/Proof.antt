@@ -1,6 +1,6 @@
 -- `definitions::name_fault` meets its contract: 8 comes before 9, which is sought where there is no 8. Assumes nothing.
 use native.Mathlib.Omega.{arith}
-use Rattle.defining_checks.proofs.Throughs.{through-one, through-two}
+use Rattle.indexes.proofs.Throughs.{through-one, through-two, through-first, through-second}
 use Rattle.defining_checks.proofs.Turns.{name-again, name-new}
 use borrow.Author.Needs.{needs}
 use Rattle.defining_checks.proofs.definitions.name_fault.Statement.{statement}
@@ -38,10 +38,10 @@ sooner-requires-2 : tie.Need-sooner-requires-2
 sooner-requires-2 c κs = search needs
 
 returns : tie.Need-returns
-returns c = through-one (name-again _ _ _ _ _ (c .before .before .before .before .before .cell-of .ensures) (c .before .before .before .before .fault-if .ensures) _ _ _ ((c .before .enum-told .given) .1) (c .sooner .ensures)) (c .before .before .before .again .ensures)
+returns c = through-one (name-again _ _ _ _ _ (c .before .before .before .before .before .cell-of .ensures) (c .before .before .before .before .fault-if .ensures) _ _ _ ((c .before .enum-told .given) .1) (c .sooner .ensures)) (through-first (c .before .before .before .again .ensures))
 
 returns-2 : tie.Need-returns-2
-returns-2 c = through-two (omega arith) (name-new _ _ _ _ _ (c .before .before .before .before .before .before .cell-of .ensures) (c .before .before .before .before .before .fault-if .ensures) _ _ _ ((c .before .before .enum-told2 .given) .1) (c .sooner2 .ensures)) (c .before .before .before .before .again .ensures) (c .before .type-fault .ensures)
+returns-2 c = through-two (omega arith) (name-new _ _ _ _ _ (c .before .before .before .before .before .before .cell-of .ensures) (c .before .before .before .before .before .fault-if .ensures) _ _ _ ((c .before .before .enum-told2 .given) .1) (c .sooner2 .ensures)) (through-first (c .before .before .before .before .again .ensures)) (through-second (c .before .type-fault .ensures))
 
 pub name-fault-spec : {M : Type 1} → statement M
 name-fault-spec =

@@ -1,5 +1,5 @@
 -- `definitions::row_fault` meets its contract: the faults of its three parts. Assumes nothing.
-use Rattle.defining_checks.proofs.Throughs.{through-one}
+use Rattle.indexes.proofs.Throughs.{through-one}
 use Rattle.defining_checks.proofs.Turns.{row-all}
 use borrow.Author.Needs.{needs}
 use Rattle.defining_checks.proofs.definitions.row_fault.Statement.{statement}

@@ -1,5 +1,5 @@
 -- `definitions::type_fault` meets its contract: the first row of the list with the name is under another value. Assumes nothing.
-use Rattle.defining_checks.proofs.Throughs.{through, through-one, through-found}
+use Rattle.indexes.proofs.Throughs.{through, through-one, through-found}
 use Rattle.defining_checks.proofs.Naming.{type-zero, type-none, type-some}
 use borrow.Author.Needs.{needs}
 use Rattle.defining_checks.proofs.definitions.type_fault.Statement.{statement}

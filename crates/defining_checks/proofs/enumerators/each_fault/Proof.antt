@@ -1,7 +1,8 @@
 -- `enumerators::each_fault` meets its contract: row by row, through the index. Assumes nothing.
-use Rattle.defining_checks.proofs.Throughs.{through, through-one, through-two}
+use Rattle.indexes.proofs.Throughs.{through, through-one, through-two}
 use Rattle.defining_checks.proofs.Turns.{choices-start, choices-more, choices-end}
-use Rattle.defining_checks.specs.Promises.{Through, EnumeratorsFault}
+use Rattle.defining_checks.specs.Promises.{EnumeratorsFault}
+use Rattle.indexes.specs.Indexing.{Through, By}
 use native.Mathlib.Omega.{arith}
 use Prim.Native.Nat.{_-_, _≤_}
 use Rattle.defining_checks.proofs.enumerators.each_fault.Statement.{statement}
@@ -12,7 +13,7 @@ use Rattle.defining_checks.proofs.enumerators.row_fault.Reads as row-fa
 use Rattle.rows.proofs.faults.sooner.Reads as sooner-reads
 
 abbrev Inv-loop : tie.InvT-loop
-Inv-loop text e n x best₀ j₀ best j = (j ≤ n) × Through text e 3 1 x n (EnumeratorsFault text e j best)
+Inv-loop text e n x best₀ j₀ best j = (j ≤ n) × Through (By text e 3 0 1 x) n (EnumeratorsFault text e j best)
 
 abbrev μ-loop : tie.MeasureT-loop
 μ-loop text e n x best₀ j₀ best j = n - j

@@ -1,5 +1,5 @@
 -- `enumerators::indexed_fault` meets its contract: the index is made first. Assumes nothing.
-use Rattle.defining_checks.proofs.Throughs.{through-made}
+use Rattle.indexes.proofs.Throughs.{through-made}
 use borrow.Author.Needs.{needs}
 use Rattle.defining_checks.proofs.enumerators.indexed_fault.Statement.{statement}
 use Rattle.defining_checks.proofs.enumerators.indexed_fault.Tie as tie
@@ -21,7 +21,7 @@ same-length-2 : tie.Need-same-length-2
 same-length-2 c = search needs
 
 returns : tie.Need-returns
-returns c = through-made _ _ _ _ _ _ _ _ (c .before .before .before .before .before .before .before .before .before .before .before .before .before .pre) (c .before .before .before .before .before .before .index .ensures) (c .each-fault .ensures)
+returns c = through-made _ _ _ _ _ _ _ _ _ (c .before .before .before .before .before .before .before .before .before .before .before .before .before .pre) (c .before .before .before .before .before .before .index .ensures) (c .each-fault .ensures)
 
 pub indexed-fault-spec : {M : Type 1} → statement M
 indexed-fault-spec =

@@ -1,5 +1,5 @@
 -- `enumerators::row_fault` meets its contract: it finds through the index. Assumes nothing.
-use Rattle.defining_checks.proofs.Throughs.{through-one, through-found}
+use Rattle.indexes.proofs.Throughs.{through-one, through-found}
 use Rattle.defining_checks.proofs.Turns.{enumerator-is}
 use borrow.Author.Needs.{needs}
 use Rattle.defining_checks.proofs.enumerators.row_fault.Statement.{statement}

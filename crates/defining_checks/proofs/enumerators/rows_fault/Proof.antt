@@ -1,5 +1,5 @@
 -- `enumerators::rows_fault` meets its contract: the room for the index is large enough. Assumes nothing.
-use Rattle.defining_checks.proofs.Throughs.{room-long, room-fits}
+use Rattle.indexes.proofs.Throughs.{room-long, room-fits}
 use native.Mathlib.Omega.{arith}
 use borrow.Author.Needs.{needs}
 use Rattle.defining_checks.proofs.enumerators.rows_fault.Statement.{statement}

@@ -1,35 +1,20 @@
--- `judging::names::is_before` meets its contract.
--- Assumes nothing.
-use Rattle.judging.proofs.Naming.{row-stated, statement-hashes}
+use Rattle.judging.proofs.Naming.{statement-stated}
 use borrow.Author.Needs.{needs}
 use Rattle.judging.proofs.names.is_before.Statement.{statement}
 use Rattle.judging.proofs.names.is_before.Tie as tie
+use Rattle.judging.proofs.names.is_before.Reads as reads
+use Rattle.judging.proofs.names.is_before.Lts as lts
+use Rattle.judging.proofs.names.cells_from.Reads as cells-from-reads
+use Rattle.lookups.proofs.is_row_stated.Reads as is-row-stated-reads
 
 cells-from-requires : tie.Need-cells-from-requires
 cells-from-requires c κs = search needs
 
-name-hash-requires : tie.Need-name-hash-requires
-name-hash-requires c κs = search needs
-
-cell-at-requires : tie.Need-cell-at-requires
-cell-at-requires c κs = search needs
-
-cell-at-requires-2 : tie.Need-cell-at-requires-2
-cell-at-requires-2 c κs = search needs
-
-is-stated-requires : tie.Need-is-stated-requires
-is-stated-requires c κs = search needs
+is-row-stated-requires : tie.Need-is-row-stated-requires
+is-row-stated-requires c κs = search needs
 
 returns : tie.Need-returns
-returns c = row-stated _ _ _ _ _ 7 0 _ _ _ _ _ _ _ (statement-hashes _ _ _ _ (c .before .before .before .before .before .before .before .before .before .pre) _ (c .before .before .before .before .cells-from .ensures)) (statement-hashes _ _ _ _ (c .before .before .before .before .before .before .before .before .before .pre) _ (c .before .before .before .before .cells-from .ensures)) (c .before .before .before .name-hash .ensures) (c .before .before .cell-at .ensures) (c .before .cell-at2 .ensures) (c .is-stated .ensures)
+returns c = statement-stated _ _ _ _ (c .before .before .before .before .before .before .pre) _ _ _ _ _ (c .before .cells-from .ensures) (c .is-row-stated .ensures)
 
 pub is-before-spec : {M : Type 1} → statement M
-is-before-spec =
-    tie.close
-    (tie.spec
-    cells-from-requires
-    name-hash-requires
-    cell-at-requires
-    cell-at-requires-2
-    is-stated-requires
-    returns)
+is-before-spec = tie.close (tie.spec cells-from-requires is-row-stated-requires returns)

@@ -11,7 +11,7 @@ cell-at-requires : tie.Need-cell-at-requires
 cell-at-requires c κs = search needs
 
 again-requires : tie.Need-again-requires
-again-requires c κs = (c .before .before .before .before .before .before .before .before .pre .1 .hashes)
+again-requires c κs = (c .before .before .before .before .before .before .before .before .pre .1 .ranks)
 
 fault-if-requires : tie.Need-fault-if-requires
 fault-if-requires c κs = search needs

@@ -1,10 +1,10 @@
 -- The functions of the cycle that resolves a scope meet their contracts: under an attribute stand only rows before it.
 -- Assumes nothing.
-use Rattle.resolving.proofs.Passing.{after-grows, finds-hashed, is-hashed, goes-pass, resolves-past, resolves-full}
+use Rattle.resolving.proofs.Passing.{after-grows, finds-ranked, goes-pass, resolves-past, resolves-full}
 use Rattle.resolving.proofs.Namings.{word-is}
-use Rattle.resolving.proofs.Statings.{States, states-start, states-none, states-out, states-more, states-end}
+use Rattle.resolving.proofs.Statings.{States, states-start, states-none, states-out, states-more, states-end, row-found, row-missing}
 use Rattle.resolving.proofs.Entrances.{enter-full, enter-more, stated-this, default-none, default-not, default-taken}
-use Rattle.resolving.proofs.Turns.{row-stated, row-default, Goes, goes-start, goes-more, goes-end, resolves-none}
+use Rattle.resolving.proofs.Turns.{Goes, goes-start, goes-more, goes-end, resolves-none}
 use native.Mathlib.Omega.{arith}
 use borrow.Author.Needs.{needs}
 use mathlib.Core.Path.{_≡_, refl}
@@ -33,9 +33,7 @@ use Rattle.resolving.proofs.entering.resolve_stated.Kinds as resolve-st
 use Rattle.resolving.proofs.entering.+enter+enter_stated+resolve+resolve_default+resolve_row+resolve_stated.Lts-resolve_stated as resolve-stated-lts
 use Rattle.blocks.proofs.after.Reads as after-reads
 use Rattle.blocks.proofs.cell_at.Reads as cell-at-reads
-use Rattle.lookups.proofs.is_stated.Reads as is-stated-reads
-use Rattle.lookups.proofs.name_hash.Reads as name-hash-reads
-use Rattle.lookups.proofs.stated.Reads as stated-reads
+use Rattle.lookups.proofs.row_stated.Reads as row-stated-reads
 use Rattle.resolving.proofs.scanning.next_row.Reads as next-row-reads
 use Rattle.resolving.proofs.values.put_value.Reads as put-value-reads
 use Rattle.resolving.proofs.words.word_of.Reads as word-of-reads
@@ -247,10 +245,10 @@ enter-stated-returns : (t : ℕ) → enter-stated-lts.Need-returns (
 enter-stated-returns t c = stated-this (c .before .before .before .before .before .before .cell-at .ensures) (c .before .before .before .before .before .cell-at2 .ensures) (c .before .before .before .before .cell-at3 .ensures) (c .before .before .enter .ensures)
 
 abbrev resolve-Inv-loop : resolve-lts.InvT-loop
-resolve-Inv-loop text d e o st known noted xe xo hs hd v₀ z limit key from end w n m₀ j₀ v m j = (length v ≡ length v₀) × ((j ≤ limit) × ((j < limit → getD d (j * 19 + 0) 0 ≡ key) × Goes text d e o st v₀ z limit key from end w n v m j))
+resolve-Inv-loop text d e o st known noted xe xo rs rd v₀ z limit key from end w n m₀ j₀ v m j = (length v ≡ length v₀) × ((j ≤ limit) × ((j < limit → getD d (j * 19 + 0) 0 ≡ key) × Goes text d e o st v₀ z limit key from end w n v m j))
 
 abbrev resolve-μ-loop : resolve-lts.MeasureT-loop
-resolve-μ-loop text d e o st known noted xe xo hs hd v₀ z limit key from end w n m₀ j₀ v m j = limit - j
+resolve-μ-loop text d e o st known noted xe xo rs rd v₀ z limit key from end w n m₀ j₀ v m j = limit - j
 
 resolve-returns : (t : ℕ) → resolve-lts.Need-returns (
   next-row-reads.Asked,
@@ -282,7 +280,7 @@ resolve-next-row-requires : (t : ℕ) → resolve-lts.Need-next-row-requires (
   resolve-row-below t,
   resolve-row.Post,
 ) (resolve-at t) resolve.Post resolve-Inv-loop resolve-μ-loop
-resolve-next-row-requires t c κs = (omega arith, (omega arith, (c .before .before .before .before .before .before .before .before .before .before .before .before .before .before .before .pre .1 .hashes)))
+resolve-next-row-requires t c κs = (omega arith, (omega arith, (c .before .before .before .before .before .before .before .before .before .before .before .before .before .before .before .pre .1 .ranks)))
 
 resolve-loop-holds : (t : ℕ) → resolve-lts.Need-loop-holds (
   next-row-reads.Asked,
@@ -314,7 +312,7 @@ resolve-next-row-requires-2 : (t : ℕ) → resolve-lts.Need-next-row-requires-2
   resolve-row-below t,
   resolve-row.Post,
 ) (resolve-at t) resolve.Post resolve-Inv-loop resolve-μ-loop
-resolve-next-row-requires-2 t c κs = (omega arith, (omega arith, (c .before .before .before .before .before .before .before .before .before .before .before .before .before .before .before .before .before .before .before .before .before .before .pre .1 .hashes)))
+resolve-next-row-requires-2 t c κs = (omega arith, (omega arith, (c .before .before .before .before .before .before .before .before .before .before .before .before .before .before .before .before .before .before .before .before .before .before .pre .1 .ranks)))
 
 resolve-loop-less : (t : ℕ) → resolve-lts.Need-loop-less (
   next-row-reads.Asked,
@@ -412,201 +410,105 @@ resolve-default-returns-3 : (t : ℕ) → resolve-default-lts.Need-returns-3 (
 ) (resolve-default-at t) resolve-default.Post
 resolve-default-returns-3 t c = default-taken (c .before .before .before .before .before .before .before .before .cell-at .ensures) (c .before .before .before .before .before .before .before .if1 .left) (c .before .before .before .before .before .before .cell-at2 .ensures) (c .before .before .before .before .before .if2 .left) (c .before .before .before .before .cell-at3 .ensures) (c .before .before .enter .ensures)
 
-resolve-row-cell-at-requires : (t : ℕ) → resolve-row-lts.Need-cell-at-requires (
-  cell-at-reads.Asked,
-  cell-at-reads.Learnt,
-  name-hash-reads.Asked,
-  name-hash-reads.Learnt,
-  is-stated-reads.Asked,
-  is-stated-reads.Learnt,
-  resolve-stated-below t,
-  resolve-stated.Post,
+resolve-row-row-stated-requires : (t : ℕ) → resolve-row-lts.Need-row-stated-requires (
+  row-stated-reads.Asked,
+  row-stated-reads.Learnt,
   resolve-default-below t,
   resolve-default.Post,
+  resolve-stated-below t,
+  resolve-stated.Post,
 ) (resolve-row-at t) resolve-row.Post
-resolve-row-cell-at-requires t c κs = tt
+resolve-row-row-stated-requires t c κs = tt
 
-resolve-row-cell-at-requires-2 : (t : ℕ) → resolve-row-lts.Need-cell-at-requires-2 (
-  cell-at-reads.Asked,
-  cell-at-reads.Learnt,
-  name-hash-reads.Asked,
-  name-hash-reads.Learnt,
-  is-stated-reads.Asked,
-  is-stated-reads.Learnt,
-  resolve-stated-below t,
-  resolve-stated.Post,
+resolve-row-enum-known-k : (t : ℕ) → resolve-row-lts.Need-enum-known-k (
+  row-stated-reads.Asked,
+  row-stated-reads.Learnt,
   resolve-default-below t,
   resolve-default.Post,
+  resolve-stated-below t,
+  resolve-stated.Post,
 ) (resolve-row-at t) resolve-row.Post
-resolve-row-cell-at-requires-2 t c κs = tt
+resolve-row-enum-known-k t c = search needs
 
-resolve-row-name-hash-requires : (t : ℕ) → resolve-row-lts.Need-name-hash-requires (
-  cell-at-reads.Asked,
-  cell-at-reads.Learnt,
-  name-hash-reads.Asked,
-  name-hash-reads.Learnt,
-  is-stated-reads.Asked,
-  is-stated-reads.Learnt,
-  resolve-stated-below t,
-  resolve-stated.Post,
+resolve-row-enum-told : (t : ℕ) → resolve-row-lts.Need-enum-told (
+  row-stated-reads.Asked,
+  row-stated-reads.Learnt,
   resolve-default-below t,
   resolve-default.Post,
+  resolve-stated-below t,
+  resolve-stated.Post,
 ) (resolve-row-at t) resolve-row.Post
-resolve-row-name-hash-requires t c κs = tt
+resolve-row-enum-told t c = search needs
 
-resolve-row-is-stated-requires : (t : ℕ) → resolve-row-lts.Need-is-stated-requires (
-  cell-at-reads.Asked,
-  cell-at-reads.Learnt,
-  name-hash-reads.Asked,
-  name-hash-reads.Learnt,
-  is-stated-reads.Asked,
-  is-stated-reads.Learnt,
-  resolve-stated-below t,
-  resolve-stated.Post,
+resolve-row-resolve-default-requires : (t : ℕ) → resolve-row-lts.Need-resolve-default-requires (
+  row-stated-reads.Asked,
+  row-stated-reads.Learnt,
   resolve-default-below t,
   resolve-default.Post,
-) (resolve-row-at t) resolve-row.Post
-resolve-row-is-stated-requires t c κs = tt
-
-resolve-row-resolve-stated-requires : (t : ℕ) → resolve-row-lts.Need-resolve-stated-requires (
-  cell-at-reads.Asked,
-  cell-at-reads.Learnt,
-  name-hash-reads.Asked,
-  name-hash-reads.Learnt,
-  is-stated-reads.Asked,
-  is-stated-reads.Learnt,
   resolve-stated-below t,
   resolve-stated.Post,
-  resolve-default-below t,
-  resolve-default.Post,
 ) (resolve-row-at t) resolve-row.Post
-resolve-row-resolve-stated-requires t c κs = (omega arith, (c .before .before .before .before .before .before .before .before .before .before .before .before .before .before .before .before .before .before .pre .1))
+resolve-row-resolve-default-requires t c κs = (omega arith, (c .before .before .before .before .before .before .before .before .before .before .before .before .before .before .before .before .pre .1))
 
 resolve-row-same-length : (t : ℕ) → resolve-row-lts.Need-same-length (
-  cell-at-reads.Asked,
-  cell-at-reads.Learnt,
-  name-hash-reads.Asked,
-  name-hash-reads.Learnt,
-  is-stated-reads.Asked,
-  is-stated-reads.Learnt,
-  resolve-stated-below t,
-  resolve-stated.Post,
+  row-stated-reads.Asked,
+  row-stated-reads.Learnt,
   resolve-default-below t,
   resolve-default.Post,
+  resolve-stated-below t,
+  resolve-stated.Post,
 ) (resolve-row-at t) resolve-row.Post
 resolve-row-same-length t c = omega arith
 
 resolve-row-returns : (t : ℕ) → resolve-row-lts.Need-returns (
-  cell-at-reads.Asked,
-  cell-at-reads.Learnt,
-  name-hash-reads.Asked,
-  name-hash-reads.Learnt,
-  is-stated-reads.Asked,
-  is-stated-reads.Learnt,
-  resolve-stated-below t,
-  resolve-stated.Post,
+  row-stated-reads.Asked,
+  row-stated-reads.Learnt,
   resolve-default-below t,
   resolve-default.Post,
+  resolve-stated-below t,
+  resolve-stated.Post,
 ) (resolve-row-at t) resolve-row.Post
-resolve-row-returns t c = row-stated (c .before .before .before .before .before .before .before .before .cell-at .ensures) (c .before .before .before .before .before .before .before .cell-at2 .ensures) (is-hashed (c .before .before .before .before .before .before .before .before .before .before .before .before .before .before .before .before .before .before .before .before .before .pre .1 .hashes) _ _ _ _ (c .before .before .before .before .before .before .before .before .cell-at .ensures) (c .before .before .before .before .before .before .before .cell-at2 .ensures) (c .before .before .before .before .before .before .name-hash .ensures) _ _ _ (c .before .before .before .before .before .is-stated .ensures)) (c .before .before .before .before .if1 .taken) (c .before .before .resolve-stated .ensures)
+resolve-row-returns t c = row-missing (finds-ranked ((c .before .before .before .before .before .before .before .before .before .before .before .before .before .before .before .before .before .before .before .pre .1) .ranks) _ _ _ _ (c .before .before .before .before .before .before .row-stated .ensures)) ((c .before .before .before .before .enum-told .given) .1) (c .before .before .resolve-default .ensures)
 
-resolve-row-resolve-default-requires : (t : ℕ) → resolve-row-lts.Need-resolve-default-requires (
-  cell-at-reads.Asked,
-  cell-at-reads.Learnt,
-  name-hash-reads.Asked,
-  name-hash-reads.Learnt,
-  is-stated-reads.Asked,
-  is-stated-reads.Learnt,
-  resolve-stated-below t,
-  resolve-stated.Post,
+resolve-row-resolve-stated-requires : (t : ℕ) → resolve-row-lts.Need-resolve-stated-requires (
+  row-stated-reads.Asked,
+  row-stated-reads.Learnt,
   resolve-default-below t,
   resolve-default.Post,
+  resolve-stated-below t,
+  resolve-stated.Post,
 ) (resolve-row-at t) resolve-row.Post
-resolve-row-resolve-default-requires t c κs = (omega arith, (c .before .before .before .before .before .before .before .before .before .before .before .before .before .before .before .before .before .before .pre .1))
+resolve-row-resolve-stated-requires t c κs = (omega arith, (c .before .before .before .before .before .before .before .before .before .before .before .before .before .before .before .before .before .pre .1))
 
 resolve-row-same-length-2 : (t : ℕ) → resolve-row-lts.Need-same-length-2 (
-  cell-at-reads.Asked,
-  cell-at-reads.Learnt,
-  name-hash-reads.Asked,
-  name-hash-reads.Learnt,
-  is-stated-reads.Asked,
-  is-stated-reads.Learnt,
-  resolve-stated-below t,
-  resolve-stated.Post,
+  row-stated-reads.Asked,
+  row-stated-reads.Learnt,
   resolve-default-below t,
   resolve-default.Post,
+  resolve-stated-below t,
+  resolve-stated.Post,
 ) (resolve-row-at t) resolve-row.Post
 resolve-row-same-length-2 t c = omega arith
 
 resolve-row-returns-2 : (t : ℕ) → resolve-row-lts.Need-returns-2 (
-  cell-at-reads.Asked,
-  cell-at-reads.Learnt,
-  name-hash-reads.Asked,
-  name-hash-reads.Learnt,
-  is-stated-reads.Asked,
-  is-stated-reads.Learnt,
-  resolve-stated-below t,
-  resolve-stated.Post,
+  row-stated-reads.Asked,
+  row-stated-reads.Learnt,
   resolve-default-below t,
   resolve-default.Post,
+  resolve-stated-below t,
+  resolve-stated.Post,
 ) (resolve-row-at t) resolve-row.Post
-resolve-row-returns-2 t c = row-default (c .before .before .before .before .before .before .before .before .cell-at .ensures) (c .before .before .before .before .before .before .before .cell-at2 .ensures) (is-hashed (c .before .before .before .before .before .before .before .before .before .before .before .before .before .before .before .before .before .before .before .before .before .pre .1 .hashes) _ _ _ _ (c .before .before .before .before .before .before .before .before .cell-at .ensures) (c .before .before .before .before .before .before .before .cell-at2 .ensures) (c .before .before .before .before .before .before .name-hash .ensures) _ _ _ (c .before .before .before .before .before .is-stated .ensures)) (c .before .before .before .before .if1 .left) (c .before .before .resolve-default .ensures)
+resolve-row-returns-2 t c = row-found (finds-ranked ((c .before .before .before .before .before .before .before .before .before .before .before .before .before .before .before .before .before .before .before .before .pre .1) .ranks) _ _ _ _ (c .before .before .before .before .before .before .before .row-stated .ensures)) ((c .before .before .before .before .before .k .given) .1) (c .before .before .resolve-stated .ensures)
 
 abbrev resolve-stated-Inv-loop : resolve-stated-lts.InvT-loop
-resolve-stated-Inv-loop text d e o st known noted xe xo hs hd v₀ z j from end w n name len hash m₀ k₀ v m k = (length v ≡ length v₀) × States text d e o st v₀ z j from end w n v m k
+resolve-stated-Inv-loop text d e o st known noted xe xo rs rd v₀ z j from end w n m₀ k₀ v m k = (length v ≡ length v₀) × States text d e o st v₀ z j from end w n v m k
 
 abbrev resolve-stated-μ-loop : resolve-stated-lts.MeasureT-loop
-resolve-stated-μ-loop text d e o st known noted xe xo hs hd v₀ z j from end w n name len hash m₀ k₀ v m k = end - k
-
-resolve-stated-cell-at-requires : (t : ℕ) → resolve-stated-lts.Need-cell-at-requires (
-  cell-at-reads.Asked,
-  cell-at-reads.Learnt,
-  name-hash-reads.Asked,
-  name-hash-reads.Learnt,
-  stated-reads.Asked,
-  stated-reads.Learnt,
-  after-reads.Asked,
-  after-reads.Learnt,
-  enter-stated-below t,
-  enter-stated.Post,
-) (resolve-stated-at t) resolve-stated.Post resolve-stated-Inv-loop resolve-stated-μ-loop
-resolve-stated-cell-at-requires t c κs = tt
-
-resolve-stated-cell-at-requires-2 : (t : ℕ) → resolve-stated-lts.Need-cell-at-requires-2 (
-  cell-at-reads.Asked,
-  cell-at-reads.Learnt,
-  name-hash-reads.Asked,
-  name-hash-reads.Learnt,
-  stated-reads.Asked,
-  stated-reads.Learnt,
-  after-reads.Asked,
-  after-reads.Learnt,
-  enter-stated-below t,
-  enter-stated.Post,
-) (resolve-stated-at t) resolve-stated.Post resolve-stated-Inv-loop resolve-stated-μ-loop
-resolve-stated-cell-at-requires-2 t c κs = tt
-
-resolve-stated-name-hash-requires : (t : ℕ) → resolve-stated-lts.Need-name-hash-requires (
-  cell-at-reads.Asked,
-  cell-at-reads.Learnt,
-  name-hash-reads.Asked,
-  name-hash-reads.Learnt,
-  stated-reads.Asked,
-  stated-reads.Learnt,
-  after-reads.Asked,
-  after-reads.Learnt,
-  enter-stated-below t,
-  enter-stated.Post,
-) (resolve-stated-at t) resolve-stated.Post resolve-stated-Inv-loop resolve-stated-μ-loop
-resolve-stated-name-hash-requires t c κs = tt
+resolve-stated-μ-loop text d e o st known noted xe xo rs rd v₀ z j from end w n m₀ k₀ v m k = end - k
 
 resolve-stated-loop-holds : (t : ℕ) → resolve-stated-lts.Need-loop-holds (
-  cell-at-reads.Asked,
-  cell-at-reads.Learnt,
-  name-hash-reads.Asked,
-  name-hash-reads.Learnt,
-  stated-reads.Asked,
-  stated-reads.Learnt,
+  row-stated-reads.Asked,
+  row-stated-reads.Learnt,
   after-reads.Asked,
   after-reads.Learnt,
   enter-stated-below t,
@@ -614,27 +516,19 @@ resolve-stated-loop-holds : (t : ℕ) → resolve-stated-lts.Need-loop-holds (
 ) (resolve-stated-at t) resolve-stated.Post resolve-stated-Inv-loop resolve-stated-μ-loop
 resolve-stated-loop-holds t c = (refl, states-start)
 
-resolve-stated-stated-requires : (t : ℕ) → resolve-stated-lts.Need-stated-requires (
-  cell-at-reads.Asked,
-  cell-at-reads.Learnt,
-  name-hash-reads.Asked,
-  name-hash-reads.Learnt,
-  stated-reads.Asked,
-  stated-reads.Learnt,
+resolve-stated-row-stated-requires : (t : ℕ) → resolve-stated-lts.Need-row-stated-requires (
+  row-stated-reads.Asked,
+  row-stated-reads.Learnt,
   after-reads.Asked,
   after-reads.Learnt,
   enter-stated-below t,
   enter-stated.Post,
 ) (resolve-stated-at t) resolve-stated.Post resolve-stated-Inv-loop resolve-stated-μ-loop
-resolve-stated-stated-requires t c κs = tt
+resolve-stated-row-stated-requires t c κs = tt
 
 resolve-stated-enum-known-i : (t : ℕ) → resolve-stated-lts.Need-enum-known-i (
-  cell-at-reads.Asked,
-  cell-at-reads.Learnt,
-  name-hash-reads.Asked,
-  name-hash-reads.Learnt,
-  stated-reads.Asked,
-  stated-reads.Learnt,
+  row-stated-reads.Asked,
+  row-stated-reads.Learnt,
   after-reads.Asked,
   after-reads.Learnt,
   enter-stated-below t,
@@ -643,12 +537,8 @@ resolve-stated-enum-known-i : (t : ℕ) → resolve-stated-lts.Need-enum-known-i
 resolve-stated-enum-known-i t c = search needs
 
 resolve-stated-enum-told : (t : ℕ) → resolve-stated-lts.Need-enum-told (
-  cell-at-reads.Asked,
-  cell-at-reads.Learnt,
-  name-hash-reads.Asked,
-  name-hash-reads.Learnt,
-  stated-reads.Asked,
-  stated-reads.Learnt,
+  row-stated-reads.Asked,
+  row-stated-reads.Learnt,
   after-reads.Asked,
   after-reads.Learnt,
   enter-stated-below t,
@@ -657,12 +547,8 @@ resolve-stated-enum-told : (t : ℕ) → resolve-stated-lts.Need-enum-told (
 resolve-stated-enum-told t c = search needs
 
 resolve-stated-same-length : (t : ℕ) → resolve-stated-lts.Need-same-length (
-  cell-at-reads.Asked,
-  cell-at-reads.Learnt,
-  name-hash-reads.Asked,
-  name-hash-reads.Learnt,
-  stated-reads.Asked,
-  stated-reads.Learnt,
+  row-stated-reads.Asked,
+  row-stated-reads.Learnt,
   after-reads.Asked,
   after-reads.Learnt,
   enter-stated-below t,
@@ -671,26 +557,18 @@ resolve-stated-same-length : (t : ℕ) → resolve-stated-lts.Need-same-length (
 resolve-stated-same-length t c = (c .before .before .before .before .loop .inv) .0
 
 resolve-stated-returns : (t : ℕ) → resolve-stated-lts.Need-returns (
-  cell-at-reads.Asked,
-  cell-at-reads.Learnt,
-  name-hash-reads.Asked,
-  name-hash-reads.Learnt,
-  stated-reads.Asked,
-  stated-reads.Learnt,
+  row-stated-reads.Asked,
+  row-stated-reads.Learnt,
   after-reads.Asked,
   after-reads.Learnt,
   enter-stated-below t,
   enter-stated.Post,
 ) (resolve-stated-at t) resolve-stated.Post resolve-stated-Inv-loop resolve-stated-μ-loop
-resolve-stated-returns t c = states-none (c .before .before .before .before .before .before .before .cell-at .ensures) (c .before .before .before .before .before .before .cell-at2 .ensures) ((c .before .before .before .before .loop .inv) .1) (finds-hashed (c .before .before .before .before .before .before .before .before .before .before .before .before .before .before .before .before .before .before .before .before .pre .1 .hashes) _ _ _ _ (c .before .before .before .before .before .before .before .cell-at .ensures) (c .before .before .before .before .before .before .cell-at2 .ensures) (c .before .before .before .before .before .name-hash .ensures) _ _ _ (c .before .before .stated .ensures)) ((c .enum-told .given) .1)
+resolve-stated-returns t c = states-none refl refl ((c .before .before .before .before .loop .inv) .1) (finds-ranked ((c .before .before .before .before .before .before .before .before .before .before .before .before .before .before .before .before .before .pre .1) .ranks) _ _ _ _ (c .before .before .row-stated .ensures)) ((c .enum-told .given) .1)
 
 resolve-stated-same-length-2 : (t : ℕ) → resolve-stated-lts.Need-same-length-2 (
-  cell-at-reads.Asked,
-  cell-at-reads.Learnt,
-  name-hash-reads.Asked,
-  name-hash-reads.Learnt,
-  stated-reads.Asked,
-  stated-reads.Learnt,
+  row-stated-reads.Asked,
+  row-stated-reads.Learnt,
   after-reads.Asked,
   after-reads.Learnt,
   enter-stated-below t,
@@ -699,26 +577,18 @@ resolve-stated-same-length-2 : (t : ℕ) → resolve-stated-lts.Need-same-length
 resolve-stated-same-length-2 t c = (c .before .before .before .before .before .before .loop .inv) .0
 
 resolve-stated-returns-2 : (t : ℕ) → resolve-stated-lts.Need-returns-2 (
-  cell-at-reads.Asked,
-  cell-at-reads.Learnt,
-  name-hash-reads.Asked,
-  name-hash-reads.Learnt,
-  stated-reads.Asked,
-  stated-reads.Learnt,
+  row-stated-reads.Asked,
+  row-stated-reads.Learnt,
   after-reads.Asked,
   after-reads.Learnt,
   enter-stated-below t,
   enter-stated.Post,
 ) (resolve-stated-at t) resolve-stated.Post resolve-stated-Inv-loop resolve-stated-μ-loop
-resolve-stated-returns-2 t c = states-out (c .before .before .before .before .before .before .before .before .before .cell-at .ensures) (c .before .before .before .before .before .before .before .before .cell-at2 .ensures) ((c .before .before .before .before .before .before .loop .inv) .1) (finds-hashed (c .before .before .before .before .before .before .before .before .before .before .before .before .before .before .before .before .before .before .before .before .before .before .pre .1 .hashes) _ _ _ _ (c .before .before .before .before .before .before .before .before .before .cell-at .ensures) (c .before .before .before .before .before .before .before .before .cell-at2 .ensures) (c .before .before .before .before .before .before .before .name-hash .ensures) _ _ _ (c .before .before .before .before .stated .ensures)) ((c .before .before .i .given) .1) (λ q. omega arith)
+resolve-stated-returns-2 t c = states-out refl refl ((c .before .before .before .before .before .before .loop .inv) .1) (finds-ranked ((c .before .before .before .before .before .before .before .before .before .before .before .before .before .before .before .before .before .before .before .pre .1) .ranks) _ _ _ _ (c .before .before .before .before .row-stated .ensures)) ((c .before .before .i .given) .1) (λ q. omega arith)
 
 resolve-stated-same-length-3 : (t : ℕ) → resolve-stated-lts.Need-same-length-3 (
-  cell-at-reads.Asked,
-  cell-at-reads.Learnt,
-  name-hash-reads.Asked,
-  name-hash-reads.Learnt,
-  stated-reads.Asked,
-  stated-reads.Learnt,
+  row-stated-reads.Asked,
+  row-stated-reads.Learnt,
   after-reads.Asked,
   after-reads.Learnt,
   enter-stated-below t,
@@ -727,26 +597,18 @@ resolve-stated-same-length-3 : (t : ℕ) → resolve-stated-lts.Need-same-length
 resolve-stated-same-length-3 t c = (c .before .before .before .before .before .before .before .loop .inv) .0
 
 resolve-stated-returns-3 : (t : ℕ) → resolve-stated-lts.Need-returns-3 (
-  cell-at-reads.Asked,
-  cell-at-reads.Learnt,
-  name-hash-reads.Asked,
-  name-hash-reads.Learnt,
-  stated-reads.Asked,
-  stated-reads.Learnt,
+  row-stated-reads.Asked,
+  row-stated-reads.Learnt,
   after-reads.Asked,
   after-reads.Learnt,
   enter-stated-below t,
   enter-stated.Post,
 ) (resolve-stated-at t) resolve-stated.Post resolve-stated-Inv-loop resolve-stated-μ-loop
-resolve-stated-returns-3 t c = states-out (c .before .before .before .before .before .before .before .before .before .before .cell-at .ensures) (c .before .before .before .before .before .before .before .before .before .cell-at2 .ensures) ((c .before .before .before .before .before .before .before .loop .inv) .1) (finds-hashed (c .before .before .before .before .before .before .before .before .before .before .before .before .before .before .before .before .before .before .before .before .before .before .before .pre .1 .hashes) _ _ _ _ (c .before .before .before .before .before .before .before .before .before .before .cell-at .ensures) (c .before .before .before .before .before .before .before .before .before .cell-at2 .ensures) (c .before .before .before .before .before .before .before .before .name-hash .ensures) _ _ _ (c .before .before .before .before .before .stated .ensures)) ((c .before .before .before .i .given) .1) (λ q. omega arith)
+resolve-stated-returns-3 t c = states-out refl refl ((c .before .before .before .before .before .before .before .loop .inv) .1) (finds-ranked ((c .before .before .before .before .before .before .before .before .before .before .before .before .before .before .before .before .before .before .before .before .pre .1) .ranks) _ _ _ _ (c .before .before .before .before .before .row-stated .ensures)) ((c .before .before .before .i .given) .1) (λ q. omega arith)
 
 resolve-stated-after-requires : (t : ℕ) → resolve-stated-lts.Need-after-requires (
-  cell-at-reads.Asked,
-  cell-at-reads.Learnt,
-  name-hash-reads.Asked,
-  name-hash-reads.Learnt,
-  stated-reads.Asked,
-  stated-reads.Learnt,
+  row-stated-reads.Asked,
+  row-stated-reads.Learnt,
   after-reads.Asked,
   after-reads.Learnt,
   enter-stated-below t,
@@ -755,68 +617,48 @@ resolve-stated-after-requires : (t : ℕ) → resolve-stated-lts.Need-after-requ
 resolve-stated-after-requires t c κs = tt
 
 resolve-stated-add-enter-stated : (t : ℕ) → resolve-stated-lts.Need-add-enter-stated (
-  cell-at-reads.Asked,
-  cell-at-reads.Learnt,
-  name-hash-reads.Asked,
-  name-hash-reads.Learnt,
-  stated-reads.Asked,
-  stated-reads.Learnt,
+  row-stated-reads.Asked,
+  row-stated-reads.Learnt,
   after-reads.Asked,
   after-reads.Learnt,
   enter-stated-below t,
   enter-stated.Post,
 ) (resolve-stated-at t) resolve-stated.Post resolve-stated-Inv-loop resolve-stated-μ-loop
-resolve-stated-add-enter-stated t c = omega (arith, (c .before .before .before .before .before .before .before .before .before .before .before .before .before .before .before .before .before .before .before .before .before .before .before .before .before .fits .end), (c .before .before .if2 .left))
+resolve-stated-add-enter-stated t c = omega arith
 
 resolve-stated-enter-stated-requires : (t : ℕ) → resolve-stated-lts.Need-enter-stated-requires (
-  cell-at-reads.Asked,
-  cell-at-reads.Learnt,
-  name-hash-reads.Asked,
-  name-hash-reads.Learnt,
-  stated-reads.Asked,
-  stated-reads.Learnt,
+  row-stated-reads.Asked,
+  row-stated-reads.Learnt,
   after-reads.Asked,
   after-reads.Learnt,
   enter-stated-below t,
   enter-stated.Post,
 ) (resolve-stated-at t) resolve-stated.Post resolve-stated-Inv-loop resolve-stated-μ-loop
-resolve-stated-enter-stated-requires t c κs = (omega (arith, (c .before .before .before .before .before .before .before .before .before .before .before .before .before .before .before .before .before .before .before .before .before .before .before .before .before .pre .0)), (c .before .before .before .before .before .before .before .before .before .before .before .before .before .before .before .before .before .before .before .before .before .before .before .before .before .pre .1))
+resolve-stated-enter-stated-requires t c κs = (omega (arith, (c .before .before .before .before .before .before .before .before .before .before .before .before .before .before .before .before .before .before .before .before .before .before .pre .0)), (c .before .before .before .before .before .before .before .before .before .before .before .before .before .before .before .before .before .before .before .before .before .before .pre .1))
 
 resolve-stated-loop-less : (t : ℕ) → resolve-stated-lts.Need-loop-less (
-  cell-at-reads.Asked,
-  cell-at-reads.Learnt,
-  name-hash-reads.Asked,
-  name-hash-reads.Learnt,
-  stated-reads.Asked,
-  stated-reads.Learnt,
+  row-stated-reads.Asked,
+  row-stated-reads.Learnt,
   after-reads.Asked,
   after-reads.Learnt,
   enter-stated-below t,
   enter-stated.Post,
 ) (resolve-stated-at t) resolve-stated.Post resolve-stated-Inv-loop resolve-stated-μ-loop
-resolve-stated-loop-less t c = omega (arith, (c .before .before .before .before .before .before .if1 .left), after-grows _ _ _ _ (c .before .before .before .before .after .ensures) (c .before .before .before .before .before .if2 .left))
+resolve-stated-loop-less t c = omega (arith, after-grows _ _ _ _ (c .before .before .before .before .after .ensures) (omega arith))
 
 resolve-stated-loop-again : (t : ℕ) → resolve-stated-lts.Need-loop-again (
-  cell-at-reads.Asked,
-  cell-at-reads.Learnt,
-  name-hash-reads.Asked,
-  name-hash-reads.Learnt,
-  stated-reads.Asked,
-  stated-reads.Learnt,
+  row-stated-reads.Asked,
+  row-stated-reads.Learnt,
   after-reads.Asked,
   after-reads.Learnt,
   enter-stated-below t,
   enter-stated.Post,
 ) (resolve-stated-at t) resolve-stated.Post resolve-stated-Inv-loop resolve-stated-μ-loop
-resolve-stated-loop-again t c = (omega arith, states-more (c .before .before .before .before .before .before .before .before .before .before .before .before .before .before .before .cell-at .ensures) (c .before .before .before .before .before .before .before .before .before .before .before .before .before .before .cell-at2 .ensures) ((c .before .before .before .before .before .before .before .before .before .before .before .before .loop .inv) .1) (finds-hashed (c .before .before .before .before .before .before .before .before .before .before .before .before .before .before .before .before .before .before .before .before .before .before .before .before .before .before .before .before .pre .1 .hashes) _ _ _ _ (c .before .before .before .before .before .before .before .before .before .before .before .before .before .before .before .cell-at .ensures) (c .before .before .before .before .before .before .before .before .before .before .before .before .before .before .cell-at2 .ensures) (c .before .before .before .before .before .before .before .before .before .before .before .before .before .name-hash .ensures) _ _ _ (c .before .before .before .before .before .before .before .before .before .before .stated .ensures)) ((c .before .before .before .before .before .before .before .before .i .given) .1) (c .before .before .before .before .after .ensures) refl (c .before .before .enter-stated .ensures))
+resolve-stated-loop-again t c = (omega arith, states-more refl refl ((c .before .before .before .before .before .before .before .before .before .before .before .before .loop .inv) .1) (finds-ranked ((c .before .before .before .before .before .before .before .before .before .before .before .before .before .before .before .before .before .before .before .before .before .before .before .before .before .pre .1) .ranks) _ _ _ _ (c .before .before .before .before .before .before .before .before .before .before .row-stated .ensures)) ((c .before .before .before .before .before .before .before .before .i .given) .1) (c .before .before .before .before .after .ensures) refl (c .before .before .enter-stated .ensures))
 
 resolve-stated-same-length-4 : (t : ℕ) → resolve-stated-lts.Need-same-length-4 (
-  cell-at-reads.Asked,
-  cell-at-reads.Learnt,
-  name-hash-reads.Asked,
-  name-hash-reads.Learnt,
-  stated-reads.Asked,
-  stated-reads.Learnt,
+  row-stated-reads.Asked,
+  row-stated-reads.Learnt,
   after-reads.Asked,
   after-reads.Learnt,
   enter-stated-below t,
@@ -825,12 +667,8 @@ resolve-stated-same-length-4 : (t : ℕ) → resolve-stated-lts.Need-same-length
 resolve-stated-same-length-4 t c = (c .before .loop .inv) .0
 
 resolve-stated-returns-4 : (t : ℕ) → resolve-stated-lts.Need-returns-4 (
-  cell-at-reads.Asked,
-  cell-at-reads.Learnt,
-  name-hash-reads.Asked,
-  name-hash-reads.Learnt,
-  stated-reads.Asked,
-  stated-reads.Learnt,
+  row-stated-reads.Asked,
+  row-stated-reads.Learnt,
   after-reads.Asked,
   after-reads.Learnt,
   enter-stated-below t,
@@ -918,36 +756,27 @@ pub +enter+enter-stated+resolve+resolve-default+resolve-row+resolve-stated-spec 
     (resolve-default-same-length t)
     (resolve-default-returns-3 t))
     (λ t. resolve-row-lts.spec (
-      cell-at-reads.Asked,
-      cell-at-reads.Learnt,
-      name-hash-reads.Asked,
-      name-hash-reads.Learnt,
-      is-stated-reads.Asked,
-      is-stated-reads.Learnt,
-      resolve-stated-below t,
-      resolve-stated.Post,
+      row-stated-reads.Asked,
+      row-stated-reads.Learnt,
       resolve-default-below t,
       resolve-default.Post,
+      resolve-stated-below t,
+      resolve-stated.Post,
     )
     (resolve-row-at t)
     resolve-row.Post
-    (resolve-row-cell-at-requires t)
-    (resolve-row-cell-at-requires-2 t)
-    (resolve-row-name-hash-requires t)
-    (resolve-row-is-stated-requires t)
-    (resolve-row-resolve-stated-requires t)
+    (resolve-row-row-stated-requires t)
+    (resolve-row-enum-known-k t)
+    (resolve-row-enum-told t)
+    (resolve-row-resolve-default-requires t)
     (resolve-row-same-length t)
     (resolve-row-returns t)
-    (resolve-row-resolve-default-requires t)
+    (resolve-row-resolve-stated-requires t)
     (resolve-row-same-length-2 t)
     (resolve-row-returns-2 t))
     λ t. resolve-stated-lts.spec (
-      cell-at-reads.Asked,
-      cell-at-reads.Learnt,
-      name-hash-reads.Asked,
-      name-hash-reads.Learnt,
-      stated-reads.Asked,
-      stated-reads.Learnt,
+      row-stated-reads.Asked,
+      row-stated-reads.Learnt,
       after-reads.Asked,
       after-reads.Learnt,
       enter-stated-below t,
@@ -957,11 +786,8 @@ pub +enter+enter-stated+resolve+resolve-default+resolve-row+resolve-stated-spec 
     resolve-stated.Post
     resolve-stated-Inv-loop
     resolve-stated-μ-loop
-    (resolve-stated-cell-at-requires t)
-    (resolve-stated-cell-at-requires-2 t)
-    (resolve-stated-name-hash-requires t)
     (resolve-stated-loop-holds t)
-    (resolve-stated-stated-requires t)
+    (resolve-stated-row-stated-requires t)
     (resolve-stated-enum-known-i t)
     (resolve-stated-enum-told t)
     (resolve-stated-same-length t)

@@ -1,11 +1,9 @@
--- `resolving::entering::resolve_all` meets its contract: the table of defaults is right, and the rooms fit.
--- Assumes nothing.
-use mathlib.Core.Path.{sym}
-use lib.Seq.{length-take-le}
-use Rattle.resolving.proofs.Passing.{not-sized}
-use borrow.Author.Needs.{needs}
 use native.Mathlib.Omega.{arith}
+use borrow.Author.Needs.{needs}
 use mathlib.Core.Path.{refl}
+use Rattle.resolving.proofs.Passing.{not-sized}
+use lib.Seq.{length-take-le}
+use mathlib.Core.Path.{sym}
 use Rattle.resolving.proofs.entering.resolve_all.Statement.{statement}
 use Rattle.resolving.proofs.entering.resolve_all.Tie as tie
 use Rattle.resolving.proofs.entering.resolve_all.Reads as reads
@@ -14,13 +12,16 @@ use Rattle.amounts.proofs.defaults.note_defaults.Reads as note-defaults-reads
 use Rattle.resolving.proofs.entering.resolve_noted.Reads as resolve-noted-reads
 
 returns : tie.Need-returns
-returns c = not-sized (λ a b e. (c .if1 .taken) a)
+returns c = not-sized (λ a y b e. (c .if1 .taken) a)
 
 returns-2 : tie.Need-returns-2
-returns-2 c = not-sized (λ a b e. omega arith)
+returns-2 c = not-sized (λ a y b e. omega arith)
 
 returns-3 : tie.Need-returns-3
-returns-3 c = not-sized (λ a b e. omega arith)
+returns-3 c = not-sized (λ a y b e. omega arith)
+
+returns-4 : tie.Need-returns-4
+returns-4 c = not-sized (λ a y b e. omega arith)
 
 slice-aggregate-note-defaults : tie.Need-slice-aggregate-note-defaults
 slice-aggregate-note-defaults c = search needs
@@ -34,20 +35,23 @@ slice-aggregate-resolve-noted c = search needs
 slice-aggregate-resolve-noted-2 : tie.Need-slice-aggregate-resolve-noted-2
 slice-aggregate-resolve-noted-2 c = search needs
 
-array-borrow-prefix-xe : tie.Need-array-borrow-prefix-xe
-array-borrow-prefix-xe c = search needs
+array-borrow-prefix-xd : tie.Need-array-borrow-prefix-xd
+array-borrow-prefix-xd c = search needs
 
 slice-aggregate-resolve-noted-3 : tie.Need-slice-aggregate-resolve-noted-3
 slice-aggregate-resolve-noted-3 c = sym (length-take-le _ _ (omega arith))
 
-array-borrow-prefix-xo : tie.Need-array-borrow-prefix-xo
-array-borrow-prefix-xo c = search needs
+array-borrow-prefix-xe : tie.Need-array-borrow-prefix-xe
+array-borrow-prefix-xe c = search needs
 
 slice-aggregate-resolve-noted-4 : tie.Need-slice-aggregate-resolve-noted-4
 slice-aggregate-resolve-noted-4 c = sym (length-take-le _ _ (omega arith))
 
+array-borrow-prefix-xo : tie.Need-array-borrow-prefix-xo
+array-borrow-prefix-xo c = search needs
+
 slice-aggregate-resolve-noted-5 : tie.Need-slice-aggregate-resolve-noted-5
-slice-aggregate-resolve-noted-5 c = search needs
+slice-aggregate-resolve-noted-5 c = sym (length-take-le _ _ (omega arith))
 
 slice-aggregate-resolve-noted-6 : tie.Need-slice-aggregate-resolve-noted-6
 slice-aggregate-resolve-noted-6 c = search needs
@@ -55,14 +59,17 @@ slice-aggregate-resolve-noted-6 c = search needs
 slice-aggregate-resolve-noted-7 : tie.Need-slice-aggregate-resolve-noted-7
 slice-aggregate-resolve-noted-7 c = search needs
 
+slice-aggregate-resolve-noted-8 : tie.Need-slice-aggregate-resolve-noted-8
+slice-aggregate-resolve-noted-8 c = search needs
+
 resolve-noted-requires : tie.Need-resolve-noted-requires
-resolve-noted-requires c κs = ((c .before .before .before .before .before .before .before .before .before .note-defaults .ensures) refl, record { room = (c .before .before .before .before .before .before .before .before .before .before .before .before .before .before .before .if1 .left); enumerators = length-take-le _ _ (omega arith); objects = length-take-le _ _ (omega arith); enumerators-fit = omega arith; objects-fit = omega arith; spare-room = refl })
+resolve-noted-requires c κs = ((c .before .before .before .before .before .before .before .before .before .before .note-defaults .ensures) refl, record { room = (c .before .before .before .before .before .before .before .before .before .before .before .before .before .before .before .before .before .before .if1 .left); definitions = length-take-le _ _ (omega arith); enumerators = length-take-le _ _ (omega arith); objects = length-take-le _ _ (omega arith); definitions-fit = omega arith; enumerators-fit = omega arith; objects-fit = omega arith; spare-room = refl })
 
 same-length : tie.Need-same-length
 same-length c = search needs
 
-returns-4 : tie.Need-returns-4
-returns-4 c = (c .before .before .before .before .before .before .before .before .resolve-noted .ensures)
+returns-5 : tie.Need-returns-5
+returns-5 c = (c .before .before .before .before .before .before .before .before .before .resolve-noted .ensures)
 
 pub resolve-all-spec : {M : Type 1} → statement M
 resolve-all-spec =
@@ -71,17 +78,20 @@ resolve-all-spec =
     returns
     returns-2
     returns-3
+    returns-4
     slice-aggregate-note-defaults
     note-defaults-requires
     slice-aggregate-resolve-noted
     slice-aggregate-resolve-noted-2
-    array-borrow-prefix-xe
+    array-borrow-prefix-xd
     slice-aggregate-resolve-noted-3
-    array-borrow-prefix-xo
+    array-borrow-prefix-xe
     slice-aggregate-resolve-noted-4
+    array-borrow-prefix-xo
     slice-aggregate-resolve-noted-5
     slice-aggregate-resolve-noted-6
     slice-aggregate-resolve-noted-7
+    slice-aggregate-resolve-noted-8
     resolve-noted-requires
     same-length
-    returns-4)
+    returns-5)

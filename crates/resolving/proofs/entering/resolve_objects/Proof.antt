@@ -14,10 +14,10 @@ use Rattle.blocks.proofs.cell_at.Reads as cell-at-reads
 use Rattle.resolving.proofs.entering.resolve.Reads as resolve-reads
 
 abbrev Inv-loop : tie.InvT-loop
-Inv-loop text d e o st known noted xe xo hs hd v₀ z places n₀ i₀ v n i = (length v ≡ length v₀) × Does text d e o st v₀ z places v n i
+Inv-loop text d e o st known noted xe xo rs rd v₀ z places n₀ i₀ v n i = (length v ≡ length v₀) × Does text d e o st v₀ z places v n i
 
 abbrev μ-loop : tie.MeasureT-loop
-μ-loop text d e o st known noted xe xo hs hd v₀ z places n₀ i₀ v n i = z .objects - i
+μ-loop text d e o st known noted xe xo rs rd v₀ z places n₀ i₀ v n i = z .objects - i
 
 loop-holds : tie.Need-loop-holds Inv-loop μ-loop
 loop-holds c = (refl, does-start)

@@ -14,10 +14,10 @@ use Rattle.resolving.proofs.scanning.next_under.Reads as next-under-rea
 use Rattle.resolving.proofs.scanning.stirs.Reads as stirs-reads
 
 abbrev Inv-loop : tie.InvT-loop
-Inv-loop text d st hs hd limit key from end j i₀ i = (j ≤ i) × ((i ≤ limit) × (Passes text d st key from end j i × (i < limit → getD d (i * 19 + 0) 0 ≡ key)))
+Inv-loop text d st rs rd limit key from end j i₀ i = (j ≤ i) × ((i ≤ limit) × (Passes text d st key from end j i × (i < limit → getD d (i * 19 + 0) 0 ≡ key)))
 
 abbrev μ-loop : tie.MeasureT-loop
-μ-loop text d st hs hd limit key from end j i₀ i = limit - i
+μ-loop text d st rs rd limit key from end j i₀ i = limit - i
 
 next-under-requires : tie.Need-next-under-requires Inv-loop μ-loop
 next-under-requires c κs = ((c .before .before .before .before .before .pre .0), ((c .before .before .before .before .before .pre .1 .0), (c .before .before .before .before .before .pre .1 .1 .room)))

@@ -1,0 +1,55 @@
+-- Numbers of rows' names, noted once, and what comparing names by them first gives: two numbers are those of two names, and names of one number are
+-- compared byte by byte. The answers hold for any function f that gives the numbers. Of row i the name's place and length stand in columns m and
+-- m + 1 of the table t, whose rows have w cells; the name is a part of the text s.
+-- Assumes nothing.
+use Prim.Native.Nat.{ℕ, _+_, _*_, _<_, _≤_}
+use mathlib.Core.Path.{_≡_}
+use mathlib.Core.Bool.{Bool}
+use mathlib.Core.List.{List}
+use lib.ListN.{length, getD}
+use Rattle.token.specs.Words.{same}
+use Rattle.token.specs.Tokens.{partOf}
+use Rattle.rows.specs.declared.Found.{Found}
+use Rattle.indexes.specs.Indexing.{Indexed, nameRank}
+use Rattle.blocks.specs.Blocks.{row-after, FindsStated, IsStated}
+
+-- row i's name
+unfoldable pub nameOf : List ℕ → List ℕ → ℕ → ℕ → ℕ → List ℕ
+nameOf s t w m i = partOf s (getD t (i * w + m) 0) (getD t (i * w + (m + 1)) 0)
+
+-- each of the first n cells of h is the number of the name of the row of its place
+pub record RankedTo (f : List ℕ → ℕ) (s t : List ℕ) (w m n : ℕ) (h : List ℕ) : Type 0 where
+  pub cell : (i : ℕ) → i < n → getD h i 0 ≡ f (nameOf s t w m i)
+
+-- so is each cell of h
+pub record Ranked (f : List ℕ → ℕ) (s t : List ℕ) (w m : ℕ) (h : List ℕ) : Type 0 where
+  pub cell : (i : ℕ) → i < length h → getD h i 0 ≡ f (nameOf s t w m i)
+
+-- the first n cells of h, or all, are ranks of names among those of the definitions d, if x is the index of the definitions
+unfoldable pub NotesRanksTo : List ℕ → List ℕ → List ℕ → List ℕ → (w m n : ℕ) → List ℕ → Type 0
+NotesRanksTo s d x t w m n h = (k : ℕ) → Indexed s d 19 k 0 2 x → k ≤ 65536 → RankedTo (nameRank s d 19 0 2 x) s t w m n h
+
+unfoldable pub NotesRanks : List ℕ → List ℕ → List ℕ → List ℕ → (w m : ℕ) → List ℕ → Type 0
+NotesRanks s d x t w m h = (k : ℕ) → Indexed s d 19 k 0 2 x → k ≤ 65536 → Ranked (nameRank s d 19 0 2 x) s t w m h
+
+-- r says whether the statement of row k has the name at a place, if q and g are the numbers of its name and of that
+unfoldable pub NameIs : List ℕ → List ℕ → (k q at len g : ℕ) → Bool → Type 0
+NameIs s st k q at len g r = (f : List ℕ → ℕ) → q ≡ f (nameOf s st 7 0 k) → g ≡ f (partOf s at len) → r ≡ same (partOf s at len) (nameOf s st 7 0 k)
+
+-- r is the row after that of row k, in a block that ends before row e, if v is the last cell of row k
+unfoldable pub NextRow : (k v e r : ℕ) → Type 0
+NextRow k v e r = (st : List ℕ) → v ≡ getD st (k * 7 + 6) 0 → r ≡ row-after st k e
+
+-- r is the first statement of the block from a to e that has the name at a place, if h has the statements' numbers and g is that of the name
+unfoldable pub StatedRanked : List ℕ → List ℕ → List ℕ → (a e at len g : ℕ) → Found → Type 0
+StatedRanked s st h a e at len g r = (f : List ℕ → ℕ) → Ranked f s st 7 0 h → g ≡ f (partOf s at len) → FindsStated s st a e at len r
+
+-- r is the first statement of the block from a to e that has the name of row i of t, if v and h have the numbers of t's rows and of the statements
+unfoldable pub RowStated : List ℕ → List ℕ → (w m : ℕ) → List ℕ → ℕ → List ℕ → List ℕ → (a e : ℕ) → Found → Type 0
+RowStated s t w m v i st h a e r =
+    (f : List ℕ → ℕ) → Ranked f s t w m v → Ranked f s st 7 0 h → FindsStated s st a e (getD t (i * w + m) 0) (getD t (i * w + (m + 1)) 0) r
+
+-- r says whether there is one
+unfoldable pub IsRowStated : List ℕ → List ℕ → (w m : ℕ) → List ℕ → ℕ → List ℕ → List ℕ → (a e : ℕ) → Bool → Type 0
+IsRowStated s t w m v i st h a e r =
+    (f : List ℕ → ℕ) → Ranked f s t w m v → Ranked f s st 7 0 h → IsStated s st a e (getD t (i * w + m) 0) (getD t (i * w + (m + 1)) 0) r
