@@ -1,21 +1,24 @@
 -- The laws of places: where one of the cells stands, where rows in order are parted, and how many stand before that.
 -- Assumes nothing.
-use Prim.Native.Nat.{ℕ, zero, suc, _+_, _<_, _≤_}
+use Prim.Native.Nat.{ℕ, zero, suc, _+_, _-_, _*_, _<_, _≤_}
 use mathlib.Core.Path.{_≡_, refl, sym, ap, subst, _∙_}
-use mathlib.Core.Bool.{Bool, true, false≢true}
+use mathlib.Core.Bool.{Bool, true, false, false≢true}
 use mathlib.Core.List.{List, [], _∷_, map}
 use native.Mathlib.Nat.{not-suc-le-zero, le-of-suc-le-suc}
 use native.Mathlib.Omega.{arith}
-use lib.ListN.{length, getD, length-map}
-use lib.Dec.{eqb}
+use lib.ListN.{length, getD, take, drop, length-map}
+use lib.Dec.{eqb, leb}
 use borrow.Author.Tests.{eqb-true, lt-ltb, le-ltb}
-use Rattle.token.specs.Find.{pick}
+use Rattle.token.specs.Find.{pick, both}
+use Rattle.token.specs.Tokens.{partOf}
+use Rattle.indexes.specs.Numbers.{nameNumber}
 use Rattle.token.proofs.Find.{by-test}
 use Rattle.sorting.specs.Sorted.{Rising, among-cells}
 use Rattle.sorting.proofs.Cells.{rising-places}
 use Rattle.indexes.specs.declared.Order.{Order}
 use Rattle.indexes.specs.declared.Order.the-variants.{Less, Same, More}
-use Rattle.indexes.specs.Indexing.{rowCell, leastOf, RowCompared, rank, Parts, PartsAt, nameRank, Ranks}
+use Rattle.indexes.specs.Indexing.{rowName, rowPair, pairOf, rowCell, leastOf, RowCompared, rank, Parts, PartsAt, nameRank, Ranks}
+use Rattle.indexes.proofs.Digits.{number-positive}
 use Rattle.indexes.proofs.Comparisons.{cell-less, cell-same, cell-more}
 
 -- a place of l with the cell c
@@ -94,3 +97,30 @@ module _ (s t : List ℕ) (w c k m : ℕ) (x l : List ℕ) where
 pub parts-ranks : (s t : List ℕ) (w c m : ℕ) (x l : List ℕ) (r : ℕ) → PartsAt s t w c 0 m x l r r → Ranks s t w c m x l r
 unfolding PartsAt Ranks nameRank
 parts-ranks s t w c m x l r p n d b = parts-rank (rowCell s t w c m) x (leastOf l 0) r (p (d .rising))
+
+-- no row stands before those with an empty name
+part-none : (s : List ℕ) (at : ℕ) → partOf s at 0 ≡ []
+unfolding partOf
+part-none s at = by (both (leb at (length s)) (leb 0 (length s - at)))
+  where
+    by : (b : Bool) → pick b (take 0 (drop at s)) [] ≡ []
+    by true = refl
+    by false = refl
+
+least-pair : (s t : List ℕ) (w c m i : ℕ) → pairOf [] 0 ≤ rowPair s t w c m i
+unfolding pairOf rowPair nameNumber
+least-pair s t w c m i = omega (arith, number-positive (rowName s t w m i))
+
+least-cell : (s t : List ℕ) (w c m i : ℕ) → leastOf [] 0 ≤ rowCell s t w c m i
+unfolding leastOf rowCell
+least-cell s t w c m i = by (pairOf [] 0) (rowPair s t w c m i) (least-pair s t w c m i)
+  where
+    by : (v p : ℕ) → v ≤ p → v * 18446744073709551616 ≤ p * 18446744073709551616 + i
+    by v p h = omega arith
+
+pub rank-none : (s t : List ℕ) (w c m : ℕ) (x : List ℕ) (at len : ℕ) → len ≡ 0 → Ranks s t w c m x (partOf s at len) 0
+unfolding Ranks nameRank
+rank-none s t w c m x at len z n d h =
+    subst (λ (l : List ℕ). 0 ≡ rank (map (rowCell s t w c m) x) (leastOf l 0)) (sym (ap (partOf s at) z ∙ part-none s at))
+    (parts-rank (rowCell s t w c m) x (leastOf [] 0) 0
+    (record { inside = omega arith; less = λ i a b. absurd (omega arith); more = λ i a b. least-cell s t w c m (getD x i 0) }))

@@ -1,18 +1,21 @@
 -- The laws of looking for a name in a block through the statements' ranks.
 -- Assumes nothing.
 use Prim.Native.Nat.{ℕ, _+_, _*_, _≤_, _<_, min}
-use mathlib.Core.Path.{_≡_, refl, sym, ap₂, _∙_, subst}
+use mathlib.Core.Path.{_≡_, refl, sym, ap, ap₂, _∙_, subst}
 use mathlib.Core.Bool.{Bool, true, false}
 use mathlib.Core.List.{List}
+use native.Mathlib.Omega.{arith}
 use lib.ListN.{length, getD}
+use Rattle.token.specs.Words.{same}
 use Rattle.token.specs.Tokens.{partOf}
+use Rattle.indexes.proofs.Same.{same-equal, differ}
 use Rattle.rows.specs.declared.Found.{Found}
-use Rattle.rows.specs.declared.Found.the-variants.{At}
+use Rattle.rows.specs.declared.Found.the-variants.{At, Nothing}
 use Rattle.rows.specs.Search.{isFound}
-use Rattle.blocks.specs.Blocks.{FindsStated, IsStated}
-use Rattle.blocks.proofs.Ranges.{Looking, looking-start, looking-stop, looking-more, is-stated, after-later, after-back, after-past, after-next}
+use Rattle.blocks.specs.Blocks.{row-after, FindsStated, IsStated}
+use Rattle.blocks.proofs.Ranges.{looking-start, looking-stop, looking-more, looking-end, is-stated, after-later, after-back, after-past, after-next}
 use Rattle.lookups.proofs.Notes.{row-place, row-size}
-use Rattle.lookups.specs.Ranks.{Ranked, nameOf, NameIs, NextRow, StatedRanked, RowStated, IsRowStated}
+use Rattle.lookups.specs.Ranks.{Ranked, nameOf, NextRow, Skips, StatedRanked, RowStated, IsRowStated}
 
 -- the cases of the row after that of row k
 module _ (k v e : ℕ) where
@@ -36,33 +39,69 @@ pub next-later : (st : List ℕ) (k e j : ℕ) → NextRow k (getD st (k * 7 + 6
 unfolding NextRow
 next-later st k e j n l = subst (λ (x : ℕ). k < x) (sym (n st refl)) (after-later st k e l)
 
-module _ (s st h : List ℕ) (m e at len g : ℕ) where
-  -- what is left of the block from row k on decides what is found
-  unfoldable pub LookingRanked : ℕ → Type 0
-  LookingRanked k = (f : List ℕ → ℕ) → Ranked f s st 7 0 h → g ≡ f (partOf s at len) → Looking s st m e at len k
+-- the search from row k on: it has the name, it has not, or the block ends there
+module _ (s st : List ℕ) (k e at len : ℕ) where
+  finds-here : k < e → same (partOf s at len) (nameOf s st 7 0 k) ≡ true → FindsStated s st k e at len (At k)
+  unfolding nameOf
+  finds-here h q = looking-stop k e at len k (looking-start s st k e at len) h q
+
+  finds-after : (r : Found) → k < e → same (partOf s at len) (nameOf s st 7 0 k) ≡ false → FindsStated s st (row-after st k e) e at len r → FindsStated s st k e at len r
+  unfolding nameOf
+  finds-after r h q n ss t b p = let l = looking-more k e at len k (looking-start s st k e at len) h q ss t b p in n (l .left) t (l .block) p ∙ l .same-found
+
+  finds-end : e ≤ k → FindsStated s st k e at len Nothing
+  finds-end h = looking-end k e at len k (looking-start s st k e at len) h
+
+-- rows of another rank are passed
+module _ (st h : List ℕ) (a e g : ℕ) where
+  pub skips-none : Skips st h a e g a
+  skips-none = record { later = omega arith; finds = λ s at len f i b c n. n }
+
+  pub skips-more : (k x : ℕ) → Skips st h a e g k → k < e → k < length h → (getD h k 0 ≡ g → ⊥) → NextRow k (getD st (k * 7 + 6) 0) e x → Skips st h a e g x
+  unfolding NextRow
+  skips-more k x z l j q n =
+      let y : x ≡ row-after st k e = n st refl in
+      record {
+        later = omega (arith, z .later, after-later st k e l);
+        finds = λ s at len f i b c u.
+            let other = differ (same (partOf s at len) (nameOf s st 7 0 k)) (λ w. q (b .cell k j ∙ sym (c ∙ ap f (same-equal (partOf s at len) (nameOf s st 7 0 k) w)))) in
+            z .finds s at len f i b c (finds-after s st k e at len i l other (subst (λ (v : ℕ). FindsStated s st v e at len i) y u));
+      }
+
+module _ (s st h : List ℕ) (a e at len g : ℕ) where
+  -- what is found from row k on is what is found
+  unfoldable pub Onward : ℕ → Type 0
+  Onward k = (f : List ℕ → ℕ) (r : Found) → Ranked f s st 7 0 h → g ≡ f (partOf s at len) → FindsStated s st k e at len r → FindsStated s st a e at len r
 
   -- the start
-  pub ranked-start : LookingRanked m
-  unfolding LookingRanked
-  ranked-start f a b = looking-start s st m e at len
+  pub onward-start : (k : ℕ) → Skips st h a e g k → Onward k
+  unfolding Onward
+  onward-start k z f r b c u = z .finds s at len f r b c u
 
-  -- row k has the name
-  pub ranked-stop : (k : ℕ) (r : Bool) → LookingRanked k → k < e → k < length h → NameIs s st k (getD h k 0) at len g r → r ≡ true
-      → StatedRanked s st h m e at len g (At k)
-  unfolding LookingRanked NameIs StatedRanked nameOf
-  ranked-stop k r i l j n q f a b = looking-stop m e at len k (i f a b) l (sym (n f (a .cell k j) b) ∙ q)
+  module _ (k p n : ℕ) (o : Onward k) (l : k < e) (q : Bool) (c₁ : p ≡ getD st (k * 7 + 0) 0) (c₂ : n ≡ getD st (k * 7 + 1) 0) (d : q ≡ same (partOf s at len) (partOf s p n)) where
+    name-same : q ≡ same (partOf s at len) (nameOf s st 7 0 k)
+    unfolding nameOf
+    name-same = d ∙ ap₂ (λ (x y : ℕ). same (partOf s at len) (partOf s x y)) c₁ c₂
 
-  -- it has not
-  pub ranked-more : (k : ℕ) (r : Bool) (x : ℕ) → LookingRanked k → k < e → k < length h → NameIs s st k (getD h k 0) at len g r → r ≡ false
-      → NextRow k (getD st (k * 7 + 6) 0) e x → LookingRanked x
-  unfolding LookingRanked NameIs NextRow nameOf
-  ranked-more k r x i l j n q z f a b =
-      subst (λ (y : ℕ). Looking s st m e at len y) (sym (z st refl)) (looking-more m e at len k (i f a b) l (sym (n f (a .cell k j) b) ∙ q))
+    -- row k has the name
+    pub onward-stop : q ≡ true → StatedRanked s st h a e at len g (At k)
+    unfolding Onward StatedRanked
+    onward-stop t f b c = o f (At k) b c (finds-here s st k e at len l (sym name-same ∙ t))
 
-  -- the rows from k on are searched
-  pub ranked-rest : (k : ℕ) (r : Found) → LookingRanked k → FindsStated s st k e at len r → StatedRanked s st h m e at len g r
-  unfolding LookingRanked StatedRanked
-  ranked-rest k r i n f a b ss t p q = let l = i f a b ss t p q in n (l .left) t (l .block) q ∙ l .same-found
+    -- it has not
+    pub onward-more : q ≡ false → (x y : ℕ) → x ≡ row-after st k e → Skips st h x e g y → Onward y
+    unfolding Onward
+    onward-more t x y w z f r b c u =
+        o f r b c (finds-after s st k e at len r l (sym name-same ∙ t) (subst (λ (v : ℕ). FindsStated s st v e at len r) w (z .finds s at len f r b c u)))
+
+  -- the block ends
+  pub onward-end : (k : ℕ) → Onward k → e ≤ k → StatedRanked s st h a e at len g Nothing
+  unfolding Onward StatedRanked
+  onward-end k o l f b c = o f Nothing b c (finds-end s st k e at len l)
+
+-- the row behind is later
+pub skips-later : (st h : List ℕ) (k e g x y : ℕ) → k < e → x ≡ row-after st k e → Skips st h x e g y → k < y
+skips-later st h k e g x y l w z = omega (arith, w, z .later, after-later st k e l)
 
 module _ (s t : List ℕ) (w m : ℕ) (v : List ℕ) (i : ℕ) (st h : List ℕ) (a e : ℕ) where
   module _ (m2 y at len : ℕ) (c : m2 ≡ min (length t) (m + 1)) (d : y ≡ min (length t) (i * w)) (u : at ≡ getD t (y + m) 0) (o : len ≡ getD t (y + m2) 0) where
@@ -72,19 +111,29 @@ module _ (s t : List ℕ) (w m : ℕ) (v : List ℕ) (i : ℕ) (st h : List ℕ)
     q : len ≡ getD t (i * w + (m + 1)) 0
     q = row-size t w m i y m2 at len c d o
 
-    found-at : (r : Found) → FindsStated s st a e at len r → FindsStated s st a e (getD t (i * w + m) 0) (getD t (i * w + (m + 1)) 0) r
+    -- what is found by the cells that were read
+    pub found-at : (r : Found) → FindsStated s st a e at len r → FindsStated s st a e (getD t (i * w + m) 0) (getD t (i * w + (m + 1)) 0) r
     found-at r z =
         subst (λ (k : ℕ). FindsStated s st a e k (getD t (i * w + (m + 1)) 0) r) p (subst (λ (k : ℕ). FindsStated s st a e at k r) q z)
 
-    -- the row's name has a rank
-    pub row-ranked : (r : Found) → i < length v → StatedRanked s st h a e at len (getD v i 0) r → RowStated s t w m v i st h a e r
+    -- the row's name has a rank, and the rows before k have not
+    pub row-ranked : (k : ℕ) (r : Found) → i < length v → Skips st h a e (getD v i 0) k → StatedRanked s st h k e at len (getD v i 0) r → RowStated s t w m v i st h a e r
     unfolding StatedRanked RowStated nameOf
-    row-ranked r l z f b g = found-at r (z f g (b .cell i l ∙ sym (ap₂ (λ (x y : ℕ). f (partOf s x y)) p q)))
+    row-ranked k r l x z f b g =
+        let n : getD v i 0 ≡ f (partOf s at len) = b .cell i l ∙ sym (ap₂ (λ (x y : ℕ). f (partOf s x y)) p q) in
+        found-at r (x .finds s at len f r g n (z f g n))
 
-    -- it has none
-    pub row-searched : (r : Found) → FindsStated s st a e at len r → RowStated s t w m v i st h a e r
+  module _ (r : Found) where
+    -- the row's name has none
+    pub row-searched : FindsStated s st a e (getD t (i * w + m) 0) (getD t (i * w + (m + 1)) 0) r → RowStated s t w m v i st h a e r
     unfolding RowStated
-    row-searched r z f b g = found-at r z
+    row-searched z f b g = z
+
+  -- no row has it
+  pub row-none : (k : ℕ) → i < length v → Skips st h a e (getD v i 0) k → e ≤ k → RowStated s t w m v i st h a e Nothing
+  unfolding RowStated nameOf
+  row-none k l x g f b c =
+      x .finds s (getD t (i * w + m) 0) (getD t (i * w + (m + 1)) 0) f Nothing c (b .cell i l) (finds-end s st k e (getD t (i * w + m) 0) (getD t (i * w + (m + 1)) 0) g)
 
   -- whether one is found
   pub row-is : (r z : Found) → RowStated s t w m v i st h a e r → r ≡ z → IsRowStated s t w m v i st h a e (isFound z)

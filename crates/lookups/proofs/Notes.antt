@@ -2,18 +2,15 @@
 -- Assumes nothing.
 use Prim.Native.Nat.{ℕ, _+_, _*_, _<_, _≤_, min}
 use mathlib.Core.Path.{_≡_, sym, ap, ap₂, subst, _∙_}
-use mathlib.Core.Bool.{Bool, false}
 use mathlib.Core.List.{List}
 use native.Mathlib.Omega.{arith}
 use native.Mathlib.Decide.{ℕ-discrete}
 use lib.ListN.{length, getD, set}
 use lib.Seq.{getD-set-same, getD-set-other}
-use Rattle.token.specs.Words.{same}
 use Rattle.token.specs.Tokens.{partOf}
 use Rattle.rows.proofs.Starts.{cell-start, cell-column}
 use Rattle.indexes.specs.Indexing.{Indexed, Ranks, nameRank}
-use Rattle.indexes.proofs.Same.{same-equal, differ}
-use Rattle.lookups.specs.Ranks.{nameOf, Ranked, RankedTo, NotesRanks, NotesRanksTo, NameIs}
+use Rattle.lookups.specs.Ranks.{nameOf, Ranked, RankedTo, NotesRanks, NotesRanksTo}
 
 -- the cells of a row's name, by a place where the row begins that is no larger than the end
 module _ (t : List ℕ) (w m i a m2 p n : ℕ) (d : m2 ≡ min (length t) (m + 1)) (e : a ≡ min (length t) (i * w)) where
@@ -50,16 +47,3 @@ module _ (s d x t : List ℕ) (w m : ℕ) where
   pub noted-all : (j : ℕ) (h : List ℕ) → NotesRanksTo s d x t w m j h → j ≡ length h → NotesRanks s d x t w m h
   unfolding NotesRanksTo NotesRanks
   noted-all j h f e k g l = record { cell = λ i b. f k g l .cell i (omega arith) }
-
-module _ (s st : List ℕ) (k q at len g : ℕ) where
-  -- the statement's name has another rank
-  pub name-other : (q ≡ g → ⊥) → NameIs s st k q at len g false
-  unfolding NameIs
-  name-other n f e c =
-      sym (differ (same (partOf s at len) (nameOf s st 7 0 k)) (λ b. n (e ∙ sym (c ∙ ap f (same-equal (partOf s at len) (nameOf s st 7 0 k) b)))))
-
-  -- the bytes are compared
-  pub name-bytes : (p n : ℕ) (r : Bool) → p ≡ getD st (k * 7 + 0) 0 → n ≡ getD st (k * 7 + 1) 0 → r ≡ same (partOf s at len) (partOf s p n)
-      → NameIs s st k q at len g r
-  unfolding NameIs nameOf
-  name-bytes p n r e f b number d c = b ∙ ap₂ (λ (x y : ℕ). same (partOf s at len) (partOf s x y)) e f

@@ -7,7 +7,6 @@ use mathlib.Core.Path.{_≡_}
 use mathlib.Core.Bool.{Bool}
 use mathlib.Core.List.{List}
 use lib.ListN.{length, getD}
-use Rattle.token.specs.Words.{same}
 use Rattle.token.specs.Tokens.{partOf}
 use Rattle.rows.specs.declared.Found.{Found}
 use Rattle.indexes.specs.Indexing.{Indexed, nameRank}
@@ -32,13 +31,15 @@ NotesRanksTo s d x t w m n h = (k : ℕ) → Indexed s d 19 k 0 2 x → k ≤ 65
 unfoldable pub NotesRanks : List ℕ → List ℕ → List ℕ → List ℕ → (w m : ℕ) → List ℕ → Type 0
 NotesRanks s d x t w m h = (k : ℕ) → Indexed s d 19 k 0 2 x → k ≤ 65536 → Ranked (nameRank s d 19 0 2 x) s t w m h
 
--- r says whether the statement of row k has the name at a place, if q and g are the numbers of its name and of that
-unfoldable pub NameIs : List ℕ → List ℕ → (k q at len g : ℕ) → Bool → Type 0
-NameIs s st k q at len g r = (f : List ℕ → ℕ) → q ≡ f (nameOf s st 7 0 k) → g ≡ f (partOf s at len) → r ≡ same (partOf s at len) (nameOf s st 7 0 k)
-
 -- r is the row after that of row k, in a block that ends before row e, if v is the last cell of row k
 unfoldable pub NextRow : (k v e r : ℕ) → Type 0
 NextRow k v e r = (st : List ℕ) → v ≡ getD st (k * 7 + 6) 0 → r ≡ row-after st k e
+
+-- no statement of the block from a to e before row r has a name whose number is g, if h has the statements' numbers
+pub record Skips (st h : List ℕ) (a e g r : ℕ) : Type 0 where
+  pub later : a ≤ r
+  pub finds : (s : List ℕ) (at len : ℕ) (f : List ℕ → ℕ) (i : Found) → Ranked f s st 7 0 h → g ≡ f (partOf s at len) → FindsStated s st r e at len i
+      → FindsStated s st a e at len i
 
 -- r is the first statement of the block from a to e that has the name at a place, if h has the statements' numbers and g is that of the name
 unfoldable pub StatedRanked : List ℕ → List ℕ → List ℕ → (a e at len g : ℕ) → Found → Type 0

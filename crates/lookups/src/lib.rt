@@ -1,8 +1,10 @@
 // Names looked up in the kept rows through indexes and noted ranks: each answer is the one that comparing all bytes gives.
 ghost use mathlib.Core.Path.{_≡_};
-ghost use Prim.Native.Nat.{min};
+ghost use Prim.Native.Nat.{_+_, _*_, min};
+ghost use lib.ListN.{getD};
+ghost use Rattle.blocks.specs.Blocks.{FindsStated};
 ghost use Rattle.scopes.specs.Promises.{FindsTruth};
-ghost use Rattle.lookups.specs.Ranks.{NotesRanks, NameIs, NextRow, StatedRanked, RowStated, IsRowStated};
+ghost use Rattle.lookups.specs.Ranks.{NotesRanks, NextRow, Skips, StatedRanked, RowStated, IsRowStated};
 ghost use Rattle.lookups.specs.Answers.{DefinitionIndexed, ObjectIndexed, EnumeratorIndexed, WordIndexed};
 use rows::Found;
 use rows::cells;
@@ -118,26 +120,6 @@ pub fn note_ranks(
     }
 }
 
-// Whether the statement of row k, whose name's rank is q, has the name at a place, whose rank is given.
-fn name_is(
-    text: &[u8],
-    st: &[usize],
-    k: usize,
-    q: usize,
-    at: usize,
-    len: usize,
-    rank: usize,
-) -> bool
-    ensures { λ r. ⌜ NameIs (now (text .entry)) (now (st .entry)) k q at len rank r ⌝ }
-{
-    if q != rank {
-        return false;
-    }
-    let place = blocks::cell_at(st, 7, k, 0);
-    let size = blocks::cell_at(st, 7, k, 1);
-    parts::same_part(text, at, len, place, size)
-}
-
 // The lesser of two numbers.
 fn least(a: usize, b: usize) -> usize
     ensures { λ r. ⌜ r ≡ min a b ⌝ }
@@ -161,8 +143,24 @@ fn next_row(k: usize, v: usize, end: usize) -> usize
     v
 }
 
-// The first statement of a block that has a name, whose rank is given; h has the statements' ranks. Rows that have no rank, or that the
-// table has not, are left to the search that compares bytes.
+// The first row of a block, which ends before row `end`, that has a rank; h has the statements' ranks. A row that has none, or that the table
+// has not, is not passed.
+fn skip(st: &[usize], h: &[usize], from: usize, end: usize, rank: usize) -> usize
+    ensures { λ r. ⌜ Skips (now (st .entry)) (now (h .entry)) from end rank r ⌝ }
+{
+    let limit = least(end, least(h.len(), st.len() / 7));
+    let mut k = from;
+    while k < limit {
+        if h[k] == rank {
+            return k;
+        }
+        k = next_row(k, st[k * 7 + 6], end);
+    }
+    k
+}
+
+// The first statement of a block that has a name, whose rank is given; h has the statements' ranks. Statements of that rank are compared byte
+// by byte.
 fn stated(
     text: &[u8],
     st: &[usize],
@@ -175,19 +173,39 @@ fn stated(
 ) -> Found
     ensures { λ r. ⌜ StatedRanked (now (text .entry)) (now (st .entry)) (now (h .entry)) from end at len rank r ⌝ }
 {
-    let limit = least(end, least(h.len(), st.len() / 7));
-    let mut k = from;
-    while k < limit {
-        if name_is(text, st, k, h[k], at, len, rank) {
+    let mut k = skip(st, h, from, end, rank);
+    while k < end {
+        let place = blocks::cell_at(st, 7, k, 0);
+        let size = blocks::cell_at(st, 7, k, 1);
+        if parts::same_part(text, at, len, place, size) {
             return Found::At(k);
         }
-        k = next_row(k, st[k * 7 + 6], end);
+        k = skip(st, h, blocks::after(st, k, end), end, rank);
     }
-    blocks::stated(text, st, k, end, at, len)
+    Found::Nothing
 }
 
-// The first statement of a block that has the name of row i of a table; ranks and h have the ranks of the names of its rows and of the
-// statements.
+// The first statement of a block that has the name of row i of a table, found by comparing bytes.
+fn searched(
+    text: &[u8],
+    t: &[usize],
+    width: usize,
+    name: usize,
+    i: usize,
+    st: &[usize],
+    from: usize,
+    end: usize,
+) -> Found
+    ensures { λ r. ⌜ FindsStated (now (text .entry)) (now (st .entry)) from end (getD (now (t .entry)) (i * width + name) 0) (getD (now (t .entry)) (i * width + (name + 1)) 0) r ⌝ }
+{
+    let second = cells::place_after(t.len(), name, 1);
+    let start = cells::row_start(t.len(), width, i);
+    let at = cells::cell(t, start, name);
+    let len = cells::cell(t, start, second);
+    blocks::stated(text, st, from, end, at, len)
+}
+
+// The same by the ranks: ranks and h have those of the names of the table's rows and of the statements.
 pub fn row_stated(
     text: &[u8],
     t: &[usize],
@@ -202,14 +220,19 @@ pub fn row_stated(
 ) -> Found
     ensures { λ r. ⌜ RowStated (now (text .entry)) (now (t .entry)) width name (now (ranks .entry)) i (now (st .entry)) (now (h .entry)) from end r ⌝ }
 {
+    if ranks.len() <= i {
+        return searched(text, t, width, name, i, st, from, end);
+    }
+    let rank = ranks[i];
+    let k = skip(st, h, from, end, rank);
+    if end <= k {
+        return Found::Nothing;
+    }
     let second = cells::place_after(t.len(), name, 1);
     let start = cells::row_start(t.len(), width, i);
     let at = cells::cell(t, start, name);
     let len = cells::cell(t, start, second);
-    if ranks.len() <= i {
-        return blocks::stated(text, st, from, end, at, len);
-    }
-    stated(text, st, h, from, end, at, len, ranks[i])
+    stated(text, st, h, k, end, at, len, rank)
 }
 
 // Whether a block has a statement with the name of row i of a table; ranks and h have the ranks of the names of its rows and of the

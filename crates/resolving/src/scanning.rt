@@ -1,18 +1,18 @@
 // The rows of the definitions of a scope that give values.
 ghost use mathlib.Core.Path.{_≡_};
-ghost use Prim.Native.Nat.{_≤_};
+ghost use Prim.Native.Nat.{_+_, _≤_, _<_};
 ghost use lib.ListN.{length};
 ghost use Rattle.resolving.specs.Noted.{NamesRanked, Defaults, Stirs, NextUnder, NextRow};
-use rows::cells;
 
 // Whether the attribute whose cells begin at p has a default that is taken.
 fn has_default(d: &[usize], p: usize) -> bool
+    requires { ⌜ p + 18 < length (now d) ⌝ }
     ensures { λ r. ⌜ Defaults (now (d .entry)) p r ⌝ }
 {
-    if cells::cell(d, p, 11) == 0 {
+    if d[p + 11] == 0 {
         return false;
     }
-    if cells::cell(d, p, 18) == 4 {
+    if d[p + 18] == 4 {
         return false;
     }
     true
@@ -32,7 +32,7 @@ fn stirs(
     j: usize,
     p: usize,
 ) -> bool
-    requires { ⌜ NamesRanked (now text) (now d) (now st) (now rs) (now rd) ⌝ }
+    requires { ⌜ (p + 18 < length (now d)) × NamesRanked (now text) (now d) (now st) (now rs) (now rd) ⌝ }
     ensures { λ r. ⌜ Stirs (now (text .entry)) (now (d .entry)) (now (st .entry)) key from end j p r ⌝ }
 {
     if has_default(d, p) {

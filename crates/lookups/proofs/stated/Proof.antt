@@ -1,65 +1,53 @@
--- `lookups::stated` meets its contract.
--- Assumes nothing.
+use Rattle.lookups.proofs.Blocks.{Onward, onward-start, onward-stop, onward-more, onward-end, skips-later}
 use native.Mathlib.Omega.{arith}
-use Rattle.lookups.proofs.Blocks.{next-later, LookingRanked, ranked-start, ranked-stop, ranked-more, ranked-rest}
-use lib.ListN.{length}
-use Prim.Native.Nat.{_-_, _≤_, _*_}
+use Prim.Native.Nat.{_-_}
 use Rattle.lookups.proofs.stated.Statement.{statement}
 use Rattle.lookups.proofs.stated.Tie as tie
+use Rattle.lookups.proofs.stated.Reads as reads
+use Rattle.lookups.proofs.stated.Lts as lts
+use Rattle.blocks.proofs.after.Reads as after-reads
+use Rattle.blocks.proofs.cell_at.Reads as cell-at-reads
+use Rattle.lookups.proofs.skip.Reads as skip-reads
+use Rattle.rows.proofs.parts.same_part.Reads as same-part-reads
 
 abbrev Inv-loop : tie.InvT-loop
-Inv-loop text st h from end at len rank limit k₀ k = ((limit ≤ end) × (limit ≤ length h) × (limit * 7 ≤ length st)) × LookingRanked text st h from end at len rank k
+Inv-loop text st h from end at len rank k₀ k = Onward text st h from end at len rank k
 
 abbrev μ-loop : tie.MeasureT-loop
-μ-loop text st h from end at len rank limit k₀ k = end - k
+μ-loop text st h from end at len rank k₀ k = end - k
 
-least-requires : tie.Need-least-requires Inv-loop μ-loop
-least-requires c κs = tt
-
-least-requires-2 : tie.Need-least-requires-2 Inv-loop μ-loop
-least-requires-2 c κs = tt
+skip-requires : tie.Need-skip-requires Inv-loop μ-loop
+skip-requires c κs = tt
 
 loop-holds : tie.Need-loop-holds Inv-loop μ-loop
-loop-holds c = ((omega (arith, (c .before .least .ensures), (c .least2 .ensures)), omega (arith, (c .before .least .ensures), (c .least2 .ensures)), omega (arith, (c .before .least .ensures), (c .least2 .ensures))), ranked-start _ _ _ _ _ _ _ _)
+loop-holds c = onward-start _ _ _ _ _ _ _ _ _ (c .skip .ensures)
 
-mul-name-is : tie.Need-mul-name-is Inv-loop μ-loop
-mul-name-is c = omega arith
+cell-at-requires : tie.Need-cell-at-requires Inv-loop μ-loop
+cell-at-requires c κs = tt
 
-shared-slice-read-name-is : tie.Need-shared-slice-read-name-is Inv-loop μ-loop
-shared-slice-read-name-is c = omega arith
+cell-at-requires-2 : tie.Need-cell-at-requires-2 Inv-loop μ-loop
+cell-at-requires-2 c κs = tt
 
-name-is-requires : tie.Need-name-is-requires Inv-loop μ-loop
-name-is-requires c κs = tt
+same-part-requires : tie.Need-same-part-requires Inv-loop μ-loop
+same-part-requires c κs = tt
 
 returns : tie.Need-returns Inv-loop μ-loop
-returns c = ranked-stop _ _ _ _ _ _ _ _ _ _ (c .before .before .before .before .loop .inv .1) (omega arith) (omega arith) (c .before .name-is .ensures) (c .if1 .taken)
+returns c = onward-stop _ _ _ _ _ _ _ _ _ _ _ (c .before .before .before .before .before .loop .inv) (omega arith) _ (c .before .before .before .cell-at .ensures) (c .before .before .cell-at2 .ensures) (c .before .same-part .ensures) (c .if1 .taken)
 
-mul-next-row : tie.Need-mul-next-row Inv-loop μ-loop
-mul-next-row c = omega arith
+after-requires : tie.Need-after-requires Inv-loop μ-loop
+after-requires c κs = tt
 
-add-next-row : tie.Need-add-next-row Inv-loop μ-loop
-add-next-row c = omega arith
-
-mul-next-row-2 : tie.Need-mul-next-row-2 Inv-loop μ-loop
-mul-next-row-2 c = omega arith
-
-shared-slice-read-next-row : tie.Need-shared-slice-read-next-row Inv-loop μ-loop
-shared-slice-read-next-row c = omega arith
-
-next-row-requires : tie.Need-next-row-requires Inv-loop μ-loop
-next-row-requires c κs = tt
+skip-requires-2 : tie.Need-skip-requires-2 Inv-loop μ-loop
+skip-requires-2 c κs = tt
 
 loop-less : tie.Need-loop-less Inv-loop μ-loop
-loop-less c = omega (arith, next-later (c .before .before .before .before .before .before .before .before .before .before .before .before .args .st .now) (c .before .before .before .before .before .before .loop .k) (c .before .before .before .before .before .before .before .before .before .before .before .before .args .end) _ (c .next-row .ensures) (omega arith))
+loop-less c = omega (arith, skips-later ((c .before .before .before .before .before .before .before .before .before .before .before .before .args .st) .now) ((c .before .before .before .before .before .before .before .before .before .before .before .before .args .h) .now) (c .before .before .before .before .before .before .before .loop .k) (c .before .before .before .before .before .before .before .before .before .before .before .before .args .end) _ _ _ (omega arith) (c .before .after .ensures) (c .skip2 .ensures))
 
 loop-again : tie.Need-loop-again Inv-loop μ-loop
-loop-again c = ((c .before .before .before .before .before .before .loop .inv .0), ranked-more _ _ _ _ _ _ _ _ _ _ _ (c .before .before .before .before .before .before .loop .inv .1) (omega arith) (omega arith) (c .before .before .before .name-is .ensures) (c .before .before .if1 .left) (c .next-row .ensures))
-
-stated-requires : tie.Need-stated-requires Inv-loop μ-loop
-stated-requires c κs = tt
+loop-again c = onward-more _ _ _ _ _ _ _ _ _ _ _ (c .before .before .before .before .before .before .before .loop .inv) (omega arith) _ (c .before .before .before .before .before .cell-at .ensures) (c .before .before .before .before .cell-at2 .ensures) (c .before .before .before .same-part .ensures) (c .before .before .if1 .left) _ _ (c .before .after .ensures) (c .skip2 .ensures)
 
 returns-2 : tie.Need-returns-2 Inv-loop μ-loop
-returns-2 c = ranked-rest _ _ _ _ _ _ _ _ _ _ (c .before .before .loop .inv .1) (c .stated .ensures)
+returns-2 c = onward-end _ _ _ _ _ _ _ _ _ (c .before .loop .inv) (omega arith)
 
 pub stated-spec : {M : Type 1} → statement M
 stated-spec =
@@ -67,19 +55,14 @@ stated-spec =
     (tie.spec
     Inv-loop
     μ-loop
-    least-requires
-    least-requires-2
+    skip-requires
     loop-holds
-    mul-name-is
-    shared-slice-read-name-is
-    name-is-requires
+    cell-at-requires
+    cell-at-requires-2
+    same-part-requires
     returns
-    mul-next-row
-    add-next-row
-    mul-next-row-2
-    shared-slice-read-next-row
-    next-row-requires
+    after-requires
+    skip-requires-2
     loop-less
     loop-again
-    stated-requires
     returns-2)

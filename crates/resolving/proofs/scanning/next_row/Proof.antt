@@ -29,7 +29,7 @@ mul-stirs : tie.Need-mul-stirs Inv-loop μ-loop
 mul-stirs c = omega arith
 
 stirs-requires : tie.Need-stirs-requires Inv-loop μ-loop
-stirs-requires c κs = (c .before .before .before .before .before .before .before .before .pre .1 .1)
+stirs-requires c κs = (omega (arith, (c .before .before .before .before .before .before .before .before .pre .1 .1 .room)), (c .before .before .before .before .before .before .before .before .pre .1 .1))
 
 returns : tie.Need-returns Inv-loop μ-loop
 returns c = row-here ((c .before .before .before .loop .inv) .0) ((c .before .before .before .loop .inv) .1 .0) ((c .before .before .before .loop .inv) .1 .1 .0) ((c .before .before .before .loop .inv) .1 .1 .1)

@@ -27,7 +27,7 @@ is-row-stated-requires : tie.Need-is-row-stated-requires
 is-row-stated-requires c κs = search needs
 
 returns-4 : tie.Need-returns-4
-returns-4 c = stirs-stated (c .before .before .before .before .before .before .before .before .before .before .pre) (c .before .before .before .before .has-default .ensures) (c .before .before .before .if1 .left) (c .is-row-stated .ensures)
+returns-4 c = stirs-stated (c .before .before .before .before .before .before .before .before .before .before .pre .1) (c .before .before .before .before .has-default .ensures) (c .before .before .before .if1 .left) (c .is-row-stated .ensures)
 
 pub stirs-spec : {M : Type 1} → statement M
 stirs-spec =
