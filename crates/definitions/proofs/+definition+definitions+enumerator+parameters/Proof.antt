@@ -10,10 +10,8 @@ use Rattle.grammar.proofs.Meeting.{_⊳_, went-on}
 use Rattle.grammar.specs.Readers.{left, sortAt}
 use Rattle.grammar.specs.Grammar.{definitions, enumerators}
 use denote.Ref.{now}
-use Prim.Native.Nat.{_+_, _*_}
-use mathlib.Core.List.{[], _∷_}
+use Prim.Native.Nat.{_+_, _*_, ℕ, _<_}
 use mathlib.Core.Path.{sym, _∙_}
-use Prim.Native.Nat.{ℕ, _<_}
 use borrow.Fn.Kinds.{In}
 use borrow.Fn.PlainCycle.{Measures, is, falls, and}
 use Rattle.definitions.proofs.definition.Reads as definition

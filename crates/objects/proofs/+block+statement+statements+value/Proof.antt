@@ -6,13 +6,12 @@ use Rattle.filling.proofs.Filling.{going}
 use Rattle.filling.specs.Fills.{Going}
 use Rattle.grammar.proofs.Rules.{name-taken, name-less, value-no}
 use Rattle.grammar.proofs.Terminals.{rbrace-is, equals-is}
-use Rattle.grammar.proofs.Meeting.{_⊳_, went-on}
+use Rattle.grammar.proofs.Meeting.{went-on}
 use Rattle.grammar.specs.Readers.{left}
 use Rattle.grammar.specs.Grammar.{statements}
 use denote.Ref.{now}
-use Prim.Native.Nat.{_+_, _*_}
+use Prim.Native.Nat.{_+_, _*_, ℕ, _<_}
 use mathlib.Core.Path.{sym, _∙_}
-use Prim.Native.Nat.{ℕ, _<_}
 use borrow.Fn.Kinds.{In}
 use borrow.Fn.PlainCycle.{Measures, is, falls, and}
 use Rattle.objects.proofs.block.Reads as block
