@@ -17,14 +17,6 @@ both-true : (p q : Bool) → both p q ≡ true → (p ≡ true) × (q ≡ true)
 both-true true q e = (refl, e)
 both-true false q e = absurd (false≢true e)
 
-pub either-false : (b : Bool) → either b false ≡ b
-either-false true = refl
-either-false false = refl
-
-pub either-swap : (a b c : Bool) → either a (either b c) ≡ either (either a b) c
-either-swap true b c = refl
-either-swap false b c = refl
-
 -- Equal where neither is less.
 two-tests : (u v x y : ℕ) → (u ≡ v → x ≡ y) → (x ≡ y → u ≡ v) → eqb u v ≡ both (leb x y) (leb y x)
 two-tests u v x y f g = by (eqb u v) refl

@@ -9,6 +9,7 @@ use lib.ListN.{length, take, set, length-set}
 use lib.Seq.{take-suc-set}
 use lib.Dec.{eqb}
 use Rattle.token.specs.Find.{either}
+use Rattle.token.proofs.Bytes.{either-false, either-assoc}
 use Rattle.sorting.specs.Sorted.{among-cells}
 use Rattle.meaning.specs.Syntax.{Num, Word}
 use Rattle.meaning.specs.Words.{equal, among-numbers}
@@ -18,13 +19,13 @@ use Rattle.scopes.specs.Ranges.{Listed, listed-none, listed-more}
 use Rattle.scopes.proofs.Ranging.{listed-start, listed-stop, listed-end}
 use Rattle.amounts.specs.Keys.{has-key, key}
 use Rattle.amounts.specs.Promises.{KeyedBehind, Keyed}
-use Rattle.amounts.proofs.Keyings.{either-false, either-swap, keys-equal}
+use Rattle.amounts.proofs.Keyings.{keys-equal}
 
 -- A cell more at the end.
 among-snoc : (x : ℕ) (l : List ℕ) (y : ℕ) → among-cells x (l ++ (y ∷ [])) ≡ either (among-cells x l) (eqb y x)
 unfolding among-cells
 among-snoc x [] y = either-false (eqb y x)
-among-snoc x (z ∷ l) y = ap (either (eqb z x)) (among-snoc x l y) ∙ either-swap (eqb z x) (among-cells x l) (eqb y x)
+among-snoc x (z ∷ l) y = ap (either (eqb z x)) (among-snoc x l y) ∙ either-assoc (eqb z x) (among-cells x l) (eqb y x)
 
 -- Of the numbers ws those that are left; the cells are those of the others, behind the first ones.
 pub record Left (s : List ℕ) (g : Bool) (at : ℕ) (ws : List Word) (first cells : List ℕ) : Type 0 where
@@ -64,7 +65,7 @@ module _ (s : List ℕ) (g : Bool) (from : ℕ) (first : List ℕ) where
                 listed = subst (λ i. Listed s i rest) (sym d) b;
                 whole = λ n j.
                     o n j
-                    ∙ either-swap (among-cells (key n) cells) (equal n (w .number)) (among-numbers n rest)
+                    ∙ either-assoc (among-cells (key n) cells) (equal n (w .number)) (among-numbers n rest)
                     ∙ ap (λ i. either (either (among-cells (key n) cells) i) (among-numbers n rest)) (ap (equal n) (sym c) ∙ sym (keys-equal g n (num (y .number)) j p))
                     ∙ ap (λ i. either i (among-numbers n rest)) (sym (among-snoc (key n) cells (key (num (y .number)))));
               }

@@ -4,7 +4,7 @@ use mathlib.Core.List.{List, [], _∷_, _++_, append-assoc}
 use mathlib.Core.Option.{Option, none, some}
 use Prim.Native.Nat.{ℕ, zero, suc, _+_, _*_, _-_, _≤_, _<_}
 use native.Mathlib.Omega.{arith}
-use lib.ListN.{length, length-append, getD, take, drop}
+use lib.ListN.{length, getD, take, drop}
 use borrow.Author.Tests.{le-leb}
 use Rattle.token.specs.Find.{pick, both}
 use Rattle.token.specs.Tokens.{partOf, stepAt}
@@ -13,19 +13,17 @@ use Rattle.token.specs.declared.Step.{Step}
 use Rattle.token.specs.declared.Step.the-variants.{Found, Refused, End}
 use Rattle.token.proofs.Steps.{StepOk, step-ok}
 use Rattle.grammar.specs.Grammar.{Token, tokens, Derivation}
-use Rattle.grammar.specs.Terminals.{tokenOf, tokensIn}
-use Rattle.grammar.specs.Terminals.{tokens as tokens-of}
+use Rattle.grammar.specs.Terminals.{tokenOf, tokensIn, tokens as tokens-of}
 use Rattle.meaning.specs.Syntax.{Word, Statements, done, state, Object, File, statements-in}
 use Rattle.meaning.specs.Actions.{syntax, word-of, num-of-step}
-use Rattle.meaning.proofs.Order.{Ordered, InOrder, Sub, sub-nil, keep, ordered-sub}
-use Rattle.meaning.proofs.Order.{drop as leave}
+use Rattle.meaning.proofs.Order.{Ordered, InOrder, Sub, sub-nil, keep, ordered-sub, drop as leave}
 use Rattle.meaning.proofs.Leaves.{words, leaves-words, words-leaves, leaves-in-order}
 use Rattle.meaning.proofs.Settled.{text-ordered}
 use Rattle.meaning.proofs.Sites.{option-words, spec-words, statement-words, object-words, file-words}
-use Rattle.layout.specs.Kept.{statement-cells, statement-rows, object-cells, object-rows, all-statement-rows, statement-count, kept-objects, kept-statements}
-use Rattle.blocks.specs.Blocks.{Wide, Holds, WordIn, AllIn, BraceIn, no-brace, a-brace, StatementsIn, none-in, more-in, BlockAt}
-use Rattle.blocks.proofs.Holding.{wide-append, cell-held}
-use Rattle.blocks.proofs.Ranges.{length-rows}
+use Rattle.layout.specs.Kept.{statement-cells, statement-rows, object-cells, object-rows, all-statement-rows, statement-count, kept-objects, kept-statements, Wide}
+use Rattle.layout.proofs.Lengths.{wide-append, length-all, object-wide, length-objects}
+use Rattle.blocks.specs.Blocks.{Holds, WordIn, AllIn, BraceIn, no-brace, a-brace, StatementsIn, none-in, more-in, BlockAt}
+use Rattle.blocks.proofs.Holding.{cell-held}
 
 -- Words ------------------------------------------------------------------------------------------------------------------------------------
 
@@ -157,26 +155,6 @@ wide-all (x ∷ xs) m =
     wide-append 7 (statement-rows (x .statements) m) (all-statement-rows xs (m + statements-in (x .statements))) (wide-statements (x .statements) m)
     (wide-all xs (m + statements-in (x .statements)))
 
-pub length-all : (xs : List Object) (m : ℕ) → length (all-statement-rows xs m) ≡ statement-count xs
-unfolding all-statement-rows statement-count
-length-all [] m = refl
-length-all (x ∷ xs) m =
-    let n = m + statements-in (x .statements) in
-    let a = length-append (statement-rows (x .statements) m) (all-statement-rows xs n) in
-    let b = length-rows (x .statements) m in
-    let c = length-all xs n in
-    omega arith
-
-wide-objects : (xs : List Object) (m : ℕ) → Wide 9 (object-rows xs m)
-unfolding object-rows object-cells
-wide-objects [] m = tt
-wide-objects (x ∷ xs) m = (refl, wide-objects xs (m + statements-in (x .statements)))
-
-pub length-objects : (xs : List Object) (m : ℕ) → length (object-rows xs m) ≡ length xs
-unfolding object-rows
-length-objects [] m = refl
-length-objects (x ∷ xs) m = ap suc (length-objects xs (m + statements-in (x .statements)))
-
 pub statements-held : (f : File) → statement-count (f .objects) ≤ 2049 → Holds 2049 7 (kept-statements f) (all-statement-rows (f .objects) 0)
 unfolding kept-statements
 statements-held f h =
@@ -187,7 +165,7 @@ pub objects-held : (f : File) → length (f .objects) ≤ 257 → Holds 257 9 (k
 unfolding kept-objects
 objects-held f h =
     let l = length-objects (f .objects) 0 in
-    record { table = refl; fits = omega arith; wide = wide-objects (f .objects) 0 }
+    record { table = refl; fits = omega arith; wide = object-wide (f .objects) 0 }
 
 -- The rows of one object of a list, before which m statements stand.
 all-split : (front : List Object) (x : Object) (rest : List Object) (m : ℕ)
@@ -247,6 +225,3 @@ module _ (s : List ℕ) (f : File) (front : List Object) (x : Object) (rest : Li
         words = object-in s front x rest (subst (λ t. AllIn s (object-words t)) e w) .1;
         after = refl;
       }
-
-  pub object-name : AllIn s (object-words (f .objects)) → WordIn s (x .name)
-  object-name w = object-in s front x rest (subst (λ t. AllIn s (object-words t)) e w) .0

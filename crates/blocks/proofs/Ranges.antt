@@ -4,7 +4,7 @@ use mathlib.Core.List.{List, [], _∷_, _++_, append-assoc}
 use mathlib.Core.Bool.{Bool, true, false}
 use Prim.Native.Nat.{ℕ, suc, _+_, _*_, _≤_, _<_}
 use native.Mathlib.Omega.{arith}
-use lib.ListN.{length, length-append, getD}
+use lib.ListN.{length-append, getD}
 use lib.Dec.{ltb, leb}
 use borrow.Author.Tests.{lt-ltb, le-ltb, le-leb, ltb-true, leb-true, lt-leb}
 use Rattle.token.specs.Find.{pick, both, either}
@@ -14,6 +14,7 @@ use Rattle.meaning.specs.Syntax.{Word, Statement, Statements, done, state, stat
 use Rattle.meaning.specs.Words.{alike, among}
 use Rattle.meaning.specs.Scopes.{names}
 use Rattle.layout.specs.Kept.{statement-cells, statement-rows}
+use Rattle.layout.proofs.Lengths.{length-statements}
 use Rattle.rows.specs.declared.Found.{Found}
 use Rattle.rows.specs.declared.Found.the-variants.{At, Nothing}
 use Rattle.rows.specs.Search.{isFound}
@@ -21,15 +22,6 @@ use Rattle.blocks.specs.Blocks.{WordIn, BraceIn, StatementsIn, none-in, 
 use Rattle.blocks.proofs.Holding.{cell-held}
 
 -- Rows -------------------------------------------------------------------------------------------------------------------------------------
-
-pub length-rows : (ss : Statements) (m : ℕ) → length (statement-rows ss m) ≡ statements-in ss
-unfolding statement-rows statements-in
-length-rows done m = refl
-length-rows (state x inside rest) m =
-    let a = length-append (statement-rows inside (suc m)) (statement-rows rest (suc m + statements-in inside)) in
-    let b = length-rows inside (suc m) in
-    let c = length-rows rest (suc m + statements-in inside) in
-    omega arith
 
 module _ {rs : List (List ℕ)} {m : ℕ} {x : Statement} {inside rest : Statements} (b : Block rs m (state x inside rest)) where
   -- The row of the first statement.
@@ -59,7 +51,7 @@ module _ {rs : List (List ℕ)} {m : ℕ} {x : Statement} {inside rest : Stateme
       let i = statement-rows inside (suc m) in
       let t = statement-rows rest (suc m + statements-in inside) in
       let l = length-append (b .front) (r ∷ i) in
-      let n = length-rows inside (suc m) in
+      let n = length-statements inside (suc m) in
       let p = b .place in
       record {
         front = b .front ++ (r ∷ i);
@@ -125,11 +117,6 @@ unfolding then statements-in
 in-then done b = omega arith
 in-then (state x inside rest) b = let h = in-then rest b in omega arith
 
-pub names-then : (a b : Statements) → names (then a b) ≡ names a ++ names b
-unfolding then names
-names-then done b = refl
-names-then (state x inside rest) b = ap (λ l. x .name ∷ l) (names-then rest b)
-
 pub then-assoc : (a b c : Statements) → then (then a b) c ≡ then a (then b c)
 unfolding then
 then-assoc done b c = refl
@@ -173,7 +160,7 @@ module _ {s st : List ℕ} {m e : ℕ} (a b : Statements) (h : BlockAt s st m e 
   pub back-at : BlockAt s st (m + statements-in a) e b
   back-at =
       let l = length-append (h .block .front) (statement-rows a m) in
-      let n = length-rows a m in
+      let n = length-statements a m in
       let p = h .block .place in
       let q = h .after in
       let t = in-then a b in

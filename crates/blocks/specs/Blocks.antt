@@ -13,16 +13,11 @@ use Rattle.meaning.specs.Syntax.{Word, Statement, Statements, done, state, stat
 use Rattle.meaning.specs.Words.{alike, among}
 use Rattle.meaning.specs.Scopes.{names}
 use Rattle.meaning.specs.Actions.{num-of-step}
-use Rattle.layout.specs.Kept.{statement-rows, kept}
+use Rattle.layout.specs.Kept.{statement-rows, kept, Wide}
 use Rattle.rows.specs.declared.Found.{Found}
 use Rattle.rows.specs.declared.Found.the-variants.{At, Nothing}
 
 -- Tables -----------------------------------------------------------------------------------------------------------------------------------
-
--- Each row has w cells.
-abbrev pub Wide : ℕ → List (List ℕ) → Type 0
-Wide w [] = Unit {0}
-Wide w (r ∷ rs) = (length r ≡ w) × Wide w rs
 
 -- The table t, of room for some rows of w cells, holds the rows rs, and no row was too many.
 pub record Holds (room w : ℕ) (t : List ℕ) (rs : List (List ℕ)) : Type 0 where

@@ -3,31 +3,15 @@ use Prim.Native.Nat.{ℕ, _+_}
 use mathlib.Core.Path.{_≡_, refl, sym, ap, ap₂, _∙_}
 use mathlib.Core.List.{List, [], _∷_, _++_}
 use mathlib.Core.Bool.{Bool, true, false}
-use native.Mathlib.Omega.{arith}
-use lib.ListN.{length, take, length-append}
+use lib.ListN.{length, take}
 use Rattle.grammar.specs.Grammar.{Integer, UINT32, INT32, UINT64, INT64}
-use Rattle.meaning.specs.Syntax.{Word, span-of, span-or, Definition, Definitions, no-more, define, Values, no-value, value, Spec, is-enum}
+use Rattle.meaning.specs.Syntax.{Word, span-of, span-or, Definition, Definitions, no-more, define, Values, no-value, value, Spec}
 use Rattle.meaning.specs.Defining.{definition-row, definition-rows, definition-rows-under, all-definition-rows}
-use Rattle.meaning.specs.Cells.{flag, integer-code, type-code, cells}
-use Rattle.meaning.specs.Cells.{definition-cells as lent-cells}
-use Rattle.layout.specs.Kept.{Entry, entries, entries-under, spec-entries, list-key, bit, code-of, integer-number, truth-cells, default-code, definition-cells}
+use Rattle.meaning.specs.Cells.{flag, integer-code, type-code, cells, definition-cells as lent-cells}
+use Rattle.layout.specs.Kept.{Entry, entries, entries-under, spec-entries, list-key, bit, code-of, integer-number, definition-cells}
 use Rattle.scopes.specs.Forms.{Formed, an-integer, a-string, a-boolean, an-enum, a-reference, AllFormed, none-formed, more-formed, AllFormedUnder, none-under, more-under}
 use Rattle.scopes.proofs.Forming.{FormedSpecs}
 use Rattle.copying.proofs.Rooms.{cells-append}
-
-truth-three : (b : Bool) (vs : Values) → length (truth-cells b vs) ≡ 3
-unfolding truth-cells
-truth-three true vs = refl
-truth-three false no-value = refl
-truth-three false (value t e us no-value) = refl
-truth-three false (value t e us (value f e′ us′ vs)) = refl
-
-pub definition-wide : (x : Entry) → length (definition-cells x) ≡ 19
-unfolding definition-cells
-definition-wide x =
-    let a = truth-three (is-enum (x .definition .type)) (x .values) in
-    let b = length-append (truth-cells (is-enum (x .definition .type)) (x .values)) (default-code (x .definition .default) ∷ []) in
-    omega arith
 
 bit-flag : (b : Bool) → bit b ≡ flag b
 unfolding bit flag

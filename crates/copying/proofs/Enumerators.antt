@@ -12,9 +12,10 @@ use Rattle.meaning.proofs.Numbering.{Counts, definition-numbers, numbers-under,
 use Rattle.meaning.proofs.Standing.{Run, counts-back, counts-front, counts-head, counts-tail}
 use Rattle.meaning.proofs.Sites.{definition-words, value-words, spec-words}
 use Rattle.layout.specs.Kept.{Entry, Choice, list-key, entries, entries-under, spec-entries, choice-if, choices, choices-of, spec-choices}
-use Rattle.scopes.proofs.Runs.{run-le, cut, cuts}
+use Rattle.layout.proofs.Lengths.{length-entries, length-entries-under}
+use Rattle.meaning.proofs.Runs.{run-le, cut, cuts}
 use Rattle.copying.proofs.Rooms.{cells-append}
-use Rattle.copying.proofs.Keys.{NoKey, no-key-append, key-out, no-key-in, no-key-under, length-entries, length-entries-under}
+use Rattle.copying.proofs.Keys.{NoKey, no-key-append, key-out, no-key-in, no-key-under}
 
 -- The entries E, and the row that is found by a key.
 module _ (E : List Entry) (row : ℕ → ℕ) (found : (a : List Entry) (x : Entry) (b : List Entry) → E ≡ a ++ (x ∷ b) → NoKey (list-key (x .values)) a → row (list-key (x .values)) ≡ length a) where

@@ -12,12 +12,12 @@ use Rattle.rows.specs.declared.Found.the-variants.{At, Nothing}
 use Rattle.rows.specs.Table.{first, anyOf}
 use Rattle.rows.specs.Search.{findFrom, hasKey, findRow}
 use Rattle.rows.proofs.Walks.{first-append}
-use Rattle.meaning.specs.Syntax.{Word, Definitions, no-more, define, Values, no-value, value, File, definitions-in, definitions-under}
+use Rattle.meaning.specs.Syntax.{Word, Definitions, no-more, define, Values, no-value, value, File}
 use Rattle.meaning.proofs.Standing.{Run}
 use Rattle.meaning.proofs.Sites.{definition-words, value-words}
 use Rattle.layout.specs.Kept.{Entry, list-key, entries, entries-under, spec-entries, definition-cells, kept-definitions}
 use Rattle.scopes.proofs.Rooms.{definition-cell}
-use Rattle.scopes.proofs.Runs.{run-le, cut, Out, cuts}
+use Rattle.meaning.proofs.Runs.{run-le, cut, Out, cuts}
 use Rattle.scopes.proofs.Finding.{seek-all}
 use Rattle.copying.specs.Copies.{row-or, attribute-of}
 
@@ -65,25 +65,6 @@ mutual
       (no-key-under vs p (k .mid) hi x (k .back) h (λ y a b. o y (omega arith) b))
 
 -- As many entries as definitions.
-mutual
-  unfolding entries definitions-in
-
-  pub length-entries : (ds : Definitions) (u : Word) (o : ℕ) → length (entries ds u o) ≡ definitions-in ds
-  length-entries no-more u o = refl
-  length-entries (define d vs ds) u o =
-      let a = length-append (entries-under vs (list-key vs)) (record { under = u; outer = o; definition = d; values = vs } ∷ entries ds u o) in
-      let b = length-entries-under vs (list-key vs) in
-      let c = length-entries ds u o in
-      omega arith
-
-  pub length-entries-under : (vs : Values) (o : ℕ) → length (entries-under vs o) ≡ definitions-under vs
-  length-entries-under no-value o = refl
-  length-entries-under (value w e us vs) o =
-      let a = length-append (entries us w o) (entries-under vs o) in
-      let b = length-entries us w o in
-      let c = length-entries-under vs o in
-      omega arith
-
 -- The search -------------------------------------------------------------------------------------------------------------------------------
 
 has-list : ℕ → Entry → Bool

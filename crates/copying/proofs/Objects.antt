@@ -1,24 +1,12 @@
 -- The first 7 cells of the kept objects are the rows of the lent table. Assumes nothing.
-use Prim.Native.Nat.{ℕ, suc, _+_}
+use Prim.Native.Nat.{ℕ, _+_}
 use mathlib.Core.Path.{_≡_, refl, ap}
 use mathlib.Core.List.{List, [], _∷_, _++_}
-use lib.ListN.{length, take}
+use lib.ListN.{take}
 use Rattle.meaning.specs.Syntax.{span-of, Object, statements-in}
-use Rattle.meaning.specs.Cells.{cells}
-use Rattle.meaning.specs.Cells.{object-cells as lent-cells}
+use Rattle.meaning.specs.Cells.{cells, object-cells as lent-cells}
 use Rattle.meaning.specs.Applying.{object-rows as lent-rows}
 use Rattle.layout.specs.Kept.{object-cells, object-rows}
-use Rattle.scopes.proofs.Rooms.{Wide}
-
-pub object-wide : (os : List Object) (m : ℕ) → Wide 9 (object-rows os m)
-unfolding object-rows object-cells
-object-wide [] m = tt
-object-wide (x ∷ xs) m = (refl, object-wide xs (m + statements-in (x .statements)))
-
-pub length-objects : (os : List Object) (m : ℕ) → length (object-rows os m) ≡ length os
-unfolding object-rows
-length-objects [] m = refl
-length-objects (x ∷ xs) m = ap suc (length-objects xs (m + statements-in (x .statements)))
 
 pub object-heads : (os : List Object) (m : ℕ) → cells (take 7) (object-rows os m) ≡ cells lent-cells (lent-rows os)
 unfolding object-rows object-cells lent-rows lent-cells span-of cells

@@ -7,8 +7,9 @@ use native.Mathlib.Nat.{sub-zero, zero-sub, suc-sub-suc}
 use lib.ListN.{length, getD, take, drop, replicate, length-append, length-replicate}
 use lib.Seq.{sets, sets-eq, drop-cons, drop-at, take-append-le}
 use Rattle.meaning.specs.Cells.{cells, zeros, room-cells}
-use Rattle.layout.specs.Kept.{join, map-cells, kept}
-use Rattle.scopes.proofs.Rooms.{Wide}
+use Rattle.meaning.proofs.Rooms.{zeros-length}
+use Rattle.layout.specs.Kept.{join, map-cells, kept, Wide}
+use Rattle.layout.proofs.Lengths.{length-join}
 use Rattle.copying.specs.Copies.{cells-from, each-row}
 
 cells-in : (l : List ℕ) (a c : ℕ) → a + c ≤ length l → cells-from l a c ≡ take c (drop a l)
@@ -41,37 +42,18 @@ module _ (g : List ℕ → List ℕ) (w c : ℕ) (k : c ≤ w) where
       (ap g (ap (λ (t : List ℕ). cells-from t (i * w) c) y ∙ row-in a r (join rs ++ b) (i * w) c e (omega arith)))
       (ap (λ (t : List ℕ). each-row g t w c (suc i) (length rs)) z ∙ rows-in rs (a ++ r) b (suc i) (omega arith) (h .1))
 
-  length-join : (rs : List (List ℕ)) → Wide w rs → length (join rs) ≡ length rs * w
-  unfolding join
-  length-join [] h = omega arith
-  length-join (r ∷ rs) h =
-      let a = length-append r (join rs) in
-      let b = length-join rs (h .1) in
-      let e = h .0 in
-      omega arith
-
   -- What is copied from a kept table that has room for all its rows.
   pub rows-kept : (n : ℕ) (rs : List (List ℕ)) → Wide w rs → length rs * w ≤ n
       → each-row g (kept n rs) w c 0 (length rs) ≡ cells (λ (r : List ℕ). g (take c r)) rs
   unfolding kept
   rows-kept n rs h q =
-      let a = length-join rs h in
+      let a = length-join w rs h in
       let b = length-replicate {A = ℕ} n 0 in
       let e : sets (replicate n 0) 0 (join rs) ≡ join rs ++ drop (0 + length (join rs)) (replicate n 0) = sets-eq (join rs) (replicate n 0) 0 (omega arith) in
       ap (λ (t : List ℕ). each-row g t w c 0 (length rs)) e ∙ rows-in rs [] (drop (0 + length (join rs)) (replicate n 0)) 0 (omega arith) h
 
 -- Rows made of a list, one of each element.
 module _ {A : Type 0} (f : A → List ℕ) where
-  pub length-map : (xs : List A) → length (map-cells f xs) ≡ length xs
-  unfolding map-cells
-  length-map [] = refl
-  length-map (x ∷ xs) = ap suc (length-map xs)
-
-  pub wide-map : (w : ℕ) → ((x : A) → length (f x) ≡ w) → (xs : List A) → Wide w (map-cells f xs)
-  unfolding map-cells
-  wide-map w h [] = tt
-  wide-map w h (x ∷ xs) = (h x, wide-map w h xs)
-
   pub cells-map : (h : List ℕ → List ℕ) (xs : List A) → cells h (map-cells f xs) ≡ cells (λ (x : A). h (f x)) xs
   unfolding cells map-cells
   cells-map h [] = refl
@@ -81,12 +63,6 @@ module _ {A : Type 0} (f : A → List ℕ) where
   unfolding cells
   cells-append [] ys = refl
   cells-append (x ∷ xs) ys = ap (λ (t : List ℕ). f x ++ t) (cells-append xs ys) ∙ sym (append-assoc (f x) (cells f xs) (cells f ys))
-
--- Zeros.
-pub length-zeros : (n : ℕ) → length (zeros n) ≡ n
-unfolding zeros
-length-zeros zero = refl
-length-zeros (suc n) = ap suc (length-zeros n)
 
 -- A cleared room is a blank one.
 pub cleared-zeros : (n : ℕ) → replicate n 0 ≡ zeros n
@@ -103,7 +79,7 @@ drop-zeros (suc n) (suc m) = drop-zeros n m ∙ ap zeros (sym (suc-sub-suc m n))
 -- Cells in a blank room of n.
 in-room : (n : ℕ) (v : List ℕ) → length v ≤ n → sets (zeros n) 0 v ≡ v ++ zeros (n - length v)
 in-room n v h =
-    let z = length-zeros n in
+    let z = zeros-length n in
     let e : 0 + length v ≡ length v = omega arith in
     sets-eq v (zeros n) 0 (omega arith) ∙ ap (λ (k : ℕ). v ++ drop k (zeros n)) e ∙ ap (λ (t : List ℕ). v ++ t) (drop-zeros (length v) n)
 

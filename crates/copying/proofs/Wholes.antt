@@ -5,33 +5,31 @@ use Prim.Native.Nat.{ℕ, _*_, _≤_}
 use native.Mathlib.Omega.{arith}
 use lib.ListN.{length, take}
 use lib.Seq.{sets, length-sets}
-use Rattle.grammar.specs.Grammar.{file, _▸_, ∎, _⟶_, Trees}
-use Rattle.grammar.specs.Grammar.{tokens as tree-tokens}
+use Rattle.grammar.specs.Grammar.{file, _▸_, ∎, _⟶_, Trees, tokens as tree-tokens}
 use Rattle.grammar.specs.Terminals.{tokens}
 use Rattle.meaning.specs.Syntax.{File}
 use Rattle.meaning.specs.Actions.{syntax}
 use Rattle.meaning.specs.Defining.{all-definition-rows, all-enumerator-rows}
 use Rattle.meaning.specs.Applying.{object-rows as lent-objects}
-use Rattle.meaning.specs.Cells.{cells, enumerator-cells, definition-room, enumerator-room, object-room}
-use Rattle.meaning.specs.Cells.{definition-cells as lent-definition}
-use Rattle.meaning.specs.Cells.{object-cells as lent-object}
+use Rattle.meaning.specs.Cells.{cells, enumerator-cells, definition-room, enumerator-room, object-room, definition-cells as lent-definition, object-cells as lent-object}
 use Rattle.meaning.proofs.Order.{Ordered}
 use Rattle.meaning.proofs.Settled.{text-ordered}
 use Rattle.meaning.proofs.Numbering.{numbered, Counts, spec-numbers}
 use Rattle.meaning.proofs.Standing.{Run}
 use Rattle.meaning.proofs.Sites.{spec-words}
 use Rattle.layout.specs.Kept.{Choice, spec-entries, spec-choices, definition-cells, choice-cells, object-rows, map-cells, kept, kept-definitions, kept-enumerators, kept-objects}
+use Rattle.layout.proofs.Lengths.{object-wide, length-objects, definition-wide, length-map, wide-map}
 use Rattle.scopes.specs.Situations.{Situation}
 use Rattle.scopes.proofs.Chains.{Chain, text-chain}
 use Rattle.scopes.proofs.Forming.{FormedSpecs, formed}
 use Rattle.scopes.proofs.Goodness.{spec-order}
-use Rattle.scopes.proofs.Runs.{ends}
+use Rattle.meaning.proofs.Runs.{ends}
 use Rattle.copying.specs.Copies.{each-row, as-is, attributed, attribute-of}
 use Rattle.copying.specs.Promises.{CopiesDefinitions, CopiesEnumerators, CopiesObjects}
 use Rattle.copying.proofs.Stretches.{as-is-keeps, attributed-keeps, length-rows}
-use Rattle.copying.proofs.Rooms.{rows-kept, length-map, wide-map, cells-map, room-of}
-use Rattle.copying.proofs.Definitions.{definition-wide, head, spec-heads}
-use Rattle.copying.proofs.Objects.{object-wide, length-objects, object-heads}
+use Rattle.copying.proofs.Rooms.{rows-kept, cells-map, room-of}
+use Rattle.copying.proofs.Definitions.{head, spec-heads}
+use Rattle.copying.proofs.Objects.{object-heads}
 use Rattle.copying.proofs.Keys.{attribute-found}
 use Rattle.copying.proofs.Enumerators.{choice-row, spec-choice-rows}
 

@@ -1,11 +1,11 @@
 -- One law for each way in which a reader of definitions answers. Assumes nothing.
-use mathlib.Core.Path.{_≡_, refl, sym, _∙_, ap, ap₂, subst}
+use mathlib.Core.Path.{_≡_, refl, sym, _∙_, ap, ap₂}
 use mathlib.Core.List.{List, [], _∷_, _++_, append-assoc, append-nil}
 use mathlib.Core.Bool.{Bool, true, false}
-use mathlib.Core.Option.{Option, none, some}
-use Prim.Native.Nat.{ℕ, zero, suc, _+_, _-_, _*_, _≤_, _<_, min}
+use mathlib.Core.Option.{none}
+use Prim.Native.Nat.{ℕ, suc, _+_, _-_, _*_, min}
 use lib.Seq.{sets}
-use Rattle.grammar.specs.Grammar.{Form, Rule, Terminal, Class, _⟶_, _·_, _▸_, ∎, matches, name, kind, type, integer, number, string, the, sg, TRUE, FALSE, STRING, BOOLEAN, ENUM, lbrace, rbrace, lsquare, rsquare, semicolon, comma, Sort, integers, strings, booleans, enums, definitions, definition, attribute, D, P, auto, mark, integer-range, boolean-range, enumerator, enumerators, default, a-definition, no-definition, an-attribute, a-reference, an-integer, a-string, a-boolean, an-enum, reference-is, a-P, no-P, a-boolean-range, no-boolean-range, enumerator-is, an-enumerator, no-enumerator}
+use Rattle.grammar.specs.Grammar.{Form, _⟶_, _·_, _▸_, ∎, matches, name, type, integer, the, sg, TRUE, FALSE, STRING, BOOLEAN, ENUM, lbrace, rbrace, lsquare, rsquare, semicolon, comma, integers, strings, booleans, enums, definitions, definition, attribute, D, P, auto, mark, integer-range, boolean-range, enumerator, enumerators, default, a-definition, no-definition, an-attribute, a-reference, an-integer, a-string, a-boolean, an-enum, reference-is, a-P, no-P, a-boolean-range, no-boolean-range, enumerator-is, an-enumerator, no-enumerator}
 use Rattle.grammar.specs.Factored.{paper}
 use Rattle.grammar.specs.Machine.{starts}
 use Rattle.grammar.specs.Readers.{classAt, advanced, refusal, Meets}
@@ -13,11 +13,12 @@ use Rattle.grammar.specs.declared.Look.{Look}
 use Rattle.grammar.proofs.Codes.{at-code, in-set}
 use Rattle.grammar.proofs.Meeting.{_⊳_, take}
 use Rattle.grammar.proofs.Rules.{reference-by, string-by, integer-by, boolean-by, enum-by, boolean-range-pass, boolean-range-by, lsquare-taken, P-pass, P-by, enumerator-by, enumerators-item, enumerators-again, enumerators-done, definitions-again, definitions-done}
-use Rattle.meaning.specs.Syntax.{Word, Span, absent, through, span-or, Definition, Definitions, no-more, define, Values, no-value, value, Defined, is-enum, definitions-in, enumerators-in}
-use Rattle.meaning.specs.Actions.{M, Parts, means, kind-of, integer-of, first-value, truths, defined, defining}
+use Rattle.meaning.specs.Syntax.{Word, Span, absent, through, Definition, Definitions, no-more, define, Values, no-value, value, is-enum, definitions-in, enumerators-in}
+use Rattle.meaning.specs.Actions.{Parts, means, first-value, truths, defined, defining}
 use Rattle.layout.specs.Kept.{Entry, Choice, bit, code-of, list-key, truth-cells, default-code, entries, entries-under, choices, choices-of, choice-if, definition-cells, choice-cells, map-cells}
-use Rattle.filling.specs.Fills.{Seen, Told, Fills, Walks, Going, Effects, front-of, behind}
-use Rattle.filling.proofs.Filling.{plain, first, _▻_, fills-map, told-as, told-rule, told-none, refused, going-on, gone, both}
+use Rattle.layout.proofs.Lengths.{map-append}
+use Rattle.filling.specs.Fills.{Seen, Fills, Walks, Going, Effects, front-of, behind}
+use Rattle.filling.proofs.Filling.{plain, first, _▻_, told-as, told-rule, told-none, refused, going-on, gone, both}
 use Rattle.filling.proofs.Tables.{wrote-none, wrote-then, wrote-row}
 use Rattle.definitions.specs.declared.Under.{Under}
 use Rattle.definitions.specs.declared.Head.{Head}
@@ -41,11 +42,6 @@ pub tables : Effects Done (Table × Table) then ([], []) Fill
 tables = both (table 19) (table 3)
 
 -- Rows -----------------------------------------------------------------------------------------------------------------------------------
-
-map-append : {A : Type 0} (f : A → List ℕ) (xs ys : List A) → map-cells f (xs ++ ys) ≡ map-cells f xs ++ map-cells f ys
-unfolding map-cells
-map-append f [] ys = refl
-map-append f (x ∷ xs) ys = ap (f x ∷_) (map-append f xs ys)
 
 rows-defining : (d : Definition) (vs : Values) (ds : Definitions) (u : Word) (o : ℕ) → rows-of (define d vs ds) u o ≡ rows-of (define d vs no-more) u o ++ rows-of ds u o
 unfolding entries map-cells

@@ -1,27 +1,26 @@
 -- One law for each way in which a reader of a part of a definition answers. Assumes nothing.
-use mathlib.Core.Path.{_≡_, refl, sym, _∙_, ap, ap₂, subst}
-use mathlib.Core.List.{List, [], _∷_, _++_, append-assoc, append-nil}
-use mathlib.Core.Bool.{Bool, true, false}
-use mathlib.Core.Option.{Option, none, some}
-use Prim.Native.Nat.{ℕ, _+_, _-_, _*_, _≤_, _<_, min}
+use mathlib.Core.Path.{_≡_, refl, sym, _∙_, ap, ap₂}
+use mathlib.Core.List.{List, [], _∷_, _++_, append-nil}
+use mathlib.Core.Bool.{true}
+use mathlib.Core.Option.{none}
+use Prim.Native.Nat.{ℕ, _+_, _-_, _*_, min}
 use lib.ListN.{length}
 use lib.Seq.{sets}
-use Rattle.grammar.specs.Grammar.{Form, Rule, Terminal, Token, Class, Trees, nil, leaf, node, tokens, _⟶_, _·_, _▸_, ∎, matches, name, number, string, the, sg, TRUE, FALSE, AUTO, NO-DEFAULT, WITH-AUTO, lsquare, rsquare, equals, semicolon, comma, dots, Sort, integers, strings, booleans, enums, D, auto, mark, integer-range, numbers, default, own, no-auto, with-auto, no-mark, a-mark, no-range, a-range, a-list, no-number, a-number, no-default, a-default, own-auto, own-none, own-number, own-string, own-true, own-false, own-name}
-use Rattle.grammar.specs.Factored.{lift, span, _⟹_, keep, one-number, up-to, many-numbers}
+use Rattle.grammar.specs.Grammar.{Form, Token, Trees, nil, leaf, node, tokens, _⟶_, _·_, _▸_, ∎, matches, name, number, the, sg, WITH-AUTO, lsquare, rsquare, equals, semicolon, comma, Sort, integers, strings, booleans, enums, D, auto, mark, integer-range, numbers, default, own, no-auto, with-auto, no-mark, a-mark, no-range, a-range, a-list, no-number, a-number, no-default, a-default, own-auto, own-none, own-number, own-string, own-true, own-false, own-name}
+use Rattle.grammar.specs.Factored.{span, _⟹_, one-number, up-to, many-numbers}
 use Rattle.grammar.specs.Machine.{Stream, prepend}
-use Rattle.grammar.specs.Readers.{classAt, seen, rest, advanced, expected, sortAt, Took, Reads, Meets}
+use Rattle.grammar.specs.Readers.{classAt, rest, advanced, expected, Took, Reads, Meets}
 use Rattle.grammar.specs.declared.Look.{Look}
-use Rattle.grammar.proofs.Codes.{Yes, at-code}
+use Rattle.grammar.proofs.Codes.{at-code}
 use Rattle.grammar.proofs.Steps.{prepend-append}
 use Rattle.grammar.proofs.Literal.{lifted, from, tokens-from}
 use Rattle.grammar.proofs.Meeting.{_⊳_, take}
 use Rattle.grammar.proofs.Terminals.{number-is, rsquare-is}
 use Rattle.grammar.proofs.Rules.{auto-pass, auto-is, mark-pass, mark-is, range-pass, range-by, default-pass, default-is, lsquare-taken}
-use Rattle.meaning.specs.Syntax.{Word, Span, absent, span-of, span-or, through}
-use Rattle.meaning.specs.Actions.{M, Parts, word-of, means, meaning}
-use Rattle.layout.specs.Kept.{bit, default-code, code-of}
+use Rattle.meaning.specs.Syntax.{Span, absent, span-of, span-or, through}
+use Rattle.meaning.specs.Actions.{word-of, means, meaning}
+use Rattle.layout.specs.Kept.{bit, default-code}
 use Rattle.filling.specs.Fills.{Seen, Told, Fills, Walks, front-of, behind}
-use Rattle.filling.specs.Tables.{Wrote}
 use Rattle.filling.proofs.Filling.{plain, first, is-first, _▻_, fills-map, told-map, told-as, told-rule, told-none, told-took}
 use Rattle.filling.proofs.Tables.{wrote-row}
 use Rattle.definitions.specs.declared.Under.{Under}

@@ -2,11 +2,11 @@
 -- so each is said for every numbering n, e of definitions and enumerators. Assumes nothing.
 use mathlib.Core.Path.{_≡_}
 use mathlib.Core.List.{List, [], _∷_, _++_}
-use mathlib.Core.Bool.{Bool, true, false}
-use mathlib.Core.Option.{Option, none, some}
+use mathlib.Core.Bool.{Bool, true}
+use mathlib.Core.Option.{Option}
 use Prim.Native.Nat.{ℕ, _-_}
 use Rattle.grammar.specs.declared.Look.{Look}
-use Rattle.meaning.specs.Syntax.{Word, Span, span-or, Definition, Definitions, no-more, define, Values, Defined}
+use Rattle.meaning.specs.Syntax.{Word, span-or, Definitions, no-more, define, Values, Defined}
 use Rattle.meaning.specs.Actions.{Enumerator}
 use Rattle.layout.specs.Kept.{bit, default-code, entries, entries-under, choices, choices-of, definition-cells, choice-cells, map-cells}
 use Rattle.filling.specs.Tables.{Wrote}

@@ -1,18 +1,17 @@
 -- The laws of a line's end, and of the CR before it.
 -- Assumes nothing.
-use Prim.Native.Nat.{ℕ, zero, suc, _+_, _-_, _<_, _≤_}
-use mathlib.Core.Path.{_≡_, refl, _∙_, ap}
+use Prim.Native.Nat.{ℕ, _+_, _-_, _<_, _≤_}
+use mathlib.Core.Path.{_≡_, refl}
 use mathlib.Core.Bool.{Bool, true, false, false≢true}
 use mathlib.Core.List.{List}
 use mathlib.Core.Logic.{_≢_}
 use native.Mathlib.Omega.{arith}
 use borrow.Author.Tests.{eq-eqb, ne-eqb, eqb-true, eqb-false, lt-ltb, le-ltb, ltb-true}
-use native.Mathlib.Decide.{decLt}
 use lib.Dec.{eqb, ltb}
 use lib.ListN.{length}
-use Rattle.token.specs.Find.{byte, firstOf, find}
+use Rattle.token.specs.Find.{byte}
 use Rattle.token.specs.Bytes.{findByte}
-use Rattle.token.proofs.Find.{by-test, find-here, find-next, find-past, find-low, find-high, find-holds}
+use Rattle.token.proofs.Find.{by-test, find-here, find-next, find-past, find-low, find-high, find-holds, find-before}
 use Rattle.explaining.specs.Places.{within, lineEnd, crBefore, shownEnd}
 
 pub within-here : (s : List ℕ) (p : ℕ) → p < length s → p ≡ within s p
@@ -53,26 +52,10 @@ module _ (s : List ℕ) where
   unfolding lineEnd findByte
   end-at p h l = eqb-true _ 10 (find-holds _ (length s) p h l)
 
-module _ (t : ℕ → Bool) where
-  -- the test holds at none of the places that were passed
-  first-before : (n p i : ℕ) → p ≤ i → i < firstOf t n p → t i ≡ false
-  unfolding firstOf
-  first-before zero p i = λ l h. absurd (omega arith)
-  first-before (suc n) p i =
-      by-test (λ (k : ℕ). p ≤ i → i < k → t i ≡ false) (t p) p (firstOf t n (suc p))
-      (λ _ l h. absurd (omega arith))
-      (λ f l h. split (first-before n (suc p) i) f l h (decLt p i))
-    where
-      split : (suc p ≤ i → i < firstOf t n (suc p) → t i ≡ false) → t p ≡ false → p ≤ i → i < firstOf t n (suc p) → Dec (p < i) → t i ≡ false
-      split r f l h (yes y) = r y h
-      split r f l h (no k) =
-          let e : i ≡ p = omega arith in
-          ap t e ∙ f
-
 -- no LF stands between the place and it
 pub end-clear : (s : List ℕ) (p i : ℕ) → p ≤ i → i < lineEnd s p → byte s i ≢ 10
-unfolding lineEnd findByte find
-end-clear s p i l h = eqb-false (byte s i) 10 (first-before (λ (k : ℕ). eqb (byte s k) 10) (length s - p) p i l h)
+unfolding lineEnd findByte
+end-clear s p i l h = eqb-false (byte s i) 10 (find-before (λ (k : ℕ). eqb (byte s k) 10) (length s) p i l h)
 
 module _ (s : List ℕ) (e : ℕ) where
   pub cr-past : length s ≤ e → false ≡ crBefore s e

@@ -1,16 +1,16 @@
 -- The code of a word is that of the look at it. Assumes nothing.
-use mathlib.Core.Path.{_≡_, refl, sym, _∙_, ap}
+use mathlib.Core.Path.{_≡_, sym, _∙_, ap}
 use mathlib.Core.List.{List}
 use mathlib.Core.Bool.{Bool, true}
 use Rattle.token.specs.Find.{pick}
 use Rattle.grammar.specs.Grammar.{Class, matches, kind}
 use Prim.Native.Nat.{ℕ, _-_, _<_}
-use lib.Dec.{T, eqb}
+use lib.Dec.{eqb}
 use borrow.Author.Tests.{eqb-true}
-use Rattle.token.proofs.Tables.{upTo, below}
+use Rattle.token.proofs.Tables.{below}
+use Rattle.token.proofs.Bytes.{T-true}
 use Rattle.grammar.specs.Readers.{classAt, seen}
 use Rattle.grammar.specs.declared.Look.{Look}
-use Rattle.grammar.proofs.Braces.{T-true}
 use Rattle.meaning.specs.Syntax.{Word}
 use Rattle.meaning.specs.Kinds.{kind-number}
 use Rattle.meaning.specs.Actions.{word-of, kind-of}

@@ -1,8 +1,8 @@
 -- The laws of readers that fill tables: trees one after another, rules by their forms, loops. Assumes nothing.
 use mathlib.Core.Path.{_≡_, refl, sym, _∙_, ap, ap₂, subst}
-use mathlib.Core.List.{List, [], _∷_, _++_, append-assoc, append-nil}
+use mathlib.Core.List.{List, [], _∷_, _++_, append-nil}
 use mathlib.Core.Bool.{Bool, true, false, false≢true}
-use Prim.Native.Nat.{ℕ, zero, suc, _+_, _-_, _≤_, _<_}
+use Prim.Native.Nat.{ℕ, _≤_, _<_}
 use native.Mathlib.Omega.{arith}
 use lib.Dec.{ltb, leb}
 use borrow.Author.Tests.{ltb-true, leb-false}
@@ -10,7 +10,7 @@ use Rattle.token.specs.Find.{pick}
 use Rattle.grammar.specs.Grammar.{Form, Rule, Terminal, Token, Trees, tok, rule, nil, leaf, node, tokens, _·_, _▸_, ∎, matches, _⟶_}
 use Rattle.grammar.specs.Factored.{Symbols, paper, lift, _⟹_}
 use Rattle.grammar.specs.Machine.{Stream, ended, bad, _▹_, prepend}
-use Rattle.grammar.specs.Readers.{seen, restBy, rest, left, refusal, Took, Reads, Meets, Still}
+use Rattle.grammar.specs.Readers.{seen, restBy, rest, refusal, Took, Reads, Meets, Still}
 use Rattle.grammar.specs.declared.Look.{Look}
 use Rattle.grammar.proofs.Splits.{join, tokens-join}
 use Rattle.grammar.proofs.Steps.{prepend-append}

@@ -1,20 +1,15 @@
 -- The laws of tables that rows are put into. Assumes nothing.
 use mathlib.Core.Path.{_≡_, refl, sym, _∙_, ap, subst}
-use mathlib.Core.List.{List, [], _∷_, _++_, append-assoc, append-nil}
-use Prim.Native.Nat.{ℕ, zero, suc, _+_, _-_, _*_, _≤_, _<_, min}
+use mathlib.Core.List.{List, [], _∷_, _++_, append-nil}
+use Prim.Native.Nat.{ℕ, _+_, _-_, _*_, _≤_, min}
 use native.Mathlib.Omega.{arith}
 use native.Mathlib.Decide.{decLe}
-use native.Mathlib.Nat.{add-zero}
 use lib.ListN.{length, length-append}
 use lib.Seq.{sets, length-sets}
 use Rattle.rows.proofs.Stores.{sets-append, sets-out}
 use Rattle.layout.specs.Kept.{join}
+use Rattle.layout.proofs.Lengths.{join-append}
 use Rattle.filling.specs.Tables.{Wide, Wrote}
-
-pub join-append : (xs ys : List (List ℕ)) → join (xs ++ ys) ≡ join xs ++ join ys
-unfolding join
-join-append [] ys = refl
-join-append (x ∷ xs) ys = ap (x ++_) (join-append xs ys) ∙ sym (append-assoc x (join xs) (join ys))
 
 pub wide-then : (w : ℕ) (xs ys : List (List ℕ)) → Wide w xs → Wide w ys → Wide w (xs ++ ys)
 wide-then w xs ys a b =

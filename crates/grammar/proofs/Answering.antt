@@ -1,23 +1,22 @@
 -- What the whole stage answers. Assumes nothing.
 use mathlib.Core.Path.{_≡_, refl, sym, _∙_, ap, ap₂, subst}
 use mathlib.Core.List.{List, [], _∷_, _++_}
-use Prim.Native.Nat.{ℕ, _≤_}
+use Prim.Native.Nat.{ℕ}
 use native.Mathlib.Omega.{arith}
 use lib.ListN.{length}
 use borrow.Author.Tests.{eq-eqb, ne-eqb, lt-ltb, le-ltb}
-use Rattle.token.specs.Lexing.{lexFrom, Lexed, Divides as Wholly}
-use Rattle.token.specs.Lexing.{more as found, ended as done, refused as none}
+use Rattle.token.specs.Lexing.{lexFrom, Lexed, Divides as Wholly, more as found, ended as done, refused as none}
 use Rattle.token.proofs.Promises.{Ends, lex-ends}
 use Rattle.grammar.specs.Grammar.{Token, file, _▸_, ∎, Derivation, Begins}
 use Rattle.grammar.specs.Terminals.{tokenOf, tokensIn, tokens}
 use Rattle.grammar.specs.Stage.{StopsAt, Shallow, Answers, passes, no-token, not-admitted, ends-early, too-deep}
-use Rattle.grammar.specs.Factored.{paper, _⟹_}
+use Rattle.grammar.specs.Factored.{paper}
 use Rattle.grammar.specs.Machine.{nullable-form, feed, Stream, ended, bad, _▹_, prepend, next, at-end, run}
-use Rattle.grammar.specs.Readers.{streamOf, lexAt, lookAt, refusalOf, answerOf, seen, on, restBy, rest, Took, Meets}
+use Rattle.grammar.specs.Readers.{streamOf, lexAt, lookAt, refusalOf, answerOf, seen, on, Meets}
 use Rattle.grammar.specs.declared.Look.{Look}
 use Rattle.grammar.specs.declared.Answer.{Answer}
 use Rattle.grammar.specs.declared.Answer.the-variants.{NotAdmitted}
-use Rattle.grammar.proofs.Meeting.{by-look, on-look, rest-look}
+use Rattle.grammar.proofs.Meeting.{by-look, on-look}
 use Rattle.grammar.proofs.Runs.{Outcome, well, no-token-at, not-taken, unfinished, seventeenth, run-is}
 
 -- With nothing to be read behind it, a look is what it answers.
@@ -34,17 +33,6 @@ pub stage-runs : (s : List ℕ) (a b : Look) (r : Answer) → a ≡ lookAt s 0 0
     → r ≡ run 0 (paper file ▸ ∎) (lexAt s 0)
 stage-runs s a b r e m v =
     v ∙ sym (answer-is s b) ∙ sym (m .reads ∎) ∙ ap (λ l. on s l (paper file ▸ ∎)) e ∙ on-look s 0 0 (paper file ▸ ∎)
-
--- Where the file is read to the text's end, its tree is at hand.
-pub tree-of : (s : List ℕ) (a b : Look) → a ≡ lookAt s 0 0 → Meets 1 (file ▸ ∎) s a b → b .code ≡ 54
-    → Took _⟹_ (paper file ▸ ∎) (lexAt s 0) (ended (b .at))
-unfolding rest restBy
-tree-of s a b e m h =
-    let w = m .took (omega arith) in
-    let p : lookAt s 0 0 .code ≤ 54 = subst (λ l. l .code ≤ 54) e (w .0) in
-    let q : rest s a ≡ lexAt s 0 = ap (rest s) e ∙ rest-look s 0 0 p in
-    let r : rest s b ≡ ended (b .at) = ap (λ c. restBy c s b) (le-ltb (b .code) 54 (omega arith)) in
-    subst (λ u. Took _⟹_ (paper file ▸ ∎) u (ended (b .at))) q (subst (λ u. Took _⟹_ (paper file ▸ ∎) (rest s a) u) r (w .1))
 
 -- From the stream of a text to its tokens.
 pub ended-is : (m : ℕ) (l : Lexed) (ts : List Token) (n : ℕ) → Ends m l → streamOf l ≡ prepend ts (ended n) → Wholly l × (tokensIn l ≡ ts) × (n ≡ m)

@@ -26,10 +26,6 @@ closing a = eqb 31 (terminal-code a)
 pub true-T : {b : Bool} → b ≡ true → T b
 true-T e = rw e tt
 
-pub T-true : {b : Bool} → T b → b ≡ true
-T-true {b = true} t = refl
-T-true {b = false} t = absurd t
-
 -- A token is a brace as the terminal that it matches is.
 is-plain : Class → Bool
 unfolding is-name code

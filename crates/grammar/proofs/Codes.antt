@@ -1,20 +1,20 @@
 -- What is known of a code's class from tests of the code: found by computation over the 54 codes. Assumes nothing.
 use mathlib.Core.Path.{_≡_, refl, sym, _∙_, ap}
-use mathlib.Core.List.{List, [], _∷_, _++_}
+use mathlib.Core.List.{List, [], _∷_}
 use mathlib.Core.Bool.{Bool, true, false, not, false≢true}
 use mathlib.Core.Logic.{_⊎_, inl, inr, ⊎-elim}
-use Prim.Native.Nat.{ℕ, zero, suc, _≤_, _<_}
+use Prim.Native.Nat.{ℕ, _≤_, _<_}
 use native.Mathlib.Omega.{arith}
 use lib.Dec.{T, ltb, leb, eqb}
-use lib.ListN.{length, getD, List·getD-eq-default}
+use lib.ListN.{getD, List·getD-eq-default, List·getD-append}
 use borrow.Author.Tests.{ltb-true, ltb-false, lt-leb, ne-eqb, not-true}
 use Rattle.token.specs.Find.{pick, both, either}
 use Rattle.token.proofs.Tables.{upTo, below}
 use Rattle.token.proofs.Find.{by-test}
 use Rattle.token.specs.declared.Sort.{Sort}
 use Rattle.token.specs.declared.Sort.the-variants.{Word, Number, String, Punctuator}
+use Rattle.token.proofs.Bytes.{T-true}
 use Rattle.grammar.specs.Grammar.{Class, matches, other, sign, name, kind, type, integer, definition, sg, lbrace, rbrace, lsquare, rsquare, equals, semicolon, colon, comma, dots}
-use Rattle.grammar.proofs.Braces.{T-true}
 use Rattle.grammar.specs.Factored.{paper}
 use Rattle.grammar.specs.Machine.{starts}
 use Rattle.grammar.specs.Terminals.{words, signOf, classOf}
@@ -157,11 +157,6 @@ unfolding classAt matches
 brace-close n l = alike-is (matches (sg rbrace) (classAt n)) (eqb n 45) (every (λ m. alike (matches (sg rbrace) (classAt m)) (eqb m 45)) tt n l)
 
 -- The class of a token's code is the token's class.
-front : {A : Type 0} (d : A) (xs ys : List A) (n : ℕ) → n < length xs → getD (xs ++ ys) n d ≡ getD xs n d
-front d [] ys n h = absurd (omega arith)
-front d (x ∷ xs) ys zero h = refl
-front d (x ∷ xs) ys (suc n) h = front d xs ys n (omega arith)
-
 punctuator-class : (b : ℕ) → classAt (punctuatorCode b) ≡ signOf b
 unfolding classAt punctuatorCode signOf
 punctuator-class b =
@@ -186,7 +181,7 @@ pub class-code : (k : Sort) → classAt (codeOf k) ≡ classOf k
 unfolding classAt codeOf classOf
 class-code (Word c) =
     by-test (λ (n : ℕ). classAt n ≡ getD words c other) (ltb c 42) c 53
-    (λ t. front other words others c (ltb-true c 42 t))
+    (λ t. List·getD-append words others other c (ltb-true c 42 t))
     (λ t. sym (List·getD-eq-default words other (ltb-false c 42 t)))
 class-code (Number n m) = refl
 class-code String = refl

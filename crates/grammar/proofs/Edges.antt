@@ -9,8 +9,7 @@ use Rattle.token.specs.Words.{bytesOf, same, codeIn, codeOf}
 use Rattle.token.specs.Numbers.{digitOf, valueAfter, atMost, digitsAfter, numeral}
 use Rattle.token.specs.Tokens.{found, wordAt, limitOf, isNegative, numberAt, stringAt, dotsAt, tokenOf, tokenAt, stepAt}
 use Rattle.token.specs.Lexing.{lexN, lexFrom}
-use Rattle.grammar.specs.Terminals.{signOf}
-use Rattle.grammar.specs.Terminals.{classOf as classOfToken, tokenOf as tokenOfToken}
+use Rattle.grammar.specs.Terminals.{signOf, classOf as classOfToken, tokenOf as tokenOfToken}
 use Rattle.grammar.specs.Stage.{Answers}
 use Rattle.grammar.specs.Machine.{run}
 use Rattle.grammar.specs.Readers.{lexAt}

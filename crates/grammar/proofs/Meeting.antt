@@ -18,15 +18,14 @@ use Rattle.token.specs.declared.Sort.the-variants.{Word, Number, String, Punctu
 use Rattle.token.proofs.Find.{by-test}
 use Rattle.token.proofs.Tables.{upTo}
 use Rattle.token.proofs.Steps.{found-fits, lex-found, lex-bad, lex-end}
-use Rattle.grammar.specs.Grammar.{Form, _⟶_, Rule, Terminal, Class, _·_, _▸_, ∎, matches}
+use Rattle.grammar.specs.Grammar.{Rule, Terminal, Class, _·_, _▸_, ∎, matches}
 use Rattle.grammar.specs.Terminals.{tokenOf}
-use Rattle.grammar.specs.Factored.{Nonterminal, paper, Symbols, lift, _⟹_, choices, by}
-use Rattle.grammar.specs.Machine.{nullable, nullable-form, empty-form, takes, starts, Stream, ended, _▹_, prepend, opened, deeper-by, deeper, at-end, next, run}
+use Rattle.grammar.specs.Factored.{Nonterminal, paper, Symbols, _⟹_, choices, by}
+use Rattle.grammar.specs.Machine.{nullable, nullable-form, empty-form, takes, starts, ended, _▹_, opened, deeper-by, deeper, at-end, next, run}
 use Rattle.grammar.specs.Readers.{punctuatorCode, codeOf, classAt, streamOf, lexAt, lookOf, lookAt, stop, advanced, refusal, expected, refusalOf, seen, onBy, on, left, restBy, rest, Took, Reads, Still}
 use Rattle.grammar.specs.declared.Look.{Look}
 use Rattle.grammar.specs.declared.Answer.{Answer}
 use Rattle.grammar.specs.declared.Answer.the-variants.{NotAdmitted}
-use Rattle.grammar.proofs.Literal.{lifted, from, tokens-from}
 use Rattle.grammar.proofs.Steps.{when, feed-tok, feed-enter, feed-only, nullable-append, run-tok-no, run-pass, run-pass-end, run-no, run-no-end, took-nil, took-tok, took-rule, took-then}
 use Rattle.grammar.proofs.Codes.{Yes, No, at-code, not-code, brace-open, brace-close, class-code}
 
@@ -327,8 +326,3 @@ went-on m t s a b h e =
     down true b′ false = omega arith
     down false true c = left-look s (a .next) (a .depth - 1)
     down false false c = left-look s (a .next) (a .depth)
-
--- What a reader of a form of document 01 took are trees of document 01's grammar.
-pub took-literal : (f : Form) {u v : Stream} → Took _⟹_ (lift f) u v → Took _⟶_ f u v
-took-literal f {v} w =
-    record { took = from (w .took) (lifted f); split = w .split ∙ ap (λ l. prepend l v) (sym (tokens-from (w .took) (lifted f))) }

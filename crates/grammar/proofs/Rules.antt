@@ -9,12 +9,10 @@ use borrow.Author.Tests.{eqb-true, ne-eqb}
 use Rattle.token.specs.Find.{either}
 use Rattle.grammar.specs.Grammar.{Rule, Terminal, _·_, _▸_, ∎, matches, name, kind, type, integer, number, string, the, sg, TRUE, FALSE, AUTO, NO-DEFAULT, WITH-AUTO, STRING, BOOLEAN, ENUM, OIL-VERSION, IMPLEMENTATION, CPU, lbrace, rbrace, lsquare, rsquare, equals, semicolon, colon, comma, dots, Sort, integers, strings, booleans, enums, file, version, implementation, specs, spec, definitions, definition, attribute, reference, D, P, auto, mark, integer-range, numbers, boolean-range, enumerator, enumerators, default, own, application, objects, object, block, statements, statement, value, file-is, version-is, implementation-is, a-spec, spec-is, a-definition, an-attribute, a-reference, an-integer, a-string, a-boolean, an-enum, reference-is, a-D, a-P, with-auto, a-mark, a-number, a-boolean-range, enumerator-is, an-enumerator, a-default, own-auto, own-none, own-number, own-string, own-true, own-false, own-name, application-is, an-object, a-block, a-statement, statement-is, value-number, value-string, value-auto, value-name, value-true, value-false}
 use Rattle.grammar.specs.Factored.{Nonterminal, paper, span, Symbols, lift, _⟹_, keep, kept, choices, object-is, range-is, up-to, many-numbers}
-use Rattle.grammar.specs.Machine.{nullable, nullable-form}
-use Rattle.grammar.specs.Machine.{takes, starts}
+use Rattle.grammar.specs.Machine.{nullable, nullable-form, takes, starts}
 use Rattle.grammar.proofs.Uniqueness.{takes-tok}
 use Rattle.grammar.proofs.Steps.{took-nil}
-use Rattle.grammar.specs.Readers.{classAt}
-use Rattle.grammar.specs.Readers.{advanced, refusal, expected, fitting, left, rest, Reads, Meets, Still}
+use Rattle.grammar.specs.Readers.{classAt, advanced, refusal, expected, fitting, left, rest, Reads, Meets, Still}
 use Rattle.grammar.specs.declared.Look.{Look}
 use Rattle.grammar.proofs.Codes.{Yes, at-code, not-code, not-any, in-set, not-in}
 use Rattle.grammar.proofs.Meeting.{_⊳_, loosen, take, not-taken, pass, not-begun, form, only, again, done, fell, went-on}

@@ -7,6 +7,7 @@ use mathlib.Core.Option.{Option, none, some}
 use Prim.Native.Nat.{ℕ, suc, _+_, _≤_, _<_}
 use native.Mathlib.Omega.{arith}
 use lib.Dec.{ltb, ltb→lt, lt→ltb}
+use Rattle.token.proofs.Bytes.{T-true}
 use Rattle.grammar.specs.Grammar.{Token, file, _▸_, ∎, matches, sg, lbrace, rbrace, Derivation, Begins}
 use Rattle.grammar.specs.Stage.{bit, opens, closes, Shallow}
 use Rattle.grammar.specs.Factored.{Symbols, paper}
@@ -14,7 +15,7 @@ use Rattle.grammar.specs.Machine.{nullable-form, after, feed, Stream, en
 use Rattle.grammar.specs.declared.Answer.{Answer}
 use Rattle.grammar.specs.declared.Answer.the-variants.{Passes, NoToken, NotAdmitted, TooDeep}
 use Rattle.grammar.proofs.Uniqueness.{reach, bind, Fed, feed-fed, cons≢[], none≢some, some-inj}
-use Rattle.grammar.proofs.Braces.{true-T, T-true}
+use Rattle.grammar.proofs.Braces.{true-T}
 use Rattle.grammar.proofs.Viable.{start, viable, not-viable, derived, not-derived, Turn, turn-open, turn-close, turn-plain, Nest, nest-nil, nest-rule, move-nest}
 
 -- What a run of the stream s can come to. Whatever is refused, the braces before it were never too deep.

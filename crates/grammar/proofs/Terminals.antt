@@ -3,8 +3,7 @@ use mathlib.Core.Path.{_≡_}
 use mathlib.Core.List.{List}
 use Prim.Native.Nat.{ℕ}
 use Rattle.grammar.specs.Grammar.{_·_, ∎, matches, sg, the, number, string, OIL-VERSION, IMPLEMENTATION, CPU, TRUE, FALSE, lbrace, rbrace, lsquare, rsquare, equals, semicolon, comma}
-use Rattle.grammar.specs.Readers.{classAt}
-use Rattle.grammar.specs.Readers.{expected, Meets}
+use Rattle.grammar.specs.Readers.{classAt, expected, Meets}
 use Rattle.grammar.specs.declared.Look.{Look}
 use Rattle.grammar.proofs.Meeting.{tokened}
 

@@ -5,7 +5,8 @@ use mathlib.Core.Bool.{Bool, true, false, _&&_, _||_, not, false≢true, Bool-se
 use mathlib.Core.Option.{Option, none, some}
 use Prim.Native.Nat.{ℕ, zero, suc}
 use native.Mathlib.Omega.{arith}
-use lib.Dec.{eqb-refl, T}
+use lib.Dec.{eqb-refl}
+use Rattle.token.proofs.Bytes.{T-true}
 use Rattle.grammar.specs.Grammar.{Symbol, Terminal, Class, Token, Kind, Integer, tok, rule, matches, Trees, nil, leaf, node, tokens, name, number, string, kind, type, integer, the, sg, ordinary, numeral, quoted, kind-word, type-word, integer-word, word, sign, OS, UINT32, given-code, sign-code}
 use Rattle.grammar.specs.Factored.{Nonterminal, Symbols, _⟹_, Choice, by, choices}
 use Rattle.grammar.specs.Machine.{has-empty, empty-of, nullable, empty-form, nullable-form, Move, take, enter, skip, after, Start, start, test, is-some, take-step, skip-step, rule-step, form-step, tries, begin, move, takes, starts, left-of, feed}
@@ -29,10 +30,6 @@ tokens-back t (enter {k} p v) ts =
 tokens-back t (skip e v) ts = tokens-back t v ts
 
 -- Trees _⟹_ without a token --------------------------------------------------------------------------------------------------------------
-
-T-true : {b : Bool} → T b → b ≡ true
-T-true {b = true} t = refl
-T-true {b = false} t = absurd t
 
 pub cons≢[] {ℓ} : {A : Type ℓ} {a : A} {l : List A} → a ∷ l ≡ [] → ⊥
 cons≢[] e = let z : _≡_ {A = ℕ} 0 1 = cc in omega arith

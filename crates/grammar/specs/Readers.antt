@@ -7,8 +7,7 @@ use lib.ListN.{length, getD}
 use lib.Dec.{ltb, leb, eqb}
 use Rattle.token.specs.Find.{pick, both, either}
 use Rattle.token.specs.Tokens.{stepAt}
-use Rattle.token.specs.Lexing.{lexFrom, Lexed}
-use Rattle.token.specs.Lexing.{more as found, ended as done, refused as none}
+use Rattle.token.specs.Lexing.{lexFrom, Lexed, more as found, ended as done, refused as none}
 use Rattle.token.specs.declared.Sort.{Sort as TokenSort}
 use Rattle.token.specs.declared.Sort.the-variants.{Word, Number, String, Punctuator}
 use Rattle.token.specs.declared.Step.{Step}

@@ -1,31 +1,26 @@
 -- One law for each way in which a reader of the implementation answers. Assumes nothing.
-use mathlib.Core.Path.{_≡_, refl, sym, _∙_, ap, ap₂, subst}
+use mathlib.Core.Path.{_≡_, refl, sym, _∙_, ap, ap₂}
 use mathlib.Core.List.{List, [], _∷_, _++_}
-use mathlib.Core.Bool.{Bool, true, false}
-use Prim.Native.Nat.{ℕ, suc, _+_, _-_, _≤_, _<_}
+use mathlib.Core.Bool.{true, false}
+use Prim.Native.Nat.{ℕ, _+_, _-_}
 use Rattle.grammar.specs.Grammar.{_·_, _▸_, ∎, matches, name, kind, the, sg, IMPLEMENTATION, lbrace, rbrace, semicolon, D, definitions, spec, specs, implementation, spec-is, a-spec, no-spec, implementation-is}
 use Rattle.grammar.specs.Readers.{classAt, Meets}
 use Rattle.grammar.specs.declared.Look.{Look}
-use Rattle.grammar.proofs.Meeting.{_⊳_}
 use Rattle.grammar.proofs.Rules.{spec-by, specs-again, specs-done, implementation-by}
-use Rattle.meaning.specs.Syntax.{Word, Span, through, Spec, definitions-in, enumerators-in}
-use Rattle.meaning.specs.Actions.{means, kind-of, specifying}
-use Rattle.layout.specs.Kept.{Entry, Choice, entries, choices, spec-entries, spec-choices, definition-cells, choice-cells, map-cells}
-use Rattle.filling.specs.Fills.{Seen, Fills, Walks, Going, Effects, front-of, behind}
+use Rattle.meaning.specs.Syntax.{through, definitions-in, enumerators-in}
+use Rattle.meaning.specs.Actions.{means, specifying}
+use Rattle.layout.specs.Kept.{entries, choices, spec-entries, spec-choices, definition-cells, choice-cells, map-cells}
+use Rattle.layout.proofs.Lengths.{map-append}
+use Rattle.filling.specs.Fills.{Walks, Going, Effects, front-of, behind}
 use Rattle.filling.proofs.Filling.{plain, first, matched, _▻_, told-as, told-rule, going-on, gone, both}
 use Rattle.filling.proofs.Codes.{seen-place, seen-length, kind-seen}
-use Rattle.definitions.specs.Rows.{Table, Done, Fill, Rows}
+use Rattle.definitions.specs.Rows.{Table, Fill, Rows}
 use Rattle.definitions.proofs.Acts.{tables}
-use Rattle.implementation.specs.Places.{Noted, note-all, heads, All, beside, FillAll, SpecRows, SpecsAre, AllRows, ImplementationRows}
+use Rattle.implementation.specs.Places.{Noted, note-all, heads, All, beside, FillAll, SpecRows, AllRows, ImplementationRows}
 use Rattle.implementation.proofs.Noting.{noting}
 
 pub all : Effects All (Noted × (Table × Table)) beside ([], ([], [])) FillAll
 all = both noting tables
-
-map-append : {A : Type 0} (f : A → List ℕ) (xs ys : List A) → map-cells f (xs ++ ys) ≡ map-cells f xs ++ map-cells f ys
-unfolding map-cells
-map-append f [] ys = refl
-map-append f (x ∷ xs) ys = ap (f x ∷_) (map-append f xs ys)
 
 module _ {s : List ℕ} {a : Look} {x y : Table × Table} where
   pub spec-there : {e e′ v : ℕ} {b c f r : Look} → v ≡ a .next - a .at → Meets 1 (kind · ∎) s a b → Meets e (sg lbrace · ∎) s b c

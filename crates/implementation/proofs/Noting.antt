@@ -1,20 +1,15 @@
 -- What is noted of kinds, word by word, is what the specs say. Assumes nothing.
-use mathlib.Core.Path.{_≡_, refl, sym, _∙_, ap, ap₂, subst}
+use mathlib.Core.Path.{_≡_, refl, sym, _∙_, ap, ap₂}
 use mathlib.Core.List.{List, [], _∷_, _++_, append-assoc, append-nil}
-use mathlib.Core.Bool.{Bool, true, false}
-use Prim.Native.Nat.{ℕ, zero, suc, _+_, _≤_, _<_}
-use native.Mathlib.Omega.{arith}
+use mathlib.Core.Bool.{Bool}
+use Prim.Native.Nat.{ℕ, _≤_}
 use lib.Dec.{eqb}
-use lib.ListN.{length, getD, set, List·getD-eq-default}
+use lib.ListN.{length, getD, set}
 use lib.Seq.{set-out}
 use borrow.Author.Tests.{eq-eqb, ne-eqb}
 use Rattle.token.specs.Find.{pick}
 use Rattle.filling.specs.Fills.{Effects}
 use Rattle.implementation.specs.Places.{Noted, placed, again-after, found-after, note, note-all}
-
--- Cells.
-pub cell-past : (l : List ℕ) (i : ℕ) → length l ≤ i → 0 ≡ getD l i 0
-cell-past l i h = sym (List·getD-eq-default l 0 h)
 
 pub set-past : (l : List ℕ) (i v : ℕ) → length l ≤ i → l ≡ set l i v
 set-past l i v h = sym (set-out l i v h)

@@ -2,11 +2,11 @@
 use mathlib.Core.Path.{_≡_}
 use mathlib.Core.List.{List, [], _∷_, _++_}
 use Prim.Native.Nat.{ℕ, _-_}
-use lib.ListN.{getD, set, replicate}
+use lib.ListN.{getD, set}
 use lib.Dec.{eqb}
 use Rattle.token.specs.Find.{pick}
 use Rattle.grammar.specs.declared.Look.{Look}
-use Rattle.meaning.specs.Syntax.{Word, Span, Spec}
+use Rattle.meaning.specs.Syntax.{Spec}
 use Rattle.meaning.specs.Kinds.{kind-number}
 use Rattle.meaning.specs.Actions.{Implementation}
 use Rattle.layout.specs.Kept.{spec-entries, spec-choices, definition-cells, choice-cells, map-cells}

@@ -4,13 +4,13 @@ use mathlib.Core.Path.{_≡_}
 use mathlib.Core.List.{List, [], _∷_, _++_}
 use mathlib.Core.Bool.{Bool, true, false}
 use mathlib.Core.Option.{Option, none, some}
-use Prim.Native.Nat.{ℕ, zero, suc, _+_, _*_}
+use Prim.Native.Nat.{ℕ, suc, _+_, _*_}
 use lib.ListN.{length, replicate}
 use lib.Seq.{sets}
 use lib.Dec.{eqb}
 use Rattle.token.specs.Find.{pick}
-use Rattle.grammar.specs.Grammar.{Class, Kind, Integer, Given, Sign, ordinary, numeral, quoted, other, kind-word, type-word, integer-word, word, sign, UINT32, INT32, UINT64, INT64, OIL-VERSION, IMPLEMENTATION, CPU, STRING, BOOLEAN, ENUM, TRUE, FALSE, AUTO, NO-DEFAULT, WITH-AUTO, lbrace, rbrace, lsquare, rsquare, equals, semicolon, colon, comma, dots}
-use Rattle.meaning.specs.Syntax.{Word, Span, span-or, AttributeType, Definition, Definitions, no-more, define, Values, no-value, value, Spec, Statement, Statements, done, state, Object, File, is-enum, statements-in}
+use Rattle.grammar.specs.Grammar.{Class, Integer, Given, Sign, ordinary, numeral, quoted, other, kind-word, type-word, integer-word, word, sign, UINT32, INT32, UINT64, INT64, OIL-VERSION, IMPLEMENTATION, CPU, STRING, BOOLEAN, ENUM, TRUE, FALSE, AUTO, NO-DEFAULT, WITH-AUTO, lbrace, rbrace, lsquare, rsquare, equals, semicolon, colon, comma, dots}
+use Rattle.meaning.specs.Syntax.{Word, span-or, Definition, Definitions, no-more, define, Values, no-value, value, Spec, Statement, Statements, done, state, Object, File, is-enum, statements-in}
 use Rattle.meaning.specs.Kinds.{kind-number}
 use Rattle.meaning.specs.Defining.{specified}
 
@@ -176,6 +176,11 @@ all-statement-rows (x ∷ xs) m = statement-rows (x .statements) m ++ all-statem
 unfoldable pub join : List (List ℕ) → List ℕ
 join [] = []
 join (r ∷ rs) = r ++ join rs
+
+-- Each row has w cells.
+abbrev pub Wide : ℕ → List (List ℕ) → Type 0
+Wide w [] = Unit {0}
+Wide w (r ∷ rs) = (length r ≡ w) × Wide w rs
 
 unfoldable pub map-cells : {A : Type 0} → (A → List ℕ) → List A → List (List ℕ)
 map-cells f [] = []

@@ -22,7 +22,7 @@ use Rattle.token.specs.declared.Step.{Step}
 use Rattle.token.specs.declared.Step.the-variants.{Found, Refused, End}
 use Rattle.token.proofs.Tables.{upTo, below}
 use Rattle.token.proofs.Values.{at-most, numeral-decimal, numeral-zero}
-use Rattle.token.proofs.Bytes.{both-true, word-byte, class-is}
+use Rattle.token.proofs.Bytes.{both-true, word-byte, class-is, both-second, T-true}
 use Rattle.locality.proofs.Skipping.{parting}
 use Rattle.locality.proofs.Forms.{number-form, step-form}
 use Rattle.locality.proofs.Front.{find-is}
@@ -71,14 +71,6 @@ found-number s p t c n m e k =
 
 -- ---- digits
 
-both-second : (x y : Bool) → both x y ≡ true → y ≡ true
-both-second true y e = e
-both-second false y e = absurd (let z : _≡_ {A = ℕ} 0 1 = cc in omega arith)
-
-t-true : (b : Bool) → T b → b ≡ true
-t-true true t = refl
-t-true false t = absurd t
-
 -- the bytes of digits
 abbrev Digits : List ℕ → Type 0
 Digits [] = Unit {0}
@@ -92,7 +84,7 @@ unfolding digitOf classOf
 digit-tests = tt
 
 digit-test : (d : ℕ) → d < 10 → digitTest d ≡ true
-digit-test d h = t-true (digitTest d) (below digitTest 10 digit-tests d h)
+digit-test d h = T-true (below digitTest 10 digit-tests d h)
 
 digit-value : (d : ℕ) → d < 10 → digitOf (48 + d) ≡ d
 digit-value d h = eqb-true (digitOf (48 + d)) d (both-true (eqb (digitOf (48 + d)) d) _ (digit-test d h))

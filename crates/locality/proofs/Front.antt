@@ -10,7 +10,7 @@ use lib.ListN.{length, drop, length-take, length-drop}
 use lib.Seq.{ext-getD, getD-take, getD-drop}
 use lib.Dec.{ltb, eqb}
 use borrow.Author.Tests.{lt-ltb, ltb-true}
-use Rattle.token.specs.Find.{byte, firstOf, find}
+use Rattle.token.specs.Find.{byte, find}
 use Rattle.token.specs.Bytes.{Class, letter, digit, blank, plusMinus, quote, punctuator, dot, slash, other, classOf, isWordByte, wordEnd, findByte, pairAt, findClose}
 use Rattle.token.specs.Tokens.{bytesBetween, found, wordAt, limitOf, numberAt, stringAt, dotsAt, tokenOf, tokenAt, stepAt}
 use Rattle.token.specs.declared.Cursor.{Cursor}
@@ -19,7 +19,7 @@ use Rattle.token.specs.declared.Sort.{Sort}
 use Rattle.token.specs.declared.Sort.the-variants.{Word, Number, String, Punctuator}
 use Rattle.token.specs.declared.Step.{Step}
 use Rattle.token.specs.declared.Step.the-variants.{Found, Refused, End}
-use Rattle.token.proofs.Find.{by-test, find-here, find-next, find-past, find-low, find-holds}
+use Rattle.token.proofs.Find.{by-test, find-here, find-next, find-past, find-low, find-holds, find-before}
 use Rattle.token.proofs.Bytes.{pair-inside, byte-low, word-high}
 use Rattle.token.proofs.Steps.{TokenOk, token-ok}
 use Rattle.locality.proofs.Skipping.{Gap, a-blank, a-line, a-block, parting, Bare, plain, lone, unended, gap-step, plain-step, lone-step, unended-step, Skips, here, on, skips-step, skips-low, stop}
@@ -39,19 +39,6 @@ ends (Punctuator m) b = true
 -- ---- searches
 
 module _ (t : ℕ → Bool) where
-  first-before : (n p i : ℕ) → p ≤ i → i < firstOf t n p → t i ≡ false
-  unfolding firstOf
-  first-before zero p i h = λ l. absurd (omega arith)
-  first-before (suc n) p i h =
-      by-test (λ (q : ℕ). i < q → t i ≡ false) (t p) p (firstOf t n (suc p))
-      (λ _ l. absurd (omega arith))
-      (λ e l. ⊎-elim (λ z. subst (λ (j : ℕ). t j ≡ false) z e) (λ k. first-before n (suc p) i k l) (eq-or-lt-of-le h))
-
-  -- the test holds at no place before the one that is found
-  find-before : (e p i : ℕ) → p ≤ i → i < find t e p → t i ≡ false
-  unfolding find
-  find-before e p i = first-before (e - p) p i
-
   reach : (e q n p : ℕ) → p + n ≡ q → q ≤ e → ((i : ℕ) → p ≤ i → i < q → t i ≡ false) → (q < e → t q ≡ true) → find t e p ≡ q
   reach e q zero p h k f g =
       let same : p ≡ q = omega arith in

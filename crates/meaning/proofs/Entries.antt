@@ -6,9 +6,7 @@ use mathlib.Core.Option.{Option, none, some}
 use Prim.Native.Nat.{ℕ, suc, _+_}
 use native.Mathlib.Omega.{arith}
 use lib.ListN.{length, length-append}
-use Rattle.token.specs.Words.{bytesOf}
 use Rattle.meaning.specs.Judging.{taken}
-use Rattle.meaning.specs.Normal.{written, closed, lines}
 use Rattle.meaning.specs.Resolving.{take-value, Resolved, end, resolved, entries, default-entry, resolve, resolve-under, Owner, of-value, value-row, value-rows, how-many-values}
 use Rattle.meaning.specs.Scopes.{names}
 use Rattle.meaning.specs.Syntax.{Definition, Definitions, define, Values, Statements, done, state, Object, Word}
@@ -42,13 +40,6 @@ pub how-many-joins : (a b : Resolved) → how-many-values (joins a b) ≡ how-ma
 unfolding joins how-many-values
 how-many-joins end b = omega arith
 how-many-joins (resolved t us a) b = let e = how-many-joins a b in omega arith
-
-pub lines-joins : (a b : Resolved) → lines (joins a b) ≡ lines a ++ lines b
-unfolding joins lines
-lines-joins end b = refl
-lines-joins (resolved t us a) b =
-    ap (λ l. t .definition .name .bytes ++ (bytesOf " = " ++ (written (t .value) (t .word) ++ (closed us (lines us) ++ l)))) (lines-joins a b)
-    ∙ simp append-assoc
 
 -- A scope's values: the entries of its first definition, and then those of the others.
 entries-joins : (ss : Statements) (os : List Object) (d : Definition) (vs : Values) (f : Word → Statements → Resolved) (rest : Resolved)

@@ -2,12 +2,12 @@
 use mathlib.Core.List.{List}
 use mathlib.Core.Bool.{Bool}
 use Prim.Native.Nat.{ℕ}
-use Rattle.grammar.specs.Grammar.{Kind}
-use Rattle.meaning.specs.Syntax.{Span, AttributeType}
-use Rattle.meaning.specs.Defining.{DefinitionRow, EnumeratorRow}
-use Rattle.meaning.specs.Applying.{ObjectRow}
-use Rattle.meaning.specs.Resolving.{ValueRow, Value, Owner}
-use Rattle.meaning.specs.Answers.{Answer}
+use Rattle.grammar.specs.Grammar.{Kind, code, given-code}
+use Rattle.meaning.specs.Syntax.{Span, AttributeType, absent, span-of, span-or, through, definitions-in, definitions-under, is-enum, counted, enumerators-in, enumerators-under, statements-in}
+use Rattle.meaning.specs.Defining.{DefinitionRow, EnumeratorRow, definition-row, definition-rows, definition-rows-under, enumerator-row, enumerator-rows, enumerator-rows-of, all-definition-rows, all-enumerator-rows, outside, bound-faults, range-faults, default-wrong, default-faults, defined-in, differs, name-faults, word-faults, scope-faults, value-faults, specified, spec-faults, definition-faults}
+use Rattle.meaning.specs.Applying.{ObjectRow, object-rows, one-if, how-many, counts-of, counts, too-few, full, statement-faults, each-object, object-faults}
+use Rattle.meaning.specs.Resolving.{ValueRow, Value, Owner, is-true, number-or, row-or, named, valued, take-value, entries, default-entry, resolve, resolve-under, object-values, all-values, value-row, how-many-values, value-rows, all-value-rows, how-many-in-all, too-many}
+use Rattle.meaning.specs.Answers.{Answer, tables, unless, answer}
 use Rattle.token.specs.Find.{find, firstOf}
 use Rattle.token.specs.Bytes.{classOf, isWordByte, wordEnd, findByte, pairAt, findClose}
 use Rattle.token.specs.Gaps.{commentAt, gapOf, gapAt, skipN, skip}
@@ -15,24 +15,18 @@ use Rattle.token.specs.Numbers.{digitOf, valueAfter, atMost, digitsAfter, numer
 use Rattle.token.specs.Tokens.{found, wordAt, limitOf, isNegative, numberAt, stepAt, stringAt, dotsAt, tokenOf, tokenAt}
 use Rattle.token.specs.Words.{same, codeIn, codeOf}
 use Rattle.token.specs.Lexing.{lexN, lexFrom}
-use Rattle.grammar.specs.Grammar.{code, given-code}
 use Rattle.grammar.specs.Terminals.{signOf, classOf as class-of, tokenOf as token-of, tokensIn}
 use Rattle.grammar.specs.Machine.{run, move, test, nullable-form, after}
 use Rattle.grammar.specs.Readers.{streamOf}
 use Rattle.grammar.proofs.Uniqueness.{back, empty}
 use Rattle.grammar.proofs.Literal.{from, lifted}
-use Rattle.meaning.specs.Syntax.{absent, span-of, span-or, through, definitions-in, definitions-under, is-enum, counted, enumerators-in, enumerators-under, statements-in}
 use Rattle.meaning.specs.Actions.{zero-num, num-of-sort, num-of-step, word-of, kind-of, integer-of, first-value, truths, defined, defining, specifying, stating, means, meaning, syntax}
 use Rattle.meaning.specs.Words.{choose, alike, among, at-most, equal, least-of, greatest-of, signed, width, in-type, among-numbers, in-bounds}
 use Rattle.meaning.specs.Kinds.{kind-number, same-kind, fewest, most}
 use Rattle.meaning.specs.Faults.{fault-if, ahead, sooner, first}
 use Rattle.meaning.specs.Scopes.{of-kind, find-value, definitions-or, under, find-definition, heads, names, find-object, is-there, sort-of-word, sort-of, is-string, is-boolean, fits-number, fits-as, fits}
-use Rattle.meaning.specs.Defining.{definition-row, definition-rows, definition-rows-under, enumerator-row, enumerator-rows, enumerator-rows-of, all-definition-rows, all-enumerator-rows, outside, bound-faults, range-faults, default-wrong, default-faults, defined-in, differs, name-faults, word-faults, scope-faults, value-faults, specified, spec-faults, definition-faults}
-use Rattle.meaning.specs.Applying.{object-rows, one-if, how-many, counts-of, counts, too-few, full, statement-faults, each-object, object-faults}
 use Rattle.meaning.specs.Judging.{is-no-default, taken-by, taken, lacking, lacks, lacks-under, reference-faults, brace-faults, faults-as, own-faults, and-inside, judged, judge, judge-object, judge-objects, statement-stage}
-use Rattle.meaning.specs.Resolving.{is-true, number-or, row-or, named, valued, take-value, entries, default-entry, resolve, resolve-under, object-values, all-values, value-row, how-many-values, value-rows, all-value-rows, how-many-in-all, too-many}
 use Rattle.meaning.specs.Normal.{digits-in, minus, decimal, written, closed, lines, object-lines, application-lines, part, normal}
-use Rattle.meaning.specs.Answers.{tables, unless, answer}
 use Rattle.meaning.specs.Tree.{empty-trees, trees-from, trees-of, tree}
 use Rattle.meaning.specs.Reading.{by-tree, after-grammar, parse, answer-of, reading, normal-of, normal-text}
 use Rattle.meaning.specs.Calls.{enough, too-short, output-asked, call, line, program}

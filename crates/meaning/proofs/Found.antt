@@ -7,8 +7,7 @@ use lib.ListN.{length}
 use borrow.Author.Tests.{le-ltb, lt-ltb}
 use Rattle.token.specs.Lexing.{lexFrom}
 use Rattle.grammar.specs.Grammar.{Token, file, _▸_, ∎, Trees, tokens, Derivation}
-use Rattle.grammar.specs.Terminals.{tokensIn}
-use Rattle.grammar.specs.Terminals.{tokens as tokens-of}
+use Rattle.grammar.specs.Terminals.{tokensIn, tokens as tokens-of}
 use Rattle.grammar.specs.Stage.{Answers, numberOf, placeOf}
 use Rattle.grammar.specs.Demand.{Covered}
 use Rattle.grammar.specs.Factored.{Symbols, paper, _⟹_}
@@ -17,8 +16,7 @@ use Rattle.grammar.specs.Readers.{streamOf, lexAt}
 use Rattle.grammar.specs.declared.Answer.{Answer as GrammarAnswer}
 use Rattle.grammar.specs.declared.Answer.the-variants.{Passes, NoToken, NotAdmitted, TooDeep}
 use Rattle.grammar.proofs.Uniqueness.{back, empty, tokens-empty, empty-unique, nullable-of, Good, one-good, left-good, complete, forth, test-is}
-use Rattle.grammar.proofs.Literal.{from, lifted, to, tokens-to}
-use Rattle.grammar.proofs.Literal.{back as there-and-back}
+use Rattle.grammar.proofs.Literal.{from, lifted, to, tokens-to, back as there-and-back}
 use Rattle.grammar.proofs.Answering.{answer-to}
 use Rattle.grammar.proofs.Demand.{demand-3}
 use Rattle.meaning.specs.Words.{choose}

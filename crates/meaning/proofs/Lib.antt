@@ -9,14 +9,15 @@ pub mod Sooner
 pub mod Sites
 pub mod Leaves
 pub mod Numbering
+pub mod Runs
 pub mod Standing
 pub mod Choices
 pub mod Entries
 pub mod Lookups
+pub mod Unders
 pub mod Found
 pub mod Whole
 pub mod Settled
-pub mod Walks
 pub mod Rooms
 pub mod Unplaced
 pub mod UnplacedFaults

@@ -6,8 +6,7 @@ use mathlib.Core.Option.{none, some}
 use Prim.Native.Nat.{ℕ}
 use Rattle.token.specs.Words.{bytesOf, codeOf}
 use Rattle.grammar.specs.Grammar.{ordinary, OS, APPMODE, TASK, ISR, COUNTER, ALARM, RESOURCE, EVENT, COM, MESSAGE, NETWORKMESSAGE, IPDU, NM, UINT32, INT32, UINT64, INT64}
-use Rattle.meaning.specs.Syntax.{Num, Word, absent, no-bounds, Definition, integer, boolean, enum, reference, Statements, done, state, Object}
-use Rattle.meaning.specs.Syntax.{string as string-type}
+use Rattle.meaning.specs.Syntax.{Num, Word, absent, no-bounds, Definition, integer, boolean, enum, reference, Statements, done, state, Object, string as string-type}
 use Rattle.meaning.specs.Words.{in-type}
 use Rattle.meaning.specs.Faults.{Fault}
 use Rattle.meaning.specs.Defining.{name-faults, word-faults}

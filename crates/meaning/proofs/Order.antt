@@ -7,7 +7,8 @@ use Prim.Native.Nat.{ℕ, suc, _≤_, _<_}
 use native.Mathlib.Omega.{arith}
 use lib.Dec.{ltb}
 use borrow.Author.Tests.{lt-ltb, le-leb, eq-eqb}
-use Rattle.token.specs.Find.{pick, either}
+use Rattle.token.specs.Find.{pick}
+use Rattle.token.proofs.Bytes.{either-true}
 use Rattle.grammar.specs.Grammar.{Token}
 use Rattle.meaning.specs.Faults.{Fault, fault-if, ahead, sooner, first}
 use Rattle.meaning.specs.Syntax.{Word}
@@ -115,10 +116,6 @@ pub ahead-left : (f g : Fault) → f .place < g .place → ahead f g ≡ true
 unfolding ahead
 ahead-left f g h = rw (lt-ltb (f .place) (g .place) h)
 
-either-true : (a : Bool) → either a true ≡ true
-either-true true = refl
-either-true false = refl
-
 pub ahead-same : (f g : Fault) → f .place ≡ g .place → f .number ≤ g .number → ahead f g ≡ true
 unfolding ahead
 ahead-same f g e h = rw (eq-eqb (f .place) (g .place) e, le-leb (f .number) (g .number) h) (either-true (ltb (f .place) (g .place)))
@@ -144,18 +141,3 @@ pub at-rises : (p : ℕ) {k : ℕ} {l : List Word} {fs : List Fault} → At k l 
 at-rises p nowhere o = tt
 at-rises p (on {t} q) o = at-rises (suc (t .place)) q (o .1)
 at-rises p (at {n} {t} i q) o = rises-behind (record { place = t .place; number = n }) q (same refl (omega arith) (o .1))
-
--- The first fault of two lists, one behind the other.
-unfoldable pub or-else : Option Fault → Option Fault → Option Fault
-or-else none o = o
-or-else (some f) o = some f
-
-pub foremost-append : (a b : List Fault) → foremost (a ++ b) ≡ or-else (foremost a) (foremost b)
-unfolding foremost or-else
-foremost-append [] b = refl
-foremost-append (f ∷ a) b = refl
-
-pub or-else-none : (o : Option Fault) → or-else o none ≡ o
-unfolding or-else
-or-else-none none = refl
-or-else-none (some f) = refl

@@ -53,7 +53,7 @@ cells-length w f h [] = sym (zero-mul w)
 cells-length w f h (r ∷ rs) =
     length-append (f r) (cells f rs) ∙ ap₂ _+_ (h r) (cells-length w f h rs) ∙ add-comm w (length rs * w) ∙ sym (suc-mul (length rs) w)
 
-zeros-length : (n : ℕ) → length (zeros n) ≡ n
+pub zeros-length : (n : ℕ) → length (zeros n) ≡ n
 unfolding zeros
 zeros-length zero = refl
 zeros-length (suc n) = ap suc (zeros-length n)
@@ -68,15 +68,15 @@ room-length n f rs h =
 
 -- No fault ---------------------------------------------------------------------------------------------------------------------------------
 
-nothing-front : (a b : List Fault) → a ++ b ≡ [] → a ≡ []
+pub nothing-front : (a b : List Fault) → a ++ b ≡ [] → a ≡ []
 nothing-front [] b e = refl
 nothing-front (f ∷ a) b e = absurd (let z : _≡_ {A = ℕ} 0 1 = cc in omega arith)
 
-nothing-back : (a b : List Fault) → a ++ b ≡ [] → b ≡ []
+pub nothing-back : (a b : List Fault) → a ++ b ≡ [] → b ≡ []
 nothing-back [] b e = e
 nothing-back (f ∷ a) b e = absurd (let z : _≡_ {A = ℕ} 0 1 = cc in omega arith)
 
-not-faulty : (b : Bool) (t : Word) (n : ℕ) → fault-if b t n ≡ [] → b ≡ false
+pub not-faulty : (b : Bool) (t : Word) (n : ℕ) → fault-if b t n ≡ [] → b ≡ false
 unfolding fault-if
 not-faulty true t n e = absurd (let z : _≡_ {A = ℕ} 0 1 = cc in omega arith)
 not-faulty false t n e = refl
@@ -292,7 +292,7 @@ value-rows-length (r ∷ rs) o n =
     length-append (value-rows r n (of-object o)) (all-value-rows rs (suc o) (n + how-many-values r))
     ∙ ap₂ _+_ (length-values r n (of-object o)) (value-rows-length rs (suc o) (n + how-many-values r))
 
-few-values : (n : ℕ) → too-many n ≡ [] → n ≤ 2048
+pub few-values : (n : ℕ) → too-many n ≡ [] → n ≤ 2048
 unfolding too-many choose
 few-values n e = ltb-false 2048 n (go (ltb 2048 n) e)
   where

@@ -4,8 +4,7 @@ use mathlib.Core.List.{[], _∷_}
 use mathlib.Core.Bool.{true, false}
 use Rattle.token.specs.Words.{bytesOf}
 use Rattle.grammar.specs.Grammar.{OS, APPMODE, TASK, ISR, RESOURCE, EVENT, UINT32, INT32, UINT64, INT64}
-use Rattle.meaning.specs.Syntax.{integer, boolean, enum, reference}
-use Rattle.meaning.specs.Syntax.{string as string-type}
+use Rattle.meaning.specs.Syntax.{integer, boolean, enum, reference, string as string-type}
 use Rattle.meaning.specs.Resolving.{number, truth, auto, string, enumerator, object, of-object, of-value}
 use Rattle.meaning.specs.Answers.{accepted, refused}
 use Rattle.meaning.specs.Reading.{reading}

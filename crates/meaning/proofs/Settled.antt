@@ -12,8 +12,7 @@ use Rattle.token.specs.declared.Step.{Step}
 use Rattle.token.specs.declared.Step.the-variants.{Found, Refused, End}
 use Rattle.token.proofs.Steps.{StepOk, step-ok}
 use Rattle.grammar.specs.Grammar.{Token, file, _▸_, ∎, _⟶_, Trees, tokens, Derivation}
-use Rattle.grammar.specs.Terminals.{tokenOf, tokensIn}
-use Rattle.grammar.specs.Terminals.{tokens as tokens-of}
+use Rattle.grammar.specs.Terminals.{tokenOf, tokensIn, tokens as tokens-of}
 use Rattle.grammar.specs.Demand.{Covered}
 use Rattle.meaning.specs.Syntax.{File}
 use Rattle.meaning.specs.Words.{choose}

@@ -53,7 +53,7 @@ pub not-ahead : (a b : Fault) → ahead a b ≡ false → Lt b a
 unfolding ahead
 not-ahead a b h = by-not a b (ltb (a .place) (b .place)) (eqb (a .place) (b .place)) (leb (a .number) (b .number)) refl refl refl h
 
-le-trans : {a b c : Fault} → Le a b → Le b c → Le a c
+pub le-trans : {a b c : Fault} → Le a b → Le b c → Le a c
 le-trans (left-of h) (left-of i) = left-of (omega arith)
 le-trans (left-of h) (not-above e i) = left-of (omega arith)
 le-trans (not-above e h) (left-of i) = left-of (omega arith)
@@ -80,7 +80,7 @@ lt-lt (below e h) (below f i) = omega arith
 same-fault : (a b : Fault) → a .place ≡ b .place → a .number ≡ b .number → a ≡ b
 same-fault a b e f = ap₂ (λ p n. record { place = p; number = n }) e f
 
-le-same : (a b : Fault) → Le a b → Le b a → a ≡ b
+pub le-same : (a b : Fault) → Le a b → Le b a → a ≡ b
 le-same a b (left-of h) (left-of i) = absurd (omega arith)
 le-same a b (left-of h) (not-above e i) = absurd (omega arith)
 le-same a b (not-above e h) (left-of i) = absurd (omega arith)

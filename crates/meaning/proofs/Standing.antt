@@ -11,8 +11,10 @@ use borrow.Author.Tests.{eq-eqb, ne-eqb}
 use Rattle.grammar.specs.Grammar.{file, _▸_, ∎, _⟶_, Trees, tokens}
 use Rattle.meaning.proofs.Leaves.{words-leaves, leaves-in-order}
 use Rattle.meaning.proofs.Numbering.{numbered, Counts, counts-none, counts-more, definition-numbers, numbers-under, spec-numbers, length-definitions, length-under}
-use Rattle.meaning.proofs.Order.{Ordered, drop, sub-front, sub-all, ordered-sub, InOrder}
-use Rattle.meaning.proofs.Sites.{bound-words, option-words, definition-words, value-words, spec-words, object-words, file-words}
+use Rattle.meaning.proofs.Order.{Ordered, drop, sub-front, sub-all, ordered-sub}
+pub use Rattle.meaning.proofs.Runs.{Run}
+use Rattle.meaning.proofs.Runs.{run-le, cut, Out, cuts, ends}
+use Rattle.meaning.proofs.Sites.{definition-words, value-words, spec-words, object-words, file-words}
 use Rattle.meaning.specs.Actions.{syntax}
 use Rattle.meaning.specs.Defining.{DefinitionRow, definition-row, definition-rows, definition-rows-under, all-definition-rows}
 use Rattle.meaning.specs.Syntax.{span-of, Definition, Definitions, no-more, define, Values, no-value, value, Spec, definitions-in, definitions-under, Word}
@@ -60,48 +62,6 @@ select-append p i (r ∷ a) b =
     ∙ sym (append-assoc (standing-if (eqb (r .under .place) p) i r) (select p (suc i) a) (select p (i + suc (length a)) b))
 
 -- Words in order between two places ----------------------------------------------------------------------------------------------------------
-
-abbrev pub Run : ℕ → List Word → ℕ → Type 0
-Run lo [] hi = lo ≤ hi
-Run lo (t ∷ l) hi = (lo ≤ t .place) × Run (suc (t .place)) l hi
-
-run-le : (l : List Word) {lo hi : ℕ} → Run lo l hi → lo ≤ hi
-run-le [] r = r
-run-le (t ∷ l) r = let a = r .0 in let b = run-le l (r .1) in omega arith
-
-record Cut (lo : ℕ) (a b : List Word) (hi : ℕ) : Type 0 where
-  mid : ℕ
-  front : Run lo a mid
-  back : Run mid b hi
-
-cut : (a b : List Word) (lo hi : ℕ) → Run lo (a ++ b) hi → Cut lo a b hi
-cut [] b lo hi r = record { mid = lo; front = omega arith; back = r }
-cut (t ∷ a) b lo hi r = let c = cut a b (suc (t .place)) hi (r .1) in record { mid = c .mid; front = (r .0, c .front); back = c .back }
-
--- The place x is none of those from lo up to hi.
-abbrev Out : ℕ → ℕ → ℕ → Type 0
-Out x lo hi = (y : ℕ) → lo ≤ y → y < hi → y ≡ x → ⊥
-
--- A definition's words, cut: bounds up to a, values up to b, name and default up to c, and the rest.
-record Cuts (lo : ℕ) (d : Definition) (vs : Values) (ds : Definitions) (hi : ℕ) : Type 0 where
-  a : ℕ
-  b : ℕ
-  c : ℕ
-  low : lo ≤ a
-  values : Run a (value-words vs) b
-  next : b ≤ c
-  rest : Run c (definition-words ds) hi
-
-cuts : (d : Definition) (vs : Values) (ds : Definitions) (lo hi : ℕ) → Run lo (definition-words (define d vs ds)) hi → Cuts lo d vs ds hi
-unfolding definition-words
-cuts d vs ds lo hi r =
-    let w = d .name ∷ option-words (d .default) in
-    let k = cut (d .word ∷ (bound-words (d .bounds) ++ (value-words vs ++ w))) (definition-words ds) lo hi r in
-    let i = k .front .0 in
-    let m = cut (bound-words (d .bounds)) (value-words vs ++ w) (suc (d .word .place)) (k .mid) (k .front .1) in
-    let j = run-le (bound-words (d .bounds)) (m .front) in
-    let n = cut (value-words vs) w (m .mid) (k .mid) (m .back) in
-    record { a = m .mid; b = n .mid; c = k .mid; low = omega arith; values = n .front; next = run-le w (n .back); rest = k .back }
 
 mutual
   unfolding definition-rows definition-row span-of definition-words
@@ -319,15 +279,6 @@ deep-specs (y ∷ ys) lo hi R A e r c f =
     (λ x p q. free-specs ys (k .mid) hi x (k .back) (λ z p′ q′ d. omega arith)))
     (deep-specs ys (k .mid) hi R (A ++ rows) e₂ (k .back) c₂
     (λ x p q. free-append A x rows (f x (omega arith) (omega arith)) (free-rows us w (suc (w .place)) (k .mid) x (k .front) (λ z. omega arith) (λ y p′ q′ z. omega arith))))
-
--- Words in order lie before some place.
-record Ends (lo : ℕ) (l : List Word) : Type 0 where
-  hi : ℕ
-  run : Run lo l hi
-
-ends : (l : List Word) (lo : ℕ) → InOrder lo l → Ends lo l
-ends [] lo o = record { hi = lo; run = omega arith }
-ends (t ∷ l) lo o = let e = ends l (suc (t .place)) (o .1) in record { hi = e .hi; run = (o .0, e .run) }
 
 -- In the table of a text's definitions, the rows under a kind's word are the definitions of its spec, and those under a value's word, at any
 -- depth, the definitions under that value; in order, and with their numbers.

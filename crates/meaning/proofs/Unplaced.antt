@@ -411,7 +411,7 @@ unfolding counts-of
 counts-of-unplaced [] xs = refl
 counts-of-unplaced (k ∷ ks) xs = ap₂ _∷_ (how-many-objects-unplaced k xs) (counts-of-unplaced ks xs)
 
-tables-same : {a a′ : List DefinitionRow} {b b′ : List EnumeratorRow} {c c′ : List ObjectRow} {d d′ : List ValueRow} {e e′ : List ℕ}
+pub tables-same : {a a′ : List DefinitionRow} {b b′ : List EnumeratorRow} {c c′ : List ObjectRow} {d d′ : List ValueRow} {e e′ : List ℕ}
     → a ≡ a′ → b ≡ b′ → c ≡ c′ → d ≡ d′ → e ≡ e′
     → _≡_ {A = Tables} (record { definitions = a; enumerators = b; objects = c; values = d; counts = e }) (record { definitions = a′; enumerators = b′; objects = c′; values = d′; counts = e′ })
 tables-same {a′} {b′} {c} {c′} {d} {d′} {e} p q r s t =

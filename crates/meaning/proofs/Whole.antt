@@ -9,8 +9,7 @@ use lib.Dec.{ltb}
 use borrow.Author.Tests.{ltb-true, ltb-false}
 use Rattle.token.specs.Lexing.{lexFrom}
 use Rattle.grammar.specs.Grammar.{file, _▸_, ∎}
-use Rattle.grammar.specs.Stage.{passes}
-use Rattle.grammar.specs.Stage.{Answers as StageAnswers}
+use Rattle.grammar.specs.Stage.{passes, Answers as StageAnswers}
 use Rattle.grammar.specs.Demand.{Covered}
 use Rattle.grammar.specs.Factored.{paper}
 use Rattle.grammar.specs.Machine.{run}

@@ -11,12 +11,8 @@ use Rattle.token.specs.declared.Step.{Step}
 use Rattle.token.specs.declared.Step.the-variants.{Found, Refused, End}
 use Rattle.token.specs.declared.Sort.{Sort as TokenSort}
 use Rattle.token.specs.declared.Sort.the-variants.{Word as WordToken, Number, String, Punctuator}
-use Rattle.grammar.specs.Grammar.{Token, Kind, OS, Integer, UINT32, Class, ordinary, numeral, quoted, other, kind-word, type-word, integer-word, word, sign}
-use Rattle.grammar.specs.Grammar.{Rule, rule, tok, Form, _▸_, ∎, _⟶_, Trees, nil, leaf, node, file, version, implementation, specs, spec, definitions, definition, attribute, D, P, auto, mark, integer-range, numbers, boolean-range, enumerator, enumerators, application, objects, object, block, statements, statement, default, own, file-is, version-is, implementation-is, no-spec, a-spec, spec-is, no-definition, a-definition, an-attribute, a-reference, an-integer, a-string, a-boolean, an-enum, reference-is, no-D, a-D, no-P, a-P, no-auto, with-auto, no-mark, a-mark, no-range, a-range, a-list, no-number, a-number, no-boolean-range, a-boolean-range, enumerator-is, no-enumerator, an-enumerator, no-default, a-default, own-auto, own-none, own-number, own-string, own-true, own-false, own-name, application-is, no-object, an-object, an-object-alone, an-object-with, no-block, a-block, no-statement, a-statement, statement-is, value-number, value-string, value-auto, value-name, value-true, value-false}
-use Rattle.grammar.specs.Grammar.{reference as reference-rule, value as value-rule}
-use Rattle.meaning.specs.Syntax.{Num, Word, Span, absent, through, AttributeType, integer, string, boolean, enum, Bounds, no-bounds, from-to, one-of, Definitions, no-more, define, Values, no-value, Defined, Statement, Statements, done, state, Spec, Object, File, definitions-in, definitions-under, enumerators-in, statements-in}
-use Rattle.meaning.specs.Syntax.{value as a-value}
-use Rattle.meaning.specs.Syntax.{reference as reference-to}
+use Rattle.grammar.specs.Grammar.{Token, Kind, OS, Integer, UINT32, Class, ordinary, numeral, quoted, other, kind-word, type-word, integer-word, word, sign, Rule, rule, tok, Form, _▸_, ∎, _⟶_, Trees, nil, leaf, node, file, version, implementation, specs, spec, definitions, definition, attribute, D, P, auto, mark, integer-range, numbers, boolean-range, enumerator, enumerators, application, objects, object, block, statements, statement, default, own, file-is, version-is, implementation-is, no-spec, a-spec, spec-is, no-definition, a-definition, an-attribute, a-reference, an-integer, a-string, a-boolean, an-enum, reference-is, no-D, a-D, no-P, a-P, no-auto, with-auto, no-mark, a-mark, no-range, a-range, a-list, no-number, a-number, no-boolean-range, a-boolean-range, enumerator-is, no-enumerator, an-enumerator, no-default, a-default, own-auto, own-none, own-number, own-string, own-true, own-false, own-name, application-is, no-object, an-object, an-object-alone, an-object-with, no-block, a-block, no-statement, a-statement, statement-is, value-number, value-string, value-auto, value-name, value-true, value-false, reference as reference-rule, value as value-rule}
+use Rattle.meaning.specs.Syntax.{Num, Word, Span, absent, through, AttributeType, integer, string, boolean, enum, Bounds, no-bounds, from-to, one-of, Definitions, no-more, define, Values, no-value, Defined, Statement, Statements, done, state, Spec, Object, File, definitions-in, definitions-under, enumerators-in, statements-in, value as a-value, reference as reference-to}
 
 -- Words ------------------------------------------------------------------------------------------------------------------------------------
 

@@ -5,8 +5,7 @@ use mathlib.Core.Bool.{Bool, true, false}
 use Prim.Native.Nat.{ℕ, zero, suc, _+_, _-_, _*_}
 use lib.ListN.{length}
 use Rattle.grammar.specs.Grammar.{Integer, UINT32, INT32, UINT64, INT64}
-use Rattle.meaning.specs.Syntax.{AttributeType, integer, boolean, enum, reference}
-use Rattle.meaning.specs.Syntax.{string as string-type}
+use Rattle.meaning.specs.Syntax.{AttributeType, integer, boolean, enum, reference, string as string-type}
 use Rattle.meaning.specs.Kinds.{kind-number}
 use Rattle.meaning.specs.Defining.{DefinitionRow, EnumeratorRow}
 use Rattle.meaning.specs.Applying.{ObjectRow}

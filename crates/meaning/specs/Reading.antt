@@ -9,8 +9,7 @@ use lib.Dec.{ltb}
 use Rattle.token.specs.Lexing.{lexFrom}
 use Rattle.grammar.specs.Grammar.{file, _▸_, ∎, _⟶_, Trees, Derivation}
 use Rattle.grammar.specs.Terminals.{tokens, tokensIn}
-use Rattle.grammar.specs.Stage.{numberOf, placeOf}
-use Rattle.grammar.specs.Stage.{Answers as StageAnswers}
+use Rattle.grammar.specs.Stage.{numberOf, placeOf, Answers as StageAnswers}
 use Rattle.grammar.specs.Demand.{Covered}
 use Rattle.grammar.specs.Factored.{paper}
 use Rattle.grammar.specs.Machine.{run}

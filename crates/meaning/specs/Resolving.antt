@@ -6,8 +6,7 @@ use mathlib.Core.Option.{Option, none, some}
 use Prim.Native.Nat.{ℕ, suc, _+_}
 use lib.Dec.{eqb, ltb}
 use Rattle.grammar.specs.Grammar.{Class, TRUE, code, given-code}
-use Rattle.meaning.specs.Syntax.{Num, Word, Span, span-of, AttributeType, integer, boolean, enum, reference, Definition, Definitions, no-more, define, Values, no-value, value, Statements, done, state, Object, File}
-use Rattle.meaning.specs.Syntax.{string as string-type}
+use Rattle.meaning.specs.Syntax.{Num, Word, Span, span-of, AttributeType, integer, boolean, enum, reference, Definition, Definitions, no-more, define, Values, no-value, value, Statements, done, state, Object, File, string as string-type}
 use Rattle.meaning.specs.Words.{alike, among, choose}
 use Rattle.meaning.specs.Faults.{Fault}
 use Rattle.meaning.specs.Scopes.{Sort, a-number, a-string, a-truth, an-auto, a-no-default, a-name, sort-of, Under, find-value, of-kind, find-object, names}

@@ -1,36 +1,30 @@
 -- One law for each way in which a reader of objects answers. Assumes nothing.
 use mathlib.Core.Path.{_≡_, refl, sym, _∙_, ap, ap₂, subst, fun-ext}
 use mathlib.Core.List.{List, [], _∷_, _++_, append-assoc, append-nil}
-use mathlib.Core.Bool.{Bool, true, false}
-use Prim.Native.Nat.{ℕ, zero, suc, _+_, _-_, _*_, _≤_, _<_, min}
+use mathlib.Core.Bool.{true, false}
+use Prim.Native.Nat.{ℕ, suc, _+_, _-_, _*_, _≤_, min}
 use native.Mathlib.Omega.{arith}
 use native.Mathlib.Nat.{add-zero}
-use lib.Dec.{T, eqb}
-use borrow.Author.Tests.{eqb-true}
 use lib.ListN.{length, length-append}
 use lib.Seq.{sets, length-sets}
-use Rattle.token.specs.Find.{pick}
-use Rattle.token.proofs.Tables.{upTo, below}
-use Rattle.grammar.specs.Grammar.{Class, _·_, _▸_, ∎, matches, name, kind, sg, lbrace, rbrace, semicolon, D, block, statements, object, objects, an-object, no-object, an-object-alone, an-object-with}
-use Rattle.grammar.specs.Readers.{classAt, seen, advanced, Meets}
+use Rattle.grammar.specs.Grammar.{_·_, _▸_, ∎, matches, name, kind, sg, lbrace, rbrace, semicolon, D, statements, object, objects, an-object, no-object, an-object-alone, an-object-with}
+use Rattle.grammar.specs.Readers.{classAt, advanced, Meets}
 use Rattle.grammar.specs.declared.Look.{Look}
-use Rattle.grammar.proofs.Braces.{T-true}
 use Rattle.grammar.proofs.Codes.{at-code}
 use Rattle.grammar.proofs.Meeting.{_⊳_, take}
 use Rattle.grammar.proofs.Rules.{block-pass, block-by, object-by, objects-again, objects-done}
-use Rattle.meaning.specs.Syntax.{Word, Span, absent, through, Statements, done, Object, statements-in}
-use Rattle.meaning.specs.Kinds.{kind-number}
-use Rattle.meaning.specs.Actions.{M, Parts, means, kind-of, word-of}
+use Rattle.meaning.specs.Syntax.{absent, through, statements-in}
+use Rattle.meaning.specs.Actions.{means}
 use Rattle.layout.specs.Kept.{statement-rows, object-cells, object-rows, all-statement-rows, join}
+use Rattle.layout.proofs.Lengths.{length-statements}
 use Rattle.rows.specs.Tally.{oneMore, countOn}
-use Rattle.filling.specs.Tables.{Wide, Wrote}
-use Rattle.filling.specs.Fills.{Seen, Fills, Walks, Going, Effects, front-of, behind}
-use Rattle.filling.proofs.Filling.{plain, first, matched, _▻_, told-as, told-rule, going-on, gone}
-use Rattle.filling.proofs.Filling.{both as side-by-side}
+use Rattle.rows.proofs.Tallies.{count-on-append}
+use Rattle.filling.specs.Fills.{Walks, Going, Effects, front-of, behind}
+use Rattle.filling.proofs.Filling.{plain, first, matched, _▻_, told-as, told-rule, going-on, gone, both as side-by-side}
 use Rattle.filling.proofs.Tables.{wide-one, wide-then, rows-append}
 use Rattle.filling.proofs.Codes.{seen-place, seen-length, kind-seen}
-use Rattle.objects.specs.Rows.{Table, Lines, then, Fill, StatementRows, Put, also, FillBoth, All, beside, FillAll, numbers, ObjectRows, AllRows}
-use Rattle.objects.proofs.Stated.{_⸬_, none-yet, lines, rows-in}
+use Rattle.objects.specs.Rows.{Table, Lines, Fill, StatementRows, Put, also, FillBoth, All, beside, FillAll, numbers, ObjectRows, AllRows}
+use Rattle.objects.proofs.Stated.{_⸬_, none-yet, lines}
 
 -- Tables ---------------------------------------------------------------------------------------------------------------------------------
 
@@ -92,11 +86,6 @@ puts =
         let e : k + length (ys ++ b′ (k + length ys)) ≡ k + length ys + length (b′ (k + length ys)) = omega (arith, length-append ys (b′ (k + length ys))) in
         append-assoc xs (b (k + length ys)) (c (k + length (ys ++ b′ (k + length ys)))) ∙ ap (λ (i : ℕ). xs ++ (b (k + length ys) ++ c i)) e
 
-count-append : (cs xs ys : List ℕ) → countOn cs (xs ++ ys) ≡ countOn (countOn cs xs) ys
-unfolding countOn
-count-append cs [] ys = refl
-count-append cs (x ∷ xs) ys = count-append (oneMore cs x) xs ys
-
 counting : Effects (List ℕ) (List ℕ) _++_ [] (λ x w y. y ≡ countOn x w)
 unfolding countOn
 counting =
@@ -105,7 +94,7 @@ counting =
       front = λ a. refl;
       back = append-nil;
       does-none = λ x. refl;
-      does-then = λ x y z a b d e. e ∙ ap (λ (c : List ℕ). countOn c b) d ∙ sym (count-append x a b);
+      does-then = λ x y z a b d e. e ∙ ap (λ (c : List ℕ). countOn c b) d ∙ sym (count-on-append x a b);
     }
 
 pub all : Effects All (List ℕ × (Table × Table)) beside ([], no-put) FillAll
@@ -178,7 +167,7 @@ module _ {s : List ℕ} {a b c g : Look} {l l′ : List ℕ} {n n′ : ℕ} wher
               let open-brace = q′ .1 .1 .0 in
               let st = m .1 .1 .1 .0 j′ in
               let rows = q′ .1 .1 .1 .0 j′ in
-              let e : statements-in st ≡ length (ss .what j′) = sym (rows-in st j′) ∙ ap (λ (l : List (List ℕ)). length l) rows in (
+              let e : statements-in st ≡ length (ss .what j′) = sym (length-statements st j′) ∙ ap (λ (l : List (List ℕ)). length l) rows in (
                 kd,
                 ap (λ (r : List ℕ). r ∷ [])
                     ((kd ∙ sym gk) ⸬ seen-place (q′ .0 .0) ⸬ (seen-length (q′ .0 .0) ∙ sym p) ⸬ seen-place (q′ .1 .0) ⸬ (seen-length (q′ .1 .0) ∙ sym q) ⸬ seen-place open-brace
@@ -202,7 +191,7 @@ module _ {s : List ℕ} {a : Look} {cs cs₁ cs₂ : List ℕ} {x y z : Table ×
       let o = m .0 i j in
       let j′ = j + statements-in (o .statements) in
       let r = u i j in
-      let e : j′ ≡ j + length (w .what .1 j) = ap (λ (n : ℕ). j + n) (sym (rows-in (o .statements) j) ∙ ap (λ (l : List (List ℕ)). length l) (r .2)) in
+      let e : j′ ≡ j + length (w .what .1 j) = ap (λ (n : ℕ). j + n) (sym (length-statements (o .statements) j) ∙ ap (λ (l : List (List ℕ)). length l) (r .2)) in
       let t = v (suc i) j′ in (
         ap₂ _∷_ (r .0 ∙ sym p) (t .0),
         ap₂ _++_ (r .1) (t .1 ∙ ap (more .1 .0) e),

@@ -1,24 +1,25 @@
 -- One law for each way in which a reader of statements answers. Assumes nothing.
 use mathlib.Core.Path.{_≡_, refl, sym, _∙_, ap, ap₂, subst, fun-ext}
 use mathlib.Core.List.{List, [], _∷_, _++_, append-assoc, append-nil}
-use mathlib.Core.Option.{Option, none, some}
+use mathlib.Core.Option.{none}
 use mathlib.Core.Bool.{true, false}
-use Prim.Native.Nat.{ℕ, zero, suc, _+_, _-_, _*_, _≤_, _<_, min}
+use Prim.Native.Nat.{ℕ, suc, _+_, _-_, _*_, min}
 use native.Mathlib.Omega.{arith}
 use native.Mathlib.Nat.{add-zero}
 use lib.ListN.{length, length-append}
 use lib.Seq.{sets}
-use Rattle.grammar.specs.Grammar.{Form, Terminal, _⟶_, _·_, _▸_, ∎, matches, name, number, string, the, sg, TRUE, FALSE, AUTO, lbrace, rbrace, equals, semicolon, D, block, statements, statement, value, no-block, a-block, no-statement, a-statement, statement-is, value-number, value-string, value-auto, value-name, value-true, value-false}
+use Rattle.grammar.specs.Grammar.{Terminal, _⟶_, _·_, _▸_, ∎, matches, name, number, string, the, sg, TRUE, FALSE, AUTO, lbrace, rbrace, equals, semicolon, D, block, statements, statement, value, no-block, a-block, no-statement, a-statement, statement-is, value-number, value-string, value-auto, value-name, value-true, value-false}
 use Rattle.grammar.specs.Readers.{classAt, advanced, refusal, Meets}
 use Rattle.grammar.specs.declared.Look.{Look}
 use Rattle.grammar.proofs.Codes.{at-code}
 use Rattle.grammar.proofs.Meeting.{_⊳_, take}
-use Rattle.grammar.proofs.Rules.{name-taken, block-pass, block-by, value-numbers, value-strings, value-autos, value-trues, value-falses, value-names, value-no, statement-by, statements-again, statements-done}
-use Rattle.meaning.specs.Syntax.{Word, Statement, Statements, done, state, statements-in}
-use Rattle.meaning.specs.Actions.{M, Parts, Block, ValueWithBlock, Stated, means, stating}
-use Rattle.layout.specs.Kept.{place-or, code-of, statement-cells, statement-rows, join}
-use Rattle.filling.specs.Tables.{Wide, Wrote}
-use Rattle.filling.specs.Fills.{Seen, Told, Fills, Walks, Going, Effects, front-of, behind}
+use Rattle.grammar.proofs.Rules.{name-taken, block-pass, block-by, value-numbers, value-strings, value-autos, value-trues, value-falses, value-names, statement-by, statements-again, statements-done}
+use Rattle.meaning.specs.Syntax.{Statement, Statements, done, state, statements-in}
+use Rattle.meaning.specs.Actions.{Parts, means, stating}
+use Rattle.layout.specs.Kept.{place-or, statement-cells, statement-rows, join}
+use Rattle.layout.proofs.Lengths.{length-statements}
+use Rattle.filling.specs.Tables.{Wide}
+use Rattle.filling.specs.Fills.{Walks, Going, Effects, front-of, behind}
 use Rattle.filling.proofs.Filling.{plain, first, _▻_, told-as, told-rule, told-none, refused, going-on, gone}
 use Rattle.filling.proofs.Tables.{wrote-none, wrote-on, wide-one, wide-then}
 use Rattle.filling.proofs.Codes.{seen-code, seen-place, seen-length}
@@ -54,15 +55,6 @@ lines =
         let e : k + length (xs ++ b (k + length xs)) ≡ k + length xs + length (b (k + length xs)) = omega (arith, length-append xs (b (k + length xs))) in
         append-assoc xs (b (k + length xs)) (c (k + length (xs ++ b (k + length xs)))) ∙ ap (λ (i : ℕ). xs ++ (b (k + length xs) ++ c i)) e
 
--- There is a row for each statement.
-pub rows-in : (ss : Statements) (k : ℕ) → length (statement-rows ss k) ≡ statements-in ss
-unfolding statement-rows statements-in
-rows-in done k = refl
-rows-in (state x inside rest) k =
-    let i = suc k + statements-in inside in
-    let e = length-append (statement-rows inside (suc k)) (statement-rows rest i) in
-    omega (arith, e, rows-in inside (suc k), rows-in rest i)
-
 -- A statement and those behind it.
 rows-stating : (x : Statement) (inside rest : Statements) (k : ℕ)
     → statement-rows (state x inside rest) k
@@ -74,7 +66,7 @@ rows-stating x inside rest k =
 
 after-one : (x : Statement) (inside : Statements) (k : ℕ) → k + length (statement-rows (state x inside done) k) ≡ suc k + statements-in inside
 unfolding statements-in
-after-one x inside k = let e = rows-in (state x inside done) k in omega (arith, e)
+after-one x inside k = let e = length-statements (state x inside done) k in omega (arith, e)
 
 module _ {s : List ℕ} {a : Look} {x y z : Table} where
   pub statements-on : {o r : Look} → Going then Fill statements StatementRows s o a x y → matches name (classAt (a .code)) ≡ true
@@ -208,7 +200,7 @@ module _ {s : List ℕ} {a c : Look} {l l₁ l₂ : List ℕ} {n k n₁ : ℕ} w
               (told-as (f .told h) (λ m t j.
               let val = t .1 .1 .0 in
               let inside = m .1 .1 .0 .block .inside (suc j) in
-              let e : statements-in inside ≡ length (u .what (suc j)) = sym (rows-in inside (suc j)) ∙ ap (λ (l : List (List ℕ)). length l) (val .2 (suc j)) in
+              let e : statements-in inside ≡ length (u .what (suc j)) = sym (length-statements inside (suc j)) ∙ ap (λ (l : List (List ℕ)). length l) (val .2 (suc j)) in
               ap₂ _∷_
               (seen-place (t .0) ⸬ (seen-length (t .0) ∙ sym p) ⸬ seen-place (val .0) ⸬ (seen-length (val .0) ∙ sym q) ⸬ seen-code (val .0) ⸬ val .1
               ⸬ ap (λ (k : ℕ). suc j + k) e ⸬ refl)

@@ -6,7 +6,7 @@ use Prim.Native.Nat.{ℕ, _+_, _-_, _*_, _≤_, min}
 use lib.ListN.{length}
 use lib.Seq.{sets}
 use Rattle.grammar.specs.declared.Look.{Look}
-use Rattle.meaning.specs.Syntax.{Word, Statement, Statements, done, state, Object}
+use Rattle.meaning.specs.Syntax.{Statements, done, state, Object}
 use Rattle.meaning.specs.Kinds.{kind-number}
 use Rattle.meaning.specs.Actions.{Block, ValueWithBlock, Stated}
 use Rattle.layout.specs.Kept.{place-or, statement-rows, object-cells, object-rows, all-statement-rows, join}

@@ -1,25 +1,22 @@
 -- From the walk of a text to its syntax, and what the stages up to 18 come to. Assumes nothing.
-use mathlib.Core.Path.{_≡_, refl, sym, _∙_, ap, ap₂, subst}
-use mathlib.Core.List.{List, [], _∷_}
-use mathlib.Core.Bool.{Bool, true, false, not}
+use mathlib.Core.Path.{_≡_, refl, sym, _∙_, ap}
+use mathlib.Core.List.{List}
+use mathlib.Core.Bool.{Bool, true, false}
 use mathlib.Core.Option.{Option, none, some}
-use Prim.Native.Nat.{ℕ, _≤_, _<_, min}
+use Prim.Native.Nat.{ℕ, _≤_}
 use native.Mathlib.Omega.{arith}
-use lib.ListN.{length, replicate}
+use lib.ListN.{length}
 use lib.Dec.{ltb, eqb}
 use borrow.Author.Tests.{le-ltb, eqb-true, eqb-false, not-true, not-false}
-use Rattle.token.specs.Find.{pick}
 use Rattle.token.specs.Lexing.{lexFrom}
 use Rattle.token.proofs.Find.{by-test}
 use Rattle.token.proofs.Promises.{lex-ends}
-use Rattle.grammar.specs.Grammar.{file, _▸_, ∎, Trees, _⟶_, Derivation}
-use Rattle.grammar.specs.Grammar.{tokens as tokens-of}
+use Rattle.grammar.specs.Grammar.{file, tokens as tokens-of}
 use Rattle.grammar.specs.Terminals.{tokens}
 use Rattle.grammar.specs.Machine.{ended, prepend}
-use Rattle.grammar.specs.Stage.{numberOf, placeOf, Divides, Shallow}
-use Rattle.grammar.specs.Stage.{Answers as StageAnswers, passes, no-token, not-admitted, ends-early, too-deep}
+use Rattle.grammar.specs.Stage.{numberOf, Divides, Shallow, Answers as StageAnswers, passes, no-token, not-admitted, ends-early, too-deep}
 use Rattle.grammar.specs.Demand.{Covered}
-use Rattle.grammar.specs.Readers.{lookAt, answerOf, refusalOf, rest, restBy, lexAt, streamOf, Meets}
+use Rattle.grammar.specs.Readers.{lookAt, answerOf, refusalOf, rest, restBy, lexAt}
 use Rattle.grammar.specs.declared.Look.{Look}
 use Rattle.grammar.specs.declared.Answer.{Answer as GrammarAnswer}
 use Rattle.grammar.specs.declared.Answer.the-variants.{Passes, NoToken, NotAdmitted, TooDeep}
@@ -28,22 +25,20 @@ use Rattle.grammar.proofs.Answering.{ended-is, stage-answers}
 use Rattle.rows.specs.declared.Fault.{Fault}
 use Rattle.rows.specs.Order.{isFault}
 use Rattle.meaning.specs.Syntax.{File}
-use Rattle.meaning.specs.Actions.{syntax, meaning}
-use Rattle.meaning.specs.Faults.{first}
-use Rattle.meaning.specs.Faults.{Fault as Refusal}
+use Rattle.meaning.specs.Actions.{syntax}
+use Rattle.meaning.specs.Faults.{first, Fault as Refusal}
 use Rattle.meaning.specs.Defining.{definition-faults}
 use Rattle.meaning.specs.Applying.{object-faults}
 use Rattle.meaning.specs.Judging.{statement-stage}
-use Rattle.meaning.specs.Answers.{Answer as Meant, accepted, refused, unless, answer}
-use Rattle.meaning.specs.Reading.{Answers, too-long, not-grammar, meant, reading}
+use Rattle.meaning.specs.Answers.{Answer as Meant, refused, unless, answer}
+use Rattle.meaning.specs.Reading.{not-grammar, meant, reading}
 use Rattle.meaning.proofs.Whole.{one-answer}
 use Rattle.layout.specs.Kept.{kept, kept-definitions, kept-enumerators, kept-objects, kept-statements}
-use Rattle.filling.specs.Fills.{Told}
 use Rattle.scopes.specs.Situations.{Situation}
 use Rattle.scopes.specs.Promises.{fault-of}
-use Rattle.walk.specs.Whole.{Rooms, Tells, Few, Whole}
+use Rattle.walk.specs.Whole.{Rooms, Few, Whole}
 use Rattle.walk.specs.declared.Walked.{Walked}
-use Rattle.reading.specs.Decisions.{grammarFault, Kept, orElse, stageFault, Passed, Decided, blank}
+use Rattle.reading.specs.Decisions.{grammarFault, Kept, orElse, stageFault, Decided, blank}
 use Rattle.reading.specs.declared.Decision.{Decision}
 use Rattle.reading.proofs.Numbered.{NumberedOne, of-definitions, of-objects, of-stage, of-first}
 

@@ -1,55 +1,41 @@
 -- The stages from 6 to 18 of a text whose rows are kept, one after the other. Assumes nothing.
 use mathlib.Core.Path.{_≡_, refl, sym, _∙_, ap, subst}
-use mathlib.Core.List.{List, [], _∷_}
-use mathlib.Core.Bool.{Bool, true, false}
+use mathlib.Core.List.{List}
+use mathlib.Core.Bool.{true, false}
 use mathlib.Core.Option.{Option, none, some}
-use Prim.Native.Nat.{ℕ, _≤_, _<_}
+use Prim.Native.Nat.{ℕ}
 use native.Mathlib.Omega.{arith}
-use lib.ListN.{length, getD}
-use Rattle.grammar.specs.Grammar.{Kind, OS, APPMODE, TASK, ISR, COUNTER, ALARM, RESOURCE, EVENT, COM, MESSAGE, NETWORKMESSAGE, IPDU, NM}
+use lib.ListN.{getD}
+use Rattle.grammar.specs.Grammar.{Kind}
 use Rattle.grammar.specs.Stage.{numberOf}
 use Rattle.grammar.specs.Readers.{answerOf}
 use Rattle.rows.specs.declared.Fault.{Fault}
 use Rattle.rows.specs.Order.{isFault}
 use Rattle.meaning.specs.Syntax.{Spec, File}
 use Rattle.meaning.specs.Kinds.{kind-number}
-use Rattle.meaning.specs.Faults.{first}
-use Rattle.meaning.specs.Faults.{Fault as Refusal}
+use Rattle.meaning.specs.Faults.{first, Fault as Refusal}
 use Rattle.meaning.specs.Defining.{definition-faults}
 use Rattle.meaning.specs.Applying.{object-faults}
-use Rattle.meaning.specs.Judging.{statement-stage}
-use Rattle.meaning.specs.Answers.{refused}
-use Rattle.meaning.specs.Reading.{reading}
 use Rattle.layout.specs.Kept.{kind-place}
+use Rattle.layout.proofs.Codes.{kind-low}
 use Rattle.scopes.specs.Promises.{fault-of}
 use Rattle.checks.specs.Promises.{ObjectFaults}
 use Rattle.defining_checks.specs.Promises.{DefinitionFaults}
-use Rattle.judging.specs.Promises.{Case, Places, JudgesAll}
+use Rattle.judging.specs.Promises.{JudgesAll}
 use Rattle.judging.specs.declared.Sizes.{Sizes}
 use Rattle.walk.specs.Whole.{Rooms, kind-places, Whole}
 use Rattle.walk.specs.declared.Walked.{Walked}
-use Rattle.reading.specs.Decisions.{grammarFault, Kept, orElse, stageFault, StageFault, Decided, Decides, blank}
-use Rattle.reading.specs.declared.Decision.{Decision}
+use Rattle.walk.proofs.Placing.{each-place}
+use Rattle.reading.specs.Decisions.{grammarFault, Kept, orElse, stageFault, StageFault, Decides}
 use Rattle.reading.proofs.Numbered.{NumberedOne, of-definitions, of-objects, of-first}
-use Rattle.reading.proofs.Arriving.{is-one, is-none, refused-early, Arrived, arrived, answers-first, answers-next, decided}
-use Rattle.reading.proofs.Settling.{Fitting, fitting}
+use Rattle.reading.proofs.Arriving.{is-one, is-none, refused-early, arrived, answers-first, answers-next, decided}
+use Rattle.reading.proofs.Settling.{fitting}
 
 -- The places of the kinds, as the stages take them.
 pub places-of : (xs : List Spec) (ps : List ℕ) → ps ≡ kind-places xs → (k : Kind) → getD ps (kind-number k) 0 ≡ kind-place (kind-number k) xs
-unfolding kind-number
-places-of xs ps e OS = ap (λ l. getD l 0 0) e
-places-of xs ps e APPMODE = ap (λ l. getD l 1 0) e
-places-of xs ps e TASK = ap (λ l. getD l 2 0) e
-places-of xs ps e ISR = ap (λ l. getD l 3 0) e
-places-of xs ps e COUNTER = ap (λ l. getD l 4 0) e
-places-of xs ps e ALARM = ap (λ l. getD l 5 0) e
-places-of xs ps e RESOURCE = ap (λ l. getD l 6 0) e
-places-of xs ps e EVENT = ap (λ l. getD l 7 0) e
-places-of xs ps e COM = ap (λ l. getD l 8 0) e
-places-of xs ps e MESSAGE = ap (λ l. getD l 9 0) e
-places-of xs ps e NETWORKMESSAGE = ap (λ l. getD l 10 0) e
-places-of xs ps e IPDU = ap (λ l. getD l 11 0) e
-places-of xs ps e NM = ap (λ l. getD l 12 0) e
+places-of xs ps e k =
+    let b = kind-low k in
+    ap (λ l. getD l (kind-number k) 0) e ∙ sym (each-place xs (kind-number k) (omega arith))
 
 -- A stage without a fault has none.
 none-there : (o : Option Refusal) (r : Fault) → NumberedOne o → r ≡ fault-of o → r .number ≡ 0 → o ≡ none

@@ -1,20 +1,16 @@
 -- Demand 3 of `read`, from the answer that its contract gives. Assumes nothing.
-use mathlib.Core.Path.{_≡_, refl, sym, _∙_, ap, subst}
+use mathlib.Core.Path.{_≡_, sym, _∙_, ap, subst}
 use mathlib.Core.List.{List, [], _∷_}
 use mathlib.Core.Bool.{Bool, true, false}
 use mathlib.Core.Logic.{_↔_}
 use mathlib.Core.Option.{Option, none, some}
-use Prim.Native.Nat.{ℕ, _<_}
+use Prim.Native.Nat.{ℕ}
 use native.Mathlib.Omega.{arith}
-use lib.ListN.{length}
 use lib.Dec.{ltb}
 use Rattle.grammar.specs.Grammar.{Derivation}
 use Rattle.grammar.specs.Terminals.{tokens}
 use Rattle.grammar.specs.Stage.{numberOf, placeOf}
-use Rattle.grammar.specs.Stage.{Answers as StageAnswers}
-use Rattle.grammar.specs.Demand.{Covered, Place}
-use Rattle.grammar.specs.declared.Answer.{Answer as GrammarAnswer}
-use Rattle.grammar.specs.declared.Answer.the-variants.{Passes}
+use Rattle.grammar.specs.Demand.{Covered}
 use Rattle.grammar.proofs.Viable.{one-derivation}
 use Rattle.grammar.proofs.Demand.{demand-3 as stage-demand-3}
 use Rattle.meaning.specs.Syntax.{File}
@@ -24,14 +20,14 @@ use Rattle.meaning.specs.Defining.{definition-faults}
 use Rattle.meaning.specs.Applying.{object-faults}
 use Rattle.meaning.specs.Judging.{statement-stage}
 use Rattle.meaning.specs.Resolving.{all-values, how-many-in-all, too-many}
-use Rattle.meaning.specs.Answers.{Answer as Meant, accepted, refused, unless, answer, tables}
+use Rattle.meaning.specs.Answers.{Answer as Meant, unless, answer}
 use Rattle.meaning.specs.Reading.{Answers, too-long, not-grammar, meant, reading}
 use Rattle.meaning.specs.Calls.{enough}
 use Rattle.meaning.proofs.Whole.{answers}
 use Rattle.reading.specs.Results.{readingOf, roomsOf, Reads}
 use Rattle.reading.specs.Demand.{PassesGrammar, RefusedByGrammar, refused-at, Demand-3}
 use Rattle.reading.specs.declared.Answer.{Answer}
-use Rattle.reading.specs.declared.Answer.the-variants.{Accepted, Refused}
+use Rattle.reading.specs.declared.Answer.the-variants.{Refused}
 use Rattle.reading.specs.declared.Reading.{Reading}
 use Rattle.reading.proofs.Numbered.{Numbered, no-fault, a-fault, NumberedOne, of-definitions, of-objects, of-stage, of-first}
 use Rattle.reading.proofs.Lending.{call-enough}

@@ -1,50 +1,32 @@
 -- Resolved values, refusal 19 and the lent rows of a text without a fault up to 18. Assumes nothing.
-use mathlib.Core.Path.{_≡_, refl, sym, _∙_, ap, subst}
-use mathlib.Core.List.{List, [], _∷_}
+use mathlib.Core.Path.{_≡_, refl, sym, _∙_, ap}
+use mathlib.Core.List.{List}
 use mathlib.Core.Bool.{true, false}
-use Prim.Native.Nat.{ℕ, zero, suc, _≤_, _<_, min}
+use Prim.Native.Nat.{ℕ, _≤_, _<_}
 use native.Mathlib.Omega.{arith}
 use lib.ListN.{length, getD, replicate, length-replicate}
-use lib.Seq.{sets, length-sets}
-use Rattle.meaning.specs.Syntax.{Spec, File}
+use lib.Seq.{length-sets}
 use Rattle.meaning.specs.Answers.{refused}
-use Rattle.meaning.specs.Resolving.{all-values, all-value-rows, how-many-in-all}
+use Rattle.meaning.specs.Resolving.{all-values, all-value-rows}
 use Rattle.meaning.specs.Cells.{cells, value-cells}
-use Rattle.layout.specs.Kept.{kind-place}
 use Rattle.resolving.specs.Tables.{Given}
 use Rattle.resolving.specs.Written.{WroteAll}
 use Rattle.resolving.specs.Promises.{Places, ResolvesAll}
 use Rattle.resolving.specs.declared.Sizes.{Sizes}
 use Rattle.copying.specs.Promises.{CopiesDefinitions, CopiesEnumerators, CopiesObjects}
 use Rattle.copying.proofs.Rooms.{cleared-zeros}
-use Rattle.walk.specs.Whole.{Rooms, kind-places}
+use Rattle.walk.specs.Whole.{Rooms}
 use Rattle.walk.specs.declared.Walked.{Walked}
+use Rattle.walk.proofs.Placing.{each-place}
 use Rattle.reading.specs.Results.{readingOf}
 use Rattle.reading.specs.Decisions.{Passed, Decides, blank, RoomSizes, BlankRooms, Settles, Filled}
 use Rattle.reading.specs.declared.Decision.{Decision}
-use Rattle.rows.specs.declared.Fault.{Fault}
 use Rattle.rows.specs.Order.{isFault}
 use Rattle.meaning.proofs.Found.{reading-long}
 use Rattle.reading.proofs.Arriving.{is-one, is-none}
 use Rattle.reading.specs.declared.Answer.the-variants.{Accepted}
 use Rattle.reading.specs.declared.Reading.{Reading}
 use Rattle.reading.proofs.Settling.{fitting, refused-fills, too-many-values, accepted-fills}
-
-kind-cell : (xs : List Spec) (k : ℕ) → k < 13 → getD (kind-places xs) k 0 ≡ kind-place k xs
-kind-cell xs zero h = refl
-kind-cell xs (suc zero) h = refl
-kind-cell xs (suc (suc zero)) h = refl
-kind-cell xs (suc (suc (suc zero))) h = refl
-kind-cell xs (suc (suc (suc (suc zero)))) h = refl
-kind-cell xs (suc (suc (suc (suc (suc zero))))) h = refl
-kind-cell xs (suc (suc (suc (suc (suc (suc zero)))))) h = refl
-kind-cell xs (suc (suc (suc (suc (suc (suc (suc zero))))))) h = refl
-kind-cell xs (suc (suc (suc (suc (suc (suc (suc (suc zero)))))))) h = refl
-kind-cell xs (suc (suc (suc (suc (suc (suc (suc (suc (suc zero))))))))) h = refl
-kind-cell xs (suc (suc (suc (suc (suc (suc (suc (suc (suc (suc zero)))))))))) h = refl
-kind-cell xs (suc (suc (suc (suc (suc (suc (suc (suc (suc (suc (suc zero))))))))))) h = refl
-kind-cell xs (suc (suc (suc (suc (suc (suc (suc (suc (suc (suc (suc (suc zero)))))))))))) h = refl
-kind-cell xs (suc (suc (suc (suc (suc (suc (suc (suc (suc (suc (suc (suc (suc n))))))))))))) h = absurd (omega arith)
 
 module _ (s : List ℕ) (y : Rooms) (w : Walked) (z : Sizes) (p : Passed s y w) (a : z .definitions ≡ w .definitions) (b : z .enumerators ≡ w .enumerators)
     (c : z .objects ≡ w .objects) where
@@ -76,7 +58,7 @@ module _ (s : List ℕ) (y : Rooms) (w : Walked) (z : Sizes) (p : Passed s y w) 
       }
 
   places : Places (w .places) (p .file)
-  places = record { places = λ k h. ap (λ (l : List ℕ). getD l k 0) (p .kept .places) ∙ kind-cell (p .file .specs) k h }
+  places = record { places = λ k h. ap (λ (l : List ℕ). getD l k 0) (p .kept .places) ∙ sym (each-place (p .file .specs) k h) }
 
   pub wrote : (v v′ : List ℕ) (n : ℕ) → ResolvesAll s (y .definitions) (y .enumerators) (y .objects) (y .statements) v z (w .places) v′ n → v ≡ replicate 18432 0
       → WroteAll v (all-values (p .file) (p .file .objects)) v′ n

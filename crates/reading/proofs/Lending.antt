@@ -1,20 +1,19 @@
 -- The public call: rooms that are long enough, and what is past them. Assumes nothing.
-use mathlib.Core.Path.{_≡_, refl, sym, _∙_, ap, ap₂, subst}
-use mathlib.Core.List.{List, [], _∷_, _++_}
-use mathlib.Core.Bool.{Bool, true, false}
+use mathlib.Core.Path.{_≡_, refl, sym, _∙_, ap}
+use mathlib.Core.List.{List, _++_}
+use mathlib.Core.Bool.{true, false}
 use mathlib.Core.Option.{none}
-use Prim.Native.Nat.{ℕ, zero, suc, _+_, _*_, _/_, _≤_, _<_}
+use Prim.Native.Nat.{ℕ, _*_, _/_, _≤_, _<_}
 use native.Mathlib.Omega.{arith}
 use native.Mathlib.Nat.{le-div-iff-mul-le, div-lt-iff-lt-mul}
 use lib.ListN.{length, drop}
 use lib.Dec.{leb}
 use borrow.Author.Tests.{le-leb, lt-leb}
-use Rattle.token.specs.Find.{pick, both}
 use Rattle.token.proofs.Bytes.{both-false}
 use Rattle.meaning.specs.Words.{choose}
 use Rattle.meaning.specs.Answers.{Answer as Meant, accepted, refused}
 use Rattle.meaning.specs.Reading.{reading, normal-text}
-use Rattle.meaning.specs.Calls.{Rooms, enough, too-short, output-asked, call}
+use Rattle.meaning.specs.Calls.{enough, too-short, output-asked, call}
 use Rattle.meaning.specs.Cells.{rooms-after}
 use Rattle.reading.specs.Results.{readingOf, roomsOf, tableAfter, Reads}
 use Rattle.reading.specs.Decisions.{Filled}

@@ -1,19 +1,16 @@
 -- Every fault of a stage behind the grammar's has a number above 5: a stage without a fault is told from one with a fault by the number, and
 -- the grammar stage's refusals from later ones. Assumes nothing.
-use mathlib.Core.Path.{_≡_, refl, sym, _∙_, ap, subst}
 use mathlib.Core.List.{List, [], _∷_, _++_}
-use mathlib.Core.Bool.{Bool, true, false, not}
+use mathlib.Core.Bool.{Bool, true, false}
 use mathlib.Core.Option.{Option, none, some}
-use Prim.Native.Nat.{ℕ, zero, suc, _+_, _<_}
+use Prim.Native.Nat.{ℕ, _<_}
 use native.Mathlib.Omega.{arith}
-use lib.Dec.{ltb}
-use Rattle.token.specs.Find.{pick}
 use Rattle.token.proofs.Find.{by-test}
 use Rattle.grammar.specs.Grammar.{Kind, Integer}
 use Rattle.meaning.specs.Syntax.{Word, Bounds, no-bounds, from-to, one-of, AttributeType, integer, string, boolean, enum, reference, Definition, Definitions, no-more, define, Values, no-value, value, Defined, Spec, Statement, Statements, done, state, Object, File, is-enum}
 use Rattle.meaning.specs.Kinds.{kinds}
 use Rattle.meaning.specs.Faults.{Fault, fault-if, ahead, sooner, first}
-use Rattle.meaning.specs.Scopes.{Sort, a-number, a-string, a-truth, an-auto, a-no-default, a-name, sort-of, heads, under, of-kind, find-definition, names}
+use Rattle.meaning.specs.Scopes.{Sort, a-number, a-string, a-truth, an-auto, a-no-default, a-name, sort-of, heads, of-kind, find-definition, names}
 use Rattle.meaning.specs.Defining.{outside, bound-faults, range-faults, default-faults, name-faults, word-faults, scope-faults, value-faults, spec-faults, definition-faults}
 use Rattle.meaning.specs.Applying.{too-few, statement-faults, each-object, object-faults}
 use Rattle.meaning.specs.Judging.{reference-faults, brace-faults, faults-as, own-faults, and-inside, judged, judge, judge-object, judge-objects, statement-stage}

@@ -1,39 +1,35 @@
 -- Where no stage up to 18 has a fault: what the rows written come to. Assumes nothing.
-use mathlib.Core.Path.{_≡_, refl, sym, _∙_, ap, ap₂, subst}
-use mathlib.Core.List.{List, [], _∷_, _++_}
-use mathlib.Core.Option.{Option, none, some}
-use Prim.Native.Nat.{ℕ, zero, suc, _+_, _-_, _*_, _≤_, _<_, min}
+use mathlib.Core.Path.{_≡_, refl, sym, _∙_, ap, subst}
+use mathlib.Core.List.{List, [], _∷_}
+use mathlib.Core.Option.{none}
+use Prim.Native.Nat.{ℕ, suc, _-_, _≤_, _<_, min}
 use native.Mathlib.Omega.{arith}
 use lib.ListN.{length, replicate, length-append}
 use lib.Seq.{sets}
-use lib.Dec.{ltb}
 use borrow.Author.Tests.{lt-ltb, le-ltb}
-use Rattle.meaning.specs.Syntax.{Word, Definitions, Spec, Object, File, Statements, statements-in}
+use Rattle.meaning.specs.Syntax.{Spec, Object, File}
 use Rattle.meaning.specs.Actions.{syntax}
 use Rattle.meaning.specs.Words.{choose}
 use Rattle.meaning.specs.Faults.{first, sooner}
 use Rattle.meaning.specs.Defining.{definition-rows, all-definition-rows, enumerator-rows, all-enumerator-rows, definition-faults}
 use Rattle.meaning.specs.Applying.{object-rows, counts, object-faults}
-use Rattle.meaning.specs.Judging.{statement-stage}
-use Rattle.meaning.specs.Resolving.{ValueRow, Resolved, all-values, all-value-rows, how-many-in-all, too-many}
-use Rattle.meaning.specs.Answers.{Answer as Meant, Tables, accepted, refused, unless, tables, answer}
+use Rattle.meaning.specs.Resolving.{Resolved, all-values, all-value-rows, how-many-in-all, too-many}
+use Rattle.meaning.specs.Answers.{Tables, accepted, refused, unless, tables, answer}
 use Rattle.meaning.specs.Cells.{cells, zeros, room-cells, definition-room, enumerator-room, object-room, value-room, rooms-after, definition-cells, enumerator-cells, object-cells, value-cells}
 use Rattle.meaning.proofs.Rooms.{definitions-fit, objects-fit, value-rows-length, value-width, cells-length}
 use Rattle.meaning.proofs.Numbering.{statement-numbers, all-statement-numbers, length-statements}
 use Rattle.meaning.proofs.Standing.{length-rows}
 use Rattle.meaning.proofs.Choices.{length-rows as length-enumerator-rows}
 use Rattle.layout.specs.Kept.{entries, spec-entries, choices, spec-choices, statement-count}
+use Rattle.layout.proofs.Lengths.{length-entries, length-choices}
 use Rattle.scopes.specs.Situations.{Situation}
-use Rattle.scopes.proofs.Lists.{length-choices}
-use Rattle.copying.proofs.Keys.{length-entries}
 use Rattle.copying.proofs.Rooms.{cleared-zeros, room-of}
 use Rattle.meaning.specs.Reading.{reading}
 use Rattle.walk.specs.Whole.{Rooms}
 use Rattle.walk.specs.declared.Walked.{Walked}
 use Rattle.reading.specs.Results.{readingOf}
-use Rattle.reading.specs.Decisions.{Kept, Passed, Filled, BlankRooms}
-use Rattle.reading.specs.declared.Answer.{Answer}
-use Rattle.reading.specs.declared.Answer.the-variants.{Accepted, Refused}
+use Rattle.reading.specs.Decisions.{Passed, Filled}
+use Rattle.reading.specs.declared.Answer.the-variants.{Accepted}
 use Rattle.reading.specs.declared.Reading.{Reading}
 use Rattle.reading.proofs.Arriving.{reading-is}
 

@@ -1,6 +1,6 @@
 -- The contracts of the inner functions of `read`. No part of the public contract. Assumes nothing.
 use mathlib.Core.Path.{_≡_}
-use mathlib.Core.List.{List, [], _∷_, _++_}
+use mathlib.Core.List.{List, []}
 use mathlib.Core.Option.{Option, none, some}
 use Prim.Native.Nat.{ℕ, _≤_}
 use lib.ListN.{length, replicate}
@@ -9,8 +9,7 @@ use Rattle.grammar.specs.Demand.{Covered}
 use Rattle.grammar.specs.declared.Answer.{Answer as GrammarAnswer}
 use Rattle.rows.specs.declared.Fault.{Fault}
 use Rattle.meaning.specs.Syntax.{File}
-use Rattle.meaning.specs.Faults.{first}
-use Rattle.meaning.specs.Faults.{Fault as Refusal}
+use Rattle.meaning.specs.Faults.{first, Fault as Refusal}
 use Rattle.meaning.specs.Defining.{definition-faults}
 use Rattle.meaning.specs.Applying.{object-faults, counts}
 use Rattle.meaning.specs.Judging.{statement-stage}

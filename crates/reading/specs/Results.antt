@@ -1,6 +1,6 @@
 -- What `read` promises: its answer, and every cell of the lent tables afterwards. Assumes nothing.
 use mathlib.Core.Path.{_≡_}
-use mathlib.Core.List.{List, [], _∷_, _++_}
+use mathlib.Core.List.{List, _++_}
 use mathlib.Core.Bool.{Bool, true, false}
 use mathlib.Core.Option.{none}
 use Prim.Native.Nat.{ℕ, _/_}
@@ -10,9 +10,8 @@ use Rattle.meaning.specs.Syntax.{File}
 use Rattle.meaning.specs.Answers.{Answer as Meant, accepted, refused, answer}
 use Rattle.meaning.specs.Reading.{reading}
 use Rattle.meaning.specs.Calls.{Rooms, enough, call}
-use Rattle.meaning.specs.Cells.{RoomCells, rooms-after}
+use Rattle.meaning.specs.Cells.{rooms-after}
 use Rattle.scopes.specs.Situations.{Situation}
-use Rattle.reading.specs.declared.Answer.{Answer}
 use Rattle.reading.specs.declared.Answer.the-variants.{Accepted, Refused}
 use Rattle.reading.specs.declared.Reading.{Reading}
 use Rattle.reading.specs.declared.Spanned.{Spanned}

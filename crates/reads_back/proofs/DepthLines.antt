@@ -6,12 +6,10 @@ use mathlib.Core.Option.{Option, none, some}
 use Prim.Native.Nat.{ℕ, suc, _≤_}
 use native.Mathlib.Omega.{arith}
 use Rattle.token.specs.Find.{pick}
-use Rattle.grammar.specs.Grammar.{Kind, Terminal, matches, name, number, string, kind, the, AUTO, TRUE, FALSE, given-code, Derivation, file, _▸_, ∎, _⟶_, Trees, nil, node, file-is}
-use Rattle.grammar.specs.Grammar.{tokens as leaf-tokens}
+use Rattle.grammar.specs.Grammar.{Kind, Terminal, matches, name, number, string, kind, the, AUTO, TRUE, FALSE, given-code, Derivation, file, _▸_, ∎, _⟶_, Trees, nil, node, file-is, tokens as leaf-tokens}
 use Rattle.grammar.specs.Stage.{Shallow}
 use Rattle.grammar.specs.Terminals.{tokens}
-use Rattle.grammar.proofs.Braces.{terminal-code, agree}
-use Rattle.grammar.proofs.Braces.{opening as is-opening, closing as is-closing}
+use Rattle.grammar.proofs.Braces.{terminal-code, agree, opening as is-opening, closing as is-closing}
 use Rattle.meaning.specs.Syntax.{Word, Definition, Definitions, no-more, define, Values, no-value, value, Statements, done, state, Spec, Object, File}
 use Rattle.meaning.specs.Words.{alike, among, choose}
 use Rattle.meaning.specs.Actions.{syntax}

@@ -4,8 +4,7 @@ use mathlib.Core.List.{List, [], _∷_, _++_, append-assoc, append-nil}
 use mathlib.Core.Bool.{true}
 use Prim.Native.Nat.{ℕ}
 use Rattle.token.specs.Words.{bytesOf}
-use Rattle.grammar.specs.Grammar.{Token, matches, sg, word, OIL-VERSION, semicolon, _▸_, ∎, _⟶_, Trees, nil, leaf, node, file, version, implementation, application, file-is, no-D, version-is, implementation-is, Derivation}
-use Rattle.grammar.specs.Grammar.{tokens as leaves-of}
+use Rattle.grammar.specs.Grammar.{Token, matches, sg, word, OIL-VERSION, semicolon, _▸_, ∎, _⟶_, Trees, nil, leaf, node, file, version, implementation, application, file-is, no-D, version-is, implementation-is, Derivation, tokens as leaves-of}
 use Rattle.grammar.specs.Terminals.{tokens}
 use Rattle.grammar.proofs.Viable.{one-derivation}
 use Rattle.meaning.specs.Syntax.{Word, absent, through, File}

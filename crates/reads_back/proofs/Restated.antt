@@ -8,8 +8,7 @@ use Rattle.token.specs.Words.{bytesOf}
 use Rattle.token.specs.Lexing.{lexFrom, more, ended}
 use Rattle.token.specs.declared.Sort.{Sort as TokenSort}
 use mathlib.Core.Bool.{true}
-use Rattle.grammar.specs.Grammar.{Token, Class, matches, the, sg, numeral, quoted, word, sign, OIL-VERSION, CPU, AUTO, TRUE, FALSE, lbrace, rbrace, equals, semicolon}
-use Rattle.grammar.specs.Grammar.{kind as a-kind, name as a-name, number as a-number, string as a-string}
+use Rattle.grammar.specs.Grammar.{Token, Class, matches, the, sg, numeral, quoted, word, sign, OIL-VERSION, CPU, AUTO, TRUE, FALSE, lbrace, rbrace, equals, semicolon, kind as a-kind, name as a-name, number as a-number, string as a-string}
 use Rattle.grammar.specs.Stage.{bit}
 use Rattle.grammar.specs.Terminals.{classOf}
 use Rattle.meaning.specs.Syntax.{Word, absent, Statements, done, state, Object, File}

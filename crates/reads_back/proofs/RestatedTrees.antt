@@ -3,8 +3,7 @@ use mathlib.Core.Path.{_≡_, refl, sym, _∙_, ap, ap₂, subst, subst₂}
 use mathlib.Core.List.{List, [], _∷_, _++_, append-assoc, append-nil}
 use Prim.Native.Nat.{ℕ, suc, _+_}
 use Rattle.token.specs.Words.{bytesOf}
-use Rattle.grammar.specs.Grammar.{Kind, word, CPU, matches, sg, rbrace, semicolon, Form, _·_, _▸_, ∎, D, application, objects, block, statements, no-D, application-is, no-object, an-object, an-object-with, no-statement, a-statement, statement-is, value-number, value-string, value-auto, value-name, value-true, value-false, no-block, a-block}
-use Rattle.grammar.specs.Grammar.{value as value-rule}
+use Rattle.grammar.specs.Grammar.{Kind, word, CPU, matches, sg, rbrace, semicolon, Form, _·_, _▸_, ∎, D, application, objects, block, statements, no-D, application-is, no-object, an-object, an-object-with, no-statement, a-statement, statement-is, value-number, value-string, value-auto, value-name, value-true, value-false, no-block, a-block, value as value-rule}
 use Rattle.meaning.specs.Syntax.{Word, absent, through, state, Object, File, statements-in}
 use Rattle.meaning.specs.Actions.{kind-of, Application, Block, Parts, stating, means}
 use Rattle.meaning.specs.Resolving.{Resolved, end, resolved, all-values, how-many-values}

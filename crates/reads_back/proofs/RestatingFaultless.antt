@@ -5,16 +5,18 @@ use mathlib.Core.Bool.{Bool, true, false, not, false≢true}
 use mathlib.Core.Option.{Option, none, some}
 use Prim.Native.Nat.{ℕ}
 use lib.Dec.{eqb}
+use borrow.Author.Tests.{not-false}
 use Rattle.grammar.specs.Grammar.{Kind}
 use Rattle.grammar.proofs.Uniqueness.{none≢some}
 use Rattle.token.specs.Find.{both}
+use Rattle.token.proofs.Bytes.{neither-first, neither-second}
 use Rattle.meaning.specs.Syntax.{Word, AttributeType, integer, string, boolean, enum, reference, Bounds, Definition, Definitions, define, Values, no-value, value, Defined, Statement, Statements, state, Object, is-enum}
 use Rattle.meaning.specs.Words.{among}
 use Rattle.meaning.specs.Faults.{Fault, fault-if}
 use Rattle.meaning.specs.Scopes.{Sort, a-number, a-string, a-truth, an-auto, a-no-default, a-name, sort-of, under, find-definition, heads, names, find-object, is-there, fits-number, fits-as, fits}
 use Rattle.meaning.specs.Defining.{range-faults, default-wrong, default-faults, defined-in, differs, name-faults, word-faults, scope-faults, value-faults}
 use Rattle.meaning.specs.Judging.{is-no-default, taken-by, taken, lacking, lacks, lacks-under, reference-faults, brace-faults, faults-as, own-faults, and-inside, judged, judge}
-use Rattle.reads_back.proofs.SameWords.{neither-left, neither-right}
+use Rattle.meaning.proofs.Rooms.{nothing-front, nothing-back, not-faulty}
 use Rattle.reads_back.proofs.WordingClasses.{is-number}
 use Rattle.reads_back.proofs.RestatingScopes.{is-reference, Taking, numbered, told, referred}
 use Rattle.reads_back.proofs.RestatingPlain.{Plain, plain-integer, plain-string, plain-boolean, plain-enum, plain-reference}
@@ -23,26 +25,6 @@ use Rattle.reads_back.proofs.RestatingPlain.{Plain, plain-integer, plai
 
 some-fault : {f : Fault} {fs : List Fault} → _≡_ {A = List Fault} (f ∷ fs) [] → ⊥
 some-fault e = let z : _≡_ {A = Bool} false true = cc in false≢true z
-
--- Of two lists without faults the first has none,
-pub none-front : (a b : List Fault) → a ++ b ≡ [] → a ≡ []
-none-front [] b e = refl
-none-front (f ∷ a) b e = absurd (some-fault e)
-
--- and the second has none.
-pub none-back : (a b : List Fault) → a ++ b ≡ [] → b ≡ []
-none-back [] b e = e
-none-back (f ∷ a) b e = absurd (some-fault e)
-
--- A test that gives no fault is false.
-pub not-faulty : (b : Bool) (t : Word) (n : ℕ) → fault-if b t n ≡ [] → b ≡ false
-unfolding fault-if
-not-faulty true t n e = absurd (some-fault e)
-not-faulty false t n e = refl
-
-not-not : (b : Bool) → not b ≡ false → b ≡ true
-not-not true e = refl
-not-not false e = absurd (false≢true (sym e))
 
 -- Definitions ------------------------------------------------------------------------------------------------------------------------------
 
@@ -58,7 +40,7 @@ unfolding name-faults
 name-free d others before e =
     let b = fault-if (defined-in (d .name) before) (d .name) 8 in
     let c = fault-if (differs d others) (d .name) 9 in
-    not-faulty (defined-in (d .name) before) (d .name) 8 (none-front b c (none-back (fault-if (eqb (d .row) 512) (d .name) 7) (b ++ c) e))
+    not-faulty (defined-in (d .name) before) (d .name) 8 (nothing-front b c (nothing-back (fault-if (eqb (d .row) 512) (d .name) 7) (b ++ c) e))
 
 -- It holds where a scope has no fault.
 pub free-definition : (d : Definition) (vs : Values) (ds : Definitions) (others before : List Definition) → scope-faults (define d vs ds) others before ≡ []
@@ -70,9 +52,9 @@ free-definition d vs ds others before e =
     let c = name-faults d others before in
     let f = default-faults d vs (d .default) in
     let r = scope-faults ds others (before ++ (d ∷ [])) in
-    let i = none-back a (b ++ (c ++ f)) (none-front (a ++ (b ++ (c ++ f))) r e) in
-    let j = none-back b (c ++ f) i in
-    record { inside = none-front b (c ++ f) i; name = name-free d others before (none-front c f j); default = none-back c f j; rest = none-back (a ++ (b ++ (c ++ f))) r e }
+    let i = nothing-back a (b ++ (c ++ f)) (nothing-front (a ++ (b ++ (c ++ f))) r e) in
+    let j = nothing-back b (c ++ f) i in
+    record { inside = nothing-front b (c ++ f) i; name = name-free d others before (nothing-front c f j); default = nothing-back c f j; rest = nothing-back (a ++ (b ++ (c ++ f))) r e }
 
 -- The definitions under a value, and the values behind it.
 pub free-value : (w : Word) (e : ℕ) (us : Definitions) (vs : Values) (b : Bool) (before : List Word) (others : List Definition) → value-faults (value w e us vs) b before others ≡ []
@@ -82,7 +64,7 @@ free-value w e us vs b before others h =
     let a = word-faults b e w before in
     let c = scope-faults us others [] in
     let r = value-faults vs b (before ++ (w ∷ [])) (others ++ heads us) in
-    (none-back a c (none-front (a ++ c) r h), none-back (a ++ c) r h)
+    (nothing-back a c (nothing-front (a ++ c) r h), nothing-back (a ++ c) r h)
 
 -- What must be stated ----------------------------------------------------------------------------------------------------------------------
 
@@ -92,17 +74,17 @@ pub free-lack : (d : Definition) (vs : Values) (ds : Definitions) (ns : List Wor
 unfolding lacks
 free-lack d vs ds ns e h =
     let l = lacking (taken (d .default)) (d .list) (λ t. lacks-under vs t) in
-    ap (λ b. both (not b) l) (sym h) ∙ neither-left (both (not (among (d .name) ns)) l) (lacks ds ns) e
+    ap (λ b. both (not b) l) (sym h) ∙ neither-first (both (not (among (d .name) ns)) l) (lacks ds ns) e
 
 -- and neither do those behind it.
 pub free-lacks : (d : Definition) (vs : Values) (ds : Definitions) (ns : List Word) → lacks (define d vs ds) ns ≡ false → lacks ds ns ≡ false
 unfolding lacks
-free-lacks d vs ds ns e = neither-right (both (not (among (d .name) ns)) (lacking (taken (d .default)) (d .list) (λ t. lacks-under vs t))) (lacks ds ns) e
+free-lacks d vs ds ns e = neither-second (both (not (among (d .name) ns)) (lacking (taken (d .default)) (d .list) (λ t. lacks-under vs t))) (lacks ds ns) e
 
 -- An attribute without a default that is not stated is a list.
 pub free-list : (o : Option Word) (b : Bool) (f : Word → Bool) → lacking o b f ≡ false → o ≡ none → b ≡ true
 unfolding lacking
-free-list none b f e q = not-not b e
+free-list none b f e q = not-false b e
 free-list (some t) b f e q = absurd (none≢some (sym q))
 
 -- Values -----------------------------------------------------------------------------------------------------------------------------------
@@ -132,10 +114,10 @@ fit-taking os d vs t p r e = go (sort-of (t .class)) refl e
 fits-free : (y : AttributeType) (os : List Object) (x : Statement) (d : Definition) (vs : Values) → is-reference y ≡ false
     → faults-as y os x (record { definition = d; values = vs }) ≡ [] → fits d vs (x .value) ≡ true
 unfolding faults-as is-reference
-fits-free (integer i) os x d vs r e = not-not (fits d vs (x .value)) (not-faulty (not (fits d vs (x .value))) (x .value) 15 e)
-fits-free string os x d vs r e = not-not (fits d vs (x .value)) (not-faulty (not (fits d vs (x .value))) (x .value) 15 e)
-fits-free boolean os x d vs r e = not-not (fits d vs (x .value)) (not-faulty (not (fits d vs (x .value))) (x .value) 15 e)
-fits-free enum os x d vs r e = not-not (fits d vs (x .value)) (not-faulty (not (fits d vs (x .value))) (x .value) 15 e)
+fits-free (integer i) os x d vs r e = not-false (fits d vs (x .value)) (not-faulty (not (fits d vs (x .value))) (x .value) 15 e)
+fits-free string os x d vs r e = not-false (fits d vs (x .value)) (not-faulty (not (fits d vs (x .value))) (x .value) 15 e)
+fits-free boolean os x d vs r e = not-false (fits d vs (x .value)) (not-faulty (not (fits d vs (x .value))) (x .value) 15 e)
+fits-free enum os x d vs r e = not-false (fits d vs (x .value)) (not-faulty (not (fits d vs (x .value))) (x .value) 15 e)
 fits-free (reference k) os x d vs r e = absurd (false≢true (sym r))
 
 -- 15 and 18 of a reference.
@@ -146,7 +128,7 @@ reference-free os k a-string t e = absurd (false≢true (sym (not-faulty true t 
 reference-free os k a-truth t e = absurd (false≢true (sym (not-faulty true t 15 e)))
 reference-free os k an-auto t e = absurd (false≢true (sym (not-faulty true t 15 e)))
 reference-free os k a-no-default t e = absurd (false≢true (sym (not-faulty true t 15 e)))
-reference-free os k a-name t e = (refl, not-not (is-there (find-object k os t)) (not-faulty (not (is-there (find-object k os t))) t 18 e))
+reference-free os k a-name t e = (refl, not-false (is-there (find-object k os t)) (not-faulty (not (is-there (find-object k os t))) t 18 e))
 
 reference-plain : {y : AttributeType} {o : Option Word} {vs : Values} {k : Kind} → Plain y o vs → y ≡ reference k → vs ≡ no-value
 unfolding is-reference
@@ -161,7 +143,7 @@ refers-free : (os : List Object) (x : Statement) (d : Definition) (vs : Values) 
 unfolding faults-as
 refers-free os x d vs k p y e =
     let f = reference-free os k (sort-of (x .value .class)) (x .value)
-    (none-front (reference-faults os k (sort-of (x .value .class)) (x .value)) (brace-faults (x .brace)) e) in
+    (nothing-front (reference-faults os k (sort-of (x .value .class)) (x .value)) (brace-faults (x .brace)) e) in
     referred y (reference-plain p y) (f .0) (f .1)
 
 -- A stated value without faults is taken.
@@ -183,12 +165,12 @@ stated-taking os x d vs p e = go (d .type) refl e
 -- A default that is taken fits.
 default-fits : (o : Sort) (b : Bool) → is-no-default o ≡ false → default-wrong o b ≡ false → b ≡ true
 unfolding is-no-default default-wrong
-default-fits a-number b n e = not-not b e
-default-fits a-string b n e = not-not b e
-default-fits a-truth b n e = not-not b e
-default-fits an-auto b n e = not-not b e
+default-fits a-number b n e = not-false b e
+default-fits a-string b n e = not-false b e
+default-fits a-truth b n e = not-false b e
+default-fits an-auto b n e = not-false b e
 default-fits a-no-default b n e = absurd (false≢true (sym n))
-default-fits a-name b n e = not-not b e
+default-fits a-name b n e = not-false b e
 
 default-plain : {y : AttributeType} {o : Option Word} {vs : Values} {t : Word} → Plain y o vs → o ≡ some t → is-reference y ≡ false
 unfolding is-reference
@@ -231,7 +213,7 @@ inside-free : (own : List Fault) (x : Statement) (us : Definitions) (ns : List W
 unfolding and-inside
 inside-free [] x us ns k e =
     let a = fault-if (lacks us ns) (x .value) 16 in
-    (refl, (not-faulty (lacks us ns) (x .value) 16 (none-front a (k us) e), none-back a (k us) e))
+    (refl, (not-faulty (lacks us ns) (x .value) 16 (nothing-front a (k us) e), nothing-back a (k us) e))
 inside-free (f ∷ fs) x us ns k e = absurd (some-fault e)
 
 -- It holds where a block has no fault.
@@ -244,13 +226,13 @@ free-statement os x inside rest all d vs l p q e =
     let k : Definitions → List Fault = λ us. judge inside os us [] in
     let a = judged (find-definition all (x .name)) os x l (names inside) k in
     let h : judged (some z) os x l (names inside) k ≡ [] =
-    ap (λ o. judged o os x l (names inside) k) (sym q) ∙ none-front a (judge rest os all (l ++ (x .name ∷ []))) e in
+    ap (λ o. judged o os x l (names inside) k) (sym q) ∙ nothing-front a (judge rest os all (l ++ (x .name ∷ []))) e in
     let i = inside-free (own-faults os x z l) x (under vs (x .value)) (names inside) k h in
     let b = fault-if (both (not (d .list)) (among (x .name) l)) (x .name) 14 in
     let c = faults-as (d .type) os x z in
     record {
-      again = not-faulty (both (not (d .list)) (among (x .name) l)) (x .name) 14 (none-front b c (i .0));
-      taking = stated-taking os x d vs p (none-back b c (i .0));
+      again = not-faulty (both (not (d .list)) (among (x .name) l)) (x .name) 14 (nothing-front b c (i .0));
+      taking = stated-taking os x d vs p (nothing-back b c (i .0));
       lacks-none = i .1 .0;
       judged-none = i .1 .1;
     }
@@ -259,7 +241,7 @@ free-statement os x inside rest all d vs l p q e =
 pub free-rest : (os : List Object) (x : Statement) (inside rest : Statements) (all : Definitions) (l : List Word) → judge (state x inside rest) os all l ≡ []
     → judge rest os all (l ++ (x .name ∷ [])) ≡ []
 unfolding judge
-free-rest os x inside rest all l e = none-back (judged (find-definition all (x .name)) os x l (names inside) (λ us. judge inside os us [])) (judge rest os all (l ++ (x .name ∷ []))) e
+free-rest os x inside rest all l e = nothing-back (judged (find-definition all (x .name)) os x l (names inside) (λ us. judge inside os us [])) (judge rest os all (l ++ (x .name ∷ []))) e
 
 -- What is stated again is a list.
 pub again-list : (b c : Bool) → both (not b) c ≡ false → c ≡ true → b ≡ true

@@ -19,6 +19,7 @@ use Rattle.meaning.specs.Judging.{lacks, judge, judge-object, judge-objects}
 use Rattle.meaning.specs.Resolving.{Resolved, end, resolved, resolve, object-values, all-values, how-many-values, how-many-in-all}
 use Rattle.meaning.specs.Normal.{object-lines}
 use Rattle.meaning.specs.Places.{unplaced-word}
+use Rattle.meaning.proofs.Rooms.{nothing-front, nothing-back, not-faulty}
 use Rattle.reads_back.proofs.Restated.{restated, restated-object, restated-objects}
 use Rattle.reads_back.proofs.SameValues.{Same, SameAll, none-same, more-same, same-lines}
 use Rattle.reads_back.proofs.RestatingScopes.{whole, Settled}
@@ -26,7 +27,6 @@ use Rattle.reads_back.proofs.RestatingValues.{SameObjects, find-object-
 use Rattle.reads_back.proofs.RestatingResolved.{restated-resolves}
 use Rattle.reads_back.proofs.RestatingJudged.{restated-lacks, restated-judged}
 use Rattle.reads_back.proofs.RestatingPlain.{AllPlain, none-plain, PlainSpecs, no-specs, more-specs}
-use Rattle.reads_back.proofs.RestatingFaultless.{none-front, none-back, not-faulty}
 use Rattle.reads_back.proofs.RestatingSettled.{settle}
 use Rattle.reads_back.proofs.SameKindred.{Kindred, AllKindred, no-kindred, more-kindred, kindred-behind, kindred-many, kindred-there}
 
@@ -39,7 +39,7 @@ kind-free k before (x ∷ xs) e =
     let a = fault-if (specified x before) (x .word) 8 in
     let b = scope-faults (x .definitions) [] [] in
     let r = spec-faults (before ++ (x ∷ [])) xs in
-    go (same-kind k (x .kind)) (none-back a b (none-front (a ++ b) r e)) (kind-free k (before ++ (x ∷ [])) xs (none-back (a ++ b) r e))
+    go (same-kind k (x .kind)) (nothing-back a b (nothing-front (a ++ b) r e)) (kind-free k (before ++ (x ∷ [])) xs (nothing-back (a ++ b) r e))
   where
     go : (b : Bool) → scope-faults (x .definitions) [] [] ≡ [] → scope-faults (of-kind k xs) [] [] ≡ [] → scope-faults (pick b (x .definitions) (of-kind k xs)) [] [] ≡ []
     go true p q = p
@@ -70,11 +70,11 @@ settle-objects f (x ∷ xs) e p j =
     let a = fault-if (lacks ds (names (x .statements))) (x .name) 16 in
     let b = judge (x .statements) (f .objects) ds [] in
     let r = judge-objects f xs in
-    let i = none-front (a ++ b) r j in
+    let i = nothing-front (a ++ b) r j in
     more-objects
     (settle (f .objects) ds [] [] (x .statements) whole (kind-free (x .kind) [] (f .specs) e) (kind-plain (x .kind) p)
-    (not-faulty (lacks ds (names (x .statements))) (x .name) 16 (none-front a b i)) (none-back a b i))
-    (settle-objects f xs e p (none-back (a ++ b) r j))
+    (not-faulty (lacks ds (names (x .statements))) (x .name) 16 (nothing-front a b i)) (nothing-back a b i))
+    (settle-objects f xs e p (nothing-back (a ++ b) r j))
 
 -- The restated objects -----------------------------------------------------------------------------------------------------------------------
 
@@ -130,7 +130,7 @@ kindred-few [] cpu p e = refl
 kindred-few {xs} {ys} (k ∷ ks) cpu p e =
     let a = fault-if (ltb (how-many k ys) (fewest k)) cpu 17 in
     let b = too-few ks ys cpu in
-    ap₂ _++_ (ap (λ n. fault-if (ltb n (fewest k)) cpu 17) (kindred-many k p) ∙ none-front a b e) (kindred-few ks cpu p (none-back a b e))
+    ap₂ _++_ (ap (λ n. fault-if (ltb n (fewest k)) cpu 17) (kindred-many k p) ∙ nothing-front a b e) (kindred-few ks cpu p (nothing-back a b e))
 
 -- Statements numbered from k on, of which the last is at most number 2,047.
 restated-numbers : (r : Resolved) (k : ℕ) → k + how-many-values r ≤ 2048 → statement-faults (restated r k) ≡ []
@@ -170,13 +170,13 @@ restated-each f before before′ (x ∷ xs) k p e h =
     let c = fault-if (is-there (find-object (x .kind) before (x .name))) (x .name) 12 in
     let d = statement-faults (x .statements) in
     let r = each-object (before ++ (x ∷ [])) xs in
-    let i = none-front (a ++ (b ++ (c ++ d))) r e in
-    let j = none-back a (b ++ (c ++ d)) i in
+    let i = nothing-front (a ++ (b ++ (c ++ d))) r e in
+    let j = nothing-back a (b ++ (c ++ d)) i in
     let v = object-values f x in
     ap₂ _++_
-    (restated-one before before′ x v k p (omega arith) (none-front a (b ++ (c ++ d)) i) (none-front b (c ++ d) j) (none-front c d (none-back b (c ++ d) j)))
+    (restated-one before before′ x v k p (omega arith) (nothing-front a (b ++ (c ++ d)) i) (nothing-front b (c ++ d) j) (nothing-front c d (nothing-back b (c ++ d) j)))
     (restated-each f (before ++ (x ∷ [])) (before′ ++ (restated-object x v k ∷ [])) xs (k + how-many-values v)
-    (kindred-behind (restated-object x v k) x p (restated-kin x v k)) (none-back (a ++ (b ++ (c ++ d))) r e) (omega arith))
+    (kindred-behind (restated-object x v k) x p (restated-kin x v k)) (nothing-back (a ++ (b ++ (c ++ d))) r e) (omega arith))
 
 -- Lines --------------------------------------------------------------------------------------------------------------------------------------
 

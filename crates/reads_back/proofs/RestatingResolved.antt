@@ -2,19 +2,21 @@
 use mathlib.Core.Path.{_≡_, refl, sym, _∙_, ap, ap₂, subst}
 use mathlib.Core.List.{List, [], _∷_, _++_}
 use mathlib.Core.Bool.{Bool, true, false, false≢true}
-use mathlib.Core.Option.{none, some}
+use mathlib.Core.Option.{none}
 use Prim.Native.Nat.{ℕ, suc, _+_}
-use Rattle.token.specs.Find.{pick, either}
-use Rattle.meaning.specs.Syntax.{Word, Definition, Definitions, define, Values, no-value, value, Statement, Statements, done, state, Object}
+use Rattle.token.specs.Find.{either}
+use Rattle.token.proofs.Bytes.{neither-first, neither-second, not-true}
+use Rattle.meaning.specs.Syntax.{Word, Definition, Definitions, define, Values, value, Statement, Statements, done, state, Object}
 use Rattle.meaning.specs.Words.{choose, alike, among}
-use Rattle.meaning.specs.Scopes.{sort-of, find-value, definitions-or, under, names}
+use Rattle.meaning.specs.Scopes.{sort-of, under, names}
 use Rattle.meaning.specs.Defining.{defined-in}
 use Rattle.meaning.specs.Judging.{taken}
 use Rattle.meaning.specs.Resolving.{Taken, Resolved, resolved, valued, take-value, entries, default-entry, resolve, resolve-under, how-many-values}
 use Rattle.meaning.specs.Normal.{written}
 use Rattle.meaning.specs.Places.{unplaced-word}
+use Rattle.meaning.proofs.Unders.{resolves-under}
 use Rattle.reads_back.proofs.Restated.{restated, brace-after}
-use Rattle.reads_back.proofs.SameWords.{neither-left, neither-right, neither, not-true, alike-bytes, bytes-alike, alike-turned, among-append, defined-append, defined-bytes, among-behind, Stated, stated-none, stated-more, stated-one}
+use Rattle.reads_back.proofs.SameWords.{neither, alike-bytes, bytes-alike, alike-turned, among-append, defined-append, defined-bytes, among-behind, Stated, stated-none, stated-more, stated-one}
 use Rattle.reads_back.proofs.SameValues.{SameTaken, Same, same-end, same-more}
 use Rattle.reads_back.proofs.RestatingScopes.{Takes, Settled, settled, none-of, one-of, More, again, no-more-of}
 use Rattle.reads_back.proofs.RestatingValues.{SameObjects, value-word, written-kept, under-kept, value-kept}
@@ -49,19 +51,8 @@ unfolding entries names among choose
 entries-none done os d vs f rest e = refl
 entries-none (state x inside more) os d vs f rest e =
     ap (λ b. choose b (λ _. resolved (take-value true os d vs (x .value)) (f (x .value) inside) (entries more os d vs f rest)) (λ _. entries more os d vs f rest))
-    (alike-turned (d .name) (x .name) (neither-left (alike (d .name) (x .name)) (among (d .name) (names more)) e))
-    ∙ entries-none more os d vs f rest (neither-right (alike (d .name) (x .name)) (among (d .name) (names more)) e)
-
--- What is under a value is what the definitions under it resolve to.
-resolves-under : (vs : Values) (os : List Object) (t : Word) (ss : Statements) → resolve-under vs os t ss ≡ resolve (under vs t) os ss
-unfolding resolve under definitions-or find-value choose
-resolves-under no-value os t ss = refl
-resolves-under (value w e us vs) os t ss = go (alike w t) (resolves-under vs os t ss)
-  where
-    go : (b : Bool) → resolve-under vs os t ss ≡ resolve (under vs t) os ss
-        → choose b (λ _. resolve us os ss) (λ _. resolve-under vs os t ss) ≡ resolve (definitions-or (pick b (some (record { word = w; number = e; definitions = us })) (find-value vs t))) os ss
-    go true h = refl
-    go false h = h
+    (alike-turned (d .name) (x .name) (neither-first (alike (d .name) (x .name)) (among (d .name) (names more)) e))
+    ∙ entries-none more os d vs f rest (neither-second (alike (d .name) (x .name)) (among (d .name) (names more)) e)
 
 -- Names ------------------------------------------------------------------------------------------------------------------------------------
 

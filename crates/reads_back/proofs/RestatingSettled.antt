@@ -11,6 +11,7 @@ use Rattle.meaning.specs.Scopes.{find-value, definitions-or, under, heads, name
 use Rattle.meaning.specs.Defining.{defined-in, default-faults, scope-faults, value-faults}
 use Rattle.meaning.specs.Judging.{taken, lacking, lacks, lacks-under, judge}
 use Rattle.meaning.specs.Resolving.{Resolved, resolved, take-value, entries, default-entry, resolve, resolve-under}
+use Rattle.meaning.proofs.Unders.{lacks-there}
 use Rattle.reads_back.proofs.SameWords.{by-choose, among-first, among-behind, alike-bytes, bytes-alike, alike-turned, among-bytes}
 use Rattle.reads_back.proofs.RestatingScopes.{Last, whole, behind, find-this, Settled, settled, none-of, one-of, More, again, no-more-of}
 use Rattle.reads_back.proofs.RestatingPlain.{Plain, AllPlain, AllPlainUnder, plain-first, plain-inside, plain-rest, plain-under, plain-others}
@@ -23,17 +24,6 @@ Inner os vs f = (t : Word) (ss : Statements) → lacks (under vs t) (names ss) �
 among-last : (u : Word) (l : List Word) (t : Word) → u .bytes ≡ t .bytes → among u (l ++ (t ∷ [])) ≡ true
 unfolding among
 among-last u l t e = among-behind u l (t ∷ []) (ap (λ b. either b false) (bytes-alike u t e))
-
--- What lacks under a value.
-lacks-there : (vs : Values) (t : Word) → lacks-under vs t ≡ lacks (under vs t) []
-unfolding lacks under definitions-or find-value choose
-lacks-there no-value t = refl
-lacks-there (value w e us vs) t = go (alike w t) (lacks-there vs t)
-  where
-    go : (b : Bool) → lacks-under vs t ≡ lacks (under vs t) []
-        → choose b (λ _. lacks us []) (λ _. lacks-under vs t) ≡ lacks (definitions-or (pick b (some (record { word = w; number = e; definitions = us })) (find-value vs t))) []
-    go true h = refl
-    go false h = h
 
 -- Under the first of some values, or under another.
 under-either : (us : Definitions) (vs : Values) (w : Word) (n : ℕ) (t : Word) (os : List Object) (ss : Statements)

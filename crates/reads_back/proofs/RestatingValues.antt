@@ -12,8 +12,7 @@ use Rattle.meaning.specs.Kinds.{same-kind}
 use Rattle.meaning.specs.Faults.{fault-if}
 use Rattle.meaning.specs.Scopes.{Sort, a-number, a-string, a-truth, an-auto, a-no-default, a-name, sort-of, find-value, definitions-or, under, find-object, is-there, fits-number, fits-as, fits}
 use Rattle.meaning.specs.Judging.{reference-faults, brace-faults, faults-as}
-use Rattle.meaning.specs.Resolving.{Value, number, truth, auto, enumerator, object, number-or, row-or, named, valued}
-use Rattle.meaning.specs.Resolving.{string as string-value}
+use Rattle.meaning.specs.Resolving.{Value, number, truth, auto, enumerator, object, number-or, row-or, named, valued, string as string-value}
 use Rattle.meaning.specs.Normal.{written}
 use Rattle.meaning.specs.Places.{unplaced-word}
 use Rattle.reads_back.proofs.Restated.{restated-word}

@@ -1,38 +1,34 @@
 -- The syntax of a normal text means the same as that of the text. Assumes nothing.
 use mathlib.Core.Path.{_≡_, refl, sym, _∙_, ap, ap₂}
-use mathlib.Core.List.{List, [], _∷_, _++_}
+use mathlib.Core.List.{List, [], _++_}
 use mathlib.Core.Bool.{Bool, true, false, not, false≢true}
 use mathlib.Core.Option.{Option, none, some}
 use Prim.Native.Nat.{ℕ, _≤_}
 use native.Mathlib.Omega.{arith}
-use lib.Dec.{ltb}
-use borrow.Author.Tests.{ltb-false}
 use Rattle.token.specs.Words.{bytesOf, same}
 use Rattle.grammar.specs.Grammar.{Derivation}
 use Rattle.grammar.specs.Terminals.{tokens}
 use Rattle.meaning.specs.Syntax.{File}
-use Rattle.meaning.specs.Words.{choose}
 use Rattle.meaning.specs.Kinds.{kinds}
 use Rattle.meaning.specs.Faults.{Fault, fault-if, first}
 use Rattle.meaning.specs.Actions.{syntax}
 use Rattle.meaning.specs.Defining.{spec-faults, definition-faults}
 use Rattle.meaning.specs.Applying.{counts, too-few, each-object, object-faults}
 use Rattle.meaning.specs.Judging.{statement-stage}
-use Rattle.meaning.specs.Resolving.{number, all-values, how-many-in-all, too-many}
+use Rattle.meaning.specs.Resolving.{all-values, how-many-in-all, too-many}
 use Rattle.meaning.specs.Normal.{application-lines}
 use Rattle.meaning.specs.Answers.{Tables, Answer, accepted, tables, unless, answer}
 use Rattle.meaning.specs.Places.{unplaced-tables}
-use Rattle.meaning.proofs.Rooms.{no-first}
-use Rattle.meaning.proofs.Unplaced.{application-unplaced}
+use Rattle.meaning.proofs.Rooms.{no-first, few-values, nothing-front, nothing-back}
+use Rattle.meaning.proofs.Unplaced.{application-unplaced, tables-same}
 use Rattle.meaning.proofs.UnplacedFaults.{answer-unplaced}
 use Rattle.reads_back.specs.ReadsBack.{bare}
 use Rattle.reads_back.proofs.Restated.{given, restated-file}
 use Rattle.reads_back.proofs.RestatingUnplaced.{kept-file, unplaced-kept}
 use Rattle.reads_back.proofs.SameValues.{SameAll, all-same-many, all-same-rows}
-use Rattle.reads_back.proofs.SameTables.{tables-same, bare-unplaced, accepts-unplaced}
+use Rattle.reads_back.proofs.SameTables.{bare-unplaced, accepts-unplaced}
 use Rattle.reads_back.proofs.SameNames.{names-of, words-same, names-unplaced, objects-restated, all-same-names}
 use Rattle.reads_back.proofs.RestatingPlain.{PlainSpecs, syntax-plain}
-use Rattle.reads_back.proofs.RestatingFaultless.{none-front, none-back}
 use Rattle.reads_back.proofs.SameKindred.{AllKindred, no-kindred, kindred-objects, kindred-counts, kindred-rows}
 use Rattle.reads_back.proofs.RestatingObjects.{SettledObjects, settle-objects, restated-kindred, all-restated-values, restated-objects-judged, kindred-few, restated-each, restated-lines}
 
@@ -77,17 +73,9 @@ unfolding answer
 accepts-it f a b c d =
     pass (definition-faults f) _ a ∙ pass (object-faults f) _ b ∙ pass (statement-stage f) _ c ∙ pass (too-many (how-many-in-all (all-values f (f .objects)))) _ d
 
-few-values : (n : ℕ) → too-many n ≡ [] → n ≤ 2048
-unfolding too-many choose
-few-values n e = ltb-false 2048 n (go (ltb 2048 n) e)
-  where
-    go : (b : Bool) → _≡_ {A = List Fault} (choose b (λ _. record { place = 0; number = 19 } ∷ []) (λ _. [])) [] → b ≡ false
-    go true h = absurd (let z : _≡_ {A = Bool} false true = cc in false≢true z)
-    go false h = refl
-
 specs-free : (f : File) → definition-faults f ≡ [] → spec-faults [] (f .specs) ≡ []
 unfolding definition-faults
-specs-free f e = none-back (fault-if (not (same (f .version .bytes) (bytesOf "\"2.5\""))) (f .version) 6) (spec-faults [] (f .specs)) e
+specs-free f e = nothing-back (fault-if (not (same (f .version .bytes) (bytesOf "\"2.5\""))) (f .version) 6) (spec-faults [] (f .specs)) e
 
 definitions-kept : (f : File) → definition-faults f ≡ [] → definition-faults (kept-file f) ≡ []
 unfolding definition-faults kept-file given same fault-if
@@ -102,7 +90,7 @@ unfolding object-faults kept-file
 objects-kept f e h =
     let a = too-few kinds (f .objects) (f .cpu) in
     let b = each-object [] (f .objects) in
-    ap₂ _++_ (kindred-few kinds (f .cpu) (kept-kindred f) (none-front a b e)) (restated-each f [] [] (f .objects) 0 no-kindred (none-back a b e) (omega arith))
+    ap₂ _++_ (kindred-few kinds (f .cpu) (kept-kindred f) (nothing-front a b e)) (restated-each f [] [] (f .objects) 0 no-kindred (nothing-back a b e) (omega arith))
 
 kept-specs : (f : File) → kept-file f .specs ≡ f .specs
 unfolding kept-file

@@ -1,24 +1,15 @@
 -- Tables that are the same but places, lengths and the stated mark. Assumes nothing.
-use mathlib.Core.Path.{_≡_, refl, _∙_, ap, ap₂}
+use mathlib.Core.Path.{_≡_, refl, ap, ap₂}
 use mathlib.Core.List.{List, [], _∷_}
 use mathlib.Core.Bool.{Bool, true, false, false≢true}
-use Prim.Native.Nat.{ℕ}
 use Rattle.meaning.specs.Defining.{DefinitionRow, EnumeratorRow}
 use Rattle.meaning.specs.Applying.{ObjectRow}
 use Rattle.meaning.specs.Resolving.{ValueRow}
 use Rattle.meaning.specs.Answers.{Tables, Answer, accepted}
 use Rattle.meaning.specs.Places.{each, unplaced-definition-row, unplaced-enumerator-row, unplaced-object-row, unplaced-value-row, unplaced-tables}
 use Rattle.meaning.proofs.UnplacedFaults.{SameAnswer, both-accept, both-refuse}
+use Rattle.meaning.proofs.Unplaced.{tables-same}
 use Rattle.reads_back.specs.ReadsBack.{bare-value-row, bare}
-
--- Tables with the same parts.
-pub tables-same : {a a′ : List DefinitionRow} {b b′ : List EnumeratorRow} {c c′ : List ObjectRow} {d d′ : List ValueRow} {e e′ : List ℕ}
-    → a ≡ a′ → b ≡ b′ → c ≡ c′ → d ≡ d′ → e ≡ e′
-    → _≡_ {A = Tables} (record { definitions = a; enumerators = b; objects = c; values = d; counts = e }) (record { definitions = a′; enumerators = b′; objects = c′; values = d′; counts = e′ })
-tables-same {a′} {b′} {c} {c′} {d} {d′} {e} p q r s t =
-    ap₂ (λ x y. record { definitions = x; enumerators = y; objects = c; values = d; counts = e }) p q
-    ∙ ap₂ (λ x y. record { definitions = a′; enumerators = b′; objects = x; values = y; counts = e }) r s
-    ∙ ap (λ x. record { definitions = a′; enumerators = b′; objects = c′; values = d′; counts = x }) t
 
 each-twice : {A B : Type 0} (g : A → B) (h : A → A) → ((a : A) → g (h a) ≡ g a) → (l : List A) → each g (each h l) ≡ each g l
 unfolding each

@@ -2,36 +2,19 @@
 use mathlib.Core.Path.{_≡_, refl, sym, _∙_, ap, ap₂}
 use mathlib.Core.List.{List, [], _∷_, _++_}
 use mathlib.Core.Bool.{Bool, true, false, false≢true}
-use Prim.Native.Nat.{ℕ}
-use lib.Dec.{eqb}
-use borrow.Author.Tests.{eqb-true, eq-eqb}
-use Rattle.token.specs.Find.{both, either}
+use Rattle.token.specs.Find.{either}
 use Rattle.token.specs.Words.{same}
-use Rattle.token.proofs.Find.{by-test}
+use Rattle.token.proofs.Bytes.{neither-first, neither-second, not-true}
+use Rattle.token.proofs.Codes.{same-self, same-equal}
 use Rattle.meaning.specs.Syntax.{Word, Definition}
 use Rattle.meaning.specs.Words.{choose, alike, among}
 use Rattle.meaning.specs.Defining.{defined-in}
 
 -- Booleans ---------------------------------------------------------------------------------------------------------------------------------
 
--- Of two tests of which neither holds, the first does not,
-pub neither-left : (a b : Bool) → either a b ≡ false → a ≡ false
-neither-left true b e = e
-neither-left false b e = refl
-
--- and the second does not.
-pub neither-right : (a b : Bool) → either a b ≡ false → b ≡ false
-neither-right true b e = absurd (false≢true (sym e))
-neither-right false b e = e
-
 -- Two tests that do not hold.
 pub neither : {a b : Bool} → a ≡ false → b ≡ false → either a b ≡ false
 neither p q = ap₂ either p q
-
--- A test that is not true is false.
-pub not-true : (b : Bool) → (b ≡ true → ⊥) → b ≡ false
-not-true true h = absurd (h refl)
-not-true false h = refl
 
 -- What holds of either branch holds of the one that is taken.
 pub by-choose : {A : Type 0} (P : A → Type 0) (b : Bool) (f g : Unit {0} → A) → (b ≡ true → P (f tt)) → (b ≡ false → P (g tt)) → P (choose b f g)
@@ -40,21 +23,6 @@ by-choose P true f g h k = h refl
 by-choose P false f g h k = k refl
 
 -- Bytes ------------------------------------------------------------------------------------------------------------------------------------
-
-same-self : (xs : List ℕ) → same xs xs ≡ true
-unfolding same
-same-self [] = refl
-same-self (x ∷ xs) = ap₂ both (eq-eqb x x refl) (same-self xs)
-
-same-equal : (xs ys : List ℕ) → same xs ys ≡ true → xs ≡ ys
-unfolding same
-same-equal [] [] e = refl
-same-equal [] (y ∷ ys) e = absurd (false≢true e)
-same-equal (x ∷ xs) [] e = absurd (false≢true e)
-same-equal (x ∷ xs) (y ∷ ys) e =
-    by-test (λ (b : Bool). b ≡ true → _≡_ {A = List ℕ} (x ∷ xs) (y ∷ ys)) (eqb x y) (same xs ys) false
-    (λ t f. ap₂ _∷_ (eqb-true x y t) (same-equal xs ys f))
-    (λ t f. absurd (false≢true f)) e
 
 -- Words that are alike have the same bytes,
 pub alike-bytes : (t u : Word) → alike t u ≡ true → t .bytes ≡ u .bytes
@@ -94,13 +62,13 @@ defined-append t (d ∷ l) m = go (alike (d .name) t) (defined-append t l m)
 
 -- A word not defined in a list and one more.
 pub defined-before : (t : Word) (l : List Definition) (d : Definition) → defined-in t (l ++ (d ∷ [])) ≡ false → defined-in t l ≡ false
-defined-before t l d e = neither-left (defined-in t l) (defined-in t (d ∷ [])) (sym (defined-append t l (d ∷ [])) ∙ e)
+defined-before t l d e = neither-first (defined-in t l) (defined-in t (d ∷ [])) (sym (defined-append t l (d ∷ [])) ∙ e)
 
 -- It is not the name of the last.
 pub defined-last : (t : Word) (l : List Definition) (d : Definition) → defined-in t (l ++ (d ∷ [])) ≡ false → alike (d .name) t ≡ false
 unfolding defined-in
 defined-last t l d e =
-    neither-left (alike (d .name) t) false (neither-right (defined-in t l) (defined-in t (d ∷ [])) (sym (defined-append t l (d ∷ [])) ∙ e))
+    neither-first (alike (d .name) t) false (neither-second (defined-in t l) (defined-in t (d ∷ [])) (sym (defined-append t l (d ∷ [])) ∙ e))
 
 -- What is defined is so under each word of its bytes.
 pub defined-bytes : (t u : Word) (l : List Definition) → t .bytes ≡ u .bytes → defined-in t l ≡ defined-in u l

@@ -20,8 +20,7 @@ use Rattle.locality.proofs.Onward.{reading}
 use Rattle.locality.proofs.Join.{One, token-one}
 use Rattle.locality.proofs.Pieces.{first}
 use Rattle.locality.proofs.Decimals.{WithinLimits, found-number, Decimal, one-digit, one-more, signed, decimal-one}
-use Rattle.grammar.specs.Grammar.{Class, other, numeral, matches}
-use Rattle.grammar.specs.Grammar.{number as a-number}
+use Rattle.grammar.specs.Grammar.{Class, other, numeral, matches, number as a-number}
 use Rattle.grammar.specs.Terminals.{words, signOf, classOf, tokenOf, tokensIn, tokens}
 use Rattle.meaning.specs.Syntax.{Num, Word}
 use Rattle.meaning.specs.Actions.{num-of-sort, num-of-step, word-of}

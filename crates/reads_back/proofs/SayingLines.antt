@@ -14,8 +14,7 @@ use Rattle.locality.proofs.Front.{ends}
 use Rattle.locality.proofs.Join.{sign-one}
 use Rattle.locality.proofs.Pieces.{mayStart}
 use Rattle.grammar.specs.Grammar.{word, OIL-VERSION, CPU}
-use Rattle.grammar.specs.Terminals.{signOf}
-use Rattle.grammar.specs.Terminals.{classOf as sortClass}
+use Rattle.grammar.specs.Terminals.{signOf, classOf as sortClass}
 use Rattle.meaning.specs.Syntax.{Word, Object, File}
 use Rattle.meaning.specs.Actions.{zero-num, num-of-sort}
 use Rattle.meaning.specs.Resolving.{Value, number, truth, auto, string, enumerator, object, Resolved, end, resolved}

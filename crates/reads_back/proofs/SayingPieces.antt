@@ -6,8 +6,7 @@ use mathlib.Core.Bool.{Bool, true, false}
 use native.Mathlib.Omega.{arith}
 use lib.ListN.{length, take, drop, length-drop}
 use lib.Seq.{take-append-le, drop-append-le, drop-append-add, take-length}
-use Rattle.token.specs.Bytes.{blank}
-use Rattle.token.specs.Bytes.{classOf as byteClass}
+use Rattle.token.specs.Bytes.{blank, classOf as byteClass}
 use Rattle.token.specs.declared.Token.{Token as Lexeme}
 use Rattle.token.specs.declared.Sort.{Sort as TokenSort}
 use Rattle.locality.proofs.Shift.{moved}

@@ -4,8 +4,7 @@ use mathlib.Core.Bool.{Bool, true, false, not, false≢true}
 use Rattle.token.specs.Find.{both, either}
 use Rattle.token.specs.Lexing.{Lexed, lexFrom, more, ended, refused}
 use Rattle.token.specs.declared.Sort.{Sort as TokenSort}
-use Rattle.grammar.specs.Grammar.{Class, Kind, Integer, matches, the, ordinary, numeral, quoted, other, kind-word, type-word, integer-word, word, sign, AUTO, NO-DEFAULT, TRUE, FALSE}
-use Rattle.grammar.specs.Grammar.{name, number, string}
+use Rattle.grammar.specs.Grammar.{Class, Kind, Integer, matches, the, ordinary, numeral, quoted, other, kind-word, type-word, integer-word, word, sign, AUTO, NO-DEFAULT, TRUE, FALSE, name, number, string}
 use Rattle.grammar.specs.Terminals.{classOf}
 use Rattle.grammar.proofs.Choices.{all, classes, every-class}
 use Rattle.meaning.specs.Syntax.{Word}

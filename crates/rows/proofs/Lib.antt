@@ -1,4 +1,3 @@
-pub mod Comparisons
 pub mod Stores
 pub mod Tables
 pub mod Walks

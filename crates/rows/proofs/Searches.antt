@@ -1,25 +1,23 @@
 -- The laws of lookups by key over rows.
 -- Assumes nothing.
-use Prim.Native.Nat.{ℕ, zero, suc, _+_, _*_, _-_, _<_, _≤_, min}
+use Prim.Native.Nat.{ℕ, suc, _+_, _*_, _<_, _≤_, min}
 use mathlib.Core.Path.{_≡_, refl, sym, ap, ap₂, _∙_, subst}
 use mathlib.Core.Bool.{Bool, true, false, false≢true}
 use mathlib.Core.List.{List, [], _∷_}
-use native.Mathlib.Nat.{sub-zero, add-zero}
+use native.Mathlib.Nat.{add-zero}
 use native.Mathlib.Omega.{arith}
-use native.Mathlib.Numerals.{add-one}
-use native.Mathlib.Decide.{ℕ-discrete, decLt}
+use native.Mathlib.Decide.{decLt}
 use lib.ListN.{length, getD}
 use lib.Dec.{eqb, ltb}
 use borrow.Author.Tests.{lt-ltb, le-ltb, ltb-true, ltb-false, eq-eqb, ne-eqb}
-use Rattle.token.specs.Find.{pick, both, either, firstOf, find}
+use Rattle.token.specs.Find.{pick, both, either, find}
 use Rattle.token.specs.Words.{same}
 use Rattle.token.specs.Tokens.{partOf}
-use Rattle.token.proofs.Find.{find-past, find-here, find-next, find-low, find-holds, by-test}
+use Rattle.token.proofs.Find.{find-past, find-here, find-next, find-low, find-holds, by-test, find-before}
 use Rattle.rows.specs.declared.Found.{Found}
 use Rattle.rows.specs.declared.Found.the-variants.{At, Nothing}
-use Rattle.rows.specs.Table.{part, at, from, first, anyOf}
-use Rattle.rows.specs.Search.{foundBelow, findFrom, hasKey, isNamed, findRow, findNamed, isFound, IsFirst, FirstOf, keyed, named}
-use Rattle.rows.proofs.Tables.{cell-at}
+use Rattle.rows.specs.Table.{first, anyOf}
+use Rattle.rows.specs.Search.{foundBelow, findFrom, hasKey, isNamed, findRow, findNamed, isFound, IsFirst, FirstOf}
 use Rattle.rows.proofs.Starts.{cell-start, cell-column}
 
 -- a loop at row i: what is left decides the whole
@@ -39,23 +37,6 @@ module _ (t : ℕ → Bool) (n i : ℕ) where
 
 -- what is found is the first, and nothing means none
 
-module _ (t : ℕ → Bool) where
-  first-fails : (n p k : ℕ) → p ≤ k → k < firstOf t n p → t k ≡ false
-  unfolding firstOf
-  first-fails zero p k = λ a b. absurd (omega arith)
-  first-fails (suc n) p k =
-      by-test (λ (q : ℕ). p ≤ k → k < q → t k ≡ false) (t p) p (firstOf t n (suc p))
-      (λ e a b. absurd (omega arith))
-      (λ e a b. by e (λ (c : suc p ≤ k). first-fails n (suc p) k c b) a (ℕ-discrete k p))
-    where
-      by : t p ≡ false → (suc p ≤ k → t k ≡ false) → p ≤ k → Dec (k ≡ p) → t k ≡ false
-      by e f a (yes d) = ap t d ∙ e
-      by e f a (no d) = f (omega arith)
-
-  find-fails : (n i k : ℕ) → i ≤ k → k < find t n i → t k ≡ false
-  unfolding find
-  find-fails n i k = first-fails (n - i) i k
-
 rowOf : Found → ℕ
 rowOf (At j) = j
 rowOf Nothing = 0
@@ -63,7 +44,7 @@ rowOf Nothing = 0
 module _ (t : ℕ → Bool) (n i : ℕ) where
   is-first : find t n i < n → IsFirst t n i (find t n i)
   is-first h =
-      record { low = find-low t n i; high = h; holds = find-holds t n i (omega (arith, find-low t n i)) h; fails = find-fails t n i }
+      record { low = find-low t n i; high = h; holds = find-holds t n i (omega (arith, find-low t n i)) h; fails = find-before t n i }
 
   pub found-first : (j : ℕ) → findFrom t n i ≡ At j → IsFirst t n i j
   unfolding findFrom foundBelow rowOf
@@ -77,7 +58,7 @@ module _ (t : ℕ → Bool) (n i : ℕ) where
   nothing-none =
       by-test (λ (f : Found). f ≡ Nothing → (k : ℕ) → i ≤ k → k < n → t k ≡ false) (ltb (find t n i) n) (At (find t n i)) Nothing
       (λ h e. absurd (false≢true (sym (ap isFound e))))
-      (λ h e k a b. find-fails t n i k a (omega (arith, ltb-false (find t n i) n h)))
+      (λ h e k a b. find-before t n i k a (omega (arith, ltb-false (find t n i) n h)))
 
   pub first-found : (j : ℕ) → IsFirst t n i j → findFrom t n i ≡ At j
   unfolding findFrom foundBelow
@@ -90,7 +71,7 @@ module _ (t : ℕ → Bool) (n i : ℕ) where
       by (yes a) b =
           absurd
           (clash (find t n i) (find-holds t n i (omega (arith, f .low, f .high)) (omega (arith, f .high))) (f .fails (find t n i) (find-low t n i) a))
-      by (no a) (yes b) = absurd (clash j (f .holds) (find-fails t n i j (f .low) b))
+      by (no a) (yes b) = absurd (clash j (f .holds) (find-before t n i j (f .low) b))
       by (no a) (no b) = omega arith
 
       same-place : find t n i ≡ j
@@ -106,22 +87,6 @@ module _ (t : ℕ → Bool) (n i : ℕ) where
       clash : find t n i < n → ⊥
       clash h =
           false≢true (sym (f (find t n i) (find-low t n i) h) ∙ find-holds t n i (omega (arith, find-low t n i)) h)
-
--- a lookup among numbers is a search over a list of rows
-
-module _ {R : Type 0} (w : ℕ) (back : List ℕ → R) (l : List ℕ) (t : ℕ → Bool) (p : R → Bool) (q : (j : ℕ) → t j ≡ p (at w back l j)) where
-  rows-from : (m n i : ℕ) → n - i ≡ m → findFrom t n i ≡ first p At Nothing i (from w back l i m)
-  unfolding first from
-  rows-from zero n i e = find-end t n i (omega arith)
-  rows-from (suc m) n i e = by (rows-from m n (suc i) (omega arith)) (t i) refl
-    where
-      by : findFrom t n (suc i) ≡ first p At Nothing (suc i) (from w back l (suc i) m)
-          → (b : Bool) → t i ≡ b → findFrom t n i ≡ first p At Nothing i (from w back l i (suc m))
-      by r true h = find-stop t n i (omega arith) h ∙ rw (sym (q i) ∙ h)
-      by r false h = find-more t n i (omega arith) h ∙ rw (sym (q i) ∙ h, add-one i) r
-
-  pub find-rows : (n i : ℕ) → findFrom t n i ≡ first p At Nothing i (from w back l i (n - i))
-  find-rows n i = rows-from (n - i) n i refl
 
 -- a search over a list of rows: what is found is the first, and nothing means none
 
@@ -222,34 +187,3 @@ module _ (s l : List ℕ) (a c k m m2 p n : ℕ) where
   pub named-key : getD l (a + c) 0 ≡ k → isNamed s l a c k m m2 p n ≡ same (partOf s (getD l (a + m) 0) (getD l (a + m2) 0)) (partOf s p n)
   unfolding isNamed hasKey
   named-key e = rw (eq-eqb (getD l (a + c) 0) k e)
-
--- a type of rows whose column c is `key`
-module _ {R : Type 0} (w : ℕ) (back : List ℕ → R) (l : List ℕ) (c : ℕ) (c<w : c < w) (key : R → ℕ) (key-is : (cs : List ℕ) → key (back cs) ≡ getD cs c 0) where
-  key-at : (j k : ℕ) → hasKey l (j * w) c k ≡ keyed key k (at w back l j)
-  unfolding hasKey keyed at
-  key-at j k = ap (λ (x : ℕ). eqb x k) (sym (key-is (part l (j * w) w) ∙ cell-at l (j * w) w c c<w))
-
-  pub find-row-rows : (n k i : ℕ) → findRow l w n c k i ≡ first (keyed key k) At Nothing i (from w back l i (n - i))
-  unfolding findRow
-  find-row-rows n k i = find-rows w back l (λ j. hasKey l (j * w) c k) (keyed key k) (λ j. key-at j k) n i
-
-  pub find-row-all : (n k : ℕ) → findRow l w n c k 0 ≡ first (keyed key k) At Nothing 0 (from w back l 0 n)
-  find-row-all n k = find-row-rows n k 0 ∙ rw (sub-zero n)
-
-  -- and whose columns m and m + 1 are the place and the length of its name
-  module _ (m : ℕ) (m<w : m + 1 < w) (place size : R → ℕ) (place-is : (cs : List ℕ) → place (back cs) ≡ getD cs m 0) (size-is : (cs : List ℕ) → size (back cs) ≡ getD cs (m + 1) 0) (s : List ℕ) where
-    named-at : (j k p len : ℕ) → isNamed s l (j * w) c k m (m + 1) p len ≡ named key place size s k p len (at w back l j)
-    unfolding isNamed named at
-    named-at j k p len =
-        let x : getD l (j * w + m) 0 ≡ place (at w back l j) = sym (place-is (part l (j * w) w) ∙ cell-at l (j * w) w m (omega arith)) in
-        let y : getD l (j * w + (m + 1)) 0 ≡ size (at w back l j) = sym (size-is (part l (j * w) w) ∙ cell-at l (j * w) w (m + 1) m<w) in
-        ap₂ both (key-at j k) (ap₂ (λ (x y : ℕ). same (partOf s x y) (partOf s p len)) x y)
-
-    pub find-named-rows : (n k p len i : ℕ)
-        → findNamed s l w n c k m p len i ≡ first (named key place size s k p len) At Nothing i (from w back l i (n - i))
-    unfolding findNamed
-    find-named-rows n k p len i =
-        find-rows w back l (λ j. isNamed s l (j * w) c k m (m + 1) p len) (named key place size s k p len) (λ j. named-at j k p len) n i
-
-    pub find-named-all : (n k p len : ℕ) → findNamed s l w n c k m p len 0 ≡ first (named key place size s k p len) At Nothing 0 (from w back l 0 n)
-    find-named-all n k p len = find-named-rows n k p len 0 ∙ rw (sub-zero n)

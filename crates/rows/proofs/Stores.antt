@@ -1,9 +1,9 @@
 -- The laws of runs of stores: `sets l i vs` is l with vs stored from place i on.
 -- Assumes nothing.
-use Prim.Native.Nat.{ℕ, zero, suc, _+_, _-_, _<_, _≤_}
+use Prim.Native.Nat.{ℕ, suc, _+_, _-_, _<_, _≤_}
 use mathlib.Core.Path.{_≡_, refl, sym, ap, _∙_}
 use mathlib.Core.List.{List, [], _∷_, _++_, append-assoc, append-nil}
-use native.Mathlib.Nat.{add-zero, sub-zero, zero-sub, suc-sub-suc}
+use native.Mathlib.Nat.{add-zero}
 use native.Mathlib.Omega.{arith}
 use native.Mathlib.Numerals.{add-one}
 use lib.ListN.{length, take, drop, getD, set, replicate, drop-of-length-le}
@@ -18,11 +18,6 @@ sets-append l i (x ∷ xs) ys = sets-append (set l i x) (suc i) xs ys ∙ ap (λ
 pub sets-out : (l : List ℕ) (i : ℕ) (vs : List ℕ) → length l ≤ i → sets l i vs ≡ l
 sets-out l i [] h = refl
 sets-out l i (v ∷ vs) h = rw (set-out l i v h) (sets-out l (suc i) vs (omega arith))
-
--- before and after the run nothing changes
-pub take-sets : (n : ℕ) (l : List ℕ) (i : ℕ) (vs : List ℕ) → n ≤ i → take n (sets l i vs) ≡ take n l
-take-sets n l i [] h = refl
-take-sets n l i (v ∷ vs) h = take-sets n (set l i v) (suc i) vs (omega arith) ∙ take-set-le n l i v h
 
 pub drop-sets : (n : ℕ) (l : List ℕ) (i : ℕ) (vs : List ℕ) → i + length vs ≤ n → drop n (sets l i vs) ≡ drop n l
 drop-sets n l i [] h = refl
@@ -64,8 +59,3 @@ pub cleared : (l : List ℕ) (i : ℕ) → i ≡ length l → replicate i 0 ++ d
 cleared l i e =
     let h : length l ≤ i = omega arith in
     rw (drop-of-length-le l h, append-nil {A = ℕ} (replicate i 0), e)
-
-pub drop-replicate : (n m a : ℕ) → drop n (replicate m a) ≡ replicate (m - n) a
-drop-replicate zero m a = rw (sub-zero m)
-drop-replicate (suc n) zero a = rw (zero-sub (suc n))
-drop-replicate (suc n) (suc m) a = drop-replicate n m a ∙ rw (suc-sub-suc m n)

@@ -73,16 +73,6 @@ howMany-le j (k ∷ ks) = by (howMany-le j ks) (eqb k j)
     by h true = omega arith
     by h false = omega arith
 
-pub howMany-append : (j : ℕ) (xs ys : List ℕ) → howMany j (xs ++ ys) ≡ howMany j xs + howMany j ys
-unfolding howMany
-howMany-append j [] ys = omega arith
-howMany-append j (x ∷ xs) ys = by (howMany-append j xs ys) (eqb x j)
-  where
-    by : howMany j (xs ++ ys) ≡ howMany j xs + howMany j ys
-        → (t : Bool) → pick t (howMany j (xs ++ ys) + 1) (howMany j (xs ++ ys)) ≡ pick t (howMany j xs + 1) (howMany j xs) + howMany j ys
-    by h true = omega arith
-    by h false = omega arith
-
 -- each cell has as many more as the kinds have of it, up to the largest count
 pub count-on : (cs ks : List ℕ) (j : ℕ) → j < length cs → getD cs j 0 ≤ full → getD (countOn cs ks) j 0 ≡ min full (getD cs j 0 + howMany j ks)
 unfolding countOn
@@ -98,7 +88,7 @@ count-on cs (k ∷ ks) j h b = by (count-on (oneMore cs k) ks j (omega (arith, l
         let o : getD (oneMore cs k) j 0 ≡ getD cs j 0 = one-more-other cs k j d in
         omega (arith, rest (omega arith), howMany-other j k ks d)
 
-blank : (n i : ℕ) → getD {A = ℕ} (replicate n 0) i 0 ≡ 0
+pub blank : (n i : ℕ) → getD {A = ℕ} (replicate n 0) i 0 ≡ 0
 blank zero i = refl
 blank (suc n) zero = refl
 blank (suc n) (suc i) = blank n i
@@ -110,16 +100,7 @@ counts-of ks k h b =
     let z = blank 13 k in
     omega (arith, count-on (replicate 13 0) ks k h (omega arith), howMany-le k ks)
 
--- a walk: no kinds, and one kind more
-pub counts-none : countsOf [] ≡ replicate 13 0
-unfolding countsOf countOn
-counts-none = refl
-
-count-on-append : (cs xs ys : List ℕ) → countOn cs (xs ++ ys) ≡ countOn (countOn cs xs) ys
+pub count-on-append : (cs xs ys : List ℕ) → countOn cs (xs ++ ys) ≡ countOn (countOn cs xs) ys
 unfolding countOn
 count-on-append cs [] ys = refl
 count-on-append cs (x ∷ xs) ys = count-on-append (oneMore cs x) xs ys
-
-pub counts-next : (ks : List ℕ) (k : ℕ) → oneMore (countsOf ks) k ≡ countsOf (ks ++ (k ∷ []))
-unfolding countsOf countOn
-counts-next ks k = sym (count-on-append (replicate 13 0) ks (k ∷ []))

@@ -58,13 +58,3 @@ pub record FirstOf {R : Type 0} (p : R → Bool) (i : ℕ) (rs : List R) (j : �
   pub place : j ≡ i + length front
   pub holds : p row ≡ true
   pub fails : anyOf p front ≡ false
-
--- the two tests, of a row whose key, and whose name's place and length, the functions give
-module _ {R : Type 0} (key : R → ℕ) where
-  unfoldable pub keyed : ℕ → R → Bool
-  keyed k r = eqb (key r) k
-
-  module _ (place size : R → ℕ) (s : List ℕ) where
-    unfoldable pub named : ℕ → ℕ → ℕ → R → Bool
-    unfolding keyed
-    named k p n r = both (keyed k r) (same (partOf s (place r) (size r)) (partOf s p n))

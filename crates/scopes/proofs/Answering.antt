@@ -1,17 +1,17 @@
 -- What the lookups in the tables find is what the meaning has. Assumes nothing.
-use mathlib.Core.Path.{_≡_, refl, sym, _∙_, ap, ap₂, subst}
-use mathlib.Core.List.{List, [], _∷_, _++_, append-assoc, append-nil}
+use mathlib.Core.Path.{_≡_, refl, sym, _∙_, ap, ap₂}
+use mathlib.Core.List.{List, [], _∷_, _++_, append-nil}
 use mathlib.Core.Bool.{Bool, true, false, false≢true}
 use mathlib.Core.Option.{Option, none, some}
-use Prim.Native.Nat.{ℕ, zero, suc, _+_, _*_, _≤_, _<_}
+use Prim.Native.Nat.{ℕ, suc, _+_, _*_}
 use native.Mathlib.Omega.{arith}
-use native.Mathlib.Decide.{ℕ-discrete}
 use lib.ListN.{length, getD}
 use lib.Dec.{eqb}
-use borrow.Author.Tests.{eq-eqb, ne-eqb}
+use borrow.Author.Tests.{ne-eqb}
 use Rattle.token.specs.Find.{pick, both}
 use Rattle.token.specs.Words.{same}
-use Rattle.token.specs.Tokens.{stepAt, partOf}
+use Rattle.token.specs.Tokens.{partOf}
+use Rattle.token.proofs.Bytes.{eqb-sym}
 use Rattle.grammar.specs.Grammar.{Kind}
 use Rattle.rows.specs.declared.Found.{Found}
 use Rattle.rows.specs.declared.Found.the-variants.{At, Nothing}
@@ -23,19 +23,19 @@ use Rattle.meaning.specs.Words.{alike}
 use Rattle.meaning.specs.Normal.{part}
 use Rattle.meaning.specs.Scopes.{Under, find-definition, find-value, find-object}
 use Rattle.meaning.specs.Defining.{DefinitionRow, definition-row, definition-rows, definition-rows-under, all-definition-rows}
-use Rattle.meaning.proofs.Sites.{definition-words, value-words, statement-words, object-words}
+use Rattle.meaning.proofs.Sites.{definition-words, statement-words, object-words}
 use Rattle.meaning.proofs.Numbering.{Counts, object-numbers}
-use Rattle.meaning.proofs.Standing.{Standing, standing-if, select, Scope, counts-head, counts-tail}
+use Rattle.meaning.proofs.Standing.{Standing, standing-if, select, counts-head, counts-tail}
 use Rattle.meaning.proofs.Lookups.{InText, map-option, first-standing, row-under, finds-definition}
-use Rattle.layout.specs.Kept.{Entry, Choice, list-key, entries, entries-under, spec-entries, spec-choices, kept-definitions, kept-enumerators, kept-objects, choice-cells}
-use Rattle.scopes.specs.Situations.{Situation, ScopeAt, no-scope, scope, Nth, RowOf, NoneOf, Reached, ReadAt}
-use Rattle.scopes.specs.Forms.{Some, at-least-one, Formed, an-integer, a-string, a-boolean, an-enum, a-reference}
-use Rattle.scopes.specs.Promises.{row-found, number-found, place-found, object-found, FindsDefinition, FindsObject}
-use Rattle.scopes.proofs.Goodness.{Good, Goods, good-front, good-back, object-good}
+use Rattle.layout.specs.Kept.{Entry, list-key, entries, entries-under, spec-entries, spec-choices, kept-enumerators, choice-cells}
+use Rattle.scopes.specs.Situations.{Situation, ScopeAt, no-scope, scope, Reached}
+use Rattle.scopes.specs.Forms.{Some, Formed, an-integer, a-string, a-boolean, an-enum, a-reference}
+use Rattle.scopes.specs.Promises.{row-found, number-found, object-found, FindsDefinition, FindsObject}
+use Rattle.scopes.proofs.Goodness.{Good, Goods, good-back, object-good}
 use Rattle.scopes.proofs.Finding.{is-row, is-choice, is-object, first-front, none-first, none-chosen, first-one, found-one, found-below, find-in-definitions, find-in-enumerators, find-in-objects}
 use Rattle.scopes.proofs.Rooms.{choice-cell}
 use Rattle.scopes.proofs.Lists.{chosen}
-use Rattle.scopes.proofs.Descents.{In, here, there, nth-in, whole, Origin, entry-facts, scope-facts}
+use Rattle.scopes.proofs.Descents.{In, here, there, whole, entry-facts, scope-facts}
 
 -- Definitions --------------------------------------------------------------------------------------------------------------------------------
 
@@ -172,13 +172,6 @@ word-in-list {s} {f} e x m at len j t v k i h b r q z y =
     choice-cell f e j 1 (record { list = key; word = v .word }) h (found-one p (spec-choices (f .specs)) j (record { list = key; word = v .word }) n₀ w) (omega arith) (omega arith)
 
 -- Objects ------------------------------------------------------------------------------------------------------------------------------------
-
-eqb-sym : (a b : ℕ) → eqb a b ≡ eqb b a
-eqb-sym a b = by (ℕ-discrete a b)
-  where
-    by : Dec (a ≡ b) → eqb a b ≡ eqb b a
-    by (yes e) = eq-eqb a b e ∙ sym (eq-eqb b a (sym e))
-    by (no n) = ne-eqb a b n ∙ sym (ne-eqb b a (λ e. n (sym e)))
 
 search-objects : (s : List ℕ) (k : Kind) (at len : ℕ) (t : Word) → t .bytes ≡ partOf s at len → (i : ℕ) (os : List Object) → Goods s (object-words os) → Counts i (object-numbers os)
     → first (is-object s (kind-number k) at len) At Nothing i os ≡ object-found (find-object k os t)

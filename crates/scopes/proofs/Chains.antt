@@ -2,13 +2,10 @@
 -- Assumes nothing.
 use mathlib.Core.Path.{_≡_, refl, sym, _∙_, ap, subst}
 use mathlib.Core.List.{List, [], _∷_, _++_}
-use mathlib.Core.Bool.{Bool, true, false, false≢true}
 use Prim.Native.Nat.{ℕ, zero, suc, _+_, _-_, _≤_, _<_}
 use native.Mathlib.Omega.{arith}
-use lib.ListN.{length, getD, take, drop}
-use lib.Dec.{eqb, leb}
+use lib.ListN.{length}
 use borrow.Author.Tests.{le-leb}
-use Rattle.token.specs.Find.{pick, both}
 use Rattle.token.specs.Tokens.{stepAt, partOf}
 use Rattle.token.specs.Lexing.{lexN, lexFrom, afterStep, Lexed}
 use Rattle.token.specs.declared.Cursor.{Cursor}
@@ -17,16 +14,14 @@ use Rattle.token.specs.declared.Sort.{Sort}
 use Rattle.token.specs.declared.Sort.the-variants.{Word as WordToken, Number, String, Punctuator}
 use Rattle.token.specs.declared.Step.{Step}
 use Rattle.token.specs.declared.Step.the-variants.{Found, Refused, End}
-use Rattle.token.proofs.Steps.{StepOk, step-ok, found-fits, step-again}
-use Rattle.grammar.specs.Grammar.{Token, Class, sign, lsquare, rsquare, dots, comma, numeral}
-use Rattle.grammar.specs.Terminals.{tokenOf, classOf, tokensIn}
-use Rattle.grammar.specs.Terminals.{tokens as tokens-of}
-use Rattle.meaning.specs.Syntax.{Num, Word}
+use Rattle.token.proofs.Steps.{found-fits, step-again}
+use Rattle.grammar.specs.Grammar.{Token}
+use Rattle.grammar.specs.Terminals.{tokenOf, tokensIn, tokens as tokens-of}
 use Rattle.meaning.specs.Actions.{word-of, num-of-step, num-of-sort, zero-num}
 use Rattle.scopes.specs.declared.Item.{Item}
 use Rattle.scopes.specs.Items.{num, itemOf, itemOfStep, itemAt}
 use Rattle.scopes.specs.Situations.{ReadAt}
-use Rattle.scopes.specs.Ranges.{NumberAt, SignAt}
+use Rattle.scopes.specs.Ranges.{NumberAt}
 
 -- A step from p finds the token t.
 pub record StepTo (s : List ℕ) (p : ℕ) (t : Token) : Type 0 where

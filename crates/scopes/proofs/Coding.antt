@@ -1,7 +1,7 @@
 -- The classes of tokens by what the form of a rule admits: the codes of type words, and the bytes of signs. Assumes nothing.
-use mathlib.Core.Path.{_≡_, refl, sym, _∙_, ap, subst}
+use mathlib.Core.Path.{_≡_, refl, sym, _∙_, ap}
 use mathlib.Core.List.{List, [], _∷_}
-use mathlib.Core.Bool.{Bool, true, false, false≢true}
+use mathlib.Core.Bool.{Bool, true}
 use Prim.Native.Nat.{ℕ, zero, suc, _+_, _≤_, _<_}
 use native.Mathlib.Omega.{arith}
 use lib.ListN.{getD}
@@ -11,13 +11,14 @@ use Rattle.token.specs.Find.{pick, both}
 use Rattle.token.specs.declared.Sort.{Sort}
 use Rattle.token.specs.declared.Sort.the-variants.{Word as WordToken, Number, String, Punctuator}
 use Rattle.token.proofs.Find.{by-test}
-use Rattle.grammar.specs.Grammar.{Class, Kind, Integer, Given, Sign, Token, ordinary, numeral, quoted, other, kind-word, type-word, integer-word, word, sign, OIL-VERSION, IMPLEMENTATION, CPU, STRING, BOOLEAN, ENUM, TRUE, FALSE, AUTO, NO-DEFAULT, WITH-AUTO, lbrace, rbrace, lsquare, rsquare, equals, semicolon, colon, comma, dots, matches, the, sg, integer, type, given-code, sign-code, code}
+use Rattle.token.proofs.Bytes.{both-true, both-second}
+use Rattle.grammar.specs.Grammar.{Class, Given, Sign, Token, ordinary, numeral, quoted, other, kind-word, type-word, integer-word, word, sign, OIL-VERSION, IMPLEMENTATION, CPU, STRING, BOOLEAN, ENUM, TRUE, FALSE, AUTO, NO-DEFAULT, WITH-AUTO, lbrace, rbrace, lsquare, rsquare, equals, semicolon, colon, comma, dots, matches, the, sg, integer, type, given-code, sign-code, code}
 use Rattle.grammar.specs.Terminals.{words, signOf, classOf, tokenOf}
 use Rattle.meaning.specs.Kinds.{kind-number}
 use Rattle.meaning.specs.Actions.{kind-of, integer-of}
-use Rattle.layout.specs.Kept.{class-number, given-number, sign-number, integer-number}
+use Rattle.layout.specs.Kept.{class-number, given-number, integer-number}
 use Rattle.scopes.specs.declared.Item.{Item}
-use Rattle.scopes.specs.Items.{itemOf, itemAt}
+use Rattle.scopes.specs.Items.{itemOf}
 use Rattle.scopes.specs.Ranges.{SignAt}
 use Rattle.scopes.proofs.Chains.{StepTo, step-item, step-next}
 
@@ -176,19 +177,11 @@ unfoldable all-low : List Class → Bool
 all-low [] = true
 all-low (c ∷ cs) = both (low c) (all-low cs)
 
-both-left : (a b : Bool) → both a b ≡ true → a ≡ true
-both-left true b e = refl
-both-left false b e = absurd (false≢true e)
-
-both-right : (a b : Bool) → both a b ≡ true → b ≡ true
-both-right true b e = e
-both-right false b e = absurd (false≢true e)
-
 low-at : (l : List Class) (n : ℕ) → all-low l ≡ true → low (getD l n other) ≡ true
 unfolding all-low low code
 low-at [] n h = refl
-low-at (c ∷ cs) zero h = both-left (ltb (code c) 30) (all-low cs) h
-low-at (c ∷ cs) (suc n) h = low-at cs n (both-right (ltb (code c) 30) (all-low cs) h)
+low-at (c ∷ cs) zero h = both-true (ltb (code c) 30) (all-low cs) h
+low-at (c ∷ cs) (suc n) h = low-at cs n (both-second (ltb (code c) 30) (all-low cs) h)
 
 words-low : all-low words ≡ true
 unfolding all-low low code given-code

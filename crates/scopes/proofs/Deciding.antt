@@ -1,44 +1,26 @@
 -- What the functions over numbers and rows cite, a law for each answer. Assumes nothing.
 use mathlib.Core.Path.{_≡_, refl, sym, _∙_, ap, ap₂, subst}
-use mathlib.Core.List.{List, [], _∷_, _++_}
+use mathlib.Core.List.{List}
 use mathlib.Core.Bool.{Bool, true, false, not, false≢true}
-use mathlib.Core.Option.{Option, none, some}
 use Prim.Native.Nat.{ℕ, zero, suc, _+_, _-_, _*_, _^_, _≤_, _<_}
 use native.Mathlib.Omega.{arith}
-use native.Mathlib.Numerals.{unary-clauses, add-one}
-use lib.ListN.{length, getD}
+use native.Mathlib.Numerals.{unary-clauses}
 use lib.Dec.{eqb, leb}
 use borrow.Author.Tests.{eq-eqb, ne-eqb, eqb-true}
-use Rattle.token.specs.Find.{pick, both, either}
-use Rattle.token.specs.Words.{same}
-use Rattle.token.specs.Tokens.{stepAt, partOf}
-use Rattle.token.proofs.Find.{by-test}
+use Rattle.token.specs.Find.{pick, both}
+use Rattle.token.specs.Tokens.{stepAt}
 use Rattle.token.specs.declared.Cursor.{Cursor}
 use Rattle.token.specs.declared.Token.{Token as Lexeme}
 use Rattle.token.specs.declared.Sort.{Sort}
 use Rattle.token.specs.declared.Sort.the-variants.{Word as WordToken, Number, String, Punctuator}
-use Rattle.token.specs.declared.Step.{Step}
 use Rattle.token.specs.declared.Step.the-variants.{Found, Refused, End}
-use Rattle.grammar.specs.Grammar.{Kind, Integer, UINT32, INT32, UINT64, INT64, OS, APPMODE, TASK, ISR, COUNTER, ALARM, RESOURCE, EVENT, COM, MESSAGE, NETWORKMESSAGE, IPDU, NM}
-use Rattle.rows.specs.declared.Found.{Found as Row}
-use Rattle.rows.specs.declared.Found.the-variants.{At, Nothing}
-use Rattle.meaning.specs.Kinds.{kind-number}
-use Rattle.meaning.specs.Syntax.{Num, Word, AttributeType, integer, string, boolean, enum, reference, Bounds, no-bounds, Definition, Values, no-value, value, Defined, File, is-enum}
+use Rattle.grammar.specs.Grammar.{Integer, UINT32, INT32, UINT64, INT64}
+use Rattle.meaning.specs.Syntax.{Num}
 use Rattle.meaning.specs.Actions.{num-of-step}
-use Rattle.meaning.specs.Words.{alike, at-most, equal, least-of, greatest-of, signed, width, in-type, in-bounds}
-use Rattle.meaning.specs.Scopes.{Under, find-value, fits-number}
-use Rattle.meaning.proofs.Sites.{value-words, definition-words}
-use Rattle.layout.specs.Kept.{Entry, list-key, truth-cells, definition-cells, spec-entries, code-of, bit, integer-number, kept-definitions}
-use Rattle.scopes.specs.declared.Num.{Num as Number-of}
+use Rattle.meaning.specs.Words.{at-most, equal, least-of, greatest-of, signed, width, in-type}
 use Rattle.scopes.specs.declared.Item.{Item}
 use Rattle.scopes.specs.Items.{num, itemOf, itemOfStep, itemAt, integer-coded}
-use Rattle.scopes.specs.Situations.{Situation, RowOf, Nth, ReadAt}
-use Rattle.scopes.specs.Ranges.{RangeAt}
-use Rattle.scopes.specs.Forms.{Truths, no-truths, both-truths, Formed, an-integer, a-string, a-boolean, an-enum, a-reference}
-use Rattle.scopes.specs.Promises.{InRange, number-found, place-found}
 use Rattle.scopes.proofs.Chains.{number-of-step}
-use Rattle.scopes.proofs.Goodness.{Good, Goods, good-back}
-use Rattle.scopes.proofs.Rooms.{definition-cell}
 
 -- Items -------------------------------------------------------------------------------------------------------------------------------------
 

@@ -3,36 +3,33 @@ use mathlib.Core.Path.{_≡_, refl, sym, _∙_, ap, ap₂, subst}
 use mathlib.Core.List.{List, [], _∷_, _++_, append-assoc, append-nil}
 use mathlib.Core.Bool.{Bool, true, false}
 use mathlib.Core.Option.{Option, none, some}
-use Prim.Native.Nat.{ℕ, zero, suc, _+_, _≤_, _<_}
+use Prim.Native.Nat.{ℕ, suc, _+_}
 use native.Mathlib.Omega.{arith}
-use lib.ListN.{length, length-append}
+use lib.ListN.{length}
 use Rattle.token.specs.Find.{pick}
-use Rattle.token.specs.Tokens.{stepAt, partOf}
-use Rattle.grammar.specs.Grammar.{Kind, file, _▸_, ∎, _⟶_, Trees, Derivation}
-use Rattle.grammar.specs.Grammar.{tokens as tree-tokens}
+use Rattle.grammar.specs.Grammar.{Kind, file, _▸_, ∎, _⟶_, Trees, tokens as tree-tokens}
 use Rattle.grammar.specs.Terminals.{tokens}
 use Rattle.grammar.proofs.Uniqueness.{none≢some}
 use Rattle.meaning.specs.Kinds.{kind-number, same-kind}
-use Rattle.meaning.specs.Syntax.{Word, span-of, Definition, Definitions, no-more, define, Values, no-value, value, Defined, Spec, Object, File, is-enum, definitions-in, definitions-under}
+use Rattle.meaning.specs.Syntax.{Word, Definition, Definitions, no-more, define, Values, no-value, value, Defined, Spec, File, is-enum}
 use Rattle.meaning.specs.Words.{alike}
 use Rattle.meaning.specs.Actions.{syntax}
 use Rattle.meaning.specs.Normal.{part}
 use Rattle.meaning.specs.Scopes.{Under, find-definition, find-value, under, definitions-or, of-kind}
-use Rattle.meaning.specs.Defining.{DefinitionRow, all-definition-rows}
+use Rattle.meaning.specs.Defining.{all-definition-rows}
 use Rattle.meaning.proofs.Order.{Ordered, InOrder}
 use Rattle.meaning.proofs.Settled.{text-ordered}
-use Rattle.meaning.proofs.Sites.{bound-words, option-words, definition-words, value-words, spec-words, object-words, file-words}
-use Rattle.meaning.proofs.Numbering.{numbered, Counts, N, definition-numbers, numbers-under, spec-numbers, object-numbers, length-definitions, length-under}
-use Rattle.meaning.proofs.Standing.{Run, Scope, Deep, deep-none, deep-more, DeepValues, no-values, more-values, DeepSpecs, no-specs, more-specs, scopes, counts-back, counts-front, counts-head, counts-tail}
-use Rattle.meaning.proofs.Lookups.{InText}
-use Rattle.layout.specs.Kept.{Entry, Choice, list-key, entries, entries-under, spec-entries, spec-choices, kind-place}
-use Rattle.scopes.specs.Situations.{Situation, HasDefinition, this-definition, later-definition, HasValue, this-value, later-value, HasSpec, this-spec, later-spec, Stands, under-kind, under-value, ScopeAt, no-scope, scope, Nth, RowOf, NoneOf, Reached, ReadAt}
-use Rattle.scopes.specs.Forms.{Some, at-least-one, Formed, AllFormed, none-formed, more-formed, AllFormedUnder, none-under, more-under}
+use Rattle.meaning.proofs.Sites.{bound-words, option-words, definition-words, value-words, spec-words}
+use Rattle.meaning.proofs.Numbering.{numbered, Counts, N, definition-numbers, numbers-under, spec-numbers}
+use Rattle.meaning.proofs.Standing.{Scope, Deep, deep-more, DeepValues, more-values, DeepSpecs, more-specs, scopes, counts-back, counts-head}
+use Rattle.layout.specs.Kept.{Entry, list-key, entries, entries-under, spec-entries, spec-choices, kind-place}
+use Rattle.scopes.specs.Situations.{Situation, HasDefinition, this-definition, later-definition, HasValue, this-value, later-value, HasSpec, this-spec, later-spec, Stands, under-kind, under-value, ScopeAt, no-scope, scope, Nth, RowOf, ReadAt}
+use Rattle.scopes.specs.Forms.{Some, Formed, AllFormed, more-formed, AllFormedUnder, more-under}
 use Rattle.scopes.specs.Promises.{place-found}
 use Rattle.scopes.proofs.Chains.{Chain, text-chain}
 use Rattle.scopes.proofs.Forming.{FormedSpecs, formed}
-use Rattle.scopes.proofs.Goodness.{Good, Goods, good-front, good-back, later-words, version-read, syntax-good, syntax-order, spec-order, spec-good, object-good}
-use Rattle.scopes.proofs.Runs.{Ends, ends}
+use Rattle.scopes.proofs.Goodness.{Good, Goods, good-front, good-back, later-words, version-read, syntax-good, syntax-order, spec-order, spec-good}
+use Rattle.meaning.proofs.Runs.{ends}
 use Rattle.scopes.proofs.Lists.{Own}
 use Rattle.scopes.proofs.Lists as lists
 
@@ -43,7 +40,7 @@ unfoldable pub rows-of : List Entry → List ℕ
 rows-of [] = []
 rows-of (x ∷ xs) = x .definition .row ∷ rows-of xs
 
-rows-append : (a b : List Entry) → rows-of (a ++ b) ≡ rows-of a ++ rows-of b
+pub rows-append : (a b : List Entry) → rows-of (a ++ b) ≡ rows-of a ++ rows-of b
 unfolding rows-of
 rows-append [] b = refl
 rows-append (x ∷ a) b = ap (λ (l : List ℕ). x .definition .row ∷ l) (rows-append a b)
@@ -68,7 +65,7 @@ spec-entry-numbers [] = refl
 spec-entry-numbers (x ∷ xs) = rows-append (entries (x .definitions) (x .word) 0) (spec-entries xs) ∙ ap₂ _++_ (entry-numbers (x .definitions) (x .word) 0) (spec-entry-numbers xs)
 
 -- An entry's number is its place.
-rows-length : (a : List Entry) → length (rows-of a) ≡ length a
+pub rows-length : (a : List Entry) → length (rows-of a) ≡ length a
 unfolding rows-of
 rows-length [] = refl
 rows-length (x ∷ a) = ap suc (rows-length a)
@@ -338,9 +335,6 @@ in-either x (y ∷ a) b (there m) = by (in-either x a b m)
     by : Either x a b → Either x (y ∷ a) b
     by (in-first n) = in-first (there n)
     by (in-second n) = in-second n
-
-unfoldable pub defined-of : Entry → Defined
-defined-of x = record { definition = x .definition; values = x .values }
 
 pub record Origin (xs : List Spec) (x : Entry) : Type 0 where
   pub definitions : Definitions

@@ -1,9 +1,9 @@
 -- A lookup in a table finds what a search of the list does whose rows it has. Assumes nothing.
-use mathlib.Core.Path.{_≡_, refl, sym, _∙_, ap, ap₂, subst}
-use mathlib.Core.List.{List, [], _∷_, _++_, append-assoc, append-nil}
+use mathlib.Core.Path.{_≡_, refl, sym, _∙_, ap}
+use mathlib.Core.List.{List, [], _∷_, _++_, append-assoc}
 use mathlib.Core.Bool.{Bool, true, false, false≢true}
 use mathlib.Core.Option.{Option, none, some}
-use Prim.Native.Nat.{ℕ, zero, suc, _+_, _*_, _≤_, _<_}
+use Prim.Native.Nat.{ℕ, suc, _+_, _*_, _≤_, _<_}
 use native.Mathlib.Omega.{arith}
 use native.Mathlib.Numerals.{add-one}
 use lib.ListN.{length, getD, length-append}
@@ -12,14 +12,12 @@ use borrow.Author.Tests.{ne-eqb}
 use Rattle.token.specs.Find.{pick, both, either}
 use Rattle.token.specs.Words.{same}
 use Rattle.token.specs.Tokens.{partOf}
-use Rattle.rows.specs.declared.Found.{Found}
+use Rattle.token.proofs.Bytes.{neither-first, neither-second}
 use Rattle.rows.specs.declared.Found.the-variants.{At, Nothing}
 use Rattle.rows.specs.Table.{first, anyOf}
 use Rattle.rows.specs.Search.{findFrom, hasKey, isNamed, findNamed}
-use Rattle.rows.specs.Search.{FirstOf}
 use Rattle.rows.proofs.Searches.{find-stop, find-more, find-end, first-is}
-use Rattle.rows.proofs.Walks.{first-append}
-use Rattle.meaning.specs.Syntax.{Word, Object, File, Definition}
+use Rattle.meaning.specs.Syntax.{Object, File}
 use Rattle.meaning.specs.Kinds.{kind-number}
 use Rattle.layout.specs.Kept.{Entry, Choice, spec-entries, spec-choices, kept-definitions, kept-enumerators, kept-objects, definition-cells, choice-cells, object-cells}
 use Rattle.scopes.specs.Situations.{Nth, NoneOf}
@@ -72,19 +70,15 @@ module _ {R : Type 0} (p : R → Bool) where
   first-one [] = none
   first-one (x ∷ xs) = let r = first-one xs in pick (p x) (some x) r
 
-  either-false : (a b : Bool) → either a b ≡ false → (a ≡ false) × (b ≡ false)
-  either-false true b e = absurd (false≢true (sym e))
-  either-false false b e = (refl, e)
-
   pub none-one : (xs : List R) → anyOf p xs ≡ false → first-one xs ≡ none
   unfolding first-one anyOf
   none-one [] e = refl
-  none-one (x ∷ xs) e = let h = either-false (p x) (anyOf p xs) e in ap (λ b. pick b (some x) (first-one xs)) (h .0) ∙ none-one xs (h .1)
+  none-one (x ∷ xs) e = ap (λ b. pick b (some x) (first-one xs)) (neither-first (p x) (anyOf p xs) e) ∙ none-one xs (neither-second (p x) (anyOf p xs) e)
 
   pub one-append : (xs ys : List R) → anyOf p xs ≡ false → first-one (xs ++ ys) ≡ first-one ys
   unfolding first-one anyOf
   one-append [] ys e = refl
-  one-append (x ∷ xs) ys e = let h = either-false (p x) (anyOf p xs) e in ap (λ b. pick b (some x) (first-one (xs ++ ys))) (h .0) ∙ one-append xs ys (h .1)
+  one-append (x ∷ xs) ys e = ap (λ b. pick b (some x) (first-one (xs ++ ys))) (neither-first (p x) (anyOf p xs) e) ∙ one-append xs ys (neither-second (p x) (anyOf p xs) e)
 
   pub found-below : (t : ℕ → Bool) (xs : List R) (j : ℕ) → first p At Nothing 0 xs ≡ At j → j < length xs
   found-below t xs j e =
@@ -121,10 +115,10 @@ unfolding isNamed hasKey
 named-cells s l a c k m m2 p n x y z e f g = rw (e, f, g)
 
 -- Of a front part of the rows.
-nth-front : {A : Type 0} {l f : List A} (r : List A) → l ≡ f ++ r → (a : List A) (x : A) (b : List A) → f ≡ a ++ (x ∷ b) → Nth l (length a) x
+pub nth-front : {A : Type 0} {l f : List A} (r : List A) → l ≡ f ++ r → (a : List A) (x : A) (b : List A) → f ≡ a ++ (x ∷ b) → Nth l (length a) x
 nth-front r e a x b h = record { front = a; rest = b ++ r; whole = e ∙ ap (λ t. t ++ r) h ∙ append-assoc a (x ∷ b) r; place = refl }
 
-below-front : {A : Type 0} (f a : List A) (x : A) (b : List A) → f ≡ a ++ (x ∷ b) → length a < length f
+pub below-front : {A : Type 0} (f a : List A) (x : A) (b : List A) → f ≡ a ++ (x ∷ b) → length a < length f
 below-front f a x b h =
     let e : length f ≡ length (a ++ (x ∷ b)) = ap length h in
     let g = length-append a (x ∷ b) in

@@ -1,22 +1,19 @@
 -- The definitions of a text are formed as the grammar gives it. Assumes nothing.
-use mathlib.Core.Path.{_≡_, refl, sym, _∙_, ap, subst}
+use mathlib.Core.Path.{_≡_, refl, sym, _∙_, subst}
 use mathlib.Core.List.{List, [], _∷_, _++_, append-assoc}
-use mathlib.Core.Bool.{Bool, true, false}
-use mathlib.Core.Option.{Option, none, some}
-use Prim.Native.Nat.{ℕ, zero, suc, _+_, _≤_, _<_}
+use mathlib.Core.Bool.{true}
+use Prim.Native.Nat.{ℕ, suc, _+_, _<_}
 use native.Mathlib.Omega.{arith}
-use Rattle.grammar.specs.Grammar.{Token, tokens, matches, sg, rsquare, lsquare, dots, comma, STRING, BOOLEAN, ENUM}
-use Rattle.grammar.specs.Grammar.{Rule, rule, tok, Form, _▸_, ∎, _⟶_, Trees, nil, leaf, node, file, version, implementation, specs, spec, definitions, definition, attribute, D, P, auto, mark, integer-range, numbers, boolean-range, enumerator, enumerators, application, objects, object, block, statements, statement, default, own, file-is, version-is, implementation-is, no-spec, a-spec, spec-is, no-definition, a-definition, an-attribute, a-reference, an-integer, a-string, a-boolean, an-enum, reference-is, no-D, a-D, no-P, a-P, no-auto, with-auto, no-mark, a-mark, no-range, a-range, a-list, no-number, a-number, no-boolean-range, a-boolean-range, enumerator-is, no-enumerator, an-enumerator, no-default, a-default, own-auto, own-none, own-number, own-string, own-true, own-false, own-name, application-is, no-object, an-object, an-object-alone, an-object-with, no-block, a-block, no-statement, a-statement, statement-is, value-number, value-string, value-auto, value-name, value-true, value-false}
-use Rattle.grammar.specs.Grammar.{reference as reference-rule, value as value-rule}
+use Rattle.grammar.specs.Grammar.{Token, tokens, matches, sg, rsquare, lsquare, dots, comma, STRING, BOOLEAN, ENUM, Rule, Form, _▸_, ∎, _⟶_, Trees, nil, leaf, node, file, version, implementation, specs, spec, definitions, definition, attribute, D, P, auto, mark, integer-range, numbers, boolean-range, enumerator, enumerators, application, objects, object, block, statements, statement, default, own, file-is, version-is, implementation-is, no-spec, a-spec, spec-is, no-definition, a-definition, an-attribute, a-reference, an-integer, a-string, a-boolean, an-enum, reference-is, no-D, a-D, no-P, a-P, no-auto, with-auto, no-mark, a-mark, no-range, a-range, a-list, no-number, a-number, no-boolean-range, a-boolean-range, enumerator-is, no-enumerator, an-enumerator, no-default, a-default, own-auto, own-none, own-number, own-string, own-true, own-false, own-name, application-is, no-object, an-object, an-object-alone, an-object-with, no-block, a-block, no-statement, a-statement, statement-is, value-number, value-string, value-auto, value-name, value-true, value-false, reference as reference-rule, value as value-rule}
 use Rattle.meaning.specs.Actions.{M, word-of, kind-of, integer-of, first-value, truths, defined, defining, specifying, means, meaning, syntax}
-use Rattle.meaning.specs.Syntax.{Word, Span, absent, span-of, through, from-to, one-of, Defined, Spec, File}
+use Rattle.meaning.specs.Syntax.{Word, absent, through, from-to, one-of, Defined, Spec}
 use Rattle.layout.specs.Kept.{code-of, given-number}
 use Rattle.scopes.specs.Situations.{ReadAt}
 use Rattle.scopes.specs.Items.{itemAt}
-use Rattle.scopes.specs.Ranges.{NumberAt, SignAt, Listed, listed-none, listed-more, RangeAt, range-none, range-two, range-list}
+use Rattle.scopes.specs.Ranges.{SignAt, Listed, listed-none, listed-more, RangeAt, range-none, range-two, range-list}
 use Rattle.scopes.specs.Forms.{Truths, no-truths, both-truths, at-least-one, Formed, AllFormed, none-formed, more-formed, AllFormedUnder, none-under, more-under}
 use Rattle.scopes.specs.Forms as forms
-use Rattle.scopes.proofs.Chains.{StepTo, Chain, step-on, step-self, step-number, step-read, ChainFrom, chain-front, chain-back}
+use Rattle.scopes.proofs.Chains.{StepTo, Chain, step-on, step-self, step-number, step-read, chain-front, chain-back}
 use Rattle.scopes.proofs.Coding.{given-is, integer-is, type-is, lsquare-at, rsquare-at, dots-at, comma-at}
 
 abbrev pub FormedSpecs : List ℕ → List Spec → Type 0

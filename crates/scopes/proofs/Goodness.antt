@@ -1,19 +1,18 @@
 -- The words of a text's syntax are what stands in the text at their places, and those of the definitions do not stand at its start.
 -- Assumes nothing.
-use mathlib.Core.Path.{_≡_, refl, sym, _∙_, ap, subst}
+use mathlib.Core.Path.{_≡_, refl, sym, subst}
 use mathlib.Core.List.{List, [], _∷_, _++_}
-use Prim.Native.Nat.{ℕ, zero, suc, _+_, _≤_, _<_}
+use Prim.Native.Nat.{ℕ, suc, _+_, _<_}
 use native.Mathlib.Omega.{arith}
-use Rattle.token.specs.Tokens.{partOf}
 use Rattle.grammar.specs.Grammar.{Token, file, _▸_, ∎, _⟶_, Trees, tokens}
 use Rattle.meaning.specs.Normal.{part}
 use Rattle.meaning.specs.Actions.{word-of, syntax}
 use Rattle.meaning.specs.Syntax.{Word, span-of, File}
-use Rattle.meaning.proofs.Order.{Ordered, InOrder, Sub, sub-nil, keep, drop, sub-front, sub-behind, sub-all, ordered-sub, ordered-from}
+use Rattle.meaning.proofs.Order.{Ordered, InOrder, Sub, sub-nil, keep, drop, sub-front, sub-all, ordered-sub, ordered-from}
 use Rattle.meaning.proofs.Sites.{spec-words, object-words, file-words}
 use Rattle.meaning.proofs.Leaves.{words, leaves-words, leaves-in-order, words-leaves}
 use Rattle.scopes.specs.Situations.{ReadAt}
-use Rattle.scopes.proofs.Chains.{StepTo, Chain, step-read}
+use Rattle.scopes.proofs.Chains.{Chain, step-read}
 
 -- The word w is what stands in the text at its place.
 pub record Good (s : List ℕ) (w : Word) : Type 0 where
@@ -25,11 +24,6 @@ pub record Good (s : List ℕ) (w : Word) : Type 0 where
 abbrev pub Goods : List ℕ → List Word → Type 0
 Goods s [] = Unit {0}
 Goods s (w ∷ l) = Good s w × Goods s l
-
-pub good-sub : (s : List ℕ) {l m : List Word} → Sub l m → Goods s m → Goods s l
-good-sub s sub-nil h = tt
-good-sub s (keep p) h = (h .0, good-sub s p (h .1))
-good-sub s (drop p) h = good-sub s p (h .1)
 
 pub good-front : (s : List ℕ) (a b : List Word) → Goods s (a ++ b) → Goods s a
 good-front s [] b h = tt

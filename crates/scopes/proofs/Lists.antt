@@ -3,7 +3,7 @@ use mathlib.Core.Path.{_≡_, refl, sym, _∙_, ap, ap₂, subst}
 use mathlib.Core.List.{List, [], _∷_, _++_, append-assoc}
 use mathlib.Core.Bool.{Bool, true, false}
 use mathlib.Core.Option.{Option, none, some}
-use Prim.Native.Nat.{ℕ, zero, suc, _+_, _≤_, _<_}
+use Prim.Native.Nat.{ℕ, suc, _+_, _≤_, _<_}
 use native.Mathlib.Omega.{arith}
 use lib.ListN.{length, length-append}
 use lib.Dec.{eqb}
@@ -11,29 +11,30 @@ use borrow.Author.Tests.{eq-eqb}
 use Rattle.token.specs.Find.{pick, both}
 use Rattle.token.specs.Words.{same}
 use Rattle.token.specs.Tokens.{partOf}
-use Rattle.rows.specs.declared.Found.{Found}
 use Rattle.rows.specs.declared.Found.the-variants.{At, Nothing}
-use Rattle.rows.specs.Table.{first, anyOf}
+use Rattle.rows.specs.Table.{first}
 use Rattle.rows.proofs.Walks.{first-append}
-use Rattle.meaning.specs.Syntax.{Word, Definition, Definitions, no-more, define, Values, no-value, value, Spec, is-enum, counted, enumerators-in, enumerators-under}
+use Rattle.meaning.specs.Syntax.{Word, Definition, Definitions, no-more, define, Values, no-value, value, Spec, is-enum}
 use Rattle.meaning.specs.Words.{alike}
 use Rattle.meaning.specs.Scopes.{Under, find-value}
 use Rattle.meaning.proofs.Numbering.{Counts, number-if, enumerator-numbers, enumerator-numbers-of, spec-enumerator-numbers, length-if, length-enumerators, length-enumerators-of}
 use Rattle.meaning.proofs.Standing.{Run, counts-back, counts-front, counts-head, counts-tail}
 use Rattle.meaning.proofs.Sites.{bound-words, option-words, definition-words, value-words, spec-words}
 use Rattle.layout.specs.Kept.{Choice, list-key, choice-if, choices, choices-of, spec-choices}
-use Rattle.scopes.specs.Situations.{ReadAt, NoneOf}
+use Rattle.layout.proofs.Lengths.{length-choice}
+use Rattle.scopes.specs.Situations.{NoneOf}
 use Rattle.scopes.specs.Forms.{Some, at-least-one}
 use Rattle.scopes.specs.Promises.{number-found}
-use Rattle.scopes.proofs.Goodness.{Good, Goods, good-front, good-back}
-use Rattle.scopes.proofs.Runs.{run-le, Cut, cut, Out, Cuts, cuts}
+use Rattle.scopes.proofs.Goodness.{Goods, good-front, good-back}
+use Rattle.meaning.proofs.Runs.{run-le, cut, Out, cuts}
 use Rattle.scopes.proofs.Finding.{is-choice, none-chosen, none-first, first-one, none-one, one-append}
+pub use Rattle.layout.proofs.Lengths.{length-choices, length-choices-of}
 
 pub none-append : (a : List Choice) (k : ℕ) (b : List Choice) → NoneOf k a → NoneOf k b → NoneOf k (a ++ b)
 none-append [] k b f g = g
 none-append (r ∷ a) k b f g = (f .0, none-append a k b (f .1) g)
 
-none-if : (b : Bool) (o : ℕ) (w : Word) (x : ℕ) → (o ≡ x → ⊥) → NoneOf x (choice-if b o w)
+pub none-if : (b : Bool) (o : ℕ) (w : Word) (x : ℕ) → (o ≡ x → ⊥) → NoneOf x (choice-if b o w)
 unfolding choice-if
 none-if true o w x h = (h, tt)
 none-if false o w x h = tt
@@ -72,32 +73,6 @@ mutual
       (none-append (choices us) x (choices-of vs b key)
       (none-in us (suc (w .place)) (k .mid) x (k .front) (λ y p q. o y (omega arith) (omega arith)))
       (none-of vs b key (k .mid) hi x (k .back) h (λ y p q. o y (omega arith) q)))
-
-length-choice : (b : Bool) (o : ℕ) (w : Word) → length (choice-if b o w) ≡ counted b
-unfolding choice-if counted
-length-choice true o w = refl
-length-choice false o w = refl
-
-mutual
-  unfolding choices enumerators-in
-
-  pub length-choices : (ds : Definitions) → length (choices ds) ≡ enumerators-in ds
-  length-choices no-more = refl
-  length-choices (define d vs ds) =
-      let a = length-append (choices-of vs (is-enum (d .type)) (list-key vs)) (choices ds) in
-      let b = length-choices-of vs (is-enum (d .type)) (list-key vs) in
-      let c = length-choices ds in
-      omega arith
-
-  pub length-choices-of : (vs : Values) (b : Bool) (o : ℕ) → length (choices-of vs b o) ≡ enumerators-under vs b
-  length-choices-of no-value b o = refl
-  length-choices-of (value w e us vs) b o =
-      let i = length-choice b o w in
-      let j = length-append (choice-if b o w) (choices us ++ choices-of vs b o) in
-      let k = length-append (choices us) (choices-of vs b o) in
-      let c = length-choices us in
-      let d = length-choices-of vs b o in
-      omega arith
 
 -- A search by its key in a list's own rows, and some more with other keys.
 own-rows : (s : List ℕ) (key at len : ℕ) (t : Word) → t .bytes ≡ partOf s at len → (vs : Values) (B : List Choice) (lo hi i : ℕ)
@@ -193,7 +168,7 @@ mutual
     more-values : {w : Word} {e : ℕ} {us : Definitions} {vs : Values} → Deep s C us → DeepValues s C vs → DeepValues s C (value w e us vs)
 
 -- The key does not lie behind the first word.
-abbrev KeyBefore : Values → ℕ → Type 0
+abbrev pub KeyBefore : Values → ℕ → Type 0
 KeyBefore no-value key = Unit {0}
 KeyBefore (value w e us vs) key = key ≤ w .place
 
@@ -202,7 +177,7 @@ unfolding list-key
 key-first no-value = tt
 key-first (value w e us vs) = omega arith
 
-key-next : (vs : Values) (key lo hi : ℕ) → Run lo (value-words vs) hi → key ≤ lo → KeyBefore vs key
+pub key-next : (vs : Values) (key lo hi : ℕ) → Run lo (value-words vs) hi → key ≤ lo → KeyBefore vs key
 unfolding value-words
 key-next no-value key lo hi r h = tt
 key-next (value w e us vs) key lo hi r h = let a = r .0 in omega arith

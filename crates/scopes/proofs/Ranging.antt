@@ -1,32 +1,30 @@
 -- What the functions over ranges cite. Assumes nothing.
 use mathlib.Core.Path.{_≡_, refl, sym, _∙_, ap, ap₂, subst}
 use mathlib.Core.List.{List, [], _∷_, _++_, append-nil}
-use mathlib.Core.Bool.{Bool, true, false, not, false≢true}
+use mathlib.Core.Bool.{Bool, true, false, not}
 use mathlib.Core.Option.{Option, none, some}
-use Prim.Native.Nat.{ℕ, zero, suc, _+_, _-_, _*_, _≤_, _<_}
+use Prim.Native.Nat.{ℕ, suc, _≤_, _<_}
 use native.Mathlib.Omega.{arith}
 use native.Mathlib.Decide.{decLt}
-use lib.ListN.{length, getD}
+use lib.ListN.{length}
 use lib.Dec.{eqb, ltb, leb}
-use borrow.Author.Tests.{eq-eqb, lt-ltb, le-ltb, le-leb}
+use borrow.Author.Tests.{eq-eqb, lt-ltb, le-leb}
 use Rattle.token.specs.Find.{pick, both, either}
 use Rattle.token.specs.Tokens.{stepAt}
-use Rattle.token.specs.declared.Cursor.{Cursor}
-use Rattle.token.specs.declared.Token.{Token as Lexeme}
-use Rattle.token.specs.declared.Sort.{Sort}
 use Rattle.token.specs.declared.Step.{Step}
 use Rattle.token.specs.declared.Step.the-variants.{Found, Refused, End}
 use Rattle.token.proofs.Steps.{found-fits, bad-fits, end-fits}
+use Rattle.token.proofs.Bytes.{either-true}
 use Rattle.grammar.specs.Grammar.{Integer}
 use Rattle.rows.specs.declared.Fault.{Fault}
 use Rattle.rows.specs.Order.{faultIf}
-use Rattle.meaning.specs.Syntax.{Num, Word, Bounds, no-bounds, from-to, one-of}
+use Rattle.meaning.specs.Syntax.{Num, Word, Bounds, from-to, one-of}
 use Rattle.meaning.specs.Words.{at-most, equal, in-type, in-bounds, among-numbers}
 use Rattle.meaning.specs.Faults.{Fault as Refusal, fault-if, ahead, sooner, first}
 use Rattle.meaning.specs.Defining.{outside, bound-faults}
 use Rattle.meaning.proofs.Order.{InOrder, ordered-from}
 use Rattle.scopes.specs.declared.Item.{Item}
-use Rattle.scopes.specs.Items.{num, itemOf, itemOfStep, itemAt}
+use Rattle.scopes.specs.Items.{num, itemOfStep, itemAt}
 use Rattle.scopes.specs.Ranges.{NumberAt, SignAt, Listed, listed-none, listed-more, RangeAt, range-none, range-two, range-list}
 use Rattle.scopes.specs.Promises.{fault-of, IsListed, InRange, ListFault, BoundFault}
 use Rattle.scopes.proofs.Chains.{item-at, item-next}
@@ -246,10 +244,6 @@ Ten p (some g) = (p ≤ g .place) × (g .number ≡ 10)
 ten-lower : (p q : ℕ) (o : Option Refusal) → p ≤ q → Ten q o → Ten p o
 ten-lower p q none h t = tt
 ten-lower p q (some g) h t = let a = t .0 in (omega arith, t .1)
-
-either-true : (b : Bool) → either b true ≡ true
-either-true true = refl
-either-true false = refl
 
 -- A 10 at p comes before such.
 ten-first : (p : ℕ) (o : Option Refusal) → Ten p o → sooner (some (record { place = p; number = 10 })) o ≡ some (record { place = p; number = 10 })

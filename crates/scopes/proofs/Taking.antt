@@ -3,31 +3,31 @@ use mathlib.Core.Path.{_≡_, refl, sym, _∙_, ap, ap₂, subst}
 use mathlib.Core.List.{List, [], _∷_, _++_}
 use mathlib.Core.Bool.{Bool, true, false, not, false≢true}
 use mathlib.Core.Option.{Option, none, some}
-use Prim.Native.Nat.{ℕ, zero, suc, _+_, _-_, _*_, _≤_, _<_}
+use Prim.Native.Nat.{ℕ, _+_, _*_, _≤_, _<_}
 use native.Mathlib.Omega.{arith}
 use lib.ListN.{length, getD}
 use lib.Dec.{eqb}
-use borrow.Author.Tests.{eq-eqb, ne-eqb, eqb-true}
-use Rattle.token.specs.Find.{pick, both, either}
+use borrow.Author.Tests.{eq-eqb, ne-eqb}
+use Rattle.token.specs.Find.{pick, both}
 use Rattle.token.specs.Words.{same}
 use Rattle.token.specs.Tokens.{stepAt, partOf}
-use Rattle.grammar.specs.Grammar.{Class, Kind, Integer, Given, Sign, ordinary, numeral, quoted, other, kind-word, type-word, integer-word, word, sign, UINT32, INT32, UINT64, INT64, OS, APPMODE, TASK, ISR, COUNTER, ALARM, RESOURCE, EVENT, COM, MESSAGE, NETWORKMESSAGE, IPDU, NM, OIL-VERSION, IMPLEMENTATION, CPU, STRING, BOOLEAN, ENUM, TRUE, FALSE, AUTO, NO-DEFAULT, WITH-AUTO, lbrace, rbrace, lsquare, rsquare, equals, semicolon, colon, comma, dots}
+use Rattle.grammar.specs.Grammar.{Class, Kind, Integer, ordinary, numeral, quoted, other, kind-word, type-word, integer-word, word, sign, UINT32, INT32, UINT64, INT64, OS, APPMODE, TASK, ISR, COUNTER, ALARM, RESOURCE, EVENT, COM, MESSAGE, NETWORKMESSAGE, IPDU, NM, OIL-VERSION, IMPLEMENTATION, CPU, STRING, BOOLEAN, ENUM, TRUE, FALSE, AUTO, NO-DEFAULT, WITH-AUTO, lbrace, rbrace, lsquare, rsquare, equals, semicolon, colon, comma, dots}
 use Rattle.rows.specs.declared.Fault.{Fault}
 use Rattle.rows.specs.declared.Found.{Found}
 use Rattle.rows.specs.declared.Found.the-variants.{At, Nothing}
 use Rattle.rows.specs.Search.{findNamed, isFound}
 use Rattle.meaning.specs.Kinds.{kind-number}
 use Rattle.meaning.specs.Faults.{first}
-use Rattle.meaning.specs.Syntax.{Num, Word, AttributeType, integer, string, boolean, enum, reference, Bounds, no-bounds, Definition, Values, no-value, value, Defined, File, is-enum}
+use Rattle.meaning.specs.Syntax.{Num, Word, AttributeType, boolean, Definition, Values, no-value, value, Defined, File, is-enum}
 use Rattle.meaning.specs.Actions.{num-of-step}
 use Rattle.meaning.specs.Words.{alike, in-type, in-bounds}
-use Rattle.meaning.specs.Scopes.{Under, find-value, is-there, Sort, a-number, a-truth, an-auto, a-no-default, a-name, sort-of, sort-of-word, is-string, is-boolean, fits-number, fits-as, fits}
-use Rattle.meaning.specs.Scopes.{a-string as string-sort}
+use Rattle.meaning.specs.Scopes.{Under, find-value, is-there, Sort, a-number, a-truth, an-auto, a-no-default, a-name, sort-of, sort-of-word, is-string, is-boolean, fits-number, fits-as, fits, a-string as string-sort}
 use Rattle.meaning.specs.Defining.{range-faults, bound-faults}
 use Rattle.meaning.proofs.Sites.{value-words, definition-words}
-use Rattle.layout.specs.Kept.{Entry, list-key, truth-cells, default-code, definition-cells, spec-entries, code-of, class-number, given-number, sign-number, bit, integer-number, kept-definitions, kept-enumerators}
+use Rattle.layout.specs.Kept.{Entry, list-key, truth-cells, default-code, definition-cells, code-of, class-number, given-number, sign-number, bit, integer-number, kept-definitions}
+use Rattle.layout.proofs.Codes.{kind-low, integer-low}
 use Rattle.scopes.specs.Items.{integer-coded}
-use Rattle.scopes.specs.Situations.{Situation, RowOf, Nth, ReadAt, Reached, HasValue}
+use Rattle.scopes.specs.Situations.{Situation, RowOf}
 use Rattle.scopes.specs.Ranges.{RangeAt}
 use Rattle.scopes.specs.Forms.{Truths, no-truths, both-truths, Formed, an-integer, a-string, a-boolean, an-enum, a-reference}
 use Rattle.scopes.specs.Promises.{fault-of, InRange, BoundFault, number-found, place-found, FindsEnumerator, FindsWord, FindsTruth, TakesNumber, Takes, RangeFault}
@@ -75,29 +75,6 @@ row-facts : {s : List ℕ} {f : File} {j : ℕ} {x : Defined} → (k : Situation
 row-facts k r = entry-facts k (nth-in (r .nth)) .facts
 
 -- Codes and types ---------------------------------------------------------------------------------------------------------------------------
-
-kind-low : (k : Kind) → kind-number k ≤ 12
-unfolding kind-number
-kind-low OS = omega arith
-kind-low APPMODE = omega arith
-kind-low TASK = omega arith
-kind-low ISR = omega arith
-kind-low COUNTER = omega arith
-kind-low ALARM = omega arith
-kind-low RESOURCE = omega arith
-kind-low EVENT = omega arith
-kind-low COM = omega arith
-kind-low MESSAGE = omega arith
-kind-low NETWORKMESSAGE = omega arith
-kind-low IPDU = omega arith
-kind-low NM = omega arith
-
-integer-low : (i : Integer) → integer-number i ≤ 3
-unfolding integer-number
-integer-low UINT32 = omega arith
-integer-low INT32 = omega arith
-integer-low UINT64 = omega arith
-integer-low INT64 = omega arith
 
 coded : (i : Integer) → integer-coded (35 + integer-number i) ≡ i
 unfolding integer-coded integer-number

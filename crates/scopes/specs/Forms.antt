@@ -4,7 +4,7 @@ use mathlib.Core.List.{List}
 use Prim.Native.Nat.{ℕ, _+_}
 use Rattle.grammar.specs.Grammar.{Kind, Integer}
 use Rattle.meaning.specs.Kinds.{kind-number}
-use Rattle.meaning.specs.Syntax.{Word, AttributeType, integer, string, boolean, enum, reference, Bounds, no-bounds, Definition, Definitions, no-more, define, Values, no-value, value}
+use Rattle.meaning.specs.Syntax.{Word, integer, string, boolean, enum, reference, no-bounds, Definition, Definitions, no-more, define, Values, no-value, value}
 use Rattle.layout.specs.Kept.{code-of, integer-number}
 use Rattle.scopes.specs.Situations.{ReadAt}
 use Rattle.scopes.specs.Ranges.{RangeAt}

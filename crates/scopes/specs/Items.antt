@@ -1,6 +1,6 @@
 -- What a step finds at a place, as far as numbers and ranges ask: a number or a sign, its place and the place after it. Assumes nothing.
 use mathlib.Core.List.{List}
-use mathlib.Core.Bool.{Bool, true, false}
+use mathlib.Core.Bool.{false}
 use Prim.Native.Nat.{ℕ}
 use lib.Dec.{eqb}
 use Rattle.token.specs.Find.{pick}

@@ -10,17 +10,16 @@ use Rattle.grammar.specs.Grammar.{Kind, Integer}
 use Rattle.rows.specs.declared.Fault.{Fault}
 use Rattle.rows.specs.declared.Found.{Found}
 use Rattle.rows.specs.declared.Found.the-variants.{At, Nothing}
-use Rattle.meaning.specs.Syntax.{Num, Word, AttributeType, boolean, Bounds, Definitions, Defined, Object, File, is-enum}
+use Rattle.meaning.specs.Syntax.{Num, Word, boolean, Bounds, Definitions, Defined, Object, File, is-enum}
 use Rattle.meaning.specs.Actions.{num-of-step}
 use Rattle.meaning.specs.Words.{in-bounds, among-numbers}
 use Rattle.meaning.specs.Kinds.{kind-number}
 use Rattle.meaning.specs.Faults.{Fault as Refusal, first}
 use Rattle.meaning.specs.Scopes.{Under, find-definition, find-value, find-object, fits, fits-number}
 use Rattle.meaning.specs.Defining.{range-faults, bound-faults, outside}
-use Rattle.layout.specs.Kept.{spec-entries, kept-definitions, kept-enumerators, kept-objects, code-of, integer-number}
+use Rattle.layout.specs.Kept.{spec-entries, kept-definitions, kept-enumerators, kept-objects, code-of}
 use Rattle.scopes.specs.Situations.{Situation, ScopeAt, RowOf, Reached, ReadAt}
 use Rattle.scopes.specs.Ranges.{Listed, RangeAt}
-use Rattle.scopes.specs.Forms.{Formed}
 
 -- Faults -----------------------------------------------------------------------------------------------------------------------------------
 

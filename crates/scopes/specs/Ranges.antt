@@ -3,7 +3,6 @@ use mathlib.Core.Path.{_≡_}
 use mathlib.Core.List.{List, [], _∷_}
 use Prim.Native.Nat.{ℕ, _<_}
 use Rattle.meaning.specs.Syntax.{Word, Bounds, no-bounds, from-to, one-of}
-use Rattle.scopes.specs.declared.Item.{Item}
 use Rattle.scopes.specs.Items.{num, itemAt}
 
 -- The number w is what is found at p, and q is the place after it.

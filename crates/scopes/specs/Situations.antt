@@ -6,10 +6,10 @@ use lib.ListN.{length}
 use Rattle.token.specs.Tokens.{stepAt, partOf}
 use Rattle.grammar.specs.Grammar.{Derivation}
 use Rattle.grammar.specs.Terminals.{tokens}
-use Rattle.meaning.specs.Syntax.{Word, Definition, Definitions, no-more, define, Values, no-value, value, Defined, Spec, File}
+use Rattle.meaning.specs.Syntax.{Word, Definition, Definitions, no-more, define, Values, value, Defined, Spec, File}
 use Rattle.meaning.specs.Actions.{syntax, num-of-step}
 use Rattle.meaning.specs.Scopes.{Under}
-use Rattle.layout.specs.Kept.{Entry, Choice, spec-entries, spec-choices, list-key, code-of}
+use Rattle.layout.specs.Kept.{Choice, spec-entries, spec-choices, list-key}
 
 -- f is the syntax of the text s.
 pub record Situation (s : List ℕ) (f : File) : Type 0 where

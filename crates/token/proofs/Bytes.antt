@@ -7,13 +7,16 @@ use native.Mathlib.Omega.{arith}
 use types.Run.{OneOf}
 use lib.ListN.{length, List·getD-eq-default}
 use mathlib.Core.Path.{_≡_, refl, sym, _∙_, ap, subst}
-use mathlib.Core.Bool.{Bool, true, false, not}
+use mathlib.Core.Bool.{Bool, true, false, not, false≢true}
+use native.Mathlib.Decide.{ℕ-discrete}
 use lib.Dec.{T, T-not, leb, ltb, eqb, eqb→eq, eqb-refl}
 use borrow.Author.Tests.{lt-ltb, le-ltb, le-leb, lt-leb, eq-eqb, ne-eqb, ltb-true}
 use Rattle.token.specs.Find.{pick, both, either, byte}
 use Rattle.token.specs.Bytes.{Class, letter, digit, blank, plusMinus, quote, punctuator, dot, slash, other, classOf, classCode, isLetter, isDigit, isBlank, isPlusMinus, isPunctuator, isWordByte, pairAt, wordEnd, findByte}
 use Rattle.token.proofs.Tables.{upTo, below}
 use Rattle.token.proofs.Find.{find-low, find-high}
+
+-- ---- two tests together
 
 pub both-false : (a : Bool) → both a false ≡ false
 both-false true = refl
@@ -23,9 +26,44 @@ pub both-true : (a b : Bool) → both a b ≡ true → a ≡ true
 both-true true b e = refl
 both-true false b e = e
 
-either-false : (a : Bool) → either a false ≡ a
+pub both-second : (a b : Bool) → both a b ≡ true → b ≡ true
+both-second true b e = e
+both-second false b e = absurd (false≢true e)
+
+pub either-false : (a : Bool) → either a false ≡ a
 either-false true = refl
 either-false false = refl
+
+pub either-true : (a : Bool) → either a true ≡ true
+either-true true = refl
+either-true false = refl
+
+pub either-assoc : (a b c : Bool) → either a (either b c) ≡ either (either a b) c
+either-assoc true b c = refl
+either-assoc false b c = refl
+
+pub neither-first : (a b : Bool) → either a b ≡ false → a ≡ false
+neither-first true b e = e
+neither-first false b e = refl
+
+pub neither-second : (a b : Bool) → either a b ≡ false → b ≡ false
+neither-second true b e = absurd (false≢true (sym e))
+neither-second false b e = e
+
+pub not-true : (b : Bool) → (b ≡ true → ⊥) → b ≡ false
+not-true true f = absurd (f refl)
+not-true false f = refl
+
+pub T-true : {b : Bool} → T b → b ≡ true
+T-true {b = true} t = refl
+T-true {b = false} t = absurd t
+
+pub eqb-sym : (a b : ℕ) → eqb a b ≡ eqb b a
+eqb-sym a b = by (ℕ-discrete a b)
+  where
+    by : Dec (a ≡ b) → eqb a b ≡ eqb b a
+    by (yes e) = eq-eqb a b e ∙ sym (eq-eqb b a (sym e))
+    by (no f) = ne-eqb a b f ∙ sym (ne-eqb b a (λ e. f (sym e)))
 
 -- ---- the tests of a byte, one after the other
 

@@ -44,28 +44,28 @@ different [] (y ∷ ys) f = refl
 different (x ∷ xs) [] f = refl
 different (x ∷ xs) (y ∷ ys) f = rw (different xs ys (λ e. f (ap suc e))) (both-false (eqb x y))
 
-module _ (w v : List ℕ) (j : ℕ) where
-  pub same-end : length w ≤ j → length v ≤ j → same (drop j w) (drop j v) ≡ true
+pub same-end : (w v : List ℕ) (j : ℕ) → length w ≤ j → length v ≤ j → same (drop j w) (drop j v) ≡ true
+unfolding same
+same-end w v j h k = ap₂ same (drop-of-length-le w h) (drop-of-length-le v k)
+
+-- past the end of w stands d there, and past that of v e
+module _ (w v : List ℕ) (d e j : ℕ) where
+  opened : j < length w → j < length v → same (drop j w) (drop j v) ≡ both (eqb (getD w j d) (getD v j e)) (same (drop (suc j) w) (drop (suc j) v))
   unfolding same
-  same-end h k = ap₂ same (drop-of-length-le w h) (drop-of-length-le v k)
+  opened h k = ap₂ same (drop-cons w j d h) (drop-cons v j e k)
 
-  opened : j < length w → j < length v →
-      same (drop j w) (drop j v) ≡ both (eqb (getD w j 0) (getD v j 32)) (same (drop (suc j) w) (drop (suc j) v))
-  unfolding same
-  opened h k = ap₂ same (drop-cons w j 0 h) (drop-cons v j 32 k)
+  pub same-next : j < length w → j < length v → getD w j d ≡ getD v j e → same (drop j w) (drop j v) ≡ same (drop (j + 1) w) (drop (j + 1) v)
+  same-next h k q = opened h k ∙ rw (eq-eqb (getD w j d) (getD v j e) q, add-one)
 
-  pub same-next : j < length w → j < length v → getD w j 0 ≡ getD v j 32 → same (drop j w) (drop j v) ≡ same (drop (j + 1) w) (drop (j + 1) v)
-  same-next h k e = opened h k ∙ rw (eq-eqb (getD w j 0) (getD v j 32) e, add-one)
+  pub same-stop : j < length w → j < length v → (getD w j d ≡ getD v j e → ⊥) → same (drop j w) (drop j v) ≡ false
+  same-stop h k q = opened h k ∙ rw (ne-eqb (getD w j d) (getD v j e) q)
 
-  pub same-stop : j < length w → j < length v → (getD w j 0 ≡ getD v j 32 → ⊥) → same (drop j w) (drop j v) ≡ false
-  same-stop h k e = opened h k ∙ rw (ne-eqb (getD w j 0) (getD v j 32) e)
-
-same-self : (xs : List ℕ) → same xs xs ≡ true
+pub same-self : (xs : List ℕ) → same xs xs ≡ true
 unfolding same
 same-self [] = refl
 same-self (x ∷ xs) = rw (eq-eqb x x refl) (same-self xs)
 
-same-equal : (xs ys : List ℕ) → same xs ys ≡ true → xs ≡ ys
+pub same-equal : (xs ys : List ℕ) → same xs ys ≡ true → xs ≡ ys
 unfolding same
 same-equal [] [] e = refl
 same-equal [] (y ∷ ys) e = absurd (false≢true e)

@@ -1,9 +1,9 @@
 -- Numbers: "The run must be `0`, or decimal with no leading zero, or (unsigned only) `0x` with one or more hex digits. Value from
 -- -9223372036854775808 to 18446744073709551615. Else there is no token at its first byte."
 -- Assumes nothing.
-use Prim.Native.Nat.{ℕ, zero, suc, _+_, _-_, _*_, _^_}
+use Prim.Native.Nat.{ℕ, _+_, _-_, _*_, _^_}
 use mathlib.Core.List.{List, [], _∷_}
-use mathlib.Core.Bool.{Bool, true, false, not}
+use mathlib.Core.Bool.{Bool, true, not}
 use lib.ListN.{length, drop}
 use lib.Dec.{leb, ltb, eqb}
 use Rattle.token.specs.Find.{pick, both, byte}

@@ -1,6 +1,6 @@
 -- The token at a place: document 01, section "Tokens", and the last sentence of its section "Meaning".
 -- Assumes nothing.
-use Prim.Native.Nat.{ℕ, zero, suc, _+_, _-_}
+use Prim.Native.Nat.{ℕ, _+_, _-_}
 use mathlib.Core.List.{List, []}
 use mathlib.Core.Bool.{Bool, true, false}
 use lib.ListN.{length, take, drop}
@@ -10,10 +10,8 @@ use Rattle.token.specs.Bytes.{Class, letter, digit, blank, plusMinus, qu
 use Rattle.token.specs.Gaps.{skip}
 use Rattle.token.specs.Words.{codeOf}
 use Rattle.token.specs.Numbers.{leastAmount, greatestAmount, numeral}
-use Rattle.token.specs.declared.Cursor.{Cursor}
 use Rattle.token.specs.declared.Sort.{Sort}
 use Rattle.token.specs.declared.Sort.the-variants.{Word, Number, String, Punctuator}
-use Rattle.token.specs.declared.Token.{Token}
 use Rattle.token.specs.declared.Step.{Step}
 use Rattle.token.specs.declared.Step.the-variants.{Found, Refused, End}
 use Rattle.token.specs.declared.Skip.{Skip}

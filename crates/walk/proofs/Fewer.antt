@@ -1,59 +1,25 @@
 -- There are no more rows than tokens, and no more tokens than bytes and one. Assumes nothing.
-use mathlib.Core.Path.{_≡_, refl, sym, _∙_, ap, ap₂, subst}
-use mathlib.Core.List.{List, [], _∷_, _++_}
-use mathlib.Core.Bool.{Bool, true, false}
-use Prim.Native.Nat.{ℕ, zero, suc, _+_, _-_, _≤_, _<_}
+use mathlib.Core.Path.{_≡_, refl, sym, _∙_, ap}
+use mathlib.Core.List.{List, [], _∷_}
+use mathlib.Core.Bool.{true, false}
+use Prim.Native.Nat.{ℕ, zero, suc, _+_, _-_, _≤_}
 use native.Mathlib.Omega.{arith}
 use lib.ListN.{length, length-append}
 use Rattle.token.specs.Tokens.{stepAt}
-use Rattle.token.specs.Lexing.{Lexed, lexN, lexFrom, afterStep}
+use Rattle.token.specs.Lexing.{lexN, lexFrom, afterStep}
 use Rattle.token.specs.declared.Step.{Step}
 use Rattle.token.specs.declared.Step.the-variants.{Found, Refused, End}
 use Rattle.grammar.specs.Grammar.{Token, Rule, rule, tok, Form, _▸_, ∎, _⟶_, Trees, nil, leaf, node, tokens, file, version, implementation, specs, spec, definitions, definition, attribute, reference, D, P, auto, mark, integer-range, numbers, boolean-range, enumerator, enumerators, application, objects, object, block, statements, statement, value, default, own, file-is, version-is, implementation-is, no-spec, a-spec, spec-is, no-definition, a-definition, an-attribute, a-reference, an-integer, a-string, a-boolean, an-enum, reference-is, no-D, a-D, no-P, a-P, no-auto, with-auto, no-mark, a-mark, no-range, a-range, a-list, no-number, a-number, no-boolean-range, a-boolean-range, enumerator-is, no-enumerator, an-enumerator, no-default, a-default, own-auto, own-none, own-number, own-string, own-true, own-false, own-name, application-is, no-object, an-object, an-object-alone, an-object-with, no-block, a-block, no-statement, a-statement, statement-is, value-number, value-string, value-auto, value-name, value-true, value-false}
 use Rattle.grammar.specs.Machine.{Stream, ended, bad, _▹_, prepend}
 use Rattle.grammar.specs.Readers.{streamOf, lexAt, lookAt, rest}
 use Rattle.grammar.proofs.Meeting.{rest-look}
-use Rattle.meaning.specs.Syntax.{Word, Definition, Definitions, no-more, define, Values, no-value, Defined, Spec, Statements, done, state, Object, File, definitions-in, definitions-under, enumerators-in, enumerators-under, counted, is-enum, statements-in}
-use Rattle.meaning.specs.Syntax.{value as a-value}
+use Rattle.meaning.specs.Syntax.{no-more, define, Spec, definitions-in, definitions-under, enumerators-in, enumerators-under, counted, is-enum, statements-in}
 use Rattle.meaning.specs.Actions.{M, Parts, means, meaning, first-value, truths, defined, defining, specifying, stating}
 use Rattle.walk.specs.Whole.{Few}
-use Rattle.layout.specs.Kept.{Entry, Choice, entries, entries-under, choices, choices-of, choice-if, list-key, spec-entries, spec-choices, statement-count}
+use Rattle.layout.specs.Kept.{entries, choices, spec-entries, spec-choices, statement-count}
+use Rattle.layout.proofs.Lengths.{length-entries, length-choices}
 
 -- How many rows there are.
-mutual
-  unfolding entries definitions-in
-
-  entries-many : (ds : Definitions) (u : Word) (o : ℕ) → length (entries ds u o) ≡ definitions-in ds
-  entries-many no-more u o = refl
-  entries-many (define d vs ds) u o =
-      let r : Entry = record { under = u; outer = o; definition = d; values = vs } in
-      let e = length-append (entries-under vs (list-key vs)) (r ∷ entries ds u o) in
-      omega (arith, e, under-many vs (list-key vs), entries-many ds u o)
-
-  under-many : (vs : Values) (o : ℕ) → length (entries-under vs o) ≡ definitions-under vs
-  under-many no-value o = refl
-  under-many (a-value w e us vs) o =
-      let a = length-append (entries us w o) (entries-under vs o) in
-      omega (arith, a, entries-many us w o, under-many vs o)
-
-mutual
-  unfolding choices enumerators-in choice-if counted
-
-  choices-many : (ds : Definitions) → length (choices ds) ≡ enumerators-in ds
-  choices-many no-more = refl
-  choices-many (define d vs ds) =
-      let e = length-append (choices-of vs (is-enum (d .type)) (list-key vs)) (choices ds) in
-      omega (arith, e, values-many vs (is-enum (d .type)) (list-key vs), choices-many ds)
-
-  values-many : (vs : Values) (b : Bool) (o : ℕ) → length (choices-of vs b o) ≡ enumerators-under vs b
-  values-many no-value b o = refl
-  values-many (a-value w e us vs) true o =
-      let a = length-append (choices us) (choices-of vs true o) in
-      omega (arith, a, choices-many us, values-many vs true o)
-  values-many (a-value w e us vs) false o =
-      let a = length-append (choices us) (choices-of vs false o) in
-      omega (arith, a, choices-many us, values-many vs false o)
-
 unfoldable all-definitions : List Spec → ℕ
 all-definitions [] = 0
 all-definitions (x ∷ xs) = definitions-in (x .definitions) + all-definitions xs
@@ -67,14 +33,14 @@ unfolding spec-entries all-definitions
 spec-entries-many [] = refl
 spec-entries-many (x ∷ xs) =
     let a = length-append (entries (x .definitions) (x .word) 0) (spec-entries xs) in
-    omega (arith, a, entries-many (x .definitions) (x .word) 0, spec-entries-many xs)
+    omega (arith, a, length-entries (x .definitions) (x .word) 0, spec-entries-many xs)
 
 spec-choices-many : (xs : List Spec) → length (spec-choices xs) ≡ all-enumerators xs
 unfolding spec-choices all-enumerators
 spec-choices-many [] = refl
 spec-choices-many (x ∷ xs) =
     let a = length-append (choices (x .definitions)) (spec-choices xs) in
-    omega (arith, a, choices-many (x .definitions), spec-choices-many xs)
+    omega (arith, a, length-choices (x .definitions), spec-choices-many xs)
 
 -- What a rule means holds no more rows than n.
 unfoldable Small : (x : Rule) → M x → ℕ → Type 0

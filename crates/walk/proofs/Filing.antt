@@ -1,50 +1,31 @@
 -- One law for each way in which a reader of the whole text answers. Assumes nothing.
-use mathlib.Core.Path.{_≡_, refl, sym, _∙_, ap, ap₂, subst}
-use mathlib.Core.List.{List, [], _∷_, _++_}
-use Prim.Native.Nat.{ℕ, suc, _+_, _-_, _*_, _≤_, _<_, min}
+use mathlib.Core.Path.{_≡_, sym, _∙_, ap, ap₂, subst}
+use mathlib.Core.List.{List}
+use Prim.Native.Nat.{ℕ, _-_, _*_, _≤_, min}
 use native.Mathlib.Omega.{arith}
-use lib.ListN.{length, length-append, replicate}
+use lib.ListN.{length, replicate}
 use lib.Seq.{sets}
 use Rattle.grammar.specs.Grammar.{_·_, _▸_, ∎, name, string, the, sg, OIL-VERSION, CPU, lbrace, rbrace, equals, semicolon, D, version, implementation, application, objects, file, version-is, application-is, file-is}
 use Rattle.grammar.specs.Readers.{lookAt, rest, Meets}
 use Rattle.grammar.specs.declared.Look.{Look}
 use Rattle.grammar.proofs.Rules.{version-by, application-by, file-by}
-use Rattle.meaning.specs.Syntax.{Word, File, Object, statements-in}
 use Rattle.meaning.specs.Actions.{means}
-use Rattle.layout.specs.Kept.{spec-entries, spec-choices, definition-cells, choice-cells, map-cells, object-rows, all-statement-rows, statement-rows, statement-count, join}
+use Rattle.layout.specs.Kept.{spec-entries, spec-choices, definition-cells, choice-cells, map-cells, all-statement-rows, join}
+use Rattle.layout.proofs.Lengths.{length-map, length-objects, length-all}
 use Rattle.rows.specs.Tally.{countOn}
 use Rattle.filling.specs.Fills.{Told, Fills, Walks, front-of, behind}
 use Rattle.filling.specs.Tables.{Wrote}
 use Rattle.filling.proofs.Filling.{plain, first, _▻_, told-as, told-rule}
 use Rattle.filling.proofs.Codes.{seen-place, seen-length}
 use Rattle.definitions.specs.Rows.{Table}
-use Rattle.implementation.specs.Places.{Noted, note-all, heads, ImplementationRows}
-use Rattle.implementation.specs.Places.{FillAll as FillSpecs}
-use Rattle.objects.specs.Rows.{FillAll, AllRows, numbers}
-use Rattle.objects.proofs.Stated.{rows-in}
+use Rattle.implementation.specs.Places.{Noted, note-all, ImplementationRows, FillAll as FillSpecs}
+use Rattle.objects.specs.Rows.{FillAll, AllRows}
 use Rattle.walk.specs.declared.Walked.{Walked}
-use Rattle.walk.specs.Whole.{Rooms, Stands, Tells, Few, SameSizes, Whole, ApplicationRows}
+use Rattle.walk.specs.Whole.{Rooms, Stands, Tells, Few, Whole, ApplicationRows}
 use Rattle.grammar.specs.Machine.{Stream}
 use Rattle.walk.proofs.Tallying.{tallied}
 use Rattle.walk.proofs.Fewer.{few-rows}
 use Rattle.walk.proofs.Placing.{none-noted, all-places, first-again}
-
-length-map : {A : Type 0} (f : A → List ℕ) (xs : List A) → length (map-cells f xs) ≡ length xs
-unfolding map-cells
-length-map f [] = refl
-length-map f (x ∷ xs) = let e = length-map f xs in omega (arith, e)
-
-length-objects : (os : List Object) (k : ℕ) → length (object-rows os k) ≡ length os
-unfolding object-rows
-length-objects [] k = refl
-length-objects (x ∷ xs) k = let e = length-objects xs (k + statements-in (x .statements)) in omega (arith, e)
-
-length-statements : (os : List Object) (k : ℕ) → length (all-statement-rows os k) ≡ statement-count os
-unfolding all-statement-rows statement-count
-length-statements [] k = refl
-length-statements (x ∷ xs) k =
-    let i = k + statements-in (x .statements) in
-    length-append (statement-rows (x .statements) k) (all-statement-rows xs i) ∙ ap₂ _+_ (rows-in (x .statements) k) (length-statements xs i)
 
 -- A table that was filled from its first row on.
 table-is : {w : ℕ} {l l′ : List ℕ} {n : ℕ} {rs : List (List ℕ)} (xs : List (List ℕ)) → Wrote w l 0 rs l′ n → xs ≡ rs → length xs ≤ 65536 → l′ ≡ sets l 0 (join xs)
@@ -126,7 +107,7 @@ module _ {s : List ℕ} {a : Look} {x y : Rooms} {r : Walked} where
             let ld = length-map definition-cells (spec-entries xs) in
             let le = length-map choice-cells (spec-choices xs) in
             let lo = length-objects os 0 in
-            let ls = length-statements os 0 in
+            let ls = length-all os 0 in
             let ko = ap (λ (l : List (List ℕ)). length l) (pa .2) in
             let ks = ap (λ (l : List (List ℕ)). length l) (pa .3) in
             record {

@@ -1,37 +1,23 @@
 -- The places of the kinds' words, noted one by one. Assumes nothing.
-use mathlib.Core.Path.{_≡_, refl, sym, _∙_, ap, ap₂, subst}
+use mathlib.Core.Path.{_≡_, refl, sym, _∙_, ap}
 use mathlib.Core.List.{List, [], _∷_, _++_}
-use mathlib.Core.Bool.{Bool, true, false, not, false≢true}
-use Prim.Native.Nat.{ℕ, zero, suc, _+_, _≤_, _<_}
+use mathlib.Core.Bool.{Bool, true, false, not}
+use Prim.Native.Nat.{ℕ, zero, suc, _<_}
 use native.Mathlib.Omega.{arith}
 use lib.Dec.{eqb}
 use lib.ListN.{length, getD, set, replicate, length-set}
 use lib.Seq.{ext-getD, getD-set-same, getD-set-other}
 use borrow.Author.Tests.{eqb-true, eqb-false, eq-eqb, ne-eqb}
+use Rattle.rows.proofs.Tallies.{blank}
 use Rattle.token.specs.Find.{pick, either}
-use Rattle.grammar.specs.Grammar.{Kind, OS, APPMODE, TASK, ISR, COUNTER, ALARM, RESOURCE, EVENT, COM, MESSAGE, NETWORKMESSAGE, IPDU, NM}
+use Rattle.token.proofs.Bytes.{either-false, either-assoc, either-true}
 use Rattle.meaning.specs.Syntax.{Spec}
 use Rattle.meaning.specs.Kinds.{kind-number, same-kind}
 use Rattle.meaning.specs.Defining.{specified}
 use Rattle.layout.specs.Kept.{kind-place, again-place}
+use Rattle.layout.proofs.Codes.{kind-low}
 use Rattle.implementation.specs.Places.{Noted, placed, again-after, found-after, note, note-all, heads}
 use Rattle.walk.specs.Whole.{kind-places}
-
-kind-low : (k : Kind) → kind-number k < 13
-unfolding kind-number
-kind-low OS = omega arith
-kind-low APPMODE = omega arith
-kind-low TASK = omega arith
-kind-low ISR = omega arith
-kind-low COUNTER = omega arith
-kind-low ALARM = omega arith
-kind-low RESOURCE = omega arith
-kind-low EVENT = omega arith
-kind-low COM = omega arith
-kind-low MESSAGE = omega arith
-kind-low NETWORKMESSAGE = omega arith
-kind-low IPDU = omega arith
-kind-low NM = omega arith
 
 placed-other : (l : List ℕ) (m j p k : ℕ) → (k ≡ j → ⊥) → getD (placed l m j p) k 0 ≡ getD l k 0
 placed-other l m j p k h = go (eqb m 0)
@@ -110,12 +96,7 @@ place-of k l (s ∷ xs) x z h g = go (place-of k l xs (note x (kind-number (s .k
 abbrev pub none-noted : Noted
 none-noted = record { marks = replicate 13 0; places = replicate 13 0; again = 0; found = 0 }
 
-blank : (n i : ℕ) → getD {A = ℕ} (replicate n 0) i 0 ≡ 0
-blank zero i = refl
-blank (suc n) zero = refl
-blank (suc n) (suc i) = blank n i
-
-each-place : (xs : List Spec) (i : ℕ) → i < 13 → kind-place i xs ≡ getD (kind-places xs) i 0
+pub each-place : (xs : List Spec) (i : ℕ) → i < 13 → kind-place i xs ≡ getD (kind-places xs) i 0
 each-place xs zero h = refl
 each-place xs (suc zero) h = refl
 each-place xs (suc (suc zero)) h = refl
@@ -157,18 +138,6 @@ again-stays (s ∷ xs) x h =
     same : (b : Bool) → pick b (x .again) (x .again) ≡ x .again
     same true = refl
     same false = refl
-
-either-false : (a : Bool) → either a false ≡ a
-either-false true = refl
-either-false false = refl
-
-either-assoc : (a b c : Bool) → either a (either b c) ≡ either (either a b) c
-either-assoc true b c = refl
-either-assoc false b c = refl
-
-either-true : (a : Bool) → either a true ≡ true
-either-true true = refl
-either-true false = refl
 
 specified-snoc : (t s : Spec) (xs : List Spec) → specified t (xs ++ (s ∷ [])) ≡ either (specified t xs) (same-kind (t .kind) (s .kind))
 unfolding specified

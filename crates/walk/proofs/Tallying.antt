@@ -1,5 +1,5 @@
 -- The objects of each kind, counted one by one. Assumes nothing.
-use mathlib.Core.Path.{_≡_, refl, sym, _∙_, ap, ap₂}
+use mathlib.Core.Path.{_≡_, refl, _∙_, ap}
 use mathlib.Core.List.{List, [], _∷_}
 use mathlib.Core.Bool.{Bool, true, false}
 use Prim.Native.Nat.{ℕ, zero, suc, _+_, _≤_, _<_}
@@ -7,29 +7,21 @@ use native.Mathlib.Omega.{arith}
 use lib.Dec.{eqb}
 use lib.ListN.{length, getD, replicate}
 use lib.Seq.{ext-getD}
-use borrow.Author.Tests.{eqb-true, eqb-false, eq-eqb, ne-eqb}
 use Rattle.token.specs.Find.{pick}
+use Rattle.token.proofs.Bytes.{eqb-sym}
 use Rattle.grammar.specs.Grammar.{Kind, OS, APPMODE, TASK, ISR, COUNTER, ALARM, RESOURCE, EVENT, COM, MESSAGE, NETWORKMESSAGE, IPDU, NM}
 use Rattle.meaning.specs.Syntax.{Object}
 use Rattle.meaning.specs.Kinds.{kind-number, same-kind}
 use Rattle.meaning.specs.Applying.{one-if, how-many, counts-of, counts}
 use Rattle.rows.specs.Tally.{oneMore, countOn, countsOf, howMany}
-use Rattle.rows.proofs.Tallies.{length-one-more}
-use Rattle.rows.proofs.Tallies.{counts-of as cells-of}
+use Rattle.rows.proofs.Tallies.{length-one-more, counts-of as cells-of}
 use Rattle.objects.specs.Rows.{numbers}
-
-pub eqb-swap : (m n : ℕ) → eqb m n ≡ eqb n m
-eqb-swap m n = go (eqb m n) refl
-  where
-    go : (b : Bool) → eqb m n ≡ b → eqb m n ≡ eqb n m
-    go true e = e ∙ sym (eq-eqb n m (sym (eqb-true m n e)))
-    go false e = e ∙ sym (ne-eqb n m (λ h. eqb-false m n e (sym h)))
 
 alike : (k : Kind) (os : List Object) → howMany (kind-number k) (numbers os) ≡ how-many k os
 unfolding howMany numbers how-many same-kind one-if
 alike k [] = refl
 alike k (x ∷ xs) =
-    ap (λ (b : Bool). pick b (howMany (kind-number k) (numbers xs) + 1) (howMany (kind-number k) (numbers xs))) (eqb-swap (kind-number (x .kind)) (kind-number k))
+    ap (λ (b : Bool). pick b (howMany (kind-number k) (numbers xs) + 1) (howMany (kind-number k) (numbers xs))) (eqb-sym (kind-number (x .kind)) (kind-number k))
     ∙ go (alike k xs) (eqb (kind-number k) (kind-number (x .kind)))
   where
     go : howMany (kind-number k) (numbers xs) ≡ how-many k xs → (b : Bool) → pick b (howMany (kind-number k) (numbers xs) + 1) (howMany (kind-number k) (numbers xs)) ≡ one-if b + how-many k xs

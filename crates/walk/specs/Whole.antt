@@ -1,7 +1,7 @@
 -- THE CONTRACT of the walk of a whole text: its refusals are those of the grammar stage; where it ends in none there is a tree of the tokens
 -- read, and the tables hold the rows of its syntax. Assumes nothing.
 use mathlib.Core.Path.{_≡_}
-use mathlib.Core.List.{List, [], _∷_, _++_}
+use mathlib.Core.List.{List, [], _∷_}
 use Prim.Native.Nat.{ℕ, _≤_, min}
 use lib.ListN.{length}
 use lib.Seq.{sets}

@@ -1,7 +1,7 @@
 -- Resolved values that stand in rows: what is the first row's, what stands under it and what behind. Assumes nothing.
 use mathlib.Core.Path.{_≡_, refl, sym, _∙_, ap, ap₂, subst}
 use mathlib.Core.List.{List, [], _∷_, _++_, append-assoc}
-use mathlib.Core.Bool.{Bool, true, false, false≢true}
+use mathlib.Core.Bool.{Bool, true, false}
 use Prim.Native.Nat.{ℕ, suc, _+_, _≤_, _<_}
 use native.Mathlib.Omega.{arith}
 use native.Mathlib.Numerals.{add-one}
@@ -11,7 +11,7 @@ use borrow.Author.Tests.{eqb-true, eq-eqb}
 use Rattle.token.specs.Find.{pick, both}
 use Rattle.token.specs.Tokens.{partOf}
 use Rattle.token.specs.Words.{bytesOf}
-use Rattle.token.proofs.Bytes.{both-true}
+use Rattle.token.proofs.Bytes.{both-true, both-second}
 use Rattle.meaning.specs.Syntax.{Word, span-of}
 use Rattle.meaning.specs.Resolving.{Value, number, truth, auto, string, enumerator, object, Taken, Resolved, end, resolved, Owner, of-object, of-value, ValueRow, value-row, value-rows, how-many-values}
 use Rattle.meaning.specs.Cells.{flag, owner-sort, owner-row, value-sort, value-negative, value-amount, value-cells}
@@ -32,10 +32,6 @@ same-owner (of-object i) (of-object j) e q = ap of-object q
 same-owner (of-object i) (of-value j) e q = absurd (omega arith)
 same-owner (of-value i) (of-object j) e q = absurd (omega arith)
 same-owner (of-value i) (of-value j) e q = ap of-value q
-
-both-second : (a b : Bool) → both a b ≡ true → b ≡ true
-both-second true b e = e
-both-second false b e = absurd (false≢true e)
 
 module _ (v : List ℕ) (n k sort row : ℕ) (o : Owner) (p : owner-sort o ≡ sort) (q : owner-row o ≡ row) where
   -- The first row, if it is o's, is found to be,

@@ -1,13 +1,14 @@
-use Rattle.implementation.proofs.Noting.{cell-past}
+use mathlib.Core.Path.{sym}
 use native.Mathlib.Omega.{arith}
 use borrow.Author.Needs.{needs}
+use Rattle.rows.proofs.Starts.{cell-past}
 use Rattle.implementation.proofs.cell.Statement.{statement}
 use Rattle.implementation.proofs.cell.Tie as tie
 use Rattle.implementation.proofs.cell.Reads as reads
 use Rattle.implementation.proofs.cell.Lts as lts
 
 returns : tie.Need-returns
-returns c = cell-past (c .before .args .t1) (c .before .args .i) (omega arith)
+returns c = sym (cell-past (c .before .args .t1) (c .before .args .i) (omega arith))
 
 mul-result : tie.Need-mul-result
 mul-result c = search needs

@@ -6,13 +6,12 @@ use Rattle.filling.proofs.Filling.{going}
 use Rattle.filling.specs.Fills.{Going}
 use Rattle.grammar.proofs.Rules.{name-taken, name-less, value-no}
 use Rattle.grammar.proofs.Terminals.{rbrace-is, equals-is}
-use Rattle.grammar.proofs.Meeting.{_⊳_, went-on}
+use Rattle.grammar.proofs.Meeting.{went-on}
 use Rattle.grammar.specs.Readers.{left}
 use Rattle.grammar.specs.Grammar.{statements}
 use denote.Ref.{now}
-use Prim.Native.Nat.{_+_, _*_}
+use Prim.Native.Nat.{_+_, _*_, ℕ, _<_}
 use mathlib.Core.Path.{sym, _∙_}
-use Prim.Native.Nat.{ℕ, _<_}
 use borrow.Fn.Kinds.{In}
 use borrow.Fn.PlainCycle.{Measures, is, falls, and}
 use Rattle.objects.proofs.block.Reads as block
@@ -78,67 +77,36 @@ value-at t = and 2 value-kinds.ps (is 2 value-kinds.ps μ-value t) value.Pre
 abbrev value-below : ℕ → In 2 value-kinds.ps
 value-below t = and 2 value-kinds.ps (falls 2 value-kinds.ps _<_ μ-value t) value.Pre
 
-block-returns : (t : ℕ) → block-lts.Need-returns (
+abbrev block-claims : ℕ → block-lts.Claims
+block-claims t = (
   advance-reads.Asked,
   advance-reads.Learnt,
   statements-below t,
   statements.Post,
   expect-reads.Asked,
   expect-reads.Learnt,
-) (block-at t) block.Post
+)
+
+block-returns : (t : ℕ) → block-lts.Need-returns (block-claims t) (block-at t) block.Post
 block-returns t c = block-none (c .if1 .taken)
 
-block-advance-requires : (t : ℕ) → block-lts.Need-advance-requires (
-  advance-reads.Asked,
-  advance-reads.Learnt,
-  statements-below t,
-  statements.Post,
-  expect-reads.Asked,
-  expect-reads.Learnt,
-) (block-at t) block.Post
+block-advance-requires : (t : ℕ) → block-lts.Need-advance-requires (block-claims t) (block-at t) block.Post
 block-advance-requires t c κs = search needs
 
-block-statements-requires : (t : ℕ) → block-lts.Need-statements-requires (
-  advance-reads.Asked,
-  advance-reads.Learnt,
-  statements-below t,
-  statements.Post,
-  expect-reads.Asked,
-  expect-reads.Learnt,
-) (block-at t) block.Post
+block-statements-requires : (t : ℕ) → block-lts.Need-statements-requires (block-claims t) (block-at t) block.Post
 block-statements-requires t c κs = let w = went-on 44 tt _ _ _ (c .before .before .if1 .left) (c .before .advance .ensures) in (omega arith, tt)
 
-block-expect-requires : (t : ℕ) → block-lts.Need-expect-requires (
-  advance-reads.Asked,
-  advance-reads.Learnt,
-  statements-below t,
-  statements.Post,
-  expect-reads.Asked,
-  expect-reads.Learnt,
-) (block-at t) block.Post
+block-expect-requires : (t : ℕ) → block-lts.Need-expect-requires (block-claims t) (block-at t) block.Post
 block-expect-requires t c κs = search needs
 
-block-same-length : (t : ℕ) → block-lts.Need-same-length (
-  advance-reads.Asked,
-  advance-reads.Learnt,
-  statements-below t,
-  statements.Post,
-  expect-reads.Asked,
-  expect-reads.Learnt,
-) (block-at t) block.Post
+block-same-length : (t : ℕ) → block-lts.Need-same-length (block-claims t) (block-at t) block.Post
 block-same-length t c = (c .before .before .before .statements .ensures) .does .1 .size
 
-block-returns-2 : (t : ℕ) → block-lts.Need-returns-2 (
-  advance-reads.Asked,
-  advance-reads.Learnt,
-  statements-below t,
-  statements.Post,
-  expect-reads.Asked,
-  expect-reads.Learnt,
-) (block-at t) block.Post
+block-returns-2 : (t : ℕ) → block-lts.Need-returns-2 (block-claims t) (block-at t) block.Post
 block-returns-2 t c = block-there (c .before .before .before .before .before .before .if1 .left) (c .before .before .before .before .before .advance .ensures) (c .before .before .before .statements .ensures) (rbrace-is (c .expect .ensures))
 
-statement-expect-name-requires : (t : ℕ) → statement-lts.Need-expect-name-requires (
+abbrev statement-claims : ℕ → statement-lts.Claims
+statement-claims t = (
   expect-name-reads.Asked,
   expect-name-reads.Learnt,
   expect-reads.Asked,
@@ -153,205 +121,42 @@ statement-expect-name-requires : (t : ℕ) → statement-lts.Need-expect-name-re
   put-row-reads.Learnt,
   finish-reads.Asked,
   finish-reads.Learnt,
-) (statement-at t) statement′.Post
+)
+
+statement-expect-name-requires : (t : ℕ) → statement-lts.Need-expect-name-requires (statement-claims t) (statement-at t) statement′.Post
 statement-expect-name-requires t c κs = search needs
 
-statement-expect-requires : (t : ℕ) → statement-lts.Need-expect-requires (
-  expect-name-reads.Asked,
-  expect-name-reads.Learnt,
-  expect-reads.Asked,
-  expect-reads.Learnt,
-  next-reads.Asked,
-  next-reads.Learnt,
-  value-below t,
-  value.Post,
-  length-reads.Asked,
-  length-reads.Learnt,
-  put-row-reads.Asked,
-  put-row-reads.Learnt,
-  finish-reads.Asked,
-  finish-reads.Learnt,
-) (statement-at t) statement′.Post
+statement-expect-requires : (t : ℕ) → statement-lts.Need-expect-requires (statement-claims t) (statement-at t) statement′.Post
 statement-expect-requires t c κs = search needs
 
-statement-next-requires : (t : ℕ) → statement-lts.Need-next-requires (
-  expect-name-reads.Asked,
-  expect-name-reads.Learnt,
-  expect-reads.Asked,
-  expect-reads.Learnt,
-  next-reads.Asked,
-  next-reads.Learnt,
-  value-below t,
-  value.Post,
-  length-reads.Asked,
-  length-reads.Learnt,
-  put-row-reads.Asked,
-  put-row-reads.Learnt,
-  finish-reads.Asked,
-  finish-reads.Learnt,
-) (statement-at t) statement′.Post
+statement-next-requires : (t : ℕ) → statement-lts.Need-next-requires (statement-claims t) (statement-at t) statement′.Post
 statement-next-requires t c κs = search needs
 
-statement-value-requires : (t : ℕ) → statement-lts.Need-value-requires (
-  expect-name-reads.Asked,
-  expect-name-reads.Learnt,
-  expect-reads.Asked,
-  expect-reads.Learnt,
-  next-reads.Asked,
-  next-reads.Learnt,
-  value-below t,
-  value.Post,
-  length-reads.Asked,
-  length-reads.Learnt,
-  put-row-reads.Asked,
-  put-row-reads.Learnt,
-  finish-reads.Asked,
-  finish-reads.Learnt,
-) (statement-at t) statement′.Post
+statement-value-requires : (t : ℕ) → statement-lts.Need-value-requires (statement-claims t) (statement-at t) statement′.Post
 statement-value-requires t c κs = let m = (c .before .before .before .expect-name .ensures) in let n = equals-is (c .before .before .expect .ensures) in (omega arith, tt)
 
-statement-length-requires : (t : ℕ) → statement-lts.Need-length-requires (
-  expect-name-reads.Asked,
-  expect-name-reads.Learnt,
-  expect-reads.Asked,
-  expect-reads.Learnt,
-  next-reads.Asked,
-  next-reads.Learnt,
-  value-below t,
-  value.Post,
-  length-reads.Asked,
-  length-reads.Learnt,
-  put-row-reads.Asked,
-  put-row-reads.Learnt,
-  finish-reads.Asked,
-  finish-reads.Learnt,
-) (statement-at t) statement′.Post
+statement-length-requires : (t : ℕ) → statement-lts.Need-length-requires (statement-claims t) (statement-at t) statement′.Post
 statement-length-requires t c κs = search needs
 
-statement-length-requires-2 : (t : ℕ) → statement-lts.Need-length-requires-2 (
-  expect-name-reads.Asked,
-  expect-name-reads.Learnt,
-  expect-reads.Asked,
-  expect-reads.Learnt,
-  next-reads.Asked,
-  next-reads.Learnt,
-  value-below t,
-  value.Post,
-  length-reads.Asked,
-  length-reads.Learnt,
-  put-row-reads.Asked,
-  put-row-reads.Learnt,
-  finish-reads.Asked,
-  finish-reads.Learnt,
-) (statement-at t) statement′.Post
+statement-length-requires-2 : (t : ℕ) → statement-lts.Need-length-requires-2 (statement-claims t) (statement-at t) statement′.Post
 statement-length-requires-2 t c κs = search needs
 
-statement-cast-t16 : (t : ℕ) → statement-lts.Need-cast-t16 (
-  expect-name-reads.Asked,
-  expect-name-reads.Learnt,
-  expect-reads.Asked,
-  expect-reads.Learnt,
-  next-reads.Asked,
-  next-reads.Learnt,
-  value-below t,
-  value.Post,
-  length-reads.Asked,
-  length-reads.Learnt,
-  put-row-reads.Asked,
-  put-row-reads.Learnt,
-  finish-reads.Asked,
-  finish-reads.Learnt,
-) (statement-at t) statement′.Post
+statement-cast-t16 : (t : ℕ) → statement-lts.Need-cast-t16 (statement-claims t) (statement-at t) statement′.Post
 statement-cast-t16 t c = search needs
 
-statement-slice-aggregate-put-row : (t : ℕ) → statement-lts.Need-slice-aggregate-put-row (
-  expect-name-reads.Asked,
-  expect-name-reads.Learnt,
-  expect-reads.Asked,
-  expect-reads.Learnt,
-  next-reads.Asked,
-  next-reads.Learnt,
-  value-below t,
-  value.Post,
-  length-reads.Asked,
-  length-reads.Learnt,
-  put-row-reads.Asked,
-  put-row-reads.Learnt,
-  finish-reads.Asked,
-  finish-reads.Learnt,
-) (statement-at t) statement′.Post
+statement-slice-aggregate-put-row : (t : ℕ) → statement-lts.Need-slice-aggregate-put-row (statement-claims t) (statement-at t) statement′.Post
 statement-slice-aggregate-put-row t c = search needs
 
-statement-put-row-requires : (t : ℕ) → statement-lts.Need-put-row-requires (
-  expect-name-reads.Asked,
-  expect-name-reads.Learnt,
-  expect-reads.Asked,
-  expect-reads.Learnt,
-  next-reads.Asked,
-  next-reads.Learnt,
-  value-below t,
-  value.Post,
-  length-reads.Asked,
-  length-reads.Learnt,
-  put-row-reads.Asked,
-  put-row-reads.Learnt,
-  finish-reads.Asked,
-  finish-reads.Learnt,
-) (statement-at t) statement′.Post
+statement-put-row-requires : (t : ℕ) → statement-lts.Need-put-row-requires (statement-claims t) (statement-at t) statement′.Post
 statement-put-row-requires t c κs = search needs
 
-statement-finish-requires : (t : ℕ) → statement-lts.Need-finish-requires (
-  expect-name-reads.Asked,
-  expect-name-reads.Learnt,
-  expect-reads.Asked,
-  expect-reads.Learnt,
-  next-reads.Asked,
-  next-reads.Learnt,
-  value-below t,
-  value.Post,
-  length-reads.Asked,
-  length-reads.Learnt,
-  put-row-reads.Asked,
-  put-row-reads.Learnt,
-  finish-reads.Asked,
-  finish-reads.Learnt,
-) (statement-at t) statement′.Post
+statement-finish-requires : (t : ℕ) → statement-lts.Need-finish-requires (statement-claims t) (statement-at t) statement′.Post
 statement-finish-requires t c κs = search needs
 
-statement-same-length : (t : ℕ) → statement-lts.Need-same-length (
-  expect-name-reads.Asked,
-  expect-name-reads.Learnt,
-  expect-reads.Asked,
-  expect-reads.Learnt,
-  next-reads.Asked,
-  next-reads.Learnt,
-  value-below t,
-  value.Post,
-  length-reads.Asked,
-  length-reads.Learnt,
-  put-row-reads.Asked,
-  put-row-reads.Learnt,
-  finish-reads.Asked,
-  finish-reads.Learnt,
-) (statement-at t) statement′.Post
+statement-same-length : (t : ℕ) → statement-lts.Need-same-length (statement-claims t) (statement-at t) statement′.Post
 statement-same-length t c = search needs
 
-statement-returns : (t : ℕ) → statement-lts.Need-returns (
-  expect-name-reads.Asked,
-  expect-name-reads.Learnt,
-  expect-reads.Asked,
-  expect-reads.Learnt,
-  next-reads.Asked,
-  next-reads.Learnt,
-  value-below t,
-  value.Post,
-  length-reads.Asked,
-  length-reads.Learnt,
-  put-row-reads.Asked,
-  put-row-reads.Learnt,
-  finish-reads.Asked,
-  finish-reads.Learnt,
-) (statement-at t) statement′.Post
+statement-returns : (t : ℕ) → statement-lts.Need-returns (statement-claims t) (statement-at t) statement′.Post
 statement-returns t c = statement-there _ (c .before .before .before .before .before .before .before .before .before .before .before .before .before .before .expect-name .ensures) (equals-is (c .before .before .before .before .before .before .before .before .before .before .before .before .before .expect .ensures)) (c .before .before .before .before .before .before .before .before .before .before .before .before .next .ensures) (c .before .before .before .before .before .before .before .before .before .before .value .ensures) (c .before .before .before .before .before .before .before .length .ensures) (c .before .before .before .before .before .before .length2 .ensures) (c .before .before .before .put-row .ensures) (c .finish .ensures)
 
 abbrev statements-Inv-loop : statements-lts.InvT-loop
@@ -360,63 +165,37 @@ statements-Inv-loop text s₀ m a₀ i₀ s a i = Going then Fill statements Sta
 abbrev statements-μ-loop : statements-lts.MeasureT-loop
 statements-μ-loop text s₀ m a₀ i₀ s a i = left text a
 
-statements-loop-holds : (t : ℕ) → statements-lts.Need-loop-holds (
+abbrev statements-claims : ℕ → statements-lts.Claims
+statements-claims t = (
   is-name-reads.Asked,
   is-name-reads.Learnt,
   statement-below t,
   statement′.Post,
-) (statements-at t) statements.Post statements-Inv-loop statements-μ-loop
+)
+
+statements-loop-holds : (t : ℕ) → statements-lts.Need-loop-holds (statements-claims t) (statements-at t) statements.Post statements-Inv-loop statements-μ-loop
 statements-loop-holds t c = going lines statements StatementRows
 
-statements-is-name-requires : (t : ℕ) → statements-lts.Need-is-name-requires (
-  is-name-reads.Asked,
-  is-name-reads.Learnt,
-  statement-below t,
-  statement′.Post,
-) (statements-at t) statements.Post statements-Inv-loop statements-μ-loop
+statements-is-name-requires : (t : ℕ) → statements-lts.Need-is-name-requires (statements-claims t) (statements-at t) statements.Post statements-Inv-loop statements-μ-loop
 statements-is-name-requires t c κs = search needs
 
-statements-statement-requires : (t : ℕ) → statements-lts.Need-statement-requires (
-  is-name-reads.Asked,
-  is-name-reads.Learnt,
-  statement-below t,
-  statement′.Post,
-) (statements-at t) statements.Post statements-Inv-loop statements-μ-loop
+statements-statement-requires : (t : ℕ) → statements-lts.Need-statement-requires (statements-claims t) (statements-at t) statements.Post statements-Inv-loop statements-μ-loop
 statements-statement-requires t c κs = let z = (c .before .before .before .loop .inv) .still in (omega arith, tt)
 
-statements-loop-less : (t : ℕ) → statements-lts.Need-loop-less (
-  is-name-reads.Asked,
-  is-name-reads.Learnt,
-  statement-below t,
-  statement′.Post,
-) (statements-at t) statements.Post statements-Inv-loop statements-μ-loop
+statements-loop-less : (t : ℕ) → statements-lts.Need-loop-less (statements-claims t) (statements-at t) statements.Post statements-Inv-loop statements-μ-loop
 statements-loop-less t c = name-less (sym (c .before .before .before .before .before .before .is-name .ensures) ∙ (c .before .before .before .before .before .if1 .taken)) ((c .before .before .before .statement .ensures) .fills .meets)
 
-statements-loop-again : (t : ℕ) → statements-lts.Need-loop-again (
-  is-name-reads.Asked,
-  is-name-reads.Learnt,
-  statement-below t,
-  statement′.Post,
-) (statements-at t) statements.Post statements-Inv-loop statements-μ-loop
+statements-loop-again : (t : ℕ) → statements-lts.Need-loop-again (statements-claims t) (statements-at t) statements.Post statements-Inv-loop statements-μ-loop
 statements-loop-again t c = statements-on (c .before .before .before .before .before .before .before .loop .inv) (sym (c .before .before .before .before .before .before .is-name .ensures) ∙ (c .before .before .before .before .before .if1 .taken)) (c .before .before .before .statement .ensures)
 
-statements-same-length : (t : ℕ) → statements-lts.Need-same-length (
-  is-name-reads.Asked,
-  is-name-reads.Learnt,
-  statement-below t,
-  statement′.Post,
-) (statements-at t) statements.Post statements-Inv-loop statements-μ-loop
+statements-same-length : (t : ℕ) → statements-lts.Need-same-length (statements-claims t) (statements-at t) statements.Post statements-Inv-loop statements-μ-loop
 statements-same-length t c = (c .before .before .loop .inv) .does .1 .size
 
-statements-returns : (t : ℕ) → statements-lts.Need-returns (
-  is-name-reads.Asked,
-  is-name-reads.Learnt,
-  statement-below t,
-  statement′.Post,
-) (statements-at t) statements.Post statements-Inv-loop statements-μ-loop
+statements-returns : (t : ℕ) → statements-lts.Need-returns (statements-claims t) (statements-at t) statements.Post statements-Inv-loop statements-μ-loop
 statements-returns t c = statements-gone (c .before .before .loop .inv) (sym (c .before .is-name .ensures) ∙ (c .if1 .left))
 
-value-advance-requires : (t : ℕ) → value-lts.Need-advance-requires (
+abbrev value-claims : ℕ → value-lts.Claims
+value-claims t = (
   advance-reads.Asked,
   advance-reads.Learnt,
   block-below t,
@@ -425,259 +204,74 @@ value-advance-requires : (t : ℕ) → value-lts.Need-advance-requires (
   is-name-reads.Learnt,
   refuse-reads.Asked,
   refuse-reads.Learnt,
-) (value-at t) value.Post
+)
+
+value-advance-requires : (t : ℕ) → value-lts.Need-advance-requires (value-claims t) (value-at t) value.Post
 value-advance-requires t c κs = search needs
 
-value-returns : (t : ℕ) → value-lts.Need-returns (
-  advance-reads.Asked,
-  advance-reads.Learnt,
-  block-below t,
-  block.Post,
-  is-name-reads.Asked,
-  is-name-reads.Learnt,
-  refuse-reads.Asked,
-  refuse-reads.Learnt,
-) (value-at t) value.Post
+value-returns : (t : ℕ) → value-lts.Need-returns (value-claims t) (value-at t) value.Post
 value-returns t c = value-number-there (c .before .if1 .taken) (c .advance .ensures)
 
-value-advance-requires-2 : (t : ℕ) → value-lts.Need-advance-requires-2 (
-  advance-reads.Asked,
-  advance-reads.Learnt,
-  block-below t,
-  block.Post,
-  is-name-reads.Asked,
-  is-name-reads.Learnt,
-  refuse-reads.Asked,
-  refuse-reads.Learnt,
-) (value-at t) value.Post
+value-advance-requires-2 : (t : ℕ) → value-lts.Need-advance-requires-2 (value-claims t) (value-at t) value.Post
 value-advance-requires-2 t c κs = search needs
 
-value-returns-2 : (t : ℕ) → value-lts.Need-returns-2 (
-  advance-reads.Asked,
-  advance-reads.Learnt,
-  block-below t,
-  block.Post,
-  is-name-reads.Asked,
-  is-name-reads.Learnt,
-  refuse-reads.Asked,
-  refuse-reads.Learnt,
-) (value-at t) value.Post
+value-returns-2 : (t : ℕ) → value-lts.Need-returns-2 (value-claims t) (value-at t) value.Post
 value-returns-2 t c = value-string-there (c .before .if2 .taken) (c .advance2 .ensures)
 
-value-advance-requires-3 : (t : ℕ) → value-lts.Need-advance-requires-3 (
-  advance-reads.Asked,
-  advance-reads.Learnt,
-  block-below t,
-  block.Post,
-  is-name-reads.Asked,
-  is-name-reads.Learnt,
-  refuse-reads.Asked,
-  refuse-reads.Learnt,
-) (value-at t) value.Post
+value-advance-requires-3 : (t : ℕ) → value-lts.Need-advance-requires-3 (value-claims t) (value-at t) value.Post
 value-advance-requires-3 t c κs = search needs
 
-value-returns-3 : (t : ℕ) → value-lts.Need-returns-3 (
-  advance-reads.Asked,
-  advance-reads.Learnt,
-  block-below t,
-  block.Post,
-  is-name-reads.Asked,
-  is-name-reads.Learnt,
-  refuse-reads.Asked,
-  refuse-reads.Learnt,
-) (value-at t) value.Post
+value-returns-3 : (t : ℕ) → value-lts.Need-returns-3 (value-claims t) (value-at t) value.Post
 value-returns-3 t c = value-auto-there (c .before .if3 .taken) (c .advance3 .ensures)
 
-value-advance-requires-4 : (t : ℕ) → value-lts.Need-advance-requires-4 (
-  advance-reads.Asked,
-  advance-reads.Learnt,
-  block-below t,
-  block.Post,
-  is-name-reads.Asked,
-  is-name-reads.Learnt,
-  refuse-reads.Asked,
-  refuse-reads.Learnt,
-) (value-at t) value.Post
+value-advance-requires-4 : (t : ℕ) → value-lts.Need-advance-requires-4 (value-claims t) (value-at t) value.Post
 value-advance-requires-4 t c κs = search needs
 
-value-block-requires : (t : ℕ) → value-lts.Need-block-requires (
-  advance-reads.Asked,
-  advance-reads.Learnt,
-  block-below t,
-  block.Post,
-  is-name-reads.Asked,
-  is-name-reads.Learnt,
-  refuse-reads.Asked,
-  refuse-reads.Learnt,
-) (value-at t) value.Post
+value-block-requires : (t : ℕ) → value-lts.Need-block-requires (value-claims t) (value-at t) value.Post
 value-block-requires t c κs = let w = went-on 1 tt _ _ _ (c .before .before .if4 .taken) (c .before .advance4 .ensures) in (omega arith, tt)
 
-value-same-length : (t : ℕ) → value-lts.Need-same-length (
-  advance-reads.Asked,
-  advance-reads.Learnt,
-  block-below t,
-  block.Post,
-  is-name-reads.Asked,
-  is-name-reads.Learnt,
-  refuse-reads.Asked,
-  refuse-reads.Learnt,
-) (value-at t) value.Post
+value-same-length : (t : ℕ) → value-lts.Need-same-length (value-claims t) (value-at t) value.Post
 value-same-length t c = (c .before .before .block .ensures) .does .1 .size
 
-value-returns-4 : (t : ℕ) → value-lts.Need-returns-4 (
-  advance-reads.Asked,
-  advance-reads.Learnt,
-  block-below t,
-  block.Post,
-  is-name-reads.Asked,
-  is-name-reads.Learnt,
-  refuse-reads.Asked,
-  refuse-reads.Learnt,
-) (value-at t) value.Post
+value-returns-4 : (t : ℕ) → value-lts.Need-returns-4 (value-claims t) (value-at t) value.Post
 value-returns-4 t c = value-true-there _ (c .before .before .before .before .before .if4 .taken) (c .before .before .before .before .advance4 .ensures) (c .before .before .block .ensures)
 
-value-advance-requires-5 : (t : ℕ) → value-lts.Need-advance-requires-5 (
-  advance-reads.Asked,
-  advance-reads.Learnt,
-  block-below t,
-  block.Post,
-  is-name-reads.Asked,
-  is-name-reads.Learnt,
-  refuse-reads.Asked,
-  refuse-reads.Learnt,
-) (value-at t) value.Post
+value-advance-requires-5 : (t : ℕ) → value-lts.Need-advance-requires-5 (value-claims t) (value-at t) value.Post
 value-advance-requires-5 t c κs = search needs
 
-value-block-requires-2 : (t : ℕ) → value-lts.Need-block-requires-2 (
-  advance-reads.Asked,
-  advance-reads.Learnt,
-  block-below t,
-  block.Post,
-  is-name-reads.Asked,
-  is-name-reads.Learnt,
-  refuse-reads.Asked,
-  refuse-reads.Learnt,
-) (value-at t) value.Post
+value-block-requires-2 : (t : ℕ) → value-lts.Need-block-requires-2 (value-claims t) (value-at t) value.Post
 value-block-requires-2 t c κs = let w = went-on 2 tt _ _ _ (c .before .before .if5 .taken) (c .before .advance5 .ensures) in (omega arith, tt)
 
-value-same-length-2 : (t : ℕ) → value-lts.Need-same-length-2 (
-  advance-reads.Asked,
-  advance-reads.Learnt,
-  block-below t,
-  block.Post,
-  is-name-reads.Asked,
-  is-name-reads.Learnt,
-  refuse-reads.Asked,
-  refuse-reads.Learnt,
-) (value-at t) value.Post
+value-same-length-2 : (t : ℕ) → value-lts.Need-same-length-2 (value-claims t) (value-at t) value.Post
 value-same-length-2 t c = (c .before .before .block2 .ensures) .does .1 .size
 
-value-returns-5 : (t : ℕ) → value-lts.Need-returns-5 (
-  advance-reads.Asked,
-  advance-reads.Learnt,
-  block-below t,
-  block.Post,
-  is-name-reads.Asked,
-  is-name-reads.Learnt,
-  refuse-reads.Asked,
-  refuse-reads.Learnt,
-) (value-at t) value.Post
+value-returns-5 : (t : ℕ) → value-lts.Need-returns-5 (value-claims t) (value-at t) value.Post
 value-returns-5 t c = value-false-there _ (c .before .before .before .before .before .if5 .taken) (c .before .before .before .before .advance5 .ensures) (c .before .before .block2 .ensures)
 
-value-is-name-requires : (t : ℕ) → value-lts.Need-is-name-requires (
-  advance-reads.Asked,
-  advance-reads.Learnt,
-  block-below t,
-  block.Post,
-  is-name-reads.Asked,
-  is-name-reads.Learnt,
-  refuse-reads.Asked,
-  refuse-reads.Learnt,
-) (value-at t) value.Post
+value-is-name-requires : (t : ℕ) → value-lts.Need-is-name-requires (value-claims t) (value-at t) value.Post
 value-is-name-requires t c κs = search needs
 
-value-advance-requires-6 : (t : ℕ) → value-lts.Need-advance-requires-6 (
-  advance-reads.Asked,
-  advance-reads.Learnt,
-  block-below t,
-  block.Post,
-  is-name-reads.Asked,
-  is-name-reads.Learnt,
-  refuse-reads.Asked,
-  refuse-reads.Learnt,
-) (value-at t) value.Post
+value-advance-requires-6 : (t : ℕ) → value-lts.Need-advance-requires-6 (value-claims t) (value-at t) value.Post
 value-advance-requires-6 t c κs = search needs
 
-value-block-requires-3 : (t : ℕ) → value-lts.Need-block-requires-3 (
-  advance-reads.Asked,
-  advance-reads.Learnt,
-  block-below t,
-  block.Post,
-  is-name-reads.Asked,
-  is-name-reads.Learnt,
-  refuse-reads.Asked,
-  refuse-reads.Learnt,
-) (value-at t) value.Post
+value-block-requires-3 : (t : ℕ) → value-lts.Need-block-requires-3 (value-claims t) (value-at t) value.Post
 value-block-requires-3 t c κs = let h = sym (c .before .before .before .is-name .ensures) ∙ (c .before .before .if6 .taken) in let w = name-less h (name-taken h (c .before .advance6 .ensures)) in (omega arith, tt)
 
-value-same-length-3 : (t : ℕ) → value-lts.Need-same-length-3 (
-  advance-reads.Asked,
-  advance-reads.Learnt,
-  block-below t,
-  block.Post,
-  is-name-reads.Asked,
-  is-name-reads.Learnt,
-  refuse-reads.Asked,
-  refuse-reads.Learnt,
-) (value-at t) value.Post
+value-same-length-3 : (t : ℕ) → value-lts.Need-same-length-3 (value-claims t) (value-at t) value.Post
 value-same-length-3 t c = (c .before .before .block3 .ensures) .does .1 .size
 
-value-returns-6 : (t : ℕ) → value-lts.Need-returns-6 (
-  advance-reads.Asked,
-  advance-reads.Learnt,
-  block-below t,
-  block.Post,
-  is-name-reads.Asked,
-  is-name-reads.Learnt,
-  refuse-reads.Asked,
-  refuse-reads.Learnt,
-) (value-at t) value.Post
+value-returns-6 : (t : ℕ) → value-lts.Need-returns-6 (value-claims t) (value-at t) value.Post
 value-returns-6 t c = value-name-there _ (sym (c .before .before .before .before .before .before .is-name .ensures) ∙ (c .before .before .before .before .before .if6 .taken)) (c .before .before .before .before .advance6 .ensures) (c .before .before .block3 .ensures)
 
-value-refuse-requires : (t : ℕ) → value-lts.Need-refuse-requires (
-  advance-reads.Asked,
-  advance-reads.Learnt,
-  block-below t,
-  block.Post,
-  is-name-reads.Asked,
-  is-name-reads.Learnt,
-  refuse-reads.Asked,
-  refuse-reads.Learnt,
-) (value-at t) value.Post
+value-refuse-requires : (t : ℕ) → value-lts.Need-refuse-requires (value-claims t) (value-at t) value.Post
 value-refuse-requires t c κs = search needs
 
-value-returns-7 : (t : ℕ) → value-lts.Need-returns-7 (
-  advance-reads.Asked,
-  advance-reads.Learnt,
-  block-below t,
-  block.Post,
-  is-name-reads.Asked,
-  is-name-reads.Learnt,
-  refuse-reads.Asked,
-  refuse-reads.Learnt,
-) (value-at t) value.Post
+value-returns-7 : (t : ℕ) → value-lts.Need-returns-7 (value-claims t) (value-at t) value.Post
 value-returns-7 t c = value-none (value-no (c .before .before .before .before .before .before .before .if1 .left) (c .before .before .before .before .before .before .if2 .left) (c .before .before .before .before .before .if3 .left) (c .before .before .before .before .if4 .left) (c .before .before .before .if5 .left) (sym (c .before .before .is-name .ensures) ∙ (c .before .if6 .left)) (c .refuse .ensures)) (c .refuse .ensures)
 
 pub +block+statement+statements+value-spec : {M : Type 1} → statement M
 +block+statement+statements+value-spec =
-    close μ-block μ-statement μ-statements μ-value (λ t. block-lts.spec (
-      advance-reads.Asked,
-      advance-reads.Learnt,
-      statements-below t,
-      statements.Post,
-      expect-reads.Asked,
-      expect-reads.Learnt,
-    )
+    close μ-block μ-statement μ-statements μ-value (λ t. block-lts.spec (block-claims t)
     (block-at t)
     block.Post
     (block-returns t)
@@ -686,22 +280,7 @@ pub +block+statement+statements+value-spec : {M : Type 1} → statement M
     (block-expect-requires t)
     (block-same-length t)
     (block-returns-2 t))
-    (λ t. statement-lts.spec (
-      expect-name-reads.Asked,
-      expect-name-reads.Learnt,
-      expect-reads.Asked,
-      expect-reads.Learnt,
-      next-reads.Asked,
-      next-reads.Learnt,
-      value-below t,
-      value.Post,
-      length-reads.Asked,
-      length-reads.Learnt,
-      put-row-reads.Asked,
-      put-row-reads.Learnt,
-      finish-reads.Asked,
-      finish-reads.Learnt,
-    )
+    (λ t. statement-lts.spec (statement-claims t)
     (statement-at t)
     statement′.Post
     (statement-expect-name-requires t)
@@ -716,12 +295,7 @@ pub +block+statement+statements+value-spec : {M : Type 1} → statement M
     (statement-finish-requires t)
     (statement-same-length t)
     (statement-returns t))
-    (λ t. statements-lts.spec (
-      is-name-reads.Asked,
-      is-name-reads.Learnt,
-      statement-below t,
-      statement′.Post,
-    )
+    (λ t. statements-lts.spec (statements-claims t)
     (statements-at t)
     statements.Post
     statements-Inv-loop
@@ -733,16 +307,7 @@ pub +block+statement+statements+value-spec : {M : Type 1} → statement M
     (statements-loop-again t)
     (statements-same-length t)
     (statements-returns t))
-    λ t. value-lts.spec (
-      advance-reads.Asked,
-      advance-reads.Learnt,
-      block-below t,
-      block.Post,
-      is-name-reads.Asked,
-      is-name-reads.Learnt,
-      refuse-reads.Asked,
-      refuse-reads.Learnt,
-    )
+    λ t. value-lts.spec (value-claims t)
     (value-at t)
     value.Post
     (value-advance-requires t)

@@ -1,6 +1,4 @@
 use Rattle.definitions.proofs.Leaves.{head-is}
-use Prim.Native.Nat.{ℕ}
-use mathlib.Core.Path.{ap}
 use borrow.Author.Needs.{needs}
 use Rattle.definitions.proofs.attributes.head.Statement.{statement}
 use Rattle.definitions.proofs.attributes.head.Tie as tie

@@ -6,9 +6,8 @@ use Rattle.grammar.proofs.Meeting.{_⊳_, still, went-on}
 use Rattle.grammar.specs.Readers.{Still, left}
 use Rattle.grammar.specs.Grammar.{statements}
 use denote.Ref.{now}
-use Prim.Native.Nat.{_+_, _*_}
+use Prim.Native.Nat.{_+_, _*_, ℕ, _<_}
 use mathlib.Core.Path.{sym, _∙_}
-use Prim.Native.Nat.{ℕ, _<_}
 use borrow.Fn.Kinds.{In}
 use borrow.Fn.PlainCycle.{Measures, is, falls, and}
 use Rattle.grammar.proofs.statements.block.Reads as block
@@ -71,57 +70,33 @@ value-at t = and 1 value-kinds.ps (is 1 value-kinds.ps μ-value t) value.Pre
 abbrev value-below : ℕ → In 1 value-kinds.ps
 value-below t = and 1 value-kinds.ps (falls 1 value-kinds.ps _<_ μ-value t) value.Pre
 
-block-returns : (t : ℕ) → block-lts.Need-returns (
+abbrev block-claims : ℕ → block-lts.Claims
+block-claims t = (
   advance-reads.Asked,
   advance-reads.Learnt,
   statements-below t,
   statements.Post,
   expect-reads.Asked,
   expect-reads.Learnt,
-) (block-at t) block.Post
+)
+
+block-returns : (t : ℕ) → block-lts.Need-returns (block-claims t) (block-at t) block.Post
 block-returns t c = block-pass (c .if1 .taken)
 
-block-advance-requires : (t : ℕ) → block-lts.Need-advance-requires (
-  advance-reads.Asked,
-  advance-reads.Learnt,
-  statements-below t,
-  statements.Post,
-  expect-reads.Asked,
-  expect-reads.Learnt,
-) (block-at t) block.Post
+block-advance-requires : (t : ℕ) → block-lts.Need-advance-requires (block-claims t) (block-at t) block.Post
 block-advance-requires t c κs = search needs
 
-block-statements-requires : (t : ℕ) → block-lts.Need-statements-requires (
-  advance-reads.Asked,
-  advance-reads.Learnt,
-  statements-below t,
-  statements.Post,
-  expect-reads.Asked,
-  expect-reads.Learnt,
-) (block-at t) block.Post
+block-statements-requires : (t : ℕ) → block-lts.Need-statements-requires (block-claims t) (block-at t) block.Post
 block-statements-requires t c κs = let w = went-on 44 tt _ _ _ (c .before .if1 .left) (c .advance .ensures) in (omega arith, tt)
 
-block-expect-requires : (t : ℕ) → block-lts.Need-expect-requires (
-  advance-reads.Asked,
-  advance-reads.Learnt,
-  statements-below t,
-  statements.Post,
-  expect-reads.Asked,
-  expect-reads.Learnt,
-) (block-at t) block.Post
+block-expect-requires : (t : ℕ) → block-lts.Need-expect-requires (block-claims t) (block-at t) block.Post
 block-expect-requires t c κs = search needs
 
-block-returns-2 : (t : ℕ) → block-lts.Need-returns-2 (
-  advance-reads.Asked,
-  advance-reads.Learnt,
-  statements-below t,
-  statements.Post,
-  expect-reads.Asked,
-  expect-reads.Learnt,
-) (block-at t) block.Post
+block-returns-2 : (t : ℕ) → block-lts.Need-returns-2 (block-claims t) (block-at t) block.Post
 block-returns-2 t c = block-by (c .before .before .before .if1 .left) (c .before .before .advance .ensures) ((c .before .statements .ensures) ⊳ rbrace-is (c .expect .ensures))
 
-statement-expect-name-requires : (t : ℕ) → statement-lts.Need-expect-name-requires (
+abbrev statement-claims : ℕ → statement-lts.Claims
+statement-claims t = (
   expect-name-reads.Asked,
   expect-name-reads.Learnt,
   expect-reads.Asked,
@@ -130,55 +105,21 @@ statement-expect-name-requires : (t : ℕ) → statement-lts.Need-expect-name-re
   value.Post,
   finish-reads.Asked,
   finish-reads.Learnt,
-) (statement-at t) statement′.Post
+)
+
+statement-expect-name-requires : (t : ℕ) → statement-lts.Need-expect-name-requires (statement-claims t) (statement-at t) statement′.Post
 statement-expect-name-requires t c κs = search needs
 
-statement-expect-requires : (t : ℕ) → statement-lts.Need-expect-requires (
-  expect-name-reads.Asked,
-  expect-name-reads.Learnt,
-  expect-reads.Asked,
-  expect-reads.Learnt,
-  value-below t,
-  value.Post,
-  finish-reads.Asked,
-  finish-reads.Learnt,
-) (statement-at t) statement′.Post
+statement-expect-requires : (t : ℕ) → statement-lts.Need-expect-requires (statement-claims t) (statement-at t) statement′.Post
 statement-expect-requires t c κs = search needs
 
-statement-value-requires : (t : ℕ) → statement-lts.Need-value-requires (
-  expect-name-reads.Asked,
-  expect-name-reads.Learnt,
-  expect-reads.Asked,
-  expect-reads.Learnt,
-  value-below t,
-  value.Post,
-  finish-reads.Asked,
-  finish-reads.Learnt,
-) (statement-at t) statement′.Post
+statement-value-requires : (t : ℕ) → statement-lts.Need-value-requires (statement-claims t) (statement-at t) statement′.Post
 statement-value-requires t c κs = let m = (c .before .expect-name .ensures) in let n = equals-is (c .expect .ensures) in (omega arith, tt)
 
-statement-finish-requires : (t : ℕ) → statement-lts.Need-finish-requires (
-  expect-name-reads.Asked,
-  expect-name-reads.Learnt,
-  expect-reads.Asked,
-  expect-reads.Learnt,
-  value-below t,
-  value.Post,
-  finish-reads.Asked,
-  finish-reads.Learnt,
-) (statement-at t) statement′.Post
+statement-finish-requires : (t : ℕ) → statement-lts.Need-finish-requires (statement-claims t) (statement-at t) statement′.Post
 statement-finish-requires t c κs = search needs
 
-statement-returns : (t : ℕ) → statement-lts.Need-returns (
-  expect-name-reads.Asked,
-  expect-name-reads.Learnt,
-  expect-reads.Asked,
-  expect-reads.Learnt,
-  value-below t,
-  value.Post,
-  finish-reads.Asked,
-  finish-reads.Learnt,
-) (statement-at t) statement′.Post
+statement-returns : (t : ℕ) → statement-lts.Need-returns (statement-claims t) (statement-at t) statement′.Post
 statement-returns t c = statement-by ((c .before .before .before .expect-name .ensures) ⊳ equals-is (c .before .before .expect .ensures) ⊳ (c .before .value .ensures) ⊳ (c .finish .ensures))
 
 abbrev statements-Inv-loop : statements-lts.InvT-loop
@@ -187,55 +128,34 @@ statements-Inv-loop text a₀ a = Still statements text a₀ a
 abbrev statements-μ-loop : statements-lts.MeasureT-loop
 statements-μ-loop text a₀ a = left text a
 
-statements-loop-holds : (t : ℕ) → statements-lts.Need-loop-holds (
+abbrev statements-claims : ℕ → statements-lts.Claims
+statements-claims t = (
   is-name-reads.Asked,
   is-name-reads.Learnt,
   statement-below t,
   statement′.Post,
-) (statements-at t) statements.Post statements-Inv-loop statements-μ-loop
+)
+
+statements-loop-holds : (t : ℕ) → statements-lts.Need-loop-holds (statements-claims t) (statements-at t) statements.Post statements-Inv-loop statements-μ-loop
 statements-loop-holds t c = still statements
 
-statements-is-name-requires : (t : ℕ) → statements-lts.Need-is-name-requires (
-  is-name-reads.Asked,
-  is-name-reads.Learnt,
-  statement-below t,
-  statement′.Post,
-) (statements-at t) statements.Post statements-Inv-loop statements-μ-loop
+statements-is-name-requires : (t : ℕ) → statements-lts.Need-is-name-requires (statements-claims t) (statements-at t) statements.Post statements-Inv-loop statements-μ-loop
 statements-is-name-requires t c κs = search needs
 
-statements-statement-requires : (t : ℕ) → statements-lts.Need-statement-requires (
-  is-name-reads.Asked,
-  is-name-reads.Learnt,
-  statement-below t,
-  statement′.Post,
-) (statements-at t) statements.Post statements-Inv-loop statements-μ-loop
+statements-statement-requires : (t : ℕ) → statements-lts.Need-statement-requires (statements-claims t) (statements-at t) statements.Post statements-Inv-loop statements-μ-loop
 statements-statement-requires t c κs = let z = (c .before .before .loop .inv) in (omega arith, tt)
 
-statements-loop-less : (t : ℕ) → statements-lts.Need-loop-less (
-  is-name-reads.Asked,
-  is-name-reads.Learnt,
-  statement-below t,
-  statement′.Post,
-) (statements-at t) statements.Post statements-Inv-loop statements-μ-loop
+statements-loop-less : (t : ℕ) → statements-lts.Need-loop-less (statements-claims t) (statements-at t) statements.Post statements-Inv-loop statements-μ-loop
 statements-loop-less t c = name-less (sym (c .before .before .is-name .ensures) ∙ (c .before .if1 .taken)) (c .statement .ensures)
 
-statements-loop-again : (t : ℕ) → statements-lts.Need-loop-again (
-  is-name-reads.Asked,
-  is-name-reads.Learnt,
-  statement-below t,
-  statement′.Post,
-) (statements-at t) statements.Post statements-Inv-loop statements-μ-loop
+statements-loop-again : (t : ℕ) → statements-lts.Need-loop-again (statements-claims t) (statements-at t) statements.Post statements-Inv-loop statements-μ-loop
 statements-loop-again t c = statements-again (c .before .before .before .loop .inv) (sym (c .before .before .is-name .ensures) ∙ (c .before .if1 .taken)) (c .statement .ensures)
 
-statements-returns : (t : ℕ) → statements-lts.Need-returns (
-  is-name-reads.Asked,
-  is-name-reads.Learnt,
-  statement-below t,
-  statement′.Post,
-) (statements-at t) statements.Post statements-Inv-loop statements-μ-loop
+statements-returns : (t : ℕ) → statements-lts.Need-returns (statements-claims t) (statements-at t) statements.Post statements-Inv-loop statements-μ-loop
 statements-returns t c = statements-done (c .before .before .loop .inv) (sym (c .before .is-name .ensures) ∙ (c .if1 .left))
 
-value-advance-requires : (t : ℕ) → value-lts.Need-advance-requires (
+abbrev value-claims : ℕ → value-lts.Claims
+value-claims t = (
   advance-reads.Asked,
   advance-reads.Learnt,
   block-below t,
@@ -244,223 +164,65 @@ value-advance-requires : (t : ℕ) → value-lts.Need-advance-requires (
   is-name-reads.Learnt,
   refuse-reads.Asked,
   refuse-reads.Learnt,
-) (value-at t) value.Post
+)
+
+value-advance-requires : (t : ℕ) → value-lts.Need-advance-requires (value-claims t) (value-at t) value.Post
 value-advance-requires t c κs = search needs
 
-value-returns : (t : ℕ) → value-lts.Need-returns (
-  advance-reads.Asked,
-  advance-reads.Learnt,
-  block-below t,
-  block.Post,
-  is-name-reads.Asked,
-  is-name-reads.Learnt,
-  refuse-reads.Asked,
-  refuse-reads.Learnt,
-) (value-at t) value.Post
+value-returns : (t : ℕ) → value-lts.Need-returns (value-claims t) (value-at t) value.Post
 value-returns t c = value-numbers (c .before .if1 .taken) (c .advance .ensures)
 
-value-advance-requires-2 : (t : ℕ) → value-lts.Need-advance-requires-2 (
-  advance-reads.Asked,
-  advance-reads.Learnt,
-  block-below t,
-  block.Post,
-  is-name-reads.Asked,
-  is-name-reads.Learnt,
-  refuse-reads.Asked,
-  refuse-reads.Learnt,
-) (value-at t) value.Post
+value-advance-requires-2 : (t : ℕ) → value-lts.Need-advance-requires-2 (value-claims t) (value-at t) value.Post
 value-advance-requires-2 t c κs = search needs
 
-value-returns-2 : (t : ℕ) → value-lts.Need-returns-2 (
-  advance-reads.Asked,
-  advance-reads.Learnt,
-  block-below t,
-  block.Post,
-  is-name-reads.Asked,
-  is-name-reads.Learnt,
-  refuse-reads.Asked,
-  refuse-reads.Learnt,
-) (value-at t) value.Post
+value-returns-2 : (t : ℕ) → value-lts.Need-returns-2 (value-claims t) (value-at t) value.Post
 value-returns-2 t c = value-strings (c .before .if2 .taken) (c .advance2 .ensures)
 
-value-advance-requires-3 : (t : ℕ) → value-lts.Need-advance-requires-3 (
-  advance-reads.Asked,
-  advance-reads.Learnt,
-  block-below t,
-  block.Post,
-  is-name-reads.Asked,
-  is-name-reads.Learnt,
-  refuse-reads.Asked,
-  refuse-reads.Learnt,
-) (value-at t) value.Post
+value-advance-requires-3 : (t : ℕ) → value-lts.Need-advance-requires-3 (value-claims t) (value-at t) value.Post
 value-advance-requires-3 t c κs = search needs
 
-value-returns-3 : (t : ℕ) → value-lts.Need-returns-3 (
-  advance-reads.Asked,
-  advance-reads.Learnt,
-  block-below t,
-  block.Post,
-  is-name-reads.Asked,
-  is-name-reads.Learnt,
-  refuse-reads.Asked,
-  refuse-reads.Learnt,
-) (value-at t) value.Post
+value-returns-3 : (t : ℕ) → value-lts.Need-returns-3 (value-claims t) (value-at t) value.Post
 value-returns-3 t c = value-autos (c .before .if3 .taken) (c .advance3 .ensures)
 
-value-advance-requires-4 : (t : ℕ) → value-lts.Need-advance-requires-4 (
-  advance-reads.Asked,
-  advance-reads.Learnt,
-  block-below t,
-  block.Post,
-  is-name-reads.Asked,
-  is-name-reads.Learnt,
-  refuse-reads.Asked,
-  refuse-reads.Learnt,
-) (value-at t) value.Post
+value-advance-requires-4 : (t : ℕ) → value-lts.Need-advance-requires-4 (value-claims t) (value-at t) value.Post
 value-advance-requires-4 t c κs = search needs
 
-value-block-requires : (t : ℕ) → value-lts.Need-block-requires (
-  advance-reads.Asked,
-  advance-reads.Learnt,
-  block-below t,
-  block.Post,
-  is-name-reads.Asked,
-  is-name-reads.Learnt,
-  refuse-reads.Asked,
-  refuse-reads.Learnt,
-) (value-at t) value.Post
+value-block-requires : (t : ℕ) → value-lts.Need-block-requires (value-claims t) (value-at t) value.Post
 value-block-requires t c κs = let w = went-on 1 tt _ _ _ (c .before .if4 .taken) (c .advance4 .ensures) in (omega arith, tt)
 
-value-returns-4 : (t : ℕ) → value-lts.Need-returns-4 (
-  advance-reads.Asked,
-  advance-reads.Learnt,
-  block-below t,
-  block.Post,
-  is-name-reads.Asked,
-  is-name-reads.Learnt,
-  refuse-reads.Asked,
-  refuse-reads.Learnt,
-) (value-at t) value.Post
+value-returns-4 : (t : ℕ) → value-lts.Need-returns-4 (value-claims t) (value-at t) value.Post
 value-returns-4 t c = value-trues (c .before .before .if4 .taken) (c .before .advance4 .ensures) (c .block .ensures)
 
-value-advance-requires-5 : (t : ℕ) → value-lts.Need-advance-requires-5 (
-  advance-reads.Asked,
-  advance-reads.Learnt,
-  block-below t,
-  block.Post,
-  is-name-reads.Asked,
-  is-name-reads.Learnt,
-  refuse-reads.Asked,
-  refuse-reads.Learnt,
-) (value-at t) value.Post
+value-advance-requires-5 : (t : ℕ) → value-lts.Need-advance-requires-5 (value-claims t) (value-at t) value.Post
 value-advance-requires-5 t c κs = search needs
 
-value-block-requires-2 : (t : ℕ) → value-lts.Need-block-requires-2 (
-  advance-reads.Asked,
-  advance-reads.Learnt,
-  block-below t,
-  block.Post,
-  is-name-reads.Asked,
-  is-name-reads.Learnt,
-  refuse-reads.Asked,
-  refuse-reads.Learnt,
-) (value-at t) value.Post
+value-block-requires-2 : (t : ℕ) → value-lts.Need-block-requires-2 (value-claims t) (value-at t) value.Post
 value-block-requires-2 t c κs = let w = went-on 2 tt _ _ _ (c .before .if5 .taken) (c .advance5 .ensures) in (omega arith, tt)
 
-value-returns-5 : (t : ℕ) → value-lts.Need-returns-5 (
-  advance-reads.Asked,
-  advance-reads.Learnt,
-  block-below t,
-  block.Post,
-  is-name-reads.Asked,
-  is-name-reads.Learnt,
-  refuse-reads.Asked,
-  refuse-reads.Learnt,
-) (value-at t) value.Post
+value-returns-5 : (t : ℕ) → value-lts.Need-returns-5 (value-claims t) (value-at t) value.Post
 value-returns-5 t c = value-falses (c .before .before .if5 .taken) (c .before .advance5 .ensures) (c .block2 .ensures)
 
-value-is-name-requires : (t : ℕ) → value-lts.Need-is-name-requires (
-  advance-reads.Asked,
-  advance-reads.Learnt,
-  block-below t,
-  block.Post,
-  is-name-reads.Asked,
-  is-name-reads.Learnt,
-  refuse-reads.Asked,
-  refuse-reads.Learnt,
-) (value-at t) value.Post
+value-is-name-requires : (t : ℕ) → value-lts.Need-is-name-requires (value-claims t) (value-at t) value.Post
 value-is-name-requires t c κs = search needs
 
-value-advance-requires-6 : (t : ℕ) → value-lts.Need-advance-requires-6 (
-  advance-reads.Asked,
-  advance-reads.Learnt,
-  block-below t,
-  block.Post,
-  is-name-reads.Asked,
-  is-name-reads.Learnt,
-  refuse-reads.Asked,
-  refuse-reads.Learnt,
-) (value-at t) value.Post
+value-advance-requires-6 : (t : ℕ) → value-lts.Need-advance-requires-6 (value-claims t) (value-at t) value.Post
 value-advance-requires-6 t c κs = search needs
 
-value-block-requires-3 : (t : ℕ) → value-lts.Need-block-requires-3 (
-  advance-reads.Asked,
-  advance-reads.Learnt,
-  block-below t,
-  block.Post,
-  is-name-reads.Asked,
-  is-name-reads.Learnt,
-  refuse-reads.Asked,
-  refuse-reads.Learnt,
-) (value-at t) value.Post
+value-block-requires-3 : (t : ℕ) → value-lts.Need-block-requires-3 (value-claims t) (value-at t) value.Post
 value-block-requires-3 t c κs = let h = sym (c .before .before .is-name .ensures) ∙ (c .before .if6 .taken) in let w = name-less h (name-taken h (c .advance6 .ensures)) in (omega arith, tt)
 
-value-returns-6 : (t : ℕ) → value-lts.Need-returns-6 (
-  advance-reads.Asked,
-  advance-reads.Learnt,
-  block-below t,
-  block.Post,
-  is-name-reads.Asked,
-  is-name-reads.Learnt,
-  refuse-reads.Asked,
-  refuse-reads.Learnt,
-) (value-at t) value.Post
+value-returns-6 : (t : ℕ) → value-lts.Need-returns-6 (value-claims t) (value-at t) value.Post
 value-returns-6 t c = value-names (sym (c .before .before .before .is-name .ensures) ∙ (c .before .before .if6 .taken)) (c .before .advance6 .ensures) (c .block3 .ensures)
 
-value-refuse-requires : (t : ℕ) → value-lts.Need-refuse-requires (
-  advance-reads.Asked,
-  advance-reads.Learnt,
-  block-below t,
-  block.Post,
-  is-name-reads.Asked,
-  is-name-reads.Learnt,
-  refuse-reads.Asked,
-  refuse-reads.Learnt,
-) (value-at t) value.Post
+value-refuse-requires : (t : ℕ) → value-lts.Need-refuse-requires (value-claims t) (value-at t) value.Post
 value-refuse-requires t c κs = search needs
 
-value-returns-7 : (t : ℕ) → value-lts.Need-returns-7 (
-  advance-reads.Asked,
-  advance-reads.Learnt,
-  block-below t,
-  block.Post,
-  is-name-reads.Asked,
-  is-name-reads.Learnt,
-  refuse-reads.Asked,
-  refuse-reads.Learnt,
-) (value-at t) value.Post
+value-returns-7 : (t : ℕ) → value-lts.Need-returns-7 (value-claims t) (value-at t) value.Post
 value-returns-7 t c = value-no (c .before .before .before .before .before .before .before .if1 .left) (c .before .before .before .before .before .before .if2 .left) (c .before .before .before .before .before .if3 .left) (c .before .before .before .before .if4 .left) (c .before .before .before .if5 .left) (sym (c .before .before .is-name .ensures) ∙ (c .before .if6 .left)) (c .refuse .ensures)
 
 pub +block+statement+statements+value-spec : {M : Type 1} → statement M
 +block+statement+statements+value-spec =
-    close μ-block μ-statement μ-statements μ-value (λ t. block-lts.spec (
-      advance-reads.Asked,
-      advance-reads.Learnt,
-      statements-below t,
-      statements.Post,
-      expect-reads.Asked,
-      expect-reads.Learnt,
-    )
+    close μ-block μ-statement μ-statements μ-value (λ t. block-lts.spec (block-claims t)
     (block-at t)
     block.Post
     (block-returns t)
@@ -468,16 +230,7 @@ pub +block+statement+statements+value-spec : {M : Type 1} → statement M
     (block-statements-requires t)
     (block-expect-requires t)
     (block-returns-2 t))
-    (λ t. statement-lts.spec (
-      expect-name-reads.Asked,
-      expect-name-reads.Learnt,
-      expect-reads.Asked,
-      expect-reads.Learnt,
-      value-below t,
-      value.Post,
-      finish-reads.Asked,
-      finish-reads.Learnt,
-    )
+    (λ t. statement-lts.spec (statement-claims t)
     (statement-at t)
     statement′.Post
     (statement-expect-name-requires t)
@@ -485,12 +238,7 @@ pub +block+statement+statements+value-spec : {M : Type 1} → statement M
     (statement-value-requires t)
     (statement-finish-requires t)
     (statement-returns t))
-    (λ t. statements-lts.spec (
-      is-name-reads.Asked,
-      is-name-reads.Learnt,
-      statement-below t,
-      statement′.Post,
-    )
+    (λ t. statements-lts.spec (statements-claims t)
     (statements-at t)
     statements.Post
     statements-Inv-loop
@@ -501,16 +249,7 @@ pub +block+statement+statements+value-spec : {M : Type 1} → statement M
     (statements-loop-less t)
     (statements-loop-again t)
     (statements-returns t))
-    λ t. value-lts.spec (
-      advance-reads.Asked,
-      advance-reads.Learnt,
-      block-below t,
-      block.Post,
-      is-name-reads.Asked,
-      is-name-reads.Learnt,
-      refuse-reads.Asked,
-      refuse-reads.Learnt,
-    )
+    λ t. value-lts.spec (value-claims t)
     (value-at t)
     value.Post
     (value-advance-requires t)

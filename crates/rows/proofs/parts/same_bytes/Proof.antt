@@ -1,7 +1,7 @@
 -- `rows::parts::same_bytes` meets its contract: comparing from i on gives what comparing from the start does.
 -- Assumes nothing.
 use native.Mathlib.Omega.{arith}
-use Rattle.rows.proofs.Comparisons.{same-lengths, same-more, same-stop, same-end}
+use Rattle.token.proofs.Codes.{different, same-next, same-stop, same-end}
 use Rattle.token.specs.Words.{same}
 use lib.ListN.{length, drop}
 use mathlib.Core.Path.{_≡_, refl, sym, _∙_}
@@ -18,7 +18,7 @@ abbrev μ-loop : tie.MeasureT-loop
 μ-loop a b i₀ i = length a - i
 
 returns : tie.Need-returns Inv-loop μ-loop
-returns c = sym (same-lengths _ _ (c .if1 .taken))
+returns c = sym (different _ _ (λ e. c .if1 .taken (sym e)))
 
 loop-holds : tie.Need-loop-holds Inv-loop μ-loop
 loop-holds c = ((c .if1 .left), omega arith, refl)
@@ -30,7 +30,7 @@ shared-slice-read-if2-2 : tie.Need-shared-slice-read-if2-2 Inv-loop μ-loop
 shared-slice-read-if2-2 c = omega arith
 
 returns-2 : tie.Need-returns-2 Inv-loop μ-loop
-returns-2 c = sym (same-stop _ _ (c .before .before .before .before .loop .i) (omega arith) (omega arith) (c .if2 .taken)) ∙ (c .before .before .before .before .loop .inv .2)
+returns-2 c = sym (same-stop _ _ 0 0 (c .before .before .before .before .loop .i) (omega arith) (omega arith) (c .if2 .taken)) ∙ (c .before .before .before .before .loop .inv .2)
 
 add-i : tie.Need-add-i Inv-loop μ-loop
 add-i c = omega arith
@@ -39,7 +39,7 @@ loop-less : tie.Need-loop-less Inv-loop μ-loop
 loop-less c = omega arith
 
 loop-again : tie.Need-loop-again Inv-loop μ-loop
-loop-again c = ((c .before .before .before .before .loop .inv .0), omega arith, sym (same-more _ _ (c .before .before .before .before .loop .i) (omega arith) (omega arith) (c .if2 .left)) ∙ (c .before .before .before .before .loop .inv .2))
+loop-again c = ((c .before .before .before .before .loop .inv .0), omega arith, sym (same-next _ _ 0 0 (c .before .before .before .before .loop .i) (omega arith) (omega arith) (c .if2 .left)) ∙ (c .before .before .before .before .loop .inv .2))
 
 returns-3 : tie.Need-returns-3 Inv-loop μ-loop
 returns-3 c = sym (same-end _ _ (c .before .loop .i) (omega arith) (omega arith)) ∙ (c .before .loop .inv .2)

@@ -3,7 +3,7 @@ use borrow.Author.Needs.{needs}
 use lib.ListN.{length}
 use Prim.Native.Nat.{_-_}
 use borrow.Author.Tests.{not-true, not-false}
-use Rattle.scopes.specs.Items.{num, integer-coded}
+use Rattle.scopes.specs.Items.{integer-coded}
 use Rattle.scopes.proofs.Ranging.{SeekingOut, out-start, out-stop, out-hit, out-on, out-end, turn-on}
 use Rattle.scopes.proofs.bounds.list_fault.Statement.{statement}
 use Rattle.scopes.proofs.bounds.list_fault.Tie as tie

@@ -1,6 +1,6 @@
 use native.Mathlib.Omega.{arith}
 use Prim.Native.Nat.{_-_, _≤_, _^_, _*_}
-use mathlib.Core.Path.{_≡_, refl, sym, _∙_, ap}
+use mathlib.Core.Path.{_≡_, refl, _∙_, ap}
 use Rattle.scopes.proofs.Deciding.{power-next, power-fits}
 use Rattle.scopes.proofs.numbers.power.Statement.{statement}
 use Rattle.scopes.proofs.numbers.power.Tie as tie

@@ -50,7 +50,7 @@ returns-2 c =
     let s = c .before .before .before .before .before .before .before in
     let l = c .before .before .before .loop in
     let b = short (s .args .k) (s .pre) in
-    sym (same-stop _ _ (l .j) (omega arith) (omega arith) (λ e. c .if2 .taken (e ∙ sym (letter-at (s .args .k) (l .j) (s .pre) (omega arith))))) ∙ l .inv .2
+    sym (same-stop _ _ 0 32 (l .j) (omega arith) (omega arith) (λ e. c .if2 .taken (e ∙ sym (letter-at (s .args .k) (l .j) (s .pre) (omega arith))))) ∙ l .inv .2
 
 add-j : tie.Need-add-j Inv-loop μ-loop
 add-j c = search needs
@@ -64,7 +64,7 @@ loop-again c =
     let l = c .before .before .before .loop in
     let b = short (s .args .k) (s .pre) in
     let e = letter-at (s .args .k) (l .j) (s .pre) (omega arith) in
-    (l .inv .0, omega arith, sym (same-next _ _ (l .j) (omega arith) (omega arith) (c .if2 .left ∙ e)) ∙ l .inv .2)
+    (l .inv .0, omega arith, sym (same-next _ _ 0 32 (l .j) (omega arith) (omega arith) (c .if2 .left ∙ e)) ∙ l .inv .2)
 
 returns-3 : tie.Need-returns-3 Inv-loop μ-loop
 returns-3 c =

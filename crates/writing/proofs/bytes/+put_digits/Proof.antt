@@ -22,69 +22,37 @@ abbrev put-digits-below : ℕ → In 1 put-digits-kinds.ps
 put-digits-below t =
     and 1 put-digits-kinds.ps (falls 1 put-digits-kinds.ps _<_ μ-put-digits t) put-digits.Pre
 
-put-digits-put-digit-requires : (t : ℕ) → put-digits-lts.Need-put-digit-requires (
-  put-digit-reads.Asked,
-  put-digit-reads.Learnt,
-  put-digits-below t,
-  put-digits.Post,
-) (put-digits-at t) put-digits.Post
-put-digits-put-digit-requires t c κs = search needs
-
-put-digits-same-length : (t : ℕ) → put-digits-lts.Need-same-length (
-  put-digit-reads.Asked,
-  put-digit-reads.Learnt,
-  put-digits-below t,
-  put-digits.Post,
-) (put-digits-at t) put-digits.Post
-put-digits-same-length t c = search needs
-
-put-digits-returns : (t : ℕ) → put-digits-lts.Need-returns (
-  put-digit-reads.Asked,
-  put-digit-reads.Learnt,
-  put-digits-below t,
-  put-digits.Post,
-) (put-digits-at t) put-digits.Post
-put-digits-returns t c = wrote-digit _ (omega arith) (c .before .before .put-digit .ensures)
-
-put-digits-put-digits-requires : (t : ℕ) → put-digits-lts.Need-put-digits-requires (
-  put-digit-reads.Asked,
-  put-digit-reads.Learnt,
-  put-digits-below t,
-  put-digits.Post,
-) (put-digits-at t) put-digits.Post
-put-digits-put-digits-requires t c κs = search needs
-
-put-digits-put-digit-requires-2 : (t : ℕ) → put-digits-lts.Need-put-digit-requires-2 (
-  put-digit-reads.Asked,
-  put-digit-reads.Learnt,
-  put-digits-below t,
-  put-digits.Post,
-) (put-digits-at t) put-digits.Post
-put-digits-put-digit-requires-2 t c κs = search needs
-
-put-digits-same-length-2 : (t : ℕ) → put-digits-lts.Need-same-length-2 (
-  put-digit-reads.Asked,
-  put-digit-reads.Learnt,
-  put-digits-below t,
-  put-digits.Post,
-) (put-digits-at t) put-digits.Post
-put-digits-same-length-2 t c = search needs
-
-put-digits-returns-2 : (t : ℕ) → put-digits-lts.Need-returns-2 (
-  put-digit-reads.Asked,
-  put-digit-reads.Learnt,
-  put-digits-below t,
-  put-digits.Post,
-) (put-digits-at t) put-digits.Post
-put-digits-returns-2 t c = wrote-digits ((c .before .before .before .before .before .before .before .before .before .before .args .amount)) (omega arith) (omega arith) (c .before .before .before .before .before .before .put-digits .ensures) (c .before .before .put-digit2 .ensures)
-
-pub +put-digits-spec : {M : Type 1} → statement M
-+put-digits-spec = close μ-put-digits λ t. put-digits-lts.spec (
+abbrev put-digits-claims : ℕ → put-digits-lts.Claims
+put-digits-claims t = (
   put-digit-reads.Asked,
   put-digit-reads.Learnt,
   put-digits-below t,
   put-digits.Post,
 )
+
+put-digits-put-digit-requires : (t : ℕ) → put-digits-lts.Need-put-digit-requires (put-digits-claims t) (put-digits-at t) put-digits.Post
+put-digits-put-digit-requires t c κs = search needs
+
+put-digits-same-length : (t : ℕ) → put-digits-lts.Need-same-length (put-digits-claims t) (put-digits-at t) put-digits.Post
+put-digits-same-length t c = search needs
+
+put-digits-returns : (t : ℕ) → put-digits-lts.Need-returns (put-digits-claims t) (put-digits-at t) put-digits.Post
+put-digits-returns t c = wrote-digit _ (omega arith) (c .before .before .put-digit .ensures)
+
+put-digits-put-digits-requires : (t : ℕ) → put-digits-lts.Need-put-digits-requires (put-digits-claims t) (put-digits-at t) put-digits.Post
+put-digits-put-digits-requires t c κs = search needs
+
+put-digits-put-digit-requires-2 : (t : ℕ) → put-digits-lts.Need-put-digit-requires-2 (put-digits-claims t) (put-digits-at t) put-digits.Post
+put-digits-put-digit-requires-2 t c κs = search needs
+
+put-digits-same-length-2 : (t : ℕ) → put-digits-lts.Need-same-length-2 (put-digits-claims t) (put-digits-at t) put-digits.Post
+put-digits-same-length-2 t c = search needs
+
+put-digits-returns-2 : (t : ℕ) → put-digits-lts.Need-returns-2 (put-digits-claims t) (put-digits-at t) put-digits.Post
+put-digits-returns-2 t c = wrote-digits ((c .before .before .before .before .before .before .before .before .before .before .args .amount)) (omega arith) (omega arith) (c .before .before .before .before .before .before .put-digits .ensures) (c .before .before .put-digit2 .ensures)
+
+pub +put-digits-spec : {M : Type 1} → statement M
++put-digits-spec = close μ-put-digits λ t. put-digits-lts.spec (put-digits-claims t)
     (put-digits-at t)
     put-digits.Post
     (put-digits-put-digit-requires t)
