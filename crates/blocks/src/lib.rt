@@ -2,7 +2,7 @@
 ghost use mathlib.Core.Path.{_≡_};
 ghost use Prim.Native.Nat.{_+_, _*_};
 ghost use lib.ListN.{getD};
-ghost use Rattle.blocks.specs.Blocks.{row-after, FindsStated, IsStated};
+ghost use Rattle.blocks.specs.Blocks.{row-after, FindsStated};
 use rows::Found;
 use rows::cells;
 use rows::parts;
@@ -43,14 +43,4 @@ pub fn stated(text: &[u8], st: &[usize], from: usize, end: usize, at: usize, len
         k = after(st, k, end);
     }
     Found::Nothing
-}
-
-// Whether a block has a statement with a name.
-pub fn is_stated(text: &[u8], st: &[usize], from: usize, end: usize, at: usize, len: usize) -> bool
-    ensures { λ r. ⌜ IsStated (now (text .entry)) (now (st .entry)) from end at len r ⌝ }
-{
-    match stated(text, st, from, end, at, len) {
-        Found::At(_) => true,
-        Found::Nothing => false,
-    }
 }

@@ -38,10 +38,11 @@ use Rattle.scopes.proofs.Finding.{seek-all, is-object, find-in-objects}
 use Rattle.scopes.proofs.Goodness.{Good, Goods, good-back, object-good, later-words}
 use Rattle.scopes.proofs.Descents.{Whole, whole}
 use Rattle.kinds.specs.Kinds.{kind-at, most-of}
-use Rattle.checks.specs.Listing.{each, object-row-faults}
+use Rattle.scopes.specs.Listing.{each}
+use Rattle.checks.specs.Listing.{object-row-faults}
 use Rattle.checks.specs.Cells.{fault-found, lacking-from, count-rows, full-of, cell, too-many, name-again, object-codes, room-fault}
 use Rattle.checks.specs.Promises.{ObjectFaults}
-use Rattle.checks.proofs.Firsts.{Has, here, there, has-none, has-left, has-right, has-split, in-if, if-in, Covered, covered, covered-by, first-same, Real, real-none, real-append, real-if, fault-append, fault-one, each-append, real-each, From, found-at, at-row}
+use Rattle.scopes.proofs.Firsts.{Has, here, there, has-none, has-left, has-right, has-split, in-if, if-in, Covered, covered, covered-by, first-same, Real, real-none, real-append, real-if, fault-append, fault-one, each-append, real-each, From, found-at, at-row}
 use Rattle.checks.proofs.Rows.{Stands, in-front, in-rest, stands, Item, item-at, nth-below, Front, front-of, get-at, nth-fault, fault-at, fault-nth, fault-past, real-nth, room-code, numbers-of, numbered, numbered-append, numbers-append, numbered-is}
 
 -- Kinds ------------------------------------------------------------------------------------------------------------------------------------

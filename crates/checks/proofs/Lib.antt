@@ -1,4 +1,3 @@
-pub mod Firsts
 pub mod Turns
 pub mod Rows
 pub mod Applications

@@ -15,7 +15,7 @@ use Rattle.meaning.proofs.Numbering.{Counts, counts-none, counts-more}
 use Rattle.scopes.specs.Situations.{Nth}
 use Rattle.scopes.specs.Promises.{fault-of}
 use Rattle.checks.specs.Cells.{cell, room-fault}
-use Rattle.checks.proofs.Firsts.{Has, Real, real-none, here, there, has-none}
+use Rattle.scopes.proofs.Firsts.{Has, Real, real-none, here, there, has-none}
 
 -- Lists ------------------------------------------------------------------------------------------------------------------------------------
 

@@ -31,9 +31,10 @@ use Rattle.scopes.specs.Promises.{fault-of}
 use Rattle.scopes.proofs.Goodness.{later-words}
 use Rattle.scopes.proofs.Runs.{run-le, cut, Ends, ends}
 use Rattle.scopes.proofs.Descents.{rows-of, Whole, whole}
-use Rattle.defining_checks.specs.Listing.{each, others-for, under-of, row-name-faults, row-faults, judged, judged-faults, kept-row-faults, list-of, choice-faults, again-faults}
+use Rattle.scopes.specs.Listing.{each}
+use Rattle.defining_checks.specs.Listing.{others-for, under-of, row-name-faults, row-faults, judged, judged-faults, kept-row-faults, list-of, choice-faults, again-faults}
 use Rattle.defining_checks.specs.Promises.{Room}
-use Rattle.defining_checks.proofs.Firsts.{Has, has-none, has-left, has-right, has-split, in-if, if-in, Covered, covered, covered-by, first-same, Real, real-none, real-append, real-if, fault-append, fault-one, each-append, real-each, From, found-at, at-row}
+use Rattle.scopes.proofs.Firsts.{Has, has-none, has-left, has-right, has-split, in-if, if-in, Covered, covered, covered-by, first-same, Real, real-none, real-append, real-if, fault-append, fault-one, each-append, real-each, From, found-at, at-row}
 use Rattle.defining_checks.proofs.Telling.{ApartSpecs, text-apart}
 use Rattle.defining_checks.proofs.Rowwise.{all-rows}
 use Rattle.defining_checks.proofs.Rising.{if-at, Rise, rise-back, rise-each, rise-specs, Ascend, ascend-back, ascend-each, ascend-specs}

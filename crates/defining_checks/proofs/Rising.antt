@@ -21,8 +21,9 @@ use Rattle.layout.specs.Kept.{Entry, Choice, list-key, entries, entries-under, 
 use Rattle.scopes.specs.Forms.{Formed, an-integer, a-string, a-boolean, an-enum, a-reference, AllFormed, none-formed, more-formed, AllFormedUnder, none-under, more-under}
 use Rattle.scopes.proofs.Forming.{FormedSpecs}
 use Rattle.scopes.proofs.Runs.{run-le, cut, Cuts, cuts}
-use Rattle.defining_checks.specs.Listing.{each, others-for, under-of, row-name-faults, row-faults, list-of, choice-faults}
-use Rattle.defining_checks.proofs.Firsts.{Has, has-none, has-split, in-if}
+use Rattle.scopes.specs.Listing.{each}
+use Rattle.defining_checks.specs.Listing.{others-for, under-of, row-name-faults, row-faults, list-of, choice-faults}
+use Rattle.scopes.proofs.Firsts.{Has, has-none, has-split, in-if}
 
 -- Where faults lie -----------------------------------------------------------------------------------------------------------------------------
 

@@ -23,8 +23,9 @@ use Rattle.layout.specs.Kept.{Entry, Choice, list-key, entries, entries-under, 
 use Rattle.scopes.specs.Situations.{NoneOf}
 use Rattle.scopes.proofs.Runs.{run-le, cut, Out, cuts}
 use Rattle.scopes.proofs.Lists.{none-append, none-in, none-of, length-choices, length-choices-of}
-use Rattle.defining_checks.specs.Listing.{each, keep-if, under-of, others-of, others-for, row-name-faults, row-faults, word-if, list-of, choice-faults, again-faults}
-use Rattle.defining_checks.proofs.Firsts.{each-append}
+use Rattle.scopes.specs.Listing.{each}
+use Rattle.defining_checks.specs.Listing.{keep-if, under-of, others-of, others-for, row-name-faults, row-faults, word-if, list-of, choice-faults, again-faults}
+use Rattle.scopes.proofs.Firsts.{each-append}
 use Rattle.defining_checks.proofs.Telling.{Apart, AllApart, none-apart, more-apart, AllApartUnder, none-under, more-under, ApartSpecs}
 use Rattle.defining_checks.proofs.Clearing.{Clear, clear-append, clear-in, clear-under, clear-list, under-clear, others-clear, list-none, under-append, others-append, list-append, under-more, others-more, others-for-more, under-own, others-own, own-heads}
 

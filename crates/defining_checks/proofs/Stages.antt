@@ -30,9 +30,10 @@ use Rattle.scopes.specs.Promises.{fault-of}
 use Rattle.scopes.proofs.Goodness.{later-words}
 use Rattle.scopes.proofs.Runs.{run-le, cut, Ends, ends}
 use Rattle.scopes.proofs.Descents.{Whole, whole}
-use Rattle.defining_checks.specs.Listing.{each, others-for, under-of, row-name-faults, row-faults, judged, judged-faults, kept-row-faults, list-of, choice-faults, again-faults}
+use Rattle.scopes.specs.Listing.{each}
+use Rattle.defining_checks.specs.Listing.{others-for, under-of, row-name-faults, row-faults, judged, judged-faults, kept-row-faults, list-of, choice-faults, again-faults}
 use Rattle.defining_checks.specs.Promises.{Room}
-use Rattle.defining_checks.proofs.Firsts.{Real, real-none, real-append, real-if, fault-append, fault-one, real-each}
+use Rattle.scopes.proofs.Firsts.{Real, real-none, real-append, real-if, fault-append, fault-one, real-each}
 use Rattle.defining_checks.proofs.Telling.{text-apart}
 use Rattle.defining_checks.proofs.Rowwise.{all-rows}
 use Rattle.defining_checks.proofs.Rising.{rise-specs, Ascend, ascend-specs}

@@ -30,9 +30,10 @@ use Rattle.scopes.proofs.Goodness.{Good, Goods, good-front, good-back, spec-goo
 use Rattle.scopes.proofs.Rooms.{definition-cell, choice-cell}
 use Rattle.scopes.proofs.Finding.{is-choice, find-in-enumerators}
 use Rattle.scopes.proofs.Descents.{whole}
-use Rattle.defining_checks.specs.Listing.{each, others-for, under-of, row-name-faults, judged-faults, kept-row-faults, word-if, list-of, choice-faults}
+use Rattle.scopes.specs.Listing.{each}
+use Rattle.defining_checks.specs.Listing.{others-for, under-of, row-name-faults, judged-faults, kept-row-faults, word-if, list-of, choice-faults}
 use Rattle.defining_checks.specs.Promises.{Room, AgainFault, first-again, NewTypeFault, NameFault, DefaultFault, RowFault, RowsFault, EnumeratorFault, EnumeratorsFault, version-code, DefinitionFaults}
-use Rattle.defining_checks.proofs.Firsts.{real-append, real-if, fault-append, fault-one, each-snoc, real-each}
+use Rattle.scopes.proofs.Firsts.{real-append, real-if, fault-append, fault-one, each-snoc, real-each}
 use Rattle.defining_checks.proofs.Reaching.{split, last-of}
 use Rattle.defining_checks.proofs.Covers.{row-is}
 use Rattle.defining_checks.proofs.Naming.{found-some, found-none, again-is}

@@ -18,7 +18,8 @@ use Rattle.meaning.specs.Defining.{defined-in, differs, definition-faults}
 use Rattle.layout.specs.Kept.{Entry, Choice, spec-entries, spec-choices, kept-definitions, kept-enumerators, again-place}
 use Rattle.scopes.specs.Situations.{Situation, Nth}
 use Rattle.scopes.specs.Promises.{fault-of}
-use Rattle.defining_checks.specs.Listing.{each, under-of, others-for, row-name-faults, judged-faults, kept-row-faults, choice-faults}
+use Rattle.scopes.specs.Listing.{each}
+use Rattle.defining_checks.specs.Listing.{under-of, others-for, row-name-faults, judged-faults, kept-row-faults, choice-faults}
 
 -- How many enumerators are kept, whether one is too many, and where that one stands.
 pub record Room (f : File) (m : ℕ) (full : Bool) (limit : ℕ) : Type 0 where

@@ -3,7 +3,6 @@ ghost use mathlib.Core.Path.{_≡_};
 ghost use Prim.Native.Nat.{_+_, _*_, min};
 ghost use lib.ListN.{getD};
 ghost use Rattle.blocks.specs.Blocks.{FindsStated};
-ghost use Rattle.scopes.specs.Promises.{FindsTruth};
 ghost use Rattle.lookups.specs.Ranks.{NotesRanks, NextRow, Skips, StatedRanked, RowStated, IsRowStated};
 ghost use Rattle.lookups.specs.Answers.{DefinitionIndexed, ObjectIndexed, EnumeratorIndexed, WordIndexed};
 use rows::Found;
@@ -54,23 +53,6 @@ pub fn find_enumerator(
     indexes::find_indexed(text, e, 3, 0, key, 1, at, len, x)
 }
 
-// The word TRUE or FALSE of the list of the BOOLEAN of row j that a word is; 0 for none.
-fn truth_under(text: &[u8], d: &[usize], j: usize, at: usize, len: usize) -> usize
-    ensures { λ r. ⌜ FindsTruth (now (text .entry)) (now (d .entry)) j at len r ⌝ }
-{
-    let first = blocks::cell_at(d, 19, j, 14);
-    let size = blocks::cell_at(d, 19, j, 15);
-    if parts::same_part(text, first, size, at, len) {
-        return first;
-    }
-    let second = blocks::cell_at(d, 19, j, 16);
-    let size2 = blocks::cell_at(d, 19, j, 17);
-    if parts::same_part(text, second, size2, at, len) {
-        return second;
-    }
-    0
-}
-
 // The value word of the list of the attribute of row j that a word is, 0 for none; x is the index of the enumerators.
 pub fn word_under(
     text: &[u8],
@@ -85,7 +67,7 @@ pub fn word_under(
 {
     let code = blocks::cell_at(d, 19, j, 12);
     if code == 40 {
-        return truth_under(text, d, j, at, len);
+        return scopes::lookups::truth_under(text, d, j, at, len);
     }
     if code != 41 {
         return 0;

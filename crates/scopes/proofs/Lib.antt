@@ -11,3 +11,4 @@ pub mod Answering
 pub mod Deciding
 pub mod Taking
 pub mod Ranging
+pub mod Firsts

@@ -4,3 +4,4 @@ pub mod Items
 pub mod Ranges
 pub mod Forms
 pub mod Promises
+pub mod Listing

@@ -2,7 +2,7 @@
 ghost use mathlib.Core.Path.{_≡_};
 ghost use Prim.Native.Nat.{_+_, _*_};
 ghost use lib.ListN.{getD};
-ghost use Rattle.scopes.specs.Promises.{FindsDefinition, FindsEnumerator, FindsWord, FindsObject, Takes, TakesNumber, FindsTruth, RangeFault};
+ghost use Rattle.scopes.specs.Promises.{FindsEnumerator, FindsWord, Takes, TakesNumber, FindsTruth, RangeFault};
 use super::Num;
 use super::bounds;
 use super::numbers;
@@ -18,34 +18,6 @@ pub fn cell_of(t: &[usize], width: usize, row: usize, column: usize) -> usize
 {
     let start = cells::row_start(t.len(), width, row);
     cells::cell(t, start, column)
-}
-
-// The definition that a name has in the scope of the word at key.
-pub fn find_definition(
-    text: &[u8],
-    d: &[usize],
-    definitions: usize,
-    key: usize,
-    at: usize,
-    len: usize,
-) -> Found
-    ensures { λ r. ⌜ FindsDefinition (now (text .entry)) (now (d .entry)) definitions key at len r ⌝ }
-{
-    finding::find_named(text, d, 19, definitions, 0, key, 2, at, len, 0)
-}
-
-// The object of a kind that has a name.
-pub fn find_object(
-    text: &[u8],
-    o: &[usize],
-    objects: usize,
-    kind: usize,
-    at: usize,
-    len: usize,
-) -> Found
-    ensures { λ r. ⌜ FindsObject (now (text .entry)) (now (o .entry)) objects kind at len r ⌝ }
-{
-    finding::find_named(text, o, 9, objects, 0, kind, 3, at, len, 0)
 }
 
 // The enumerator of the list of the ENUM of row j that a word is.
@@ -65,7 +37,7 @@ pub fn find_enumerator(
 }
 
 // The word TRUE or FALSE of the list of the BOOLEAN of row j that a word is; 0 for none.
-fn truth_under(text: &[u8], d: &[usize], j: usize, at: usize, len: usize) -> usize
+pub fn truth_under(text: &[u8], d: &[usize], j: usize, at: usize, len: usize) -> usize
     ensures { λ r. ⌜ FindsTruth (now (text .entry)) (now (d .entry)) j at len r ⌝ }
 {
     let first = cell_of(d, 19, j, 14);

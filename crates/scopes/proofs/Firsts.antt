@@ -17,8 +17,8 @@ use Rattle.rows.proofs.Orders as orders
 use Rattle.meaning.specs.Syntax.{Word}
 use Rattle.meaning.specs.Faults.{Fault, fault-if, ahead, sooner, first}
 use Rattle.meaning.proofs.Sooner.{Le, left-of, not-above, Lt, left, below, ahead-le, not-ahead, first-append}
 use Rattle.scopes.specs.Promises.{fault-of}
-use Rattle.checks.specs.Listing.{each}
+use Rattle.scopes.specs.Listing.{each}
 
 -- Membership -------------------------------------------------------------------------------------------------------------------------------
 
