@@ -2,7 +2,7 @@
 -- Assumes nothing.
 use Prim.Native.Nat.{ℕ, _+_, _*_, _≤_, _<_, min}
 use mathlib.Core.Path.{_≡_, refl, sym, ap, ap₂, _∙_, subst}
-use mathlib.Core.Bool.{Bool, true, false}
+use mathlib.Core.Bool.{Bool, true, false, false≢true}
 use mathlib.Core.List.{List}
 use native.Mathlib.Omega.{arith}
 use lib.ListN.{length, getD}
@@ -15,7 +15,7 @@ use Rattle.rows.specs.Search.{isFound}
 use Rattle.blocks.specs.Blocks.{row-after, FindsStated, IsStated}
 use Rattle.blocks.proofs.Ranges.{looking-start, looking-stop, looking-more, looking-end, is-stated, after-later, after-back, after-past, after-next}
 use Rattle.lookups.proofs.Notes.{row-place, row-size}
-use Rattle.lookups.specs.Ranks.{Ranked, nameOf, NextRow, Skips, StatedRanked, RowStated, IsRowStated}
+use Rattle.lookups.specs.Ranks.{Ranked, nameOf, NextRow, Skips, MayState, StatedRanked, RowStated, IsRowStated}
 
 -- the cases of the row after that of row k
 module _ (k v e : ℕ) where
@@ -67,6 +67,13 @@ module _ (st h : List ℕ) (a e g : ℕ) where
             let other = differ (same (partOf s at len) (nameOf s st 7 0 k)) (λ w. q (b .cell k j ∙ sym (c ∙ ap f (same-equal (partOf s at len) (nameOf s st 7 0 k) w)))) in
             z .finds s at len f i b c (finds-after s st k e at len i l other (subst (λ (v : ℕ). FindsStated s st v e at len i) y u));
       }
+
+  -- a row is left, or none is
+  pub may-state : MayState st h a e g true
+  may-state = record { none = λ s at len f b c q. absurd (false≢true (sym q)) }
+
+  pub states-nothing : (k : ℕ) → Skips st h a e g k → e ≤ k → MayState st h a e g false
+  states-nothing k z l = record { none = λ s at len f b c q. z .finds s at len f Nothing b c (finds-end s st k e at len l) }
 
 module _ (s st h : List ℕ) (a e at len g : ℕ) where
   -- what is found from row k on is what is found

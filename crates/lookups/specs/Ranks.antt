@@ -4,11 +4,12 @@
 -- Assumes nothing.
 use Prim.Native.Nat.{ℕ, _+_, _*_, _<_, _≤_}
 use mathlib.Core.Path.{_≡_}
-use mathlib.Core.Bool.{Bool}
+use mathlib.Core.Bool.{Bool, false}
 use mathlib.Core.List.{List}
 use lib.ListN.{length, getD}
 use Rattle.token.specs.Tokens.{partOf}
 use Rattle.rows.specs.declared.Found.{Found}
+use Rattle.rows.specs.declared.Found.the-variants.{Nothing}
 use Rattle.indexes.specs.Indexing.{Indexed, nameRank}
 use Rattle.blocks.specs.Blocks.{row-after, FindsStated, IsStated}
 
@@ -40,6 +41,10 @@ pub record Skips (st h : List ℕ) (a e g r : ℕ) : Type 0 where
   pub later : a ≤ r
   pub finds : (s : List ℕ) (at len : ℕ) (f : List ℕ → ℕ) (i : Found) → Ranked f s st 7 0 h → g ≡ f (partOf s at len) → FindsStated s st r e at len i
       → FindsStated s st a e at len i
+
+-- where r says no, no statement of the block from a to e has a name whose number is g, if h has the statements' numbers
+pub record MayState (st h : List ℕ) (a e g : ℕ) (r : Bool) : Type 0 where
+  pub none : (s : List ℕ) (at len : ℕ) (f : List ℕ → ℕ) → Ranked f s st 7 0 h → g ≡ f (partOf s at len) → r ≡ false → FindsStated s st a e at len Nothing
 
 -- r is the first statement of the block from a to e that has the name at a place, if h has the statements' numbers and g is that of the name
 unfoldable pub StatedRanked : List ℕ → List ℕ → List ℕ → (a e at len g : ℕ) → Found → Type 0

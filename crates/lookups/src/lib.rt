@@ -3,7 +3,7 @@ ghost use mathlib.Core.Path.{_≡_};
 ghost use Prim.Native.Nat.{_+_, _*_, min};
 ghost use lib.ListN.{getD};
 ghost use Rattle.blocks.specs.Blocks.{FindsStated};
-ghost use Rattle.lookups.specs.Ranks.{NotesRanks, NextRow, Skips, StatedRanked, RowStated, IsRowStated};
+ghost use Rattle.lookups.specs.Ranks.{NotesRanks, NextRow, Skips, MayState, StatedRanked, RowStated, IsRowStated};
 ghost use Rattle.lookups.specs.Answers.{DefinitionIndexed, ObjectIndexed, EnumeratorIndexed, WordIndexed};
 use rows::Found;
 use rows::cells;
@@ -139,6 +139,17 @@ fn skip(st: &[usize], h: &[usize], from: usize, end: usize, rank: usize) -> usiz
         k = next_row(k, st[k * 7 + 6], end);
     }
     k
+}
+
+// Whether a block may have a statement with a name, whose rank is given: no name is read. h has the statements' ranks.
+pub fn may_state(st: &[usize], h: &[usize], from: usize, end: usize, rank: usize) -> bool
+    ensures { λ r. ⌜ MayState (now (st .entry)) (now (h .entry)) from end rank r ⌝ }
+{
+    let k = skip(st, h, from, end, rank);
+    if k < end {
+        return true;
+    }
+    false
 }
 
 // The first statement of a block that has a name, whose rank is given; h has the statements' ranks. Statements of that rank are compared byte

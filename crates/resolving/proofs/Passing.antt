@@ -14,11 +14,11 @@ use Rattle.meaning.specs.Words.{among}
 use Rattle.meaning.specs.Scopes.{names}
 use Rattle.meaning.specs.Resolving.{resolve}
 use Rattle.indexes.specs.Indexing.{Indexed, Makes, nameRank}
-use Rattle.lookups.specs.Ranks.{NotesRanks, RowStated, IsRowStated}
+use Rattle.lookups.specs.Ranks.{nameOf, NotesRanks, RowStated, MayState}
 use Rattle.amounts.specs.Known.{KnownDefaults}
 use Rattle.layout.specs.Kept.{spec-entries, definition-cells, map-cells, join, kept, kept-definitions}
 use Rattle.blocks.specs.Blocks.{row-after, FindsStated, IsStated}
-use Rattle.blocks.proofs.Ranges.{after-later}
+use Rattle.blocks.proofs.Ranges.{after-later, is-stated}
 use Rattle.resolving.specs.declared.Sizes.{Sizes}
 use Rattle.resolving.specs.declared.Owner.{Owner as OwnerOf}
 use Rattle.resolving.specs.Noted.{NotesTo, NamesRanked, Rooms, Noted, Bare, no-default, not-taken, Quiet, elsewhere, silent, Defaults, Stirs, Elsewhere, NextUnder, Passes, NextRow}
@@ -34,10 +34,6 @@ module _ {s d st rs rd : List ℕ} (h : NamesRanked s d st rs rd) (j m e : ℕ) 
   pub finds-ranked : (r : Found) → RowStated s d 19 2 rd j st rs m e r → FindsStated s st m e (getD d (j * 19 + 2) 0) (getD d (j * 19 + 3) 0) r
   unfolding RowStated
   finds-ranked r f = f (h .rank) (h .definitions) (h .statements)
-
-  pub is-ranked : (r : Bool) → IsRowStated s d 19 2 rd j st rs m e r → IsStated s st m e (getD d (j * 19 + 2) 0) (getD d (j * 19 + 3) 0) r
-  unfolding IsRowStated
-  is-ranked r f = f (h .rank) (h .definitions) (h .statements)
 
 -- The row after a statement comes later.
 pub after-grows : (st : List ℕ) (i e next : ℕ) → next ≡ row-after st i e → i < e → i < next
@@ -65,10 +61,14 @@ none-stated {from = from} {till = till} at len h (state y inside rest) t b e = a
 pub stirs-none : {s d st : List ℕ} {key from till j p : ℕ} {q : Bool} → Defaults d p q → q ≡ false → till ≤ from → Stirs s d st key from till j p false
 stirs-none {j = j} k e h = record { quiet = λ _ p. silent (k .bare e j p) (none-stated _ _ h) }
 
-pub stirs-stated : {s d st rs rd : List ℕ} {key from till j p : ℕ} {q r : Bool} → NamesRanked s d st rs rd → Defaults d p q → q ≡ false
-    → IsRowStated s d 19 2 rd j st rs from till r → Stirs s d st key from till j p r
-stirs-stated {s} {d} {st} {rs} {rd} {key} {from} {till} {j} {p} {q} {r} h k e i = record {
-  quiet = λ no pe. silent (k .bare e j pe) (λ ss t b m. sym no ∙ is-ranked h j from till r i ss t b m);
+pub stirs-stated : {s d st rs rd : List ℕ} {key from till j p g : ℕ} {q r : Bool} → NamesRanked s d st rs rd → Defaults d p q → q ≡ false → j < length rd → g ≡ getD rd j 0
+    → MayState st rs from till g r → Stirs s d st key from till j p r
+unfolding nameOf
+stirs-stated {s} {d} {st} {rs} {rd} {key} {from} {till} {j} {p} {g} {q} {r} h k e l c i = record {
+  quiet = λ no pe.
+      silent (k .bare e j pe)
+      (is-stated (getD d (j * 19 + 2) 0) (getD d (j * 19 + 3) 0)
+      (i .none s (getD d (j * 19 + 2) 0) (getD d (j * 19 + 3) 0) (h .rank) (h .statements) (c ∙ h .definitions .cell j l) no));
 }
 
 -- Passing them -----------------------------------------------------------------------------------------------------------------------------

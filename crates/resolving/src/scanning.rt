@@ -44,7 +44,10 @@ fn stirs(
     if 64 < end - from {
         return true;
     }
-    lookups::is_row_stated(text, d, 19, 2, rd, j, st, rs, from, end)
+    if rd.len() <= j {
+        return true;
+    }
+    lookups::may_state(st, rs, from, end, rd[j])
 }
 
 // The first row from j on, below a limit, that stands under the word at key; the limit for none.

@@ -1,3 +1,4 @@
+use mathlib.Core.Path.{refl}
 use native.Mathlib.Omega.{arith}
 use Rattle.resolving.proofs.Passing.{stirs-yes, stirs-none, stirs-stated}
 use borrow.Author.Needs.{needs}
@@ -5,7 +6,7 @@ use Rattle.resolving.proofs.scanning.stirs.Statement.{statement}
 use Rattle.resolving.proofs.scanning.stirs.Tie as tie
 use Rattle.resolving.proofs.scanning.stirs.Reads as reads
 use Rattle.resolving.proofs.scanning.stirs.Lts as lts
-use Rattle.lookups.proofs.is_row_stated.Reads as is-row-stated-reads
+use Rattle.lookups.proofs.may_state.Reads as may-state-reads
 use Rattle.resolving.proofs.scanning.has_default.Reads as has-default-reads
 
 has-default-requires : tie.Need-has-default-requires
@@ -23,11 +24,20 @@ sub-if3 c = search needs
 returns-3 : tie.Need-returns-3
 returns-3 c = stirs-yes
 
-is-row-stated-requires : tie.Need-is-row-stated-requires
-is-row-stated-requires c κs = search needs
-
 returns-4 : tie.Need-returns-4
-returns-4 c = stirs-stated (c .before .before .before .before .before .before .before .before .before .before .pre .1) (c .before .before .before .before .has-default .ensures) (c .before .before .before .if1 .left) (c .is-row-stated .ensures)
+returns-4 c = stirs-yes
+
+mul-may-state : tie.Need-mul-may-state
+mul-may-state c = search needs
+
+shared-slice-read-may-state : tie.Need-shared-slice-read-may-state
+shared-slice-read-may-state c = search needs
+
+may-state-requires : tie.Need-may-state-requires
+may-state-requires c κs = search needs
+
+returns-5 : tie.Need-returns-5
+returns-5 c = stirs-stated ((c .before .before .before .before .before .before .before .before .before .before .before .before .pre) .1) (c .before .before .before .before .before .before .has-default .ensures) (c .before .before .before .before .before .if1 .left) (omega arith) refl (c .may-state .ensures)
 
 pub stirs-spec : {M : Type 1} → statement M
 stirs-spec =
@@ -38,5 +48,8 @@ stirs-spec =
     returns-2
     sub-if3
     returns-3
-    is-row-stated-requires
-    returns-4)
+    returns-4
+    mul-may-state
+    shared-slice-read-may-state
+    may-state-requires
+    returns-5)
