@@ -4,10 +4,9 @@ use mathlib.Core.List.{List, [], _∷_, _++_, append-assoc}
 use mathlib.Core.Bool.{Bool, true, false, not}
 use Prim.Native.Nat.{ℕ, _+_, _*_, _≤_, _<_, min}
 use native.Mathlib.Omega.{arith}
-use native.Mathlib.Decide.{ℕ-discrete}
 use lib.ListN.{length, getD}
 use lib.Dec.{eqb, ltb}
-use borrow.Author.Tests.{eq-eqb, ne-eqb}
+use borrow.Author.Tests.{eq-eqb}
 use Rattle.token.specs.Find.{pick, both, either}
 use Rattle.token.specs.Words.{same, bytesOf}
 use Rattle.token.specs.Tokens.{partOf}
@@ -38,6 +37,7 @@ use Rattle.defining_checks.proofs.Reaching.{split, last-of}
 use Rattle.defining_checks.proofs.Covers.{row-is}
 use Rattle.defining_checks.proofs.Naming.{found-some, found-none, again-is}
 use Rattle.defining_checks.proofs.Stages.{real-range, real-judged, real-row-name, real-row, real-choice, stage-is}
+use Rattle.token.proofs.Bytes.{eqb-sym}
 
 -- A row of a definition --------------------------------------------------------------------------------------------------------------------------
 
@@ -184,13 +184,6 @@ good-specs s [] g = tt
 good-specs s (x ∷ xs) g =
     good-append s (choices (x .definitions)) (spec-choices xs) (good-choices s (x .definitions) (good-front s (definition-words (x .definitions)) (spec-words xs) (g .1)))
     (good-specs s xs (good-back s (definition-words (x .definitions)) (spec-words xs) (g .1)))
-
-eqb-sym : (a b : ℕ) → eqb a b ≡ eqb b a
-eqb-sym a b = by (ℕ-discrete a b)
-  where
-    by : Dec (a ≡ b) → eqb a b ≡ eqb b a
-    by (yes e) = eq-eqb a b e ∙ sym (eq-eqb b a (sym e))
-    by (no n) = ne-eqb a b n ∙ sym (ne-eqb b a (λ e. n (sym e)))
 
 same-sym : (a b : List ℕ) → same a b ≡ same b a
 unfolding same

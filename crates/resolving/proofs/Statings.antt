@@ -4,10 +4,7 @@ use mathlib.Core.List.{List, [], _∷_}
 use mathlib.Core.Bool.{Bool, true, false, false≢true}
 use Prim.Native.Nat.{ℕ, suc, _+_, _*_, _≤_, _<_}
 use native.Mathlib.Omega.{arith}
-use native.Mathlib.Decide.{ℕ-discrete}
 use lib.ListN.{getD}
-use lib.Dec.{eqb}
-use borrow.Author.Tests.{eq-eqb, ne-eqb}
 use Rattle.token.specs.Find.{pick, both}
 use Rattle.token.specs.Words.{same}
 use Rattle.rows.specs.Search.{isFound}
@@ -27,15 +24,9 @@ use Rattle.resolving.specs.Promises.{stated-entries, Room, EntersStated,
 use Rattle.resolving.proofs.Turns.{name-at, row-stated, row-default}
 use Rattle.resolving.proofs.Entrances.{entries-none, entries-other, entries-more}
 use Rattle.resolving.proofs.Writes.{wrote-length, wrote-none, wrote-joins, wrote-same, joins-end, joins-joins}
+use Rattle.token.proofs.Bytes.{eqb-sym}
 
 -- The statements that have a name ----------------------------------------------------------------------------------------------------------
-
-eqb-sym : (a b : ℕ) → eqb a b ≡ eqb b a
-eqb-sym a b = by (ℕ-discrete a b)
-  where
-    by : Dec (a ≡ b) → eqb a b ≡ eqb b a
-    by (yes e) = eq-eqb a b e ∙ sym (eq-eqb b a (sym e))
-    by (no n) = ne-eqb a b n ∙ sym (ne-eqb b a (λ e. n (sym e)))
 
 same-sym : (a b : List ℕ) → same a b ≡ same b a
 unfolding same

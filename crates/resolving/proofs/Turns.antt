@@ -25,7 +25,9 @@ use Rattle.resolving.specs.declared.Owner.{Owner as OwnerOf}
 use Rattle.resolving.specs.Tables.{Tables, Given, Attribute, Below, rows-of, Left}
 use Rattle.resolving.specs.Written.{Wrote, Owns}
 use Rattle.resolving.specs.Promises.{inner-of, stated-entries, default-entries, Room, ResolvesStated, ResolvesDefault, Turn, ResolvesRow, ResolvesUnder, Resolves}
-use Rattle.resolving.proofs.Standings.{stands-at, file-scope, rows-are-specs, file-stands, words-definition}
+use Rattle.scopes.proofs.Descents.{scope-facts}
+use Rattle.lookups.proofs.Standings.{stands-at, file-stands, words-definition}
+use Rattle.resolving.proofs.Standings.{rows-are-specs}
 use Rattle.resolving.proofs.Writes.{wrote-none, wrote-length, wrote-joins, wrote-same, joins-end, joins-joins}
 
 -- The row of an attribute -------------------------------------------------------------------------------------------------------------------
@@ -170,7 +172,7 @@ left-start {s} {f} {u} {ds} p q = record {
   rest = spec-entries (f .specs);
   whole = refl;
   place = refl;
-  selected = ap (select (u .place) 0) (rows-are-specs (f .specs)) ∙ file-scope p q;
+  selected = ap (select (u .place) 0) (rows-are-specs (f .specs)) ∙ scope-facts p q .scope;
   stands = q;
   among = λ x h. h;
 }

@@ -5,9 +5,8 @@ use Prim.Native.Nat.{ℕ, suc, _+_, _*_, _<_}
 use native.Mathlib.Omega.{arith}
 use lib.ListN.{length, getD}
 use Rattle.meaning.specs.Syntax.{Object, File, statements-in}
-use Rattle.layout.specs.Kept.{Entry, Choice, definition-cells, choice-cells, object-cells, object-rows, spec-entries, spec-choices, map-cells, kept, kept-definitions, kept-enumerators, kept-objects}
+use Rattle.layout.specs.Kept.{Entry, Choice, definition-cells, choice-cells, object-cells, object-rows, spec-entries, spec-choices, map-cells, kept, kept-definitions, kept-enumerators, kept-objects, Wide}
 use Rattle.scopes.specs.Situations.{Nth}
-pub use Rattle.layout.specs.Kept.{Wide}
 use Rattle.layout.proofs.Lengths.{map-append, length-map, wide-map, definition-wide, object-wide}
 use Rattle.layout.proofs.Cells.{cell-kept}
 
