@@ -31,7 +31,7 @@ use Rattle.meaning.proofs.Numbering.{Counts, statement-numbers, object-numbers,
 use Rattle.layout.specs.Kept.{statement-cells, statement-rows, all-statement-rows, object-cells, kept-objects, kept-statements, statement-count, Wide}
 use Rattle.scopes.specs.Situations.{Situation, Nth}
 use Rattle.scopes.specs.Promises.{fault-of}
-use Rattle.scopes.proofs.Rooms.{kept-cell, object-cell}
+use Rattle.scopes.proofs.Rooms.{kept-cell, object-cell, split}
 use Rattle.scopes.proofs.Finding.{seek-all, is-object, find-in-objects}
 use Rattle.scopes.proofs.Goodness.{Good, Goods, good-back, object-good, later-words}
 use Rattle.scopes.proofs.Descents.{whole}
@@ -41,7 +41,7 @@ use Rattle.checks.specs.Listing.{object-row-faults}
 use Rattle.checks.specs.Cells.{fault-found, lacking-from, count-rows, full-of, cell, too-many, name-again, object-codes, room-fault}
 use Rattle.checks.specs.Promises.{ObjectFaults}
 use Rattle.scopes.proofs.Firsts.{Has, here, there, has-none, has-left, has-right, has-split, in-if, Covered, covered, covered-by, first-same, Real, real-none, real-append, real-if, fault-append, fault-one, real-each, found-at, at-row}
-use Rattle.checks.proofs.Rows.{Stands, in-front, in-rest, stands, item-at, front-of, get-at, nth-fault, fault-nth, real-nth, room-code, numbers-of, numbered, numbered-append, numbers-append, numbered-is}
+use Rattle.checks.proofs.Rows.{Stands, in-front, in-rest, stands, item-at, get-at, nth-fault, fault-nth, real-nth, room-code, numbers-of, numbered, numbered-append, numbers-append, numbered-is}
 use Rattle.token.proofs.Bytes.{eqb-sym}
 
 -- Kinds ------------------------------------------------------------------------------------------------------------------------------------
@@ -571,7 +571,7 @@ pub objects-answer : (s o st : List ℕ) (n m : ℕ) (cs : List ℕ) (cpu l : �
 unfolding found
 objects-answer s o st n m cs cpu l a b c d x y r e₁ e₂ e₃ e₄ e₅ e₆ e₇ e₈ f k h₁ h₂ h₃ h₄ h₅ h₆ =
     let os = f .objects in
-    let u = front-of os l (omega (arith, e₂, h₃)) in
+    let u = split os l (omega (arith, e₂, h₃)) in
     let many = u .many in
     let total : length os ≡ length (u .front) + length (u .rest) = ap length (u .whole) ∙ length-append (u .front) (u .rest) in
     let A = too-few kinds os (f .cpu) in

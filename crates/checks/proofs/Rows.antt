@@ -47,20 +47,6 @@ item-at (x ∷ l) (suc j) h =
     let n = r .nth in
     record { item = r .item; nth = record { front = x ∷ n .front; rest = n .rest; whole = ap (λ u. x ∷ u) (n .whole); place = ap suc (n .place) } }
 
--- The first n elements, and the others.
-pub record Front {A : Type 0} (l : List A) (n : ℕ) : Type 0 where
-  pub front : List A
-  pub rest : List A
-  pub whole : l ≡ front ++ rest
-  pub many : length front ≡ n
-
-pub front-of : {A : Type 0} (l : List A) (n : ℕ) → n ≤ length l → Front l n
-front-of l zero h = record { front = []; rest = l; whole = refl; many = refl }
-front-of [] (suc n) h = absurd (omega arith)
-front-of (x ∷ l) (suc n) h =
-    let r = front-of l n (omega arith) in
-    record { front = x ∷ r .front; rest = r .rest; whole = ap (λ u. x ∷ u) (r .whole); many = ap suc (r .many) }
-
 pub get-at : {A : Type 0} (a : List A) (x : A) (b : List A) (d : A) → getD (a ++ (x ∷ b)) (length a) d ≡ x
 get-at [] x b d = refl
 get-at (y ∷ a) x b d = get-at a x b d

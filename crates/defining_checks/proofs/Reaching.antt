@@ -20,22 +20,9 @@ use Rattle.defining_checks.specs.Promises.{Room}
 use Rattle.defining_checks.proofs.Rising.{Ascend, ascend-le, ascend-back, ascend-of}
 use Rattle.defining_checks.proofs.Rowwise.{none-list}
 use Rattle.meaning.proofs.Runs.{run-le, cut, Cuts, cuts}
+use Rattle.scopes.proofs.Rooms.{split}
 
 -- Splits ---------------------------------------------------------------------------------------------------------------------------------------
-
--- The first n, and the rest.
-pub record Split {A : Type 0} (l : List A) (n : ℕ) : Type 0 where
-  pub front : List A
-  pub rest : List A
-  pub whole : l ≡ front ++ rest
-  pub many : length front ≡ n
-
-pub split : {A : Type 0} (l : List A) (n : ℕ) → n ≤ length l → Split l n
-split l zero h = record { front = []; rest = l; whole = refl; many = refl }
-split [] (suc n) h = absurd (omega arith)
-split (x ∷ l) (suc n) h =
-    let r = split l n (omega arith) in
-    record { front = x ∷ r .front; rest = r .rest; whole = ap (λ m. x ∷ m) (r .whole); many = ap suc (r .many) }
 
 -- All but the last, and the last.
 pub record Last {A : Type 0} (l : List A) (n : ℕ) : Type 0 where

@@ -6,7 +6,7 @@ use mathlib.Core.Option.{Option, none, some}
 use Prim.Native.Nat.{ℕ, zero, suc, _+_, _*_, _≤_, _<_}
 use native.Mathlib.Omega.{arith}
 use native.Mathlib.Decide.{ℕ-discrete, decLt}
-use lib.ListN.{length, length-append, getD, set, drop, List·getD-append}
+use lib.ListN.{length, getD, set, drop, List·getD-append}
 use lib.Seq.{getD-set-same, getD-set-other, sets, sets-eq}
 use lib.Dec.{eqb}
 use borrow.Author.Tests.{eq-eqb, ne-eqb, eqb-true}
@@ -37,6 +37,7 @@ use Rattle.judging.proofs.Standings.{in-scope}
 use Rattle.judging.proofs.Tables.{cell-under, cell-name, cell-size, cell-list, cell-default, cell-default-size, cell-default-code}
 use Rattle.token.proofs.Bytes.{both-false}
 use Rattle.meaning.proofs.Unders.{lacks-there}
+use Rattle.scopes.proofs.Rooms.{nth-low}
 
 -- Some and none ----------------------------------------------------------------------------------------------------------------------------
 
@@ -255,13 +256,10 @@ all-reached {f = f} c vs =
 -- A row's number is below the count.
 pub row-less : {s d e o st : List ℕ} {z : Sizes} {f : File} {u : Word} {ds : Definitions} {x : Defined} → Case s d e o st z f → Stands (f .specs) u ds → HasDefinition ds x
     → x .definition .row < z .definitions
-row-less {f = f} {u = u} {x = x} c q h =
+row-less c q h =
     let y = stands-at (c .situation) q h in
-    let n = y .nth in
     let a = c .definition-count in
-    let b = n .place in
-    let l = ap (λ l. length l) (n .whole) in
-    let m = length-append (n .front) (record { under = u; outer = y .outer; definition = x .definition; values = x .values } ∷ n .rest) in
+    let b = nth-low (y .nth) in
     omega arith
 
 pub row-room : {s d e o st : List ℕ} {z : Sizes} {f : File} {u : Word} {ds : Definitions} {x : Defined} (j : ℕ) → Case s d e o st z f → Stands (f .specs) u ds → HasDefinition ds x

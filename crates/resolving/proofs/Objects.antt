@@ -21,7 +21,7 @@ use Rattle.resolving.specs.Promises.{Resolves, Places, ResolvesAll}
 use Rattle.layout.proofs.Codes.{kind-low}
 use Rattle.scopes.proofs.Descents.{scope-of-kind}
 use Rattle.lookups.proofs.Standings.{stands-at}
-use Rattle.resolving.proofs.Turns.{nth-low}
+use Rattle.scopes.proofs.Rooms.{nth-low}
 use Rattle.resolving.proofs.Entrances.{none-below}
 use Rattle.resolving.proofs.Writes.{wrote-first, wrote-next, all-length}
 
