@@ -3,13 +3,11 @@ use mathlib.Core.Path.{_≡_, refl, sym, _∙_, ap, ap₂, subst}
 use mathlib.Core.List.{List, [], _∷_, _++_, append-assoc, append-nil}
 use mathlib.Core.Bool.{Bool, true, false}
 use mathlib.Core.Option.{Option, none, some}
-use mathlib.Core.Logic.{_⊎_, inl, inr, ⊎-elim}
-use Prim.Native.Nat.{ℕ, zero, suc, _+_, _*_, _-_, _≤_, _<_, min}
+use mathlib.Core.Logic.{⊎-elim}
+use Prim.Native.Nat.{ℕ, suc, _+_, _*_, _≤_, _<_, min}
 use native.Mathlib.Omega.{arith}
-use native.Mathlib.Decide.{ℕ-discrete, decLt, decLe}
 use lib.ListN.{length, getD, length-append}
-use lib.Dec.{eqb, ltb, leb}
-use borrow.Author.Tests.{eq-eqb, ne-eqb, eqb-true}
+use lib.Dec.{eqb, ltb}
 use Rattle.token.specs.Find.{pick, both}
 use Rattle.token.specs.Words.{same}
 use Rattle.token.specs.Tokens.{partOf}
@@ -27,23 +25,24 @@ use Rattle.meaning.specs.Scopes.{is-there, find-object}
 use Rattle.meaning.specs.Faults.{Fault, fault-if, first, sooner}
 use Rattle.meaning.specs.Applying.{one-if, how-many, counts-of, counts, too-few, full, statement-faults, each-object, object-faults}
 use Rattle.meaning.proofs.Order.{InOrder, sub-behind, sub-all, drop, ordered-sub}
-use Rattle.meaning.proofs.Sooner.{Le, left-of}
+use Rattle.meaning.proofs.Sooner.{left-of}
 use Rattle.meaning.proofs.Sites.{statement-words, object-words, spec-words}
 use Rattle.meaning.proofs.Numbering.{Counts, statement-numbers, object-numbers, all-statement-numbers}
-use Rattle.layout.specs.Kept.{statement-cells, statement-rows, all-statement-rows, object-cells, kept, kept-objects, kept-statements, statement-count, map-cells}
+use Rattle.layout.specs.Kept.{statement-cells, statement-rows, all-statement-rows, object-cells, kept-objects, kept-statements, statement-count, Wide}
 use Rattle.scopes.specs.Situations.{Situation, Nth}
 use Rattle.scopes.specs.Promises.{fault-of}
-use Rattle.scopes.proofs.Rooms.{Wide, kept-cell, object-row, object-cell}
+use Rattle.scopes.proofs.Rooms.{kept-cell, object-cell, split}
 use Rattle.scopes.proofs.Finding.{seek-all, is-object, find-in-objects}
 use Rattle.scopes.proofs.Goodness.{Good, Goods, good-back, object-good, later-words}
-use Rattle.scopes.proofs.Descents.{Whole, whole}
+use Rattle.scopes.proofs.Descents.{whole}
 use Rattle.kinds.specs.Kinds.{kind-at, most-of}
 use Rattle.scopes.specs.Listing.{each}
 use Rattle.checks.specs.Listing.{object-row-faults}
 use Rattle.checks.specs.Cells.{fault-found, lacking-from, count-rows, full-of, cell, too-many, name-again, object-codes, room-fault}
 use Rattle.checks.specs.Promises.{ObjectFaults}
-use Rattle.scopes.proofs.Firsts.{Has, here, there, has-none, has-left, has-right, has-split, in-if, if-in, Covered, covered, covered-by, first-same, Real, real-none, real-append, real-if, fault-append, fault-one, each-append, real-each, From, found-at, at-row}
-use Rattle.checks.proofs.Rows.{Stands, in-front, in-rest, stands, Item, item-at, nth-below, Front, front-of, get-at, nth-fault, fault-at, fault-nth, fault-past, real-nth, room-code, numbers-of, numbered, numbered-append, numbers-append, numbered-is}
+use Rattle.scopes.proofs.Firsts.{Has, here, there, has-none, has-left, has-right, has-split, in-if, Covered, covered, covered-by, first-same, Real, real-none, real-append, real-if, fault-append, fault-one, real-each, found-at, at-row}
+use Rattle.checks.proofs.Rows.{Stands, in-front, in-rest, stands, item-at, get-at, nth-fault, fault-nth, real-nth, room-code, numbers-of, numbered, numbered-append, numbers-append, numbered-is}
+use Rattle.token.proofs.Bytes.{eqb-sym}
 
 -- Kinds ------------------------------------------------------------------------------------------------------------------------------------
 
@@ -67,13 +66,6 @@ full-most : (m : Option ℕ) (n : ℕ) → full-of (most-of m) n ≡ full m n
 unfolding full-of most-of full
 full-most none n = refl
 full-most (some m) n = refl
-
-eqb-sym : (a b : ℕ) → eqb a b ≡ eqb b a
-eqb-sym a b = by (ℕ-discrete a b)
-  where
-    by : Dec (a ≡ b) → eqb a b ≡ eqb b a
-    by (yes e) = eq-eqb a b e ∙ sym (eq-eqb b a (sym e))
-    by (no n) = ne-eqb a b n ∙ sym (ne-eqb b a (λ e. n (sym e)))
 
 -- 17 at the CPU's name -----------------------------------------------------------------------------------------------------------------------
 
@@ -579,7 +571,7 @@ pub objects-answer : (s o st : List ℕ) (n m : ℕ) (cs : List ℕ) (cpu l : �
 unfolding found
 objects-answer s o st n m cs cpu l a b c d x y r e₁ e₂ e₃ e₄ e₅ e₆ e₇ e₈ f k h₁ h₂ h₃ h₄ h₅ h₆ =
     let os = f .objects in
-    let u = front-of os l (omega (arith, e₂, h₃)) in
+    let u = split os l (omega (arith, e₂, h₃)) in
     let many = u .many in
     let total : length os ≡ length (u .front) + length (u .rest) = ap length (u .whole) ∙ length-append (u .front) (u .rest) in
     let A = too-few kinds os (f .cpu) in

@@ -1,17 +1,16 @@
 -- Rows by their numbers: lists cut in two ways, and the fault at the row that is one too many. Assumes nothing.
 use mathlib.Core.Path.{_≡_, refl, sym, _∙_, ap, ap₂, subst}
-use mathlib.Core.List.{List, [], _∷_, _++_, append-assoc, append-nil}
-use mathlib.Core.Bool.{Bool, true, false}
-use Prim.Native.Nat.{ℕ, zero, suc, _+_, _*_, _-_, _≤_, _<_}
+use mathlib.Core.List.{List, [], _∷_, _++_, append-assoc}
+use Prim.Native.Nat.{ℕ, zero, suc, _-_, _≤_, _<_}
 use native.Mathlib.Omega.{arith}
 use native.Mathlib.Decide.{ℕ-discrete, decLt}
-use lib.ListN.{length, getD, length-append}
-use lib.Dec.{eqb, ltb}
+use lib.ListN.{length, getD}
+use lib.Dec.{eqb}
 use borrow.Author.Tests.{lt-ltb, le-ltb, eq-eqb, ne-eqb}
 use Rattle.rows.specs.Order.{faultIf}
 use Rattle.meaning.specs.Syntax.{Word}
 use Rattle.meaning.specs.Faults.{Fault, fault-if, sooner, first}
-use Rattle.meaning.proofs.Numbering.{Counts, counts-none, counts-more}
+use Rattle.meaning.proofs.Numbering.{Counts, counts-more}
 use Rattle.scopes.specs.Situations.{Nth}
 use Rattle.scopes.specs.Promises.{fault-of}
 use Rattle.checks.specs.Cells.{cell, room-fault}
@@ -47,27 +46,6 @@ item-at (x ∷ l) (suc j) h =
     let r = item-at l j (omega arith) in
     let n = r .nth in
     record { item = r .item; nth = record { front = x ∷ n .front; rest = n .rest; whole = ap (λ u. x ∷ u) (n .whole); place = ap suc (n .place) } }
-
-pub nth-below : {A : Type 0} {l : List A} {j : ℕ} {x : A} → Nth l j x → j < length l
-nth-below {l = l} {x = x} n =
-    let e : length l ≡ length (n .front ++ (x ∷ n .rest)) = ap length (n .whole) in
-    let g = length-append (n .front) (x ∷ n .rest) in
-    let p = n .place in
-    omega arith
-
--- The first n elements, and the others.
-pub record Front {A : Type 0} (l : List A) (n : ℕ) : Type 0 where
-  pub front : List A
-  pub rest : List A
-  pub whole : l ≡ front ++ rest
-  pub many : length front ≡ n
-
-pub front-of : {A : Type 0} (l : List A) (n : ℕ) → n ≤ length l → Front l n
-front-of l zero h = record { front = []; rest = l; whole = refl; many = refl }
-front-of [] (suc n) h = absurd (omega arith)
-front-of (x ∷ l) (suc n) h =
-    let r = front-of l n (omega arith) in
-    record { front = x ∷ r .front; rest = r .rest; whole = ap (λ u. x ∷ u) (r .whole); many = ap suc (r .many) }
 
 pub get-at : {A : Type 0} (a : List A) (x : A) (b : List A) (d : A) → getD (a ++ (x ∷ b)) (length a) d ≡ x
 get-at [] x b d = refl

@@ -1,20 +1,21 @@
 -- Of which rows none stands under a word, or is of a list, by the places of words. Assumes nothing.
 use mathlib.Core.Path.{_≡_, refl, sym, _∙_, ap, ap₂}
 use mathlib.Core.List.{List, [], _∷_, _++_, append-assoc, append-nil}
-use mathlib.Core.Bool.{Bool, true, false, not}
-use Prim.Native.Nat.{ℕ, zero, suc, _+_, _≤_, _<_}
+use mathlib.Core.Bool.{true, not}
+use Prim.Native.Nat.{ℕ, suc, _<_}
 use native.Mathlib.Omega.{arith}
 use lib.Dec.{eqb}
 use borrow.Author.Tests.{eq-eqb, ne-eqb}
 use Rattle.token.specs.Find.{pick, both}
-use Rattle.meaning.specs.Syntax.{Word, Definition, Definitions, no-more, define, Values, no-value, value, Spec}
+use Rattle.meaning.specs.Syntax.{Word, Definition, Definitions, no-more, define, Values, no-value, value}
 use Rattle.meaning.specs.Scopes.{heads}
 use Rattle.meaning.proofs.Standing.{Run}
-use Rattle.meaning.proofs.Sites.{definition-words, value-words, spec-words}
-use Rattle.layout.specs.Kept.{Entry, Choice, list-key, entries, entries-under, spec-entries}
+use Rattle.meaning.proofs.Sites.{definition-words, value-words}
+use Rattle.layout.specs.Kept.{Entry, Choice, list-key, entries, entries-under}
 use Rattle.scopes.specs.Situations.{NoneOf}
-use Rattle.scopes.proofs.Runs.{run-le, cut, Out, cuts}
 use Rattle.defining_checks.specs.Listing.{keep-if, under-of, others-of, others-for, word-if, list-of}
+use Rattle.token.proofs.Bytes.{both-false}
+use Rattle.meaning.proofs.Runs.{run-le, cut, Out, cuts}
 
 -- No row is under the word at x, or under a value of the list with the key x.
 abbrev pub Clear : ℕ → List Entry → Type 0
@@ -63,23 +64,7 @@ mutual
 pub clear-list : (vs : Values) (lo hi x : ℕ) → Run lo (value-words vs) hi → Out x lo hi → Clear x (entries-under vs (list-key vs))
 clear-list vs lo hi x r out = by-key vs lo hi x r out (λ n. clear-under vs (list-key vs) lo hi x r n out)
 
-pub clear-specs : (xs : List Spec) (lo hi x : ℕ) → Run lo (spec-words xs) hi → 0 < lo → 0 < x → Out x lo hi → Clear x (spec-entries xs)
-unfolding spec-entries spec-words
-clear-specs [] lo hi x r z n out = tt
-clear-specs (y ∷ ys) lo hi x r z n out =
-    let i = r .0 in
-    let k = cut (definition-words (y .definitions)) (spec-words ys) (suc (y .word .place)) hi (r .1) in
-    let l = run-le (definition-words (y .definitions)) (k .front) in
-    let m = run-le (spec-words ys) (k .back) in
-    clear-append (entries (y .definitions) (y .word) 0) x (spec-entries ys)
-    (clear-in (y .definitions) (y .word) 0 (suc (y .word .place)) (k .mid) x (k .front) (out (y .word .place) i (omega arith)) (λ e. omega arith) (λ v p q. out v (omega arith) (omega arith)))
-    (clear-specs ys (k .mid) hi x (k .back) (omega arith) n (λ v p q. out v (omega arith) q))
-
 -- What such rows have ------------------------------------------------------------------------------------------------------------------------
-
-both-no : (b : Bool) → both b false ≡ false
-both-no true = refl
-both-no false = refl
 
 pub under-clear : (p : ℕ) (l : List Entry) → Clear p l → under-of p l ≡ []
 unfolding under-of keep-if
@@ -138,7 +123,7 @@ pub others-own : (o : ℕ) (x : Entry) → others-of o (x .under .place) (x ∷ 
 unfolding others-of keep-if
 others-own o x =
     ap (λ b. keep-if (both (eqb (x .outer) o) (not b)) (x .definition) ++ []) (eq-eqb (x .under .place) (x .under .place) refl)
-    ∙ ap (λ b. keep-if b (x .definition) ++ []) (both-no (eqb (x .outer) o))
+    ∙ ap (λ b. keep-if b (x .definition) ++ []) (both-false (eqb (x .outer) o))
 
 -- The rows under one value of a list, for another value: those of its own scope.
 pub own-heads : (ds : Definitions) (w : Word) (key p lo hi : ℕ) → Run lo (definition-words ds) hi → key < lo → (w .place ≡ p → ⊥) → others-of key p (entries ds w key) ≡ heads ds

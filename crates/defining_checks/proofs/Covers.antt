@@ -1,56 +1,35 @@
 -- The rows that are kept answer as all rows do: where a row is past the room, the row that is one too many stands before it. Assumes nothing.
-use mathlib.Core.Path.{_≡_, refl, sym, _∙_, ap, ap₂, subst}
-use mathlib.Core.List.{List, [], _∷_, _++_, append-assoc, append-nil}
+use mathlib.Core.Path.{_≡_, refl, sym, _∙_, ap, subst}
+use mathlib.Core.List.{List, [], _∷_, _++_, append-assoc}
 use mathlib.Core.Bool.{Bool, true, false, not, false≢true}
 use mathlib.Core.Option.{Option, none, some}
 use mathlib.Core.Logic.{_⊎_, inl, inr, ⊎-elim}
-use Prim.Native.Nat.{ℕ, zero, suc, _+_, _≤_, _<_, min}
+use Prim.Native.Nat.{ℕ, suc, _+_, _≤_, _<_, min}
 use native.Mathlib.Omega.{arith}
 use native.Mathlib.Decide.{decLt}
 use lib.ListN.{length, length-append}
-use lib.Dec.{eqb, ltb, leb}
-use borrow.Author.Tests.{eq-eqb, ne-eqb, ltb-true, leb-true}
+use lib.Dec.{eqb, leb}
+use borrow.Author.Tests.{eq-eqb, ltb-true, leb-true}
 use Rattle.token.specs.Find.{pick, both}
-use Rattle.token.specs.Words.{same, bytesOf}
-use Rattle.rows.specs.declared.Fault.{Fault as Code}
 use Rattle.rows.specs.Order as order
-use Rattle.grammar.specs.Grammar.{Integer}
-use Rattle.meaning.specs.Syntax.{Word, span-of, span-or, AttributeType, integer, string, boolean, enum, reference, Bounds, no-bounds, from-to, one-of, Definition, Definitions, Values, Spec, File}
-use Rattle.meaning.specs.Words.{at-most, in-type, among}
+use Rattle.meaning.specs.Syntax.{Word, span-of, span-or, Definition, Values, File}
+use Rattle.meaning.specs.Words.{among}
 use Rattle.meaning.specs.Scopes.{sort-of, fits}
-use Rattle.meaning.specs.Faults.{Fault, fault-if, sooner, first}
-use Rattle.meaning.specs.Defining.{outside, bound-faults, range-faults, default-wrong, default-faults, defined-in, differs, name-faults, word-faults, specified, spec-faults, definition-faults}
-use Rattle.meaning.proofs.Sooner.{left-of, not-above, le-ahead, first-append}
-use Rattle.meaning.proofs.Numbering.{Counts, spec-enumerator-numbers}
-use Rattle.meaning.proofs.Standing.{Run, counts-back, counts-head}
-use Rattle.meaning.proofs.Order.{InOrder, sub-front, sub-all, ordered-sub}
-use Rattle.meaning.proofs.Sites.{definition-words, spec-words, object-words}
-use Rattle.layout.specs.Kept.{Entry, Choice, spec-entries, spec-choices, again-place}
-use Rattle.scopes.specs.Situations.{Situation, Nth}
-use Rattle.scopes.specs.Promises.{fault-of}
-use Rattle.scopes.proofs.Goodness.{later-words}
-use Rattle.scopes.proofs.Runs.{run-le, cut, Ends, ends}
-use Rattle.scopes.proofs.Descents.{rows-of, Whole, whole}
+use Rattle.meaning.specs.Faults.{Fault, fault-if, first}
+use Rattle.meaning.specs.Defining.{range-faults, default-wrong, default-faults, defined-in, differs, name-faults, word-faults}
+use Rattle.meaning.proofs.Sooner.{left-of, not-above}
+use Rattle.meaning.proofs.Numbering.{Counts}
+use Rattle.meaning.proofs.Standing.{counts-back, counts-head}
+use Rattle.layout.specs.Kept.{Entry, Choice, spec-entries, spec-choices}
+use Rattle.scopes.proofs.Descents.{rows-of, whole, rows-append, rows-length}
 use Rattle.scopes.specs.Listing.{each}
-use Rattle.defining_checks.specs.Listing.{others-for, under-of, row-name-faults, row-faults, judged, judged-faults, kept-row-faults, list-of, choice-faults, again-faults}
+use Rattle.defining_checks.specs.Listing.{others-for, under-of, row-name-faults, row-faults, judged, judged-faults, kept-row-faults, list-of, choice-faults}
 use Rattle.defining_checks.specs.Promises.{Room}
-use Rattle.scopes.proofs.Firsts.{Has, has-none, has-left, has-right, has-split, in-if, if-in, Covered, covered, covered-by, first-same, Real, real-none, real-append, real-if, fault-append, fault-one, each-append, real-each, From, found-at, at-row}
-use Rattle.defining_checks.proofs.Telling.{ApartSpecs, text-apart}
-use Rattle.defining_checks.proofs.Rowwise.{all-rows}
-use Rattle.defining_checks.proofs.Rising.{if-at, Rise, rise-back, rise-each, rise-specs, Ascend, ascend-back, ascend-each, ascend-specs}
-use Rattle.defining_checks.proofs.Reaching.{Last, last-of}
+use Rattle.scopes.proofs.Firsts.{Has, has-none, has-left, has-right, has-split, if-in, Covered, covered, covered-by, first-same, each-append, From, found-at, at-row}
+use Rattle.defining_checks.proofs.Rising.{if-at, Rise, rise-back, rise-each, Ascend, ascend-back, ascend-each}
+use Rattle.defining_checks.proofs.Reaching.{last-of}
 
 -- A row's number is its place ------------------------------------------------------------------------------------------------------------------
-
-rows-append : (a b : List Entry) → rows-of (a ++ b) ≡ rows-of a ++ rows-of b
-unfolding rows-of
-rows-append [] b = refl
-rows-append (x ∷ a) b = ap (λ (l : List ℕ). x .definition .row ∷ l) (rows-append a b)
-
-rows-length : (a : List Entry) → length (rows-of a) ≡ length a
-unfolding rows-of
-rows-length [] = refl
-rows-length (x ∷ a) = ap suc (rows-length a)
 
 pub row-is : {E : List Entry} (a : List Entry) (x : Entry) (b : List Entry) → Counts 0 (rows-of E) → E ≡ a ++ (x ∷ b) → x .definition .row ≡ length a
 unfolding rows-of

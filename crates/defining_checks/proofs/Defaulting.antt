@@ -1,29 +1,29 @@
 -- 10 at a default: what the function over defaults cites. Assumes nothing.
 use mathlib.Core.Path.{_≡_, refl, sym, _∙_, ap, subst}
-use mathlib.Core.List.{List, [], _∷_, _++_}
+use mathlib.Core.List.{List, []}
 use mathlib.Core.Bool.{Bool, true, false, not}
 use mathlib.Core.Option.{Option, none, some}
-use Prim.Native.Nat.{ℕ, zero, suc, _+_, _*_, _≤_, _<_}
+use Prim.Native.Nat.{ℕ, _+_, _*_, _≤_, _<_}
 use native.Mathlib.Omega.{arith}
 use lib.ListN.{length, getD}
 use lib.Dec.{leb}
 use Rattle.token.specs.Find.{pick, both}
 use Rattle.rows.specs.declared.Fault.{Fault}
 use Rattle.rows.specs.Order.{faultIf}
-use Rattle.grammar.specs.Grammar.{Class, Kind, Given, Sign, ordinary, numeral, quoted, other, kind-word, type-word, integer-word, word, sign, OIL-VERSION, IMPLEMENTATION, CPU, STRING, BOOLEAN, ENUM, TRUE, FALSE, AUTO, NO-DEFAULT, WITH-AUTO, lbrace, rbrace, lsquare, rsquare, equals, semicolon, colon, comma, dots}
-use Rattle.meaning.specs.Syntax.{Word, Definition, Values, no-value, value, Defined, File, is-enum, span-or, span-of, absent}
+use Rattle.grammar.specs.Grammar.{Class, Sign, ordinary, numeral, quoted, other, kind-word, type-word, integer-word, word, sign, OIL-VERSION, IMPLEMENTATION, CPU, STRING, BOOLEAN, ENUM, TRUE, FALSE, AUTO, NO-DEFAULT, WITH-AUTO, lbrace, rbrace, lsquare, rsquare, equals, semicolon, colon, comma, dots}
+use Rattle.meaning.specs.Syntax.{Word, File, span-or, span-of, absent}
 use Rattle.meaning.specs.Faults.{Fault as Refusal, fault-if, sooner, first}
 use Rattle.meaning.specs.Defining.{default-wrong, default-faults}
 use Rattle.meaning.specs.Scopes.{sort-of, sort-of-word, fits}
 use Rattle.meaning.proofs.Sites.{option-words}
-use Rattle.layout.specs.Kept.{Entry, spec-entries, kept-definitions, kept-enumerators, definition-cells, truth-cells, default-code, code-of, class-number, given-number, sign-number}
-use Rattle.scopes.specs.Situations.{Situation, Nth, RowOf, Reached, ReadAt}
+use Rattle.layout.specs.Kept.{Entry, spec-entries, kept-definitions, definition-cells, default-code, code-of, class-number, given-number, sign-number}
+use Rattle.scopes.specs.Situations.{Nth, RowOf, ReadAt}
 use Rattle.scopes.specs.Promises.{fault-of, Takes}
-use Rattle.scopes.proofs.Goodness.{Good, Goods}
-use Rattle.scopes.proofs.Rooms.{definition-cell}
+use Rattle.scopes.proofs.Goodness.{Goods}
+use Rattle.scopes.proofs.Rooms.{definition-cell, default-cell}
 use Rattle.scopes.proofs.Descents.{nth-in, entry-facts}
 use Rattle.defining_checks.specs.Listing.{judged, judged-faults}
-use Rattle.defining_checks.specs.Promises.{Room, DefaultFault}
+use Rattle.defining_checks.specs.Promises.{DefaultFault}
 use Rattle.defining_checks.proofs.Rising.{ascend-specs}
 use Rattle.defining_checks.proofs.Reaching.{reached}
 use Rattle.defining_checks.proofs.Stages.{spec-run}
@@ -33,17 +33,6 @@ late-no full limit at e = sym (ap (λ b. both b (leb limit at)) e)
 
 pub late-yes : (full : Bool) (limit at : ℕ) → full ≡ true → leb limit at ≡ both full (leb limit at)
 late-yes full limit at e = sym (ap (λ b. both b (leb limit at)) e)
-
-three : (b : Bool) (vs : Values) (c : ℕ) → getD (truth-cells b vs ++ (c ∷ [])) 3 0 ≡ c
-unfolding truth-cells
-three true vs c = refl
-three false no-value c = refl
-three false (value t e us no-value) c = refl
-three false (value t e us (value f e′ us′ vs)) c = refl
-
-code-at : (f : File) (d : List ℕ) (j : ℕ) (x : Entry) → d ≡ kept-definitions f → Nth (spec-entries (f .specs)) j x → j < 513 → getD d (j * 19 + 18) 0 ≡ default-code (x .definition .default)
-unfolding definition-cells
-code-at f d j x hd q l = definition-cell f d j 18 x hd q l (omega arith) ∙ three (is-enum (x .definition .type)) (x .values) (default-code (x .definition .default))
 
 -- NO_DEFAULT is the word with the code 4.
 wrong-other : (c : Class) (b : Bool) → (class-number c ≡ 4 → ⊥) → default-wrong (sort-of c) b ≡ not b
@@ -144,7 +133,7 @@ module _ (s d e : List ℕ) (m : ℕ) (full : Bool) (limit j at : ℕ) (e₀ : a
   module _ (n : at ≡ 0 → ⊥) (b : Bool) (k : b ≡ both full (leb limit at)) (h : b ≡ false) (len code : ℕ) (e₁ : len ≡ getD d (j * 19 + 11) 0) (e₂ : code ≡ getD d (j * 19 + 18) 0) where
     pub default-unset : code ≡ 4 → DefaultFault s d e m full limit j (record { number = 0; place = 0 })
     unfolding judged-faults default-faults default-code code-of
-    default-unset i f x st hd he room q l = by (x .definition .default) (sym i ∙ e₂ ∙ code-at f d j x hd q l)
+    default-unset i f x st hd he room q l = by (x .definition .default) (sym i ∙ e₂ ∙ default-cell f d j x hd q l)
       where
         by : (o : Option Word) → 4 ≡ default-code o
             → record { number = 0; place = 0 } ≡ fault-of (first (pick (judged full limit o) (default-faults (x .definition) (x .values) o) []))
@@ -154,7 +143,7 @@ module _ (s d e : List ℕ) (m : ℕ) (full : Bool) (limit j at : ℕ) (e₀ : a
     pub default-judged : (c : Bool) (r : Fault) → (code ≡ 4 → ⊥) → Takes s d e m j at len code c → r ≡ faultIf (not c) 10 at → DefaultFault s d e m full limit j r
     unfolding judged-faults judged definition-cells span-or absent span-of default-faults default-code code-of option-words
     default-judged c r i v z f x st hd he room q l =
-        z ∙ by (x .definition .default) refl (place-at f x hd q l) (e₁ ∙ definition-cell f d j 11 x hd q l (omega arith)) (e₂ ∙ code-at f d j x hd q l) (entry-facts st (nth-in q) .facts .default)
+        z ∙ by (x .definition .default) refl (place-at f x hd q l) (e₁ ∙ definition-cell f d j 11 x hd q l (omega arith)) (e₂ ∙ default-cell f d j x hd q l) (entry-facts st (nth-in q) .facts .default)
       where
         by : (o : Option Word) → x .definition .default ≡ o → at ≡ span-or o .place → len ≡ span-or o .length → code ≡ default-code o → Goods s (option-words o)
             → faultIf (not c) 10 at ≡ fault-of (first (pick (judged full limit o) (default-faults (x .definition) (x .values) o) []))

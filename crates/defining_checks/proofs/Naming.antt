@@ -24,10 +24,11 @@ use Rattle.layout.specs.Kept.{Entry, spec-entries, kept-definitions, definition
 use Rattle.scopes.specs.Situations.{Situation, Nth}
 use Rattle.scopes.proofs.Goodness.{Good}
 use Rattle.scopes.proofs.Rooms.{definition-cell}
-use Rattle.scopes.proofs.Finding.{is-row, find-in-definitions, seek-all}
+use Rattle.scopes.proofs.Finding.{is-row, find-in-definitions, seek-all, nth-front, below-front}
 use Rattle.scopes.proofs.Descents.{In, here, there, nth-in, entry-facts}
 use Rattle.defining_checks.specs.Listing.{keep-if, under-of, others-of, others-for}
 use Rattle.defining_checks.specs.Promises.{AgainFault, first-again, TypeFault}
+use Rattle.token.proofs.Bytes.{neither-first, neither-second}
 
 -- A fault by what is found.
 pub found-some : (z : Found) (i n p : ℕ) → z ≡ At i → record { number = n; place = p } ≡ faultIf (isFound z) n p
@@ -124,12 +125,6 @@ other-is s d j o u at len e =
 unfoldable is-other-row : List ℕ → (o p at len : ℕ) → Entry → Bool
 is-other-row s o p at len y = both (both (eqb (y .outer) o) (not (eqb (y .under .place) p))) (same (partOf s (y .definition .name .place) (y .definition .name .length)) (partOf s at len))
 
-nth-front : {A : Type 0} {l f : List A} (r : List A) → l ≡ f ++ r → (a : List A) (x : A) (b : List A) → f ≡ a ++ (x ∷ b) → Nth l (length a) x
-nth-front r e a x b h = record { front = a; rest = b ++ r; whole = e ∙ ap (λ t. t ++ r) h ∙ append-assoc a (x ∷ b) r; place = refl }
-
-below-front : {A : Type 0} (f a : List A) (x : A) (b : List A) → f ≡ a ++ (x ∷ b) → length a < length f
-below-front f a x b h = let e : length f ≡ length (a ++ (x ∷ b)) = ap length h in let g = length-append a (x ∷ b) in omega (arith, e, g)
-
 other-cells : (s d : List ℕ) (o p at len i a b c n : ℕ) → getD d (i * 19 + 13) 0 ≡ a → getD d (i * 19 + 0) 0 ≡ b → getD d (i * 19 + 2) 0 ≡ c → getD d (i * 19 + 3) 0 ≡ n
     → is-other s d o p at len i ≡ both (both (eqb a o) (not (eqb b p))) (same (partOf s c n) (partOf s at len))
 unfolding is-other
@@ -146,10 +141,6 @@ find-others f s d front rest n o p at len e w k h =
     other-cells s d o p at len (length a) (x .outer) (x .under .place) (x .definition .name .place) (x .definition .name .length)
     (definition-cell f d (length a) 13 x e q (omega arith) (omega arith)) (definition-cell f d (length a) 0 x e q (omega arith) (omega arith))
     (definition-cell f d (length a) 2 x e q (omega arith) (omega arith)) (definition-cell f d (length a) 3 x e q (omega arith) (omega arith)))
-
-either-false : (a b : Bool) → either a b ≡ false → (a ≡ false) × (b ≡ false)
-either-false true b e = absurd (false≢true (sym e))
-either-false false b e = (refl, e)
 
 module _ (s : List ℕ) (o p : ℕ) (d : Definition) (g : Good s (d .name)) where
   abbrev P : Entry → Bool
@@ -175,9 +166,8 @@ module _ (s : List ℕ) (o p : ℕ) (d : Definition) (g : Good s (d .name)) wher
   unfolding anyOf differs others-of
   differs-none [] h e = refl
   differs-none (y ∷ E) h e =
-      let k = either-false (P y) (anyOf P E) e in
-      differs-skip y (others-of o p E) (both (eqb (y .outer) o) (not (eqb (y .under .place) p))) (sym (other-alike y (h y (here refl))) ∙ k .0)
-      ∙ differs-none E (λ z m. h z (there m)) (k .1)
+      differs-skip y (others-of o p E) (both (eqb (y .outer) o) (not (eqb (y .under .place) p))) (sym (other-alike y (h y (here refl))) ∙ neither-first (P y) (anyOf P E) e)
+      ∙ differs-none E (λ z m. h z (there m)) (neither-second (P y) (anyOf P E) e)
 
   differs-first : (a : List Entry) (y : Entry) (b : List Entry) → ((z : Entry) → In z (a ++ (y ∷ b)) → Good s (z .definition .name)) → anyOf P a ≡ false → P y ≡ true
       → differs d (others-of o p (a ++ (y ∷ b))) ≡ not (alike (y .definition .word) (d .word))
@@ -185,9 +175,8 @@ module _ (s : List ℕ) (o p : ℕ) (d : Definition) (g : Good s (d .name)) wher
   differs-first [] y b h e t =
       differs-here y (others-of o p b) (both (eqb (y .outer) o) (not (eqb (y .under .place) p))) (sym (other-alike y (h y (here refl))) ∙ t)
   differs-first (z ∷ a) y b h e t =
-      let k = either-false (P z) (anyOf P a) e in
-      differs-skip z (others-of o p (a ++ (y ∷ b))) (both (eqb (z .outer) o) (not (eqb (z .under .place) p))) (sym (other-alike z (h z (here refl))) ∙ k .0)
-      ∙ differs-first a y b (λ v m. h v (there m)) (k .1) t
+      differs-skip z (others-of o p (a ++ (y ∷ b))) (both (eqb (z .outer) o) (not (eqb (z .under .place) p))) (sym (other-alike z (h z (here refl))) ∙ neither-first (P z) (anyOf P a) e)
+      ∙ differs-first a y b (λ v m. h v (there m)) (neither-second (P z) (anyOf P a) e) t
 
 none-if : (b : Bool) (p : ℕ) → b ≡ false → record { number = 0; place = 0 } ≡ faultIf b 9 p
 unfolding faultIf

@@ -2,41 +2,27 @@
 use mathlib.Core.Path.{_≡_, refl, sym, _∙_, ap, subst}
 use mathlib.Core.List.{List, [], _∷_, _++_, append-assoc, append-nil}
 use mathlib.Core.Bool.{Bool, true, false, not, false≢true}
-use mathlib.Core.Option.{Option, none, some}
-use Prim.Native.Nat.{ℕ, zero, suc, _+_, _≤_, _<_, min}
+use mathlib.Core.Option.{some}
+use Prim.Native.Nat.{ℕ, zero, suc, _≤_, _<_}
 use native.Mathlib.Omega.{arith}
 use native.Mathlib.Decide.{decLt}
-use lib.ListN.{length, length-append}
-use lib.Dec.{ltb, leb}
+use lib.ListN.{length}
+use lib.Dec.{leb}
 use borrow.Author.Tests.{lt-ltb, leb-false}
-use Rattle.token.specs.Find.{both}
 use Rattle.meaning.specs.Syntax.{Word, span-of, span-or, Definition, Definitions, no-more, define, Values, no-value, value, Spec, File, is-enum}
 use Rattle.meaning.proofs.Standing.{Run}
 use Rattle.meaning.proofs.Sites.{option-words, definition-words, value-words, spec-words}
 use Rattle.layout.specs.Kept.{Entry, Choice, list-key, entries, entries-under, spec-entries, choice-if, choices, choices-of, spec-choices}
 use Rattle.scopes.specs.Situations.{Nth, NoneOf, Reached}
-use Rattle.scopes.proofs.Runs.{run-le, cut, Out, Cuts, cuts}
-use Rattle.scopes.proofs.Lists.{none-append, none-in, none-of, none-specs}
+use Rattle.scopes.proofs.Lists.{none-append, none-in, none-of, none-specs, KeyBefore, key-next, none-if}
 use Rattle.defining_checks.specs.Listing.{judged}
 use Rattle.defining_checks.specs.Promises.{Room}
 use Rattle.defining_checks.proofs.Rising.{Ascend, ascend-le, ascend-back, ascend-of}
-use Rattle.defining_checks.proofs.Rowwise.{none-list, none-if}
+use Rattle.defining_checks.proofs.Rowwise.{none-list}
+use Rattle.meaning.proofs.Runs.{run-le, cut, Cuts, cuts}
+use Rattle.scopes.proofs.Rooms.{split}
 
 -- Splits ---------------------------------------------------------------------------------------------------------------------------------------
-
--- The first n, and the rest.
-pub record Split {A : Type 0} (l : List A) (n : ℕ) : Type 0 where
-  pub front : List A
-  pub rest : List A
-  pub whole : l ≡ front ++ rest
-  pub many : length front ≡ n
-
-pub split : {A : Type 0} (l : List A) (n : ℕ) → n ≤ length l → Split l n
-split l zero h = record { front = []; rest = l; whole = refl; many = refl }
-split [] (suc n) h = absurd (omega arith)
-split (x ∷ l) (suc n) h =
-    let r = split l n (omega arith) in
-    record { front = x ∷ r .front; rest = r .rest; whole = ap (λ m. x ∷ m) (r .whole); many = ap suc (r .many) }
 
 -- All but the last, and the last.
 pub record Last {A : Type 0} (l : List A) (n : ℕ) : Type 0 where
@@ -123,20 +109,10 @@ left-own u o d (value w n us vs) ds lo hi C A B q e k z f g t h =
     (left-append K (w .place) (t .place) B (ascend-left (w .place) (t .place) K (k .a) (k .b) (ascend-of (value w n us vs) q (w .place) (k .a) (k .b) r) j)
     (none-left (w .place) (t .place) B (g (w .place) i (omega arith)))))
 
--- The key of a list does not lie behind its first word.
-abbrev KeyBefore : Values → ℕ → Type 0
-KeyBefore no-value key = Unit {0}
-KeyBefore (value w e us vs) key = key ≤ w .place
-
 keyed : (vs : Values) (lo hi : ℕ) → Run lo (value-words vs) hi → KeyBefore vs (list-key vs)
 unfolding list-key
 keyed no-value lo hi r = tt
 keyed (value w e us vs) lo hi r = omega arith
-
-key-next : (vs : Values) (key lo hi : ℕ) → Run lo (value-words vs) hi → key ≤ lo → KeyBefore vs key
-unfolding value-words
-key-next no-value key lo hi r h = tt
-key-next (value w e us vs) key lo hi r h = let a = r .0 in omega arith
 
 mutual
   unfolding entries choices definition-words

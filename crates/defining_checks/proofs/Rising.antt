@@ -1,15 +1,15 @@
 -- Where the faults of rows lie: those of a row behind the names of the rows before it. Assumes nothing.
-use mathlib.Core.Path.{_≡_, refl, sym, _∙_, ap, subst}
-use mathlib.Core.List.{List, [], _∷_, _++_, append-assoc}
+use mathlib.Core.Path.{_≡_, sym, ap, subst}
+use mathlib.Core.List.{List, [], _∷_, _++_}
 use mathlib.Core.Bool.{Bool, true, false, not}
 use mathlib.Core.Option.{Option, none, some}
-use mathlib.Core.Logic.{_⊎_, inl, inr, ⊎-elim}
-use Prim.Native.Nat.{ℕ, zero, suc, _+_, _≤_, _<_}
+use mathlib.Core.Logic.{⊎-elim}
+use Prim.Native.Nat.{ℕ, suc, _≤_}
 use native.Mathlib.Omega.{arith}
 use lib.ListN.{length}
 use lib.Dec.{eqb}
 use Rattle.token.specs.Find.{both}
-use Rattle.grammar.specs.Grammar.{Kind, Integer}
+use Rattle.grammar.specs.Grammar.{Integer}
 use Rattle.meaning.specs.Syntax.{Word, AttributeType, integer, string, boolean, enum, reference, Bounds, no-bounds, from-to, one-of, Definition, Definitions, no-more, define, Values, no-value, value, Spec, is-enum}
 use Rattle.meaning.specs.Words.{at-most, in-type, among}
 use Rattle.meaning.specs.Scopes.{sort-of, fits}
@@ -20,10 +20,10 @@ use Rattle.meaning.proofs.Sites.{bound-words, option-words, definition-words, v
 use Rattle.layout.specs.Kept.{Entry, Choice, list-key, entries, entries-under, spec-entries, choice-if, choices, choices-of, spec-choices}
 use Rattle.scopes.specs.Forms.{Formed, an-integer, a-string, a-boolean, an-enum, a-reference, AllFormed, none-formed, more-formed, AllFormedUnder, none-under, more-under}
 use Rattle.scopes.proofs.Forming.{FormedSpecs}
-use Rattle.scopes.proofs.Runs.{run-le, cut, Cuts, cuts}
 use Rattle.scopes.specs.Listing.{each}
 use Rattle.defining_checks.specs.Listing.{others-for, under-of, row-name-faults, row-faults, list-of, choice-faults}
 use Rattle.scopes.proofs.Firsts.{Has, has-none, has-split, in-if}
+use Rattle.meaning.proofs.Runs.{run-le, cut, Cuts, cuts}
 
 -- Where faults lie -----------------------------------------------------------------------------------------------------------------------------
 

@@ -1,33 +1,33 @@
 -- The stage of 6 to 10 row by row: of its faults, found along the definitions as they stand, the one that answers is that of the rows, each with
 -- the rows before it. Assumes nothing.
-use mathlib.Core.Path.{_≡_, refl, sym, _∙_, ap, ap₂, subst}
-use mathlib.Core.List.{List, [], _∷_, _++_, append-assoc, append-nil}
-use mathlib.Core.Bool.{Bool, true, false, not, false≢true}
-use mathlib.Core.Option.{Option, none, some}
-use Prim.Native.Nat.{ℕ, zero, suc, _+_, _≤_, _<_}
+use mathlib.Core.Path.{_≡_, refl, sym, _∙_, ap, ap₂}
+use mathlib.Core.List.{List, [], _∷_, _++_, append-nil}
+use mathlib.Core.Bool.{Bool, true, false, false≢true}
+use mathlib.Core.Option.{Option}
+use Prim.Native.Nat.{ℕ, suc, _≤_, _<_}
 use native.Mathlib.Omega.{arith}
 use lib.ListN.{length, length-append}
-use lib.Dec.{eqb}
 use borrow.Author.Tests.{eq-eqb, ne-eqb}
-use Rattle.token.specs.Find.{pick, both}
-use Rattle.meaning.specs.Syntax.{Word, Definition, Definitions, no-more, define, Values, no-value, value, Spec, is-enum, enumerators-in, enumerators-under}
+use Rattle.token.specs.Find.{pick}
+use Rattle.meaning.specs.Syntax.{Word, Definition, Definitions, no-more, define, Values, no-value, value, Spec, is-enum}
 use Rattle.meaning.specs.Words.{among}
 use Rattle.meaning.specs.Scopes.{heads}
 use Rattle.meaning.specs.Faults.{Fault, fault-if, sooner, first}
 use Rattle.meaning.specs.Defining.{range-faults, default-faults, name-faults, word-faults, scope-faults, value-faults, specified, spec-faults}
 use Rattle.meaning.proofs.Sooner.{sooner-comm, sooner-assoc, first-append}
-use Rattle.meaning.proofs.Numbering.{Counts, number-if, enumerator-numbers, enumerator-numbers-of, spec-enumerator-numbers, length-if, length-enumerators, length-enumerators-of}
+use Rattle.meaning.proofs.Numbering.{Counts, number-if, enumerator-numbers, enumerator-numbers-of, spec-enumerator-numbers, length-enumerators, length-enumerators-of}
 use Rattle.meaning.proofs.Standing.{Run, counts-back, counts-front, counts-head}
 use Rattle.meaning.proofs.Sites.{definition-words, value-words, spec-words}
 use Rattle.layout.specs.Kept.{Entry, Choice, list-key, entries, entries-under, spec-entries, choice-if, choices, choices-of, spec-choices}
 use Rattle.scopes.specs.Situations.{NoneOf}
-use Rattle.scopes.proofs.Runs.{run-le, cut, Out, cuts}
-use Rattle.scopes.proofs.Lists.{none-append, none-in, none-of, length-choices, length-choices-of}
+use Rattle.scopes.proofs.Lists.{none-append, none-in, none-of, none-if}
 use Rattle.scopes.specs.Listing.{each}
-use Rattle.defining_checks.specs.Listing.{keep-if, under-of, others-of, others-for, row-name-faults, row-faults, word-if, list-of, choice-faults, again-faults}
+use Rattle.defining_checks.specs.Listing.{under-of, others-of, others-for, row-name-faults, row-faults, word-if, list-of, choice-faults, again-faults}
 use Rattle.scopes.proofs.Firsts.{each-append}
-use Rattle.defining_checks.proofs.Telling.{Apart, AllApart, none-apart, more-apart, AllApartUnder, none-under, more-under, ApartSpecs}
-use Rattle.defining_checks.proofs.Clearing.{Clear, clear-append, clear-in, clear-under, clear-list, under-clear, others-clear, list-none, under-append, others-append, list-append, under-more, others-more, others-for-more, under-own, others-own, own-heads}
+use Rattle.defining_checks.proofs.Telling.{Apart, AllApart, more-apart, AllApartUnder, more-under, ApartSpecs}
+use Rattle.defining_checks.proofs.Clearing.{Clear, clear-append, clear-in, clear-list, under-clear, others-clear, list-none, under-append, others-append, list-append, under-more, others-for-more, under-own, others-own, own-heads}
+use Rattle.meaning.proofs.Runs.{run-le, cut, Out, cuts}
+use Rattle.layout.proofs.Lengths.{length-choices, length-choices-of}
 
 -- The earlier of many, in another order ------------------------------------------------------------------------------------------------------
 
@@ -130,11 +130,6 @@ word-own : (b : Bool) (key : ℕ) (w : Word) → b ≡ true → list-of key (cho
 unfolding choice-if list-of word-if
 word-own true key w z = ap (λ c. word-if c w ++ []) (eq-eqb key key refl)
 word-own false key w z = absurd (false≢true z)
-
-pub none-if : (b : Bool) (o : ℕ) (w : Word) (x : ℕ) → (o ≡ x → ⊥) → NoneOf x (choice-if b o w)
-unfolding choice-if
-none-if true o w x h = (h, tt)
-none-if false o w x h = tt
 
 length-choice : (b : Bool) (o : ℕ) (w : Word) (e : ℕ) → length (choice-if b o w) ≡ length (number-if b e)
 unfolding choice-if number-if

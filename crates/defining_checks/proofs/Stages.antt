@@ -1,43 +1,41 @@
 -- The stage of 6 to 10 by the version's word, the kind words that come a second time, and the rows that are kept. Assumes nothing.
-use mathlib.Core.Path.{_≡_, refl, sym, _∙_, ap, ap₂, subst}
+use mathlib.Core.Path.{_≡_, refl, sym, _∙_, ap, ap₂}
 use mathlib.Core.List.{List, [], _∷_, _++_}
 use mathlib.Core.Bool.{Bool, true, false, not}
 use mathlib.Core.Option.{Option, none, some}
 use mathlib.Core.Logic.{_⊎_, inl, inr, ⊎-elim}
-use Prim.Native.Nat.{ℕ, zero, suc, _+_, _≤_, _<_, min}
+use Prim.Native.Nat.{ℕ, suc, _≤_, _<_, min}
 use native.Mathlib.Omega.{arith}
 use lib.ListN.{length}
 use lib.Dec.{eqb}
 use borrow.Author.Tests.{ne-eqb}
 use Rattle.token.specs.Find.{pick, both}
 use Rattle.token.specs.Words.{same, bytesOf}
-use Rattle.token.specs.Tokens.{partOf}
 use Rattle.rows.specs.declared.Fault.{Fault as Code}
 use Rattle.rows.specs.Order as order
 use Rattle.grammar.specs.Grammar.{Integer}
 use Rattle.meaning.specs.Syntax.{Word, AttributeType, integer, string, boolean, enum, reference, Bounds, no-bounds, from-to, one-of, Definition, Values, Spec, File}
 use Rattle.meaning.specs.Words.{at-most, in-type, among}
-use Rattle.meaning.specs.Scopes.{sort-of, fits}
-use Rattle.meaning.specs.Faults.{Fault, fault-if, ahead, sooner, first}
-use Rattle.meaning.specs.Defining.{outside, bound-faults, range-faults, default-wrong, default-faults, defined-in, differs, name-faults, word-faults, specified, spec-faults, definition-faults}
-use Rattle.meaning.proofs.Sooner.{first-append, sooner-none}
+use Rattle.meaning.specs.Faults.{Fault, fault-if, sooner, first}
+use Rattle.meaning.specs.Defining.{outside, bound-faults, range-faults, default-faults, defined-in, differs, name-faults, word-faults, specified, spec-faults, definition-faults}
+use Rattle.meaning.proofs.Sooner.{first-append}
 use Rattle.meaning.proofs.Standing.{Run}
-use Rattle.meaning.proofs.Order.{InOrder, ahead-left, sub-front, sub-all, ordered-sub}
+use Rattle.meaning.proofs.Order.{ahead-left, sub-front, sub-all, ordered-sub}
 use Rattle.meaning.proofs.Sites.{definition-words, spec-words, object-words}
 use Rattle.layout.specs.Kept.{Entry, Choice, spec-entries, spec-choices, again-place}
 use Rattle.scopes.specs.Situations.{Situation}
 use Rattle.scopes.specs.Promises.{fault-of}
 use Rattle.scopes.proofs.Goodness.{later-words}
-use Rattle.scopes.proofs.Runs.{run-le, cut, Ends, ends}
-use Rattle.scopes.proofs.Descents.{Whole, whole}
+use Rattle.scopes.proofs.Descents.{whole}
 use Rattle.scopes.specs.Listing.{each}
 use Rattle.defining_checks.specs.Listing.{others-for, under-of, row-name-faults, row-faults, judged, judged-faults, kept-row-faults, list-of, choice-faults, again-faults}
 use Rattle.defining_checks.specs.Promises.{Room}
 use Rattle.scopes.proofs.Firsts.{Real, real-none, real-append, real-if, fault-append, fault-one, real-each}
 use Rattle.defining_checks.proofs.Telling.{text-apart}
 use Rattle.defining_checks.proofs.Rowwise.{all-rows}
-use Rattle.defining_checks.proofs.Rising.{rise-specs, Ascend, ascend-specs}
+use Rattle.defining_checks.proofs.Rising.{rise-specs, ascend-specs}
 use Rattle.defining_checks.proofs.Covers.{kept-same}
+use Rattle.meaning.proofs.Runs.{run-le, cut, Ends, ends}
 
 -- Kind words that come a second time ---------------------------------------------------------------------------------------------------------
 

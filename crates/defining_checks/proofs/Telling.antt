@@ -3,26 +3,20 @@
 use mathlib.Core.Path.{_≡_, refl, sym, _∙_, ap, ap₂, subst}
 use mathlib.Core.List.{List, [], _∷_, _++_}
 use mathlib.Core.Bool.{Bool, true, false, false≢true}
-use Prim.Native.Nat.{ℕ, zero, suc, _+_, _≤_, _<_}
+use Prim.Native.Nat.{ℕ, suc, _+_, _≤_}
 use native.Mathlib.Omega.{arith}
-use lib.ListN.{length, getD, take, drop}
-use lib.Dec.{eqb, ltb}
-use borrow.Author.Tests.{eqb-true}
-use Rattle.token.specs.Find.{pick, both, either, byte}
-use Rattle.token.specs.Words.{codeOf, same}
-use Rattle.token.specs.Tokens.{stepAt}
+use lib.ListN.{length, take, drop}
+use lib.Dec.{eqb}
+use Rattle.token.specs.Find.{pick, either}
+use Rattle.token.specs.Words.{same}
 use Rattle.token.proofs.Promises.{CodeOk, found-code}
-use Rattle.token.specs.declared.Cursor.{Cursor}
-use Rattle.token.specs.declared.Token.{Token as Lexeme}
 use Rattle.token.specs.declared.Sort.{Sort}
 use Rattle.token.specs.declared.Sort.the-variants.{Word as WordToken, Number, String, Punctuator}
-use Rattle.token.specs.declared.Step.{Step}
-use Rattle.token.specs.declared.Step.the-variants.{Found, Refused, End}
-use Rattle.grammar.specs.Grammar.{Token, Class, sign, other, lbrace, rbrace, lsquare, rsquare, equals, semicolon, colon, comma, dots, tokens, matches, the, TRUE, FALSE}
+use Rattle.grammar.specs.Grammar.{Token, Class, tokens, matches, the, TRUE, FALSE}
 use Rattle.grammar.specs.Grammar.{Rule, Form, _▸_, ∎, _⟶_, Trees, nil, leaf, node, file, version, implementation, specs, spec, definitions, definition, attribute, D, P, auto, mark, integer-range, numbers, boolean-range, enumerator, enumerators, application, objects, object, block, statements, statement, default, own, file-is, version-is, implementation-is, no-spec, a-spec, spec-is, no-definition, a-definition, an-attribute, a-reference, an-integer, a-string, a-boolean, an-enum, reference-is, no-D, a-D, no-P, a-P, no-auto, with-auto, no-mark, a-mark, no-range, a-range, a-list, no-number, a-number, no-boolean-range, a-boolean-range, enumerator-is, no-enumerator, an-enumerator, no-default, a-default, own-auto, own-none, own-number, own-string, own-true, own-false, own-name, application-is, no-object, an-object, an-object-alone, an-object-with, no-block, a-block, no-statement, a-statement, statement-is, value-number, value-string, value-auto, value-name, value-true, value-false}
 use Rattle.grammar.specs.Grammar.{reference as reference-rule, value as value-rule}
 use Rattle.grammar.specs.Terminals.{signOf, classOf}
-use Rattle.grammar.specs.Terminals.{tokens as tokens-of, tokenOf as token-of}
+use Rattle.grammar.specs.Terminals.{tokenOf as token-of}
 use Rattle.meaning.specs.Actions.{M, word-of, first-value, truths, defined, defining, specifying, means, meaning, syntax}
 use Rattle.meaning.specs.Syntax.{Word, Definition, Definitions, no-more, define, Values, no-value, value, Defined, Spec, File, is-enum}
 use Rattle.meaning.specs.Words.{alike, among}
@@ -30,6 +24,7 @@ use Rattle.layout.specs.Kept.{class-number, given-number, sign-number}
 use Rattle.scopes.specs.Situations.{Situation}
 use Rattle.scopes.proofs.Chains.{StepTo, Chain, text-chain, chain-front, chain-back}
 use Rattle.scopes.proofs.Coding.{given-is}
+use Rattle.token.proofs.Codes.{same-equal}
 
 -- A sign's number is past those of the words.
 far-pick : (b : Bool) (x y : Class) → 44 ≤ class-number x → 44 ≤ class-number y → 44 ≤ class-number (pick b x y)
@@ -54,17 +49,6 @@ sorts-agree (WordToken k) (Punctuator c) b h i m n = let a = sign-far c in absur
 sorts-agree (Number v w) y b h i m n = absurd (omega arith)
 sorts-agree String y b h i m n = absurd (omega arith)
 sorts-agree (Punctuator c) y b h i m n = let a = sign-far c in absurd (omega arith)
-
-same-equal : (xs ys : List ℕ) → same xs ys ≡ true → xs ≡ ys
-unfolding same
-same-equal [] [] e = refl
-same-equal [] (y ∷ ys) e = absurd (false≢true e)
-same-equal (x ∷ xs) [] e = absurd (false≢true e)
-same-equal (x ∷ xs) (y ∷ ys) e = by (eqb x y) refl e (same-equal xs ys)
-  where
-    by : (b : Bool) → eqb x y ≡ b → both b (same xs ys) ≡ true → (same xs ys ≡ true → xs ≡ ys) → _≡_ {A = List ℕ} (x ∷ xs) (y ∷ ys)
-    by true t f k = ap₂ _∷_ (eqb-true x y t) (k f)
-    by false t f k = absurd (false≢true f)
 
 tokens-agree : (s : List ℕ) (p q : ℕ) (t u : Token) → StepTo s p t → StepTo s q u → word-of s t .bytes ≡ word-of s u .bytes
     → class-number (t .class) ≤ 41 → class-number (u .class) ≤ 41 → class-number (t .class) ≡ class-number (u .class)

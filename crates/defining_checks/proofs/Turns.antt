@@ -4,10 +4,9 @@ use mathlib.Core.List.{List, [], _∷_, _++_, append-assoc}
 use mathlib.Core.Bool.{Bool, true, false, not}
 use Prim.Native.Nat.{ℕ, _+_, _*_, _≤_, _<_, min}
 use native.Mathlib.Omega.{arith}
-use native.Mathlib.Decide.{ℕ-discrete}
 use lib.ListN.{length, getD}
 use lib.Dec.{eqb, ltb}
-use borrow.Author.Tests.{eq-eqb, ne-eqb}
+use borrow.Author.Tests.{eq-eqb}
 use Rattle.token.specs.Find.{pick, both, either}
 use Rattle.token.specs.Words.{same, bytesOf}
 use Rattle.token.specs.Tokens.{partOf}
@@ -27,14 +26,14 @@ use Rattle.layout.specs.Kept.{Entry, Choice, list-key, choice-if, choices, choi
 use Rattle.scopes.specs.Situations.{Situation, Nth}
 use Rattle.scopes.specs.Promises.{fault-of, RangeFault}
 use Rattle.scopes.proofs.Goodness.{Good, Goods, good-front, good-back, spec-good}
-use Rattle.scopes.proofs.Rooms.{definition-cell, choice-cell}
-use Rattle.scopes.proofs.Finding.{is-choice, find-in-enumerators}
+use Rattle.scopes.proofs.Rooms.{definition-cell, choice-cell, split}
+use Rattle.scopes.proofs.Finding.{is-choice, find-in-enumerators, same-sym}
 use Rattle.scopes.proofs.Descents.{whole}
 use Rattle.scopes.specs.Listing.{each}
 use Rattle.defining_checks.specs.Listing.{others-for, under-of, row-name-faults, judged-faults, kept-row-faults, word-if, list-of, choice-faults}
 use Rattle.defining_checks.specs.Promises.{Room, AgainFault, first-again, NewTypeFault, NameFault, DefaultFault, RowFault, RowsFault, EnumeratorFault, EnumeratorsFault, version-code, DefinitionFaults}
 use Rattle.scopes.proofs.Firsts.{real-append, real-if, fault-append, fault-one, each-snoc, real-each}
-use Rattle.defining_checks.proofs.Reaching.{split, last-of}
+use Rattle.defining_checks.proofs.Reaching.{last-of}
 use Rattle.defining_checks.proofs.Covers.{row-is}
 use Rattle.defining_checks.proofs.Naming.{found-some, found-none, again-is}
 use Rattle.defining_checks.proofs.Stages.{real-range, real-judged, real-row-name, real-row, real-choice, stage-is}
@@ -184,20 +183,6 @@ good-specs s [] g = tt
 good-specs s (x ∷ xs) g =
     good-append s (choices (x .definitions)) (spec-choices xs) (good-choices s (x .definitions) (good-front s (definition-words (x .definitions)) (spec-words xs) (g .1)))
     (good-specs s xs (good-back s (definition-words (x .definitions)) (spec-words xs) (g .1)))
-
-eqb-sym : (a b : ℕ) → eqb a b ≡ eqb b a
-eqb-sym a b = by (ℕ-discrete a b)
-  where
-    by : Dec (a ≡ b) → eqb a b ≡ eqb b a
-    by (yes e) = eq-eqb a b e ∙ sym (eq-eqb b a (sym e))
-    by (no n) = ne-eqb a b n ∙ sym (ne-eqb b a (λ e. n (sym e)))
-
-same-sym : (a b : List ℕ) → same a b ≡ same b a
-unfolding same
-same-sym [] [] = refl
-same-sym [] (y ∷ b) = refl
-same-sym (x ∷ a) [] = refl
-same-sym (x ∷ a) (y ∷ b) = ap₂ both (eqb-sym x y) (same-sym a b)
 
 choice-any : (s : List ℕ) (x : Choice) → Good s (x .word) → (l : List Choice) → GoodChoices s l
     → anyOf (is-choice s (x .list) (x .word .place) (x .word .length)) l ≡ among (x .word) (list-of (x .list) l)

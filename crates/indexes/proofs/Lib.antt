@@ -1,4 +1,3 @@
-pub mod Same
 pub mod Digits
 pub mod Comparisons
 pub mod Places

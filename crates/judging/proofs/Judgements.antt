@@ -7,10 +7,10 @@ use Prim.Native.Nat.{ℕ, suc, _+_, _*_, _-_, _≤_, _<_}
 use native.Mathlib.Omega.{arith}
 use lib.ListN.{length, length-append, getD}
 use lib.Dec.{eqb, leb}
-use borrow.Author.Tests.{eq-eqb, ne-eqb, le-leb, eqb-true}
+use borrow.Author.Tests.{eq-eqb, ne-eqb, le-leb, eqb-true, not-false}
 use Rattle.token.specs.Find.{pick, both}
 use Rattle.token.specs.Tokens.{partOf, stepAt}
-use Rattle.grammar.specs.Grammar.{Class, Kind, Integer, ordinary, numeral, quoted, other, kind-word, type-word, integer-word, word, sign, OS, APPMODE, TASK, ISR, COUNTER, ALARM, RESOURCE, EVENT, COM, MESSAGE, NETWORKMESSAGE, IPDU, NM, UINT32, INT32, UINT64, INT64, OIL-VERSION, IMPLEMENTATION, CPU, STRING, BOOLEAN, ENUM, TRUE, FALSE, AUTO, NO-DEFAULT, WITH-AUTO, lbrace, rbrace, lsquare, rsquare, equals, semicolon, colon, comma, dots}
+use Rattle.grammar.specs.Grammar.{Class, Kind, Integer, ordinary, numeral, quoted, other, kind-word, type-word, integer-word, word, sign, OIL-VERSION, IMPLEMENTATION, CPU, STRING, BOOLEAN, ENUM, TRUE, FALSE, AUTO, NO-DEFAULT, WITH-AUTO, lbrace, rbrace, lsquare, rsquare, equals, semicolon, colon, comma, dots}
 use Rattle.rows.specs.declared.Fault.{Fault}
 use Rattle.rows.specs.declared.Found.{Found}
 use Rattle.rows.specs.declared.Found.the-variants.{At, Nothing}
@@ -32,40 +32,18 @@ use Rattle.scopes.specs.Situations.{Situation, HasDefinition, this-definition, 
 use Rattle.amounts.specs.Promises.{TakesUnder}
 use Rattle.scopes.specs.Promises.{fault-of, row-found, object-found, FindsDefinition, FindsWord, FindsObject}
 use Rattle.scopes.specs.Forms.{AllFormed, more-formed, Formed, an-integer, a-string, a-boolean, an-enum, a-reference}
-use Rattle.scopes.proofs.Descents.{scope-facts, found-definition, scope-under, scope-of-kind}
+use Rattle.scopes.proofs.Descents.{scope-facts, found-definition, scope-under, scope-of-kind, row-of-definition}
 use Rattle.judging.specs.Promises.{Case, name-code, ReferenceFault, StatedAs, OwnFault, Marked, Lacks, LackFault, Scoped, Judges, JudgesOne, JudgesBlock, Places, JudgesObject, JudgesObjects}
 use Rattle.judging.specs.declared.Sizes.{Sizes}
-use Rattle.judging.proofs.Standings.{stands-at, row-of, file-stands}
+use Rattle.lookups.proofs.Standings.{stands-at, file-stands}
 use Rattle.judging.proofs.Tables.{cell-list, cell-type}
 use Rattle.judging.proofs.Lacking.{in-room, row-less, row-room, all-reached}
 use Rattle.judging.proofs.Ordering.{Positive, positive-append, positive-if, fault-append, fault-one, no-fault, positive-reference, positive-brace, positive-as, positive-own, positive-judged, positive-judge}
 use Rattle.blocks.proofs.Ranges.{first-cell, first-name, first-value, first-brace, first-after, inside-at, in-then, then-assoc, then-done, front-at, back-at}
 use Rattle.blocks.proofs.Files.{file-in, objects-in, object-cell, object-block}
+use Rattle.layout.proofs.Codes.{kind-low, integer-low}
 
 -- Names ------------------------------------------------------------------------------------------------------------------------------------
-
-kind-below : (k : Kind) → kind-number k < 13
-unfolding kind-number
-kind-below OS = omega arith
-kind-below APPMODE = omega arith
-kind-below TASK = omega arith
-kind-below ISR = omega arith
-kind-below COUNTER = omega arith
-kind-below ALARM = omega arith
-kind-below RESOURCE = omega arith
-kind-below EVENT = omega arith
-kind-below COM = omega arith
-kind-below MESSAGE = omega arith
-kind-below NETWORKMESSAGE = omega arith
-kind-below IPDU = omega arith
-kind-below NM = omega arith
-
-integer-below : (i : Integer) → integer-number i < 4
-unfolding integer-number
-integer-below UINT32 = omega arith
-integer-below INT32 = omega arith
-integer-below UINT64 = omega arith
-integer-below INT64 = omega arith
 
 -- The cases of a code.
 module _ (c : ℕ) where
@@ -91,17 +69,17 @@ module _ (c : ℕ) where
 
 name-kind : (k : Kind) → name-code (9 + kind-number k) ≡ true
 name-kind k =
-    let b = kind-below k in
+    let b = kind-low k in
     code-other (9 + kind-number k) (λ h. omega arith) (λ h. omega arith) (λ h. omega arith) ∙ le-leb 5 (9 + kind-number k) (omega arith)
 
 name-type : (k : Kind) → name-code (22 + kind-number k) ≡ true
 name-type k =
-    let b = kind-below k in
+    let b = kind-low k in
     code-other (22 + kind-number k) (λ h. omega arith) (λ h. omega arith) (λ h. omega arith) ∙ le-leb 5 (22 + kind-number k) (omega arith)
 
 name-integer : (i : Integer) → name-code (35 + integer-number i) ≡ true
 name-integer i =
-    let b = integer-below i in
+    let b = integer-low i in
     code-other (35 + integer-number i) (λ h. omega arith) (λ h. omega arith) (λ h. omega arith) ∙ le-leb 5 (35 + integer-number i) (omega arith)
 
 module _ (os : List Object) (k : Kind) (t : Word) where
@@ -143,14 +121,6 @@ found-there : (o : Option Object) → isFound (object-found o) ≡ is-there o
 unfolding object-found is-there
 found-there none = refl
 found-there (some x) = refl
-
-pub not-true : (b : Bool) → not b ≡ true → b ≡ false
-not-true true h = absurd (false≢true h)
-not-true false h = refl
-
-pub not-false : (b : Bool) → not b ≡ false → b ≡ true
-not-false true h = refl
-not-false false h = absurd (false≢true (sym h))
 
 -- A reference's value: no name; no object; an object.
 module _ (s o : List ℕ) (n kind at len code : ℕ) where
@@ -283,7 +253,7 @@ module _ {s d e o st : List ℕ} {z : Sizes} {k j : ℕ} {f : File} {x : Stateme
       let read : ReadAt s (x .value) at len = record { bytes = v .bytes ∙ sym (ap₂ (partOf s) same-place value-size); number = v .number ∙ ap (λ p. num-of-step (stepAt s p)) (sym same-place) } in
       let taken : b ≡ fits (y .definition) (y .values) (x .value) =
       r e (z .enumerators) len (subst (λ p. FindsWord s d e (z .enumerators) j p len u) (sym pa) w) f y (x .value) (a .case .situation) (a .case .definitions) (a .case .enumerators)
-      (subst (λ i. RowOf f i y) (a .row) (row-of (a .case .situation) (a .stands) (a .has)))
+      (subst (λ i. RowOf f i y) (a .row) (row-of-definition (a .case .situation) (a .stands) (a .has)))
       (row-room j (a .case) (a .stands) (a .has) (a .row)) (all-reached (a .case) (y .values)) read (sym (pc ∙ value-code)) in
       ap (λ t. faultIf (not t) 15 at) taken
       ∙ fault-one (not (fits (y .definition) (y .values) (x .value))) (x .value) 15 at (sym same-place)
@@ -300,7 +270,7 @@ module _ {s d e o st : List ℕ} {z : Sizes} {k j : ℕ} {f : File} {x : Stateme
       go m (a-string t w b) = no-reference string t refl
       go m (a-boolean t w b v) = no-reference boolean t refl
       go m (an-enum t w b v) = no-reference enum t refl
-      go m (a-reference q t w b) = let l = kind-below q in absurd (omega arith)
+      go m (a-reference q t w b) = let l = kind-low q in absurd (omega arith)
 
   -- A list may be stated again.
   pub again-list : (c : ℕ) (before : Statements) → c ≡ getD d (j * 19 + 6) 0 → (c ≡ 0 → ⊥) → false ≡ both (not (y .definition .list)) (among (x .name) (names before))
@@ -448,9 +418,9 @@ module _ (s d e o st ms : List ℕ) (z : Sizes) (key m k n name size : ℕ) (pn 
       let vi = first-value a in
       let pa′ = pa ∙ first-cell a 2 (omega arith) in
       let key-is = v f t (x .value) (c .case .situation) (c .case .definitions) (c .case .enumerators)
-      (subst (λ u. RowOf f u t) (y .row) (row-of (c .case .situation) (sa .stands) (sa .has))) (row-room j (c .case) (sa .stands) (sa .has) (y .row)) (all-reached (c .case) (t .values))
+      (subst (λ u. RowOf f u t) (y .row) (row-of-definition (c .case .situation) (sa .stands) (sa .has))) (row-room j (c .case) (sa .stands) (sa .has) (y .row)) (all-reached (c .case) (t .values))
       (vi .bytes ∙ sym (ap₂ (partOf s) pa′ (pl ∙ first-cell a 3 (omega arith)))) in
-      let sc : ScopeAt f key′ (under (t .values) (x .value)) = subst (λ u. ScopeAt f u (under (t .values) (x .value))) (sym key-is) (scope-under (x .value) (c .case .situation) (row-of (c .case .situation) (sa .stands) (sa .has))) in
+      let sc : ScopeAt f key′ (under (t .values) (x .value)) = subst (λ u. ScopeAt f u (under (t .values) (x .value))) (sym key-is) (scope-under (x .value) (c .case .situation) (row-of-definition (c .case .situation) (sa .stands) (sa .has))) in
       let k₁ : suc k ≡ k + 1 = omega arith in
       let bi : BlockAt s st (k + 1) n inside = subst (λ u. BlockAt s st u n inside) k₁ (subst (λ u. BlockAt s st (suc k) u inside) (sym q) (inside-at a)) in
       l f (under (t .values) (x .value)) inside (x .value) (record { case = c .case; marked = c .marked; scope = sc }) bi (sym pa′)

@@ -6,18 +6,18 @@ use mathlib.Core.Option.{Option, none, some}
 use Prim.Native.Nat.{ℕ, zero, suc, _+_, _*_, _≤_, _<_}
 use native.Mathlib.Omega.{arith}
 use native.Mathlib.Decide.{ℕ-discrete, decLt}
-use lib.ListN.{length, length-append, getD, set, drop, List·getD-append}
+use lib.ListN.{length, getD, set, drop, List·getD-append}
 use lib.Seq.{getD-set-same, getD-set-other, sets, sets-eq}
 use lib.Dec.{eqb}
 use borrow.Author.Tests.{eq-eqb, ne-eqb, eqb-true}
-use Rattle.token.specs.Find.{pick, both, either}
+use Rattle.token.specs.Find.{both, either}
 use Rattle.token.specs.Tokens.{partOf}
 use Rattle.grammar.specs.Grammar.{Class, ordinary, numeral, quoted, other, kind-word, type-word, integer-word, word, sign, OIL-VERSION, IMPLEMENTATION, CPU, STRING, BOOLEAN, ENUM, TRUE, FALSE, AUTO, NO-DEFAULT, WITH-AUTO, lbrace, rbrace, lsquare, rsquare, equals, semicolon, colon, comma, dots}
 use Rattle.rows.specs.declared.Found.the-variants.{At, Nothing}
 use Rattle.rows.specs.Search.{hasKey, findRow}
 use Rattle.rows.proofs.Searches.{found-first, nothing-none}
-use Rattle.meaning.specs.Syntax.{Word, span-of, span-or, absent, Definitions, no-more, define, Values, no-value, value, Defined, Statements, done, File, statements-in}
-use Rattle.meaning.specs.Words.{alike, among, choose}
+use Rattle.meaning.specs.Syntax.{Word, span-of, span-or, absent, Definitions, no-more, define, Values, Defined, Statements, done, File, statements-in}
+use Rattle.meaning.specs.Words.{among}
 use Rattle.meaning.specs.Kinds.{kind-number}
 use Rattle.meaning.specs.Scopes.{Under, find-value, definitions-or, under, names, sort-of, sort-of-word}
 use Rattle.meaning.specs.Judging.{is-no-default, taken-by, taken, lacking, lacks, lacks-under}
@@ -29,11 +29,15 @@ use Rattle.blocks.specs.Blocks.{Holds, AllIn, none-in, IsStated}
 use Rattle.blocks.proofs.Files.{statements-held}
 use Rattle.scopes.specs.Situations.{HasDefinition, this-definition, later-definition, Stands, under-value, Nth, RowOf, Reached}
 use Rattle.scopes.specs.Promises.{place-found, FindsWord}
-use Rattle.scopes.proofs.Descents.{found-value}
+use Rattle.scopes.proofs.Descents.{found-value, row-of-definition}
 use Rattle.judging.specs.Promises.{Case, needed, Marked, Owned, lack, RowLacks, LacksRow, Lacks, Needs}
 use Rattle.judging.specs.declared.Sizes.{Sizes}
-use Rattle.judging.proofs.Standings.{stands-at, row-of, under-below, in-scope, nth-row, words-definition, file-stands}
+use Rattle.lookups.proofs.Standings.{stands-at, under-below, nth-row, words-definition, file-stands}
+use Rattle.judging.proofs.Standings.{in-scope}
 use Rattle.judging.proofs.Tables.{cell-under, cell-name, cell-size, cell-list, cell-default, cell-default-size, cell-default-code}
+use Rattle.token.proofs.Bytes.{both-false}
+use Rattle.meaning.proofs.Unders.{lacks-there}
+use Rattle.scopes.proofs.Rooms.{nth-low}
 
 -- Some and none ----------------------------------------------------------------------------------------------------------------------------
 
@@ -52,16 +56,6 @@ unfolding lacks lack needed
 none-lacks no-more ns g = refl
 none-lacks (define d vs ds) ns g =
     ap (λ b. either b (lacks ds ns)) (g (record { definition = d; values = vs }) this-definition) ∙ none-lacks ds ns (λ x h. g x (later-definition h))
-
-pub lacks-under-find : (vs : Values) (t : Word) → lacks-under vs t ≡ lacks (under vs t) []
-unfolding lacks choose under find-value definitions-or
-lacks-under-find no-value t = refl
-lacks-under-find (value w e us vs) t = go (alike w t) (lacks-under-find vs t)
-  where
-    go : (b : Bool) → lacks-under vs t ≡ lacks (definitions-or (find-value vs t)) []
-        → choose b (λ _. lacks us []) (λ _. lacks-under vs t) ≡ lacks (definitions-or (pick b (some (record { word = w; number = e; definitions = us })) (find-value vs t))) []
-    go true ih = refl
-    go false ih = ih
 
 -- Rows -------------------------------------------------------------------------------------------------------------------------------------
 
@@ -87,10 +81,6 @@ bit-more : (b : Bool) → (bit b ≡ 0 → ⊥) → b ≡ true
 unfolding bit
 bit-more true h = refl
 bit-more false h = absurd (h refl)
-
-both-false : (b : Bool) → both b false ≡ false
-both-false true = refl
-both-false false = refl
 
 both-true : (b : Bool) → both b true ≡ b
 both-true true = refl
@@ -249,7 +239,7 @@ needs-none x h = ap (λ o. lacking o (x .definition .list) (λ t. lacks-under (x
 -- It takes its default: what is under that.
 needs-default : (x : Defined) (t : Word) → taken (x .definition .default) ≡ some t → needed x ≡ lacks (under (x .values) t) []
 unfolding needed lacking
-needs-default x t h = ap (λ o. lacking o (x .definition .list) (λ w. lacks-under (x .values) w)) h ∙ lacks-under-find (x .values) t
+needs-default x t h = ap (λ o. lacking o (x .definition .list) (λ w. lacks-under (x .values) w)) h ∙ lacks-there (x .values) t
 
 -- The value that an attribute takes by default, and the place of its word in the attribute's list.
 pub record Taking (x : Defined) (key : ℕ) : Type 0 where
@@ -266,13 +256,10 @@ all-reached {f = f} c vs =
 -- A row's number is below the count.
 pub row-less : {s d e o st : List ℕ} {z : Sizes} {f : File} {u : Word} {ds : Definitions} {x : Defined} → Case s d e o st z f → Stands (f .specs) u ds → HasDefinition ds x
     → x .definition .row < z .definitions
-row-less {f = f} {u = u} {x = x} c q h =
+row-less c q h =
     let y = stands-at (c .situation) q h in
-    let n = y .nth in
     let a = c .definition-count in
-    let b = n .place in
-    let l = ap (λ l. length l) (n .whole) in
-    let m = length-append (n .front) (record { under = u; outer = y .outer; definition = x .definition; values = x .values } ∷ n .rest) in
+    let b = nth-low (y .nth) in
     omega arith
 
 pub row-room : {s d e o st : List ℕ} {z : Sizes} {f : File} {u : Word} {ds : Definitions} {x : Defined} (j : ℕ) → Case s d e o st z f → Stands (f .specs) u ds → HasDefinition ds x
@@ -337,7 +324,7 @@ module _ {s d e o st : List ℕ} {z : Sizes} {f : File} {u : Word} {ds : Definit
           record {
             word-of = t;
             takes = ap taken q ∙ b;
-            key-is = w f x t (c .situation) (c .definitions) (c .enumerators) (subst (λ y. RowOf f y x) r (row-of (c .situation) q₀ h)) (row-room j c q₀ h r)
+            key-is = w f x t (c .situation) (c .definitions) (c .enumerators) (subst (λ y. RowOf f y x) r (row-of-definition (c .situation) q₀ h)) (row-room j c q₀ h r)
                 (all-reached c (x .values)) (a .0 .bytes ∙ ap₂ (partOf s) n m);
           }
 

@@ -8,7 +8,8 @@ use native.Mathlib.Omega.{arith}
 use lib.ListN.{length, getD}
 use Rattle.token.specs.Words.{same}
 use Rattle.token.specs.Tokens.{partOf}
-use Rattle.indexes.proofs.Same.{same-equal, differ}
+use Rattle.token.proofs.Bytes.{not-true}
+use Rattle.token.proofs.Codes.{same-equal}
 use Rattle.rows.specs.declared.Found.{Found}
 use Rattle.rows.specs.declared.Found.the-variants.{At, Nothing}
 use Rattle.rows.specs.Search.{isFound}
@@ -64,7 +65,7 @@ module _ (st h : List ℕ) (a e g : ℕ) where
       record {
         later = omega (arith, z .later, after-later st k e l);
         finds = λ s at len f i b c u.
-            let other = differ (same (partOf s at len) (nameOf s st 7 0 k)) (λ w. q (b .cell k j ∙ sym (c ∙ ap f (same-equal (partOf s at len) (nameOf s st 7 0 k) w)))) in
+            let other = not-true (same (partOf s at len) (nameOf s st 7 0 k)) (λ w. q (b .cell k j ∙ sym (c ∙ ap f (same-equal (partOf s at len) (nameOf s st 7 0 k) w)))) in
             z .finds s at len f i b c (finds-after s st k e at len i l other (subst (λ (v : ℕ). FindsStated s st v e at len i) y u));
       }
 

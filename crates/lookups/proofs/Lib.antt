@@ -1,3 +1,4 @@
 pub mod Notes
 pub mod Blocks
 pub mod Rows
+pub mod Standings

@@ -12,11 +12,11 @@ use borrow.Author.Tests.{ne-eqb}
 use Rattle.token.specs.Find.{pick}
 use Rattle.token.specs.Tokens.{partOf, stepAt}
 use Rattle.meaning.specs.Actions.{num-of-step}
-use Rattle.meaning.specs.Syntax.{Word, span-of, span-or, absent, Definition, Definitions, no-more, define, Values, no-value, value, Defined, Statement, Statements, done, state, Object, File, statements-in}
+use Rattle.meaning.specs.Syntax.{Word, span-of, span-or, absent, Definition, Definitions, no-more, define, Values, value, Defined, Statement, Statements, done, state, File, statements-in}
 use Rattle.meaning.specs.Words.{alike, choose}
 use Rattle.meaning.specs.Scopes.{a-number, a-string, a-truth, an-auto, a-no-default, a-name, Under, find-value, definitions-or, under}
 use Rattle.meaning.specs.Judging.{is-no-default, taken-by, taken}
-use Rattle.meaning.specs.Resolving.{Resolved, end, resolved, of-value, take-value, entries, default-entry, resolve, resolve-under, value-row}
+use Rattle.meaning.specs.Resolving.{Resolved, end, resolved, of-value, take-value, entries, default-entry, value-row}
 use Rattle.meaning.specs.Cells.{owner-sort, owner-row, value-cells, flag}
 use Rattle.meaning.proofs.Entries.{joins}
 use Rattle.meaning.proofs.Sites.{option-words}
@@ -32,23 +32,13 @@ use Rattle.resolving.specs.Tables.{Tables, Given, Attribute, Below}
 use Rattle.resolving.specs.Written.{Wrote}
 use Rattle.resolving.specs.Promises.{WordAt, PutValue, inner-of, one-entry, stated-entries, default-entries, Enters, EntersStated, ResolvesDefault, Resolves}
 use Rattle.resolving.proofs.Sorts.{sort-coded, tells}
-use Rattle.resolving.proofs.Standings.{under-below, value-has, scope-under}
+use Rattle.scopes.proofs.Descents.{found-value, scope-under}
+use Rattle.lookups.proofs.Standings.{under-below}
 use Rattle.resolving.proofs.Turns.{known}
 use Rattle.resolving.proofs.Writes.{wrote-none, wrote-full, wrote-entry, wrote-same}
+use Rattle.meaning.proofs.Unders.{resolves-under}
 
 -- A value and what is under it --------------------------------------------------------------------------------------------------------------
-
--- Under a value is the scope of the list's value that has its word.
-under-is : (vs : Values) (os : List Object) (t : Word) (us : Statements) → resolve (under vs t) os us ≡ resolve-under vs os t us
-unfolding resolve under definitions-or find-value choose
-under-is no-value os t us = refl
-under-is (value w e ds vs) os t us = by (alike w t) (under-is vs os t us)
-  where
-    by : (b : Bool) → resolve (definitions-or (find-value vs t)) os us ≡ resolve-under vs os t us
-        → resolve (definitions-or (pick b (some (record { word = w; number = e; definitions = ds })) (find-value vs t))) os us
-        ≡ choose b (λ _. resolve ds os us) (λ _. resolve-under vs os t us)
-    by true h = refl
-    by false h = h
 
 is-more : Definitions → Bool
 is-more no-more = false
@@ -72,7 +62,7 @@ below-under {s} {f} {j} {x} t p a = by (find-value (x .values) t) refl
   where
     by : (o : Option Under) → find-value (x .values) t ≡ o → Below j (definitions-or o)
     by none e = none-below j
-    by (some v) e = λ y h. let k = under-below p (a .stands) (a .has) (value-has (x .values) t v e) h in let r = a .row in omega arith
+    by (some v) e = λ y h. let k = under-below p (a .stands) (a .has) (found-value (x .values) t e) h in let r = a .row in omega arith
 
 -- All enumerators are in the table.
 pub reached : {s d e o : List ℕ} {z : Sizes} {f : File} (vs : Values) → Tables s d e o z f → Reached f (z .enumerators) vs
@@ -116,11 +106,11 @@ module _ {s d e o st v : List ℕ} {z : Sizes} {j stated at len code from till :
       let tk = take-value b (f .objects) (x .definition) (x .values) t in
       let p = put f x t b ow T a wa own fl in
       let q = finds f x t (T .situation) (T .in-definitions) (T .in-enumerators) (k .row-of) lo (reached (x .values) T) (wa .read .bytes) in
-      let sc = subst (λ i. ScopeAt f i (under (x .values) t)) (sym q) (scope-under t (a .stands) (a .has)) in
+      let sc = subst (λ i. ScopeAt f i (under (x .values) t)) (sym q) (scope-under t (T .situation) (k .row-of)) in
       let l : length v₁ ≡ length v = ap length p ∙ length-sets v (n * 9) (value-cells (value-row tk ow)) in
       let m = room .room in
       wrote-entry tk p
-      (wrote-same (under-is (x .values) (f .objects) t us)
+      (wrote-same (sym (resolves-under (x .values) (f .objects) t us))
       (res f (under (x .values) t) us (of-value n) g sc (below-under t (T .situation) a) (omega arith) bl (record { sort = refl; row = refl }) (record { room = omega arith; low = omega arith })))
 
 -- The values that a block states -------------------------------------------------------------------------------------------------------------

@@ -6,7 +6,7 @@ use Rattle.scopes.specs.Situations.{Situation}
 use Rattle.scopes.specs.Forms.{Formed}
 use Rattle.scopes.proofs.Descents.{nth-in, entry-facts}
 use Rattle.resolving.specs.Tables.{Attribute}
-use Rattle.resolving.proofs.Standings.{stands-at}
+use Rattle.lookups.proofs.Standings.{stands-at}
 
 pub attribute-formed : {s : List ℕ} {f : File} {j : ℕ} {x : Defined} → Situation s f → Attribute f j x → Formed s (x .definition) (x .values)
 attribute-formed p a = entry-facts p (nth-in (stands-at p (a .stands) (a .has) .nth)) .facts .formed

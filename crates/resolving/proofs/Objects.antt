@@ -18,9 +18,10 @@ use Rattle.resolving.specs.declared.Sizes.{Sizes}
 use Rattle.resolving.specs.Tables.{Given, Below}
 use Rattle.resolving.specs.Written.{WroteAll}
 use Rattle.resolving.specs.Promises.{Resolves, Places, ResolvesAll}
-use Rattle.resolving.proofs.Sorts.{kind-low}
-use Rattle.resolving.proofs.Standings.{stands-at, kind-scope}
-use Rattle.resolving.proofs.Turns.{nth-low}
+use Rattle.layout.proofs.Codes.{kind-low}
+use Rattle.scopes.proofs.Descents.{scope-of-kind}
+use Rattle.lookups.proofs.Standings.{stands-at}
+use Rattle.scopes.proofs.Rooms.{nth-low}
 use Rattle.resolving.proofs.Entrances.{none-below}
 use Rattle.resolving.proofs.Writes.{wrote-first, wrote-next, all-length}
 
@@ -134,7 +135,7 @@ module _ {s d e o st v : List ℕ} {z : Sizes} {ps : List ℕ} where
         let k : kind ≡ kind-number (y .kind) = c₀ ∙ R .kind in
         let q : key ≡ kind-place (kind-number (y .kind)) (f .specs) = c₁ ∙ p .places kind lo ∙ ap (λ m. kind-place m (f .specs)) k in
         let ds = of-kind (y .kind) (f .specs) in
-        let sc : ScopeAt f key ds = subst (λ m. ScopeAt f m ds) (sym q) (kind-scope f (y .kind)) in
+        let sc : ScopeAt f key ds = subst (λ m. ScopeAt f m ds) (sym q) (scope-of-kind f (y .kind)) in
         let be : Below (z .definitions) ds = subst (λ m. Below m ds) (sym (g .tables .definitions)) (scope-below key ds (g .tables .situation) sc) in
         let a : from ≡ statement-count (x .front) = c₂ ∙ R .from in
         let b : till ≡ statement-count (x .front) + statements-in (y .statements) = c₃ ∙ R .till in

@@ -1,7 +1,6 @@
 -- The sorts of words by their codes. Assumes nothing.
 use mathlib.Core.Path.{_≡_, refl}
-use Prim.Native.Nat.{ℕ, _≤_}
-use native.Mathlib.Omega.{arith}
+use Prim.Native.Nat.{ℕ}
 use lib.Dec.{eqb}
 use borrow.Author.Tests.{ne-eqb}
 use Rattle.token.specs.Find.{pick}
@@ -102,26 +101,3 @@ tells (sign x) = tells-sign x
 pub name-coded : (n : ℕ) → (n ≡ 42 → ⊥) → (n ≡ 43 → ⊥) → (n ≡ 1 → ⊥) → (n ≡ 2 → ⊥) → (n ≡ 3 → ⊥) → (n ≡ 4 → ⊥) → sort-coded n ≡ a-name
 unfolding sort-coded
 name-coded n a b c d e f = rw (ne-eqb n 42 a, ne-eqb n 43 b, ne-eqb n 1 c, ne-eqb n 2 d, ne-eqb n 3 e, ne-eqb n 4 f)
-
-pub kind-low : (k : Kind) → kind-number k ≤ 12
-unfolding kind-number
-kind-low OS = omega arith
-kind-low APPMODE = omega arith
-kind-low TASK = omega arith
-kind-low ISR = omega arith
-kind-low COUNTER = omega arith
-kind-low ALARM = omega arith
-kind-low RESOURCE = omega arith
-kind-low EVENT = omega arith
-kind-low COM = omega arith
-kind-low MESSAGE = omega arith
-kind-low NETWORKMESSAGE = omega arith
-kind-low IPDU = omega arith
-kind-low NM = omega arith
-
-pub integer-low : (i : Integer) → integer-number i ≤ 3
-unfolding integer-number
-integer-low UINT32 = omega arith
-integer-low INT32 = omega arith
-integer-low UINT64 = omega arith
-integer-low INT64 = omega arith

@@ -1,15 +1,11 @@
 -- A loop over the statements of a block that have an attribute's name. Assumes nothing.
-use mathlib.Core.Path.{_≡_, refl, sym, _∙_, ap, ap₂, subst}
-use mathlib.Core.List.{List, [], _∷_}
+use mathlib.Core.Path.{_≡_, refl, sym, _∙_, ap, subst}
+use mathlib.Core.List.{List}
 use mathlib.Core.Bool.{Bool, true, false, false≢true}
 use Prim.Native.Nat.{ℕ, suc, _+_, _*_, _≤_, _<_}
 use native.Mathlib.Omega.{arith}
-use native.Mathlib.Decide.{ℕ-discrete}
 use lib.ListN.{getD}
-use lib.Dec.{eqb}
-use borrow.Author.Tests.{eq-eqb, ne-eqb}
-use Rattle.token.specs.Find.{pick, both}
-use Rattle.token.specs.Words.{same}
+use Rattle.token.specs.Find.{pick}
 use Rattle.rows.specs.Search.{isFound}
 use Rattle.rows.specs.declared.Found.{Found}
 use Rattle.rows.specs.declared.Found.the-variants.{At, Nothing}
@@ -27,22 +23,9 @@ use Rattle.resolving.specs.Promises.{stated-entries, Room, EntersStated,
 use Rattle.resolving.proofs.Turns.{name-at, row-stated, row-default}
 use Rattle.resolving.proofs.Entrances.{entries-none, entries-other, entries-more}
 use Rattle.resolving.proofs.Writes.{wrote-length, wrote-none, wrote-joins, wrote-same, joins-end, joins-joins}
+use Rattle.scopes.proofs.Finding.{same-sym}
 
 -- The statements that have a name ----------------------------------------------------------------------------------------------------------
-
-eqb-sym : (a b : ℕ) → eqb a b ≡ eqb b a
-eqb-sym a b = by (ℕ-discrete a b)
-  where
-    by : Dec (a ≡ b) → eqb a b ≡ eqb b a
-    by (yes e) = eq-eqb a b e ∙ sym (eq-eqb b a (sym e))
-    by (no n) = ne-eqb a b n ∙ sym (ne-eqb b a (λ e. n (sym e)))
-
-same-sym : (a b : List ℕ) → same a b ≡ same b a
-unfolding same
-same-sym [] [] = refl
-same-sym [] (y ∷ b) = refl
-same-sym (x ∷ a) [] = refl
-same-sym (x ∷ a) (y ∷ b) = ap₂ both (eqb-sym x y) (same-sym a b)
 
 alike-sym : (t u : Word) → alike t u ≡ alike u t
 unfolding alike

@@ -8,7 +8,7 @@ use lib.ListN.{length, getD, length-append}
 use lib.Dec.{eqb}
 use borrow.Author.Tests.{eq-eqb, ne-eqb}
 use Rattle.token.specs.Tokens.{partOf}
-use Rattle.meaning.specs.Syntax.{Word, span-of, span-or, Definitions, no-more, define, Values, no-value, value, Defined, Statements, File, is-enum}
+use Rattle.meaning.specs.Syntax.{Word, span-of, span-or, Definitions, no-more, define, Defined, Statements, File}
 use Rattle.meaning.specs.Words.{among, choose}
 use Rattle.meaning.specs.Scopes.{names}
 use Rattle.meaning.specs.Defining.{DefinitionRow, definition-row}
@@ -16,26 +16,21 @@ use Rattle.meaning.specs.Resolving.{Resolved, end, Owner, resolve}
 use Rattle.meaning.proofs.Entries.{joins, contributed, resolve-more}
 use Rattle.meaning.proofs.Sites.{option-words}
 use Rattle.meaning.proofs.Standing.{Standing, standing-if, select, standing}
-use Rattle.layout.specs.Kept.{Entry, spec-entries, definition-cells, truth-cells, default-code, code-of}
+use Rattle.layout.specs.Kept.{Entry, spec-entries, definition-cells, default-code, code-of}
 use Rattle.blocks.specs.Blocks.{WordIn, AllIn, BlockAt, IsStated}
 use Rattle.scopes.specs.Situations.{Situation, HasDefinition, this-definition, later-definition, Stands, ScopeAt, no-scope, scope, Nth, RowOf}
-use Rattle.scopes.proofs.Rooms.{definition-cell}
+use Rattle.scopes.proofs.Rooms.{definition-cell, nth-low, default-cell}
 use Rattle.resolving.specs.declared.Sizes.{Sizes}
 use Rattle.resolving.specs.declared.Owner.{Owner as OwnerOf}
 use Rattle.resolving.specs.Tables.{Tables, Given, Attribute, Below, rows-of, Left}
 use Rattle.resolving.specs.Written.{Wrote, Owns}
 use Rattle.resolving.specs.Promises.{inner-of, stated-entries, default-entries, Room, ResolvesStated, ResolvesDefault, Turn, ResolvesRow, ResolvesUnder, Resolves}
-use Rattle.resolving.proofs.Standings.{stands-at, file-scope, rows-are-specs, file-stands, words-definition}
+use Rattle.scopes.proofs.Descents.{scope-facts}
+use Rattle.lookups.proofs.Standings.{stands-at, file-stands, words-definition}
+use Rattle.resolving.proofs.Standings.{rows-are-specs}
 use Rattle.resolving.proofs.Writes.{wrote-none, wrote-length, wrote-joins, wrote-same, joins-end, joins-joins}
 
 -- The row of an attribute -------------------------------------------------------------------------------------------------------------------
-
-fourth : (b : Bool) (vs : Values) (c : ℕ) → getD (truth-cells b vs ++ (c ∷ [])) 3 0 ≡ c
-unfolding truth-cells
-fourth true vs c = refl
-fourth false no-value c = refl
-fourth false (value t e us no-value) c = refl
-fourth false (value t e us (value f e′ us′ vs)) c = refl
 
 -- Its cells, and its words in the text.
 pub record Known (s d : List ℕ) (f : File) (j : ℕ) (x : Defined) : Type 0 where
@@ -50,13 +45,6 @@ pub record Known (s d : List ℕ) (f : File) (j : ℕ) (x : Defined) : Type 0 wh
   pub default-is : getD d (j * 19 + 18) 0 ≡ default-code (x .definition .default)
   pub name : WordIn s (x .definition .name)
   pub default : AllIn s (option-words (x .definition .default))
-
-pub nth-low : {A : Type 0} {l : List A} {j : ℕ} {x : A} → Nth l j x → j < length l
-nth-low {A} {l} {j} {x} n =
-    let a = ap (λ (k : List A). length k) (n .whole) in
-    let b = length-append (n .front) (x ∷ n .rest) in
-    let c = n .place in
-    omega arith
 
 pub known : {s d e o : List ℕ} {z : Sizes} {f : File} {j : ℕ} {x : Defined} → Tables s d e o z f → Attribute f j x → Known s d f j x
 unfolding definition-cells
@@ -80,7 +68,7 @@ known {s} {d} {e} {o} {z} {f} {j} {x} g a =
       type-code = c 12 (omega arith);
       default-place = c 10 (omega arith);
       default-length = c 11 (omega arith);
-      default-is = c 18 (omega arith) ∙ fourth (is-enum (x .definition .type)) (x .values) (default-code (x .definition .default));
+      default-is = default-cell f d j E (g .in-definitions) n l;
       name = w .1 .0;
       default = w .1 .1;
     }
@@ -170,7 +158,7 @@ left-start {s} {f} {u} {ds} p q = record {
   rest = spec-entries (f .specs);
   whole = refl;
   place = refl;
-  selected = ap (select (u .place) 0) (rows-are-specs (f .specs)) ∙ file-scope p q;
+  selected = ap (select (u .place) 0) (rows-are-specs (f .specs)) ∙ scope-facts p q .scope;
   stands = q;
   among = λ x h. h;
 }

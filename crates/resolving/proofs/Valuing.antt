@@ -30,10 +30,11 @@ use Rattle.resolving.specs.declared.Held.{Held}
 use Rattle.resolving.specs.Tables.{Tables, Attribute}
 use Rattle.resolving.specs.Written.{Holds}
 use Rattle.resolving.specs.Promises.{WordAt, NamedValue, ValueOf, PutValue}
-use Rattle.resolving.proofs.Sorts.{sort-coded, tells, name-coded, kind-low, integer-low}
+use Rattle.resolving.proofs.Sorts.{sort-coded, tells, name-coded}
 use Rattle.resolving.proofs.Turns.{known}
 use Rattle.resolving.proofs.Entrances.{reached}
 use Rattle.resolving.proofs.Forming.{attribute-formed}
+use Rattle.layout.proofs.Codes.{kind-low, integer-low}
 
 -- Nine cells, one by one.
 nine : {a b c d e f g h i a′ b′ c′ d′ e′ f′ g′ h′ i′ : ℕ} → a ≡ a′ → b ≡ b′ → c ≡ c′ → d ≡ d′ → e ≡ e′ → f ≡ f′ → g ≡ g′ → h ≡ h′ → i ≡ i′

@@ -11,22 +11,19 @@ use Rattle.meaning.specs.Resolving.{Taken, Resolved, end, resolved, Owner, of-o
 use Rattle.meaning.specs.Cells.{cells, value-cells}
 use Rattle.meaning.proofs.Entries.{joins, length-values, value-rows-joins, how-many-joins}
 use Rattle.resolving.specs.Written.{Wrote, WroteAll}
+use Rattle.meaning.proofs.Rooms.{value-width, value-rows-length}
 
 cells-append : (a b : List ValueRow) → cells value-cells (a ++ b) ≡ cells value-cells a ++ cells value-cells b
 unfolding cells
 cells-append [] b = refl
 cells-append (r ∷ a) b = ap (λ (l : List ℕ). value-cells r ++ l) (cells-append a b) ∙ sym (append-assoc (value-cells r) (cells value-cells a) (cells value-cells b))
 
-nine : (r : ValueRow) → length (value-cells r) ≡ 9
-unfolding value-cells
-nine r = refl
-
 length-cells : (rs : List ValueRow) → length (cells value-cells rs) ≡ length rs * 9
 unfolding cells
 length-cells [] = omega arith
 length-cells (r ∷ rs) =
     let a = length-append (value-cells r) (cells value-cells rs) in
-    let b = nine r in
+    let b = value-width r in
     let c = length-cells rs in
     omega arith
 
@@ -88,7 +85,7 @@ unfolding value-rows how-many-values cells
 wrote-entry {v} {n} t {us} {o} {v₁} {v₂} {n₂} e w =
     let s : n + 1 ≡ suc n = omega arith in
     let r = value-row t o in
-    let k = nine r in
+    let k = value-width r in
     let m : n * 9 + length (value-cells r) ≡ (n + 1) * 9 = omega arith in
     let c = w .count in
     let U = value-rows us (suc n) (of-value n) in
@@ -122,15 +119,6 @@ how-many-next : (rs : List Resolved) (r : Resolved) → how-many-in-all (rs ++ (
 unfolding how-many-in-all
 how-many-next [] r = omega arith
 how-many-next (x ∷ rs) r = let e = how-many-next rs r in omega arith
-
-length-rows : (rs : List Resolved) (i n : ℕ) → length (all-value-rows rs i n) ≡ how-many-in-all rs
-unfolding all-value-rows how-many-in-all
-length-rows [] i n = refl
-length-rows (r ∷ rs) i n =
-    let a = length-append (value-rows r n (of-object i)) (all-value-rows rs (suc i) (n + how-many-values r)) in
-    let b = length-values r n (of-object i) in
-    let c = length-rows rs (suc i) (n + how-many-values r) in
-    omega arith
 
 rows-next : (rs : List Resolved) (r : Resolved) (i n : ℕ)
     → all-value-rows (rs ++ (r ∷ [])) i n ≡ all-value-rows rs i n ++ value-rows r (n + how-many-in-all rs) (of-object (i + length rs))
@@ -175,7 +163,7 @@ wrote-next {v} {rs} {r} {v₁} {n₁} {i} {v₂} {n₂} l li p q =
     runs : sets v 0 (cells value-cells (all-value-rows (rs ++ (r ∷ [])) 0 0)) ≡ sets (sets v 0 (cells value-cells A)) (how-many-in-all rs * 9) (cells value-cells B)
     runs =
         let a = length-cells A in
-        let b = length-rows rs 0 0 in
+        let b = value-rows-length rs 0 0 in
         let e : 0 + length (cells value-cells A) ≡ how-many-in-all rs * 9 = omega arith in
         ap (λ (l : List ValueRow). sets v 0 (cells value-cells l)) (rows-next rs r 0 0)
         ∙ ap (λ (l : List ℕ). sets v 0 l) (cells-append A B)

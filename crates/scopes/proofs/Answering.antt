@@ -40,7 +40,7 @@ use Rattle.scopes.proofs.Descents.{In, here, there, whole, entry-facts,
 -- Definitions --------------------------------------------------------------------------------------------------------------------------------
 
 -- The rows of entries are those of the public table.
-unfoldable entry-rows : List Entry → List DefinitionRow
+unfoldable pub entry-rows : List Entry → List DefinitionRow
 entry-rows [] = []
 entry-rows (x ∷ xs) = definition-row (x .under) (x .definition) ∷ entry-rows xs
 
@@ -62,7 +62,7 @@ mutual
   rows-under no-value o = refl
   rows-under (value w e us vs) o = rows-append (entries us w o) (entries-under vs o) ∙ ap₂ _++_ (rows-of us w o) (rows-under vs o)
 
-spec-rows : (xs : List Spec) → entry-rows (spec-entries xs) ≡ all-definition-rows xs
+pub spec-rows : (xs : List Spec) → entry-rows (spec-entries xs) ≡ all-definition-rows xs
 unfolding spec-entries all-definition-rows entry-rows
 spec-rows [] = refl
 spec-rows (x ∷ xs) = rows-append (entries (x .definitions) (x .word) 0) (spec-entries xs) ∙ ap₂ _++_ (rows-of (x .definitions) (x .word) 0) (spec-rows xs)

@@ -1,5 +1,5 @@
 -- A lookup in a table finds what a search of the list does whose rows it has. Assumes nothing.
-use mathlib.Core.Path.{_≡_, refl, sym, _∙_, ap}
+use mathlib.Core.Path.{_≡_, refl, sym, _∙_, ap, ap₂}
 use mathlib.Core.List.{List, [], _∷_, _++_, append-assoc}
 use mathlib.Core.Bool.{Bool, true, false, false≢true}
 use mathlib.Core.Option.{Option, none, some}
@@ -12,7 +12,7 @@ use borrow.Author.Tests.{ne-eqb}
 use Rattle.token.specs.Find.{pick, both, either}
 use Rattle.token.specs.Words.{same}
 use Rattle.token.specs.Tokens.{partOf}
-use Rattle.token.proofs.Bytes.{neither-first, neither-second}
+use Rattle.token.proofs.Bytes.{neither-first, neither-second, eqb-sym}
 use Rattle.rows.specs.declared.Found.the-variants.{At, Nothing}
 use Rattle.rows.specs.Table.{first, anyOf}
 use Rattle.rows.specs.Search.{findFrom, hasKey, isNamed, findNamed}
@@ -22,6 +22,14 @@ use Rattle.meaning.specs.Kinds.{kind-number}
 use Rattle.layout.specs.Kept.{Entry, Choice, spec-entries, spec-choices, kept-definitions, kept-enumerators, kept-objects, definition-cells, choice-cells, object-cells}
 use Rattle.scopes.specs.Situations.{Nth, NoneOf}
 use Rattle.scopes.proofs.Rooms.{definition-cell, choice-cell, object-cell}
+
+-- Which of two names is asked for does not matter.
+pub same-sym : (a b : List ℕ) → same a b ≡ same b a
+unfolding same
+same-sym [] [] = refl
+same-sym [] (y ∷ b) = refl
+same-sym (x ∷ a) [] = refl
+same-sym (x ∷ a) (y ∷ b) = ap₂ both (eqb-sym x y) (same-sym a b)
 
 some-is : {A : Type 0} (x y : A) → some x ≡ some y → x ≡ y
 some-is x y e = cc

@@ -1,14 +1,13 @@
 -- Which fault of a list answers, by what the list has: two lists of which each has a fault not behind any of the other's answer alike.
 -- Assumes nothing.
-use mathlib.Core.Path.{_≡_, refl, sym, _∙_, ap, ap₂, subst}
+use mathlib.Core.Path.{_≡_, refl, sym, _∙_, ap, subst}
 use mathlib.Core.List.{List, [], _∷_, _++_, append-assoc, append-nil}
 use mathlib.Core.Bool.{Bool, true, false, false≢true}
 use mathlib.Core.Option.{Option, none, some}
 use mathlib.Core.Logic.{_⊎_, inl, inr, ⊎-elim}
-use Prim.Native.Nat.{ℕ, zero, suc, _+_, _≤_, _<_}
+use Prim.Native.Nat.{ℕ, _<_}
 use native.Mathlib.Omega.{arith}
-use lib.ListN.{length, length-append}
-use lib.Dec.{ltb}
+use lib.ListN.{length}
 use borrow.Author.Tests.{lt-ltb, le-ltb}
 use Rattle.token.specs.Find.{pick}
 use Rattle.rows.specs.declared.Fault.{Fault as Code}
@@ -16,7 +15,7 @@ use Rattle.rows.specs.Order as order
 use Rattle.rows.proofs.Orders as orders
 use Rattle.meaning.specs.Syntax.{Word}
 use Rattle.meaning.specs.Faults.{Fault, fault-if, ahead, sooner, first}
-use Rattle.meaning.proofs.Sooner.{Le, left-of, not-above, Lt, left, below, ahead-le, not-ahead, first-append}
+use Rattle.meaning.proofs.Sooner.{Le, left-of, not-above, Lt, left, below, ahead-le, not-ahead, first-append, le-trans, le-same}
 use Rattle.scopes.specs.Promises.{fault-of}
 use Rattle.scopes.specs.Listing.{each}
 
@@ -62,18 +61,6 @@ if-in false t n e = absurd (false≢true e)
 pub le-refl : (a : Fault) → Le a a
 le-refl a = not-above refl (omega arith)
 
-pub le-trans : {a b c : Fault} → Le a b → Le b c → Le a c
-le-trans (left-of h) (left-of i) = left-of (omega arith)
-le-trans (left-of h) (not-above e i) = left-of (omega arith)
-le-trans (not-above e h) (left-of i) = left-of (omega arith)
-le-trans (not-above e h) (not-above f i) = not-above (e ∙ f) (omega arith)
-
-le-same : (a b : Fault) → Le a b → Le b a → a ≡ b
-le-same a b (left-of h) (left-of i) = absurd (omega arith)
-le-same a b (left-of h) (not-above e i) = absurd (omega arith)
-le-same a b (not-above e h) (left-of i) = absurd (omega arith)
-le-same a b (not-above e h) (not-above f i) = let n : a .number ≡ b .number = omega arith in ap₂ (λ (p n : ℕ). record { place = p; number = n }) e n
-
 lt-le : {a b : Fault} → Lt a b → Le a b
 lt-le (left h) = left-of h
 lt-le (below e h) = not-above e (omega arith)
@@ -115,9 +102,6 @@ covered {g} h = record { cover = g; has = h; le = le-refl g }
 
 pub covered-by : {g : Fault} {m : List Fault} (h : Fault) → Has h m → Le h g → Covered g m
 covered-by h i l = record { cover = h; has = i; le = l }
-
-pub covered-trans : {g : Fault} {l m : List Fault} → Covered g l → ((h : Fault) → Has h l → Covered h m) → Covered g m
-covered-trans c f = let d = f (c .cover) (c .has) in record { cover = d .cover; has = d .has; le = le-trans (d .le) (c .le) }
 
 same-least : (l m : List Fault) → ((g : Fault) → Has g m → Covered g l) → ((g : Fault) → Has g l → Covered g m) → (o r : Option Fault) → Least l o → Least m r → o ≡ r
 same-least l m p q none none x y = refl

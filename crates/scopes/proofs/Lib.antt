@@ -4,7 +4,6 @@ pub mod Chains
 pub mod Coding
 pub mod Forming
 pub mod Goodness
-pub mod Runs
 pub mod Lists
 pub mod Descents
 pub mod Answering

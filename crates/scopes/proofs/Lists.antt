@@ -28,7 +28,7 @@ use Rattle.scopes.specs.Promises.{number-found}
 use Rattle.scopes.proofs.Goodness.{Goods, good-front, good-back}
 use Rattle.meaning.proofs.Runs.{run-le, cut, Out, cuts}
 use Rattle.scopes.proofs.Finding.{is-choice, none-chosen, none-first, first-one, none-one, one-append}
-pub use Rattle.layout.proofs.Lengths.{length-choices, length-choices-of}
+use Rattle.layout.proofs.Lengths.{length-choices, length-choices-of}
 
 pub none-append : (a : List Choice) (k : ℕ) (b : List Choice) → NoneOf k a → NoneOf k b → NoneOf k (a ++ b)
 none-append [] k b f g = g

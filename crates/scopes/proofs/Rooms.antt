@@ -1,15 +1,37 @@
 -- Cells of rows in a kept table. Assumes nothing.
 use mathlib.Core.Path.{_≡_, refl, sym, _∙_, ap, subst}
 use mathlib.Core.List.{List, [], _∷_, _++_}
-use Prim.Native.Nat.{ℕ, suc, _+_, _*_, _<_}
+use Prim.Native.Nat.{ℕ, suc, _+_, _*_, _<_, zero, _≤_}
 use native.Mathlib.Omega.{arith}
-use lib.ListN.{length, getD}
-use Rattle.meaning.specs.Syntax.{Object, File, statements-in}
-use Rattle.layout.specs.Kept.{Entry, Choice, definition-cells, choice-cells, object-cells, object-rows, spec-entries, spec-choices, map-cells, kept, kept-definitions, kept-enumerators, kept-objects}
+use lib.ListN.{length, getD, length-append}
+use Rattle.meaning.specs.Syntax.{Object, File, statements-in, Values, no-value, value, is-enum}
+use Rattle.layout.specs.Kept.{Entry, Choice, definition-cells, choice-cells, object-cells, object-rows, spec-entries, spec-choices, map-cells, kept, kept-definitions, kept-enumerators, kept-objects, Wide, truth-cells, default-code}
 use Rattle.scopes.specs.Situations.{Nth}
-pub use Rattle.layout.specs.Kept.{Wide}
 use Rattle.layout.proofs.Lengths.{map-append, length-map, wide-map, definition-wide, object-wide}
 use Rattle.layout.proofs.Cells.{cell-kept}
+use mathlib.Core.Bool.{Bool, true, false}
+
+-- A row's number is less than how many there are.
+pub nth-low : {A : Type 0} {l : List A} {j : ℕ} {x : A} → Nth l j x → j < length l
+nth-low {A} {l} {j} {x} n =
+    let a = ap (λ (k : List A). length k) (n .whole) in
+    let b = length-append (n .front) (x ∷ n .rest) in
+    let c = n .place in
+    omega arith
+
+-- The first n, and the rest.
+pub record Split {A : Type 0} (l : List A) (n : ℕ) : Type 0 where
+  pub front : List A
+  pub rest : List A
+  pub whole : l ≡ front ++ rest
+  pub many : length front ≡ n
+
+pub split : {A : Type 0} (l : List A) (n : ℕ) → n ≤ length l → Split l n
+split l zero h = record { front = []; rest = l; whole = refl; many = refl }
+split [] (suc n) h = absurd (omega arith)
+split (x ∷ l) (suc n) h =
+    let r = split l n (omega arith) in
+    record { front = x ∷ r .front; rest = r .rest; whole = ap (λ m. x ∷ m) (r .whole); many = ap suc (r .many) }
 
 -- A cell of row j, where there is room for it.
 pub kept-cell : (n w j c : ℕ) (rs : List (List ℕ)) (r : List ℕ) → Wide w rs → Nth rs j r → c < w → j * w + c < n → getD (kept n rs) (j * w + c) 0 ≡ getD r c 0
@@ -36,6 +58,19 @@ pub definition-cell : (f : File) (d : List ℕ) (j c : ℕ) (x : Entry) → d �
 unfolding kept-definitions
 definition-cell f d j c x e q h l =
     ap (λ (t : List ℕ). getD t (j * 19 + c) 0) e ∙ map-cell definition-cells 19 definition-wide (513 * 19) j c (spec-entries (f .specs)) x q l (omega arith)
+
+-- The last cell is the code of the default.
+last-truth : (b : Bool) (vs : Values) (k : ℕ) → getD (truth-cells b vs ++ (k ∷ [])) 3 0 ≡ k
+unfolding truth-cells
+last-truth true vs k = refl
+last-truth false no-value k = refl
+last-truth false (value t e us no-value) k = refl
+last-truth false (value t e us (value g e′ us′ vs)) k = refl
+
+pub default-cell : (f : File) (d : List ℕ) (j : ℕ) (x : Entry) → d ≡ kept-definitions f → Nth (spec-entries (f .specs)) j x → j < 513
+    → getD d (j * 19 + 18) 0 ≡ default-code (x .definition .default)
+unfolding definition-cells
+default-cell f d j x e q h = definition-cell f d j 18 x e q h (omega arith) ∙ last-truth (is-enum (x .definition .type)) (x .values) (default-code (x .definition .default))
 
 -- Enumerators.
 pub choice-cell : (f : File) (e : List ℕ) (j c : ℕ) (x : Choice) → e ≡ kept-enumerators f → Nth (spec-choices (f .specs)) j x → j < 1025 → c < 3

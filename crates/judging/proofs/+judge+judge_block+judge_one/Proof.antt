@@ -66,358 +66,8 @@ judge-Inv-loop text d e o st names missing z key from end best₀ k₀ best k = 
 abbrev judge-μ-loop : judge-lts.MeasureT-loop
 judge-μ-loop text d e o st names missing z key from end best₀ k₀ best k = end - k
 
-judge-loop-holds : (t : ℕ) → judge-lts.Need-loop-holds (
-  after-reads.Asked,
-  after-reads.Learnt,
-  judge-one-below t,
-  judge-one.Post,
-  sooner-reads.Asked,
-  sooner-reads.Learnt,
-) (judge-at t) judge.Post judge-Inv-loop judge-μ-loop
-judge-loop-holds t c = (omega arith, judging-start _ _ _ _ _ _ _ _ _ _)
-
-judge-after-requires : (t : ℕ) → judge-lts.Need-after-requires (
-  after-reads.Asked,
-  after-reads.Learnt,
-  judge-one-below t,
-  judge-one.Post,
-  sooner-reads.Asked,
-  sooner-reads.Learnt,
-) (judge-at t) judge.Post judge-Inv-loop judge-μ-loop
-judge-after-requires t c κs = tt
-
-judge-judge-one-requires : (t : ℕ) → judge-lts.Need-judge-one-requires (
-  after-reads.Asked,
-  after-reads.Learnt,
-  judge-one-below t,
-  judge-one.Post,
-  sooner-reads.Asked,
-  sooner-reads.Learnt,
-) (judge-at t) judge.Post judge-Inv-loop judge-μ-loop
-judge-judge-one-requires t c κs = (omega (arith, (c .after .ensures), after-later (c .before .before .before .before .before .before .before .before .before .before .args .st .now) (c .before .before .loop .k) (c .before .before .before .before .before .before .before .before .before .before .args .end) (c .before .loop-test .taken), after-inside (c .before .before .before .before .before .before .before .before .before .before .args .st .now) (c .before .before .loop .k) (c .before .before .before .before .before .before .before .before .before .before .args .end), (c .before .before .loop .inv .0), (c .before .before .before .before .before .before .before .before .before .before .pre .0)), (omega (arith, (c .after .ensures), after-later (c .before .before .before .before .before .before .before .before .before .before .args .st .now) (c .before .before .loop .k) (c .before .before .before .before .before .before .before .before .before .before .args .end) (c .before .loop-test .taken), after-inside (c .before .before .before .before .before .before .before .before .before .before .args .st .now) (c .before .before .loop .k) (c .before .before .before .before .before .before .before .before .before .before .args .end), (c .before .before .loop .inv .0), (c .before .before .before .before .before .before .before .before .before .before .pre .0)), (c .before .before .before .before .before .before .before .before .before .before .pre .1 .0), (c .before .before .before .before .before .before .before .before .before .before .pre .1 .1)))
-
-judge-sooner-requires : (t : ℕ) → judge-lts.Need-sooner-requires (
-  after-reads.Asked,
-  after-reads.Learnt,
-  judge-one-below t,
-  judge-one.Post,
-  sooner-reads.Asked,
-  sooner-reads.Learnt,
-) (judge-at t) judge.Post judge-Inv-loop judge-μ-loop
-judge-sooner-requires t c κs = tt
-
-judge-loop-less : (t : ℕ) → judge-lts.Need-loop-less (
-  after-reads.Asked,
-  after-reads.Learnt,
-  judge-one-below t,
-  judge-one.Post,
-  sooner-reads.Asked,
-  sooner-reads.Learnt,
-) (judge-at t) judge.Post judge-Inv-loop judge-μ-loop
-judge-loop-less t c = omega (arith, (c .before .before .after .ensures), after-later (c .before .before .before .before .before .before .before .before .before .before .before .before .args .st .now) (c .before .before .before .before .loop .k) (c .before .before .before .before .before .before .before .before .before .before .before .before .args .end) (c .before .before .before .loop-test .taken), after-inside (c .before .before .before .before .before .before .before .before .before .before .before .before .args .st .now) (c .before .before .before .before .loop .k) (c .before .before .before .before .before .before .before .before .before .before .before .before .args .end))
-
-judge-loop-again : (t : ℕ) → judge-lts.Need-loop-again (
-  after-reads.Asked,
-  after-reads.Learnt,
-  judge-one-below t,
-  judge-one.Post,
-  sooner-reads.Asked,
-  sooner-reads.Learnt,
-) (judge-at t) judge.Post judge-Inv-loop judge-μ-loop
-judge-loop-again t c = (omega (arith, (c .before .before .after .ensures), after-later (c .before .before .before .before .before .before .before .before .before .before .before .before .args .st .now) (c .before .before .before .before .loop .k) (c .before .before .before .before .before .before .before .before .before .before .before .before .args .end) (c .before .before .before .loop-test .taken), (c .before .before .before .before .loop .inv .0)), judging-step _ _ _ _ _ _ _ _ _ _ (c .before .before .before .before .loop .k) (c .before .before .after .result) (c .before .before .before .before .loop .best) (c .before .judge-one .result) (c .sooner .result) (c .before .before .after .ensures) (c .sooner .ensures) (c .before .before .before .loop-test .taken) (c .before .judge-one .ensures) (c .before .before .before .before .loop .inv .1))
-
-judge-returns : (t : ℕ) → judge-lts.Need-returns (
-  after-reads.Asked,
-  after-reads.Learnt,
-  judge-one-below t,
-  judge-one.Post,
-  sooner-reads.Asked,
-  sooner-reads.Learnt,
-) (judge-at t) judge.Post judge-Inv-loop judge-μ-loop
-judge-returns t c = judging-end _ _ _ _ _ _ _ _ _ _ (c .before .loop .k) (c .before .loop .best) (c .loop-test .left) (c .before .loop .inv .1)
-
-judge-block-lack-fault-requires : (t : ℕ) → judge-block-lts.Need-lack-fault-requires (
-  lack-fault-reads.Asked,
-  lack-fault-reads.Learnt,
-  judge-below t,
-  judge.Post,
-  sooner-reads.Asked,
-  sooner-reads.Learnt,
-) (judge-block-at t) judge-block.Post
-judge-block-lack-fault-requires t c κs = (c .before .before .before .before .before .before .before .pre .1 .1 .ranks)
-
-judge-block-judge-requires : (t : ℕ) → judge-block-lts.Need-judge-requires (
-  lack-fault-reads.Asked,
-  lack-fault-reads.Learnt,
-  judge-below t,
-  judge.Post,
-  sooner-reads.Asked,
-  sooner-reads.Learnt,
-) (judge-block-at t) judge-block.Post
-judge-block-judge-requires t c κs = (omega (arith, (c .before .before .before .before .before .before .before .before .pre .0)), (c .before .before .before .before .before .before .before .before .pre .1))
-
-judge-block-sooner-requires : (t : ℕ) → judge-block-lts.Need-sooner-requires (
-  lack-fault-reads.Asked,
-  lack-fault-reads.Learnt,
-  judge-below t,
-  judge.Post,
-  sooner-reads.Asked,
-  sooner-reads.Learnt,
-) (judge-block-at t) judge-block.Post
-judge-block-sooner-requires t c κs = tt
-
-judge-block-returns : (t : ℕ) → judge-block-lts.Need-returns (
-  lack-fault-reads.Asked,
-  lack-fault-reads.Learnt,
-  judge-below t,
-  judge.Post,
-  sooner-reads.Asked,
-  sooner-reads.Learnt,
-) (judge-block-at t) judge-block.Post
-judge-block-returns t c = block-by _ _ _ _ _ _ _ _ _ _ _ (c .before .before .lack-fault .result) (c .before .judge .result) (c .sooner .result) (c .sooner .ensures) (c .before .before .lack-fault .ensures) (c .before .judge .ensures)
-
-judge-one-cell-at-requires : (t : ℕ) → judge-one-lts.Need-cell-at-requires (
-  cell-at-reads.Asked,
-  cell-at-reads.Learnt,
-  find-definition-reads.Asked,
-  find-definition-reads.Learnt,
-  word-under-reads.Asked,
-  word-under-reads.Learnt,
-  own-fault-reads.Asked,
-  own-fault-reads.Learnt,
-  is-fault-reads.Asked,
-  is-fault-reads.Learnt,
-  judge-block-below t,
-  judge-block.Post,
-) (judge-one-at t) judge-one.Post
-judge-one-cell-at-requires t c κs = tt
-
-judge-one-cell-at-requires-2 : (t : ℕ) → judge-one-lts.Need-cell-at-requires-2 (
-  cell-at-reads.Asked,
-  cell-at-reads.Learnt,
-  find-definition-reads.Asked,
-  find-definition-reads.Learnt,
-  word-under-reads.Asked,
-  word-under-reads.Learnt,
-  own-fault-reads.Asked,
-  own-fault-reads.Learnt,
-  is-fault-reads.Asked,
-  is-fault-reads.Learnt,
-  judge-block-below t,
-  judge-block.Post,
-) (judge-one-at t) judge-one.Post
-judge-one-cell-at-requires-2 t c κs = tt
-
-judge-one-find-definition-requires : (t : ℕ) → judge-one-lts.Need-find-definition-requires (
-  cell-at-reads.Asked,
-  cell-at-reads.Learnt,
-  find-definition-reads.Asked,
-  find-definition-reads.Learnt,
-  word-under-reads.Asked,
-  word-under-reads.Learnt,
-  own-fault-reads.Asked,
-  own-fault-reads.Learnt,
-  is-fault-reads.Asked,
-  is-fault-reads.Learnt,
-  judge-block-below t,
-  judge-block.Post,
-) (judge-one-at t) judge-one.Post
-judge-one-find-definition-requires t c κs = (c .before .before .before .before .before .before .before .before .before .pre .1 .2 .definitions)
-
-judge-one-enum-known-j : (t : ℕ) → judge-one-lts.Need-enum-known-j (
-  cell-at-reads.Asked,
-  cell-at-reads.Learnt,
-  find-definition-reads.Asked,
-  find-definition-reads.Learnt,
-  word-under-reads.Asked,
-  word-under-reads.Learnt,
-  own-fault-reads.Asked,
-  own-fault-reads.Learnt,
-  is-fault-reads.Asked,
-  is-fault-reads.Learnt,
-  judge-block-below t,
-  judge-block.Post,
-) (judge-one-at t) judge-one.Post
-judge-one-enum-known-j t c = search needs
-
-judge-one-enum-told : (t : ℕ) → judge-one-lts.Need-enum-told (
-  cell-at-reads.Asked,
-  cell-at-reads.Learnt,
-  find-definition-reads.Asked,
-  find-definition-reads.Learnt,
-  word-under-reads.Asked,
-  word-under-reads.Learnt,
-  own-fault-reads.Asked,
-  own-fault-reads.Learnt,
-  is-fault-reads.Asked,
-  is-fault-reads.Learnt,
-  judge-block-below t,
-  judge-block.Post,
-) (judge-one-at t) judge-one.Post
-judge-one-enum-told t c = search needs
-
-judge-one-returns : (t : ℕ) → judge-one-lts.Need-returns (
-  cell-at-reads.Asked,
-  cell-at-reads.Learnt,
-  find-definition-reads.Asked,
-  find-definition-reads.Learnt,
-  word-under-reads.Asked,
-  word-under-reads.Learnt,
-  own-fault-reads.Asked,
-  own-fault-reads.Learnt,
-  is-fault-reads.Asked,
-  is-fault-reads.Learnt,
-  judge-block-below t,
-  judge-block.Post,
-) (judge-one-at t) judge-one.Post
-judge-one-returns t c = one-undefined _ _ _ _ _ _ _ _ _ _ _ (c .before .before .before .before .cell-at .result) (c .before .before .before .cell-at2 .result) (c .before .before .before .before .cell-at .ensures) (c .before .before .before .cell-at2 .ensures) (subst (λ r. FindsDefinition (c .before .before .before .before .before .before .before .before .before .before .before .before .args .text .now) (c .before .before .before .before .before .before .before .before .before .before .before .before .args .d .now) ((c .before .before .before .before .before .before .before .before .before .before .before .before .args .z) .definitions) (c .before .before .before .before .before .before .before .before .before .before .before .before .args .key) (c .before .before .before .before .cell-at .result) (c .before .before .before .cell-at2 .result) r) ((c .enum-told .given) .1) (c .before .before .find-definition .ensures))
-
-judge-one-cell-at-requires-3 : (t : ℕ) → judge-one-lts.Need-cell-at-requires-3 (
-  cell-at-reads.Asked,
-  cell-at-reads.Learnt,
-  find-definition-reads.Asked,
-  find-definition-reads.Learnt,
-  word-under-reads.Asked,
-  word-under-reads.Learnt,
-  own-fault-reads.Asked,
-  own-fault-reads.Learnt,
-  is-fault-reads.Asked,
-  is-fault-reads.Learnt,
-  judge-block-below t,
-  judge-block.Post,
-) (judge-one-at t) judge-one.Post
-judge-one-cell-at-requires-3 t c κs = tt
-
-judge-one-cell-at-requires-4 : (t : ℕ) → judge-one-lts.Need-cell-at-requires-4 (
-  cell-at-reads.Asked,
-  cell-at-reads.Learnt,
-  find-definition-reads.Asked,
-  find-definition-reads.Learnt,
-  word-under-reads.Asked,
-  word-under-reads.Learnt,
-  own-fault-reads.Asked,
-  own-fault-reads.Learnt,
-  is-fault-reads.Asked,
-  is-fault-reads.Learnt,
-  judge-block-below t,
-  judge-block.Post,
-) (judge-one-at t) judge-one.Post
-judge-one-cell-at-requires-4 t c κs = tt
-
-judge-one-word-under-requires : (t : ℕ) → judge-one-lts.Need-word-under-requires (
-  cell-at-reads.Asked,
-  cell-at-reads.Learnt,
-  find-definition-reads.Asked,
-  find-definition-reads.Learnt,
-  word-under-reads.Asked,
-  word-under-reads.Learnt,
-  own-fault-reads.Asked,
-  own-fault-reads.Learnt,
-  is-fault-reads.Asked,
-  is-fault-reads.Learnt,
-  judge-block-below t,
-  judge-block.Post,
-) (judge-one-at t) judge-one.Post
-judge-one-word-under-requires t c κs = (c .before .before .before .before .before .before .before .before .before .before .before .before .before .before .before .pre .1 .2 .enumerators)
-
-judge-one-own-fault-requires : (t : ℕ) → judge-one-lts.Need-own-fault-requires (
-  cell-at-reads.Asked,
-  cell-at-reads.Learnt,
-  find-definition-reads.Asked,
-  find-definition-reads.Learnt,
-  word-under-reads.Asked,
-  word-under-reads.Learnt,
-  own-fault-reads.Asked,
-  own-fault-reads.Learnt,
-  is-fault-reads.Asked,
-  is-fault-reads.Learnt,
-  judge-block-below t,
-  judge-block.Post,
-) (judge-one-at t) judge-one.Post
-judge-one-own-fault-requires t c κs = ((c .before .before .before .before .before .before .before .before .before .before .before .before .before .before .before .before .pre .1 .1), (c .before .before .before .before .before .before .before .before .before .before .before .before .before .before .before .before .pre .1 .2), under-at _ _ _ (c .before .before .before .before .before .before .before .before .before .before .before .before .before .before .before .before .args .st .now) _ _ (c .before .before .before .before .before .before .before .before .before .before .before .before .before .before .before .before .args .k) _ _ _ (c .before .before .cell-at3 .ensures) (c .before .cell-at4 .ensures) (c .word-under .ensures))
-
-judge-one-is-fault-requires : (t : ℕ) → judge-one-lts.Need-is-fault-requires (
-  cell-at-reads.Asked,
-  cell-at-reads.Learnt,
-  find-definition-reads.Asked,
-  find-definition-reads.Learnt,
-  word-under-reads.Asked,
-  word-under-reads.Learnt,
-  own-fault-reads.Asked,
-  own-fault-reads.Learnt,
-  is-fault-reads.Asked,
-  is-fault-reads.Learnt,
-  judge-block-below t,
-  judge-block.Post,
-) (judge-one-at t) judge-one.Post
-judge-one-is-fault-requires t c κs = tt
-
-judge-one-returns-2 : (t : ℕ) → judge-one-lts.Need-returns-2 (
-  cell-at-reads.Asked,
-  cell-at-reads.Learnt,
-  find-definition-reads.Asked,
-  find-definition-reads.Learnt,
-  word-under-reads.Asked,
-  word-under-reads.Learnt,
-  own-fault-reads.Asked,
-  own-fault-reads.Learnt,
-  is-fault-reads.Asked,
-  is-fault-reads.Learnt,
-  judge-block-below t,
-  judge-block.Post,
-) (judge-one-at t) judge-one.Post
-judge-one-returns-2 t c = one-fault _ _ _ _ _ _ _ _ _ _ _ (c .before .before .before .before .before .before .before .before .before .before .before .cell-at .result) (c .before .before .before .before .before .before .before .before .before .before .cell-at2 .result) (c .before .before .before .before .before .before .before .before .before .before .before .cell-at .ensures) (c .before .before .before .before .before .before .before .before .before .before .cell-at2 .ensures) _ (c .before .before .own-fault .result) (subst (λ r. FindsDefinition (c .before .before .before .before .before .before .before .before .before .before .before .before .before .before .before .before .before .before .before .args .text .now) (c .before .before .before .before .before .before .before .before .before .before .before .before .before .before .before .before .before .before .before .args .d .now) ((c .before .before .before .before .before .before .before .before .before .before .before .before .before .before .before .before .before .before .before .args .z) .definitions) (c .before .before .before .before .before .before .before .before .before .before .before .before .before .before .before .before .before .before .before .args .key) (c .before .before .before .before .before .before .before .before .before .before .before .cell-at .result) (c .before .before .before .before .before .before .before .before .before .before .cell-at2 .result) r) ((c .before .before .before .before .before .before .before .j .given) .1) (c .before .before .before .before .before .before .before .before .before .find-definition .ensures)) (c .before .before .own-fault .ensures) (sym (c .before .is-fault .ensures) ∙ (c .if1 .taken))
-
-judge-one-add-judge-block : (t : ℕ) → judge-one-lts.Need-add-judge-block (
-  cell-at-reads.Asked,
-  cell-at-reads.Learnt,
-  find-definition-reads.Asked,
-  find-definition-reads.Learnt,
-  word-under-reads.Asked,
-  word-under-reads.Learnt,
-  own-fault-reads.Asked,
-  own-fault-reads.Learnt,
-  is-fault-reads.Asked,
-  is-fault-reads.Learnt,
-  judge-block-below t,
-  judge-block.Post,
-) (judge-one-at t) judge-one.Post
-judge-one-add-judge-block t c = omega (arith, (c .before .before .before .before .before .before .before .before .before .before .before .before .before .before .before .before .before .before .before .pre .1), (c .before .before .before .before .before .before .before .before .before .before .before .before .before .before .before .before .before .before .before .fits .end))
-
-judge-one-judge-block-requires : (t : ℕ) → judge-one-lts.Need-judge-block-requires (
-  cell-at-reads.Asked,
-  cell-at-reads.Learnt,
-  find-definition-reads.Asked,
-  find-definition-reads.Learnt,
-  word-under-reads.Asked,
-  word-under-reads.Learnt,
-  own-fault-reads.Asked,
-  own-fault-reads.Learnt,
-  is-fault-reads.Asked,
-  is-fault-reads.Learnt,
-  judge-block-below t,
-  judge-block.Post,
-) (judge-one-at t) judge-one.Post
-judge-one-judge-block-requires t c κs = (omega (arith, (c .before .before .before .before .before .before .before .before .before .before .before .before .before .before .before .before .before .before .before .pre .0), (c .before .before .before .before .before .before .before .before .before .before .before .before .before .before .before .before .before .before .before .pre .1)), ((c .before .before .before .before .before .before .before .before .before .before .before .before .before .before .before .before .before .before .before .pre .1 .1), (c .before .before .before .before .before .before .before .before .before .before .before .before .before .before .before .before .before .before .before .pre .1 .2)))
-
-judge-one-returns-3 : (t : ℕ) → judge-one-lts.Need-returns-3 (
-  cell-at-reads.Asked,
-  cell-at-reads.Learnt,
-  find-definition-reads.Asked,
-  find-definition-reads.Learnt,
-  word-under-reads.Asked,
-  word-under-reads.Learnt,
-  own-fault-reads.Asked,
-  own-fault-reads.Learnt,
-  is-fault-reads.Asked,
-  is-fault-reads.Learnt,
-  judge-block-below t,
-  judge-block.Post,
-) (judge-one-at t) judge-one.Post
-judge-one-returns-3 t c = one-inside _ _ _ _ _ _ _ _ _ _ _ (c .before .before .before .before .before .before .before .before .before .before .before .before .cell-at .result) (c .before .before .before .before .before .before .before .before .before .before .before .cell-at2 .result) (c .before .before .before .before .before .before .before .before .before .before .before .before .cell-at .ensures) (c .before .before .before .before .before .before .before .before .before .before .before .cell-at2 .ensures) _ (c .before .before .before .before .before .before .cell-at3 .result) (c .before .before .before .before .before .cell-at4 .result) (c .before .before .before .before .word-under .result) (c .before .before .before .own-fault .result) (c .judge-block .result) (subst (λ r. FindsDefinition (c .before .before .before .before .before .before .before .before .before .before .before .before .before .before .before .before .before .before .before .before .args .text .now) (c .before .before .before .before .before .before .before .before .before .before .before .before .before .before .before .before .before .before .before .before .args .d .now) ((c .before .before .before .before .before .before .before .before .before .before .before .before .before .before .before .before .before .before .before .before .args .z) .definitions) (c .before .before .before .before .before .before .before .before .before .before .before .before .before .before .before .before .before .before .before .before .args .key) (c .before .before .before .before .before .before .before .before .before .before .before .before .cell-at .result) (c .before .before .before .before .before .before .before .before .before .before .before .cell-at2 .result) r) ((c .before .before .before .before .before .before .before .before .j .given) .1) (c .before .before .before .before .before .before .before .before .before .before .find-definition .ensures)) (c .before .before .before .own-fault .ensures) (sym (c .before .before .is-fault .ensures) ∙ (c .before .if1 .left)) (c .before .before .before .before .before .before .cell-at3 .ensures) (c .before .before .before .before .before .cell-at4 .ensures) (c .before .before .before .before .word-under .ensures) (c .judge-block .ensures)
-
-pub +judge+judge-block+judge-one-spec : {M : Type 1} → statement M
-+judge+judge-block+judge-one-spec = close μ-judge μ-judge-block μ-judge-one (λ t. judge-lts.spec (
+abbrev judge-claims : ℕ → judge-lts.Claims
+judge-claims t = (
   after-reads.Asked,
   after-reads.Learnt,
   judge-one-below t,
@@ -425,6 +75,113 @@ pub +judge+judge-block+judge-one-spec : {M : Type 1} → statement M
   sooner-reads.Asked,
   sooner-reads.Learnt,
 )
+
+judge-loop-holds : (t : ℕ) → judge-lts.Need-loop-holds (judge-claims t) (judge-at t) judge.Post judge-Inv-loop judge-μ-loop
+judge-loop-holds t c = (omega arith, judging-start _ _ _ _ _ _ _ _ _ _)
+
+judge-after-requires : (t : ℕ) → judge-lts.Need-after-requires (judge-claims t) (judge-at t) judge.Post judge-Inv-loop judge-μ-loop
+judge-after-requires t c κs = tt
+
+judge-judge-one-requires : (t : ℕ) → judge-lts.Need-judge-one-requires (judge-claims t) (judge-at t) judge.Post judge-Inv-loop judge-μ-loop
+judge-judge-one-requires t c κs = (omega (arith, (c .after .ensures), after-later (c .before .before .before .before .before .before .before .before .before .before .args .st .now) (c .before .before .loop .k) (c .before .before .before .before .before .before .before .before .before .before .args .end) (c .before .loop-test .taken), after-inside (c .before .before .before .before .before .before .before .before .before .before .args .st .now) (c .before .before .loop .k) (c .before .before .before .before .before .before .before .before .before .before .args .end), (c .before .before .loop .inv .0), (c .before .before .before .before .before .before .before .before .before .before .pre .0)), (omega (arith, (c .after .ensures), after-later (c .before .before .before .before .before .before .before .before .before .before .args .st .now) (c .before .before .loop .k) (c .before .before .before .before .before .before .before .before .before .before .args .end) (c .before .loop-test .taken), after-inside (c .before .before .before .before .before .before .before .before .before .before .args .st .now) (c .before .before .loop .k) (c .before .before .before .before .before .before .before .before .before .before .args .end), (c .before .before .loop .inv .0), (c .before .before .before .before .before .before .before .before .before .before .pre .0)), (c .before .before .before .before .before .before .before .before .before .before .pre .1 .0), (c .before .before .before .before .before .before .before .before .before .before .pre .1 .1)))
+
+judge-sooner-requires : (t : ℕ) → judge-lts.Need-sooner-requires (judge-claims t) (judge-at t) judge.Post judge-Inv-loop judge-μ-loop
+judge-sooner-requires t c κs = tt
+
+judge-loop-less : (t : ℕ) → judge-lts.Need-loop-less (judge-claims t) (judge-at t) judge.Post judge-Inv-loop judge-μ-loop
+judge-loop-less t c = omega (arith, (c .before .before .after .ensures), after-later (c .before .before .before .before .before .before .before .before .before .before .before .before .args .st .now) (c .before .before .before .before .loop .k) (c .before .before .before .before .before .before .before .before .before .before .before .before .args .end) (c .before .before .before .loop-test .taken), after-inside (c .before .before .before .before .before .before .before .before .before .before .before .before .args .st .now) (c .before .before .before .before .loop .k) (c .before .before .before .before .before .before .before .before .before .before .before .before .args .end))
+
+judge-loop-again : (t : ℕ) → judge-lts.Need-loop-again (judge-claims t) (judge-at t) judge.Post judge-Inv-loop judge-μ-loop
+judge-loop-again t c = (omega (arith, (c .before .before .after .ensures), after-later (c .before .before .before .before .before .before .before .before .before .before .before .before .args .st .now) (c .before .before .before .before .loop .k) (c .before .before .before .before .before .before .before .before .before .before .before .before .args .end) (c .before .before .before .loop-test .taken), (c .before .before .before .before .loop .inv .0)), judging-step _ _ _ _ _ _ _ _ _ _ (c .before .before .before .before .loop .k) (c .before .before .after .result) (c .before .before .before .before .loop .best) (c .before .judge-one .result) (c .sooner .result) (c .before .before .after .ensures) (c .sooner .ensures) (c .before .before .before .loop-test .taken) (c .before .judge-one .ensures) (c .before .before .before .before .loop .inv .1))
+
+judge-returns : (t : ℕ) → judge-lts.Need-returns (judge-claims t) (judge-at t) judge.Post judge-Inv-loop judge-μ-loop
+judge-returns t c = judging-end _ _ _ _ _ _ _ _ _ _ (c .before .loop .k) (c .before .loop .best) (c .loop-test .left) (c .before .loop .inv .1)
+
+abbrev judge-block-claims : ℕ → judge-block-lts.Claims
+judge-block-claims t = (
+  lack-fault-reads.Asked,
+  lack-fault-reads.Learnt,
+  judge-below t,
+  judge.Post,
+  sooner-reads.Asked,
+  sooner-reads.Learnt,
+)
+
+judge-block-lack-fault-requires : (t : ℕ) → judge-block-lts.Need-lack-fault-requires (judge-block-claims t) (judge-block-at t) judge-block.Post
+judge-block-lack-fault-requires t c κs = (c .before .before .before .before .before .before .before .pre .1 .1 .ranks)
+
+judge-block-judge-requires : (t : ℕ) → judge-block-lts.Need-judge-requires (judge-block-claims t) (judge-block-at t) judge-block.Post
+judge-block-judge-requires t c κs = (omega (arith, (c .before .before .before .before .before .before .before .before .pre .0)), (c .before .before .before .before .before .before .before .before .pre .1))
+
+judge-block-sooner-requires : (t : ℕ) → judge-block-lts.Need-sooner-requires (judge-block-claims t) (judge-block-at t) judge-block.Post
+judge-block-sooner-requires t c κs = tt
+
+judge-block-returns : (t : ℕ) → judge-block-lts.Need-returns (judge-block-claims t) (judge-block-at t) judge-block.Post
+judge-block-returns t c = block-by _ _ _ _ _ _ _ _ _ _ _ (c .before .before .lack-fault .result) (c .before .judge .result) (c .sooner .result) (c .sooner .ensures) (c .before .before .lack-fault .ensures) (c .before .judge .ensures)
+
+abbrev judge-one-claims : ℕ → judge-one-lts.Claims
+judge-one-claims t = (
+  cell-at-reads.Asked,
+  cell-at-reads.Learnt,
+  find-definition-reads.Asked,
+  find-definition-reads.Learnt,
+  word-under-reads.Asked,
+  word-under-reads.Learnt,
+  own-fault-reads.Asked,
+  own-fault-reads.Learnt,
+  is-fault-reads.Asked,
+  is-fault-reads.Learnt,
+  judge-block-below t,
+  judge-block.Post,
+)
+
+judge-one-cell-at-requires : (t : ℕ) → judge-one-lts.Need-cell-at-requires (judge-one-claims t) (judge-one-at t) judge-one.Post
+judge-one-cell-at-requires t c κs = tt
+
+judge-one-cell-at-requires-2 : (t : ℕ) → judge-one-lts.Need-cell-at-requires-2 (judge-one-claims t) (judge-one-at t) judge-one.Post
+judge-one-cell-at-requires-2 t c κs = tt
+
+judge-one-find-definition-requires : (t : ℕ) → judge-one-lts.Need-find-definition-requires (judge-one-claims t) (judge-one-at t) judge-one.Post
+judge-one-find-definition-requires t c κs = (c .before .before .before .before .before .before .before .before .before .pre .1 .2 .definitions)
+
+judge-one-enum-known-j : (t : ℕ) → judge-one-lts.Need-enum-known-j (judge-one-claims t) (judge-one-at t) judge-one.Post
+judge-one-enum-known-j t c = search needs
+
+judge-one-enum-told : (t : ℕ) → judge-one-lts.Need-enum-told (judge-one-claims t) (judge-one-at t) judge-one.Post
+judge-one-enum-told t c = search needs
+
+judge-one-returns : (t : ℕ) → judge-one-lts.Need-returns (judge-one-claims t) (judge-one-at t) judge-one.Post
+judge-one-returns t c = one-undefined _ _ _ _ _ _ _ _ _ _ _ (c .before .before .before .before .cell-at .result) (c .before .before .before .cell-at2 .result) (c .before .before .before .before .cell-at .ensures) (c .before .before .before .cell-at2 .ensures) (subst (λ r. FindsDefinition (c .before .before .before .before .before .before .before .before .before .before .before .before .args .text .now) (c .before .before .before .before .before .before .before .before .before .before .before .before .args .d .now) ((c .before .before .before .before .before .before .before .before .before .before .before .before .args .z) .definitions) (c .before .before .before .before .before .before .before .before .before .before .before .before .args .key) (c .before .before .before .before .cell-at .result) (c .before .before .before .cell-at2 .result) r) ((c .enum-told .given) .1) (c .before .before .find-definition .ensures))
+
+judge-one-cell-at-requires-3 : (t : ℕ) → judge-one-lts.Need-cell-at-requires-3 (judge-one-claims t) (judge-one-at t) judge-one.Post
+judge-one-cell-at-requires-3 t c κs = tt
+
+judge-one-cell-at-requires-4 : (t : ℕ) → judge-one-lts.Need-cell-at-requires-4 (judge-one-claims t) (judge-one-at t) judge-one.Post
+judge-one-cell-at-requires-4 t c κs = tt
+
+judge-one-word-under-requires : (t : ℕ) → judge-one-lts.Need-word-under-requires (judge-one-claims t) (judge-one-at t) judge-one.Post
+judge-one-word-under-requires t c κs = (c .before .before .before .before .before .before .before .before .before .before .before .before .before .before .before .pre .1 .2 .enumerators)
+
+judge-one-own-fault-requires : (t : ℕ) → judge-one-lts.Need-own-fault-requires (judge-one-claims t) (judge-one-at t) judge-one.Post
+judge-one-own-fault-requires t c κs = ((c .before .before .before .before .before .before .before .before .before .before .before .before .before .before .before .before .pre .1 .1), (c .before .before .before .before .before .before .before .before .before .before .before .before .before .before .before .before .pre .1 .2), under-at _ _ _ (c .before .before .before .before .before .before .before .before .before .before .before .before .before .before .before .before .args .st .now) _ _ (c .before .before .before .before .before .before .before .before .before .before .before .before .before .before .before .before .args .k) _ _ _ (c .before .before .cell-at3 .ensures) (c .before .cell-at4 .ensures) (c .word-under .ensures))
+
+judge-one-is-fault-requires : (t : ℕ) → judge-one-lts.Need-is-fault-requires (judge-one-claims t) (judge-one-at t) judge-one.Post
+judge-one-is-fault-requires t c κs = tt
+
+judge-one-returns-2 : (t : ℕ) → judge-one-lts.Need-returns-2 (judge-one-claims t) (judge-one-at t) judge-one.Post
+judge-one-returns-2 t c = one-fault _ _ _ _ _ _ _ _ _ _ _ (c .before .before .before .before .before .before .before .before .before .before .before .cell-at .result) (c .before .before .before .before .before .before .before .before .before .before .cell-at2 .result) (c .before .before .before .before .before .before .before .before .before .before .before .cell-at .ensures) (c .before .before .before .before .before .before .before .before .before .before .cell-at2 .ensures) _ (c .before .before .own-fault .result) (subst (λ r. FindsDefinition (c .before .before .before .before .before .before .before .before .before .before .before .before .before .before .before .before .before .before .before .args .text .now) (c .before .before .before .before .before .before .before .before .before .before .before .before .before .before .before .before .before .before .before .args .d .now) ((c .before .before .before .before .before .before .before .before .before .before .before .before .before .before .before .before .before .before .before .args .z) .definitions) (c .before .before .before .before .before .before .before .before .before .before .before .before .before .before .before .before .before .before .before .args .key) (c .before .before .before .before .before .before .before .before .before .before .before .cell-at .result) (c .before .before .before .before .before .before .before .before .before .before .cell-at2 .result) r) ((c .before .before .before .before .before .before .before .j .given) .1) (c .before .before .before .before .before .before .before .before .before .find-definition .ensures)) (c .before .before .own-fault .ensures) (sym (c .before .is-fault .ensures) ∙ (c .if1 .taken))
+
+judge-one-add-judge-block : (t : ℕ) → judge-one-lts.Need-add-judge-block (judge-one-claims t) (judge-one-at t) judge-one.Post
+judge-one-add-judge-block t c = omega (arith, (c .before .before .before .before .before .before .before .before .before .before .before .before .before .before .before .before .before .before .before .pre .1), (c .before .before .before .before .before .before .before .before .before .before .before .before .before .before .before .before .before .before .before .fits .end))
+
+judge-one-judge-block-requires : (t : ℕ) → judge-one-lts.Need-judge-block-requires (judge-one-claims t) (judge-one-at t) judge-one.Post
+judge-one-judge-block-requires t c κs = (omega (arith, (c .before .before .before .before .before .before .before .before .before .before .before .before .before .before .before .before .before .before .before .pre .0), (c .before .before .before .before .before .before .before .before .before .before .before .before .before .before .before .before .before .before .before .pre .1)), ((c .before .before .before .before .before .before .before .before .before .before .before .before .before .before .before .before .before .before .before .pre .1 .1), (c .before .before .before .before .before .before .before .before .before .before .before .before .before .before .before .before .before .before .before .pre .1 .2)))
+
+judge-one-returns-3 : (t : ℕ) → judge-one-lts.Need-returns-3 (judge-one-claims t) (judge-one-at t) judge-one.Post
+judge-one-returns-3 t c = one-inside _ _ _ _ _ _ _ _ _ _ _ (c .before .before .before .before .before .before .before .before .before .before .before .before .cell-at .result) (c .before .before .before .before .before .before .before .before .before .before .before .cell-at2 .result) (c .before .before .before .before .before .before .before .before .before .before .before .before .cell-at .ensures) (c .before .before .before .before .before .before .before .before .before .before .before .cell-at2 .ensures) _ (c .before .before .before .before .before .before .cell-at3 .result) (c .before .before .before .before .before .cell-at4 .result) (c .before .before .before .before .word-under .result) (c .before .before .before .own-fault .result) (c .judge-block .result) (subst (λ r. FindsDefinition (c .before .before .before .before .before .before .before .before .before .before .before .before .before .before .before .before .before .before .before .before .args .text .now) (c .before .before .before .before .before .before .before .before .before .before .before .before .before .before .before .before .before .before .before .before .args .d .now) ((c .before .before .before .before .before .before .before .before .before .before .before .before .before .before .before .before .before .before .before .before .args .z) .definitions) (c .before .before .before .before .before .before .before .before .before .before .before .before .before .before .before .before .before .before .before .before .args .key) (c .before .before .before .before .before .before .before .before .before .before .before .before .cell-at .result) (c .before .before .before .before .before .before .before .before .before .before .before .cell-at2 .result) r) ((c .before .before .before .before .before .before .before .before .j .given) .1) (c .before .before .before .before .before .before .before .before .before .before .find-definition .ensures)) (c .before .before .before .own-fault .ensures) (sym (c .before .before .is-fault .ensures) ∙ (c .before .if1 .left)) (c .before .before .before .before .before .before .cell-at3 .ensures) (c .before .before .before .before .before .cell-at4 .ensures) (c .before .before .before .before .word-under .ensures) (c .judge-block .ensures)
+
+pub +judge+judge-block+judge-one-spec : {M : Type 1} → statement M
++judge+judge-block+judge-one-spec = close μ-judge μ-judge-block μ-judge-one (λ t. judge-lts.spec (judge-claims t)
     (judge-at t)
     judge.Post
     judge-Inv-loop
@@ -436,34 +193,14 @@ pub +judge+judge-block+judge-one-spec : {M : Type 1} → statement M
     (judge-loop-less t)
     (judge-loop-again t)
     (judge-returns t))
-    (λ t. judge-block-lts.spec (
-      lack-fault-reads.Asked,
-      lack-fault-reads.Learnt,
-      judge-below t,
-      judge.Post,
-      sooner-reads.Asked,
-      sooner-reads.Learnt,
-    )
+    (λ t. judge-block-lts.spec (judge-block-claims t)
     (judge-block-at t)
     judge-block.Post
     (judge-block-lack-fault-requires t)
     (judge-block-judge-requires t)
     (judge-block-sooner-requires t)
     (judge-block-returns t))
-    λ t. judge-one-lts.spec (
-      cell-at-reads.Asked,
-      cell-at-reads.Learnt,
-      find-definition-reads.Asked,
-      find-definition-reads.Learnt,
-      word-under-reads.Asked,
-      word-under-reads.Learnt,
-      own-fault-reads.Asked,
-      own-fault-reads.Learnt,
-      is-fault-reads.Asked,
-      is-fault-reads.Learnt,
-      judge-block-below t,
-      judge-block.Post,
-    )
+    λ t. judge-one-lts.spec (judge-one-claims t)
     (judge-one-at t)
     judge-one.Post
     (judge-one-cell-at-requires t)

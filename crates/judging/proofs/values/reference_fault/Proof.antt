@@ -1,9 +1,10 @@
 -- `judging::values::reference_fault` meets its contract.
 -- Assumes nothing.
-use Rattle.judging.proofs.Judgements.{not-true, not-false, reference-no-name, reference-nothing, reference-object}
+use Rattle.judging.proofs.Judgements.{reference-no-name, reference-nothing, reference-object}
 use Rattle.scopes.specs.Promises.{FindsObject}
 use mathlib.Core.Path.{sym, _∙_, subst}
 use borrow.Author.Needs.{needs}
+use borrow.Author.Tests.{not-true, not-false}
 use Rattle.judging.proofs.values.reference_fault.Statement.{statement}
 use Rattle.judging.proofs.values.reference_fault.Tie as tie
 

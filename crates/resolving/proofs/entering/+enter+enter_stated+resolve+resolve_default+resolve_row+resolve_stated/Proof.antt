@@ -126,122 +126,61 @@ resolve-stated-below t =
     (falls 12 resolve-stated-kinds.ps _<_ μ-resolve-stated t)
     resolve-stated.Pre
 
-enter-returns : (t : ℕ) → enter-lts.Need-returns (
+abbrev enter-claims : ℕ → enter-lts.Claims
+enter-claims t = (
   put-value-reads.Asked,
   put-value-reads.Learnt,
   word-of-reads.Asked,
   word-of-reads.Learnt,
   resolve-below t,
   resolve.Post,
-) (enter-at t) enter.Post
+)
+
+enter-returns : (t : ℕ) → enter-lts.Need-returns (enter-claims t) (enter-at t) enter.Post
 enter-returns t c = enter-full (c .if1 .taken)
 
-enter-put-value-requires : (t : ℕ) → enter-lts.Need-put-value-requires (
-  put-value-reads.Asked,
-  put-value-reads.Learnt,
-  word-of-reads.Asked,
-  word-of-reads.Learnt,
-  resolve-below t,
-  resolve.Post,
-) (enter-at t) enter.Post
+enter-put-value-requires : (t : ℕ) → enter-lts.Need-put-value-requires (enter-claims t) (enter-at t) enter.Post
 enter-put-value-requires t c κs = (omega arith, ((c .before .before .before .before .before .before .before .before .before .before .before .before .before .before .pre .1 .defaults), (c .before .before .before .before .before .before .before .before .before .before .before .before .before .before .pre .1 .indexes)))
 
-enter-word-of-requires : (t : ℕ) → enter-lts.Need-word-of-requires (
-  put-value-reads.Asked,
-  put-value-reads.Learnt,
-  word-of-reads.Asked,
-  word-of-reads.Learnt,
-  resolve-below t,
-  resolve.Post,
-) (enter-at t) enter.Post
+enter-word-of-requires : (t : ℕ) → enter-lts.Need-word-of-requires (enter-claims t) (enter-at t) enter.Post
 enter-word-of-requires t c κs = tt
 
-enter-add-resolve : (t : ℕ) → enter-lts.Need-add-resolve (
-  put-value-reads.Asked,
-  put-value-reads.Learnt,
-  word-of-reads.Asked,
-  word-of-reads.Learnt,
-  resolve-below t,
-  resolve.Post,
-) (enter-at t) enter.Post
+enter-add-resolve : (t : ℕ) → enter-lts.Need-add-resolve (enter-claims t) (enter-at t) enter.Post
 enter-add-resolve t c = omega arith
 
-enter-resolve-requires : (t : ℕ) → enter-lts.Need-resolve-requires (
-  put-value-reads.Asked,
-  put-value-reads.Learnt,
-  word-of-reads.Asked,
-  word-of-reads.Learnt,
-  resolve-below t,
-  resolve.Post,
-) (enter-at t) enter.Post
+enter-resolve-requires : (t : ℕ) → enter-lts.Need-resolve-requires (enter-claims t) (enter-at t) enter.Post
 enter-resolve-requires t c κs = (omega arith, (c .before .before .before .before .before .before .before .before .before .before .before .before .before .before .before .before .before .before .before .pre .1))
 
-enter-same-length : (t : ℕ) → enter-lts.Need-same-length (
-  put-value-reads.Asked,
-  put-value-reads.Learnt,
-  word-of-reads.Asked,
-  word-of-reads.Learnt,
-  resolve-below t,
-  resolve.Post,
-) (enter-at t) enter.Post
+enter-same-length : (t : ℕ) → enter-lts.Need-same-length (enter-claims t) (enter-at t) enter.Post
 enter-same-length t c = omega arith
 
-enter-returns-2 : (t : ℕ) → enter-lts.Need-returns-2 (
-  put-value-reads.Asked,
-  put-value-reads.Learnt,
-  word-of-reads.Asked,
-  word-of-reads.Learnt,
-  resolve-below t,
-  resolve.Post,
-) (enter-at t) enter.Post
+enter-returns-2 : (t : ℕ) → enter-lts.Need-returns-2 (enter-claims t) (enter-at t) enter.Post
 enter-returns-2 t c = enter-more (omega arith) (c .before .before .before .before .before .before .before .put-value .ensures) (word-is (c .before .before .before .before .before .before .before .before .before .before .before .before .before .before .before .before .before .before .before .before .before .before .pre .1 .indexes) (c .before .before .before .before .word-of .ensures)) (c .before .before .resolve .ensures)
 
-enter-stated-cell-at-requires : (t : ℕ) → enter-stated-lts.Need-cell-at-requires (
+abbrev enter-stated-claims : ℕ → enter-stated-lts.Claims
+enter-stated-claims t = (
   cell-at-reads.Asked,
   cell-at-reads.Learnt,
   enter-below t,
   enter.Post,
-) (enter-stated-at t) enter-stated.Post
+)
+
+enter-stated-cell-at-requires : (t : ℕ) → enter-stated-lts.Need-cell-at-requires (enter-stated-claims t) (enter-stated-at t) enter-stated.Post
 enter-stated-cell-at-requires t c κs = tt
 
-enter-stated-cell-at-requires-2 : (t : ℕ) → enter-stated-lts.Need-cell-at-requires-2 (
-  cell-at-reads.Asked,
-  cell-at-reads.Learnt,
-  enter-below t,
-  enter.Post,
-) (enter-stated-at t) enter-stated.Post
+enter-stated-cell-at-requires-2 : (t : ℕ) → enter-stated-lts.Need-cell-at-requires-2 (enter-stated-claims t) (enter-stated-at t) enter-stated.Post
 enter-stated-cell-at-requires-2 t c κs = tt
 
-enter-stated-cell-at-requires-3 : (t : ℕ) → enter-stated-lts.Need-cell-at-requires-3 (
-  cell-at-reads.Asked,
-  cell-at-reads.Learnt,
-  enter-below t,
-  enter.Post,
-) (enter-stated-at t) enter-stated.Post
+enter-stated-cell-at-requires-3 : (t : ℕ) → enter-stated-lts.Need-cell-at-requires-3 (enter-stated-claims t) (enter-stated-at t) enter-stated.Post
 enter-stated-cell-at-requires-3 t c κs = tt
 
-enter-stated-enter-requires : (t : ℕ) → enter-stated-lts.Need-enter-requires (
-  cell-at-reads.Asked,
-  cell-at-reads.Learnt,
-  enter-below t,
-  enter.Post,
-) (enter-stated-at t) enter-stated.Post
+enter-stated-enter-requires : (t : ℕ) → enter-stated-lts.Need-enter-requires (enter-stated-claims t) (enter-stated-at t) enter-stated.Post
 enter-stated-enter-requires t c κs = (omega arith, (c .before .before .before .before .before .before .before .before .before .before .before .before .before .before .before .before .pre .1))
 
-enter-stated-same-length : (t : ℕ) → enter-stated-lts.Need-same-length (
-  cell-at-reads.Asked,
-  cell-at-reads.Learnt,
-  enter-below t,
-  enter.Post,
-) (enter-stated-at t) enter-stated.Post
+enter-stated-same-length : (t : ℕ) → enter-stated-lts.Need-same-length (enter-stated-claims t) (enter-stated-at t) enter-stated.Post
 enter-stated-same-length t c = omega arith
 
-enter-stated-returns : (t : ℕ) → enter-stated-lts.Need-returns (
-  cell-at-reads.Asked,
-  cell-at-reads.Learnt,
-  enter-below t,
-  enter.Post,
-) (enter-stated-at t) enter-stated.Post
+enter-stated-returns : (t : ℕ) → enter-stated-lts.Need-returns (enter-stated-claims t) (enter-stated-at t) enter-stated.Post
 enter-stated-returns t c = stated-this (c .before .before .before .before .before .before .cell-at .ensures) (c .before .before .before .before .before .cell-at2 .ensures) (c .before .before .before .before .cell-at3 .ensures) (c .before .before .enter .ensures)
 
 abbrev resolve-Inv-loop : resolve-lts.InvT-loop
@@ -250,254 +189,117 @@ resolve-Inv-loop text d e o st known noted xe xo rs rd v₀ z limit key from end
 abbrev resolve-μ-loop : resolve-lts.MeasureT-loop
 resolve-μ-loop text d e o st known noted xe xo rs rd v₀ z limit key from end w n m₀ j₀ v m j = limit - j
 
-resolve-returns : (t : ℕ) → resolve-lts.Need-returns (
+abbrev resolve-claims : ℕ → resolve-lts.Claims
+resolve-claims t = (
   next-row-reads.Asked,
   next-row-reads.Learnt,
   resolve-row-below t,
   resolve-row.Post,
-) (resolve-at t) resolve.Post resolve-Inv-loop resolve-μ-loop
+)
+
+resolve-returns : (t : ℕ) → resolve-lts.Need-returns (resolve-claims t) (resolve-at t) resolve.Post resolve-Inv-loop resolve-μ-loop
 resolve-returns t c = resolves-none (c .if1 .taken)
 
-resolve-returns-2 : (t : ℕ) → resolve-lts.Need-returns-2 (
-  next-row-reads.Asked,
-  next-row-reads.Learnt,
-  resolve-row-below t,
-  resolve-row.Post,
-) (resolve-at t) resolve.Post resolve-Inv-loop resolve-μ-loop
+resolve-returns-2 : (t : ℕ) → resolve-lts.Need-returns-2 (resolve-claims t) (resolve-at t) resolve.Post resolve-Inv-loop resolve-μ-loop
 resolve-returns-2 t c = resolves-past (omega arith)
 
-resolve-returns-3 : (t : ℕ) → resolve-lts.Need-returns-3 (
-  next-row-reads.Asked,
-  next-row-reads.Learnt,
-  resolve-row-below t,
-  resolve-row.Post,
-) (resolve-at t) resolve.Post resolve-Inv-loop resolve-μ-loop
+resolve-returns-3 : (t : ℕ) → resolve-lts.Need-returns-3 (resolve-claims t) (resolve-at t) resolve.Post resolve-Inv-loop resolve-μ-loop
 resolve-returns-3 t c = resolves-full (omega arith)
 
-resolve-next-row-requires : (t : ℕ) → resolve-lts.Need-next-row-requires (
-  next-row-reads.Asked,
-  next-row-reads.Learnt,
-  resolve-row-below t,
-  resolve-row.Post,
-) (resolve-at t) resolve.Post resolve-Inv-loop resolve-μ-loop
+resolve-next-row-requires : (t : ℕ) → resolve-lts.Need-next-row-requires (resolve-claims t) (resolve-at t) resolve.Post resolve-Inv-loop resolve-μ-loop
 resolve-next-row-requires t c κs = (omega arith, (omega arith, (c .before .before .before .before .before .before .before .before .before .before .before .before .before .before .before .pre .1 .ranks)))
 
-resolve-loop-holds : (t : ℕ) → resolve-lts.Need-loop-holds (
-  next-row-reads.Asked,
-  next-row-reads.Learnt,
-  resolve-row-below t,
-  resolve-row.Post,
-) (resolve-at t) resolve.Post resolve-Inv-loop resolve-μ-loop
+resolve-loop-holds : (t : ℕ) → resolve-lts.Need-loop-holds (resolve-claims t) (resolve-at t) resolve.Post resolve-Inv-loop resolve-μ-loop
 resolve-loop-holds t c = (refl, ((c .next-row .ensures .high), ((c .next-row .ensures .here), goes-pass (c .next-row .ensures) goes-start)))
 
-resolve-resolve-row-requires : (t : ℕ) → resolve-lts.Need-resolve-row-requires (
-  next-row-reads.Asked,
-  next-row-reads.Learnt,
-  resolve-row-below t,
-  resolve-row.Post,
-) (resolve-at t) resolve.Post resolve-Inv-loop resolve-μ-loop
+resolve-resolve-row-requires : (t : ℕ) → resolve-lts.Need-resolve-row-requires (resolve-claims t) (resolve-at t) resolve.Post resolve-Inv-loop resolve-μ-loop
 resolve-resolve-row-requires t c κs = (omega arith, (c .before .before .before .before .before .before .before .before .before .before .before .before .before .before .before .before .before .before .before .pre .1))
 
-resolve-add-next-row : (t : ℕ) → resolve-lts.Need-add-next-row (
-  next-row-reads.Asked,
-  next-row-reads.Learnt,
-  resolve-row-below t,
-  resolve-row.Post,
-) (resolve-at t) resolve.Post resolve-Inv-loop resolve-μ-loop
+resolve-add-next-row : (t : ℕ) → resolve-lts.Need-add-next-row (resolve-claims t) (resolve-at t) resolve.Post resolve-Inv-loop resolve-μ-loop
 resolve-add-next-row t c = omega arith
 
-resolve-next-row-requires-2 : (t : ℕ) → resolve-lts.Need-next-row-requires-2 (
-  next-row-reads.Asked,
-  next-row-reads.Learnt,
-  resolve-row-below t,
-  resolve-row.Post,
-) (resolve-at t) resolve.Post resolve-Inv-loop resolve-μ-loop
+resolve-next-row-requires-2 : (t : ℕ) → resolve-lts.Need-next-row-requires-2 (resolve-claims t) (resolve-at t) resolve.Post resolve-Inv-loop resolve-μ-loop
 resolve-next-row-requires-2 t c κs = (omega arith, (omega arith, (c .before .before .before .before .before .before .before .before .before .before .before .before .before .before .before .before .before .before .before .before .before .before .pre .1 .ranks)))
 
-resolve-loop-less : (t : ℕ) → resolve-lts.Need-loop-less (
-  next-row-reads.Asked,
-  next-row-reads.Learnt,
-  resolve-row-below t,
-  resolve-row.Post,
-) (resolve-at t) resolve.Post resolve-Inv-loop resolve-μ-loop
+resolve-loop-less : (t : ℕ) → resolve-lts.Need-loop-less (resolve-claims t) (resolve-at t) resolve.Post resolve-Inv-loop resolve-μ-loop
 resolve-loop-less t c = omega (arith, (c .next-row2 .ensures .low))
 
-resolve-loop-again : (t : ℕ) → resolve-lts.Need-loop-again (
-  next-row-reads.Asked,
-  next-row-reads.Learnt,
-  resolve-row-below t,
-  resolve-row.Post,
-) (resolve-at t) resolve.Post resolve-Inv-loop resolve-μ-loop
+resolve-loop-again : (t : ℕ) → resolve-lts.Need-loop-again (resolve-claims t) (resolve-at t) resolve.Post resolve-Inv-loop resolve-μ-loop
 resolve-loop-again t c = (omega arith, ((c .next-row2 .ensures .high), ((c .next-row2 .ensures .here), goes-pass (c .next-row2 .ensures) (goes-more (omega arith) ((c .before .before .before .before .before .before .loop .inv) .1 .1 .1) ((c .before .before .before .resolve-row .ensures .resolves) ((c .before .before .before .before .before .before .loop .inv) .1 .1 .0 (omega arith)))))))
 
-resolve-same-length : (t : ℕ) → resolve-lts.Need-same-length (
-  next-row-reads.Asked,
-  next-row-reads.Learnt,
-  resolve-row-below t,
-  resolve-row.Post,
-) (resolve-at t) resolve.Post resolve-Inv-loop resolve-μ-loop
+resolve-same-length : (t : ℕ) → resolve-lts.Need-same-length (resolve-claims t) (resolve-at t) resolve.Post resolve-Inv-loop resolve-μ-loop
 resolve-same-length t c = (c .before .loop .inv) .0
 
-resolve-returns-4 : (t : ℕ) → resolve-lts.Need-returns-4 (
-  next-row-reads.Asked,
-  next-row-reads.Learnt,
-  resolve-row-below t,
-  resolve-row.Post,
-) (resolve-at t) resolve.Post resolve-Inv-loop resolve-μ-loop
+resolve-returns-4 : (t : ℕ) → resolve-lts.Need-returns-4 (resolve-claims t) (resolve-at t) resolve.Post resolve-Inv-loop resolve-μ-loop
 resolve-returns-4 t c = goes-end (omega arith) (c .before .before .before .before .before .if1 .left) ((c .before .loop .inv) .1 .1 .1)
 
-resolve-default-cell-at-requires : (t : ℕ) → resolve-default-lts.Need-cell-at-requires (
+abbrev resolve-default-claims : ℕ → resolve-default-lts.Claims
+resolve-default-claims t = (
   cell-at-reads.Asked,
   cell-at-reads.Learnt,
   enter-below t,
   enter.Post,
-) (resolve-default-at t) resolve-default.Post
+)
+
+resolve-default-cell-at-requires : (t : ℕ) → resolve-default-lts.Need-cell-at-requires (resolve-default-claims t) (resolve-default-at t) resolve-default.Post
 resolve-default-cell-at-requires t c κs = tt
 
-resolve-default-returns : (t : ℕ) → resolve-default-lts.Need-returns (
-  cell-at-reads.Asked,
-  cell-at-reads.Learnt,
-  enter-below t,
-  enter.Post,
-) (resolve-default-at t) resolve-default.Post
+resolve-default-returns : (t : ℕ) → resolve-default-lts.Need-returns (resolve-default-claims t) (resolve-default-at t) resolve-default.Post
 resolve-default-returns t c = default-none (c .before .cell-at .ensures) (c .if1 .taken)
 
-resolve-default-cell-at-requires-2 : (t : ℕ) → resolve-default-lts.Need-cell-at-requires-2 (
-  cell-at-reads.Asked,
-  cell-at-reads.Learnt,
-  enter-below t,
-  enter.Post,
-) (resolve-default-at t) resolve-default.Post
+resolve-default-cell-at-requires-2 : (t : ℕ) → resolve-default-lts.Need-cell-at-requires-2 (resolve-default-claims t) (resolve-default-at t) resolve-default.Post
 resolve-default-cell-at-requires-2 t c κs = tt
 
-resolve-default-returns-2 : (t : ℕ) → resolve-default-lts.Need-returns-2 (
-  cell-at-reads.Asked,
-  cell-at-reads.Learnt,
-  enter-below t,
-  enter.Post,
-) (resolve-default-at t) resolve-default.Post
+resolve-default-returns-2 : (t : ℕ) → resolve-default-lts.Need-returns-2 (resolve-default-claims t) (resolve-default-at t) resolve-default.Post
 resolve-default-returns-2 t c = default-not (c .before .before .before .cell-at .ensures) (c .before .before .if1 .left) (c .before .cell-at2 .ensures) (c .if2 .taken)
 
-resolve-default-cell-at-requires-3 : (t : ℕ) → resolve-default-lts.Need-cell-at-requires-3 (
-  cell-at-reads.Asked,
-  cell-at-reads.Learnt,
-  enter-below t,
-  enter.Post,
-) (resolve-default-at t) resolve-default.Post
+resolve-default-cell-at-requires-3 : (t : ℕ) → resolve-default-lts.Need-cell-at-requires-3 (resolve-default-claims t) (resolve-default-at t) resolve-default.Post
 resolve-default-cell-at-requires-3 t c κs = tt
 
-resolve-default-enter-requires : (t : ℕ) → resolve-default-lts.Need-enter-requires (
-  cell-at-reads.Asked,
-  cell-at-reads.Learnt,
-  enter-below t,
-  enter.Post,
-) (resolve-default-at t) resolve-default.Post
+resolve-default-enter-requires : (t : ℕ) → resolve-default-lts.Need-enter-requires (resolve-default-claims t) (resolve-default-at t) resolve-default.Post
 resolve-default-enter-requires t c κs = (omega arith, (c .before .before .before .before .before .before .before .before .before .before .before .before .before .before .before .before .before .before .pre .1))
 
-resolve-default-same-length : (t : ℕ) → resolve-default-lts.Need-same-length (
-  cell-at-reads.Asked,
-  cell-at-reads.Learnt,
-  enter-below t,
-  enter.Post,
-) (resolve-default-at t) resolve-default.Post
+resolve-default-same-length : (t : ℕ) → resolve-default-lts.Need-same-length (resolve-default-claims t) (resolve-default-at t) resolve-default.Post
 resolve-default-same-length t c = omega arith
 
-resolve-default-returns-3 : (t : ℕ) → resolve-default-lts.Need-returns-3 (
-  cell-at-reads.Asked,
-  cell-at-reads.Learnt,
-  enter-below t,
-  enter.Post,
-) (resolve-default-at t) resolve-default.Post
+resolve-default-returns-3 : (t : ℕ) → resolve-default-lts.Need-returns-3 (resolve-default-claims t) (resolve-default-at t) resolve-default.Post
 resolve-default-returns-3 t c = default-taken (c .before .before .before .before .before .before .before .before .cell-at .ensures) (c .before .before .before .before .before .before .before .if1 .left) (c .before .before .before .before .before .before .cell-at2 .ensures) (c .before .before .before .before .before .if2 .left) (c .before .before .before .before .cell-at3 .ensures) (c .before .before .enter .ensures)
 
-resolve-row-row-stated-requires : (t : ℕ) → resolve-row-lts.Need-row-stated-requires (
+abbrev resolve-row-claims : ℕ → resolve-row-lts.Claims
+resolve-row-claims t = (
   row-stated-reads.Asked,
   row-stated-reads.Learnt,
   resolve-default-below t,
   resolve-default.Post,
   resolve-stated-below t,
   resolve-stated.Post,
-) (resolve-row-at t) resolve-row.Post
+)
+
+resolve-row-row-stated-requires : (t : ℕ) → resolve-row-lts.Need-row-stated-requires (resolve-row-claims t) (resolve-row-at t) resolve-row.Post
 resolve-row-row-stated-requires t c κs = tt
 
-resolve-row-enum-known-k : (t : ℕ) → resolve-row-lts.Need-enum-known-k (
-  row-stated-reads.Asked,
-  row-stated-reads.Learnt,
-  resolve-default-below t,
-  resolve-default.Post,
-  resolve-stated-below t,
-  resolve-stated.Post,
-) (resolve-row-at t) resolve-row.Post
+resolve-row-enum-known-k : (t : ℕ) → resolve-row-lts.Need-enum-known-k (resolve-row-claims t) (resolve-row-at t) resolve-row.Post
 resolve-row-enum-known-k t c = search needs
 
-resolve-row-enum-told : (t : ℕ) → resolve-row-lts.Need-enum-told (
-  row-stated-reads.Asked,
-  row-stated-reads.Learnt,
-  resolve-default-below t,
-  resolve-default.Post,
-  resolve-stated-below t,
-  resolve-stated.Post,
-) (resolve-row-at t) resolve-row.Post
+resolve-row-enum-told : (t : ℕ) → resolve-row-lts.Need-enum-told (resolve-row-claims t) (resolve-row-at t) resolve-row.Post
 resolve-row-enum-told t c = search needs
 
-resolve-row-resolve-default-requires : (t : ℕ) → resolve-row-lts.Need-resolve-default-requires (
-  row-stated-reads.Asked,
-  row-stated-reads.Learnt,
-  resolve-default-below t,
-  resolve-default.Post,
-  resolve-stated-below t,
-  resolve-stated.Post,
-) (resolve-row-at t) resolve-row.Post
+resolve-row-resolve-default-requires : (t : ℕ) → resolve-row-lts.Need-resolve-default-requires (resolve-row-claims t) (resolve-row-at t) resolve-row.Post
 resolve-row-resolve-default-requires t c κs = (omega arith, (c .before .before .before .before .before .before .before .before .before .before .before .before .before .before .before .before .pre .1))
 
-resolve-row-same-length : (t : ℕ) → resolve-row-lts.Need-same-length (
-  row-stated-reads.Asked,
-  row-stated-reads.Learnt,
-  resolve-default-below t,
-  resolve-default.Post,
-  resolve-stated-below t,
-  resolve-stated.Post,
-) (resolve-row-at t) resolve-row.Post
+resolve-row-same-length : (t : ℕ) → resolve-row-lts.Need-same-length (resolve-row-claims t) (resolve-row-at t) resolve-row.Post
 resolve-row-same-length t c = omega arith
 
-resolve-row-returns : (t : ℕ) → resolve-row-lts.Need-returns (
-  row-stated-reads.Asked,
-  row-stated-reads.Learnt,
-  resolve-default-below t,
-  resolve-default.Post,
-  resolve-stated-below t,
-  resolve-stated.Post,
-) (resolve-row-at t) resolve-row.Post
+resolve-row-returns : (t : ℕ) → resolve-row-lts.Need-returns (resolve-row-claims t) (resolve-row-at t) resolve-row.Post
 resolve-row-returns t c = row-missing (finds-ranked ((c .before .before .before .before .before .before .before .before .before .before .before .before .before .before .before .before .before .before .before .pre .1) .ranks) _ _ _ _ (c .before .before .before .before .before .before .row-stated .ensures)) ((c .before .before .before .before .enum-told .given) .1) (c .before .before .resolve-default .ensures)
 
-resolve-row-resolve-stated-requires : (t : ℕ) → resolve-row-lts.Need-resolve-stated-requires (
-  row-stated-reads.Asked,
-  row-stated-reads.Learnt,
-  resolve-default-below t,
-  resolve-default.Post,
-  resolve-stated-below t,
-  resolve-stated.Post,
-) (resolve-row-at t) resolve-row.Post
+resolve-row-resolve-stated-requires : (t : ℕ) → resolve-row-lts.Need-resolve-stated-requires (resolve-row-claims t) (resolve-row-at t) resolve-row.Post
 resolve-row-resolve-stated-requires t c κs = (omega arith, (c .before .before .before .before .before .before .before .before .before .before .before .before .before .before .before .before .before .pre .1))
 
-resolve-row-same-length-2 : (t : ℕ) → resolve-row-lts.Need-same-length-2 (
-  row-stated-reads.Asked,
-  row-stated-reads.Learnt,
-  resolve-default-below t,
-  resolve-default.Post,
-  resolve-stated-below t,
-  resolve-stated.Post,
-) (resolve-row-at t) resolve-row.Post
+resolve-row-same-length-2 : (t : ℕ) → resolve-row-lts.Need-same-length-2 (resolve-row-claims t) (resolve-row-at t) resolve-row.Post
 resolve-row-same-length-2 t c = omega arith
 
-resolve-row-returns-2 : (t : ℕ) → resolve-row-lts.Need-returns-2 (
-  row-stated-reads.Asked,
-  row-stated-reads.Learnt,
-  resolve-default-below t,
-  resolve-default.Post,
-  resolve-stated-below t,
-  resolve-stated.Post,
-) (resolve-row-at t) resolve-row.Post
+resolve-row-returns-2 : (t : ℕ) → resolve-row-lts.Need-returns-2 (resolve-row-claims t) (resolve-row-at t) resolve-row.Post
 resolve-row-returns-2 t c = row-found (finds-ranked ((c .before .before .before .before .before .before .before .before .before .before .before .before .before .before .before .before .before .before .before .before .pre .1) .ranks) _ _ _ _ (c .before .before .before .before .before .before .before .row-stated .ensures)) ((c .before .before .before .before .before .k .given) .1) (c .before .before .resolve-stated .ensures)
 
 abbrev resolve-stated-Inv-loop : resolve-stated-lts.InvT-loop
@@ -506,174 +308,65 @@ resolve-stated-Inv-loop text d e o st known noted xe xo rs rd v₀ z j from end 
 abbrev resolve-stated-μ-loop : resolve-stated-lts.MeasureT-loop
 resolve-stated-μ-loop text d e o st known noted xe xo rs rd v₀ z j from end w n m₀ k₀ v m k = end - k
 
-resolve-stated-loop-holds : (t : ℕ) → resolve-stated-lts.Need-loop-holds (
+abbrev resolve-stated-claims : ℕ → resolve-stated-lts.Claims
+resolve-stated-claims t = (
   row-stated-reads.Asked,
   row-stated-reads.Learnt,
   after-reads.Asked,
   after-reads.Learnt,
   enter-stated-below t,
   enter-stated.Post,
-) (resolve-stated-at t) resolve-stated.Post resolve-stated-Inv-loop resolve-stated-μ-loop
+)
+
+resolve-stated-loop-holds : (t : ℕ) → resolve-stated-lts.Need-loop-holds (resolve-stated-claims t) (resolve-stated-at t) resolve-stated.Post resolve-stated-Inv-loop resolve-stated-μ-loop
 resolve-stated-loop-holds t c = (refl, states-start)
 
-resolve-stated-row-stated-requires : (t : ℕ) → resolve-stated-lts.Need-row-stated-requires (
-  row-stated-reads.Asked,
-  row-stated-reads.Learnt,
-  after-reads.Asked,
-  after-reads.Learnt,
-  enter-stated-below t,
-  enter-stated.Post,
-) (resolve-stated-at t) resolve-stated.Post resolve-stated-Inv-loop resolve-stated-μ-loop
+resolve-stated-row-stated-requires : (t : ℕ) → resolve-stated-lts.Need-row-stated-requires (resolve-stated-claims t) (resolve-stated-at t) resolve-stated.Post resolve-stated-Inv-loop resolve-stated-μ-loop
 resolve-stated-row-stated-requires t c κs = tt
 
-resolve-stated-enum-known-i : (t : ℕ) → resolve-stated-lts.Need-enum-known-i (
-  row-stated-reads.Asked,
-  row-stated-reads.Learnt,
-  after-reads.Asked,
-  after-reads.Learnt,
-  enter-stated-below t,
-  enter-stated.Post,
-) (resolve-stated-at t) resolve-stated.Post resolve-stated-Inv-loop resolve-stated-μ-loop
+resolve-stated-enum-known-i : (t : ℕ) → resolve-stated-lts.Need-enum-known-i (resolve-stated-claims t) (resolve-stated-at t) resolve-stated.Post resolve-stated-Inv-loop resolve-stated-μ-loop
 resolve-stated-enum-known-i t c = search needs
 
-resolve-stated-enum-told : (t : ℕ) → resolve-stated-lts.Need-enum-told (
-  row-stated-reads.Asked,
-  row-stated-reads.Learnt,
-  after-reads.Asked,
-  after-reads.Learnt,
-  enter-stated-below t,
-  enter-stated.Post,
-) (resolve-stated-at t) resolve-stated.Post resolve-stated-Inv-loop resolve-stated-μ-loop
+resolve-stated-enum-told : (t : ℕ) → resolve-stated-lts.Need-enum-told (resolve-stated-claims t) (resolve-stated-at t) resolve-stated.Post resolve-stated-Inv-loop resolve-stated-μ-loop
 resolve-stated-enum-told t c = search needs
 
-resolve-stated-same-length : (t : ℕ) → resolve-stated-lts.Need-same-length (
-  row-stated-reads.Asked,
-  row-stated-reads.Learnt,
-  after-reads.Asked,
-  after-reads.Learnt,
-  enter-stated-below t,
-  enter-stated.Post,
-) (resolve-stated-at t) resolve-stated.Post resolve-stated-Inv-loop resolve-stated-μ-loop
+resolve-stated-same-length : (t : ℕ) → resolve-stated-lts.Need-same-length (resolve-stated-claims t) (resolve-stated-at t) resolve-stated.Post resolve-stated-Inv-loop resolve-stated-μ-loop
 resolve-stated-same-length t c = (c .before .before .before .before .loop .inv) .0
 
-resolve-stated-returns : (t : ℕ) → resolve-stated-lts.Need-returns (
-  row-stated-reads.Asked,
-  row-stated-reads.Learnt,
-  after-reads.Asked,
-  after-reads.Learnt,
-  enter-stated-below t,
-  enter-stated.Post,
-) (resolve-stated-at t) resolve-stated.Post resolve-stated-Inv-loop resolve-stated-μ-loop
+resolve-stated-returns : (t : ℕ) → resolve-stated-lts.Need-returns (resolve-stated-claims t) (resolve-stated-at t) resolve-stated.Post resolve-stated-Inv-loop resolve-stated-μ-loop
 resolve-stated-returns t c = states-none refl refl ((c .before .before .before .before .loop .inv) .1) (finds-ranked ((c .before .before .before .before .before .before .before .before .before .before .before .before .before .before .before .before .before .pre .1) .ranks) _ _ _ _ (c .before .before .row-stated .ensures)) ((c .enum-told .given) .1)
 
-resolve-stated-same-length-2 : (t : ℕ) → resolve-stated-lts.Need-same-length-2 (
-  row-stated-reads.Asked,
-  row-stated-reads.Learnt,
-  after-reads.Asked,
-  after-reads.Learnt,
-  enter-stated-below t,
-  enter-stated.Post,
-) (resolve-stated-at t) resolve-stated.Post resolve-stated-Inv-loop resolve-stated-μ-loop
+resolve-stated-same-length-2 : (t : ℕ) → resolve-stated-lts.Need-same-length-2 (resolve-stated-claims t) (resolve-stated-at t) resolve-stated.Post resolve-stated-Inv-loop resolve-stated-μ-loop
 resolve-stated-same-length-2 t c = (c .before .before .before .before .before .before .loop .inv) .0
 
-resolve-stated-returns-2 : (t : ℕ) → resolve-stated-lts.Need-returns-2 (
-  row-stated-reads.Asked,
-  row-stated-reads.Learnt,
-  after-reads.Asked,
-  after-reads.Learnt,
-  enter-stated-below t,
-  enter-stated.Post,
-) (resolve-stated-at t) resolve-stated.Post resolve-stated-Inv-loop resolve-stated-μ-loop
+resolve-stated-returns-2 : (t : ℕ) → resolve-stated-lts.Need-returns-2 (resolve-stated-claims t) (resolve-stated-at t) resolve-stated.Post resolve-stated-Inv-loop resolve-stated-μ-loop
 resolve-stated-returns-2 t c = states-out refl refl ((c .before .before .before .before .before .before .loop .inv) .1) (finds-ranked ((c .before .before .before .before .before .before .before .before .before .before .before .before .before .before .before .before .before .before .before .pre .1) .ranks) _ _ _ _ (c .before .before .before .before .row-stated .ensures)) ((c .before .before .i .given) .1) (λ q. omega arith)
 
-resolve-stated-same-length-3 : (t : ℕ) → resolve-stated-lts.Need-same-length-3 (
-  row-stated-reads.Asked,
-  row-stated-reads.Learnt,
-  after-reads.Asked,
-  after-reads.Learnt,
-  enter-stated-below t,
-  enter-stated.Post,
-) (resolve-stated-at t) resolve-stated.Post resolve-stated-Inv-loop resolve-stated-μ-loop
+resolve-stated-same-length-3 : (t : ℕ) → resolve-stated-lts.Need-same-length-3 (resolve-stated-claims t) (resolve-stated-at t) resolve-stated.Post resolve-stated-Inv-loop resolve-stated-μ-loop
 resolve-stated-same-length-3 t c = (c .before .before .before .before .before .before .before .loop .inv) .0
 
-resolve-stated-returns-3 : (t : ℕ) → resolve-stated-lts.Need-returns-3 (
-  row-stated-reads.Asked,
-  row-stated-reads.Learnt,
-  after-reads.Asked,
-  after-reads.Learnt,
-  enter-stated-below t,
-  enter-stated.Post,
-) (resolve-stated-at t) resolve-stated.Post resolve-stated-Inv-loop resolve-stated-μ-loop
+resolve-stated-returns-3 : (t : ℕ) → resolve-stated-lts.Need-returns-3 (resolve-stated-claims t) (resolve-stated-at t) resolve-stated.Post resolve-stated-Inv-loop resolve-stated-μ-loop
 resolve-stated-returns-3 t c = states-out refl refl ((c .before .before .before .before .before .before .before .loop .inv) .1) (finds-ranked ((c .before .before .before .before .before .before .before .before .before .before .before .before .before .before .before .before .before .before .before .before .pre .1) .ranks) _ _ _ _ (c .before .before .before .before .before .row-stated .ensures)) ((c .before .before .before .i .given) .1) (λ q. omega arith)
 
-resolve-stated-after-requires : (t : ℕ) → resolve-stated-lts.Need-after-requires (
-  row-stated-reads.Asked,
-  row-stated-reads.Learnt,
-  after-reads.Asked,
-  after-reads.Learnt,
-  enter-stated-below t,
-  enter-stated.Post,
-) (resolve-stated-at t) resolve-stated.Post resolve-stated-Inv-loop resolve-stated-μ-loop
+resolve-stated-after-requires : (t : ℕ) → resolve-stated-lts.Need-after-requires (resolve-stated-claims t) (resolve-stated-at t) resolve-stated.Post resolve-stated-Inv-loop resolve-stated-μ-loop
 resolve-stated-after-requires t c κs = tt
 
-resolve-stated-add-enter-stated : (t : ℕ) → resolve-stated-lts.Need-add-enter-stated (
-  row-stated-reads.Asked,
-  row-stated-reads.Learnt,
-  after-reads.Asked,
-  after-reads.Learnt,
-  enter-stated-below t,
-  enter-stated.Post,
-) (resolve-stated-at t) resolve-stated.Post resolve-stated-Inv-loop resolve-stated-μ-loop
+resolve-stated-add-enter-stated : (t : ℕ) → resolve-stated-lts.Need-add-enter-stated (resolve-stated-claims t) (resolve-stated-at t) resolve-stated.Post resolve-stated-Inv-loop resolve-stated-μ-loop
 resolve-stated-add-enter-stated t c = omega arith
 
-resolve-stated-enter-stated-requires : (t : ℕ) → resolve-stated-lts.Need-enter-stated-requires (
-  row-stated-reads.Asked,
-  row-stated-reads.Learnt,
-  after-reads.Asked,
-  after-reads.Learnt,
-  enter-stated-below t,
-  enter-stated.Post,
-) (resolve-stated-at t) resolve-stated.Post resolve-stated-Inv-loop resolve-stated-μ-loop
+resolve-stated-enter-stated-requires : (t : ℕ) → resolve-stated-lts.Need-enter-stated-requires (resolve-stated-claims t) (resolve-stated-at t) resolve-stated.Post resolve-stated-Inv-loop resolve-stated-μ-loop
 resolve-stated-enter-stated-requires t c κs = (omega (arith, (c .before .before .before .before .before .before .before .before .before .before .before .before .before .before .before .before .before .before .before .before .before .before .pre .0)), (c .before .before .before .before .before .before .before .before .before .before .before .before .before .before .before .before .before .before .before .before .before .before .pre .1))
 
-resolve-stated-loop-less : (t : ℕ) → resolve-stated-lts.Need-loop-less (
-  row-stated-reads.Asked,
-  row-stated-reads.Learnt,
-  after-reads.Asked,
-  after-reads.Learnt,
-  enter-stated-below t,
-  enter-stated.Post,
-) (resolve-stated-at t) resolve-stated.Post resolve-stated-Inv-loop resolve-stated-μ-loop
+resolve-stated-loop-less : (t : ℕ) → resolve-stated-lts.Need-loop-less (resolve-stated-claims t) (resolve-stated-at t) resolve-stated.Post resolve-stated-Inv-loop resolve-stated-μ-loop
 resolve-stated-loop-less t c = omega (arith, after-grows _ _ _ _ (c .before .before .before .before .after .ensures) (omega arith))
 
-resolve-stated-loop-again : (t : ℕ) → resolve-stated-lts.Need-loop-again (
-  row-stated-reads.Asked,
-  row-stated-reads.Learnt,
-  after-reads.Asked,
-  after-reads.Learnt,
-  enter-stated-below t,
-  enter-stated.Post,
-) (resolve-stated-at t) resolve-stated.Post resolve-stated-Inv-loop resolve-stated-μ-loop
+resolve-stated-loop-again : (t : ℕ) → resolve-stated-lts.Need-loop-again (resolve-stated-claims t) (resolve-stated-at t) resolve-stated.Post resolve-stated-Inv-loop resolve-stated-μ-loop
 resolve-stated-loop-again t c = (omega arith, states-more refl refl ((c .before .before .before .before .before .before .before .before .before .before .before .before .loop .inv) .1) (finds-ranked ((c .before .before .before .before .before .before .before .before .before .before .before .before .before .before .before .before .before .before .before .before .before .before .before .before .before .pre .1) .ranks) _ _ _ _ (c .before .before .before .before .before .before .before .before .before .before .row-stated .ensures)) ((c .before .before .before .before .before .before .before .before .i .given) .1) (c .before .before .before .before .after .ensures) refl (c .before .before .enter-stated .ensures))
 
-resolve-stated-same-length-4 : (t : ℕ) → resolve-stated-lts.Need-same-length-4 (
-  row-stated-reads.Asked,
-  row-stated-reads.Learnt,
-  after-reads.Asked,
-  after-reads.Learnt,
-  enter-stated-below t,
-  enter-stated.Post,
-) (resolve-stated-at t) resolve-stated.Post resolve-stated-Inv-loop resolve-stated-μ-loop
+resolve-stated-same-length-4 : (t : ℕ) → resolve-stated-lts.Need-same-length-4 (resolve-stated-claims t) (resolve-stated-at t) resolve-stated.Post resolve-stated-Inv-loop resolve-stated-μ-loop
 resolve-stated-same-length-4 t c = (c .before .loop .inv) .0
 
-resolve-stated-returns-4 : (t : ℕ) → resolve-stated-lts.Need-returns-4 (
-  row-stated-reads.Asked,
-  row-stated-reads.Learnt,
-  after-reads.Asked,
-  after-reads.Learnt,
-  enter-stated-below t,
-  enter-stated.Post,
-) (resolve-stated-at t) resolve-stated.Post resolve-stated-Inv-loop resolve-stated-μ-loop
+resolve-stated-returns-4 : (t : ℕ) → resolve-stated-lts.Need-returns-4 (resolve-stated-claims t) (resolve-stated-at t) resolve-stated.Post resolve-stated-Inv-loop resolve-stated-μ-loop
 resolve-stated-returns-4 t c = states-end (omega arith) ((c .before .loop .inv) .1)
 
 pub +enter+enter-stated+resolve+resolve-default+resolve-row+resolve-stated-spec :
@@ -686,14 +379,7 @@ pub +enter+enter-stated+resolve+resolve-default+resolve-row+resolve-stated-spec 
     μ-resolve-default
     μ-resolve-row
     μ-resolve-stated
-    (λ t. enter-lts.spec (
-      put-value-reads.Asked,
-      put-value-reads.Learnt,
-      word-of-reads.Asked,
-      word-of-reads.Learnt,
-      resolve-below t,
-      resolve.Post,
-    )
+    (λ t. enter-lts.spec (enter-claims t)
     (enter-at t)
     enter.Post
     (enter-returns t)
@@ -703,12 +389,7 @@ pub +enter+enter-stated+resolve+resolve-default+resolve-row+resolve-stated-spec 
     (enter-resolve-requires t)
     (enter-same-length t)
     (enter-returns-2 t))
-    (λ t. enter-stated-lts.spec (
-      cell-at-reads.Asked,
-      cell-at-reads.Learnt,
-      enter-below t,
-      enter.Post,
-    )
+    (λ t. enter-stated-lts.spec (enter-stated-claims t)
     (enter-stated-at t)
     enter-stated.Post
     (enter-stated-cell-at-requires t)
@@ -717,12 +398,7 @@ pub +enter+enter-stated+resolve+resolve-default+resolve-row+resolve-stated-spec 
     (enter-stated-enter-requires t)
     (enter-stated-same-length t)
     (enter-stated-returns t))
-    (λ t. resolve-lts.spec (
-      next-row-reads.Asked,
-      next-row-reads.Learnt,
-      resolve-row-below t,
-      resolve-row.Post,
-    )
+    (λ t. resolve-lts.spec (resolve-claims t)
     (resolve-at t)
     resolve.Post
     resolve-Inv-loop
@@ -739,12 +415,7 @@ pub +enter+enter-stated+resolve+resolve-default+resolve-row+resolve-stated-spec 
     (resolve-loop-again t)
     (resolve-same-length t)
     (resolve-returns-4 t))
-    (λ t. resolve-default-lts.spec (
-      cell-at-reads.Asked,
-      cell-at-reads.Learnt,
-      enter-below t,
-      enter.Post,
-    )
+    (λ t. resolve-default-lts.spec (resolve-default-claims t)
     (resolve-default-at t)
     resolve-default.Post
     (resolve-default-cell-at-requires t)
@@ -755,14 +426,7 @@ pub +enter+enter-stated+resolve+resolve-default+resolve-row+resolve-stated-spec 
     (resolve-default-enter-requires t)
     (resolve-default-same-length t)
     (resolve-default-returns-3 t))
-    (λ t. resolve-row-lts.spec (
-      row-stated-reads.Asked,
-      row-stated-reads.Learnt,
-      resolve-default-below t,
-      resolve-default.Post,
-      resolve-stated-below t,
-      resolve-stated.Post,
-    )
+    (λ t. resolve-row-lts.spec (resolve-row-claims t)
     (resolve-row-at t)
     resolve-row.Post
     (resolve-row-row-stated-requires t)
@@ -774,14 +438,7 @@ pub +enter+enter-stated+resolve+resolve-default+resolve-row+resolve-stated-spec 
     (resolve-row-resolve-stated-requires t)
     (resolve-row-same-length-2 t)
     (resolve-row-returns-2 t))
-    λ t. resolve-stated-lts.spec (
-      row-stated-reads.Asked,
-      row-stated-reads.Learnt,
-      after-reads.Asked,
-      after-reads.Learnt,
-      enter-stated-below t,
-      enter-stated.Post,
-    )
+    λ t. resolve-stated-lts.spec (resolve-stated-claims t)
     (resolve-stated-at t)
     resolve-stated.Post
     resolve-stated-Inv-loop
