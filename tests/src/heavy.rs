@@ -358,15 +358,34 @@ fn against_scopes() -> Vec<Heavy> {
 
 /// Two of these at once.
 fn against_all() -> Vec<Heavy> {
-    let needed = each(511, |number| format!("INT32 {};", name(2, number)));
-    let late = each(511, |number| format!("{}=1;", name(2, number)));
+    let needed = |sort: &str| each(511, |number| format!("{sort} {};", name(2, number)));
+    let late = |value| each(511, |number| format!("{}={value};", name(2, number)));
     let list = name(2, 511);
-    vec![filled(
-        "511 attributes behind a list of numbers from a long list",
-        &format!("TASK{{{needed}UINT32[#0]{list}[];}};"),
-        &format!("TASK t{{{}{late}}};", format!("{list}=0;").repeat(1_537)),
-        "1,",
-    )]
+    vec![
+        filled(
+            "511 attributes behind a list of numbers from a long list",
+            &format!("TASK{{{}UINT32[#0]{list}[];}};", needed("INT32")),
+            &format!(
+                "TASK t{{{}{}}};",
+                format!("{list}=0;").repeat(1_537),
+                late("1")
+            ),
+            "1,",
+        ),
+        filled(
+            "511 attributes behind a list of enumerators, beside a long list",
+            &format!(
+                "TASK{{{}ENUM[A]{list}[];}};ISR{{UINT32[#0]x[];}};",
+                needed("ENUM[A]")
+            ),
+            &format!(
+                "TASK t{{{}{}}};",
+                format!("{list}=A;").repeat(1_537),
+                late("A")
+            ),
+            "1,",
+        ),
+    ]
 }
 
 #[cfg(test)]
