@@ -4,28 +4,19 @@ use mathlib.Core.List.{List, [], _∷_, _++_, append-assoc, append-nil}
 use Prim.Native.Nat.{ℕ, suc, _+_, _*_, _≤_, _<_, min}
 use native.Mathlib.Omega.{arith}
 use native.Mathlib.Decide.{decLe}
-use lib.ListN.{length, length-append}
+use lib.ListN.{length}
 use lib.Seq.{sets, length-sets}
 use Rattle.rows.proofs.Stores.{sets-append, sets-out}
 use Rattle.meaning.specs.Resolving.{Taken, Resolved, end, resolved, Owner, of-object, of-value, ValueRow, value-row, value-rows, how-many-values, all-value-rows, how-many-in-all}
 use Rattle.meaning.specs.Cells.{cells, value-cells}
 use Rattle.meaning.proofs.Entries.{joins, length-values, value-rows-joins, how-many-joins}
 use Rattle.resolving.specs.Written.{Wrote, WroteAll}
-use Rattle.meaning.proofs.Rooms.{value-width, value-rows-length}
+use Rattle.meaning.proofs.Rooms.{value-width, value-rows-length, cells-length}
 
 cells-append : (a b : List ValueRow) → cells value-cells (a ++ b) ≡ cells value-cells a ++ cells value-cells b
 unfolding cells
 cells-append [] b = refl
 cells-append (r ∷ a) b = ap (λ (l : List ℕ). value-cells r ++ l) (cells-append a b) ∙ sym (append-assoc (value-cells r) (cells value-cells a) (cells value-cells b))
-
-length-cells : (rs : List ValueRow) → length (cells value-cells rs) ≡ length rs * 9
-unfolding cells
-length-cells [] = omega arith
-length-cells (r ∷ rs) =
-    let a = length-append (value-cells r) (cells value-cells rs) in
-    let b = value-width r in
-    let c = length-cells rs in
-    omega arith
 
 -- One scope's values -----------------------------------------------------------------------------------------------------------------------
 
@@ -46,7 +37,7 @@ two-runs : (v : List ℕ) (n : ℕ) (a b : Resolved) (o : Owner)
 two-runs v n a b o =
     let A = value-rows a n o in
     let B = value-rows b (n + how-many-values a) o in
-    let l = length-cells A in
+    let l = cells-length 9 value-cells value-width A in
     let m = length-values a n o in
     let e : n * 9 + length (cells value-cells A) ≡ (n + how-many-values a) * 9 = omega arith in
     ap (λ (rs : List ValueRow). sets v (n * 9) (cells value-cells rs)) (value-rows-joins a b n o)
@@ -162,7 +153,7 @@ wrote-next {v} {rs} {r} {v₁} {n₁} {i} {v₂} {n₂} l li p q =
 
     runs : sets v 0 (cells value-cells (all-value-rows (rs ++ (r ∷ [])) 0 0)) ≡ sets (sets v 0 (cells value-cells A)) (how-many-in-all rs * 9) (cells value-cells B)
     runs =
-        let a = length-cells A in
+        let a = cells-length 9 value-cells value-width A in
         let b = value-rows-length rs 0 0 in
         let e : 0 + length (cells value-cells A) ≡ how-many-in-all rs * 9 = omega arith in
         ap (λ (l : List ValueRow). sets v 0 (cells value-cells l)) (rows-next rs r 0 0)
