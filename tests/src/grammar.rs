@@ -63,7 +63,7 @@ pub enum Symbol {
 impl Symbol {
     /// Whether a token of this sort may stand where the symbol does. "Reserved: TRUE, FALSE,
     /// AUTO, NO_DEFAULT, WITH_AUTO. Every other word may be a name."
-    fn admits(self, sort: Sort) -> bool {
+    pub fn admits(self, sort: Sort) -> bool {
         match (self, sort) {
             (Symbol::Word(word), Sort::Word(code)) => word == code,
             (Symbol::Name, Sort::Word(code)) => !(1..=5).contains(&code),

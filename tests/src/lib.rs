@@ -12,6 +12,7 @@ pub mod meaning;
 pub mod normal;
 pub mod proved;
 pub mod random;
+pub mod robust;
 pub mod sorts;
 pub mod tables;
 pub mod tempting;

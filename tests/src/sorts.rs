@@ -29,7 +29,7 @@ impl From<Option<Refusal>> for Known {
 }
 
 /// What is given each text of a sort.
-type Each<'a> = &'a mut dyn FnMut(Case);
+pub type Each<'a> = &'a mut dyn FnMut(Case);
 
 /// A sort of texts, of which at least so many are different.
 pub struct Sort {
@@ -104,32 +104,44 @@ fn tempting_texts(each: Each) {
 
 fn accepted(each: Each) {
     for seed in 0..15_000 * times() {
-        each(Case {
-            name: format!("seed {seed}"),
-            text: answered::accepted(seed).text,
-            known: Known::Accepted,
-        });
+        each(accepted_text(seed));
     }
     for bytes in (0..=65_535).step_by(1_111) {
-        each(Case {
-            name: format!("{bytes} bytes"),
-            text: configuration(bytes).into_bytes(),
-            known: Known::Accepted,
-        });
+        each(configuration_text(bytes));
+    }
+}
+
+pub fn accepted_text(seed: u64) -> Case {
+    Case {
+        name: format!("seed {seed}"),
+        text: answered::accepted(seed).text,
+        known: Known::Accepted,
+    }
+}
+
+pub fn configuration_text(bytes: usize) -> Case {
+    Case {
+        name: format!("{bytes} bytes"),
+        text: configuration(bytes).into_bytes(),
+        known: Known::Accepted,
     }
 }
 
 /// The numbers of which a fault can be planted anywhere.
 pub const PLANTED: [u8; 11] = [6, 8, 9, 10, 12, 13, 14, 15, 16, 17, 18];
 
+/// The text of a seed with faults of these numbers, if it has sites for them.
+pub fn text_with_faults(seed: u64, numbers: &[u8]) -> Option<Case> {
+    let made = answered::with_faults(seed, numbers)?;
+    Some(Case {
+        name: format!("faults {numbers:?}, seed {seed}"),
+        text: made.text,
+        known: made.answer.err().into(),
+    })
+}
+
 fn with_faults(seed: u64, numbers: &[u8], each: Each) {
-    if let Some(made) = answered::with_faults(seed, numbers) {
-        each(Case {
-            name: format!("faults {numbers:?}, seed {seed}"),
-            text: made.text,
-            known: made.answer.err().into(),
-        });
-    }
+    text_with_faults(seed, numbers).map(each);
 }
 
 fn one_fault(each: Each) {
@@ -176,9 +188,14 @@ fn damaged_limits(each: Each) {
     for limit in limits::limits() {
         let random = &mut Random::new(limit.text.len() as u64);
         for _ in 0..4 * times() {
-            each(unknown(&limit.name, texts::damaged(random, &limit.text)));
+            each(damaged_text(&limit.name, random, &limit.text));
         }
     }
+}
+
+/// A text with one byte or more damaged.
+pub fn damaged_text(name: &str, random: &mut Random, text: &[u8]) -> Case {
+    unknown(name, texts::damaged(random, text))
 }
 
 /// The tokens of a text.
@@ -219,90 +236,117 @@ fn exchanged(random: &mut Random, text: &[u8]) -> Vec<u8> {
 
 fn tokens_exchanged(each: Each) {
     for seed in 0..5_000 * times() {
-        let random = &mut Random::new(seed);
-        let text = answered::accepted(seed).text;
-        for _ in 0..4 {
-            each(unknown(&format!("seed {seed}"), exchanged(random, &text)));
-        }
+        exchanged_texts(seed, each);
+    }
+}
+
+/// The accepted text of a seed four times, with tokens exchanged.
+pub fn exchanged_texts(seed: u64, each: Each) {
+    let random = &mut Random::new(seed);
+    let text = answered::accepted(seed).text;
+    for _ in 0..4 {
+        each(unknown(&format!("seed {seed}"), exchanged(random, &text)));
     }
 }
 
 fn one_token_off(each: Each) {
     for seed in 0..5_000 * times() {
-        let random = &mut Random::new(seed);
-        let text = answered::accepted(seed).text;
-        let tokens = tokens_of(&text);
-        let tokens: Vec<Vec<u8>> = tokens.iter().map(|token| word(&text, token)).collect();
-        let off = texts::one_token_off(random, &tokens);
-        each(unknown(
-            &format!("seed {seed}"),
-            texts::spaced(random, &off),
-        ));
+        each(text_one_token_off(seed));
     }
+}
+
+pub fn text_one_token_off(seed: u64) -> Case {
+    let random = &mut Random::new(seed);
+    let text = answered::accepted(seed).text;
+    let tokens = tokens_of(&text);
+    let tokens: Vec<Vec<u8>> = tokens.iter().map(|token| word(&text, token)).collect();
+    let off = texts::one_token_off(random, &tokens);
+    unknown(&format!("seed {seed}"), texts::spaced(random, &off))
 }
 
 fn damaged(each: Each) {
     let samples = corpus::samples();
     for seed in 0..15_000 * times() {
-        let random = &mut Random::new(seed);
-        let text = match random.below(3) {
-            0 => samples[random.below(samples.len())].text.clone(),
-            _ => answered::accepted(seed % 2_000).text,
-        };
-        each(unknown(
-            &format!("seed {seed}"),
-            texts::damaged(random, &text),
-        ));
+        each(damaged_sample(seed, &samples));
     }
+}
+
+/// A text of the corpus or an accepted one, damaged.
+pub fn damaged_sample(seed: u64, samples: &[corpus::Sample]) -> Case {
+    let random = &mut Random::new(seed);
+    let text = match random.below(3) {
+        0 => samples[random.below(samples.len())].text.clone(),
+        _ => answered::accepted(seed % 2_000).text,
+    };
+    damaged_text(&format!("seed {seed}"), random, &text)
 }
 
 fn truncations(each: Each) {
     for seed in 0..30 {
         let text = answered::accepted(seed).text;
         for end in 0..=text.len() {
-            let name = format!("seed {seed}, cut at {end}");
-            each(unknown(&name, text[..end].to_vec()));
+            each(truncated_text(&format!("seed {seed}"), &text, end));
         }
     }
+}
+
+pub fn truncated_text(name: &str, text: &[u8], end: usize) -> Case {
+    unknown(&format!("{name}, cut at {end}"), text[..end].to_vec())
 }
 
 fn bytes_and_tokens(each: Each) {
     for seed in 0..12_000 * times() {
-        let name = format!("seed {seed}");
-        each(unknown(&name, texts::any(seed)));
-        let random = &mut Random::new(seed);
-        let tokens: Vec<_> = (0..random.below(30))
-            .map(|_| texts::any_token(random))
-            .collect();
-        each(unknown(&name, texts::spaced(random, &tokens)));
+        each(text_of_bytes(seed));
+        each(text_of_tokens(seed));
     }
     for seed in 0..200 * times() {
-        each(unknown(&format!("long, seed {seed}"), texts::long(seed)));
+        each(long_text(seed));
     }
+}
+
+pub fn text_of_bytes(seed: u64) -> Case {
+    unknown(&format!("seed {seed}"), texts::any(seed))
+}
+
+pub fn text_of_tokens(seed: u64) -> Case {
+    let random = &mut Random::new(seed);
+    let tokens: Vec<_> = (0..random.below(30))
+        .map(|_| texts::any_token(random))
+        .collect();
+    unknown(&format!("seed {seed}"), texts::spaced(random, &tokens))
+}
+
+pub fn long_text(seed: u64) -> Case {
+    unknown(&format!("long, seed {seed}"), texts::long(seed))
 }
 
 fn derived(each: Each) {
     for seed in 0..8_000 * times() {
-        let random = &mut Random::new(seed);
-        let shape = texts::Shape {
-            tokens: random.from_to(20, 150),
-            deepest: random.from_to(2, 16),
-            steep: [None, Some("implementation"), Some("application")][random.below(3)],
-        };
-        let mut tokens = texts::derived(random, shape);
-        // Mostly the right version, so that the later stages have something to say.
-        if !random.once_in(10) {
-            tokens[2] = b"\"2.5\"".to_vec();
-        }
-        let mut text = texts::spaced(random, &tokens);
-        if grammar::stage(&text) == grammar::Stage::Passes && random.once_in(2) {
-            let name = file(&text).cpu_name;
-            if let Step::Token(_, next) = step(&text, name.place + name.length) {
-                text.splice(next..next, *b" OS o; APPMODE a; ");
-            }
-        }
-        each(unknown(&format!("seed {seed}"), text));
+        each(derived_text(seed));
     }
+}
+
+/// A text of the grammar's shape, and no regard to the meaning.
+pub fn derived_text(seed: u64) -> Case {
+    let random = &mut Random::new(seed);
+    let shape = texts::Shape {
+        tokens: random.from_to(20, 150),
+        deepest: random.from_to(2, 16),
+        steep: [None, Some("implementation"), Some("application")][random.below(3)],
+    };
+    let mut tokens = texts::derived(random, shape);
+    // Mostly the right version, so that the later stages have something to say.
+    if !random.once_in(10) {
+        tokens[2] = b"\"2.5\"".to_vec();
+    }
+    let mut text = texts::spaced(random, &tokens);
+    if grammar::stage(&text) == grammar::Stage::Passes && random.once_in(2) {
+        let name = file(&text).cpu_name;
+        if let Step::Token(_, next) = step(&text, name.place + name.length) {
+            text.splice(next..next, *b" OS o; APPMODE a; ");
+        }
+    }
+    unknown(&format!("seed {seed}"), text)
 }
 
 fn heavy_texts(each: Each) {

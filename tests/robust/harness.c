@@ -1,0 +1,1121 @@
+// The calls kaukslini_read and kaukslini_write on each text of standard input, in guarded memory, and checks of what is promised of the lent
+// memory and of the answer, whatever the text is. docs/ROBUSTNESS.md says what is checked.
+//
+//   harness [FOLDER]      the texts of standard input, as robust_texts writes them; a text that fails is saved in FOLDER
+//   harness --self-test   faults are planted around the calls; each must be reported
+//
+// Compiled with -DMEMCHECK it is to be run under valgrind, without it with -fsanitize=address,undefined.
+
+#define _GNU_SOURCE
+#include <errno.h>
+#include <inttypes.h>
+#include <signal.h>
+#include <stdarg.h>
+#include <stdbool.h>
+#include <stdint.h>
+#include <stdio.h>
+#include <stdlib.h>
+#include <string.h>
+#include <sys/mman.h>
+#include <sys/time.h>
+#include <sys/wait.h>
+#include <unistd.h>
+
+#ifdef MEMCHECK
+#include <valgrind/memcheck.h>
+#else
+#include <sanitizer/asan_interface.h>
+#endif
+
+// The planted faults are not instrumented, as the library is not.
+#define NOT_INSTRUMENTED __attribute__((noinline, no_sanitize("address", "undefined")))
+
+uint8_t kaukslini_read(const uint8_t *text, size_t text_length, size_t *definitions, size_t definitions_length, size_t *enumerators,
+                       size_t enumerators_length, size_t *objects, size_t objects_length, size_t *values, size_t values_length,
+                       size_t *told, size_t told_length);
+
+uint8_t kaukslini_write(const uint8_t *text, size_t text_length, size_t *definitions, size_t definitions_length, size_t *enumerators,
+                        size_t enumerators_length, size_t *objects, size_t objects_length, size_t *values, size_t values_length,
+                        uint8_t *output, size_t output_length, size_t *told, size_t told_length);
+
+// ---- The rooms, as docs/TABLES.md fixes them ----
+
+enum { DEFINITIONS, ENUMERATORS, OBJECTS, VALUES, TABLES };
+
+static const char *const NAMES[TABLES] = {"definitions", "enumerators", "objects", "values"};
+static const size_t ROWS[TABLES] = {512, 1024, 256, 2048};
+static const size_t WIDTHS[TABLES] = {13, 3, 7, 9};
+
+#define CELL sizeof(size_t)
+#define LONGEST_TEXT ((size_t)65535) // that is not refused for its length
+#define TOLD_BY_READ ((size_t)18)    // the place, four sizes, thirteen counts
+#define TOLD_BY_WRITE ((size_t)2)    // the place, the length of the normal text
+#define MOST_TOLD ((size_t)21)
+#define USUAL_OUTPUT ((size_t)65535)
+#define PAST ((size_t)40)            // cells past the room of a longer table
+
+enum { LAST_NUMBER = 20, TABLES_TOO_SHORT = 1, TEXT_TOO_LONG = 2, OUTPUT_TOO_SHORT = 20 };
+
+static size_t room(int table) {
+    return ROWS[table] * WIDTHS[table] * CELL;
+}
+
+// ---- Guarded memory ----
+
+// How the library sees lent memory.
+enum view { WRITABLE, READ_ONLY, VIEWS };
+
+// Memory that is mapped three times: between guards that trap, once writable and once read-only, and for the harness itself. A part of it is
+// lent by one of the two views: it ends at the guard behind it, or begins at the one before it.
+struct region {
+    const char *name;
+    unsigned char *own, *views[VIEWS];
+    enum view view;
+    size_t size;
+    size_t start, length; // the lent part
+};
+
+enum side { ENDS_AT_GUARD, BEGINS_AT_GUARD };
+
+#define GUARD ((size_t)1 << 20)
+#define TEXT_SIZE ((size_t)1 << 17)
+#define OUTPUT_SIZE ((size_t)1 << 16)
+// No normal text is longer: at most 2,048 lines whose words are of the text, besides the implementation and the objects.
+#define LONG_OUTPUT_SIZE ((size_t)144 << 20)
+// How much memory beside the lent part is a canary: all of it but for a long output, and for the text, which is read-only.
+#define BESIDE ((size_t)1 << 16)
+
+static struct region text, tables[TABLES], usual_output, long_output, told;
+static struct region *output = &usual_output;
+
+#define NOISE ((size_t)1 << 18)
+static uint64_t noise[NOISE / sizeof(uint64_t)];
+static const unsigned char zeros[2048 * 9 * sizeof(size_t)];
+
+static void stop(const char *what) {
+    fprintf(stderr, "harness: %s: %s\n", what, strerror(errno));
+    exit(2);
+}
+
+static void *map(void *at, size_t size, int protection, int flags, int file) {
+    void *mapped = mmap(at, size, protection, flags, file, 0);
+    if (mapped == MAP_FAILED)
+        stop("mmap");
+    return mapped;
+}
+
+static struct region new_region(const char *name, size_t size) {
+    struct region region = {.name = name, .size = size};
+    int file = memfd_create(name, 0);
+    if (file < 0 || ftruncate(file, (off_t)size) != 0)
+        stop("memfd_create");
+    region.own = map(NULL, size, PROT_READ | PROT_WRITE, MAP_SHARED, file);
+    for (int view = 0; view < VIEWS; view++) {
+        unsigned char *reserved = map(NULL, GUARD + size + GUARD, PROT_NONE, MAP_PRIVATE | MAP_ANONYMOUS | MAP_NORESERVE, -1);
+        int protection = view == WRITABLE ? PROT_READ | PROT_WRITE : PROT_READ;
+        region.views[view] = map(reserved + GUARD, size, protection, MAP_SHARED | MAP_FIXED, file);
+    }
+    close(file);
+    return region;
+}
+
+static size_t pages(size_t length) {
+    size_t page = (size_t)sysconf(_SC_PAGESIZE);
+    return (length + page - 1) / page * page;
+}
+
+static void make_regions(void) {
+    uint64_t state = 31;
+    for (size_t i = 0; i < NOISE / sizeof(uint64_t); i++) {
+        state += 0x9e3779b97f4a7c15;
+        uint64_t mixed = (state ^ (state >> 30)) * 0xbf58476d1ce4e5b9;
+        mixed = (mixed ^ (mixed >> 27)) * 0x94d049bb133111eb;
+        noise[i] = mixed | 1; // no cell of noise is zero
+    }
+    text = new_region("text", TEXT_SIZE);
+    text.view = READ_ONLY;
+    for (int t = 0; t < TABLES; t++)
+        tables[t] = new_region(NAMES[t], pages(room(t) + PAST * CELL));
+    usual_output = new_region("output", OUTPUT_SIZE);
+    long_output = new_region("output", LONG_OUTPUT_SIZE);
+    told = new_region("told", pages(MOST_TOLD * CELL));
+}
+
+static size_t least(size_t a, size_t b) {
+    return a < b ? a : b;
+}
+
+static void lend(struct region *region, enum side side, size_t length) {
+    region->length = length;
+    region->start = side == ENDS_AT_GUARD ? region->size - length : 0;
+}
+
+// The lent part as the library sees it, and as the harness does.
+static unsigned char *lent(const struct region *region) {
+    return region->views[region->view] + region->start;
+}
+
+static unsigned char *here(const struct region *region) {
+    return region->own + region->start;
+}
+
+static size_t canary_start(const struct region *region) {
+    return region->start - least(region->start, BESIDE);
+}
+
+static size_t canary_end(const struct region *region) {
+    size_t end = region->start + region->length;
+    return end + least(region->size - end, BESIDE);
+}
+
+// Fills the lent part and the canary with noise.
+static void fill(struct region *region) {
+    size_t from = canary_start(region), to = canary_end(region);
+    while (from < to) {
+        size_t at = from % NOISE, length = least(NOISE - at, to - from);
+        memcpy(region->own + from, (unsigned char *)noise + at, length);
+        from += length;
+    }
+}
+
+static bool is_noise(const struct region *region, size_t from, size_t to) {
+    while (from < to) {
+        size_t at = from % NOISE, length = least(NOISE - at, to - from);
+        if (memcmp(region->own + from, (unsigned char *)noise + at, length) != 0)
+            return false;
+        from += length;
+    }
+    return true;
+}
+
+// Whether the lent part is noise from a place in it on.
+static bool is_noise_from(const struct region *region, size_t place) {
+    return is_noise(region, region->start + place, region->start + region->length);
+}
+
+static bool is_noise_beside(const struct region *region) {
+    return is_noise(region, canary_start(region), region->start) &&
+           is_noise(region, region->start + region->length, canary_end(region));
+}
+
+// ---- What valgrind and the address sanitizer are told of it ----
+
+// In a call the memory beside the lent parts is shut, and lent memory that may be written holds nothing that may decide anything.
+static void shut_for_call(const struct region *region, bool is_unset) {
+    unsigned char *beside = region->views[region->view] + canary_start(region);
+    size_t size = canary_end(region) - canary_start(region);
+#ifdef MEMCHECK
+    VALGRIND_MAKE_MEM_NOACCESS(beside, size);
+    if (is_unset)
+        VALGRIND_MAKE_MEM_UNDEFINED(lent(region), region->length);
+    else
+        VALGRIND_MAKE_MEM_DEFINED(lent(region), region->length);
+#else
+    (void)is_unset;
+    ASAN_POISON_MEMORY_REGION(beside, size);
+    ASAN_UNPOISON_MEMORY_REGION(lent(region), region->length);
+#endif
+}
+
+// Whether the call has set the first bytes of a lent part; only valgrind can tell.
+static bool is_set(const struct region *region, size_t length) {
+#ifdef MEMCHECK
+    return VALGRIND_CHECK_MEM_IS_DEFINED(lent(region), length) == 0;
+#else
+    (void)region, (void)length;
+    return true;
+#endif
+}
+
+static unsigned long memcheck_errors(void) {
+#ifdef MEMCHECK
+    return VALGRIND_COUNT_ERRORS;
+#else
+    return 0;
+#endif
+}
+
+// ---- Reports ----
+
+// What is being tried.
+static struct {
+    uint64_t index; // of the text
+    char *sort, *name;
+    enum side side;
+    const char *call;
+    bool is_known; // the answer, from how the text was made
+    unsigned number;
+    size_t place;
+    unsigned char bytes[TEXT_SIZE];
+    size_t length;
+} now;
+
+static const char *folder = NULL;
+static uint64_t failures = 0, calls = 0;
+
+enum { MOST_REPORTED = 20 };
+
+static void save_text(void) {
+    if (folder == NULL)
+        return;
+    char path[4096];
+    snprintf(path, sizeof path, "%s/failed-%" PRIu64 ".oil", folder, now.index);
+    FILE *file = fopen(path, "wb");
+    if (file == NULL)
+        stop(path);
+    fwrite(now.bytes, 1, now.length, file);
+    fclose(file);
+}
+
+// Reports that something does not hold; always false.
+__attribute__((format(printf, 1, 2))) static bool fail(const char *format, ...) {
+    failures++;
+    if (failures > MOST_REPORTED)
+        return false;
+    fprintf(stderr, "FAILED: text %" PRIu64 ", %s, %s: lent memory %s at a guard, %s: ", now.index, now.sort, now.name,
+            now.side == ENDS_AT_GUARD ? "ends" : "begins", now.call);
+    va_list rest;
+    va_start(rest, format);
+    vfprintf(stderr, format, rest);
+    va_end(rest);
+    fputc('\n', stderr);
+    save_text();
+    return false;
+}
+
+static void trapped(int signal, siginfo_t *info, void *context) {
+    (void)context;
+    if (signal == SIGVTALRM) {
+        fail("the call does not end in time");
+        _exit(1);
+    }
+    const unsigned char *at = info->si_addr;
+    struct region *all[] = {&text, &tables[0], &tables[1], &tables[2], &tables[3], &usual_output, &long_output, &told};
+    for (size_t i = 0; i < sizeof all / sizeof *all; i++) {
+        const unsigned char *start = all[i]->views[all[i]->view], *end = start + all[i]->size;
+        if (at >= start - GUARD && at < start)
+            fail("an access before the lent memory: %s", all[i]->name);
+        else if (at >= end && at < end + GUARD)
+            fail("an access past the lent memory: %s", all[i]->name);
+        else if (at >= start && at < end)
+            fail("a write to read-only memory: %s", all[i]->name);
+    }
+    if (failures == 0)
+        fail("signal %d at %p", signal, info->si_addr);
+    _exit(1);
+}
+
+static void catch_traps(void) {
+    static unsigned char stack[1 << 16];
+    stack_t other = {.ss_sp = stack, .ss_size = sizeof stack};
+    struct sigaction action = {.sa_sigaction = trapped, .sa_flags = SA_SIGINFO | SA_ONSTACK};
+    sigemptyset(&action.sa_mask);
+    if (sigaltstack(&other, NULL) != 0)
+        stop("sigaltstack");
+    const int signals[] = {SIGSEGV, SIGBUS, SIGILL, SIGFPE, SIGVTALRM};
+    for (size_t i = 0; i < sizeof signals / sizeof *signals; i++)
+        if (sigaction(signals[i], &action, NULL) != 0)
+            stop("sigaction");
+}
+
+// ---- The calls ----
+
+struct slices {
+    const uint8_t *text;
+    size_t text_length;
+    size_t *tables[TABLES];
+    size_t lengths[TABLES];
+    uint8_t *output;
+    size_t output_length;
+    size_t *told;
+    size_t told_length;
+};
+
+static unsigned library_read(const struct slices *s) {
+    return kaukslini_read(s->text, s->text_length, s->tables[0], s->lengths[0], s->tables[1], s->lengths[1], s->tables[2], s->lengths[2],
+                          s->tables[3], s->lengths[3], s->told, s->told_length);
+}
+
+static unsigned library_write(const struct slices *s) {
+    return kaukslini_write(s->text, s->text_length, s->tables[0], s->lengths[0], s->tables[1], s->lengths[1], s->tables[2], s->lengths[2],
+                           s->tables[3], s->lengths[3], s->output, s->output_length, s->told, s->told_length);
+}
+
+// What can be planted around the calls, to see that it is reported.
+enum fault {
+    NO_FAULT,
+    PAST_THE_ROOM,
+    BESIDE_A_TABLE,
+    BEFORE_A_TABLE,
+    PAST_A_TABLE,
+    READS_BEFORE_A_TABLE,
+    READS_AN_EMPTY_TABLE,
+    READS_PAST_THE_TEXT,
+    READS_BEFORE_THE_TEXT,
+    WRITES_THE_TEXT,
+    PAST_THE_OUTPUT,
+    BESIDE_THE_OUTPUT,
+    MEMSET_BESIDE_THE_OUTPUT,
+    PAST_WHAT_IS_TOLD,
+    OUTPUT_ON_A_REFUSAL,
+    OUTPUT_ON_REFUSAL_20,
+    OUTPUT_ON_REFUSAL_1,
+    OUTPUT_PAST_THE_WRITTEN,
+    CELL_ON_A_REFUSAL,
+    CELL_ON_REFUSAL_20,
+    CELL_ON_REFUSAL_1,
+    CELL_OF_AN_UNUSED_ROW,
+    CELL_OF_A_USED_ROW,
+    NUMBER_21,
+    PLACE_PAST_THE_TEXT,
+    OBJECT_COUNTED_TWICE,
+    ROWS_ON_A_REFUSAL,
+    OTHER_THE_SECOND_TIME,
+    OTHER_PLACE_OF_WRITE,
+    SHORT_TABLES_TAKEN,
+    EXACT_OUTPUT_REFUSED,
+    LONG_OUTPUT_REFUSED,
+    SHORT_OUTPUT_TAKEN,
+    OTHER_BYTE_WRITTEN,
+    REFUSED_TEXT_TAKEN,
+    DOES_NOT_END,
+    DECIDES_BY_A_LENT_CELL,
+    READS_BESIDE_THE_TEXT,
+    READS_BESIDE_A_TABLE,
+    CELL_OF_AN_UNSET_ONE,
+    BYTE_OF_AN_UNSET_ONE,
+};
+
+static enum fault planted = NO_FAULT;
+
+static unsigned spoil(const struct slices *s, bool is_write, unsigned number);
+
+// What the text's first reading answered, and what was written first: all other calls must agree.
+static struct {
+    bool is_read, is_written;
+    unsigned number;
+    size_t told[TOLD_BY_READ];
+    unsigned char *rows[TABLES]; // of their rooms
+    unsigned char *written;
+    size_t length, written_room;
+} first;
+
+static size_t told_at(size_t cell) {
+    size_t value;
+    memcpy(&value, here(&told) + cell * CELL, CELL);
+    return value;
+}
+
+// Calls `read` or `write` on what is lent, with so many cells for what is told.
+static bool call(bool is_write, size_t told_cells, unsigned *number) {
+    lend(&told, now.side, told_cells * CELL);
+    fill(&told);
+    struct slices s = {.text = lent(&text), .text_length = text.length};
+    for (int t = 0; t < TABLES; t++) {
+        s.tables[t] = (size_t *)(void *)lent(&tables[t]);
+        s.lengths[t] = tables[t].length / CELL;
+    }
+    s.output = lent(output);
+    s.output_length = output->length;
+    s.told = (size_t *)(void *)lent(&told);
+    s.told_length = told_cells;
+
+    unsigned long errors = memcheck_errors();
+    shut_for_call(&text, false);
+    for (int t = 0; t < TABLES; t++)
+        shut_for_call(&tables[t], true);
+    if (is_write)
+        shut_for_call(output, true);
+    shut_for_call(&told, true);
+    unsigned answer = is_write ? library_write(&s) : library_read(&s);
+    if (planted != NO_FAULT)
+        answer = spoil(&s, is_write, answer);
+    bool are_set = is_set(&told, least(told_cells, is_write ? TOLD_BY_WRITE : TOLD_BY_READ) * CELL);
+    for (int t = 0; t < TABLES && answer != TABLES_TOO_SHORT; t++)
+        are_set = is_set(&tables[t], room(t)) && are_set;
+    if (is_write && answer == 0)
+        are_set = is_set(output, least(told_cells > 1 ? told_at(1) : first.length, output->length)) && are_set;
+    calls++;
+    *number = answer;
+    if (!are_set)
+        return fail("memory that the call is to set is not set");
+    if (memcheck_errors() != errors)
+        return fail("valgrind reports %lu errors", memcheck_errors() - errors);
+    return true;
+}
+
+// ---- What must hold after a call ----
+
+static bool told_holds(const size_t *expected, size_t cells) {
+    size_t set = least(cells, told.length / CELL);
+    for (size_t i = 0; i < set; i++)
+        if (told_at(i) != expected[i])
+            return fail("told cell %zu is %zu for %zu", i, told_at(i), expected[i]);
+    if (!is_noise_from(&told, set * CELL))
+        return fail("a cell past what is told is changed");
+    return is_noise_beside(&told) || fail("memory beside the lent told is changed");
+}
+
+static bool output_holds(size_t written) {
+    if (!is_noise_from(output, written))
+        return fail("a byte of the output past the %zu written ones is changed", written);
+    return is_noise_beside(output) || fail("memory beside the lent output is changed");
+}
+
+// The rows of the first reading where the text is accepted, and zeros up to the end of the room.
+static bool tables_hold(unsigned number) {
+    for (int t = 0; t < TABLES; t++) {
+        size_t used = number == 0 ? first.told[1 + t] * WIDTHS[t] * CELL : 0;
+        if (memcmp(here(&tables[t]), first.rows[t], used) != 0)
+            return fail("%s: the rows are not those of the first reading", NAMES[t]);
+        if (memcmp(here(&tables[t]) + used, zeros, room(t) - used) != 0)
+            return fail("%s: an unused cell is not zero", NAMES[t]);
+        if (!is_noise_from(&tables[t], room(t)))
+            return fail("%s: a cell past the room is changed", NAMES[t]);
+        if (!is_noise_beside(&tables[t]))
+            return fail("memory beside the lent %s is changed", NAMES[t]);
+    }
+    return true;
+}
+
+// What the first reading answers is kept, if it can be an answer at all.
+static bool keep_first(unsigned number) {
+    size_t place = told_at(0), counted = 0;
+    if (number >= LAST_NUMBER || number == TABLES_TOO_SHORT)
+        return fail("the number is %u", number);
+    if (place > now.length || (number == 0 && place != 0))
+        return fail("the place is %zu of %zu with number %u", place, now.length, number);
+    if ((number == TEXT_TOO_LONG) != (now.length > LONGEST_TEXT))
+        return fail("the number is %u for %zu bytes", number, now.length);
+    if (now.is_known && (number != now.number || place != now.place))
+        return fail("refusal %u at %zu; known from how the text was made is %u at %zu", number, place, now.number, now.place);
+    for (size_t i = 0; i < TOLD_BY_READ; i++) {
+        first.told[i] = told_at(i);
+        if (i > 0 && number != 0 && first.told[i] != 0)
+            return fail("told cell %zu of a refused text is %zu", i, first.told[i]);
+        counted += i > TABLES ? first.told[i] : 0;
+    }
+    for (int t = 0; t < TABLES; t++) {
+        if (first.told[1 + t] > ROWS[t])
+            return fail("there are %zu rows of %s", first.told[1 + t], NAMES[t]);
+        memcpy(first.rows[t], here(&tables[t]), first.told[1 + t] * WIDTHS[t] * CELL);
+    }
+    if (counted != first.told[1 + OBJECTS])
+        return fail("%zu objects are counted by kind, and there are %zu", counted, first.told[1 + OBJECTS]);
+    first.number = number;
+    first.is_read = true;
+    return true;
+}
+
+static void fill_tables(void) {
+    for (int t = 0; t < TABLES; t++)
+        fill(&tables[t]);
+}
+
+static bool try_read(const char *name, size_t told_cells) {
+    unsigned number;
+    now.call = name;
+    if (!call(false, told_cells, &number))
+        return false;
+    if (!first.is_read && !keep_first(number))
+        return false;
+    if (number != first.number)
+        return fail("the number is %u, and was %u", number, first.number);
+    return told_holds(first.told, TOLD_BY_READ) && tables_hold(number);
+}
+
+static bool keep_written(void) {
+    first.length = told_at(1);
+    if (first.length == 0 || first.length > output->length)
+        return fail("%zu bytes are written into %zu", first.length, output->length);
+    if (first.length > first.written_room) {
+        first.written_room = first.length;
+        first.written = realloc(first.written, first.written_room);
+        if (first.written == NULL)
+            stop("realloc");
+    }
+    memcpy(first.written, here(output), first.length);
+    first.is_written = true;
+    return true;
+}
+
+// `write` with an output of so many bytes.
+static bool try_write(const char *name, size_t bytes, size_t told_cells, unsigned *number) {
+    now.call = name;
+    output = bytes <= OUTPUT_SIZE ? &usual_output : &long_output;
+    lend(output, now.side, bytes);
+    fill(output);
+    fill_tables();
+    if (!call(true, told_cells, number))
+        return false;
+    unsigned expected = first.number;
+    if (expected == 0 && (first.is_written ? bytes < first.length : *number == OUTPUT_TOO_SHORT))
+        expected = OUTPUT_TOO_SHORT;
+    if (*number != expected)
+        return fail("the number is %u for %u, with %zu bytes of output", *number, expected, bytes);
+    if (expected == 0 && !first.is_written && !keep_written())
+        return false;
+    size_t written = expected == 0 ? first.length : 0;
+    const size_t answer[TOLD_BY_WRITE] = {expected == first.number ? first.told[0] : 0, written};
+    if (!told_holds(answer, TOLD_BY_WRITE) || !tables_hold(expected))
+        return false;
+    if (memcmp(here(output), first.written, written) != 0)
+        return fail("a written byte is not as it was");
+    return output_holds(written);
+}
+
+static void lend_tables(bool longer) {
+    for (int t = 0; t < TABLES; t++)
+        lend(&tables[t], now.side, room(t) + (longer ? PAST * CELL : 0));
+}
+
+static void lend_for(enum view view) {
+    for (int t = 0; t < TABLES; t++)
+        tables[t].view = view;
+    output->view = view;
+}
+
+// Each table one cell too short, and empty. Tables and output are read-only, so that any write to them traps.
+static bool try_short_tables(bool longer) {
+    static const size_t nothing[TOLD_BY_READ] = {0};
+    for (int choice = 0; choice < 2 * TABLES; choice++) {
+        int t = choice / 2;
+        lend_tables(longer);
+        lend(&tables[t], now.side, choice % 2 == 0 ? room(t) - CELL : 0);
+        for (int is_write = 0; is_write < 2; is_write++) {
+            unsigned number;
+            now.call = is_write ? "write, a table too short" : "read, a table too short";
+            if (!call(is_write, TOLD_BY_READ, &number))
+                return false;
+            if (number != TABLES_TOO_SHORT)
+                return fail("the number is %u for 1, %zu cells of %s", number, tables[t].length / CELL, NAMES[t]);
+            if (!told_holds(nothing, is_write ? TOLD_BY_WRITE : TOLD_BY_READ))
+                return false;
+        }
+    }
+    return true;
+}
+
+// All calls on a text with lent memory that ends, or begins, at the guards.
+static bool try_side(enum side side, bool longer) {
+    now.side = side;
+    lend(&text, side, now.length);
+    memcpy(text.own + text.start, now.bytes, now.length);
+    output = &usual_output;
+    lend(output, side, USUAL_OUTPUT);
+    fill(output);
+    lend_for(READ_ONLY);
+    if (!try_short_tables(longer))
+        return false;
+    lend_for(WRITABLE);
+    lend_tables(longer);
+    fill_tables();
+    if (!try_read("read", TOLD_BY_READ) || !try_read("read again, into what was left", now.index % MOST_TOLD))
+        return false;
+
+    unsigned number;
+    size_t bytes = USUAL_OUTPUT;
+    if (!try_write("write", bytes, TOLD_BY_READ, &number))
+        return false;
+    while (number == OUTPUT_TOO_SHORT) {
+        if (bytes == LONG_OUTPUT_SIZE)
+            return fail("no output is long enough");
+        size_t too_short = bytes;
+        bytes = least(8 * bytes, LONG_OUTPUT_SIZE);
+        if (!try_write("write, a longer output", bytes, TOLD_BY_WRITE, &number))
+            return false;
+        if (number == 0 && first.length <= too_short)
+            return fail("%zu bytes of output were refused, and %zu are written", too_short, first.length);
+    }
+    if (number == 0) {
+        if (!try_write("write, an output of the exact length", first.length, TOLD_BY_WRITE, &number))
+            return false;
+        if (!try_write("write, an output one byte too short", first.length - 1, now.index % 3, &number))
+            return false;
+    }
+    return try_write("write, an empty output", 0, TOLD_BY_WRITE, &number);
+}
+
+// The calls on one text end within so many seconds of the processor's time.
+static int most_seconds = 60;
+
+static void limit_seconds(int seconds) {
+    struct itimerval limit = {.it_value = {.tv_sec = seconds}};
+    if (setitimer(ITIMER_VIRTUAL, &limit, NULL) != 0)
+        stop("setitimer");
+}
+
+static bool try_text(void) {
+    first.is_read = first.is_written = false;
+    bool odd = now.index % 2 == 1;
+    limit_seconds(most_seconds);
+    bool holds = try_side(ENDS_AT_GUARD, odd) && try_side(BEGINS_AT_GUARD, !odd);
+    limit_seconds(0);
+    return holds;
+}
+
+// ---- Counts ----
+
+enum { MOST_SORTS = 64 };
+
+static struct count {
+    char *sort;
+    uint64_t texts, known, numbers[LAST_NUMBER + 1];
+} counts[MOST_SORTS], all = {.sort = "all"};
+
+static int sorts = 0;
+static uint64_t written_too_long = 0;
+
+static const size_t SIZES[] = {16, 256, 1024, 4096, 16384, 65535, TEXT_SIZE};
+enum { SIZE_COUNT = sizeof SIZES / sizeof *SIZES };
+static uint64_t of_size[SIZE_COUNT];
+
+// FNV-1a: the same texts give the same number, and the same answers another.
+static uint64_t texts_hash = 0xcbf29ce484222325, answers_hash = 0xcbf29ce484222325;
+
+static void hash(uint64_t *into, const void *bytes, size_t length) {
+    for (size_t i = 0; i < length; i++)
+        *into = (*into ^ ((const unsigned char *)bytes)[i]) * 0x100000001b3;
+}
+
+static void add(struct count *count) {
+    count->texts++;
+    count->known += now.is_known;
+    count->numbers[first.number]++;
+}
+
+static void count_text(void) {
+    int sort = 0;
+    while (sort < sorts && strcmp(counts[sort].sort, now.sort) != 0)
+        sort++;
+    if (sort == sorts) {
+        if (sorts++ == MOST_SORTS)
+            stop("too many sorts");
+        counts[sort].sort = strdup(now.sort);
+    }
+    add(&counts[sort]);
+    add(&all);
+    int size = 0;
+    while (now.length > SIZES[size])
+        size++;
+    of_size[size]++;
+    hash(&texts_hash, now.bytes, now.length);
+    hash(&texts_hash, &now.length, sizeof now.length);
+    hash(&answers_hash, &first.number, sizeof first.number);
+    hash(&answers_hash, first.told, sizeof first.told);
+    if (first.is_written) {
+        hash(&answers_hash, first.written, first.length);
+        written_too_long += first.length > USUAL_OUTPUT;
+    }
+}
+
+// A number with commas between thousands, in one of a few buffers.
+static const char *grouped(uint64_t number) {
+    static char buffers[8][32];
+    static int next = 0;
+    char *buffer = buffers[next++ % 8], digits[24];
+    int length = snprintf(digits, sizeof digits, "%" PRIu64, number), at = 0;
+    for (int i = 0; i < length; i++) {
+        if (i > 0 && (length - i) % 3 == 0)
+            buffer[at++] = ',';
+        buffer[at++] = digits[i];
+    }
+    buffer[at] = '\0';
+    return buffer;
+}
+
+static void print_count(const struct count *count) {
+    printf("| %s | %s | %s | %s | ", count->sort, grouped(count->texts), grouped(count->known), grouped(count->numbers[0]));
+    const char *before = "";
+    for (int number = 1; number <= LAST_NUMBER; number++)
+        if (count->numbers[number] > 0) {
+            printf("%s%d: %s", before, number, grouped(count->numbers[number]));
+            before = ", ";
+        }
+    printf(" |\n");
+}
+
+static void print_counts(void) {
+    printf("| Sort of text | Texts | Answer known | Accepted | Refused by number |\n|---|---|---|---|---|\n");
+    for (int sort = 0; sort < sorts; sort++)
+        print_count(&counts[sort]);
+    print_count(&all);
+    printf("\n| Bytes of a text, at most |");
+    for (int size = 0; size < SIZE_COUNT; size++)
+        printf(" %s |", grouped(SIZES[size]));
+    printf("\n|---|---|---|---|---|---|---|---|\n| Texts |");
+    for (int size = 0; size < SIZE_COUNT; size++)
+        printf(" %s |", grouped(of_size[size]));
+    printf("\n\n%s accepted texts are written with more than 65,535 bytes (refusal 20 of the program).\n", grouped(written_too_long));
+    printf("Hash of the texts %016" PRIx64 ", of the answers %016" PRIx64 ".\n", texts_hash, answers_hash);
+    printf("%s texts, %s calls, %s failures\n", grouped(all.texts), grouped(calls), grouped(failures));
+}
+
+// ---- Texts from standard input ----
+
+// The next field of a line, which is parted by tabs.
+static char *field(char **line) {
+    char *start = strsep(line, "\t");
+    if (start == NULL) {
+        fprintf(stderr, "harness: a line before a text has not five fields\n");
+        exit(2);
+    }
+    return start;
+}
+
+static bool next_text(void) {
+    static char *line = NULL;
+    static size_t room_of_line = 0;
+    ssize_t length = getline(&line, &room_of_line, stdin);
+    if (length < 0)
+        return false;
+    line[length - 1] = '\0';
+    char *rest = line;
+    now.sort = field(&rest);
+    now.name = field(&rest);
+    const char *number = field(&rest), *place = field(&rest);
+    now.is_known = strcmp(number, "-") != 0;
+    now.number = (unsigned)strtoul(number, NULL, 10);
+    now.place = strtoul(place, NULL, 10);
+    now.length = strtoul(field(&rest), NULL, 10);
+    now.index++;
+    if (now.length > TEXT_SIZE || fread(now.bytes, 1, now.length, stdin) != now.length) {
+        fprintf(stderr, "harness: a text that is too long or not whole\n");
+        exit(2);
+    }
+    return true;
+}
+
+static int run(void) {
+    static char buffer[1 << 20];
+    setvbuf(stdin, buffer, _IOFBF, sizeof buffer);
+    while (next_text()) {
+        if (try_text())
+            count_text();
+        else
+            all.texts++;
+        if (now.index % 100000 == 0)
+            fprintf(stderr, "harness: %s texts, %s failures\n", grouped(now.index), grouped(failures));
+    }
+    print_counts();
+    return all.texts > 0 && failures == 0 ? 0 : 1;
+}
+
+// ---- Planted faults ----
+
+// What a fault makes of a call that has answered, and the number that it answers instead.
+static NOT_INSTRUMENTED unsigned spoil(const struct slices *s, bool is_write, unsigned number) {
+    volatile const uint8_t *bytes = s->text;
+    volatile size_t *definitions = s->tables[DEFINITIONS], *enumerators = s->tables[ENUMERATORS];
+    volatile size_t *objects = s->tables[OBJECTS], *values = s->tables[VALUES], *cells = s->told;
+    volatile uint8_t *written = s->output;
+    volatile size_t length = s->output_length;
+    const size_t room_of_objects = room(OBJECTS) / CELL, room_of_values = room(VALUES) / CELL;
+    static volatile size_t times = 0;
+    bool is_read = !is_write, begins = now.side == BEGINS_AT_GUARD, ends = !begins;
+    bool is_taken = number != TABLES_TOO_SHORT, is_refused = is_taken && number != 0 && number != OUTPUT_TOO_SHORT;
+    bool has_place = s->told_length > 0, has_length = s->told_length > 1;
+
+    switch (planted) {
+    case NO_FAULT:
+        break;
+    case PAST_THE_ROOM:
+        if (is_read && is_taken && s->lengths[OBJECTS] > room_of_objects)
+            objects[room_of_objects] ^= 1;
+        break;
+    case BESIDE_A_TABLE:
+        if (is_read && is_taken && begins && s->lengths[OBJECTS] == room_of_objects)
+            objects[room_of_objects + 1] ^= 1;
+        break;
+    case BEFORE_A_TABLE:
+        if (is_write && is_taken && ends)
+            enumerators[-1] ^= 1;
+        break;
+    case PAST_A_TABLE:
+        if (is_write && ends)
+            values[s->lengths[VALUES]] = 0;
+        break;
+    case READS_BEFORE_A_TABLE:
+        if (is_read && begins)
+            times += definitions[-1];
+        break;
+    case READS_AN_EMPTY_TABLE:
+        if (is_read && ends && s->lengths[DEFINITIONS] == 0)
+            times += definitions[0];
+        break;
+    case READS_PAST_THE_TEXT:
+        if (is_read && ends)
+            times += bytes[s->text_length];
+        break;
+    case READS_BEFORE_THE_TEXT:
+        if (is_read && begins)
+            times += bytes[-1];
+        break;
+    case WRITES_THE_TEXT:
+        *(volatile uint8_t *)(uintptr_t)s->text = 'O';
+        break;
+    case PAST_THE_OUTPUT:
+        if (is_write && ends && number == 0)
+            written[length] = 0;
+        break;
+    case BESIDE_THE_OUTPUT:
+        if (is_write && begins && length < 1000)
+            written[length + 1000] ^= 1;
+        break;
+    case MEMSET_BESIDE_THE_OUTPUT:
+        if (is_write && begins && number == 0 && length < USUAL_OUTPUT)
+            memset(s->output, 0, length + 16);
+        break;
+    case PAST_WHAT_IS_TOLD:
+        if (is_write && s->told_length > TOLD_BY_WRITE)
+            cells[TOLD_BY_WRITE] ^= 1;
+        break;
+    case OUTPUT_ON_A_REFUSAL:
+        if (is_write && is_refused && length > 0)
+            written[length / 2] ^= 1;
+        break;
+    case OUTPUT_ON_REFUSAL_20:
+        if (is_write && number == OUTPUT_TOO_SHORT && length > 0)
+            written[0] ^= 1;
+        break;
+    case OUTPUT_ON_REFUSAL_1:
+        if (is_write && !is_taken)
+            written[length - 1] ^= 1;
+        break;
+    case OUTPUT_PAST_THE_WRITTEN:
+        if (is_write && number == 0 && has_length && cells[1] < length)
+            written[cells[1]] ^= 1;
+        break;
+    case CELL_ON_A_REFUSAL:
+        if (is_read && is_refused)
+            values[room_of_values - 1] = 1;
+        break;
+    case CELL_ON_REFUSAL_20:
+        if (is_write && number == OUTPUT_TOO_SHORT)
+            enumerators[0] = 1;
+        break;
+    case CELL_ON_REFUSAL_1:
+        if (is_read && !is_taken && s->lengths[DEFINITIONS] > 0)
+            definitions[0] ^= 1;
+        break;
+    case CELL_OF_AN_UNUSED_ROW:
+        if (is_read && number == 0)
+            definitions[room(DEFINITIONS) / CELL - 1] = 1;
+        break;
+    case CELL_OF_A_USED_ROW:
+        if (is_write && number == 0)
+            objects[0]++;
+        break;
+    case NUMBER_21:
+        return is_read && is_refused ? 21 : number;
+    case PLACE_PAST_THE_TEXT:
+        if (is_read && is_refused && has_place)
+            cells[0] = s->text_length + 1;
+        break;
+    case OBJECT_COUNTED_TWICE:
+        if (is_read && number == 0 && s->told_length == TOLD_BY_READ)
+            cells[TOLD_BY_READ - 1]++;
+        break;
+    case ROWS_ON_A_REFUSAL:
+        if (is_read && is_refused && has_length)
+            cells[1] = 1;
+        break;
+    case OTHER_THE_SECOND_TIME:
+        return is_read && is_refused && ++times == 2 ? number + 1 : number;
+    case OTHER_PLACE_OF_WRITE:
+        if (is_write && is_refused && has_place)
+            cells[0]++;
+        break;
+    case SHORT_TABLES_TAKEN:
+        return is_write && s->lengths[VALUES] == room_of_values - 1 ? 0 : number;
+    case EXACT_OUTPUT_REFUSED:
+        return is_write && number == 0 && has_length && cells[1] == length ? OUTPUT_TOO_SHORT : number;
+    case LONG_OUTPUT_REFUSED:
+        if (!is_write || number != 0 || length != USUAL_OUTPUT)
+            return number;
+        for (int t = 0; t < TABLES; t++)
+            memset(s->tables[t], 0, room(t));
+        memcpy(s->output, (unsigned char *)noise + output->start, cells[1]);
+        cells[1] = 0;
+        return OUTPUT_TOO_SHORT;
+    case SHORT_OUTPUT_TAKEN:
+        return is_write && number == OUTPUT_TOO_SHORT && length > 0 ? 0 : number;
+    case OTHER_BYTE_WRITTEN:
+        if (is_write && number == 0 && has_length && cells[1] == length)
+            written[length - 1] ^= 1;
+        break;
+    case REFUSED_TEXT_TAKEN:
+        return is_refused ? 0 : number;
+    case DOES_NOT_END:
+        while (is_write && length == 0)
+            times++;
+        break;
+    case DECIDES_BY_A_LENT_CELL:
+        if (is_read && !is_taken && s->lengths[VALUES] > 0 && values[7] == 7)
+            times++;
+        break;
+    case READS_BESIDE_THE_TEXT:
+        if (is_read && begins)
+            times += bytes[s->text_length];
+        break;
+    case READS_BESIDE_A_TABLE:
+        if (is_read && begins)
+            times += enumerators[s->lengths[ENUMERATORS]];
+        break;
+    case CELL_OF_AN_UNSET_ONE:
+        if (is_write && number == 0 && s->lengths[VALUES] > room_of_values)
+            values[0] += (values[room_of_values] & 1) - 1; // noise is odd, so that the cell keeps its value
+        break;
+    case BYTE_OF_AN_UNSET_ONE:
+        if (is_write && number == 0 && has_length && cells[1] < length)
+            written[0] ^= written[cells[1]] ^ written[cells[1]]; // the byte keeps its value
+        break;
+    }
+    return number;
+}
+
+// Each fault, a part of what is to be reported, and whether it takes valgrind to see it.
+static const struct {
+    const char *name, *reported;
+    bool by_valgrind;
+} FAULTS[] = {
+    [NO_FAULT] = {"nothing", "", false},
+    [PAST_THE_ROOM] = {"a cell past the room is changed", "objects: a cell past the room is changed", false},
+    [BESIDE_A_TABLE] = {"a cell behind a table is changed", "memory beside the lent objects is changed", false},
+    [BEFORE_A_TABLE] = {"a cell before a table is changed", "memory beside the lent enumerators is changed", false},
+    [PAST_A_TABLE] = {"a cell is stored past a table", "an access past the lent memory: values", false},
+    [READS_BEFORE_A_TABLE] = {"a cell before a table is read", "an access before the lent memory: definitions", false},
+    [READS_AN_EMPTY_TABLE] = {"an empty table is read", "an access past the lent memory: definitions", false},
+    [READS_PAST_THE_TEXT] = {"the byte past the text is read", "an access past the lent memory: text", false},
+    [READS_BEFORE_THE_TEXT] = {"the byte before the text is read", "an access before the lent memory: text", false},
+    [WRITES_THE_TEXT] = {"the text is written", "a write to read-only memory: text", false},
+    [PAST_THE_OUTPUT] = {"a byte is written past the output", "an access past the lent memory: output", false},
+    [BESIDE_THE_OUTPUT] = {"a byte behind the output is changed", "memory beside the lent output is changed", false},
+    [MEMSET_BESIDE_THE_OUTPUT] = {"memset goes past the output", "use-after-poison", false},
+    [PAST_WHAT_IS_TOLD] = {"a cell past what is told is changed", "a cell past what is told is changed", false},
+    [OUTPUT_ON_A_REFUSAL] = {"a refusal changes the output", "past the 0 written ones is changed", false},
+    [OUTPUT_ON_REFUSAL_20] = {"refusal 20 changes the output", "past the 0 written ones is changed", false},
+    [OUTPUT_ON_REFUSAL_1] = {"refusal 1 changes the output", "a write to read-only memory: output", false},
+    [OUTPUT_PAST_THE_WRITTEN] = {"a byte past the written ones is changed", "past the 188 written ones is changed", false},
+    [CELL_ON_A_REFUSAL] = {"a refusal leaves a cell", "values: an unused cell is not zero", false},
+    [CELL_ON_REFUSAL_20] = {"refusal 20 leaves a cell", "enumerators: an unused cell is not zero", false},
+    [CELL_ON_REFUSAL_1] = {"refusal 1 changes a cell", "a write to read-only memory: definitions", false},
+    [CELL_OF_AN_UNUSED_ROW] = {"a cell of an unused row is left", "definitions: an unused cell is not zero", false},
+    [CELL_OF_A_USED_ROW] = {"write leaves another row than read", "objects: the rows are not those of the first reading", false},
+    [NUMBER_21] = {"the number is 21", "the number is 21", false},
+    [PLACE_PAST_THE_TEXT] = {"the place is past the text", "the place is 2 of 1", false},
+    [OBJECT_COUNTED_TWICE] = {"an object is counted twice", "4 objects are counted by kind, and there are 3", false},
+    [ROWS_ON_A_REFUSAL] = {"a refused text has a definition", "told cell 1 of a refused text is 1", false},
+    [OTHER_THE_SECOND_TIME] = {"the second answer is another", "the number is 4, and was 3", false},
+    [OTHER_PLACE_OF_WRITE] = {"write tells another place than read", "told cell 0 is 1 for 0", false},
+    [SHORT_TABLES_TAKEN] = {"too short tables are taken", "the number is 0 for 1, 18431 cells of values", false},
+    [EXACT_OUTPUT_REFUSED] = {"an output of the exact length is refused", "the number is 20 for 0", false},
+    [LONG_OUTPUT_REFUSED] = {"an output that is long enough is refused", "65535 bytes of output were refused, and 188 are written", false},
+    [SHORT_OUTPUT_TAKEN] = {"an output that is too short is taken", "the number is 0 for 20", false},
+    [OTHER_BYTE_WRITTEN] = {"a written byte is another the second time", "a written byte is not as it was", false},
+    [REFUSED_TEXT_TAKEN] = {"a text that is refused is accepted", "known from how the text was made is 3 at 0", false},
+    [DOES_NOT_END] = {"a call does not end", "the call does not end in time", false},
+    [DECIDES_BY_A_LENT_CELL] = {"a lent cell that was not set decides", "valgrind reports 1 errors", true},
+    [READS_BESIDE_THE_TEXT] = {"a byte behind the text is read", "valgrind reports 1 errors", true},
+    [READS_BESIDE_A_TABLE] = {"a cell behind a table is read", "valgrind reports 1 errors", true},
+    [CELL_OF_AN_UNSET_ONE] = {"a cell is made of one that was not set", "memory that the call is to set is not set", true},
+    [BYTE_OF_AN_UNSET_ONE] = {"a written byte is made of one that was not set", "memory that the call is to set is not set", true},
+};
+
+enum { FAULT_COUNT = sizeof FAULTS / sizeof *FAULTS };
+
+static const char WORKED[] = "OIL_VERSION = \"2.5\";\n"
+                             "IMPLEMENTATION m { OS { BOOLEAN H = FALSE; }; TASK { UINT32 [1..0xff] STACKSIZE = 16; }; };\n"
+                             "CPU c { OS o; APPMODE a {}; TASK t { STACKSIZE = 0x20; }; };\n";
+
+static bool try_known(const char *bytes, unsigned number) {
+    static char sort[] = "self-test";
+    now.sort = now.name = sort;
+    now.is_known = true;
+    now.number = number;
+    now.place = 0;
+    now.length = strlen(bytes);
+    memcpy(now.bytes, bytes, now.length);
+    now.index++;
+    return try_text();
+}
+
+// Whether all is said to hold of an accepted and a refused text, each tried twice with a planted fault or none; what is
+// reported goes to `report`.
+static bool try_planted(enum fault fault, char *report, size_t room_of_report) {
+    int ends[2];
+    if (pipe(ends) != 0)
+        stop("pipe");
+    fflush(stdout);
+    pid_t child = fork();
+    if (child < 0)
+        stop("fork");
+    if (child == 0) {
+        dup2(ends[1], STDERR_FILENO);
+        planted = fault;
+        most_seconds = 2;
+        bool hold = true;
+        for (int times = 0; times < 2 && hold; times++)
+            hold = try_known(WORKED, 0) && try_known("#", 3);
+        _exit(hold ? 0 : 1);
+    }
+    close(ends[1]);
+    size_t length = 0;
+    char rest[4096];
+    for (;;) {
+        bool is_full = length + 1 >= room_of_report;
+        ssize_t got = is_full ? read(ends[0], rest, sizeof rest) : read(ends[0], report + length, room_of_report - length - 1);
+        if (got <= 0)
+            break;
+        length += is_full ? 0 : (size_t)got;
+    }
+    report[length] = '\0';
+    close(ends[0]);
+    int status;
+    if (waitpid(child, &status, 0) != child)
+        stop("waitpid");
+    return WIFEXITED(status) && WEXITSTATUS(status) == 0;
+}
+
+static int self_test(void) {
+    static char report[1 << 14];
+#ifdef MEMCHECK
+    const bool by_valgrind = true;
+#else
+    const bool by_valgrind = false;
+#endif
+    int tried = 0, reported = 0;
+    bool holds = try_planted(NO_FAULT, report, sizeof report);
+    printf("nothing planted: %s\n", holds ? "nothing reported" : report);
+    for (int fault = NO_FAULT + 1; fault < FAULT_COUNT; fault++) {
+        if (FAULTS[fault].by_valgrind != by_valgrind)
+            continue;
+        bool is_reported = !try_planted((enum fault)fault, report, sizeof report) && strstr(report, FAULTS[fault].reported) != NULL;
+        tried++;
+        reported += is_reported;
+        if (is_reported)
+            printf("planted, %s: reported\n", FAULTS[fault].name);
+        else
+            printf("planted, %s: NOT REPORTED: %s\n", FAULTS[fault].name, report);
+    }
+    printf("%d faults planted, %d reported\n", tried, reported);
+    return holds && reported == tried ? 0 : 1;
+}
+
+int main(int count, char **arguments) {
+    make_regions();
+    catch_traps();
+    for (int t = 0; t < TABLES; t++) {
+        first.rows[t] = malloc(room(t));
+        if (first.rows[t] == NULL)
+            stop("malloc");
+    }
+    first.written_room = USUAL_OUTPUT;
+    first.written = malloc(first.written_room);
+    if (first.written == NULL)
+        stop("malloc");
+    if (count == 2 && strcmp(arguments[1], "--self-test") == 0)
+        return self_test();
+    folder = count == 2 ? arguments[1] : NULL;
+    return run();
+}
