@@ -1,6 +1,6 @@
 -- The table of names: what is found by it, and how it is made. Assumes nothing.
 use Prim.Native.Nat.{ℕ, _+_, _-_, _*_, _≤_}
-use mathlib.Core.Path.{_≡_, sym, _∙_, ap, ap₂, subst}
+use mathlib.Core.Path.{_≡_, sym, _∙_, ap, subst}
 use mathlib.Core.Bool.{Bool}
 use mathlib.Core.List.{List, [], _++_, append-assoc}
 use native.Mathlib.Omega.{arith}
@@ -8,13 +8,13 @@ use native.Mathlib.Nat.{add-sub-cancel-left}
 use borrow.Rule.Slice.PartMut.{putMid, post-is, mid-len}
 use lib.ListN.{length, getD, take, drop, length-drop, drop-of-length-le}
 use lib.Seq.{sets, sets-eq, length-sets, take-all}
-use Rattle.token.specs.Tokens.{partOf}
 use Rattle.rows.specs.Table.{part}
 use Rattle.rows.specs.declared.Found.{Found}
 use Rattle.rows.proofs.Stores.{part-sets-same, part-sets-before, part-sets-after}
 use Rattle.indexes.specs.Indexing.{Indexed, Makes, nameRank}
 use Rattle.lookups.specs.Answers.{DefinitionIndexed, ObjectIndexed, WordIndexed}
-use Rattle.lookups.specs.Ranks.{Ranked, NotesRanks, IsRowStated}
+use Rattle.lookups.specs.Ranks.{Ranked, NotesRanks, Firsts, IsRowStated}
+use Rattle.lookups.proofs.Blocks.{firsts-empty}
 use Rattle.blocks.specs.Blocks.{IsStated}
 use Rattle.scopes.specs.Promises.{FindsDefinition, FindsObject, FindsWord}
 use Rattle.judging.specs.Names.{IndexAt, Ranks, Named, FewRows, Within, PutsIndex, PutsRanks}
@@ -57,18 +57,24 @@ unfolding WordIndexed
 word-found s d a x y n j at len r i e g = g n (index-of s a x y 3 1 n 512 i e) (few-of s a x y 3 1 n 512 i e)
 
 -- A block that states the name of a row, whose rank is noted.
-module _ (s d st x : List ℕ) (h : Ranks s d st x) (v : List ℕ) (i a e : ℕ) (r : Bool) (q : v ≡ part x 1792 2049) where
+module _ (s d st x : List ℕ) (h : Ranks s d st x) (v F : List ℕ) (i a e : ℕ) (r : Bool) (q : v ≡ part x 1792 2049) where
   of-statements : Ranked (h .rank) s st 7 0 v
   of-statements = subst (λ (l : List ℕ). Ranked (h .rank) s st 7 0 l) (sym q) (h .statements)
 
-  pub definition-stated : (y : List ℕ) → y ≡ part x 3841 512 → IsRowStated s d 19 2 y i st v a e r
+  pub definition-stated : (y : List ℕ) → y ≡ part x 3841 512 → Firsts st (part x 1792 2049) a e F → IsRowStated s d 19 2 y i st v F a e r
       → IsStated s st a e (getD d (i * 19 + 2) 0) (getD d (i * 19 + 3) 0) r
   unfolding IsRowStated
-  definition-stated y p g = g (h .rank) (subst (λ (l : List ℕ). Ranked (h .rank) s d 19 2 l) (sym p) (h .definitions)) of-statements
+  definition-stated y p o g =
+      g (h .rank) (subst (λ (l : List ℕ). Ranked (h .rank) s d 19 2 l) (sym p) (h .definitions)) of-statements
+      (subst (λ (l : List ℕ). Firsts st l a e F) (sym q) o)
 
-  pub statement-stated : IsRowStated s st 7 0 v i st v a e r → IsStated s st a e (getD st (i * 7 + 0) 0) (getD st (i * 7 + 1) 0) r
+  pub statement-stated : F ≡ part x 0 0 → IsRowStated s st 7 0 v i st v F a e r → IsStated s st a e (getD st (i * 7 + 0) 0) (getD st (i * 7 + 1) 0) r
   unfolding IsRowStated
-  statement-stated g = g (h .rank) of-statements of-statements
+  statement-stated p g = g (h .rank) of-statements of-statements (firsts-empty st v a e F (ap length p))
+
+-- The first rows of the ranks, in the table.
+pub firsts-in : (st x v F : List ℕ) (a e : ℕ) → v ≡ part x 1792 2049 → Firsts st v a e F → Firsts st (part x 1792 2049) a e F
+firsts-in st x v F a e q o = subst (λ (l : List ℕ). Firsts st l a e F) q o
 
 -- How it is made ---------------------------------------------------------------------------------------------------------------------------
 

@@ -4,6 +4,8 @@ ghost use Prim.Native.Nat.{_+_, _*_};
 ghost use lib.Dec.{eqb};
 ghost use lib.ListN.{getD};
 ghost use Rattle.layout.specs.Kept.{bit};
+ghost use Rattle.rows.specs.Table.{part};
+ghost use Rattle.lookups.specs.Ranks.{Firsts};
 ghost use Rattle.judging.specs.Names.{IndexAt, Ranks};
 ghost use Rattle.judging.specs.Promises.{LacksRow, Lacks, Needs, Marks};
 use super::Sizes;
@@ -13,24 +15,26 @@ use rows::Found;
 use rows::cells;
 use rows::finding;
 
-// Whether the attribute of row i, which stands under the word at key, is marked, and the block does not state it.
+// Whether the attribute of row i, which stands under the word at key, is marked, and the block does not state it; `first` has the first row of
+// each rank in the block.
 fn lacks_row(
     text: &[u8],
     d: &[usize],
     st: &[usize],
     names: &[usize],
     missing: &[usize],
+    first: &[usize],
     i: usize,
     from: usize,
     end: usize,
 ) -> bool
-    requires { ⌜ Ranks (now text) (now d) (now st) (now names) ⌝ }
+    requires { ⌜ Ranks (now text) (now d) (now st) (now names) × Firsts (now st) (part (now names) 1792 2049) from end (now first) ⌝ }
     ensures { λ r. ⌜ LacksRow (now (text .entry)) (now (d .entry)) (now (st .entry)) (now (missing .entry)) i from end r ⌝ }
 {
     if cells::get(missing, i) == 0 {
         return false;
     }
-    !names::is_stated(text, d, st, names, i, from, end)
+    !names::is_stated(text, d, st, names, first, i, from, end)
 }
 
 // Whether a block lacks one of the attributes under the word at key, among the first n rows.
@@ -48,12 +52,13 @@ pub fn lacks(
     requires { ⌜ Ranks (now text) (now d) (now st) (now names) ⌝ }
     ensures { λ r. ⌜ Lacks (now (text .entry)) (now (d .entry)) (now (st .entry)) (now (missing .entry)) n key from end r ⌝ }
 {
+    let first = names::firsts(st, names, from, end);
     let mut i = 0;
     while i < n {
         let Found::At(j) = finding::find_row(d, 19, n, 0, key, i) else {
             return false;
         };
-        if lacks_row(text, d, st, names, missing, j, from, end) {
+        if lacks_row(text, d, st, names, missing, &first, j, from, end) {
             return true;
         }
         i = j + 1;

@@ -5,6 +5,7 @@ ghost use Prim.Native.Nat.{_+_, _*_, _≤_};
 ghost use lib.ListN.{length, getD};
 ghost use Rattle.rows.specs.Table.{part};
 ghost use Rattle.blocks.specs.Blocks.{IsStated};
+ghost use Rattle.lookups.specs.Ranks.{Firsts};
 ghost use Rattle.scopes.specs.Promises.{FindsDefinition, FindsObject, FindsWord};
 ghost use Rattle.judging.specs.Names.{IndexAt, Ranks, PutsIndex, PutsRanks, FewRows, Named};
 use super::Sizes;
@@ -75,17 +76,25 @@ pub fn word_under(
     lookups::word_under(text, d, e, cells_from(names, 512, enumerators), j, at, len)
 }
 
-// Whether a block states the attribute of row i.
+// The first row of each rank in a block.
+pub fn firsts(st: &[usize], names: &[usize], from: usize, end: usize) -> [usize; 513]
+    ensures { λ r. ⌜ Firsts (now (st .entry)) (part (now (names .entry)) 1792 2049) from end r ⌝ }
+{
+    lookups::firsts(st, cells_from(names, 1792, 2049), from, end)
+}
+
+// Whether a block states the attribute of row i; `first` has the first row of each rank in the block.
 pub fn is_stated(
     text: &[u8],
     d: &[usize],
     st: &[usize],
     names: &[usize],
+    first: &[usize],
     i: usize,
     from: usize,
     end: usize,
 ) -> bool
-    requires { ⌜ Ranks (now text) (now d) (now st) (now names) ⌝ }
+    requires { ⌜ Ranks (now text) (now d) (now st) (now names) × Firsts (now st) (part (now names) 1792 2049) from end (now first) ⌝ }
     ensures { λ r. ⌜ IsStated (now (text .entry)) (now (st .entry)) from end (getD (now (d .entry)) (i * 19 + 2) 0) (getD (now (d .entry)) (i * 19 + 3) 0) r ⌝ }
 {
     let ranks = cells_from(names, 3841, 512);
@@ -98,6 +107,7 @@ pub fn is_stated(
         i,
         st,
         cells_from(names, 1792, 2049),
+        first,
         from,
         end,
     )
@@ -116,7 +126,8 @@ pub fn is_before(
     ensures { λ r. ⌜ IsStated (now (text .entry)) (now (st .entry)) from k (getD (now (st .entry)) (k * 7 + 0) 0) (getD (now (st .entry)) (k * 7 + 1) 0) r ⌝ }
 {
     let ranks = cells_from(names, 1792, 2049);
-    lookups::is_row_stated(text, st, 7, 0, ranks, k, st, ranks, from, k)
+    let first = cells_from(names, 0, 0);
+    lookups::is_row_stated(text, st, 7, 0, ranks, k, st, ranks, first, from, k)
 }
 
 // Puts the index of the first n rows at a place; `spare` is room for half of them.

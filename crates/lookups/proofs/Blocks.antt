@@ -5,7 +5,12 @@ use mathlib.Core.Path.{_≡_, refl, sym, ap, ap₂, _∙_, subst}
 use mathlib.Core.Bool.{Bool, true, false, false≢true}
 use mathlib.Core.List.{List}
 use native.Mathlib.Omega.{arith}
-use lib.ListN.{length, getD}
+use lib.ListN.{length, getD, set, replicate, length-set, length-replicate, getD-replicate}
+use lib.Seq.{getD-set-same, getD-set-other, set-out}
+use lib.Dec.{ltb, eqb}
+use native.Mathlib.Decide.{ℕ-discrete}
+use borrow.Author.Tests.{eq-eqb, ne-eqb, eqb-true, lt-ltb, le-ltb, ltb-true}
+use Rattle.token.specs.Find.{pick}
 use Rattle.token.specs.Words.{same}
 use Rattle.token.specs.Tokens.{partOf}
 use Rattle.token.proofs.Bytes.{not-true}
@@ -16,7 +21,7 @@ use Rattle.rows.specs.Search.{isFound}
 use Rattle.blocks.specs.Blocks.{row-after, FindsStated, IsStated}
 use Rattle.blocks.proofs.Ranges.{looking-start, looking-stop, looking-more, looking-end, is-stated, after-later, after-back, after-past, after-next}
 use Rattle.lookups.proofs.Notes.{row-place, row-size}
-use Rattle.lookups.specs.Ranks.{Ranked, nameOf, NextRow, Skips, MayState, StatedRanked, RowStated, IsRowStated}
+use Rattle.lookups.specs.Ranks.{Ranked, nameOf, NextRow, Skips, start-of, first-noted, Firsts, FirstsTo, MayState, StatedRanked, RowStated, IsRowStated}
 
 -- the cases of the row after that of row k
 module _ (k v e : ℕ) where
@@ -69,12 +74,16 @@ module _ (st h : List ℕ) (a e g : ℕ) where
             z .finds s at len f i b c (finds-after s st k e at len i l other (subst (λ (v : ℕ). FindsStated s st v e at len i) y u));
       }
 
-  -- a row is left, or none is
-  pub may-state : MayState st h a e g true
-  may-state = record { none = λ s at len f b c q. absurd (false≢true (sym q)) }
+  pub skips-on : (j k : ℕ) → Skips st h a e g j → Skips st h j e g k → Skips st h a e g k
+  skips-on j k x y = record { later = omega (arith, x .later, y .later); finds = λ s at len f i b c u. x .finds s at len f i b c (y .finds s at len f i b c u) }
 
-  pub states-nothing : (k : ℕ) → Skips st h a e g k → e ≤ k → MayState st h a e g false
-  states-nothing k z l = record { none = λ s at len f b c q. z .finds s at len f Nothing b c (finds-end s st k e at len l) }
+  -- a row is left, or none is
+  pub may-state : (F : List ℕ) → MayState st h F a e g true
+  may-state F = record { none = λ s at len f z b c q. absurd (false≢true (sym q)) }
+
+  pub states-nothing : (F : List ℕ) (k : ℕ) → k ≡ start-of F a g → e ≤ k → MayState st h F a e g false
+  states-nothing F k p l =
+      record { none = λ s at len f z b c q. subst (λ (x : ℕ). Skips st h a e g x) (sym p) (z .skips g) .finds s at len f Nothing b c (finds-end s st k e at len l) }
 
 module _ (s st h : List ℕ) (a e at len g : ℕ) where
   -- what is found from row k on is what is found
@@ -111,7 +120,105 @@ module _ (s st h : List ℕ) (a e at len g : ℕ) where
 pub skips-later : (st h : List ℕ) (k e g x y : ℕ) → k < e → x ≡ row-after st k e → Skips st h x e g y → k < y
 skips-later st h k e g x y l w z = omega (arith, w, z .later, after-later st k e l)
 
-module _ (s t : List ℕ) (w m : ℕ) (v : List ℕ) (i : ℕ) (st h : List ℕ) (a e : ℕ) where
+-- the first rows of the ranks
+module _ (st h : List ℕ) (a e : ℕ) where
+  -- none is noted
+  pub firsts-none : (n : ℕ) → FirstsTo st h a e a (replicate n e)
+  firsts-none n = record { skips = λ g l. by g (getD-replicate n g e 0 (omega (arith, length-replicate n e))) }
+    where
+      by : (g : ℕ) → getD (replicate n e) g 0 ≡ e → Skips st h a e g (pick (eqb (getD (replicate n e) g 0) e) a (getD (replicate n e) g 0))
+      by g q = rw (q, eq-eqb e e refl) (skips-none st h a e g)
+
+  -- the first rows of the ranks up to row k, and that row
+  pub firsts-more : (F F′ : List ℕ) (k x : ℕ) → FirstsTo st h a e k F → k < e → k < length h → F′ ≡ first-noted F e (getD h k 0) k
+      → NextRow k (getD st (k * 7 + 6) 0) e x → FirstsTo st h a e x F′
+  unfolding first-noted
+  firsts-more F F′ k x z l j w n = subst (λ (u : List ℕ). FirstsTo st h a e x u) (sym w) (by (eqb (getD F (getD h k 0) 0) e) refl)
+    where
+      r : ℕ
+      r = getD h k 0
+
+      -- another rank
+      other : (g v : ℕ) → (r ≡ g → ⊥) → Skips st h a e g (pick (eqb v e) k v) → Skips st h a e g (pick (eqb v e) x v)
+      other g v q = go (eqb v e)
+        where
+          go : (b : Bool) → Skips st h a e g (pick b k v) → Skips st h a e g (pick b x v)
+          go true y = skips-more st h a e g k x y l j q n
+          go false y = y
+
+      by : (b : Bool) → eqb (getD F r 0) e ≡ b → FirstsTo st h a e x (pick b (set F r k) F)
+      by true q = record { skips = λ g d. at g (rw length-set at d) (ℕ-discrete g r) }
+        where
+          at : (g : ℕ) → g < length F → Dec (g ≡ r) → Skips st h a e g (pick (eqb (getD (set F r k) g 0) e) x (getD (set F r k) g 0))
+          at g d (yes m) =
+              let c : getD (set F r k) g 0 ≡ k = ap (λ (u : ℕ). getD (set F r k) u 0) m ∙ getD-set-same F r k 0 (omega (arith, d, m)) in
+              let t : eqb (getD F g 0) e ≡ true = ap (λ (u : ℕ). eqb (getD F u 0) e) m ∙ q in
+              rw (c, ne-eqb k e (λ p. omega (arith, p, l))) (rw t at (z .skips g d))
+          at g d (no m) = rw (getD-set-other F r g k 0 m) (other g (getD F g 0) (λ p. m (sym p)) (z .skips g d))
+      by false q = record { skips = λ g d. at g d (ℕ-discrete g r) }
+        where
+          at : (g : ℕ) → g < length F → Dec (g ≡ r) → Skips st h a e g (pick (eqb (getD F g 0) e) x (getD F g 0))
+          at g d (yes m) =
+              let t : eqb (getD F g 0) e ≡ false = ap (λ (u : ℕ). eqb (getD F u 0) e) m ∙ q in
+              rw t (rw t at (z .skips g d))
+          at g d (no m) = other g (getD F g 0) (λ p. m (sym p)) (z .skips g d)
+
+  -- all rows of the block were looked at
+  pub firsts-all : (F : List ℕ) (k : ℕ) → FirstsTo st h a e k F → k ≡ e → Firsts st h a e F
+  unfolding start-of
+  firsts-all F k z p = record { skips = λ g. by g (ltb g (length F)) refl }
+    where
+      by : (g : ℕ) (b : Bool) → ltb g (length F) ≡ b → Skips st h a e g (pick b (getD F g 0) a)
+      by g false q = skips-none st h a e g
+      by g true q = go (eqb (getD F g 0) e) refl (z .skips g (ltb-true g (length F) q))
+        where
+          go : (b : Bool) → eqb (getD F g 0) e ≡ b → Skips st h a e g (pick b k (getD F g 0)) → Skips st h a e g (getD F g 0)
+          go true t y = subst (λ (u : ℕ). Skips st h a e g u) (p ∙ sym (eqb-true (getD F g 0) e t)) y
+          go false t y = y
+
+  -- or each search begins at the block's first row
+  pub firsts-from : (n : ℕ) → Firsts st h a e (replicate n a)
+  unfolding start-of
+  firsts-from n = record { skips = λ g. by g (ltb g (length (replicate n a))) refl }
+    where
+      by : (g : ℕ) (b : Bool) → ltb g (length (replicate n a)) ≡ b → Skips st h a e g (pick b (getD (replicate n a) g 0) a)
+      by g false q = skips-none st h a e g
+      by g true q = rw (getD-replicate n g a 0 (omega (arith, length-replicate n a, ltb-true g (length (replicate n a)) q))) (skips-none st h a e g)
+
+  -- with no cell
+  pub firsts-empty : (F : List ℕ) → length F ≡ 0 → Firsts st h a e F
+  unfolding start-of
+  firsts-empty F n = record { skips = λ g. rw (le-ltb g (length F) (omega arith)) (skips-none st h a e g) }
+
+module _ (F : List ℕ) (e g k : ℕ) where
+  -- nothing is noted past the table, or where a row is noted
+  pub noted-past : length F ≤ g → F ≡ first-noted F e g k
+  unfolding first-noted
+  noted-past h = by (eqb (getD F g 0) e)
+    where
+      by : (b : Bool) → F ≡ pick b (set F g k) F
+      by true = sym (set-out F g k h)
+      by false = refl
+
+  pub noted-here : getD F g 0 ≡ e → set F g k ≡ first-noted F e g k
+  unfolding first-noted
+  noted-here q = rw (eq-eqb (getD F g 0) e q)
+
+  pub noted-not : (getD F g 0 ≡ e → ⊥) → F ≡ first-noted F e g k
+  unfolding first-noted
+  noted-not q = rw (ne-eqb (getD F g 0) e q)
+
+-- where a search begins
+module _ (F : List ℕ) (a g : ℕ) where
+  pub start-noted : g < length F → getD F g 0 ≡ start-of F a g
+  unfolding start-of
+  start-noted h = rw (lt-ltb g (length F) h)
+
+  pub start-first : length F ≤ g → a ≡ start-of F a g
+  unfolding start-of
+  start-first h = rw (le-ltb g (length F) h)
+
+module _ (s t : List ℕ) (w m : ℕ) (v : List ℕ) (i : ℕ) (st h F : List ℕ) (a e : ℕ) where
   module _ (m2 y at len : ℕ) (c : m2 ≡ min (length t) (m + 1)) (d : y ≡ min (length t) (i * w)) (u : at ≡ getD t (y + m) 0) (o : len ≡ getD t (y + m2) 0) where
     p : at ≡ getD t (i * w + m) 0
     p = row-place t w m i y m2 at len c d u
@@ -125,27 +232,28 @@ module _ (s t : List ℕ) (w m : ℕ) (v : List ℕ) (i : ℕ) (st h : List ℕ)
         subst (λ (k : ℕ). FindsStated s st a e k (getD t (i * w + (m + 1)) 0) r) p (subst (λ (k : ℕ). FindsStated s st a e at k r) q z)
 
     -- the row's name has a rank, and the rows before k have not
-    pub row-ranked : (k : ℕ) (r : Found) → i < length v → Skips st h a e (getD v i 0) k → StatedRanked s st h k e at len (getD v i 0) r → RowStated s t w m v i st h a e r
+    pub row-ranked : (j k : ℕ) (r : Found) → i < length v → j ≡ start-of F a (getD v i 0) → Skips st h j e (getD v i 0) k → StatedRanked s st h k e at len (getD v i 0) r → RowStated s t w m v i st h F a e r
     unfolding StatedRanked RowStated nameOf
-    row-ranked k r l x z f b g =
+    row-ranked j k r l y x z f b g o =
+        let x₀ = skips-on st h a e (getD v i 0) j k (subst (λ (u : ℕ). Skips st h a e (getD v i 0) u) (sym y) (o .skips (getD v i 0))) x in
         let n : getD v i 0 ≡ f (partOf s at len) = b .cell i l ∙ sym (ap₂ (λ (x y : ℕ). f (partOf s x y)) p q) in
-        found-at r (x .finds s at len f r g n (z f g n))
+        found-at r (x₀ .finds s at len f r g n (z f g n))
 
   module _ (r : Found) where
     -- the row's name has none
-    pub row-searched : FindsStated s st a e (getD t (i * w + m) 0) (getD t (i * w + (m + 1)) 0) r → RowStated s t w m v i st h a e r
+    pub row-searched : FindsStated s st a e (getD t (i * w + m) 0) (getD t (i * w + (m + 1)) 0) r → RowStated s t w m v i st h F a e r
     unfolding RowStated
-    row-searched z f b g = z
+    row-searched z f b g o = z
 
   -- no row has it
-  pub row-none : (k : ℕ) → i < length v → Skips st h a e (getD v i 0) k → e ≤ k → RowStated s t w m v i st h a e Nothing
+  pub row-none : (j k : ℕ) → i < length v → j ≡ start-of F a (getD v i 0) → Skips st h j e (getD v i 0) k → e ≤ k → RowStated s t w m v i st h F a e Nothing
   unfolding RowStated nameOf
-  row-none k l x g f b c =
-      x .finds s (getD t (i * w + m) 0) (getD t (i * w + (m + 1)) 0) f Nothing c (b .cell i l) (finds-end s st k e (getD t (i * w + m) 0) (getD t (i * w + (m + 1)) 0) g)
+  row-none j k l y x g f b c o =
+      skips-on st h a e (getD v i 0) j k (subst (λ (u : ℕ). Skips st h a e (getD v i 0) u) (sym y) (o .skips (getD v i 0))) x .finds s (getD t (i * w + m) 0) (getD t (i * w + (m + 1)) 0) f Nothing c (b .cell i l) (finds-end s st k e (getD t (i * w + m) 0) (getD t (i * w + (m + 1)) 0) g)
 
   -- whether one is found
-  pub row-is : (r z : Found) → RowStated s t w m v i st h a e r → r ≡ z → IsRowStated s t w m v i st h a e (isFound z)
+  pub row-is : (r z : Found) → RowStated s t w m v i st h F a e r → r ≡ z → IsRowStated s t w m v i st h F a e (isFound z)
   unfolding RowStated IsRowStated
-  row-is r z n q f b c =
+  row-is r z n q f b c o =
       subst (λ (y : Found). IsStated s st a e (getD t (i * w + m) 0) (getD t (i * w + (m + 1)) 0) (isFound y)) q
-      (is-stated (getD t (i * w + m) 0) (getD t (i * w + (m + 1)) 0) (n f b c))
+      (is-stated (getD t (i * w + m) 0) (getD t (i * w + (m + 1)) 0) (n f b c o))

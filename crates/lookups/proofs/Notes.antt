@@ -1,6 +1,6 @@
 -- The laws of noted ranks, and of names that are compared by them first.
 -- Assumes nothing.
-use Prim.Native.Nat.{ℕ, _+_, _*_, _<_, _≤_, min}
+use Prim.Native.Nat.{ℕ, _+_, _*_, _<_, min}
 use mathlib.Core.Path.{_≡_, sym, ap, ap₂, subst, _∙_}
 use mathlib.Core.List.{List}
 use native.Mathlib.Omega.{arith}
@@ -9,8 +9,8 @@ use lib.ListN.{length, getD, set}
 use lib.Seq.{getD-set-same, getD-set-other}
 use Rattle.token.specs.Tokens.{partOf}
 use Rattle.rows.proofs.Starts.{cell-start, cell-column}
-use Rattle.indexes.specs.Indexing.{Indexed, Ranks, nameRank}
-use Rattle.lookups.specs.Ranks.{nameOf, Ranked, RankedTo, NotesRanks, NotesRanksTo}
+use Rattle.indexes.specs.Indexing.{Ranks, nameRank}
+use Rattle.lookups.specs.Ranks.{nameOf, NotesRanks, NotesRanksTo}
 
 -- the cells of a row's name, by a place where the row begins that is no larger than the end
 module _ (t : List ℕ) (w m i a m2 p n : ℕ) (d : m2 ≡ min (length t) (m + 1)) (e : a ≡ min (length t) (i * w)) where

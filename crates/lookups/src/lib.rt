@@ -3,7 +3,7 @@ ghost use mathlib.Core.Path.{_≡_};
 ghost use Prim.Native.Nat.{_+_, _*_, min};
 ghost use lib.ListN.{getD};
 ghost use Rattle.blocks.specs.Blocks.{FindsStated};
-ghost use Rattle.lookups.specs.Ranks.{NotesRanks, NextRow, Skips, MayState, StatedRanked, RowStated, IsRowStated};
+ghost use Rattle.lookups.specs.Ranks.{NotesRanks, NextRow, Skips, start-of, first-noted, Firsts, FirstsTo, MayState, StatedRanked, RowStated, IsRowStated};
 ghost use Rattle.lookups.specs.Answers.{DefinitionIndexed, ObjectIndexed, EnumeratorIndexed, WordIndexed};
 use rows::Found;
 use rows::cells;
@@ -141,12 +141,67 @@ fn skip(st: &[usize], h: &[usize], from: usize, end: usize, rank: usize) -> usiz
     k
 }
 
-// Whether a block may have a statement with a name, whose rank is given: no name is read. h has the statements' ranks.
-pub fn may_state(st: &[usize], h: &[usize], from: usize, end: usize, rank: usize) -> bool
-    ensures { λ r. ⌜ MayState (now (st .entry)) (now (h .entry)) from end rank r ⌝ }
+// Notes row k as the first of its rank g, where none is noted.
+fn note_first(first: &mut [usize], end: usize, g: usize, k: usize)
+    ensures { λ _. ⌜ now (first .exit) ≡ first-noted (now (first .entry)) end g k ⌝ }
 {
-    let k = skip(st, h, from, end, rank);
-    if k < end {
+    if first.len() <= g {
+        return;
+    }
+    if first[g] == end {
+        first[g] = k;
+    }
+}
+
+// Notes the first row of each rank in a block; all cells of `first` are `end` before. Gives the row behind the last one looked at: rows that
+// have no rank, or that the table has not, are not looked at.
+fn note_firsts(st: &[usize], h: &[usize], first: &mut [usize], from: usize, end: usize) -> usize
+    requires { ⌜ FirstsTo (now st) (now h) from end from (now first) ⌝ }
+    ensures { λ r. ⌜ FirstsTo (now (st .entry)) (now (h .entry)) from end r (now (first .exit)) ⌝ }
+{
+    let limit = least(end, least(h.len(), st.len() / 7));
+    let mut k = from;
+    while k < limit {
+        note_first(first, end, h[k], k);
+        k = next_row(k, st[k * 7 + 6], end);
+    }
+    k
+}
+
+// For each rank a row of a block before which no statement has a name of that rank; h has the statements' ranks.
+pub fn firsts(st: &[usize], h: &[usize], from: usize, end: usize) -> [usize; 513]
+    ensures { λ r. ⌜ Firsts (now (st .entry)) (now (h .entry)) from end r ⌝ }
+{
+    let mut first = [end; 513];
+    let k = note_firsts(st, h, &mut first, from, end);
+    if k != end {
+        return [from; 513];
+    }
+    first
+}
+
+// Where the search for a name of a rank begins, in a block that begins at row `from`.
+fn start(first: &[usize], from: usize, rank: usize) -> usize
+    ensures { λ r. ⌜ r ≡ start-of (now (first .entry)) from rank ⌝ }
+{
+    if rank < first.len() {
+        return first[rank];
+    }
+    from
+}
+
+// Whether a block may have a statement with a name, whose rank is given: no name is read. `first` has the first rows of the ranks.
+pub fn may_state(
+    st: &[usize],
+    h: &[usize],
+    first: &[usize],
+    from: usize,
+    end: usize,
+    rank: usize,
+) -> bool
+    ensures { λ r. ⌜ MayState (now (st .entry)) (now (h .entry)) (now (first .entry)) from end rank r ⌝ }
+{
+    if start(first, from, rank) < end {
         return true;
     }
     false
@@ -198,7 +253,8 @@ fn searched(
     blocks::stated(text, st, from, end, at, len)
 }
 
-// The same by the ranks: ranks and h have those of the names of the table's rows and of the statements.
+// The same by the ranks: ranks and h have those of the names of the table's rows and of the statements, and `first` the first row of each rank
+// in the block; with no cell it tells nothing.
 pub fn row_stated(
     text: &[u8],
     t: &[usize],
@@ -208,16 +264,17 @@ pub fn row_stated(
     i: usize,
     st: &[usize],
     h: &[usize],
+    first: &[usize],
     from: usize,
     end: usize,
 ) -> Found
-    ensures { λ r. ⌜ RowStated (now (text .entry)) (now (t .entry)) width name (now (ranks .entry)) i (now (st .entry)) (now (h .entry)) from end r ⌝ }
+    ensures { λ r. ⌜ RowStated (now (text .entry)) (now (t .entry)) width name (now (ranks .entry)) i (now (st .entry)) (now (h .entry)) (now (first .entry)) from end r ⌝ }
 {
     if ranks.len() <= i {
         return searched(text, t, width, name, i, st, from, end);
     }
     let rank = ranks[i];
-    let k = skip(st, h, from, end, rank);
+    let k = skip(st, h, start(first, from, rank), end, rank);
     if end <= k {
         return Found::Nothing;
     }
@@ -239,12 +296,13 @@ pub fn is_row_stated(
     i: usize,
     st: &[usize],
     h: &[usize],
+    first: &[usize],
     from: usize,
     end: usize,
 ) -> bool
-    ensures { λ r. ⌜ IsRowStated (now (text .entry)) (now (t .entry)) width name (now (ranks .entry)) i (now (st .entry)) (now (h .entry)) from end r ⌝ }
+    ensures { λ r. ⌜ IsRowStated (now (text .entry)) (now (t .entry)) width name (now (ranks .entry)) i (now (st .entry)) (now (h .entry)) (now (first .entry)) from end r ⌝ }
 {
-    match row_stated(text, t, width, name, ranks, i, st, h, from, end) {
+    match row_stated(text, t, width, name, ranks, i, st, h, first, from, end) {
         Found::At(_) => true,
         Found::Nothing => false,
     }

@@ -1,5 +1,5 @@
 -- The rows that give no value are passed; what is noted of names is right. Assumes nothing.
-use mathlib.Core.Path.{_≡_, refl, sym, _∙_, ap, ap₂, subst}
+use mathlib.Core.Path.{_≡_, refl, sym, _∙_, ap, subst}
 use mathlib.Core.List.{List}
 use mathlib.Core.Bool.{Bool, true, false, false≢true}
 use Prim.Native.Nat.{ℕ, zero, suc, _+_, _-_, _*_, _≤_, _<_}
@@ -7,14 +7,13 @@ use native.Mathlib.Omega.{arith}
 use native.Mathlib.Decide.{ℕ-discrete, decLe}
 use lib.ListN.{length, getD, replicate, length-replicate}
 use lib.Seq.{length-sets}
-use Rattle.token.specs.Tokens.{partOf}
 use Rattle.rows.specs.declared.Found.{Found}
 use Rattle.meaning.specs.Syntax.{done, state, statements-in}
 use Rattle.meaning.specs.Words.{among}
 use Rattle.meaning.specs.Scopes.{names}
 use Rattle.meaning.specs.Resolving.{resolve}
 use Rattle.indexes.specs.Indexing.{Indexed, Makes, nameRank}
-use Rattle.lookups.specs.Ranks.{nameOf, NotesRanks, RowStated, MayState}
+use Rattle.lookups.specs.Ranks.{nameOf, NotesRanks, Firsts, RowStated, MayState}
 use Rattle.amounts.specs.Known.{KnownDefaults}
 use Rattle.layout.specs.Kept.{spec-entries, definition-cells, map-cells, join, kept, kept-definitions}
 use Rattle.blocks.specs.Blocks.{row-after, FindsStated, IsStated}
@@ -31,9 +30,10 @@ use Rattle.resolving.proofs.Writes.{wrote-full}
 -- Ranks ------------------------------------------------------------------------------------------------------------------------------------
 
 module _ {s d st rs rd : List ℕ} (h : NamesRanked s d st rs rd) (j m e : ℕ) where
-  pub finds-ranked : (r : Found) → RowStated s d 19 2 rd j st rs m e r → FindsStated s st m e (getD d (j * 19 + 2) 0) (getD d (j * 19 + 3) 0) r
+  pub finds-ranked : (F : List ℕ) (r : Found) → Firsts st rs m e F → RowStated s d 19 2 rd j st rs F m e r
+      → FindsStated s st m e (getD d (j * 19 + 2) 0) (getD d (j * 19 + 3) 0) r
   unfolding RowStated
-  finds-ranked r f = f (h .rank) (h .definitions) (h .statements)
+  finds-ranked F r o f = f (h .rank) (h .definitions) (h .statements) o
 
 -- The row after a statement comes later.
 pub after-grows : (st : List ℕ) (i e next : ℕ) → next ≡ row-after st i e → i < e → i < next
@@ -62,13 +62,13 @@ pub stirs-none : {s d st : List ℕ} {key from till j p : ℕ} {q : Bool} → De
 stirs-none {j = j} k e h = record { quiet = λ _ p. silent (k .bare e j p) (none-stated _ _ h) }
 
 pub stirs-stated : {s d st rs rd : List ℕ} {key from till j p g : ℕ} {q r : Bool} → NamesRanked s d st rs rd → Defaults d p q → q ≡ false → j < length rd → g ≡ getD rd j 0
-    → MayState st rs from till g r → Stirs s d st key from till j p r
+    → (F : List ℕ) → Firsts st rs from till F → MayState st rs F from till g r → Stirs s d st key from till j p r
 unfolding nameOf
-stirs-stated {s} {d} {st} {rs} {rd} {key} {from} {till} {j} {p} {g} {q} {r} h k e l c i = record {
+stirs-stated {s} {d} {st} {rs} {rd} {key} {from} {till} {j} {p} {g} {q} {r} h k e l c F o i = record {
   quiet = λ no pe.
       silent (k .bare e j pe)
       (is-stated (getD d (j * 19 + 2) 0) (getD d (j * 19 + 3) 0)
-      (i .none s (getD d (j * 19 + 2) 0) (getD d (j * 19 + 3) 0) (h .rank) (h .statements) (c ∙ h .definitions .cell j l) no));
+      (i .none s (getD d (j * 19 + 2) 0) (getD d (j * 19 + 3) 0) (h .rank) o (h .statements) (c ∙ h .definitions .cell j l) no));
 }
 
 -- Passing them -----------------------------------------------------------------------------------------------------------------------------

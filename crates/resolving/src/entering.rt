@@ -1,5 +1,6 @@
 // Resolved values, each followed by what is under it. Each function gives the number of the row behind those that it puts.
 ghost use Rattle.amounts.specs.Known.{KnownDefaults};
+ghost use Rattle.lookups.specs.Ranks.{Firsts};
 ghost use Rattle.resolving.specs.Noted.{Noted, Rooms};
 ghost use Rattle.resolving.specs.Promises.{Enters, EntersStated, ResolvesStated, ResolvesDefault, ResolvesUnder, Resolves, ResolvesAll};
 use super::Owner;
@@ -166,7 +167,8 @@ fn resolve_stated(
     let mut m = n;
     let mut k = from;
     while k < end {
-        let Found::At(i) = lookups::row_stated(text, d, 19, 2, rd, j, st, rs, k, end) else {
+        let Found::At(i) = lookups::row_stated(text, d, 19, 2, rd, j, st, rs, &rs[..0], k, end)
+        else {
             return m;
         };
         if i < k {
@@ -259,7 +261,7 @@ fn resolve_default(
     )
 }
 
-// The values of the attribute of row j, which stands under the word at key.
+// The values of the attribute of row j, which stands under the word at key; `first` has the first row of each rank in the block.
 fn resolve_row(
     text: &[u8],
     d: &[usize],
@@ -272,6 +274,7 @@ fn resolve_row(
     xo: &[usize],
     rs: &[usize],
     rd: &[usize],
+    first: &[usize],
     v: &mut [usize],
     z: Sizes,
     j: usize,
@@ -281,10 +284,10 @@ fn resolve_row(
     w: Owner,
     n: usize,
 ) -> usize
-    requires { ⌜ Noted (now text) (now d) (now e) (now o) (now st) z (now known) (now noted) (now xe) (now xo) (now rs) (now rd) ⌝ }
+    requires { ⌜ Noted (now text) (now d) (now e) (now o) (now st) z (now known) (now noted) (now xe) (now xo) (now rs) (now rd) × Firsts (now st) (now rs) from end (now first) ⌝ }
     ensures { λ r. ⌜ ResolvesUnder (now (text .entry)) (now (d .entry)) (now (e .entry)) (now (o .entry)) (now (st .entry)) (now (v .entry)) z j key from end w n (now (v .exit)) r ⌝ }
 {
-    let Found::At(k) = lookups::row_stated(text, d, 19, 2, rd, j, st, rs, from, end) else {
+    let Found::At(k) = lookups::row_stated(text, d, 19, 2, rd, j, st, rs, first, from, end) else {
         return resolve_default(
             text,
             d,
@@ -360,8 +363,9 @@ pub fn resolve(
     if 2048 < n {
         return n;
     }
+    let first = lookups::firsts(st, rs, from, end);
     let mut m = n;
-    let mut j = scanning::next_row(text, d, st, rs, rd, limit, key, from, end, 0);
+    let mut j = scanning::next_row(text, d, st, rs, rd, &first, limit, key, from, end, 0);
     while j < limit {
         m = resolve_row(
             text,
@@ -375,6 +379,7 @@ pub fn resolve(
             xo,
             rs,
             rd,
+            &first,
             v,
             z,
             j,
@@ -384,7 +389,7 @@ pub fn resolve(
             w,
             m,
         );
-        j = scanning::next_row(text, d, st, rs, rd, limit, key, from, end, j + 1);
+        j = scanning::next_row(text, d, st, rs, rd, &first, limit, key, from, end, j + 1);
     }
     m
 }

@@ -2,6 +2,7 @@
 ghost use mathlib.Core.Path.{_≡_};
 ghost use Prim.Native.Nat.{_+_, _≤_, _<_};
 ghost use lib.ListN.{length};
+ghost use Rattle.lookups.specs.Ranks.{Firsts};
 ghost use Rattle.resolving.specs.Noted.{NamesRanked, Defaults, Stirs, NextUnder, NextRow};
 
 // Whether the attribute whose cells begin at p has a default that is taken.
@@ -18,21 +19,22 @@ fn has_default(d: &[usize], p: usize) -> bool
     true
 }
 
-// Whether the attribute of row j, whose cells begin at p, has a default or is stated in a block, as far as it is quick to see: a long block is
-// not searched here.
+// Whether the attribute of row j, whose cells begin at p, has a default or may be stated in a block; `first` has the first row of each rank in
+// the block.
 fn stirs(
     text: &[u8],
     d: &[usize],
     st: &[usize],
     rs: &[usize],
     rd: &[usize],
+    first: &[usize],
     key: usize,
     from: usize,
     end: usize,
     j: usize,
     p: usize,
 ) -> bool
-    requires { ⌜ (p + 18 < length (now d)) × NamesRanked (now text) (now d) (now st) (now rs) (now rd) ⌝ }
+    requires { ⌜ (p + 18 < length (now d)) × NamesRanked (now text) (now d) (now st) (now rs) (now rd) × Firsts (now st) (now rs) from end (now first) ⌝ }
     ensures { λ r. ⌜ Stirs (now (text .entry)) (now (d .entry)) (now (st .entry)) key from end j p r ⌝ }
 {
     if has_default(d, p) {
@@ -41,13 +43,10 @@ fn stirs(
     if end <= from {
         return false;
     }
-    if 64 < end - from {
-        return true;
-    }
     if rd.len() <= j {
         return true;
     }
-    lookups::may_state(st, rs, from, end, rd[j])
+    lookups::may_state(st, rs, first, from, end, rd[j])
 }
 
 // The first row from j on, below a limit, that stands under the word at key; the limit for none.
@@ -74,18 +73,19 @@ pub fn next_row(
     st: &[usize],
     rs: &[usize],
     rd: &[usize],
+    first: &[usize],
     limit: usize,
     key: usize,
     from: usize,
     end: usize,
     j: usize,
 ) -> usize
-    requires { ⌜ (limit ≤ 512) × ((j ≤ limit) × NamesRanked (now text) (now d) (now st) (now rs) (now rd)) ⌝ }
+    requires { ⌜ (limit ≤ 512) × ((j ≤ limit) × (NamesRanked (now text) (now d) (now st) (now rs) (now rd) × Firsts (now st) (now rs) from end (now first))) ⌝ }
     ensures { λ r. ⌜ NextRow (now (text .entry)) (now (d .entry)) (now (st .entry)) limit key from end j r ⌝ }
 {
     let mut i = next_under(d, limit, key, j);
     while i < limit {
-        if stirs(text, d, st, rs, rd, key, from, end, i, i * 19) {
+        if stirs(text, d, st, rs, rd, first, key, from, end, i, i * 19) {
             return i;
         }
         i = next_under(d, limit, key, i + 1);

@@ -1,5 +1,5 @@
-use Rattle.lookups.proofs.Blocks.{row-searched, row-none, row-ranked}
 use native.Mathlib.Omega.{arith}
+use Rattle.lookups.proofs.Blocks.{row-searched, row-none, row-ranked}
 use borrow.Author.Needs.{needs}
 use Rattle.lookups.proofs.row_stated.Statement.{statement}
 use Rattle.lookups.proofs.row_stated.Tie as tie
@@ -7,6 +7,7 @@ use Rattle.lookups.proofs.row_stated.Reads as reads
 use Rattle.lookups.proofs.row_stated.Lts as lts
 use Rattle.lookups.proofs.searched.Reads as searched-reads
 use Rattle.lookups.proofs.skip.Reads as skip-reads
+use Rattle.lookups.proofs.start.Reads as start-reads
 use Rattle.lookups.proofs.stated.Reads as stated-reads
 use Rattle.rows.proofs.cells.cell.Reads as cell-reads
 use Rattle.rows.proofs.cells.place_after.Reads as place-after-reads
@@ -16,7 +17,7 @@ searched-requires : tie.Need-searched-requires
 searched-requires c κs = search needs
 
 returns : tie.Need-returns
-returns c = row-searched _ _ _ _ _ _ _ _ _ _ _ (c .searched .ensures)
+returns c = row-searched _ _ _ _ _ _ _ _ _ _ _ _ (c .searched .ensures)
 
 mul-rank : tie.Need-mul-rank
 mul-rank c = search needs
@@ -24,11 +25,14 @@ mul-rank c = search needs
 shared-slice-read-rank : tie.Need-shared-slice-read-rank
 shared-slice-read-rank c = search needs
 
+start-requires : tie.Need-start-requires
+start-requires c κs = search needs
+
 skip-requires : tie.Need-skip-requires
 skip-requires c κs = search needs
 
 returns-2 : tie.Need-returns-2
-returns-2 c = row-none _ _ _ _ _ _ _ _ _ _ _ (omega arith) (c .before .skip .ensures) (omega arith)
+returns-2 c = row-none _ _ _ _ _ _ _ _ _ _ _ _ _ (omega arith) (c .before .before .start .ensures) (c .before .skip .ensures) (omega arith)
 
 place-after-requires : tie.Need-place-after-requires
 place-after-requires c κs = search needs
@@ -46,7 +50,7 @@ stated-requires : tie.Need-stated-requires
 stated-requires c κs = search needs
 
 returns-3 : tie.Need-returns-3
-returns-3 c = row-ranked _ _ _ _ _ _ _ _ _ _ _ _ _ _ (c .before .before .before .before .place-after .ensures) (c .before .before .before .row-start .ensures) (c .before .before .cell .ensures) (c .before .cell2 .ensures) _ _ (omega arith) (c .before .before .before .before .before .before .skip .ensures) (c .stated .ensures)
+returns-3 c = row-ranked _ _ _ _ _ _ _ _ _ _ _ _ _ _ _ (c .before .before .before .before .place-after .ensures) (c .before .before .before .row-start .ensures) (c .before .before .cell .ensures) (c .before .cell2 .ensures) _ _ _ (omega arith) (c .before .before .before .before .before .before .before .start .ensures) (c .before .before .before .before .before .before .skip .ensures) (c .stated .ensures)
 
 pub row-stated-spec : {M : Type 1} → statement M
 row-stated-spec =
@@ -56,6 +60,7 @@ row-stated-spec =
     returns
     mul-rank
     shared-slice-read-rank
+    start-requires
     skip-requires
     returns-2
     place-after-requires

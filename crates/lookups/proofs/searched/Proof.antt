@@ -25,7 +25,7 @@ stated-requires : tie.Need-stated-requires
 stated-requires c κs = search needs
 
 returns : tie.Need-returns
-returns c = found-at _ ((c .before .before .before .before .before .before .before .before .args .t) .now) (c .before .before .before .before .before .before .before .before .args .width) (c .before .before .before .before .before .before .before .before .args .name) ((c .before .before .before .before .before .before .before .before .args .t) .now) (c .before .before .before .before .before .before .before .before .args .i) _ ((c .before .before .before .before .before .before .before .before .args .t) .now) _ _ _ _ _ _ (c .before .before .before .before .place-after .ensures) (c .before .before .before .row-start .ensures) (c .before .before .cell .ensures) (c .before .cell2 .ensures) _ (c .stated .ensures)
+returns c = found-at _ ((c .before .before .before .before .before .before .before .before .args .t) .now) (c .before .before .before .before .before .before .before .before .args .width) (c .before .before .before .before .before .before .before .before .args .name) ((c .before .before .before .before .before .before .before .before .args .t) .now) (c .before .before .before .before .before .before .before .before .args .i) _ ((c .before .before .before .before .before .before .before .before .args .t) .now) ((c .before .before .before .before .before .before .before .before .args .t) .now) _ _ _ _ _ _ (c .before .before .before .before .place-after .ensures) (c .before .before .before .row-start .ensures) (c .before .before .cell .ensures) (c .before .cell2 .ensures) _ (c .stated .ensures)
 
 pub searched-spec : {M : Type 1} → statement M
 searched-spec =

@@ -10,11 +10,15 @@ use Rattle.lookups.proofs.is_row_stated.Reads as is-row-stated-reads
 cells-from-requires : tie.Need-cells-from-requires
 cells-from-requires c κs = search needs
 
+cells-from-requires-2 : tie.Need-cells-from-requires-2
+cells-from-requires-2 c κs = search needs
+
 is-row-stated-requires : tie.Need-is-row-stated-requires
 is-row-stated-requires c κs = search needs
 
 returns : tie.Need-returns
-returns c = statement-stated _ _ _ _ (c .before .before .before .before .before .before .pre) _ _ _ _ _ (c .before .cells-from .ensures) (c .is-row-stated .ensures)
+returns c = statement-stated _ _ _ _ (c .before .before .before .before .before .before .before .pre) _ _ _ _ _ _ (c .before .before .cells-from .ensures) (c .before .cells-from2 .ensures) (c .is-row-stated .ensures)
 
 pub is-before-spec : {M : Type 1} → statement M
-is-before-spec = tie.close (tie.spec cells-from-requires is-row-stated-requires returns)
+is-before-spec =
+    tie.close (tie.spec cells-from-requires cells-from-requires-2 is-row-stated-requires returns)

@@ -1,3 +1,4 @@
+use Rattle.lookups.proofs.Blocks.{firsts-empty}
 -- The functions of the cycle that resolves a scope meet their contracts: under an attribute stand only rows before it.
 -- Assumes nothing.
 use Rattle.resolving.proofs.Passing.{after-grows, finds-ranked, goes-pass, resolves-past, resolves-full}
@@ -33,6 +34,7 @@ use Rattle.resolving.proofs.entering.resolve_stated.Kinds as resolve-st
 use Rattle.resolving.proofs.entering.+enter+enter_stated+resolve+resolve_default+resolve_row+resolve_stated.Lts-resolve_stated as resolve-stated-lts
 use Rattle.blocks.proofs.after.Reads as after-reads
 use Rattle.blocks.proofs.cell_at.Reads as cell-at-reads
+use Rattle.lookups.proofs.firsts.Reads as firsts-reads
 use Rattle.lookups.proofs.row_stated.Reads as row-stated-reads
 use Rattle.resolving.proofs.scanning.next_row.Reads as next-row-reads
 use Rattle.resolving.proofs.values.put_value.Reads as put-value-reads
@@ -56,8 +58,8 @@ abbrev μ-resolve : Measures 12 resolve-kinds.ps ℕ
 abbrev μ-resolve-default : Measures 12 resolve-default-kinds.ps ℕ
 μ-resolve-default κs a = 6 * a .1 .1 .1 .1 .1 .1 .1 .1 .1 .1 .1 .1 .1 .0 + 2
 
-abbrev μ-resolve-row : Measures 12 resolve-row-kinds.ps ℕ
-μ-resolve-row κs a = 6 * a .1 .1 .1 .1 .1 .1 .1 .1 .1 .1 .1 .1 .1 .0 + 4
+abbrev μ-resolve-row : Measures 13 resolve-row-kinds.ps ℕ
+μ-resolve-row κs a = 6 * a .1 .1 .1 .1 .1 .1 .1 .1 .1 .1 .1 .1 .1 .1 .0 + 4
 
 abbrev μ-resolve-stated : Measures 12 resolve-stated-kinds.ps ℕ
 μ-resolve-stated κs a = 6 * a .1 .1 .1 .1 .1 .1 .1 .1 .1 .1 .1 .1 .1 .0 + 3
@@ -102,13 +104,13 @@ resolve-default-below t =
     (falls 12 resolve-default-kinds.ps _<_ μ-resolve-default t)
     resolve-default.Pre
 
-abbrev resolve-row-at : ℕ → In 12 resolve-row-kinds.ps
+abbrev resolve-row-at : ℕ → In 13 resolve-row-kinds.ps
 resolve-row-at t =
-    and 12 resolve-row-kinds.ps (is 12 resolve-row-kinds.ps μ-resolve-row t) resolve-row.Pre
+    and 13 resolve-row-kinds.ps (is 13 resolve-row-kinds.ps μ-resolve-row t) resolve-row.Pre
 
-abbrev resolve-row-below : ℕ → In 12 resolve-row-kinds.ps
+abbrev resolve-row-below : ℕ → In 13 resolve-row-kinds.ps
 resolve-row-below t =
-    and 12 resolve-row-kinds.ps (falls 12 resolve-row-kinds.ps _<_ μ-resolve-row t) resolve-row.Pre
+    and 13 resolve-row-kinds.ps (falls 13 resolve-row-kinds.ps _<_ μ-resolve-row t) resolve-row.Pre
 
 abbrev resolve-stated-at : ℕ → In 12 resolve-stated-kinds.ps
 resolve-stated-at t =
@@ -184,13 +186,15 @@ enter-stated-returns : (t : ℕ) → enter-stated-lts.Need-returns (enter-stated
 enter-stated-returns t c = stated-this (c .before .before .before .before .before .before .cell-at .ensures) (c .before .before .before .before .before .cell-at2 .ensures) (c .before .before .before .before .cell-at3 .ensures) (c .before .before .enter .ensures)
 
 abbrev resolve-Inv-loop : resolve-lts.InvT-loop
-resolve-Inv-loop text d e o st known noted xe xo rs rd v₀ z limit key from end w n m₀ j₀ v m j = (length v ≡ length v₀) × ((j ≤ limit) × ((j < limit → getD d (j * 19 + 0) 0 ≡ key) × Goes text d e o st v₀ z limit key from end w n v m j))
+resolve-Inv-loop text d e o st known noted xe xo rs rd v₀ z limit key from end w n first m₀ j₀ v m j = (length v ≡ length v₀) × ((j ≤ limit) × ((j < limit → getD d (j * 19 + 0) 0 ≡ key) × Goes text d e o st v₀ z limit key from end w n v m j))
 
 abbrev resolve-μ-loop : resolve-lts.MeasureT-loop
-resolve-μ-loop text d e o st known noted xe xo rs rd v₀ z limit key from end w n m₀ j₀ v m j = limit - j
+resolve-μ-loop text d e o st known noted xe xo rs rd v₀ z limit key from end w n first m₀ j₀ v m j = limit - j
 
 abbrev resolve-claims : ℕ → resolve-lts.Claims
 resolve-claims t = (
+  firsts-reads.Asked,
+  firsts-reads.Learnt,
   next-row-reads.Asked,
   next-row-reads.Learnt,
   resolve-row-below t,
@@ -206,32 +210,44 @@ resolve-returns-2 t c = resolves-past (omega arith)
 resolve-returns-3 : (t : ℕ) → resolve-lts.Need-returns-3 (resolve-claims t) (resolve-at t) resolve.Post resolve-Inv-loop resolve-μ-loop
 resolve-returns-3 t c = resolves-full (omega arith)
 
+resolve-firsts-requires : (t : ℕ) → resolve-lts.Need-firsts-requires (resolve-claims t) (resolve-at t) resolve.Post resolve-Inv-loop resolve-μ-loop
+resolve-firsts-requires t c κs = tt
+
+resolve-slice-aggregate-next-row : (t : ℕ) → resolve-lts.Need-slice-aggregate-next-row (resolve-claims t) (resolve-at t) resolve.Post resolve-Inv-loop resolve-μ-loop
+resolve-slice-aggregate-next-row t c = search needs
+
 resolve-next-row-requires : (t : ℕ) → resolve-lts.Need-next-row-requires (resolve-claims t) (resolve-at t) resolve.Post resolve-Inv-loop resolve-μ-loop
-resolve-next-row-requires t c κs = (omega arith, (omega arith, (c .before .before .before .before .before .before .before .before .before .before .before .before .before .before .before .pre .1 .ranks)))
+resolve-next-row-requires t c κs = (omega arith, (omega arith, ((c .before .before .before .before .before .before .before .before .before .before .before .before .before .before .before .before .before .pre .1) .ranks, (c .before .firsts .ensures))))
 
 resolve-loop-holds : (t : ℕ) → resolve-lts.Need-loop-holds (resolve-claims t) (resolve-at t) resolve.Post resolve-Inv-loop resolve-μ-loop
-resolve-loop-holds t c = (refl, ((c .next-row .ensures .high), ((c .next-row .ensures .here), goes-pass (c .next-row .ensures) goes-start)))
+resolve-loop-holds t c = (refl, ((c .next-row .ensures) .high, ((c .next-row .ensures) .here, goes-pass (c .next-row .ensures) goes-start)))
+
+resolve-slice-aggregate-resolve-row : (t : ℕ) → resolve-lts.Need-slice-aggregate-resolve-row (resolve-claims t) (resolve-at t) resolve.Post resolve-Inv-loop resolve-μ-loop
+resolve-slice-aggregate-resolve-row t c = search needs
 
 resolve-resolve-row-requires : (t : ℕ) → resolve-lts.Need-resolve-row-requires (resolve-claims t) (resolve-at t) resolve.Post resolve-Inv-loop resolve-μ-loop
-resolve-resolve-row-requires t c κs = (omega arith, (c .before .before .before .before .before .before .before .before .before .before .before .before .before .before .before .before .before .before .before .pre .1))
+resolve-resolve-row-requires t c κs = (omega arith, ((c .before .before .before .before .before .before .before .before .before .before .before .before .before .before .before .before .before .before .before .before .before .before .pre .1), (c .before .before .before .before .before .before .firsts .ensures)))
+
+resolve-slice-aggregate-next-row-2 : (t : ℕ) → resolve-lts.Need-slice-aggregate-next-row-2 (resolve-claims t) (resolve-at t) resolve.Post resolve-Inv-loop resolve-μ-loop
+resolve-slice-aggregate-next-row-2 t c = search needs
 
 resolve-add-next-row : (t : ℕ) → resolve-lts.Need-add-next-row (resolve-claims t) (resolve-at t) resolve.Post resolve-Inv-loop resolve-μ-loop
 resolve-add-next-row t c = omega arith
 
 resolve-next-row-requires-2 : (t : ℕ) → resolve-lts.Need-next-row-requires-2 (resolve-claims t) (resolve-at t) resolve.Post resolve-Inv-loop resolve-μ-loop
-resolve-next-row-requires-2 t c κs = (omega arith, (omega arith, (c .before .before .before .before .before .before .before .before .before .before .before .before .before .before .before .before .before .before .before .before .before .before .pre .1 .ranks)))
+resolve-next-row-requires-2 t c κs = (omega arith, (omega arith, ((c .before .before .before .before .before .before .before .before .before .before .before .before .before .before .before .before .before .before .before .before .before .before .before .before .before .before .pre .1) .ranks, (c .before .before .before .before .before .before .before .before .before .before .firsts .ensures))))
 
 resolve-loop-less : (t : ℕ) → resolve-lts.Need-loop-less (resolve-claims t) (resolve-at t) resolve.Post resolve-Inv-loop resolve-μ-loop
-resolve-loop-less t c = omega (arith, (c .next-row2 .ensures .low))
+resolve-loop-less t c = omega (arith, (c .next-row2 .ensures) .low)
 
 resolve-loop-again : (t : ℕ) → resolve-lts.Need-loop-again (resolve-claims t) (resolve-at t) resolve.Post resolve-Inv-loop resolve-μ-loop
-resolve-loop-again t c = (omega arith, ((c .next-row2 .ensures .high), ((c .next-row2 .ensures .here), goes-pass (c .next-row2 .ensures) (goes-more (omega arith) ((c .before .before .before .before .before .before .loop .inv) .1 .1 .1) ((c .before .before .before .resolve-row .ensures .resolves) ((c .before .before .before .before .before .before .loop .inv) .1 .1 .0 (omega arith)))))))
+resolve-loop-again t c = (omega arith, ((c .next-row2 .ensures) .high, ((c .next-row2 .ensures) .here, goes-pass (c .next-row2 .ensures) (goes-more (omega arith) ((c .before .before .before .before .before .before .before .before .loop .inv) .1 .1 .1) ((c .before .before .before .before .resolve-row .ensures) .resolves ((c .before .before .before .before .before .before .before .before .loop .inv) .1 .1 .0 (omega arith)))))))
 
 resolve-same-length : (t : ℕ) → resolve-lts.Need-same-length (resolve-claims t) (resolve-at t) resolve.Post resolve-Inv-loop resolve-μ-loop
 resolve-same-length t c = (c .before .loop .inv) .0
 
 resolve-returns-4 : (t : ℕ) → resolve-lts.Need-returns-4 (resolve-claims t) (resolve-at t) resolve.Post resolve-Inv-loop resolve-μ-loop
-resolve-returns-4 t c = goes-end (omega arith) (c .before .before .before .before .before .if1 .left) ((c .before .loop .inv) .1 .1 .1)
+resolve-returns-4 t c = goes-end (omega arith) (c .before .before .before .before .before .before .before .if1 .left) ((c .before .loop .inv) .1 .1 .1)
 
 abbrev resolve-default-claims : ℕ → resolve-default-lts.Claims
 resolve-default-claims t = (
@@ -285,22 +301,22 @@ resolve-row-enum-told : (t : ℕ) → resolve-row-lts.Need-enum-told (resolve-ro
 resolve-row-enum-told t c = search needs
 
 resolve-row-resolve-default-requires : (t : ℕ) → resolve-row-lts.Need-resolve-default-requires (resolve-row-claims t) (resolve-row-at t) resolve-row.Post
-resolve-row-resolve-default-requires t c κs = (omega arith, (c .before .before .before .before .before .before .before .before .before .before .before .before .before .before .before .before .pre .1))
+resolve-row-resolve-default-requires t c κs = (omega arith, (c .before .before .before .before .before .before .before .before .before .before .before .before .before .before .before .before .before .pre .1) .0)
 
 resolve-row-same-length : (t : ℕ) → resolve-row-lts.Need-same-length (resolve-row-claims t) (resolve-row-at t) resolve-row.Post
 resolve-row-same-length t c = omega arith
 
 resolve-row-returns : (t : ℕ) → resolve-row-lts.Need-returns (resolve-row-claims t) (resolve-row-at t) resolve-row.Post
-resolve-row-returns t c = row-missing (finds-ranked ((c .before .before .before .before .before .before .before .before .before .before .before .before .before .before .before .before .before .before .before .pre .1) .ranks) _ _ _ _ (c .before .before .before .before .before .before .row-stated .ensures)) ((c .before .before .before .before .enum-told .given) .1) (c .before .before .resolve-default .ensures)
+resolve-row-returns t c = row-missing (finds-ranked ((c .before .before .before .before .before .before .before .before .before .before .before .before .before .before .before .before .before .before .before .before .pre .1) .0 .ranks) _ _ _ _ _ ((c .before .before .before .before .before .before .before .before .before .before .before .before .before .before .before .before .before .before .before .before .pre .1) .1) (c .before .before .before .before .before .before .row-stated .ensures)) ((c .before .before .before .before .enum-told .given) .1) (c .before .before .resolve-default .ensures)
 
 resolve-row-resolve-stated-requires : (t : ℕ) → resolve-row-lts.Need-resolve-stated-requires (resolve-row-claims t) (resolve-row-at t) resolve-row.Post
-resolve-row-resolve-stated-requires t c κs = (omega arith, (c .before .before .before .before .before .before .before .before .before .before .before .before .before .before .before .before .before .pre .1))
+resolve-row-resolve-stated-requires t c κs = (omega arith, (c .before .before .before .before .before .before .before .before .before .before .before .before .before .before .before .before .before .before .pre .1) .0)
 
 resolve-row-same-length-2 : (t : ℕ) → resolve-row-lts.Need-same-length-2 (resolve-row-claims t) (resolve-row-at t) resolve-row.Post
 resolve-row-same-length-2 t c = omega arith
 
 resolve-row-returns-2 : (t : ℕ) → resolve-row-lts.Need-returns-2 (resolve-row-claims t) (resolve-row-at t) resolve-row.Post
-resolve-row-returns-2 t c = row-found (finds-ranked ((c .before .before .before .before .before .before .before .before .before .before .before .before .before .before .before .before .before .before .before .before .pre .1) .ranks) _ _ _ _ (c .before .before .before .before .before .before .before .row-stated .ensures)) ((c .before .before .before .before .before .k .given) .1) (c .before .before .resolve-stated .ensures)
+resolve-row-returns-2 t c = row-found (finds-ranked ((c .before .before .before .before .before .before .before .before .before .before .before .before .before .before .before .before .before .before .before .before .before .pre .1) .0 .ranks) _ _ _ _ _ ((c .before .before .before .before .before .before .before .before .before .before .before .before .before .before .before .before .before .before .before .before .before .pre .1) .1) (c .before .before .before .before .before .before .before .row-stated .ensures)) ((c .before .before .before .before .before .k .given) .1) (c .before .before .resolve-stated .ensures)
 
 abbrev resolve-stated-Inv-loop : resolve-stated-lts.InvT-loop
 resolve-stated-Inv-loop text d e o st known noted xe xo rs rd v₀ z j from end w n m₀ k₀ v m k = (length v ≡ length v₀) × States text d e o st v₀ z j from end w n v m k
@@ -321,6 +337,10 @@ resolve-stated-claims t = (
 resolve-stated-loop-holds : (t : ℕ) → resolve-stated-lts.Need-loop-holds (resolve-stated-claims t) (resolve-stated-at t) resolve-stated.Post resolve-stated-Inv-loop resolve-stated-μ-loop
 resolve-stated-loop-holds t c = (refl, states-start)
 
+resolve-stated-slice-aggregate-row-stated :
+    (t : ℕ) → resolve-stated-lts.Need-slice-aggregate-row-stated (resolve-stated-claims t) (resolve-stated-at t) resolve-stated.Post resolve-stated-Inv-loop resolve-stated-μ-loop
+resolve-stated-slice-aggregate-row-stated t c = search needs
+
 resolve-stated-row-stated-requires : (t : ℕ) → resolve-stated-lts.Need-row-stated-requires (resolve-stated-claims t) (resolve-stated-at t) resolve-stated.Post resolve-stated-Inv-loop resolve-stated-μ-loop
 resolve-stated-row-stated-requires t c κs = tt
 
@@ -331,22 +351,22 @@ resolve-stated-enum-told : (t : ℕ) → resolve-stated-lts.Need-enum-told (reso
 resolve-stated-enum-told t c = search needs
 
 resolve-stated-same-length : (t : ℕ) → resolve-stated-lts.Need-same-length (resolve-stated-claims t) (resolve-stated-at t) resolve-stated.Post resolve-stated-Inv-loop resolve-stated-μ-loop
-resolve-stated-same-length t c = (c .before .before .before .before .loop .inv) .0
+resolve-stated-same-length t c = (c .before .before .before .before .before .loop .inv) .0
 
 resolve-stated-returns : (t : ℕ) → resolve-stated-lts.Need-returns (resolve-stated-claims t) (resolve-stated-at t) resolve-stated.Post resolve-stated-Inv-loop resolve-stated-μ-loop
-resolve-stated-returns t c = states-none refl refl ((c .before .before .before .before .loop .inv) .1) (finds-ranked ((c .before .before .before .before .before .before .before .before .before .before .before .before .before .before .before .before .before .pre .1) .ranks) _ _ _ _ (c .before .before .row-stated .ensures)) ((c .enum-told .given) .1)
+resolve-stated-returns t c = states-none refl refl ((c .before .before .before .before .before .loop .inv) .1) (finds-ranked ((c .before .before .before .before .before .before .before .before .before .before .before .before .before .before .before .before .before .before .pre .1) .ranks) _ _ _ _ _ (firsts-empty _ _ _ _ _ refl) (c .before .before .row-stated .ensures)) ((c .enum-told .given) .1)
 
 resolve-stated-same-length-2 : (t : ℕ) → resolve-stated-lts.Need-same-length-2 (resolve-stated-claims t) (resolve-stated-at t) resolve-stated.Post resolve-stated-Inv-loop resolve-stated-μ-loop
-resolve-stated-same-length-2 t c = (c .before .before .before .before .before .before .loop .inv) .0
+resolve-stated-same-length-2 t c = (c .before .before .before .before .before .before .before .loop .inv) .0
 
 resolve-stated-returns-2 : (t : ℕ) → resolve-stated-lts.Need-returns-2 (resolve-stated-claims t) (resolve-stated-at t) resolve-stated.Post resolve-stated-Inv-loop resolve-stated-μ-loop
-resolve-stated-returns-2 t c = states-out refl refl ((c .before .before .before .before .before .before .loop .inv) .1) (finds-ranked ((c .before .before .before .before .before .before .before .before .before .before .before .before .before .before .before .before .before .before .before .pre .1) .ranks) _ _ _ _ (c .before .before .before .before .row-stated .ensures)) ((c .before .before .i .given) .1) (λ q. omega arith)
+resolve-stated-returns-2 t c = states-out refl refl ((c .before .before .before .before .before .before .before .loop .inv) .1) (finds-ranked ((c .before .before .before .before .before .before .before .before .before .before .before .before .before .before .before .before .before .before .before .before .pre .1) .ranks) _ _ _ _ _ (firsts-empty _ _ _ _ _ refl) (c .before .before .before .before .row-stated .ensures)) ((c .before .before .i .given) .1) (λ q. omega arith)
 
 resolve-stated-same-length-3 : (t : ℕ) → resolve-stated-lts.Need-same-length-3 (resolve-stated-claims t) (resolve-stated-at t) resolve-stated.Post resolve-stated-Inv-loop resolve-stated-μ-loop
-resolve-stated-same-length-3 t c = (c .before .before .before .before .before .before .before .loop .inv) .0
+resolve-stated-same-length-3 t c = (c .before .before .before .before .before .before .before .before .loop .inv) .0
 
 resolve-stated-returns-3 : (t : ℕ) → resolve-stated-lts.Need-returns-3 (resolve-stated-claims t) (resolve-stated-at t) resolve-stated.Post resolve-stated-Inv-loop resolve-stated-μ-loop
-resolve-stated-returns-3 t c = states-out refl refl ((c .before .before .before .before .before .before .before .loop .inv) .1) (finds-ranked ((c .before .before .before .before .before .before .before .before .before .before .before .before .before .before .before .before .before .before .before .before .pre .1) .ranks) _ _ _ _ (c .before .before .before .before .before .row-stated .ensures)) ((c .before .before .before .i .given) .1) (λ q. omega arith)
+resolve-stated-returns-3 t c = states-out refl refl ((c .before .before .before .before .before .before .before .before .loop .inv) .1) (finds-ranked ((c .before .before .before .before .before .before .before .before .before .before .before .before .before .before .before .before .before .before .before .before .before .pre .1) .ranks) _ _ _ _ _ (firsts-empty _ _ _ _ _ refl) (c .before .before .before .before .before .row-stated .ensures)) ((c .before .before .before .i .given) .1) (λ q. omega arith)
 
 resolve-stated-after-requires : (t : ℕ) → resolve-stated-lts.Need-after-requires (resolve-stated-claims t) (resolve-stated-at t) resolve-stated.Post resolve-stated-Inv-loop resolve-stated-μ-loop
 resolve-stated-after-requires t c κs = tt
@@ -355,13 +375,13 @@ resolve-stated-add-enter-stated : (t : ℕ) → resolve-stated-lts.Need-add-ente
 resolve-stated-add-enter-stated t c = omega arith
 
 resolve-stated-enter-stated-requires : (t : ℕ) → resolve-stated-lts.Need-enter-stated-requires (resolve-stated-claims t) (resolve-stated-at t) resolve-stated.Post resolve-stated-Inv-loop resolve-stated-μ-loop
-resolve-stated-enter-stated-requires t c κs = (omega (arith, (c .before .before .before .before .before .before .before .before .before .before .before .before .before .before .before .before .before .before .before .before .before .before .pre .0)), (c .before .before .before .before .before .before .before .before .before .before .before .before .before .before .before .before .before .before .before .before .before .before .pre .1))
+resolve-stated-enter-stated-requires t c κs = (omega (arith, (c .before .before .before .before .before .before .before .before .before .before .before .before .before .before .before .before .before .before .before .before .before .before .before .pre .0)), (c .before .before .before .before .before .before .before .before .before .before .before .before .before .before .before .before .before .before .before .before .before .before .before .pre .1))
 
 resolve-stated-loop-less : (t : ℕ) → resolve-stated-lts.Need-loop-less (resolve-stated-claims t) (resolve-stated-at t) resolve-stated.Post resolve-stated-Inv-loop resolve-stated-μ-loop
 resolve-stated-loop-less t c = omega (arith, after-grows _ _ _ _ (c .before .before .before .before .after .ensures) (omega arith))
 
 resolve-stated-loop-again : (t : ℕ) → resolve-stated-lts.Need-loop-again (resolve-stated-claims t) (resolve-stated-at t) resolve-stated.Post resolve-stated-Inv-loop resolve-stated-μ-loop
-resolve-stated-loop-again t c = (omega arith, states-more refl refl ((c .before .before .before .before .before .before .before .before .before .before .before .before .loop .inv) .1) (finds-ranked ((c .before .before .before .before .before .before .before .before .before .before .before .before .before .before .before .before .before .before .before .before .before .before .before .before .before .pre .1) .ranks) _ _ _ _ (c .before .before .before .before .before .before .before .before .before .before .row-stated .ensures)) ((c .before .before .before .before .before .before .before .before .i .given) .1) (c .before .before .before .before .after .ensures) refl (c .before .before .enter-stated .ensures))
+resolve-stated-loop-again t c = (omega arith, states-more refl refl ((c .before .before .before .before .before .before .before .before .before .before .before .before .before .loop .inv) .1) (finds-ranked ((c .before .before .before .before .before .before .before .before .before .before .before .before .before .before .before .before .before .before .before .before .before .before .before .before .before .before .pre .1) .ranks) _ _ _ _ _ (firsts-empty _ _ _ _ _ refl) (c .before .before .before .before .before .before .before .before .before .before .row-stated .ensures)) ((c .before .before .before .before .before .before .before .before .i .given) .1) (c .before .before .before .before .after .ensures) refl (c .before .before .enter-stated .ensures))
 
 resolve-stated-same-length-4 : (t : ℕ) → resolve-stated-lts.Need-same-length-4 (resolve-stated-claims t) (resolve-stated-at t) resolve-stated.Post resolve-stated-Inv-loop resolve-stated-μ-loop
 resolve-stated-same-length-4 t c = (c .before .loop .inv) .0
@@ -406,9 +426,13 @@ pub +enter+enter-stated+resolve+resolve-default+resolve-row+resolve-stated-spec 
     (resolve-returns t)
     (resolve-returns-2 t)
     (resolve-returns-3 t)
+    (resolve-firsts-requires t)
+    (resolve-slice-aggregate-next-row t)
     (resolve-next-row-requires t)
     (resolve-loop-holds t)
+    (resolve-slice-aggregate-resolve-row t)
     (resolve-resolve-row-requires t)
+    (resolve-slice-aggregate-next-row-2 t)
     (resolve-add-next-row t)
     (resolve-next-row-requires-2 t)
     (resolve-loop-less t)
@@ -444,6 +468,7 @@ pub +enter+enter-stated+resolve+resolve-default+resolve-row+resolve-stated-spec 
     resolve-stated-Inv-loop
     resolve-stated-μ-loop
     (resolve-stated-loop-holds t)
+    (resolve-stated-slice-aggregate-row-stated t)
     (resolve-stated-row-stated-requires t)
     (resolve-stated-enum-known-i t)
     (resolve-stated-enum-told t)

@@ -18,14 +18,8 @@ returns c = stirs-yes
 returns-2 : tie.Need-returns-2
 returns-2 c = stirs-none (c .before .before .has-default .ensures) (c .before .if1 .left) (omega arith)
 
-sub-if3 : tie.Need-sub-if3
-sub-if3 c = search needs
-
 returns-3 : tie.Need-returns-3
 returns-3 c = stirs-yes
-
-returns-4 : tie.Need-returns-4
-returns-4 c = stirs-yes
 
 mul-may-state : tie.Need-mul-may-state
 mul-may-state c = search needs
@@ -36,8 +30,8 @@ shared-slice-read-may-state c = search needs
 may-state-requires : tie.Need-may-state-requires
 may-state-requires c κs = search needs
 
-returns-5 : tie.Need-returns-5
-returns-5 c = stirs-stated ((c .before .before .before .before .before .before .before .before .before .before .before .before .pre) .1) (c .before .before .before .before .before .before .has-default .ensures) (c .before .before .before .before .before .if1 .left) (omega arith) refl (c .may-state .ensures)
+returns-4 : tie.Need-returns-4
+returns-4 c = stirs-stated ((c .before .before .before .before .before .before .before .before .before .before .before .before .pre) .1) (c .before .before .before .before .before .has-default .ensures) (c .before .before .before .before .if1 .left) (omega arith) refl _ ((c .before .before .before .before .before .before .before .before .before .before .before .before .pre) .2) (c .may-state .ensures)
 
 pub stirs-spec : {M : Type 1} → statement M
 stirs-spec =
@@ -46,10 +40,8 @@ stirs-spec =
     has-default-requires
     returns
     returns-2
-    sub-if3
     returns-3
-    returns-4
     mul-may-state
     shared-slice-read-may-state
     may-state-requires
-    returns-5)
+    returns-4)
