@@ -358,12 +358,12 @@ fn against_scopes() -> Vec<Heavy> {
 
 /// Two of these at once.
 fn against_all() -> Vec<Heavy> {
-    let needed = |sort: &str| each(511, |number| format!("{sort} {};", name(2, number)));
-    let late = |value| each(511, |number| format!("{}={value};", name(2, number)));
+    let needed = |sort: &str| each(510, |number| format!("{sort} {};", name(2, number)));
+    let late = |value| each(510, |number| format!("{}={value};", name(2, number)));
     let list = name(2, 511);
     vec![
         filled(
-            "511 attributes behind a list of numbers from a long list",
+            "510 attributes behind a list of numbers from a long list",
             &format!("TASK{{{}UINT32[#0]{list}[];}};", needed("INT32")),
             &format!(
                 "TASK t{{{}{}}};",
@@ -373,7 +373,7 @@ fn against_all() -> Vec<Heavy> {
             "1,",
         ),
         filled(
-            "511 attributes behind a list of enumerators, beside a long list",
+            "510 attributes behind a list of enumerators, beside a long list",
             &format!(
                 "TASK{{{}ENUM[A]{list}[];}};ISR{{UINT32[#0]x[];}};",
                 needed("ENUM[A]")
