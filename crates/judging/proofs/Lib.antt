@@ -4,3 +4,4 @@ pub mod Naming
 pub mod Lacking
 pub mod Ordering
 pub mod Judgements
+pub mod Finding

@@ -5,6 +5,7 @@ ghost use lib.Dec.{eqb};
 ghost use lib.ListN.{getD};
 ghost use Rattle.layout.specs.Kept.{bit};
 ghost use Rattle.rows.specs.Table.{part};
+ghost use Rattle.rows.specs.Search.{findRow};
 ghost use Rattle.lookups.specs.Ranks.{Firsts};
 ghost use Rattle.judging.specs.Names.{IndexAt, Ranks};
 ghost use Rattle.judging.specs.Promises.{LacksRow, Lacks, Needs, Marks};
@@ -37,6 +38,31 @@ fn lacks_row(
     !names::is_stated(text, d, st, names, first, i, from, end)
 }
 
+// The first row from i on, among the first n, that stands under the word at key: `find_row`, without its tests where all rows lie inside.
+fn find_under(d: &[usize], n: usize, key: usize, i: usize) -> Found
+    ensures { λ r. ⌜ r ≡ findRow (now (d .entry)) 19 n 0 key i ⌝ }
+{
+    if 512 < n {
+        return finding::find_row(d, 19, n, 0, key, i);
+    }
+    if d.len() < 9728 {
+        return finding::find_row(d, 19, n, 0, key, i);
+    }
+    if n <= i {
+        return Found::Nothing;
+    }
+    let mut p = i * 19;
+    let mut k = i;
+    while k < n {
+        if d[p] == key {
+            return Found::At(k);
+        }
+        p += 19;
+        k += 1;
+    }
+    Found::Nothing
+}
+
 // Whether a block lacks one of the attributes under the word at key, among the first n rows.
 pub fn lacks(
     text: &[u8],
@@ -55,7 +81,7 @@ pub fn lacks(
     let first = names::firsts(st, names, from, end);
     let mut i = 0;
     while i < n {
-        let Found::At(j) = finding::find_row(d, 19, n, 0, key, i) else {
+        let Found::At(j) = find_under(d, n, key, i) else {
             return false;
         };
         if lacks_row(text, d, st, names, missing, &first, j, from, end) {
