@@ -356,34 +356,43 @@ fn against_scopes() -> Vec<Heavy> {
     ]
 }
 
-/// Two of these at once.
+/// Several of these at once.
 fn against_all() -> Vec<Heavy> {
-    let needed = |sort: &str| each(510, |number| format!("{sort} {};", name(2, number)));
+    let needed =
+        |sort: &str, end: &str| each(510, |number| format!("{sort}{}{end};", name(2, number)));
     let late = |value| each(510, |number| format!("{}={value};", name(2, number)));
     let list = name(2, 511);
+    let stated = |value| {
+        format!(
+            "TASK t{{{}{}}};",
+            format!("{list}={value};").repeat(1_537),
+            late(value)
+        )
+    };
     vec![
         filled(
             "510 attributes behind a list of numbers from a long list",
-            &format!("TASK{{{}UINT32[#0]{list}[];}};", needed("INT32")),
-            &format!(
-                "TASK t{{{}{}}};",
-                format!("{list}=0;").repeat(1_537),
-                late("1")
-            ),
+            &format!("TASK{{{}UINT32[#0]{list}[];}};", needed("UINT32 ", "")),
+            &stated("0"),
             "1,",
         ),
         filled(
             "510 attributes behind a list of enumerators, beside a long list",
             &format!(
-                "TASK{{{}ENUM[A]{list}[];}};ISR{{UINT32[#0]x[];}};",
-                needed("ENUM[A]")
+                "TASK{{{}ENUM[A,B]{list}[];}};ISR{{UINT32[#0]x[];}};",
+                needed("ENUM[A,B]", "")
             ),
+            &stated("B"),
+            "9,8,7,6,5,4,3,2,1,0,",
+        ),
+        filled(
+            "510 attributes with defaults behind a list, beside a long list",
             &format!(
-                "TASK t{{{}{}}};",
-                format!("{list}=A;").repeat(1_537),
-                late("A")
+                "TASK{{{}ENUM[A,B]{list}[]=B;}};ISR{{UINT32[#0]x[];}};",
+                needed("ENUM[A,B]", "=B")
             ),
-            "1,",
+            &stated("B"),
+            "9,8,7,6,5,4,3,2,1,0,",
         ),
     ]
 }
