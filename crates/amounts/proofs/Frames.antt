@@ -8,7 +8,7 @@ use native.Mathlib.Decide.{ℕ-discrete, decLt}
 use lib.ListN.{length, getD, take, drop, replicate, length-append, length-drop, take-append-drop, length-replicate, getD-replicate}
 use lib.Seq.{sets, length-sets, length-take-le, take-append-le, drop-append-le}
 use Rattle.rows.specs.Table.{part}
-use Rattle.rows.proofs.Tables.{cell-at}
+use Rattle.rows.proofs.Tables.{cell-of}
 use Rattle.rows.proofs.Stores.{part-sets-same, part-sets-before, part-sets-after}
 use Rattle.meaning.specs.Syntax.{Bounds}
 use Rattle.scopes.specs.Ranges.{RangeAt}
@@ -98,7 +98,7 @@ noted-blank s d n h =
       room = omega arith;
       inside = omega (arith, z, h);
       told = λ j l b x.
-          let e : getD (part (replicate n 0) (512 + j * 5) 5) 0 0 ≡ 0 = cell-at (replicate n 0) (512 + j * 5) 5 0 (omega arith) ∙ getD-replicate n (512 + j * 5 + 0) 0 0 (omega (arith, l, h)) in
+          let e : getD (part (replicate n 0) (512 + j * 5) 5) 0 0 ≡ 0 = cell-of (replicate n 0) (512 + j * 5) 5 0 (omega arith) ∙ getD-replicate n (512 + j * 5 + 0) 0 0 (omega (arith, l, h)) in
           record {
             two = λ o. absurd (omega (arith, e, o));
             within = λ o. absurd (omega (arith, e, o));

@@ -5,10 +5,9 @@ use Prim.Native.Nat.{ℕ, _-_, _≤_, _<_}
 use native.Mathlib.Omega.{arith}
 use lib.Dec.{eqb, leb, ltb}
 use borrow.Author.Tests.{eqb-true, eqb-false, leb-true, ltb-true, le-leb, lt-leb, eq-eqb, ne-eqb}
-use Rattle.token.specs.Find.{pick, both, either}
+use Rattle.token.specs.Find.{pick, both, either, bit}
 use Rattle.meaning.specs.Syntax.{Num}
 use Rattle.meaning.specs.Words.{at-most, equal}
-use Rattle.layout.specs.Kept.{bit}
 use Rattle.amounts.specs.Keys.{signed-code, has-key, key}
 
 -- Tests ------------------------------------------------------------------------------------------------------------------------------------
@@ -78,14 +77,6 @@ signed-36 c e = sym (ap (λ b. either b (eqb c 38)) (eq-eqb c 36 e))
 pub signed-not : (c : ℕ) → (c ≡ 36 → ⊥) → eqb c 38 ≡ signed-code c
 unfolding signed-code
 signed-not c e = sym (ap (λ b. either b (eqb c 38)) (ne-eqb c 36 e))
-
-pub bit-true : (b : Bool) → b ≡ true → 1 ≡ bit b
-unfolding bit
-bit-true b e = ap bit (sym e)
-
-pub bit-false : (b : Bool) → b ≡ false → 0 ≡ bit b
-unfolding bit
-bit-false b e = ap bit (sym e)
 
 pub key-unsigned : (g : Bool) (n : Num) → g ≡ false → not (n .negative) ≡ has-key g n
 unfolding has-key

@@ -6,13 +6,13 @@ use native.Mathlib.Omega.{arith}
 use native.Mathlib.Decide.{ℕ-discrete, decLt}
 use lib.ListN.{length, getD, replicate, length-replicate, getD-replicate}
 use lib.Seq.{sets, length-sets}
+use Rattle.token.specs.Find.{bit}
 use Rattle.token.specs.Tokens.{stepAt}
 use Rattle.rows.specs.Table.{part}
-use Rattle.rows.proofs.Tables.{cell-at}
+use Rattle.rows.proofs.Tables.{cell-of}
 use Rattle.rows.proofs.Stores.{part-sets-same, part-sets-before, part-sets-after}
 use Rattle.meaning.specs.Syntax.{Num}
 use Rattle.meaning.specs.Actions.{num-of-step}
-use Rattle.layout.specs.Kept.{bit}
 use Rattle.scopes.specs.declared.Num.{Num as Number-of}
 use Rattle.scopes.specs.Items.{num}
 use Rattle.amounts.specs.Known.{InCells, KnownDefaults}
@@ -63,7 +63,7 @@ rows-start s d t = record { size = refl; known = λ e. subst (KnownDefaults s d)
         record {
           room = length-replicate {A = ℕ} 1536 0;
           told = λ j l x.
-              let z : getD (part (replicate 1536 0) (j * 3) 3) 0 0 ≡ 0 = cell-at (replicate 1536 0) (j * 3) 3 0 (omega arith) ∙ getD-replicate 1536 (j * 3 + 0) 0 0 (omega (arith, l)) in
+              let z : getD (part (replicate 1536 0) (j * 3) 3) 0 0 ≡ 0 = cell-of (replicate 1536 0) (j * 3) 3 0 (omega arith) ∙ getD-replicate 1536 (j * 3 + 0) 0 0 (omega (arith, l)) in
               absurd (omega (arith, x, z));
         }
 
@@ -74,8 +74,8 @@ rows-more s d t₀ t t′ k m = record { size = m .size ∙ k .size; known = λ 
 pub remembered : (s d t : List ℕ) → KnownDefaults s d t → (j : ℕ) → j < 512 → (at p : ℕ) → p ≡ getD d (j * 19 + 10) 0 → at ≡ p → (x a b : ℕ)
     → x ≡ getD t (j * 3 + 0) 0 → x ≡ 1 → a ≡ getD t (j * 3 + 1) 0 → b ≡ getD t (j * 3 + 2) 0 → InCells (num-of-step (stepAt s at)) a b
 remembered s d t k j l at p e h x a b x-is y a-is b-is =
-    let o = k .told j l (cell-at t (j * 3) 3 0 (omega arith) ∙ sym x-is ∙ y) in
+    let o = k .told j l (cell-of t (j * 3) 3 0 (omega arith) ∙ sym x-is ∙ y) in
     record {
-      negative = a-is ∙ sym (cell-at t (j * 3) 3 1 (omega arith)) ∙ o .negative ∙ ap (λ i. bit (num-of-step (stepAt s i) .negative)) (sym (h ∙ e));
-      amount = b-is ∙ sym (cell-at t (j * 3) 3 2 (omega arith)) ∙ o .amount ∙ ap (λ i. num-of-step (stepAt s i) .amount) (sym (h ∙ e));
+      negative = a-is ∙ sym (cell-of t (j * 3) 3 1 (omega arith)) ∙ o .negative ∙ ap (λ i. bit (num-of-step (stepAt s i) .negative)) (sym (h ∙ e));
+      amount = b-is ∙ sym (cell-of t (j * 3) 3 2 (omega arith)) ∙ o .amount ∙ ap (λ i. num-of-step (stepAt s i) .amount) (sym (h ∙ e));
     }

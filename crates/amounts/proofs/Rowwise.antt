@@ -6,13 +6,12 @@ use Prim.Native.Nat.{ℕ, _+_, _-_, _*_, _/_, _≤_, _<_}
 use native.Mathlib.Omega.{arith}
 use lib.ListN.{length, getD, take, drop, length-append, length-drop, drop-of-length-le, replicate}
 use lib.Seq.{sets, length-sets, length-take-le, take-at, drop-at, length-front}
-use Rattle.token.specs.Find.{both, either}
+use Rattle.token.specs.Find.{both, either, bit}
 use Rattle.rows.specs.Table.{part}
 use Rattle.rows.proofs.Stores.{part-sets-after}
 use Rattle.sorting.specs.Sorted.{among-cells, Rising, Sorted}
 use Rattle.meaning.specs.Syntax.{Num, Word, Bounds}
 use Rattle.meaning.specs.Words.{at-most, equal, among-numbers, in-bounds}
-use Rattle.layout.specs.Kept.{bit}
 use Rattle.scopes.specs.declared.Item.{Item}
 use Rattle.scopes.specs.Items.{num, itemAt}
 use Rattle.scopes.specs.Ranges.{Listed, RangeAt, range-none, range-two, range-list}

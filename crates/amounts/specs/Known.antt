@@ -9,13 +9,12 @@ use mathlib.Core.Bool.{Bool, not}
 use Prim.Native.Nat.{ℕ, _+_, _-_, _*_, _≤_, _<_}
 use lib.ListN.{length, getD}
 use lib.Dec.{eqb}
-use Rattle.token.specs.Find.{both}
+use Rattle.token.specs.Find.{both, bit}
 use Rattle.token.specs.Tokens.{stepAt}
 use Rattle.rows.specs.Table.{part}
 use Rattle.meaning.specs.Syntax.{Num, Bounds}
 use Rattle.meaning.specs.Actions.{num-of-step}
 use Rattle.meaning.specs.Words.{at-most, in-bounds}
-use Rattle.layout.specs.Kept.{bit}
 use Rattle.scopes.specs.Ranges.{RangeAt}
 use Rattle.amounts.specs.Keys.{signed-code, Listing}
 

@@ -9,7 +9,7 @@ use Rattle.sorting.specs.Sorted.{among-cells, Rising}
 use Rattle.meaning.specs.Syntax.{Num, Word}
 use Rattle.meaning.specs.Words.{equal, among-numbers}
 use Rattle.scopes.specs.Ranges.{Listed}
-use Rattle.scopes.specs.Promises.{InRange, FindsWord, Takes}
+use Rattle.scopes.specs.Promises.{InRange}
 use Rattle.amounts.specs.Keys.{has-key, key}
 use Rattle.amounts.specs.Known.{Noted, Known, KnownDefaults}
 
@@ -44,10 +44,6 @@ Notes s d t t′ = (n : ℕ) → 3072 ≤ n → t ≡ replicate n 0 → Known s 
 -- Whether a number is in the range of the definition of row j.
 abbrev pub InRangeOf : (s d : List ℕ) → ℕ → Num → Bool → Type 0
 InRangeOf s d j n r = InRange s (getD d (j * 19 + 8) 0) n r
-
--- Whether the attribute of row j takes the word at a place with a code, if u is the place of the value word that it is.
-abbrev pub TakesUnder : (s d : List ℕ) → (j at code u : ℕ) → Bool → Type 0
-TakesUnder s d j at code u r = (e : List ℕ) (m len : ℕ) → FindsWord s d e m j at len u → Takes s d e m j at len code r
 
 -- A default more is noted.
 pub record NotesDefault (s d t t′ : List ℕ) : Type 0 where

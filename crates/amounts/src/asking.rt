@@ -1,8 +1,8 @@
 // Whether an attribute takes a value; of a number by the table of ranges.
 ghost use Rattle.scopes.specs.Items.{num};
-ghost use Rattle.scopes.specs.Promises.{TakesNumber};
+ghost use Rattle.scopes.specs.Promises.{TakesNumber, TakesUnder};
 ghost use Rattle.amounts.specs.Known.{Known};
-ghost use Rattle.amounts.specs.Promises.{InRangeOf, TakesUnder};
+ghost use Rattle.amounts.specs.Promises.{InRangeOf};
 use super::keys;
 use rows::cells;
 use scopes::Num;
@@ -15,7 +15,7 @@ fn in_range(text: &[u8], d: &[usize], known: &[usize], j: usize, n: Num) -> bool
     requires { ⌜ Known (now text) (now d) (now known) ⌝ }
     ensures { λ r. ⌜ InRangeOf (now (text .entry)) (now (d .entry)) j (num n) r ⌝ }
 {
-    let range = lookups::cell_of(d, 19, j, 8);
+    let range = cells::cell_of(d, 19, j, 8);
     if 512 <= j {
         return bounds::in_range(text, range, n);
     }
@@ -38,7 +38,7 @@ fn in_range(text: &[u8], d: &[usize], known: &[usize], j: usize, n: Num) -> bool
     if sort != 2 {
         return bounds::in_range(text, range, n);
     }
-    let sign = keys::is_signed(lookups::cell_of(d, 19, j, 12));
+    let sign = keys::is_signed(cells::cell_of(d, 19, j, 12));
     if !keys::has_key(sign, n) {
         return bounds::in_range(text, range, n);
     }
@@ -58,7 +58,7 @@ fn takes_number(text: &[u8], d: &[usize], known: &[usize], j: usize, at: usize) 
     requires { ⌜ Known (now text) (now d) (now known) ⌝ }
     ensures { λ r. ⌜ TakesNumber (now (text .entry)) (now (d .entry)) j at r ⌝ }
 {
-    let code = lookups::cell_of(d, 19, j, 12);
+    let code = cells::cell_of(d, 19, j, 12);
     if code < 35 {
         return false;
     }
@@ -88,24 +88,5 @@ pub fn takes(
     if code == 42 {
         return takes_number(text, d, known, j, at);
     }
-    if code == 3 {
-        return lookups::cell_of(d, 19, j, 7) == 1;
-    }
-    if code == 4 {
-        return false;
-    }
-    let t = lookups::cell_of(d, 19, j, 12);
-    if code == 43 {
-        return t == 39;
-    }
-    if code == 1 {
-        return t == 40;
-    }
-    if code == 2 {
-        return t == 40;
-    }
-    if t != 41 {
-        return false;
-    }
-    under != 0
+    lookups::takes_word(d, j, code, under)
 }

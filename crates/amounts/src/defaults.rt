@@ -6,7 +6,6 @@ ghost use Rattle.amounts.specs.Known.{KnownDefaults, InCells};
 ghost use Rattle.amounts.specs.Promises.{NotesDefault, NotesDefaults};
 use super::keys;
 use rows::cells;
-use scopes::lookups;
 use scopes::numbers;
 
 // A number in two cells: 1 where it is negative, and its amount.
@@ -22,10 +21,10 @@ fn note_default(text: &[u8], d: &[usize], j: usize, t: &mut [usize])
     if 512 <= j {
         return;
     }
-    if lookups::cell_of(d, 19, j, 18) != 42 {
+    if cells::cell_of(d, 19, j, 18) != 42 {
         return;
     }
-    let n = numbers::number_at(text, lookups::cell_of(d, 19, j, 10));
+    let n = numbers::number_at(text, cells::cell_of(d, 19, j, 10));
     let negative = keys::sign_of(n);
     let row = [1, negative, n.amount as usize];
     cells::put_cells(t, j * 3, &row);
@@ -65,7 +64,7 @@ pub fn number_at(text: &[u8], d: &[usize], known: &[usize], j: usize, at: usize)
     if 512 <= j {
         return read_number(text, at);
     }
-    if at != lookups::cell_of(d, 19, j, 10) {
+    if at != cells::cell_of(d, 19, j, 10) {
         return read_number(text, at);
     }
     let row = j * 3;

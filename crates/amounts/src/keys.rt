@@ -1,6 +1,6 @@
 // Numbers as cells.
 ghost use mathlib.Core.Path.{_≡_};
-ghost use Rattle.layout.specs.Kept.{bit};
+ghost use Rattle.token.specs.Find.{bit};
 ghost use Rattle.scopes.specs.Items.{num};
 ghost use Rattle.amounts.specs.Keys.{signed-code, has-key, key};
 use scopes::Num;

@@ -4,13 +4,12 @@ ghost use mathlib.Core.List.{[], _∷_};
 ghost use Prim.Native.Nat.{_+_, _*_, _≤_, _<_};
 ghost use lib.ListN.{length};
 ghost use lib.Seq.{sets};
-ghost use Rattle.layout.specs.Kept.{bit};
+ghost use Rattle.token.specs.Find.{bit};
 ghost use Rattle.scopes.specs.Items.{num};
 ghost use Rattle.amounts.specs.Promises.{KeyedBehind, Keyed, KeyedRising, NotesRow, Notes};
 use super::keys;
 use rows::cells;
 use scopes::Num;
-use scopes::lookups;
 use scopes::numbers;
 
 // Puts behind the first cells, so many, those of the numbers that stand from a place on, a comma before each; gives how many cells there are then,
@@ -102,7 +101,7 @@ fn note_row(
     if 512 <= j {
         return used;
     }
-    let range = lookups::cell_of(d, 19, j, 8);
+    let range = cells::cell_of(d, 19, j, 8);
     if range == 0 {
         return used;
     }
@@ -117,7 +116,7 @@ fn note_row(
     if t.len() < used {
         return used;
     }
-    let sign = keys::is_signed(lookups::cell_of(d, 19, j, 12));
+    let sign = keys::is_signed(cells::cell_of(d, 19, j, 12));
     let n = put_sorted(text, sign, a.number, a.next, &mut t[used..], spare);
     if n == 0 {
         return used;

@@ -1,15 +1,17 @@
 -- The laws of blocks: their first statement, what is in its braces, what comes behind it. Assumes nothing.
 use mathlib.Core.Path.{_≡_, refl, sym, _∙_, ap, ap₂, subst}
 use mathlib.Core.List.{List, [], _∷_, _++_, append-assoc}
-use mathlib.Core.Bool.{Bool, true, false}
+use mathlib.Core.Bool.{Bool, true, false, not, false≢true}
 use Prim.Native.Nat.{ℕ, suc, _+_, _*_, _≤_, _<_}
 use native.Mathlib.Omega.{arith}
 use lib.ListN.{length-append, getD}
-use lib.Dec.{ltb, leb}
-use borrow.Author.Tests.{lt-ltb, le-ltb, le-leb, ltb-true, leb-true, lt-leb}
+use lib.Dec.{ltb, leb, eqb}
+use borrow.Author.Tests.{eq-eqb, ne-eqb, lt-ltb, le-ltb, le-leb, ltb-true, leb-true, lt-leb}
+use Rattle.meaning.proofs.Entries.{then}
 use Rattle.token.specs.Find.{pick, both, either}
 use Rattle.token.specs.Words.{same}
 use Rattle.token.specs.Tokens.{partOf}
+use Rattle.token.proofs.Codes.{same-self}
 use Rattle.meaning.specs.Syntax.{Word, Statement, Statements, done, state, statements-in}
 use Rattle.meaning.specs.Words.{alike, among}
 use Rattle.meaning.specs.Scopes.{names}
@@ -17,8 +19,8 @@ use Rattle.layout.specs.Kept.{statement-cells, statement-rows}
 use Rattle.layout.proofs.Lengths.{length-statements}
 use Rattle.rows.specs.declared.Found.{Found}
 use Rattle.rows.specs.declared.Found.the-variants.{At, Nothing}
-use Rattle.rows.specs.Search.{isFound}
-use Rattle.blocks.specs.Blocks.{WordIn, BraceIn, StatementsIn, none-in, more-in, then, Block, BlockAt, row-after, first-stated, FindsStated, IsStated}
+use Rattle.rows.specs.Search.{isFound, rowOf}
+use Rattle.blocks.specs.Blocks.{WordIn, BraceIn, StatementsIn, none-in, more-in, Block, BlockAt, row-after, first-stated, FindsStated, IsStated, IsBefore}
 use Rattle.blocks.proofs.Holding.{cell-held}
 
 -- Rows -------------------------------------------------------------------------------------------------------------------------------------
@@ -116,11 +118,6 @@ pub in-then : (a b : Statements) → statements-in (then a b) ≡ statements-in 
 unfolding then statements-in
 in-then done b = omega arith
 in-then (state x inside rest) b = let h = in-then rest b in omega arith
-
-pub then-assoc : (a b c : Statements) → then (then a b) c ≡ then a (then b c)
-unfolding then
-then-assoc done b c = refl
-then-assoc (state x inside rest) b c = ap (state x inside) (then-assoc rest b c)
 
 pub then-done : (a : Statements) → then a done ≡ a
 unfolding then
@@ -284,3 +281,60 @@ stated-among (state x inside rest) m t = go (alike t (x .name)) (stated-among re
 
 pub is-stated : {s st : List ℕ} {m e : ℕ} (at len : ℕ) {r : Found} → FindsStated s st m e at len r → IsStated s st m e at len (isFound r)
 is-stated {m = m} at len f ss t b h = ap isFound (f ss t b h) ∙ stated-among ss m t
+
+-- Whether a name is stated before ----------------------------------------------------------------------------------------------------------
+
+-- The first of two parts of a block that has a name.
+first-then : (a b : Statements) (m : ℕ) (t : Word)
+    → first-stated (then a b) m t ≡ pick (among t (names a)) (first-stated a m t) (first-stated b (m + statements-in a) t)
+unfolding then first-stated names among statements-in
+first-then done b m t = let e : m ≡ m + 0 = omega arith in ap (λ k. first-stated b k t) e
+first-then (state x inside rest) b m t =
+    let n = suc m + statements-in inside in
+    let e : n + statements-in rest ≡ m + suc (statements-in inside + statements-in rest) = omega arith in
+    go (alike t (x .name)) (first-then rest b n t ∙ ap (λ k. pick (among t (names rest)) (first-stated rest n t) (first-stated b k t)) e)
+  where
+    go : (c : Bool) → first-stated (then rest b) (suc m + statements-in inside) t ≡ pick (among t (names rest)) (first-stated rest (suc m + statements-in inside) t) (first-stated b (m + suc (statements-in inside + statements-in rest)) t)
+        → pick c (At m) (first-stated (then rest b) (suc m + statements-in inside) t) ≡ pick (either c (among t (names rest))) (pick c (At m) (first-stated rest (suc m + statements-in inside) t)) (first-stated b (m + suc (statements-in inside + statements-in rest)) t)
+    go true h = refl
+    go false h = h
+
+first-inside : (a : Statements) (m i : ℕ) (t : Word) → At i ≡ first-stated a m t → i < m + statements-in a
+unfolding first-stated statements-in rowOf
+first-inside done m i t h = absurd (false≢true (sym (ap isFound h)))
+first-inside (state x inside rest) m i t h = go (alike t (x .name)) (first-inside rest (suc m + statements-in inside) i t) h
+  where
+    go : (c : Bool) → (At i ≡ first-stated rest (suc m + statements-in inside) t → i < suc m + statements-in inside + statements-in rest)
+        → At i ≡ pick c (At m) (first-stated rest (suc m + statements-in inside) t) → i < m + suc (statements-in inside + statements-in rest)
+    go true f e = let q : i ≡ m = ap rowOf e in omega arith
+    go false f e = let q = f e in omega arith
+
+-- The first statement of a block that has the name of its statement of row k.
+module _ {s st : List ℕ} (m k e : ℕ) {r : Found} (f : FindsStated s st m e (getD st (k * 7 + 0) 0) (getD st (k * 7 + 1) 0) r) where
+  first-own : (a : Statements) (x : Statement) (inside rest : Statements) → BlockAt s st m e (then a (state x inside rest)) → k ≡ m + statements-in a
+      → r ≡ pick (among (x .name) (names a)) (first-stated a m (x .name)) (At k)
+  unfolding first-stated statement-cells alike
+  first-own a x inside rest b q =
+      let c : BlockAt s st k e (state x inside rest) = subst (λ u. BlockAt s st u e (state x inside rest)) (sym q) (back-at a (state x inside rest) b) in
+      let n = x .name in
+      let own = first-name c .bytes ∙ sym (ap₂ (partOf s) (first-cell c 0 (omega arith)) (first-cell c 1 (omega arith))) in
+      let here = ap (λ z. pick z (At (m + statements-in a)) (first-stated rest (suc (m + statements-in a) + statements-in inside) n)) (same-self (n .bytes)) ∙ ap At (sym q) in
+      f (then a (state x inside rest)) n b own
+      ∙ first-then a (state x inside rest) m n
+      ∙ ap (pick (among n (names a)) (first-stated a m n)) here
+
+module _ {s st : List ℕ} (m k e : ℕ) where
+  pub before-first : (i : ℕ) → FindsStated s st m e (getD st (k * 7 + 0) 0) (getD st (k * 7 + 1) 0) (At i) → IsBefore s st m k e (not (eqb i k))
+  unfolding rowOf
+  before-first i f a x inside rest b q = go (among (x .name) (names a)) (first-own m k e f a x inside rest b q)
+    where
+      go : (c : Bool) → At i ≡ pick c (first-stated a m (x .name)) (At k) → not (eqb i k) ≡ c
+      go true h = let l = first-inside a m i (x .name) h in ap not (ne-eqb i k (λ z. omega arith))
+      go false h = ap not (eq-eqb i k (ap rowOf h))
+
+  pub before-none : FindsStated s st m e (getD st (k * 7 + 0) 0) (getD st (k * 7 + 1) 0) Nothing → IsBefore s st m k e false
+  before-none f a x inside rest b q = go (among (x .name) (names a)) (stated-among a m (x .name)) (first-own m k e f a x inside rest b q)
+    where
+      go : (c : Bool) → isFound (first-stated a m (x .name)) ≡ c → Nothing ≡ pick c (first-stated a m (x .name)) (At k) → false ≡ c
+      go true g h = absurd (false≢true (ap isFound h ∙ g))
+      go false g h = refl

@@ -7,6 +7,7 @@ use mathlib.Core.Option.{Option, none, some}
 use Prim.Native.Nat.{ℕ, suc, _+_, _*_, _≤_, _<_}
 use lib.ListN.{length, getD}
 use lib.Dec.{ltb, leb}
+use Rattle.meaning.proofs.Entries.{then}
 use Rattle.token.specs.Find.{pick, both}
 use Rattle.token.specs.Tokens.{partOf, stepAt}
 use Rattle.meaning.specs.Syntax.{Word, Statement, Statements, done, state, statements-in}
@@ -51,11 +52,6 @@ pub data StatementsIn (s : List ℕ) : Statements → Type 0 where
 
 -- Blocks -----------------------------------------------------------------------------------------------------------------------------------
 
--- The statements of one list and then those of another.
-unfoldable pub then : Statements → Statements → Statements
-then done ts = ts
-then (state x inside rest) ts = state x inside (then rest ts)
-
 -- From row m on stand the rows of the statements ss.
 pub record Block (rs : List (List ℕ)) (m : ℕ) (ss : Statements) : Type 0 where
   pub front : List (List ℕ)
@@ -91,3 +87,9 @@ FindsStated s st m e at len r =
 abbrev pub IsStated : (s st : List ℕ) → (m e at len : ℕ) → Bool → Type 0
 IsStated s st m e at len r =
     (ss : Statements) (t : Word) → BlockAt s st m e ss → t .bytes ≡ partOf s at len → r ≡ among t (names ss)
+
+-- Whether the block from m to e has the name of its own statement of row k before it.
+abbrev pub IsBefore : (s st : List ℕ) → (m k e : ℕ) → Bool → Type 0
+IsBefore s st m k e r =
+    (before : Statements) (x : Statement) (inside rest : Statements) → BlockAt s st m e (then before (state x inside rest)) → k ≡ m + statements-in before
+    → r ≡ among (x .name) (names before)

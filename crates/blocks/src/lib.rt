@@ -1,25 +1,15 @@
 // The statements of a block, a range of the rows kept while a text is read.
 ghost use mathlib.Core.Path.{_≡_};
-ghost use Prim.Native.Nat.{_+_, _*_};
-ghost use lib.ListN.{getD};
 ghost use Rattle.blocks.specs.Blocks.{row-after, FindsStated};
 use rows::Found;
 use rows::cells;
 use rows::parts;
 
-// A cell of a row of a table.
-pub fn cell_at(t: &[usize], width: usize, row: usize, column: usize) -> usize
-    ensures { λ r. ⌜ r ≡ getD (now (t .entry)) (row * width + column) 0 ⌝ }
-{
-    let start = cells::row_start(t.len(), width, row);
-    cells::cell(t, start, column)
-}
-
 // The row after the statement of row k and those in its braces, in a block that ends before row `end`.
 pub fn after(st: &[usize], k: usize, end: usize) -> usize
     ensures { λ r. ⌜ r ≡ row-after (now (st .entry)) k end ⌝ }
 {
-    let next = cell_at(st, 7, k, 6);
+    let next = cells::cell_of(st, 7, k, 6);
     if next <= k {
         return end;
     }
@@ -35,8 +25,8 @@ pub fn stated(text: &[u8], st: &[usize], from: usize, end: usize, at: usize, len
 {
     let mut k = from;
     while k < end {
-        let place = cell_at(st, 7, k, 0);
-        let size = cell_at(st, 7, k, 1);
+        let place = cells::cell_of(st, 7, k, 0);
+        let size = cells::cell_of(st, 7, k, 1);
         if parts::same_part(text, at, len, place, size) {
             return Found::At(k);
         }

@@ -8,7 +8,8 @@ use Prim.Native.Nat.{ℕ, suc, _+_, _*_, _≤_, _<_, min}
 use native.Mathlib.Omega.{arith}
 use lib.ListN.{length, getD, length-append}
 use lib.Dec.{eqb, ltb}
-use Rattle.token.specs.Find.{pick, both}
+use Rattle.meaning.proofs.Numbered.{of-few}
+use Rattle.token.specs.Find.{pick, both, bit, is-there}
 use Rattle.token.specs.Words.{same}
 use Rattle.token.specs.Tokens.{partOf}
 use Rattle.grammar.specs.Grammar.{Kind, OS, APPMODE, TASK, ISR, COUNTER, ALARM, RESOURCE, EVENT, COM, MESSAGE, NETWORKMESSAGE, IPDU, NM}
@@ -17,13 +18,13 @@ use Rattle.rows.specs.declared.Found.{Found}
 use Rattle.rows.specs.declared.Found.the-variants.{At, Nothing}
 use Rattle.rows.specs.Order as order
 use Rattle.rows.specs.Table as table
-use Rattle.rows.specs.Search.{hasKey, findNamed}
+use Rattle.rows.specs.Search.{hasKey, findNamed, isFound}
 use Rattle.meaning.specs.Syntax.{Word, Statement, Statements, done, state, Object, File, statements-in}
 use Rattle.meaning.specs.Words.{alike}
 use Rattle.meaning.specs.Kinds.{kinds, kind-number, same-kind, fewest, most}
-use Rattle.meaning.specs.Scopes.{is-there, find-object}
+use Rattle.meaning.specs.Scopes.{find-object}
 use Rattle.meaning.specs.Faults.{Fault, fault-if, first, sooner}
-use Rattle.meaning.specs.Applying.{one-if, how-many, counts-of, counts, too-few, full, statement-faults, each-object, object-faults}
+use Rattle.meaning.specs.Applying.{how-many, counts-of, counts, too-few, full, statement-faults, each-object, object-faults}
 use Rattle.meaning.proofs.Order.{InOrder, sub-behind, sub-all, drop, ordered-sub}
 use Rattle.meaning.proofs.Sooner.{left-of}
 use Rattle.meaning.proofs.Sites.{statement-words, object-words, spec-words}
@@ -38,9 +39,9 @@ use Rattle.scopes.proofs.Descents.{whole}
 use Rattle.kinds.specs.Kinds.{kind-at, most-of}
 use Rattle.scopes.specs.Listing.{each}
 use Rattle.checks.specs.Listing.{object-row-faults}
-use Rattle.checks.specs.Cells.{fault-found, lacking-from, count-rows, full-of, cell, too-many, name-again, object-codes, room-fault}
+use Rattle.checks.specs.Cells.{lacking-from, count-rows, full-of, cell, too-many, name-again, object-codes, room-fault}
 use Rattle.checks.specs.Promises.{ObjectFaults}
-use Rattle.scopes.proofs.Firsts.{Has, here, there, has-none, has-left, has-right, has-split, in-if, Covered, covered, covered-by, first-same, Real, real-none, real-append, real-if, fault-append, fault-one, real-each, found-at, at-row}
+use Rattle.scopes.proofs.Firsts.{Has, here, there, has-none, has-left, has-right, has-split, in-if, Covered, covered, covered-by, first-same, Real, real, real-none, real-append, real-if, fault-append, fault-one, real-each, found-at, at-row}
 use Rattle.checks.proofs.Rows.{Stands, in-front, in-rest, stands, item-at, get-at, nth-fault, fault-nth, real-nth, room-code, numbers-of, numbered, numbered-append, numbers-append, numbered-is}
 use Rattle.token.proofs.Bytes.{eqb-sym}
 
@@ -95,13 +96,13 @@ unfoldable is-lacking : List Object → Kind → Bool
 is-lacking os k = ltb (how-many k os) (fewest k)
 
 few-code : (ks : List Kind) (os : List Object) (cpu : Word) (i : ℕ)
-    → fault-found (table.first (is-lacking os) At Nothing i ks) 17 (cpu .place) ≡ fault-of (first (too-few ks os cpu))
-unfolding table.first too-few is-lacking fault-found fault-if fault-of first sooner
+    → order.faultIf (isFound (table.first (is-lacking os) At Nothing i ks)) 17 (cpu .place) ≡ fault-of (first (too-few ks os cpu))
+unfolding table.first too-few is-lacking order.faultIf fault-if fault-of first sooner
 few-code [] os cpu i = refl
 few-code (k ∷ ks) os cpu i = by (ltb (how-many k os) (fewest k)) (few-code ks os cpu (suc i))
   where
-    by : (b : Bool) → fault-found (table.first (is-lacking os) At Nothing (suc i) ks) 17 (cpu .place) ≡ fault-of (first (too-few ks os cpu))
-        → fault-found (pick b (At i) (table.first (is-lacking os) At Nothing (suc i) ks)) 17 (cpu .place) ≡ fault-of (first (fault-if b cpu 17 ++ too-few ks os cpu))
+    by : (b : Bool) → order.faultIf (isFound (table.first (is-lacking os) At Nothing (suc i) ks)) 17 (cpu .place) ≡ fault-of (first (too-few ks os cpu))
+        → order.faultIf (isFound (pick b (At i) (table.first (is-lacking os) At Nothing (suc i) ks))) 17 (cpu .place) ≡ fault-of (first (fault-if b cpu 17 ++ too-few ks os cpu))
     by true e = sym (ap fault-of (only-first (record { place = cpu .place; number = 17 }) (too-few ks os cpu) (λ g m. few-all ks os cpu m)))
     by false e = e
 
@@ -114,9 +115,9 @@ lacking-is os =
     (ap (λ (l : List Kind). getD l (length a) NM) e ∙ get-at a x b NM))
 
 pub too-few-is : (os : List Object) (cpu : Word) (cs : List ℕ) (p : ℕ) → cs ≡ counts os → p ≡ cpu .place
-    → fault-found (lacking-from cs 0) 17 p ≡ fault-of (first (too-few kinds os cpu))
+    → order.faultIf (isFound (lacking-from cs 0)) 17 p ≡ fault-of (first (too-few kinds os cpu))
 too-few-is os cpu cs p e h =
-    ap₂ (λ (l : List ℕ) (q : ℕ). fault-found (lacking-from l 0) 17 q) e h ∙ ap (λ (x : Found). fault-found x 17 (cpu .place)) (lacking-is os) ∙ few-code kinds os cpu 0
+    ap₂ (λ (l : List ℕ) (q : ℕ). order.faultIf (isFound (lacking-from l 0)) 17 q) e h ∙ ap (λ (x : Found). order.faultIf (isFound x) 17 (cpu .place)) (lacking-is os) ∙ few-code kinds os cpu 0
 
 -- The row of an object -----------------------------------------------------------------------------------------------------------------------
 
@@ -146,7 +147,7 @@ module _ (s : List ℕ) (f : File) (o : List ℕ) (k : Situation s f) (e : o ≡
       let y : eqb (getD o (i * 9 + 0) 0) (kind-number z) ≡ eqb (kind-number z) (kind-number (x .kind)) =
       ap (λ (n : ℕ). eqb n (kind-number z)) (kind-cell i x q (omega arith)) ∙ eqb-sym (kind-number (x .kind)) (kind-number z) in
       let g = length-append a (x ∷ []) in
-      ap₂ (λ (b : Bool) (n : ℕ). one-if b + n) y
+      ap₂ (λ (b : Bool) (n : ℕ). bit b + n) y
       (count-objects z (a ++ (x ∷ [])) xs rest (suc i) (w ∙ sym (append-assoc a (x ∷ []) (xs ++ rest))) (omega arith) (omega arith))
 
   many-is : (p : List Object) (x : Object) (rest : List Object) (j : ℕ) → f .objects ≡ p ++ (x ∷ rest) → length p ≡ j → j < 257
@@ -160,17 +161,17 @@ module _ (s : List ℕ) (f : File) (o : List ℕ) (k : Situation s f) (e : o ≡
       (sym (fault-one (full (most (x .kind)) (how-many (x .kind) p)) (x .word) 17))
 
   seek-name : (z : Kind) (at len : ℕ) (t : Word) → t .bytes ≡ partOf s at len → (i : ℕ) (xs rest : List Object) → Goods s (object-words (xs ++ rest)) → (n p : ℕ)
-      → fault-found (table.first (is-object s (kind-number z) at len) At Nothing i xs) n p ≡ order.faultIf (is-there (find-object z xs t)) n p
-  unfolding table.first is-object find-object is-there fault-found order.faultIf object-words same-kind alike
+      → order.faultIf (isFound (table.first (is-object s (kind-number z) at len) At Nothing i xs)) n p ≡ order.faultIf (is-there (find-object z xs t)) n p
+  unfolding table.first is-object find-object is-there order.faultIf object-words same-kind alike
   seek-name z at len t q i [] rest g n p = refl
   seek-name z at len t q i (x ∷ xs) rest g n p =
-      ap₂ (λ (a b : Bool). fault-found (pick (both a b) (At i) (table.first (is-object s (kind-number z) at len) At Nothing (suc i) xs)) n p)
+      ap₂ (λ (a b : Bool). order.faultIf (isFound (pick (both a b) (At i) (table.first (is-object s (kind-number z) at len) At Nothing (suc i) xs))) n p)
       (eqb-sym (kind-number (x .kind)) (kind-number z)) (ap₂ same (sym (g .1 .0 .read .bytes)) (sym q))
       ∙ by (both (eqb (kind-number z) (kind-number (x .kind))) (same (x .name .bytes) (t .bytes)))
       (seek-name z at len t q (suc i) xs rest (good-back s (statement-words (x .statements)) (object-words (xs ++ rest)) (g .1 .1)) n p)
     where
-      by : (b : Bool) → fault-found (table.first (is-object s (kind-number z) at len) At Nothing (suc i) xs) n p ≡ order.faultIf (is-there (find-object z xs t)) n p
-          → fault-found (pick b (At i) (table.first (is-object s (kind-number z) at len) At Nothing (suc i) xs)) n p ≡ order.faultIf (is-there (pick b (some x) (find-object z xs t))) n p
+      by : (b : Bool) → order.faultIf (isFound (table.first (is-object s (kind-number z) at len) At Nothing (suc i) xs)) n p ≡ order.faultIf (is-there (find-object z xs t)) n p
+          → order.faultIf (isFound (pick b (At i) (table.first (is-object s (kind-number z) at len) At Nothing (suc i) xs))) n p ≡ order.faultIf (is-there (pick b (some x) (find-object z xs t))) n p
       by true r = refl
       by false r = r
 
@@ -562,10 +563,10 @@ unfolding cell
 word-is o {s} f k e x q = word-cell s f o k e 256 x q (omega arith)
 
 real-few : (ks : List Kind) (os : List Object) (cpu : Word) → Real (too-few ks os cpu)
-real-few ks os cpu g m = let e : 17 ≡ g .number = ap (λ (y : Fault). y .number) (few-all ks os cpu m) in omega (arith, e)
+real-few ks os cpu = real (of-few ks os cpu)
 
 -- The four parts, joined.
-pub objects-answer : (s o st : List ℕ) (n m : ℕ) (cs : List ℕ) (cpu l : ℕ) (a b c d x y r : Code) → a ≡ fault-found (lacking-from cs 0) 17 cpu
+pub objects-answer : (s o st : List ℕ) (n m : ℕ) (cs : List ℕ) (cpu l : ℕ) (a b c d x y r : Code) → a ≡ order.faultIf (isFound (lacking-from cs 0)) 17 cpu
     → l ≡ min n 257 → b ≡ order.soonest order.none (object-codes s o l 0) → c ≡ room-fault o 9 256 1 n 11 → d ≡ room-fault st 7 2048 0 m 11
     → x ≡ order.sooner c d → y ≡ order.sooner b x → r ≡ order.sooner a y → ObjectFaults s o st n m cs cpu r
 unfolding found

@@ -8,27 +8,19 @@ use native.Mathlib.Numerals.{add-one}
 use lib.ListN.{getD}
 use lib.Dec.{eqb, ltb, leb}
 use borrow.Author.Tests.{lt-ltb, le-ltb}
+use Rattle.token.specs.Find.{bit}
 use Rattle.rows.specs.declared.Fault.{Fault}
 use Rattle.rows.specs.declared.Found.{Found}
 use Rattle.rows.specs.declared.Found.the-variants.{At, Nothing}
 use Rattle.rows.specs.Order.{none, faultIf, sooner, soonest}
-use Rattle.rows.specs.Search.{findFrom, hasKey, findNamed}
+use Rattle.rows.specs.Search.{findFrom, hasKey, findNamed, isFound}
 use Rattle.rows.proofs.Searches.{find-stop, find-more, find-end}
 use Rattle.grammar.specs.Grammar.{Kind}
 use Rattle.meaning.specs.Kinds.{fewest, most}
-use Rattle.meaning.specs.Applying.{one-if}
 use Rattle.kinds.specs.declared.Most.{Most}
 use Rattle.kinds.specs.declared.Most.the-variants.{Of, Any}
 use Rattle.kinds.specs.Kinds.{kind-at, most-of}
-use Rattle.checks.specs.Cells.{fault-found, lacking-from, count-rows, full-of, cell, too-many, name-again, object-codes, room-fault}
-
-pub found-some : (x : Found) (i n p : ℕ) → x ≡ At i → record { number = n; place = p } ≡ fault-found x n p
-unfolding fault-found
-found-some x i n p e = sym (ap (λ (y : Found). fault-found y n p) e)
-
-pub found-none : (x : Found) (n p : ℕ) → x ≡ Nothing → record { number = 0; place = 0 } ≡ fault-found x n p
-unfolding fault-found
-found-none x n p e = sym (ap (λ (y : Found). fault-found y n p) e)
+use Rattle.checks.specs.Cells.{lacking-from, count-rows, full-of, cell, too-many, name-again, object-codes, room-fault}
 
 pub full-at : (x : Most) (m n : ℕ) → x ≡ Of m → leb m n ≡ full-of x n
 unfolding full-of
@@ -38,21 +30,13 @@ pub full-never : (x : Most) (n : ℕ) → x ≡ Any → false ≡ full-of x n
 unfolding full-of
 full-never x n e = sym (ap (λ (y : Most). full-of y n) e)
 
-pub one-true : (b : Bool) → b ≡ true → 1 ≡ one-if b
-unfolding one-if
-one-true b e = sym (ap one-if e)
+bit-least : (b : Bool) → bit b ≤ 1
+unfolding bit
+bit-least true = omega arith
+bit-least false = omega arith
 
-pub one-false : (b : Bool) → b ≡ false → 0 ≡ one-if b
-unfolding one-if
-one-false b e = sym (ap one-if e)
-
-one-least : (b : Bool) → one-if b ≤ 1
-unfolding one-if
-one-least true = omega arith
-one-least false = omega arith
-
-pub one-at-most : (b : Bool) (r : ℕ) → r ≡ one-if b → r ≤ 1
-one-at-most b r e = let h = one-least b in omega (arith, e, h)
+pub one-at-most : (b : Bool) (r : ℕ) → r ≡ bit b → r ≤ 1
+one-at-most b r e = let h = bit-least b in omega (arith, e, h)
 
 pub room-is : (l : List ℕ) (w last c rows n p : ℕ) (r : Fault) → p ≡ getD l (last * w + c) 0 → r ≡ faultIf (ltb last rows) n p → r ≡ room-fault l w last c rows n
 unfolding room-fault cell
@@ -62,13 +46,13 @@ room-is l w last c rows n p r e f = f ∙ ap (faultIf (ltb last rows) n) e
 pub count-start : (l : List ℕ) (w c k rows : ℕ) → 0 + count-rows l w c k (rows - 0) 0 ≡ count-rows l w c k rows 0
 count-start l w c k rows = let e : rows - 0 ≡ rows = omega arith in let z : count-rows l w c k (rows - 0) 0 ≡ count-rows l w c k rows 0 = ap (λ (m : ℕ). count-rows l w c k m 0) e in omega (arith, z)
 
-pub count-more : (l : List ℕ) (w c k rows i n x b t : ℕ) → i < rows → x ≡ getD l (i * w + c) 0 → b ≡ one-if (eqb x k)
+pub count-more : (l : List ℕ) (w c k rows i n x b t : ℕ) → i < rows → x ≡ getD l (i * w + c) 0 → b ≡ bit (eqb x k)
     → n + count-rows l w c k (rows - i) i ≡ t → (n + b) + count-rows l w c k (rows - (i + 1)) (i + 1) ≡ t
 unfolding count-rows hasKey
 count-more l w c k rows i n x b t h e f g =
     let m : rows - i ≡ suc (rows - (i + 1)) = omega (arith, h) in
     let s : suc i ≡ i + 1 = omega arith in
-    let y : one-if (eqb (getD l (i * w + c) 0) k) ≡ b = sym (f ∙ ap (λ (z : ℕ). one-if (eqb z k)) e) in
+    let y : bit (eqb (getD l (i * w + c) 0) k) ≡ b = sym (f ∙ ap (λ (z : ℕ). bit (eqb z k)) e) in
     let z : count-rows l w c k (rows - i) i ≡ b + count-rows l w c k (rows - (i + 1)) (i + 1) =
     ap (λ (q : ℕ). count-rows l w c k q i) m ∙ ap₂ (λ (u v : ℕ). u + count-rows l w c k (rows - (i + 1)) v) y s in
     omega (arith, z, g)
@@ -102,7 +86,7 @@ unfolding too-many cell
 too-many-is o j k n p q x b r e₁ e₂ e₃ e₄ e₅ e₆ e₇ = rw (e₇, e₆, e₅, e₂, e₃, e₄, e₁)
 
 pub name-again-is : (s o : List ℕ) (j k a n : ℕ) (f : Found) (r : Fault) → k ≡ getD o (j * 9 + 0) 0 → a ≡ getD o (j * 9 + 3) 0 → n ≡ getD o (j * 9 + 4) 0
-    → f ≡ findNamed s o 9 j 0 k 3 a n 0 → r ≡ fault-found f 12 a → r ≡ name-again s o j
+    → f ≡ findNamed s o 9 j 0 k 3 a n 0 → r ≡ faultIf (isFound f) 12 a → r ≡ name-again s o j
 unfolding name-again cell
 name-again-is s o j k a n f r e₁ e₂ e₃ e₄ e₅ = rw (e₅, e₄, e₃, e₂, e₁)
 

@@ -4,21 +4,16 @@ use mathlib.Core.Bool.{Bool, false}
 use Prim.Native.Nat.{ℕ, zero, suc, _+_, _*_}
 use lib.ListN.{getD}
 use lib.Dec.{ltb, leb}
+use Rattle.token.specs.Find.{bit}
 use Rattle.rows.specs.declared.Fault.{Fault}
 use Rattle.rows.specs.declared.Found.{Found}
 use Rattle.rows.specs.declared.Found.the-variants.{At, Nothing}
 use Rattle.rows.specs.Order.{none, faultIf, sooner}
-use Rattle.rows.specs.Search.{findFrom, hasKey, findNamed}
+use Rattle.rows.specs.Search.{findFrom, hasKey, findNamed, isFound}
 use Rattle.meaning.specs.Kinds.{fewest, most}
-use Rattle.meaning.specs.Applying.{one-if}
 use Rattle.kinds.specs.declared.Most.{Most}
 use Rattle.kinds.specs.declared.Most.the-variants.{Of, Any}
 use Rattle.kinds.specs.Kinds.{kind-at, most-of}
-
--- The fault n at p, where something was found.
-unfoldable pub fault-found : Found → ℕ → ℕ → Fault
-fault-found (At i) n p = record { number = n; place = p }
-fault-found Nothing n p = none
 
 -- The first kind from i on with fewer objects than its fewest.
 unfoldable pub lacking-from : List ℕ → ℕ → Found
@@ -27,7 +22,7 @@ lacking-from cs i = findFrom (λ j. ltb (getD cs j 0) (fewest (kind-at j))) 13 i
 -- How many of the m rows from row i on have the key k in column c.
 unfoldable pub count-rows : List ℕ → (w c k m i : ℕ) → ℕ
 count-rows l w c k zero i = 0
-count-rows l w c k (suc m) i = one-if (hasKey l (i * w) c k) + count-rows l w c k m (suc i)
+count-rows l w c k (suc m) i = bit (hasKey l (i * w) c k) + count-rows l w c k m (suc i)
 
 -- Where n objects are a kind's most, one more is too many.
 unfoldable pub full-of : Most → ℕ → Bool
@@ -46,7 +41,7 @@ too-many o j =
 
 -- 12 at its name.
 unfoldable pub name-again : List ℕ → List ℕ → ℕ → Fault
-name-again s o j = fault-found (findNamed s o 9 j 0 (cell o 9 j 0) 3 (cell o 9 j 3) (cell o 9 j 4) 0) 12 (cell o 9 j 3)
+name-again s o j = faultIf (isFound (findNamed s o 9 j 0 (cell o 9 j 0) 3 (cell o 9 j 3) (cell o 9 j 4) 0)) 12 (cell o 9 j 3)
 
 -- Both, of each of m objects from j on.
 unfoldable pub object-codes : List ℕ → List ℕ → (m j : ℕ) → List Fault

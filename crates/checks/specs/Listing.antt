@@ -1,8 +1,9 @@
 -- The faults of objects row by row, each with the objects before it. Assumes nothing.
 use mathlib.Core.List.{List, _++_}
+use Rattle.token.specs.Find.{is-there}
 use Rattle.meaning.specs.Syntax.{Object}
 use Rattle.meaning.specs.Kinds.{most}
-use Rattle.meaning.specs.Scopes.{is-there, find-object}
+use Rattle.meaning.specs.Scopes.{find-object}
 use Rattle.meaning.specs.Faults.{Fault, fault-if}
 use Rattle.meaning.specs.Applying.{full, how-many}
 

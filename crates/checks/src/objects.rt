@@ -2,21 +2,22 @@
 ghost use mathlib.Core.Path.{_≡_};
 ghost use Prim.Native.Nat.{_≤_};
 ghost use lib.ListN.{length};
-ghost use Rattle.meaning.specs.Applying.{one-if};
-ghost use Rattle.rows.specs.Order.{none, soonest};
-ghost use Rattle.checks.specs.Cells.{fault-found, lacking-from, count-rows, full-of, too-many, name-again, object-codes};
+ghost use Rattle.token.specs.Find.{bit};
+ghost use Rattle.rows.specs.Order.{none, faultIf, soonest};
+ghost use Rattle.rows.specs.Search.{isFound};
+ghost use Rattle.checks.specs.Cells.{lacking-from, count-rows, full-of, too-many, name-again, object-codes};
 ghost use Rattle.indexes.specs.Indexing.{Fits, Through, By};
 ghost use Rattle.checks.specs.Promises.{ObjectFaults};
 use super::parts;
 use kinds::Kind;
 use kinds::Most;
 use rows::Fault;
+use rows::cells;
 use rows::faults;
-use scopes::lookups;
 
 // 17 at the CPU's name, where a kind has fewer objects than its least count.
 fn too_few(counts: [usize; 13], cpu: usize) -> Fault
-    ensures { λ r. ⌜ r ≡ fault-found (lacking-from counts 0) 17 cpu ⌝ }
+    ensures { λ r. ⌜ r ≡ faultIf (isFound (lacking-from counts 0)) 17 cpu ⌝ }
 {
     let mut i = 0;
     while i < Kind::COUNT {
@@ -36,7 +37,7 @@ fn too_few(counts: [usize; 13], cpu: usize) -> Fault
 }
 
 fn one_if(test: bool) -> usize
-    ensures { λ r. ⌜ r ≡ one-if test ⌝ }
+    ensures { λ r. ⌜ r ≡ bit test ⌝ }
 {
     if test {
         return 1;
@@ -51,7 +52,7 @@ fn rows_with(t: &[usize], width: usize, rows: usize, column: usize, key: usize) 
     let mut n = 0;
     let mut i = 0;
     while i < rows {
-        let x = lookups::cell_of(t, width, i, column);
+        let x = cells::cell_of(t, width, i, column);
         n = n + one_if(x == key);
         i += 1;
     }
@@ -72,10 +73,10 @@ fn is_full(most: Most, n: usize) -> bool
 fn too_many(o: &[usize], j: usize) -> Fault
     ensures { λ r. ⌜ r ≡ too-many (now (o .entry)) j ⌝ }
 {
-    let number = lookups::cell_of(o, 9, j, 0);
+    let number = cells::cell_of(o, 9, j, 0);
     let kind = Kind::of(number);
     let n = rows_with(o, 9, j, 0, number);
-    let place = lookups::cell_of(o, 9, j, 1);
+    let place = cells::cell_of(o, 9, j, 1);
     faults::fault_if(is_full(kind.most(), n), 17, place)
 }
 
@@ -83,11 +84,11 @@ fn too_many(o: &[usize], j: usize) -> Fault
 fn name_again(text: &[u8], o: &[usize], j: usize, x: &[usize]) -> Fault
     ensures { λ r. ⌜ Through (By (now (text .entry)) (now (o .entry)) 9 0 3 (now (x .entry))) j (r ≡ name-again (now (text .entry)) (now (o .entry)) j) ⌝ }
 {
-    let kind = lookups::cell_of(o, 9, j, 0);
-    let at = lookups::cell_of(o, 9, j, 3);
-    let len = lookups::cell_of(o, 9, j, 4);
+    let kind = cells::cell_of(o, 9, j, 0);
+    let at = cells::cell_of(o, 9, j, 3);
+    let len = cells::cell_of(o, 9, j, 4);
     let found = indexes::find_before(text, o, 9, j, 0, kind, 3, at, len, x);
-    parts::fault_found(found, 12, at)
+    faults::fault_found(found, 12, at)
 }
 
 // 17 and 12 of the first n objects; x is the index of the objects.
@@ -140,7 +141,7 @@ pub fn object_faults(
     ensures { λ r. ⌜ ObjectFaults (now (text .entry)) (now (o .entry)) (now (st .entry)) objects statements counts cpu r ⌝ }
 {
     let a = too_few(counts, cpu);
-    let b = first_objects(text, o, parts::least_of(objects, 257));
+    let b = first_objects(text, o, cells::least_of(objects, 257));
     let c = parts::room_fault(o, 9, 256, 1, objects, 11);
     let d = parts::room_fault(st, 7, 2048, 0, statements, 11);
     faults::sooner(a, faults::sooner(b, faults::sooner(c, d)))

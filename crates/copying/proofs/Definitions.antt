@@ -1,34 +1,21 @@
 -- The first 13 cells of the kept definitions are the rows of the lent table. Assumes nothing.
-use Prim.Native.Nat.{ℕ, _+_}
+use Prim.Native.Nat.{ℕ}
 use mathlib.Core.Path.{_≡_, refl, sym, ap, ap₂, _∙_}
 use mathlib.Core.List.{List, [], _∷_, _++_}
-use mathlib.Core.Bool.{Bool, true, false}
 use lib.ListN.{length, take}
-use Rattle.grammar.specs.Grammar.{Integer, UINT32, INT32, UINT64, INT64}
+use Rattle.token.specs.Find.{bit}
 use Rattle.meaning.specs.Syntax.{Word, span-of, span-or, Definition, Definitions, no-more, define, Values, no-value, value, Spec}
 use Rattle.meaning.specs.Defining.{definition-row, definition-rows, definition-rows-under, all-definition-rows}
-use Rattle.meaning.specs.Cells.{flag, integer-code, type-code, cells, definition-cells as lent-cells}
-use Rattle.layout.specs.Kept.{Entry, entries, entries-under, spec-entries, list-key, bit, code-of, integer-number, definition-cells}
+use Rattle.meaning.specs.Cells.{type-code, cells, definition-cells as lent-cells}
+use Rattle.layout.specs.Kept.{Entry, entries, entries-under, spec-entries, list-key, code-of, definition-cells}
 use Rattle.scopes.specs.Forms.{Formed, an-integer, a-string, a-boolean, an-enum, a-reference, AllFormed, none-formed, more-formed, AllFormedUnder, none-under, more-under}
 use Rattle.scopes.proofs.Forming.{FormedSpecs}
 use Rattle.copying.proofs.Rooms.{cells-append}
 
-bit-flag : (b : Bool) → bit b ≡ flag b
-unfolding bit flag
-bit-flag true = refl
-bit-flag false = refl
-
-integer-coded : (i : Integer) → 35 + integer-number i ≡ integer-code i
-unfolding integer-number integer-code
-integer-coded UINT32 = refl
-integer-coded INT32 = refl
-integer-coded UINT64 = refl
-integer-coded INT64 = refl
-
 -- The code of a definition's type word is that of its type.
 type-coded : {s : List ℕ} {d : Definition} {vs : Values} → Formed s d vs → code-of (d .word) ≡ type-code (d .type)
 unfolding type-code
-type-coded (an-integer i t c r) = c ∙ integer-coded i ∙ sym (ap type-code t)
+type-coded (an-integer i t c r) = c ∙ sym (ap type-code t)
 type-coded (a-string t c b) = c ∙ sym (ap type-code t)
 type-coded (a-boolean t c b v) = c ∙ sym (ap type-code t)
 type-coded (an-enum t c b v) = c ∙ sym (ap type-code t)
@@ -42,11 +29,8 @@ head-lent : (x : Entry) → code-of (x .definition .word) ≡ type-code (x .defi
 unfolding head definition-cells lent-cells definition-row span-of
 head-lent x e =
     let d = x .definition in
-    ap₂ (λ (a b : ℕ). x .under .place ∷ x .under .length ∷ d .name .place ∷ d .name .length ∷ d .word .place ∷ d .word .length
-    ∷ a ∷ b ∷ d .range .place ∷ d .range .length ∷ span-or (d .default) .place ∷ span-or (d .default) .length ∷ code-of (d .word) ∷ [])
-    (bit-flag (d .list)) (bit-flag (d .auto))
-    ∙ ap (λ (k : ℕ). x .under .place ∷ x .under .length ∷ d .name .place ∷ d .name .length ∷ d .word .place ∷ d .word .length
-    ∷ flag (d .list) ∷ flag (d .auto) ∷ d .range .place ∷ d .range .length ∷ span-or (d .default) .place ∷ span-or (d .default) .length ∷ k ∷ []) e
+    ap (λ (k : ℕ). x .under .place ∷ x .under .length ∷ d .name .place ∷ d .name .length ∷ d .word .place ∷ d .word .length
+    ∷ bit (d .list) ∷ bit (d .auto) ∷ d .range .place ∷ d .range .length ∷ span-or (d .default) .place ∷ span-or (d .default) .length ∷ k ∷ []) e
 
 mutual
   unfolding entries definition-rows cells

@@ -10,7 +10,7 @@ use borrow.Author.Tests.{eq-eqb, ne-eqb}
 use Rattle.token.specs.Find.{pick}
 use Rattle.rows.specs.declared.Found.the-variants.{At, Nothing}
 use Rattle.rows.specs.Table.{first, anyOf}
-use Rattle.rows.specs.Search.{findFrom, hasKey, findRow}
+use Rattle.rows.specs.Search.{findFrom, hasKey, findRow, rowOf}
 use Rattle.rows.proofs.Walks.{first-append}
 use Rattle.meaning.specs.Syntax.{Word, Definitions, no-more, define, Values, no-value, value, File}
 use Rattle.meaning.proofs.Standing.{Run}
@@ -19,7 +19,7 @@ use Rattle.layout.specs.Kept.{Entry, list-key, entries, entries-under, spec-ent
 use Rattle.scopes.proofs.Rooms.{definition-cell}
 use Rattle.meaning.proofs.Runs.{run-le, cut, Out, cuts}
 use Rattle.scopes.proofs.Finding.{seek-all}
-use Rattle.copying.specs.Copies.{row-or, attribute-of}
+use Rattle.copying.specs.Copies.{attribute-of}
 
 -- The list of none of some definitions has the key k.
 abbrev pub NoKey : ℕ → List Entry → Type 0
@@ -97,11 +97,11 @@ find-key f d n k e m h =
 pub attribute-found : (f : File) (d : List ℕ) (n : ℕ) → d ≡ kept-definitions f → n ≡ length (spec-entries (f .specs)) → n ≤ 513
     → (a : List Entry) (x : Entry) (b : List Entry) → spec-entries (f .specs) ≡ a ++ (x ∷ b) → NoKey (list-key (x .values)) a
     → attribute-of d n (list-key (x .values)) ≡ length a
-unfolding attribute-of row-or first has-list
+unfolding attribute-of rowOf first has-list
 attribute-found f d n e m h a x b w g =
     let k = list-key (x .values) in
     let z : 0 + length a ≡ length a = omega arith in
-    ap row-or
+    ap rowOf
     (find-key f d n k e m h
     ∙ ap (first (has-list k) At Nothing 0) w
     ∙ first-append (has-list k) At Nothing 0 a (x ∷ b) (none-has k a g)

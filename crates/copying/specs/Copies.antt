@@ -2,9 +2,7 @@
 use mathlib.Core.List.{List, [], _∷_, _++_}
 use Prim.Native.Nat.{ℕ, zero, suc, _*_}
 use lib.ListN.{getD}
-use Rattle.rows.specs.declared.Found.{Found}
-use Rattle.rows.specs.declared.Found.the-variants.{At, Nothing}
-use Rattle.rows.specs.Search.{findRow}
+use Rattle.rows.specs.Search.{findRow, rowOf}
 
 -- The c cells from place a on, for what one row gives; a cell past the end is 0.
 unfoldable pub cells-from : List ℕ → (a c : ℕ) → List ℕ
@@ -20,14 +18,9 @@ each-row g l w c i (suc n) = g (cells-from l (i * w) c) ++ each-row g l w c (suc
 unfoldable pub as-is : List ℕ → List ℕ
 as-is r = r
 
--- The row that a lookup found, 0 for none.
-unfoldable pub row-or : Found → ℕ
-row-or (At i) = i
-row-or Nothing = 0
-
 -- For enumerators: the first of the n definitions kept in d whose list has the key k.
 unfoldable pub attribute-of : List ℕ → (n k : ℕ) → ℕ
-attribute-of d n k = row-or (findRow d 19 n 14 k 0)
+attribute-of d n k = rowOf (findRow d 19 n 14 k 0)
 
 -- For enumerators: that row in place of the list's key.
 unfoldable pub attributed : List ℕ → ℕ → List ℕ → List ℕ

@@ -3,25 +3,27 @@ use mathlib.Core.Path.{_≡_, refl, sym, _∙_, ap, subst}
 use mathlib.Core.List.{List, []}
 use mathlib.Core.Bool.{Bool, true, false, not}
 use mathlib.Core.Option.{Option, none, some}
-use Prim.Native.Nat.{ℕ, _+_, _*_, _≤_, _<_}
+use Prim.Native.Nat.{ℕ, _+_, _*_, _<_}
 use native.Mathlib.Omega.{arith}
 use lib.ListN.{length, getD}
 use lib.Dec.{leb}
+use Rattle.scopes.proofs.Sorts.{sort-coded, tells, other-coded}
 use Rattle.token.specs.Find.{pick, both}
 use Rattle.rows.specs.declared.Fault.{Fault}
 use Rattle.rows.specs.Order.{faultIf}
-use Rattle.grammar.specs.Grammar.{Class, Sign, ordinary, numeral, quoted, other, kind-word, type-word, integer-word, word, sign, OIL-VERSION, IMPLEMENTATION, CPU, STRING, BOOLEAN, ENUM, TRUE, FALSE, AUTO, NO-DEFAULT, WITH-AUTO, lbrace, rbrace, lsquare, rsquare, equals, semicolon, colon, comma, dots}
+use Rattle.grammar.specs.Grammar.{Class}
 use Rattle.meaning.specs.Syntax.{Word, File, span-or, span-of, absent}
 use Rattle.meaning.specs.Faults.{Fault as Refusal, fault-if, sooner, first}
 use Rattle.meaning.specs.Defining.{default-wrong, default-faults}
-use Rattle.meaning.specs.Scopes.{sort-of, sort-of-word, fits}
+use Rattle.meaning.specs.Scopes.{sort-of, fits}
 use Rattle.meaning.proofs.Sites.{option-words}
-use Rattle.layout.specs.Kept.{Entry, spec-entries, kept-definitions, definition-cells, default-code, code-of, class-number, given-number, sign-number}
+use Rattle.layout.specs.Kept.{Entry, spec-entries, kept-definitions, definition-cells, default-code, code-of, class-number}
 use Rattle.scopes.specs.Situations.{Nth, RowOf, ReadAt}
-use Rattle.scopes.specs.Promises.{fault-of, Takes}
+use Rattle.scopes.specs.Promises.{fault-of, Takes, TakesUnder}
 use Rattle.scopes.proofs.Goodness.{Goods}
 use Rattle.scopes.proofs.Rooms.{definition-cell, default-cell}
 use Rattle.scopes.proofs.Descents.{nth-in, entry-facts}
+use Rattle.lookups.specs.Answers.{WordIndexed}
 use Rattle.defining_checks.specs.Listing.{judged, judged-faults}
 use Rattle.defining_checks.specs.Promises.{DefaultFault}
 use Rattle.defining_checks.proofs.Rising.{ascend-specs}
@@ -36,60 +38,12 @@ late-yes full limit at e = sym (ap (λ b. both b (leb limit at)) e)
 
 -- NO_DEFAULT is the word with the code 4.
 wrong-other : (c : Class) (b : Bool) → (class-number c ≡ 4 → ⊥) → default-wrong (sort-of c) b ≡ not b
-unfolding class-number sort-of sort-of-word default-wrong given-number
-wrong-other ordinary b h = refl
-wrong-other numeral b h = refl
-wrong-other quoted b h = refl
-wrong-other other b h = refl
-wrong-other (kind-word k) b h = refl
-wrong-other (type-word k) b h = refl
-wrong-other (integer-word i) b h = refl
-wrong-other (word OIL-VERSION) b h = refl
-wrong-other (word IMPLEMENTATION) b h = refl
-wrong-other (word CPU) b h = refl
-wrong-other (word STRING) b h = refl
-wrong-other (word BOOLEAN) b h = refl
-wrong-other (word ENUM) b h = refl
-wrong-other (word TRUE) b h = refl
-wrong-other (word FALSE) b h = refl
-wrong-other (word AUTO) b h = refl
-wrong-other (word NO-DEFAULT) b h = absurd (h refl)
-wrong-other (word WITH-AUTO) b h = refl
-wrong-other (sign x) b h = refl
-
-sign-high : (x : Sign) → 44 ≤ sign-number x
-unfolding sign-number
-sign-high lbrace = omega arith
-sign-high rbrace = omega arith
-sign-high lsquare = omega arith
-sign-high rsquare = omega arith
-sign-high equals = omega arith
-sign-high semicolon = omega arith
-sign-high colon = omega arith
-sign-high comma = omega arith
-sign-high dots = omega arith
+unfolding default-wrong
+wrong-other c b h = ap (λ q. default-wrong q b) (tells c .sort) ∙ other-coded (λ q. default-wrong q b ≡ not b) refl refl refl refl refl (class-number c) h
 
 wrong-none : (c : Class) (b : Bool) → class-number c ≡ 4 → default-wrong (sort-of c) b ≡ false
-unfolding class-number sort-of sort-of-word default-wrong given-number
-wrong-none ordinary b h = absurd (omega arith)
-wrong-none numeral b h = absurd (omega arith)
-wrong-none quoted b h = absurd (omega arith)
-wrong-none other b h = absurd (omega arith)
-wrong-none (kind-word k) b h = absurd (omega arith)
-wrong-none (type-word k) b h = absurd (omega arith)
-wrong-none (integer-word i) b h = absurd (omega arith)
-wrong-none (word OIL-VERSION) b h = absurd (omega arith)
-wrong-none (word IMPLEMENTATION) b h = absurd (omega arith)
-wrong-none (word CPU) b h = absurd (omega arith)
-wrong-none (word STRING) b h = absurd (omega arith)
-wrong-none (word BOOLEAN) b h = absurd (omega arith)
-wrong-none (word ENUM) b h = absurd (omega arith)
-wrong-none (word TRUE) b h = absurd (omega arith)
-wrong-none (word FALSE) b h = absurd (omega arith)
-wrong-none (word AUTO) b h = absurd (omega arith)
-wrong-none (word NO-DEFAULT) b h = refl
-wrong-none (word WITH-AUTO) b h = absurd (omega arith)
-wrong-none (sign x) b h = let a = sign-high x in absurd (omega arith)
+unfolding sort-coded default-wrong
+wrong-none c b h = ap (λ q. default-wrong q b) (tells c .sort ∙ ap sort-coded h)
 
 -- No fault where there is none, or where the default is not judged.
 pick-none : (b : Bool) → record { number = 0; place = 0 } ≡ fault-of (first (pick b [] []))
@@ -110,41 +64,45 @@ unfolding faultIf fault-of first sooner fault-if
 pick-is b true t p e h = ap (λ (n : ℕ). record { number = 10; place = n }) h ∙ sym (ap (λ a. fault-of (first (pick a (fault-if true t 10) []))) e)
 pick-is b false t p e h = sym (ap (λ a. fault-of (first (pick a (fault-if false t 10) []))) e)
 
-module _ (s d e : List ℕ) (m : ℕ) (full : Bool) (limit j at : ℕ) (e₀ : at ≡ getD d (j * 19 + 10) 0) where
+module _ (s d e xe : List ℕ) (full : Bool) (limit j at : ℕ) (e₀ : at ≡ getD d (j * 19 + 10) 0) where
   place-at : (f : File) (x : Entry) → d ≡ kept-definitions f → Nth (spec-entries (f .specs)) j x → j < 513 → at ≡ span-or (x .definition .default) .place
   unfolding definition-cells
   place-at f x hd q l = e₀ ∙ definition-cell f d j 10 x hd q l (omega arith)
 
-  pub default-none : at ≡ 0 → DefaultFault s d e m full limit j (record { number = 0; place = 0 })
+  pub default-none : at ≡ 0 → DefaultFault s d e xe full limit j (record { number = 0; place = 0 })
   unfolding judged-faults span-or absent span-of default-faults option-words
-  default-none h f x st hd he room q l = by (x .definition .default) (sym h ∙ place-at f x hd q l) (entry-facts st (nth-in q) .facts .default)
+  default-none h f m x st hd he hx room q l = by (x .definition .default) (sym h ∙ place-at f x hd q l) (entry-facts st (nth-in q) .facts .default)
     where
       by : (o : Option Word) → 0 ≡ span-or o .place → Goods s (option-words o)
           → record { number = 0; place = 0 } ≡ fault-of (first (pick (judged full limit o) (default-faults (x .definition) (x .values) o) []))
       by none p g = pick-none (judged full limit none)
       by (some t) p g = let a = g .0 .later in absurd (omega (arith, a, p))
 
-  pub default-late : (b : Bool) → b ≡ both full (leb limit at) → b ≡ true → DefaultFault s d e m full limit j (record { number = 0; place = 0 })
+  pub default-late : (b : Bool) → b ≡ both full (leb limit at) → b ≡ true → DefaultFault s d e xe full limit j (record { number = 0; place = 0 })
   unfolding judged-faults judged
-  default-late b k h f x st hd he room q l =
+  default-late b k h f m x st hd he hx room q l =
       pick-late (judged full limit (x .definition .default)) (default-faults (x .definition) (x .values) (x .definition .default))
       (ap (λ (n : ℕ). not (both full (leb limit n))) (sym (place-at f x hd q l)) ∙ ap not (sym k ∙ h))
 
   module _ (n : at ≡ 0 → ⊥) (b : Bool) (k : b ≡ both full (leb limit at)) (h : b ≡ false) (len code : ℕ) (e₁ : len ≡ getD d (j * 19 + 11) 0) (e₂ : code ≡ getD d (j * 19 + 18) 0) where
-    pub default-unset : code ≡ 4 → DefaultFault s d e m full limit j (record { number = 0; place = 0 })
+    pub default-unset : code ≡ 4 → DefaultFault s d e xe full limit j (record { number = 0; place = 0 })
     unfolding judged-faults default-faults default-code code-of
-    default-unset i f x st hd he room q l = by (x .definition .default) (sym i ∙ e₂ ∙ default-cell f d j x hd q l)
+    default-unset i f m x st hd he hx room q l = by (x .definition .default) (sym i ∙ e₂ ∙ default-cell f d j x hd q l)
       where
         by : (o : Option Word) → 4 ≡ default-code o
             → record { number = 0; place = 0 } ≡ fault-of (first (pick (judged full limit o) (default-faults (x .definition) (x .values) o) []))
         by none p = pick-none (judged full limit none)
         by (some t) p = pick-wrong (judged full limit (some t)) (default-wrong (sort-of (t .class)) (fits (x .definition) (x .values) t)) t (wrong-none (t .class) (fits (x .definition) (x .values) t) (sym p))
 
-    pub default-judged : (c : Bool) (r : Fault) → (code ≡ 4 → ⊥) → Takes s d e m j at len code c → r ≡ faultIf (not c) 10 at → DefaultFault s d e m full limit j r
-    unfolding judged-faults judged definition-cells span-or absent span-of default-faults default-code code-of option-words
-    default-judged c r i v z f x st hd he room q l =
+    pub default-judged : (u : ℕ) (c : Bool) (r : Fault) → (code ≡ 4 → ⊥) → WordIndexed s d e xe j at len u → TakesUnder s d j at code u c → r ≡ faultIf (not c) 10 at
+        → DefaultFault s d e xe full limit j r
+    unfolding WordIndexed judged-faults judged definition-cells span-or absent span-of default-faults default-code code-of option-words
+    default-judged u c r i v w z f m x st hd he hx room q l =
         z ∙ by (x .definition .default) refl (place-at f x hd q l) (e₁ ∙ definition-cell f d j 11 x hd q l (omega arith)) (e₂ ∙ default-cell f d j x hd q l) (entry-facts st (nth-in q) .facts .default)
       where
+        taken : Takes s d e m j at len code c
+        taken = w e m len (v m hx (let a = room .many in omega (arith, a)))
+
         by : (o : Option Word) → x .definition .default ≡ o → at ≡ span-or o .place → len ≡ span-or o .length → code ≡ default-code o → Goods s (option-words o)
             → faultIf (not c) 10 at ≡ fault-of (first (pick (judged full limit o) (default-faults (x .definition) (x .values) o) []))
         by none y p u w g = absurd (n p)
@@ -155,6 +113,6 @@ module _ (s d e : List ℕ) (m : ℕ) (full : Bool) (limit j at : ℕ) (e₀ : a
             let row : RowOf f j (record { definition = x .definition; values = x .values }) = record { under = x .under; outer = x .outer; nth = q } in
             let rd : ReadAt s t at len = subst (λ i. ReadAt s t i len) (sym p) (subst (λ i. ReadAt s t (t .place) i) (sym u) (g .0 .read)) in
             let wr : not c ≡ default-wrong (sort-of (t .class)) (fits (x .definition) (x .values) t) =
-            ap not (v f (record { definition = x .definition; values = x .values }) t st hd he row l rch rd (sym w))
+            ap not (taken f (record { definition = x .definition; values = x .values }) t st hd he row l rch rd (sym w))
             ∙ sym (wrong-other (t .class) (fits (x .definition) (x .values) t) (λ b. i (w ∙ b))) in
             ap (λ b. faultIf b 10 at) wr ∙ pick-is (judged full limit (some t)) (default-wrong (sort-of (t .class)) (fits (x .definition) (x .values) t)) t at ok p

@@ -31,14 +31,6 @@ use Rattle.defining_checks.specs.Promises.{AgainFault, first-again, Type
 use Rattle.token.proofs.Bytes.{neither-first, neither-second}
 
 -- A fault by what is found.
-pub found-some : (z : Found) (i n p : ℕ) → z ≡ At i → record { number = n; place = p } ≡ faultIf (isFound z) n p
-unfolding faultIf
-found-some z i n p e = sym (ap (λ (y : Found). faultIf (isFound y) n p) e)
-
-pub found-none : (z : Found) (n p : ℕ) → z ≡ Nothing → record { number = 0; place = 0 } ≡ faultIf (isFound z) n p
-unfolding faultIf
-found-none z n p e = sym (ap (λ (y : Found). faultIf (isFound y) n p) e)
-
 -- The rows before row j are rows of the text.
 in-front : (x : Entry) (a b : List Entry) → In x a → In x (a ++ b)
 in-front x (y ∷ a) b (here e) = here e

@@ -9,15 +9,14 @@ use native.Mathlib.Omega.{arith}
 use lib.ListN.{length}
 use lib.Dec.{eqb}
 use borrow.Author.Tests.{ne-eqb}
-use Rattle.token.specs.Find.{pick, both}
+use Rattle.meaning.proofs.Numbered.{of-range, of-default, of-name, of-word}
+use Rattle.token.specs.Find.{pick}
 use Rattle.token.specs.Words.{same, bytesOf}
 use Rattle.rows.specs.declared.Fault.{Fault as Code}
 use Rattle.rows.specs.Order as order
-use Rattle.grammar.specs.Grammar.{Integer}
-use Rattle.meaning.specs.Syntax.{Word, AttributeType, integer, string, boolean, enum, reference, Bounds, no-bounds, from-to, one-of, Definition, Values, Spec, File}
-use Rattle.meaning.specs.Words.{at-most, in-type, among}
+use Rattle.meaning.specs.Syntax.{AttributeType, Bounds, Definition, Values, Spec, File}
 use Rattle.meaning.specs.Faults.{Fault, fault-if, sooner, first}
-use Rattle.meaning.specs.Defining.{outside, bound-faults, range-faults, default-faults, defined-in, differs, name-faults, word-faults, specified, spec-faults, definition-faults}
+use Rattle.meaning.specs.Defining.{range-faults, default-faults, specified, spec-faults, definition-faults}
 use Rattle.meaning.proofs.Sooner.{first-append}
 use Rattle.meaning.proofs.Standing.{Run}
 use Rattle.meaning.proofs.Order.{ahead-left, sub-front, sub-all, ordered-sub}
@@ -30,7 +29,7 @@ use Rattle.scopes.proofs.Descents.{whole}
 use Rattle.scopes.specs.Listing.{each}
 use Rattle.defining_checks.specs.Listing.{others-for, under-of, row-name-faults, row-faults, judged, judged-faults, kept-row-faults, list-of, choice-faults, again-faults}
 use Rattle.defining_checks.specs.Promises.{Room}
-use Rattle.scopes.proofs.Firsts.{Real, real-none, real-append, real-if, fault-append, fault-one, real-each}
+use Rattle.scopes.proofs.Firsts.{Real, real, real-none, real-append, real-if, fault-append, fault-one, real-each}
 use Rattle.defining_checks.proofs.Telling.{text-apart}
 use Rattle.defining_checks.proofs.Rowwise.{all-rows}
 use Rattle.defining_checks.proofs.Rising.{rise-specs, ascend-specs}
@@ -96,30 +95,8 @@ option-code p = by (eqb p 0)
 
 -- No fault has the number 0 ------------------------------------------------------------------------------------------------------------------
 
-real-outside : (i : Integer) (ts : List Word) → Real (outside i ts)
-unfolding outside
-real-outside i [] = real-none
-real-outside i (t ∷ ts) = real-append (fault-if (not (in-type i (t .number))) t 10) (outside i ts) (real-if _ t 10 (omega arith)) (real-outside i ts)
-
-real-bounds : (i : Integer) (b : Bounds) → Real (bound-faults i b)
-unfolding bound-faults
-real-bounds i no-bounds = real-none
-real-bounds i (from-to a b) =
-    real-append (fault-if (not (at-most (a .number) (b .number))) a 10) (outside i (a ∷ b ∷ [])) (real-if _ a 10 (omega arith)) (real-outside i (a ∷ b ∷ []))
-real-bounds i (one-of ts) = real-outside i ts
-
 pub real-range : (y : AttributeType) (b : Bounds) → Real (range-faults y b)
-unfolding range-faults
-real-range (integer i) b = real-bounds i b
-real-range string b = real-none
-real-range boolean b = real-none
-real-range enum b = real-none
-real-range (reference k) b = real-none
-
-real-default : (d : Definition) (vs : Values) (o : Option Word) → Real (default-faults d vs o)
-unfolding default-faults
-real-default d vs none = real-none
-real-default d vs (some t) = real-if _ t 10 (omega arith)
+real-range y b = real (of-range y b)
 
 real-pick : (b : Bool) (l : List Fault) → Real l → Real (pick b l [])
 real-pick true l r = r
@@ -127,17 +104,11 @@ real-pick false l r = real-none
 
 pub real-judged : (full : Bool) (limit : ℕ) (d : Definition) (vs : Values) → Real (judged-faults full limit d vs)
 unfolding judged-faults
-real-judged full limit d vs = real-pick (judged full limit (d .default)) (default-faults d vs (d .default)) (real-default d vs (d .default))
-
-real-name : (d : Definition) (others before : List Definition) → Real (name-faults d others before)
-unfolding name-faults
-real-name d others before =
-    real-append (fault-if (eqb (d .row) 512) (d .name) 7) (fault-if (defined-in (d .name) before) (d .name) 8 ++ fault-if (differs d others) (d .name) 9) (real-if _ (d .name) 7 (omega arith))
-    (real-append (fault-if (defined-in (d .name) before) (d .name) 8) (fault-if (differs d others) (d .name) 9) (real-if _ (d .name) 8 (omega arith)) (real-if _ (d .name) 9 (omega arith)))
+real-judged full limit d vs = real-pick (judged full limit (d .default)) (default-faults d vs (d .default)) (real (of-default d vs (d .default)))
 
 pub real-row-name : (before : List Entry) (x : Entry) → Real (row-name-faults before x)
 unfolding row-name-faults
-real-row-name before x = real-name (x .definition) (others-for (x .outer) (x .under .place) before) (under-of (x .under .place) before)
+real-row-name before x = real (of-name (x .definition) (others-for (x .outer) (x .under .place) before) (under-of (x .under .place) before))
 
 pub real-row : (full : Bool) (limit : ℕ) (before : List Entry) (x : Entry) → Real (kept-row-faults full limit before x)
 unfolding kept-row-faults
@@ -147,10 +118,8 @@ real-row full limit before x =
     (real-append (row-name-faults before x) (judged-faults full limit (x .definition) (x .values)) (real-row-name before x) (real-judged full limit (x .definition) (x .values)))
 
 pub real-choice : (before : List Choice) (c : Choice) → Real (choice-faults before c)
-unfolding choice-faults word-faults
-real-choice before c =
-    real-append (fault-if (both true (eqb (length before) 1024)) (c .word) 7) (fault-if (among (c .word) (list-of (c .list) before)) (c .word) 8)
-    (real-if _ (c .word) 7 (omega arith)) (real-if _ (c .word) 8 (omega arith))
+unfolding choice-faults
+real-choice before c = real (of-word true (length before) (c .word) (list-of (c .list) before))
 
 real-again : (before xs : List Spec) → Real (again-faults before xs)
 unfolding again-faults

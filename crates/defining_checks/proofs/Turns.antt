@@ -15,6 +15,7 @@ use Rattle.rows.specs.declared.Found.{Found}
 use Rattle.rows.specs.declared.Found.the-variants.{At, Nothing}
 use Rattle.rows.specs.Table.{anyOf}
 use Rattle.rows.specs.Search.{findNamed, isFound}
+use Rattle.indexes.specs.Indexing.{Indexed, Makes, By, Fits, Through}
 use Rattle.rows.specs.Order.{none, before, faultIf, sooner}
 use Rattle.rows.proofs.Searches.{first-any}
 use Rattle.meaning.specs.Syntax.{Word, Definitions, no-more, define, Values, no-value, value, Spec, File, is-enum}
@@ -35,7 +36,8 @@ use Rattle.defining_checks.specs.Promises.{Room, AgainFault, first-again
 use Rattle.scopes.proofs.Firsts.{real-append, real-if, fault-append, fault-one, each-snoc, real-each}
 use Rattle.defining_checks.proofs.Reaching.{last-of}
 use Rattle.defining_checks.proofs.Covers.{row-is}
-use Rattle.defining_checks.proofs.Naming.{found-some, found-none, again-is}
+use Rattle.rows.proofs.Orders.{found-some, found-none}
+use Rattle.defining_checks.proofs.Naming.{again-is}
 use Rattle.defining_checks.proofs.Stages.{real-range, real-judged, real-row-name, real-row, real-choice, stage-is}
 
 -- A row of a definition --------------------------------------------------------------------------------------------------------------------------
@@ -100,10 +102,10 @@ module _ (s d : List ℕ) (j at : ℕ) (a : Fault) (e : at ≡ getD d (j * 19 + 
       (found-none z 8 at h ∙ again-at z k f x st hd q l) t
       (hr ∙ ap (sooner a) (t ∙ sym (none-last (differs y (others-for (x .outer) (x .under .place) (q .front))) (y .name .place)) ∙ ap (sooner none) (sym t)))
 
-pub row-all : (s d e : List ℕ) (m : ℕ) (full : Bool) (limit j : ℕ) (a b c t r : Fault) → RangeFault s d j a → NameFault s d j b → DefaultFault s d e m full limit j c
-    → t ≡ sooner b c → r ≡ sooner a t → RowFault s d e m full limit j r
+pub row-all : (s d e xe : List ℕ) (full : Bool) (limit j : ℕ) (a b c t r : Fault) → RangeFault s d j a → NameFault s d j b → DefaultFault s d e xe full limit j c
+    → t ≡ sooner b c → r ≡ sooner a t → RowFault s d e xe full limit j r
 unfolding kept-row-faults
-row-all s d e m full limit j a b c t r ha hb hc ht hr f x st hd he room q l =
+row-all s d e xe full limit j a b c t r ha hb hc ht hr f m x st hd he hx room q l =
     let y = x .definition in
     let rg = range-faults (y .type) (y .bounds) in
     let nf = row-name-faults (q .front) x in
@@ -111,29 +113,29 @@ row-all s d e m full limit j a b c t r ha hb hc ht hr f x st hd he room q l =
     let ga : a ≡ fault-of (first rg) = ha f (record { definition = y; values = x .values }) st hd (record { under = x .under; outer = x .outer; nth = q }) l in
     let rn = real-row-name (q .front) x in
     let rj = real-judged full limit y (x .values) in
-    hr ∙ ap₂ sooner ga (ht ∙ ap₂ sooner (hb f x st hd q l) (hc f x st hd he room q l) ∙ sym (fault-append nf jf rn rj))
+    hr ∙ ap₂ sooner ga (ht ∙ ap₂ sooner (hb f x st hd q l) (hc f m x st hd he hx room q l) ∙ sym (fault-append nf jf rn rj))
     ∙ sym (fault-append rg (nf ++ jf) (real-range (y .type) (y .bounds)) (real-append nf jf rn rj))
 
 -- Rows one after the other.
-module _ (s d e : List ℕ) (m : ℕ) (full : Bool) (limit : ℕ) where
-  pub rows-start : RowsFault s d e m full limit 0 (record { number = 0; place = 0 })
+module _ (s d e xe : List ℕ) (full : Bool) (limit : ℕ) where
+  pub rows-start : RowsFault s d e xe full limit 0 (record { number = 0; place = 0 })
   unfolding each first fault-of
-  rows-start f [] rest st hd he room w n l = refl
-  rows-start f (x ∷ front) rest st hd he room w n l = absurd (omega (arith, n))
+  rows-start f m [] rest st hd he hx room w n l = refl
+  rows-start f m (x ∷ front) rest st hd he hx room w n l = absurd (omega (arith, n))
 
-  pub rows-more : (j : ℕ) (best x r : Fault) → RowsFault s d e m full limit j best → RowFault s d e m full limit j x → r ≡ sooner best x → RowsFault s d e m full limit (j + 1) r
-  rows-more j best x r h k z f front rest st hd he room w n l =
+  pub rows-more : (j : ℕ) (best x r : Fault) → RowsFault s d e xe full limit j best → RowFault s d e xe full limit j x → r ≡ sooner best x → RowsFault s d e xe full limit (j + 1) r
+  rows-more j best x r h k z f m front rest st hd he hx room w n l =
       let a = last-of front j (omega (arith, n)) in
       let v : spec-entries (f .specs) ≡ a .front ++ (a .last ∷ rest) = w ∙ ap (λ i. i ++ rest) (a .whole) ∙ append-assoc (a .front) (a .last ∷ []) rest in
       let R = kept-row-faults full limit in
-      let b = h f (a .front) (a .last ∷ rest) st hd he room v (a .many) (omega (arith, l)) in
-      let c = k f (a .last) st hd he room (record { front = a .front; rest = rest; whole = v; place = a .many }) (omega (arith, l)) in
+      let b = h f m (a .front) (a .last ∷ rest) st hd he hx room v (a .many) (omega (arith, l)) in
+      let c = k f m (a .last) st hd he hx room (record { front = a .front; rest = rest; whole = v; place = a .many }) (omega (arith, l)) in
       z ∙ ap₂ sooner b c
       ∙ sym (ap (λ i. fault-of (first (each R [] i))) (a .whole) ∙ ap (λ i. fault-of (first i)) (each-snoc R (a .front) (a .last))
       ∙ fault-append (each R [] (a .front)) (R (a .front) (a .last)) (real-each R (real-row full limit) [] (a .front)) (real-row full limit (a .front) (a .last)))
 
-  pub rows-end : (j n : ℕ) (best : Fault) → j ≤ n → n ≤ j → RowsFault s d e m full limit j best → RowsFault s d e m full limit n best
-  rows-end j n best h k r = let i : j ≡ n = omega (arith, h, k) in subst (λ (x : ℕ). RowsFault s d e m full limit x best) i r
+  pub rows-end : (j n : ℕ) (best : Fault) → j ≤ n → n ≤ j → RowsFault s d e xe full limit j best → RowsFault s d e xe full limit n best
+  rows-end j n best h k r = let i : j ≡ n = omega (arith, h, k) in subst (λ (x : ℕ). RowsFault s d e xe full limit x best) i r
 
 -- A row of an enumerator -------------------------------------------------------------------------------------------------------------------------
 
@@ -243,11 +245,16 @@ pub version-is : (s : List ℕ) (at len : ℕ) (p q : List ℕ) (b : Bool) (r : 
 unfolding version-code
 version-is s at len p q b r e f h k = k ∙ ap (λ (x : Bool). faultIf (not x) 6 at) (h ∙ ap₂ same e f)
 
-pub stage-code : (s d e : List ℕ) (n m at len again kept : ℕ) (full : Bool) (limit rows : ℕ) (v a r c x y z : Fault) → kept ≡ min m 1025 → full ≡ ltb 1024 m
-    → limit ≡ getD e (1024 * 3 + 1) 0 → rows ≡ min n 513 → v ≡ version-code s at len → a ≡ faultIf (not (eqb again 0)) 8 again → RowsFault s d e kept full limit rows r
-    → EnumeratorsFault s e kept c → x ≡ sooner r c → y ≡ sooner a x → z ≡ sooner v y → DefinitionFaults s d e n m at len again z
-unfolding version-code choice-cells
-stage-code s d e n m at len again kept full limit rows v a r c x y z hk hu hl hw hv ha hr hc hx hy hz f st hd he hn hm h₁ h₂ hg =
+pub stage-code : (s d e xe : List ℕ) (n m at len again kept lent half : ℕ) (full : Bool) (limit rows : ℕ) (v a r c x y z : Fault) → kept ≡ min m 1025
+    → Fits kept lent half → Makes s e 3 lent 0 1 half xe → full ≡ ltb 1024 m
+    → limit ≡ getD e (1024 * 3 + 1) 0 → rows ≡ min n 513 → v ≡ version-code s at len → a ≡ faultIf (not (eqb again 0)) 8 again
+    → RowsFault s d e xe full limit rows r → Through (By s e 3 0 1 xe) kept (EnumeratorsFault s e kept c) → x ≡ sooner r c → y ≡ sooner a x → z ≡ sooner v y
+    → DefinitionFaults s d e n m at len again z
+unfolding Makes version-code choice-cells
+stage-code s d e xe n m at len again kept lent half full limit rows v a r c x y z hk hf hi hu hl hw hv ha hr hc hs hy hz f st hd he hn hm h₁ h₂ hg =
+    let e₀ = hf .index in
+    let e₁ = hf .beside in
+    let hx : Indexed s e 3 kept 0 1 xe = subst (λ (i : ℕ). Indexed s e 3 i 0 1 xe) (sym e₀) (hi (omega (arith, e₀, e₁))) in
     let E = spec-entries (f .specs) in
     let C = spec-choices (f .specs) in
     let room : Room f kept full limit = record {
@@ -262,6 +269,7 @@ stage-code s d e n m at len again kept full limit rows v a r c x y z hk hu hl hw
     let g : v ≡ faultIf (not (same (f .version .bytes) (bytesOf "\"2.5\""))) 6 (f .version .place) =
     hv ∙ ap₂ (λ (i j : ℕ). faultIf (not (same (partOf s i j) (bytesOf "\"2.5\""))) 6 i) h₁ h₂
     ∙ ap (λ (i : List ℕ). faultIf (not (same i (bytesOf "\"2.5\""))) 6 (f .version .place)) (sym (whole st .version .bytes)) in
-    hz ∙ ap (sooner v) (hy ∙ ap (sooner a) hx)
+    hz ∙ ap (sooner v) (hy ∙ ap (sooner a) hs)
     ∙ stage-is f kept full limit (p .front) (p .rest) (q .front) (q .rest) again v a r c st room (p .whole) (omega (arith, pm, hw, hn)) (q .whole) (omega (arith, qm, hk, hm)) hg g ha
-    (hr f (p .front) (p .rest) st hd he room (p .whole) (p .many) (omega (arith, hw))) (hc f (q .front) (q .rest) st he (q .whole) (q .many) (omega (arith, hk)))
+    (hr f kept (p .front) (p .rest) st hd he hx room (p .whole) (p .many) (omega (arith, hw)))
+    (hc .holds kept (record { index = hx }) (omega (arith, hk)) (omega arith) f (q .front) (q .rest) st he (q .whole) (q .many) (omega (arith, hk)))

@@ -12,6 +12,7 @@ use Rattle.rows.specs.declared.Found.{Found}
 use Rattle.rows.specs.declared.Found.the-variants.{Nothing}
 use Rattle.rows.specs.Search.{findNamed}
 use Rattle.rows.specs.Order.{faultIf}
+use Rattle.indexes.specs.Indexing.{Indexed}
 use Rattle.meaning.specs.Syntax.{File}
 use Rattle.meaning.specs.Faults.{first}
 use Rattle.meaning.specs.Defining.{defined-in, differs, definition-faults}
@@ -55,22 +56,22 @@ NameFault s d j r =
     (f : File) (x : Entry) → Situation s f → d ≡ kept-definitions f → (q : Nth (spec-entries (f .specs)) j x) → j < 513
     → r ≡ fault-of (first (row-name-faults (q .front) x))
 
--- 10 at the default of row j, where it is judged.
-abbrev pub DefaultFault : (s d e : List ℕ) → (m : ℕ) → (full : Bool) → (limit j : ℕ) → Fault → Type 0
-DefaultFault s d e m full limit j r =
-    (f : File) (x : Entry) → Situation s f → d ≡ kept-definitions f → e ≡ kept-enumerators f → Room f m full limit → Nth (spec-entries (f .specs)) j x → j < 513
-    → r ≡ fault-of (first (judged-faults full limit (x .definition) (x .values)))
+-- 10 at the default of row j, where it is judged; xe is the index of the enumerators.
+abbrev pub DefaultFault : (s d e xe : List ℕ) → (full : Bool) → (limit j : ℕ) → Fault → Type 0
+DefaultFault s d e xe full limit j r =
+    (f : File) (m : ℕ) (x : Entry) → Situation s f → d ≡ kept-definitions f → e ≡ kept-enumerators f → Indexed s e 3 m 0 1 xe → Room f m full limit
+    → Nth (spec-entries (f .specs)) j x → j < 513 → r ≡ fault-of (first (judged-faults full limit (x .definition) (x .values)))
 
 -- All faults of row j.
-abbrev pub RowFault : (s d e : List ℕ) → (m : ℕ) → (full : Bool) → (limit j : ℕ) → Fault → Type 0
-RowFault s d e m full limit j r =
-    (f : File) (x : Entry) → Situation s f → d ≡ kept-definitions f → e ≡ kept-enumerators f → Room f m full limit → (q : Nth (spec-entries (f .specs)) j x) → j < 513
-    → r ≡ fault-of (first (kept-row-faults full limit (q .front) x))
+abbrev pub RowFault : (s d e xe : List ℕ) → (full : Bool) → (limit j : ℕ) → Fault → Type 0
+RowFault s d e xe full limit j r =
+    (f : File) (m : ℕ) (x : Entry) → Situation s f → d ≡ kept-definitions f → e ≡ kept-enumerators f → Indexed s e 3 m 0 1 xe → Room f m full limit
+    → (q : Nth (spec-entries (f .specs)) j x) → j < 513 → r ≡ fault-of (first (kept-row-faults full limit (q .front) x))
 
 -- Those of the first n rows.
-abbrev pub RowsFault : (s d e : List ℕ) → (m : ℕ) → (full : Bool) → (limit n : ℕ) → Fault → Type 0
-RowsFault s d e m full limit n r =
-    (f : File) (front rest : List Entry) → Situation s f → d ≡ kept-definitions f → e ≡ kept-enumerators f → Room f m full limit
+abbrev pub RowsFault : (s d e xe : List ℕ) → (full : Bool) → (limit n : ℕ) → Fault → Type 0
+RowsFault s d e xe full limit n r =
+    (f : File) (m : ℕ) (front rest : List Entry) → Situation s f → d ≡ kept-definitions f → e ≡ kept-enumerators f → Indexed s e 3 m 0 1 xe → Room f m full limit
     → spec-entries (f .specs) ≡ front ++ rest → length front ≡ n → n ≤ 513 → r ≡ fault-of (first (each (kept-row-faults full limit) [] front))
 
 -- Enumerators --------------------------------------------------------------------------------------------------------------------------------

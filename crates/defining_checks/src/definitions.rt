@@ -4,39 +4,21 @@ ghost use Prim.Native.Nat.{_≤_};
 ghost use lib.ListN.{length};
 ghost use lib.Dec.{leb};
 ghost use Rattle.token.specs.Find.{both};
-ghost use Rattle.rows.specs.Order.{faultIf};
-ghost use Rattle.rows.specs.Search.{isFound};
 ghost use Rattle.indexes.specs.Indexing.{Fits, Through, By, ByTwo};
 ghost use Rattle.defining_checks.specs.Promises.{first-again, NewTypeFault, NameFault, DefaultFault, RowFault, RowsFault};
 use rows::Fault;
 use rows::Found;
+use rows::cells;
 use rows::faults;
 use rows::parts;
-use scopes::lookups;
-
-// A fault, where something was found.
-pub fn fault_found(found: Found, number: u8, place: usize) -> Fault
-    ensures { λ r. ⌜ r ≡ faultIf (isFound found) number place ⌝ }
-{
-    match found {
-        Found::At(_) => Fault {
-            number: number,
-            place: place,
-        },
-        Found::Nothing => Fault {
-            number: 0,
-            place: 0,
-        },
-    }
-}
 
 // The first row before row j that is under the same word, and has the same name; x is the index of the rows by these.
 fn again(text: &[u8], d: &[usize], j: usize, x: &[usize]) -> Found
     ensures { λ r. ⌜ Through (By (now (text .entry)) (now (d .entry)) 19 0 2 (now (x .entry))) j (r ≡ first-again (now (text .entry)) (now (d .entry)) j) ⌝ }
 {
-    let under = lookups::cell_of(d, 19, j, 0);
-    let at = lookups::cell_of(d, 19, j, 2);
-    let len = lookups::cell_of(d, 19, j, 3);
+    let under = cells::cell_of(d, 19, j, 0);
+    let at = cells::cell_of(d, 19, j, 2);
+    let len = cells::cell_of(d, 19, j, 3);
     indexes::find_before(text, d, 19, j, 0, under, 2, at, len, x)
 }
 
@@ -45,25 +27,25 @@ fn again(text: &[u8], d: &[usize], j: usize, x: &[usize]) -> Found
 fn type_fault(text: &[u8], d: &[usize], j: usize, y: &[usize]) -> Fault
     ensures { λ r. ⌜ Through (By (now (text .entry)) (now (d .entry)) 19 13 2 (now (y .entry))) j (NewTypeFault (now (text .entry)) (now (d .entry)) j r) ⌝ }
 {
-    let outer = lookups::cell_of(d, 19, j, 13);
+    let outer = cells::cell_of(d, 19, j, 13);
     if outer == 0 {
         return Fault {
             number: 0,
             place: 0,
         };
     }
-    let at = lookups::cell_of(d, 19, j, 2);
-    let len = lookups::cell_of(d, 19, j, 3);
+    let at = cells::cell_of(d, 19, j, 2);
+    let len = cells::cell_of(d, 19, j, 3);
     let Found::At(i) = indexes::find_before(text, d, 19, j, 13, outer, 2, at, len, y) else {
         return Fault {
             number: 0,
             place: 0,
         };
     };
-    let word = lookups::cell_of(d, 19, j, 4);
-    let size = lookups::cell_of(d, 19, j, 5);
-    let first = lookups::cell_of(d, 19, i, 4);
-    let size2 = lookups::cell_of(d, 19, i, 5);
+    let word = cells::cell_of(d, 19, j, 4);
+    let size = cells::cell_of(d, 19, j, 5);
+    let first = cells::cell_of(d, 19, i, 4);
+    let size2 = cells::cell_of(d, 19, i, 5);
     let same = parts::same_part(text, first, size2, word, size);
     faults::fault_if(!same, 9, at)
 }
@@ -72,7 +54,7 @@ fn type_fault(text: &[u8], d: &[usize], j: usize, y: &[usize]) -> Fault
 fn name_fault(text: &[u8], d: &[usize], j: usize, x: &[usize], y: &[usize]) -> Fault
     ensures { λ r. ⌜ Through (ByTwo (now (text .entry)) (now (d .entry)) 19 0 13 2 (now (x .entry)) (now (y .entry))) j (NameFault (now (text .entry)) (now (d .entry)) j r) ⌝ }
 {
-    let at = lookups::cell_of(d, 19, j, 2);
+    let at = cells::cell_of(d, 19, j, 2);
     let a = faults::fault_if(j == 512, 7, at);
     match again(text, d, j, x) {
         Found::At(_) => {
@@ -99,19 +81,20 @@ fn is_late(full: bool, limit: usize, at: usize) -> bool
     false
 }
 
-// 10 at the default of row j, if it is judged and the attribute does not take it; NO_DEFAULT, whose code is 4, is never at fault.
+// 10 at the default of row j, if it is judged and the attribute does not take it; NO_DEFAULT, whose code is 4, is never at fault. xe is the
+// index of the enumerators.
 fn default_fault(
     text: &[u8],
     d: &[usize],
     e: &[usize],
-    m: usize,
+    xe: &[usize],
     full: bool,
     limit: usize,
     j: usize,
 ) -> Fault
-    ensures { λ r. ⌜ DefaultFault (now (text .entry)) (now (d .entry)) (now (e .entry)) m full limit j r ⌝ }
+    ensures { λ r. ⌜ DefaultFault (now (text .entry)) (now (d .entry)) (now (e .entry)) (now (xe .entry)) full limit j r ⌝ }
 {
-    let at = lookups::cell_of(d, 19, j, 10);
+    let at = cells::cell_of(d, 19, j, 10);
     if at == 0 {
         return Fault {
             number: 0,
@@ -124,51 +107,52 @@ fn default_fault(
             place: 0,
         };
     }
-    let len = lookups::cell_of(d, 19, j, 11);
-    let code = lookups::cell_of(d, 19, j, 18);
+    let len = cells::cell_of(d, 19, j, 11);
+    let code = cells::cell_of(d, 19, j, 18);
     if code == 4 {
         return Fault {
             number: 0,
             place: 0,
         };
     }
-    let taken = lookups::takes(text, d, e, m, j, at, len, code);
+    let under = lookups::word_under(text, d, e, xe, j, at, len);
+    let taken = scopes::lookups::takes(text, d, j, at, code, under);
     faults::fault_if(!taken, 10, at)
 }
 
-// The faults of row j; x and y are the indexes of the rows.
+// The faults of row j; x and y are the indexes of the rows, xe is that of the enumerators.
 fn row_fault(
     text: &[u8],
     d: &[usize],
     e: &[usize],
-    m: usize,
+    xe: &[usize],
     full: bool,
     limit: usize,
     j: usize,
     x: &[usize],
     y: &[usize],
 ) -> Fault
-    ensures { λ r. ⌜ Through (ByTwo (now (text .entry)) (now (d .entry)) 19 0 13 2 (now (x .entry)) (now (y .entry))) j (RowFault (now (text .entry)) (now (d .entry)) (now (e .entry)) m full limit j r) ⌝ }
+    ensures { λ r. ⌜ Through (ByTwo (now (text .entry)) (now (d .entry)) 19 0 13 2 (now (x .entry)) (now (y .entry))) j (RowFault (now (text .entry)) (now (d .entry)) (now (e .entry)) (now (xe .entry)) full limit j r) ⌝ }
 {
-    let a = lookups::range_fault(text, d, j);
+    let a = scopes::lookups::range_fault(text, d, j);
     let b = name_fault(text, d, j, x, y);
-    let c = default_fault(text, d, e, m, full, limit, j);
+    let c = default_fault(text, d, e, xe, full, limit, j);
     faults::sooner(a, faults::sooner(b, c))
 }
 
-// The faults of the first n rows; x and y are the indexes of the rows.
+// The faults of the first n rows; x and y are the indexes of the rows, xe is that of the enumerators.
 fn each_fault(
     text: &[u8],
     d: &[usize],
     e: &[usize],
-    m: usize,
+    xe: &[usize],
     full: bool,
     limit: usize,
     n: usize,
     x: &[usize],
     y: &[usize],
 ) -> Fault
-    ensures { λ r. ⌜ Through (ByTwo (now (text .entry)) (now (d .entry)) 19 0 13 2 (now (x .entry)) (now (y .entry))) n (RowsFault (now (text .entry)) (now (d .entry)) (now (e .entry)) m full limit n r) ⌝ }
+    ensures { λ r. ⌜ Through (ByTwo (now (text .entry)) (now (d .entry)) 19 0 13 2 (now (x .entry)) (now (y .entry))) n (RowsFault (now (text .entry)) (now (d .entry)) (now (e .entry)) (now (xe .entry)) full limit n r) ⌝ }
 {
     let mut best = Fault {
         number: 0,
@@ -176,19 +160,19 @@ fn each_fault(
     };
     let mut j = 0;
     while j < n {
-        let f = row_fault(text, d, e, m, full, limit, j, x, y);
+        let f = row_fault(text, d, e, xe, full, limit, j, x, y);
         best = faults::sooner(best, f);
         j += 1;
     }
     best
 }
 
-// The faults of the first n rows; x and y are room for their indexes, and b for half of one.
+// The faults of the first n rows; x and y are room for their indexes, and b for half of one; xe is the index of the enumerators.
 fn indexed_fault(
     text: &[u8],
     d: &[usize],
     e: &[usize],
-    m: usize,
+    xe: &[usize],
     full: bool,
     limit: usize,
     n: usize,
@@ -197,25 +181,26 @@ fn indexed_fault(
     b: &mut [usize],
 ) -> Fault
     requires { ⌜ Fits n (length (now x)) (length (now b)) × Fits n (length (now y)) (length (now b)) ⌝ }
-    ensures { λ r. ⌜ RowsFault (now (text .entry)) (now (d .entry)) (now (e .entry)) m full limit n r ⌝ }
+    ensures { λ r. ⌜ RowsFault (now (text .entry)) (now (d .entry)) (now (e .entry)) (now (xe .entry)) full limit n r ⌝ }
 {
     indexes::index(text, d, 19, 0, 2, x, b);
     indexes::index(text, d, 19, 13, 2, y, b);
-    each_fault(text, d, e, m, full, limit, n, x, y)
+    each_fault(text, d, e, xe, full, limit, n, x, y)
 }
 
-// The faults of the first n rows; m enumerators are kept, and the one that is one too many, if there is one (full), stands at limit.
+// The faults of the first n rows; xe is the index of the enumerators that are kept, and the one that is one too many, if there is one (full),
+// stands at limit.
 pub fn rows_fault(
     text: &[u8],
     d: &[usize],
     e: &[usize],
-    m: usize,
+    xe: &[usize],
     full: bool,
     limit: usize,
     n: usize,
 ) -> Fault
     requires { ⌜ n ≤ 513 ⌝ }
-    ensures { λ r. ⌜ RowsFault (now (text .entry)) (now (d .entry)) (now (e .entry)) m full limit n r ⌝ }
+    ensures { λ r. ⌜ RowsFault (now (text .entry)) (now (d .entry)) (now (e .entry)) (now (xe .entry)) full limit n r ⌝ }
 {
     let mut x = [0; 513];
     let mut y = [0; 513];
@@ -224,7 +209,7 @@ pub fn rows_fault(
         text,
         d,
         e,
-        m,
+        xe,
         full,
         limit,
         n,

@@ -5,6 +5,8 @@ use mathlib.Core.Bool.{Bool, true, false}
 use mathlib.Core.Option.{none}
 use Prim.Native.Nat.{ℕ, suc, _+_, _-_, _*_, min}
 use lib.Seq.{sets}
+use Rattle.filling.specs.Tables.{Table}
+use Rattle.token.specs.Find.{bit}
 use Rattle.grammar.specs.Grammar.{Form, _⟶_, _·_, _▸_, ∎, matches, name, type, integer, the, sg, TRUE, FALSE, STRING, BOOLEAN, ENUM, lbrace, rbrace, lsquare, rsquare, semicolon, comma, integers, strings, booleans, enums, definitions, definition, attribute, D, P, auto, mark, integer-range, boolean-range, enumerator, enumerators, default, a-definition, no-definition, an-attribute, a-reference, an-integer, a-string, a-boolean, an-enum, reference-is, a-P, no-P, a-boolean-range, no-boolean-range, enumerator-is, an-enumerator, no-enumerator}
 use Rattle.grammar.specs.Factored.{paper}
 use Rattle.grammar.specs.Machine.{starts}
@@ -15,16 +17,15 @@ use Rattle.grammar.proofs.Meeting.{_⊳_, take}
 use Rattle.grammar.proofs.Rules.{reference-by, string-by, integer-by, boolean-by, enum-by, boolean-range-pass, boolean-range-by, lsquare-taken, P-pass, P-by, enumerator-by, enumerators-item, enumerators-again, enumerators-done, definitions-again, definitions-done}
 use Rattle.meaning.specs.Syntax.{Word, Span, absent, through, Definition, Definitions, no-more, define, Values, no-value, value, is-enum, definitions-in, enumerators-in}
 use Rattle.meaning.specs.Actions.{Parts, means, first-value, truths, defined, defining}
-use Rattle.layout.specs.Kept.{Entry, Choice, bit, code-of, list-key, truth-cells, default-code, entries, entries-under, choices, choices-of, choice-if, definition-cells, choice-cells, map-cells}
+use Rattle.layout.specs.Kept.{Entry, Choice, code-of, list-key, truth-cells, default-code, entries, entries-under, choices, choices-of, choice-if, definition-cells, choice-cells, map-cells}
 use Rattle.layout.proofs.Lengths.{map-append}
 use Rattle.filling.specs.Fills.{Seen, Fills, Walks, Going, Effects, front-of, behind}
 use Rattle.filling.proofs.Filling.{plain, first, _▻_, told-as, told-rule, told-none, refused, going-on, gone, both}
-use Rattle.filling.proofs.Tables.{wrote-none, wrote-then, wrote-row}
+use Rattle.filling.proofs.Tables.{wrote-none, wrote-then, wrote-row, _⸬_}
 use Rattle.definitions.specs.declared.Under.{Under}
 use Rattle.definitions.specs.declared.Head.{Head}
-use Rattle.definitions.specs.Rows.{Table, Puts, Done, then, Fill, rows-of, rows-in, choice-rows, choice-rows-in, one, Stands, row-of, head-of, list-head, Named, Rows, EnumeratorRows, ValueRows}
+use Rattle.definitions.specs.Rows.{Puts, Done, then, Fill, rows-of, rows-in, choice-rows, choice-rows-in, one, Stands, row-of, head-of, list-head, Named, Rows, EnumeratorRows, ValueRows}
 use Rattle.filling.proofs.Codes.{seen-code, seen-place, seen-length}
-use Rattle.definitions.proofs.Leaves.{_⸬_}
 
 -- Tables ---------------------------------------------------------------------------------------------------------------------------------
 

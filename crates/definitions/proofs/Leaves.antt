@@ -6,6 +6,7 @@ use mathlib.Core.Option.{none}
 use Prim.Native.Nat.{ℕ, _+_, _-_, _*_, min}
 use lib.ListN.{length}
 use lib.Seq.{sets}
+use Rattle.token.specs.Find.{bit}
 use Rattle.grammar.specs.Grammar.{Form, Token, Trees, nil, leaf, node, tokens, _⟶_, _·_, _▸_, ∎, matches, name, number, the, sg, WITH-AUTO, lsquare, rsquare, equals, semicolon, comma, Sort, integers, strings, booleans, enums, D, auto, mark, integer-range, numbers, default, own, no-auto, with-auto, no-mark, a-mark, no-range, a-range, a-list, no-number, a-number, no-default, a-default, own-auto, own-none, own-number, own-string, own-true, own-false, own-name}
 use Rattle.grammar.specs.Factored.{span, _⟹_, one-number, up-to, many-numbers}
 use Rattle.grammar.specs.Machine.{Stream, prepend}
@@ -19,19 +20,15 @@ use Rattle.grammar.proofs.Terminals.{number-is, rsquare-is}
 use Rattle.grammar.proofs.Rules.{auto-pass, auto-is, mark-pass, mark-is, range-pass, range-by, default-pass, default-is, lsquare-taken}
 use Rattle.meaning.specs.Syntax.{Span, absent, span-of, span-or, through}
 use Rattle.meaning.specs.Actions.{word-of, means, meaning}
-use Rattle.layout.specs.Kept.{bit, default-code}
+use Rattle.layout.specs.Kept.{default-code}
 use Rattle.filling.specs.Fills.{Seen, Told, Fills, Walks, front-of, behind}
 use Rattle.filling.proofs.Filling.{plain, first, is-first, _▻_, fills-map, told-map, told-as, told-rule, told-none, told-took}
-use Rattle.filling.proofs.Tables.{wrote-row}
+use Rattle.filling.proofs.Tables.{wrote-row, _⸬_}
 use Rattle.definitions.specs.declared.Under.{Under}
 use Rattle.definitions.specs.declared.Head.{Head}
 use Rattle.definitions.specs.Rows.{Puts, row-of, head-of, list-head, Named}
 use Rattle.definitions.specs.Parts.{Spanned, Defaulted}
 use Rattle.filling.proofs.Codes.{seen-code, seen-place, seen-length}
-
-infixr 20 _⸬_
-pub _⸬_ : {x y : ℕ} {xs ys : List ℕ} → x ≡ y → xs ≡ ys → _≡_ {A = List ℕ} (x ∷ xs) (y ∷ ys)
-p ⸬ q = ap₂ _∷_ p q
 
 -- The word of a default.
 own-told : {s : List ℕ} (x : Sort) (a b : Look) (ts : Trees _⟶_ (own x ▸ ∎)) → rest s a ≡ prepend (tokens ts) (rest s b) → Told s (own x ▸ ∎) (rest s a) (rest s b) (λ m. Seen s a (m .0))

@@ -5,18 +5,15 @@ use mathlib.Core.List.{List, [], _∷_, _++_}
 use mathlib.Core.Bool.{Bool, true}
 use mathlib.Core.Option.{Option}
 use Prim.Native.Nat.{ℕ, _-_}
+use Rattle.token.specs.Find.{bit}
 use Rattle.grammar.specs.declared.Look.{Look}
 use Rattle.meaning.specs.Syntax.{Word, span-or, Definitions, no-more, define, Values, Defined}
 use Rattle.meaning.specs.Actions.{Enumerator}
-use Rattle.layout.specs.Kept.{bit, default-code, entries, entries-under, choices, choices-of, definition-cells, choice-cells, map-cells}
-use Rattle.filling.specs.Tables.{Wrote}
+use Rattle.layout.specs.Kept.{default-code, entries, entries-under, choices, choices-of, definition-cells, choice-cells, map-cells}
+use Rattle.filling.specs.Tables.{Wrote, Table}
 use Rattle.filling.specs.Fills.{Seen}
 use Rattle.definitions.specs.declared.Under.{Under}
 use Rattle.definitions.specs.declared.Head.{Head}
-
--- One table, with the number of its rows.
-abbrev pub Table : Type 0
-Table = List ℕ × ℕ
 
 abbrev pub Puts : ℕ → Table → List (List ℕ) → Table → Type 0
 Puts c x w y = Wrote c (x .0) (x .1) w (y .0) (y .1)

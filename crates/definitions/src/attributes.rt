@@ -1,9 +1,9 @@
 // Definitions from behind their type on, and the parts that they have: readers that hold no definitions again.
 ghost use mathlib.Core.Path.{_≡_};
 ghost use mathlib.Core.Option.{none};
+ghost use Rattle.token.specs.Find.{bit};
 ghost use Rattle.grammar.specs.Grammar.{_·_, _▸_, ∎, sg, semicolon, name, D, auto, mark, integer-range, default, integers, strings};
 ghost use Rattle.grammar.specs.Readers.{sortAt};
-ghost use Rattle.layout.specs.Kept.{bit};
 ghost use Rattle.filling.specs.Fills.{Fills, Walks};
 ghost use Rattle.definitions.specs.Rows.{Puts, Named, head-of, list-head};
 ghost use Rattle.definitions.specs.Parts.{Spanned, Defaulted};

@@ -9,7 +9,7 @@ use Rattle.token.specs.Bytes.{findByte}
 use Rattle.token.specs.Words.{bytesOf}
 use Rattle.explaining.specs.Places.{feedOf, lineFeeds, lineOf, lineStart, columnOf, lineEnd, crBefore, shownEnd}
 use Rattle.explaining.specs.Windows.{windowFrom, windowTo, dotsFor, viewIn, viewOf}
-use Rattle.explaining.specs.Pictures.{shownByte, blankByte, drawn, dots, bytesFrom, lineBytes, markBytes, shownLine, markLine, picture}
+use Rattle.explaining.specs.Pictures.{shownByte, blankByte, drawn, dots, lineBytes, markBytes, shownLine, markLine, picture}
 
 -- a text, a place, its line, its column, and the picture
 pub record Edge : Type 0 where
@@ -51,6 +51,6 @@ All [] = Unit {0}
 All (e ∷ es) = Holds e × All es
 
 pub edges-hold : All edges
-unfolding firstOf find findByte feedOf lineFeeds lineOf lineStart columnOf lineEnd crBefore shownEnd windowFrom windowTo dotsFor viewIn viewOf shownByte blankByte drawn dots bytesFrom lineBytes markBytes shownLine markLine picture
+unfolding firstOf find findByte feedOf lineFeeds lineOf lineStart columnOf lineEnd crBefore shownEnd windowFrom windowTo dotsFor viewIn viewOf shownByte blankByte drawn dots lineBytes markBytes shownLine markLine picture
 edges-hold =
     ((refl, refl, refl), ((refl, refl, refl), ((refl, refl, refl), ((refl, refl, refl), ((refl, refl, refl), ((refl, refl, refl), ((refl, refl, refl), ((refl, refl, refl), ((refl, refl, refl), ((refl, refl, refl), ((refl, refl, refl), ((refl, refl, refl), ((refl, refl, refl), ((refl, refl, refl), tt))))))))))))))

@@ -9,33 +9,34 @@ use native.Mathlib.Omega.{arith}
 use native.Mathlib.Decide.{decLt}
 use lib.ListN.{length, take, drop, length-append, List·getD-append}
 use lib.Seq.{take-append-le, take-append-add, take-take, getD-append-add, getD-take, getD-drop}
+use Rattle.token.specs.Tokens.{bytesBetween}
 use Rattle.token.specs.Find.{byte}
 use Rattle.token.proofs.Find.{by-test}
 use Rattle.explaining.specs.declared.View.{View}
 use Rattle.explaining.specs.Places.{lineStart, lineEnd, crBefore, shownEnd}
 use Rattle.explaining.specs.Windows.{Fits, viewIn, viewOf, IsWindow}
-use Rattle.explaining.specs.Pictures.{dots, bytesFrom, lineBytes, markBytes, shownLine, markLine, picture}
+use Rattle.explaining.specs.Pictures.{dots, lineBytes, markBytes, shownLine, markLine, picture}
 use Rattle.explaining.proofs.Starts.{start-low}
 use Rattle.explaining.proofs.Ends.{end-low, end-at, cr-inside}
 use Rattle.explaining.proofs.Frames.{window-is, view-fits}
 use Rattle.explaining.proofs.Stores.{bytes-long, line-short, mark-long}
 
 module _ (s : List ℕ) (v : View) (h : Fits s v) where
-  middle-long : length (dots (v .front) ++ bytesFrom s (v .from) (v .to)) ≡ length (dots (v .front)) + (v .to - v .from)
-  middle-long = length-append (dots (v .front)) (bytesFrom s (v .from) (v .to)) ∙ ap (length (dots (v .front)) +_) (bytes-long s (v .from) (v .to) (h .inside))
+  middle-long : length (dots (v .front) ++ bytesBetween s (v .from) (v .to)) ≡ length (dots (v .front)) + (v .to - v .from)
+  middle-long = length-append (dots (v .front)) (bytesBetween s (v .from) (v .to)) ∙ ap (length (dots (v .front)) +_) (bytes-long s (v .from) (v .to) (h .inside))
 
   mark-at : length (markBytes s v) ≡ length (dots (v .front)) + (v .at - v .from)
   unfolding markBytes
-  mark-at = length-append (dots (v .front)) (bytesFrom s (v .from) (v .at)) ∙ ap (length (dots (v .front)) +_) (bytes-long s (v .from) (v .at) (h .placed))
+  mark-at = length-append (dots (v .front)) (bytesBetween s (v .from) (v .at)) ∙ ap (length (dots (v .front)) +_) (bytes-long s (v .from) (v .at) (h .placed))
 
   -- the bytes before the mark are the first of the line shown
   pub mark-front : v .at ≤ v .to → take (length (markBytes s v)) (lineBytes s v) ≡ markBytes s v
-  unfolding lineBytes markBytes bytesFrom
+  unfolding lineBytes markBytes
   mark-front k =
       let n = v .at - v .from in
       let d = dots (v .front) in
       let b = take (v .to - v .from) (drop (v .from) s) in
-      let l : length (d ++ bytesFrom s (v .from) (v .at)) ≤ length (d ++ b) = omega (arith, mark-at, middle-long) in
+      let l : length (d ++ bytesBetween s (v .from) (v .at)) ≤ length (d ++ b) = omega (arith, mark-at, middle-long) in
       take-append-le _ (d ++ b) (dots (v .behind)) l
       ∙ ap (λ (i : ℕ). take i (d ++ b)) mark-at
       ∙ take-append-add d b n
@@ -43,12 +44,12 @@ module _ (s : List ℕ) (v : View) (h : Fits s v) where
 
   -- and what stands over the mark is the byte at the place
   pub mark-under : v .at < v .to → byte (lineBytes s v) (length (markBytes s v)) ≡ byte s (v .at)
-  unfolding lineBytes markBytes bytesFrom
+  unfolding lineBytes markBytes
   mark-under k =
       let n = v .at - v .from in
       let d = dots (v .front) in
       let b = take (v .to - v .from) (drop (v .from) s) in
-      let l : length (d ++ bytesFrom s (v .from) (v .at)) < length (d ++ b) = omega (arith, mark-at, middle-long, h .before) in
+      let l : length (d ++ bytesBetween s (v .from) (v .at)) < length (d ++ b) = omega (arith, mark-at, middle-long, h .before) in
       let e : v .from + n ≡ v .at = omega (arith, h .before) in
       List·getD-append (d ++ b) (dots (v .behind)) 0 _ l
       ∙ ap (byte (d ++ b)) mark-at

@@ -8,10 +8,11 @@ use native.Mathlib.Omega.{arith}
 use native.Mathlib.Numerals.{add-one}
 use lib.ListN.{length, drop, getD, set, drop-of-length-le, length-append, length-map, length-drop}
 use lib.Seq.{sets, drop-cons, length-take-le}
+use Rattle.token.specs.Tokens.{bytesBetween}
 use Rattle.rows.proofs.Stores.{sets-append, sets-out}
 use Rattle.explaining.specs.declared.View.{View}
 use Rattle.explaining.specs.Windows.{Fits, viewOf}
-use Rattle.explaining.specs.Pictures.{drawn, dots, bytesFrom, lineBytes, markBytes, shownLine, markLine, picture}
+use Rattle.explaining.specs.Pictures.{drawn, dots, lineBytes, markBytes, shownLine, markLine, picture}
 
 -- a loop that stores one byte a turn
 module _ (l : List ℕ) (j : ℕ) (f : ℕ → ℕ) (s : List ℕ) (i : ℕ) where
@@ -42,8 +43,7 @@ dots-long : (n : ℕ) → n ≤ 3 → length (dots n) ≡ n
 unfolding dots
 dots-long n h = length-take-le n (46 ∷ 46 ∷ 46 ∷ []) h
 
-pub bytes-long : (s : List ℕ) (a b : ℕ) → b ≤ length s → length (bytesFrom s a b) ≡ b - a
-unfolding bytesFrom
+pub bytes-long : (s : List ℕ) (a b : ℕ) → b ≤ length s → length (bytesBetween s a b) ≡ b - a
 bytes-long s a b h = length-take-le (b - a) (drop a s) (omega (arith, length-drop a s))
 
 module _ (s : List ℕ) (v : View) (h : Fits s v) where
@@ -52,8 +52,8 @@ module _ (s : List ℕ) (v : View) (h : Fits s v) where
   line-bytes-long =
       omega (
         arith,
-        length-append (dots (v .front) ++ bytesFrom s (v .from) (v .to)) (dots (v .behind)),
-        length-append (dots (v .front)) (bytesFrom s (v .from) (v .to)),
+        length-append (dots (v .front) ++ bytesBetween s (v .from) (v .to)) (dots (v .behind)),
+        length-append (dots (v .front)) (bytesBetween s (v .from) (v .to)),
         dots-long (v .front) (h .front),
         dots-long (v .behind) (h .behind),
         bytes-long s (v .from) (v .to) (h .inside),
@@ -64,7 +64,7 @@ module _ (s : List ℕ) (v : View) (h : Fits s v) where
   mark-bytes-long =
       omega (
         arith,
-        length-append (dots (v .front)) (bytesFrom s (v .from) (v .at)),
+        length-append (dots (v .front)) (bytesBetween s (v .from) (v .at)),
         dots-long (v .front) (h .front),
         bytes-long s (v .from) (v .at) (h .placed),
       )
@@ -82,14 +82,14 @@ module _ (s : List ℕ) (v : View) (h : Fits s v) where
   -- the four runs of the line shown
   pub line-written : (l l₁ l₂ l₃ l₄ : List ℕ)
       → l₁ ≡ sets l 0 (map (drawn false) (dots (v .front)))
-      → l₂ ≡ sets l₁ (v .front) (map (drawn false) (bytesFrom s (v .from) (v .to)))
+      → l₂ ≡ sets l₁ (v .front) (map (drawn false) (bytesBetween s (v .from) (v .to)))
       → l₃ ≡ sets l₂ (v .front + (v .to - v .from)) (map (drawn false) (dots (v .behind)))
       → l₄ ≡ sets l₃ (v .front + (v .to - v .from) + v .behind) (10 ∷ [])
       → l₄ ≡ sets l 0 (shownLine s v)
   unfolding shownLine lineBytes
   line-written l l₁ l₂ l₃ l₄ e₁ e₂ e₃ e₄ =
       let front = dots (v .front) in
-      let middle = bytesFrom s (v .from) (v .to) in
+      let middle = bytesBetween s (v .from) (v .to) in
       let f : ℕ → ℕ = drawn false in
       let n₁ : v .front ≡ 0 + length front = omega (arith, dots-long (v .front) (h .front)) in
       let n₂ : v .front + (v .to - v .from) ≡ 0 + length (front ++ middle) =
@@ -105,14 +105,14 @@ module _ (s : List ℕ) (v : View) (h : Fits s v) where
   -- the four runs of the mark's line
   pub mark-written : (a : ℕ) (l l₁ l₂ l₃ l₄ : List ℕ)
       → l₁ ≡ sets l a (map (drawn true) (dots (v .front)))
-      → l₂ ≡ sets l₁ (a + v .front) (map (drawn true) (bytesFrom s (v .from) (v .at)))
+      → l₂ ≡ sets l₁ (a + v .front) (map (drawn true) (bytesBetween s (v .from) (v .at)))
       → l₃ ≡ sets l₂ (a + v .front + (v .at - v .from)) (94 ∷ [])
       → l₄ ≡ sets l₃ (a + v .front + (v .at - v .from) + 1) (10 ∷ [])
       → l₄ ≡ sets l a (markLine s v)
   unfolding markLine markBytes
   mark-written a l l₁ l₂ l₃ l₄ e₁ e₂ e₃ e₄ =
       let front = dots (v .front) in
-      let middle = bytesFrom s (v .from) (v .at) in
+      let middle = bytesBetween s (v .from) (v .at) in
       let f : ℕ → ℕ = drawn true in
       let n₁ : a + v .front ≡ a + length front = omega (arith, dots-long (v .front) (h .front)) in
       let n₂ : a + v .front + (v .at - v .from) ≡ a + length (map f (front ++ middle)) =

@@ -1,12 +1,13 @@
 -- The two lines that show a place: the part of its line, and the mark under the place.
 -- Assumes nothing.
-use Prim.Native.Nat.{ℕ, _-_}
+use Prim.Native.Nat.{ℕ}
 use mathlib.Core.Path.{_≡_}
 use mathlib.Core.Bool.{Bool, true, false}
 use mathlib.Core.List.{List, [], _∷_, _++_, map}
-use lib.ListN.{length, take, drop}
+use lib.ListN.{length, take}
 use lib.Dec.{eqb}
 use lib.Seq.{sets}
+use Rattle.token.specs.Tokens.{bytesBetween}
 use Rattle.token.specs.Find.{pick}
 use Rattle.token.specs.Bytes.{between}
 use Rattle.explaining.specs.declared.View.{View}
@@ -31,17 +32,13 @@ drawn false b = shownByte b
 unfoldable pub dots : ℕ → List ℕ
 dots n = take n (46 ∷ 46 ∷ 46 ∷ [])
 
--- the bytes of a text from a to b
-unfoldable pub bytesFrom : List ℕ → ℕ → ℕ → List ℕ
-bytesFrom s a b = take (b - a) (drop a s)
-
 -- the bytes of the view, with its dots
 unfoldable pub lineBytes : List ℕ → View → List ℕ
-lineBytes s v = dots (v .front) ++ bytesFrom s (v .from) (v .to) ++ dots (v .behind)
+lineBytes s v = dots (v .front) ++ bytesBetween s (v .from) (v .to) ++ dots (v .behind)
 
 -- those before the place
 unfoldable pub markBytes : List ℕ → View → List ℕ
-markBytes s v = dots (v .front) ++ bytesFrom s (v .from) (v .at)
+markBytes s v = dots (v .front) ++ bytesBetween s (v .from) (v .at)
 
 -- the line shown, with LF
 unfoldable pub shownLine : List ℕ → View → List ℕ

@@ -2,6 +2,7 @@
 use mathlib.Core.Path.{_≡_, sym, _∙_, ap}
 use mathlib.Core.List.{List}
 use mathlib.Core.Bool.{Bool, true}
+use Rattle.meaning.specs.Cells.{integer-code}
 use Rattle.token.specs.Find.{pick}
 use Rattle.grammar.specs.Grammar.{Class, matches, kind}
 use Prim.Native.Nat.{ℕ, _-_, _<_}
@@ -14,11 +15,11 @@ use Rattle.grammar.specs.declared.Look.{Look}
 use Rattle.meaning.specs.Syntax.{Word}
 use Rattle.meaning.specs.Kinds.{kind-number}
 use Rattle.meaning.specs.Actions.{word-of, kind-of}
-use Rattle.layout.specs.Kept.{class-number, integer-number, given-number, sign-number, code-of}
+use Rattle.layout.specs.Kept.{class-number, given-number, sign-number, code-of}
 use Rattle.filling.specs.Fills.{Seen}
 
 pub class-back : (n : ℕ) → n < 54 → class-number (classAt n) ≡ n
-unfolding class-number integer-number given-number sign-number kind-number classAt
+unfolding class-number integer-code given-number sign-number kind-number classAt
 class-back n h =
     eqb-true (class-number (classAt n)) n
     (T-true {b = eqb (class-number (classAt n)) n} (below (λ m. eqb (class-number (classAt m)) m) 54 tt n h))

@@ -1,5 +1,5 @@
 -- The laws of tables that rows are put into. Assumes nothing.
-use mathlib.Core.Path.{_≡_, refl, sym, _∙_, ap, subst}
+use mathlib.Core.Path.{_≡_, refl, sym, _∙_, ap, ap₂, subst}
 use mathlib.Core.List.{List, [], _∷_, _++_, append-nil}
 use Prim.Native.Nat.{ℕ, _+_, _-_, _*_, _≤_, min}
 use native.Mathlib.Omega.{arith}
@@ -10,6 +10,11 @@ use Rattle.rows.proofs.Stores.{sets-append, sets-out}
 use Rattle.layout.specs.Kept.{join}
 use Rattle.layout.proofs.Lengths.{join-append}
 use Rattle.filling.specs.Tables.{Wide, Wrote}
+
+-- Cells one by one.
+infixr 20 _⸬_
+pub _⸬_ : {x y : ℕ} {xs ys : List ℕ} → x ≡ y → xs ≡ ys → _≡_ {A = List ℕ} (x ∷ xs) (y ∷ ys)
+p ⸬ q = ap₂ _∷_ p q
 
 pub wide-then : (w : ℕ) (xs ys : List (List ℕ)) → Wide w xs → Wide w ys → Wide w (xs ++ ys)
 wide-then w xs ys a b =

@@ -6,6 +6,10 @@ use lib.ListN.{length}
 use lib.Seq.{sets}
 use Rattle.layout.specs.Kept.{join}
 
+-- One table, with the number of its rows.
+abbrev pub Table : Type 0
+Table = List ℕ × ℕ
+
 -- Each row has w cells.
 abbrev pub Wide : ℕ → List (List ℕ) → Type 0
 Wide w rs = length (join rs) ≡ length rs * w

@@ -4,9 +4,10 @@ use mathlib.Core.List.{List, [], _∷_, _++_, append-assoc, append-nil}
 use mathlib.Core.Bool.{true, false}
 use Prim.Native.Nat.{ℕ, _+_}
 use native.Mathlib.Omega.{arith}
+use Rattle.token.specs.Find.{bit}
 use Rattle.token.specs.Lexing.{Lexed, more, ended, refused, Divides as Wholly}
 use Rattle.grammar.specs.Grammar.{Class, Token, matches, sg, lbrace, rbrace, Derivation, Begins}
-use Rattle.grammar.specs.Stage.{StopsAt, bit, opens, closes, Shallow}
+use Rattle.grammar.specs.Stage.{StopsAt, opens, closes, Shallow}
 use Rattle.grammar.proofs.Braces.{terminal-code, agree}
 use Rattle.grammar.proofs.Runs.{opens-one, closes-one}
 

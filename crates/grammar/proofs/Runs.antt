@@ -7,9 +7,10 @@ use mathlib.Core.Option.{Option, none, some}
 use Prim.Native.Nat.{ℕ, suc, _+_, _≤_, _<_}
 use native.Mathlib.Omega.{arith}
 use lib.Dec.{ltb, ltb→lt, lt→ltb}
+use Rattle.token.specs.Find.{bit}
 use Rattle.token.proofs.Bytes.{T-true}
 use Rattle.grammar.specs.Grammar.{Token, file, _▸_, ∎, matches, sg, lbrace, rbrace, Derivation, Begins}
-use Rattle.grammar.specs.Stage.{bit, opens, closes, Shallow}
+use Rattle.grammar.specs.Stage.{opens, closes, Shallow}
 use Rattle.grammar.specs.Factored.{Symbols, paper}
 use Rattle.grammar.specs.Machine.{nullable-form, after, feed, Stream, ended, bad, _▹_, prepend, opened, deeper-by, deeper, at-end, next, run}
 use Rattle.grammar.specs.declared.Answer.{Answer}

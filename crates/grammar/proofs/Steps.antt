@@ -4,9 +4,10 @@ use mathlib.Core.List.{List, [], _∷_, _++_, append-assoc}
 use mathlib.Core.Bool.{Bool, true, false, _&&_, _||_, false≢true}
 use mathlib.Core.Option.{Option, none, some}
 use Prim.Native.Nat.{ℕ}
+use Rattle.token.specs.Find.{is-there}
 use Rattle.grammar.specs.Grammar.{Symbol, Terminal, Class, Token, tok, rule, _▸_, _·_, ∎, matches, nil, leaf, node, tokens}
 use Rattle.grammar.specs.Factored.{Nonterminal, Symbols, _⟹_, Choice, by, choices}
-use Rattle.grammar.specs.Machine.{nullable, nullable-form, Move, after, Start, start, test, is-some, take-step, skip-step, rule-step, form-step, tries, begin, move, takes, starts, left-of, feed, Stream, ended, _▹_, prepend, deeper, at-end, next, run}
+use Rattle.grammar.specs.Machine.{nullable, nullable-form, Move, after, Start, start, test, take-step, skip-step, rule-step, form-step, tries, begin, move, takes, starts, left-of, feed, Stream, ended, _▹_, prepend, deeper, at-end, next, run}
 use Rattle.grammar.specs.Readers.{Took}
 use Rattle.grammar.specs.declared.Answer.the-variants.{NotAdmitted}
 use Rattle.grammar.proofs.Choices.{listed}
@@ -85,8 +86,8 @@ feed-append (rule x ∷ f) k c =
     ∙ ap (λ o. else (onto k o) (when (nullable x && nullable-form f) (feed k c))) (sym (feed-rule x f c))
 
 -- A rule whose form g takes the class leaves what g leaves.
-pub takes-move : {c : Class} {k : Symbols} (o : Option (Move c k)) → is-some o ≡ true → (v : Move c k) × (o ≡ some v)
-unfolding is-some
+pub takes-move : {c : Class} {k : Symbols} (o : Option (Move c k)) → is-there o ≡ true → (v : Move c k) × (o ≡ some v)
+unfolding is-there
 takes-move none e = absurd (false≢true e)
 takes-move (some v) e = (v, refl)
 
@@ -111,13 +112,13 @@ any-takes (by {f} p ∷ cs) c = takes f c || any-takes cs c
 
 pub starts-any : (x : Nonterminal) (c : Class) → starts x c ≡ any-takes (choices x) c
 unfolding starts any-takes
-starts-any x c = ap is-some (begin-is c x) ∙ go (choices x)
+starts-any x c = ap is-there (begin-is c x) ∙ go (choices x)
   where
-    step : {f : Symbols} (p : x ⟹ f) (m : Option (Move c f)) (o : Option (Start c x)) → is-some (form-step p m o) ≡ (is-some m || is-some o)
+    step : {f : Symbols} (p : x ⟹ f) (m : Option (Move c f)) (o : Option (Start c x)) → is-there (form-step p m o) ≡ (is-there m || is-there o)
     step p none o = refl
     step p (some v) o = refl
 
-    go : (cs : List (Choice x)) → is-some (tries c (begin c) cs) ≡ any-takes cs c
+    go : (cs : List (Choice x)) → is-there (tries c (begin c) cs) ≡ any-takes cs c
     go [] = refl
     go (by {f} p ∷ cs) = step p (move c f) (tries c (begin c) cs) ∙ ap (takes f c ||_) (go cs)
 
@@ -161,8 +162,8 @@ nullable-append (rule x ∷ f) k h = go (nullable x) (nullable-form f) (nullable
     go true a b e f = f e
     go false a b e f = refl
 
-no-move : {c : Class} {k : Symbols} (o : Option (Move c k)) → is-some o ≡ false → left-of o ≡ none
-unfolding left-of is-some
+no-move : {c : Class} {k : Symbols} (o : Option (Move c k)) → is-there o ≡ false → left-of o ≡ none
+unfolding left-of is-there
 no-move none e = refl
 no-move (some v) e = absurd (false≢true (sym e))
 

@@ -6,10 +6,11 @@ use mathlib.Core.Option.{Option, none, some}
 use Prim.Native.Nat.{ℕ, zero, suc}
 use native.Mathlib.Omega.{arith}
 use lib.Dec.{eqb-refl}
+use Rattle.token.specs.Find.{is-there}
 use Rattle.token.proofs.Bytes.{T-true}
 use Rattle.grammar.specs.Grammar.{Symbol, Terminal, Class, Token, Kind, Integer, tok, rule, matches, Trees, nil, leaf, node, tokens, name, number, string, kind, type, integer, the, sg, ordinary, numeral, quoted, kind-word, type-word, integer-word, word, sign, OS, UINT32, given-code, sign-code}
 use Rattle.grammar.specs.Factored.{Nonterminal, Symbols, _⟹_, Choice, by, choices}
-use Rattle.grammar.specs.Machine.{has-empty, empty-of, nullable, empty-form, nullable-form, Move, take, enter, skip, after, Start, start, test, is-some, take-step, skip-step, rule-step, form-step, tries, begin, move, takes, starts, left-of, feed}
+use Rattle.grammar.specs.Machine.{has-empty, empty-of, nullable, empty-form, nullable-form, Move, take, enter, skip, after, Start, start, test, take-step, skip-step, rule-step, form-step, tries, begin, move, takes, starts, left-of, feed}
 use Rattle.grammar.proofs.Choices.{In, here, there, listed, all, nonterminals, classes, both, every, every-rule, every-class}
 use Rattle.grammar.proofs.Splits.{left, right, join, tokens-parts, left-join, right-join}
 use Rattle.grammar.proofs.Checks.{begin-is, none-takes, clear, clear-is, follows, apart, apart-is, implies, link, linked, linked?, linked-all, not-nullable?, proper, proper-is}
@@ -132,8 +133,8 @@ seen (node p us ts) = seen-node p us ts (seen us) (seen ts)
 
 -- The machine finds each move of a good form -------------------------------------------------------------------------------------------
 
-test-some : (b : Bool) → is-some (test b) ≡ b
-unfolding test is-some
+test-some : (b : Bool) → is-there (test b) ≡ b
+unfolding test is-there
 test-some true = refl
 test-some false = refl
 
@@ -143,14 +144,14 @@ test-is {b = true} e = ap some (Bool-set true true refl e)
 test-is {b = false} e = absurd (false≢true e)
 
 module _ (c : Class) (x : Nonterminal) (k : Symbols) where
-  skips : (o : Option (nullable x ≡ true)) (m : Option (Move c k)) → is-some (skip-step {x = x} o m) ≡ (is-some o && is-some m)
-  unfolding skip-step is-some
+  skips : (o : Option (nullable x ≡ true)) (m : Option (Move c k)) → is-there (skip-step {x = x} o m) ≡ (is-there o && is-there m)
+  unfolding skip-step is-there
   skips none m = refl
   skips (some e) none = refl
   skips (some e) (some v) = refl
 
-  steps : (s : Option (Start c x)) (o : Option (Move c (rule x ∷ k))) → is-some (rule-step s o) ≡ (is-some s || is-some o)
-  unfolding rule-step is-some
+  steps : (s : Option (Start c x)) (o : Option (Move c (rule x ∷ k))) → is-there (rule-step s o) ≡ (is-there s || is-there o)
+  unfolding rule-step is-there
   steps none o = refl
   steps (some (start p v)) o = refl
 
@@ -158,7 +159,7 @@ pub takes-tok : (a : Terminal) (k : Symbols) (c : Class) → takes (tok a ∷ k)
 unfolding takes
 takes-tok a k c = go (test (matches a c)) ∙ test-some (matches a c)
   where
-    go : (o : Option (matches a c ≡ true)) → is-some (take-step {a = a} {k = k} o) ≡ is-some o
+    go : (o : Option (matches a c ≡ true)) → is-there (take-step {a = a} {k = k} o) ≡ is-there o
     go none = refl
     go (some m) = refl
 
@@ -234,14 +235,14 @@ after-good (take m) j (good-tok h) = h
 after-good (skip e v) j (good-rule fol h) = after-good v j h
 after-good (enter {k} p v) j h = rw append-assoc (after-good v (k ++ j) (form-good p h))
 
-pub is-none : {A : Type 0} (o : Option A) → is-some o ≡ false → o ≡ none
-unfolding is-some
+pub is-none : {A : Type 0} (o : Option A) → is-there o ≡ false → o ≡ none
+unfolding is-there
 is-none none e = refl
 is-none (some a) e = absurd (false≢true (sym e))
 
-is-it : {A : Type 0} {o : Option A} {a : A} → o ≡ some a → is-some o ≡ true
-unfolding is-some
-is-it e = ap is-some e
+is-it : {A : Type 0} {o : Option A} {a : A} → o ≡ some a → is-there o ≡ true
+unfolding is-there
+is-it e = ap is-there e
 
 pub move-takes : {c : Class} {k : Symbols} {v : Move c k} → move c k ≡ some v → takes k c ≡ true
 unfolding takes
@@ -433,16 +434,16 @@ unfolding grow-first choices
 grow zero x = none
 grow (suc n) x = grow-first (grow n) (choices x)
 
-grown-all : all (λ x. is-some (grow 5 x)) nonterminals ≡ true
-unfolding grow is-some
+grown-all : all (λ x. is-there (grow 5 x)) nonterminals ≡ true
+unfolding grow is-there
 grown-all = refl
 
-the-some : {A : Type 0} (o : Option A) → is-some o ≡ true → A
-unfolding is-some
+the-some : {A : Type 0} (o : Option A) → is-there o ≡ true → A
+unfolding is-there
 the-some none e = absurd (false≢true e)
 the-some (some a) e = a
 
 pub finish : (k : Symbols) → Trees _⟹_ k
 finish [] = nil
 finish (tok a ∷ k) = leaf (record { class = sample a .0; place = 0; length = 0 }) (sample a .1) (finish k)
-finish (rule x ∷ k) = join (the-some (grow 5 x) (every-rule (λ y. is-some (grow 5 y)) grown-all x)) (finish k)
+finish (rule x ∷ k) = join (the-some (grow 5 x) (every-rule (λ y. is-there (grow 5 y)) grown-all x)) (finish k)

@@ -6,6 +6,7 @@ use mathlib.Core.Bool.{Bool, true, false, _&&_, false≢true}
 use mathlib.Core.Option.{Option, none, some}
 use Prim.Native.Nat.{ℕ, zero, suc, pred}
 use lib.Dec.{ltb}
+use Rattle.token.specs.Find.{is-there}
 use Rattle.grammar.specs.Grammar.{Terminal, Class, Token, tok, rule, matches, sg, lbrace, rbrace}
 use Rattle.grammar.specs.Factored.{Nonterminal, Symbols, _⟹_, Choice, by, choices}
 use Rattle.grammar.specs.declared.Answer.{Answer}
@@ -62,10 +63,6 @@ unfoldable pub test : (b : Bool) → Option (b ≡ true)
 test true = some refl
 test false = none
 
-unfoldable pub is-some : {A : Type 0} → Option A → Bool
-is-some none = false
-is-some (some a) = true
-
 module _ {c : Class} where
   unfoldable pub take-step : {a : Terminal} {k : Symbols} → Option (matches a c ≡ true) → Option (Move c (tok a ∷ k))
   take-step none = none
@@ -113,12 +110,12 @@ module _ (c : Class) where
 
 -- The form takes a token of class c, or the rule does by one of its forms.
 unfoldable pub takes : Symbols → Class → Bool
-unfolding move is-some
-takes k c = is-some (move c k)
+unfolding move is-there
+takes k c = is-there (move c k)
 
 unfoldable pub starts : Nonterminal → Class → Bool
-unfolding begin is-some
-starts x c = is-some (begin c x)
+unfolding begin is-there
+starts x c = is-there (begin c x)
 
 unfoldable pub left-of : {c : Class} {k : Symbols} → Option (Move c k) → Option Symbols
 unfolding after

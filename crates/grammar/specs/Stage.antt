@@ -4,6 +4,7 @@ use mathlib.Core.List.{List, [], _∷_, _++_}
 use mathlib.Core.Bool.{Bool, true, false}
 use Prim.Native.Nat.{ℕ, _+_, _≤_}
 use lib.ListN.{length}
+use Rattle.token.specs.Find.{bit}
 use Rattle.token.specs.Lexing.{lexFrom, Lexed, more, ended, refused, Divides as Wholly}
 use Rattle.grammar.specs.Grammar.{Token, matches, sg, lbrace, rbrace, Derivation, Begins}
 use Rattle.grammar.specs.Terminals.{tokens}
@@ -35,10 +36,6 @@ StopsAt (ended n) p = ⊥
 StopsAt (refused q) p = q ≡ p
 
 -- how many tokens of a list are `{`, and how many `}`
-unfoldable pub bit : Bool → ℕ
-bit true = 1
-bit false = 0
-
 unfoldable pub opens : List Token → ℕ
 opens [] = 0
 opens (t ∷ l) = bit (matches (sg lbrace) (t .class)) + opens l

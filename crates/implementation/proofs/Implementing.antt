@@ -3,6 +3,7 @@ use mathlib.Core.Path.{_≡_, refl, sym, _∙_, ap, ap₂}
 use mathlib.Core.List.{List, [], _∷_, _++_}
 use mathlib.Core.Bool.{true, false}
 use Prim.Native.Nat.{ℕ, _+_, _-_}
+use Rattle.filling.specs.Tables.{Table}
 use Rattle.grammar.specs.Grammar.{_·_, _▸_, ∎, matches, name, kind, the, sg, IMPLEMENTATION, lbrace, rbrace, semicolon, D, definitions, spec, specs, implementation, spec-is, a-spec, no-spec, implementation-is}
 use Rattle.grammar.specs.Readers.{classAt, Meets}
 use Rattle.grammar.specs.declared.Look.{Look}
@@ -14,7 +15,7 @@ use Rattle.layout.proofs.Lengths.{map-append}
 use Rattle.filling.specs.Fills.{Walks, Going, Effects, front-of, behind}
 use Rattle.filling.proofs.Filling.{plain, first, matched, _▻_, told-as, told-rule, going-on, gone, both}
 use Rattle.filling.proofs.Codes.{seen-place, seen-length, kind-seen}
-use Rattle.definitions.specs.Rows.{Table, Fill, Rows}
+use Rattle.definitions.specs.Rows.{Fill, Rows}
 use Rattle.definitions.proofs.Acts.{tables}
 use Rattle.implementation.specs.Places.{Noted, note-all, heads, All, beside, FillAll, SpecRows, AllRows, ImplementationRows}
 use Rattle.implementation.proofs.Noting.{noting}

@@ -4,6 +4,7 @@ use mathlib.Core.List.{List, [], _∷_, _++_}
 use Prim.Native.Nat.{ℕ, _-_}
 use lib.ListN.{getD, set}
 use lib.Dec.{eqb}
+use Rattle.filling.specs.Tables.{Table}
 use Rattle.token.specs.Find.{pick}
 use Rattle.grammar.specs.declared.Look.{Look}
 use Rattle.meaning.specs.Syntax.{Spec}
@@ -11,7 +12,7 @@ use Rattle.meaning.specs.Kinds.{kind-number}
 use Rattle.meaning.specs.Actions.{Implementation}
 use Rattle.layout.specs.Kept.{spec-entries, spec-choices, definition-cells, choice-cells, map-cells}
 use Rattle.filling.specs.Fills.{Seen}
-use Rattle.definitions.specs.Rows.{Table, Done, then, Fill, rows-of, choice-rows}
+use Rattle.definitions.specs.Rows.{Done, then, Fill, rows-of, choice-rows}
 use Rattle.definitions.specs.Parts.{Spanned}
 
 -- What is noted of kinds: 1 for each that has come, the place of its first word; the place of the first word that came again, and 1 when one has.

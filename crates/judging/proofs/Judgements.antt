@@ -3,44 +3,49 @@ use mathlib.Core.Path.{_≡_, refl, sym, _∙_, ap, ap₂, subst}
 use mathlib.Core.List.{List, [], _∷_, _++_, append-assoc, append-nil}
 use mathlib.Core.Bool.{Bool, true, false, not, false≢true}
 use mathlib.Core.Option.{Option, none, some}
-use Prim.Native.Nat.{ℕ, suc, _+_, _*_, _-_, _≤_, _<_}
+use Prim.Native.Nat.{ℕ, zero, suc, _+_, _*_, _-_, _≤_, _<_}
 use native.Mathlib.Omega.{arith}
+use native.Mathlib.Decide.{ℕ-discrete}
 use lib.ListN.{length, length-append, getD}
 use lib.Dec.{eqb, leb}
-use borrow.Author.Tests.{eq-eqb, ne-eqb, le-leb, eqb-true, not-false}
-use Rattle.token.specs.Find.{pick, both}
-use Rattle.token.specs.Tokens.{partOf, stepAt}
-use Rattle.grammar.specs.Grammar.{Class, Kind, Integer, ordinary, numeral, quoted, other, kind-word, type-word, integer-word, word, sign, OIL-VERSION, IMPLEMENTATION, CPU, STRING, BOOLEAN, ENUM, TRUE, FALSE, AUTO, NO-DEFAULT, WITH-AUTO, lbrace, rbrace, lsquare, rsquare, equals, semicolon, colon, comma, dots}
+use borrow.Author.Tests.{eq-eqb, ne-eqb, le-leb}
+use Rattle.meaning.proofs.Rooms.{no-first}
+use Rattle.meaning.proofs.Numbered.{of-reference, of-brace, of-type, of-own, of-judged, of-judge, of-object, of-objects-judged, of-first}
+use Rattle.meaning.proofs.Entries.{then, then-assoc}
+use Rattle.rows.proofs.Orders.{is-none}
+use Rattle.token.specs.Find.{pick, both, bit, is-there}
+use Rattle.token.specs.Tokens.{partOf}
+use Rattle.grammar.specs.Grammar.{Class, Kind, word}
 use Rattle.rows.specs.declared.Fault.{Fault}
 use Rattle.rows.specs.declared.Found.{Found}
 use Rattle.rows.specs.declared.Found.the-variants.{At, Nothing}
-use Rattle.rows.specs.Search.{isFound}
+use Rattle.rows.specs.Search.{isFound, rowOf}
 use Rattle.rows.specs.Order.{faultIf, isFault}
 use Rattle.rows.specs.Order.{sooner as sooner-of}
 use Rattle.meaning.specs.Syntax.{Word, AttributeType, integer, string, boolean, enum, reference, Definitions, Values, Defined, Statement, Statements, done, state, Object, File, statements-in}
 use Rattle.meaning.specs.Words.{among}
-use Rattle.meaning.specs.Actions.{num-of-step}
 use Rattle.meaning.specs.Kinds.{kind-number}
 use Rattle.meaning.specs.Faults.{first, fault-if}
 use Rattle.meaning.specs.Faults.{Fault as Refusal}
-use Rattle.meaning.specs.Scopes.{sort-of, sort-of-word, names, find-definition, find-object, is-there, fits, under, of-kind}
+use Rattle.meaning.specs.Scopes.{sort-of, names, find-definition, find-object, fits, under, of-kind}
 use Rattle.meaning.specs.Judging.{lacks, reference-faults, brace-faults, faults-as, own-faults, and-inside, judged, judge, judge-object, judge-objects, statement-stage}
-use Rattle.meaning.proofs.Sites.{object-words}
-use Rattle.layout.specs.Kept.{bit, class-number, given-number, sign-number, integer-number, code-of, place-or, statement-cells, statement-count, object-cells, kind-place}
-use Rattle.blocks.specs.Blocks.{AllIn, BraceIn, no-brace, a-brace, then, BlockAt, row-after, IsStated}
-use Rattle.scopes.specs.Situations.{Situation, HasDefinition, this-definition, later-definition, Stands, ScopeAt, no-scope, scope, ReadAt, RowOf}
-use Rattle.amounts.specs.Promises.{TakesUnder}
-use Rattle.scopes.specs.Promises.{fault-of, row-found, object-found, FindsDefinition, FindsWord, FindsObject}
-use Rattle.scopes.specs.Forms.{AllFormed, more-formed, Formed, an-integer, a-string, a-boolean, an-enum, a-reference}
-use Rattle.scopes.proofs.Descents.{scope-facts, found-definition, scope-under, scope-of-kind, row-of-definition}
-use Rattle.judging.specs.Promises.{Case, name-code, ReferenceFault, StatedAs, OwnFault, Marked, Lacks, LackFault, Scoped, Judges, JudgesOne, JudgesBlock, Places, JudgesObject, JudgesObjects}
-use Rattle.judging.specs.declared.Sizes.{Sizes}
-use Rattle.lookups.proofs.Standings.{stands-at, file-stands}
-use Rattle.judging.proofs.Tables.{cell-list, cell-type}
-use Rattle.judging.proofs.Lacking.{in-room, row-less, row-room, all-reached}
-use Rattle.judging.proofs.Ordering.{Positive, positive-append, positive-if, fault-append, fault-one, no-fault, positive-reference, positive-brace, positive-as, positive-own, positive-judged, positive-judge}
-use Rattle.blocks.proofs.Ranges.{first-cell, first-name, first-value, first-brace, first-after, inside-at, in-then, then-assoc, then-done, front-at, back-at}
-use Rattle.blocks.proofs.Files.{file-in, objects-in, object-cell, object-block}
+use Rattle.layout.specs.Kept.{class-number, code-of, place-or, statement-cells, statement-count, kind-place}
+use Rattle.blocks.specs.Blocks.{BraceIn, no-brace, a-brace, BlockAt, row-after, IsBefore}
+use Rattle.scopes.specs.Situations.{HasDefinition, Stands, ScopeAt, no-scope, scope}
+use Rattle.scopes.specs.Given.{Given, Places}
+use Rattle.scopes.specs.Promises.{fault-of, row-found, object-found, FindsDefinition, FindsWord, FindsObject, TakesUnder}
+use Rattle.scopes.specs.Forms.{Formed, an-integer, a-string, a-boolean, an-enum, a-reference}
+use Rattle.scopes.proofs.Sorts.{sort-coded, tells, name-coded}
+use Rattle.scopes.proofs.Descents.{found-definition, scope-under, scope-of-kind}
+use Rattle.judging.specs.Promises.{name-code, ReferenceFault, StatedAs, OwnFault, Marked, Lacks, LackFault, Scoped, Judges, JudgesOne, JudgesBlock, JudgesObject, JudgesObjects}
+use Rattle.scopes.specs.declared.Sizes.{Sizes}
+use Rattle.lookups.proofs.Standings.{file-stands}
+use Rattle.lookups.proofs.Attributes.{read-at, AttributeRow, stands-below, reached, known, formed, kept-object}
+use Rattle.sorting.specs.Sorted.{Tells}
+use Rattle.lookups.specs.Owners.{Owners}
+use Rattle.judging.proofs.Lacking.{unowned}
+use Rattle.scopes.proofs.Firsts.{real, real-if, fault-append, fault-at, none-there}
+use Rattle.blocks.proofs.Ranges.{first-cell, first-name, first-value, first-brace, first-after, inside-at, in-then, then-done, back-at}
 use Rattle.layout.proofs.Codes.{kind-low, integer-low}
 
 -- Names ------------------------------------------------------------------------------------------------------------------------------------
@@ -67,55 +72,37 @@ module _ (c : ℕ) where
   pub code-other : (c ≡ 42 → ⊥) → (c ≡ 43 → ⊥) → (c ≡ 0 → ⊥) → name-code c ≡ leb 5 c
   code-other h i k = code-not-string h i ∙ ap (λ b. pick b true (leb 5 c)) (ne-eqb c 0 k)
 
-name-kind : (k : Kind) → name-code (9 + kind-number k) ≡ true
-name-kind k =
-    let b = kind-low k in
-    code-other (9 + kind-number k) (λ h. omega arith) (λ h. omega arith) (λ h. omega arith) ∙ le-leb 5 (9 + kind-number k) (omega arith)
-
-name-type : (k : Kind) → name-code (22 + kind-number k) ≡ true
-name-type k =
-    let b = kind-low k in
-    code-other (22 + kind-number k) (λ h. omega arith) (λ h. omega arith) (λ h. omega arith) ∙ le-leb 5 (22 + kind-number k) (omega arith)
-
-name-integer : (i : Integer) → name-code (35 + integer-number i) ≡ true
-name-integer i =
-    let b = integer-low i in
-    code-other (35 + integer-number i) (λ h. omega arith) (λ h. omega arith) (λ h. omega arith) ∙ le-leb 5 (35 + integer-number i) (omega arith)
+from-five : (n : ℕ) → (n ≡ 0 → ⊥) → (n ≡ 1 → ⊥) → (n ≡ 2 → ⊥) → (n ≡ 3 → ⊥) → (n ≡ 4 → ⊥) → 5 ≤ n
+from-five zero a b c d e = absurd (a refl)
+from-five (suc zero) a b c d e = absurd (b refl)
+from-five (suc (suc zero)) a b c d e = absurd (c refl)
+from-five (suc (suc (suc zero))) a b c d e = absurd (d refl)
+from-five (suc (suc (suc (suc zero)))) a b c d e = absurd (e refl)
+from-five (suc (suc (suc (suc (suc n))))) a b c d e = omega arith
 
 module _ (os : List Object) (k : Kind) (t : Word) where
   -- The faults of a reference's value, by whether it is a name.
-  named-by : (b : Bool) → b ≡ true → fault-if (not (is-there (find-object k os t))) t 18 ≡ pick b (fault-if (not (is-there (find-object k os t))) t 18) (fault-if true t 15)
-  named-by b h = sym (ap (λ a. pick a (fault-if (not (is-there (find-object k os t))) t 18) (fault-if true t 15)) h)
+  abbrev Coded : ℕ → Type 0
+  Coded n = reference-faults os k (sort-coded n) t ≡ pick (name-code n) (fault-if (not (is-there (find-object k os t))) t 18) (fault-if true t 15)
+
+  reference-coded : (n : ℕ) → Coded n
+  unfolding reference-faults sort-coded name-code
+  reference-coded n = by (ℕ-discrete n 42) (ℕ-discrete n 43) (ℕ-discrete n 0) (ℕ-discrete n 1) (ℕ-discrete n 2) (ℕ-discrete n 3) (ℕ-discrete n 4)
+    where
+      by : Dec (n ≡ 42) → Dec (n ≡ 43) → Dec (n ≡ 0) → Dec (n ≡ 1) → Dec (n ≡ 2) → Dec (n ≡ 3) → Dec (n ≡ 4) → Coded n
+      by (yes e) _ _ _ _ _ _ = subst Coded (sym e) refl
+      by (no _) (yes e) _ _ _ _ _ = subst Coded (sym e) refl
+      by (no _) (no _) (yes e) _ _ _ _ = subst Coded (sym e) refl
+      by (no _) (no _) (no _) (yes e) _ _ _ = subst Coded (sym e) refl
+      by (no _) (no _) (no _) (no _) (yes e) _ _ = subst Coded (sym e) refl
+      by (no _) (no _) (no _) (no _) (no _) (yes e) _ = subst Coded (sym e) refl
+      by (no _) (no _) (no _) (no _) (no _) (no _) (yes e) = subst Coded (sym e) refl
+      by (no a) (no b) (no c) (no d) (no e) (no f) (no g) =
+          ap (λ q. reference-faults os k q t) (name-coded n a b d e f g)
+          ∙ ap (λ q. pick q (fault-if (not (is-there (find-object k os t))) t 18) (fault-if true t 15)) (sym (code-other n a b c ∙ le-leb 5 n (from-five n c d e f g)))
 
   reference-by : (c : Class) → reference-faults os k (sort-of c) t ≡ pick (name-code (class-number c)) (fault-if (not (is-there (find-object k os t))) t 18) (fault-if true t 15)
-  unfolding reference-faults sort-of sort-of-word class-number given-number sign-number name-code
-  reference-by ordinary = refl
-  reference-by numeral = refl
-  reference-by quoted = refl
-  reference-by other = refl
-  reference-by (kind-word q) = named-by (name-code (9 + kind-number q)) (name-kind q)
-  reference-by (type-word q) = named-by (name-code (22 + kind-number q)) (name-type q)
-  reference-by (integer-word i) = named-by (name-code (35 + integer-number i)) (name-integer i)
-  reference-by (word OIL-VERSION) = refl
-  reference-by (word IMPLEMENTATION) = refl
-  reference-by (word CPU) = refl
-  reference-by (word STRING) = refl
-  reference-by (word BOOLEAN) = refl
-  reference-by (word ENUM) = refl
-  reference-by (word TRUE) = refl
-  reference-by (word FALSE) = refl
-  reference-by (word AUTO) = refl
-  reference-by (word NO-DEFAULT) = refl
-  reference-by (word WITH-AUTO) = refl
-  reference-by (sign lbrace) = refl
-  reference-by (sign rbrace) = refl
-  reference-by (sign lsquare) = refl
-  reference-by (sign rsquare) = refl
-  reference-by (sign equals) = refl
-  reference-by (sign semicolon) = refl
-  reference-by (sign colon) = refl
-  reference-by (sign comma) = refl
-  reference-by (sign dots) = refl
+  reference-by c = ap (λ q. reference-faults os k q t) (tells c .sort) ∙ reference-coded (class-number c)
 
 found-there : (o : Option Object) → isFound (object-found o) ≡ is-there o
 unfolding object-found is-there
@@ -127,7 +114,7 @@ module _ (s o : List ℕ) (n kind at len code : ℕ) where
   pub reference-no-name : name-code code ≡ false → ReferenceFault s o n kind at len code (record { number = 15; place = at })
   unfolding code-of faultIf
   reference-no-name h f k t p q l m i b pl e =
-      fault-one true t 15 at pl
+      fault-at true t 15 at pl
       ∙ ap (λ l. fault-of (first l)) (sym (reference-by (f .objects) k t (t .class) ∙ ap (λ b. pick b (fault-if (not (is-there (find-object k (f .objects) t))) t 18) (fault-if true t 15)) (ap name-code e ∙ h)))
 
   pub reference-name : (r : Found) → name-code code ≡ true → FindsObject s o n kind at len r → ReferenceFault s o n kind at len code (faultIf (not (isFound r)) 18 at)
@@ -135,7 +122,7 @@ module _ (s o : List ℕ) (n kind at len code : ℕ) where
   reference-name r h g f k t p q l m i b pl e =
       let there : isFound r ≡ is-there (find-object k (f .objects) t) = ap isFound (g f k t p q l m i b) ∙ found-there (find-object k (f .objects) t) in
       ap (λ b. faultIf (not b) 18 at) there
-      ∙ fault-one (not (is-there (find-object k (f .objects) t))) t 18 at pl
+      ∙ fault-at (not (is-there (find-object k (f .objects) t))) t 18 at pl
       ∙ ap (λ l. fault-of (first l)) (sym (reference-by (f .objects) k t (t .class) ∙ ap (λ b. pick b (fault-if (not (is-there (find-object k (f .objects) t))) t 18) (fault-if true t 15)) (ap name-code e ∙ h)))
 
   pub reference-nothing : name-code code ≡ true → FindsObject s o n kind at len Nothing → ReferenceFault s o n kind at len code (record { number = 18; place = at })
@@ -148,13 +135,6 @@ module _ (s o : List ℕ) (n kind at len code : ℕ) where
 
 -- A statement's cells ----------------------------------------------------------------------------------------------------------------------
 
-formed-in : {s : List ℕ} {ds : Definitions} {y : Defined} → AllFormed s ds → HasDefinition ds y → Formed s (y .definition) (y .values)
-formed-in (more-formed g w v r) this-definition = g
-formed-in (more-formed g w v r) (later-definition h) = formed-in r h
-
-formed-at : {s : List ℕ} {f : File} {u : Word} {ds : Definitions} {y : Defined} → Situation s f → Stands (f .specs) u ds → HasDefinition ds y → Formed s (y .definition) (y .values)
-formed-at p q h = formed-in (scope-facts p q .facts .formed) h
-
 one-zero : 0 ≡ bit true → ⊥
 unfolding bit
 one-zero h = omega arith
@@ -164,7 +144,7 @@ unfolding place-or brace-faults fault-of faultIf first
 brace-fault none p e no-brace = ap (λ q. faultIf (not (eqb q 0)) 15 q) e
 brace-fault (some t) p e (a-brace w) =
     let l = w .later in
-    ap (λ b. faultIf (not b) 15 p) (ne-eqb p 0 (λ h. omega arith)) ∙ fault-one true t 15 p (sym e)
+    ap (λ b. faultIf (not b) 15 p) (ne-eqb p 0 (λ h. omega arith)) ∙ fault-at true t 15 p (sym e)
 
 module _ {s d e o st : List ℕ} {z : Sizes} {k j : ℕ} {f : File} {x : Statement} {y : Defined} (a : StatedAs s d e o st z k j f x y) where
   value-place : getD st (k * 7 + 2) 0 ≡ x .value .place
@@ -191,21 +171,18 @@ module _ {s d e o st : List ℕ} {z : Sizes} {k j : ℕ} {f : File} {x : Stateme
   unfolding statement-cells
   name-size = first-cell (a .block) 1 (omega arith)
 
-  type-cell : getD d (j * 19 + 12) 0 ≡ code-of (y .definition .word)
-  type-cell = ap (λ i. getD d (i * 19 + 12) 0) (sym (a .row)) ∙ cell-type f (a .case .definitions) (in-room (a .case)) (stands-at (a .case .situation) (a .stands) (a .has) .nth)
-
-  list-cell : getD d (j * 19 + 6) 0 ≡ bit (y .definition .list)
-  list-cell = ap (λ i. getD d (i * 19 + 6) 0) (sym (a .row)) ∙ cell-list f (a .case .definitions) (in-room (a .case)) (stands-at (a .case .situation) (a .stands) (a .has) .nth)
+  row : AttributeRow s d f (a .attribute .under) j y
+  row = known (a .given .tables) (a .attribute)
 
   type-formed : Formed s (y .definition) (y .values)
-  type-formed = formed-at (a .case .situation) (a .stands) (a .has)
+  type-formed = formed (a .given .tables) (a .attribute)
 
   -- No type's word has a code below 22.
   pub value-none : (c : ℕ) → c ≡ getD d (j * 19 + 12) 0 → c < 22 → ⊥
-  value-none c e h = go (e ∙ type-cell) type-formed
+  value-none c e h = go (e ∙ row .type-code) type-formed
     where
       go : c ≡ code-of (y .definition .word) → {vs : Values} → Formed s (y .definition) vs → ⊥
-      go q (an-integer i t w b) = omega arith
+      go q (an-integer i t w b) = let l = integer-low i in omega arith
       go q (a-string t w b) = omega arith
       go q (a-boolean t w b v) = omega arith
       go q (an-enum t w b v) = omega arith
@@ -217,7 +194,7 @@ module _ {s d e o st : List ℕ} {z : Sizes} {k j : ℕ} {f : File} {x : Stateme
       → ReferenceFault s o (z .objects) (c - 22) at len code g
       → sooner-of g (faultIf (not (eqb brace 0)) 15 brace) ≡ fault-of (first (faults-as (y .definition .type) (f .objects) x y))
   unfolding faults-as bit
-  value-reference c at len code brace g e l h pa pl pc pb r = go (e ∙ type-cell) type-formed
+  value-reference c at len code brace g e l h pa pl pc pb r = go (e ∙ row .type-code) type-formed
     where
       unfolded : (q : Kind) → y .definition .type ≡ reference q
           → fault-of (first (reference-faults (f .objects) q (sort-of (x .value .class)) (x .value) ++ brace-faults (x .brace))) ≡ fault-of (first (faults-as (y .definition .type) (f .objects) x y))
@@ -225,20 +202,20 @@ module _ {s d e o st : List ℕ} {z : Sizes} {k j : ℕ} {f : File} {x : Stateme
 
       go : c ≡ code-of (y .definition .word) → {vs : Values} → Formed s (y .definition) vs
           → sooner-of g (faultIf (not (eqb brace 0)) 15 brace) ≡ fault-of (first (faults-as (y .definition .type) (f .objects) x y))
-      go m (an-integer i t w b) = absurd (omega arith)
+      go m (an-integer i t w b) = let l = integer-low i in absurd (omega arith)
       go m (a-string t w b) = absurd (omega arith)
       go m (a-boolean t w b v) = absurd (omega arith)
       go m (an-enum t w b v) = absurd (omega arith)
       go m (a-reference q t w b) =
           let n : c - 22 ≡ kind-number q = omega arith in
-          let room-of = a .case .object-room in
+          let room-of = a .given .tables .objects-fit in
           let v = first-value (a .block) in
           let g-is : g ≡ fault-of (first (reference-faults (f .objects) q (sort-of (x .value .class)) (x .value))) =
-          r f q (x .value) (a .case .situation) (a .case .objects) (a .case .object-count) (omega arith) n (v .bytes ∙ sym (ap₂ (partOf s) (pa ∙ value-place) (pl ∙ value-size)))
+          r f q (x .value) (a .given .tables .situation) (a .given .tables .in-objects) (a .given .tables .objects) (omega arith) n (v .bytes ∙ sym (ap₂ (partOf s) (pa ∙ value-place) (pl ∙ value-size)))
           (sym (pa ∙ value-place)) (sym (pc ∙ value-code)) in
           ap₂ sooner-of g-is (brace-fault (x .brace) brace (pb ∙ brace-place) (first-brace (a .block)))
           ∙ sym (fault-append (reference-faults (f .objects) q (sort-of (x .value .class)) (x .value)) (brace-faults (x .brace))
-          (positive-reference (f .objects) q (sort-of (x .value .class)) (x .value)) (positive-brace (x .brace)))
+          (real (of-reference (f .objects) q (sort-of (x .value .class)) (x .value))) (real (of-brace (x .brace))))
           ∙ unfolded q t
 
   -- From 35 on it is not.
@@ -250,14 +227,13 @@ module _ {s d e o st : List ℕ} {z : Sizes} {k j : ℕ} {f : File} {x : Stateme
       let v = first-value (a .block) in
       let len = getD st (k * 7 + 3) 0 in
       let same-place = pa ∙ value-place in
-      let read : ReadAt s (x .value) at len = record { bytes = v .bytes ∙ sym (ap₂ (partOf s) same-place value-size); number = v .number ∙ ap (λ p. num-of-step (stepAt s p)) (sym same-place) } in
+      let T = a .given .tables in
       let taken : b ≡ fits (y .definition) (y .values) (x .value) =
-      r e (z .enumerators) len (subst (λ p. FindsWord s d e (z .enumerators) j p len u) (sym pa) w) f y (x .value) (a .case .situation) (a .case .definitions) (a .case .enumerators)
-      (subst (λ i. RowOf f i y) (a .row) (row-of-definition (a .case .situation) (a .stands) (a .has)))
-      (row-room j (a .case) (a .stands) (a .has) (a .row)) (all-reached (a .case) (y .values)) read (sym (pc ∙ value-code)) in
+      r e (z .enumerators) len (subst (λ p. FindsWord s d e (z .enumerators) j p len u) (sym pa) w) f y (x .value) (T .situation) (T .in-definitions) (T .in-enumerators)
+      (row .row-of) (row .low) (reached T (y .values)) (read-at v same-place value-size) (sym (pc ∙ value-code)) in
       ap (λ t. faultIf (not t) 15 at) taken
-      ∙ fault-one (not (fits (y .definition) (y .values) (x .value))) (x .value) 15 at (sym same-place)
-      ∙ go (q ∙ type-cell) type-formed
+      ∙ fault-at (not (fits (y .definition) (y .values) (x .value))) (x .value) 15 at (sym same-place)
+      ∙ go (q ∙ row .type-code) type-formed
     where
       no-reference : (u : AttributeType) → y .definition .type ≡ u
           → faults-as u (f .objects) x y ≡ fault-if (not (fits (y .definition) (y .values) (x .value))) (x .value) 15
@@ -275,18 +251,18 @@ module _ {s d e o st : List ℕ} {z : Sizes} {k j : ℕ} {f : File} {x : Stateme
   -- A list may be stated again.
   pub again-list : (c : ℕ) (before : Statements) → c ≡ getD d (j * 19 + 6) 0 → (c ≡ 0 → ⊥) → false ≡ both (not (y .definition .list)) (among (x .name) (names before))
   unfolding faults-as bit
-  again-list c before e h = go (y .definition .list) (e ∙ list-cell)
+  again-list c before e h = go (y .definition .list) (e ∙ row .list-mark)
     where
       go : (b : Bool) → c ≡ bit b → false ≡ both (not b) (among (x .name) (names before))
       go true q = refl
       go false q = absurd (h q)
 
   -- A single attribute may not.
-  pub again-single : (c m : ℕ) (r : Bool) (before : Statements) → c ≡ getD d (j * 19 + 6) 0 → c ≡ 0 → BlockAt s st m k before
-      → IsStated s st m k (getD st (k * 7 + 0) 0) (getD st (k * 7 + 1) 0) r → r ≡ both (not (y .definition .list)) (among (x .name) (names before))
+  pub again-single : (c m n : ℕ) (r : Bool) (before : Statements) → c ≡ getD d (j * 19 + 6) 0 → c ≡ 0
+      → BlockAt s st m n (then before (state x (a .inside) (a .rest))) → k ≡ m + statements-in before → IsBefore s st m k n r → r ≡ both (not (y .definition .list)) (among (x .name) (names before))
   unfolding faults-as bit
-  again-single c m r before e h b g =
-      g before (x .name) b (first-name (a .block) .bytes ∙ sym (ap₂ (partOf s) name-place name-size)) ∙ go (y .definition .list) (sym h ∙ e ∙ list-cell)
+  again-single c m n r before e h b q g =
+      g before x (a .inside) (a .rest) b q ∙ go (y .definition .list) (sym h ∙ e ∙ row .list-mark)
     where
       go : (t : Bool) → 0 ≡ bit t → among (x .name) (names before) ≡ both (not t) (among (x .name) (names before))
       go true q = absurd (one-zero q)
@@ -298,8 +274,8 @@ module _ {s d e o st : List ℕ} {z : Sizes} {k j : ℕ} {f : File} {x : Stateme
   unfolding own-faults
   own-by name r g before n e q =
       let t = both (not (y .definition .list)) (among (x .name) (names before)) in
-      ap₂ sooner-of (ap (λ b. faultIf b 14 name) e ∙ fault-one t (x .name) 14 name (sym (n ∙ name-place))) q
-      ∙ sym (fault-append (fault-if t (x .name) 14) (faults-as (y .definition .type) (f .objects) x y) (positive-if t (x .name) 14 (omega arith)) (positive-as (y .definition .type) (f .objects) x y))
+      ap₂ sooner-of (ap (λ b. faultIf b 14 name) e ∙ fault-at t (x .name) 14 name (sym (n ∙ name-place))) q
+      ∙ sym (fault-append (fault-if t (x .name) 14) (faults-as (y .definition .type) (f .objects) x y) (real-if t (x .name) 14 (omega arith)) (real (of-type (y .definition .type) (f .objects) x y)))
 
 -- 16 ---------------------------------------------------------------------------------------------------------------------------------------
 
@@ -311,10 +287,10 @@ module _ (s d st ms : List ℕ) (z : Sizes) (key m n owner : ℕ) where
     where
       go : {k : ℕ} {us : Definitions} → ScopeAt f k us → k ≡ 0 → record { number = 0; place = 0 } ≡ fault-of (first (fault-if (lacks us (names ss)) w 16))
       go no-scope q = refl
-      go (scope g t) q = let l = file-stands (c .case .situation) t .0 .later in absurd (omega arith)
+      go (scope g t) q = let l = file-stands (c .given .tables .situation) t .0 .later in absurd (omega arith)
 
   pub lack-some : (r : Bool) → (key ≡ 0 → ⊥) → Lacks s d st ms (z .definitions) key m n r → LackFault s d st ms z key m n owner (faultIf r 16 owner)
-  lack-some r h l e o f ds ss w c b p = ap (λ t. faultIf t 16 owner) (go (c .scope) h l b) ∙ fault-one (lacks ds (names ss)) w 16 owner p
+  lack-some r h l e o f ds ss w c b p = ap (λ t. faultIf t 16 owner) (go (c .scope) h l b) ∙ fault-at (lacks ds (names ss)) w 16 owner p
     where
       go : {k : ℕ} {us : Definitions} → ScopeAt f k us → (k ≡ 0 → ⊥) → Lacks s d st ms (z .definitions) k m n r → BlockAt s st m n ss → r ≡ lacks us (names ss)
       go no-scope q g t = absurd (q refl)
@@ -324,14 +300,19 @@ module _ (s d st ms : List ℕ) (z : Sizes) (key m n owner : ℕ) where
             enumerator-table = e;
             object-table = o;
             sizes = z;
-            case = c .case;
+            given = c .given;
             most = omega arith;
             marked = c .marked;
             stands = t;
             place = i;
             block = t′;
           })
-          (λ x y. row-less (c .case) t y)
+          (stands-below (c .given .tables) t)
+
+  -- Nothing that must be stated stands under the word.
+  pub lack-unowned : (u : List ℕ) → (key ≡ 0 → ⊥) → Owners d ms u → Tells u key false → LackFault s d st ms z key m n owner (record { number = 0; place = 0 })
+  unfolding faultIf
+  lack-unowned u h w t = lack-some false h (unowned s d st ms u (z .definitions) key m n w t)
 
 -- One statement ----------------------------------------------------------------------------------------------------------------------------
 
@@ -345,14 +326,10 @@ record FoundAs (o : Option Defined) (j : ℕ) : Type 0 where
   is : o ≡ some defined
   row : defined .definition .row ≡ j
 
-at-row : Found → ℕ
-at-row (At i) = i
-at-row Nothing = 0
-
 row-found-as : (o : Option Defined) (j : ℕ) → At j ≡ row-found o → FoundAs o j
-unfolding row-found at-row
+unfolding row-found rowOf
 row-found-as none j h = absurd (false≢true (sym (ap isFound h)))
-row-found-as (some y) j h = record { defined = y; is = refl; row = sym (ap at-row h) }
+row-found-as (some y) j h = record { defined = y; is = refl; row = sym (ap rowOf h) }
 
 -- The word that a found definition stands under.
 record Standing-under (f : File) (ds : Definitions) : Type 0 where
@@ -367,25 +344,27 @@ unfolding and-inside first fault-of isFault
 inside-fault [] x us ns k h = absurd (false≢true h)
 inside-fault (f ∷ fs) x us ns k h = refl
 
-fault-number : (g : Fault) → isFault g ≡ false → g .number ≡ 0
-unfolding isFault
-fault-number g h = eqb-true (g .number) 0 (not-false (eqb (g .number) 0) h)
+module _ (s d e o st ms : List ℕ) (z : Sizes) (key m k n v name size : ℕ) (pn : name ≡ getD st (k * 7 + 0) 0) (ps : size ≡ getD st (k * 7 + 1) 0) where
+  -- The block from the statement on.
+  own-at : (before : Statements) {x : Statement} {inside rest : Statements} → BlockAt s st m v (then before (state x inside rest)) → k ≡ m + statements-in before
+      → BlockAt s st k v (state x inside rest)
+  own-at before {x} {inside} {rest} b q = subst (λ u. BlockAt s st u v (state x inside rest)) (sym q) (back-at before (state x inside rest) b)
 
-module _ (s d e o st ms : List ℕ) (z : Sizes) (key m k n name size : ℕ) (pn : name ≡ getD st (k * 7 + 0) 0) (ps : size ≡ getD st (k * 7 + 1) 0) where
   -- The definition of the statement's name.
   looked-up : {f : File} {ds : Definitions} {x : Statement} {inside rest : Statements} {after : ℕ} (r : Found) → Scoped s d e o st ms z key f ds → BlockAt s st k after (state x inside rest)
       → FindsDefinition s d (z .definitions) key name size r → r ≡ row-found (find-definition ds (x .name))
   unfolding statement-cells
   looked-up {f} {ds} {x} r c b g =
-      let l = c .case .definition-room in
-      g f ds (x .name) (c .case .situation) (c .case .definitions) (c .case .definition-count) (omega arith) (c .scope)
+      let l = c .given .tables .definitions-fit in
+      g f ds (x .name) (c .given .tables .situation) (c .given .tables .in-definitions) (c .given .tables .definitions) (omega arith) (c .scope)
       (first-name b .bytes ∙ sym (ap₂ (partOf s) (pn ∙ first-cell b 0 (omega arith)) (ps ∙ first-cell b 1 (omega arith))))
 
-  pub one-undefined : FindsDefinition s d (z .definitions) key name size Nothing → JudgesOne s d e o st ms z key m k n (record { number = 13; place = name })
+  pub one-undefined : FindsDefinition s d (z .definitions) key name size Nothing → JudgesOne s d e o st ms z key m k n v (record { number = 13; place = name })
   unfolding judged faultIf statement-cells
-  one-undefined g f ds before x inside rest after c b a q =
+  one-undefined g f ds before x inside rest c b p q =
+      let a = own-at before b p in
       let h = row-nothing (find-definition ds (x .name)) (looked-up Nothing c a g) in
-      fault-one true (x .name) 13 name (sym (pn ∙ first-cell a 0 (omega arith)))
+      fault-at true (x .name) 13 name (sym (pn ∙ first-cell a 0 (omega arith)))
       ∙ ap (λ t. fault-of (first (judged t (f .objects) x (names before) (names inside) (λ us. judge inside (f .objects) us [])))) (sym h)
 
   stated-as : {f : File} {ds : Definitions} {x : Statement} {inside rest : Statements} {after : ℕ} (j : ℕ) (y : Defined) → Scoped s d e o st ms z key f ds
@@ -393,37 +372,40 @@ module _ (s d e o st ms : List ℕ) (z : Sizes) (key m k n name size : ℕ) (pn 
   stated-as {f} {ds} {x} {inside} {rest} {after} j y c b h r =
       let t = found-definition ds (x .name) h in
       let u = stands-of (c .scope) t in
-      record { case = c .case; inside = inside; rest = rest; after = after; block = b; under = u .word-of; scope = ds; stands = u .stands; has = t; row = r }
+      record { given = c .given; inside = inside; rest = rest; after = after; block = b; attribute = record { under = u .word-of; scope = ds; stands = u .stands; has = t; row = r } }
 
-  pub one-fault : (j : ℕ) (g : Fault) → FindsDefinition s d (z .definitions) key name size (At j) → OwnFault s d e o st z m k j g → isFault g ≡ true → JudgesOne s d e o st ms z key m k n g
-  unfolding judged
-  one-fault j g p w h f ds before x inside rest after c b a q =
+  pub one-fault : (j : ℕ) (g : Fault) → FindsDefinition s d (z .definitions) key name size (At j) → OwnFault s d e o st z m k v j g → isFault g ≡ true → JudgesOne s d e o st ms z key m k n v g
+  unfolding judged stated-as
+  one-fault j g p w h f ds before x inside rest c b t q =
+      let a = own-at before b t in
       let y = row-found-as (find-definition ds (x .name)) j (looked-up (At j) c a p) in
-      let i = w f x (y .defined) before (stated-as j (y .defined) c a (y .is) (y .row)) b in
+      let i = w f x (y .defined) before (stated-as j (y .defined) c a (y .is) (y .row)) b t in
       i
       ∙ ap (λ l. fault-of (first l)) (sym (inside-fault (own-faults (f .objects) x (y .defined) (names before)) x (under (y .defined .values) (x .value)) (names inside) (λ us. judge inside (f .objects) us [])
       (ap isFault (sym i) ∙ h)))
       ∙ ap (λ t. fault-of (first (judged t (f .objects) x (names before) (names inside) (λ us. judge inside (f .objects) us [])))) (sym (y .is))
 
-  pub one-inside : (j at len key′ : ℕ) (g r : Fault) → FindsDefinition s d (z .definitions) key name size (At j) → OwnFault s d e o st z m k j g → isFault g ≡ false
+  pub one-inside : (j at len key′ : ℕ) (g r : Fault) → FindsDefinition s d (z .definitions) key name size (At j) → OwnFault s d e o st z m k v j g → isFault g ≡ false
       → at ≡ getD st (k * 7 + 2) 0 → len ≡ getD st (k * 7 + 3) 0 → FindsWord s d e (z .enumerators) j at len key′ → JudgesBlock s d e o st ms z key′ (k + 1) n at r
-      → JudgesOne s d e o st ms z key m k n r
-  unfolding judged and-inside statement-cells
-  one-inside j at len key′ g r p w h pa pl v l f ds before x inside rest after c b a q =
+      → JudgesOne s d e o st ms z key m k n v r
+  unfolding judged and-inside statement-cells stated-as
+  one-inside j at len key′ g r p w h pa pl u l f ds before x inside rest c b i₀ q =
+      let a = own-at before b i₀ in
       let y = row-found-as (find-definition ds (x .name)) j (looked-up (At j) c a p) in
       let t = y .defined in
       let sa = stated-as j t c a (y .is) (y .row) in
-      let i = w f x t before sa b in
-      let none-own = no-fault (own-faults (f .objects) x t (names before)) (positive-own (f .objects) x t (names before)) (ap (λ (u : Fault). u .number) (sym i) ∙ fault-number g h) in
-      let vi = first-value a in
+      let i = w f x t before sa b i₀ in
+      let L = own-faults (f .objects) x t (names before) in
+      let none-own = no-first L (none-there (first L) (of-first L (of-own (f .objects) x t (names before))) (ap (λ (u : Fault). u .number) (sym i) ∙ is-none g h)) in
+      let T = c .given .tables in
+      let R = known T (sa .attribute) in
       let pa′ = pa ∙ first-cell a 2 (omega arith) in
-      let key-is = v f t (x .value) (c .case .situation) (c .case .definitions) (c .case .enumerators)
-      (subst (λ u. RowOf f u t) (y .row) (row-of-definition (c .case .situation) (sa .stands) (sa .has))) (row-room j (c .case) (sa .stands) (sa .has) (y .row)) (all-reached (c .case) (t .values))
-      (vi .bytes ∙ sym (ap₂ (partOf s) pa′ (pl ∙ first-cell a 3 (omega arith)))) in
-      let sc : ScopeAt f key′ (under (t .values) (x .value)) = subst (λ u. ScopeAt f u (under (t .values) (x .value))) (sym key-is) (scope-under (x .value) (c .case .situation) (row-of-definition (c .case .situation) (sa .stands) (sa .has))) in
+      let key-is = u f t (x .value) (T .situation) (T .in-definitions) (T .in-enumerators) (R .row-of) (R .low) (reached T (t .values))
+      (read-at (first-value a) pa′ (pl ∙ first-cell a 3 (omega arith)) .bytes) in
+      let sc : ScopeAt f key′ (under (t .values) (x .value)) = subst (λ u. ScopeAt f u (under (t .values) (x .value))) (sym key-is) (scope-under (x .value) (T .situation) (R .row-of)) in
       let k₁ : suc k ≡ k + 1 = omega arith in
       let bi : BlockAt s st (k + 1) n inside = subst (λ u. BlockAt s st u n inside) k₁ (subst (λ u. BlockAt s st (suc k) u inside) (sym q) (inside-at a)) in
-      l f (under (t .values) (x .value)) inside (x .value) (record { case = c .case; marked = c .marked; scope = sc }) bi (sym pa′)
+      l f (under (t .values) (x .value)) inside (x .value) (record { given = c .given; marked = c .marked; scope = sc }) bi (sym pa′)
       ∙ ap (λ w. fault-of (first (and-inside w x (under (t .values) (x .value)) (names inside) (λ us. judge inside (f .objects) us [])))) (sym none-own)
       ∙ ap (λ t. fault-of (first (judged t (f .objects) x (names before) (names inside) (λ us. judge inside (f .objects) us [])))) (sym (y .is))
 
@@ -440,7 +422,13 @@ pub block-by : (s d e o st ms : List ℕ) (z : Sizes) (key m n owner : ℕ) (a b
 block-by s d e o st ms z key m n owner a b r i g h f ds ss w c t p =
     i
     ∙ ap₂ sooner-of (g e o f ds ss w c t p) (h f ds ss c t)
-    ∙ sym (fault-append (fault-if (lacks ds (names ss)) w 16) (judge ss (f .objects) ds []) (positive-if (lacks ds (names ss)) w 16 (omega arith)) (positive-judge ss (f .objects) ds []))
+    ∙ sym (fault-append (fault-if (lacks ds (names ss)) w 16) (judge ss (f .objects) ds []) (real-if (lacks ds (names ss)) w 16 (omega arith)) (real (of-judge ss (f .objects) ds [])))
+
+-- An empty one.
+pub block-empty : (s d e o st ms : List ℕ) (z : Sizes) (key m n owner : ℕ) (r : Fault) → n ≤ m → LackFault s d st ms z key m n owner r → JudgesBlock s d e o st ms z key m n owner r
+unfolding statements-in judge
+block-empty s d e o st ms z key m n owner r l g f ds done w c t p = g e o f ds done w c t p ∙ ap (λ v. fault-of (first v)) (sym (append-nil (fault-if (lacks ds (names done)) w 16)))
+block-empty s d e o st ms z key m n owner r l g f ds (state x inside rest) w c t p = let q = t .after in absurd (omega arith)
 
 -- The loop over a block's own statements: those in front are judged.
 pub record Gone (m k : ℕ) (f : File) (ds : Definitions) (ss : Statements) (best : Fault) : Type 0 where
@@ -468,7 +456,7 @@ module _ (s d e o st ms : List ℕ) (z : Sizes) (key m n : ℕ) where
   unfolding then statements-in judge first fault-of
   judging-start f ds ss c b = record { front = done; rest = ss; whole = refl; row = omega arith; found = refl }
 
-  pub judging-more : (k : ℕ) (best g : Fault) → k < n → JudgesOne s d e o st ms z key m k (row-after st k n) g → Judging s d e o st ms z key m n k best
+  pub judging-more : (k : ℕ) (best g : Fault) → k < n → JudgesOne s d e o st ms z key m k (row-after st k n) n g → Judging s d e o st ms z key m n k best
       → Judging s d e o st ms z key m n (row-after st k n) (sooner-of best g)
   unfolding then statements-in judge
   judging-more k best g h w i f ds ss c b = go (i f ds ss c b .front) (i f ds ss c b .rest) (i f ds ss c b .whole) (i f ds ss c b .row) (i f ds ss c b .found)
@@ -482,10 +470,9 @@ module _ (s d e o st ms : List ℕ) (z : Sizes) (key m n : ℕ) where
           absurd (omega arith)
       go front (state x inside rest) p q t =
           let b′ : BlockAt s st m n (then front (state x inside rest)) = subst (BlockAt s st m n) p b in
-          let bf : BlockAt s st m k front = subst (λ u. BlockAt s st m u front) (sym q) (front-at front (state x inside rest) b′) in
           let bb : BlockAt s st k n (state x inside rest) = subst (λ u. BlockAt s st u n (state x inside rest)) (sym q) (back-at front (state x inside rest) b′) in
           let a = first-after bb in
-          let v = w f ds front x inside rest n c bf bb a in
+          let v = w f ds front x inside rest c b′ q a in
           let j = judged (find-definition ds (x .name)) (f .objects) x (names front) (names inside) (λ us. judge inside (f .objects) us []) in
           let one : judge (state x inside done) (f .objects) ds (names front) ≡ j = append-nil j in
           let l = in-then front (state x inside done) in
@@ -495,18 +482,18 @@ module _ (s d e o st ms : List ℕ) (z : Sizes) (key m n : ℕ) where
             whole = p ∙ sym (then-assoc front (state x inside done) rest);
             row = omega arith;
             found = ap₂ sooner-of t v
-                ∙ sym (fault-append (judge front (f .objects) ds []) j (positive-judge front (f .objects) ds [])
-                (positive-judged (find-definition ds (x .name)) (f .objects) x (names front) (names inside) (λ us. judge inside (f .objects) us []) (λ us. positive-judge inside (f .objects) us [])))
+                ∙ sym (fault-append (judge front (f .objects) ds []) j (real (of-judge front (f .objects) ds []))
+                (real (of-judged (find-definition ds (x .name)) (f .objects) x (names front) (names inside) (λ us. judge inside (f .objects) us []) (λ us. of-judge inside (f .objects) us []))))
                 ∙ ap (λ r. fault-of (first (judge front (f .objects) ds [] ++ r))) (sym one)
                 ∙ ap (λ r. fault-of (first r)) (sym (judge-then front (state x inside done) (f .objects) ds []));
           }
 
-  pub judging-step : (k next : ℕ) (best g r : Fault) → next ≡ row-after st k n → r ≡ sooner-of best g → k < n → JudgesOne s d e o st ms z key m k next g
+  pub judging-step : (k next : ℕ) (best g r : Fault) → next ≡ row-after st k n → r ≡ sooner-of best g → k < n → JudgesOne s d e o st ms z key m k next n g
       → Judging s d e o st ms z key m n k best → Judging s d e o st ms z key m n next r
   judging-step k next best g r p q h w i =
       subst (λ b. Judging s d e o st ms z key m n next b) (sym q)
       (subst (λ a. Judging s d e o st ms z key m n a (sooner-of best g)) (sym p)
-      (judging-more k best g h (subst (λ a. JudgesOne s d e o st ms z key m k a g) p w) i))
+      (judging-more k best g h (subst (λ a. JudgesOne s d e o st ms z key m k a n g) p w) i))
 
   pub judging-end : (k : ℕ) (best : Fault) → n ≤ k → Judging s d e o st ms z key m n k best → Judges s d e o st ms z key m n best
   unfolding statements-in
@@ -526,35 +513,17 @@ module _ (s d e o st ms : List ℕ) (z : Sizes) (key m n : ℕ) where
 pub object-by : (s d e o st ms : List ℕ) (z : Sizes) (ps : List ℕ) (i kind key owner m n : ℕ) (r : Fault)
     → kind ≡ getD o (i * 9 + 0) 0 → key ≡ getD ps kind 0 → owner ≡ getD o (i * 9 + 3) 0 → m ≡ getD o (i * 9 + 7) 0 → n ≡ getD o (i * 9 + 8) 0
     → JudgesBlock s d e o st ms z key m n owner r → JudgesObject s d e o st ms z ps i r
-unfolding object-cells judge-object
-object-by s d e o st ms z ps i kind key owner m n r pk py po pm pn g f front x rest c mk pl w q =
-    let l = c .object-room in
-    let l′ = c .object-count in
-    let l″ = c .statement-room in
-    let cell : (a : ℕ) → a < 9 → getD o (i * 9 + a) 0 ≡ getD (object-cells x (statement-count front)) a 0 =
-    λ a h. ap (λ j. getD o (j * 9 + a) 0) (sym q) ∙ object-cell s f front x rest w o (c .objects) (omega arith) a h in
-    let kind-is : kind ≡ kind-number (x .kind) = pk ∙ cell 0 (omega arith) in
-    let key-is : key ≡ kind-place (kind-number (x .kind)) (f .specs) = py ∙ ap (λ a. getD ps a 0) kind-is ∙ pl (x .kind) in
-    let m-is : m ≡ statement-count front = pm ∙ cell 7 (omega arith) in
-    let n-is : n ≡ statement-count front + statements-in (x .statements) = pn ∙ cell 8 (omega arith) in
-    let ws = subst (λ h. AllIn s (object-words (h .objects))) (sym (c .situation .syntax-of)) (objects-in s _ (file-in s (c .situation .derivation))) in
-    let b = object-block s f front x rest w st (c .statements) (omega arith) ws in
-    g f (of-kind (x .kind) (f .specs)) (x .statements) (x .name)
-    (record { case = c; marked = mk; scope = subst (λ a. ScopeAt f a (of-kind (x .kind) (f .specs))) (sym key-is) (scope-of-kind f (x .kind)) })
-    (subst (λ a. BlockAt s st a n (x .statements)) (sym m-is) (subst (λ a. BlockAt s st (statement-count front) a (x .statements)) (sym n-is) b))
-    (sym (po ∙ cell 3 (omega arith)))
-
-positive-object : (f : File) (x : Object) (ds : Definitions) → Positive (judge-object f x ds)
 unfolding judge-object
-positive-object f x ds =
-    positive-append (fault-if (lacks ds (names (x .statements))) (x .name) 16) (judge (x .statements) (f .objects) ds [])
-    (positive-if (lacks ds (names (x .statements))) (x .name) 16 (omega arith)) (positive-judge (x .statements) (f .objects) ds [])
-
-positive-objects : (f : File) (xs : List Object) → Positive (judge-objects f xs)
-unfolding judge-objects
-positive-objects f [] = tt
-positive-objects f (x ∷ xs) =
-    positive-append (judge-object f x (of-kind (x .kind) (f .specs))) (judge-objects f xs) (positive-object f x (of-kind (x .kind) (f .specs))) (positive-objects f xs)
+object-by s d e o st ms z ps i kind key owner m n r pk py po pm pn g f front x rest c mk pl w q =
+    let R = kept-object front x rest c w q in
+    let kind-is : kind ≡ kind-number (x .kind) = pk ∙ R .kind in
+    let key-is : key ≡ kind-place (kind-number (x .kind)) (f .specs) = py ∙ ap (λ a. getD ps a 0) kind-is ∙ pl .place (x .kind) in
+    let m-is : m ≡ statement-count front = pm ∙ R .from in
+    let n-is : n ≡ statement-count front + statements-in (x .statements) = pn ∙ R .till in
+    g f (of-kind (x .kind) (f .specs)) (x .statements) (x .name)
+    (record { given = c; marked = mk; scope = subst (λ a. ScopeAt f a (of-kind (x .kind) (f .specs))) (sym key-is) (scope-of-kind f (x .kind)) })
+    (subst (λ a. BlockAt s st a n (x .statements)) (sym m-is) (subst (λ a. BlockAt s st (statement-count front) a (x .statements)) (sym n-is) (R .block)))
+    (sym (po ∙ R .name))
 
 objects-append : (f : File) (a : List Object) (x : Object) → judge-objects f (a ++ (x ∷ [])) ≡ judge-objects f a ++ judge-object f x (of-kind (x .kind) (f .specs))
 unfolding judge-objects
@@ -572,7 +541,7 @@ pub record GoneObjects (i : ℕ) (f : File) (best : Fault) : Type 0 where
   pub found : best ≡ fault-of (first (judge-objects f front))
 
 abbrev pub JudgingObjects : (s d e o st ms : List ℕ) → Sizes → (ps : List ℕ) → ℕ → Fault → Type 0
-JudgingObjects s d e o st ms z ps i best = (f : File) → Case s d e o st z f → Marked f ms (z .definitions) → Places f ps → GoneObjects i f best
+JudgingObjects s d e o st ms z ps i best = (f : File) → Given s d e o st z f → Marked f ms (z .definitions) → Places f ps → GoneObjects i f best
 
 module _ (s d e o st ms : List ℕ) (z : Sizes) (ps : List ℕ) where
   pub objects-start : JudgingObjects s d e o st ms z ps 0 (record { number = 0; place = 0 })
@@ -585,7 +554,7 @@ module _ (s d e o st ms : List ℕ) (z : Sizes) (ps : List ℕ) where
     where
       go : (front rest : List Object) → f .objects ≡ front ++ rest → length front ≡ i → best ≡ fault-of (first (judge-objects f front)) → GoneObjects (i + 1) f (sooner-of best g)
       go front [] p q t =
-          let l = c .object-count in
+          let l = c .tables .objects in
           let l′ = ap (λ (a : List Object). length a) (p ∙ append-nil front) in
           absurd (omega arith)
       go front (x ∷ rest) p q t =
@@ -597,7 +566,7 @@ module _ (s d e o st ms : List ℕ) (z : Sizes) (ps : List ℕ) where
             whole = p ∙ sym (append-assoc front (x ∷ []) rest);
             row = omega arith;
             found = ap₂ sooner-of t (w f front x rest c mk pl p q)
-                ∙ sym (fault-append (judge-objects f front) j (positive-objects f front) (positive-object f x (of-kind (x .kind) (f .specs))))
+                ∙ sym (fault-append (judge-objects f front) j (real (of-objects-judged f front)) (real (of-object f x (of-kind (x .kind) (f .specs)))))
                 ∙ ap (λ r. fault-of (first r)) (sym (objects-append f front x));
           }
 
@@ -612,7 +581,7 @@ module _ (s d e o st ms : List ℕ) (z : Sizes) (ps : List ℕ) where
       go : (front rest : List Object) → f .objects ≡ front ++ rest → length front ≡ i → best ≡ fault-of (first (judge-objects f front)) → best ≡ fault-of (first (judge-objects f (f .objects)))
       go front [] p q t = t ∙ ap (λ r. fault-of (first (judge-objects f r))) (sym (p ∙ append-nil front))
       go front (x ∷ rest) p q t =
-          let l = c .object-count in
+          let l = c .tables .objects in
           let l′ = ap (λ (a : List Object). length a) p in
           let l″ = length-append front (x ∷ rest) in
           absurd (omega arith)

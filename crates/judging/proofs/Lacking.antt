@@ -1,6 +1,6 @@
 -- What must be stated: the marks of the rows, and what a block lacks by them. Assumes nothing.
-use mathlib.Core.Path.{_≡_, refl, sym, _∙_, ap, ap₂, subst}
-use mathlib.Core.List.{List, [], _∷_, append-nil}
+use mathlib.Core.Path.{_≡_, refl, sym, _∙_, ap, subst}
+use mathlib.Core.List.{List, [], _∷_}
 use mathlib.Core.Bool.{Bool, true, false, not, false≢true}
 use mathlib.Core.Option.{Option, none, some}
 use Prim.Native.Nat.{ℕ, zero, suc, _+_, _*_, _≤_, _<_}
@@ -9,35 +9,33 @@ use native.Mathlib.Decide.{ℕ-discrete, decLt}
 use lib.ListN.{length, getD, set, drop, List·getD-append}
 use lib.Seq.{getD-set-same, getD-set-other, sets, sets-eq}
 use lib.Dec.{eqb}
-use borrow.Author.Tests.{eq-eqb, ne-eqb, eqb-true}
-use Rattle.token.specs.Find.{both, either}
-use Rattle.token.specs.Tokens.{partOf}
-use Rattle.grammar.specs.Grammar.{Class, ordinary, numeral, quoted, other, kind-word, type-word, integer-word, word, sign, OIL-VERSION, IMPLEMENTATION, CPU, STRING, BOOLEAN, ENUM, TRUE, FALSE, AUTO, NO-DEFAULT, WITH-AUTO, lbrace, rbrace, lsquare, rsquare, equals, semicolon, colon, comma, dots}
+use borrow.Author.Tests.{eq-eqb, eqb-true}
+use Rattle.token.specs.Find.{both, either, bit}
+use Rattle.grammar.specs.Grammar.{word}
 use Rattle.rows.specs.declared.Found.the-variants.{At, Nothing}
 use Rattle.rows.specs.Search.{hasKey, findRow}
 use Rattle.rows.proofs.Searches.{found-first, nothing-none}
-use Rattle.meaning.specs.Syntax.{Word, span-of, span-or, absent, Definitions, no-more, define, Values, Defined, Statements, done, File, statements-in}
+use Rattle.meaning.specs.Syntax.{Word, Definitions, no-more, define, Defined, Statements, done, File, statements-in}
 use Rattle.meaning.specs.Words.{among}
-use Rattle.meaning.specs.Kinds.{kind-number}
-use Rattle.meaning.specs.Scopes.{Under, find-value, definitions-or, under, names, sort-of, sort-of-word}
-use Rattle.meaning.specs.Judging.{is-no-default, taken-by, taken, lacking, lacks, lacks-under}
-use Rattle.meaning.proofs.Sites.{option-words}
-use Rattle.layout.specs.Kept.{spec-entries, spec-choices, bit, class-number, given-number, sign-number, integer-number, code-of, default-code, statement-rows, all-statement-rows}
+use Rattle.meaning.specs.Scopes.{Under, find-value, definitions-or, under, names}
+use Rattle.meaning.specs.Judging.{taken, lacking, lacks, lacks-under}
+use Rattle.layout.specs.Kept.{spec-entries, statement-rows}
 use Rattle.amounts.specs.Known.{Known}
 use Rattle.amounts.proofs.Frames.{known-marked}
-use Rattle.blocks.specs.Blocks.{Holds, AllIn, none-in, IsStated}
-use Rattle.blocks.proofs.Files.{statements-held}
-use Rattle.scopes.specs.Situations.{HasDefinition, this-definition, later-definition, Stands, under-value, Nth, RowOf, Reached}
+use Rattle.blocks.specs.Blocks.{IsStated}
+use Rattle.scopes.specs.Situations.{HasDefinition, this-definition, later-definition, under-value, Nth}
+use Rattle.scopes.specs.Given.{Given, Attribute}
 use Rattle.scopes.specs.Promises.{place-found, FindsWord}
-use Rattle.scopes.proofs.Descents.{found-value, row-of-definition}
-use Rattle.judging.specs.Promises.{Case, needed, Marked, Owned, lack, RowLacks, LacksRow, Lacks, Needs}
-use Rattle.judging.specs.declared.Sizes.{Sizes}
-use Rattle.lookups.proofs.Standings.{stands-at, under-below, nth-row, words-definition, file-stands}
+use Rattle.scopes.proofs.Descents.{found-value}
+use Rattle.sorting.specs.Sorted.{among-cells, Tells}
+use Rattle.lookups.specs.Owners.{Owners}
+use Rattle.judging.specs.Promises.{needed, Marked, Owned, lack, RowLacks, LacksRow, Lacks, Needs}
+use Rattle.scopes.specs.declared.Sizes.{Sizes}
+use Rattle.lookups.proofs.Standings.{file-stands}
+use Rattle.lookups.proofs.Attributes.{read-at, AttributeRow, under-cell, stands-below, reached, known, name-at, value-below, none-given, not-taken, default-word, nothing-at}
 use Rattle.judging.proofs.Standings.{in-scope}
-use Rattle.judging.proofs.Tables.{cell-under, cell-name, cell-size, cell-list, cell-default, cell-default-size, cell-default-code}
 use Rattle.token.proofs.Bytes.{both-false}
 use Rattle.meaning.proofs.Unders.{lacks-there}
-use Rattle.scopes.proofs.Rooms.{nth-low}
 
 -- Some and none ----------------------------------------------------------------------------------------------------------------------------
 
@@ -86,28 +84,24 @@ both-true : (b : Bool) → both b true ≡ b
 both-true true = refl
 both-true false = refl
 
-pub in-room : {s d e o st : List ℕ} {z : Sizes} {f : File} → Case s d e o st z f → length (spec-entries (f .specs)) ≤ 513
-in-room c = let a = c .definition-count in let b = c .definition-room in omega arith
-
 module _ {s d st ms : List ℕ} {n key m e : ℕ} {f : File} {u : Word} {ds : Definitions} {ss : Statements} (o : Owned s d st ms n key m e f u ds ss) (i : ℕ) where
+  own-row : {x : Defined} → HasDefinition ds x → x .definition .row ≡ i → Attribute f i x
+  own-row h r = record { under = u; scope = ds; stands = o .stands; has = h; row = r }
+
   -- The row stands under another word.
   pub row-other : (getD d (i * 19 + 0) 0 ≡ key → ⊥) → RowLacks ds (names ss) i false
+  unfolding own-row
   row-other g = record {
-    own = λ x h r.
-        let a = stands-at (o .case .situation) (o .stands) h in
-        absurd (g (ap (λ j. getD d (j * 19 + 0) 0) (sym r) ∙ cell-under f (o .case .definitions) (in-room (o .case)) (a .nth) ∙ o .place));
+    own = λ x h r. absurd (g (known (o .given .tables) (own-row h r) .under-place ∙ o .place));
     some = λ z. absurd (false≢true z);
   }
-
-  mark-of : i < n → (x : Defined) → HasDefinition ds x → x .definition .row ≡ i → getD ms i 0 ≡ bit (needed x)
-  mark-of h x p r = let k : x .definition .row < n = omega arith in ap (λ j. getD ms j 0) (sym r) ∙ o .marked u ds x (o .stands) p k
 
   -- It does not need to be stated.
   pub row-unmarked : i < n → getD ms i 0 ≡ 0 → RowLacks ds (names ss) i false
   unfolding lack
   row-unmarked h g = record {
     own = λ x p r.
-        sym (ap (both (not (among (x .definition .name) (names ss)))) (bit-zero (needed x) (sym (mark-of h x p r) ∙ g)) ∙ both-false (not (among (x .definition .name) (names ss))));
+        sym (ap (both (not (among (x .definition .name) (names ss)))) (bit-zero (needed x) (sym (o .marked i x (own-row p r) h) ∙ g)) ∙ both-false (not (among (x .definition .name) (names ss))));
     some = λ z. absurd (false≢true z);
   }
 
@@ -116,22 +110,16 @@ module _ {s d st ms : List ℕ} {n key m e : ℕ} {f : File} {u : Word} {ds : De
       → IsStated s st m e (getD d (i * 19 + 2) 0) (getD d (i * 19 + 3) 0) b → RowLacks ds (names ss) i (not b)
   unfolding lack
   row-marked b h k g t =
-      let p = o .case .situation in
-      let c = o .case .definitions in
+      let T = o .given .tables in
       let l₁ = o .most in
-      let l₂ = o .case .definition-count in
+      let l₂ = T .definitions in
       let w = nth-of (spec-entries (f .specs)) i (omega arith) in
-      let y = in-scope p (o .stands) (w .nth) (sym (cell-under f c (in-room (o .case)) (w .nth)) ∙ k ∙ sym (o .place)) in
       record {
         own = λ x q r.
-            let a = stands-at p (o .stands) q in
-            let x₀ : getD d (i * 19 + 2) 0 ≡ x .definition .name .place = ap (λ j. getD d (j * 19 + 2) 0) (sym r) ∙ cell-name f c (in-room (o .case)) (a .nth) in
-            let x₁ : getD d (i * 19 + 3) 0 ≡ x .definition .name .length = ap (λ j. getD d (j * 19 + 3) 0) (sym r) ∙ cell-size f c (in-room (o .case)) (a .nth) in
-            let v = words-definition q (file-stands p (o .stands) .1) .1 .0 in
-            let z : b ≡ among (x .definition .name) (names ss) = t ss (x .definition .name) (o .block) (v .bytes ∙ sym (ap₂ (partOf s) x₀ x₁)) in
-            let j : needed x ≡ true = bit-more (needed x) (λ q′. g (mark-of h x q r ∙ q′)) in
+            let z : b ≡ among (x .definition .name) (names ss) = t ss (x .definition .name) (o .block) (name-at T (own-row q r) (getD d (i * 19 + 2) 0) (getD d (i * 19 + 3) 0) refl refl) in
+            let j : needed x ≡ true = bit-more (needed x) (λ q′. g (o .marked i x (own-row q r) h ∙ q′)) in
             ap not z ∙ sym (ap (both (not (among (x .definition .name) (names ss)))) j ∙ both-true (not (among (x .definition .name) (names ss))));
-        some = λ q. record { defined = y .defined; has = y .has; row = ap (λ v. v .row) (y .definition-is) ∙ nth-row p (w .nth) };
+        some = λ q. in-scope (T .situation) (o .stands) (w .nth) (sym (under-cell T (w .nth)) ∙ k ∙ sym (o .place));
       }
 
 -- The loop over the rows: none of those passed lacks its statement.
@@ -199,37 +187,25 @@ module _ (s d st ms : List ℕ) (n key m e : ℕ) where
   unfolding findRow
   passed-none i g p = passed-end n (omega arith) (passed-on i n (nothing-none (λ k. hasKey d (k * 19) 0 key) n i g) p)
 
--- Attributes that are not stated -----------------------------------------------------------------------------------------------------------
+-- Nothing that must be stated stands under the word.
+pub unowned : (s d st ms u : List ℕ) (n key m e : ℕ) → Owners d ms u → Tells u key false → Lacks s d st ms n key m e false
+unfolding Tells own-row
+unowned s d st ms u n key m e w t f v ds ss o b =
+    sym (none-lacks ds (names ss) (λ x q.
+    let i = x .definition .row in
+    let T = o .given .tables in
+    let h : i < n = b x q in
+    let l₁ = o .most in
+    let l₂ = T .definitions-fit in
+    let under : getD d (i * 19 + 0) 0 ≡ key = known T (own-row o i q refl) .under-place ∙ o .place in
+    go i x q h (omega (arith, h, l₁, l₂)) under (ℕ-discrete (getD ms i 0) 0)))
+  where
+    go : (i : ℕ) (x : Defined) → HasDefinition ds x → x .definition .row < n → x .definition .row < 512 → getD d (x .definition .row * 19 + 0) 0 ≡ key
+        → Dec (getD ms (x .definition .row) 0 ≡ 0) → lack x (names ss) ≡ false
+    go i x q h r c (yes g) = sym (row-unmarked o (x .definition .row) h g .own x q refl)
+    go i x q h r c (no g) = absurd (false≢true (t (w .rising) ∙ ap (λ k. among-cells k u) (sym c) ∙ w .has (x .definition .row) r g))
 
-pub no-default-code : (c : Class) → is-no-default (sort-of c) ≡ eqb (class-number c) 4
-unfolding is-no-default sort-of sort-of-word class-number given-number sign-number
-no-default-code ordinary = refl
-no-default-code numeral = refl
-no-default-code quoted = refl
-no-default-code other = refl
-no-default-code (kind-word k) = sym (ne-eqb (9 + kind-number k) 4 (λ h. omega arith))
-no-default-code (type-word k) = sym (ne-eqb (22 + kind-number k) 4 (λ h. omega arith))
-no-default-code (integer-word i) = sym (ne-eqb (35 + integer-number i) 4 (λ h. omega arith))
-no-default-code (word OIL-VERSION) = refl
-no-default-code (word IMPLEMENTATION) = refl
-no-default-code (word CPU) = refl
-no-default-code (word STRING) = refl
-no-default-code (word BOOLEAN) = refl
-no-default-code (word ENUM) = refl
-no-default-code (word TRUE) = refl
-no-default-code (word FALSE) = refl
-no-default-code (word AUTO) = refl
-no-default-code (word NO-DEFAULT) = refl
-no-default-code (word WITH-AUTO) = refl
-no-default-code (sign lbrace) = refl
-no-default-code (sign rbrace) = refl
-no-default-code (sign lsquare) = refl
-no-default-code (sign rsquare) = refl
-no-default-code (sign equals) = refl
-no-default-code (sign semicolon) = refl
-no-default-code (sign colon) = refl
-no-default-code (sign comma) = refl
-no-default-code (sign dots) = refl
+-- Attributes that are not stated -----------------------------------------------------------------------------------------------------------
 
 -- It takes no default: it is single.
 needs-none : (x : Defined) → taken (x .definition .default) ≡ none → needed x ≡ not (x .definition .list)
@@ -247,86 +223,38 @@ pub record Taking (x : Defined) (key : ℕ) : Type 0 where
   pub takes : taken (x .definition .default) ≡ some word-of
   pub key-is : key ≡ place-found (find-value (x .values) word-of)
 
--- All enumerators are kept.
-pub all-reached : {s d e o st : List ℕ} {z : Sizes} {f : File} → Case s d e o st z f → (vs : Values) → Reached f (z .enumerators) vs
-all-reached {f = f} c vs =
-    let a = c .enumerator-room in
-    record { front = spec-choices (f .specs); rest = []; whole = sym (append-nil (spec-choices (f .specs))); many = sym (c .enumerator-count); room = omega arith; free = tt }
-
--- A row's number is below the count.
-pub row-less : {s d e o st : List ℕ} {z : Sizes} {f : File} {u : Word} {ds : Definitions} {x : Defined} → Case s d e o st z f → Stands (f .specs) u ds → HasDefinition ds x
-    → x .definition .row < z .definitions
-row-less c q h =
-    let y = stands-at (c .situation) q h in
-    let a = c .definition-count in
-    let b = nth-low (y .nth) in
-    omega arith
-
-pub row-room : {s d e o st : List ℕ} {z : Sizes} {f : File} {u : Word} {ds : Definitions} {x : Defined} (j : ℕ) → Case s d e o st z f → Stands (f .specs) u ds → HasDefinition ds x
-    → x .definition .row ≡ j → j < 513
-row-room j c q h r = let a = row-less c q h in let b = c .definition-room in omega arith
-
 bit-not : (b : Bool) → bit (eqb (bit b) 0) ≡ bit (not b)
 unfolding bit
 bit-not true = refl
 bit-not false = refl
 
-module _ {s d e o st : List ℕ} {z : Sizes} {f : File} {u : Word} {ds : Definitions} {x : Defined} (j : ℕ) (c : Case s d e o st z f) (q₀ : Stands (f .specs) u ds) (h : HasDefinition ds x) (r : x .definition .row ≡ j) where
-  at-row : (k : ℕ) → getD d (j * 19 + k) 0 ≡ getD d (x .definition .row * 19 + k) 0
-  at-row k = ap (λ i. getD d (i * 19 + k) 0) (sym r)
+module _ {s d e o st : List ℕ} {z : Sizes} {f : File} {j : ℕ} {x : Defined} (c : Given s d e o st z f) (a : Attribute f j x) where
+  row : AttributeRow s d f (a .under) j x
+  row = known (c .tables) a
 
-  list-cell : getD d (j * 19 + 6) 0 ≡ bit (x .definition .list)
-  list-cell = at-row 6 ∙ cell-list f (c .definitions) (in-room c) (stands-at (c .situation) q₀ h .nth)
-
-  size-cell : getD d (j * 19 + 11) 0 ≡ span-or (x .definition .default) .length
-  size-cell = at-row 11 ∙ cell-default-size f (c .definitions) (in-room c) (stands-at (c .situation) q₀ h .nth)
-
-  place-cell : getD d (j * 19 + 10) 0 ≡ span-or (x .definition .default) .place
-  place-cell = at-row 10 ∙ cell-default f (c .definitions) (in-room c) (stands-at (c .situation) q₀ h .nth)
-
-  code-cell : getD d (j * 19 + 18) 0 ≡ default-code (x .definition .default)
-  code-cell = at-row 18 ∙ cell-default-code f (c .definitions) (in-room c) (stands-at (c .situation) q₀ h .nth)
-
-  default-in : AllIn s (option-words (x .definition .default))
-  default-in = words-definition h (file-stands (c .situation) q₀ .1) .1 .1
+  by-list : taken (x .definition .default) ≡ none → bit (eqb (getD d (j * 19 + 6) 0) 0) ≡ bit (needed x)
+  by-list h = ap (λ k. bit (eqb k 0)) (row .list-mark) ∙ bit-not (x .definition .list) ∙ ap bit (sym (needs-none x h))
 
   -- No default.
   pub needs-no-size : getD d (j * 19 + 11) 0 ≡ 0 → bit (eqb (getD d (j * 19 + 6) 0) 0) ≡ bit (needed x)
-  unfolding span-or span-of option-words taken
-  needs-no-size g =
-      ap (λ k. bit (eqb k 0)) list-cell ∙ bit-not (x .definition .list) ∙ ap bit (sym (needs-none x (go (x .definition .default) (sym size-cell ∙ g) default-in)))
-    where
-      go : (o : Option Word) → span-or o .length ≡ 0 → AllIn s (option-words o) → taken o ≡ none
-      go none e a = refl
-      go (some t) e a = let l = a .0 .long in absurd (omega arith)
+  needs-no-size g = by-list (none-given row g)
 
   -- NO_DEFAULT.
   pub needs-no-default : getD d (j * 19 + 18) 0 ≡ 4 → bit (eqb (getD d (j * 19 + 6) 0) 0) ≡ bit (needed x)
-  unfolding default-code taken code-of taken-by
-  needs-no-default g =
-      ap (λ k. bit (eqb k 0)) list-cell ∙ bit-not (x .definition .list) ∙ ap bit (sym (needs-none x (go (x .definition .default) (sym code-cell ∙ g))))
-    where
-      go : (o : Option Word) → default-code o ≡ 4 → taken o ≡ none
-      go none e = refl
-      go (some t) e = ap (λ b. taken-by b t) (no-default-code (t .class) ∙ eq-eqb (class-number (t .class)) 4 e)
+  needs-no-default g = by-list (not-taken row g)
 
   -- What it takes, and the place of the value word that this is.
   pub taking : (at len key : ℕ) → at ≡ getD d (j * 19 + 10) 0 → len ≡ getD d (j * 19 + 11) 0 → (len ≡ 0 → ⊥) → (getD d (j * 19 + 18) 0 ≡ 4 → ⊥)
       → FindsWord s d e (z .enumerators) j at len key → Taking x key
-  unfolding span-or span-of option-words default-code taken code-of taken-by absent
-  taking at len key p l g k w = go (x .definition .default) refl default-in (sym size-cell ∙ sym l) (sym place-cell ∙ sym p) (sym code-cell)
-    where
-      go : (o : Option Word) → x .definition .default ≡ o → AllIn s (option-words o) → span-or o .length ≡ len → span-or o .place ≡ at
-          → default-code o ≡ getD d (j * 19 + 18) 0 → Taking x key
-      go none q a m n v = absurd (g (sym m))
-      go (some t) q a m n v =
-          let b : taken (some t) ≡ some t = ap (λ y. taken-by y t) (no-default-code (t .class) ∙ ne-eqb (class-number (t .class)) 4 (λ y. k (sym v ∙ y))) in
-          record {
-            word-of = t;
-            takes = ap taken q ∙ b;
-            key-is = w f x t (c .situation) (c .definitions) (c .enumerators) (subst (λ y. RowOf f y x) r (row-of-definition (c .situation) q₀ h)) (row-room j c q₀ h r)
-                (all-reached c (x .values)) (a .0 .bytes ∙ ap₂ (partOf s) n m);
-          }
+  taking at len key p l n m w =
+      let t = default-word row (λ q. n (l ∙ q)) m in
+      let T = c .tables in
+      record {
+        word-of = t .word;
+        takes = t .takes;
+        key-is = w f x (t .word) (T .situation) (T .in-definitions) (T .in-enumerators) (row .row-of) (row .low) (reached T (x .values))
+            (read-at (t .in-text) (p ∙ t .place) (l ∙ t .length) .bytes);
+      }
 
   -- Nothing is under it.
   pub needs-nothing : {key : ℕ} → Taking x key → key ≡ 0 → 0 ≡ bit (needed x)
@@ -335,7 +263,7 @@ module _ {s d e o st : List ℕ} {z : Sizes} {f : File} {u : Word} {ds : Definit
     where
       go : (o : Option Under) → find-value (x .values) (t .word-of) ≡ o → place-found o ≡ 0 → 0 ≡ bit (needed x)
       go none p z = sym (ap bit (needs-default x (t .word-of) (t .takes) ∙ ap (λ o. lacks (definitions-or o) []) p))
-      go (some v) p z = let w = file-stands (c .situation) (under-value q₀ h (found-value (x .values) (t .word-of) p)) .0 .later in absurd (omega arith)
+      go (some v) p z = let w = file-stands (c .tables .situation) (under-value (a .stands) (a .has) (found-value (x .values) (t .word-of) p)) .0 .later in absurd (omega arith)
 
   -- What is under it lacks something, or nothing.
   pub needs-under : {key : ℕ} (ms : List ℕ) (b : Bool) → Taking x key → (key ≡ 0 → ⊥) → Marked f ms j → Lacks s d st ms j key 0 0 b → bit b ≡ bit (needed x)
@@ -346,53 +274,46 @@ module _ {s d e o st : List ℕ} {z : Sizes} {f : File} {u : Word} {ds : Definit
       go none p k = absurd (g k)
       go (some v) p k =
           let i = found-value (x .values) (t .word-of) p in
-          let a = row-less c q₀ h in
-          let n = c .statement-room in
-          let y = c .statements in
+          let b₀ = stands-below (c .tables) (a .stands) x (a .has) in
+          let r = a .row in
           ap bit
           (l f (v .word) (v .definitions) done
           (record {
             enumerator-table = e;
             object-table = o;
             sizes = z;
-            case = c;
+            given = c;
             most = omega arith;
             marked = m;
-            stands = under-value q₀ h i;
+            stands = under-value (a .stands) (a .has) i;
             place = sym k;
-            block = record {
-              rows = all-statement-rows (f .objects) 0;
-              holds = subst (λ w. Holds 2049 7 w (all-statement-rows (f .objects) 0)) (sym y) (statements-held f (omega arith));
-              block = record { front = []; rest = all-statement-rows (f .objects) 0; whole = refl; place = refl };
-              words = none-in;
-              after = refl;
-            };
+            block = nothing-at c;
           })
-          (λ w u′. subst (λ k′. w .definition .row < k′) r (under-below (c .situation) q₀ h i u′))
+          (value-below (c .tables .situation) a i)
           ∙ sym (needs-default x (t .word-of) (t .takes) ∙ ap (λ o. lacks (definitions-or o) []) p))
 
 -- The marks --------------------------------------------------------------------------------------------------------------------------------
 
 pub marks-start : (f : File) (ms : List ℕ) → Marked f ms 0
-marks-start f ms u ds x q h k = absurd (omega arith)
+marks-start f ms j x a k = absurd (omega arith)
 
-pub marks-more : {s d e o st : List ℕ} {z : Sizes} {f : File} (ms : List ℕ) (j m : ℕ) → Case s d e o st z f → j < length ms → Needs s d e st ms z j m → Marked f ms j
+pub marks-more : {s d e o st : List ℕ} {z : Sizes} {f : File} (ms : List ℕ) (j m : ℕ) → Given s d e o st z f → j < length ms → Needs s d e st ms z j m → Marked f ms j
     → Marked f (set ms j m) (j + 1)
-marks-more {o = o} {f = f} ms j m c l n k u ds x q h i = go (ℕ-discrete (x .definition .row) j)
+marks-more {o = o} {f = f} ms j m c l n k i x a h = go (ℕ-discrete i j)
   where
-    go : Dec (x .definition .row ≡ j) → getD (set ms j m) (x .definition .row) 0 ≡ bit (needed x)
-    go (yes r) = ap (λ a. getD (set ms j m) a 0) r ∙ getD-set-same ms j m 0 l ∙ n o f u ds x c k q h r
-    go (no r) = getD-set-other ms j (x .definition .row) m 0 r ∙ k u ds x q h (omega (arith, r, i))
+    go : Dec (i ≡ j) → getD (set ms j m) i 0 ≡ bit (needed x)
+    go (yes r) = ap (λ b. getD (set ms j m) b 0) r ∙ getD-set-same ms j m 0 l ∙ n o f x c k (subst (λ b. Attribute f b x) r a)
+    go (no r) = getD-set-other ms j i m 0 r ∙ k i x a (omega (arith, r, h))
 
 pub marks-past : (f : File) (ms : List ℕ) (j n : ℕ) → n ≤ j → Marked f ms j → Marked f ms n
-marks-past f ms j n l k u ds x q h i = k u ds x q h (omega arith)
+marks-past f ms j n l k i x a h = k i x a (omega arith)
 
 -- The marks as the first cells of a table.
 marks-put : (f : File) (t ms : List ℕ) (n : ℕ) → length ms ≡ 512 → n ≤ 512 → 512 ≤ length t → Marked f ms n → Marked f (sets t 0 ms) n
-marks-put f t ms n l h k m u ds x a b c =
-    ap (λ r. getD r (x .definition .row) 0) (sets-eq ms t 0 (omega (arith, l, k)))
-    ∙ List·getD-append ms (drop (0 + length ms) t) 0 (x .definition .row) (omega (arith, l, h, c))
-    ∙ m u ds x a b c
+marks-put f t ms n l h k m i x a c =
+    ap (λ r. getD r i 0) (sets-eq ms t 0 (omega (arith, l, k)))
+    ∙ List·getD-append ms (drop (0 + length ms) t) 0 i (omega (arith, l, h, c))
+    ∙ m i x a c
 
 -- They leave the numbers of the definitions as they are.
 module _ (s d t ms : List ℕ) (k : Known s d t) (l : length ms ≡ 512) (t′ : List ℕ) (e : t′ ≡ sets t 0 ms) where
@@ -404,3 +325,11 @@ module _ (s d t ms : List ℕ) (k : Known s d t) (l : length ms ≡ 512) (t′ :
       let a = k .noted .room in
       let b = k .noted .inside in
       subst (λ r. Marked f r n) (sym e) (marks-put f t ms n l h (omega (arith, a, b)) m)
+
+  pub table-owners : (u : List ℕ) → Owners d ms u → Owners d t′ u
+  table-owners u o =
+      let a = k .noted .room in
+      let b = k .noted .inside in
+      let cell : (i : ℕ) → i < 512 → getD t′ i 0 ≡ getD ms i 0 =
+      λ i h. ap (λ r. getD r i 0) (e ∙ sets-eq ms t 0 (omega (arith, l, a, b))) ∙ List·getD-append ms (drop (0 + length ms) t) 0 i (omega (arith, l, h)) in
+      record { rising = o .rising; has = λ i h g. o .has i h (λ z. g (cell i h ∙ z)) }

@@ -13,12 +13,13 @@ use Rattle.rows.specs.declared.Found.{Found}
 use Rattle.rows.proofs.Stores.{part-sets-same, part-sets-before, part-sets-after}
 use Rattle.indexes.specs.Indexing.{Indexed, Makes, nameRank}
 use Rattle.lookups.specs.Answers.{DefinitionIndexed, ObjectIndexed, WordIndexed}
-use Rattle.lookups.specs.Ranks.{Ranked, NotesRanks, Firsts, IsRowStated}
-use Rattle.lookups.proofs.Blocks.{firsts-empty}
-use Rattle.blocks.specs.Blocks.{IsStated}
+use Rattle.lookups.specs.Ranks.{Ranked, NotesRanks, Firsts, RowStated, IsRowStated}
+use Rattle.blocks.specs.Blocks.{FindsStated, IsStated}
 use Rattle.scopes.specs.Promises.{FindsDefinition, FindsObject, FindsWord}
-use Rattle.judging.specs.Names.{IndexAt, Ranks, Named, FewRows, Within, PutsIndex, PutsRanks}
-use Rattle.judging.specs.declared.Sizes.{Sizes}
+use Rattle.amounts.specs.Known.{Known}
+use Rattle.lookups.specs.Owners.{Owners}
+use Rattle.judging.specs.Names.{IndexAt, Ranks, Ready, Named, FewRows, Within, PutsIndex, PutsRanks}
+use Rattle.scopes.specs.declared.Sizes.{Sizes}
 
 -- Parts ------------------------------------------------------------------------------------------------------------------------------------
 
@@ -57,20 +58,20 @@ unfolding WordIndexed
 word-found s d a x y n j at len r i e g = g n (index-of s a x y 3 1 n 512 i e) (few-of s a x y 3 1 n 512 i e)
 
 -- A block that states the name of a row, whose rank is noted.
-module _ (s d st x : List ℕ) (h : Ranks s d st x) (v F : List ℕ) (i a e : ℕ) (r : Bool) (q : v ≡ part x 1792 2049) where
+module _ (s d st x : List ℕ) (h : Ranks s d st x) (v F : List ℕ) (i a e : ℕ) (q : v ≡ part x 1792 2049) where
   of-statements : Ranked (h .rank) s st 7 0 v
   of-statements = subst (λ (l : List ℕ). Ranked (h .rank) s st 7 0 l) (sym q) (h .statements)
 
-  pub definition-stated : (y : List ℕ) → y ≡ part x 3841 512 → Firsts st (part x 1792 2049) a e F → IsRowStated s d 19 2 y i st v F a e r
+  pub definition-stated : (y : List ℕ) (r : Bool) → y ≡ part x 3841 512 → Firsts st (part x 1792 2049) a e F → IsRowStated s d 19 2 y i st v F a e r
       → IsStated s st a e (getD d (i * 19 + 2) 0) (getD d (i * 19 + 3) 0) r
   unfolding IsRowStated
-  definition-stated y p o g =
+  definition-stated y r p o g =
       g (h .rank) (subst (λ (l : List ℕ). Ranked (h .rank) s d 19 2 l) (sym p) (h .definitions)) of-statements
       (subst (λ (l : List ℕ). Firsts st l a e F) (sym q) o)
 
-  pub statement-stated : F ≡ part x 0 0 → IsRowStated s st 7 0 v i st v F a e r → IsStated s st a e (getD st (i * 7 + 0) 0) (getD st (i * 7 + 1) 0) r
-  unfolding IsRowStated
-  statement-stated p g = g (h .rank) of-statements of-statements (firsts-empty st v a e F (ap length p))
+  pub statement-stated : (r : Found) → Firsts st (part x 1792 2049) a e F → RowStated s st 7 0 v i st v F a e r → FindsStated s st a e (getD st (i * 7 + 0) 0) (getD st (i * 7 + 1) 0) r
+  unfolding RowStated
+  statement-stated r o g = g (h .rank) of-statements of-statements (subst (λ (l : List ℕ). Firsts st l a e F) (sym q) o)
 
 -- The first rows of the ranks, in the table.
 pub firsts-in : (st x v F : List ℕ) (a e : ℕ) → v ≡ part x 1792 2049 → Firsts st v a e F → Firsts st (part x 1792 2049) a e F
@@ -146,4 +147,29 @@ named-by s d e o st z x₀ x₁ x₂ x₃ x₄ x₅ v r₁ r₂ r₃ f g₁ g₂
         definitions = p₅ .ranks (z .definitions) iv few;
         statements = subst (λ (u : List ℕ). Ranked (nameRank s d 19 0 2 v) s st 7 0 u) (sym (p₅ .within .before 1792 2049 (omega arith))) (p₄ .ranks (z .definitions) iv few);
       };
+    }
+
+-- The words under which something must be stated are put behind the names.
+pub ready-by : (s d e o st : List ℕ) (z : Sizes) (x y u k : List ℕ) → length u ≡ 512 → 4865 ≤ length x → y ≡ sets x 4353 u → Named s d e o st z x → Known s d k → Owners d k u
+    → Ready s d e o st z y k
+ready-by s d e o st z x y u k l h q n c w =
+    let same : (a i : ℕ) → a + i ≤ 4353 → part y a i ≡ part x a i = λ a i g. ap (λ (v : List ℕ). part v a i) q ∙ part-sets-before x 4353 u a i g in
+    let fd = n .definitions .few in
+    let fe = n .enumerators .few in
+    let fo = n .objects .few in
+    let r = n .ranks in
+    record {
+      known = c;
+      named = record {
+        definitions = record { few = fd; index = subst (λ (v : List ℕ). Indexed s d 19 (z .definitions) 0 2 v) (sym (same 0 (z .definitions) (omega (arith, fd)))) (n .definitions .index) };
+        enumerators = record { few = fe; index = subst (λ (v : List ℕ). Indexed s e 3 (z .enumerators) 0 1 v) (sym (same 512 (z .enumerators) (omega (arith, fe)))) (n .enumerators .index) };
+        objects = record { few = fo; index = subst (λ (v : List ℕ). Indexed s o 9 (z .objects) 0 3 v) (sym (same 1536 (z .objects) (omega (arith, fo)))) (n .objects .index) };
+        ranks = record {
+          rank = r .rank;
+          definitions = subst (λ (v : List ℕ). Ranked (r .rank) s d 19 2 v) (sym (same 3841 512 (omega arith))) (r .definitions);
+          statements = subst (λ (v : List ℕ). Ranked (r .rank) s st 7 0 v) (sym (same 1792 2049 (omega arith))) (r .statements);
+        };
+      };
+      owners = subst (λ (v : List ℕ). Owners d k v)
+          (sym (ap (λ (v : List ℕ). part v 4353 512) q ∙ ap (λ (i : ℕ). part (sets x 4353 u) 4353 i) (sym l) ∙ part-sets-same x 4353 u (omega (arith, l, h)))) w;
     }

@@ -7,14 +7,15 @@ use native.Mathlib.Omega.{arith}
 use lib.ListN.{length}
 use lib.Dec.{eqb}
 use borrow.Author.Tests.{eq-eqb}
-use Rattle.meaning.specs.Syntax.{Word, span-of, Definition, Definitions, define, Values, Defined, File}
+use Rattle.meaning.specs.Syntax.{Word, span-of, Definition, Definitions, define, Values, File}
 use Rattle.meaning.specs.Defining.{DefinitionRow, definition-row, all-definition-rows}
 use Rattle.meaning.proofs.Standing.{Standing, standing-if, select, standing}
 use Rattle.layout.specs.Kept.{Entry, spec-entries}
-use Rattle.scopes.specs.Situations.{Situation, HasDefinition, this-definition, later-definition, Stands, Nth}
+use Rattle.scopes.specs.Situations.{Situation, this-definition, later-definition, Stands, Nth}
+use Rattle.scopes.specs.Given.{entry-rows}
 use Rattle.scopes.proofs.Descents.{scope-facts}
-use Rattle.scopes.proofs.Answering.{entry-rows, spec-rows}
-use Rattle.lookups.proofs.Standings.{entry, stands-at}
+use Rattle.scopes.proofs.Answering.{spec-rows}
+use Rattle.judging.specs.Promises.{HasRow}
 
 -- A row with a number, one of some.
 data Among (i : ℕ) : List Standing → Type 0 where
@@ -36,48 +37,21 @@ selected p m (y ∷ front) x rest e =
     among-if (eqb (y .under .place) p) m (m + suc (length front)) (definition-row (y .under) (y .definition))
     (subst (λ i. Among i (select p (suc m) (entry-rows (front ++ (x ∷ rest))))) n (selected p (suc m) front x rest e))
 
-record Standing-of (ds : Definitions) (i : ℕ) : Type 0 where
-  defined : Defined
-  has : HasDefinition ds defined
-  row : defined .definition .row ≡ i
-
-of-later : {d : Definition} {vs : Values} {ds : Definitions} {i : ℕ} → Standing-of ds i → Standing-of (define d vs ds) i
+of-later : {d : Definition} {vs : Values} {ds : Definitions} {i : ℕ} → HasRow ds i → HasRow (define d vs ds) i
 of-later z = record { defined = z .defined; has = later-definition (z .has); row = z .row }
 
-standing-of : (u : Word) (ds : Definitions) (i : ℕ) → Among i (standing u ds) → Standing-of ds i
+standing-of : (u : Word) (ds : Definitions) (i : ℕ) → Among i (standing u ds) → HasRow ds i
 unfolding standing
 standing-of u (define d vs ds) i (this-one e) = record { defined = record { definition = d; values = vs }; has = this-definition; row = e }
 standing-of u (define d vs ds) i (later-one a) = of-later (standing-of u ds i a)
 
--- Two elements of one number are the same.
-same-head : {A : Type 0} (a b : List A) (x y : A) (k l : List A) → a ++ (x ∷ k) ≡ b ++ (y ∷ l) → length a ≡ length b → x ≡ y
-same-head [] [] x y k l e h = cc
-same-head [] (z ∷ b) x y k l e h = absurd (omega arith)
-same-head (z ∷ a) [] x y k l e h = absurd (omega arith)
-same-head {A} (z ∷ a) (w ∷ b) x y k l e h = let i : a ++ (x ∷ k) ≡ b ++ (y ∷ l) = cc in same-head a b x y k l i (omega arith)
-
-nth-same : {A : Type 0} {l : List A} {i j : ℕ} {x y : A} → Nth l i x → Nth l j y → i ≡ j → x ≡ y
-nth-same {A} {l} {i} {j} {x} {y} a b e =
-    let p = a .place in
-    let q = b .place in
-    same-head (a .front) (b .front) x y (a .rest) (b .rest) (sym (a .whole) ∙ b .whole) (omega arith)
-
 -- A row under the word of a scope is that of one of its definitions.
-pub record InScope (ds : Definitions) (y : Entry) : Type 0 where
-  pub defined : Defined
-  pub has : HasDefinition ds defined
-  pub definition-is : defined .definition ≡ y .definition
-  pub values-is : defined .values ≡ y .values
-
 pub in-scope : {s : List ℕ} {f : File} {u : Word} {ds : Definitions} {j : ℕ} {y : Entry} → Situation s f → Stands (f .specs) u ds
-    → Nth (spec-entries (f .specs)) j y → y .under .place ≡ u .place → InScope ds y
+    → Nth (spec-entries (f .specs)) j y → y .under .place ≡ u .place → HasRow ds j
 in-scope {s} {f} {u} {ds} {j} {y} p q n e =
     let R = all-definition-rows (f .specs) in
     let r : entry-rows (n .front ++ (y ∷ n .rest)) ≡ R = ap entry-rows (sym (n .whole)) ∙ spec-rows (f .specs) in
     let k = n .place in
     let m : 0 + length (n .front) ≡ j = omega arith in
     let a : Among j (select (u .place) 0 R) = subst (λ i. Among i (select (u .place) 0 R)) m (subst (λ l. Among (0 + length (n .front)) (select (u .place) 0 l)) r (selected (u .place) 0 (n .front) y (n .rest) e)) in
-    let z = standing-of u ds j (subst (Among j) (scope-facts p q .scope) a) in
-    let i = stands-at p q (z .has) in
-    let w : entry u (i .outer) (z .defined) ≡ y = nth-same (i .nth) n (z .row) in
-    record { defined = z .defined; has = z .has; definition-is = ap (λ (x : Entry). x .definition) w; values-is = ap (λ (x : Entry). x .values) w }
+    standing-of u ds j (subst (Among j) (scope-facts p q .scope) a)

@@ -1,13 +1,16 @@
--- The table of names: the indexes of the definitions, of the enumerators and of the objects, and the ranks of the statements' and the definitions' names.
+-- The table of names: the indexes of the definitions, of the enumerators and of the objects, and the ranks of the statements' and the definitions' names,
+-- and the words under which something must be stated.
 -- Assumes nothing.
 use Prim.Native.Nat.{ℕ, _+_, _*_, _≤_}
 use mathlib.Core.Path.{_≡_}
 use mathlib.Core.List.{List}
 use lib.ListN.{length}
 use Rattle.rows.specs.Table.{part}
+use Rattle.amounts.specs.Known.{Known}
 use Rattle.indexes.specs.Indexing.{Indexed}
 use Rattle.lookups.specs.Ranks.{Ranked, NotesRanks}
-use Rattle.judging.specs.declared.Sizes.{Sizes}
+use Rattle.lookups.specs.Owners.{Owners}
+use Rattle.scopes.specs.declared.Sizes.{Sizes}
 
 -- From a place on, the table x has the index of the first n rows of t, whose keys stand in column 0.
 pub record IndexAt (s t : List ℕ) (w m n at : ℕ) (x : List ℕ) : Type 0 where
@@ -48,3 +51,9 @@ pub record PutsIndex (s t : List ℕ) (w m n at room : ℕ) (x y : List ℕ) : T
 pub record PutsRanks (s d v t : List ℕ) (w m n at : ℕ) (x y : List ℕ) : Type 0 where
   pub within : Within at n x y
   pub ranks : NotesRanks s d v t w m (part y at n)
+
+-- All that is made before the statements are judged: x has the names, k the marks of the rows and the ranges.
+pub record Ready (s d e o st : List ℕ) (z : Sizes) (x k : List ℕ) : Type 0 where
+  pub known : Known s d k
+  pub named : Named s d e o st z x
+  pub owners : Owners d k (part x 4353 512)

@@ -5,7 +5,8 @@ use mathlib.Core.Bool.{Bool, true, false, not}
 use Prim.Native.Nat.{ℕ, suc, _+_, _*_, _≤_, _<_}
 use lib.ListN.{length, getD}
 use lib.Dec.{eqb, leb}
-use Rattle.token.specs.Find.{pick, both}
+use Rattle.meaning.proofs.Entries.{then}
+use Rattle.token.specs.Find.{pick, both, bit}
 use Rattle.token.specs.Tokens.{partOf}
 use Rattle.grammar.specs.Grammar.{Kind}
 use Rattle.rows.specs.declared.Fault.{Fault}
@@ -15,26 +16,12 @@ use Rattle.meaning.specs.Kinds.{kind-number}
 use Rattle.meaning.specs.Faults.{first, fault-if}
 use Rattle.meaning.specs.Scopes.{names, find-definition, of-kind, sort-of}
 use Rattle.meaning.specs.Judging.{taken, lacking, lacks, lacks-under, faults-as, reference-faults, own-faults, judged, judge, judge-object, statement-stage}
-use Rattle.layout.specs.Kept.{bit, code-of, spec-entries, spec-choices, statement-count, kind-place, kept-definitions, kept-enumerators, kept-objects, kept-statements}
+use Rattle.layout.specs.Kept.{code-of, kept-objects}
 use Rattle.blocks.specs.Blocks.{BlockAt}
 use Rattle.scopes.specs.Situations.{Situation, HasDefinition, Stands, ScopeAt}
+use Rattle.scopes.specs.Given.{Given, Attribute, Below, Places}
 use Rattle.scopes.specs.Promises.{fault-of}
-use Rattle.judging.specs.declared.Sizes.{Sizes}
-
--- The text and the rows are those of the file f, and no row was too many.
-pub record Case (s d e o st : List ℕ) (z : Sizes) (f : File) : Type 0 where
-  pub situation : Situation s f
-  pub definitions : d ≡ kept-definitions f
-  pub enumerators : e ≡ kept-enumerators f
-  pub objects : o ≡ kept-objects f
-  pub statements : st ≡ kept-statements f
-  pub definition-count : z .definitions ≡ length (spec-entries (f .specs))
-  pub definition-room : z .definitions ≤ 512
-  pub enumerator-count : z .enumerators ≡ length (spec-choices (f .specs))
-  pub enumerator-room : z .enumerators ≤ 1024
-  pub object-count : z .objects ≡ length (f .objects)
-  pub object-room : z .objects ≤ 256
-  pub statement-room : statement-count (f .objects) ≤ 2048
+use Rattle.scopes.specs.declared.Sizes.{Sizes}
 
 -- What must be stated ----------------------------------------------------------------------------------------------------------------------
 
@@ -44,20 +31,14 @@ needed x = lacking (taken (x .definition .default)) (x .definition .list) (λ t.
 
 -- Of the first n rows, those that need to be stated are marked 1 in ms, the others 0.
 abbrev pub Marked : File → List ℕ → ℕ → Type 0
-Marked f ms n =
-    (u : Word) (ds : Definitions) (x : Defined) → Stands (f .specs) u ds → HasDefinition ds x → x .definition .row < n
-    → getD ms (x .definition .row) 0 ≡ bit (needed x)
-
--- The definitions of a scope stand in the first n rows.
-abbrev pub Below : ℕ → Definitions → Type 0
-Below n ds = (x : Defined) → HasDefinition ds x → x .definition .row < n
+Marked f ms n = (j : ℕ) (x : Defined) → Attribute f j x → j < n → getD ms j 0 ≡ bit (needed x)
 
 -- The word u at key has the scope ds, the rows from m to e are the block ss, and the first n rows of definitions are marked.
 pub record Owned (s d st ms : List ℕ) (n key m e : ℕ) (f : File) (u : Word) (ds : Definitions) (ss : Statements) : Type 0 where
   pub enumerator-table : List ℕ
   pub object-table : List ℕ
   pub sizes : Sizes
-  pub case : Case s d enumerator-table object-table st sizes f
+  pub given : Given s d enumerator-table object-table st sizes f
   pub most : n ≤ sizes .definitions
   pub marked : Marked f ms n
   pub stands : Stands (f .specs) u ds
@@ -93,12 +74,11 @@ Lacks s d st ms n key m e r =
 -- Whether the attribute of row j needs to be stated, where those of the rows before it are marked.
 abbrev pub Needs : (s d e st ms : List ℕ) → Sizes → ℕ → ℕ → Type 0
 Needs s d e st ms z j r =
-    (o : List ℕ) (f : File) (u : Word) (ds : Definitions) (x : Defined) → Case s d e o st z f → Marked f ms j → Stands (f .specs) u ds → HasDefinition ds x
-    → x .definition .row ≡ j → r ≡ bit (needed x)
+    (o : List ℕ) (f : File) (x : Defined) → Given s d e o st z f → Marked f ms j → Attribute f j x → r ≡ bit (needed x)
 
 -- The marks of all rows.
 abbrev pub Marks : (s d e st : List ℕ) → Sizes → List ℕ → Type 0
-Marks s d e st z ms = (o : List ℕ) (f : File) → Case s d e o st z f → Marked f ms (z .definitions)
+Marks s d e st z ms = (o : List ℕ) (f : File) → Given s d e o st z f → Marked f ms (z .definitions)
 
 -- Values -----------------------------------------------------------------------------------------------------------------------------------
 
@@ -114,39 +94,35 @@ ReferenceFault s o n kind at len code r =
 
 -- The statement of row k is x, and its attribute y has the row j.
 pub record StatedAs (s d e o st : List ℕ) (z : Sizes) (k j : ℕ) (f : File) (x : Statement) (y : Defined) : Type 0 where
-  pub case : Case s d e o st z f
+  pub given : Given s d e o st z f
   pub inside : Statements
   pub rest : Statements
   pub after : ℕ
   pub block : BlockAt s st k after (state x inside rest)
-  pub under : Word
-  pub scope : Definitions
-  pub stands : Stands (f .specs) under scope
-  pub has : HasDefinition scope y
-  pub row : y .definition .row ≡ j
+  pub attribute : Attribute f j y
 
 -- 15 and 18 of the statement of row k, whose attribute has the row j.
 abbrev pub ValueFault : (s d e o st : List ℕ) → Sizes → (k j : ℕ) → Fault → Type 0
 ValueFault s d e o st z k j r =
     (f : File) (x : Statement) (y : Defined) → StatedAs s d e o st z k j f x y → r ≡ fault-of (first (faults-as (y .definition .type) (f .objects) x y))
 
--- Whether the attribute of row j is single, and stated before in the block from m on.
-abbrev pub Again : (s d e o st : List ℕ) → Sizes → (m k j : ℕ) → Bool → Type 0
-Again s d e o st z m k j r =
-    (f : File) (x : Statement) (y : Defined) (before : Statements) → StatedAs s d e o st z k j f x y → BlockAt s st m k before
-    → r ≡ both (not (y .definition .list)) (among (x .name) (names before))
+-- Whether the attribute of row j is single, and stated before the statement of row k in the block from m to n.
+abbrev pub Again : (s d e o st : List ℕ) → Sizes → (m k n j : ℕ) → Bool → Type 0
+Again s d e o st z m k n j r =
+    (f : File) (x : Statement) (y : Defined) (before : Statements) (a : StatedAs s d e o st z k j f x y)
+    → BlockAt s st m n (then before (state x (a .inside) (a .rest))) → k ≡ m + statements-in before → r ≡ both (not (y .definition .list)) (among (x .name) (names before))
 
--- 14, 15 and 18 of the statement of row k, in the block from m on.
-abbrev pub OwnFault : (s d e o st : List ℕ) → Sizes → (m k j : ℕ) → Fault → Type 0
-OwnFault s d e o st z m k j r =
-    (f : File) (x : Statement) (y : Defined) (before : Statements) → StatedAs s d e o st z k j f x y → BlockAt s st m k before
-    → r ≡ fault-of (first (own-faults (f .objects) x y (names before)))
+-- 14, 15 and 18 of the statement of row k, in the block from m to n.
+abbrev pub OwnFault : (s d e o st : List ℕ) → Sizes → (m k n j : ℕ) → Fault → Type 0
+OwnFault s d e o st z m k n j r =
+    (f : File) (x : Statement) (y : Defined) (before : Statements) (a : StatedAs s d e o st z k j f x y)
+    → BlockAt s st m n (then before (state x (a .inside) (a .rest))) → k ≡ m + statements-in before → r ≡ fault-of (first (own-faults (f .objects) x y (names before)))
 
 -- Statements -------------------------------------------------------------------------------------------------------------------------------
 
 -- What is known where the statements of a block are judged: the scope ds of the word at key.
 pub record Scoped (s d e o st ms : List ℕ) (z : Sizes) (key : ℕ) (f : File) (ds : Definitions) : Type 0 where
-  pub case : Case s d e o st z f
+  pub given : Given s d e o st z f
   pub marked : Marked f ms (z .definitions)
   pub scope : ScopeAt f key ds
 
@@ -155,11 +131,11 @@ abbrev pub Judges : (s d e o st ms : List ℕ) → Sizes → (key m n : ℕ) →
 Judges s d e o st ms z key m n r =
     (f : File) (ds : Definitions) (ss : Statements) → Scoped s d e o st ms z key f ds → BlockAt s st m n ss → r ≡ fault-of (first (judge ss (f .objects) ds []))
 
--- The faults of the statement of row k, in the block from m on, and of those in its braces, which end before n.
-abbrev pub JudgesOne : (s d e o st ms : List ℕ) → Sizes → (key m k n : ℕ) → Fault → Type 0
-JudgesOne s d e o st ms z key m k n r =
-    (f : File) (ds : Definitions) (before : Statements) (x : Statement) (inside rest : Statements) (after : ℕ) → Scoped s d e o st ms z key f ds
-    → BlockAt s st m k before → BlockAt s st k after (state x inside rest) → n ≡ suc k + statements-in inside
+-- The faults of the statement of row k, in the block from m to v, and of those in its braces, which end before n.
+abbrev pub JudgesOne : (s d e o st ms : List ℕ) → Sizes → (key m k n v : ℕ) → Fault → Type 0
+JudgesOne s d e o st ms z key m k n v r =
+    (f : File) (ds : Definitions) (before : Statements) (x : Statement) (inside rest : Statements) → Scoped s d e o st ms z key f ds
+    → BlockAt s st m v (then before (state x inside rest)) → k ≡ m + statements-in before → n ≡ suc k + statements-in inside
     → r ≡ fault-of (first (judged (find-definition ds (x .name)) (f .objects) x (names before) (names inside) (λ us. judge inside (f .objects) us [])))
 
 -- 16 at the owner's word, and the faults of its block's statements.
@@ -174,21 +150,17 @@ LackFault s d st ms z key m n owner r =
     (e o : List ℕ) (f : File) (ds : Definitions) (ss : Statements) (w : Word) → Scoped s d e o st ms z key f ds → BlockAt s st m n ss → w .place ≡ owner
     → r ≡ fault-of (first (fault-if (lacks ds (names ss)) w 16))
 
--- The places of the kinds' words.
-abbrev pub Places : File → List ℕ → Type 0
-Places f ps = (k : Kind) → getD ps (kind-number k) 0 ≡ kind-place (kind-number k) (f .specs)
-
 -- The faults of the object of row i.
 abbrev pub JudgesObject : (s d e o st ms : List ℕ) → Sizes → (ps : List ℕ) → ℕ → Fault → Type 0
 JudgesObject s d e o st ms z ps i r =
-    (f : File) (front : List Object) (x : Object) (rest : List Object) → Case s d e o st z f → Marked f ms (z .definitions) → Places f ps
+    (f : File) (front : List Object) (x : Object) (rest : List Object) → Given s d e o st z f → Marked f ms (z .definitions) → Places f ps
     → f .objects ≡ front ++ (x ∷ rest) → length front ≡ i → r ≡ fault-of (first (judge-object f x (of-kind (x .kind) (f .specs))))
 
 -- The faults of all objects, where the rows of definitions are marked.
 abbrev pub JudgesObjects : (s d e o st ms : List ℕ) → Sizes → List ℕ → Fault → Type 0
 JudgesObjects s d e o st ms z ps r =
-    (f : File) → Case s d e o st z f → Marked f ms (z .definitions) → Places f ps → r ≡ fault-of (first (statement-stage f))
+    (f : File) → Given s d e o st z f → Marked f ms (z .definitions) → Places f ps → r ≡ fault-of (first (statement-stage f))
 
 -- The fault by which the stage of 13 to 16 and 18 answers.
 abbrev pub JudgesAll : (s d e o st : List ℕ) → Sizes → List ℕ → Fault → Type 0
-JudgesAll s d e o st z ps r = (f : File) → Case s d e o st z f → Places f ps → r ≡ fault-of (first (statement-stage f))
+JudgesAll s d e o st z ps r = (f : File) → Given s d e o st z f → Places f ps → r ≡ fault-of (first (statement-stage f))

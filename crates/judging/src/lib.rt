@@ -1,33 +1,30 @@
 // The faults 13 to 16 and 18: the statements of a text, judged over the rows kept while it was read.
 ghost use mathlib.Core.Path.{_≡_};
 ghost use Prim.Native.Nat.{_<_};
-ghost use Rattle.amounts.specs.Known.{Known};
-ghost use Rattle.judging.specs.Names.{Ranks, Named};
+ghost use Rattle.rows.specs.Table.{part};
+ghost use Rattle.lookups.specs.Ranks.{Firsts};
+ghost use Rattle.lookups.specs.Owners.{Owners};
+ghost use Rattle.judging.specs.Names.{Ranks, Ready};
 ghost use Rattle.judging.specs.Promises.{LackFault, Judges, JudgesOne, JudgesBlock, JudgesObject, JudgesObjects, JudgesAll};
 use blocks::after;
-use blocks::cell_at;
 use rows::Fault;
 use rows::Found;
 use rows::cells;
 use rows::faults;
+use scopes::Sizes;
 
 mod marking;
 mod names;
 mod values;
 
-// How many rows there are.
-pub struct Sizes {
-    pub definitions: usize,
-    pub enumerators: usize,
-    pub objects: usize,
-}
-
-// 16 at the owner's word, where the block lacks an attribute of the scope of the word at key; 0 is no word's place.
+// 16 at the owner's word, where the block lacks an attribute of the scope of the word at key; 0 is no word's place. Here and below `first` has the
+// first row of each rank in the block, or no cell.
 fn lack_fault(
     text: &[u8],
     d: &[usize],
     st: &[usize],
     names: &[usize],
+    first: &[usize],
     missing: &[usize],
     z: Sizes,
     key: usize,
@@ -35,7 +32,7 @@ fn lack_fault(
     end: usize,
     owner: usize,
 ) -> Fault
-    requires { ⌜ Ranks (now text) (now d) (now st) (now names) ⌝ }
+    requires { ⌜ Ranks (now text) (now d) (now st) (now names) × Firsts (now st) (part (now names) 1792 2049) from end (now first) × Owners (now d) (now missing) (part (now names) 4353 512) ⌝ }
     ensures { λ r. ⌜ LackFault (now (text .entry)) (now (d .entry)) (now (st .entry)) (now (missing .entry)) z key from end owner r ⌝ }
 {
     if key == 0 {
@@ -44,11 +41,28 @@ fn lack_fault(
             place: 0,
         };
     }
-    faults::fault_if(
-        marking::lacks(text, d, st, names, missing, z.definitions, key, from, end),
-        16,
-        owner,
-    )
+    if names::is_owner(names, key) {
+        return faults::fault_if(
+            marking::lacks(
+                text,
+                d,
+                st,
+                names,
+                first,
+                missing,
+                z.definitions,
+                key,
+                from,
+                end,
+            ),
+            16,
+            owner,
+        );
+    }
+    Fault {
+        number: 0,
+        place: 0,
+    }
 }
 
 // The faults of the statements of a block, in the scope of the word at key. Here and below `names` is the table of names; `known` has the marks of the
@@ -60,13 +74,14 @@ fn judge(
     o: &[usize],
     st: &[usize],
     names: &[usize],
+    first: &[usize],
     known: &[usize],
     z: Sizes,
     key: usize,
     from: usize,
     end: usize,
 ) -> Fault
-    requires { ⌜ Known (now text) (now d) (now known) × Named (now text) (now d) (now e) (now o) (now st) z (now names) ⌝ }
+    requires { ⌜ Ready (now text) (now d) (now e) (now o) (now st) z (now names) (now known) × Firsts (now st) (part (now names) 1792 2049) from end (now first) ⌝ }
     ensures { λ r. ⌜ Judges (now (text .entry)) (now (d .entry)) (now (e .entry)) (now (o .entry)) (now (st .entry)) (now (known .entry)) z key from end r ⌝ }
 {
     let mut best = Fault {
@@ -76,14 +91,29 @@ fn judge(
     let mut k = from;
     while k < end {
         let next = after(st, k, end);
-        let f = judge_one(text, d, e, o, st, names, known, z, key, from, k, next);
+        let f = judge_one(
+            text,
+            d,
+            e,
+            o,
+            st,
+            names,
+            first,
+            known,
+            z,
+            key,
+            from,
+            k,
+            next,
+            end,
+        );
         best = faults::sooner(best, f);
         k = next;
     }
     best
 }
 
-// The faults of one statement, and of those in its braces, the rows from k + 1 to `end`.
+// The faults of one statement of the block that ends before row `end`, and of those in its braces, the rows from k + 1 to `next`.
 fn judge_one(
     text: &[u8],
     d: &[usize],
@@ -91,32 +121,49 @@ fn judge_one(
     o: &[usize],
     st: &[usize],
     names: &[usize],
+    first: &[usize],
     known: &[usize],
     z: Sizes,
     key: usize,
     from: usize,
     k: usize,
+    next: usize,
     end: usize,
 ) -> Fault
-    requires { ⌜ (k < end) × Known (now text) (now d) (now known) × Named (now text) (now d) (now e) (now o) (now st) z (now names) ⌝ }
-    ensures { λ r. ⌜ JudgesOne (now (text .entry)) (now (d .entry)) (now (e .entry)) (now (o .entry)) (now (st .entry)) (now (known .entry)) z key from k end r ⌝ }
+    requires { ⌜ (k < next) × Ready (now text) (now d) (now e) (now o) (now st) z (now names) (now known) × Firsts (now st) (part (now names) 1792 2049) from end (now first) ⌝ }
+    ensures { λ r. ⌜ JudgesOne (now (text .entry)) (now (d .entry)) (now (e .entry)) (now (o .entry)) (now (st .entry)) (now (known .entry)) z key from k next end r ⌝ }
 {
-    let name = cell_at(st, 7, k, 0);
-    let size = cell_at(st, 7, k, 1);
+    let name = cells::cell_of(st, 7, k, 0);
+    let size = cells::cell_of(st, 7, k, 1);
     let Found::At(j) = names::find_definition(text, d, names, z.definitions, key, name, size) else {
         return Fault {
             number: 13,
             place: name,
         };
     };
-    let at = cell_at(st, 7, k, 2);
-    let len = cell_at(st, 7, k, 3);
+    let at = cells::cell_of(st, 7, k, 2);
+    let len = cells::cell_of(st, 7, k, 3);
     let under = names::word_under(text, d, e, names, z.enumerators, j, at, len);
-    let f = values::own_fault(text, d, e, o, st, names, known, z, from, k, j, under);
+    let f = values::own_fault(
+        text,
+        d,
+        e,
+        o,
+        st,
+        names,
+        first,
+        known,
+        z,
+        from,
+        k,
+        end,
+        j,
+        under,
+    );
     if faults::is_fault(f) {
         return f;
     }
-    judge_block(text, d, e, o, st, names, known, z, under, k + 1, end, at)
+    judge_block(text, d, e, o, st, names, known, z, under, k + 1, next, at)
 }
 
 // 16 at the owner's word, and the faults of the statements of its block.
@@ -134,11 +181,27 @@ fn judge_block(
     end: usize,
     owner: usize,
 ) -> Fault
-    requires { ⌜ Known (now text) (now d) (now known) × Named (now text) (now d) (now e) (now o) (now st) z (now names) ⌝ }
+    requires { ⌜ Ready (now text) (now d) (now e) (now o) (now st) z (now names) (now known) ⌝ }
     ensures { λ r. ⌜ JudgesBlock (now (text .entry)) (now (d .entry)) (now (e .entry)) (now (o .entry)) (now (st .entry)) (now (known .entry)) z key from end owner r ⌝ }
 {
-    let a = lack_fault(text, d, st, names, known, z, key, from, end, owner);
-    let b = judge(text, d, e, o, st, names, known, z, key, from, end);
+    if end <= from {
+        return lack_fault(
+            text,
+            d,
+            st,
+            names,
+            &names[..0],
+            known,
+            z,
+            key,
+            from,
+            end,
+            owner,
+        );
+    }
+    let first = names::firsts(st, names, from, end);
+    let a = lack_fault(text, d, st, names, &first, known, z, key, from, end, owner);
+    let b = judge(text, d, e, o, st, names, &first, known, z, key, from, end);
     faults::sooner(a, b)
 }
 
@@ -155,14 +218,14 @@ fn judge_object(
     places: &[usize],
     i: usize,
 ) -> Fault
-    requires { ⌜ Known (now text) (now d) (now known) × Named (now text) (now d) (now e) (now o) (now st) z (now names) ⌝ }
+    requires { ⌜ Ready (now text) (now d) (now e) (now o) (now st) z (now names) (now known) ⌝ }
     ensures { λ r. ⌜ JudgesObject (now (text .entry)) (now (d .entry)) (now (e .entry)) (now (o .entry)) (now (st .entry)) (now (known .entry)) z (now (places .entry)) i r ⌝ }
 {
-    let kind = cell_at(o, 9, i, 0);
+    let kind = cells::cell_of(o, 9, i, 0);
     let key = cells::get(places, kind);
-    let owner = cell_at(o, 9, i, 3);
-    let from = cell_at(o, 9, i, 7);
-    let end = cell_at(o, 9, i, 8);
+    let owner = cells::cell_of(o, 9, i, 3);
+    let from = cells::cell_of(o, 9, i, 7);
+    let end = cells::cell_of(o, 9, i, 8);
     judge_block(text, d, e, o, st, names, known, z, key, from, end, owner)
 }
 
@@ -178,7 +241,7 @@ fn judge_objects(
     z: Sizes,
     places: &[usize],
 ) -> Fault
-    requires { ⌜ Known (now text) (now d) (now known) × Named (now text) (now d) (now e) (now o) (now st) z (now names) ⌝ }
+    requires { ⌜ Ready (now text) (now d) (now e) (now o) (now st) z (now names) (now known) ⌝ }
     ensures { λ r. ⌜ JudgesObjects (now (text .entry)) (now (d .entry)) (now (e .entry)) (now (o .entry)) (now (st .entry)) (now (known .entry)) z (now (places .entry)) r ⌝ }
 {
     let mut best = Fault {
@@ -224,8 +287,10 @@ pub fn judge_all(
             place: 0,
         };
     }
-    let names = names::note(text, d, e, o, st, z);
+    let mut names = names::note(text, d, e, o, st, z);
     let missing = marking::marks(text, d, e, st, &names, z);
+    let owners = lookups::owners::owners(d, &missing);
+    cells::put_cells(&mut names, 4353, &owners);
     let mut known = [0; 35840];
     let mut spare = [0; 16384];
     amounts::noting::note_ranges(text, d, z.definitions, &mut known, &mut spare);

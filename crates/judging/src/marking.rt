@@ -3,18 +3,17 @@ ghost use mathlib.Core.Path.{_≡_};
 ghost use Prim.Native.Nat.{_+_, _*_};
 ghost use lib.Dec.{eqb};
 ghost use lib.ListN.{getD};
-ghost use Rattle.layout.specs.Kept.{bit};
+ghost use Rattle.token.specs.Find.{bit};
 ghost use Rattle.rows.specs.Table.{part};
 ghost use Rattle.rows.specs.Search.{findRow};
 ghost use Rattle.lookups.specs.Ranks.{Firsts};
 ghost use Rattle.judging.specs.Names.{IndexAt, Ranks};
 ghost use Rattle.judging.specs.Promises.{LacksRow, Lacks, Needs, Marks};
-use super::Sizes;
 use super::names;
-use blocks::cell_at;
 use rows::Found;
 use rows::cells;
 use rows::finding;
+use scopes::Sizes;
 
 // Whether the attribute of row i, which stands under the word at key, is marked, and the block does not state it; `first` has the first row of
 // each rank in the block.
@@ -69,22 +68,22 @@ pub fn lacks(
     d: &[usize],
     st: &[usize],
     names: &[usize],
+    first: &[usize],
     missing: &[usize],
     n: usize,
     key: usize,
     from: usize,
     end: usize,
 ) -> bool
-    requires { ⌜ Ranks (now text) (now d) (now st) (now names) ⌝ }
+    requires { ⌜ Ranks (now text) (now d) (now st) (now names) × Firsts (now st) (part (now names) 1792 2049) from end (now first) ⌝ }
     ensures { λ r. ⌜ Lacks (now (text .entry)) (now (d .entry)) (now (st .entry)) (now (missing .entry)) n key from end r ⌝ }
 {
-    let first = names::firsts(st, names, from, end);
     let mut i = 0;
     while i < n {
         let Found::At(j) = find_under(d, n, key, i) else {
             return false;
         };
-        if lacks_row(text, d, st, names, missing, &first, j, from, end) {
+        if lacks_row(text, d, st, names, missing, first, j, from, end) {
             return true;
         }
         i = j + 1;
@@ -96,7 +95,7 @@ pub fn lacks(
 fn single(d: &[usize], j: usize) -> usize
     ensures { λ r. ⌜ r ≡ bit (eqb (getD (now (d .entry)) (j * 19 + 6) 0) 0) ⌝ }
 {
-    if cell_at(d, 19, j, 6) == 0 {
+    if cells::cell_of(d, 19, j, 6) == 0 {
         return 1;
     }
     0
@@ -116,20 +115,20 @@ fn needs(
     requires { ⌜ IndexAt (now text) (now e) 3 1 (z .enumerators) 512 (now names) × Ranks (now text) (now d) (now st) (now names) ⌝ }
     ensures { λ r. ⌜ Needs (now (text .entry)) (now (d .entry)) (now (e .entry)) (now (st .entry)) (now (missing .entry)) z j r ⌝ }
 {
-    let len = cell_at(d, 19, j, 11);
+    let len = cells::cell_of(d, 19, j, 11);
     if len == 0 {
         return single(d, j);
     }
-    let code = cell_at(d, 19, j, 18);
+    let code = cells::cell_of(d, 19, j, 18);
     if code == 4 {
         return single(d, j);
     }
-    let at = cell_at(d, 19, j, 10);
+    let at = cells::cell_of(d, 19, j, 10);
     let key = names::word_under(text, d, e, names, z.enumerators, j, at, len);
     if key == 0 {
         return 0;
     }
-    if lacks(text, d, st, names, missing, j, key, 0, 0) {
+    if lacks(text, d, st, names, &names[..0], missing, j, key, 0, 0) {
         return 1;
     }
     0

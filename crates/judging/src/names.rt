@@ -1,16 +1,16 @@
-// The names of all rows in one table, 4353 cells: the index of the definitions, from 0 on, that of the enumerators, from 512, that of the objects, from
+// The names of all rows in one table, 4865 cells: the index of the definitions, from 0 on, that of the enumerators, from 512, that of the objects, from
 // 1536, the ranks of the statements' names, from 1792, and those of the definitions' names, from 3841.
 ghost use mathlib.Core.Path.{_≡_};
 ghost use Prim.Native.Nat.{_+_, _*_, _≤_};
 ghost use lib.ListN.{length, getD};
 ghost use Rattle.rows.specs.Table.{part};
-ghost use Rattle.blocks.specs.Blocks.{IsStated};
+ghost use Rattle.blocks.specs.Blocks.{IsStated, IsBefore};
+ghost use Rattle.sorting.specs.Sorted.{Tells};
 ghost use Rattle.lookups.specs.Ranks.{Firsts};
 ghost use Rattle.scopes.specs.Promises.{FindsDefinition, FindsObject, FindsWord};
 ghost use Rattle.judging.specs.Names.{IndexAt, Ranks, PutsIndex, PutsRanks, FewRows, Named};
-use super::Sizes;
-use blocks::cell_at;
 use rows::Found;
+use scopes::Sizes;
 
 // The cells from a place on, so many.
 fn cells_from(t: &[usize], at: usize, n: usize) -> &[usize]
@@ -113,21 +113,32 @@ pub fn is_stated(
     )
 }
 
-// Whether a block has the name of the statement of row k before that row.
+// Whether a block has the name of the statement of row k before that row; `first` has the first row of each rank in the block.
 pub fn is_before(
     text: &[u8],
     d: &[usize],
     st: &[usize],
     names: &[usize],
+    first: &[usize],
     from: usize,
     k: usize,
+    end: usize,
 ) -> bool
-    requires { ⌜ Ranks (now text) (now d) (now st) (now names) ⌝ }
-    ensures { λ r. ⌜ IsStated (now (text .entry)) (now (st .entry)) from k (getD (now (st .entry)) (k * 7 + 0) 0) (getD (now (st .entry)) (k * 7 + 1) 0) r ⌝ }
+    requires { ⌜ Ranks (now text) (now d) (now st) (now names) × Firsts (now st) (part (now names) 1792 2049) from end (now first) ⌝ }
+    ensures { λ r. ⌜ IsBefore (now (text .entry)) (now (st .entry)) from k end r ⌝ }
 {
     let ranks = cells_from(names, 1792, 2049);
-    let first = cells_from(names, 0, 0);
-    lookups::is_row_stated(text, st, 7, 0, ranks, k, st, ranks, first, from, k)
+    match lookups::row_stated(text, st, 7, 0, ranks, k, st, ranks, first, from, end) {
+        Found::At(i) => i != k,
+        Found::Nothing => false,
+    }
+}
+
+// Whether something that must be stated stands under the word at key.
+pub fn is_owner(names: &[usize], key: usize) -> bool
+    ensures { λ r. ⌜ Tells (part (now (names .entry)) 4353 512) key r ⌝ }
+{
+    sorting::has(cells_from(names, 4353, 512), key)
 }
 
 // Puts the index of the first n rows at a place; `spare` is room for half of them.
@@ -173,11 +184,11 @@ pub fn note(
     o: &[usize],
     st: &[usize],
     z: Sizes,
-) -> [usize; 4353]
+) -> [usize; 4865]
     requires { ⌜ FewRows z ⌝ }
     ensures { λ r. ⌜ Named (now (text .entry)) (now (d .entry)) (now (e .entry)) (now (o .entry)) (now (st .entry)) z r ⌝ }
 {
-    let mut names = [0; 4353];
+    let mut names = [0; 4865];
     let mut spare = [0; 512];
     put_index(text, d, 19, 2, z.definitions, 0, &mut names, &mut spare);
     put_index(text, e, 3, 1, z.enumerators, 512, &mut names, &mut spare);

@@ -2,17 +2,19 @@
 ghost use mathlib.Core.Path.{_≡_};
 ghost use Prim.Native.Nat.{_+_, _*_};
 ghost use lib.ListN.{getD};
+ghost use Rattle.rows.specs.Table.{part};
+ghost use Rattle.lookups.specs.Ranks.{Firsts};
 ghost use Rattle.amounts.specs.Known.{Known};
 ghost use Rattle.scopes.specs.Promises.{FindsWord};
 ghost use Rattle.judging.specs.Names.{IndexAt, Ranks, Named};
 ghost use Rattle.judging.specs.Promises.{name-code, ReferenceFault, ValueFault, Again, OwnFault};
-use super::Sizes;
 use super::names;
 use amounts::asking::takes;
-use blocks::cell_at;
 use rows::Fault;
 use rows::Found;
+use rows::cells;
 use rows::faults;
+use scopes::Sizes;
 
 // Whether a word with this code is a name.
 fn is_name(code: usize) -> bool
@@ -79,10 +81,10 @@ fn value_fault(
     requires { ⌜ Known (now text) (now d) (now known) × Named (now text) (now d) (now e) (now o) (now st) z (now names) × FindsWord (now text) (now d) (now e) (z .enumerators) j (getD (now st) (k * 7 + 2) 0) (getD (now st) (k * 7 + 3) 0) under ⌝ }
     ensures { λ r. ⌜ ValueFault (now (text .entry)) (now (d .entry)) (now (e .entry)) (now (o .entry)) (now (st .entry)) z k j r ⌝ }
 {
-    let at = cell_at(st, 7, k, 2);
-    let len = cell_at(st, 7, k, 3);
-    let code = cell_at(st, 7, k, 4);
-    let kind = cell_at(d, 19, j, 12);
+    let at = cells::cell_of(st, 7, k, 2);
+    let len = cells::cell_of(st, 7, k, 3);
+    let code = cells::cell_of(st, 7, k, 4);
+    let kind = cells::cell_of(d, 19, j, 12);
     if kind < 22 {
         return Fault {
             number: 15,
@@ -91,14 +93,15 @@ fn value_fault(
     }
     if kind < 35 {
         let a = reference_fault(text, o, names, z.objects, kind - 22, at, len, code);
-        let brace = cell_at(st, 7, k, 5);
+        let brace = cells::cell_of(st, 7, k, 5);
         let b = faults::fault_if(brace != 0, 15, brace);
         return faults::sooner(a, b);
     }
     faults::fault_if(!takes(text, d, known, j, at, code, under), 15, at)
 }
 
-// Whether the attribute of row j is single and stated before the statement of row k, in the block from `from` on.
+// Whether the attribute of row j is single and stated before the statement of row k, in the block from `from` to `end`; here and below `first`
+// has the first row of each rank in the block.
 fn again(
     text: &[u8],
     d: &[usize],
@@ -106,18 +109,20 @@ fn again(
     o: &[usize],
     st: &[usize],
     names: &[usize],
+    first: &[usize],
     z: Sizes,
     from: usize,
     k: usize,
+    end: usize,
     j: usize,
 ) -> bool
-    requires { ⌜ Ranks (now text) (now d) (now st) (now names) ⌝ }
-    ensures { λ r. ⌜ Again (now (text .entry)) (now (d .entry)) (now (e .entry)) (now (o .entry)) (now (st .entry)) z from k j r ⌝ }
+    requires { ⌜ Ranks (now text) (now d) (now st) (now names) × Firsts (now st) (part (now names) 1792 2049) from end (now first) ⌝ }
+    ensures { λ r. ⌜ Again (now (text .entry)) (now (d .entry)) (now (e .entry)) (now (o .entry)) (now (st .entry)) z from k end j r ⌝ }
 {
-    if cell_at(d, 19, j, 6) != 0 {
+    if cells::cell_of(d, 19, j, 6) != 0 {
         return false;
     }
-    names::is_before(text, d, st, names, from, k)
+    names::is_before(text, d, st, names, first, from, k, end)
 }
 
 // 14, 15 and 18 of the statement of row k.
@@ -128,18 +133,24 @@ pub fn own_fault(
     o: &[usize],
     st: &[usize],
     names: &[usize],
+    first: &[usize],
     known: &[usize],
     z: Sizes,
     from: usize,
     k: usize,
+    end: usize,
     j: usize,
     under: usize,
 ) -> Fault
-    requires { ⌜ Known (now text) (now d) (now known) × Named (now text) (now d) (now e) (now o) (now st) z (now names) × FindsWord (now text) (now d) (now e) (z .enumerators) j (getD (now st) (k * 7 + 2) 0) (getD (now st) (k * 7 + 3) 0) under ⌝ }
-    ensures { λ r. ⌜ OwnFault (now (text .entry)) (now (d .entry)) (now (e .entry)) (now (o .entry)) (now (st .entry)) z from k j r ⌝ }
+    requires { ⌜ Known (now text) (now d) (now known) × Named (now text) (now d) (now e) (now o) (now st) z (now names) × Firsts (now st) (part (now names) 1792 2049) from end (now first) × FindsWord (now text) (now d) (now e) (z .enumerators) j (getD (now st) (k * 7 + 2) 0) (getD (now st) (k * 7 + 3) 0) under ⌝ }
+    ensures { λ r. ⌜ OwnFault (now (text .entry)) (now (d .entry)) (now (e .entry)) (now (o .entry)) (now (st .entry)) z from k end j r ⌝ }
 {
-    let name = cell_at(st, 7, k, 0);
-    let a = faults::fault_if(again(text, d, e, o, st, names, z, from, k, j), 14, name);
+    let name = cells::cell_of(st, 7, k, 0);
+    let a = faults::fault_if(
+        again(text, d, e, o, st, names, first, z, from, k, end, j),
+        14,
+        name,
+    );
     let b = value_fault(text, d, e, o, st, names, known, z, k, j, under);
     faults::sooner(a, b)
 }

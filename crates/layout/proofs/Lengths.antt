@@ -5,7 +5,8 @@ use mathlib.Core.Bool.{Bool, true, false}
 use Prim.Native.Nat.{ℕ, suc, _+_, _*_}
 use native.Mathlib.Omega.{arith}
 use lib.ListN.{length, length-append}
-use Rattle.meaning.specs.Syntax.{Word, Definitions, no-more, define, Values, no-value, value, Statements, done, state, Object, is-enum, counted, definitions-in, definitions-under, enumerators-in, enumerators-under, statements-in}
+use Rattle.token.specs.Find.{bit}
+use Rattle.meaning.specs.Syntax.{Word, Definitions, no-more, define, Values, no-value, value, Statements, done, state, Object, is-enum, definitions-in, definitions-under, enumerators-in, enumerators-under, statements-in}
 use Rattle.layout.specs.Kept.{Wide, Entry, entries, entries-under, list-key, truth-cells, default-code, definition-cells, choice-if, choices, choices-of, statement-rows, all-statement-rows, statement-count, object-cells, object-rows, join, map-cells}
 
 -- Rows of one width ------------------------------------------------------------------------------------------------------------------------
@@ -90,8 +91,8 @@ mutual
 
 -- Enumerators ------------------------------------------------------------------------------------------------------------------------------
 
-pub length-choice : (b : Bool) (o : ℕ) (w : Word) → length (choice-if b o w) ≡ counted b
-unfolding choice-if counted
+pub length-choice : (b : Bool) (o : ℕ) (w : Word) → length (choice-if b o w) ≡ bit b
+unfolding choice-if bit
 length-choice true o w = refl
 length-choice false o w = refl
 

@@ -8,19 +8,14 @@ use Prim.Native.Nat.{ℕ, suc, _+_, _*_}
 use lib.ListN.{length, replicate}
 use lib.Seq.{sets}
 use lib.Dec.{eqb}
-use Rattle.token.specs.Find.{pick}
-use Rattle.grammar.specs.Grammar.{Class, Integer, Given, Sign, ordinary, numeral, quoted, other, kind-word, type-word, integer-word, word, sign, UINT32, INT32, UINT64, INT64, OIL-VERSION, IMPLEMENTATION, CPU, STRING, BOOLEAN, ENUM, TRUE, FALSE, AUTO, NO-DEFAULT, WITH-AUTO, lbrace, rbrace, lsquare, rsquare, equals, semicolon, colon, comma, dots}
+use Rattle.token.specs.Find.{pick, bit}
+use Rattle.grammar.specs.Grammar.{Class, Given, Sign, ordinary, numeral, quoted, other, kind-word, type-word, integer-word, word, sign, OIL-VERSION, IMPLEMENTATION, CPU, STRING, BOOLEAN, ENUM, TRUE, FALSE, AUTO, NO-DEFAULT, WITH-AUTO, lbrace, rbrace, lsquare, rsquare, equals, semicolon, colon, comma, dots}
 use Rattle.meaning.specs.Syntax.{Word, span-or, Definition, Definitions, no-more, define, Values, no-value, value, Spec, Statement, Statements, done, state, Object, File, is-enum, statements-in}
 use Rattle.meaning.specs.Kinds.{kind-number}
 use Rattle.meaning.specs.Defining.{specified}
+use Rattle.meaning.specs.Cells.{integer-code}
 
 -- Codes ------------------------------------------------------------------------------------------------------------------------------------
-
-unfoldable pub integer-number : Integer → ℕ
-integer-number UINT32 = 0
-integer-number INT32 = 1
-integer-number UINT64 = 2
-integer-number INT64 = 3
 
 unfoldable pub given-number : Given → ℕ
 given-number TRUE = 1
@@ -54,16 +49,12 @@ class-number quoted = 43
 class-number other = 53
 class-number (kind-word k) = 9 + kind-number k
 class-number (type-word k) = 22 + kind-number k
-class-number (integer-word i) = 35 + integer-number i
+class-number (integer-word i) = integer-code i
 class-number (word g) = given-number g
 class-number (sign s) = sign-number s
 
 unfoldable pub code-of : Word → ℕ
 code-of w = class-number (w .class)
-
-unfoldable pub bit : Bool → ℕ
-bit true = 1
-bit false = 0
 
 -- Definitions ------------------------------------------------------------------------------------------------------------------------------
 

@@ -10,6 +10,7 @@ use lib.Seq.{getD-set-same, getD-set-other, set-out}
 use lib.Dec.{ltb, eqb}
 use native.Mathlib.Decide.{ℕ-discrete}
 use borrow.Author.Tests.{eq-eqb, ne-eqb, eqb-true, lt-ltb, le-ltb, ltb-true}
+use Rattle.indexes.specs.Indexing.{rowName}
 use Rattle.token.specs.Find.{pick}
 use Rattle.token.specs.Words.{same}
 use Rattle.token.specs.Tokens.{partOf}
@@ -21,7 +22,7 @@ use Rattle.rows.specs.Search.{isFound}
 use Rattle.blocks.specs.Blocks.{row-after, FindsStated, IsStated}
 use Rattle.blocks.proofs.Ranges.{looking-start, looking-stop, looking-more, looking-end, is-stated, after-later, after-back, after-past, after-next}
 use Rattle.lookups.proofs.Notes.{row-place, row-size}
-use Rattle.lookups.specs.Ranks.{Ranked, nameOf, NextRow, Skips, start-of, first-noted, Firsts, FirstsTo, MayState, StatedRanked, RowStated, IsRowStated}
+use Rattle.lookups.specs.Ranks.{Ranked, NextRow, Skips, start-of, first-noted, Firsts, FirstsTo, MayState, StatedRanked, RowStated, IsRowStated}
 
 -- the cases of the row after that of row k
 module _ (k v e : ℕ) where
@@ -47,12 +48,12 @@ next-later st k e j n l = subst (λ (x : ℕ). k < x) (sym (n st refl)) (after-l
 
 -- the search from row k on: it has the name, it has not, or the block ends there
 module _ (s st : List ℕ) (k e at len : ℕ) where
-  finds-here : k < e → same (partOf s at len) (nameOf s st 7 0 k) ≡ true → FindsStated s st k e at len (At k)
-  unfolding nameOf
+  finds-here : k < e → same (partOf s at len) (rowName s st 7 0 k) ≡ true → FindsStated s st k e at len (At k)
+  unfolding rowName
   finds-here h q = looking-stop k e at len k (looking-start s st k e at len) h q
 
-  finds-after : (r : Found) → k < e → same (partOf s at len) (nameOf s st 7 0 k) ≡ false → FindsStated s st (row-after st k e) e at len r → FindsStated s st k e at len r
-  unfolding nameOf
+  finds-after : (r : Found) → k < e → same (partOf s at len) (rowName s st 7 0 k) ≡ false → FindsStated s st (row-after st k e) e at len r → FindsStated s st k e at len r
+  unfolding rowName
   finds-after r h q n ss t b p = let l = looking-more k e at len k (looking-start s st k e at len) h q ss t b p in n (l .left) t (l .block) p ∙ l .same-found
 
   finds-end : e ≤ k → FindsStated s st k e at len Nothing
@@ -70,7 +71,7 @@ module _ (st h : List ℕ) (a e g : ℕ) where
       record {
         later = omega (arith, z .later, after-later st k e l);
         finds = λ s at len f i b c u.
-            let other = not-true (same (partOf s at len) (nameOf s st 7 0 k)) (λ w. q (b .cell k j ∙ sym (c ∙ ap f (same-equal (partOf s at len) (nameOf s st 7 0 k) w)))) in
+            let other = not-true (same (partOf s at len) (rowName s st 7 0 k)) (λ w. q (b .cell k j ∙ sym (c ∙ ap f (same-equal (partOf s at len) (rowName s st 7 0 k) w)))) in
             z .finds s at len f i b c (finds-after s st k e at len i l other (subst (λ (v : ℕ). FindsStated s st v e at len i) y u));
       }
 
@@ -96,8 +97,8 @@ module _ (s st h : List ℕ) (a e at len g : ℕ) where
   onward-start k z f r b c u = z .finds s at len f r b c u
 
   module _ (k p n : ℕ) (o : Onward k) (l : k < e) (q : Bool) (c₁ : p ≡ getD st (k * 7 + 0) 0) (c₂ : n ≡ getD st (k * 7 + 1) 0) (d : q ≡ same (partOf s at len) (partOf s p n)) where
-    name-same : q ≡ same (partOf s at len) (nameOf s st 7 0 k)
-    unfolding nameOf
+    name-same : q ≡ same (partOf s at len) (rowName s st 7 0 k)
+    unfolding rowName
     name-same = d ∙ ap₂ (λ (x y : ℕ). same (partOf s at len) (partOf s x y)) c₁ c₂
 
     -- row k has the name
@@ -233,7 +234,7 @@ module _ (s t : List ℕ) (w m : ℕ) (v : List ℕ) (i : ℕ) (st h F : List �
 
     -- the row's name has a rank, and the rows before k have not
     pub row-ranked : (j k : ℕ) (r : Found) → i < length v → j ≡ start-of F a (getD v i 0) → Skips st h j e (getD v i 0) k → StatedRanked s st h k e at len (getD v i 0) r → RowStated s t w m v i st h F a e r
-    unfolding StatedRanked RowStated nameOf
+    unfolding StatedRanked RowStated rowName
     row-ranked j k r l y x z f b g o =
         let x₀ = skips-on st h a e (getD v i 0) j k (subst (λ (u : ℕ). Skips st h a e (getD v i 0) u) (sym y) (o .skips (getD v i 0))) x in
         let n : getD v i 0 ≡ f (partOf s at len) = b .cell i l ∙ sym (ap₂ (λ (x y : ℕ). f (partOf s x y)) p q) in
@@ -247,7 +248,7 @@ module _ (s t : List ℕ) (w m : ℕ) (v : List ℕ) (i : ℕ) (st h F : List �
 
   -- no row has it
   pub row-none : (j k : ℕ) → i < length v → j ≡ start-of F a (getD v i 0) → Skips st h j e (getD v i 0) k → e ≤ k → RowStated s t w m v i st h F a e Nothing
-  unfolding RowStated nameOf
+  unfolding RowStated rowName
   row-none j k l y x g f b c o =
       skips-on st h a e (getD v i 0) j k (subst (λ (u : ℕ). Skips st h a e (getD v i 0) u) (sym y) (o .skips (getD v i 0))) x .finds s (getD t (i * w + m) 0) (getD t (i * w + (m + 1)) 0) f Nothing c (b .cell i l) (finds-end s st k e (getD t (i * w + m) 0) (getD t (i * w + (m + 1)) 0) g)
 

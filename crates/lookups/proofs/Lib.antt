@@ -2,3 +2,5 @@ pub mod Notes
 pub mod Blocks
 pub mod Rows
 pub mod Standings
+pub mod Attributes
+pub mod Owning

@@ -9,8 +9,8 @@ use lib.ListN.{length, getD, set}
 use lib.Seq.{getD-set-same, getD-set-other}
 use Rattle.token.specs.Tokens.{partOf}
 use Rattle.rows.proofs.Starts.{cell-start, cell-column}
-use Rattle.indexes.specs.Indexing.{Ranks, nameRank}
-use Rattle.lookups.specs.Ranks.{nameOf, NotesRanks, NotesRanksTo}
+use Rattle.indexes.specs.Indexing.{Ranks, nameRank, rowName}
+use Rattle.lookups.specs.Ranks.{NotesRanks, NotesRanksTo}
 
 -- the cells of a row's name, by a place where the row begins that is no larger than the end
 module _ (t : List ℕ) (w m i a m2 p n : ℕ) (d : m2 ≡ min (length t) (m + 1)) (e : a ≡ min (length t) (i * w)) where
@@ -31,7 +31,7 @@ module _ (s d x t : List ℕ) (w m : ℕ) where
   pub noted-more : (j : ℕ) (h : List ℕ) (m2 y p n v : ℕ) → NotesRanksTo s d x t w m j h → j < length h → m2 ≡ min (length t) (m + 1)
       → y ≡ min (length t) (j * w) → p ≡ getD t (y + m) 0 → n ≡ getD t (y + m2) 0 → Ranks s d 19 0 2 x (partOf s p n) v
       → NotesRanksTo s d x t w m (j + 1) (set h j v)
-  unfolding NotesRanksTo Ranks nameOf
+  unfolding NotesRanksTo Ranks rowName
   noted-more j h m2 y p n v f g c e a b r k z q = record { cell = λ i l. by i l (ℕ-discrete i j) }
     where
       number : List ℕ → ℕ

@@ -12,20 +12,16 @@ use Rattle.token.specs.Find.{pick}
 use Rattle.token.specs.Tokens.{partOf}
 use Rattle.rows.specs.declared.Found.{Found}
 use Rattle.rows.specs.declared.Found.the-variants.{Nothing}
-use Rattle.indexes.specs.Indexing.{Indexed, nameRank}
+use Rattle.indexes.specs.Indexing.{Indexed, nameRank, rowName}
 use Rattle.blocks.specs.Blocks.{row-after, FindsStated, IsStated}
-
--- row i's name
-unfoldable pub nameOf : List ℕ → List ℕ → ℕ → ℕ → ℕ → List ℕ
-nameOf s t w m i = partOf s (getD t (i * w + m) 0) (getD t (i * w + (m + 1)) 0)
 
 -- each of the first n cells of h is the number of the name of the row of its place
 pub record RankedTo (f : List ℕ → ℕ) (s t : List ℕ) (w m n : ℕ) (h : List ℕ) : Type 0 where
-  pub cell : (i : ℕ) → i < n → getD h i 0 ≡ f (nameOf s t w m i)
+  pub cell : (i : ℕ) → i < n → getD h i 0 ≡ f (rowName s t w m i)
 
 -- so is each cell of h
 pub record Ranked (f : List ℕ → ℕ) (s t : List ℕ) (w m : ℕ) (h : List ℕ) : Type 0 where
-  pub cell : (i : ℕ) → i < length h → getD h i 0 ≡ f (nameOf s t w m i)
+  pub cell : (i : ℕ) → i < length h → getD h i 0 ≡ f (rowName s t w m i)
 
 -- the first n cells of h, or all, are ranks of names among those of the definitions d, if x is the index of the definitions
 unfoldable pub NotesRanksTo : List ℕ → List ℕ → List ℕ → List ℕ → (w m n : ℕ) → List ℕ → Type 0

@@ -5,6 +5,9 @@ ghost use lib.ListN.{getD};
 ghost use Rattle.blocks.specs.Blocks.{FindsStated};
 ghost use Rattle.lookups.specs.Ranks.{NotesRanks, NextRow, Skips, start-of, first-noted, Firsts, FirstsTo, MayState, StatedRanked, RowStated, IsRowStated};
 ghost use Rattle.lookups.specs.Answers.{DefinitionIndexed, ObjectIndexed, EnumeratorIndexed, WordIndexed};
+
+pub mod owners;
+
 use rows::Found;
 use rows::cells;
 use rows::parts;
@@ -49,7 +52,7 @@ pub fn find_enumerator(
 ) -> Found
     ensures { λ r. ⌜ EnumeratorIndexed (now (text .entry)) (now (d .entry)) (now (e .entry)) (now (x .entry)) j at len r ⌝ }
 {
-    let key = blocks::cell_at(d, 19, j, 14);
+    let key = cells::cell_of(d, 19, j, 14);
     indexes::find_indexed(text, e, 3, 0, key, 1, at, len, x)
 }
 
@@ -65,7 +68,7 @@ pub fn word_under(
 ) -> usize
     ensures { λ r. ⌜ WordIndexed (now (text .entry)) (now (d .entry)) (now (e .entry)) (now (x .entry)) j at len r ⌝ }
 {
-    let code = blocks::cell_at(d, 19, j, 12);
+    let code = cells::cell_of(d, 19, j, 12);
     if code == 40 {
         return scopes::lookups::truth_under(text, d, j, at, len);
     }
@@ -75,7 +78,7 @@ pub fn word_under(
     let Found::At(i) = find_enumerator(text, d, e, x, j, at, len) else {
         return 0;
     };
-    blocks::cell_at(e, 3, i, 1)
+    cells::cell_of(e, 3, i, 1)
 }
 
 // Makes h the ranks of the names of the first rows, as many as h has cells, among the names of the definitions; x is the index of these.
@@ -223,8 +226,8 @@ fn stated(
 {
     let mut k = skip(st, h, from, end, rank);
     while k < end {
-        let place = blocks::cell_at(st, 7, k, 0);
-        let size = blocks::cell_at(st, 7, k, 1);
+        let place = cells::cell_of(st, 7, k, 0);
+        let size = cells::cell_of(st, 7, k, 1);
         if parts::same_part(text, at, len, place, size) {
             return Found::At(k);
         }

@@ -5,11 +5,12 @@ use mathlib.Core.Bool.{Bool, true, false}
 use Prim.Native.Nat.{ℕ}
 use native.Mathlib.Omega.{arith}
 use lib.ListN.{length, length-append}
+use Rattle.token.specs.Find.{bit}
 use Rattle.meaning.specs.Defining.{enumerator-row, enumerator-rows, enumerator-rows-of}
-use Rattle.meaning.specs.Syntax.{Definitions, no-more, define, Values, no-value, value, is-enum, counted, enumerators-in, enumerators-under, Word}
+use Rattle.meaning.specs.Syntax.{Definitions, no-more, define, Values, no-value, value, is-enum, enumerators-in, enumerators-under, Word}
 
-length-row : (b : Bool) (a : ℕ) (w : Word) → length (enumerator-row b a w) ≡ counted b
-unfolding enumerator-row counted
+length-row : (b : Bool) (a : ℕ) (w : Word) → length (enumerator-row b a w) ≡ bit b
+unfolding enumerator-row bit
 length-row true a w = refl
 length-row false a w = refl
 

@@ -12,6 +12,16 @@ use Rattle.meaning.specs.Scopes.{names}
 use Rattle.meaning.specs.Syntax.{Definition, Definitions, define, Values, Statements, done, state, Object, Word}
 use Rattle.meaning.specs.Words.{alike, among, choose}
 
+-- One list of statements behind another.
+unfoldable pub then : Statements → Statements → Statements
+then done b = b
+then (state x inside rest) b = state x inside (then rest b)
+
+pub then-assoc : (a b c : Statements) → then (then a b) c ≡ then a (then b c)
+unfolding then
+then-assoc done b c = refl
+then-assoc (state x inside rest) b c = ap (state x inside) (then-assoc rest b c)
+
 -- One list of resolved values behind another.
 unfoldable pub joins : Resolved → Resolved → Resolved
 joins end b = b

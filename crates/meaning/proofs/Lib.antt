@@ -19,5 +19,6 @@ pub mod Found
 pub mod Whole
 pub mod Settled
 pub mod Rooms
+pub mod Numbered
 pub mod Unplaced
 pub mod UnplacedFaults

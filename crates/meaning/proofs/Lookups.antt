@@ -4,6 +4,7 @@ use mathlib.Core.List.{List, [], _∷_, _++_}
 use mathlib.Core.Bool.{Bool, true, false}
 use mathlib.Core.Option.{Option, none, some}
 use Prim.Native.Nat.{ℕ}
+use Rattle.meaning.specs.Places.{if-there}
 use Rattle.grammar.specs.Grammar.{Token, file, _▸_, ∎, _⟶_, Trees, tokens}
 use Rattle.token.specs.Find.{pick}
 use Rattle.token.specs.Words.{same}
@@ -17,10 +18,6 @@ use Rattle.meaning.specs.Actions.{word-of, syntax}
 use Rattle.meaning.proofs.Order.{Sub, sub-nil, keep, drop}
 use Rattle.meaning.proofs.Sites.{bound-words, option-words, definition-words, value-words, file-words}
 use Rattle.meaning.proofs.Leaves.{leaves-words, words, words-leaves}
-
-unfoldable pub map-option : {A B : Type 0} → (A → B) → Option A → Option B
-map-option f none = none
-map-option f (some a) = some (f a)
 
 -- Words of the text ------------------------------------------------------------------------------------------------------------------------
 
@@ -74,19 +71,19 @@ unfoldable pub row-under : Word → Defined → Standing
 row-under u x = record { number = x .definition .row; row = definition-row u (x .definition) }
 
 standing-finds : (s : List ℕ) (u t : Word) (ds : Definitions) → InText s (definition-words ds)
-    → first-standing s t (standing u ds) ≡ map-option (row-under u) (find-definition ds t)
-unfolding first-standing standing row-under definition-row find-definition alike map-option
+    → first-standing s t (standing u ds) ≡ if-there (row-under u) (find-definition ds t)
+unfolding first-standing standing row-under definition-row find-definition alike if-there
 standing-finds s u t no-more h = refl
 standing-finds s u t (define d vs ds) h =
     ap (λ b. pick (same b (t .bytes)) (some (record { number = d .row; row = definition-row u d })) (first-standing s t (standing u ds))) (sym (name-text s d vs ds h .0))
     ∙ go (same (d .name .bytes) (t .bytes)) (standing-finds s u t ds (name-text s d vs ds h .1))
   where
-    go : (b : Bool) → first-standing s t (standing u ds) ≡ map-option (row-under u) (find-definition ds t)
-        → pick b (some (record { number = d .row; row = definition-row u d })) (first-standing s t (standing u ds)) ≡ map-option (row-under u) (pick b (some (record { definition = d; values = vs })) (find-definition ds t))
+    go : (b : Bool) → first-standing s t (standing u ds) ≡ if-there (row-under u) (find-definition ds t)
+        → pick b (some (record { number = d .row; row = definition-row u d })) (first-standing s t (standing u ds)) ≡ if-there (row-under u) (pick b (some (record { definition = d; values = vs })) (find-definition ds t))
     go true e = refl
     go false e = e
 
 -- In the table R: the row that a name of the scope has.
 pub finds-definition : (R : List DefinitionRow) (u : Word) (ds : Definitions) (s : List ℕ) (t : Word) → InText s (definition-words ds) → Scope R u ds
-    → first-standing s t (select-under (u .place) 0 R) ≡ map-option (row-under u) (find-definition ds t)
+    → first-standing s t (select-under (u .place) 0 R) ≡ if-there (row-under u) (find-definition ds t)
 finds-definition R u ds s t h e = ap (first-standing s t) e ∙ standing-finds s u t ds h

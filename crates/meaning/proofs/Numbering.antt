@@ -6,9 +6,10 @@ use mathlib.Core.Bool.{Bool, true, false}
 use Prim.Native.Nat.{ℕ, suc, _+_}
 use native.Mathlib.Omega.{arith}
 use lib.ListN.{length, length-append}
+use Rattle.token.specs.Find.{bit}
 use Rattle.grammar.specs.Grammar.{Rule, Form, _▸_, ∎, _⟶_, Trees, nil, leaf, node, file, version, implementation, specs, spec, definitions, definition, attribute, D, P, auto, mark, integer-range, numbers, boolean-range, enumerator, enumerators, application, objects, object, block, statements, statement, default, own, file-is, version-is, implementation-is, no-spec, a-spec, spec-is, no-definition, a-definition, an-attribute, a-reference, an-integer, a-string, a-boolean, an-enum, reference-is, no-D, a-D, no-P, a-P, no-auto, with-auto, no-mark, a-mark, no-range, a-range, a-list, no-number, a-number, no-boolean-range, a-boolean-range, enumerator-is, no-enumerator, an-enumerator, no-default, a-default, own-auto, own-none, own-number, own-string, own-true, own-false, own-name, application-is, no-object, an-object, an-object-alone, an-object-with, no-block, a-block, no-statement, a-statement, statement-is, value-number, value-string, value-auto, value-name, value-true, value-false, reference as reference-rule, value as value-rule}
 use Rattle.meaning.specs.Actions.{M, Enumerator, Stated, first-value, truths, defined, defining, specifying, stating, means, meaning, syntax, word-of}
-use Rattle.meaning.specs.Syntax.{Definitions, no-more, define, Values, no-value, value, Defined, Statements, done, state, Object, Spec, is-enum, counted, definitions-in, definitions-under, enumerators-in, enumerators-under, statements-in, Word}
+use Rattle.meaning.specs.Syntax.{Definitions, no-more, define, Values, no-value, value, Defined, Statements, done, state, Object, Spec, is-enum, definitions-in, definitions-under, enumerators-in, enumerators-under, statements-in, Word}
 
 -- The numbers --------------------------------------------------------------------------------------------------------------------------
 
@@ -87,8 +88,8 @@ mutual
       let c = length-under vs in
       omega arith
 
-pub length-if : (b : Bool) (e : ℕ) → length (number-if b e) ≡ counted b
-unfolding number-if counted
+pub length-if : (b : Bool) (e : ℕ) → length (number-if b e) ≡ bit b
+unfolding number-if bit
 length-if true e = refl
 length-if false e = refl
 

@@ -9,13 +9,14 @@ use native.Mathlib.Nat.{zero-mul, suc-mul, add-comm}
 use lib.ListN.{length, length-append}
 use lib.Dec.{eqb, ltb}
 use borrow.Author.Tests.{eqb-false, ltb-false}
+use Rattle.token.specs.Find.{is-there}
 use Rattle.token.specs.Words.{bytesOf, same}
 use Rattle.grammar.specs.Grammar.{file, _▸_, ∎, _⟶_, Trees}
 use Rattle.meaning.specs.Syntax.{Word, Definition, Definitions, no-more, define, Values, no-value, value, Spec, Statements, done, state, Object, is-enum}
 use Rattle.meaning.specs.Words.{choose, among}
 use Rattle.meaning.specs.Faults.{Fault, fault-if, sooner, first}
 use Rattle.meaning.specs.Actions.{syntax}
-use Rattle.meaning.specs.Scopes.{heads, is-there, find-object}
+use Rattle.meaning.specs.Scopes.{heads, find-object}
 use Rattle.meaning.specs.Defining.{DefinitionRow, EnumeratorRow, definition-rows, enumerator-rows, all-definition-rows, all-enumerator-rows, range-faults, default-faults, defined-in, differs, name-faults, word-faults, scope-faults, value-faults, specified, spec-faults, definition-faults}
 use Rattle.meaning.specs.Applying.{ObjectRow, object-rows, how-many, full, too-few, statement-faults, each-object, object-faults}
 use Rattle.meaning.specs.Kinds.{kinds, most}

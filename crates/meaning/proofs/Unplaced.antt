@@ -5,14 +5,14 @@ use mathlib.Core.Bool.{Bool, true, false, not}
 use mathlib.Core.Option.{Option, none, some}
 use Prim.Native.Nat.{ℕ, suc, _+_}
 use Rattle.grammar.specs.Grammar.{Kind}
-use Rattle.token.specs.Find.{pick, both, either}
+use Rattle.token.specs.Find.{pick, both, either, bit, is-there}
 use Rattle.token.specs.Words.{bytesOf, same}
 use Rattle.meaning.specs.Syntax.{Num, Word, Span, absent, span-of, span-or, AttributeType, integer, string, boolean, enum, reference, Bounds, no-bounds, from-to, one-of, Definition, Definitions, no-more, define, Values, no-value, value, Spec, Statements, done, state, Object, File, is-enum}
 use Rattle.meaning.specs.Words.{choose, alike, among, equal, among-numbers, in-bounds}
 use Rattle.meaning.specs.Kinds.{same-kind, kinds}
-use Rattle.meaning.specs.Scopes.{Sort, a-number, a-string, a-truth, an-auto, a-no-default, a-name, sort-of, of-kind, Under, find-value, under, find-definition, names, find-object, is-there}
+use Rattle.meaning.specs.Scopes.{Sort, a-number, a-string, a-truth, an-auto, a-no-default, a-name, sort-of, of-kind, Under, find-value, under, find-definition, names, find-object}
 use Rattle.meaning.specs.Defining.{DefinitionRow, EnumeratorRow, definition-row, definition-rows, definition-rows-under, enumerator-row, enumerator-rows, enumerator-rows-of, all-definition-rows, all-enumerator-rows}
-use Rattle.meaning.specs.Applying.{ObjectRow, object-rows, one-if, how-many, counts-of, counts}
+use Rattle.meaning.specs.Applying.{ObjectRow, object-rows, how-many, counts-of, counts}
 use Rattle.meaning.specs.Answers.{Tables, tables}
 use Rattle.meaning.specs.Judging.{is-no-default, taken-by, taken, lacking, lacks, lacks-under}
 use Rattle.meaning.specs.Resolving.{Value, number, truth, auto, string as string-value, enumerator, object, Taken, Resolved, end, resolved, number-or, row-or, named, valued, take-value, entries, default-entry, resolve, resolve-under, object-values, all-values, Owner, of-object, of-value, ValueRow, value-row, how-many-values, value-rows, all-value-rows, how-many-in-all}
@@ -404,7 +404,7 @@ object-rows-unplaced (x ∷ xs) = ap (record { kind = x .kind; word = absent; na
 pub how-many-objects-unplaced : (k : Kind) (xs : List Object) → how-many k (each unplaced-object xs) ≡ how-many k xs
 unfolding how-many each unplaced-object
 how-many-objects-unplaced k [] = refl
-how-many-objects-unplaced k (x ∷ xs) = ap (one-if (same-kind k (x .kind)) +_) (how-many-objects-unplaced k xs)
+how-many-objects-unplaced k (x ∷ xs) = ap (bit (same-kind k (x .kind)) +_) (how-many-objects-unplaced k xs)
 
 counts-of-unplaced : (ks : List Kind) (xs : List Object) → counts-of ks (each unplaced-object xs) ≡ counts-of ks xs
 unfolding counts-of

@@ -7,13 +7,13 @@ use mathlib.Core.Option.{Option, none, some}
 use Prim.Native.Nat.{ℕ}
 use lib.Dec.{eqb, ltb}
 use Rattle.grammar.specs.Grammar.{Kind, Integer}
-use Rattle.token.specs.Find.{pick, both, either}
+use Rattle.token.specs.Find.{pick, both, either, is-there}
 use Rattle.token.specs.Words.{bytesOf, same}
 use Rattle.meaning.specs.Syntax.{Num, Word, AttributeType, integer, string, boolean, enum, reference, Bounds, no-bounds, from-to, one-of, Definition, Definitions, no-more, define, Values, no-value, value, Defined, Spec, Statement, Statements, done, state, Object, File, is-enum}
 use Rattle.meaning.specs.Words.{choose, alike, among, at-most, in-type}
 use Rattle.meaning.specs.Kinds.{same-kind, kinds, fewest, most}
 use Rattle.meaning.specs.Faults.{Fault, fault-if, sooner, first}
-use Rattle.meaning.specs.Scopes.{Sort, a-number, a-string, a-truth, an-auto, a-no-default, a-name, sort-of, of-kind, Under, find-value, definitions-or, under, find-definition, heads, names, find-object, is-there, fits-number, fits-as, fits}
+use Rattle.meaning.specs.Scopes.{Sort, a-number, a-string, a-truth, an-auto, a-no-default, a-name, sort-of, of-kind, Under, find-value, definitions-or, under, find-definition, heads, names, find-object, fits-number, fits-as, fits}
 use Rattle.meaning.specs.Defining.{outside, bound-faults, range-faults, default-wrong, default-faults, defined-in, differs, name-faults, word-faults, scope-faults, value-faults, specified, spec-faults, definition-faults}
 use Rattle.meaning.specs.Applying.{how-many, too-few, full, statement-faults, each-object, object-faults}
 use Rattle.meaning.specs.Judging.{lacks, reference-faults, brace-faults, faults-as, own-faults, and-inside, judged, judge, judge-object, judge-objects, statement-stage}

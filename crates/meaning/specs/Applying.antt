@@ -1,15 +1,16 @@
 -- The application: the rows of objects, the counts of the kinds, and the stage of 11, 12 and 17, its faults in the order of their places
 -- (document 01, "Meaning" and "Refusals and their order"). Assumes nothing.
 use mathlib.Core.List.{List, [], _∷_, _++_}
-use mathlib.Core.Bool.{Bool, true, false}
+use mathlib.Core.Bool.{Bool, false}
 use mathlib.Core.Option.{Option, none, some}
 use Prim.Native.Nat.{ℕ, _+_}
 use lib.Dec.{eqb, ltb, leb}
+use Rattle.token.specs.Find.{bit, is-there}
 use Rattle.grammar.specs.Grammar.{Kind}
 use Rattle.meaning.specs.Syntax.{Word, Span, span-of, Statements, done, state, Object, File}
 use Rattle.meaning.specs.Kinds.{same-kind, kinds, fewest, most}
 use Rattle.meaning.specs.Faults.{Fault, fault-if}
-use Rattle.meaning.specs.Scopes.{is-there, find-object}
+use Rattle.meaning.specs.Scopes.{find-object}
 
 -- "an object row its kind, name and block": the kind with its word.
 pub record ObjectRow : Type 0 where
@@ -23,13 +24,9 @@ object-rows [] = []
 object-rows (x ∷ xs) = record { kind = x .kind; word = span-of (x .word); name = span-of (x .name); block = x .block } ∷ object-rows xs
 
 -- How many objects are of a kind: what is counted, and what "fewest and most objects" bound.
-unfoldable pub one-if : Bool → ℕ
-one-if true = 1
-one-if false = 0
-
 unfoldable pub how-many : Kind → List Object → ℕ
 how-many k [] = 0
-how-many k (x ∷ xs) = one-if (same-kind k (x .kind)) + how-many k xs
+how-many k (x ∷ xs) = bit (same-kind k (x .kind)) + how-many k xs
 
 -- "An accepted answer also counts the objects of each of the thirteen kinds."
 unfoldable pub counts-of : List Kind → List Object → List ℕ

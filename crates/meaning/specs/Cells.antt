@@ -4,6 +4,7 @@ use mathlib.Core.List.{List, [], _∷_, _++_}
 use mathlib.Core.Bool.{Bool, true, false}
 use Prim.Native.Nat.{ℕ, zero, suc, _+_, _-_, _*_}
 use lib.ListN.{length}
+use Rattle.token.specs.Find.{bit}
 use Rattle.grammar.specs.Grammar.{Integer, UINT32, INT32, UINT64, INT64}
 use Rattle.meaning.specs.Syntax.{AttributeType, integer, boolean, enum, reference, string as string-type}
 use Rattle.meaning.specs.Kinds.{kind-number}
@@ -11,11 +12,6 @@ use Rattle.meaning.specs.Defining.{DefinitionRow, EnumeratorRow}
 use Rattle.meaning.specs.Applying.{ObjectRow}
 use Rattle.meaning.specs.Resolving.{Value, number, truth, auto, string, enumerator, object, Owner, of-object, of-value, ValueRow}
 use Rattle.meaning.specs.Answers.{Answer, accepted, refused}
-
--- 1 for true, 0 for false.
-unfoldable pub flag : Bool → ℕ
-flag true = 1
-flag false = 0
 
 -- The token reader's code of an integer type's word, and of any type's word.
 unfoldable pub integer-code : Integer → ℕ
@@ -35,7 +31,7 @@ type-code (reference k) = 22 + kind-number k
 unfoldable pub definition-cells : DefinitionRow → List ℕ
 definition-cells r =
     r .under .place ∷ r .under .length ∷ r .name .place ∷ r .name .length ∷ r .type .place ∷ r .type .length
-    ∷ flag (r .list) ∷ flag (r .auto) ∷ r .range .place ∷ r .range .length ∷ r .default .place ∷ r .default .length ∷ type-code (r .typed) ∷ []
+    ∷ bit (r .list) ∷ bit (r .auto) ∷ r .range .place ∷ r .range .length ∷ r .default .place ∷ r .default .length ∷ type-code (r .typed) ∷ []
 
 -- Enumerators: 3 cells a row.
 unfoldable pub enumerator-cells : EnumeratorRow → List ℕ
@@ -73,7 +69,7 @@ value-negative (object o) = false
 
 unfoldable pub value-amount : Value → ℕ
 value-amount (number n) = n .amount
-value-amount (truth b) = flag b
+value-amount (truth b) = bit b
 value-amount auto = 0
 value-amount string = 0
 value-amount (enumerator e) = e
@@ -81,8 +77,8 @@ value-amount (object o) = o
 
 unfoldable pub value-cells : ValueRow → List ℕ
 value-cells r =
-    r .definition ∷ owner-sort (r .owner) ∷ owner-row (r .owner) ∷ value-sort (r .value) ∷ flag (value-negative (r .value)) ∷ value-amount (r .value)
-    ∷ flag (r .stated) ∷ r .word .place ∷ r .word .length ∷ []
+    r .definition ∷ owner-sort (r .owner) ∷ owner-row (r .owner) ∷ value-sort (r .value) ∷ bit (value-negative (r .value)) ∷ value-amount (r .value)
+    ∷ bit (r .stated) ∷ r .word .place ∷ r .word .length ∷ []
 
 -- Rooms ------------------------------------------------------------------------------------------------------------------------------------
 

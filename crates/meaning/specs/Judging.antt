@@ -4,11 +4,11 @@ use mathlib.Core.List.{List, [], _∷_, _++_}
 use mathlib.Core.Bool.{Bool, true, false, not}
 use mathlib.Core.Option.{Option, none, some}
 use Rattle.grammar.specs.Grammar.{Kind}
-use Rattle.token.specs.Find.{both, either}
+use Rattle.token.specs.Find.{both, either, is-there}
 use Rattle.meaning.specs.Syntax.{Word, AttributeType, integer, string, boolean, enum, reference, Definitions, no-more, define, Values, no-value, value, Defined, Statement, Statements, done, state, Object, File}
 use Rattle.meaning.specs.Words.{alike, among, choose}
 use Rattle.meaning.specs.Faults.{Fault, fault-if}
-use Rattle.meaning.specs.Scopes.{Sort, a-number, a-string, a-truth, an-auto, a-no-default, a-name, sort-of, is-there, under, find-definition, of-kind, find-object, names, fits}
+use Rattle.meaning.specs.Scopes.{Sort, a-number, a-string, a-truth, an-auto, a-no-default, a-name, sort-of, under, find-definition, of-kind, find-object, names, fits}
 
 -- What must be stated ----------------------------------------------------------------------------------------------------------------------
 

@@ -5,7 +5,7 @@ use mathlib.Core.Bool.{Bool, true, false}
 use mathlib.Core.Option.{Option, none, some}
 use Prim.Native.Nat.{ℕ}
 use Rattle.grammar.specs.Grammar.{Kind, Class, Given, ordinary, numeral, quoted, other, kind-word, type-word, integer-word, word, sign, OIL-VERSION, IMPLEMENTATION, CPU, STRING, BOOLEAN, ENUM, TRUE, FALSE, AUTO, NO-DEFAULT, WITH-AUTO}
-use Rattle.token.specs.Find.{pick, both}
+use Rattle.token.specs.Find.{pick, both, is-there}
 use Rattle.meaning.specs.Syntax.{Num, Word, AttributeType, integer, string, boolean, enum, reference, Bounds, Definition, Definitions, no-more, define, Values, no-value, value, Defined, Statements, done, state, Spec, Object, is-enum}
 use Rattle.meaning.specs.Words.{alike, in-type, in-bounds}
 use Rattle.meaning.specs.Kinds.{same-kind}
@@ -54,10 +54,6 @@ names (state x inside rest) = x .name ∷ names rest
 unfoldable pub find-object : Kind → List Object → Word → Option Object
 find-object k [] t = none
 find-object k (x ∷ xs) t = let r = find-object k xs t in pick (both (same-kind k (x .kind)) (alike (x .name) t)) (some x) r
-
-unfoldable pub is-there : {A : Type 0} → Option A → Bool
-is-there none = false
-is-there (some a) = true
 
 -- Values ------------------------------------------------------------------------------------------------------------------------------------
 

@@ -5,6 +5,7 @@ use mathlib.Core.List.{List}
 use mathlib.Core.Bool.{Bool, true, false}
 use mathlib.Core.Option.{Option, none, some}
 use Prim.Native.Nat.{ℕ, suc, _+_, _-_}
+use Rattle.token.specs.Find.{bit}
 use Rattle.grammar.specs.Grammar.{Class, Kind, Integer}
 
 -- Words ------------------------------------------------------------------------------------------------------------------------------------
@@ -144,19 +145,15 @@ is-enum boolean = false
 is-enum enum = true
 is-enum (reference k) = false
 
--- One for each enumerator: "TRUE, FALSE not counted".
-unfoldable pub counted : Bool → ℕ
-counted true = 1
-counted false = 0
-
 unfoldable mutual
   pub enumerators-in : Definitions → ℕ
   enumerators-in no-more = 0
   enumerators-in (define d vs ds) = enumerators-under vs (is-enum (d .type)) + enumerators-in ds
 
   pub enumerators-under : Values → Bool → ℕ
+  -- One for each enumerator: "TRUE, FALSE not counted".
   enumerators-under no-value b = 0
-  enumerators-under (value w e us vs) b = counted b + (enumerators-in us + enumerators-under vs b)
+  enumerators-under (value w e us vs) b = bit b + (enumerators-in us + enumerators-under vs b)
 
 -- "At most 2,048 statements, nested ones counted."
 unfoldable pub statements-in : Statements → ℕ

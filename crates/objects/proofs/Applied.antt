@@ -7,6 +7,7 @@ use native.Mathlib.Omega.{arith}
 use native.Mathlib.Nat.{add-zero}
 use lib.ListN.{length, length-append}
 use lib.Seq.{sets, length-sets}
+use Rattle.filling.specs.Tables.{Table}
 use Rattle.grammar.specs.Grammar.{_·_, _▸_, ∎, matches, name, kind, sg, lbrace, rbrace, semicolon, D, statements, object, objects, an-object, no-object, an-object-alone, an-object-with}
 use Rattle.grammar.specs.Readers.{classAt, advanced, Meets}
 use Rattle.grammar.specs.declared.Look.{Look}
@@ -21,10 +22,10 @@ use Rattle.rows.specs.Tally.{oneMore, countOn}
 use Rattle.rows.proofs.Tallies.{count-on-append}
 use Rattle.filling.specs.Fills.{Walks, Going, Effects, front-of, behind}
 use Rattle.filling.proofs.Filling.{plain, first, matched, _▻_, told-as, told-rule, going-on, gone, both as side-by-side}
-use Rattle.filling.proofs.Tables.{wide-one, wide-then, rows-append}
+use Rattle.filling.proofs.Tables.{wide-one, wide-then, rows-append, _⸬_}
 use Rattle.filling.proofs.Codes.{seen-place, seen-length, kind-seen}
-use Rattle.objects.specs.Rows.{Table, Lines, Fill, StatementRows, Put, also, FillBoth, All, beside, FillAll, numbers, ObjectRows, AllRows}
-use Rattle.objects.proofs.Stated.{_⸬_, none-yet, lines}
+use Rattle.objects.specs.Rows.{Lines, Fill, StatementRows, Put, also, FillBoth, All, beside, FillAll, numbers, ObjectRows, AllRows}
+use Rattle.objects.proofs.Stated.{none-yet, lines}
 
 -- Tables ---------------------------------------------------------------------------------------------------------------------------------
 

@@ -18,17 +18,13 @@ use Rattle.meaning.specs.Syntax.{Statement, Statements, done, state, statements
 use Rattle.meaning.specs.Actions.{Parts, means, stating}
 use Rattle.layout.specs.Kept.{place-or, statement-cells, statement-rows, join}
 use Rattle.layout.proofs.Lengths.{length-statements}
-use Rattle.filling.specs.Tables.{Wide}
+use Rattle.filling.specs.Tables.{Wide, Table}
 use Rattle.filling.specs.Fills.{Walks, Going, Effects, front-of, behind}
 use Rattle.filling.proofs.Filling.{plain, first, _▻_, told-as, told-rule, told-none, refused, going-on, gone}
-use Rattle.filling.proofs.Tables.{wrote-none, wrote-on, wide-one, wide-then}
+use Rattle.filling.proofs.Tables.{wrote-none, wrote-on, wide-one, wide-then, _⸬_}
 use Rattle.filling.proofs.Codes.{seen-code, seen-place, seen-length}
-use Rattle.objects.specs.Rows.{Table, Lines, then, Fill, StatementRows, StatedRows, BlockRows, ValueRows}
+use Rattle.objects.specs.Rows.{Lines, then, Fill, StatementRows, StatedRows, BlockRows, ValueRows}
 use Rattle.objects.proofs.Stores.{wrote-around}
-
-infixr 20 _⸬_
-pub _⸬_ : {x y : ℕ} {xs ys : List ℕ} → x ≡ y → xs ≡ ys → _≡_ {A = List ℕ} (x ∷ xs) (y ∷ ys)
-p ⸬ q = ap₂ _∷_ p q
 
 -- Lines ----------------------------------------------------------------------------------------------------------------------------------
 

@@ -11,12 +11,8 @@ use Rattle.meaning.specs.Kinds.{kind-number}
 use Rattle.meaning.specs.Actions.{Block, ValueWithBlock, Stated}
 use Rattle.layout.specs.Kept.{place-or, statement-rows, object-cells, object-rows, all-statement-rows, join}
 use Rattle.rows.specs.Tally.{countOn}
-use Rattle.filling.specs.Tables.{Wide, Wrote}
+use Rattle.filling.specs.Tables.{Wide, Wrote, Table}
 use Rattle.filling.specs.Fills.{Seen}
-
--- One table, with the number of its rows.
-abbrev pub Table : Type 0
-Table = List ℕ × ℕ
 
 -- Rows of statements, of which the first is row k.
 abbrev pub Lines : Type 0

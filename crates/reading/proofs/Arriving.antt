@@ -1,13 +1,13 @@
 -- From the walk of a text to its syntax, and what the stages up to 18 come to. Assumes nothing.
 use mathlib.Core.Path.{_≡_, refl, sym, _∙_, ap}
 use mathlib.Core.List.{List}
-use mathlib.Core.Bool.{Bool, true, false}
+use mathlib.Core.Bool.{Bool}
 use mathlib.Core.Option.{Option, none, some}
 use Prim.Native.Nat.{ℕ, _≤_}
 use native.Mathlib.Omega.{arith}
 use lib.ListN.{length}
 use lib.Dec.{ltb, eqb}
-use borrow.Author.Tests.{le-ltb, eqb-true, eqb-false, not-true, not-false}
+use borrow.Author.Tests.{le-ltb, eqb-true}
 use Rattle.token.specs.Lexing.{lexFrom}
 use Rattle.token.proofs.Find.{by-test}
 use Rattle.token.proofs.Promises.{lex-ends}
@@ -23,7 +23,6 @@ use Rattle.grammar.specs.declared.Answer.the-variants.{Passes, NoToken, NotAdmi
 use Rattle.grammar.proofs.Meeting.{rest-look}
 use Rattle.grammar.proofs.Answering.{ended-is, stage-answers}
 use Rattle.rows.specs.declared.Fault.{Fault}
-use Rattle.rows.specs.Order.{isFault}
 use Rattle.meaning.specs.Syntax.{File}
 use Rattle.meaning.specs.Actions.{syntax}
 use Rattle.meaning.specs.Faults.{first, Fault as Refusal}
@@ -40,17 +39,7 @@ use Rattle.walk.specs.Whole.{Rooms, Few, Whole}
 use Rattle.walk.specs.declared.Walked.{Walked}
 use Rattle.reading.specs.Decisions.{grammarFault, Kept, orElse, stageFault, Decided, blank}
 use Rattle.reading.specs.declared.Decision.{Decision}
-use Rattle.reading.proofs.Numbered.{NumberedOne, of-definitions, of-objects, of-stage, of-first}
-
--- Faults ---------------------------------------------------------------------------------------------------------------------------------------
-
-pub is-one : (f : Fault) → isFault f ≡ true → f .number ≡ 0 → ⊥
-unfolding isFault
-is-one f e = eqb-false (f .number) 0 (not-true (eqb (f .number) 0) e)
-
-pub is-none : (f : Fault) → isFault f ≡ false → f .number ≡ 0
-unfolding isFault
-is-none f e = eqb-true (f .number) 0 (not-false (eqb (f .number) 0) e)
+use Rattle.meaning.proofs.Numbered.{NumberedOne, of-definitions, of-objects, of-stage, of-first}
 
 -- The grammar stage ------------------------------------------------------------------------------------------------------------------------
 

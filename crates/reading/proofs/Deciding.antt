@@ -1,47 +1,30 @@
 -- The stages from 6 to 18 of a text whose rows are kept, one after the other. Assumes nothing.
-use mathlib.Core.Path.{_≡_, refl, sym, _∙_, ap, subst}
+use mathlib.Core.Path.{_≡_, sym, _∙_, ap, subst}
 use mathlib.Core.List.{List}
 use mathlib.Core.Bool.{true, false}
-use mathlib.Core.Option.{Option, none, some}
+use mathlib.Core.Option.{Option}
 use Prim.Native.Nat.{ℕ}
-use native.Mathlib.Omega.{arith}
-use lib.ListN.{getD}
-use Rattle.grammar.specs.Grammar.{Kind}
+use Rattle.scopes.proofs.Firsts.{none-there}
+use Rattle.rows.proofs.Orders.{is-one, is-none}
 use Rattle.grammar.specs.Stage.{numberOf}
 use Rattle.grammar.specs.Readers.{answerOf}
 use Rattle.rows.specs.declared.Fault.{Fault}
 use Rattle.rows.specs.Order.{isFault}
-use Rattle.meaning.specs.Syntax.{Spec, File}
-use Rattle.meaning.specs.Kinds.{kind-number}
+use Rattle.meaning.specs.Syntax.{File}
 use Rattle.meaning.specs.Faults.{first, Fault as Refusal}
 use Rattle.meaning.specs.Defining.{definition-faults}
 use Rattle.meaning.specs.Applying.{object-faults}
-use Rattle.layout.specs.Kept.{kind-place}
-use Rattle.layout.proofs.Codes.{kind-low}
 use Rattle.scopes.specs.Promises.{fault-of}
 use Rattle.checks.specs.Promises.{ObjectFaults}
 use Rattle.defining_checks.specs.Promises.{DefinitionFaults}
 use Rattle.judging.specs.Promises.{JudgesAll}
-use Rattle.judging.specs.declared.Sizes.{Sizes}
-use Rattle.walk.specs.Whole.{Rooms, kind-places, Whole}
+use Rattle.scopes.specs.declared.Sizes.{Sizes}
+use Rattle.walk.specs.Whole.{Rooms, Whole}
 use Rattle.walk.specs.declared.Walked.{Walked}
-use Rattle.walk.proofs.Placing.{each-place}
 use Rattle.reading.specs.Decisions.{grammarFault, Kept, orElse, stageFault, StageFault, Decides}
-use Rattle.reading.proofs.Numbered.{NumberedOne, of-definitions, of-objects, of-first}
-use Rattle.reading.proofs.Arriving.{is-one, is-none, refused-early, arrived, answers-first, answers-next, decided}
-use Rattle.reading.proofs.Settling.{fitting}
-
--- The places of the kinds, as the stages take them.
-pub places-of : (xs : List Spec) (ps : List ℕ) → ps ≡ kind-places xs → (k : Kind) → getD ps (kind-number k) 0 ≡ kind-place (kind-number k) xs
-places-of xs ps e k =
-    let b = kind-low k in
-    ap (λ l. getD l (kind-number k) 0) e ∙ sym (each-place xs (kind-number k) (omega arith))
-
--- A stage without a fault has none.
-none-there : (o : Option Refusal) (r : Fault) → NumberedOne o → r ≡ fault-of o → r .number ≡ 0 → o ≡ none
-unfolding fault-of
-none-there none r h e n = refl
-none-there (some x) r h e n = absurd (let m : r .number ≡ x .number = ap (λ (q : Fault). q .number) e in omega arith)
+use Rattle.meaning.proofs.Numbered.{of-definitions, of-objects, of-first}
+use Rattle.reading.proofs.Arriving.{refused-early, arrived, answers-first, answers-next, decided}
+use Rattle.reading.proofs.Settling.{given, places}
 
 module _ (s : List ℕ) (y : Rooms) (w : Walked) (a : Fault)
     (p : DefinitionFaults s (y .definitions) (y .enumerators) (w .definitions) (w .enumerators) (w .«version_at») (w .«version_len») (w .again) a) where
@@ -68,31 +51,9 @@ module _ (s : List ℕ) (y : Rooms) (w : Walked) (a : Fault)
         → JudgesAll s (y .definitions) (y .enumerators) (y .objects) (y .statements) z (w .places) c → StageFault s y w c
     unfolding stageFault
     by-third i z c d e o j f k =
-        let n₁ = none-there (first (definition-faults f)) a (of-first (definition-faults f) (of-definitions f)) (stage-one f k) (is-none a h) in
-        let n₂ = none-there (first (object-faults f)) b (of-first (object-faults f) (of-objects f)) (stage-two f k) (is-none b i) in
-        let t = fitting s f (k .situation) n₁ n₂ in
-        let t₀ = t .definitions in
-        let t₁ = t .enumerators in
-        let t₂ = t .objects in
-        let k₀ = k .definitions in
-        let k₁ = k .enumerators in
-        let k₂ = k .objects in
-        j f
-        (record {
-          situation = k .situation;
-          definitions = k .in-definitions;
-          enumerators = k .in-enumerators;
-          objects = k .in-objects;
-          statements = k .in-statements;
-          definition-count = omega arith;
-          definition-room = omega arith;
-          enumerator-count = omega arith;
-          enumerator-room = omega arith;
-          object-count = omega arith;
-          object-room = omega arith;
-          statement-room = t .statements;
-        })
-        (places-of (f .specs) (w .places) (k .places))
+        let n₁ = none-there (first (definition-faults f)) (of-first (definition-faults f) (of-definitions f)) (ap (λ (q : Fault). q .number) (sym (stage-one f k)) ∙ is-none a h) in
+        let n₂ = none-there (first (object-faults f)) (of-first (object-faults f) (of-objects f)) (ap (λ (q : Fault). q .number) (sym (stage-two f k)) ∙ is-none b i) in
+        j f (given k n₁ n₂ z d e o) (places k)
         ∙ answers-next _ (first (object-faults f)) b (of-first (object-faults f) (of-objects f)) (stage-two f k) (is-none b i)
         ∙ after-first f k _
 

@@ -29,7 +29,7 @@ use Rattle.reading.specs.Demand.{PassesGrammar, RefusedByGrammar, refuse
 use Rattle.reading.specs.declared.Answer.{Answer}
 use Rattle.reading.specs.declared.Answer.the-variants.{Refused}
 use Rattle.reading.specs.declared.Reading.{Reading}
-use Rattle.reading.proofs.Numbered.{Numbered, no-fault, a-fault, NumberedOne, of-definitions, of-objects, of-stage, of-first}
+use Rattle.meaning.proofs.Numbered.{Numbered, no-fault, a-fault, NumberedOne, of-definitions, of-objects, of-stage, of-first}
 use Rattle.reading.proofs.Lending.{call-enough}
 
 -- The answer as `read` gives it.

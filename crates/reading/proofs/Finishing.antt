@@ -1,68 +1,36 @@
 -- Resolved values, refusal 19 and the lent rows of a text without a fault up to 18. Assumes nothing.
-use mathlib.Core.Path.{_≡_, refl, sym, _∙_, ap}
+use mathlib.Core.Path.{_≡_, refl, _∙_, ap}
 use mathlib.Core.List.{List}
 use mathlib.Core.Bool.{true, false}
 use Prim.Native.Nat.{ℕ, _≤_, _<_}
 use native.Mathlib.Omega.{arith}
-use lib.ListN.{length, getD, replicate, length-replicate}
+use lib.ListN.{length, replicate, length-replicate}
 use lib.Seq.{length-sets}
+use Rattle.rows.proofs.Orders.{is-one, is-none}
 use Rattle.meaning.specs.Answers.{refused}
 use Rattle.meaning.specs.Resolving.{all-values, all-value-rows}
 use Rattle.meaning.specs.Cells.{cells, value-cells}
-use Rattle.resolving.specs.Tables.{Given}
 use Rattle.resolving.specs.Written.{WroteAll}
-use Rattle.resolving.specs.Promises.{Places, ResolvesAll}
-use Rattle.resolving.specs.declared.Sizes.{Sizes}
+use Rattle.resolving.specs.Promises.{ResolvesAll}
+use Rattle.scopes.specs.declared.Sizes.{Sizes}
 use Rattle.copying.specs.Promises.{CopiesDefinitions, CopiesEnumerators, CopiesObjects}
 use Rattle.copying.proofs.Rooms.{cleared-zeros}
 use Rattle.walk.specs.Whole.{Rooms}
 use Rattle.walk.specs.declared.Walked.{Walked}
-use Rattle.walk.proofs.Placing.{each-place}
 use Rattle.reading.specs.Results.{readingOf}
 use Rattle.reading.specs.Decisions.{Passed, Decides, blank, RoomSizes, BlankRooms, Settles, Filled}
 use Rattle.reading.specs.declared.Decision.{Decision}
 use Rattle.rows.specs.Order.{isFault}
 use Rattle.meaning.proofs.Found.{reading-long}
-use Rattle.reading.proofs.Arriving.{is-one, is-none}
 use Rattle.reading.specs.declared.Answer.the-variants.{Accepted}
 use Rattle.reading.specs.declared.Reading.{Reading}
-use Rattle.reading.proofs.Settling.{fitting, refused-fills, too-many-values, accepted-fills}
+use Rattle.reading.proofs.Settling.{fitting, given, places, refused-fills, too-many-values, accepted-fills}
 
-module _ (s : List ℕ) (y : Rooms) (w : Walked) (z : Sizes) (p : Passed s y w) (a : z .definitions ≡ w .definitions) (b : z .enumerators ≡ w .enumerators)
-    (c : z .objects ≡ w .objects) where
-  given : Given s (y .definitions) (y .enumerators) (y .objects) (y .statements) z (p .file)
-  given =
-      let k = p .kept in
-      let t = fitting s (p .file) (k .situation) (p .no-definition-fault) (p .no-object-fault) in
-      let t₀ = t .definitions in
-      let t₁ = t .enumerators in
-      let t₂ = t .objects in
-      let k₀ = k .definitions in
-      let k₁ = k .enumerators in
-      let k₂ = k .objects in
-      record {
-        tables = record {
-          situation = k .situation;
-          in-definitions = k .in-definitions;
-          in-enumerators = k .in-enumerators;
-          in-objects = k .in-objects;
-          definitions = omega arith;
-          enumerators = omega arith;
-          objects = omega arith;
-          definitions-fit = omega arith;
-          enumerators-fit = omega arith;
-          objects-fit = omega arith;
-        };
-        in-statements = k .in-statements;
-        statements-fit = t .statements;
-      }
-
-  places : Places (w .places) (p .file)
-  places = record { places = λ k h. ap (λ (l : List ℕ). getD l k 0) (p .kept .places) ∙ sym (each-place (p .file .specs) k h) }
-
-  pub wrote : (v v′ : List ℕ) (n : ℕ) → ResolvesAll s (y .definitions) (y .enumerators) (y .objects) (y .statements) v z (w .places) v′ n → v ≡ replicate 18432 0
-      → WroteAll v (all-values (p .file) (p .file .objects)) v′ n
-  wrote v v′ n r e = r (p .file) given places (ap length e ∙ length-replicate {A = ℕ} 18432 0)
+pub wrote : (s : List ℕ) (y : Rooms) (w : Walked) (z : Sizes) (p : Passed s y w) → z .definitions ≡ w .definitions → z .enumerators ≡ w .enumerators → z .objects ≡ w .objects
+    → (v v′ : List ℕ) (n : ℕ) → ResolvesAll s (y .definitions) (y .enumerators) (y .objects) (y .statements) v z (w .places) v′ n → v ≡ replicate 18432 0
+    → WroteAll v (all-values (p .file) (p .file .objects)) v′ n
+wrote s y w z p a b c v v′ n r e =
+    r (p .file) (given (p .kept) (p .no-definition-fault) (p .no-object-fault) z a b c) (places (p .kept)) (ap length e ∙ length-replicate {A = ℕ} 18432 0)
 
 module _ (s : List ℕ) (y : Rooms) (w : Walked) (z : Sizes) (a : z .definitions ≡ w .definitions) (b : z .enumerators ≡ w .enumerators)
     (c : z .objects ≡ w .objects) (d e o v v₁ : List ℕ) (n : ℕ)

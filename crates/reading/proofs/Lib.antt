@@ -1,5 +1,4 @@
 -- Laws of the public calls. Assumes nothing.
-pub mod Numbered
 pub mod Arriving
 pub mod Settling
 pub mod Deciding

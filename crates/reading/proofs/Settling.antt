@@ -4,12 +4,13 @@ use mathlib.Core.List.{List, [], _∷_}
 use mathlib.Core.Option.{none}
 use Prim.Native.Nat.{ℕ, suc, _-_, _≤_, _<_, min}
 use native.Mathlib.Omega.{arith}
-use lib.ListN.{length, replicate, length-append}
+use lib.ListN.{length, replicate, getD, length-append}
 use lib.Seq.{sets}
 use borrow.Author.Tests.{lt-ltb, le-ltb}
 use Rattle.meaning.specs.Syntax.{Spec, Object, File}
 use Rattle.meaning.specs.Actions.{syntax}
 use Rattle.meaning.specs.Words.{choose}
+use Rattle.meaning.specs.Kinds.{kind-number}
 use Rattle.meaning.specs.Faults.{first, sooner}
 use Rattle.meaning.specs.Defining.{definition-rows, all-definition-rows, enumerator-rows, all-enumerator-rows, definition-faults}
 use Rattle.meaning.specs.Applying.{object-rows, counts, object-faults}
@@ -21,14 +22,18 @@ use Rattle.meaning.proofs.Numbering.{statement-numbers, all-statement-numbers, 
 use Rattle.meaning.proofs.Standing.{length-rows}
 use Rattle.meaning.proofs.Choices.{length-rows as length-enumerator-rows}
 use Rattle.layout.specs.Kept.{entries, spec-entries, choices, spec-choices, statement-count}
+use Rattle.layout.proofs.Codes.{kind-low}
 use Rattle.layout.proofs.Lengths.{length-entries, length-choices}
 use Rattle.scopes.specs.Situations.{Situation}
+use Rattle.scopes.specs.Given.{Given, Places}
+use Rattle.scopes.specs.declared.Sizes.{Sizes}
 use Rattle.copying.proofs.Rooms.{cleared-zeros, room-of}
 use Rattle.meaning.specs.Reading.{reading}
 use Rattle.walk.specs.Whole.{Rooms}
 use Rattle.walk.specs.declared.Walked.{Walked}
+use Rattle.walk.proofs.Placing.{each-place}
 use Rattle.reading.specs.Results.{readingOf}
-use Rattle.reading.specs.Decisions.{Passed, Filled}
+use Rattle.reading.specs.Decisions.{Kept, Passed, Filled}
 use Rattle.reading.specs.declared.Answer.the-variants.{Accepted}
 use Rattle.reading.specs.declared.Reading.{Reading}
 use Rattle.reading.proofs.Arriving.{reading-is}
@@ -98,6 +103,43 @@ pub fitting : (s : List ℕ) (f : File) → Situation s f → first (definition-
 fitting s f t a b =
     subst Fitting (sym (t .syntax-of))
     (fitting-by s f t (subst (λ g. first (definition-faults g) ≡ none) (t .syntax-of) a) (subst (λ g. first (object-faults g) ≡ none) (t .syntax-of) b))
+
+-- All rows are kept, and there is room for them.
+module _ {s : List ℕ} {y : Rooms} {w : Walked} {f : File} (k : Kept s y w f) (p : first (definition-faults f) ≡ none) (q : first (object-faults f) ≡ none) where
+  pub given : (z : Sizes) → z .definitions ≡ w .definitions → z .enumerators ≡ w .enumerators → z .objects ≡ w .objects
+      → Given s (y .definitions) (y .enumerators) (y .objects) (y .statements) z f
+  given z a b c =
+      let t = fitting s f (k .situation) p q in
+      let t₀ = t .definitions in
+      let t₁ = t .enumerators in
+      let t₂ = t .objects in
+      let k₀ = k .definitions in
+      let k₁ = k .enumerators in
+      let k₂ = k .objects in
+      record {
+        tables = record {
+          situation = k .situation;
+          in-definitions = k .in-definitions;
+          in-enumerators = k .in-enumerators;
+          in-objects = k .in-objects;
+          definitions = omega arith;
+          enumerators = omega arith;
+          objects = omega arith;
+          definitions-fit = omega arith;
+          enumerators-fit = omega arith;
+          objects-fit = omega arith;
+        };
+        in-statements = k .in-statements;
+        statements-fit = t .statements;
+      }
+
+-- The places of the kinds, as the stages take them.
+pub places : {s : List ℕ} {y : Rooms} {w : Walked} {f : File} → Kept s y w f → Places f (w .places)
+places {f = f} h = record {
+  place = λ k.
+      let b = kind-low k in
+      ap (λ l. getD l (kind-number k) 0) (h .places) ∙ sym (each-place (f .specs) (kind-number k) (omega arith));
+}
 
 -- Rooms ----------------------------------------------------------------------------------------------------------------------------------------
 

@@ -4,6 +4,7 @@ use mathlib.Core.List.{List}
 use mathlib.Core.Bool.{Bool, true, false, false≢true}
 use Prim.Native.Nat.{ℕ, _≤_}
 use lib.ListN.{length}
+use Rattle.rows.proofs.Orders.{is-none}
 use Rattle.meaning.specs.Answers.{Answer as Meant, accepted, refused}
 use Rattle.meaning.specs.Reading.{reading}
 use Rattle.walk.specs.Whole.{Rooms}
@@ -15,7 +16,7 @@ use Rattle.reading.specs.declared.Answer.the-variants.{Accepted, Refused
 use Rattle.reading.specs.declared.Decision.{Decision}
 use Rattle.reading.specs.declared.Reading.{Reading}
 use Rattle.reading.specs.declared.Spanned.{Spanned}
-use Rattle.reading.proofs.Arriving.{is-none, reading-is}
+use Rattle.reading.proofs.Arriving.{reading-is}
 
 is-accepted : Answer → Bool
 is-accepted Accepted = true

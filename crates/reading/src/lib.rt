@@ -10,10 +10,10 @@ ghost use Rattle.reading.specs.Demand.{Demand-3};
 ghost use Rattle.reading.specs.Decisions.{grammarFault, StageFault, Decides, Settles, RoomSizes, Unspanned, FilledSpanned};
 use grammar::Answer as Grammar;
 use grammar::Look;
-use judging::Sizes;
 use rows::Fault;
 use rows::cells;
 use rows::faults;
+use scopes::Sizes;
 use walk::Walked;
 
 // The answer: the text is accepted, or refused with a number and a place.
@@ -171,7 +171,7 @@ fn settle(
     ensures { λ r. ⌜ Settles (now (text .entry)) (record { definitions = now (d .entry); enumerators = now (e .entry); objects = now (o .entry); statements = now (s .entry) }) w (now (definitions .entry)) (now (enumerators .entry)) (now (objects .entry)) (now (values .entry)) (now (definitions .exit)) (now (enumerators .exit)) (now (objects .exit)) (now (values .exit)) r ⌝ }
 {
     let places = w.places;
-    let z = resolving::Sizes {
+    let z = Sizes {
         definitions: w.definitions,
         enumerators: w.enumerators,
         objects: w.objects,

@@ -4,8 +4,9 @@ use mathlib.Core.List.{List, [], _∷_, _++_}
 use mathlib.Core.Bool.{false}
 use Prim.Native.Nat.{ℕ, suc, _+_, _≤_}
 use native.Mathlib.Omega.{arith}
+use Rattle.token.specs.Find.{bit}
 use Rattle.grammar.specs.Grammar.{Token, matches, sg, lbrace, rbrace}
-use Rattle.grammar.specs.Stage.{bit, opens, closes, Shallow}
+use Rattle.grammar.specs.Stage.{opens, closes, Shallow}
 use Rattle.meaning.specs.Syntax.{Word}
 use Rattle.meaning.specs.Actions.{word-of}
 use Rattle.meaning.specs.Places.{each, unplaced-word}

@@ -4,12 +4,12 @@ use mathlib.Core.List.{List, [], _∷_, _++_}
 use mathlib.Core.Option.{Option, none, some}
 use Prim.Native.Nat.{ℕ, suc, _+_, _≤_}
 use lib.ListN.{length}
+use Rattle.token.specs.Find.{bit}
 use Rattle.token.specs.Words.{bytesOf}
 use Rattle.token.specs.Lexing.{lexFrom, more, ended}
 use Rattle.token.specs.declared.Sort.{Sort as TokenSort}
 use mathlib.Core.Bool.{true}
 use Rattle.grammar.specs.Grammar.{Token, Class, matches, the, sg, numeral, quoted, word, sign, OIL-VERSION, CPU, AUTO, TRUE, FALSE, lbrace, rbrace, equals, semicolon, kind as a-kind, name as a-name, number as a-number, string as a-string}
-use Rattle.grammar.specs.Stage.{bit}
 use Rattle.grammar.specs.Terminals.{classOf}
 use Rattle.meaning.specs.Syntax.{Word, absent, Statements, done, state, Object, File}
 use Rattle.meaning.specs.Actions.{zero-num, num-of-sort, word-of, kind-of}

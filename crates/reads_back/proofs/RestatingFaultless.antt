@@ -8,12 +8,12 @@ use lib.Dec.{eqb}
 use borrow.Author.Tests.{not-false}
 use Rattle.grammar.specs.Grammar.{Kind}
 use Rattle.grammar.proofs.Uniqueness.{none≢some}
-use Rattle.token.specs.Find.{both}
+use Rattle.token.specs.Find.{both, is-there}
 use Rattle.token.proofs.Bytes.{neither-first, neither-second}
 use Rattle.meaning.specs.Syntax.{Word, AttributeType, integer, string, boolean, enum, reference, Bounds, Definition, Definitions, define, Values, no-value, value, Defined, Statement, Statements, state, Object, is-enum}
 use Rattle.meaning.specs.Words.{among}
 use Rattle.meaning.specs.Faults.{Fault, fault-if}
-use Rattle.meaning.specs.Scopes.{Sort, a-number, a-string, a-truth, an-auto, a-no-default, a-name, sort-of, under, find-definition, heads, names, find-object, is-there, fits-number, fits-as, fits}
+use Rattle.meaning.specs.Scopes.{Sort, a-number, a-string, a-truth, an-auto, a-no-default, a-name, sort-of, under, find-definition, heads, names, find-object, fits-number, fits-as, fits}
 use Rattle.meaning.specs.Defining.{range-faults, default-wrong, default-faults, defined-in, differs, name-faults, word-faults, scope-faults, value-faults}
 use Rattle.meaning.specs.Judging.{is-no-default, taken-by, taken, lacking, lacks, lacks-under, reference-faults, brace-faults, faults-as, own-faults, and-inside, judged, judge}
 use Rattle.meaning.proofs.Rooms.{nothing-front, nothing-back, not-faulty}

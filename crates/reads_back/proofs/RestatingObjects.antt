@@ -7,12 +7,12 @@ use native.Mathlib.Omega.{arith}
 use lib.Dec.{eqb, ltb}
 use borrow.Author.Tests.{ne-eqb}
 use Rattle.grammar.specs.Grammar.{Kind}
-use Rattle.token.specs.Find.{pick}
+use Rattle.token.specs.Find.{pick, is-there}
 use Rattle.token.specs.Words.{bytesOf}
 use Rattle.meaning.specs.Syntax.{Word, Definitions, Spec, Object, File}
 use Rattle.meaning.specs.Kinds.{same-kind, fewest, most}
 use Rattle.meaning.specs.Faults.{fault-if}
-use Rattle.meaning.specs.Scopes.{of-kind, find-object, is-there, names}
+use Rattle.meaning.specs.Scopes.{of-kind, find-object, names}
 use Rattle.meaning.specs.Defining.{scope-faults, specified, spec-faults}
 use Rattle.meaning.specs.Applying.{how-many, too-few, full, statement-faults, each-object}
 use Rattle.meaning.specs.Judging.{lacks, judge, judge-object, judge-objects}

@@ -4,6 +4,7 @@ use mathlib.Core.List.{List, [], _∷_, _++_}
 use mathlib.Core.Bool.{Bool, true, false, false≢true}
 use mathlib.Core.Option.{none}
 use Prim.Native.Nat.{ℕ, suc, _+_}
+use Rattle.meaning.proofs.Entries.{then, then-assoc}
 use Rattle.token.specs.Find.{either}
 use Rattle.token.proofs.Bytes.{neither-first, neither-second, not-true}
 use Rattle.meaning.specs.Syntax.{Word, Definition, Definitions, define, Values, value, Statement, Statements, done, state, Object}
@@ -23,19 +24,10 @@ use Rattle.reads_back.proofs.RestatingValues.{SameObjects, value-word, 
 
 -- Statements one behind the other ----------------------------------------------------------------------------------------------------------
 
-unfoldable then : Statements → Statements → Statements
-then done b = b
-then (state x inside rest) b = state x inside (then rest b)
-
 names-then : (a b : Statements) → names (then a b) ≡ names a ++ names b
 unfolding names then
 names-then done b = refl
 names-then (state x inside rest) b = ap (x .name ∷_) (names-then rest b)
-
-then-then : (a b c : Statements) → then (then a b) c ≡ then a (then b c)
-unfolding then
-then-then done b c = refl
-then-then (state x inside rest) b c = ap (state x inside) (then-then rest b c)
 
 entries-then : (a b : Statements) (os : List Object) (d : Definition) (vs : Values) (f : Word → Statements → Resolved) (rest : Resolved)
     → entries (then a b) os d vs f rest ≡ entries a os d vs f (entries b os d vs f rest)
@@ -136,7 +128,7 @@ stated-then before d front x inside q h u e = ap (among u) (names-then front (st
 
 one-then : (front : Statements) (x : Statement) (inside rest : Statements) → then front (state x inside rest) ≡ then (one-more front x inside) rest
 unfolding one-more then
-one-then front x inside rest = sym (then-then front (state x inside done) rest)
+one-then front x inside rest = sym (then-assoc front (state x inside done) rest)
 
 module _ {os os′ : List Object} (same-objects : SameObjects os os′) where
   same-taken : {d : Definition} {vs : Values} {t : Word} {x : Taken} → Takes os d vs t x → SameTaken (take-value true os′ d vs (value-word os d vs t)) x

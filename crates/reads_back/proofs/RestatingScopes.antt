@@ -4,9 +4,9 @@ use mathlib.Core.List.{List, [], _∷_, _++_}
 use mathlib.Core.Bool.{Bool, true, false, false≢true}
 use mathlib.Core.Option.{none, some}
 use Rattle.grammar.specs.Grammar.{Kind}
-use Rattle.token.specs.Find.{pick}
+use Rattle.token.specs.Find.{pick, is-there}
 use Rattle.meaning.specs.Syntax.{Word, AttributeType, integer, string, boolean, enum, reference, Definition, Definitions, no-more, define, Values, no-value, Object}
-use Rattle.meaning.specs.Scopes.{a-number, a-name, sort-of, under, find-definition, find-object, is-there, fits-number, fits}
+use Rattle.meaning.specs.Scopes.{a-number, a-name, sort-of, under, find-definition, find-object, fits-number, fits}
 use Rattle.meaning.specs.Defining.{defined-in}
 use Rattle.meaning.specs.Judging.{taken}
 use Rattle.meaning.specs.Resolving.{Taken, Resolved, end, resolved, take-value}

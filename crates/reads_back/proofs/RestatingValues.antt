@@ -4,13 +4,13 @@ use mathlib.Core.List.{List, [], _∷_, _++_}
 use mathlib.Core.Bool.{true, false, not, false≢true}
 use mathlib.Core.Option.{Option, none, some}
 use Rattle.grammar.specs.Grammar.{Kind}
-use Rattle.token.specs.Find.{pick, both}
+use Rattle.token.specs.Find.{pick, both, is-there}
 use Rattle.token.specs.Words.{same}
 use Rattle.meaning.specs.Syntax.{Word, AttributeType, integer, string, boolean, enum, reference, Definition, Values, no-value, value, Statement, Object, is-enum}
 use Rattle.meaning.specs.Words.{alike}
 use Rattle.meaning.specs.Kinds.{same-kind}
 use Rattle.meaning.specs.Faults.{fault-if}
-use Rattle.meaning.specs.Scopes.{Sort, a-number, a-string, a-truth, an-auto, a-no-default, a-name, sort-of, find-value, definitions-or, under, find-object, is-there, fits-number, fits-as, fits}
+use Rattle.meaning.specs.Scopes.{Sort, a-number, a-string, a-truth, an-auto, a-no-default, a-name, sort-of, find-value, definitions-or, under, find-object, fits-number, fits-as, fits}
 use Rattle.meaning.specs.Judging.{reference-faults, brace-faults, faults-as}
 use Rattle.meaning.specs.Resolving.{Value, number, truth, auto, enumerator, object, number-or, row-or, named, valued, string as string-value}
 use Rattle.meaning.specs.Normal.{written}

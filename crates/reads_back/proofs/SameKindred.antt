@@ -5,13 +5,13 @@ use mathlib.Core.Bool.{Bool, true, false}
 use mathlib.Core.Option.{Option, some}
 use Prim.Native.Nat.{_+_}
 use Rattle.grammar.specs.Grammar.{Kind}
-use Rattle.token.specs.Find.{pick, both}
+use Rattle.token.specs.Find.{pick, both, bit, is-there}
 use Rattle.token.specs.Words.{same}
 use Rattle.meaning.specs.Syntax.{Word, absent, Object}
 use Rattle.meaning.specs.Words.{alike}
 use Rattle.meaning.specs.Kinds.{same-kind}
-use Rattle.meaning.specs.Scopes.{find-object, is-there}
-use Rattle.meaning.specs.Applying.{object-rows, one-if, how-many, counts-of}
+use Rattle.meaning.specs.Scopes.{find-object}
+use Rattle.meaning.specs.Applying.{object-rows, how-many, counts-of}
 use Rattle.meaning.specs.Resolving.{row-or}
 use Rattle.meaning.specs.Places.{each, unplaced-object-row}
 use Rattle.reads_back.proofs.RestatingValues.{SameObjects}
@@ -36,7 +36,7 @@ kindred-behind x y (more-kindred i p) h = more-kindred i (kindred-behind x y p h
 pub kindred-many : {xs ys : List Object} (k : Kind) → AllKindred xs ys → how-many k xs ≡ how-many k ys
 unfolding how-many
 kindred-many k no-kindred = refl
-kindred-many k (more-kindred h p) = ap₂ (λ z n. one-if (same-kind k z) + n) (h .kind) (kindred-many k p)
+kindred-many k (more-kindred h p) = ap₂ (λ z n. bit (same-kind k z) + n) (h .kind) (kindred-many k p)
 
 -- They have the same counts.
 pub kindred-counts : {xs ys : List Object} (ks : List Kind) → AllKindred xs ys → counts-of ks xs ≡ counts-of ks ys

@@ -4,8 +4,9 @@ use mathlib.Core.List.{List, [], _∷_}
 use mathlib.Core.Bool.{Bool, false}
 use mathlib.Core.Option.{Option, none}
 use Prim.Native.Nat.{ℕ, suc, _+_}
+use Rattle.token.specs.Find.{bit}
 use Rattle.grammar.specs.Grammar.{Rule, rule, tok, Form, _⟶_, file, version, implementation, specs, spec, definitions, definition, attribute, D, P, auto, mark, integer-range, numbers, boolean-range, enumerator, enumerators, application, objects, object, block, statements, statement, default, own, file-is, version-is, implementation-is, no-spec, a-spec, spec-is, no-definition, a-definition, an-attribute, a-reference, an-integer, a-string, a-boolean, an-enum, reference-is, no-D, a-D, no-P, a-P, no-auto, with-auto, no-mark, a-mark, no-range, a-range, a-list, no-number, a-number, no-boolean-range, a-boolean-range, enumerator-is, no-enumerator, an-enumerator, no-default, a-default, own-auto, own-none, own-number, own-string, own-true, own-false, own-name, application-is, no-object, an-object, an-object-alone, an-object-with, no-block, a-block, no-statement, a-statement, statement-is, value-number, value-string, value-auto, value-name, value-true, value-false, reference as reference-rule, value as value-rule}
-use Rattle.meaning.specs.Syntax.{Word, Span, absent, through, AttributeType, integer, string, boolean, enum, Bounds, no-bounds, Definitions, no-more, define, Values, no-value, Defined, Spec, Statements, done, state, definitions-in, definitions-under, is-enum, counted, enumerators-in, enumerators-under, statements-in, value as a-value, reference as reference-to}
+use Rattle.meaning.specs.Syntax.{Word, Span, absent, through, AttributeType, integer, string, boolean, enum, Bounds, no-bounds, Definitions, no-more, define, Values, no-value, Defined, Spec, Statements, done, state, definitions-in, definitions-under, is-enum, enumerators-in, enumerators-under, statements-in, value as a-value, reference as reference-to}
 use Rattle.meaning.specs.Actions.{kind-of, integer-of, Implementation, Application, IntegerRange, BooleanRange, Enumerator, Block, ValueWithBlock, Stated, M, Parts, first-value, truths, defined, defining, specifying, stating, means}
 use Rattle.meaning.specs.Places.{each, if-there, unplaced-word, unplaced-bounds, unplaced-definition, unplaced-definitions, unplaced-values, unplaced-defined, unplaced-spec, unplaced-statement, unplaced-statements, unplaced-object, unplaced}
 
@@ -96,7 +97,7 @@ mutual
   enumerators-under-unplaced : (vs : Values) (b : Bool) → enumerators-under (unplaced-values vs) b ≡ enumerators-under vs b
   enumerators-under-unplaced no-value b = refl
   enumerators-under-unplaced (a-value w e us vs) b =
-      ap₂ (λ m n. counted b + (m + n)) (enumerators-in-unplaced us) (enumerators-under-unplaced vs b)
+      ap₂ (λ m n. bit b + (m + n)) (enumerators-in-unplaced us) (enumerators-under-unplaced vs b)
 
 statements-in-unplaced : (ss : Statements) → statements-in (unplaced-statements ss) ≡ statements-in ss
 unfolding statements-in unplaced-statements

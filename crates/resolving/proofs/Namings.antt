@@ -13,7 +13,7 @@ use Rattle.scopes.specs.Promises.{FindsEnumerator, FindsObject, FindsWord}
 use Rattle.scopes.proofs.Taking.{word-none, word-some}
 use Rattle.indexes.specs.Indexing.{Indexed}
 use Rattle.lookups.specs.Answers.{EnumeratorIndexed, ObjectIndexed, WordIndexed}
-use Rattle.resolving.specs.declared.Sizes.{Sizes}
+use Rattle.scopes.specs.declared.Sizes.{Sizes}
 use Rattle.resolving.specs.Noted.{WordNoted, WordsNoted, Indexes, NotesWord, NotesTo, EnumeratorNoted, WordFound}
 
 module _ {s d e x : List ℕ} {j : ℕ} where

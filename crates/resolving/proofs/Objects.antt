@@ -9,26 +9,22 @@ use Rattle.meaning.specs.Kinds.{kind-number}
 use Rattle.meaning.specs.Scopes.{of-kind}
 use Rattle.meaning.specs.Resolving.{of-object, object-values, all-values}
 use Rattle.meaning.specs.Cells.{owner-sort, owner-row}
-use Rattle.meaning.proofs.Sites.{object-words}
-use Rattle.layout.specs.Kept.{spec-entries, object-cells, statement-count, kind-place}
-use Rattle.blocks.specs.Blocks.{AllIn, BlockAt}
-use Rattle.blocks.proofs.Files.{file-in, objects-in, object-cell, object-block}
-use Rattle.scopes.specs.Situations.{Situation, ScopeAt, no-scope, scope}
-use Rattle.resolving.specs.declared.Sizes.{Sizes}
-use Rattle.resolving.specs.Tables.{Given, Below}
+use Rattle.layout.specs.Kept.{statement-count, kind-place}
+use Rattle.blocks.specs.Blocks.{BlockAt}
+use Rattle.scopes.specs.Situations.{ScopeAt, no-scope, scope}
+use Rattle.scopes.specs.declared.Sizes.{Sizes}
+use Rattle.scopes.specs.Given.{Tables, Given, Below, Places}
 use Rattle.resolving.specs.Written.{WroteAll}
-use Rattle.resolving.specs.Promises.{Resolves, Places, ResolvesAll}
+use Rattle.resolving.specs.Promises.{Resolves, ResolvesAll}
 use Rattle.layout.proofs.Codes.{kind-low}
 use Rattle.scopes.proofs.Descents.{scope-of-kind}
-use Rattle.lookups.proofs.Standings.{stands-at}
-use Rattle.scopes.proofs.Rooms.{nth-low}
+use Rattle.lookups.proofs.Attributes.{stands-below, KeptObject, kept-object}
 use Rattle.resolving.proofs.Entrances.{none-below}
 use Rattle.resolving.proofs.Writes.{wrote-first, wrote-next, all-length}
 
--- All rows are below their number.
-scope-below : {s : List ℕ} {f : File} (k : ℕ) (ds : Definitions) → Situation s f → ScopeAt f k ds → Below (length (spec-entries (f .specs))) ds
-scope-below {f = f} zero no-more p no-scope = none-below (length (spec-entries (f .specs)))
-scope-below k ds p (scope e q) = λ x h. nth-low (stands-at p q h .nth)
+scope-below : {s d e o : List ℕ} {z : Sizes} {f : File} (k : ℕ) (ds : Definitions) → Tables s d e o z f → ScopeAt f k ds → Below (z .definitions) ds
+scope-below {z = z} zero no-more g no-scope = none-below (z .definitions)
+scope-below k ds g (scope e q) = stands-below g q
 
 values-next : (f : File) (front : List Object) (x : Object) → all-values f (front ++ (x ∷ [])) ≡ all-values f front ++ (object-values f x ∷ [])
 unfolding all-values
@@ -49,28 +45,7 @@ pub record Doing (f : File) (i : ℕ) (v : List ℕ) (v′ : List ℕ) (n : ℕ)
   pub wrote : WroteAll v (all-values f front) v′ n
 
 abbrev pub Does : (s d e o st v : List ℕ) (z : Sizes) (ps : List ℕ) (v′ : List ℕ) (n i : ℕ) → Type 0
-Does s d e o st v z ps v′ n i = (f : File) → Given s d e o st z f → Places ps f → length v ≡ 18432 → Doing f i v v′ n
-
--- The row of the object, and its block.
-record Row (s o st : List ℕ) (f : File) (i : ℕ) (front : List Object) (x : Object) : Type 0 where
-  kind : getD o (i * 9 + 0) 0 ≡ kind-number (x .kind)
-  from : getD o (i * 9 + 7) 0 ≡ statement-count front
-  till : getD o (i * 9 + 8) 0 ≡ statement-count front + statements-in (x .statements)
-  block : BlockAt s st (statement-count front) (statement-count front + statements-in (x .statements)) (x .statements)
-
-row : {s d e o st : List ℕ} {z : Sizes} {f : File} {i : ℕ} (front : List Object) (x : Object) (rest : List Object) → Given s d e o st z f
-    → f .objects ≡ front ++ (x ∷ rest) → length front ≡ i → Row s o st f i front x
-unfolding object-cells
-row {s} {d} {e} {o} {st} {z} {f} {i} front x rest g w p =
-    let T = g .tables in
-    let c = T .objects in
-    let h = T .objects-fit in
-    let k = g .statements-fit in
-    let l : length (f .objects) ≤ 257 = omega arith in
-    let a : AllIn s (object-words (f .objects)) = subst (λ q. AllIn s (object-words (q .objects))) (sym (T .situation .syntax-of)) (objects-in s _ (file-in s (T .situation .derivation))) in
-    let b : (m : ℕ) → m < 9 → getD o (i * 9 + m) 0 ≡ getD (object-cells x (statement-count front)) m 0 =
-    λ m q. ap (λ n. getD o (n * 9 + m) 0) (sym p) ∙ object-cell s f front x rest w o (T .in-objects) l m q in
-    record { kind = b 0 (omega arith); from = b 7 (omega arith); till = b 8 (omega arith); block = object-block s f front x rest w st (g .in-statements) (omega arith) a }
+Does s d e o st v z ps v′ n i = (f : File) → Given s d e o st z f → Places f ps → length v ≡ 18432 → Doing f i v v′ n
 
 -- The object of the row is there.
 record Here (s o st v v₁ : List ℕ) (n i : ℕ) (f : File) : Type 0 where
@@ -80,10 +55,10 @@ record Here (s o st v v₁ : List ℕ) (n i : ℕ) (f : File) : Type 0 where
   whole : f .objects ≡ front ++ (object ∷ rest)
   place : length front ≡ i
   wrote : WroteAll v (all-values f front) v₁ n
-  row-is : Row s o st f i front object
+  row-is : KeptObject s o st i front object
 
 here : {s d e o st v : List ℕ} {z : Sizes} {ps : List ℕ} {v₁ : List ℕ} {n i : ℕ} {f : File} → i < z .objects → Does s d e o st v z ps v₁ n i
-    → Given s d e o st z f → Places ps f → length v ≡ 18432 → Here s o st v v₁ n i f
+    → Given s d e o st z f → Places f ps → length v ≡ 18432 → Here s o st v v₁ n i f
 here {s} {d} {e} {o} {st} {v} {z} {ps} {v₁} {n} {i} {f} h t g p l = by (k .rest) (k .whole)
   where
     k : Doing f i v v₁ n
@@ -95,7 +70,7 @@ here {s} {d} {e} {o} {st} {v} {z} {ps} {v₁} {n} {i} {f} h t g p l = by (k .res
         let c = k .place in
         let d = g .tables .objects in
         absurd (omega arith)
-    by (x ∷ rest) w = record { front = k .front; object = x; rest = rest; whole = w; place = k .place; wrote = k .wrote; row-is = row (k .front) x rest g w (k .place) }
+    by (x ∷ rest) w = record { front = k .front; object = x; rest = rest; whole = w; place = k .place; wrote = k .wrote; row-is = kept-object (k .front) x rest g w (k .place) }
 
 module _ {s d e o st v : List ℕ} {z : Sizes} {ps : List ℕ} where
   pub does-start : Does s d e o st v z ps v 0 0
@@ -125,18 +100,18 @@ module _ {s d e o st v : List ℕ} {z : Sizes} {ps : List ℕ} where
         let b = kind-low (x .object .kind) in
         absurd (omega arith)
 
-    pub does-more : {key from till : ℕ} {v₂ : List ℕ} {r : ℕ} → kind < 13 → key ≡ getD ps kind 0 → from ≡ getD o (i * 9 + 7) 0 → till ≡ getD o (i * 9 + 8) 0
+    pub does-more : {key from till : ℕ} {v₂ : List ℕ} {r : ℕ} → key ≡ getD ps kind 0 → from ≡ getD o (i * 9 + 7) 0 → till ≡ getD o (i * 9 + 8) 0
         → Resolves s d e o st v₁ z (z .definitions) key from till (record { sort = 0; row = i }) n v₂ r → Does s d e o st v z ps v₂ r (i + 1)
     unfolding object-values owner-sort owner-row
-    does-more {key} {from} {till} {v₂} {r} lo c₁ c₂ c₃ res f g p l =
+    does-more {key} {from} {till} {v₂} {r} c₁ c₂ c₃ res f g p l =
         let x = here h t g p l in
         let y = x .object in
         let R = x .row-is in
         let k : kind ≡ kind-number (y .kind) = c₀ ∙ R .kind in
-        let q : key ≡ kind-place (kind-number (y .kind)) (f .specs) = c₁ ∙ p .places kind lo ∙ ap (λ m. kind-place m (f .specs)) k in
+        let q : key ≡ kind-place (kind-number (y .kind)) (f .specs) = c₁ ∙ ap (λ m. getD ps m 0) k ∙ p .place (y .kind) in
         let ds = of-kind (y .kind) (f .specs) in
         let sc : ScopeAt f key ds = subst (λ m. ScopeAt f m ds) (sym q) (scope-of-kind f (y .kind)) in
-        let be : Below (z .definitions) ds = subst (λ m. Below m ds) (sym (g .tables .definitions)) (scope-below key ds (g .tables .situation) sc) in
+        let be : Below (z .definitions) ds = scope-below key ds (g .tables) sc in
         let a : from ≡ statement-count (x .front) = c₂ ∙ R .from in
         let b : till ≡ statement-count (x .front) + statements-in (y .statements) = c₃ ∙ R .till in
         let bl : BlockAt s st from till (y .statements) = subst (λ m. BlockAt s st m till (y .statements)) (sym a) (subst (λ m. BlockAt s st (statement-count (x .front)) m (y .statements)) (sym b) (R .block)) in

@@ -5,24 +5,25 @@ use mathlib.Core.Bool.{Bool, true, false, false≢true}
 use Prim.Native.Nat.{ℕ, zero, suc, _+_, _-_, _*_, _≤_, _<_}
 use native.Mathlib.Omega.{arith}
 use native.Mathlib.Decide.{ℕ-discrete, decLe}
-use lib.ListN.{length, getD, replicate, length-replicate}
-use lib.Seq.{length-sets}
+use lib.ListN.{length, getD, set, replicate, length-replicate}
+use lib.Seq.{length-sets, getD-set-same, getD-set-other}
 use Rattle.rows.specs.declared.Found.{Found}
 use Rattle.meaning.specs.Syntax.{done, state, statements-in}
 use Rattle.meaning.specs.Words.{among}
 use Rattle.meaning.specs.Scopes.{names}
 use Rattle.meaning.specs.Resolving.{resolve}
-use Rattle.indexes.specs.Indexing.{Indexed, Makes, nameRank}
-use Rattle.lookups.specs.Ranks.{nameOf, NotesRanks, Firsts, RowStated, MayState}
+use Rattle.sorting.specs.Sorted.{among-cells, Tells}
+use Rattle.indexes.specs.Indexing.{Indexed, Makes, nameRank, rowName}
+use Rattle.lookups.specs.Ranks.{NotesRanks, Firsts, RowStated, MayState}
 use Rattle.amounts.specs.Known.{KnownDefaults}
 use Rattle.layout.specs.Kept.{spec-entries, definition-cells, map-cells, join, kept, kept-definitions}
 use Rattle.blocks.specs.Blocks.{row-after, FindsStated, IsStated}
 use Rattle.blocks.proofs.Ranges.{after-later, is-stated}
-use Rattle.resolving.specs.declared.Sizes.{Sizes}
+use Rattle.scopes.specs.declared.Sizes.{Sizes}
 use Rattle.resolving.specs.declared.Owner.{Owner as OwnerOf}
-use Rattle.resolving.specs.Noted.{NotesTo, NamesRanked, Rooms, Noted, Bare, no-default, not-taken, Quiet, elsewhere, silent, Defaults, Stirs, Elsewhere, NextUnder, Passes, NextRow}
+use Rattle.resolving.specs.Noted.{NotesTo, NamesRanked, Rooms, Taken, NotesTaken, DefaultOwners, IsQuiet, Noted, Bare, no-default, not-taken, Quiet, elsewhere, silent, Defaults, Stirs, Elsewhere, NextUnder, Passes, NextRow}
 use Rattle.resolving.specs.Promises.{ResolvesDefault, ResolvesRow, Resolves, ResolvesAll}
-use Rattle.resolving.proofs.Turns.{row-other, row-default, Goes, goes-more}
+use Rattle.resolving.proofs.Turns.{row-other, row-default, Goes, goes-start, goes-more, goes-end}
 use Rattle.resolving.proofs.Namings.{words-noted}
 use Rattle.resolving.proofs.Entrances.{default-none, default-not}
 use Rattle.resolving.proofs.Writes.{wrote-full}
@@ -63,7 +64,7 @@ stirs-none {j = j} k e h = record { quiet = λ _ p. silent (k .bare e j p) (none
 
 pub stirs-stated : {s d st rs rd : List ℕ} {key from till j p g : ℕ} {q r : Bool} → NamesRanked s d st rs rd → Defaults d p q → q ≡ false → j < length rd → g ≡ getD rd j 0
     → (F : List ℕ) → Firsts st rs from till F → MayState st rs F from till g r → Stirs s d st key from till j p r
-unfolding nameOf
+unfolding rowName
 stirs-stated {s} {d} {st} {rs} {rd} {key} {from} {till} {j} {p} {g} {q} {r} h k e l c F o i = record {
   quiet = λ no pe.
       silent (k .bare e j pe)
@@ -116,11 +117,7 @@ row-none {s} {d} {st} {limit} {key} {from} {till} {j} {i} a b c p =
 module _ {s d e o st v : List ℕ} {z : Sizes} {j : ℕ} {w : OwnerOf} {n : ℕ} where
   bare-default : Bare d j → ResolvesDefault s d e o st v z j w n v n
   bare-default (no-default h) = default-none refl h
-  bare-default (not-taken h) = by (ℕ-discrete (getD d (j * 19 + 11) 0) 0)
-    where
-      by : Dec (getD d (j * 19 + 11) 0 ≡ 0) → ResolvesDefault s d e o st v z j w n v n
-      by (yes q) = default-none refl q
-      by (no q) = default-not refl q refl h
+  bare-default (not-taken h) = default-not refl h
 
 module _ {s d e o st v : List ℕ} {z : Sizes} {j key from till : ℕ} {w : OwnerOf} {n : ℕ} where
   quiet-row : Quiet s d st key from till j → ResolvesRow s d e o st v z j key from till w n v n
@@ -142,6 +139,22 @@ module _ {s d e o st v : List ℕ} {z : Sizes} {limit key from till : ℕ} {w : 
       → Goes s d e o st v z limit key from till w n v₁ m r
   goes-pass {v₁} {m} {j} {r} x g = let l = x .low in passing (r - j) j r (omega arith) (x .high) (x .passes) g
 
+  -- A block is empty, and nothing under the word at key has a default that is taken.
+  pub resolves-quiet : {us : List ℕ} {r : Bool} → (key ≡ 0 → ⊥) → limit ≤ 512 → DefaultOwners d us → IsQuiet us key from till r → r ≡ true → Resolves s d e o st v z limit key from till w n v n
+  unfolding Tells
+  resolves-quiet {us} {r} nz l h q y = goes-end (omega arith) nz (goes-pass (record { low = omega arith; high = omega arith; passes = record { quiet = quiet }; here = λ c. absurd (omega arith) }) goes-start)
+    where
+      bare : (i : ℕ) → i < 512 → getD d (i * 19 + 0) 0 ≡ key → Dec (getD (h .marks) i 0 ≡ 0) → Bare d i
+      bare i a c (yes g) = h .noted .cell i a g
+      bare i a c (no g) = absurd (false≢true (q .unowned y (h .owners .rising) ∙ ap (λ k. among-cells k us) (sym c) ∙ h .owners .has i a g))
+
+      quiet : (i : ℕ) → 0 ≤ i → i < limit → Quiet s d st key from till i
+      quiet i a b = by (ℕ-discrete (getD d (i * 19 + 0) 0) key)
+        where
+          by : Dec (getD d (i * 19 + 0) 0 ≡ key) → Quiet s d st key from till i
+          by (yes c) = silent (bare i (omega arith) c (ℕ-discrete (getD (h .marks) i 0) 0)) (none-stated _ _ (q .empty y))
+          by (no c) = elsewhere c
+
   pub resolves-past : 512 < limit → Resolves s d e o st v z limit key from till w n v n
   resolves-past h f ds ss ow g sc b lim bl own room = absurd (let k = g .tables .definitions-fit in omega arith)
 
@@ -150,12 +163,12 @@ module _ {s d e o st v : List ℕ} {z : Sizes} {limit key from till : ℕ} {w : 
 
 -- What is noted ----------------------------------------------------------------------------------------------------------------------------
 
-pub noted-all : {s d e o st : List ℕ} {z : Sizes} {known words xd₀ xe₀ xo₀ spare₀ rs rd : List ℕ} (xd : List ℕ) {xe xo : List ℕ} {l n m k₀ k k₂ : ℕ} → KnownDefaults s d known × Rooms d z xd₀ xe₀ xo₀ spare₀
+pub noted-all : {s d e o st : List ℕ} {z : Sizes} {known words xd₀ xe₀ xo₀ spare₀ rs rd us : List ℕ} (xd : List ℕ) {xe xo : List ℕ} {l n m k₀ k k₂ : ℕ} → KnownDefaults s d known × DefaultOwners d us × Rooms d z xd₀ xe₀ xo₀ spare₀
     → l ≡ length xd₀ → k₀ ≡ length spare₀ → Makes s d 19 l 0 2 k₀ xd → n ≡ length xe₀ → k ≡ length spare₀ → Makes s e 3 n 0 1 k xe → m ≡ length xo₀ → k₂ ≡ length spare₀ → Makes s o 9 m 0 3 k₂ xo
-    → NotesTo s d e xe (length words) words → NotesRanks s d xd st 7 0 rs → NotesRanks s d xd d 19 2 rd → Noted s d e o st z known words xe xo rs rd
+    → NotesTo s d e xe (length words) words → NotesRanks s d xd st 7 0 rs → NotesRanks s d xd d 19 2 rd → Noted s d e o st z known words xe xo rs rd us
 unfolding Makes NotesRanks
-noted-all {s} {d} {e} {o} {st} {z} {known} {words} {xd₀} {xe₀} {xo₀} {spare₀} {rs} {rd} xd {xe} {xo} {l} {n} {m} {k₀} {k} {k₂} h d₁ d₂ ix a₁ a₂ ie b₁ b₂ io w p q =
-    let R = h .1 in
+noted-all {s} {d} {e} {o} {st} {z} {known} {words} {xd₀} {xe₀} {xo₀} {spare₀} {rs} {rd} {us} xd {xe} {xo} {l} {n} {m} {k₀} {k} {k₂} h d₁ d₂ ix a₁ a₂ ie b₁ b₂ io w p q =
+    let R = h .2 in
     let l₀ = R .definitions in
     let f₀ = R .definitions-fit in
     let l₁ = R .enumerators in
@@ -179,6 +192,7 @@ noted-all {s} {d} {e} {o} {st} {z} {known} {words} {xd₀} {xe₀} {xo₀} {spar
         objects-fit = f₂;
       };
       ranks = record { rank = nameRank s d 19 0 2 xd; statements = p l r few; definitions = q l r few; room = R .room };
+      owners = h .1;
     }
 
 kept-long : (n : ℕ) (rs : List (List ℕ)) → length (kept n rs) ≡ n
@@ -191,3 +205,24 @@ module _ {s d e o st v : List ℕ} {z : Sizes} {ps : List ℕ} where
   unfolding kept-definitions
   not-sized h f g p l =
       absurd (h (ap length (g .tables .in-definitions) ∙ kept-long (513 * 19) (map-cells definition-cells (spec-entries (f .specs)))) (g .tables .definitions-fit) (g .tables .enumerators-fit) (g .tables .objects-fit))
+
+-- The marks of the rows whose default is taken.
+module _ (d : List ℕ) where
+  pub taken-start : (ms : List ℕ) → NotesTaken d 0 ms
+  taken-start ms = record { cell = λ i h g. absurd (omega arith) }
+
+  pub taken-more : (ms : List ℕ) (i x : ℕ) → i < length ms → Taken d i x → NotesTaken d i ms → NotesTaken d (i + 1) (set ms i x)
+  taken-more ms i x l e n = record { cell = λ j h. by j h (ℕ-discrete j i) }
+    where
+      by : (j : ℕ) → j < i + 1 → Dec (j ≡ i) → Taken d j (getD (set ms i x) j 0)
+      by j h (yes r) g = subst (Bare d) (sym r) (e (sym (getD-set-same ms i x 0 l) ∙ ap (λ k. getD (set ms i x) k 0) (sym r) ∙ g))
+      by j h (no r) g = n .cell j (omega (arith, r, h)) (sym (getD-set-other ms i j x 0 r) ∙ g)
+
+  pub taken-past : (ms : List ℕ) (i n : ℕ) → n ≤ i → NotesTaken d i ms → NotesTaken d n ms
+  taken-past ms i n h o = record { cell = λ j k. o .cell j (omega arith) }
+
+  pub taken-none : {c : ℕ} (i : ℕ) → c ≡ getD d (i * 19 + 11) 0 → c ≡ 0 → Taken d i 0
+  taken-none i e z g = no-default (sym e ∙ z)
+
+  pub taken-not : {c : ℕ} (i : ℕ) → c ≡ getD d (i * 19 + 18) 0 → c ≡ 4 → Taken d i 0
+  taken-not i e z g = not-taken (sym e ∙ z)

@@ -6,7 +6,7 @@ use Prim.Native.Nat.{ℕ, suc, _+_, _*_, _≤_, _<_}
 use native.Mathlib.Omega.{arith}
 use lib.ListN.{getD}
 use Rattle.token.specs.Find.{pick}
-use Rattle.rows.specs.Search.{isFound}
+use Rattle.rows.specs.Search.{isFound, rowOf}
 use Rattle.rows.specs.declared.Found.{Found}
 use Rattle.rows.specs.declared.Found.the-variants.{At, Nothing}
 use Rattle.meaning.specs.Syntax.{Word, Defined, Statement, Statements, done, state, File, statements-in}
@@ -15,12 +15,13 @@ use Rattle.meaning.specs.Resolving.{Resolved, end, Owner}
 use Rattle.meaning.proofs.Entries.{joins}
 use Rattle.blocks.specs.Blocks.{BlockAt, row-after, first-stated, FindsStated}
 use Rattle.blocks.proofs.Ranges.{first-after, rest-at, is-stated}
-use Rattle.resolving.specs.declared.Sizes.{Sizes}
+use Rattle.scopes.specs.declared.Sizes.{Sizes}
 use Rattle.resolving.specs.declared.Owner.{Owner as OwnerOf}
-use Rattle.resolving.specs.Tables.{Given, Attribute}
+use Rattle.scopes.specs.Given.{Given, Attribute}
 use Rattle.resolving.specs.Written.{Wrote, Owns}
 use Rattle.resolving.specs.Promises.{stated-entries, Room, EntersStated, ResolvesStated, ResolvesDefault, ResolvesUnder}
-use Rattle.resolving.proofs.Turns.{name-at, row-stated, row-default}
+use Rattle.lookups.proofs.Attributes.{name-at}
+use Rattle.resolving.proofs.Turns.{row-stated, row-default}
 use Rattle.resolving.proofs.Entrances.{entries-none, entries-other, entries-more}
 use Rattle.resolving.proofs.Writes.{wrote-length, wrote-none, wrote-joins, wrote-same, joins-end, joins-joins}
 use Rattle.scopes.proofs.Finding.{same-sym}
@@ -30,10 +31,6 @@ use Rattle.scopes.proofs.Finding.{same-sym}
 alike-sym : (t u : Word) → alike t u ≡ alike u t
 unfolding alike
 alike-sym t u = same-sym (t .bytes) (u .bytes)
-
-row-in : Found → ℕ
-row-in (At i) = i
-row-in Nothing = 0
 
 -- Of the statements `left` of the rows from k up to till, that of row i is the first that states the attribute x.
 record Match (s st : List ℕ) (f : File) (x : Defined) (left : Statements) (k till i : ℕ) : Type 0 where
@@ -54,7 +51,7 @@ pass f x y inside rest q =
 
 match : {s st : List ℕ} (f : File) (x : Defined) (left : Statements) {k till i : ℕ} → BlockAt s st k till left → At i ≡ first-stated left k (x .definition .name)
     → Match s st f x left k till i
-unfolding first-stated statements-in row-in
+unfolding first-stated statements-in rowOf
 match f x done b e = absurd (false≢true (sym (ap isFound e)))
 match {s} {st} f x (state y inside rest) {k} {till} {i} b e = by (alike (x .definition .name) (y .name)) refl e (match f x rest (rest-at b))
   where
@@ -62,7 +59,7 @@ match {s} {st} f x (state y inside rest) {k} {till} {i} b e = by (alike (x .defi
         → (At i ≡ first-stated rest (suc k + statements-in inside) (x .definition .name) → Match s st f x rest (suc k + statements-in inside) till i)
         → Match s st f x (state y inside rest) k till i
     by true q p ih =
-        let h : i ≡ k = ap row-in p in
+        let h : i ≡ k = ap rowOf p in
         let a = b .after in
         record {
           statement = y;
@@ -136,14 +133,14 @@ module _ {s d e o st v : List ℕ} {z : Sizes} {j from till : ℕ} {w : OwnerOf}
     pub states-none : {r : Found} → FindsStated s st k till at len r → r ≡ Nothing → ResolvesStated s d e o st v z j from till w n v₁ m
     states-none finds p f x ss ow g a b own room =
         let K = t f x ss ow g a b own room in
-        states-done K (no-match f x (K .left) k (sym p ∙ finds (K .left) (x .definition .name) (K .block) (name-at at len (g .tables) a c₁ c₂)))
+        states-done K (no-match f x (K .left) k (sym p ∙ finds (K .left) (x .definition .name) (K .block) (name-at (g .tables) a at len c₁ c₂)))
 
     -- or that of row i is the first, which is one of those left.
     matched : {r : Found} {i : ℕ} → FindsStated s st k till at len r → r ≡ At i → (f : File) (x : Defined) (ss : Statements) (ow : Owner) (g : Given s d e o st z f) (a : Attribute f j x)
         (b : BlockAt s st from till ss) (own : Owns w ow) (room : Room v n) → Match s st f x (t f x ss ow g a b own room .left) k till i
     matched finds p f x ss ow g a b own room =
         let K = t f x ss ow g a b own room in
-        match f x (K .left) (K .block) (sym p ∙ finds (K .left) (x .definition .name) (K .block) (name-at at len (g .tables) a c₁ c₂))
+        match f x (K .left) (K .block) (sym p ∙ finds (K .left) (x .definition .name) (K .block) (name-at (g .tables) a at len c₁ c₂))
 
     pub states-out : {r : Found} {i : ℕ} → FindsStated s st k till at len r → r ≡ At i → (k ≤ i → till ≤ i) → ResolvesStated s d e o st v z j from till w n v₁ m
     states-out finds p h f x ss ow g a b own room =
@@ -179,7 +176,7 @@ module _ {s d e o st v : List ℕ} {z : Sizes} {j from till : ℕ} {w : OwnerOf}
   pub stated-from : {at len : ℕ} → at ≡ getD d (j * 19 + 2) 0 → len ≡ getD d (j * 19 + 3) 0 → {q : Found} {i : ℕ} {v′ : List ℕ} {r : ℕ}
       → FindsStated s st from till at len q → q ≡ At i → ResolvesStated s d e o st v z j i till w n v′ r → ResolvesStated s d e o st v z j from till w n v′ r
   stated-from {at} {len} c₁ c₂ finds p res f x ss ow g a b own room =
-      let M = match f x ss b (sym p ∙ finds ss (x .definition .name) b (name-at at len (g .tables) a c₁ c₂)) in
+      let M = match f x ss b (sym p ∙ finds ss (x .definition .name) b (name-at (g .tables) a at len c₁ c₂)) in
       wrote-same (sym (M .skips)) (res f x (state (M .statement) (M .inside) (M .rest)) ow g a (M .block) own room)
 
   -- The attribute of a row is stated, first by the statement of row i, or it is not.

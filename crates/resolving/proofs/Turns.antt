@@ -1,5 +1,5 @@
 -- A loop over the rows of the definitions: what a row of a scope is, and what it contributes. Assumes nothing.
-use mathlib.Core.Path.{_≡_, refl, sym, _∙_, ap, ap₂, subst}
+use mathlib.Core.Path.{_≡_, refl, sym, _∙_, ap, subst}
 use mathlib.Core.List.{List, [], _∷_, _++_, append-assoc, append-nil}
 use mathlib.Core.Bool.{Bool, true, false}
 use Prim.Native.Nat.{ℕ, zero, suc, _+_, _*_, _≤_, _<_}
@@ -7,71 +7,26 @@ use native.Mathlib.Omega.{arith}
 use lib.ListN.{length, getD, length-append}
 use lib.Dec.{eqb}
 use borrow.Author.Tests.{eq-eqb, ne-eqb}
-use Rattle.token.specs.Tokens.{partOf}
-use Rattle.meaning.specs.Syntax.{Word, span-of, span-or, Definitions, no-more, define, Defined, Statements, File}
+use Rattle.meaning.specs.Syntax.{Word, span-of, Definitions, no-more, define, Defined, Statements, File}
 use Rattle.meaning.specs.Words.{among, choose}
 use Rattle.meaning.specs.Scopes.{names}
 use Rattle.meaning.specs.Defining.{DefinitionRow, definition-row}
 use Rattle.meaning.specs.Resolving.{Resolved, end, Owner, resolve}
 use Rattle.meaning.proofs.Entries.{joins, contributed, resolve-more}
-use Rattle.meaning.proofs.Sites.{option-words}
 use Rattle.meaning.proofs.Standing.{Standing, standing-if, select, standing}
-use Rattle.layout.specs.Kept.{Entry, spec-entries, definition-cells, default-code, code-of}
-use Rattle.blocks.specs.Blocks.{WordIn, AllIn, BlockAt, IsStated}
-use Rattle.scopes.specs.Situations.{Situation, HasDefinition, this-definition, later-definition, Stands, ScopeAt, no-scope, scope, Nth, RowOf}
-use Rattle.scopes.proofs.Rooms.{definition-cell, nth-low, default-cell}
-use Rattle.resolving.specs.declared.Sizes.{Sizes}
+use Rattle.layout.specs.Kept.{Entry, spec-entries}
+use Rattle.blocks.specs.Blocks.{BlockAt, IsStated}
+use Rattle.scopes.specs.Situations.{Situation, HasDefinition, this-definition, later-definition, Stands, ScopeAt, no-scope, scope, Nth}
+use Rattle.scopes.specs.Given.{Given, Attribute, Below, entry-rows}
+use Rattle.scopes.proofs.Answering.{spec-rows}
+use Rattle.scopes.specs.declared.Sizes.{Sizes}
 use Rattle.resolving.specs.declared.Owner.{Owner as OwnerOf}
-use Rattle.resolving.specs.Tables.{Tables, Given, Attribute, Below, rows-of, Left}
 use Rattle.resolving.specs.Written.{Wrote, Owns}
-use Rattle.resolving.specs.Promises.{inner-of, stated-entries, default-entries, Room, ResolvesStated, ResolvesDefault, Turn, ResolvesRow, ResolvesUnder, Resolves}
+use Rattle.resolving.specs.Promises.{inner-of, stated-entries, default-entries, Room, ResolvesStated, ResolvesDefault, Left, Turn, ResolvesRow, ResolvesUnder, Resolves}
 use Rattle.scopes.proofs.Descents.{scope-facts}
-use Rattle.lookups.proofs.Standings.{stands-at, file-stands, words-definition}
-use Rattle.resolving.proofs.Standings.{rows-are-specs}
+use Rattle.lookups.proofs.Standings.{file-stands}
+use Rattle.lookups.proofs.Attributes.{under-cell, name-at}
 use Rattle.resolving.proofs.Writes.{wrote-none, wrote-length, wrote-joins, wrote-same, joins-end, joins-joins}
-
--- The row of an attribute -------------------------------------------------------------------------------------------------------------------
-
--- Its cells, and its words in the text.
-pub record Known (s d : List ℕ) (f : File) (j : ℕ) (x : Defined) : Type 0 where
-  pub row-of : RowOf f j x
-  pub low : j < 513
-  pub inside : j < length (spec-entries (f .specs))
-  pub name-place : getD d (j * 19 + 2) 0 ≡ x .definition .name .place
-  pub name-length : getD d (j * 19 + 3) 0 ≡ x .definition .name .length
-  pub type-code : getD d (j * 19 + 12) 0 ≡ code-of (x .definition .word)
-  pub default-place : getD d (j * 19 + 10) 0 ≡ span-or (x .definition .default) .place
-  pub default-length : getD d (j * 19 + 11) 0 ≡ span-or (x .definition .default) .length
-  pub default-is : getD d (j * 19 + 18) 0 ≡ default-code (x .definition .default)
-  pub name : WordIn s (x .definition .name)
-  pub default : AllIn s (option-words (x .definition .default))
-
-pub known : {s d e o : List ℕ} {z : Sizes} {f : File} {j : ℕ} {x : Defined} → Tables s d e o z f → Attribute f j x → Known s d f j x
-unfolding definition-cells
-known {s} {d} {e} {o} {z} {f} {j} {x} g a =
-    let p = g .situation in
-    let q = stands-at p (a .stands) (a .has) in
-    let E : Entry = record { under = a .under; outer = q .outer; definition = x .definition; values = x .values } in
-    let n : Nth (spec-entries (f .specs)) j E = subst (λ k. Nth (spec-entries (f .specs)) k E) (a .row) (q .nth) in
-    let h = nth-low n in
-    let i = g .definitions in
-    let k = g .definitions-fit in
-    let l : j < 513 = omega arith in
-    let w = words-definition (a .has) (file-stands p (a .stands) .1) in
-    let c : (c : ℕ) → c < 19 → getD d (j * 19 + c) 0 ≡ getD (definition-cells E) c 0 = λ c m. definition-cell f d j c E (g .in-definitions) n l m in
-    record {
-      row-of = record { under = a .under; outer = q .outer; nth = n };
-      low = l;
-      inside = h;
-      name-place = c 2 (omega arith);
-      name-length = c 3 (omega arith);
-      type-code = c 12 (omega arith);
-      default-place = c 10 (omega arith);
-      default-length = c 11 (omega arith);
-      default-is = default-cell f d j E (g .in-definitions) n l;
-      name = w .1 .0;
-      default = w .1 .1;
-    }
 
 -- A row of the loop ------------------------------------------------------------------------------------------------------------------------
 
@@ -105,7 +60,7 @@ next-place front x e = let a = length-append front (x ∷ []) in omega arith
 
 hit-of : {f : File} {u : Word} {ds : Definitions} {j : ℕ} (left : Definitions) (front : List Entry) (x : Entry) (more : List Entry)
     → spec-entries (f .specs) ≡ front ++ (x ∷ more) → length front ≡ j
-    → record { number = j; row = definition-row (x .under) (x .definition) } ∷ select (u .place) (suc j) (rows-of more) ≡ standing u left
+    → record { number = j; row = definition-row (x .under) (x .definition) } ∷ select (u .place) (suc j) (entry-rows more) ≡ standing u left
     → Stands (f .specs) u ds → ((y : Defined) → HasDefinition left y → HasDefinition ds y) → Hit f u ds j left
 unfolding standing select head-number tail-of
 hit-of no-more front x more w p e q a = absurd (let n = ap (λ (l : List Standing). length l) e in omega arith)
@@ -126,14 +81,14 @@ hit-of (define d vs rest) front x more w p e q a = record {
 }
 
 peek-in : {f : File} {u : Word} {ds : Definitions} {j : ℕ} {left : Definitions} (front rest : List Entry) → spec-entries (f .specs) ≡ front ++ rest → length front ≡ j
-    → select (u .place) j (rows-of rest) ≡ standing u left → Stands (f .specs) u ds → ((y : Defined) → HasDefinition left y → HasDefinition ds y)
+    → select (u .place) j (entry-rows rest) ≡ standing u left → Stands (f .specs) u ds → ((y : Defined) → HasDefinition left y → HasDefinition ds y)
     → j < length (spec-entries (f .specs)) → Peek f u ds j left
-unfolding select rows-of definition-row span-of standing-if
+unfolding select entry-rows definition-row span-of standing-if
 peek-in front [] w p s q a h =
     absurd (let n = ap (λ (l : List Entry). length l) w in let m = ap (λ (l : List Entry). length l) (append-nil front) in omega arith)
 peek-in {f} {u} {ds} {j} {left} front (x ∷ more) w p s q a h =
     let r = definition-row (x .under) (x .definition) in
-    let S = select (u .place) (suc j) (rows-of more) in
+    let S = select (u .place) (suc j) (entry-rows more) in
     record {
       entry = x;
       nth = record { front = front; rest = more; whole = w; place = p };
@@ -158,7 +113,7 @@ left-start {s} {f} {u} {ds} p q = record {
   rest = spec-entries (f .specs);
   whole = refl;
   place = refl;
-  selected = ap (select (u .place) 0) (rows-are-specs (f .specs)) ∙ scope-facts p q .scope;
+  selected = ap (select (u .place) 0) (spec-rows (f .specs)) ∙ scope-facts p q .scope;
   stands = q;
   among = λ x h. h;
 }
@@ -179,7 +134,7 @@ left-end no-more l b = refl
 left-end {u = u} {j = j} (define d vs rest) l b =
     let x : Defined = record { definition = d; values = vs } in
     let y : Standing = record { number = d .row; row = definition-row u d } in
-    let h : j ≤ y .number = select-low (u .place) j (rows-of (l .rest)) 0 y (standing u rest) (l .selected) in
+    let h : j ≤ y .number = select-low (u .place) j (entry-rows (l .rest)) 0 y (standing u rest) (l .selected) in
     let k = b x (l .among x this-definition) in
     absurd (omega arith)
 
@@ -214,18 +169,9 @@ contributed-default : (f : File) (x : Defined) (ss : Statements) → among (x .d
 unfolding contributed choose default-entries inner-of
 contributed-default f x ss e = rw e
 
-pub name-at : {s d e o : List ℕ} {z : Sizes} {j : ℕ} {f : File} {x : Defined} (at len : ℕ) → Tables s d e o z f → Attribute f j x → at ≡ getD d (j * 19 + 2) 0 → len ≡ getD d (j * 19 + 3) 0
-    → x .definition .name .bytes ≡ partOf s at len
-name-at {s} at len g a p q = let k = known g a in k .name .bytes ∙ ap₂ (partOf s) (sym (p ∙ k .name-place)) (sym (q ∙ k .name-length))
-
 row-place : {s d e o st : List ℕ} {z : Sizes} {j : ℕ} {f : File} {u : Word} {ds left : Definitions} (g : Given s d e o st z f) (l : Left f u ds j left) (h : j < z .definitions)
     → let p = peek l (let i = g .tables .definitions in omega arith) in getD d (j * 19 + 0) 0 ≡ p .entry .under .place
-unfolding definition-cells
-row-place {d = d} {j = j} {f = f} g l h =
-    let i = g .tables .definitions in
-    let k = g .tables .definitions-fit in
-    let p = peek l (omega arith) in
-    definition-cell f d j 0 (p .entry) (g .tables .in-definitions) (p .nth) (omega arith) (omega arith)
+row-place g l h = let i = g .tables .definitions in under-cell (g .tables) (peek l (omega arith) .nth)
 
 module _ {s d e o st v : List ℕ} {z : Sizes} {j key from till : ℕ} {w : OwnerOf} {n : ℕ} where
   -- Another scope's row.
@@ -253,7 +199,7 @@ module _ {s d e o st v : List ℕ} {z : Sizes} {j key from till : ℕ} {w : Owne
         let t = k .hit (sym (row-place g l h) ∙ c ∙ sym p) in
         let a = attribute l t in
         let y = t .defined in
-        let m = is ss (y .definition .name) b (name-at at len (g .tables) a a₁ a₂) in
+        let m = is ss (y .definition .name) b (name-at (g .tables) a at len a₁ a₂) in
         turn t (wrote-same (contributed-stated f y ss (sym m ∙ eq)) (res f y ss ow g a b own room));
   }
 
@@ -266,7 +212,7 @@ module _ {s d e o st v : List ℕ} {z : Sizes} {j key from till : ℕ} {w : Owne
         let t = k .hit (sym (row-place g l h) ∙ c ∙ sym p) in
         let a = attribute l t in
         let y = t .defined in
-        let m = is ss (y .definition .name) b (name-at at len (g .tables) a a₁ a₂) in
+        let m = is ss (y .definition .name) b (name-at (g .tables) a at len a₁ a₂) in
         turn t (wrote-same (contributed-default f y ss (sym m ∙ eq)) (res f y ow g a own room));
   }
 

@@ -1,39 +1,38 @@
 -- The value of a word, by its code and the attribute's type. Assumes nothing.
 use mathlib.Core.Path.{_≡_, refl, sym, _∙_, ap, subst}
 use mathlib.Core.List.{List, [], _∷_}
-use mathlib.Core.Bool.{Bool, true, false}
+use mathlib.Core.Bool.{true, false}
 use mathlib.Core.Option.{Option, none, some}
 use Prim.Native.Nat.{ℕ, _+_, _-_, _*_, _≤_, _<_}
 use native.Mathlib.Omega.{arith}
 use lib.ListN.{length, getD}
 use lib.Dec.{eqb}
 use lib.Seq.{sets}
+use Rattle.rows.specs.Search.{rowOf}
+use Rattle.token.specs.Find.{bit}
 use Rattle.token.specs.Tokens.{stepAt}
 use Rattle.grammar.specs.Grammar.{Kind}
 use Rattle.rows.specs.declared.Found.{Found}
-use Rattle.rows.specs.declared.Found.the-variants.{At, Nothing}
 use Rattle.meaning.specs.Syntax.{Num, Word, span-of, AttributeType, integer, string, boolean, enum, reference, Values, Defined, Object, File, is-enum}
 use Rattle.meaning.specs.Kinds.{kind-number}
 use Rattle.meaning.specs.Actions.{num-of-step}
 use Rattle.meaning.specs.Scopes.{Sort, a-number, a-string, a-truth, an-auto, a-no-default, a-name, sort-of, Under, find-value, find-object}
 use Rattle.meaning.specs.Resolving.{number, truth, is-true, number-or, row-or, named, valued, take-value, value-row}
 use Rattle.meaning.specs.Resolving.{string as string-value}
-use Rattle.meaning.specs.Cells.{value-sort, value-negative, value-amount, flag, value-cells}
-use Rattle.layout.specs.Kept.{bit, code-of}
+use Rattle.meaning.specs.Cells.{value-sort, value-negative, value-amount, value-cells}
+use Rattle.layout.specs.Kept.{code-of}
 use Rattle.amounts.specs.Known.{InCells}
 use Rattle.scopes.specs.Forms.{Formed, an-integer, a-string, a-boolean, an-enum, a-reference}
 use Rattle.scopes.specs.Forms as forms
 use Rattle.scopes.specs.Promises.{FindsEnumerator, FindsObject, number-found, object-found}
-use Rattle.resolving.specs.declared.Sizes.{Sizes}
+use Rattle.scopes.specs.declared.Sizes.{Sizes}
 use Rattle.resolving.specs.declared.Owner.{Owner as OwnerOf}
 use Rattle.resolving.specs.declared.Held.{Held}
-use Rattle.resolving.specs.Tables.{Tables, Attribute}
+use Rattle.scopes.specs.Given.{Tables, Attribute}
 use Rattle.resolving.specs.Written.{Holds}
 use Rattle.resolving.specs.Promises.{WordAt, NamedValue, ValueOf, PutValue}
-use Rattle.resolving.proofs.Sorts.{sort-coded, tells, name-coded}
-use Rattle.resolving.proofs.Turns.{known}
-use Rattle.resolving.proofs.Entrances.{reached}
-use Rattle.resolving.proofs.Forming.{attribute-formed}
+use Rattle.scopes.proofs.Sorts.{sort-coded, tells, name-coded}
+use Rattle.lookups.proofs.Attributes.{reached, known, formed}
 use Rattle.layout.proofs.Codes.{kind-low, integer-low}
 
 -- Nine cells, one by one.
@@ -41,23 +40,13 @@ nine : {a b c d e f g h i a′ b′ c′ d′ e′ f′ g′ h′ i′ : ℕ} �
     → a ∷ b ∷ c ∷ d ∷ e ∷ f ∷ g ∷ h ∷ i ∷ [] ≡ a′ ∷ b′ ∷ c′ ∷ d′ ∷ e′ ∷ f′ ∷ g′ ∷ h′ ∷ i′ ∷ []
 nine p₁ p₂ p₃ p₄ p₅ p₆ p₇ p₈ p₉ = cc
 
--- The row that was found, or 0.
-unfoldable pub found-or : Found → ℕ
-found-or (At i) = i
-found-or Nothing = 0
-
 abbrev held : ℕ → ℕ → ℕ → Held
 held k n a = record { sort = k; negative = n; amount = a }
-
-bit-flag : (b : Bool) → bit b ≡ flag b
-unfolding bit flag
-bit-flag true = refl
-bit-flag false = refl
 
 -- A number.
 pub holds-number : (y : Num) (n k : ℕ) → InCells y n k → Holds (held 0 n k) (number y)
 unfolding value-sort value-negative value-amount
-holds-number y n k h = record { sort = refl; negative = h .negative ∙ bit-flag (y .negative); amount = h .amount }
+holds-number y n k h = record { sort = refl; negative = h .negative; amount = h .amount }
 
 -- Names ------------------------------------------------------------------------------------------------------------------------------------
 
@@ -87,12 +76,12 @@ typed x vs n (an-enum t c b v) e = an-enumeration t (e ∙ c)
 typed x vs n (a-reference k t c b) e = a-kind k t (e ∙ c)
 
 type-of : {s d e o : List ℕ} {z : Sizes} {j t : ℕ} {f : File} {x : Defined} → t ≡ getD d (j * 19 + 12) 0 → Tables s d e o z f → Attribute f j x → Typed (x .definition .type) t
-type-of {t = t} {x = x} c g a = typed x (x .values) t (attribute-formed (g .situation) a) (c ∙ known g a .type-code)
+type-of {t = t} {x = x} c g a = typed x (x .values) t (formed g a) (c ∙ known g a .type-code)
 
 module _ {s d e o : List ℕ} {z : Sizes} {j at len t : ℕ} (c : t ≡ getD d (j * 19 + 12) 0) where
   -- No enumeration and no reference.
   pub named-string : (t ≡ 41 → ⊥) → (22 ≤ t → 34 < t) → NamedValue s d e o z j at len (held 3 0 0)
-  unfolding value-sort value-negative value-amount flag
+  unfolding value-sort value-negative value-amount bit
   named-string n₁ n₂ f x w g a r = by (type-of c g a)
     where
       by : Typed (x .definition .type) t → Holds (held 3 0 0) (named (x .definition .type) (f .objects) (x .values) w)
@@ -100,13 +89,13 @@ module _ {s d e o : List ℕ} {z : Sizes} {j at len t : ℕ} (c : t ≡ getD d (
       by (an-enumeration h i) = absurd (n₁ i)
       by (a-kind k h i) = let l = kind-low k in let q = n₂ (omega arith) in absurd (omega arith)
 
-  pub named-enumerator : {r : Found} {m : ℕ} → t ≡ 41 → FindsEnumerator s d e (z .enumerators) j at len r → m ≡ found-or r → NamedValue s d e o z j at len (held 4 0 m)
-  unfolding number-found number-or found-or named value-sort value-negative value-amount flag is-enum
+  pub named-enumerator : {r : Found} {m : ℕ} → t ≡ 41 → FindsEnumerator s d e (z .enumerators) j at len r → m ≡ rowOf r → NamedValue s d e o z j at len (held 4 0 m)
+  unfolding number-found number-or rowOf named value-sort value-negative value-amount bit is-enum
   named-enumerator {r} {m} q finds k f x w g a h = by (type-of c g a)
     where
       value-is : (y : Option Under) → r ≡ number-found y → m ≡ number-or y
-      value-is none p = k ∙ ap found-or p
-      value-is (some u) p = k ∙ ap found-or p
+      value-is none p = k ∙ ap rowOf p
+      value-is (some u) p = k ∙ ap rowOf p
 
       holds : x .definition .type ≡ enum → m ≡ number-or (find-value (x .values) w) → Holds (held 4 0 m) (named (x .definition .type) (f .objects) (x .values) w)
       holds p i = subst (λ y. Holds (held 4 0 m) (named y (f .objects) (x .values) w)) (sym p) (record { sort = refl; negative = refl; amount = i })
@@ -118,17 +107,17 @@ module _ {s d e o : List ℕ} {z : Sizes} {j at len t : ℕ} (c : t ≡ getD d (
       by (is-other _ i _) = absurd (i q)
       by (an-enumeration p i) =
           let K = known g a in
-          holds p (value-is (find-value (x .values) w) (finds f x w (g .situation) (g .in-definitions) (g .in-enumerators) (K .row-of) (K .low) (reached (x .values) g) (enum-is p) (h .bytes)))
+          holds p (value-is (find-value (x .values) w) (finds f x w (g .situation) (g .in-definitions) (g .in-enumerators) (K .row-of) (K .low) (reached g (x .values)) (enum-is p) (h .bytes)))
       by (a-kind y p i) = let l = kind-low y in absurd (omega arith)
 
-  pub named-object : {r : Found} {m kind : ℕ} → (t ≡ 41 → ⊥) → 22 ≤ t → t ≤ 34 → kind ≡ t - 22 → FindsObject s o (z .objects) kind at len r → m ≡ found-or r
+  pub named-object : {r : Found} {m kind : ℕ} → (t ≡ 41 → ⊥) → 22 ≤ t → t ≤ 34 → kind ≡ t - 22 → FindsObject s o (z .objects) kind at len r → m ≡ rowOf r
       → NamedValue s d e o z j at len (held 5 0 m)
-  unfolding object-found row-or found-or named value-sort value-negative value-amount flag
+  unfolding object-found row-or rowOf named value-sort value-negative value-amount bit
   named-object {r} {m} {kind} n₁ lo hi e finds k f x w g a h = by (type-of c g a)
     where
       value-is : (y : Option Object) → r ≡ object-found y → m ≡ row-or y
-      value-is none p = k ∙ ap found-or p
-      value-is (some u) p = k ∙ ap found-or p
+      value-is none p = k ∙ ap rowOf p
+      value-is (some u) p = k ∙ ap rowOf p
 
       holds : (y : Kind) → x .definition .type ≡ reference y → m ≡ row-or (find-object y (f .objects) w) → Holds (held 5 0 m) (named (x .definition .type) (f .objects) (x .values) w)
       holds y p i = subst (λ q. Holds (held 5 0 m) (named q (f .objects) (x .values) w)) (sym p) (record { sort = refl; negative = refl; amount = i })
@@ -158,27 +147,27 @@ module _ {s d e o : List ℕ} {z : Sizes} {j at len code : ℕ} where
   value-number {h} c k f x t g a w = by-sort f x t a-number (sort-is w (ap sort-coded c)) (subst (λ y. Holds h (number y)) (sym (w .read .number)) k)
 
   pub value-string : code ≡ 43 → ValueOf s d e o z j at len code (held 3 0 0)
-  unfolding sort-coded valued value-sort value-negative value-amount flag
+  unfolding sort-coded valued value-sort value-negative value-amount bit
   value-string c f x t g a w = by-sort f x t a-string (sort-is w (ap sort-coded c)) (record { sort = refl; negative = refl; amount = refl })
 
   pub value-true : code ≡ 1 → ValueOf s d e o z j at len code (held 1 0 1)
-  unfolding sort-coded valued value-sort value-negative value-amount flag code-of
+  unfolding sort-coded valued value-sort value-negative value-amount bit code-of
   value-true c f x t g a w =
       let b : is-true (t .class) ≡ true = tells (t .class) .truth ∙ ap (λ n. eqb n 1) (w .coded ∙ c) in
-      by-sort f x t a-truth (sort-is w (ap sort-coded c)) (record { sort = refl; negative = refl; amount = sym (ap flag b) })
+      by-sort f x t a-truth (sort-is w (ap sort-coded c)) (record { sort = refl; negative = refl; amount = sym (ap bit b) })
 
   pub value-false : code ≡ 2 → ValueOf s d e o z j at len code (held 1 0 0)
-  unfolding sort-coded valued value-sort value-negative value-amount flag code-of
+  unfolding sort-coded valued value-sort value-negative value-amount bit code-of
   value-false c f x t g a w =
       let b : is-true (t .class) ≡ false = tells (t .class) .truth ∙ ap (λ n. eqb n 1) (w .coded ∙ c) in
-      by-sort f x t a-truth (sort-is w (ap sort-coded c)) (record { sort = refl; negative = refl; amount = sym (ap flag b) })
+      by-sort f x t a-truth (sort-is w (ap sort-coded c)) (record { sort = refl; negative = refl; amount = sym (ap bit b) })
 
   pub value-auto : code ≡ 3 → ValueOf s d e o z j at len code (held 2 0 0)
-  unfolding sort-coded valued value-sort value-negative value-amount flag
+  unfolding sort-coded valued value-sort value-negative value-amount bit
   value-auto c f x t g a w = by-sort f x t an-auto (sort-is w (ap sort-coded c)) (record { sort = refl; negative = refl; amount = refl })
 
   pub value-no-default : code ≡ 4 → ValueOf s d e o z j at len code (held 2 0 0)
-  unfolding sort-coded valued value-sort value-negative value-amount flag
+  unfolding sort-coded valued value-sort value-negative value-amount bit
   value-no-default c f x t g a w = by-sort f x t a-no-default (sort-is w (ap sort-coded c)) (record { sort = refl; negative = refl; amount = refl })
 
   pub value-name : {h : Held} → (code ≡ 42 → ⊥) → (code ≡ 43 → ⊥) → (code ≡ 1 → ⊥) → (code ≡ 2 → ⊥) → (code ≡ 3 → ⊥) → (code ≡ 4 → ⊥)

@@ -1,17 +1,19 @@
 -- What is noted of a text's names before its values are resolved, and which rows a loop over the definitions may pass. Assumes nothing.
 use mathlib.Core.Path.{_≡_}
 use mathlib.Core.List.{List}
-use mathlib.Core.Bool.{Bool, false}
+use mathlib.Core.Bool.{Bool, true, false}
 use Prim.Native.Nat.{ℕ, suc, _+_, _*_, _≤_, _<_}
 use lib.ListN.{length, getD}
 use Rattle.rows.specs.declared.Found.{Found}
 use Rattle.rows.specs.declared.Found.the-variants.{At}
 use Rattle.indexes.specs.Indexing.{Indexed}
 use Rattle.lookups.specs.Ranks.{Ranked}
+use Rattle.lookups.specs.Owners.{Owners}
+use Rattle.sorting.specs.Sorted.{Tells}
 use Rattle.amounts.specs.Known.{KnownDefaults}
 use Rattle.blocks.specs.Blocks.{IsStated}
 use Rattle.scopes.specs.Promises.{FindsEnumerator, FindsWord}
-use Rattle.resolving.specs.declared.Sizes.{Sizes}
+use Rattle.scopes.specs.declared.Sizes.{Sizes}
 
 -- What is noted ----------------------------------------------------------------------------------------------------------------------------
 
@@ -49,11 +51,31 @@ pub record Rooms (d : List ℕ) (z : Sizes) (xd xe xo spare : List ℕ) : Type 0
   pub objects-fit : z .objects ≤ 256
   pub spare-room : length spare ≡ 512
 
+-- Row j has no default that is taken.
+pub data Bare (d : List ℕ) (j : ℕ) : Type 0 where
+  no-default : getD d (j * 19 + 11) 0 ≡ 0 → Bare d j
+  not-taken : getD d (j * 19 + 18) 0 ≡ 4 → Bare d j
+
+-- r is 0 only where row i has none,
+abbrev pub Taken : (d : List ℕ) → (i r : ℕ) → Type 0
+Taken d i r = r ≡ 0 → Bare d i
+
+-- and each of the first n cells of ms is that of its row.
+pub record NotesTaken (d : List ℕ) (n : ℕ) (ms : List ℕ) : Type 0 where
+  pub cell : (i : ℕ) → i < n → Taken d i (getD ms i 0)
+
+-- us has the words under which attributes stand whose default is taken.
+pub record DefaultOwners (d us : List ℕ) : Type 0 where
+  pub marks : List ℕ
+  pub noted : NotesTaken d 512 marks
+  pub owners : Owners d marks us
+
 -- All that is noted.
-pub record Noted (s d e o st : List ℕ) (z : Sizes) (known words xe xo rs rd : List ℕ) : Type 0 where
+pub record Noted (s d e o st : List ℕ) (z : Sizes) (known words xe xo rs rd us : List ℕ) : Type 0 where
   pub defaults : KnownDefaults s d known
   pub indexes : Indexes s d e o z words xe xo
   pub ranks : NamesRanked s d st rs rd
+  pub owners : DefaultOwners d us
 
 -- What the functions promise ---------------------------------------------------------------------------------------------------------------
 
@@ -73,11 +95,6 @@ pub record WordFound (s d e x words : List ℕ) (j at len r : ℕ) : Type 0 wher
 
 -- Rows -------------------------------------------------------------------------------------------------------------------------------------
 
--- Row j has no default that is taken.
-pub data Bare (d : List ℕ) (j : ℕ) : Type 0 where
-  no-default : getD d (j * 19 + 11) 0 ≡ 0 → Bare d j
-  not-taken : getD d (j * 19 + 18) 0 ≡ 4 → Bare d j
-
 -- Row j gives no value: it stands elsewhere, or has no default and is not stated.
 pub data Quiet (s d st : List ℕ) (key from till j : ℕ) : Type 0 where
   elsewhere : (getD d (j * 19 + 0) 0 ≡ key → ⊥) → Quiet s d st key from till j
@@ -89,6 +106,11 @@ pub record Defaults (d : List ℕ) (p : ℕ) (r : Bool) : Type 0 where
 
 pub record Stirs (s d st : List ℕ) (key from till j p : ℕ) (r : Bool) : Type 0 where
   pub quiet : r ≡ false → p ≡ j * 19 → Quiet s d st key from till j
+
+-- Where r says yes, the block is empty, and nothing under the word at key has a default that is taken.
+pub record IsQuiet (us : List ℕ) (key from till : ℕ) (r : Bool) : Type 0 where
+  pub empty : r ≡ true → till ≤ from
+  pub unowned : r ≡ true → Tells us key false
 
 -- The rows from j up to r stand elsewhere.
 pub record Elsewhere (d : List ℕ) (key j r : ℕ) : Type 0 where

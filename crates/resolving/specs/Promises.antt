@@ -1,24 +1,26 @@
 -- What the functions that resolve values promise, for every file whose text and rows these are. Assumes nothing.
 use mathlib.Core.Path.{_≡_}
-use mathlib.Core.List.{List}
+use mathlib.Core.List.{List, _++_}
 use mathlib.Core.Bool.{Bool, true}
 use Prim.Native.Nat.{ℕ, suc, _+_, _*_, _≤_, _<_}
 use lib.ListN.{length, getD}
 use lib.Seq.{sets}
+use Rattle.token.specs.Find.{bit}
 use Rattle.meaning.specs.Syntax.{Word, Definitions, Defined, Statement, Statements, done, state, File, statements-in}
 use Rattle.meaning.specs.Words.{alike}
 use Rattle.meaning.specs.Scopes.{sort-of}
 use Rattle.meaning.specs.Judging.{taken}
 use Rattle.meaning.specs.Resolving.{Resolved, end, resolved, Owner, valued, named, take-value, entries, default-entry, resolve, resolve-under, value-row, all-values}
-use Rattle.meaning.specs.Cells.{value-cells, flag}
+use Rattle.meaning.specs.Cells.{value-cells}
 use Rattle.meaning.proofs.Entries.{joins}
-use Rattle.layout.specs.Kept.{code-of, kind-place}
+use Rattle.meaning.proofs.Standing.{select, standing}
+use Rattle.layout.specs.Kept.{Entry, spec-entries, code-of}
 use Rattle.blocks.specs.Blocks.{BlockAt}
-use Rattle.scopes.specs.Situations.{ReadAt, ScopeAt}
-use Rattle.resolving.specs.declared.Sizes.{Sizes}
+use Rattle.scopes.specs.Situations.{HasDefinition, Stands, ReadAt, ScopeAt}
+use Rattle.scopes.specs.Given.{Tables, Given, Attribute, Below, Places, entry-rows}
+use Rattle.scopes.specs.declared.Sizes.{Sizes}
 use Rattle.resolving.specs.declared.Owner.{Owner as OwnerOf}
 use Rattle.resolving.specs.declared.Held.{Held}
-use Rattle.resolving.specs.Tables.{Tables, Given, Attribute, Below, Left}
 use Rattle.resolving.specs.Written.{Wrote, WroteAll, Owns, Holds}
 
 -- Values -----------------------------------------------------------------------------------------------------------------------------------
@@ -46,7 +48,7 @@ ValueOf s d e o z j at len code r =
 abbrev pub PutValue : (s d e o v : List ℕ) (z : Sizes) (n : ℕ) (w : OwnerOf) (j stated at len code : ℕ) (v′ : List ℕ) → Type 0
 PutValue s d e o v z n w j stated at len code v′ =
     (f : File) (x : Defined) (t : Word) (b : Bool) (ow : Owner) → Tables s d e o z f → Attribute f j x → WordAt s t at len code
-    → Owns w ow → stated ≡ flag b
+    → Owns w ow → stated ≡ bit b
     → v′ ≡ sets v (n * 9) (value-cells (value-row (take-value b (f .objects) (x .definition) (x .values) t) ow))
 
 -- Resolved values --------------------------------------------------------------------------------------------------------------------------
@@ -76,7 +78,7 @@ pub record Room (v : List ℕ) (n : ℕ) : Type 0 where
 abbrev pub Enters : (s d e o st v : List ℕ) (z : Sizes) (j stated at len code from till : ℕ) (w : OwnerOf) (n : ℕ) (v′ : List ℕ) (r : ℕ) → Type 0
 Enters s d e o st v z j stated at len code from till w n v′ r =
     (f : File) (x : Defined) (t : Word) (us : Statements) (b : Bool) (ow : Owner) → Given s d e o st z f → Attribute f j x → WordAt s t at len code
-    → BlockAt s st from till us → Owns w ow → stated ≡ flag b → Room v n → Wrote v n (one-entry b f x t us) ow v′ r
+    → BlockAt s st from till us → Owns w ow → stated ≡ bit b → Room v n → Wrote v n (one-entry b f x t us) ow v′ r
 
 -- The value of the statement of row k, which states the attribute of row j; the statements in its braces are the rows from `inner` up to `next`.
 abbrev pub EntersStated : (s d e o st v : List ℕ) (z : Sizes) (j k inner next : ℕ) (w : OwnerOf) (n : ℕ) (v′ : List ℕ) (r : ℕ) → Type 0
@@ -95,6 +97,16 @@ ResolvesStated s d e o st v z j from till w n v′ r =
 abbrev pub ResolvesDefault : (s d e o st v : List ℕ) (z : Sizes) (j : ℕ) (w : OwnerOf) (n : ℕ) (v′ : List ℕ) (r : ℕ) → Type 0
 ResolvesDefault s d e o st v z j w n v′ r =
     (f : File) (x : Defined) (ow : Owner) → Given s d e o st z f → Attribute f j x → Owns w ow → Room v n → Wrote v n (default-entries f x) ow v′ r
+
+-- A loop over the rows at row j: of the scope ds of the word u the definitions `left` are those from row j on.
+pub record Left (f : File) (u : Word) (ds : Definitions) (j : ℕ) (left : Definitions) : Type 0 where
+  pub front : List Entry
+  pub rest : List Entry
+  pub whole : spec-entries (f .specs) ≡ front ++ rest
+  pub place : length front ≡ j
+  pub selected : select (u .place) j (entry-rows rest) ≡ standing u left
+  pub stands : Stands (f .specs) u ds
+  pub among : (x : Defined) → HasDefinition left x → HasDefinition ds x
 
 -- What row j contributes to a scope, of which the definitions `left` are those from row j on: its values, if it is the first of them, or nothing.
 -- `after` are those from the next row on.
@@ -121,11 +133,7 @@ Resolves s d e o st v z limit key from till w n v′ r =
     (f : File) (ds : Definitions) (ss : Statements) (ow : Owner) → Given s d e o st z f → ScopeAt f key ds → Below limit ds → limit ≤ z .definitions
     → BlockAt s st from till ss → Owns w ow → Room v n → Wrote v n (resolve ds (f .objects) ss) ow v′ r
 
--- The place of each kind's word is in its cell.
-pub record Places (ps : List ℕ) (f : File) : Type 0 where
-  pub places : (k : ℕ) → k < 13 → getD ps k 0 ≡ kind-place k (f .specs)
-
 -- The values of all objects.
 abbrev pub ResolvesAll : (s d e o st v : List ℕ) (z : Sizes) (ps : List ℕ) (v′ : List ℕ) (r : ℕ) → Type 0
 ResolvesAll s d e o st v z ps v′ r =
-    (f : File) → Given s d e o st z f → Places ps f → length v ≡ 18432 → WroteAll v (all-values f (f .objects)) v′ r
+    (f : File) → Given s d e o st z f → Places f ps → length v ≡ 18432 → WroteAll v (all-values f (f .objects)) v′ r

@@ -3,8 +3,9 @@ use mathlib.Core.Path.{_≡_}
 use mathlib.Core.List.{List}
 use Prim.Native.Nat.{ℕ, _+_, _*_, min}
 use lib.Seq.{sets}
+use Rattle.token.specs.Find.{bit}
 use Rattle.meaning.specs.Resolving.{Value, Resolved, Owner, value-rows, how-many-values, all-value-rows, how-many-in-all}
-use Rattle.meaning.specs.Cells.{cells, value-cells, owner-sort, owner-row, value-sort, value-negative, value-amount, flag}
+use Rattle.meaning.specs.Cells.{cells, value-cells, owner-sort, owner-row, value-sort, value-negative, value-amount}
 use Rattle.resolving.specs.declared.Owner.{Owner as OwnerOf}
 use Rattle.resolving.specs.declared.Held.{Held}
 
@@ -26,5 +27,5 @@ pub record Owns (w : OwnerOf) (o : Owner) : Type 0 where
 -- The struct h is the value x.
 pub record Holds (h : Held) (x : Value) : Type 0 where
   pub sort : h .sort ≡ value-sort x
-  pub negative : h .negative ≡ flag (value-negative x)
+  pub negative : h .negative ≡ bit (value-negative x)
   pub amount : h .amount ≡ value-amount x

@@ -1,14 +1,15 @@
 // Resolved values, each followed by what is under it. Each function gives the number of the row behind those that it puts.
 ghost use Rattle.amounts.specs.Known.{KnownDefaults};
 ghost use Rattle.lookups.specs.Ranks.{Firsts};
-ghost use Rattle.resolving.specs.Noted.{Noted, Rooms};
+ghost use Rattle.resolving.specs.Noted.{DefaultOwners, Noted, Rooms};
 ghost use Rattle.resolving.specs.Promises.{Enters, EntersStated, ResolvesStated, ResolvesDefault, ResolvesUnder, Resolves, ResolvesAll};
 use super::Owner;
-use super::Sizes;
 use super::scanning;
 use super::values;
 use super::words;
 use rows::Found;
+use rows::cells;
+use scopes::Sizes;
 
 // The value of the word at a place, of the attribute of row j, and what is under it; the statements in its braces are the rows from one up to
 // another.
@@ -24,6 +25,7 @@ fn enter(
     xo: &[usize],
     rs: &[usize],
     rd: &[usize],
+    owners: &[usize],
     v: &mut [usize],
     z: Sizes,
     j: usize,
@@ -36,7 +38,7 @@ fn enter(
     w: Owner,
     n: usize,
 ) -> usize
-    requires { ⌜ Noted (now text) (now d) (now e) (now o) (now st) z (now known) (now noted) (now xe) (now xo) (now rs) (now rd) ⌝ }
+    requires { ⌜ Noted (now text) (now d) (now e) (now o) (now st) z (now known) (now noted) (now xe) (now xo) (now rs) (now rd) (now owners) ⌝ }
     ensures { λ r. ⌜ Enters (now (text .entry)) (now (d .entry)) (now (e .entry)) (now (o .entry)) (now (st .entry)) (now (v .entry)) z j stated at len code from end w n (now (v .exit)) r ⌝ }
 {
     if 2048 < n {
@@ -74,6 +76,7 @@ fn enter(
         xo,
         rs,
         rd,
+        owners,
         v,
         z,
         j,
@@ -99,6 +102,7 @@ fn enter_stated(
     xo: &[usize],
     rs: &[usize],
     rd: &[usize],
+    owners: &[usize],
     v: &mut [usize],
     z: Sizes,
     j: usize,
@@ -108,12 +112,12 @@ fn enter_stated(
     w: Owner,
     n: usize,
 ) -> usize
-    requires { ⌜ Noted (now text) (now d) (now e) (now o) (now st) z (now known) (now noted) (now xe) (now xo) (now rs) (now rd) ⌝ }
+    requires { ⌜ Noted (now text) (now d) (now e) (now o) (now st) z (now known) (now noted) (now xe) (now xo) (now rs) (now rd) (now owners) ⌝ }
     ensures { λ r. ⌜ EntersStated (now (text .entry)) (now (d .entry)) (now (e .entry)) (now (o .entry)) (now (st .entry)) (now (v .entry)) z j k inner next w n (now (v .exit)) r ⌝ }
 {
-    let at = blocks::cell_at(st, 7, k, 2);
-    let len = blocks::cell_at(st, 7, k, 3);
-    let code = blocks::cell_at(st, 7, k, 4);
+    let at = cells::cell_of(st, 7, k, 2);
+    let len = cells::cell_of(st, 7, k, 3);
+    let code = cells::cell_of(st, 7, k, 4);
     enter(
         text,
         d,
@@ -126,6 +130,7 @@ fn enter_stated(
         xo,
         rs,
         rd,
+        owners,
         v,
         z,
         j,
@@ -153,6 +158,7 @@ fn resolve_stated(
     xo: &[usize],
     rs: &[usize],
     rd: &[usize],
+    owners: &[usize],
     v: &mut [usize],
     z: Sizes,
     j: usize,
@@ -161,7 +167,7 @@ fn resolve_stated(
     w: Owner,
     n: usize,
 ) -> usize
-    requires { ⌜ Noted (now text) (now d) (now e) (now o) (now st) z (now known) (now noted) (now xe) (now xo) (now rs) (now rd) ⌝ }
+    requires { ⌜ Noted (now text) (now d) (now e) (now o) (now st) z (now known) (now noted) (now xe) (now xo) (now rs) (now rd) (now owners) ⌝ }
     ensures { λ r. ⌜ ResolvesStated (now (text .entry)) (now (d .entry)) (now (e .entry)) (now (o .entry)) (now (st .entry)) (now (v .entry)) z j from end w n (now (v .exit)) r ⌝ }
 {
     let mut m = n;
@@ -190,6 +196,7 @@ fn resolve_stated(
             xo,
             rs,
             rd,
+            owners,
             v,
             z,
             j,
@@ -217,24 +224,25 @@ fn resolve_default(
     xo: &[usize],
     rs: &[usize],
     rd: &[usize],
+    owners: &[usize],
     v: &mut [usize],
     z: Sizes,
     j: usize,
     w: Owner,
     n: usize,
 ) -> usize
-    requires { ⌜ Noted (now text) (now d) (now e) (now o) (now st) z (now known) (now noted) (now xe) (now xo) (now rs) (now rd) ⌝ }
+    requires { ⌜ Noted (now text) (now d) (now e) (now o) (now st) z (now known) (now noted) (now xe) (now xo) (now rs) (now rd) (now owners) ⌝ }
     ensures { λ r. ⌜ ResolvesDefault (now (text .entry)) (now (d .entry)) (now (e .entry)) (now (o .entry)) (now (st .entry)) (now (v .entry)) z j w n (now (v .exit)) r ⌝ }
 {
-    let len = blocks::cell_at(d, 19, j, 11);
+    let len = cells::cell_of(d, 19, j, 11);
     if len == 0 {
         return n;
     }
-    let code = blocks::cell_at(d, 19, j, 18);
+    let code = cells::cell_of(d, 19, j, 18);
     if code == 4 {
         return n;
     }
-    let at = blocks::cell_at(d, 19, j, 10);
+    let at = cells::cell_of(d, 19, j, 10);
     enter(
         text,
         d,
@@ -247,6 +255,7 @@ fn resolve_default(
         xo,
         rs,
         rd,
+        owners,
         v,
         z,
         j,
@@ -274,6 +283,7 @@ fn resolve_row(
     xo: &[usize],
     rs: &[usize],
     rd: &[usize],
+    owners: &[usize],
     first: &[usize],
     v: &mut [usize],
     z: Sizes,
@@ -284,7 +294,7 @@ fn resolve_row(
     w: Owner,
     n: usize,
 ) -> usize
-    requires { ⌜ Noted (now text) (now d) (now e) (now o) (now st) z (now known) (now noted) (now xe) (now xo) (now rs) (now rd) × Firsts (now st) (now rs) from end (now first) ⌝ }
+    requires { ⌜ Noted (now text) (now d) (now e) (now o) (now st) z (now known) (now noted) (now xe) (now xo) (now rs) (now rd) (now owners) × Firsts (now st) (now rs) from end (now first) ⌝ }
     ensures { λ r. ⌜ ResolvesUnder (now (text .entry)) (now (d .entry)) (now (e .entry)) (now (o .entry)) (now (st .entry)) (now (v .entry)) z j key from end w n (now (v .exit)) r ⌝ }
 {
     let Found::At(k) = lookups::row_stated(text, d, 19, 2, rd, j, st, rs, first, from, end) else {
@@ -300,6 +310,7 @@ fn resolve_row(
             xo,
             rs,
             rd,
+            owners,
             v,
             z,
             j,
@@ -319,6 +330,7 @@ fn resolve_row(
         xo,
         rs,
         rd,
+        owners,
         v,
         z,
         j,
@@ -342,6 +354,7 @@ pub fn resolve(
     xo: &[usize],
     rs: &[usize],
     rd: &[usize],
+    owners: &[usize],
     v: &mut [usize],
     z: Sizes,
     limit: usize,
@@ -351,7 +364,7 @@ pub fn resolve(
     w: Owner,
     n: usize,
 ) -> usize
-    requires { ⌜ Noted (now text) (now d) (now e) (now o) (now st) z (now known) (now noted) (now xe) (now xo) (now rs) (now rd) ⌝ }
+    requires { ⌜ Noted (now text) (now d) (now e) (now o) (now st) z (now known) (now noted) (now xe) (now xo) (now rs) (now rd) (now owners) ⌝ }
     ensures { λ r. ⌜ Resolves (now (text .entry)) (now (d .entry)) (now (e .entry)) (now (o .entry)) (now (st .entry)) (now (v .entry)) z limit key from end w n (now (v .exit)) r ⌝ }
 {
     if key == 0 {
@@ -361,6 +374,9 @@ pub fn resolve(
         return n;
     }
     if 2048 < n {
+        return n;
+    }
+    if scanning::is_quiet(owners, key, from, end) {
         return n;
     }
     let first = lookups::firsts(st, rs, from, end);
@@ -379,6 +395,7 @@ pub fn resolve(
             xo,
             rs,
             rd,
+            owners,
             &first,
             v,
             z,
@@ -407,23 +424,24 @@ fn resolve_objects(
     xo: &[usize],
     rs: &[usize],
     rd: &[usize],
+    owners: &[usize],
     v: &mut [usize],
     z: Sizes,
     places: [usize; 13],
 ) -> usize
-    requires { ⌜ Noted (now text) (now d) (now e) (now o) (now st) z (now known) (now noted) (now xe) (now xo) (now rs) (now rd) ⌝ }
+    requires { ⌜ Noted (now text) (now d) (now e) (now o) (now st) z (now known) (now noted) (now xe) (now xo) (now rs) (now rd) (now owners) ⌝ }
     ensures { λ r. ⌜ ResolvesAll (now (text .entry)) (now (d .entry)) (now (e .entry)) (now (o .entry)) (now (st .entry)) (now (v .entry)) z places (now (v .exit)) r ⌝ }
 {
     let mut n = 0;
     let mut i = 0;
     while i < z.objects {
-        let kind = blocks::cell_at(o, 9, i, 0);
+        let kind = cells::cell_of(o, 9, i, 0);
         if 13 <= kind {
             return n;
         }
         let key = places[kind];
-        let from = blocks::cell_at(o, 9, i, 7);
-        let end = blocks::cell_at(o, 9, i, 8);
+        let from = cells::cell_of(o, 9, i, 7);
+        let end = cells::cell_of(o, 9, i, 8);
         n = resolve(
             text,
             d,
@@ -436,6 +454,7 @@ fn resolve_objects(
             xo,
             rs,
             rd,
+            owners,
             v,
             z,
             z.definitions,
@@ -464,12 +483,13 @@ fn resolve_noted(
     xo: &mut [usize],
     rs: &mut [usize],
     rd: &mut [usize],
+    owners: &[usize],
     spare: &mut [usize],
     v: &mut [usize],
     z: Sizes,
     places: [usize; 13],
 ) -> usize
-    requires { ⌜ KnownDefaults (now text) (now d) (now known) × Rooms (now d) z (now xd) (now xe) (now xo) (now spare) ⌝ }
+    requires { ⌜ KnownDefaults (now text) (now d) (now known) × DefaultOwners (now d) (now owners) × Rooms (now d) z (now xd) (now xe) (now xo) (now spare) ⌝ }
     ensures { λ r. ⌜ ResolvesAll (now (text .entry)) (now (d .entry)) (now (e .entry)) (now (o .entry)) (now (st .entry)) (now (v .entry)) z places (now (v .exit)) r ⌝ }
 {
     indexes::index(text, d, 19, 0, 2, xd, spare);
@@ -490,6 +510,7 @@ fn resolve_noted(
         xo,
         rs,
         rd,
+        owners,
         v,
         z,
         places,
@@ -530,6 +551,7 @@ pub fn resolve_all(
     let mut rs = [0; 2048];
     let mut rd = [0; 512];
     let mut spare = [0; 512];
+    let owners = scanning::default_owners(d);
     resolve_noted(
         text,
         d,
@@ -543,6 +565,7 @@ pub fn resolve_all(
         &mut xo[..z.objects],
         &mut rs,
         &mut rd,
+        &owners,
         &mut spare,
         v,
         z,

@@ -4,13 +4,6 @@ pub mod scanning;
 pub mod values;
 pub mod words;
 
-// How many rows the tables of definitions, enumerators and objects have.
-pub struct Sizes {
-    pub definitions: usize,
-    pub enumerators: usize,
-    pub objects: usize,
-}
-
 // Whose a value is: an object's, with sort 0, or one that is under another value, with sort 1; by the row.
 pub struct Owner {
     pub sort: usize,

@@ -3,7 +3,54 @@ ghost use mathlib.Core.Path.{_≡_};
 ghost use Prim.Native.Nat.{_+_, _≤_, _<_};
 ghost use lib.ListN.{length};
 ghost use Rattle.lookups.specs.Ranks.{Firsts};
-ghost use Rattle.resolving.specs.Noted.{NamesRanked, Defaults, Stirs, NextUnder, NextRow};
+ghost use Rattle.resolving.specs.Noted.{NamesRanked, Taken, NotesTaken, DefaultOwners, IsQuiet, Defaults, Stirs, NextUnder, NextRow};
+use rows::cells;
+
+// 1 where the attribute of row i has a default that is taken, 0 where it has none.
+fn taken(d: &[usize], i: usize) -> usize
+    ensures { λ r. ⌜ Taken (now (d .entry)) i r ⌝ }
+{
+    if cells::cell_of(d, 19, i, 11) == 0 {
+        return 0;
+    }
+    if cells::cell_of(d, 19, i, 18) == 4 {
+        return 0;
+    }
+    1
+}
+
+// Marks the rows that have such a default, as many rows as there are cells.
+fn note_taken(d: &[usize], marks: &mut [usize])
+    ensures { λ _. ⌜ NotesTaken (now (d .entry)) (length (now (marks .entry))) (now (marks .exit)) ⌝ }
+{
+    let mut i = 0;
+    while i < marks.len() {
+        marks[i] = taken(d, i);
+        i += 1;
+    }
+}
+
+// The words under which attributes with such a default stand, in rising order.
+pub fn default_owners(d: &[usize]) -> [usize; 512]
+    ensures { λ r. ⌜ DefaultOwners (now (d .entry)) r ⌝ }
+{
+    let mut marks = [0; 512];
+    note_taken(d, &mut marks);
+    lookups::owners::owners(d, &marks)
+}
+
+// Whether a block is empty, and no attribute under the word at key has a default that is taken.
+pub fn is_quiet(owners: &[usize], key: usize, from: usize, end: usize) -> bool
+    ensures { λ r. ⌜ IsQuiet (now (owners .entry)) key from end r ⌝ }
+{
+    if from < end {
+        return false;
+    }
+    if sorting::has(owners, key) {
+        return false;
+    }
+    true
+}
 
 // Whether the attribute whose cells begin at p has a default that is taken.
 fn has_default(d: &[usize], p: usize) -> bool

@@ -10,11 +10,11 @@ ghost use Rattle.resolving.specs.Promises.{NamedValue, ValueOf, PutValue
 ghost use Rattle.resolving.specs.Noted.{Indexes};
 use super::Held;
 use super::Owner;
-use super::Sizes;
 use super::words;
 use amounts::defaults;
 use rows::Found;
 use rows::cells;
+use scopes::Sizes;
 
 // The number at a place, of the attribute of row j.
 fn number_value(text: &[u8], d: &[usize], known: &[usize], j: usize, at: usize) -> Held
@@ -46,7 +46,7 @@ fn named_value(
     requires { ⌜ Indexes (now text) (now d) (now e) (now o) z (now noted) (now xe) (now xo) ⌝ }
     ensures { λ r. ⌜ NamedValue (now (text .entry)) (now (d .entry)) (now (e .entry)) (now (o .entry)) z j at len r ⌝ }
 {
-    let t = blocks::cell_at(d, 19, j, 12);
+    let t = cells::cell_of(d, 19, j, 12);
     if t == 41 {
         let Found::At(i) = words::enumerator_of(text, d, e, xe, noted, j, at, len) else {
             return Held {

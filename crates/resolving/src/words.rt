@@ -8,8 +8,8 @@ use rows::cells;
 fn note_word(text: &[u8], d: &[usize], e: &[usize], x: &[usize], j: usize) -> usize
     ensures { λ r. ⌜ NotesWord (now (text .entry)) (now (d .entry)) (now (e .entry)) (now (x .entry)) j r ⌝ }
 {
-    let at = blocks::cell_at(d, 19, j, 10);
-    let len = blocks::cell_at(d, 19, j, 11);
+    let at = cells::cell_of(d, 19, j, 10);
+    let len = cells::cell_of(d, 19, j, 11);
     let Found::At(i) = lookups::find_enumerator(text, d, e, x, j, at, len) else {
         return 0;
     };
@@ -47,10 +47,10 @@ pub fn enumerator_of(
     if c == 0 {
         return lookups::find_enumerator(text, d, e, x, j, at, len);
     }
-    if blocks::cell_at(d, 19, j, 10) != at {
+    if cells::cell_of(d, 19, j, 10) != at {
         return lookups::find_enumerator(text, d, e, x, j, at, len);
     }
-    if blocks::cell_at(d, 19, j, 11) != len {
+    if cells::cell_of(d, 19, j, 11) != len {
         return lookups::find_enumerator(text, d, e, x, j, at, len);
     }
     Found::At(c - 1)
@@ -69,11 +69,11 @@ pub fn word_of(
 ) -> usize
     ensures { λ r. ⌜ WordFound (now (text .entry)) (now (d .entry)) (now (e .entry)) (now (x .entry)) (now (words .entry)) j at len r ⌝ }
 {
-    if blocks::cell_at(d, 19, j, 12) != 41 {
+    if cells::cell_of(d, 19, j, 12) != 41 {
         return lookups::word_under(text, d, e, x, j, at, len);
     }
     let Found::At(i) = enumerator_of(text, d, e, x, words, j, at, len) else {
         return 0;
     };
-    blocks::cell_at(e, 3, i, 1)
+    cells::cell_of(e, 3, i, 1)
 }

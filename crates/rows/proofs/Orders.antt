@@ -8,10 +8,13 @@ use mathlib.Core.List.{List, [], _∷_, _++_}
 use mathlib.Core.Logic.{_⊎_, inl, inr, ⊎-elim}
 use native.Mathlib.Omega.{arith}
 use native.Mathlib.Decide.{ℕ-discrete, decLt, decLe}
-use lib.Dec.{ltb}
-use borrow.Author.Tests.{lt-ltb, le-ltb, eq-eqb, ne-eqb}
+use lib.Dec.{ltb, eqb}
+use borrow.Author.Tests.{lt-ltb, le-ltb, eq-eqb, ne-eqb, eqb-true, eqb-false, not-true, not-false}
 use Rattle.token.specs.Find.{pick, either}
 use Rattle.rows.specs.declared.Fault.{Fault}
+use Rattle.rows.specs.declared.Found.{Found}
+use Rattle.rows.specs.declared.Found.the-variants.{At, Nothing}
+use Rattle.rows.specs.Search.{isFound}
 use Rattle.rows.specs.Order.{none, isFault, before, sooner, soonest, faultIf}
 
 -- the cases of `before`
@@ -75,6 +78,14 @@ is-fault-none a e = rw (eq-eqb (a .number) 0 e)
 is-fault-any : (a : Fault) → 0 < a .number → isFault a ≡ true
 unfolding isFault
 is-fault-any a h = rw (ne-eqb (a .number) 0 (λ e. omega arith))
+
+pub is-one : (f : Fault) → isFault f ≡ true → f .number ≡ 0 → ⊥
+unfolding isFault
+is-one f e = eqb-false (f .number) 0 (not-true (eqb (f .number) 0) e)
+
+pub is-none : (f : Fault) → isFault f ≡ false → f .number ≡ 0
+unfolding isFault
+is-none f e = eqb-true (f .number) 0 (not-false (eqb (f .number) 0) e)
 
 either-comm : (a b : Bool) → either a b ≡ either b a
 either-comm true true = refl
@@ -243,3 +254,12 @@ module _ (t : Bool) (n p : ℕ) where
   pub fault-if-false : t ≡ false → faultIf t n p ≡ none
   unfolding faultIf
   fault-if-false e = rw e
+
+-- the fault where something was found, and where nothing was
+pub found-some : (z : Found) (i n p : ℕ) → z ≡ At i → record { number = n; place = p } ≡ faultIf (isFound z) n p
+unfolding faultIf
+found-some z i n p e = sym (ap (λ (y : Found). faultIf (isFound y) n p) e)
+
+pub found-none : (z : Found) (n p : ℕ) → z ≡ Nothing → record { number = 0; place = 0 } ≡ faultIf (isFound z) n p
+unfolding faultIf
+found-none z n p e = sym (ap (λ (y : Found). faultIf (isFound y) n p) e)

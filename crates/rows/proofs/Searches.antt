@@ -17,7 +17,7 @@ use Rattle.token.proofs.Find.{find-past, find-here, find-next, find-low, find-h
 use Rattle.rows.specs.declared.Found.{Found}
 use Rattle.rows.specs.declared.Found.the-variants.{At, Nothing}
 use Rattle.rows.specs.Table.{first, anyOf}
-use Rattle.rows.specs.Search.{foundBelow, findFrom, hasKey, isNamed, findRow, findNamed, isFound, IsFirst, FirstOf}
+use Rattle.rows.specs.Search.{foundBelow, findFrom, hasKey, isNamed, findRow, findNamed, isFound, IsFirst, FirstOf, rowOf}
 use Rattle.rows.proofs.Starts.{cell-start, cell-column}
 
 -- a loop at row i: what is left decides the whole
@@ -36,10 +36,6 @@ module _ (t : ℕ → Bool) (n i : ℕ) where
   find-end h = rw (find-past t n i h, le-ltb i n h)
 
 -- what is found is the first, and nothing means none
-
-rowOf : Found → ℕ
-rowOf (At j) = j
-rowOf Nothing = 0
 
 module _ (t : ℕ → Bool) (n i : ℕ) where
   is-first : find t n i < n → IsFirst t n i (find t n i)

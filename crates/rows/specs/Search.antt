@@ -42,6 +42,11 @@ abbrev pub isFound : Found → Bool
 isFound (At i) = true
 isFound Nothing = false
 
+-- the row that was found, 0 for none
+unfoldable pub rowOf : Found → ℕ
+rowOf (At i) = i
+rowOf Nothing = 0
+
 -- j is the first from i on, below n, for which t holds
 pub record IsFirst (t : ℕ → Bool) (n i j : ℕ) : Type 0 where
   pub low : i ≤ j

@@ -42,6 +42,16 @@ pub fn get(t: &[usize], at: usize) -> usize
     0
 }
 
+// The smaller of two.
+pub fn least_of(a: usize, b: usize) -> usize
+    ensures { λ r. ⌜ r ≡ min a b ⌝ }
+{
+    if a < b {
+        return a;
+    }
+    b
+}
+
 // A column of the row that begins at a place.
 pub fn cell(t: &[usize], at: usize, column: usize) -> usize
     ensures { λ r. ⌜ r ≡ getD (now (t .entry)) (at + column) 0 ⌝ }
@@ -66,6 +76,14 @@ pub fn row_start(end: usize, width: usize, row: usize) -> usize
         return end;
     }
     row * width
+}
+
+// A column of row `row`.
+pub fn cell_of(t: &[usize], width: usize, row: usize, column: usize) -> usize
+    ensures { λ r. ⌜ r ≡ getD (now (t .entry)) (row * width + column) 0 ⌝ }
+{
+    let start = row_start(t.len(), width, row);
+    cell(t, start, column)
 }
 
 // The place so many cells after a place, or the end where it is past it.

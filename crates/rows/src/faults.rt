@@ -1,7 +1,9 @@
 // The fault that answers among many, by value: the leftmost place, then the smaller number.
 ghost use mathlib.Core.Path.{_≡_};
 ghost use Rattle.rows.specs.Order.{isFault, before, sooner, faultIf};
+ghost use Rattle.rows.specs.Search.{isFound};
 use super::Fault;
+use super::Found;
 
 // Whether there is a fault.
 pub fn is_fault(f: Fault) -> bool
@@ -52,5 +54,21 @@ pub fn fault_if(test: bool, number: u8, place: usize) -> Fault
     Fault {
         number: 0,
         place: 0,
+    }
+}
+
+// The fault, if something was found.
+pub fn fault_found(found: Found, number: u8, place: usize) -> Fault
+    ensures { λ r. ⌜ r ≡ faultIf (isFound found) number place ⌝ }
+{
+    match found {
+        Found::At(_) => Fault {
+            number: number,
+            place: place,
+        },
+        Found::Nothing => Fault {
+            number: 0,
+            place: 0,
+        },
     }
 }

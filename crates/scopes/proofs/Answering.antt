@@ -8,6 +8,7 @@ use native.Mathlib.Omega.{arith}
 use lib.ListN.{length, getD}
 use lib.Dec.{eqb}
 use borrow.Author.Tests.{ne-eqb}
+use Rattle.meaning.specs.Places.{if-there}
 use Rattle.token.specs.Find.{pick, both}
 use Rattle.token.specs.Words.{same}
 use Rattle.token.specs.Tokens.{partOf}
@@ -26,9 +27,10 @@ use Rattle.meaning.specs.Defining.{DefinitionRow, definition-row, definition-ro
 use Rattle.meaning.proofs.Sites.{definition-words, statement-words, object-words}
 use Rattle.meaning.proofs.Numbering.{Counts, object-numbers}
 use Rattle.meaning.proofs.Standing.{Standing, standing-if, select, counts-head, counts-tail}
-use Rattle.meaning.proofs.Lookups.{InText, map-option, first-standing, row-under, finds-definition}
+use Rattle.meaning.proofs.Lookups.{InText, first-standing, row-under, finds-definition}
 use Rattle.layout.specs.Kept.{Entry, list-key, entries, entries-under, spec-entries, spec-choices, kept-enumerators, choice-cells}
 use Rattle.scopes.specs.Situations.{Situation, ScopeAt, no-scope, scope, Reached}
+use Rattle.scopes.specs.Given.{entry-rows}
 use Rattle.scopes.specs.Forms.{Some, Formed, an-integer, a-string, a-boolean, an-enum, a-reference}
 use Rattle.scopes.specs.Promises.{row-found, number-found, object-found, FindsDefinition, FindsObject}
 use Rattle.scopes.proofs.Goodness.{Good, Goods, good-back, object-good}
@@ -38,11 +40,6 @@ use Rattle.scopes.proofs.Lists.{chosen}
 use Rattle.scopes.proofs.Descents.{In, here, there, whole, entry-facts, scope-facts}
 
 -- Definitions --------------------------------------------------------------------------------------------------------------------------------
-
--- The rows of entries are those of the public table.
-unfoldable pub entry-rows : List Entry → List DefinitionRow
-entry-rows [] = []
-entry-rows (x ∷ xs) = definition-row (x .under) (x .definition) ∷ entry-rows xs
 
 rows-append : (a b : List Entry) → entry-rows (a ++ b) ≡ entry-rows a ++ entry-rows b
 unfolding entry-rows
@@ -94,8 +91,8 @@ search-rows s key at len t q i (x ∷ E) g =
         pick-it true = refl
         pick-it false = e
 
-found-standing : (u : Word) (o : Option Defined) → standing-found (map-option (row-under u) o) ≡ row-found o
-unfolding standing-found map-option row-under row-found
+found-standing : (u : Word) (o : Option Defined) → standing-found (if-there (row-under u) o) ≡ row-found o
+unfolding standing-found if-there row-under row-found
 found-standing u none = refl
 found-standing u (some x) = refl
 

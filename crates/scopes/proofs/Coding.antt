@@ -7,6 +7,7 @@ use native.Mathlib.Omega.{arith}
 use lib.ListN.{getD}
 use lib.Dec.{eqb, ltb}
 use borrow.Author.Tests.{eqb-true, ltb-true}
+use Rattle.meaning.specs.Cells.{integer-code}
 use Rattle.token.specs.Find.{pick, both}
 use Rattle.token.specs.declared.Sort.{Sort}
 use Rattle.token.specs.declared.Sort.the-variants.{Word as WordToken, Number, String, Punctuator}
@@ -16,7 +17,7 @@ use Rattle.grammar.specs.Grammar.{Class, Given, Sign, Token, ordinary, numeral,
 use Rattle.grammar.specs.Terminals.{words, signOf, classOf, tokenOf}
 use Rattle.meaning.specs.Kinds.{kind-number}
 use Rattle.meaning.specs.Actions.{kind-of, integer-of}
-use Rattle.layout.specs.Kept.{class-number, given-number, integer-number}
+use Rattle.layout.specs.Kept.{class-number, given-number}
 use Rattle.scopes.specs.declared.Item.{Item}
 use Rattle.scopes.specs.Items.{itemOf}
 use Rattle.scopes.specs.Ranges.{SignAt}
@@ -84,7 +85,7 @@ pub given-is : (g : Given) (c : Class) → matches (the g) c ≡ true → class-
 unfolding matches
 given-is g c m = by-code g c (eqb-true (given-code g) (code c) m)
 
-integer-by : (c : Class) → 5 ≡ code c → class-number c ≡ 35 + integer-number (integer-of c)
+integer-by : (c : Class) → 5 ≡ code c → class-number c ≡ integer-code (integer-of c)
 unfolding code class-number integer-of
 integer-by ordinary e = absurd (omega arith)
 integer-by numeral e = absurd (omega arith)
@@ -96,7 +97,7 @@ integer-by (integer-word i) e = refl
 integer-by (word h) e = let a = given-low h in absurd (omega arith)
 integer-by (sign x) e = let b = sign-low x in absurd (omega arith)
 
-pub integer-is : (c : Class) → matches integer c ≡ true → class-number c ≡ 35 + integer-number (integer-of c)
+pub integer-is : (c : Class) → matches integer c ≡ true → class-number c ≡ integer-code (integer-of c)
 unfolding matches
 integer-is c m = integer-by c (eqb-true 5 (code c) m)
 

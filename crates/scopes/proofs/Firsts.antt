@@ -9,6 +9,7 @@ use Prim.Native.Nat.{ℕ, _<_}
 use native.Mathlib.Omega.{arith}
 use lib.ListN.{length}
 use borrow.Author.Tests.{lt-ltb, le-ltb}
+use Rattle.meaning.proofs.Numbered.{Numbered, no-fault, a-fault, NumberedOne}
 use Rattle.token.specs.Find.{pick}
 use Rattle.rows.specs.declared.Fault.{Fault as Code}
 use Rattle.rows.specs.Order as order
@@ -130,6 +131,12 @@ real-append a b p q g m = ⊎-elim (λ n. p g n) (λ n. q g n) (has-split a b m)
 pub real-if : (b : Bool) (t : Word) (n : ℕ) → 0 < n → Real (fault-if b t n)
 real-if b t n h g m = let e = in-if b t n m .1 in let k : n ≡ g .number = ap (λ (x : Fault). x .number) e in omega (arith, k)
 
+-- Those of the stages have none.
+pub real : {l : List Fault} → Numbered l → Real l
+real no-fault g m = absurd (has-none m)
+real (a-fault h p) g (here e) = let k = ap (λ (x : Fault). x .number) e in omega (arith, h, k)
+real (a-fault h p) g (there m) = real p g m
+
 abbrev Positive : Option Fault → Type 0
 Positive none = Unit {0}
 Positive (some a) = 0 < a .number
@@ -171,6 +178,15 @@ pub fault-one : (b : Bool) (t : Word) (n : ℕ) → fault-of (first (fault-if b 
 unfolding fault-if first sooner fault-of order.faultIf
 fault-one true t n = refl
 fault-one false t n = refl
+
+pub fault-at : (b : Bool) (t : Word) (n p : ℕ) → t .place ≡ p → order.faultIf b n p ≡ fault-of (first (fault-if b t n))
+fault-at b t n p e = ap (order.faultIf b n) (sym e) ∙ sym (fault-one b t n)
+
+-- A struct of number 0 is none.
+pub none-there : (o : Option Fault) → NumberedOne o → fault-of o .number ≡ 0 → o ≡ none
+unfolding fault-of
+none-there none h e = refl
+none-there (some x) h e = absurd (omega arith)
 
 -- Rows ---------------------------------------------------------------------------------------------------------------------------------------
 

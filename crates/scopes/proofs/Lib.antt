@@ -8,6 +8,7 @@ pub mod Lists
 pub mod Descents
 pub mod Answering
 pub mod Deciding
+pub mod Sorts
 pub mod Taking
 pub mod Ranging
 pub mod Firsts

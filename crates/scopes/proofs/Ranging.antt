@@ -17,7 +17,7 @@ use Rattle.token.proofs.Steps.{found-fits, bad-fits, end-fits}
 use Rattle.token.proofs.Bytes.{either-true}
 use Rattle.grammar.specs.Grammar.{Integer}
 use Rattle.rows.specs.declared.Fault.{Fault}
-use Rattle.rows.specs.Order.{faultIf}
+use Rattle.rows.specs.Order.{faultIf, none as no-fault}
 use Rattle.meaning.specs.Syntax.{Num, Word, Bounds, from-to, one-of}
 use Rattle.meaning.specs.Words.{at-most, equal, in-type, in-bounds, among-numbers}
 use Rattle.meaning.specs.Faults.{Fault as Refusal, fault-if, ahead, sooner, first}
@@ -301,9 +301,6 @@ pub record LeftOut (s : List ℕ) (i : Integer) (at : ℕ) (ws : List Word) : Ty
 
 abbrev pub SeekingOut : List ℕ → Integer → (from at : ℕ) → Type 0
 SeekingOut s i from at = (ws : List Word) → Listed s from ws → LeftOut s i at ws
-
-abbrev pub no-fault : Fault
-no-fault = record { number = 0; place = 0 }
 
 module _ (s : List ℕ) (i : Integer) (from : ℕ) where
   pub out-start : SeekingOut s i from from

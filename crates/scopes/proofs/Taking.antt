@@ -8,33 +8,34 @@ use native.Mathlib.Omega.{arith}
 use lib.ListN.{length, getD}
 use lib.Dec.{eqb}
 use borrow.Author.Tests.{eq-eqb, ne-eqb}
-use Rattle.token.specs.Find.{pick, both}
+use Rattle.meaning.specs.Cells.{integer-code}
+use Rattle.token.specs.Find.{pick, both, bit, is-there}
 use Rattle.token.specs.Words.{same}
 use Rattle.token.specs.Tokens.{stepAt, partOf}
-use Rattle.grammar.specs.Grammar.{Class, Kind, Integer, ordinary, numeral, quoted, other, kind-word, type-word, integer-word, word, sign, UINT32, INT32, UINT64, INT64, OS, APPMODE, TASK, ISR, COUNTER, ALARM, RESOURCE, EVENT, COM, MESSAGE, NETWORKMESSAGE, IPDU, NM, OIL-VERSION, IMPLEMENTATION, CPU, STRING, BOOLEAN, ENUM, TRUE, FALSE, AUTO, NO-DEFAULT, WITH-AUTO, lbrace, rbrace, lsquare, rsquare, equals, semicolon, colon, comma, dots}
+use Rattle.grammar.specs.Grammar.{Integer, UINT32, INT32, UINT64, INT64}
 use Rattle.rows.specs.declared.Fault.{Fault}
 use Rattle.rows.specs.declared.Found.{Found}
 use Rattle.rows.specs.declared.Found.the-variants.{At, Nothing}
 use Rattle.rows.specs.Search.{findNamed, isFound}
-use Rattle.meaning.specs.Kinds.{kind-number}
 use Rattle.meaning.specs.Faults.{first}
 use Rattle.meaning.specs.Syntax.{Num, Word, AttributeType, boolean, Definition, Values, no-value, value, Defined, File, is-enum}
 use Rattle.meaning.specs.Actions.{num-of-step}
 use Rattle.meaning.specs.Words.{alike, in-type, in-bounds}
-use Rattle.meaning.specs.Scopes.{Under, find-value, is-there, Sort, a-number, a-truth, an-auto, a-no-default, a-name, sort-of, sort-of-word, is-string, is-boolean, fits-number, fits-as, fits, a-string as string-sort}
+use Rattle.meaning.specs.Scopes.{Under, find-value, Sort, a-number, a-truth, an-auto, a-no-default, a-name, is-string, is-boolean, fits-number, fits-as, fits, a-string as string-sort}
 use Rattle.meaning.specs.Defining.{range-faults, bound-faults}
 use Rattle.meaning.proofs.Sites.{value-words, definition-words}
-use Rattle.layout.specs.Kept.{Entry, list-key, truth-cells, default-code, definition-cells, code-of, class-number, given-number, sign-number, bit, integer-number, kept-definitions}
+use Rattle.layout.specs.Kept.{Entry, list-key, truth-cells, default-code, definition-cells, code-of, kept-definitions}
 use Rattle.layout.proofs.Codes.{kind-low, integer-low}
 use Rattle.scopes.specs.Items.{integer-coded}
 use Rattle.scopes.specs.Situations.{Situation, RowOf}
 use Rattle.scopes.specs.Ranges.{RangeAt}
 use Rattle.scopes.specs.Forms.{Truths, no-truths, both-truths, Formed, an-integer, a-string, a-boolean, an-enum, a-reference}
-use Rattle.scopes.specs.Promises.{fault-of, InRange, BoundFault, number-found, place-found, FindsEnumerator, FindsWord, FindsTruth, TakesNumber, Takes, RangeFault}
+use Rattle.scopes.specs.Promises.{fault-of, InRange, BoundFault, number-found, place-found, FindsEnumerator, FindsWord, FindsTruth, TakesNumber, TakesUnder, TakesWord, RangeFault}
 use Rattle.scopes.proofs.Goodness.{Good, Goods, good-back}
 use Rattle.scopes.proofs.Rooms.{definition-cell}
 use Rattle.scopes.proofs.Descents.{nth-in, entry-facts, DefinitionFacts, found-value, value-word}
 use Rattle.scopes.proofs.Answering.{in-list, word-in-list}
+use Rattle.scopes.proofs.Sorts.{sort-coded, tells, name-coded}
 
 -- Cells of a row ----------------------------------------------------------------------------------------------------------------------------
 
@@ -76,8 +77,8 @@ row-facts k r = entry-facts k (nth-in (r .nth)) .facts
 
 -- Codes and types ---------------------------------------------------------------------------------------------------------------------------
 
-coded : (i : Integer) → integer-coded (35 + integer-number i) ≡ i
-unfolding integer-coded integer-number
+coded : (i : Integer) → integer-coded (integer-code i) ≡ i
+unfolding integer-coded integer-code
 coded UINT32 = refl
 coded INT32 = refl
 coded UINT64 = refl
@@ -243,7 +244,7 @@ module _ (s d e : List ℕ) (m j at len c : ℕ) (h : c ≡ getD d (j * 19 + 12)
 module _ {s : List ℕ} {d : Definition} (n : Num) where
   fits-below : {vs : Values} → Formed s d vs → code-of (d .word) < 35 → false ≡ fits-number (d .type) (d .bounds) n
   unfolding fits-number
-  fits-below (an-integer i t c r) h = absurd (omega arith)
+  fits-below (an-integer i t c r) h = let a = integer-low i in absurd (omega arith)
   fits-below (a-string t c b) h = absurd (omega arith)
   fits-below (a-boolean t c b v) h = absurd (omega arith)
   fits-below (an-enum t c b v) h = absurd (omega arith)
@@ -293,144 +294,72 @@ module _ (s d : List ℕ) (j at c : ℕ) (h : c ≡ getD d (j * 19 + 12) 0) wher
 
 -- Words -------------------------------------------------------------------------------------------------------------------------------------
 
--- The sort of a word by its code.
-unfoldable sort-coded : ℕ → Sort
-sort-coded c =
-    pick (eqb c 42) a-number (pick (eqb c 3) an-auto (pick (eqb c 4) a-no-default (pick (eqb c 43) string-sort (pick (eqb c 1) a-truth (pick (eqb c 2) a-truth a-name)))))
-
-kind-sort : (k : Kind) → sort-coded (9 + kind-number k) ≡ a-name
-unfolding sort-coded kind-number
-kind-sort OS = refl
-kind-sort APPMODE = refl
-kind-sort TASK = refl
-kind-sort ISR = refl
-kind-sort COUNTER = refl
-kind-sort ALARM = refl
-kind-sort RESOURCE = refl
-kind-sort EVENT = refl
-kind-sort COM = refl
-kind-sort MESSAGE = refl
-kind-sort NETWORKMESSAGE = refl
-kind-sort IPDU = refl
-kind-sort NM = refl
-
-type-sort : (k : Kind) → sort-coded (22 + kind-number k) ≡ a-name
-unfolding sort-coded kind-number
-type-sort OS = refl
-type-sort APPMODE = refl
-type-sort TASK = refl
-type-sort ISR = refl
-type-sort COUNTER = refl
-type-sort ALARM = refl
-type-sort RESOURCE = refl
-type-sort EVENT = refl
-type-sort COM = refl
-type-sort MESSAGE = refl
-type-sort NETWORKMESSAGE = refl
-type-sort IPDU = refl
-type-sort NM = refl
-
-sort-is : (c : Class) → sort-coded (class-number c) ≡ sort-of c
-unfolding sort-coded class-number sort-of sort-of-word given-number sign-number integer-number
-sort-is ordinary = refl
-sort-is numeral = refl
-sort-is quoted = refl
-sort-is other = refl
-sort-is (kind-word k) = kind-sort k
-sort-is (type-word k) = type-sort k
-sort-is (integer-word UINT32) = refl
-sort-is (integer-word INT32) = refl
-sort-is (integer-word UINT64) = refl
-sort-is (integer-word INT64) = refl
-sort-is (word OIL-VERSION) = refl
-sort-is (word IMPLEMENTATION) = refl
-sort-is (word CPU) = refl
-sort-is (word STRING) = refl
-sort-is (word BOOLEAN) = refl
-sort-is (word ENUM) = refl
-sort-is (word TRUE) = refl
-sort-is (word FALSE) = refl
-sort-is (word AUTO) = refl
-sort-is (word NO-DEFAULT) = refl
-sort-is (word WITH-AUTO) = refl
-sort-is (sign lbrace) = refl
-sort-is (sign rbrace) = refl
-sort-is (sign lsquare) = refl
-sort-is (sign rsquare) = refl
-sort-is (sign equals) = refl
-sort-is (sign semicolon) = refl
-sort-is (sign colon) = refl
-sort-is (sign comma) = refl
-sort-is (sign dots) = refl
-
 of-sort : (x : Definition) (vs : Values) (t : Word) (code : ℕ) (k : Sort) (r : Bool) → code-of t ≡ code → sort-coded code ≡ k → r ≡ fits-as k x vs t → r ≡ fits x vs t
 unfolding fits code-of
-of-sort x vs t code k r e h q = q ∙ ap (λ y. fits-as y x vs t) (sym h ∙ ap sort-coded (sym e) ∙ sort-is (t .class))
+of-sort x vs t code k r e h q = q ∙ ap (λ y. fits-as y x vs t) (sym h ∙ ap sort-coded (sym e) ∙ sym (tells (t .class) .sort))
 
 bit-test : (b : Bool) (n : ℕ) → n ≡ bit b → eqb n 1 ≡ b
 unfolding bit
 bit-test true n e = eq-eqb n 1 e
 bit-test false n e = ne-eqb n 1 (λ z. omega arith)
 
-module _ (s d e : List ℕ) (m j at len code : ℕ) where
-  pub takes-42 : (r : Bool) → code ≡ 42 → TakesNumber s d j at r → Takes s d e m j at len code r
+pub takes-42 : (s d : List ℕ) (j at code u : ℕ) (r : Bool) → code ≡ 42 → TakesNumber s d j at r → TakesUnder s d j at code u r
+unfolding fits-as sort-coded
+takes-42 s d j at code u r k g e m len w f x t st hd he row l rch rd c =
+    of-sort (x .definition) (x .values) t code a-number r c (rw k) (g f x st hd row l ∙ ap (fits-number (x .definition .type) (x .definition .bounds)) (sym (rd .number)))
+
+module _ (d : List ℕ) (j code u : ℕ) where
+  pub takes-3 : (a : ℕ) → code ≡ 3 → a ≡ getD d (j * 19 + 7) 0 → TakesWord d j code u (eqb a 1)
   unfolding fits-as sort-coded
-  takes-42 r k g f x t st hd he row l rch rd c =
-      of-sort (x .definition) (x .values) t code a-number r c (rw k) (g f x st hd row l ∙ ap (fits-number (x .definition .type) (x .definition .bounds)) (sym (rd .number)))
+  takes-3 a k h n₁ s at e m len w f x t st hd he row l rch rd c =
+      of-sort (x .definition) (x .values) t code an-auto (eqb a 1) c (rw k) (bit-test (x .definition .auto) a (h ∙ auto-cell f d j x hd row l))
 
-  module _ (n₁ : code ≡ 42 → ⊥) where
-    pub takes-3 : (a : ℕ) → code ≡ 3 → a ≡ getD d (j * 19 + 7) 0 → Takes s d e m j at len code (eqb a 1)
+  pub takes-4 : code ≡ 4 → TakesWord d j code u false
+  unfolding fits-as sort-coded
+  takes-4 k n₁ s at e m len w f x t st hd he row l rch rd c = of-sort (x .definition) (x .values) t code a-no-default false c (rw k) refl
+
+  module _ (y : ℕ) (h : y ≡ getD d (j * 19 + 12) 0) where
+    pub takes-43 : code ≡ 43 → TakesWord d j code u (eqb y 39)
     unfolding fits-as sort-coded
-    takes-3 a k h f x t st hd he row l rch rd c =
-        of-sort (x .definition) (x .values) t code an-auto (eqb a 1) c (rw k) (bit-test (x .definition .auto) a (h ∙ auto-cell f d j x hd row l))
+    takes-43 k n₁ s at e m len w f x t st hd he row l rch rd c =
+        of-sort (x .definition) (x .values) t code string-sort (eqb y 39) c (rw k) (ap (λ n. eqb n 39) (h ∙ code-cell f d j x hd row l) ∙ string-test (row-facts st row .formed))
 
-    pub takes-4 : code ≡ 4 → Takes s d e m j at len code false
+    pub takes-1 : code ≡ 1 → TakesWord d j code u (eqb y 40)
     unfolding fits-as sort-coded
-    takes-4 k f x t st hd he row l rch rd c = of-sort (x .definition) (x .values) t code a-no-default false c (rw k) refl
+    takes-1 k n₁ s at e m len w f x t st hd he row l rch rd c =
+        of-sort (x .definition) (x .values) t code a-truth (eqb y 40) c (rw k) (ap (λ n. eqb n 40) (h ∙ code-cell f d j x hd row l) ∙ boolean-test (row-facts st row .formed))
 
-    module _ (y : ℕ) (h : y ≡ getD d (j * 19 + 12) 0) where
-      pub takes-43 : code ≡ 43 → Takes s d e m j at len code (eqb y 39)
-      unfolding fits-as sort-coded
-      takes-43 k f x t st hd he row l rch rd c =
-          of-sort (x .definition) (x .values) t code string-sort (eqb y 39) c (rw k) (ap (λ n. eqb n 39) (h ∙ code-cell f d j x hd row l) ∙ string-test (row-facts st row .formed))
+    pub takes-2 : code ≡ 2 → TakesWord d j code u (eqb y 40)
+    unfolding fits-as sort-coded
+    takes-2 k n₁ s at e m len w f x t st hd he row l rch rd c =
+        of-sort (x .definition) (x .values) t code a-truth (eqb y 40) c (rw k) (ap (λ n. eqb n 40) (h ∙ code-cell f d j x hd row l) ∙ boolean-test (row-facts st row .formed))
 
-      pub takes-1 : code ≡ 1 → Takes s d e m j at len code (eqb y 40)
-      unfolding fits-as sort-coded
-      takes-1 k f x t st hd he row l rch rd c =
-          of-sort (x .definition) (x .values) t code a-truth (eqb y 40) c (rw k) (ap (λ n. eqb n 40) (h ∙ code-cell f d j x hd row l) ∙ boolean-test (row-facts st row .formed))
+    module _ (n₂ : code ≡ 3 → ⊥) (n₃ : code ≡ 4 → ⊥) (n₄ : code ≡ 43 → ⊥) (n₅ : code ≡ 1 → ⊥) (n₆ : code ≡ 2 → ⊥) where
+      name-sort : (code ≡ 42 → ⊥) → sort-coded code ≡ a-name
+      name-sort n₁ = name-coded code n₁ n₄ n₅ n₆ n₂ n₃
 
-      pub takes-2 : code ≡ 2 → Takes s d e m j at len code (eqb y 40)
-      unfolding fits-as sort-coded
-      takes-2 k f x t st hd he row l rch rd c =
-          of-sort (x .definition) (x .values) t code a-truth (eqb y 40) c (rw k) (ap (λ n. eqb n 40) (h ∙ code-cell f d j x hd row l) ∙ boolean-test (row-facts st row .formed))
+      pub takes-other : (y ≡ 41 → ⊥) → TakesWord d j code u false
+      unfolding fits-as
+      takes-other k n₁ s at e m len w f x t st hd he row l rch rd c =
+          of-sort (x .definition) (x .values) t code a-name false c (name-sort n₁)
+          (sym (ap (λ b. both b (is-there (find-value (x .values) t))) (coded-other (row-facts st row .formed) (λ z. k (h ∙ code-cell f d j x hd row l ∙ z)))))
 
-      module _ (n₂ : code ≡ 3 → ⊥) (n₃ : code ≡ 4 → ⊥) (n₄ : code ≡ 43 → ⊥) (n₅ : code ≡ 1 → ⊥) (n₆ : code ≡ 2 → ⊥) where
-        name-sort : sort-coded code ≡ a-name
-        unfolding sort-coded
-        name-sort = rw (ne-eqb code 42 n₁, ne-eqb code 3 n₂, ne-eqb code 4 n₃, ne-eqb code 43 n₄, ne-eqb code 1 n₅, ne-eqb code 2 n₆) refl
-
-        pub takes-other : (y ≡ 41 → ⊥) → Takes s d e m j at len code false
-        unfolding fits-as
-        takes-other k f x t st hd he row l rch rd c =
-            of-sort (x .definition) (x .values) t code a-name false c name-sort
-            (sym (ap (λ b. both b (is-there (find-value (x .values) t))) (coded-other (row-facts st row .formed) (λ z. k (h ∙ code-cell f d j x hd row l ∙ z)))))
-
-        pub takes-name : (w : ℕ) → y ≡ 41 → FindsWord s d e m j at len w → Takes s d e m j at len code (not (eqb w 0))
-        unfolding fits-as place-found is-there
-        takes-name w k g f x t st hd he row l rch rd c =
-            let a = row-facts st row in
-            of-sort (x .definition) (x .values) t code a-name (not (eqb w 0)) c name-sort
-            (by (find-value (x .values) t) refl (g f x t st hd he row l rch (rd .bytes)) (λ v p. value-word (found-value (x .values) t p) (a .values .good) .later)
-            ∙ sym (ap (λ b. both b (is-there (find-value (x .values) t))) (coded-enum (a .formed) (sym (h ∙ code-cell f d j x hd row l) ∙ k))))
-          where
-            by : (o : Option Under) → find-value (x .values) t ≡ o → w ≡ place-found o → ((v : Under) → find-value (x .values) t ≡ some v → 0 < v .word .place) → not (eqb w 0) ≡ is-there o
-            by none p q u = ap not (eq-eqb w 0 q)
-            by (some v) p q u = let z = u v p in ap not (ne-eqb w 0 (λ i. omega arith))
+      pub takes-name : y ≡ 41 → TakesWord d j code u (not (eqb u 0))
+      unfolding fits-as place-found is-there
+      takes-name k n₁ s at e m len w f x t st hd he row l rch rd c =
+          let a = row-facts st row in
+          of-sort (x .definition) (x .values) t code a-name (not (eqb u 0)) c (name-sort n₁)
+          (by (find-value (x .values) t) refl (w f x t st hd he row l rch (rd .bytes)) (λ v p. value-word (found-value (x .values) t p) (a .values .good) .later)
+          ∙ sym (ap (λ b. both b (is-there (find-value (x .values) t))) (coded-enum (a .formed) (sym (h ∙ code-cell f d j x hd row l) ∙ k))))
+        where
+          by : (o : Option Under) → find-value (x .values) t ≡ o → u ≡ place-found o → ((v : Under) → find-value (x .values) t ≡ some v → 0 < v .word .place) → not (eqb u 0) ≡ is-there o
+          by none p q i = ap not (eq-eqb u 0 q)
+          by (some v) p q i = let z = i v p in ap not (ne-eqb u 0 (λ b. omega arith))
 
 -- 10 at the bounds --------------------------------------------------------------------------------------------------------------------------
 
 module _ {s : List ℕ} {d : Definition} where
-  no-range : {vs : Values} → Formed s d vs → ((i : Integer) → code-of (d .word) ≡ 35 + integer-number i → ⊥) → range-faults (d .type) (d .bounds) ≡ []
+  no-range : {vs : Values} → Formed s d vs → ((i : Integer) → code-of (d .word) ≡ integer-code i → ⊥) → range-faults (d .type) (d .bounds) ≡ []
   unfolding range-faults
   no-range (an-integer i t c r) h = absurd (h i c)
   no-range (a-string t c b) h = ap (λ y. range-faults y (d .bounds)) t
@@ -453,7 +382,7 @@ module _ (s d : List ℕ) (j c : ℕ) (h : c ≡ getD d (j * 19 + 12) 0) where
   unfolding first fault-of
   range-below k f x st hd row l =
       let z = h ∙ code-cell f d j x hd row l in
-      sym (ap (λ y. fault-of (first y)) (no-range (row-facts st row .formed) (λ i e. omega arith)))
+      sym (ap (λ y. fault-of (first y)) (no-range (row-facts st row .formed) (λ i e. let a = integer-low i in omega arith)))
 
   pub range-above : 38 < c → RangeFault s d j (record { number = 0; place = 0 })
   unfolding first fault-of

@@ -2,10 +2,11 @@
 use mathlib.Core.Path.{_≡_}
 use mathlib.Core.List.{List}
 use Prim.Native.Nat.{ℕ, _+_}
+use Rattle.meaning.specs.Cells.{integer-code}
 use Rattle.grammar.specs.Grammar.{Kind, Integer}
 use Rattle.meaning.specs.Kinds.{kind-number}
 use Rattle.meaning.specs.Syntax.{Word, integer, string, boolean, enum, reference, no-bounds, Definition, Definitions, no-more, define, Values, no-value, value}
-use Rattle.layout.specs.Kept.{code-of, integer-number}
+use Rattle.layout.specs.Kept.{code-of}
 use Rattle.scopes.specs.Situations.{ReadAt}
 use Rattle.scopes.specs.Ranges.{RangeAt}
 
@@ -19,7 +20,7 @@ pub data Some : Values → Type 0 where
   at-least-one : {w : Word} {e : ℕ} {us : Definitions} {vs : Values} → Some (value w e us vs)
 
 pub data Formed (s : List ℕ) (d : Definition) : Values → Type 0 where
-  an-integer : (i : Integer) → d .type ≡ integer i → code-of (d .word) ≡ 35 + integer-number i → RangeAt s (d .range .place) (d .bounds) → Formed s d no-value
+  an-integer : (i : Integer) → d .type ≡ integer i → code-of (d .word) ≡ integer-code i → RangeAt s (d .range .place) (d .bounds) → Formed s d no-value
   a-string : d .type ≡ string → code-of (d .word) ≡ 39 → d .bounds ≡ no-bounds → Formed s d no-value
   a-boolean : {vs : Values} → d .type ≡ boolean → code-of (d .word) ≡ 40 → d .bounds ≡ no-bounds → Truths vs → Formed s d vs
   an-enum : {vs : Values} → d .type ≡ enum → code-of (d .word) ≡ 41 → d .bounds ≡ no-bounds → Some vs → Formed s d vs

@@ -95,7 +95,15 @@ Takes s d e m j at len code r =
     (f : File) (x : Defined) (t : Word) → Situation s f → d ≡ kept-definitions f → e ≡ kept-enumerators f → RowOf f j x → j < 513
     → Reached f m (x .values) → ReadAt s t at len → code-of t ≡ code → r ≡ fits (x .definition) (x .values) t
 
--- Of the words TRUE and FALSE of the list of the BOOLEAN of row j.
+-- The same, if u is the place of the value word that it is.
+abbrev pub TakesUnder : List ℕ → List ℕ → (j at code u : ℕ) → Bool → Type 0
+TakesUnder s d j at code u r = (e : List ℕ) (m len : ℕ) → FindsWord s d e m j at len u → Takes s d e m j at len code r
+
+-- Of a word that is no number, wherever it stands.
+abbrev pub TakesWord : List ℕ → (j code u : ℕ) → Bool → Type 0
+TakesWord d j code u r = (code ≡ 42 → ⊥) → (s : List ℕ) (at : ℕ) → TakesUnder s d j at code u r
+
+-- The word TRUE or FALSE that the word at a place is, of the list of the BOOLEAN of row j; 0 for none.
 abbrev pub FindsTruth : List ℕ → List ℕ → (j at len : ℕ) → ℕ → Type 0
 FindsTruth s d j at len r =
     (f : File) (x : Defined) (t : Word) → Situation s f → d ≡ kept-definitions f → RowOf f j x → j < 513

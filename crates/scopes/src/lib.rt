@@ -1,5 +1,4 @@
-// Lookups and values over the rows kept while a text is read: numbers and ranges, the definition, value or object that a name is, and the
-// values that an attribute takes.
+// Values over the rows kept while a text is read: numbers and ranges, and the values that an attribute takes.
 pub mod bounds;
 pub mod lookups;
 pub mod numbers;
@@ -16,4 +15,11 @@ pub struct Item {
     pub sign: u8,
     pub at: usize,
     pub next: usize,
+}
+
+// How many rows the tables of definitions, enumerators and objects have.
+pub struct Sizes {
+    pub definitions: usize,
+    pub enumerators: usize,
+    pub objects: usize,
 }

@@ -120,11 +120,17 @@ pub fn equal(a: Num, b: Num) -> bool
     false
 }
 
-// 2 to the power k.
+// 2 to the power k; those of the four types are not counted out.
 fn power(k: usize) -> u64
     requires { ⌜ k < 64 ⌝ }
     ensures { λ r. ⌜ r ≡ 2 ^ k ⌝ }
 {
+    if k == 31 {
+        return 2147483648;
+    }
+    if k == 63 {
+        return 9223372036854775808;
+    }
     let mut p = 1;
     let mut i = 0;
     while i < k {

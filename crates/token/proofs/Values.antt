@@ -1,7 +1,7 @@
 -- The laws of the values of numerals.
 -- Assumes nothing.
 use Prim.Native.Nat.{ℕ, suc, _+_, _-_, _*_, _/_, _≤_, _<_}
-use mathlib.Core.Path.{_≡_, refl, sym, _∙_, ap}
+use mathlib.Core.Path.{_≡_, refl, sym, _∙_, ap, ap₂}
 use mathlib.Core.List.{List, [], _∷_}
 use mathlib.Core.Bool.{Bool, true, false, not}
 use native.Mathlib.Omega.{arith}
@@ -12,6 +12,7 @@ use lib.Seq.{drop-cons}
 use lib.Dec.{leb, ltb, eqb}
 use borrow.Author.Tests.{lt-ltb, le-ltb, le-leb, lt-leb, eq-eqb, ne-eqb, leb-true, leb-false}
 use Rattle.token.specs.Find.{pick, both, byte}
+use Rattle.token.specs.Bytes.{between}
 use Rattle.token.specs.Numbers.{digitOf, allDigits, valueAfter, atMost, digitsAfter, numeral}
 use Rattle.token.proofs.Find.{by-test}
 use Rattle.token.proofs.Bytes.{both-false}
@@ -120,3 +121,42 @@ module _ (signed : Bool) (max : ℕ) (w : List ℕ) where
 
   pub numeral-hex : 2 < length w → byte w 0 ≡ 48 → byte w 1 ≡ 120 → signed ≡ false → numeral signed max w ≡ digitsAfter 16 max 0 (drop 2 w)
   numeral-hex h f g e = longer (omega arith) f ∙ rw (e, eq-eqb (byte w 1) 120 g, lt-ltb 2 (length w) h)
+
+-- ---- the value of a digit, by the range its byte lies in
+
+in-range : (lo hi b : ℕ) → lo ≤ b → b ≤ hi → between lo hi b ≡ true
+in-range lo hi b h k = ap₂ both (le-leb lo b h) (le-leb b hi k)
+
+under-range : (lo hi b : ℕ) → b < lo → between lo hi b ≡ false
+under-range lo hi b h = ap (λ x. both x (leb b hi)) (lt-leb lo b h)
+
+over-range : (lo hi b : ℕ) → hi < b → between lo hi b ≡ false
+over-range lo hi b h = ap (both (leb lo b)) (lt-leb b hi h) ∙ both-false (leb lo b)
+
+module _ (b : ℕ) where
+  digit-by : (x y z : Bool) → between 48 57 b ≡ x → between 65 70 b ≡ y → between 97 102 b ≡ z → pick x (b - 48) (pick y (b - 55) (pick z (b - 87) 16)) ≡ digitOf b
+  unfolding digitOf
+  digit-by x y z e f g =
+      sym (ap (λ t. pick t (b - 48) (pick (between 65 70 b) (b - 55) (pick (between 97 102 b) (b - 87) 16))) e
+      ∙ ap₂ (λ t u. pick x (b - 48) (pick t (b - 55) (pick u (b - 87) 16))) f g)
+
+  pub digit-low : b < 48 → 16 ≡ digitOf b
+  digit-low h = digit-by false false false (under-range 48 57 b h) (under-range 65 70 b (omega arith)) (under-range 97 102 b (omega arith))
+
+  pub digit-decimal : 48 ≤ b → b ≤ 57 → b - 48 ≡ digitOf b
+  digit-decimal h k = digit-by true false false (in-range 48 57 b h k) (under-range 65 70 b (omega arith)) (under-range 97 102 b (omega arith))
+
+  pub digit-between : 57 < b → b < 65 → 16 ≡ digitOf b
+  digit-between h k = digit-by false false false (over-range 48 57 b h) (under-range 65 70 b k) (under-range 97 102 b (omega arith))
+
+  pub digit-upper : 65 ≤ b → b ≤ 70 → b - 55 ≡ digitOf b
+  digit-upper h k = digit-by false true false (over-range 48 57 b (omega arith)) (in-range 65 70 b h k) (under-range 97 102 b (omega arith))
+
+  pub digit-middle : 70 < b → b < 97 → 16 ≡ digitOf b
+  digit-middle h k = digit-by false false false (over-range 48 57 b (omega arith)) (over-range 65 70 b h) (under-range 97 102 b k)
+
+  pub digit-lower : 97 ≤ b → b ≤ 102 → b - 87 ≡ digitOf b
+  digit-lower h k = digit-by false false true (over-range 48 57 b (omega arith)) (over-range 65 70 b (omega arith)) (in-range 97 102 b h k)
+
+  pub digit-high : 102 < b → 16 ≡ digitOf b
+  digit-high h = digit-by false false false (over-range 48 57 b (omega arith)) (over-range 65 70 b (omega arith)) (over-range 97 102 b h)

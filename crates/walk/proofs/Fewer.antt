@@ -5,6 +5,7 @@ use mathlib.Core.Bool.{true, false}
 use Prim.Native.Nat.{ℕ, zero, suc, _+_, _-_, _≤_}
 use native.Mathlib.Omega.{arith}
 use lib.ListN.{length, length-append}
+use Rattle.token.specs.Find.{bit}
 use Rattle.token.specs.Tokens.{stepAt}
 use Rattle.token.specs.Lexing.{lexN, lexFrom, afterStep}
 use Rattle.token.specs.declared.Step.{Step}
@@ -13,7 +14,7 @@ use Rattle.grammar.specs.Grammar.{Token, Rule, rule, tok, Form, _▸_, ∎, _�
 use Rattle.grammar.specs.Machine.{Stream, ended, bad, _▹_, prepend}
 use Rattle.grammar.specs.Readers.{streamOf, lexAt, lookAt, rest}
 use Rattle.grammar.proofs.Meeting.{rest-look}
-use Rattle.meaning.specs.Syntax.{no-more, define, Spec, definitions-in, definitions-under, enumerators-in, enumerators-under, counted, is-enum, statements-in}
+use Rattle.meaning.specs.Syntax.{no-more, define, Spec, definitions-in, definitions-under, enumerators-in, enumerators-under, is-enum, statements-in}
 use Rattle.meaning.specs.Actions.{M, Parts, means, meaning, first-value, truths, defined, defining, specifying, stating}
 use Rattle.walk.specs.Whole.{Few}
 use Rattle.layout.specs.Kept.{entries, choices, spec-entries, spec-choices, statement-count}
@@ -80,7 +81,7 @@ Parted (tok a ∷ f) m n = (k : ℕ) × (suc k ≤ n) × Parted f (m .1) k
 Parted (rule x ∷ f) m n = (j : ℕ) × (k : ℕ) × (j + k ≤ n) × Small x (m .0) j × Parted f (m .1) k
 
 fewer : {x : Rule} {g : Form} (p : x ⟶ g) (m : Parts g) (n : ℕ) → Parted g m n → Small x (means p m) n
-unfolding Small Parted means first-value truths defined defining specifying stating definitions-in enumerators-in counted is-enum statements-in all-definitions all-enumerators statement-count
+unfolding Small Parted means first-value truths defined defining specifying stating definitions-in enumerators-in bit is-enum statements-in all-definitions all-enumerators statement-count
 fewer file-is m n q =
     let a = q .4 in
     let b = a .4 in

@@ -7,24 +7,24 @@ use native.Mathlib.Omega.{arith}
 use lib.Dec.{eqb}
 use lib.ListN.{length, getD, replicate}
 use lib.Seq.{ext-getD}
-use Rattle.token.specs.Find.{pick}
+use Rattle.token.specs.Find.{pick, bit}
 use Rattle.token.proofs.Bytes.{eqb-sym}
 use Rattle.grammar.specs.Grammar.{Kind, OS, APPMODE, TASK, ISR, COUNTER, ALARM, RESOURCE, EVENT, COM, MESSAGE, NETWORKMESSAGE, IPDU, NM}
 use Rattle.meaning.specs.Syntax.{Object}
 use Rattle.meaning.specs.Kinds.{kind-number, same-kind}
-use Rattle.meaning.specs.Applying.{one-if, how-many, counts-of, counts}
+use Rattle.meaning.specs.Applying.{how-many, counts-of, counts}
 use Rattle.rows.specs.Tally.{oneMore, countOn, countsOf, howMany}
 use Rattle.rows.proofs.Tallies.{length-one-more, counts-of as cells-of}
 use Rattle.objects.specs.Rows.{numbers}
 
 alike : (k : Kind) (os : List Object) → howMany (kind-number k) (numbers os) ≡ how-many k os
-unfolding howMany numbers how-many same-kind one-if
+unfolding howMany numbers how-many same-kind bit
 alike k [] = refl
 alike k (x ∷ xs) =
     ap (λ (b : Bool). pick b (howMany (kind-number k) (numbers xs) + 1) (howMany (kind-number k) (numbers xs))) (eqb-sym (kind-number (x .kind)) (kind-number k))
     ∙ go (alike k xs) (eqb (kind-number k) (kind-number (x .kind)))
   where
-    go : howMany (kind-number k) (numbers xs) ≡ how-many k xs → (b : Bool) → pick b (howMany (kind-number k) (numbers xs) + 1) (howMany (kind-number k) (numbers xs)) ≡ one-if b + how-many k xs
+    go : howMany (kind-number k) (numbers xs) ≡ how-many k xs → (b : Bool) → pick b (howMany (kind-number k) (numbers xs) + 1) (howMany (kind-number k) (numbers xs)) ≡ bit b + how-many k xs
     go e true = omega (arith, e)
     go e false = omega (arith, e)
 

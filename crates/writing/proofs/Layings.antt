@@ -8,13 +8,13 @@ use native.Mathlib.Numerals.{add-one}
 use lib.ListN.{length, getD}
 use lib.Dec.{eqb, ltb}
 use borrow.Author.Tests.{eqb-true, eq-eqb}
-use Rattle.token.specs.Find.{pick, both}
+use Rattle.token.specs.Find.{pick, both, bit}
 use Rattle.token.specs.Tokens.{partOf}
 use Rattle.token.specs.Words.{bytesOf}
 use Rattle.token.proofs.Bytes.{both-true, both-second}
 use Rattle.meaning.specs.Syntax.{Word, span-of}
 use Rattle.meaning.specs.Resolving.{Value, number, truth, auto, string, enumerator, object, Taken, Resolved, end, resolved, Owner, of-object, of-value, ValueRow, value-row, value-rows, how-many-values}
-use Rattle.meaning.specs.Cells.{flag, owner-sort, owner-row, value-sort, value-negative, value-amount, value-cells}
+use Rattle.meaning.specs.Cells.{owner-sort, owner-row, value-sort, value-negative, value-amount, value-cells}
 use Rattle.meaning.specs.Normal.{decimal, written}
 use Rattle.meaning.proofs.Rooms.{value-width}
 use Rattle.meaning.proofs.Entries.{length-values}
@@ -119,14 +119,14 @@ laid-under {s} {d} {v} {n} {k} {o} {t} {us} {rest} a =
 
 -- The first row ----------------------------------------------------------------------------------------------------------------------------
 
-flag-one : (b : Bool) → eqb (flag b) 1 ≡ b
-unfolding flag
+flag-one : (b : Bool) → eqb (bit b) 1 ≡ b
+unfolding bit
 flag-one true = refl
 flag-one false = refl
 
 -- A value by its cells.
 shown : (s : List ℕ) (x : Value) (t : Word) → WordIn s t
-    → pick (eqb (value-sort x) 0) (decimal (record { negative = eqb (flag (value-negative x)) 1; amount = value-amount x })) (partOf s (t .place) (t .length)) ≡ written x t
+    → pick (eqb (value-sort x) 0) (decimal (record { negative = eqb (bit (value-negative x)) 1; amount = value-amount x })) (partOf s (t .place) (t .length)) ≡ written x t
 unfolding value-sort value-negative value-amount written
 shown s (number n) t h = ap (λ (b : Bool). decimal (record { negative = b; amount = n .amount })) (flag-one (n .negative))
 shown s (truth b) t h = sym (h .bytes)

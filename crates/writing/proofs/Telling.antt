@@ -20,23 +20,24 @@ use Rattle.layout.specs.Kept.{Entry}
 use Rattle.blocks.specs.Blocks.{AllIn, StatementsIn, none-in, more-in}
 use Rattle.blocks.proofs.Files.{in-front, in-back, file-in, objects-in, statements-in-text}
 use Rattle.scopes.specs.Situations.{Situation, HasDefinition, this-definition, later-definition, HasValue, this-value, later-value, Stands, under-value, ScopeAt, no-scope, scope}
-use Rattle.scopes.proofs.Descents.{row-of-definition}
-use Rattle.resolving.specs.Tables.{rows-of}
-use Rattle.resolving.proofs.Standings.{rows-are-specs, words-definition, file-stands, kind-scope}
+use Rattle.scopes.specs.Given.{entry-rows}
+use Rattle.scopes.proofs.Answering.{spec-rows}
+use Rattle.scopes.proofs.Descents.{row-of-definition, scope-of-kind}
+use Rattle.lookups.proofs.Standings.{words-definition, file-stands}
 use Rattle.writing.specs.Lines.{word-at}
 use Rattle.writing.specs.Promises.{From, AllTold, end-told, more-told, Pairs, no-pair, a-pair}
 use Rattle.writing.proofs.Froms.{from-cell, from-append, from-room}
 
 -- Rows of definitions ----------------------------------------------------------------------------------------------------------------------
 
-nth-row : {d : List ℕ} {n : ℕ} (k : ℕ) (front : List Entry) (x : Entry) (rest : List Entry) → From 13 definition-cells d n k (rows-of (front ++ (x ∷ rest)))
-    → From 13 definition-cells d n (k + length front) (definition-row (x .under) (x .definition) ∷ rows-of rest)
-unfolding rows-of
-nth-row {d} {n} k [] x rest a = let e : k ≡ k + 0 = omega arith in subst (λ (i : ℕ). From 13 definition-cells d n i (definition-row (x .under) (x .definition) ∷ rows-of rest)) e a
+nth-row : {d : List ℕ} {n : ℕ} (k : ℕ) (front : List Entry) (x : Entry) (rest : List Entry) → From 13 definition-cells d n k (entry-rows (front ++ (x ∷ rest)))
+    → From 13 definition-cells d n (k + length front) (definition-row (x .under) (x .definition) ∷ entry-rows rest)
+unfolding entry-rows
+nth-row {d} {n} k [] x rest a = let e : k ≡ k + 0 = omega arith in subst (λ (i : ℕ). From 13 definition-cells d n i (definition-row (x .under) (x .definition) ∷ entry-rows rest)) e a
 nth-row {d} {n} k (y ∷ front) x rest a =
     let e : (k + 1) + length front ≡ k + suc (length front) = omega arith in
-    subst (λ (i : ℕ). From 13 definition-cells d n i (definition-row (x .under) (x .definition) ∷ rows-of rest)) e
-    (nth-row (k + 1) front x rest (from-append 13 definition-cells definition-width (_ ∷ []) (rows-of (front ++ (x ∷ rest))) refl a))
+    subst (λ (i : ℕ). From 13 definition-cells d n i (definition-row (x .under) (x .definition) ∷ entry-rows rest)) e
+    (nth-row (k + 1) front x rest (from-append 13 definition-cells definition-width (_ ∷ []) (entry-rows (front ++ (x ∷ rest))) refl a))
 
 module _ {s d : List ℕ} {f : File} (t : Situation s f) (h : d ≡ definition-room (all-definition-rows (f .specs))) where
   -- The name of a definition of a scope.
@@ -47,13 +48,13 @@ module _ {s d : List ℕ} {f : File} (t : Situation s f) (h : d ≡ definition-r
       let rows = all-definition-rows (f .specs) in
       let w = words-definition q (file-stands t p .1) .1 .0 in
       let a : From 13 definition-cells d (length rows) 0 rows = from-room 13 definition-cells (512 * 13) rows d (length rows) h refl in
-      let b = subst (From 13 definition-cells d (length rows) 0) (sym (rows-are-specs (f .specs)) ∙ ap rows-of (r .nth .whole)) a in
+      let b = subst (From 13 definition-cells d (length rows) 0) (sym (spec-rows (f .specs)) ∙ ap entry-rows (r .nth .whole)) a in
       let c = nth-row 0 (r .nth .front) _ (r .nth .rest) b in
       let m = r .nth .place in
       let e : 0 + length (r .nth .front) ≡ x .definition .row = omega (arith, m) in
-      let g = subst (λ (i : ℕ). From 13 definition-cells d (length rows) i (definition-row (r .under) (x .definition) ∷ rows-of (r .nth .rest))) e c in
-      ap₂ (partOf s) (from-cell 13 definition-cells definition-width (definition-row (r .under) (x .definition)) (rows-of (r .nth .rest)) 2 (omega arith) g)
-      (from-cell 13 definition-cells definition-width (definition-row (r .under) (x .definition)) (rows-of (r .nth .rest)) 3 (omega arith) g)
+      let g = subst (λ (i : ℕ). From 13 definition-cells d (length rows) i (definition-row (r .under) (x .definition) ∷ entry-rows (r .nth .rest))) e c in
+      ap₂ (partOf s) (from-cell 13 definition-cells definition-width (definition-row (r .under) (x .definition)) (entry-rows (r .nth .rest)) 2 (omega arith) g)
+      (from-cell 13 definition-cells definition-width (definition-row (r .under) (x .definition)) (entry-rows (r .nth .rest)) 3 (omega arith) g)
       ∙ sym (w .bytes)
 
 -- Entries ----------------------------------------------------------------------------------------------------------------------------------
@@ -124,7 +125,7 @@ module _ {s d : List ℕ} {f : File} (t : Situation s f) (h : d ≡ definition-r
   pairs-of [] w = no-pair
   pairs-of (x ∷ xs) w =
       a-pair (w .0) (w .1 .0)
-      (scope-told t h (f .objects) (kind-scope f (x .kind)) (x .statements) (statements-in-text s (x .statements) (in-front s (statement-words (x .statements)) (object-words xs) (w .1 .1))))
+      (scope-told t h (f .objects) (scope-of-kind f (x .kind)) (x .statements) (statements-in-text s (x .statements) (in-front s (statement-words (x .statements)) (object-words xs) (w .1 .1))))
       (pairs-of xs (in-back s (statement-words (x .statements)) (object-words xs) (w .1 .1)))
 
   -- The objects of a text with their values.

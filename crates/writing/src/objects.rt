@@ -5,15 +5,16 @@ ghost use Rattle.writing.specs.Promises.{PutsObject, PutsObjects};
 use super::Spot;
 use super::bytes;
 use super::values;
+use rows::cells;
 
 // The kind word and the name of object i, and ` {`.
 fn put_opening(text: &[u8], o: &[usize], i: usize, out: &mut [u8], at: usize) -> usize
     ensures { λ r. ⌜ Wrote (now (out .entry)) at (opening-at (now (text .entry)) (now (o .entry)) i) (now (out .exit)) r ⌝ }
 {
-    let word = blocks::cell_at(o, 7, i, 1);
-    let size = blocks::cell_at(o, 7, i, 2);
-    let name = blocks::cell_at(o, 7, i, 3);
-    let length = blocks::cell_at(o, 7, i, 4);
+    let word = cells::cell_of(o, 7, i, 1);
+    let size = cells::cell_of(o, 7, i, 2);
+    let name = cells::cell_of(o, 7, i, 3);
+    let length = cells::cell_of(o, 7, i, 4);
     let a = bytes::put_part(text, word, size, out, at);
     let b = bytes::put_bytes(out, a, b" ");
     let c = bytes::put_part(text, name, length, out, b);

@@ -6,13 +6,14 @@ ghost use Rattle.writing.specs.Lines.{word-at, value-at, head-at, owned}
 ghost use Rattle.writing.specs.Promises.{PutsLine, PutsLines};
 use super::Spot;
 use super::bytes;
+use rows::cells;
 
 // The part of the text that a definition's row has as its name.
 fn put_name(text: &[u8], d: &[usize], j: usize, out: &mut [u8], at: usize) -> usize
     ensures { λ r. ⌜ Wrote (now (out .entry)) at (word-at (now (text .entry)) 13 (now (d .entry)) j 2) (now (out .exit)) r ⌝ }
 {
-    let place = blocks::cell_at(d, 13, j, 2);
-    let length = blocks::cell_at(d, 13, j, 3);
+    let place = cells::cell_of(d, 13, j, 2);
+    let length = cells::cell_of(d, 13, j, 3);
     bytes::put_part(text, place, length, out, at)
 }
 
@@ -20,13 +21,13 @@ fn put_name(text: &[u8], d: &[usize], j: usize, out: &mut [u8], at: usize) -> us
 fn put_value(text: &[u8], v: &[usize], k: usize, out: &mut [u8], at: usize) -> usize
     ensures { λ r. ⌜ Wrote (now (out .entry)) at (value-at (now (text .entry)) (now (v .entry)) k) (now (out .exit)) r ⌝ }
 {
-    if blocks::cell_at(v, 9, k, 3) == 0 {
-        let negative = blocks::cell_at(v, 9, k, 4) == 1;
-        let amount = blocks::cell_at(v, 9, k, 5);
+    if cells::cell_of(v, 9, k, 3) == 0 {
+        let negative = cells::cell_of(v, 9, k, 4) == 1;
+        let amount = cells::cell_of(v, 9, k, 5);
         return bytes::put_decimal(out, at, negative, amount);
     }
-    let place = blocks::cell_at(v, 9, k, 7);
-    let length = blocks::cell_at(v, 9, k, 8);
+    let place = cells::cell_of(v, 9, k, 7);
+    let length = cells::cell_of(v, 9, k, 8);
     bytes::put_part(text, place, length, out, at)
 }
 
@@ -34,7 +35,7 @@ fn put_value(text: &[u8], v: &[usize], k: usize, out: &mut [u8], at: usize) -> u
 fn put_head(text: &[u8], d: &[usize], v: &[usize], k: usize, out: &mut [u8], at: usize) -> usize
     ensures { λ r. ⌜ Wrote (now (out .entry)) at (head-at (now (text .entry)) (now (d .entry)) (now (v .entry)) k) (now (out .exit)) r ⌝ }
 {
-    let j = blocks::cell_at(v, 9, k, 0);
+    let j = cells::cell_of(v, 9, k, 0);
     let a = put_name(text, d, j, out, at);
     let b = bytes::put_bytes(out, a, b" = ");
     put_value(text, v, k, out, b)
@@ -47,10 +48,10 @@ fn has_owner(v: &[usize], n: usize, k: usize, sort: usize, row: usize) -> bool
     if n <= k {
         return false;
     }
-    if blocks::cell_at(v, 9, k, 1) != sort {
+    if cells::cell_of(v, 9, k, 1) != sort {
         return false;
     }
-    blocks::cell_at(v, 9, k, 2) == row
+    cells::cell_of(v, 9, k, 2) == row
 }
 
 // The value of row k and what is under it.

@@ -5,14 +5,14 @@ use borrow.Author.Needs.{needs}
 use Rattle.lookups.proofs.find_enumerator.Statement.{statement}
 use Rattle.lookups.proofs.find_enumerator.Tie as tie
 
-cell-at-requires : tie.Need-cell-at-requires
-cell-at-requires c κs = search needs
+cell-of-requires : tie.Need-cell-of-requires
+cell-of-requires c κs = search needs
 
 find-indexed-requires : tie.Need-find-indexed-requires
 find-indexed-requires c κs = search needs
 
 returns : tie.Need-returns
-returns c = enumerator-indexed _ _ _ _ _ _ _ _ _ (c .before .cell-at .ensures) (c .find-indexed .ensures)
+returns c = enumerator-indexed _ _ _ _ _ _ _ _ _ (c .before .cell-of .ensures) (c .find-indexed .ensures)
 
 pub find-enumerator-spec : {M : Type 1} → statement M
-find-enumerator-spec = tie.close (tie.spec cell-at-requires find-indexed-requires returns)
+find-enumerator-spec = tie.close (tie.spec cell-of-requires find-indexed-requires returns)

@@ -6,7 +6,7 @@ use Rattle.lookups.proofs.stated.Tie as tie
 use Rattle.lookups.proofs.stated.Reads as reads
 use Rattle.lookups.proofs.stated.Lts as lts
 use Rattle.blocks.proofs.after.Reads as after-reads
-use Rattle.blocks.proofs.cell_at.Reads as cell-at-reads
+use Rattle.rows.proofs.cells.cell_of.Reads as cell-of-reads
 use Rattle.lookups.proofs.skip.Reads as skip-reads
 use Rattle.rows.proofs.parts.same_part.Reads as same-part-reads
 
@@ -22,17 +22,17 @@ skip-requires c κs = tt
 loop-holds : tie.Need-loop-holds Inv-loop μ-loop
 loop-holds c = onward-start _ _ _ _ _ _ _ _ _ (c .skip .ensures)
 
-cell-at-requires : tie.Need-cell-at-requires Inv-loop μ-loop
-cell-at-requires c κs = tt
+cell-of-requires : tie.Need-cell-of-requires Inv-loop μ-loop
+cell-of-requires c κs = tt
 
-cell-at-requires-2 : tie.Need-cell-at-requires-2 Inv-loop μ-loop
-cell-at-requires-2 c κs = tt
+cell-of-requires-2 : tie.Need-cell-of-requires-2 Inv-loop μ-loop
+cell-of-requires-2 c κs = tt
 
 same-part-requires : tie.Need-same-part-requires Inv-loop μ-loop
 same-part-requires c κs = tt
 
 returns : tie.Need-returns Inv-loop μ-loop
-returns c = onward-stop _ _ _ _ _ _ _ _ _ _ _ (c .before .before .before .before .before .loop .inv) (omega arith) _ (c .before .before .before .cell-at .ensures) (c .before .before .cell-at2 .ensures) (c .before .same-part .ensures) (c .if1 .taken)
+returns c = onward-stop _ _ _ _ _ _ _ _ _ _ _ (c .before .before .before .before .before .loop .inv) (omega arith) _ (c .before .before .before .cell-of .ensures) (c .before .before .cell-of2 .ensures) (c .before .same-part .ensures) (c .if1 .taken)
 
 after-requires : tie.Need-after-requires Inv-loop μ-loop
 after-requires c κs = tt
@@ -44,7 +44,7 @@ loop-less : tie.Need-loop-less Inv-loop μ-loop
 loop-less c = omega (arith, skips-later ((c .before .before .before .before .before .before .before .before .before .before .before .before .args .st) .now) ((c .before .before .before .before .before .before .before .before .before .before .before .before .args .h) .now) (c .before .before .before .before .before .before .before .loop .k) (c .before .before .before .before .before .before .before .before .before .before .before .before .args .end) _ _ _ (omega arith) (c .before .after .ensures) (c .skip2 .ensures))
 
 loop-again : tie.Need-loop-again Inv-loop μ-loop
-loop-again c = onward-more _ _ _ _ _ _ _ _ _ _ _ (c .before .before .before .before .before .before .before .loop .inv) (omega arith) _ (c .before .before .before .before .before .cell-at .ensures) (c .before .before .before .before .cell-at2 .ensures) (c .before .before .before .same-part .ensures) (c .before .before .if1 .left) _ _ (c .before .after .ensures) (c .skip2 .ensures)
+loop-again c = onward-more _ _ _ _ _ _ _ _ _ _ _ (c .before .before .before .before .before .before .before .loop .inv) (omega arith) _ (c .before .before .before .before .before .cell-of .ensures) (c .before .before .before .before .cell-of2 .ensures) (c .before .before .before .same-part .ensures) (c .before .before .if1 .left) _ _ (c .before .after .ensures) (c .skip2 .ensures)
 
 returns-2 : tie.Need-returns-2 Inv-loop μ-loop
 returns-2 c = onward-end _ _ _ _ _ _ _ _ _ (c .before .loop .inv) (omega arith)
@@ -57,8 +57,8 @@ stated-spec =
     μ-loop
     skip-requires
     loop-holds
-    cell-at-requires
-    cell-at-requires-2
+    cell-of-requires
+    cell-of-requires-2
     same-part-requires
     returns
     after-requires

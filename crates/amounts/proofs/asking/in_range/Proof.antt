@@ -14,7 +14,7 @@ use Rattle.amounts.proofs.keys.is_signed.Reads as is-signed-reads
 use Rattle.amounts.proofs.keys.key.Reads as key-reads
 use Rattle.rows.proofs.cells.cell.Reads as cell-reads
 use Rattle.scopes.proofs.bounds.in_range.Reads as in-range-reads
-use Rattle.scopes.proofs.lookups.cell_of.Reads as cell-of-reads
+use Rattle.rows.proofs.cells.cell_of.Reads as cell-of-reads
 use Rattle.scopes.proofs.numbers.at_most.Reads as at-most-reads
 use Rattle.sorting.proofs.has.Reads as has-reads
 

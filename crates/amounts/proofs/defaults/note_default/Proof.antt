@@ -8,7 +8,7 @@ use Rattle.amounts.proofs.defaults.note_default.Reads as reads
 use Rattle.amounts.proofs.defaults.note_default.Lts as lts
 use Rattle.amounts.proofs.keys.sign_of.Reads as sign-of-reads
 use Rattle.rows.proofs.cells.put_cells.Reads as put-cells-reads
-use Rattle.scopes.proofs.lookups.cell_of.Reads as cell-of-reads
+use Rattle.rows.proofs.cells.cell_of.Reads as cell-of-reads
 use Rattle.scopes.proofs.numbers.number_at.Reads as number-at-reads
 
 returns : tie.Need-returns

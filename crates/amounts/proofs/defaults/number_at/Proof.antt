@@ -8,7 +8,7 @@ use Rattle.amounts.proofs.defaults.number_at.Reads as reads
 use Rattle.amounts.proofs.defaults.number_at.Lts as lts
 use Rattle.amounts.proofs.defaults.read_number.Reads as read-number-reads
 use Rattle.rows.proofs.cells.cell.Reads as cell-reads
-use Rattle.scopes.proofs.lookups.cell_of.Reads as cell-of-reads
+use Rattle.rows.proofs.cells.cell_of.Reads as cell-of-reads
 
 read-number-requires : tie.Need-read-number-requires
 read-number-requires c κs = search needs

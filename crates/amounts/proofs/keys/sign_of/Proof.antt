@@ -1,6 +1,6 @@
 -- `amounts::keys::sign_of` meets its contract.
 -- Assumes nothing.
-use Rattle.amounts.proofs.Keyings.{bit-true, bit-false}
+use Rattle.token.proofs.Find.{bit-true, bit-false}
 use Rattle.amounts.proofs.keys.sign_of.Statement.{statement}
 use Rattle.amounts.proofs.keys.sign_of.Tie as tie
 use Rattle.amounts.proofs.keys.sign_of.Reads as reads

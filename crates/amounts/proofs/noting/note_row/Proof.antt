@@ -12,7 +12,7 @@ use Rattle.amounts.proofs.keys.is_signed.Reads as is-signed-reads
 use Rattle.amounts.proofs.noting.note_two.Reads as note-two-reads
 use Rattle.amounts.proofs.noting.put_sorted.Reads as put-sorted-reads
 use Rattle.rows.proofs.cells.put_cells.Reads as put-cells-reads
-use Rattle.scopes.proofs.lookups.cell_of.Reads as cell-of-reads
+use Rattle.rows.proofs.cells.cell_of.Reads as cell-of-reads
 use Rattle.scopes.proofs.numbers.item_at.Reads as item-at-reads
 
 returns : tie.Need-returns

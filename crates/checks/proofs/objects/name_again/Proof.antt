@@ -6,9 +6,9 @@ use Rattle.checks.proofs.objects.name_again.Statement.{statement}
 use Rattle.checks.proofs.objects.name_again.Tie as tie
 use Rattle.checks.proofs.objects.name_again.Reads as reads
 use Rattle.checks.proofs.objects.name_again.Lts as lts
-use Rattle.checks.proofs.parts.fault_found.Reads as fault-found-reads
+use Rattle.rows.proofs.faults.fault_found.Reads as fault-found-reads
 use Rattle.indexes.proofs.find_before.Reads as find-before-reads
-use Rattle.scopes.proofs.lookups.cell_of.Reads as cell-of-reads
+use Rattle.rows.proofs.cells.cell_of.Reads as cell-of-reads
 
 cell-of-requires : tie.Need-cell-of-requires
 cell-of-requires c κs = search needs

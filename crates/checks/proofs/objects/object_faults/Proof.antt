@@ -6,7 +6,7 @@ use Rattle.checks.proofs.objects.object_faults.Reads as reads
 use Rattle.checks.proofs.objects.object_faults.Lts as lts
 use Rattle.checks.proofs.objects.first_objects.Reads as first-objects-reads
 use Rattle.checks.proofs.objects.too_few.Reads as too-few-reads
-use Rattle.checks.proofs.parts.least_of.Reads as least-of-reads
+use Rattle.rows.proofs.cells.least_of.Reads as least-of-reads
 use Rattle.checks.proofs.parts.room_fault.Reads as room-fault-reads
 use Rattle.rows.proofs.faults.sooner.Reads as sooner-reads
 

@@ -8,7 +8,7 @@ use Rattle.checks.proofs.objects.rows_with.Tie as tie
 use Rattle.checks.proofs.objects.rows_with.Reads as reads
 use Rattle.checks.proofs.objects.rows_with.Lts as lts
 use Rattle.checks.proofs.objects.one_if.Reads as one-if-reads
-use Rattle.scopes.proofs.lookups.cell_of.Reads as cell-of-reads
+use Rattle.rows.proofs.cells.cell_of.Reads as cell-of-reads
 
 abbrev Inv-loop : tie.InvT-loop
 Inv-loop t width rows column key n₀ i₀ n i = (n + count-rows t width column key (rows - i) i ≡ count-rows t width column key rows 0) × (n ≤ i)

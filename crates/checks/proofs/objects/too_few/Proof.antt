@@ -3,7 +3,8 @@ use mathlib.Core.Path.{_≡_, refl, sym, _∙_, ap}
 use Prim.Native.Nat.{_-_}
 use native.Mathlib.Omega.{arith}
 use Rattle.checks.specs.Cells.{lacking-from}
-use Rattle.checks.proofs.Turns.{lacks-here, lacks-more, lacks-end, found-some, found-none}
+use Rattle.rows.proofs.Orders.{found-some, found-none}
+use Rattle.checks.proofs.Turns.{lacks-here, lacks-more, lacks-end}
 use Rattle.checks.proofs.objects.too_few.Statement.{statement}
 use Rattle.checks.proofs.objects.too_few.Tie as tie
 use Rattle.checks.proofs.objects.too_few.Reads as reads

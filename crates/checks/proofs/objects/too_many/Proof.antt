@@ -9,7 +9,7 @@ use Rattle.checks.proofs.objects.rows_with.Reads as rows-with-reads
 use Rattle.kinds.proofs.Kind.most.Reads as most-reads
 use Rattle.kinds.proofs.Kind.of.Reads as of-reads
 use Rattle.rows.proofs.faults.fault_if.Reads as fault-if-reads
-use Rattle.scopes.proofs.lookups.cell_of.Reads as cell-of-reads
+use Rattle.rows.proofs.cells.cell_of.Reads as cell-of-reads
 
 cell-of-requires : tie.Need-cell-of-requires
 cell-of-requires c κs = search needs

@@ -5,7 +5,7 @@ use Rattle.checks.proofs.parts.room_fault.Tie as tie
 use Rattle.checks.proofs.parts.room_fault.Reads as reads
 use Rattle.checks.proofs.parts.room_fault.Lts as lts
 use Rattle.rows.proofs.faults.fault_if.Reads as fault-if-reads
-use Rattle.scopes.proofs.lookups.cell_of.Reads as cell-of-reads
+use Rattle.rows.proofs.cells.cell_of.Reads as cell-of-reads
 
 cell-of-requires : tie.Need-cell-of-requires
 cell-of-requires c κs = search needs

@@ -1,4 +1,5 @@
-use Rattle.copying.specs.Copies.{row-or, attribute-of}
+use Rattle.rows.specs.Search.{rowOf}
+use Rattle.copying.specs.Copies.{attribute-of}
 use mathlib.Core.Path.{sym, _∙_, ap}
 use borrow.Author.Needs.{needs}
 use Rattle.copying.proofs.attributes.attribute_of.Statement.{statement}
@@ -17,12 +18,12 @@ enum-told : tie.Need-enum-told
 enum-told c = search needs
 
 returns : tie.Need-returns
-unfolding row-or attribute-of
-returns c = ap row-or (sym ((c .enum-told .given) .1) ∙ (c .before .before .find-row .ensures))
+unfolding rowOf attribute-of
+returns c = ap rowOf (sym ((c .enum-told .given) .1) ∙ (c .before .before .find-row .ensures))
 
 returns-2 : tie.Need-returns-2
-unfolding row-or attribute-of
-returns-2 c = ap row-or (sym ((c .before .i .given) .1) ∙ (c .before .before .before .find-row .ensures))
+unfolding rowOf attribute-of
+returns-2 c = ap rowOf (sym ((c .before .i .given) .1) ∙ (c .before .before .before .find-row .ensures))
 
 pub attribute-of-spec : {M : Type 1} → statement M
 attribute-of-spec = tie.close (tie.spec find-row-requires enum-known-i enum-told returns returns-2)

@@ -7,7 +7,7 @@ use Rattle.defining_checks.proofs.definitions.again.Tie as tie
 use Rattle.defining_checks.proofs.definitions.again.Reads as reads
 use Rattle.defining_checks.proofs.definitions.again.Lts as lts
 use Rattle.indexes.proofs.find_before.Reads as find-before-reads
-use Rattle.scopes.proofs.lookups.cell_of.Reads as cell-of-reads
+use Rattle.rows.proofs.cells.cell_of.Reads as cell-of-reads
 
 cell-of-requires : tie.Need-cell-of-requires
 cell-of-requires c κs = search needs

@@ -5,8 +5,9 @@ use Rattle.defining_checks.proofs.definitions.default_fault.Tie as tie
 use Rattle.defining_checks.proofs.definitions.default_fault.Reads as reads
 use Rattle.defining_checks.proofs.definitions.default_fault.Lts as lts
 use Rattle.defining_checks.proofs.definitions.is_late.Reads as is-late-reads
+use Rattle.lookups.proofs.word_under.Reads as word-under-reads
+use Rattle.rows.proofs.cells.cell_of.Reads as cell-of-reads
 use Rattle.rows.proofs.faults.fault_if.Reads as fault-if-reads
-use Rattle.scopes.proofs.lookups.cell_of.Reads as cell-of-reads
 use Rattle.scopes.proofs.lookups.takes.Reads as takes-reads
 
 cell-of-requires : tie.Need-cell-of-requires
@@ -30,6 +31,9 @@ cell-of-requires-3 c κs = search needs
 returns-3 : tie.Need-returns-3
 returns-3 c = default-unset _ _ _ _ _ _ _ _ (c .before .before .before .before .before .before .cell-of .ensures) (c .before .before .before .before .before .if1 .left) _ (c .before .before .before .before .is-late .ensures) (c .before .before .before .if2 .left) _ _ (c .before .before .cell-of2 .ensures) (c .before .cell-of3 .ensures) (c .if3 .taken)
 
+word-under-requires : tie.Need-word-under-requires
+word-under-requires c κs = search needs
+
 takes-requires : tie.Need-takes-requires
 takes-requires c κs = search needs
 
@@ -37,7 +41,7 @@ fault-if-requires : tie.Need-fault-if-requires
 fault-if-requires c κs = search needs
 
 returns-4 : tie.Need-returns-4
-returns-4 c = default-judged _ _ _ _ _ _ _ _ (c .before .before .before .before .before .before .before .before .cell-of .ensures) (c .before .before .before .before .before .before .before .if1 .left) _ (c .before .before .before .before .before .before .is-late .ensures) (c .before .before .before .before .before .if2 .left) _ _ (c .before .before .before .before .cell-of2 .ensures) (c .before .before .before .cell-of3 .ensures) _ _ (c .before .before .if3 .left) (c .before .takes .ensures) (c .fault-if .ensures)
+returns-4 c = default-judged _ _ _ _ _ _ _ _ (c .before .before .before .before .before .before .before .before .before .cell-of .ensures) (c .before .before .before .before .before .before .before .before .if1 .left) _ (c .before .before .before .before .before .before .before .is-late .ensures) (c .before .before .before .before .before .before .if2 .left) _ _ (c .before .before .before .before .before .cell-of2 .ensures) (c .before .before .before .before .cell-of3 .ensures) _ _ _ (c .before .before .before .if3 .left) (c .before .before .word-under .ensures) (c .before .takes .ensures) (c .fault-if .ensures)
 
 pub default-fault-spec : {M : Type 1} → statement M
 default-fault-spec =
@@ -50,6 +54,7 @@ default-fault-spec =
     cell-of-requires-2
     cell-of-requires-3
     returns-3
+    word-under-requires
     takes-requires
     fault-if-requires
     returns-4)

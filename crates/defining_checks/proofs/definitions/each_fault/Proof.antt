@@ -1,10 +1,10 @@
 -- `definitions::each_fault` meets its contract: row by row, through the index. Assumes nothing.
-use Rattle.indexes.proofs.Throughs.{through, through-one, through-two}
-use Rattle.defining_checks.proofs.Turns.{rows-start, rows-more, rows-end}
-use Rattle.defining_checks.specs.Promises.{RowsFault}
-use Rattle.indexes.specs.Indexing.{Through, ByTwo}
 use native.Mathlib.Omega.{arith}
 use Prim.Native.Nat.{_-_, _≤_}
+use Rattle.indexes.specs.Indexing.{Through, ByTwo}
+use Rattle.defining_checks.specs.Promises.{RowsFault}
+use Rattle.defining_checks.proofs.Turns.{rows-start, rows-more, rows-end}
+use Rattle.indexes.proofs.Throughs.{through, through-one, through-two}
 use Rattle.defining_checks.proofs.definitions.each_fault.Statement.{statement}
 use Rattle.defining_checks.proofs.definitions.each_fault.Tie as tie
 use Rattle.defining_checks.proofs.definitions.each_fault.Reads as reads
@@ -13,10 +13,10 @@ use Rattle.defining_checks.proofs.definitions.row_fault.Reads as row-fa
 use Rattle.rows.proofs.faults.sooner.Reads as sooner-reads
 
 abbrev Inv-loop : tie.InvT-loop
-Inv-loop text d e m full limit n x y best₀ j₀ best j = (j ≤ n) × Through (ByTwo text d 19 0 13 2 x y) n (RowsFault text d e m full limit j best)
+Inv-loop text d e xe full limit n x y best₀ j₀ best j = (j ≤ n) × Through (ByTwo text d 19 0 13 2 x y) n (RowsFault text d e xe full limit j best)
 
 abbrev μ-loop : tie.MeasureT-loop
-μ-loop text d e m full limit n x y best₀ j₀ best j = n - j
+μ-loop text d e xe full limit n x y best₀ j₀ best j = n - j
 
 loop-holds : tie.Need-loop-holds Inv-loop μ-loop
 loop-holds c = (omega arith, through (rows-start _ _ _ _ _ _))

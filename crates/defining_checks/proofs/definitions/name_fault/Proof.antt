@@ -11,7 +11,7 @@ use Rattle.defining_checks.proofs.definitions.again.Reads as again-read
 use Rattle.defining_checks.proofs.definitions.type_fault.Reads as type-fault-reads
 use Rattle.rows.proofs.faults.fault_if.Reads as fault-if-reads
 use Rattle.rows.proofs.faults.sooner.Reads as sooner-reads
-use Rattle.scopes.proofs.lookups.cell_of.Reads as cell-of-reads
+use Rattle.rows.proofs.cells.cell_of.Reads as cell-of-reads
 
 cell-of-requires : tie.Need-cell-of-requires
 cell-of-requires c κs = search needs

@@ -1,6 +1,6 @@
 -- `definitions::row_fault` meets its contract: the faults of its three parts. Assumes nothing.
-use Rattle.indexes.proofs.Throughs.{through-one}
 use Rattle.defining_checks.proofs.Turns.{row-all}
+use Rattle.indexes.proofs.Throughs.{through-one}
 use borrow.Author.Needs.{needs}
 use Rattle.defining_checks.proofs.definitions.row_fault.Statement.{statement}
 use Rattle.defining_checks.proofs.definitions.row_fault.Tie as tie

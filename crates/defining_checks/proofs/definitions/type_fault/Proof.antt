@@ -9,7 +9,7 @@ use Rattle.defining_checks.proofs.definitions.type_fault.Lts as lts
 use Rattle.indexes.proofs.find_before.Reads as find-before-reads
 use Rattle.rows.proofs.faults.fault_if.Reads as fault-if-reads
 use Rattle.rows.proofs.parts.same_part.Reads as same-part-reads
-use Rattle.scopes.proofs.lookups.cell_of.Reads as cell-of-reads
+use Rattle.rows.proofs.cells.cell_of.Reads as cell-of-reads
 
 cell-of-requires : tie.Need-cell-of-requires
 cell-of-requires c κs = search needs

@@ -6,11 +6,11 @@ use Rattle.defining_checks.proofs.enumerators.row_fault.Statement.{stat
 use Rattle.defining_checks.proofs.enumerators.row_fault.Tie as tie
 use Rattle.defining_checks.proofs.enumerators.row_fault.Reads as reads
 use Rattle.defining_checks.proofs.enumerators.row_fault.Lts as lts
-use Rattle.defining_checks.proofs.definitions.fault_found.Reads as fault-found-reads
+use Rattle.rows.proofs.faults.fault_found.Reads as fault-found-reads
 use Rattle.indexes.proofs.find_before.Reads as find-before-reads
 use Rattle.rows.proofs.faults.fault_if.Reads as fault-if-reads
 use Rattle.rows.proofs.faults.sooner.Reads as sooner-reads
-use Rattle.scopes.proofs.lookups.cell_of.Reads as cell-of-reads
+use Rattle.rows.proofs.cells.cell_of.Reads as cell-of-reads
 
 cell-of-requires : tie.Need-cell-of-requires
 cell-of-requires c κs = search needs

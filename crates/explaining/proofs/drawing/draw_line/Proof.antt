@@ -1,7 +1,6 @@
 -- `explaining::drawing::draw_line` meets its contract: its four runs are the line shown.
 -- Assumes nothing.
 use Rattle.explaining.proofs.Stores.{line-written, line-long}
-use Rattle.explaining.specs.Pictures.{bytesFrom}
 use borrow.Author.Needs.{needs}
 use Rattle.explaining.proofs.drawing.draw_line.Statement.{statement}
 use Rattle.explaining.proofs.drawing.draw_line.Tie as tie
@@ -43,7 +42,6 @@ same-length : tie.Need-same-length
 same-length c = search needs
 
 returns : tie.Need-returns
-unfolding bytesFrom
 returns c = (line-written _ _ (c .before .before .before .before .before .before .before .before .before .before .before .before .before .before .before .before .before .before .before .pre) _ _ _ _ _ (c .before .before .before .before .before .before .before .before .before .before .before .before .before .before .before .put-dots .ensures) (c .before .before .before .before .before .before .before .before .before .before .put .ensures) (c .before .before .before .before .before .before .put-dots2 .ensures) (c .before .before .put-byte .ensures), line-long _ _ (c .before .before .before .before .before .before .before .before .before .before .before .before .before .before .before .before .before .before .before .pre))
 
 pub draw-line-spec : {M : Type 1} → statement M

@@ -1,7 +1,6 @@
 -- `explaining::drawing::draw_mark` meets its contract: its four runs are the mark's line.
 -- Assumes nothing.
 use Rattle.explaining.proofs.Stores.{mark-written, mark-long}
-use Rattle.explaining.specs.Pictures.{bytesFrom}
 use native.Mathlib.Omega.{arith}
 use borrow.Author.Needs.{needs}
 use Rattle.explaining.proofs.drawing.draw_mark.Statement.{statement}
@@ -47,7 +46,6 @@ same-length : tie.Need-same-length
 same-length c = search needs
 
 returns : tie.Need-returns
-unfolding bytesFrom
 returns c = (mark-written _ _ ((c .before .before .before .before .before .before .before .before .before .before .before .before .before .before .before .before .before .before .before .pre) .0) _ _ _ _ _ _ (c .before .before .before .before .before .before .before .before .before .before .before .before .before .before .before .put-dots .ensures) (c .before .before .before .before .before .before .before .before .before .before .put .ensures) (c .before .before .before .before .before .before .put-byte .ensures) (c .before .before .put-byte2 .ensures), omega (arith, mark-long _ _ ((c .before .before .before .before .before .before .before .before .before .before .before .before .before .before .before .before .before .before .before .pre) .0)))
 
 pub draw-mark-spec : {M : Type 1} → statement M

@@ -1,7 +1,8 @@
 -- `judging::marking::marks` meets its contract.
 -- Assumes nothing.
 use Rattle.judging.proofs.Lacking.{marks-start, marks-more, marks-past}
-use Rattle.judging.specs.Promises.{Case, Marked}
+use Rattle.scopes.specs.Given.{Given}
+use Rattle.judging.specs.Promises.{Marked}
 use Rattle.meaning.specs.Syntax.{File}
 use lib.ListN.{length, length-set, replicate}
 use Prim.Native.Nat.{ℕ, _-_, _<_}
@@ -13,7 +14,7 @@ use Rattle.judging.proofs.marking.marks.Statement.{statement}
 use Rattle.judging.proofs.marking.marks.Tie as tie
 
 abbrev Inv-loop : tie.InvT-loop
-Inv-loop text d e st names z missing₀ j₀ missing j = (length missing ≡ 512) × ((o : List ℕ) (f : File) → Case text d e o st z f → Marked f missing j)
+Inv-loop text d e st names z missing₀ j₀ missing j = (length missing ≡ 512) × ((o : List ℕ) (f : File) → Given text d e o st z f → Marked f missing j)
 
 abbrev μ-loop : tie.MeasureT-loop
 μ-loop text d e st names z missing₀ j₀ missing j = z .definitions - j
@@ -22,7 +23,7 @@ loop-holds : tie.Need-loop-holds Inv-loop μ-loop
 loop-holds c = (refl, λ o f c′. marks-start f (replicate 512 0))
 
 returns : tie.Need-returns Inv-loop μ-loop
-returns c = λ o f c′. marks-past f (c .before .before .before .loop .missing) (c .before .before .before .loop .j) _ (omega (arith, c′ .definition-room, (c .if2 .taken))) ((c .before .before .before .loop .inv) .1 o f c′)
+returns c = λ o f c′. marks-past f (c .before .before .before .loop .missing) (c .before .before .before .loop .j) _ (omega (arith, c′ .tables .definitions-fit, (c .if2 .taken))) ((c .before .before .before .loop .inv) .1 o f c′)
 
 slice-aggregate-needs : tie.Need-slice-aggregate-needs Inv-loop μ-loop
 slice-aggregate-needs c = sym (c .before .before .before .before .loop .inv .0)

@@ -1,3 +1,10 @@
+-- `judging::names::is_before` meets its contract.
+-- Assumes nothing.
+use Prim.Native.Nat.{_+_, _*_}
+use lib.ListN.{getD}
+use mathlib.Core.Path.{subst}
+use Rattle.blocks.specs.Blocks.{FindsStated}
+use Rattle.blocks.proofs.Ranges.{before-first, before-none}
 use Rattle.judging.proofs.Naming.{statement-stated}
 use borrow.Author.Needs.{needs}
 use Rattle.judging.proofs.names.is_before.Statement.{statement}
@@ -5,20 +12,27 @@ use Rattle.judging.proofs.names.is_before.Tie as tie
 use Rattle.judging.proofs.names.is_before.Reads as reads
 use Rattle.judging.proofs.names.is_before.Lts as lts
 use Rattle.judging.proofs.names.cells_from.Reads as cells-from-reads
-use Rattle.lookups.proofs.is_row_stated.Reads as is-row-stated-reads
+use Rattle.lookups.proofs.row_stated.Reads as row-stated-reads
 
 cells-from-requires : tie.Need-cells-from-requires
 cells-from-requires c κs = search needs
 
-cells-from-requires-2 : tie.Need-cells-from-requires-2
-cells-from-requires-2 c κs = search needs
+row-stated-requires : tie.Need-row-stated-requires
+row-stated-requires c κs = search needs
 
-is-row-stated-requires : tie.Need-is-row-stated-requires
-is-row-stated-requires c κs = search needs
+enum-known-i : tie.Need-enum-known-i
+enum-known-i c = search needs
+
+enum-told : tie.Need-enum-told
+enum-told c = search needs
 
 returns : tie.Need-returns
-returns c = statement-stated _ _ _ _ (c .before .before .before .before .before .before .before .pre) _ _ _ _ _ _ (c .before .before .cells-from .ensures) (c .before .cells-from2 .ensures) (c .is-row-stated .ensures)
+returns c = before-first _ _ _ _ (subst (λ r. FindsStated (c .before .before .before .before .before .before .before .before .before .before .args .text .now) (c .before .before .before .before .before .before .before .before .before .before .args .st .now) (c .before .before .before .before .before .before .before .before .before .before .args .from) (c .before .before .before .before .before .before .before .before .before .before .args .end) (getD (c .before .before .before .before .before .before .before .before .before .before .args .st .now) ((c .before .before .before .before .before .before .before .before .before .before .args .k) * 7 + 0) 0) (getD (c .before .before .before .before .before .before .before .before .before .before .args .st .now) ((c .before .before .before .before .before .before .before .before .before .before .args .k) * 7 + 1) 0) r) (c .before .i .given .1) (statement-stated _ _ _ _ ((c .before .before .before .before .before .before .before .before .before .before .pre) .0) _ _ _ _ _ (c .before .before .before .before .cells-from .ensures) _ ((c .before .before .before .before .before .before .before .before .before .before .pre) .1) (c .before .before .before .row-stated .ensures)))
+
+returns-2 : tie.Need-returns-2
+returns-2 c = before-none _ _ _ (subst (λ r. FindsStated (c .before .before .before .before .before .before .before .before .before .args .text .now) (c .before .before .before .before .before .before .before .before .before .args .st .now) (c .before .before .before .before .before .before .before .before .before .args .from) (c .before .before .before .before .before .before .before .before .before .args .end) (getD (c .before .before .before .before .before .before .before .before .before .args .st .now) ((c .before .before .before .before .before .before .before .before .before .args .k) * 7 + 0) 0) (getD (c .before .before .before .before .before .before .before .before .before .args .st .now) ((c .before .before .before .before .before .before .before .before .before .args .k) * 7 + 1) 0) r) ((c .enum-told .given) .1) (statement-stated _ _ _ _ ((c .before .before .before .before .before .before .before .before .before .pre) .0) _ _ _ _ _ (c .before .before .before .cells-from .ensures) _ ((c .before .before .before .before .before .before .before .before .before .pre) .1) (c .before .before .row-stated .ensures)))
 
 pub is-before-spec : {M : Type 1} → statement M
 is-before-spec =
-    tie.close (tie.spec cells-from-requires cells-from-requires-2 is-row-stated-requires returns)
+    tie.close
+    (tie.spec cells-from-requires row-stated-requires enum-known-i enum-told returns returns-2)

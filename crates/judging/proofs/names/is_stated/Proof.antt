@@ -17,7 +17,7 @@ is-row-stated-requires : tie.Need-is-row-stated-requires
 is-row-stated-requires c κs = search needs
 
 returns : tie.Need-returns
-returns c = definition-stated _ _ _ _ ((c .before .before .before .before .before .before .before .before .pre) .0) _ _ _ _ _ _ (c .before .cells-from2 .ensures) _ (c .before .before .cells-from .ensures) ((c .before .before .before .before .before .before .before .before .pre) .1) (c .is-row-stated .ensures)
+returns c = definition-stated _ _ _ _ ((c .before .before .before .before .before .before .before .before .pre) .0) _ _ _ _ _ (c .before .cells-from2 .ensures) _ _ (c .before .before .cells-from .ensures) ((c .before .before .before .before .before .before .before .before .pre) .1) (c .is-row-stated .ensures)
 
 pub is-stated-spec : {M : Type 1} → statement M
 is-stated-spec =

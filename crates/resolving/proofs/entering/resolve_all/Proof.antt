@@ -1,18 +1,19 @@
+use mathlib.Core.Path.{sym}
+use lib.Seq.{length-take-le}
+use Rattle.resolving.proofs.Passing.{not-sized}
+use mathlib.Core.Path.{refl}
 use native.Mathlib.Omega.{arith}
 use borrow.Author.Needs.{needs}
-use mathlib.Core.Path.{refl}
-use Rattle.resolving.proofs.Passing.{not-sized}
-use lib.Seq.{length-take-le}
-use mathlib.Core.Path.{sym}
 use Rattle.resolving.proofs.entering.resolve_all.Statement.{statement}
 use Rattle.resolving.proofs.entering.resolve_all.Tie as tie
 use Rattle.resolving.proofs.entering.resolve_all.Reads as reads
 use Rattle.resolving.proofs.entering.resolve_all.Lts as lts
 use Rattle.amounts.proofs.defaults.note_defaults.Reads as note-defaults-reads
 use Rattle.resolving.proofs.entering.resolve_noted.Reads as resolve-noted-reads
+use Rattle.resolving.proofs.scanning.default_owners.Reads as default-owners-reads
 
 returns : tie.Need-returns
-returns c = not-sized (λ a y b e. (c .if1 .taken) a)
+returns c = not-sized (λ a y b e. ((c .if1) .taken) a)
 
 returns-2 : tie.Need-returns-2
 returns-2 c = not-sized (λ a y b e. omega arith)
@@ -28,6 +29,9 @@ slice-aggregate-note-defaults c = search needs
 
 note-defaults-requires : tie.Need-note-defaults-requires
 note-defaults-requires c κs = search needs
+
+default-owners-requires : tie.Need-default-owners-requires
+default-owners-requires c κs = tt
 
 slice-aggregate-resolve-noted : tie.Need-slice-aggregate-resolve-noted
 slice-aggregate-resolve-noted c = search needs
@@ -62,14 +66,17 @@ slice-aggregate-resolve-noted-7 c = search needs
 slice-aggregate-resolve-noted-8 : tie.Need-slice-aggregate-resolve-noted-8
 slice-aggregate-resolve-noted-8 c = search needs
 
+slice-aggregate-resolve-noted-9 : tie.Need-slice-aggregate-resolve-noted-9
+slice-aggregate-resolve-noted-9 c = search needs
+
 resolve-noted-requires : tie.Need-resolve-noted-requires
-resolve-noted-requires c κs = ((c .before .before .before .before .before .before .before .before .before .before .note-defaults .ensures) refl, record { room = (c .before .before .before .before .before .before .before .before .before .before .before .before .before .before .before .before .before .before .if1 .left); definitions = length-take-le _ _ (omega arith); enumerators = length-take-le _ _ (omega arith); objects = length-take-le _ _ (omega arith); definitions-fit = omega arith; enumerators-fit = omega arith; objects-fit = omega arith; spare-room = refl })
+resolve-noted-requires c κs = (((c .before .before .before .before .before .before .before .before .before .before .before .before .note-defaults) .ensures) refl, (c .before .before .before .before .before .before .before .before .before .before .default-owners .ensures), record { room = ((c .before .before .before .before .before .before .before .before .before .before .before .before .before .before .before .before .before .before .before .before .if1) .left); definitions = length-take-le _ _ (omega arith); enumerators = length-take-le _ _ (omega arith); objects = length-take-le _ _ (omega arith); definitions-fit = omega arith; enumerators-fit = omega arith; objects-fit = omega arith; spare-room = refl })
 
 same-length : tie.Need-same-length
 same-length c = search needs
 
 returns-5 : tie.Need-returns-5
-returns-5 c = (c .before .before .before .before .before .before .before .before .before .resolve-noted .ensures)
+returns-5 c = ((c .before .before .before .before .before .before .before .before .before .resolve-noted) .ensures)
 
 pub resolve-all-spec : {M : Type 1} → statement M
 resolve-all-spec =
@@ -81,6 +88,7 @@ resolve-all-spec =
     returns-4
     slice-aggregate-note-defaults
     note-defaults-requires
+    default-owners-requires
     slice-aggregate-resolve-noted
     slice-aggregate-resolve-noted-2
     array-borrow-prefix-xd
@@ -92,6 +100,7 @@ resolve-all-spec =
     slice-aggregate-resolve-noted-6
     slice-aggregate-resolve-noted-7
     slice-aggregate-resolve-noted-8
+    slice-aggregate-resolve-noted-9
     resolve-noted-requires
     same-length
     returns-5)

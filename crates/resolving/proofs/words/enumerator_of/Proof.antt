@@ -6,7 +6,7 @@ use Rattle.resolving.proofs.words.enumerator_of.Statement.{statement}
 use Rattle.resolving.proofs.words.enumerator_of.Tie as tie
 use Rattle.resolving.proofs.words.enumerator_of.Reads as reads
 use Rattle.resolving.proofs.words.enumerator_of.Lts as lts
-use Rattle.blocks.proofs.cell_at.Reads as cell-at-reads
+use Rattle.rows.proofs.cells.cell_of.Reads as cell-of-reads
 use Rattle.lookups.proofs.find_enumerator.Reads as find-enumerator-reads
 use Rattle.rows.proofs.cells.get.Reads as get-reads
 
@@ -19,8 +19,8 @@ find-enumerator-requires c κs = search needs
 returns : tie.Need-returns
 returns c = enumerator-looked (c .find-enumerator .ensures)
 
-cell-at-requires : tie.Need-cell-at-requires
-cell-at-requires c κs = search needs
+cell-of-requires : tie.Need-cell-of-requires
+cell-of-requires c κs = search needs
 
 find-enumerator-requires-2 : tie.Need-find-enumerator-requires-2
 find-enumerator-requires-2 c κs = search needs
@@ -28,8 +28,8 @@ find-enumerator-requires-2 c κs = search needs
 returns-2 : tie.Need-returns-2
 returns-2 c = enumerator-looked (c .find-enumerator2 .ensures)
 
-cell-at-requires-2 : tie.Need-cell-at-requires-2
-cell-at-requires-2 c κs = search needs
+cell-of-requires-2 : tie.Need-cell-of-requires-2
+cell-of-requires-2 c κs = search needs
 
 find-enumerator-requires-3 : tie.Need-find-enumerator-requires-3
 find-enumerator-requires-3 c κs = search needs
@@ -41,7 +41,7 @@ sub-t11 : tie.Need-sub-t11
 sub-t11 c = search needs
 
 returns-4 : tie.Need-returns-4
-returns-4 c = enumerator-noted (c .before .before .before .before .before .get .ensures) (c .before .before .before .before .if1 .left) (c .before .before .before .cell-at .ensures) (c .before .before .if2 .left) (c .before .cell-at2 .ensures) (c .if3 .left)
+returns-4 c = enumerator-noted (c .before .before .before .before .before .get .ensures) (c .before .before .before .before .if1 .left) (c .before .before .before .cell-of .ensures) (c .before .before .if2 .left) (c .before .cell-of2 .ensures) (c .if3 .left)
 
 pub enumerator-of-spec : {M : Type 1} → statement M
 enumerator-of-spec =
@@ -50,10 +50,10 @@ enumerator-of-spec =
     get-requires
     find-enumerator-requires
     returns
-    cell-at-requires
+    cell-of-requires
     find-enumerator-requires-2
     returns-2
-    cell-at-requires-2
+    cell-of-requires-2
     find-enumerator-requires-3
     returns-3
     sub-t11

@@ -6,14 +6,14 @@ use Rattle.resolving.proofs.words.note_word.Statement.{statement}
 use Rattle.resolving.proofs.words.note_word.Tie as tie
 use Rattle.resolving.proofs.words.note_word.Reads as reads
 use Rattle.resolving.proofs.words.note_word.Lts as lts
-use Rattle.blocks.proofs.cell_at.Reads as cell-at-reads
+use Rattle.rows.proofs.cells.cell_of.Reads as cell-of-reads
 use Rattle.lookups.proofs.find_enumerator.Reads as find-enumerator-reads
 
-cell-at-requires : tie.Need-cell-at-requires
-cell-at-requires c κs = search needs
+cell-of-requires : tie.Need-cell-of-requires
+cell-of-requires c κs = search needs
 
-cell-at-requires-2 : tie.Need-cell-at-requires-2
-cell-at-requires-2 c κs = search needs
+cell-of-requires-2 : tie.Need-cell-of-requires-2
+cell-of-requires-2 c κs = search needs
 
 find-enumerator-requires : tie.Need-find-enumerator-requires
 find-enumerator-requires c κs = search needs
@@ -34,14 +34,14 @@ add-result : tie.Need-add-result
 add-result c = search needs
 
 returns-3 : tie.Need-returns-3
-returns-3 c = notes-found _ _ _ _ (c .before .before .before .before .before .before .cell-at .ensures) (c .before .before .before .before .before .cell-at2 .ensures) (c .before .before .before .before .find-enumerator .ensures) ((c .before .before .i .given) .1)
+returns-3 c = notes-found _ _ _ _ (c .before .before .before .before .before .before .cell-of .ensures) (c .before .before .before .before .before .cell-of2 .ensures) (c .before .before .before .before .find-enumerator .ensures) ((c .before .before .i .given) .1)
 
 pub note-word-spec : {M : Type 1} → statement M
 note-word-spec =
     tie.close
     (tie.spec
-    cell-at-requires
-    cell-at-requires-2
+    cell-of-requires
+    cell-of-requires-2
     find-enumerator-requires
     enum-known-i
     enum-told

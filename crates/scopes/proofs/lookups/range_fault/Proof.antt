@@ -5,7 +5,7 @@ use Rattle.scopes.proofs.lookups.range_fault.Tie as tie
 use Rattle.scopes.proofs.lookups.range_fault.Reads as reads
 use Rattle.scopes.proofs.lookups.range_fault.Lts as lts
 use Rattle.scopes.proofs.bounds.bound_fault.Reads as bound-fault-reads
-use Rattle.scopes.proofs.lookups.cell_of.Reads as cell-of-reads
+use Rattle.rows.proofs.cells.cell_of.Reads as cell-of-reads
 
 cell-of-requires : tie.Need-cell-of-requires
 cell-of-requires c κs = search needs

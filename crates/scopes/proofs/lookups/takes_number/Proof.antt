@@ -5,7 +5,7 @@ use Rattle.scopes.proofs.lookups.takes_number.Tie as tie
 use Rattle.scopes.proofs.lookups.takes_number.Reads as reads
 use Rattle.scopes.proofs.lookups.takes_number.Lts as lts
 use Rattle.scopes.proofs.bounds.in_range.Reads as in-range-reads
-use Rattle.scopes.proofs.lookups.cell_of.Reads as cell-of-reads
+use Rattle.rows.proofs.cells.cell_of.Reads as cell-of-reads
 use Rattle.scopes.proofs.numbers.in_type.Reads as in-type-reads
 use Rattle.scopes.proofs.numbers.number_at.Reads as number-at-reads
 

@@ -5,7 +5,7 @@ use Rattle.scopes.proofs.lookups.truth_under.Tie as tie
 use Rattle.scopes.proofs.lookups.truth_under.Reads as reads
 use Rattle.scopes.proofs.lookups.truth_under.Lts as lts
 use Rattle.rows.proofs.parts.same_part.Reads as same-part-reads
-use Rattle.scopes.proofs.lookups.cell_of.Reads as cell-of-reads
+use Rattle.rows.proofs.cells.cell_of.Reads as cell-of-reads
 
 cell-of-requires : tie.Need-cell-of-requires
 cell-of-requires c κs = search needs

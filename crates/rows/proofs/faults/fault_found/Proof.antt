@@ -1,9 +1,10 @@
-use Rattle.defining_checks.proofs.Naming.{found-some, found-none}
+-- `rows::faults::fault_found` meets its contract. Assumes nothing.
+use Rattle.rows.proofs.Orders.{found-some, found-none}
 use borrow.Author.Needs.{needs}
-use Rattle.defining_checks.proofs.definitions.fault_found.Statement.{statement}
-use Rattle.defining_checks.proofs.definitions.fault_found.Tie as tie
-use Rattle.defining_checks.proofs.definitions.fault_found.Reads as reads
-use Rattle.defining_checks.proofs.definitions.fault_found.Lts as lts
+use Rattle.rows.proofs.faults.fault_found.Statement.{statement}
+use Rattle.rows.proofs.faults.fault_found.Tie as tie
+use Rattle.rows.proofs.faults.fault_found.Reads as reads
+use Rattle.rows.proofs.faults.fault_found.Lts as lts
 
 enum-told : tie.Need-enum-told
 enum-told c = search needs

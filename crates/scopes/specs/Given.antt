@@ -1,14 +1,15 @@
--- The rows that were kept of a text, and where an attribute stands in them. Assumes nothing.
+-- The rows that were kept of a text, all of them, and where an attribute stands in them. Assumes nothing.
 use mathlib.Core.Path.{_≡_}
-use mathlib.Core.List.{List, [], _∷_, _++_}
+use mathlib.Core.List.{List, [], _∷_}
 use Prim.Native.Nat.{ℕ, _≤_, _<_}
-use lib.ListN.{length}
+use lib.ListN.{length, getD}
+use Rattle.grammar.specs.Grammar.{Kind}
 use Rattle.meaning.specs.Syntax.{Word, Definitions, Defined, File}
+use Rattle.meaning.specs.Kinds.{kind-number}
 use Rattle.meaning.specs.Defining.{DefinitionRow, definition-row}
-use Rattle.meaning.proofs.Standing.{select, standing}
-use Rattle.layout.specs.Kept.{Entry, spec-entries, spec-choices, kept-definitions, kept-enumerators, kept-objects, kept-statements, statement-count}
+use Rattle.layout.specs.Kept.{Entry, spec-entries, spec-choices, kept-definitions, kept-enumerators, kept-objects, kept-statements, statement-count, kind-place}
 use Rattle.scopes.specs.Situations.{Situation, HasDefinition, Stands}
-use Rattle.resolving.specs.declared.Sizes.{Sizes}
+use Rattle.scopes.specs.declared.Sizes.{Sizes}
 
 -- The text s is f, and its definitions, enumerators and objects are in the tables d, e and o, all of them.
 pub record Tables (s d e o : List ℕ) (z : Sizes) (f : File) : Type 0 where
@@ -29,6 +30,10 @@ pub record Given (s d e o st : List ℕ) (z : Sizes) (f : File) : Type 0 where
   pub in-statements : st ≡ kept-statements f
   pub statements-fit : statement-count (f .objects) ≤ 2048
 
+-- The places of the kinds' words.
+pub record Places (f : File) (ps : List ℕ) : Type 0 where
+  pub place : (k : Kind) → getD ps (kind-number k) 0 ≡ kind-place (kind-number k) (f .specs)
+
 -- Row j is that of the attribute x, which stands in some scope.
 pub record Attribute (f : File) (j : ℕ) (x : Defined) : Type 0 where
   pub under : Word
@@ -41,17 +46,7 @@ pub record Attribute (f : File) (j : ℕ) (x : Defined) : Type 0 where
 abbrev pub Below : ℕ → Definitions → Type 0
 Below k ds = (x : Defined) → HasDefinition ds x → x .definition .row < k
 
--- The rows of entries, as the table of definitions has them.
-unfoldable pub rows-of : List Entry → List DefinitionRow
-rows-of [] = []
-rows-of (x ∷ xs) = definition-row (x .under) (x .definition) ∷ rows-of xs
-
--- A loop over the rows at row j: of the scope ds of the word u the definitions `left` are those from row j on.
-pub record Left (f : File) (u : Word) (ds : Definitions) (j : ℕ) (left : Definitions) : Type 0 where
-  pub front : List Entry
-  pub rest : List Entry
-  pub whole : spec-entries (f .specs) ≡ front ++ rest
-  pub place : length front ≡ j
-  pub selected : select (u .place) j (rows-of rest) ≡ standing u left
-  pub stands : Stands (f .specs) u ds
-  pub among : (x : Defined) → HasDefinition left x → HasDefinition ds x
+-- The rows of entries are those of the public table.
+unfoldable pub entry-rows : List Entry → List DefinitionRow
+entry-rows [] = []
+entry-rows (x ∷ xs) = definition-row (x .under) (x .definition) ∷ entry-rows xs

@@ -1,15 +1,20 @@
 -- The sorts of words by their codes. Assumes nothing.
-use mathlib.Core.Path.{_≡_, refl}
+use mathlib.Core.Path.{_≡_, refl, sym, _∙_, ap, subst}
+use mathlib.Core.Bool.{Bool, true, false}
+use mathlib.Core.Option.{none, some}
 use Prim.Native.Nat.{ℕ}
 use lib.Dec.{eqb}
 use borrow.Author.Tests.{ne-eqb}
+use Rattle.meaning.specs.Cells.{integer-code}
 use Rattle.token.specs.Find.{pick}
 use Rattle.grammar.specs.Grammar.{Class, Kind, Integer, Given, Sign, ordinary, numeral, quoted, other, kind-word, type-word, integer-word, word, sign, UINT32, INT32, UINT64, INT64, OIL-VERSION, IMPLEMENTATION, CPU, STRING, BOOLEAN, ENUM, TRUE, FALSE, AUTO, NO-DEFAULT, WITH-AUTO, lbrace, rbrace, lsquare, rsquare, equals, semicolon, colon, comma, dots, given-code, sign-code, code}
 use Rattle.grammar.specs.Grammar.{OS, APPMODE, TASK, ISR, COUNTER, ALARM, RESOURCE, EVENT, COM, MESSAGE, NETWORKMESSAGE, IPDU, NM}
 use Rattle.meaning.specs.Kinds.{kind-number}
 use Rattle.meaning.specs.Scopes.{Sort, a-number, a-string, a-truth, an-auto, a-no-default, a-name, sort-of, sort-of-word}
+use Rattle.meaning.specs.Syntax.{Word}
+use Rattle.meaning.specs.Judging.{is-no-default, taken-by, taken}
 use Rattle.meaning.specs.Resolving.{is-true}
-use Rattle.layout.specs.Kept.{class-number, given-number, sign-number, integer-number}
+use Rattle.layout.specs.Kept.{class-number, given-number, sign-number, code-of}
 
 unfoldable pub sort-coded : ℕ → Sort
 sort-coded n =
@@ -21,7 +26,7 @@ pub record Tells (c : Class) : Type 0 where
   pub truth : is-true c ≡ eqb (class-number c) 1
 
 tells-kind : (x : Kind) → Tells (kind-word x)
-unfolding sort-of sort-of-word sort-coded class-number given-number sign-number integer-number kind-number is-true code given-code sign-code
+unfolding sort-of sort-of-word sort-coded class-number given-number sign-number integer-code kind-number is-true code given-code sign-code
 tells-kind OS = record { sort = refl; truth = refl }
 tells-kind APPMODE = record { sort = refl; truth = refl }
 tells-kind TASK = record { sort = refl; truth = refl }
@@ -37,7 +42,7 @@ tells-kind IPDU = record { sort = refl; truth = refl }
 tells-kind NM = record { sort = refl; truth = refl }
 
 tells-type : (x : Kind) → Tells (type-word x)
-unfolding sort-of sort-of-word sort-coded class-number given-number sign-number integer-number kind-number is-true code given-code sign-code
+unfolding sort-of sort-of-word sort-coded class-number given-number sign-number integer-code kind-number is-true code given-code sign-code
 tells-type OS = record { sort = refl; truth = refl }
 tells-type APPMODE = record { sort = refl; truth = refl }
 tells-type TASK = record { sort = refl; truth = refl }
@@ -53,14 +58,14 @@ tells-type IPDU = record { sort = refl; truth = refl }
 tells-type NM = record { sort = refl; truth = refl }
 
 tells-integer : (x : Integer) → Tells (integer-word x)
-unfolding sort-of sort-of-word sort-coded class-number given-number sign-number integer-number kind-number is-true code given-code sign-code
+unfolding sort-of sort-of-word sort-coded class-number given-number sign-number integer-code kind-number is-true code given-code sign-code
 tells-integer UINT32 = record { sort = refl; truth = refl }
 tells-integer INT32 = record { sort = refl; truth = refl }
 tells-integer UINT64 = record { sort = refl; truth = refl }
 tells-integer INT64 = record { sort = refl; truth = refl }
 
 tells-word : (x : Given) → Tells (word x)
-unfolding sort-of sort-of-word sort-coded class-number given-number sign-number integer-number kind-number is-true code given-code sign-code
+unfolding sort-of sort-of-word sort-coded class-number given-number sign-number integer-code kind-number is-true code given-code sign-code
 tells-word OIL-VERSION = record { sort = refl; truth = refl }
 tells-word IMPLEMENTATION = record { sort = refl; truth = refl }
 tells-word CPU = record { sort = refl; truth = refl }
@@ -74,7 +79,7 @@ tells-word NO-DEFAULT = record { sort = refl; truth = refl }
 tells-word WITH-AUTO = record { sort = refl; truth = refl }
 
 tells-sign : (x : Sign) → Tells (sign x)
-unfolding sort-of sort-of-word sort-coded class-number given-number sign-number integer-number kind-number is-true code given-code sign-code
+unfolding sort-of sort-of-word sort-coded class-number given-number sign-number integer-code kind-number is-true code given-code sign-code
 tells-sign lbrace = record { sort = refl; truth = refl }
 tells-sign rbrace = record { sort = refl; truth = refl }
 tells-sign lsquare = record { sort = refl; truth = refl }
@@ -101,3 +106,29 @@ tells (sign x) = tells-sign x
 pub name-coded : (n : ℕ) → (n ≡ 42 → ⊥) → (n ≡ 43 → ⊥) → (n ≡ 1 → ⊥) → (n ≡ 2 → ⊥) → (n ≡ 3 → ⊥) → (n ≡ 4 → ⊥) → sort-coded n ≡ a-name
 unfolding sort-coded
 name-coded n a b c d e f = rw (ne-eqb n 42 a, ne-eqb n 43 b, ne-eqb n 1 c, ne-eqb n 2 d, ne-eqb n 3 e, ne-eqb n 4 f)
+
+-- Only the code 4 is that of NO_DEFAULT.
+pub other-coded : (P : Sort → Type 0) → P a-number → P a-string → P a-truth → P an-auto → P a-name → (n : ℕ) → (n ≡ 4 → ⊥) → P (sort-coded n)
+unfolding sort-coded
+other-coded P a b c d e n h =
+    subst (λ t. P (pick (eqb n 42) a-number (pick (eqb n 43) a-string (pick (eqb n 1) a-truth (pick (eqb n 2) a-truth (pick (eqb n 3) an-auto (pick t a-no-default a-name)))))))
+    (sym (ne-eqb n 4 h)) (by (eqb n 42) (eqb n 43) (eqb n 1) (eqb n 2) (eqb n 3))
+  where
+    by : (p q r s t : Bool) → P (pick p a-number (pick q a-string (pick r a-truth (pick s a-truth (pick t an-auto a-name)))))
+    by true q r s t = a
+    by false true r s t = b
+    by false false true s t = c
+    by false false false true t = c
+    by false false false false true = d
+    by false false false false false = e
+
+-- NO_DEFAULT is not taken, any other default is.
+pub taken-none : (t : Word) → code-of t ≡ 4 → taken (some t) ≡ none
+unfolding taken taken-by code-of sort-coded is-no-default
+taken-none t e = ap (λ q. taken-by (is-no-default q) t) (tells (t .class) .sort ∙ ap sort-coded e)
+
+pub taken-some : (t : Word) → (code-of t ≡ 4 → ⊥) → taken (some t) ≡ some t
+unfolding taken taken-by code-of is-no-default
+taken-some t h =
+    ap (λ q. taken-by (is-no-default q) t) (tells (t .class) .sort)
+    ∙ other-coded (λ q. taken-by (is-no-default q) t ≡ some t) refl refl refl refl refl (class-number (t .class)) h

@@ -7,24 +7,24 @@ use Prim.Native.Nat.{ℕ, _<_}
 use native.Mathlib.Omega.{arith}
 use Rattle.token.proofs.Find.{by-test}
 use Rattle.grammar.specs.Grammar.{Kind, Integer}
 use Rattle.meaning.specs.Syntax.{Word, Bounds, no-bounds, from-to, one-of, AttributeType, integer, string, boolean, enum, reference, Definition, Definitions, no-more, define, Values, no-value, value, Defined, Spec, Statement, Statements, done, state, Object, File, is-enum}
 use Rattle.meaning.specs.Kinds.{kinds}
 use Rattle.meaning.specs.Faults.{Fault, fault-if, ahead, sooner, first}
 use Rattle.meaning.specs.Scopes.{Sort, a-number, a-string, a-truth, an-auto, a-no-default, a-name, sort-of, heads, of-kind, find-definition, names}
 use Rattle.meaning.specs.Defining.{outside, bound-faults, range-faults, default-faults, name-faults, word-faults, scope-faults, value-faults, spec-faults, definition-faults}
 use Rattle.meaning.specs.Applying.{too-few, statement-faults, each-object, object-faults}
 use Rattle.meaning.specs.Judging.{reference-faults, brace-faults, faults-as, own-faults, and-inside, judged, judge, judge-object, judge-objects, statement-stage}
 
 -- Each of the faults has a number above 5.
 pub data Numbered : List Fault → Type 0 where
   no-fault : Numbered []
   a-fault : {f : Fault} {fs : List Fault} → 5 < f .number → Numbered fs → Numbered (f ∷ fs)
 
-with-more : {a b : List Fault} → Numbered a → Numbered b → Numbered (a ++ b)
+pub with-more : {a b : List Fault} → Numbered a → Numbered b → Numbered (a ++ b)
 with-more no-fault q = q
 with-more (a-fault h p) q = a-fault h (with-more p q)
 
-at-if : (b : Bool) (t : Word) (n : ℕ) → 5 < n → Numbered (fault-if b t n)
+pub at-if : (b : Bool) (t : Word) (n : ℕ) → 5 < n → Numbered (fault-if b t n)
 unfolding fault-if
 at-if true t n h = a-fault h no-fault
 at-if false t n h = no-fault
@@ -42,7 +42,7 @@ of-bounds i no-bounds = no-fault
 of-bounds i (from-to a b) = with-more (at-if _ a 10 (omega arith)) (of-outside i (a ∷ b ∷ []))
 of-bounds i (one-of ts) = of-outside i ts
 
-of-range : (y : AttributeType) (b : Bounds) → Numbered (range-faults y b)
+pub of-range : (y : AttributeType) (b : Bounds) → Numbered (range-faults y b)
 unfolding range-faults
 of-range (integer i) b = of-bounds i b
 of-range string b = no-fault
@@ -50,17 +50,17 @@ of-range boolean b = no-fault
 of-range enum b = no-fault
 of-range (reference k) b = no-fault
 
-of-default : (d : Definition) (vs : Values) (o : Option Word) → Numbered (default-faults d vs o)
+pub of-default : (d : Definition) (vs : Values) (o : Option Word) → Numbered (default-faults d vs o)
 unfolding default-faults
 of-default d vs none = no-fault
 of-default d vs (some t) = at-if _ t 10 (omega arith)
 
-of-name : (d : Definition) (others before : List Definition) → Numbered (name-faults d others before)
+pub of-name : (d : Definition) (others before : List Definition) → Numbered (name-faults d others before)
 unfolding name-faults
 of-name d others before =
     with-more (at-if _ (d .name) 7 (omega arith)) (with-more (at-if _ (d .name) 8 (omega arith)) (at-if _ (d .name) 9 (omega arith)))
 
-of-word : (b : Bool) (e : ℕ) (w : Word) (before : List Word) → Numbered (word-faults b e w before)
+pub of-word : (b : Bool) (e : ℕ) (w : Word) (before : List Word) → Numbered (word-faults b e w before)
 unfolding word-faults
 of-word b e w before = with-more (at-if _ w 7 (omega arith)) (at-if _ w 8 (omega arith))
 
@@ -91,7 +91,7 @@ of-definitions f = with-more (at-if _ (f .version) 6 (omega arith)) (of-specs []
 
 -- 11, 12 and 17 ------------------------------------------------------------------------------------------------------------------------------
 
-of-few : (ks : List Kind) (os : List Object) (cpu : Word) → Numbered (too-few ks os cpu)
+pub of-few : (ks : List Kind) (os : List Object) (cpu : Word) → Numbered (too-few ks os cpu)
 unfolding too-few
 of-few [] os cpu = no-fault
 of-few (k ∷ ks) os cpu = with-more (at-if _ cpu 17 (omega arith)) (of-few ks os cpu)
@@ -116,7 +116,7 @@ of-objects f = with-more (of-few kinds (f .objects) (f .cpu)) (of-each [] (f .ob
 
 -- 13 to 16 and 18 ----------------------------------------------------------------------------------------------------------------------------
 
-of-reference : (os : List Object) (k : Kind) (y : Sort) (t : Word) → Numbered (reference-faults os k y t)
+pub of-reference : (os : List Object) (k : Kind) (y : Sort) (t : Word) → Numbered (reference-faults os k y t)
 unfolding reference-faults
 of-reference os k a-number t = at-if true t 15 (omega arith)
 of-reference os k a-string t = at-if true t 15 (omega arith)
@@ -125,12 +125,12 @@ of-reference os k an-auto t = at-if true t 15 (omega arith)
 of-reference os k a-no-default t = at-if true t 15 (omega arith)
 of-reference os k a-name t = at-if _ t 18 (omega arith)
 
-of-brace : (o : Option Word) → Numbered (brace-faults o)
+pub of-brace : (o : Option Word) → Numbered (brace-faults o)
 unfolding brace-faults
 of-brace none = no-fault
 of-brace (some t) = at-if true t 15 (omega arith)
 
-of-type : (y : AttributeType) (os : List Object) (x : Statement) (d : Defined) → Numbered (faults-as y os x d)
+pub of-type : (y : AttributeType) (os : List Object) (x : Statement) (d : Defined) → Numbered (faults-as y os x d)
 unfolding faults-as
 of-type (integer i) os x d = at-if _ (x .value) 15 (omega arith)
 of-type string os x d = at-if _ (x .value) 15 (omega arith)
@@ -138,7 +138,7 @@ of-type boolean os x d = at-if _ (x .value) 15 (omega arith)
 of-type enum os x d = at-if _ (x .value) 15 (omega arith)
 of-type (reference k) os x d = with-more (of-reference os k (sort-of (x .value .class)) (x .value)) (of-brace (x .brace))
 
-of-own : (os : List Object) (x : Statement) (d : Defined) (before : List Word) → Numbered (own-faults os x d before)
+pub of-own : (os : List Object) (x : Statement) (d : Defined) (before : List Word) → Numbered (own-faults os x d before)
 unfolding own-faults
 of-own os x d before = with-more (at-if _ (x .name) 14 (omega arith)) (of-type (d .definition .type) os x d)
 
@@ -148,24 +148,27 @@ unfolding and-inside
 of-inside [] x us ns k p q = with-more (at-if _ (x .value) 16 (omega arith)) (q us)
 of-inside (f ∷ fs) x us ns k p q = p
 
-of-judged : (o : Option Defined) (os : List Object) (x : Statement) (before ns : List Word) (k : Definitions → List Fault) → ((us : Definitions) → Numbered (k us))
+pub of-judged : (o : Option Defined) (os : List Object) (x : Statement) (before ns : List Word) (k : Definitions → List Fault) → ((us : Definitions) → Numbered (k us))
     → Numbered (judged o os x before ns k)
 unfolding judged
 of-judged none os x before ns k q = at-if true (x .name) 13 (omega arith)
 of-judged (some d) os x before ns k q = of-inside (own-faults os x d before) x _ ns k (of-own os x d before) q
 
-of-judge : (ss : Statements) (os : List Object) (ds : Definitions) (before : List Word) → Numbered (judge ss os ds before)
+pub of-judge : (ss : Statements) (os : List Object) (ds : Definitions) (before : List Word) → Numbered (judge ss os ds before)
 unfolding judge
 of-judge done os ds before = no-fault
 of-judge (state x inside rest) os ds before =
     with-more (of-judged (find-definition ds (x .name)) os x before (names inside) (λ us. judge inside os us []) (λ us. of-judge inside os us []))
     (of-judge rest os ds (before ++ (x .name ∷ [])))
 
-of-objects-judged : (f : File) (xs : List Object) → Numbered (judge-objects f xs)
-unfolding judge-objects judge-object
+pub of-object : (f : File) (x : Object) (ds : Definitions) → Numbered (judge-object f x ds)
+unfolding judge-object
+of-object f x ds = with-more (at-if _ (x .name) 16 (omega arith)) (of-judge (x .statements) (f .objects) ds [])
+
+pub of-objects-judged : (f : File) (xs : List Object) → Numbered (judge-objects f xs)
+unfolding judge-objects
 of-objects-judged f [] = no-fault
-of-objects-judged f (x ∷ xs) =
-    with-more (with-more (at-if _ (x .name) 16 (omega arith)) (of-judge (x .statements) (f .objects) (of-kind (x .kind) (f .specs)) [])) (of-objects-judged f xs)
+of-objects-judged f (x ∷ xs) = with-more (of-object f x (of-kind (x .kind) (f .specs))) (of-objects-judged f xs)
 
 pub of-stage : (f : File) → Numbered (statement-stage f)
 unfolding statement-stage
