@@ -356,6 +356,14 @@ fn against_scopes() -> Vec<Heavy> {
     ]
 }
 
+/// Numbers of one byte, as many as there can be.
+const DIGITS: &str = "9,8,7,6,5,4,3,2,1,0,";
+
+/// The two words of a list of enumerators.
+fn words(number: usize) -> [&'static str; 2] {
+    [["A", "C"], ["B", "D"]][number % 2]
+}
+
 /// Several of these at once.
 fn against_all() -> Vec<Heavy> {
     let needed =
@@ -383,7 +391,7 @@ fn against_all() -> Vec<Heavy> {
                 needed("ENUM[A,B]", "")
             ),
             &stated("B"),
-            "9,8,7,6,5,4,3,2,1,0,",
+            DIGITS,
         ),
         filled(
             "510 attributes with defaults behind a list, beside a long list",
@@ -392,7 +400,48 @@ fn against_all() -> Vec<Heavy> {
                 needed("ENUM[A,B]", "=B")
             ),
             &stated("B"),
-            "9,8,7,6,5,4,3,2,1,0,",
+            DIGITS,
+        ),
+        filled(
+            "511 attributes with defaults in four objects, beside a long list",
+            &format!(
+                "TASK{{{}}};ISR{{UINT32[#0]x[];}};",
+                each(511, |number| format!("ENUM[A,B]{}=B;", name(2, number)))
+            ),
+            &each(4, |object| {
+                let stated = each(511, |number| format!("{}=B;", name(2, number)));
+                format!("TASK t{object}{{{stated}}};")
+            }),
+            DIGITS,
+        ),
+        filled(
+            "511 lists stated in turn, beside a long list",
+            &format!(
+                "TASK{{{}}};ISR{{INT64[#0]x[];}};",
+                each(511, |number| {
+                    let [first, second] = words(number);
+                    format!("ENUM[{first},{second}]{}[]={second};", name(2, number))
+                })
+            ),
+            &format!(
+                "TASK t{{{}}};",
+                each(511, |number| format!(
+                    "{}={};",
+                    name(2, number),
+                    words(number)[1]
+                ))
+                .repeat(4)
+            ),
+            DIGITS,
+        ),
+        filled(
+            "509 lists under a value, opened 2,048 times, beside a long list",
+            &format!(
+                "TASK{{ENUM[A{{{}}}]x[];}};ISR{{INT64[#0]x[];}};",
+                each(509, |number| format!("ENUM[A,B]{}[];", name(2, number)))
+            ),
+            &format!("TASK t{{{}}};", "x=A;".repeat(2_048)),
+            DIGITS,
         ),
     ]
 }
