@@ -8,6 +8,7 @@ use Prim.Native.Nat.{ℕ, suc, _+_, _*_, _≤_, _<_, min}
 use native.Mathlib.Omega.{arith}
 use lib.ListN.{length, getD, length-append}
 use lib.Dec.{eqb, ltb}
+use Rattle.rows.specs.Table.{cellOf}
 use Rattle.meaning.proofs.Numbered.{of-few}
 use Rattle.token.specs.Find.{pick, both, bit, is-there}
 use Rattle.token.specs.Words.{same}
@@ -32,17 +33,17 @@ use Rattle.meaning.proofs.Numbering.{Counts, statement-numbers, object-numbers,
 use Rattle.layout.specs.Kept.{statement-cells, statement-rows, all-statement-rows, object-cells, kept-objects, kept-statements, statement-count, Wide}
 use Rattle.scopes.specs.Situations.{Situation, Nth}
 use Rattle.scopes.specs.Promises.{fault-of}
-use Rattle.scopes.proofs.Rooms.{kept-cell, object-cell, split}
+use Rattle.scopes.proofs.Rooms.{kept-cell, object-cell, split, nth-of}
 use Rattle.scopes.proofs.Finding.{seek-all, is-object, find-in-objects}
 use Rattle.scopes.proofs.Goodness.{Good, Goods, good-back, object-good, later-words}
 use Rattle.scopes.proofs.Descents.{whole}
 use Rattle.kinds.specs.Kinds.{kind-at, most-of}
 use Rattle.scopes.specs.Listing.{each}
 use Rattle.checks.specs.Listing.{object-row-faults}
-use Rattle.checks.specs.Cells.{lacking-from, count-rows, full-of, cell, too-many, name-again, object-codes, room-fault}
+use Rattle.checks.specs.Cells.{lacking-from, count-rows, full-of, too-many, name-again, object-codes, room-fault}
 use Rattle.checks.specs.Promises.{ObjectFaults}
 use Rattle.scopes.proofs.Firsts.{Has, here, there, has-none, has-left, has-right, has-split, in-if, Covered, covered, covered-by, first-same, Real, real, real-none, real-append, real-if, fault-append, fault-one, real-each, found-at, at-row}
-use Rattle.checks.proofs.Rows.{Stands, in-front, in-rest, stands, item-at, get-at, nth-fault, fault-nth, real-nth, room-code, numbers-of, numbered, numbered-append, numbers-append, numbered-is}
+use Rattle.checks.proofs.Rows.{Stands, in-front, in-rest, stands, get-at, nth-fault, fault-nth, real-nth, room-code, numbers-of, numbered, numbered-append, numbers-append, numbered-is}
 use Rattle.token.proofs.Bytes.{eqb-sym}
 
 -- Kinds ------------------------------------------------------------------------------------------------------------------------------------
@@ -152,7 +153,7 @@ module _ (s : List ℕ) (f : File) (o : List ℕ) (k : Situation s f) (e : o ≡
 
   many-is : (p : List Object) (x : Object) (rest : List Object) (j : ℕ) → f .objects ≡ p ++ (x ∷ rest) → length p ≡ j → j < 257
       → too-many o j ≡ fault-of (first (fault-if (full (most (x .kind)) (how-many (x .kind) p)) (x .word) 17))
-  unfolding too-many cell
+  unfolding too-many
   many-is p x rest j w l h =
       let q : Nth (f .objects) j x = record { front = p; rest = rest; whole = w; place = l } in
       let c : count-rows o 9 0 (kind-number (x .kind)) j 0 ≡ how-many (x .kind) p =
@@ -185,7 +186,7 @@ module _ (s : List ℕ) (f : File) (o : List ℕ) (k : Situation s f) (e : o ≡
 
   again-is : (p : List Object) (x : Object) (rest : List Object) (j : ℕ) → f .objects ≡ p ++ (x ∷ rest) → length p ≡ j → j < 257
       → name-again s o j ≡ fault-of (first (fault-if (is-there (find-object (x .kind) p (x .name))) (x .name) 12))
-  unfolding name-again cell
+  unfolding name-again
   again-is p x rest j w l h =
       let q : Nth (f .objects) j x = record { front = p; rest = rest; whole = w; place = l } in
       let g : Goods s (object-words (p ++ (x ∷ rest))) = subst (λ (os : List Object). Goods s (object-words os)) w object-goods in
@@ -333,8 +334,8 @@ rowed-nth (more-rows {xs} {rs = rs′} y m p) (z ∷ a) x b e =
     let n = r .nth in
     record { after = r .after; nth = record { front = statement-cells y m ∷ n .front; rest = n .rest; whole = ap (λ (l : List (List ℕ)). statement-cells y m ∷ l) (n .whole); place = ap suc (n .place) } }
 
-statement-cell : (f : File) (st : List ℕ) (x : Statement) → st ≡ kept-statements f → Nth (flat (f .objects)) 2048 x → cell st 7 2048 0 ≡ x .name .place
-unfolding kept-statements statement-cells cell
+statement-cell : (f : File) (st : List ℕ) (x : Statement) → st ≡ kept-statements f → Nth (flat (f .objects)) 2048 x → cellOf st 7 2048 0 ≡ x .name .place
+unfolding kept-statements statement-cells
 statement-cell f st x e q =
     let w = rowed (f .objects) 0 in
     let r = rowed-nth w (q .front) x (q .rest) (q .whole) in
@@ -520,8 +521,8 @@ module _ (s : List ℕ) (f : File) (k : Situation s f) where
         let e : length R ≡ length (c ++ (x ∷ b)) = ap length q in
         let n = length-append c (x ∷ b) in
         let h = full-front (omega arith) in
-        let i = item-at F 256 (omega arith) in
-        let y = i .item in
+        let i = nth-of F 256 (omega arith) in
+        let y = i .element in
         let u = i .nth in
         let v : f .objects ≡ u .front ++ (y ∷ (u .rest ++ R)) = w ∙ ap (λ (l : List Object). l ++ R) (u .whole) ∙ append-assoc (u .front) (y ∷ u .rest) R in
         let z : u .rest ++ R ≡ (u .rest ++ c) ++ (x ∷ b) = ap (λ (l : List Object). u .rest ++ l) q ∙ sym (append-assoc (u .rest) c (x ∷ b)) in
@@ -558,8 +559,7 @@ module _ (s : List ℕ) (f : File) (k : Situation s f) where
     stage-is : first (object-faults f) ≡ first found
     stage-is = first-same (object-faults f) found found-in-stage stage-in-found
 
-word-is : (o : List ℕ) {s : List ℕ} (f : File) → Situation s f → o ≡ kept-objects f → (x : Object) → Nth (f .objects) 256 x → cell o 9 256 1 ≡ x .word .place
-unfolding cell
+word-is : (o : List ℕ) {s : List ℕ} (f : File) → Situation s f → o ≡ kept-objects f → (x : Object) → Nth (f .objects) 256 x → cellOf o 9 256 1 ≡ x .word .place
 word-is o {s} f k e x q = word-cell s f o k e 256 x q (omega arith)
 
 real-few : (ks : List Kind) (os : List Object) (cpu : Word) → Real (too-few ks os cpu)

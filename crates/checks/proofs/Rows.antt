@@ -7,13 +7,15 @@ use native.Mathlib.Decide.{ℕ-discrete, decLt}
 use lib.ListN.{length, getD}
 use lib.Dec.{eqb}
 use borrow.Author.Tests.{lt-ltb, le-ltb, eq-eqb, ne-eqb}
+use Rattle.rows.specs.Table.{cellOf}
+use Rattle.scopes.proofs.Rooms.{nth-of}
 use Rattle.rows.specs.Order.{faultIf}
 use Rattle.meaning.specs.Syntax.{Word}
 use Rattle.meaning.specs.Faults.{Fault, fault-if, sooner, first}
 use Rattle.meaning.proofs.Numbering.{Counts, counts-more}
 use Rattle.scopes.specs.Situations.{Nth}
 use Rattle.scopes.specs.Promises.{fault-of}
-use Rattle.checks.specs.Cells.{cell, room-fault}
+use Rattle.checks.specs.Cells.{room-fault}
 use Rattle.scopes.proofs.Firsts.{Has, Real, real-none, here, there, has-none}
 
 -- Lists ------------------------------------------------------------------------------------------------------------------------------------
@@ -34,18 +36,6 @@ stands (y ∷ F) R (z ∷ a) x b e =
     let h : y ≡ z = cc in
     let t : F ++ R ≡ a ++ (x ∷ b) = cc in
     more-stands y z h (stands F R a x b t)
-
-pub record Item {A : Type 0} (l : List A) (j : ℕ) : Type 0 where
-  pub item : A
-  pub nth : Nth l j item
-
-pub item-at : {A : Type 0} (l : List A) (j : ℕ) → j < length l → Item l j
-item-at [] j h = absurd (omega arith)
-item-at (x ∷ l) zero h = record { item = x; nth = record { front = []; rest = l; whole = refl; place = refl } }
-item-at (x ∷ l) (suc j) h =
-    let r = item-at l j (omega arith) in
-    let n = r .nth in
-    record { item = r .item; nth = record { front = x ∷ n .front; rest = n .rest; whole = ap (λ u. x ∷ u) (n .whole); place = ap suc (n .place) } }
 
 pub get-at : {A : Type 0} (a : List A) (x : A) (b : List A) (d : A) → getD (a ++ (x ∷ b)) (length a) d ≡ x
 get-at [] x b d = refl
@@ -81,7 +71,7 @@ module _ {A : Type 0} (w : A → Word) (n : ℕ) where
   real-nth h l j = by (decLt j (length l))
     where
       by : Dec (j < length l) → Real (nth-fault j l)
-      by (yes k) = let r = item-at l j k in subst Real (sym (fault-at (r .nth))) (λ g m. only g m)
+      by (yes k) = let r = nth-of l j k in subst Real (sym (fault-at (r .nth))) (λ g m. only g m)
         where
           only : {p : ℕ} (g : Fault) → Has g (record { place = p; number = n } ∷ []) → 0 < g .number
           only g (here e) = let z : n ≡ g .number = ap (λ (y : Fault). y .number) e in omega (arith, z)
@@ -89,15 +79,15 @@ module _ {A : Type 0} (w : A → Word) (n : ℕ) where
       by (no k) = subst Real (sym (fault-past l j (omega arith))) real-none
 
   -- What the code has of it.
-  pub room-code : (t : List ℕ) (wide last c rows : ℕ) (l : List A) → rows ≡ length l → ((x : A) → Nth l last x → cell t wide last c ≡ w x .place)
+  pub room-code : (t : List ℕ) (wide last c rows : ℕ) (l : List A) → rows ≡ length l → ((x : A) → Nth l last x → cellOf t wide last c ≡ w x .place)
       → room-fault t wide last c rows n ≡ fault-of (first (nth-fault last l))
   unfolding room-fault faultIf fault-of first sooner
   room-code t wide last c rows l e f = by (decLt last (length l))
     where
       by : Dec (last < length l) → room-fault t wide last c rows n ≡ fault-of (first (nth-fault last l))
       by (yes h) =
-          let r = item-at l last h in
-          rw (fault-at (r .nth), lt-ltb last rows (omega (arith, e)), f (r .item) (r .nth))
+          let r = nth-of l last h in
+          rw (fault-at (r .nth), lt-ltb last rows (omega (arith, e)), f (r .element) (r .nth))
       by (no h) = rw (fault-past l last (omega arith), le-ltb last rows (omega (arith, e)))
 
 -- By the numbers that the rows bear.

@@ -1,8 +1,8 @@
 -- The cases of the small functions, and the turns of the loops over rows. Assumes nothing.
-use mathlib.Core.Path.{_≡_, refl, sym, _∙_, ap, ap₂}
-use mathlib.Core.List.{List, [], _∷_}
+use mathlib.Core.Path.{_≡_, sym, _∙_, ap, ap₂}
+use mathlib.Core.List.{List}
 use mathlib.Core.Bool.{Bool, true, false}
-use Prim.Native.Nat.{ℕ, zero, suc, _+_, _*_, _-_, _≤_, _<_, min}
+use Prim.Native.Nat.{ℕ, suc, _+_, _*_, _-_, _≤_, _<_}
 use native.Mathlib.Omega.{arith}
 use native.Mathlib.Numerals.{add-one}
 use lib.ListN.{getD}
@@ -13,14 +13,14 @@ use Rattle.rows.specs.declared.Fault.{Fault}
 use Rattle.rows.specs.declared.Found.{Found}
 use Rattle.rows.specs.declared.Found.the-variants.{At, Nothing}
 use Rattle.rows.specs.Order.{none, faultIf, sooner, soonest}
-use Rattle.rows.specs.Search.{findFrom, hasKey, findNamed, isFound}
+use Rattle.rows.specs.Search.{hasKey, findNamed, isFound}
 use Rattle.rows.proofs.Searches.{find-stop, find-more, find-end}
 use Rattle.grammar.specs.Grammar.{Kind}
 use Rattle.meaning.specs.Kinds.{fewest, most}
 use Rattle.kinds.specs.declared.Most.{Most}
 use Rattle.kinds.specs.declared.Most.the-variants.{Of, Any}
 use Rattle.kinds.specs.Kinds.{kind-at, most-of}
-use Rattle.checks.specs.Cells.{lacking-from, count-rows, full-of, cell, too-many, name-again, object-codes, room-fault}
+use Rattle.checks.specs.Cells.{lacking-from, count-rows, full-of, too-many, name-again, object-codes, room-fault}
 
 pub full-at : (x : Most) (m n : ℕ) → x ≡ Of m → leb m n ≡ full-of x n
 unfolding full-of
@@ -39,7 +39,7 @@ pub one-at-most : (b : Bool) (r : ℕ) → r ≡ bit b → r ≤ 1
 one-at-most b r e = let h = bit-least b in omega (arith, e, h)
 
 pub room-is : (l : List ℕ) (w last c rows n p : ℕ) (r : Fault) → p ≡ getD l (last * w + c) 0 → r ≡ faultIf (ltb last rows) n p → r ≡ room-fault l w last c rows n
-unfolding room-fault cell
+unfolding room-fault
 room-is l w last c rows n p r e f = f ∙ ap (faultIf (ltb last rows) n) e
 
 -- Counting.
@@ -82,12 +82,12 @@ lacks-end cs i h = find-end (λ j. ltb (getD cs j 0) (fewest (kind-at j))) 13 i 
 -- The checks of an object.
 pub too-many-is : (o : List ℕ) (j k n p : ℕ) (q : Kind) (x : Most) (b : Bool) (r : Fault) → k ≡ getD o (j * 9 + 0) 0 → q ≡ kind-at k → n ≡ count-rows o 9 0 k j 0
     → p ≡ getD o (j * 9 + 1) 0 → x ≡ most-of (most q) → b ≡ full-of x n → r ≡ faultIf b 17 p → r ≡ too-many o j
-unfolding too-many cell
+unfolding too-many
 too-many-is o j k n p q x b r e₁ e₂ e₃ e₄ e₅ e₆ e₇ = rw (e₇, e₆, e₅, e₂, e₃, e₄, e₁)
 
 pub name-again-is : (s o : List ℕ) (j k a n : ℕ) (f : Found) (r : Fault) → k ≡ getD o (j * 9 + 0) 0 → a ≡ getD o (j * 9 + 3) 0 → n ≡ getD o (j * 9 + 4) 0
     → f ≡ findNamed s o 9 j 0 k 3 a n 0 → r ≡ faultIf (isFound f) 12 a → r ≡ name-again s o j
-unfolding name-again cell
+unfolding name-again
 name-again-is s o j k a n f r e₁ e₂ e₃ e₄ e₅ = rw (e₅, e₄, e₃, e₂, e₁)
 
 -- Objects one after the other.

@@ -4,11 +4,11 @@ use mathlib.Core.Bool.{Bool, false}
 use Prim.Native.Nat.{ℕ, zero, suc, _+_, _*_}
 use lib.ListN.{getD}
 use lib.Dec.{ltb, leb}
+use Rattle.rows.specs.Table.{cellOf}
 use Rattle.token.specs.Find.{bit}
 use Rattle.rows.specs.declared.Fault.{Fault}
 use Rattle.rows.specs.declared.Found.{Found}
-use Rattle.rows.specs.declared.Found.the-variants.{At, Nothing}
-use Rattle.rows.specs.Order.{none, faultIf, sooner}
+use Rattle.rows.specs.Order.{faultIf, sooner}
 use Rattle.rows.specs.Search.{findFrom, hasKey, findNamed, isFound}
 use Rattle.meaning.specs.Kinds.{fewest, most}
 use Rattle.kinds.specs.declared.Most.{Most}
@@ -29,19 +29,15 @@ unfoldable pub full-of : Most → ℕ → Bool
 full-of (Of m) n = leb m n
 full-of Any n = false
 
--- The cell of row j.
-unfoldable pub cell : List ℕ → (w j c : ℕ) → ℕ
-cell l w j c = getD l (j * w + c) 0
-
 -- 17 at the kind word of object j.
 unfoldable pub too-many : List ℕ → ℕ → Fault
 too-many o j =
-    let k = cell o 9 j 0 in
-    faultIf (full-of (most-of (most (kind-at k))) (count-rows o 9 0 k j 0)) 17 (cell o 9 j 1)
+    let k = cellOf o 9 j 0 in
+    faultIf (full-of (most-of (most (kind-at k))) (count-rows o 9 0 k j 0)) 17 (cellOf o 9 j 1)
 
 -- 12 at its name.
 unfoldable pub name-again : List ℕ → List ℕ → ℕ → Fault
-name-again s o j = faultIf (isFound (findNamed s o 9 j 0 (cell o 9 j 0) 3 (cell o 9 j 3) (cell o 9 j 4) 0)) 12 (cell o 9 j 3)
+name-again s o j = faultIf (isFound (findNamed s o 9 j 0 (cellOf o 9 j 0) 3 (cellOf o 9 j 3) (cellOf o 9 j 4) 0)) 12 (cellOf o 9 j 3)
 
 -- Both, of each of m objects from j on.
 unfoldable pub object-codes : List ℕ → List ℕ → (m j : ℕ) → List Fault
@@ -50,4 +46,4 @@ object-codes s o (suc m) j = sooner (too-many o j) (name-again s o j) ∷ object
 
 -- The fault n at the row that is one too many, where there are more than `last` rows.
 unfoldable pub room-fault : List ℕ → (w last c rows n : ℕ) → Fault
-room-fault l w last c rows n = faultIf (ltb last rows) n (cell l w last c)
+room-fault l w last c rows n = faultIf (ltb last rows) n (cellOf l w last c)

@@ -1,29 +1,19 @@
 -- The three copies, whole: what they store in a blank room is the room of the lent table. Assumes nothing.
-use mathlib.Core.Path.{_≡_, refl, sym, _∙_, ap, subst}
+use mathlib.Core.Path.{_≡_, refl, _∙_, ap}
 use mathlib.Core.List.{List, []}
 use Prim.Native.Nat.{ℕ, _*_, _≤_}
 use native.Mathlib.Omega.{arith}
 use lib.ListN.{length, take}
 use lib.Seq.{sets, length-sets}
-use Rattle.grammar.specs.Grammar.{file, _▸_, ∎, _⟶_, Trees, tokens as tree-tokens}
-use Rattle.grammar.specs.Terminals.{tokens}
+use Rattle.scopes.proofs.Descents.{whole, spec-run}
 use Rattle.meaning.specs.Syntax.{File}
-use Rattle.meaning.specs.Actions.{syntax}
 use Rattle.meaning.specs.Defining.{all-definition-rows, all-enumerator-rows}
 use Rattle.meaning.specs.Applying.{object-rows as lent-objects}
 use Rattle.meaning.specs.Cells.{cells, enumerator-cells, definition-room, enumerator-room, object-room, definition-cells as lent-definition, object-cells as lent-object}
-use Rattle.meaning.proofs.Order.{Ordered}
-use Rattle.meaning.proofs.Settled.{text-ordered}
-use Rattle.meaning.proofs.Numbering.{numbered, Counts, spec-numbers}
-use Rattle.meaning.proofs.Standing.{Run}
-use Rattle.meaning.proofs.Sites.{spec-words}
 use Rattle.layout.specs.Kept.{Choice, spec-entries, spec-choices, definition-cells, choice-cells, object-rows, map-cells, kept, kept-definitions, kept-enumerators, kept-objects}
 use Rattle.layout.proofs.Lengths.{object-wide, length-objects, definition-wide, length-map, wide-map}
 use Rattle.scopes.specs.Situations.{Situation}
-use Rattle.scopes.proofs.Chains.{Chain, text-chain}
-use Rattle.scopes.proofs.Forming.{FormedSpecs, formed}
-use Rattle.scopes.proofs.Goodness.{spec-order}
-use Rattle.meaning.proofs.Runs.{ends}
+use Rattle.scopes.proofs.Forming.{formed}
 use Rattle.copying.specs.Copies.{each-row, as-is, attributed, attribute-of}
 use Rattle.copying.specs.Promises.{CopiesDefinitions, CopiesEnumerators, CopiesObjects}
 use Rattle.copying.proofs.Stretches.{as-is-keeps, attributed-keeps, length-rows}
@@ -33,25 +23,8 @@ use Rattle.copying.proofs.Objects.{object-heads}
 use Rattle.copying.proofs.Keys.{attribute-found}
 use Rattle.copying.proofs.Enumerators.{choice-row, spec-choice-rows}
 
--- What is known of a text's definitions: they are formed, their words are in order, and their numbers are their places.
-record Read (s : List ℕ) (f : File) : Type 0 where
-  formed-as : FormedSpecs s (f .specs)
-  end : ℕ
-  run : Run 1 (spec-words (f .specs)) end
-  numbers : Counts 0 (spec-numbers (f .specs))
-
-read-tree : (s : List ℕ) (t : Trees _⟶_ (file ▸ ∎)) → tree-tokens t ≡ tokens s → Read s (syntax s t)
-read-tree s t e =
-    let c : Chain s 0 (tree-tokens t) = subst (Chain s 0) (sym e) (text-chain s) in
-    let o : Ordered 0 (tree-tokens t) = subst (Ordered 0) (sym e) (text-ordered s) in
-    let b = ends (spec-words (syntax s t .specs)) 1 (spec-order s t o) in
-    record { formed-as = formed s t c; end = b .hi; run = b .run; numbers = numbered s t .0 .0 }
-
-read : {s : List ℕ} {f : File} → Situation s f → Read s f
-read {s} k = subst (Read s) (sym (k .syntax-of)) (read-tree s (k .derivation .tree) (k .derivation .leaves))
-
 -- Definitions.
-definition-heads : (s : List ℕ) (f : File) (d : List ℕ) (n : ℕ) → Read s f → d ≡ kept-definitions f → n ≡ length (spec-entries (f .specs)) → n ≤ 512
+definition-heads : (s : List ℕ) (f : File) (d : List ℕ) (n : ℕ) → Situation s f → d ≡ kept-definitions f → n ≡ length (spec-entries (f .specs)) → n ≤ 512
     → each-row as-is d 19 13 0 n ≡ cells lent-definition (all-definition-rows (f .specs))
 unfolding kept-definitions as-is head
 definition-heads s f d n k e m h =
@@ -63,7 +36,7 @@ definition-heads s f d n k e m h =
     ∙ ap (each-row as-is (kept (513 * 19) rs) 19 13 0) q
     ∙ rows-kept as-is 19 13 (omega arith) (513 * 19) rs (wide-map definition-cells 19 definition-wide E) (omega arith)
     ∙ cells-map definition-cells (take 13) E
-    ∙ spec-heads s (f .specs) (k .formed-as)
+    ∙ spec-heads s (f .specs) (whole k .facts .formed)
 
 pub copies-definitions : (d : List ℕ) (n : ℕ) (l l′ : List ℕ) → l′ ≡ sets l 0 (each-row as-is d 19 13 0 n) → CopiesDefinitions d n l l′
 unfolding definition-room
@@ -71,7 +44,7 @@ copies-definitions d n l l′ e = (
   ap length e ∙ length-sets l 0 (each-row as-is d 19 13 0 n),
   λ s f k a b h z.
       let q = length-rows as-is as-is-keeps d 19 13 0 n in
-      room-of lent-definition (all-definition-rows (f .specs)) (512 * 13) l l′ (each-row as-is d 19 13 0 n) z e (definition-heads s f d n (read k) a b h) (omega arith),
+      room-of lent-definition (all-definition-rows (f .specs)) (512 * 13) l l′ (each-row as-is d 19 13 0 n) z e (definition-heads s f d n k a b h) (omega arith),
 )
 
 -- Objects.
@@ -101,7 +74,7 @@ choice-wide : (x : Choice) → length (choice-cells x) ≡ 3
 unfolding choice-cells
 choice-wide x = refl
 
-enumerators-copied : (s : List ℕ) (f : File) (d : List ℕ) (n : ℕ) (e : List ℕ) (m : ℕ) → Read s f → d ≡ kept-definitions f → n ≡ length (spec-entries (f .specs)) → n ≤ 512
+enumerators-copied : (s : List ℕ) (f : File) (d : List ℕ) (n : ℕ) (e : List ℕ) (m : ℕ) → Situation s f → d ≡ kept-definitions f → n ≡ length (spec-entries (f .specs)) → n ≤ 512
     → e ≡ kept-enumerators f → m ≡ length (spec-choices (f .specs)) → m ≤ 1024
     → each-row (attributed d n) e 3 3 0 m ≡ cells enumerator-cells (all-enumerator-rows (f .specs))
 unfolding kept-enumerators attributed choice-cells choice-row
@@ -110,12 +83,12 @@ enumerators-copied s f d n e m k a b h a′ b′ h′ =
     let rs = map-cells choice-cells C in
     let l = length-map choice-cells C in
     let q : m ≡ length rs = omega arith in
-    let r = k .run in
+    let r = spec-run k in
     ap (λ (t : List ℕ). each-row (attributed d n) t 3 3 0 m) a′
     ∙ ap (each-row (attributed d n) (kept (1025 * 3) rs) 3 3 0) q
     ∙ rows-kept (attributed d n) 3 3 (omega arith) (1025 * 3) rs (wide-map choice-cells 3 choice-wide C) (omega arith)
     ∙ cells-map choice-cells (λ (t : List ℕ). attributed d n (take 3 t)) C
-    ∙ spec-choice-rows (spec-entries (f .specs)) (attribute-of d n) (attribute-found f d n a b (omega arith)) (f .specs) [] 1 (k .end) refl r (omega arith) (k .numbers)
+    ∙ spec-choice-rows (spec-entries (f .specs)) (attribute-of d n) (attribute-found f d n a b (omega arith)) (f .specs) [] 1 (r .hi) refl (r .run) (omega arith) (whole k .numbers .0 .0)
     (λ x p t. tt)
 
 pub copies-enumerators : (d : List ℕ) (n : ℕ) (e : List ℕ) (m : ℕ) (l l′ : List ℕ) → l′ ≡ sets l 0 (each-row (attributed d n) e 3 3 0 m) → CopiesEnumerators d n e m l l′
@@ -125,5 +98,5 @@ copies-enumerators d n e m l l′ c = (
   λ s f k a b h a′ b′ h′ z.
       let q = length-rows (attributed d n) (attributed-keeps d n) e 3 3 0 m in
       room-of enumerator-cells (all-enumerator-rows (f .specs)) (1024 * 3) l l′ (each-row (attributed d n) e 3 3 0 m) z c
-      (enumerators-copied s f d n e m (read k) a b h a′ b′ h′) (omega arith),
+      (enumerators-copied s f d n e m k a b h a′ b′ h′) (omega arith),
 )

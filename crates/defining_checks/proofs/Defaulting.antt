@@ -22,13 +22,12 @@ use Rattle.scopes.specs.Situations.{Nth, RowOf, ReadAt}
 use Rattle.scopes.specs.Promises.{fault-of, Takes, TakesUnder}
 use Rattle.scopes.proofs.Goodness.{Goods}
 use Rattle.scopes.proofs.Rooms.{definition-cell, default-cell}
-use Rattle.scopes.proofs.Descents.{nth-in, entry-facts}
+use Rattle.scopes.proofs.Descents.{nth-in, entry-facts, spec-run}
 use Rattle.lookups.specs.Answers.{WordIndexed}
 use Rattle.defining_checks.specs.Listing.{judged, judged-faults}
 use Rattle.defining_checks.specs.Promises.{DefaultFault}
 use Rattle.defining_checks.proofs.Rising.{ascend-specs}
 use Rattle.defining_checks.proofs.Reaching.{reached}
-use Rattle.defining_checks.proofs.Stages.{spec-run}
 
 pub late-no : (full : Bool) (limit at : ℕ) → full ≡ false → false ≡ both full (leb limit at)
 late-no full limit at e = sym (ap (λ b. both b (leb limit at)) e)

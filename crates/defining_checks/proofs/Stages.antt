@@ -19,13 +19,12 @@ use Rattle.meaning.specs.Faults.{Fault, fault-if, sooner, first}
 use Rattle.meaning.specs.Defining.{range-faults, default-faults, specified, spec-faults, definition-faults}
 use Rattle.meaning.proofs.Sooner.{first-append}
 use Rattle.meaning.proofs.Standing.{Run}
-use Rattle.meaning.proofs.Order.{ahead-left, sub-front, sub-all, ordered-sub}
-use Rattle.meaning.proofs.Sites.{definition-words, spec-words, object-words}
+use Rattle.meaning.proofs.Order.{ahead-left}
+use Rattle.meaning.proofs.Sites.{definition-words, spec-words}
 use Rattle.layout.specs.Kept.{Entry, Choice, spec-entries, spec-choices, again-place}
 use Rattle.scopes.specs.Situations.{Situation}
 use Rattle.scopes.specs.Promises.{fault-of}
-use Rattle.scopes.proofs.Goodness.{later-words}
-use Rattle.scopes.proofs.Descents.{whole}
+use Rattle.scopes.proofs.Descents.{whole, spec-run}
 use Rattle.scopes.specs.Listing.{each}
 use Rattle.defining_checks.specs.Listing.{others-for, under-of, row-name-faults, row-faults, judged, judged-faults, kept-row-faults, list-of, choice-faults, again-faults}
 use Rattle.defining_checks.specs.Promises.{Room}
@@ -34,7 +33,7 @@ use Rattle.defining_checks.proofs.Telling.{text-apart}
 use Rattle.defining_checks.proofs.Rowwise.{all-rows}
 use Rattle.defining_checks.proofs.Rising.{rise-specs, ascend-specs}
 use Rattle.defining_checks.proofs.Covers.{kept-same}
-use Rattle.meaning.proofs.Runs.{run-le, cut, Ends, ends}
+use Rattle.meaning.proofs.Runs.{run-le, cut}
 
 -- Kind words that come a second time ---------------------------------------------------------------------------------------------------------
 
@@ -127,11 +126,6 @@ real-again before [] = real-none
 real-again before (x ∷ xs) = real-append (fault-if (specified x before) (x .word) 8) (again-faults (before ++ (x ∷ [])) xs) (real-if _ (x .word) 8 (omega arith)) (real-again (before ++ (x ∷ [])) xs)
 
 -- The stage ------------------------------------------------------------------------------------------------------------------------------------
-
--- The words of a text's specs are in order.
-pub spec-run : {s : List ℕ} {f : File} → Situation s f → Ends 1 (spec-words (f .specs))
-unfolding later-words
-spec-run {s} {f} k = ends (spec-words (f .specs)) 1 (ordered-sub (sub-front (sub-all (spec-words (f .specs))) (f .cpu ∷ object-words (f .objects))) 1 (whole k .order))
 
 pub stage-is : {s : List ℕ} (f : File) (m : ℕ) (full : Bool) (limit : ℕ) (E₀ E₁ : List Entry) (C₀ C₁ : List Choice) (again : ℕ) (v a r c : Code) → Situation s f
     → Room f m full limit → spec-entries (f .specs) ≡ E₀ ++ E₁ → length E₀ ≡ min (length (spec-entries (f .specs))) 513

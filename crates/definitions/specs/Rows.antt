@@ -54,23 +54,8 @@ row-of u h x l d =
     u .at ∷ u .len ∷ x .place ∷ x .length ∷ h .word ∷ h .length ∷ bit l ∷ h .auto ∷ h .range ∷ h .extent ∷ span-or d .place ∷ span-or d .length ∷ h .code
     ∷ u .list ∷ h .key ∷ h .truth ∷ h .falsity ∷ h .width ∷ default-code d ∷ []
 
--- What is known of a definition behind its type's word t: without a list of values.
-abbrev pub head-of : Look → ℕ → ℕ → ℕ → Head
-head-of t auto range extent =
-    record {
-      word = t .at;
-      length = t .next - t .at;
-      code = t .code;
-      auto = auto;
-      range = range;
-      extent = extent;
-      key = 0;
-      truth = 0;
-      falsity = 0;
-      width = 0;
-    }
-
--- With one: its first value word, and the length of TRUE and the word FALSE where it has them.
+-- What is known of a definition behind its type's word t, with a list of values: its first value word, and the length of TRUE and the word FALSE
+-- where it has them.
 abbrev pub list-head : Look → ℕ → ℕ → ℕ → ℕ → ℕ → ℕ → ℕ → Head
 list-head t auto range extent key truth falsity width =
     record {
@@ -85,6 +70,10 @@ list-head t auto range extent key truth falsity width =
       falsity = falsity;
       width = width;
     }
+
+-- Without one.
+abbrev pub head-of : Look → ℕ → ℕ → ℕ → Head
+head-of t auto range extent = list-head t auto range extent 0 0 0 0
 
 -- The row is that of a definition.
 unfoldable pub Named : Under → Head → List (List ℕ) → Word → Bool → Option Word → Type 0

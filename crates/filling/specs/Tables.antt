@@ -10,7 +10,7 @@ use Rattle.layout.specs.Kept.{join}
 abbrev pub Table : Type 0
 Table = List ℕ × ℕ
 
--- Each row has w cells.
+-- The rows together have w cells for each.
 abbrev pub Wide : ℕ → List (List ℕ) → Type 0
 Wide w rs = length (join rs) ≡ length rs * w
 

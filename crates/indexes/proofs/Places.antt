@@ -9,6 +9,7 @@ use native.Mathlib.Omega.{arith}
 use lib.ListN.{length, getD, take, drop, length-map}
 use lib.Dec.{eqb, leb}
 use borrow.Author.Tests.{eqb-true, lt-ltb, le-ltb}
+use Rattle.rows.specs.Search.{rowName}
 use Rattle.token.specs.Find.{pick, both}
 use Rattle.token.specs.Tokens.{partOf}
 use Rattle.indexes.specs.Numbers.{nameNumber}
@@ -17,7 +18,7 @@ use Rattle.sorting.specs.Sorted.{Rising, among-cells}
 use Rattle.sorting.proofs.Cells.{rising-places}
 use Rattle.indexes.specs.declared.Order.{Order}
 use Rattle.indexes.specs.declared.Order.the-variants.{Less, Same, More}
-use Rattle.indexes.specs.Indexing.{rowName, rowPair, pairOf, rowCell, leastOf, RowCompared, rank, Parts, PartsAt, nameRank, Ranks}
+use Rattle.indexes.specs.Indexing.{rowPair, pairOf, rowCell, leastOf, RowCompared, rank, Parts, PartsAt, nameRank, Ranks}
 use Rattle.indexes.proofs.Digits.{number-positive}
 use Rattle.indexes.proofs.Comparisons.{cell-less, cell-same, cell-more}
 

@@ -1,15 +1,16 @@
 -- What must be stated: the marks of the rows, and what a block lacks by them. Assumes nothing.
 use mathlib.Core.Path.{_≡_, refl, sym, _∙_, ap, subst}
-use mathlib.Core.List.{List, [], _∷_}
+use mathlib.Core.List.{List, []}
 use mathlib.Core.Bool.{Bool, true, false, not, false≢true}
 use mathlib.Core.Option.{Option, none, some}
-use Prim.Native.Nat.{ℕ, zero, suc, _+_, _*_, _≤_, _<_}
+use Prim.Native.Nat.{ℕ, _+_, _*_, _≤_, _<_}
 use native.Mathlib.Omega.{arith}
 use native.Mathlib.Decide.{ℕ-discrete, decLt}
 use lib.ListN.{length, getD, set, drop, List·getD-append}
 use lib.Seq.{getD-set-same, getD-set-other, sets, sets-eq}
 use lib.Dec.{eqb}
 use borrow.Author.Tests.{eq-eqb, eqb-true}
+use Rattle.scopes.proofs.Rooms.{nth-of}
 use Rattle.token.specs.Find.{both, either, bit}
 use Rattle.grammar.specs.Grammar.{word}
 use Rattle.rows.specs.declared.Found.the-variants.{At, Nothing}
@@ -23,7 +24,7 @@ use Rattle.layout.specs.Kept.{spec-entries, statement-rows}
 use Rattle.amounts.specs.Known.{Known}
 use Rattle.amounts.proofs.Frames.{known-marked}
 use Rattle.blocks.specs.Blocks.{IsStated}
-use Rattle.scopes.specs.Situations.{HasDefinition, this-definition, later-definition, under-value, Nth}
+use Rattle.scopes.specs.Situations.{HasDefinition, this-definition, later-definition, under-value}
 use Rattle.scopes.specs.Given.{Given, Attribute}
 use Rattle.scopes.specs.Promises.{place-found, FindsWord}
 use Rattle.scopes.proofs.Descents.{found-value}
@@ -56,19 +57,6 @@ none-lacks (define d vs ds) ns g =
     ap (λ b. either b (lacks ds ns)) (g (record { definition = d; values = vs }) this-definition) ∙ none-lacks ds ns (λ x h. g x (later-definition h))
 
 -- Rows -------------------------------------------------------------------------------------------------------------------------------------
-
--- An element of each number below the length.
-pub record HasNth {A : Type 0} (l : List A) (j : ℕ) : Type 0 where
-  pub element : A
-  pub nth : Nth l j element
-
-pub nth-of : {A : Type 0} (l : List A) (j : ℕ) → j < length l → HasNth l j
-nth-of [] j h = absurd (omega arith)
-nth-of (x ∷ l) zero h = record { element = x; nth = record { front = []; rest = l; whole = refl; place = refl } }
-nth-of {A} (x ∷ l) (suc j) h =
-    let k = nth-of l j (omega arith) in
-    let n = k .nth in
-    record { element = k .element; nth = record { front = x ∷ n .front; rest = n .rest; whole = ap (λ (m : List A). x ∷ m) (n .whole); place = ap suc (n .place) } }
 
 bit-zero : (b : Bool) → bit b ≡ 0 → b ≡ false
 unfolding bit

@@ -9,7 +9,7 @@ use lib.ListN.{length, length-append}
 use Rattle.token.specs.Find.{byte}
 use Rattle.token.specs.Bytes.{blank, classOf, isWordByte}
 use Rattle.token.specs.Tokens.{stepAt}
-use Rattle.token.specs.Lexing.{Lexed, more, ended, refused, afterStep, Divides, tokensOf, lexFrom}
+use Rattle.token.specs.Lexing.{Lexed, more, ended, refused, afterStep, Divides, tokensOf, lexFrom, afterAll}
 use Rattle.token.specs.declared.Cursor.{Cursor}
 use Rattle.token.specs.declared.Token.{Token}
 use Rattle.token.specs.declared.Sort.{Sort}
@@ -23,11 +23,6 @@ use Rattle.locality.proofs.Front.{ends}
 use Rattle.locality.proofs.Join.{step-longer, step-shorter, One}
 
 -- ---- tokens, and then others
-
--- the tokens ts before those of a list
-unfoldable pub afterAll : List Token → Lexed → Lexed
-afterAll [] l = l
-afterAll (t ∷ ts) l = more t (afterAll ts l)
 
 after-append : (ts us : List Token) (l : Lexed) → afterAll ts (afterAll us l) ≡ afterAll (ts ++ us) l
 unfolding afterAll

@@ -10,7 +10,6 @@ use lib.Seq.{getD-set-same, getD-set-other, set-out}
 use lib.Dec.{ltb, eqb}
 use native.Mathlib.Decide.{ℕ-discrete}
 use borrow.Author.Tests.{eq-eqb, ne-eqb, eqb-true, lt-ltb, le-ltb, ltb-true}
-use Rattle.indexes.specs.Indexing.{rowName}
 use Rattle.token.specs.Find.{pick}
 use Rattle.token.specs.Words.{same}
 use Rattle.token.specs.Tokens.{partOf}
@@ -18,7 +17,7 @@ use Rattle.token.proofs.Bytes.{not-true}
 use Rattle.token.proofs.Codes.{same-equal}
 use Rattle.rows.specs.declared.Found.{Found}
 use Rattle.rows.specs.declared.Found.the-variants.{At, Nothing}
-use Rattle.rows.specs.Search.{isFound}
+use Rattle.rows.specs.Search.{isFound, rowName}
 use Rattle.blocks.specs.Blocks.{row-after, FindsStated, IsStated}
 use Rattle.blocks.proofs.Ranges.{looking-start, looking-stop, looking-more, looking-end, is-stated, after-later, after-back, after-past, after-next}
 use Rattle.lookups.proofs.Notes.{row-place, row-size}

@@ -7,9 +7,10 @@ use native.Mathlib.Omega.{arith}
 use native.Mathlib.Decide.{ℕ-discrete}
 use lib.ListN.{length, getD, set}
 use lib.Seq.{getD-set-same, getD-set-other}
+use Rattle.rows.specs.Search.{rowName}
 use Rattle.token.specs.Tokens.{partOf}
 use Rattle.rows.proofs.Starts.{cell-start, cell-column}
-use Rattle.indexes.specs.Indexing.{Ranks, nameRank, rowName}
+use Rattle.indexes.specs.Indexing.{Ranks, nameRank}
 use Rattle.lookups.specs.Ranks.{NotesRanks, NotesRanksTo}
 
 -- the cells of a row's name, by a place where the row begins that is no larger than the end

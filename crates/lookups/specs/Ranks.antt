@@ -8,11 +8,12 @@ use mathlib.Core.Bool.{Bool, false}
 use mathlib.Core.List.{List}
 use lib.ListN.{length, getD, set}
 use lib.Dec.{ltb, eqb}
+use Rattle.rows.specs.Search.{rowName}
 use Rattle.token.specs.Find.{pick}
 use Rattle.token.specs.Tokens.{partOf}
 use Rattle.rows.specs.declared.Found.{Found}
 use Rattle.rows.specs.declared.Found.the-variants.{Nothing}
-use Rattle.indexes.specs.Indexing.{Indexed, nameRank, rowName}
+use Rattle.indexes.specs.Indexing.{Indexed, nameRank}
 use Rattle.blocks.specs.Blocks.{row-after, FindsStated, IsStated}
 
 -- each of the first n cells of h is the number of the name of the row of its place

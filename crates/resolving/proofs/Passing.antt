@@ -7,13 +7,14 @@ use native.Mathlib.Omega.{arith}
 use native.Mathlib.Decide.{ℕ-discrete, decLe}
 use lib.ListN.{length, getD, set, replicate, length-replicate}
 use lib.Seq.{length-sets, getD-set-same, getD-set-other}
+use Rattle.rows.specs.Search.{rowName}
 use Rattle.rows.specs.declared.Found.{Found}
 use Rattle.meaning.specs.Syntax.{done, state, statements-in}
 use Rattle.meaning.specs.Words.{among}
 use Rattle.meaning.specs.Scopes.{names}
 use Rattle.meaning.specs.Resolving.{resolve}
 use Rattle.sorting.specs.Sorted.{among-cells, Tells}
-use Rattle.indexes.specs.Indexing.{Indexed, Makes, nameRank, rowName}
+use Rattle.indexes.specs.Indexing.{Indexed, Makes, nameRank}
 use Rattle.lookups.specs.Ranks.{NotesRanks, Firsts, RowStated, MayState}
 use Rattle.amounts.specs.Known.{KnownDefaults}
 use Rattle.layout.specs.Kept.{spec-entries, definition-cells, map-cells, join, kept, kept-definitions}

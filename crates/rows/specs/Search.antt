@@ -9,7 +9,7 @@ use lib.Dec.{eqb, ltb}
 use Rattle.token.specs.Find.{pick, both, find}
 use Rattle.token.specs.Words.{same}
 use Rattle.token.specs.Tokens.{partOf}
-use Rattle.rows.specs.Table.{anyOf}
+use Rattle.rows.specs.Table.{cellOf, anyOf}
 use Rattle.rows.specs.declared.Found.{Found}
 use Rattle.rows.specs.declared.Found.the-variants.{At, Nothing}
 
@@ -20,6 +20,10 @@ foundBelow n i = pick (ltb i n) (At i) Nothing
 -- the first row from i on, below n, for which t holds
 unfoldable pub findFrom : (ℕ → Bool) → ℕ → ℕ → Found
 findFrom t n i = foundBelow n (find t n i)
+
+-- the part of the text s whose place and length stand in columns m and m + 1 of row i, of a table with rows of w cells
+unfoldable pub rowName : List ℕ → List ℕ → (w m i : ℕ) → List ℕ
+rowName s t w m i = partOf s (cellOf t w i m) (cellOf t w i (m + 1))
 
 -- the cell in column c of the row that begins at a is k
 unfoldable pub hasKey : List ℕ → ℕ → ℕ → ℕ → Bool

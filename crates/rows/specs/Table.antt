@@ -1,14 +1,18 @@
--- Parts of a list of numbers, and searches over rows of any type R.
+-- Parts and cells of a list of numbers, and searches over rows of any type R.
 -- Assumes nothing.
-use Prim.Native.Nat.{ℕ, suc}
+use Prim.Native.Nat.{ℕ, suc, _+_, _*_}
 use mathlib.Core.Bool.{Bool, false}
 use mathlib.Core.List.{List, [], _∷_}
-use lib.ListN.{take, drop}
+use lib.ListN.{getD, take, drop}
 use Rattle.token.specs.Find.{pick, either}
 
 -- the n elements of l from a on
 abbrev pub part : List ℕ → ℕ → ℕ → List ℕ
 part l a n = take n (drop a l)
+
+-- the cell in column c of row i, of a table with rows of w cells
+abbrev pub cellOf : List ℕ → (w i c : ℕ) → ℕ
+cellOf t w i c = getD t (i * w + c) 0
 
 module _ {R : Type 0} (p : R → Bool) where
   -- p holds for one of some rows

@@ -17,9 +17,9 @@ use Rattle.meaning.specs.Actions.{syntax}
 use Rattle.meaning.specs.Normal.{part}
 use Rattle.meaning.specs.Scopes.{Under, find-definition, find-value, under, definitions-or, of-kind}
 use Rattle.meaning.specs.Defining.{all-definition-rows}
-use Rattle.meaning.proofs.Order.{Ordered, InOrder}
+use Rattle.meaning.proofs.Order.{Ordered, InOrder, sub-front, sub-all, ordered-sub}
 use Rattle.meaning.proofs.Settled.{text-ordered}
-use Rattle.meaning.proofs.Sites.{bound-words, option-words, definition-words, value-words, spec-words}
+use Rattle.meaning.proofs.Sites.{bound-words, option-words, definition-words, value-words, spec-words, object-words}
 use Rattle.meaning.proofs.Numbering.{numbered, Counts, N, definition-numbers, numbers-under, spec-numbers}
 use Rattle.meaning.proofs.Standing.{Scope, Deep, deep-more, DeepValues, more-values, DeepSpecs, more-specs, scopes, counts-back, counts-head}
 use Rattle.layout.specs.Kept.{Entry, list-key, entries, entries-under, spec-entries, spec-choices, kind-place}
@@ -29,7 +29,7 @@ use Rattle.scopes.specs.Promises.{place-found}
 use Rattle.scopes.proofs.Chains.{Chain, text-chain}
 use Rattle.scopes.proofs.Forming.{FormedSpecs, formed}
 use Rattle.scopes.proofs.Goodness.{Good, Goods, good-front, good-back, later-words, version-read, syntax-good, syntax-order, spec-order, spec-good}
-use Rattle.meaning.proofs.Runs.{ends}
+use Rattle.meaning.proofs.Runs.{Ends, ends}
 use Rattle.scopes.proofs.Lists.{Own}
 use Rattle.scopes.proofs.Lists as lists
 
@@ -251,6 +251,11 @@ whole-tree s t e =
 
 pub whole : {s : List ℕ} {f : File} → Situation s f → Whole s f
 whole {s} k = subst (Whole s) (sym (k .syntax-of)) (whole-tree s (k .derivation .tree) (k .derivation .leaves))
+
+-- The words of a text's specs are in order.
+pub spec-run : {s : List ℕ} {f : File} → Situation s f → Ends 1 (spec-words (f .specs))
+unfolding later-words
+spec-run {s} {f} k = ends (spec-words (f .specs)) 1 (ordered-sub (sub-front (sub-all (spec-words (f .specs))) (f .cpu ∷ object-words (f .objects))) 1 (whole k .order))
 
 spec-word : {s : List ℕ} {xs : List Spec} {x : Spec} → HasSpec xs x → Goods s (spec-words xs) → Good s (x .word)
 unfolding spec-words

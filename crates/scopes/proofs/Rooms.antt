@@ -19,6 +19,19 @@ nth-low {A} {l} {j} {x} n =
     let c = n .place in
     omega arith
 
+-- An element of each number below the length.
+pub record HasNth {A : Type 0} (l : List A) (j : ℕ) : Type 0 where
+  pub element : A
+  pub nth : Nth l j element
+
+pub nth-of : {A : Type 0} (l : List A) (j : ℕ) → j < length l → HasNth l j
+nth-of [] j h = absurd (omega arith)
+nth-of (x ∷ l) zero h = record { element = x; nth = record { front = []; rest = l; whole = refl; place = refl } }
+nth-of {A} (x ∷ l) (suc j) h =
+    let k = nth-of l j (omega arith) in
+    let n = k .nth in
+    record { element = k .element; nth = record { front = x ∷ n .front; rest = n .rest; whole = ap (λ (m : List A). x ∷ m) (n .whole); place = ap suc (n .place) } }
+
 -- The first n, and the rest.
 pub record Split {A : Type 0} (l : List A) (n : ℕ) : Type 0 where
   pub front : List A

@@ -11,7 +11,7 @@ use Rattle.token.specs.Gaps.{commentAt, gapOf, gapAt, skipN, skip}
 use Rattle.token.specs.Words.{bytesOf, same, codeIn, codeOf}
 use Rattle.token.specs.Numbers.{digitOf, valueAfter, atMost, digitsAfter, numeral}
 use Rattle.token.specs.Tokens.{found, wordAt, limitOf, isNegative, numberAt, stringAt, dotsAt, tokenOf, tokenAt, stepAt}
-use Rattle.token.specs.Lexing.{Lexed, more, ended, refused, lexN, lexFrom}
+use Rattle.token.specs.Lexing.{Lexed, ended, refused, lexN, lexFrom, afterAll}
 use Rattle.token.specs.declared.Sort.the-variants.{Word, Number, String, Punctuator}
 use Rattle.token.specs.declared.Token.{Token}
 
@@ -38,11 +38,6 @@ string p n = record { sort = String; at = p; len = n }
 
 abbrev punctuator : ℕ → ℕ → ℕ → Token
 punctuator b p n = record { sort = Punctuator b; at = p; len = n }
-
--- the tokens, and then the last
-abbrev followed : List Token → Lexed → Lexed
-followed [] l = l
-followed (t ∷ ts) l = more t (followed ts l)
 
 abbrev edges : List Edge
 edges =
@@ -110,8 +105,8 @@ edges =
 
 abbrev all : List Edge → Type 0
 all [] = Unit {0}
-all (e ∷ es) = (lexFrom (bytesOf (e .text)) 0 ≡ followed (e .tokens) (e .last)) × all es
+all (e ∷ es) = (lexFrom (bytesOf (e .text)) 0 ≡ afterAll (e .tokens) (e .last)) × all es
 
 pub edges-hold : all edges
-unfolding lexFrom lexN stepAt skip skipN gapAt gapOf commentAt findByte findClose pairAt find firstOf classOf isWordByte wordEnd codeOf codeIn same digitOf valueAfter atMost digitsAfter numeral found wordAt limitOf isNegative numberAt stringAt dotsAt tokenOf tokenAt
+unfolding afterAll lexFrom lexN stepAt skip skipN gapAt gapOf commentAt findByte findClose pairAt find firstOf classOf isWordByte wordEnd codeOf codeIn same digitOf valueAfter atMost digitsAfter numeral found wordAt limitOf isNegative numberAt stringAt dotsAt tokenOf tokenAt
 edges-hold = (refl, (refl, (refl, (refl, (refl, (refl, (refl, (refl, (refl, (refl, (refl, (refl, (refl, (refl, (refl, (refl, (refl, (refl, (refl, (refl, (refl, (refl, (refl, (refl, (refl, (refl, (refl, (refl, (refl, (refl, (refl, (refl, (refl, (refl, (refl, (refl, (refl, (refl, (refl, (refl, (refl, tt)))))))))))))))))))))))))))))))))))))))))

@@ -20,6 +20,11 @@ tokensOf (more t l) = t ∷ tokensOf l
 tokensOf (ended n) = []
 tokensOf (refused p) = []
 
+-- the tokens ts before those of a list
+unfoldable pub afterAll : List Token → Lexed → Lexed
+afterAll [] l = l
+afterAll (t ∷ ts) l = more t (afterAll ts l)
+
 -- "A text divides wholly into tokens if each byte, taken from the left by the token rules, is in a token or an ended comment or is one of
 -- the six that part tokens."
 abbrev pub Divides : Lexed → Type 0

@@ -6,15 +6,15 @@ use native.Mathlib.Omega.{arith}
 use native.Mathlib.Nat.{zero-mul, add-mul}
 use lib.ListN.{length, getD, length-append, List·getD-append}
 use lib.Seq.{getD-append-add}
+use Rattle.rows.specs.Table.{cellOf}
 use Rattle.meaning.specs.Cells.{cells, zeros, room-cells}
 use Rattle.meaning.proofs.Rooms.{cells-length}
 use Rattle.copying.proofs.Rooms.{cells-append}
-use Rattle.writing.specs.Lines.{column}
 use Rattle.writing.specs.Promises.{From}
 
 module _ {R : Type 0} (w : ℕ) (f : R → List ℕ) (h : (r : R) → length (f r) ≡ w) where
   -- A cell of the first row.
-  pub from-cell : {t : List ℕ} {n k : ℕ} (x : R) (xs : List R) (c : ℕ) → c < w → From w f t n k (x ∷ xs) → column w t k c ≡ getD (f x) c 0
+  pub from-cell : {t : List ℕ} {n k : ℕ} (x : R) (xs : List R) (c : ℕ) → c < w → From w f t n k (x ∷ xs) → cellOf t w k c ≡ getD (f x) c 0
   unfolding cells
   from-cell {t} {n} {k} x xs c p a =
       let e : k * w + c ≡ length (a .front) + c = ap (λ (i : ℕ). i + c) (sym (a .place)) in

@@ -8,6 +8,8 @@ use native.Mathlib.Numerals.{add-one}
 use lib.ListN.{length, getD}
 use lib.Dec.{eqb, ltb}
 use borrow.Author.Tests.{eqb-true, eq-eqb}
+use Rattle.rows.specs.Table.{cellOf}
+use Rattle.rows.specs.Search.{rowName}
 use Rattle.token.specs.Find.{pick, both, bit}
 use Rattle.token.specs.Tokens.{partOf}
 use Rattle.token.specs.Words.{bytesOf}
@@ -19,7 +21,7 @@ use Rattle.meaning.specs.Normal.{decimal, written}
 use Rattle.meaning.proofs.Rooms.{value-width}
 use Rattle.meaning.proofs.Entries.{length-values}
 use Rattle.blocks.specs.Blocks.{WordIn}
-use Rattle.writing.specs.Lines.{column, word-at, value-at, head-at, owned}
+use Rattle.writing.specs.Lines.{value-at, head-at, owned}
 use Rattle.writing.specs.Promises.{From, AllTold, more-told, Earlier, Ends, ends, ends-before, Laid, LaidLine}
 use Rattle.writing.proofs.Owners.{owned-row, owned-inside}
 use Rattle.writing.proofs.Froms.{from-cell, from-append}
@@ -39,8 +41,8 @@ module _ (v : List ℕ) (n k sort row : ℕ) (o : Owner) (p : owner-sort o ≡ s
   unfolding value-cells
   is-owned x xs a e =
       let c = a .count in
-      let f : owner-sort (x .owner) ≡ column 9 v k 1 = sym (from-cell 9 value-cells value-width x xs 1 (omega arith) a) in
-      let g : owner-row (x .owner) ≡ column 9 v k 2 = sym (from-cell 9 value-cells value-width x xs 2 (omega arith) a) in
+      let f : owner-sort (x .owner) ≡ cellOf v 9 k 1 = sym (from-cell 9 value-cells value-width x xs 1 (omega arith) a) in
+      let g : owner-row (x .owner) ≡ cellOf v 9 k 2 = sym (from-cell 9 value-cells value-width x xs 2 (omega arith) a) in
       sym (owned-row v n k sort row (owner-sort (x .owner)) (owner-row (x .owner)) (omega arith) f (ap owner-sort e ∙ p) g)
       ∙ eq-eqb (owner-row (x .owner)) row (ap owner-row e ∙ q)
 
@@ -52,9 +54,9 @@ module _ (v : List ℕ) (n k sort row : ℕ) (o : Owner) (p : owner-sort o ≡ s
       let h = owned-inside v n k sort row t in
       omega arith
   none-owned i (x ∷ xs) a (ends-before d b) t =
-      let u = both-second (ltb k n) (both (eqb (column 9 v k 1) sort) (eqb (column 9 v k 2) row)) t in
-      let f : column 9 v k 1 ≡ sort = eqb-true (column 9 v k 1) sort (both-true (eqb (column 9 v k 1) sort) (eqb (column 9 v k 2) row) u) in
-      let g : column 9 v k 2 ≡ row = eqb-true (column 9 v k 2) row (both-second (eqb (column 9 v k 1) sort) (eqb (column 9 v k 2) row) u) in
+      let u = both-second (ltb k n) (both (eqb (cellOf v 9 k 1) sort) (eqb (cellOf v 9 k 2) row)) t in
+      let f : cellOf v 9 k 1 ≡ sort = eqb-true (cellOf v 9 k 1) sort (both-true (eqb (cellOf v 9 k 1) sort) (eqb (cellOf v 9 k 2) row) u) in
+      let g : cellOf v 9 k 2 ≡ row = eqb-true (cellOf v 9 k 2) row (both-second (eqb (cellOf v 9 k 1) sort) (eqb (cellOf v 9 k 2) row) u) in
       d (same-owner (x .owner) o (sym (from-cell 9 value-cells value-width x xs 1 (omega arith) a) ∙ f ∙ sym p)
       (sym (from-cell 9 value-cells value-width x xs 2 (omega arith) a) ∙ g ∙ sym q))
 
@@ -136,11 +138,11 @@ shown s (enumerator e) t h = sym (h .bytes)
 shown s (object e) t h = sym (h .bytes)
 
 module _ {s d v : List ℕ} {n k : ℕ} {o : Owner} {t : Taken} {us : Resolved} {rest : List ValueRow} (a : LaidLine s d v n k t o us rest) where
-  cell-is : (c : ℕ) → c < 9 → column 9 v k c ≡ getD (value-cells (value-row t o)) c 0
+  cell-is : (c : ℕ) → c < 9 → cellOf v 9 k c ≡ getD (value-cells (value-row t o)) c 0
   cell-is c h = from-cell 9 value-cells value-width (value-row t o) (value-rows us (suc k) (of-value k) ++ rest) c h (a .rows)
 
   value-is : value-at s v k ≡ written (t .value) (t .word)
-  unfolding value-at word-at value-cells value-row span-of
+  unfolding value-at rowName value-cells value-row span-of
   value-is =
       rw (cell-is 3 (omega arith), cell-is 4 (omega arith), cell-is 5 (omega arith), cell-is 7 (omega arith), cell-is 8 (omega arith))
       (shown s (t .value) (t .word) (a .told .word))
@@ -148,4 +150,4 @@ module _ {s d v : List ℕ} {n k : ℕ} {o : Owner} {t : Taken} {us : Resolved} 
   -- Its name and value.
   pub head-is : head-at s d v k ≡ t .definition .name .bytes ++ (bytesOf " = " ++ written (t .value) (t .word))
   unfolding head-at value-cells value-row
-  head-is = ap₂ (λ (x y : List ℕ). x ++ (bytesOf " = " ++ y)) (ap (λ (j : ℕ). word-at s 13 d j 2) (cell-is 0 (omega arith)) ∙ a .told .name) value-is
+  head-is = ap₂ (λ (x y : List ℕ). x ++ (bytesOf " = " ++ y)) (ap (λ (j : ℕ). rowName s d 13 2 j) (cell-is 0 (omega arith)) ∙ a .told .name) value-is

@@ -5,6 +5,8 @@ use Prim.Native.Nat.{ℕ, suc, _+_, _≤_, _<_}
 use native.Mathlib.Omega.{arith}
 use native.Mathlib.Numerals.{add-one}
 use lib.ListN.{length, getD}
+use Rattle.rows.specs.Table.{cellOf}
+use Rattle.rows.specs.Search.{rowName}
 use Rattle.token.specs.Words.{bytesOf}
 use Rattle.token.specs.Tokens.{partOf}
 use Rattle.meaning.specs.Syntax.{Object, span-of}
@@ -15,7 +17,7 @@ use Rattle.meaning.specs.Normal.{lines, object-lines}
 use Rattle.meaning.proofs.Rooms.{object-width, value-width}
 use Rattle.meaning.proofs.Entries.{length-values}
 use Rattle.writing.specs.Wrote.{cap, Wrote}
-use Rattle.writing.specs.Lines.{column, word-at, opening-at, object-line}
+use Rattle.writing.specs.Lines.{opening-at, object-line}
 use Rattle.writing.specs.Promises.{From, Ends, ends, ends-before, PutsLines, LaidObject, PutsObject, Pairs, a-pair, LaidAll, PutsObjects}
 use Rattle.writing.specs.declared.Spot.{Spot}
 use Rattle.writing.proofs.Writes.{wrote-length, wrote-low, wrote-then, wrote-as, wrote-none}
@@ -54,12 +56,12 @@ objects-end (resolved t us r ∷ ys) k i j m h = ends-before (λ (e : of-object 
 
 module _ {s d o v : List ℕ} {m n i k : ℕ} {x : Object} {xs : List Object} {y : Resolved} {ys : List Resolved} where
   row-cell : LaidAll s d o v m n i k (x ∷ xs) (y ∷ ys) → (c : ℕ) → c < 7
-      → column 7 o i c ≡ getD (object-cells (record { kind = x .kind; word = span-of (x .word); name = span-of (x .name); block = x .block })) c 0
+      → cellOf o 7 i c ≡ getD (object-cells (record { kind = x .kind; word = span-of (x .word); name = span-of (x .name); block = x .block })) c 0
   unfolding object-rows
   row-cell a c h = from-cell 7 object-cells object-width _ (object-rows xs) c h (a .objects)
 
   pub laid-object : LaidAll s d o v m n i k (x ∷ xs) (y ∷ ys) → LaidObject s d o v n i k x y (all-value-rows ys (suc i) (k + how-many-values y))
-  unfolding word-at object-cells span-of all-value-rows owner-sort owner-row
+  unfolding rowName object-cells span-of all-value-rows owner-sort owner-row
   laid-object a = go (a .pairs)
     where
       go : Pairs s d (x ∷ xs) (y ∷ ys) → LaidObject s d o v n i k x y (all-value-rows ys (suc i) (k + how-many-values y))

@@ -6,6 +6,7 @@ use mathlib.Core.Option.{Option, none, some}
 use Prim.Native.Nat.{ℕ, suc, _+_, _*_}
 use native.Mathlib.Omega.{arith}
 use lib.ListN.{length}
+use Rattle.rows.specs.Search.{rowName}
 use Rattle.token.specs.Tokens.{partOf}
 use Rattle.meaning.specs.Syntax.{Word, span-of, Definition, Definitions, no-more, define, Values, no-value, value, Defined, Statements, done, state, Object, File}
 use Rattle.meaning.specs.Words.{alike, among, choose}
@@ -24,7 +25,6 @@ use Rattle.scopes.specs.Given.{entry-rows}
 use Rattle.scopes.proofs.Answering.{spec-rows}
 use Rattle.scopes.proofs.Descents.{row-of-definition, scope-of-kind}
 use Rattle.lookups.proofs.Standings.{words-definition, file-stands}
-use Rattle.writing.specs.Lines.{word-at}
 use Rattle.writing.specs.Promises.{From, AllTold, end-told, more-told, Pairs, no-pair, a-pair}
 use Rattle.writing.proofs.Froms.{from-cell, from-append, from-room}
 
@@ -41,8 +41,8 @@ nth-row {d} {n} k (y ∷ front) x rest a =
 
 module _ {s d : List ℕ} {f : File} (t : Situation s f) (h : d ≡ definition-room (all-definition-rows (f .specs))) where
   -- The name of a definition of a scope.
-  name-told : {u : Word} {ds : Definitions} {x : Defined} → Stands (f .specs) u ds → HasDefinition ds x → word-at s 13 d (x .definition .row) 2 ≡ x .definition .name .bytes
-  unfolding word-at definition-room definition-cells definition-row span-of
+  name-told : {u : Word} {ds : Definitions} {x : Defined} → Stands (f .specs) u ds → HasDefinition ds x → rowName s d 13 2 (x .definition .row) ≡ x .definition .name .bytes
+  unfolding rowName definition-room definition-cells definition-row span-of
   name-told {u} {ds} {x} p q =
       let r = row-of-definition t p q in
       let rows = all-definition-rows (f .specs) in
@@ -59,7 +59,7 @@ module _ {s d : List ℕ} {f : File} (t : Situation s f) (h : d ≡ definition-r
 
 -- Entries ----------------------------------------------------------------------------------------------------------------------------------
 
-module _ {s d : List ℕ} (os : List Object) (x : Definition) (vs : Values) (e : word-at s 13 d (x .row) 2 ≡ x .name .bytes) (inner : Word → Statements → Resolved)
+module _ {s d : List ℕ} (os : List Object) (x : Definition) (vs : Values) (e : rowName s d 13 2 (x .row) ≡ x .name .bytes) (inner : Word → Statements → Resolved)
     (i : (t : Word) (us : Statements) → StatementsIn s us → AllTold s d (inner t us)) {rest : Resolved} (r : AllTold s d rest) where
   entries-told : (ss : Statements) → StatementsIn s ss → AllTold s d (entries ss os x vs inner rest)
   unfolding entries choose take-value

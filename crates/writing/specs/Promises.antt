@@ -4,6 +4,7 @@ use mathlib.Core.Path.{_≡_}
 use mathlib.Core.List.{List, [], _∷_, _++_}
 use Prim.Native.Nat.{ℕ, suc, _+_, _*_, _≤_, _<_, min}
 use lib.ListN.{length, drop, replicate}
+use Rattle.rows.specs.Search.{rowName}
 use Rattle.meaning.specs.Syntax.{Object, File}
 use Rattle.meaning.specs.Defining.{all-definition-rows}
 use Rattle.meaning.specs.Applying.{object-rows}
@@ -15,7 +16,7 @@ use Rattle.scopes.specs.Situations.{Situation}
 use Rattle.reading.specs.declared.Answer.the-variants.{Accepted, Refused}
 use Rattle.reading.specs.declared.Spanned.{Spanned}
 use Rattle.writing.specs.Wrote.{cap, Wrote}
-use Rattle.writing.specs.Lines.{word-at, line, object-line}
+use Rattle.writing.specs.Lines.{line, object-line}
 use Rattle.writing.specs.declared.Spot.{Spot}
 use Rattle.writing.specs.declared.Written.{Written}
 
@@ -31,7 +32,7 @@ pub record From {R : Type 0} (w : ℕ) (f : R → List ℕ) (t : List ℕ) (n k 
 
 -- A value's definition is in its row of the table d, and the value's word is in the text.
 pub record Told (s d : List ℕ) (t : Taken) : Type 0 where
-  pub name : word-at s 13 d (t .definition .row) 2 ≡ t .definition .name .bytes
+  pub name : rowName s d 13 2 (t .definition .row) ≡ t .definition .name .bytes
   pub word : WordIn s (t .word)
 
 -- So it is for all of these values.
@@ -87,8 +88,8 @@ pub record PutsLine (s d v : List ℕ) (n k : ℕ) (l : List ℕ) (at : ℕ) (l�
 
 -- Row i is that of the object x, and from row k on stand its values.
 pub record LaidObject (s d o v : List ℕ) (n i k : ℕ) (x : Object) (y : Resolved) (rest : List ValueRow) : Type 0 where
-  pub word : word-at s 7 o i 1 ≡ x .word .bytes
-  pub name : word-at s 7 o i 3 ≡ x .name .bytes
+  pub word : rowName s o 7 1 i ≡ x .word .bytes
+  pub name : rowName s o 7 3 i ≡ x .name .bytes
   pub laid : Laid s d v n k 0 i (of-object i) y rest
 
 -- `put_object`: the lines of the object of row i.

@@ -1,8 +1,9 @@
 // Resolved values as lines, from their rows: a value's row stands before the rows of what is under it.
 ghost use mathlib.Core.Path.{_≡_};
 ghost use Prim.Native.Nat.{_<_};
+ghost use Rattle.rows.specs.Search.{rowName};
 ghost use Rattle.writing.specs.Wrote.{Wrote};
-ghost use Rattle.writing.specs.Lines.{word-at, value-at, head-at, owned};
+ghost use Rattle.writing.specs.Lines.{value-at, head-at, owned};
 ghost use Rattle.writing.specs.Promises.{PutsLine, PutsLines};
 use super::Spot;
 use super::bytes;
@@ -10,7 +11,7 @@ use rows::cells;
 
 // The part of the text that a definition's row has as its name.
 fn put_name(text: &[u8], d: &[usize], j: usize, out: &mut [u8], at: usize) -> usize
-    ensures { λ r. ⌜ Wrote (now (out .entry)) at (word-at (now (text .entry)) 13 (now (d .entry)) j 2) (now (out .exit)) r ⌝ }
+    ensures { λ r. ⌜ Wrote (now (out .entry)) at (rowName (now (text .entry)) (now (d .entry)) 13 2 j) (now (out .exit)) r ⌝ }
 {
     let place = cells::cell_of(d, 13, j, 2);
     let length = cells::cell_of(d, 13, j, 3);
