@@ -1,5 +1,6 @@
 // The names of all rows in one table, 4865 cells: the index of the definitions, from 0 on, that of the enumerators, from 512, that of the objects, from
-// 1536, the ranks of the statements' names, from 1792, and those of the definitions' names, from 3841.
+// 1536, the ranks of the statements' names, from 1792, those of the definitions' names, from 3841, and, put there when the rows are marked, the
+// words under which something must be stated, from 4353.
 ghost use mathlib.Core.Path.{_≡_};
 ghost use Prim.Native.Nat.{_+_, _*_, _≤_};
 ghost use lib.ListN.{length, getD};
