@@ -273,7 +273,7 @@ mod tests {
 
     #[test]
     fn corpus_agrees() {
-        for sample in corpus::samples() {
+        for sample in corpus::all() {
             let expected = match sample.refusal() {
                 Some((2, _)) => continue,
                 Some((number @ 3..=5, place)) => Stage::Refused { number, place },

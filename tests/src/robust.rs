@@ -31,7 +31,13 @@ pub fn ten_texts() -> Vec<(String, Vec<u8>)> {
 
 /// The texts of the sorts that are made of no seed.
 pub fn fixed(each: EachOf) {
-    const SORTS: [Sort; 4] = [sorts::CORPUS, sorts::TEMPTING, sorts::LIMITS, sorts::HEAVY];
+    const SORTS: [Sort; 5] = [
+        sorts::CORPUS,
+        sorts::CASES,
+        sorts::TEMPTING,
+        sorts::LIMITS,
+        sorts::HEAVY,
+    ];
     for sort in SORTS {
         (sort.texts)(&mut |case| each(sort.name, case));
     }
@@ -168,7 +174,7 @@ fn planted(seed: u64) -> u8 {
 /// So many different texts of the mix; one seed gives always the same.
 pub fn generated(seed: u64, count: usize, each: EachOf) {
     let sources = Sources {
-        samples: corpus::samples(),
+        samples: corpus::all(),
         limits: limits::limits(),
     };
     let random = &mut Random::new(seed);

@@ -43,6 +43,7 @@ const fn sort(name: &'static str, least: usize, texts: fn(Each)) -> Sort {
 }
 
 pub const CORPUS: Sort = sort("corpus", 300, corpus_texts);
+pub const CASES: Sort = sort("cases of the requests", 0, case_texts);
 pub const TEMPTING: Sort = sort("tempting but wrong", 12, tempting_texts);
 pub const ACCEPTED: Sort = sort("accepted texts", 14_000, accepted);
 pub const ONE_FAULT: Sort = sort("one fault", 10_000, one_fault);
@@ -79,17 +80,24 @@ fn unknown(name: &str, text: Vec<u8>) -> Case {
     }
 }
 
-fn corpus_texts(each: Each) {
-    for sample in corpus::samples() {
-        // Refusal 20 is of the writer: the text is accepted.
-        let refusal = sample.refusal().filter(|(number, _)| *number != 20);
-        let refusal = refusal.map(|(number, place)| Refusal { number, place });
-        each(Case {
-            name: sample.name,
-            text: sample.text,
-            known: refusal.into(),
-        });
+/// A text of the corpus and its expected answer.
+fn known_text(sample: corpus::Sample) -> Case {
+    // Refusal 20 is of the writer: the text is accepted.
+    let refusal = sample.refusal().filter(|(number, _)| *number != 20);
+    let refusal = refusal.map(|(number, place)| Refusal { number, place });
+    Case {
+        name: sample.name,
+        text: sample.text,
+        known: refusal.into(),
     }
+}
+
+fn corpus_texts(each: Each) {
+    corpus::samples().into_iter().map(known_text).for_each(each);
+}
+
+fn case_texts(each: Each) {
+    corpus::cases().into_iter().map(known_text).for_each(each);
 }
 
 fn tempting_texts(each: Each) {
@@ -265,7 +273,7 @@ pub fn text_one_token_off(seed: u64) -> Case {
 }
 
 fn damaged(each: Each) {
-    let samples = corpus::samples();
+    let samples = corpus::all();
     for seed in 0..15_000 * times() {
         each(damaged_sample(seed, &samples));
     }

@@ -18,6 +18,7 @@ fn agrees(lent: &mut Lent, text: &[u8], read: &Read) -> Result<(), String> {
 #[test]
 fn corpus_texts() {
     reads(&sorts::CORPUS);
+    reads(&sorts::CASES);
 }
 
 #[test]

@@ -128,7 +128,7 @@ fn compare(text: &[u8], name: &str) -> u8 {
 #[test]
 fn explains_the_corpus() {
     let mut numbers = [0; 21];
-    for sample in corpus::samples() {
+    for sample in corpus::all() {
         numbers[usize::from(compare(&sample.text, &sample.name))] += 1;
     }
     // Refusal 1 needs other tables, and 20 an output.

@@ -94,7 +94,7 @@ fn early_end(text: &[u8]) -> Stage {
 #[test]
 fn corpus_texts() {
     let mut comparison = Comparison::new();
-    for sample in corpus::samples() {
+    for sample in corpus::all() {
         comparison.ask(&sample.name, &sample.text);
     }
     comparison.report("corpus", 300);

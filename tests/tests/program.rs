@@ -75,7 +75,7 @@ fn writes_the_tokens() {
     for name in ["worked.oil", "broken.oil"] {
         agrees(name, &example(name));
     }
-    for sample in corpus::samples() {
+    for sample in corpus::all() {
         agrees(&sample.name, &sample.text);
     }
     for length in [0, 65_534, 65_535, 65_536, 65_537, 200_000] {
@@ -109,7 +109,7 @@ fn refused(number: u8, place: usize) -> Vec<u8> {
 
 #[test]
 fn oil_on_the_corpus() {
-    let samples = corpus::samples();
+    let samples = corpus::all();
     for sample in &samples {
         oil(&sample.name, &sample.text, &sample.expected);
     }

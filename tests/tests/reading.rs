@@ -103,7 +103,7 @@ fn rows_hold(name: &str, text: &[u8], reading: &Reading) {
 
 #[test]
 fn corpus_answers() {
-    let samples = corpus::samples();
+    let samples = corpus::all();
     let mut accepted = 0;
     for sample in &samples {
         let found = program(&sample.text);
@@ -316,7 +316,7 @@ fn truncations() {
 fn damaged_texts() {
     let mut accepted = 0;
     let mut refused: BTreeMap<u8, usize> = BTreeMap::new();
-    let samples = corpus::samples();
+    let samples = corpus::all();
     for seed in 0..9_000 {
         let random = &mut Random::new(seed);
         let text = match random.below(3) {

@@ -73,7 +73,7 @@ mod compare {
 
     pub fn tokens() {
         let mut steps = 0;
-        let samples = corpus::samples();
+        let samples = corpus::all();
         for sample in &samples {
             steps += along_the_tokens(&sample.name, &sample.text);
             if sample.text.len() < 2_000 {

@@ -61,6 +61,7 @@ fn reads_back(
 #[test]
 fn corpus_texts() {
     writes(&sorts::CORPUS);
+    writes(&sorts::CASES);
 }
 
 /// With an output of as many bytes as the program lends, the corpus' expected answers.
@@ -71,7 +72,7 @@ fn corpus_answers() {
     }
     let mut lent = Lent::default();
     let mut too_long = 0;
-    for sample in corpus::samples() {
+    for sample in corpus::all() {
         let read = meaning::read(&sample.text);
         let (answer, written) = match sample.refusal() {
             None => (tables::answer(&read), &sample.expected[..]),
