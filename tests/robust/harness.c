@@ -54,7 +54,12 @@ static const size_t WIDTHS[TABLES] = {13, 3, 7, 9};
 #define USUAL_OUTPUT ((size_t)65535)
 #define PAST ((size_t)40)            // cells past the room of a longer table
 
-enum { LAST_NUMBER = 20, TABLES_TOO_SHORT = 1, TEXT_TOO_LONG = 2, OUTPUT_TOO_SHORT = 20 };
+enum { LAST_NUMBER = 23, TABLES_TOO_SHORT = 1, TEXT_TOO_LONG = 2, OUTPUT_TOO_SHORT = 20 };
+
+// Whether no refusal has this number any more.
+static bool is_retired(unsigned number) {
+    return number == 10;
+}
 
 static size_t room(int table) {
     return ROWS[table] * WIDTHS[table] * CELL;
@@ -366,7 +371,8 @@ enum fault {
     CELL_ON_REFUSAL_1,
     CELL_OF_AN_UNUSED_ROW,
     CELL_OF_A_USED_ROW,
-    NUMBER_21,
+    NUMBER_TOO_GREAT,
+    RETIRED_NUMBER,
     PLACE_PAST_THE_TEXT,
     OBJECT_COUNTED_TWICE,
     ROWS_ON_A_REFUSAL,
@@ -481,7 +487,7 @@ static bool tables_hold(unsigned number) {
 // What the first reading answers is kept, if it can be an answer at all.
 static bool keep_first(unsigned number) {
     size_t place = told_at(0), counted = 0;
-    if (number >= LAST_NUMBER || number == TABLES_TOO_SHORT)
+    if (number > LAST_NUMBER || number == TABLES_TOO_SHORT || number == OUTPUT_TOO_SHORT || is_retired(number))
         return fail("the number is %u", number);
     if (place > now.length || (number == 0 && place != 0))
         return fail("the place is %zu of %zu with number %u", place, now.length, number);
@@ -906,8 +912,10 @@ static NOT_INSTRUMENTED unsigned spoil(const struct slices *s, bool is_write, un
         if (is_write && number == 0)
             objects[0]++;
         break;
-    case NUMBER_21:
-        return is_read && is_refused ? 21 : number;
+    case NUMBER_TOO_GREAT:
+        return is_read && is_refused ? LAST_NUMBER + 1 : number;
+    case RETIRED_NUMBER:
+        return is_read && is_refused ? 10 : number;
     case PLACE_PAST_THE_TEXT:
         if (is_read && is_refused && has_place)
             cells[0] = s->text_length + 1;
@@ -1002,7 +1010,8 @@ static const struct {
     [CELL_ON_REFUSAL_1] = {"refusal 1 changes a cell", "a write to read-only memory: definitions", false},
     [CELL_OF_AN_UNUSED_ROW] = {"a cell of an unused row is left", "definitions: an unused cell is not zero", false},
     [CELL_OF_A_USED_ROW] = {"write leaves another row than read", "objects: the rows are not those of the first reading", false},
-    [NUMBER_21] = {"the number is 21", "the number is 21", false},
+    [NUMBER_TOO_GREAT] = {"the number is 24", "the number is 24", false},
+    [RETIRED_NUMBER] = {"the number is 10", "the number is 10", false},
     [PLACE_PAST_THE_TEXT] = {"the place is past the text", "the place is 2 of 1", false},
     [OBJECT_COUNTED_TWICE] = {"an object is counted twice", "4 objects are counted by kind, and there are 3", false},
     [ROWS_ON_A_REFUSAL] = {"a refused text has a definition", "told cell 1 of a refused text is 1", false},

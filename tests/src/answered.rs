@@ -42,7 +42,7 @@ pub fn with_faults(seed: u64, numbers: &[u8]) -> Option<Answered> {
 }
 
 /// Makes the text of a seed; also counts the sites at which each number may be planted.
-fn make(seed: u64, plan: Plan) -> (Answered, [usize; 21]) {
+fn make(seed: u64, plan: Plan) -> (Answered, [usize; NUMBERS]) {
     let mut maker = Maker {
         random: Random::new(seed),
         plan,
@@ -57,14 +57,17 @@ fn make(seed: u64, plan: Plan) -> (Answered, [usize; 21]) {
 #[derive(Default)]
 struct Plan {
     wanted: Vec<(u8, usize)>,
-    sites: [usize; 21],
+    sites: [usize; NUMBERS],
     planted: Vec<Refusal>,
 }
 
+/// One more than the greatest number of a refusal.
+const NUMBERS: usize = 24;
+
 /// The stage that a refusal's number belongs to.
-fn stage_of(number: u8) -> u8 {
+pub fn stage_of(number: u8) -> u8 {
     match number {
-        6..=10 => 1,
+        6..=9 | 21..=23 => 1,
         11 | 12 | 17 => 2,
         _ => 3,
     }
@@ -581,21 +584,21 @@ impl Maker {
                     }
                     self.number(number);
                 }
-                if self.plants(10) {
+                if self.plants(21) {
                     self.put(",");
                     let number = match least > LEAST_NUMBER {
                         true => least - 1,
                         false => greatest + 1,
                     };
                     let place = self.number(number);
-                    self.planted(10, place);
+                    self.planted(21, place);
                 }
             }
             Range::Between(low, high) => {
                 let (mut low, mut high) = (*low, *high);
-                let low_below = least > LEAST_NUMBER && self.plants(10);
-                let high_above = greatest < GREATEST_NUMBER && !low_below && self.plants(10);
-                let crossed = low < high && !low_below && !high_above && self.plants(10);
+                let low_below = least > LEAST_NUMBER && self.plants(21);
+                let high_above = greatest < GREATEST_NUMBER && !low_below && self.plants(21);
+                let crossed = low < high && !low_below && !high_above && self.plants(21);
                 if low_below {
                     low = least - 1;
                 }
@@ -610,10 +613,10 @@ impl Maker {
                 self.put("..");
                 let high_place = self.number(high);
                 if low_below || crossed {
-                    self.planted(10, low_place);
+                    self.planted(21, low_place);
                 }
                 if high_above {
-                    self.planted(10, high_place);
+                    self.planted(21, high_place);
                 }
             }
         }
@@ -652,16 +655,16 @@ impl Maker {
         if matches!(attribute.domain, Domain::Reference(_)) {
             return;
         }
-        if !attribute.with_auto && self.plants(10) {
+        if !attribute.with_auto && self.plants(23) {
             self.put("=");
             let place = self.put("AUTO");
-            self.planted(10, place);
+            self.planted(23, place);
             return;
         }
-        if self.outside_can_be_default(attribute) && self.plants(10) {
+        if self.outside_can_be_default(attribute) && self.plants(22) {
             self.put("=");
             let place = self.outside(attribute);
-            self.planted(10, place);
+            self.planted(22, place);
             return;
         }
         match &attribute.default {

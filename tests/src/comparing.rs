@@ -177,7 +177,7 @@ pub struct Counts {
     texts: HashSet<u64>,
     accepted: usize,
     values: usize,
-    pub refused: [usize; 20],
+    pub refused: [usize; 25],
 }
 
 impl Counts {

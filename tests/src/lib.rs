@@ -1,5 +1,5 @@
-//! A reference implementation of document 01, written from the paper alone, and the
-//! means to compare the proved implementation with it.
+//! A reference implementation of document 01 and of the requests of document 02 that have
+//! landed, written from the papers alone, and the means to compare the proved implementation with it.
 
 pub mod answered;
 pub mod comparing;
@@ -12,6 +12,7 @@ pub mod meaning;
 pub mod normal;
 pub mod proved;
 pub mod random;
+pub mod ranges;
 pub mod robust;
 pub mod sorts;
 pub mod tables;

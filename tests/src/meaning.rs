@@ -1,4 +1,4 @@
-//! Document 01, "Meaning" and "Refusals and their order": all faults of each stage are
+//! Document 01, "Meaning" and "Refusals and their order", with document 02's requests: all faults of each stage are
 //! collected as place and number, and the least one of the first stage that has any is the
 //! answer. A text without faults gives the rows of the four tables and the counts.
 
@@ -252,7 +252,7 @@ impl<'t> Meaning<'t> {
         of_kinds.chain(of_values).collect()
     }
 
-    /// Refusals 6 to 10.
+    /// Refusals 6 to 9 and 21 to 23.
     fn definition_faults(&self) -> Vec<Fault> {
         let mut faults = Vec::new();
         if self.word(self.file.version) != b"\"2.5\"" {
@@ -305,32 +305,34 @@ impl<'t> Meaning<'t> {
         faults
     }
 
-    /// Refusal 10: "bound outside the type; low above high; default outside type, range or
-    /// list; AUTO without WITH_AUTO".
+    /// Q-1: "21 for a bound or listed number outside its type or a low above its high, 22 for a
+    /// default outside type, range or enumerator list, 23 for AUTO as a default without
+    /// WITH_AUTO".
     fn range_and_default_faults(&self, definition: &Definition) -> Vec<Fault> {
         let bounds: &[Value] = match &definition.range {
             Range::Between(low, high) => &[*low, *high],
             Range::Listed(numbers) => numbers,
             _ => &[],
         };
-        let mut at_fault: Vec<&Value> = Vec::new();
+        let mut at_fault: Vec<(&Value, u8)> = Vec::new();
         if let Some((least, greatest)) = bounds_of(definition.sort) {
             let outside = |bound: &&Value| !(least..=greatest).contains(&number_of(bound));
-            at_fault.extend(bounds.iter().filter(outside));
+            at_fault.extend(bounds.iter().filter(outside).map(|bound| (bound, 21)));
         }
         if let Range::Between(low, high) = &definition.range {
             if number_of(low) > number_of(high) {
-                at_fault.push(low);
+                at_fault.push((low, 21));
             }
         }
         if let Some(default) = &definition.default {
             if default.form != Form::NoDefault && !self.is_inside(definition, default) {
-                at_fault.push(default);
+                let is_auto = default.form == Form::Auto;
+                at_fault.push((default, if is_auto { 23 } else { 22 }));
             }
         }
         at_fault
             .iter()
-            .map(|value| (value.word.place, 10))
+            .map(|&(value, number)| (value.word.place, number))
             .collect()
     }
 

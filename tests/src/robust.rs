@@ -5,6 +5,7 @@
 use crate::corpus::{self, Sample};
 use crate::limits::{self, Limit};
 use crate::random::Random;
+use crate::ranges;
 use crate::sorts::{self, Case, Each, Known, Sort, PLANTED};
 use std::collections::HashSet;
 use std::fs;
@@ -110,7 +111,7 @@ const fn seeded(name: &'static str, parts: usize, texts: fn(u64, &Sources, Each)
 }
 
 /// The mix: about as the sorts are mixed that are compared with the reference.
-const MIX: [Seeded; 13] = [
+const MIX: [Seeded; 14] = [
     seeded(sorts::ACCEPTED.name, 120, |seed, _, each| {
         each(sorts::accepted_text(seed));
     }),
@@ -147,6 +148,9 @@ const MIX: [Seeded; 13] = [
     seeded(sorts::DERIVED.name, 64, |seed, _, each| {
         each(sorts::derived_text(seed));
     }),
+    seeded(sorts::RANGES.name, 60, |seed, _, each| {
+        own_text(seed, ranges::ranged, each);
+    }),
     seeded(sorts::DAMAGED_LIMITS.name, 1, |seed, sources, each| {
         let random = &mut Random::new(seed);
         let limit = &sources.limits[random.below(sources.limits.len())];
@@ -165,6 +169,14 @@ const MIX: [Seeded; 13] = [
         });
     }),
 ];
+
+/// A text of a request's own, or the same cut, damaged or with other tokens.
+fn own_text(seed: u64, text: fn(u64) -> Case, each: Each) {
+    each(match seed % 3 {
+        0 => sorts::text_off(seed, &text(seed)),
+        _ => text(seed),
+    });
+}
 
 /// A number of which a fault can be planted.
 fn planted(seed: u64) -> u8 {

@@ -7,7 +7,7 @@ use crate::random::Random;
 use crate::texts;
 use crate::token::{step, Step, Token};
 use crate::tree::file;
-use crate::{answered, corpus, grammar, heavy, limits, tempting, token};
+use crate::{answered, corpus, grammar, heavy, limits, ranges, tempting, token};
 
 /// A text, and what is known of the answer that `read` gives.
 pub struct Case {
@@ -62,6 +62,7 @@ pub const TRUNCATIONS: Sort = sort("truncations", 10_000, truncations);
 pub const BYTES: Sort = sort("bytes and token soup", 15_000, bytes_and_tokens);
 pub const DERIVED: Sort = sort("derived texts", 7_000, derived);
 pub const HEAVY: Sort = sort("heavy texts", 20, heavy_texts);
+pub const RANGES: Sort = sort("Q-1, ranges and defaults", 20_000, range_texts);
 
 /// How many times as many generated texts are compared as usual: `KAUKSLINI_TEXTS`.
 fn times() -> u64 {
@@ -136,7 +137,7 @@ pub fn configuration_text(bytes: usize) -> Case {
 }
 
 /// The numbers of which a fault can be planted anywhere.
-pub const PLANTED: [u8; 11] = [6, 8, 9, 10, 12, 13, 14, 15, 16, 17, 18];
+pub const PLANTED: [u8; 13] = [6, 8, 9, 12, 13, 14, 15, 16, 17, 18, 21, 22, 23];
 
 /// The text of a seed with faults of these numbers, if it has sites for them.
 pub fn text_with_faults(seed: u64, numbers: &[u8]) -> Option<Case> {
@@ -160,19 +161,10 @@ fn one_fault(each: Each) {
     }
 }
 
-/// The stage of a number of which a fault can be planted.
-fn stage_of(number: u8) -> u8 {
-    match number {
-        6..=10 => 1,
-        11 | 12 | 17 => 2,
-        _ => 3,
-    }
-}
-
 fn two_faults(of_one_stage: bool, each: Each) {
     for first in PLANTED {
         for second in PLANTED {
-            if (stage_of(first) == stage_of(second)) != of_one_stage {
+            if (answered::stage_of(first) == answered::stage_of(second)) != of_one_stage {
                 continue;
             }
             for seed in 0..180 * times() {
@@ -266,10 +258,14 @@ fn one_token_off(each: Each) {
 pub fn text_one_token_off(seed: u64) -> Case {
     let random = &mut Random::new(seed);
     let text = answered::accepted(seed).text;
-    let tokens = tokens_of(&text);
-    let tokens: Vec<Vec<u8>> = tokens.iter().map(|token| word(&text, token)).collect();
+    unknown(&format!("seed {seed}"), with_one_token_off(random, &text))
+}
+
+fn with_one_token_off(random: &mut Random, text: &[u8]) -> Vec<u8> {
+    let tokens = tokens_of(text);
+    let tokens: Vec<Vec<u8>> = tokens.iter().map(|token| word(text, token)).collect();
     let off = texts::one_token_off(random, &tokens);
-    unknown(&format!("seed {seed}"), texts::spaced(random, &off))
+    texts::spaced(random, &off)
 }
 
 fn damaged(each: Each) {
@@ -355,6 +351,31 @@ pub fn derived_text(seed: u64) -> Case {
         }
     }
     unknown(&format!("seed {seed}"), text)
+}
+
+/// The texts of a request's own: each as it is made, and once more cut, damaged or with other
+/// tokens.
+fn own_texts(text: fn(u64) -> Case, each: Each) {
+    for seed in 0..12_000 * times() {
+        each(text(seed));
+        each(text_off(seed, &text(seed)));
+    }
+}
+
+/// A text cut, damaged, or with tokens exchanged or one token off.
+pub fn text_off(seed: u64, case: &Case) -> Case {
+    let random = &mut Random::new(!seed);
+    match seed % 4 {
+        0 => truncated_text(&case.name, &case.text, random.below(case.text.len())),
+        1 => damaged_text(&case.name, random, &case.text),
+        2 => unknown(&case.name, exchanged(random, &case.text)),
+        _ => unknown(&case.name, with_one_token_off(random, &case.text)),
+    }
+}
+
+fn range_texts(each: Each) {
+    ranges::bounds().into_iter().for_each(&mut *each);
+    own_texts(ranges::ranged, each);
 }
 
 fn heavy_texts(each: Each) {

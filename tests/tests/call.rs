@@ -81,6 +81,12 @@ fn heavy_texts() {
     reads(&sorts::HEAVY);
 }
 
+#[test]
+fn ranges_and_defaults() {
+    let counts = reads(&sorts::RANGES);
+    assert!(counts.refused[21..=23].iter().all(|count| *count > 1_000));
+}
+
 /// Refusal 1 comes before all others and touches no cell.
 #[test]
 fn tables_too_short() {

@@ -138,6 +138,11 @@ fn derived_texts() {
     writes(&sorts::DERIVED);
 }
 
+#[test]
+fn ranges_and_defaults() {
+    writes(&sorts::RANGES);
+}
+
 /// Each by one call only.
 #[test]
 fn heavy_texts() {

@@ -16,7 +16,8 @@ use Rattle.meaning.specs.Syntax.{Word, span-of, span-or, Definition, Values, Fi
 use Rattle.meaning.specs.Words.{among}
 use Rattle.meaning.specs.Scopes.{sort-of, fits}
 use Rattle.meaning.specs.Faults.{Fault, fault-if, first}
-use Rattle.meaning.specs.Defining.{range-faults, default-wrong, default-faults, defined-in, differs, name-faults, word-faults}
+use Rattle.meaning.specs.Defining.{range-faults, default-wrong, default-number, default-faults, defined-in, differs, name-faults, word-faults}
+use Rattle.meaning.proofs.Numbered.{default-high}
 use Rattle.meaning.proofs.Sooner.{left-of, not-above}
 use Rattle.meaning.proofs.Numbering.{Counts}
 use Rattle.meaning.proofs.Standing.{counts-back, counts-head}
@@ -104,15 +105,17 @@ both-true false b e = absurd (false≢true (sym e))
 
 -- A default that is not judged stands behind the enumerator that is one too many.
 default-late : {g : Fault} (full : Bool) (limit : ℕ) (d : Definition) (vs : Values) (o : Option Word) → Has g (default-faults d vs o) → judged full limit o ≡ false
-    → (full ≡ true) × ((limit ≤ g .place) × (g .number ≡ 10))
+    → (full ≡ true) × ((limit ≤ g .place) × (21 < g .number))
 unfolding default-faults judged span-or span-of
 default-late full limit d vs none m e = absurd (has-none m)
 default-late full limit d vs (some t) m e =
-    let a = if-at (default-wrong (sort-of (t .class)) (fits d vs t)) t 10 m in
+    let a = if-at (default-wrong (sort-of (t .class)) (fits d vs t)) t (default-number (sort-of (t .class))) m in
+    let i = default-high (sort-of (t .class)) in
+    let j = a .1 in
     let b = both-true full (leb limit (t .place)) e in
     let c = leb-true limit (t .place) (b .1) in
     let p = a .0 in
-    (b .0, (omega (arith, c, p), a .1))
+    (b .0, (omega (arith, c, p), omega (arith, i, j)))
 
 seven-choice : (before : List Choice) (c : Choice) → length before ≡ 1024 → Has (record { place = c .word .place; number = 7 }) (choice-faults before c)
 unfolding choice-faults word-faults
@@ -127,7 +130,7 @@ le-cases a b h = by (decLt a b)
     by (yes l) = inl l
     by (no l) = inr (omega (arith, l, h))
 
-late-cover : (g : Fault) (p : ℕ) (l : List Fault) {limit : ℕ} → Has (record { place = p; number = 7 }) l → limit ≡ p → limit ≤ g .place → g .number ≡ 10 → Covered g l
+late-cover : (g : Fault) (p : ℕ) (l : List Fault) {limit : ℕ} → Has (record { place = p; number = 7 }) l → limit ≡ p → limit ≤ g .place → 21 < g .number → Covered g l
 late-cover g p l h e k n =
     ⊎-elim (λ i. covered-by (record { place = p; number = 7 }) h (left-of i)) (λ i. covered-by (record { place = p; number = 7 }) h (not-above i (omega (arith, n))))
     (le-cases p (g .place) (omega (arith, e, k)))

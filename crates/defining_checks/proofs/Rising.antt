@@ -14,7 +14,7 @@ use Rattle.meaning.specs.Syntax.{Word, AttributeType, integer, string, boolean,
 use Rattle.meaning.specs.Words.{at-most, in-type, among}
 use Rattle.meaning.specs.Scopes.{sort-of, fits}
 use Rattle.meaning.specs.Faults.{Fault, fault-if}
-use Rattle.meaning.specs.Defining.{outside, bound-faults, range-faults, default-wrong, default-faults, defined-in, differs, name-faults, word-faults}
+use Rattle.meaning.specs.Defining.{outside, bound-faults, range-faults, default-wrong, default-number, default-faults, defined-in, differs, name-faults, word-faults}
 use Rattle.meaning.proofs.Standing.{Run}
 use Rattle.meaning.proofs.Sites.{bound-words, option-words, definition-words, value-words, spec-words}
 use Rattle.layout.specs.Kept.{Entry, Choice, list-key, entries, entries-under, spec-entries, choice-if, choices, choices-of, spec-choices}
@@ -36,17 +36,17 @@ unfolding outside
 in-outside i [] lo hi r m = absurd (has-none m)
 in-outside {g} i (t ∷ ts) lo hi r m =
     let a = r .0 in
-    ⊎-elim (λ n. let e = if-at (not (in-type i (t .number))) t 10 n .0 in omega (arith, a, e))
+    ⊎-elim (λ n. let e = if-at (not (in-type i (t .number))) t 21 n .0 in omega (arith, a, e))
     (λ n. let k = in-outside i ts (suc (t .place)) hi (r .1) n in omega (arith, a, k))
-    (has-split (fault-if (not (in-type i (t .number))) t 10) (outside i ts) m)
+    (has-split (fault-if (not (in-type i (t .number))) t 21) (outside i ts) m)
 
 in-bounds : {g : Fault} (i : Integer) (b : Bounds) (lo hi : ℕ) → Run lo (bound-words b) hi → Has g (bound-faults i b) → lo ≤ g .place
 unfolding bound-faults bound-words
 in-bounds i no-bounds lo hi r m = absurd (has-none m)
 in-bounds {g} i (from-to a b) lo hi r m =
     let h = r .0 in
-    ⊎-elim (λ n. let e = if-at (not (at-most (a .number) (b .number))) a 10 n .0 in omega (arith, h, e)) (λ n. in-outside i (a ∷ b ∷ []) lo hi r n)
-    (has-split (fault-if (not (at-most (a .number) (b .number))) a 10) (outside i (a ∷ b ∷ [])) m)
+    ⊎-elim (λ n. let e = if-at (not (at-most (a .number) (b .number))) a 21 n .0 in omega (arith, h, e)) (λ n. in-outside i (a ∷ b ∷ []) lo hi r n)
+    (has-split (fault-if (not (at-most (a .number) (b .number))) a 21) (outside i (a ∷ b ∷ [])) m)
 in-bounds i (one-of ts) lo hi r m = in-outside i ts lo hi r m
 
 in-range : {g : Fault} (y : AttributeType) (b : Bounds) (lo hi : ℕ) → Run lo (bound-words b) hi → Has g (range-faults y b) → lo ≤ g .place
@@ -70,7 +70,7 @@ unfolding default-faults option-words
 in-default d vs none lo hi r m = absurd (has-none m)
 in-default {g} d vs (some t) lo hi r m =
     let h = r .0 in
-    let e = if-at (default-wrong (sort-of (t .class)) (fits d vs t)) t 10 m .0 in
+    let e = if-at (default-wrong (sort-of (t .class)) (fits d vs t)) t (default-number (sort-of (t .class))) m .0 in
     omega (arith, h, e)
 
 -- The rows of definitions --------------------------------------------------------------------------------------------------------------------

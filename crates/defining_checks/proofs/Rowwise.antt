@@ -1,4 +1,4 @@
--- The stage of 6 to 10 row by row: of its faults, found along the definitions as they stand, the one that answers is that of the rows, each with
+-- The stage of 6 to 9 and 21 to 23 row by row: of its faults, found along the definitions as they stand, the one that answers is that of the rows, each with
 -- the rows before it. Assumes nothing.
 use mathlib.Core.Path.{_≡_, refl, sym, _∙_, ap, ap₂}
 use mathlib.Core.List.{List, [], _∷_, _++_, append-nil}

@@ -1,4 +1,4 @@
--- The stage of 6 to 10 by the version's word, the kind words that come a second time, and the rows that are kept. Assumes nothing.
+-- The stage of 6 to 9 and 21 to 23 by the version's word, the kind words that come a second time, and the rows that are kept. Assumes nothing.
 use mathlib.Core.Path.{_≡_, refl, sym, _∙_, ap, ap₂}
 use mathlib.Core.List.{List, [], _∷_, _++_}
 use mathlib.Core.Bool.{Bool, true, false, not}

@@ -38,7 +38,7 @@ unfoldable pub row-name-faults : List Entry → Entry → List Fault
 row-name-faults before x =
     name-faults (x .definition) (others-for (x .outer) (x .under .place) before) (under-of (x .under .place) before)
 
--- 10 at the bounds; 7, 8 and 9 at the name; 10 at the default.
+-- 21 at the bounds; 7, 8 and 9 at the name; 22 or 23 at the default.
 unfoldable pub row-faults : List Entry → Entry → List Fault
 row-faults before x =
     range-faults (x .definition .type) (x .definition .bounds)
@@ -53,7 +53,7 @@ judged full limit o = not (both full (leb limit (span-or o .place)))
 unfoldable pub judged-faults : Bool → ℕ → Definition → Values → List Fault
 judged-faults full limit d vs = pick (judged full limit (d .default)) (default-faults d vs (d .default)) []
 
--- The faults of a row, with 10 at the default only where it is judged.
+-- The faults of a row, with 22 or 23 at the default only where it is judged.
 unfoldable pub kept-row-faults : Bool → ℕ → List Entry → Entry → List Fault
 kept-row-faults full limit before x =
     range-faults (x .definition .type) (x .definition .bounds)

@@ -56,7 +56,7 @@ NameFault s d j r =
     (f : File) (x : Entry) → Situation s f → d ≡ kept-definitions f → (q : Nth (spec-entries (f .specs)) j x) → j < 513
     → r ≡ fault-of (first (row-name-faults (q .front) x))
 
--- 10 at the default of row j, where it is judged; xe is the index of the enumerators.
+-- 22 or 23 at the default of row j, where it is judged; xe is the index of the enumerators.
 abbrev pub DefaultFault : (s d e xe : List ℕ) → (full : Bool) → (limit j : ℕ) → Fault → Type 0
 DefaultFault s d e xe full limit j r =
     (f : File) (m : ℕ) (x : Entry) → Situation s f → d ≡ kept-definitions f → e ≡ kept-enumerators f → Indexed s e 3 m 0 1 xe → Room f m full limit
@@ -94,7 +94,7 @@ EnumeratorsFault s e n r =
 unfoldable pub version-code : List ℕ → (at len : ℕ) → Fault
 version-code s at len = faultIf (not (same (partOf s at len) (bytesOf "\"2.5\""))) 6 at
 
--- The fault by which the stage of 6 to 10 answers; n definitions and m enumerators stand in the text, the version's word at (at, len), and the
+-- The fault by which the stage of 6 to 9 and 21 to 23 answers; n definitions and m enumerators stand in the text, the version's word at (at, len), and the
 -- first kind word that comes a second time at again.
 abbrev pub DefinitionFaults : (s d e : List ℕ) → (n m at len again : ℕ) → Fault → Type 0
 DefinitionFaults s d e n m at len again r =

@@ -1,4 +1,4 @@
-// The faults of rows of definitions: 10 at the bounds, 7, 8 and 9 at the name, 10 at the default.
+// The faults of rows of definitions: 21 at the bounds, 7, 8 and 9 at the name, 22 or 23 at the default.
 ghost use mathlib.Core.Path.{_≡_};
 ghost use Prim.Native.Nat.{_≤_};
 ghost use lib.ListN.{length};
@@ -81,8 +81,8 @@ fn is_late(full: bool, limit: usize, at: usize) -> bool
     false
 }
 
-// 10 at the default of row j, if it is judged and the attribute does not take it; NO_DEFAULT, whose code is 4, is never at fault. xe is the
-// index of the enumerators.
+// 22 at the default of row j, or 23 if it is AUTO, whose code is 3, if it is judged and the attribute does not take it; NO_DEFAULT, whose code
+// is 4, is never at fault. xe is the index of the enumerators.
 fn default_fault(
     text: &[u8],
     d: &[usize],
@@ -117,7 +117,10 @@ fn default_fault(
     }
     let under = lookups::word_under(text, d, e, xe, j, at, len);
     let taken = scopes::lookups::takes(text, d, j, at, code, under);
-    faults::fault_if(!taken, 10, at)
+    if code == 3 {
+        return faults::fault_if(!taken, 23, at);
+    }
+    faults::fault_if(!taken, 22, at)
 }
 
 // The faults of row j; x and y are the indexes of the rows, xe is that of the enumerators.

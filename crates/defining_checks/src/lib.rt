@@ -1,4 +1,4 @@
-// The faults 6 to 10 over the rows kept while a text is read.
+// The faults 6 to 9 and 21 to 23 over the rows kept while a text is read.
 ghost use mathlib.Core.Path.{_≡_};
 ghost use Prim.Native.Nat.{min};
 ghost use lib.ListN.{length};
@@ -22,7 +22,7 @@ fn version_fault(text: &[u8], at: usize, len: usize) -> Fault
     faults::fault_if(!same, 6, at)
 }
 
-// The fault by which the stage of 6 to 10 answers, as below; so many enumerators are kept, x is room for their index, and b for half of it.
+// The fault by which the stage of 6 to 9 and 21 to 23 answers, as below; so many enumerators are kept, x is room for their index, and b for half of it.
 fn indexed_faults(
     text: &[u8],
     d: &[usize],
@@ -50,7 +50,7 @@ fn indexed_faults(
     faults::sooner(v, faults::sooner(a, faults::sooner(r, c)))
 }
 
-// The fault by which the stage of 6 to 10 answers: of n definitions and m enumerators, of which those are kept for which there is room, of the
+// The fault by which the stage of 6 to 9 and 21 to 23 answers: of n definitions and m enumerators, of which those are kept for which there is room, of the
 // version's word at (at, len), and of the first kind word that comes a second time (0: none).
 pub fn definition_faults(
     text: &[u8],

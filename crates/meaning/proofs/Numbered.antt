@@ -11,7 +11,7 @@ use Rattle.meaning.specs.Syntax.{Word, Bounds, no-bounds, from-to, one-o
 use Rattle.meaning.specs.Kinds.{kinds}
 use Rattle.meaning.specs.Faults.{Fault, fault-if, ahead, sooner, first}
 use Rattle.meaning.specs.Scopes.{Sort, a-number, a-string, a-truth, an-auto, a-no-default, a-name, sort-of, heads, of-kind, find-definition, names}
-use Rattle.meaning.specs.Defining.{outside, bound-faults, range-faults, default-faults, name-faults, word-faults, scope-faults, value-faults, spec-faults, definition-faults}
+use Rattle.meaning.specs.Defining.{outside, bound-faults, range-faults, default-number, default-faults, name-faults, word-faults, scope-faults, value-faults, spec-faults, definition-faults}
 use Rattle.meaning.specs.Applying.{too-few, statement-faults, each-object, object-faults}
 use Rattle.meaning.specs.Judging.{reference-faults, brace-faults, faults-as, own-faults, and-inside, judged, judge, judge-object, judge-objects, statement-stage}
 
@@ -29,17 +29,17 @@ unfolding fault-if
 at-if true t n h = a-fault h no-fault
 at-if false t n h = no-fault
 
--- 6 to 10 ------------------------------------------------------------------------------------------------------------------------------------
+-- 6 to 9 and 21 to 23 ------------------------------------------------------------------------------------------------------------------------------------
 
 of-outside : (i : Integer) (ts : List Word) → Numbered (outside i ts)
 unfolding outside
 of-outside i [] = no-fault
-of-outside i (t ∷ ts) = with-more (at-if _ t 10 (omega arith)) (of-outside i ts)
+of-outside i (t ∷ ts) = with-more (at-if _ t 21 (omega arith)) (of-outside i ts)
 
 of-bounds : (i : Integer) (b : Bounds) → Numbered (bound-faults i b)
 unfolding bound-faults
 of-bounds i no-bounds = no-fault
-of-bounds i (from-to a b) = with-more (at-if _ a 10 (omega arith)) (of-outside i (a ∷ b ∷ []))
+of-bounds i (from-to a b) = with-more (at-if _ a 21 (omega arith)) (of-outside i (a ∷ b ∷ []))
 of-bounds i (one-of ts) = of-outside i ts
 
 pub of-range : (y : AttributeType) (b : Bounds) → Numbered (range-faults y b)
@@ -50,10 +50,20 @@ of-range boolean b = no-fault
 of-range enum b = no-fault
 of-range (reference k) b = no-fault
 
+-- The number of a fault of a default is 22 or 23.
+pub default-high : (o : Sort) → 21 < default-number o
+unfolding default-number
+default-high a-number = omega arith
+default-high a-string = omega arith
+default-high a-truth = omega arith
+default-high an-auto = omega arith
+default-high a-no-default = omega arith
+default-high a-name = omega arith
+
 pub of-default : (d : Definition) (vs : Values) (o : Option Word) → Numbered (default-faults d vs o)
 unfolding default-faults
 of-default d vs none = no-fault
-of-default d vs (some t) = at-if _ t 10 (omega arith)
+of-default d vs (some t) = at-if _ t (default-number (sort-of (t .class))) (let h = default-high (sort-of (t .class)) in omega (arith, h))
 
 pub of-name : (d : Definition) (others before : List Definition) → Numbered (name-faults d others before)
 unfolding name-faults

@@ -303,7 +303,7 @@ few-values n e = ltb-false 2048 n (go (ltb 2048 n) e)
 
 -- The rooms ----------------------------------------------------------------------------------------------------------------------------------
 
--- Where the stage of 6 to 10 has no fault, definitions and enumerators fit; where that of 11, 12 and 17 has none, objects and statements do.
+-- Where the stage of 6 to 9 and 21 to 23 has no fault, definitions and enumerators fit; where that of 11, 12 and 17 has none, objects and statements do.
 pub definitions-fit : (s : List ℕ) (t : Trees _⟶_ (file ▸ ∎)) → first (definition-faults (syntax s t)) ≡ none
     → (length (all-definition-rows (syntax s t .specs)) ≤ 512) × (length (all-enumerator-rows (syntax s t .specs)) ≤ 1024)
 unfolding definition-faults

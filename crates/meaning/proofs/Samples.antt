@@ -34,25 +34,25 @@ v9-boolean-first-decides : reading (bytesOf "OIL_VERSION=\"2.5\";IMPLEMENTATION 
 unfolding everything
 v9-boolean-first-decides = refl
 
-v10-bound : reading (bytesOf "OIL_VERSION=\"2.5\";IMPLEMENTATION m{TASK{INT32[-2147483649..5]X=1;};};CPU c{OS o;APPMODE a;};") ≡ refused 10 46
+v21-bound : reading (bytesOf "OIL_VERSION=\"2.5\";IMPLEMENTATION m{TASK{INT32[-2147483649..5]X=1;};};CPU c{OS o;APPMODE a;};") ≡ refused 21 46
 unfolding everything
-v10-bound = refl
+v21-bound = refl
 
-v10-low-above-high : reading (bytesOf "OIL_VERSION=\"2.5\";IMPLEMENTATION m{TASK{UINT64[5..4]X;};};CPU c{OS o;APPMODE a;};") ≡ refused 10 47
+v21-low-above-high : reading (bytesOf "OIL_VERSION=\"2.5\";IMPLEMENTATION m{TASK{UINT64[5..4]X;};};CPU c{OS o;APPMODE a;};") ≡ refused 21 47
 unfolding everything
-v10-low-above-high = refl
+v21-low-above-high = refl
 
-v10-listed-and-default : reading (bytesOf "OIL_VERSION=\"2.5\";IMPLEMENTATION m{TASK{UINT32[1,3,5]X=4;};};CPU c{OS o;APPMODE a;};") ≡ refused 10 55
+v22-listed-and-default : reading (bytesOf "OIL_VERSION=\"2.5\";IMPLEMENTATION m{TASK{UINT32[1,3,5]X=4;};};CPU c{OS o;APPMODE a;};") ≡ refused 22 55
 unfolding everything
-v10-listed-and-default = refl
+v22-listed-and-default = refl
 
-v10-auto : reading (bytesOf "OIL_VERSION=\"2.5\";IMPLEMENTATION m{TASK{STRING WITH_AUTO S=AUTO;BOOLEAN B=AUTO;};};CPU c{OS o;APPMODE a;};") ≡ refused 10 74
+v23-auto : reading (bytesOf "OIL_VERSION=\"2.5\";IMPLEMENTATION m{TASK{STRING WITH_AUTO S=AUTO;BOOLEAN B=AUTO;};};CPU c{OS o;APPMODE a;};") ≡ refused 23 74
 unfolding everything
-v10-auto = refl
+v23-auto = refl
 
-v10-default-no-enumerator : reading (bytesOf "OIL_VERSION=\"2.5\";IMPLEMENTATION m{TASK{ENUM[A,B]E=C;};};CPU c{OS o;APPMODE a;};") ≡ refused 10 51
+v22-default-no-enumerator : reading (bytesOf "OIL_VERSION=\"2.5\";IMPLEMENTATION m{TASK{ENUM[A,B]E=C;};};CPU c{OS o;APPMODE a;};") ≡ refused 22 51
 unfolding everything
-v10-default-no-enumerator = refl
+v22-default-no-enumerator = refl
 
 v12-name-twice : reading (bytesOf "OIL_VERSION=\"2.5\";IMPLEMENTATION m{};CPU c{OS a;APPMODE a;TASK t;ISR t;TASK t;};") ≡ refused 12 76
 unfolding everything

@@ -5,9 +5,10 @@ use mathlib.Core.Option.{Option, none, some}
 use Prim.Native.Nat.{ℕ, _≤_}
 use native.Mathlib.Omega.{arith}
 use Rattle.grammar.specs.Grammar.{Kind, Integer}
+use Rattle.meaning.proofs.Numbered.{default-high}
 use Rattle.meaning.proofs.Order.{At, nowhere, on, at-append, at-none, at-if, at-only, at-more}
 use Rattle.meaning.specs.Applying.{too-few, statement-faults, each-object, object-faults}
-use Rattle.meaning.specs.Defining.{outside, bound-faults, range-faults, default-faults, name-faults, word-faults, scope-faults, value-faults, spec-faults, definition-faults}
+use Rattle.meaning.specs.Defining.{outside, bound-faults, range-faults, default-number, default-faults, name-faults, word-faults, scope-faults, value-faults, spec-faults, definition-faults}
 use Rattle.meaning.specs.Faults.{Fault}
 use Rattle.meaning.specs.Judging.{reference-faults, brace-faults, faults-as, own-faults, and-inside, judged, judge, judge-object, judge-objects, statement-stage}
 use Rattle.meaning.specs.Kinds.{kinds}
@@ -59,17 +60,17 @@ unfoldable pub file-words : File → List Word
 unfolding spec-words object-words
 file-words f = (f .version ∷ spec-words (f .specs)) ++ (f .cpu ∷ object-words (f .objects))
 
--- 6 to 10 --------------------------------------------------------------------------------------------------------------------------------
+-- 6 to 9 and 21 to 23 --------------------------------------------------------------------------------------------------------------------------------
 
 outside-at : (i : Integer) (ts : List Word) → At 0 ts (outside i ts)
 unfolding outside
 outside-at i [] = nowhere
-outside-at i (t ∷ ts) = at-if _ 10 (omega arith) (on (outside-at i ts))
+outside-at i (t ∷ ts) = at-if _ 21 (omega arith) (on (outside-at i ts))
 
 bound-at : (i : Integer) (b : Bounds) → At 0 (bound-words b) (bound-faults i b)
 unfolding bound-faults bound-words outside
 bound-at i no-bounds = nowhere
-bound-at i (from-to a b) = at-if _ 10 (omega arith) (at-if _ 10 (omega arith) (on (outside-at i (b ∷ []))))
+bound-at i (from-to a b) = at-if _ 21 (omega arith) (at-if _ 21 (omega arith) (on (outside-at i (b ∷ []))))
 bound-at i (one-of ts) = outside-at i ts
 
 range-at : (y : AttributeType) (b : Bounds) → At 0 (bound-words b) (range-faults y b)
@@ -83,7 +84,7 @@ range-at (reference k) b = at-none (bound-words b)
 default-at : (d : Definition) (vs : Values) (o : Option Word) → At 0 (option-words o) (default-faults d vs o)
 unfolding default-faults option-words
 default-at d vs none = nowhere
-default-at d vs (some t) = at-only _ 10 t [] (omega arith)
+default-at d vs (some t) = at-only _ (default-number (sort-of (t .class))) t [] (let h = default-high (sort-of (t .class)) in omega (arith, h))
 
 name-at : (d : Definition) (others before : List Definition) → At 0 (d .name ∷ []) (name-faults d others before)
 unfolding name-faults

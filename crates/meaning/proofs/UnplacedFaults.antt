@@ -14,7 +14,7 @@ use Rattle.meaning.specs.Words.{choose, alike, among, at-most, in-type}
 use Rattle.meaning.specs.Kinds.{same-kind, kinds, fewest, most}
 use Rattle.meaning.specs.Faults.{Fault, fault-if, sooner, first}
 use Rattle.meaning.specs.Scopes.{Sort, a-number, a-string, a-truth, an-auto, a-no-default, a-name, sort-of, of-kind, Under, find-value, definitions-or, under, find-definition, heads, names, find-object, fits-number, fits-as, fits}
-use Rattle.meaning.specs.Defining.{outside, bound-faults, range-faults, default-wrong, default-faults, defined-in, differs, name-faults, word-faults, scope-faults, value-faults, specified, spec-faults, definition-faults}
+use Rattle.meaning.specs.Defining.{outside, bound-faults, range-faults, default-wrong, default-number, default-faults, defined-in, differs, name-faults, word-faults, scope-faults, value-faults, specified, spec-faults, definition-faults}
 use Rattle.meaning.specs.Applying.{how-many, too-few, full, statement-faults, each-object, object-faults}
 use Rattle.meaning.specs.Judging.{lacks, reference-faults, brace-faults, faults-as, own-faults, and-inside, judged, judge, judge-object, judge-objects, statement-stage}
 use Rattle.meaning.specs.Resolving.{all-values, how-many-in-all, too-many}
@@ -61,18 +61,18 @@ fits-unplaced : (d : Definition) (vs : Values) (t : Word) → fits (unplaced-def
 unfolding fits unplaced-word
 fits-unplaced d vs t = as-fits (sort-of (t .class)) d vs t
 
--- 6 to 10 ----------------------------------------------------------------------------------------------------------------------------------
+-- 6 to 9 and 21 to 23 ----------------------------------------------------------------------------------------------------------------------------------
 
 outside-unplaced : (i : Integer) (ts : List Word) → outside i (each unplaced-word ts) ≡ at-zero (outside i ts)
 unfolding outside each unplaced-word
 outside-unplaced i [] = refl
-outside-unplaced i (t ∷ ts) = append-unplaced (fault-if (not (in-type i (t .number))) t 10) (outside i ts) (if-unplaced (not (in-type i (t .number))) t 10) (outside-unplaced i ts)
+outside-unplaced i (t ∷ ts) = append-unplaced (fault-if (not (in-type i (t .number))) t 21) (outside i ts) (if-unplaced (not (in-type i (t .number))) t 21) (outside-unplaced i ts)
 
 bound-unplaced : (i : Integer) (b : Bounds) → bound-faults i (unplaced-bounds b) ≡ at-zero (bound-faults i b)
 unfolding bound-faults unplaced-bounds each unplaced-word
 bound-unplaced i no-bounds = refl
 bound-unplaced i (from-to a b) =
-    append-unplaced (fault-if (not (at-most (a .number) (b .number))) a 10) (outside i (a ∷ b ∷ [])) (if-unplaced (not (at-most (a .number) (b .number))) a 10) (outside-unplaced i (a ∷ b ∷ []))
+    append-unplaced (fault-if (not (at-most (a .number) (b .number))) a 21) (outside i (a ∷ b ∷ [])) (if-unplaced (not (at-most (a .number) (b .number))) a 21) (outside-unplaced i (a ∷ b ∷ []))
 bound-unplaced i (one-of ts) = outside-unplaced i ts
 
 range-unplaced : (y : AttributeType) (b : Bounds) → range-faults y (unplaced-bounds b) ≡ at-zero (range-faults y b)
@@ -87,7 +87,7 @@ default-unplaced : (d : Definition) (vs : Values) (o : Option Word)
     → default-faults (unplaced-definition d) (unplaced-values vs) (if-there unplaced-word o) ≡ at-zero (default-faults d vs o)
 unfolding default-faults if-there each unplaced-word
 default-unplaced d vs none = refl
-default-unplaced d vs (some t) = if-same t 10 (ap (default-wrong (sort-of (t .class))) (fits-unplaced d vs t))
+default-unplaced d vs (some t) = if-same t (default-number (sort-of (t .class))) (ap (default-wrong (sort-of (t .class))) (fits-unplaced d vs t))
 
 defined-unplaced : (t : Word) (ds : List Definition) → defined-in (unplaced-word t) (each unplaced-definition ds) ≡ defined-in t ds
 unfolding defined-in each alike unplaced-definition unplaced-word

@@ -1,4 +1,4 @@
--- The implementation: the rows of definitions and enumerators, and the stage of 6 to 10, its faults in the order of their places (document 01,
+-- The implementation: the rows of definitions and enumerators, and the stage of 6 to 9 and 21 to 23, its faults in the order of their places (document 01,
 -- "Meaning" and "Refusals and their order"). Assumes nothing.
 use mathlib.Core.List.{List, [], _∷_, _++_}
 use mathlib.Core.Bool.{Bool, true, false, not}
@@ -80,15 +80,15 @@ all-enumerator-rows (x ∷ xs) = enumerator-rows (x .definitions) ++ all-enumera
 
 -- Faults -----------------------------------------------------------------------------------------------------------------------------------
 
--- 10, "bound outside the type", at "that bound"; a listed number is a bound too.
+-- 21, "bound outside the type", at "that bound"; a listed number is a bound too.
 unfoldable pub outside : Integer → List Word → List Fault
 outside i [] = []
-outside i (t ∷ ts) = fault-if (not (in-type i (t .number))) t 10 ++ outside i ts
+outside i (t ∷ ts) = fault-if (not (in-type i (t .number))) t 21 ++ outside i ts
 
--- 10, "low above high", at "the low".
+-- 21, "low above high", at "the low".
 unfoldable pub bound-faults : Integer → Bounds → List Fault
 bound-faults i no-bounds = []
-bound-faults i (from-to a b) = fault-if (not (at-most (a .number) (b .number))) a 10 ++ outside i (a ∷ b ∷ [])
+bound-faults i (from-to a b) = fault-if (not (at-most (a .number) (b .number))) a 21 ++ outside i (a ∷ b ∷ [])
 bound-faults i (one-of ts) = outside i ts
 
 unfoldable pub range-faults : AttributeType → Bounds → List Fault
@@ -98,7 +98,7 @@ range-faults boolean b = []
 range-faults enum b = []
 range-faults (reference k) b = []
 
--- 10, "default outside type, range or list; AUTO without WITH_AUTO", at "the default". NO_DEFAULT is never at fault.
+-- 22, "default outside type, range or list", or 23, "AUTO without WITH_AUTO", at "the default". NO_DEFAULT is never at fault.
 unfoldable pub default-wrong : Sort → Bool → Bool
 default-wrong a-number b = not b
 default-wrong a-string b = not b
@@ -107,9 +107,17 @@ default-wrong an-auto b = not b
 default-wrong a-no-default b = false
 default-wrong a-name b = not b
 
+unfoldable pub default-number : Sort → ℕ
+default-number a-number = 22
+default-number a-string = 22
+default-number a-truth = 22
+default-number an-auto = 23
+default-number a-no-default = 22
+default-number a-name = 22
+
 unfoldable pub default-faults : Definition → Values → Option Word → List Fault
 default-faults d vs none = []
-default-faults d vs (some t) = fault-if (default-wrong (sort-of (t .class)) (fits d vs t)) t 10
+default-faults d vs (some t) = fault-if (default-wrong (sort-of (t .class)) (fits d vs t)) t (default-number (sort-of (t .class)))
 
 -- 8, "attribute in a scope .. a second time".
 unfoldable pub defined-in : Word → List Definition → Bool
@@ -160,6 +168,6 @@ spec-faults before [] = []
 spec-faults before (x ∷ xs) =
     (fault-if (specified x before) (x .word) 8 ++ scope-faults (x .definitions) [] []) ++ spec-faults (before ++ (x ∷ [])) xs
 
--- The stage of 6 to 10; 6 is "version string is not 2.5", at "the string".
+-- The stage of 6 to 9 and 21 to 23; 6 is "version string is not 2.5", at "the string".
 unfoldable pub definition-faults : File → List Fault
 definition-faults f = fault-if (not (same (f .version .bytes) (bytesOf "\"2.5\""))) (f .version) 6 ++ spec-faults [] (f .specs)

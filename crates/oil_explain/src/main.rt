@@ -30,9 +30,6 @@ fn write_meaning(number: u8) {
         9 => write(
             b"the name stands under another value of the same attribute with other type words",
         ),
-        10 => write(
-            b"a bound outside the type, a low bound above the high one, a default outside type, range or list, or AUTO without WITH_AUTO",
-        ),
         11 => write(b"more than 256 objects, or more than 2,048 statements"),
         12 => write(b"the name is used before by an object of the same kind"),
         13 => write(b"the name is not defined in its scope"),
@@ -45,6 +42,11 @@ fn write_meaning(number: u8) {
         18 => write(b"the reference names no object of its kind"),
         19 => write(b"more than 2,048 resolved values"),
         20 => write(b"the written text is longer than the output's room"),
+        21 => write(
+            b"a bound or listed number outside its type, or a low bound above the high one",
+        ),
+        22 => write(b"a default outside type, range or list"),
+        23 => write(b"AUTO as a default without WITH_AUTO"),
         _ => write(b"unknown"),
     }
 }

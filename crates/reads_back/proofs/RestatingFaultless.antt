@@ -14,7 +14,7 @@ use Rattle.meaning.specs.Syntax.{Word, AttributeType, integer, string, boolean,
 use Rattle.meaning.specs.Words.{among}
 use Rattle.meaning.specs.Faults.{Fault, fault-if}
 use Rattle.meaning.specs.Scopes.{Sort, a-number, a-string, a-truth, an-auto, a-no-default, a-name, sort-of, under, find-definition, heads, names, find-object, fits-number, fits-as, fits}
-use Rattle.meaning.specs.Defining.{range-faults, default-wrong, default-faults, defined-in, differs, name-faults, word-faults, scope-faults, value-faults}
+use Rattle.meaning.specs.Defining.{range-faults, default-wrong, default-number, default-faults, defined-in, differs, name-faults, word-faults, scope-faults, value-faults}
 use Rattle.meaning.specs.Judging.{is-no-default, taken-by, taken, lacking, lacks, lacks-under, reference-faults, brace-faults, faults-as, own-faults, and-inside, judged, judge}
 use Rattle.meaning.proofs.Rooms.{nothing-front, nothing-back, not-faulty}
 use Rattle.reads_back.proofs.WordingClasses.{is-number}
@@ -189,7 +189,7 @@ default-free d vs (some u) t e q = go (is-no-default (sort-of (u .class))) refl 
     go true n h = absurd (none≢some h)
     go false n h =
         let z : u ≡ t = cc in
-        let f = default-fits (sort-of (u .class)) (fits d vs u) n (not-faulty (default-wrong (sort-of (u .class)) (fits d vs u)) u 10 e) in
+        let f = default-fits (sort-of (u .class)) (fits d vs u) n (not-faulty (default-wrong (sort-of (u .class)) (fits d vs u)) u (default-number (sort-of (u .class))) e) in
         (h, subst (λ w. fits d vs w ≡ true) z f)
 
 -- A default that is taken is a value of its attribute.

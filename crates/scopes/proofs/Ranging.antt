@@ -236,30 +236,30 @@ module _ (s : List ℕ) (p : ℕ) where
 
 -- Faults ------------------------------------------------------------------------------------------------------------------------------------
 
--- A fault, if any, is a 10 not before p.
+-- A fault, if any, is a 21 not before p.
 abbrev Ten : ℕ → Option Refusal → Type 0
 Ten p none = Unit {0}
-Ten p (some g) = (p ≤ g .place) × (g .number ≡ 10)
+Ten p (some g) = (p ≤ g .place) × (g .number ≡ 21)
 
 ten-lower : (p q : ℕ) (o : Option Refusal) → p ≤ q → Ten q o → Ten p o
 ten-lower p q none h t = tt
 ten-lower p q (some g) h t = let a = t .0 in (omega arith, t .1)
 
--- A 10 at p comes before such.
-ten-first : (p : ℕ) (o : Option Refusal) → Ten p o → sooner (some (record { place = p; number = 10 })) o ≡ some (record { place = p; number = 10 })
+-- A 21 at p comes before such.
+ten-first : (p : ℕ) (o : Option Refusal) → Ten p o → sooner (some (record { place = p; number = 21 })) o ≡ some (record { place = p; number = 21 })
 unfolding sooner ahead
 ten-first p none t = refl
 ten-first p (some g) t = by (decLt p (g .place))
   where
-    by : Dec (p < g .place) → some (pick (either (ltb p (g .place)) (both (eqb p (g .place)) (leb 10 (g .number)))) (record { place = p; number = 10 }) g) ≡ some (record { place = p; number = 10 })
-    by (yes l) = ap (λ b. some (pick (either b (both (eqb p (g .place)) (leb 10 (g .number)))) (record { place = p; number = 10 }) g)) (lt-ltb p (g .place) l)
+    by : Dec (p < g .place) → some (pick (either (ltb p (g .place)) (both (eqb p (g .place)) (leb 21 (g .number)))) (record { place = p; number = 21 }) g) ≡ some (record { place = p; number = 21 })
+    by (yes l) = ap (λ b. some (pick (either b (both (eqb p (g .place)) (leb 21 (g .number)))) (record { place = p; number = 21 }) g)) (lt-ltb p (g .place) l)
     by (no l) =
         let a = t .0 in
         let n = t .1 in
         let e : p ≡ g .place = omega arith in
-        let m : 10 ≤ g .number = omega arith in
-        ap (λ b. some (pick b (record { place = p; number = 10 }) g))
-        (ap₂ (λ b c. either (ltb p (g .place)) (both b c)) (eq-eqb p (g .place) e) (le-leb 10 (g .number) m) ∙ either-true (ltb p (g .place)))
+        let m : 21 ≤ g .number = omega arith in
+        ap (λ b. some (pick b (record { place = p; number = 21 }) g))
+        (ap₂ (λ b c. either (ltb p (g .place)) (both b c)) (eq-eqb p (g .place) e) (le-leb 21 (g .number) m) ∙ either-true (ltb p (g .place)))
 
 -- Of words in order, the numbers outside the type.
 outside-ten : (i : Integer) (ws : List Word) (p : ℕ) → InOrder p ws → Ten p (first (outside i ws))
@@ -267,20 +267,20 @@ unfolding outside first fault-if
 outside-ten i [] p o = tt
 outside-ten i (w ∷ ws) p o = by (not (in-type i (w .number))) (outside-ten i ws (suc (w .place)) (o .1))
   where
-    by : (b : Bool) → Ten (suc (w .place)) (first (outside i ws)) → Ten p (first (fault-if b w 10 ++ outside i ws))
+    by : (b : Bool) → Ten (suc (w .place)) (first (outside i ws)) → Ten p (first (fault-if b w 21 ++ outside i ws))
     by true t = let a = o .0 in subst (Ten p) (sym (ten-first (w .place) (first (outside i ws)) (ten-lower (w .place) (suc (w .place)) (first (outside i ws)) (omega arith) t))) (a, refl)
     by false t = let a = o .0 in ten-lower p (suc (w .place)) (first (outside i ws)) (omega arith) t
 
 -- The first word, inside the type or not.
-first-out : (i : Integer) (w : Word) (ws : List Word) → InOrder (suc (w .place)) ws → in-type i (w .number) ≡ false → first (outside i (w ∷ ws)) ≡ some (record { place = w .place; number = 10 })
+first-out : (i : Integer) (w : Word) (ws : List Word) → InOrder (suc (w .place)) ws → in-type i (w .number) ≡ false → first (outside i (w ∷ ws)) ≡ some (record { place = w .place; number = 21 })
 unfolding outside first fault-if
 first-out i w ws o e =
-    ap (λ b. first (fault-if (not b) w 10 ++ outside i ws)) e
+    ap (λ b. first (fault-if (not b) w 21 ++ outside i ws)) e
     ∙ ten-first (w .place) (first (outside i ws)) (ten-lower (w .place) (suc (w .place)) (first (outside i ws)) (omega arith) (outside-ten i ws (suc (w .place)) o))
 
 first-in : (i : Integer) (w : Word) (ws : List Word) → in-type i (w .number) ≡ true → first (outside i (w ∷ ws)) ≡ first (outside i ws)
 unfolding outside fault-if
-first-in i w ws e = ap (λ b. first (fault-if (not b) w 10 ++ outside i ws)) e
+first-in i w ws e = ap (λ b. first (fault-if (not b) w 21 ++ outside i ws)) e
 
 -- Numbers listed are in order.
 listed-order : (s : List ℕ) (p : ℕ) (ws : List Word) → Listed s p ws → InOrder p ws
@@ -330,15 +330,15 @@ module _ (s : List ℕ) (i : Integer) (from : ℕ) where
           let u : y ≡ itemAt s p = g ∙ ap (itemAt s) (sym m) in
           (ap (in-type i) (sym (v .number) ∙ ap (λ (j : Item). num (j .number)) (sym u)) ∙ sym q, (ap (λ (j : Item). j .next) u ∙ v .next, ap (λ (j : Item). j .at) u ∙ v .place))
 
-      pub out-hit : b ≡ false → ListFault s i from (record { number = 10; place = y .at })
+      pub out-hit : b ≡ false → ListFault s i from (record { number = 21; place = y .at })
       unfolding fault-of
       out-hit t ws l = by (k ws l .listed) ∙ sym (ap fault-of (k ws l .whole))
         where
-          by : {us : List Word} → Listed s at us → record { number = 10; place = y .at } ≡ fault-of (first (outside i us))
+          by : {us : List Word} → Listed s at us → record { number = 21; place = y .at } ≡ fault-of (first (outside i us))
           by (listed-none z) = absurd (z (ap (λ (j : Item). j .sign) (sym e) ∙ h))
           by (listed-more {r = r₁} {w = w} {ws = rest} z v r) =
               let m = v .long in
-              ap (λ (n : ℕ). record { number = 10; place = n }) (found-is z v .1 .1)
+              ap (λ (n : ℕ). record { number = 21; place = n }) (found-is z v .1 .1)
               ∙ sym (ap fault-of (first-out i w rest (ordered-from rest (omega (arith, m)) (listed-order s r₁ rest r)) (found-is z v .0 ∙ t)))
 
       pub out-on : b ≡ true → SeekingOut s i from (y .next)
@@ -354,21 +354,21 @@ module _ (i : Integer) (a b : Word) (l : a .place < b .place) where
   both-ten : Ten (a .place) (first (outside i (a ∷ b ∷ [])))
   both-ten = outside-ten i (a ∷ b ∷ []) (a .place) (omega arith, (omega arith, tt))
 
-  two-crossed : at-most (a .number) (b .number) ≡ false → first (bound-faults i (from-to a b)) ≡ some (record { place = a .place; number = 10 })
+  two-crossed : at-most (a .number) (b .number) ≡ false → first (bound-faults i (from-to a b)) ≡ some (record { place = a .place; number = 21 })
   unfolding bound-faults fault-if first
-  two-crossed e = ap (λ c. first (fault-if (not c) a 10 ++ outside i (a ∷ b ∷ []))) e ∙ ten-first (a .place) (first (outside i (a ∷ b ∷ []))) both-ten
+  two-crossed e = ap (λ c. first (fault-if (not c) a 21 ++ outside i (a ∷ b ∷ []))) e ∙ ten-first (a .place) (first (outside i (a ∷ b ∷ []))) both-ten
 
   two-straight : at-most (a .number) (b .number) ≡ true → first (bound-faults i (from-to a b)) ≡ first (outside i (a ∷ b ∷ []))
   unfolding bound-faults fault-if
-  two-straight e = ap (λ c. first (fault-if (not c) a 10 ++ outside i (a ∷ b ∷ []))) e
+  two-straight e = ap (λ c. first (fault-if (not c) a 21 ++ outside i (a ∷ b ∷ []))) e
 
-  high-fault : (t : Bool) → in-type i (b .number) ≡ t → first (outside i (b ∷ [])) ≡ first (fault-if (not t) b 10)
+  high-fault : (t : Bool) → in-type i (b .number) ≡ t → first (outside i (b ∷ [])) ≡ first (fault-if (not t) b 21)
   unfolding outside
-  high-fault t e = ap (λ c. first (fault-if (not c) b 10 ++ [])) e ∙ ap first (append-nil (fault-if (not t) b 10))
+  high-fault t e = ap (λ c. first (fault-if (not c) b 21 ++ [])) e ∙ ap first (append-nil (fault-if (not t) b 21))
 
-fault-if-is : (t : Bool) (w : Word) (p : ℕ) → p ≡ w .place → faultIf t 10 p ≡ fault-of (first (fault-if t w 10))
+fault-if-is : (t : Bool) (w : Word) (p : ℕ) → p ≡ w .place → faultIf t 21 p ≡ fault-of (first (fault-if t w 21))
 unfolding faultIf fault-of first sooner fault-if
-fault-if-is true w p e = ap (λ (n : ℕ). record { number = 10; place = n }) e
+fault-if-is true w p e = ap (λ (n : ℕ). record { number = 21; place = n }) e
 fault-if-is false w p e = refl
 
 module _ (s : List ℕ) (i : Integer) (p : ℕ) where
@@ -380,26 +380,26 @@ module _ (s : List ℕ) (i : Integer) (p : ℕ) where
 
   module _ (h : p ≡ 0 → ⊥) (o a z : Item) (e : o ≡ itemAt s p) (g : a ≡ itemAt s (o .next)) (k : z ≡ itemAt s (a .next)) where
     module _ (y : Item) (t : z .sign ≡ 46) (v : y ≡ itemAt s (z .next)) (c : Bool) (q : c ≡ at-most (num (a .number)) (num (y .number))) where
-      pub bound-crossed : c ≡ false → BoundFault s i p (record { number = 10; place = a .at })
+      pub bound-crossed : c ≡ false → BoundFault s i p (record { number = 21; place = a .at })
       unfolding fault-of
       bound-crossed u b d =
           let x = two s p h o a z e g k y b t v d in
-          ap (λ (n : ℕ). record { number = 10; place = n }) (x .low-place)
+          ap (λ (n : ℕ). record { number = 21; place = n }) (x .low-place)
           ∙ sym (ap (λ b. fault-of (first (bound-faults i b))) (x .bounds)
           ∙ ap fault-of (two-crossed i (x .low) (x .high) (x .order) (sym (ap₂ at-most (x .low-number) (x .high-number)) ∙ sym q ∙ u)))
 
       module _ (u : c ≡ true) (c₁ : Bool) (q₁ : c₁ ≡ in-type i (num (a .number))) where
-        pub bound-low : c₁ ≡ false → BoundFault s i p (record { number = 10; place = a .at })
+        pub bound-low : c₁ ≡ false → BoundFault s i p (record { number = 21; place = a .at })
         unfolding fault-of
         bound-low u₁ b d =
             let x = two s p h o a z e g k y b t v d in
             let w = x .order in
-            ap (λ (n : ℕ). record { number = 10; place = n }) (x .low-place)
+            ap (λ (n : ℕ). record { number = 21; place = n }) (x .low-place)
             ∙ sym (ap (λ b. fault-of (first (bound-faults i b))) (x .bounds)
             ∙ ap fault-of (two-straight i (x .low) (x .high) (x .order) (sym (ap₂ at-most (x .low-number) (x .high-number)) ∙ sym q ∙ u)
             ∙ first-out i (x .low) (x .high ∷ []) (omega arith, tt) (ap (in-type i) (sym (x .low-number)) ∙ sym q₁ ∙ u₁)))
 
-        pub bound-high : (c₂ : Bool) (r : Fault) → c₁ ≡ true → c₂ ≡ in-type i (num (y .number)) → r ≡ faultIf (not c₂) 10 (y .at) → BoundFault s i p r
+        pub bound-high : (c₂ : Bool) (r : Fault) → c₁ ≡ true → c₂ ≡ in-type i (num (y .number)) → r ≡ faultIf (not c₂) 21 (y .at) → BoundFault s i p r
         bound-high c₂ r u₁ q₂ f b d =
             let x = two s p h o a z e g k y b t v d in
             f ∙ fault-if-is (not c₂) (x .high) (y .at) (x .high-place)
@@ -409,12 +409,12 @@ module _ (s : List ℕ) (i : Integer) (p : ℕ) where
             ∙ high-fault i (x .low) (x .high) (x .order) c₂ (ap (in-type i) (sym (x .high-number)) ∙ sym q₂)))
 
     module _ (t : z .sign ≡ 46 → ⊥) (c : Bool) (q : c ≡ in-type i (num (a .number))) where
-      pub bound-first : c ≡ false → BoundFault s i p (record { number = 10; place = a .at })
+      pub bound-first : c ≡ false → BoundFault s i p (record { number = 21; place = a .at })
       unfolding fault-of bound-faults
       bound-first u b d =
           let x = many s p h o a z e g k b t d in
           let w = x .before in
-          ap (λ (n : ℕ). record { number = 10; place = n }) (x .place)
+          ap (λ (n : ℕ). record { number = 21; place = n }) (x .place)
           ∙ sym (ap (λ b. fault-of (first (bound-faults i b))) (x .bounds)
           ∙ ap fault-of (first-out i (x .head) (x .tail) (ordered-from (x .tail) (omega (arith, w)) (listed-order s (a .next) (x .tail) (x .listed))) (ap (in-type i) (sym (x .number)) ∙ sym q ∙ u)))
 

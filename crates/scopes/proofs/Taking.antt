@@ -356,7 +356,7 @@ module _ (d : List ℕ) (j code u : ℕ) where
           by none p q i = ap not (eq-eqb u 0 q)
           by (some v) p q i = let z = i v p in ap not (ne-eqb u 0 (λ b. omega arith))
 
--- 10 at the bounds --------------------------------------------------------------------------------------------------------------------------
+-- 21 at the bounds --------------------------------------------------------------------------------------------------------------------------
 
 module _ {s : List ℕ} {d : Definition} where
   no-range : {vs : Values} → Formed s d vs → ((i : Integer) → code-of (d .word) ≡ integer-code i → ⊥) → range-faults (d .type) (d .bounds) ≡ []

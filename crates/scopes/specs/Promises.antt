@@ -38,11 +38,11 @@ IsListed s p n r = (ws : List Word) → Listed s p ws → r ≡ among-numbers n 
 abbrev pub InRange : List ℕ → ℕ → Num → Bool → Type 0
 InRange s p n r = (b : Bounds) → RangeAt s p b → r ≡ in-bounds n b
 
--- 10 at the numbers listed from p on.
+-- 21 at the numbers listed from p on.
 abbrev pub ListFault : List ℕ → Integer → ℕ → Fault → Type 0
 ListFault s i p r = (ws : List Word) → Listed s p ws → r ≡ fault-of (first (outside i ws))
 
--- 10 at the bounds of the range whose `[` stands at p.
+-- 21 at the bounds of the range whose `[` stands at p.
 abbrev pub BoundFault : List ℕ → Integer → ℕ → Fault → Type 0
 BoundFault s i p r = (b : Bounds) → RangeAt s p b → r ≡ fault-of (first (bound-faults i b))
 
@@ -115,7 +115,7 @@ TakesNumber s d j at r =
     (f : File) (x : Defined) → Situation s f → d ≡ kept-definitions f → RowOf f j x → j < 513
     → r ≡ fits-number (x .definition .type) (x .definition .bounds) (num-of-step (stepAt s at))
 
--- 10 at the bounds of the range of the attribute of row j.
+-- 21 at the bounds of the range of the attribute of row j.
 abbrev pub RangeFault : List ℕ → List ℕ → ℕ → Fault → Type 0
 RangeFault s d j r =
     (f : File) (x : Defined) → Situation s f → d ≡ kept-definitions f → RowOf f j x → j < 513

@@ -48,7 +48,7 @@ pub fn in_range(text: &[u8], range: usize, n: Num) -> bool
     is_listed(text, a.next, n)
 }
 
-// 10 at the first number outside the type of those that stand from a place on, a comma before each.
+// 21 at the first number outside the type of those that stand from a place on, a comma before each.
 fn list_fault(text: &[u8], code: usize, from: usize) -> Fault
     ensures { λ r. ⌜ ListFault (now (text .entry)) (integer-coded code) from r ⌝ }
 {
@@ -64,7 +64,7 @@ fn list_fault(text: &[u8], code: usize, from: usize) -> Fault
         let x = numbers::item_at(text, s.next);
         if !numbers::in_type(code, x.number) {
             return Fault {
-                number: 10,
+                number: 21,
                 place: x.at,
             };
         }
@@ -76,7 +76,7 @@ fn list_fault(text: &[u8], code: usize, from: usize) -> Fault
     }
 }
 
-// 10 at the bounds of the range whose `[` stands at a place.
+// 21 at the bounds of the range whose `[` stands at a place.
 pub fn bound_fault(text: &[u8], code: usize, range: usize) -> Fault
     ensures { λ r. ⌜ BoundFault (now (text .entry)) (integer-coded code) range r ⌝ }
 {
@@ -93,21 +93,21 @@ pub fn bound_fault(text: &[u8], code: usize, range: usize) -> Fault
         let b = numbers::item_at(text, s.next);
         if !numbers::at_most(a.number, b.number) {
             return Fault {
-                number: 10,
+                number: 21,
                 place: a.at,
             };
         }
         if !numbers::in_type(code, a.number) {
             return Fault {
-                number: 10,
+                number: 21,
                 place: a.at,
             };
         }
-        return faults::fault_if(!numbers::in_type(code, b.number), 10, b.at);
+        return faults::fault_if(!numbers::in_type(code, b.number), 21, b.at);
     }
     if !numbers::in_type(code, a.number) {
         return Fault {
-            number: 10,
+            number: 21,
             place: a.at,
         };
     }

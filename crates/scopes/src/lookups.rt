@@ -79,7 +79,7 @@ pub fn takes(text: &[u8], d: &[usize], j: usize, at: usize, code: usize, under: 
     takes_word(d, j, code, under)
 }
 
-// 10 at the bounds of the range of the attribute of row j.
+// 21 at the bounds of the range of the attribute of row j.
 pub fn range_fault(text: &[u8], d: &[usize], j: usize) -> Fault
     ensures { λ r. ⌜ RangeFault (now (text .entry)) (now (d .entry)) j r ⌝ }
 {

@@ -1,4 +1,4 @@
-use Rattle.defining_checks.proofs.Defaulting.{default-none, default-late, default-unset, default-judged}
+use Rattle.defining_checks.proofs.Defaulting.{default-none, default-late, default-unset, default-auto, default-other}
 use borrow.Author.Needs.{needs}
 use Rattle.defining_checks.proofs.definitions.default_fault.Statement.{statement}
 use Rattle.defining_checks.proofs.definitions.default_fault.Tie as tie
@@ -41,7 +41,13 @@ fault-if-requires : tie.Need-fault-if-requires
 fault-if-requires c κs = search needs
 
 returns-4 : tie.Need-returns-4
-returns-4 c = default-judged _ _ _ _ _ _ _ _ (c .before .before .before .before .before .before .before .before .before .cell-of .ensures) (c .before .before .before .before .before .before .before .before .if1 .left) _ (c .before .before .before .before .before .before .before .is-late .ensures) (c .before .before .before .before .before .before .if2 .left) _ _ (c .before .before .before .before .before .cell-of2 .ensures) (c .before .before .before .before .cell-of3 .ensures) _ _ _ (c .before .before .before .if3 .left) (c .before .before .word-under .ensures) (c .before .takes .ensures) (c .fault-if .ensures)
+returns-4 c = default-auto _ _ _ _ _ _ _ _ (c .before .before .before .before .before .before .before .before .before .before .cell-of .ensures) (c .before .before .before .before .before .before .before .before .before .if1 .left) _ (c .before .before .before .before .before .before .before .before .is-late .ensures) (c .before .before .before .before .before .before .before .if2 .left) _ _ (c .before .before .before .before .before .before .cell-of2 .ensures) (c .before .before .before .before .before .cell-of3 .ensures) _ _ _ (c .before .before .before .before .if3 .left) (c .before .if4 .taken) (c .before .before .before .word-under .ensures) (c .before .before .takes .ensures) (c .fault-if .ensures)
+
+fault-if-requires-2 : tie.Need-fault-if-requires-2
+fault-if-requires-2 c κs = search needs
+
+returns-5 : tie.Need-returns-5
+returns-5 c = default-other _ _ _ _ _ _ _ _ (c .before .before .before .before .before .before .before .before .before .before .cell-of .ensures) (c .before .before .before .before .before .before .before .before .before .if1 .left) _ (c .before .before .before .before .before .before .before .before .is-late .ensures) (c .before .before .before .before .before .before .before .if2 .left) _ _ (c .before .before .before .before .before .before .cell-of2 .ensures) (c .before .before .before .before .before .cell-of3 .ensures) _ _ _ (c .before .before .before .before .if3 .left) (c .before .if4 .left) (c .before .before .before .word-under .ensures) (c .before .before .takes .ensures) (c .fault-if2 .ensures)
 
 pub default-fault-spec : {M : Type 1} → statement M
 default-fault-spec =
@@ -57,4 +63,6 @@ default-fault-spec =
     word-under-requires
     takes-requires
     fault-if-requires
-    returns-4)
+    returns-4
+    fault-if-requires-2
+    returns-5)
