@@ -44,8 +44,9 @@ enum { DEFINITIONS, ENUMERATORS, OBJECTS, VALUES, TABLES };
 
 static const char *const NAMES[TABLES] = {"definitions", "enumerators", "objects", "values"};
 static const size_t ROWS[TABLES] = {512, 1024, 256, 2048};
-static const size_t WIDTHS[TABLES] = {13, 3, 7, 9};
+static const size_t WIDTHS[TABLES] = {13, 3, 8, 9};
 
+#define MOST_PARTS ((size_t)512)     // of all objects
 #define CELL sizeof(size_t)
 #define LONGEST_TEXT ((size_t)65535) // that is not refused for its length
 #define TOLD_BY_READ ((size_t)18)    // the place, four sizes, thirteen counts
@@ -58,7 +59,7 @@ enum { LAST_NUMBER = 23, TABLES_TOO_SHORT = 1, TEXT_TOO_LONG = 2, OUTPUT_TOO_SHO
 
 // Whether no refusal has this number any more.
 static bool is_retired(unsigned number) {
-    return number == 10;
+    return number == 10 || number == 12;
 }
 
 static size_t room(int table) {
@@ -374,6 +375,7 @@ enum fault {
     NUMBER_TOO_GREAT,
     RETIRED_NUMBER,
     PLACE_PAST_THE_TEXT,
+    OBJECT_WITHOUT_PARTS,
     OBJECT_COUNTED_TWICE,
     ROWS_ON_A_REFUSAL,
     OTHER_THE_SECOND_TIME,
@@ -484,6 +486,19 @@ static bool tables_hold(unsigned number) {
     return true;
 }
 
+// Each object has a part or more, and all have no more than there may be.
+static bool parts_hold(size_t objects) {
+    const size_t *rows = (const size_t *)(const void *)first.rows[OBJECTS];
+    size_t all = 0;
+    for (size_t i = 0; i < objects; i++) {
+        size_t parts = rows[i * WIDTHS[OBJECTS] + WIDTHS[OBJECTS] - 1];
+        if (parts == 0 || parts > MOST_PARTS)
+            return fail("object %zu has %zu parts", i, parts);
+        all += parts;
+    }
+    return all <= MOST_PARTS || fail("there are %zu parts", all);
+}
+
 // What the first reading answers is kept, if it can be an answer at all.
 static bool keep_first(unsigned number) {
     size_t place = told_at(0), counted = 0;
@@ -508,6 +523,8 @@ static bool keep_first(unsigned number) {
     }
     if (counted != first.told[1 + OBJECTS])
         return fail("%zu objects are counted by kind, and there are %zu", counted, first.told[1 + OBJECTS]);
+    if (!parts_hold(first.told[1 + OBJECTS]))
+        return false;
     first.number = number;
     first.is_read = true;
     return true;
@@ -920,6 +937,10 @@ static NOT_INSTRUMENTED unsigned spoil(const struct slices *s, bool is_write, un
         if (is_read && is_refused && has_place)
             cells[0] = s->text_length + 1;
         break;
+    case OBJECT_WITHOUT_PARTS:
+        if (is_read && number == 0)
+            objects[WIDTHS[OBJECTS] - 1] = 0;
+        break;
     case OBJECT_COUNTED_TWICE:
         if (is_read && number == 0 && s->told_length == TOLD_BY_READ)
             cells[TOLD_BY_READ - 1]++;
@@ -1013,6 +1034,7 @@ static const struct {
     [NUMBER_TOO_GREAT] = {"the number is 24", "the number is 24", false},
     [RETIRED_NUMBER] = {"the number is 10", "the number is 10", false},
     [PLACE_PAST_THE_TEXT] = {"the place is past the text", "the place is 2 of 1", false},
+    [OBJECT_WITHOUT_PARTS] = {"an object has no part", "object 0 has 0 parts", false},
     [OBJECT_COUNTED_TWICE] = {"an object is counted twice", "4 objects are counted by kind, and there are 3", false},
     [ROWS_ON_A_REFUSAL] = {"a refused text has a definition", "told cell 1 of a refused text is 1", false},
     [OTHER_THE_SECOND_TIME] = {"the second answer is another", "the number is 4, and was 3", false},

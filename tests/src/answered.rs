@@ -5,7 +5,8 @@ use crate::meaning::Refusal;
 use crate::random::Random;
 use crate::token::KINDS;
 use crate::tree::Kind;
-use std::collections::HashMap;
+use std::collections::{HashMap, VecDeque};
+use std::ops;
 
 /// A text and its answer, known from how it was made: the normal text or the refusal.
 pub struct Answered {
@@ -68,7 +69,7 @@ const NUMBERS: usize = 24;
 pub fn stage_of(number: u8) -> u8 {
     match number {
         6..=9 | 21..=23 => 1,
-        11 | 12 | 17 => 2,
+        11 | 17 => 2,
         _ => 3,
     }
 }
@@ -122,6 +123,28 @@ struct Entry<'m> {
     attribute: &'m Attribute,
     value: Given,
     inside: Vec<Entry<'m>>,
+}
+
+/// An object that is written part by part.
+struct Whole<'m> {
+    kind: Kind,
+    name: &'static str,
+    scope: &'m [Attribute],
+    entries: Vec<Entry<'m>>,
+    /// How many entries there are through each part that is left.
+    ends: VecDeque<usize>,
+    /// The first entry of the next part.
+    next: usize,
+    /// The place of the first part's name.
+    first_name: Option<usize>,
+    stated: Vec<&'m Attribute>,
+}
+
+/// The statements that belong to a scope, and the place of their owner, which is stated.
+struct Block<'m, 'e> {
+    scope: &'m [Attribute],
+    entries: &'e [Entry<'m>],
+    owner: usize,
 }
 
 const TYPES: [&str; 8] = [
@@ -731,21 +754,17 @@ impl Maker {
             }
         }
         self.shuffle(&mut objects);
+        let (mut wholes, order) = self.divided(&objects, schemes);
         let mut lines = Vec::new();
         self.put("{");
-        for &(kind, name) in &objects {
-            let scheme = schemes.iter().find(|(of, _)| *of == kind);
-            let scope = scheme.map_or(&[][..], |(_, scope)| scope);
-            let entries = self.make_entries(scope);
-            self.put(KINDS[kind]);
-            let place = self.put(name);
-            if !entries.is_empty() || self.random.once_in(2) {
-                self.block(scope, &entries, place);
+        for index in order {
+            let whole = &mut wholes[index];
+            if whole.first_name.is_none() {
+                lines.extend(format!("{} {} {{\n", KINDS[whole.kind], whole.name).bytes());
+                write_lines(whole.scope, &whole.entries, &mut lines);
+                lines.extend(b"};\n");
             }
-            self.end();
-            lines.extend(format!("{} {name} {{\n", KINDS[kind]).bytes());
-            write_lines(scope, &entries, &mut lines);
-            lines.extend(b"};\n");
+            self.part(whole);
         }
         self.more_objects(&objects);
         self.put("}");
@@ -753,50 +772,107 @@ impl Maker {
         lines
     }
 
+    /// The objects with their statements, divided into parts, and the order in which their parts
+    /// stand in the text.
+    fn divided<'m>(
+        &mut self,
+        objects: &[(Kind, &'static str)],
+        schemes: &'m [(Kind, Vec<Attribute>)],
+    ) -> (Vec<Whole<'m>>, Vec<usize>) {
+        let mut wholes = Vec::new();
+        let mut order = Vec::new();
+        for (index, &(kind, name)) in objects.iter().enumerate() {
+            let scheme = schemes.iter().find(|(of, _)| *of == kind);
+            let scope = scheme.map_or(&[][..], |(_, scope)| scope);
+            let entries = self.make_entries(scope);
+            let parts = match self.random.below(2) {
+                0 => 1,
+                _ => self.random.from_to(1, 4),
+            };
+            // Each part ends behind an entry or before the first; the last has what is left.
+            let mut ends: Vec<usize> = (1..parts)
+                .map(|_| self.random.below(entries.len() + 1))
+                .collect();
+            ends.push(entries.len());
+            ends.sort();
+            order.extend(vec![index; parts]);
+            wholes.push(Whole {
+                kind,
+                name,
+                scope,
+                entries,
+                ends: ends.into(),
+                next: 0,
+                first_name: None,
+                stated: Vec::new(),
+            });
+        }
+        self.shuffle(&mut order);
+        (wholes, order)
+    }
+
+    /// The next part of an object.
+    fn part(&mut self, whole: &mut Whole) {
+        self.put(KINDS[whole.kind]);
+        let place = self.put(whole.name);
+        let owner = *whole.first_name.get_or_insert(place);
+        let end = whole.ends.pop_front().expect("a part that is left");
+        let entries = whole.next..end;
+        whole.next = end;
+        if !entries.is_empty() || self.random.once_in(2) {
+            let block = Block {
+                scope: whole.scope,
+                entries: &whole.entries,
+                owner,
+            };
+            self.block(&block, entries, &mut whole.stated);
+        }
+        self.end();
+    }
+
     /// Objects that there may not be.
     fn more_objects(&mut self, objects: &[(Kind, &'static str)]) {
-        for &(kind, name) in objects {
-            if ["OS", "COM", "NM"].contains(&KINDS[kind]) {
-                if self.plants(17) {
-                    let place = self.put(KINDS[kind]);
-                    self.put("another");
-                    self.end();
-                    self.planted(17, place);
-                }
-            } else if self.plants(12) {
-                self.put(KINDS[kind]);
-                let place = self.put(name);
+        for &(kind, _) in objects {
+            if ["OS", "COM", "NM"].contains(&KINDS[kind]) && self.plants(17) {
+                let place = self.put(KINDS[kind]);
+                self.put("another");
                 self.end();
-                self.planted(12, place);
+                self.planted(17, place);
             }
         }
     }
 
-    /// Statements in braces under an owner that is stated.
-    fn block(&mut self, scope: &[Attribute], entries: &[Entry], owner: usize) {
+    /// Some of the entries in braces, behind those that are stated in earlier parts.
+    fn block<'m>(
+        &mut self,
+        block: &Block<'m, '_>,
+        entries: ops::Range<usize>,
+        stated: &mut Vec<&'m Attribute>,
+    ) {
         self.put("{");
-        let mut stated: Vec<&Attribute> = Vec::new();
-        for (index, entry) in entries.iter().enumerate() {
-            let is_same = |other: &Entry| std::ptr::eq(other.attribute, entry.attribute);
-            let only = entries.iter().filter(|other| is_same(other)).count() == 1;
+        for entry in &block.entries[entries] {
+            let is_same = |other: &&Entry| std::ptr::eq(other.attribute, entry.attribute);
+            let only = block.entries.iter().filter(is_same).count() == 1;
             if only && entry.attribute.must_be_stated() && self.plants(16) {
-                self.planted(16, owner);
+                self.planted(16, block.owner);
                 continue;
             }
             if self.plants(13) {
-                self.undefined(scope);
+                self.undefined(block.scope);
             }
             self.statement(entry);
             stated.push(entry.attribute);
+        }
+        if !stated.is_empty() {
             let again = stated[self.random.below(stated.len())];
-            if index + 1 == entries.len() && !again.is_list && self.plants(14) {
+            if !again.is_list && self.plants(14) {
                 let place = self.put(again.name);
                 self.planted(14, place);
                 self.put_all("= a { nothing = 1 ; } ;");
             }
         }
         if self.plants(13) {
-            self.undefined(scope);
+            self.undefined(block.scope);
         }
         self.put("}");
     }
@@ -844,7 +920,12 @@ impl Maker {
         if needed && self.plants(16) {
             self.planted(16, place);
         } else if !entry.inside.is_empty() || (may_open && self.random.once_in(4)) {
-            self.block(under, &entry.inside, place);
+            let block = Block {
+                scope: under,
+                entries: &entry.inside,
+                owner: place,
+            };
+            self.block(&block, 0..entry.inside.len(), &mut Vec::new());
         }
         self.end();
     }

@@ -19,6 +19,7 @@ pub fn heavy() -> Vec<Heavy> {
     all.extend(against_defaults());
     all.extend(against_scopes());
     all.extend(against_all());
+    all.extend(in_parts());
     all
 }
 
@@ -352,6 +353,75 @@ fn against_scopes() -> Vec<Heavy> {
                 "TASK t{{{}}};",
                 format!("x=A{{{}}};", format!("{}=1;", name(2, 499)).repeat(64)).repeat(31)
             ),
+        ),
+    ]
+}
+
+/// What `one` writes for the numbers of each object, once for each of two parts.
+fn twice(one: impl Fn(usize) -> String) -> String {
+    let parts = each(254, one);
+    format!("{parts}OS o;APPMODE a;{parts}")
+}
+
+/// Objects in parts (document 02, Q-2): 512 of them, with the OS and the mode.
+fn in_parts() -> Vec<Heavy> {
+    let lists = each(500, |number| format!("UINT32 {}[];", name(2, number)));
+    let stated = |number: usize| format!("{}=1;", name(2, number % 500));
+    // Four statements in each of 510 parts, and eight more in the first.
+    let statements = format!(
+        "TASK t{{{}}};{}",
+        "x=1;".repeat(12),
+        "TASK t{x=1;x=2;x=3;x=4;};".repeat(509)
+    );
+    vec![
+        accepted("512 parts of one object", "", &"TASK t;".repeat(510)),
+        accepted(
+            "256 objects in two parts each, interleaved",
+            "TASK{UINT32 x[];};",
+            &twice(|number| format!("TASK t{number}{{x=1;}};")),
+        ),
+        accepted(
+            "2,048 statements over 512 parts",
+            "TASK{UINT32 x[];};",
+            &statements,
+        ),
+        accepted(
+            "256 objects in two parts each, names of 110 bytes",
+            "",
+            &twice(|number| format!("TASK {};", name(110, number))),
+        ),
+        accepted(
+            "512 parts of one object with a name of 110 bytes",
+            "",
+            &format!("TASK {};", name(110, 0)).repeat(510),
+        ),
+        accepted(
+            "500 lists stated in turn over 512 parts",
+            &format!("TASK{{{lists}}};"),
+            &each(510, |number| {
+                let four = each(4, |one| stated(4 * number + one));
+                format!("TASK t{{{four}}};")
+            }),
+        ),
+        refused(
+            "500 attributes over 500 parts, the first again in the last",
+            &format!("TASK{{{}}};", lists.replace("[]", "")),
+            &format!(
+                "{}TASK t{{{}}};",
+                each(500, |number| format!("TASK t{{{}}};", stated(number))),
+                stated(0)
+            ),
+            14,
+        ),
+        refused(
+            "512 parts of 256 objects, part 513 behind them",
+            "",
+            &format!(
+                "{}TASK {};",
+                twice(|number| format!("TASK {};", name(100, number))),
+                name(100, 253)
+            ),
+            11,
         ),
     ]
 }

@@ -10,6 +10,7 @@ pub mod heavy;
 pub mod limits;
 pub mod meaning;
 pub mod normal;
+pub mod parts;
 pub mod proved;
 pub mod random;
 pub mod ranges;

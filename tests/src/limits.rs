@@ -45,6 +45,9 @@ pub fn limits() -> Vec<Limit> {
     for count in [255, 256, 257, 300] {
         all.extend(objects(count));
     }
+    for count in [511, 512, 513, 514, 600] {
+        all.extend(parts(count));
+    }
     for count in [2_047, 2_048, 2_049, 2_060] {
         all.extend(statements(count));
         all.extend(values(count));
@@ -56,6 +59,7 @@ pub fn limits() -> Vec<Limit> {
         all.extend(braces(count));
     }
     all.extend(two_limits());
+    all.extend(object_limits());
     all
 }
 
@@ -117,9 +121,49 @@ fn objects(count: usize) -> Vec<Limit> {
         format!("{mark}EVENT e{number} {{}};\n")
     });
     let last = format!("APPMODE a;\n{before}{mark}OS o;\n");
+
+    // Each task in two parts: object 257 comes before part 513.
+    let task = |number, mark: &str| format!("{mark}TASK t{number};\nTASK t{number} {{}};\n");
+    let twice = format!("{OBJECTS}{}", each((count - 2).min(255), 255, task));
     vec![
+        limit(name("in two parts each"), "", &twice, 11),
         limit(name("OS first"), "", &after, 11),
         limit(name("OS last"), "", &last, 11),
+    ]
+}
+
+/// Parts of objects; 512 counts all of them, first ones too.
+fn parts(count: usize) -> Vec<Limit> {
+    let name = |shape: &str| format!("{count} parts, {shape}");
+    let specs = "TASK { UINT32 x[]; };\n";
+    let one = |number, mark: &str| match number % 3 {
+        0 => format!("{mark}TASK t;\n"),
+        1 => format!("{mark}TASK t {{}};\n"),
+        _ => format!("{mark}TASK t {{ x = {number}; }};\n"),
+    };
+    let of_one = format!("{OBJECTS}{}", each(count - 2, 511, one));
+
+    // Each of 254 tasks, then the same again, then the rest.
+    let task = |number, mark: &str| {
+        let task = (number - 1) % 254;
+        format!("{mark}TASK t{task} {{ x = {number}; }};\n")
+    };
+    let in_turn = format!("{OBJECTS}{}", each(count - 2, 511, task));
+
+    // Each object in two parts, one right behind the other, the OS and the mode last. With more
+    // parts there are more than 256 objects.
+    let task = |number, _: &str| format!("TASK t{};\n", (number - 1) / 2);
+    let behind = each(count.min(512) - 4, 0, task);
+    let behind = format!("{behind}OS o;\nOS o {{}};\nAPPMODE a {{}};\nAPPMODE a;\n");
+
+    // Further parts of the OS are no second one.
+    let system = |_, mark: &str| format!("{mark}OS o {{}};\n");
+    let systems = format!("{OBJECTS}{}", each(count - 2, 511, system));
+    vec![
+        limit(name("of one object"), specs, &of_one, 11),
+        limit(name("of 256 objects in turn"), specs, &in_turn, 11),
+        limit(name("at most 512, each behind the other"), "", &behind, 11),
+        limit(name("of the OS"), "", &systems, 11),
     ]
 }
 
@@ -132,6 +176,15 @@ fn statements(count: usize) -> Vec<Limit> {
     // One statement holds all others.
     let inside = each(count - 1, 2_048, |_, mark| format!("{mark}x = 1;\n"));
     let nested = format!("{OBJECTS}TASK t {{\nb = TRUE {{\n{inside}}};\n}};\n");
+
+    // In 510 parts of one object: four in each but the first, which has the rest.
+    let first = count - 509 * 4;
+    let in_parts = each(count, 2_049, |number, mark| {
+        let ends = number >= first && number < count && (number - first).is_multiple_of(4);
+        let end = if ends { "};\nTASK t {\n" } else { "" };
+        format!("{mark}b = FALSE;\n{end}")
+    });
+    let in_parts = format!("{OBJECTS}TASK t {{\n{in_parts}}};\n");
 
     // Statements that are at fault count too; those faults are of a later stage.
     let wrong = each(count, 2_049, |_, mark| format!("{mark}y = 1;\n"));
@@ -148,6 +201,7 @@ fn statements(count: usize) -> Vec<Limit> {
     vec![
         limit(name("in one block"), specs, &flat, 11),
         limit(name("under a value"), specs, &nested, 11),
+        limit(name("in parts"), specs, &in_parts, 11),
         wrong,
     ]
 }
@@ -272,13 +326,13 @@ fn two_limits() -> Vec<Limit> {
 
     let definitions = each(513, 513, definition);
     let enumerators = each(1_025, 0, enumerator);
-    let first = format!(
+    let before = format!(
         "OS {{\n{definitions}ENUM [{}] e = e1;\n}};\n",
         &enumerators[2..]
     );
     let definitions = each(513, 0, definition);
     let enumerators = each(1_025, 1_025, enumerator);
-    let second = format!(
+    let behind = format!(
         "OS {{\nENUM [{}] e = e1;\n{definitions}}};\n",
         &enumerators[2..]
     );
@@ -289,15 +343,35 @@ fn two_limits() -> Vec<Limit> {
     let statements = each(2_049, 0, statement);
     let tasks = each(256, 255, task);
     let late = format!("COM p;\nAPPMODE a;\n{tasks}OS o {{\n{statements}}};\n");
-
-    // Object 257 is a second OS of the same name: 11, 17 and 12.
-    let tasks = each(254, 0, task);
-    let again = format!("OS o;\nAPPMODE a;\n{tasks}@OS o;\n");
     vec![
-        limit("definition before enumerator".into(), &first, OBJECTS, 7),
-        limit("enumerator before definition".into(), &second, OBJECTS, 7),
+        limit("definition before enumerator".into(), &before, OBJECTS, 7),
+        limit("enumerator before definition".into(), &behind, OBJECTS, 7),
         limit("statement before object".into(), lists, &early, 11),
         limit("object before statement".into(), lists, &late, 11),
-        limit("object, kind and name".into(), "", &again, 11),
+    ]
+}
+
+/// A limit of objects or parts passed, and another fault of their stage.
+fn object_limits() -> Vec<Limit> {
+    let task = |number, mark: &str| format!("{mark}TASK t{number};\n");
+    // Object 257 is a second OS: 11 and 17. Of the same name it is no object of its own.
+    let tasks = each(254, 0, task);
+    let second = format!("OS o;\nAPPMODE a;\n{tasks}@OS p;\n");
+    let again = format!("OS o;\nAPPMODE a;\n{tasks}OS o;\n");
+
+    // Part 513 is object 257 too, or comes before it, or behind it.
+    let further = each(256, 0, |_, _| "TASK t1;\n".into());
+    let both = format!("{OBJECTS}{tasks}{further}@TASK u;\n");
+    let part = format!("{OBJECTS}{tasks}{further}@OS o;\nTASK u;\n");
+    let object = format!("{OBJECTS}{tasks}@TASK u;\n{further}OS o;\n");
+    // The second OS in parts is at its first part's kind word.
+    let systems = "OS o;\nOS o {};\nAPPMODE a;\n@OS p;\nOS o;\nOS p;\n";
+    vec![
+        limit("object and kind".into(), "", &second, 11),
+        limit("a part behind 256 objects".into(), "", &again, 11),
+        limit("object 257 and part 513".into(), "", &both, 11),
+        limit("part before object".into(), "", &part, 11),
+        limit("object before part".into(), "", &object, 11),
+        limit("a second OS in parts".into(), "", systems, 17),
     ]
 }

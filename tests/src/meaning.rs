@@ -13,6 +13,7 @@ pub const LONGEST_TEXT: usize = 65_535;
 pub const MOST_DEFINITIONS: usize = 512;
 pub const MOST_ENUMERATORS: usize = 1_024;
 pub const MOST_OBJECTS: usize = 256;
+pub const MOST_PARTS: usize = 512;
 pub const MOST_STATEMENTS: usize = 2_048;
 pub const MOST_VALUES: usize = 2_048;
 
@@ -54,13 +55,15 @@ pub struct EnumeratorRow {
     pub name: Part,
 }
 
-/// "an object row its kind, name and block"
+/// "an object row its kind, name and block"; "The object row holds its first part's block and its
+/// number of parts" (Q-2).
 #[derive(Clone, Debug, PartialEq, Eq)]
 pub struct ObjectRow {
     pub kind: Kind,
     pub kind_word: Part,
     pub name: Part,
     pub block: Part,
+    pub parts: usize,
 }
 
 /// "Each holds its definition, owner, value, whether it was stated, and the place and length
@@ -174,6 +177,14 @@ fn fewest_and_most(kind: Kind) -> (usize, usize) {
     }
 }
 
+/// Q-2: "a part of a kind and name used before, with braces or without, continues that object".
+struct Merged<'t> {
+    first: &'t Object,
+    parts: usize,
+    /// The statements of all parts, in text order.
+    statements: Vec<&'t Statement>,
+}
+
 /// A text, its tree, and its words found again by what they are.
 struct Meaning<'t> {
     text: &'t [u8],
@@ -184,8 +195,10 @@ struct Meaning<'t> {
     enumerators: Vec<(&'t Choice, &'t Definition)>,
     /// All statements, nested ones too, in the order of their names.
     statements: Vec<&'t Statement>,
+    /// The objects, in the order of their first parts.
+    objects: Vec<Merged<'t>>,
     /// The row of each object by its kind and name.
-    objects: HashMap<(Kind, &'t [u8]), usize>,
+    rows: HashMap<(Kind, &'t [u8]), usize>,
 }
 
 impl<'t> Meaning<'t> {
@@ -196,7 +209,8 @@ impl<'t> Meaning<'t> {
             definitions: Vec::new(),
             enumerators: Vec::new(),
             statements: Vec::new(),
-            objects: HashMap::new(),
+            objects: Vec::new(),
+            rows: HashMap::new(),
         };
         for spec in &file.specs {
             meaning.gather_definitions(&spec.definitions, spec.kind_word);
@@ -207,10 +221,9 @@ impl<'t> Meaning<'t> {
         meaning
             .enumerators
             .sort_by_key(|(choice, _)| choice.word.place);
-        for (row, object) in file.objects.iter().enumerate() {
-            let key = (object.kind, object.name.of(text));
-            meaning.objects.entry(key).or_insert(row);
-            meaning.gather_statements(&object.statements);
+        for part in &file.objects {
+            meaning.gather_part(part);
+            meaning.gather_statements(&part.statements);
         }
         meaning
             .statements
@@ -228,6 +241,22 @@ impl<'t> Meaning<'t> {
                 self.gather_definitions(&choice.definitions, choice.word);
             }
         }
+    }
+
+    /// A new object, or a further part of one.
+    fn gather_part(&mut self, part: &'t Object) {
+        let next = self.objects.len();
+        let key = (part.kind, part.name.of(self.text));
+        let row = *self.rows.entry(key).or_insert(next);
+        if row == next {
+            self.objects.push(Merged {
+                first: part,
+                parts: 0,
+                statements: Vec::new(),
+            });
+        }
+        self.objects[row].parts += 1;
+        self.objects[row].statements.extend(&part.statements);
     }
 
     fn gather_statements(&mut self, statements: &'t [Statement]) {
@@ -381,29 +410,34 @@ impl<'t> Meaning<'t> {
         }
     }
 
-    /// Refusals 11, 12 and 17.
+    /// Refusals 11 and 17. Q-2: "The limit of 256 counts objects, and 512 counts parts; both give
+    /// 11 at the kind word"; "A further part of an OS, COM or NM is no second one for 17".
     fn object_faults(&self) -> Vec<Fault> {
-        let objects = &self.file.objects;
+        let objects = &self.objects;
         let mut faults = Vec::new();
         if let Some(object) = objects.get(MOST_OBJECTS) {
-            faults.push((object.kind_word.place, 11));
+            faults.push((object.first.kind_word.place, 11));
+        }
+        if let Some(part) = self.file.objects.get(MOST_PARTS) {
+            faults.push((part.kind_word.place, 11));
         }
         if let Some(statement) = self.statements.get(MOST_STATEMENTS) {
             faults.push((statement.name.place, 11));
         }
-        let names = objects.iter().map(|object| (object.kind, object.name));
-        let again = second_times(names.map(|(kind, name)| ((kind, self.word(name)), name)));
-        faults.extend(again.into_iter().map(|name| (name.place, 12)));
         for kind in 0..KINDS.len() {
             let (fewest, most) = fewest_and_most(kind);
-            let of_kind = || objects.iter().filter(move |object| object.kind == kind);
+            let of_kind = || {
+                objects
+                    .iter()
+                    .filter(move |object| object.first.kind == kind)
+            };
             if of_kind().count() < fewest {
                 faults.push((self.file.cpu_name.place, 17));
             }
             faults.extend(
                 of_kind()
                     .skip(most)
-                    .map(|object| (object.kind_word.place, 17)),
+                    .map(|object| (object.first.kind_word.place, 17)),
             );
         }
         faults
@@ -418,12 +452,13 @@ impl<'t> Meaning<'t> {
         }
     }
 
-    /// Refusals 13 to 16 and 18.
+    /// Refusals 13 to 16 and 18. Q-2: "Refusals 14 and 16 are judged over all parts, 14 placed at
+    /// the later name, 16 of the object itself at the first part's name".
     fn statement_faults(&self) -> Vec<Fault> {
         let mut faults = Vec::new();
-        for object in &self.file.objects {
-            let scope = self.scope_of(object);
-            self.block_faults(scope, &object.statements, object.name, &mut faults);
+        for object in &self.objects {
+            let scope = self.scope_of(object.first);
+            self.block_faults(scope, &object.statements, object.first.name, &mut faults);
         }
         faults
     }
@@ -437,7 +472,7 @@ impl<'t> Meaning<'t> {
     fn block_faults(
         &self,
         scope: &'t [Definition],
-        statements: &[Statement],
+        statements: &[&Statement],
         owner: Part,
         faults: &mut Vec<Fault>,
     ) {
@@ -458,7 +493,8 @@ impl<'t> Meaning<'t> {
                 continue;
             }
             let under = self.under(definition, &statement.value);
-            self.block_faults(under, &statement.statements, statement.value.word, faults);
+            let inside: Vec<&Statement> = statement.statements.iter().collect();
+            self.block_faults(under, &inside, statement.value.word, faults);
         }
         for definition in scope {
             if statements
@@ -484,7 +520,7 @@ impl<'t> Meaning<'t> {
             return Some((value.word.place, 15));
         }
         if let Type::Reference(kind) = definition.sort {
-            if !self.objects.contains_key(&(kind, self.word(value.word))) {
+            if !self.rows.contains_key(&(kind, self.word(value.word))) {
                 return Some((value.word.place, 18));
             }
             return statement.brace.map(|brace| (brace, 15));
@@ -492,11 +528,12 @@ impl<'t> Meaning<'t> {
         None
     }
 
-    /// "Resolved values come object by object in text order".
+    /// "Resolved values come object by object in text order"; "List entries keep text order across
+    /// parts" (Q-2).
     fn values(&self) -> Vec<ValueRow> {
         let mut rows = Vec::new();
-        for (row, object) in self.file.objects.iter().enumerate() {
-            let scope = self.scope_of(object);
+        for (row, object) in self.objects.iter().enumerate() {
+            let scope = self.scope_of(object.first);
             self.values_of(scope, &object.statements, Owner::Object(row), &mut rows);
         }
         rows
@@ -507,12 +544,12 @@ impl<'t> Meaning<'t> {
     fn values_of(
         &self,
         scope: &'t [Definition],
-        statements: &[Statement],
+        statements: &[&Statement],
         owner: Owner,
         rows: &mut Vec<ValueRow>,
     ) {
         for definition in scope {
-            let stated = |statement: &&Statement| self.is_named(statement, definition);
+            let stated = |statement: &&&Statement| self.is_named(statement, definition);
             let mut given: Vec<(&Value, &[Statement], bool)> = statements
                 .iter()
                 .filter(stated)
@@ -533,7 +570,8 @@ impl<'t> Meaning<'t> {
                     word: value.word,
                 });
                 let under = self.under(definition, value);
-                self.values_of(under, inside, Owner::Value(row), rows);
+                let inside: Vec<&Statement> = inside.iter().collect();
+                self.values_of(under, &inside, Owner::Value(row), rows);
             }
         }
     }
@@ -558,7 +596,7 @@ impl<'t> Meaning<'t> {
             (Form::False, _) => Resolved::False,
             (Form::Auto, _) => Resolved::Auto,
             (Form::Name, Type::Reference(kind)) => {
-                Resolved::Object(self.objects[&(kind, self.word(value.word))])
+                Resolved::Object(self.rows[&(kind, self.word(value.word))])
             }
             (Form::Name, _) => {
                 let choice = self.choice(definition, value).expect("judged before");
@@ -585,20 +623,21 @@ impl<'t> Meaning<'t> {
             attribute: self.definition_row(attribute),
             name: choice.word,
         };
-        let object_row = |object: &Object| ObjectRow {
-            kind: object.kind,
-            kind_word: object.kind_word,
-            name: object.name,
-            block: object.block,
+        let object_row = |object: &Merged| ObjectRow {
+            kind: object.first.kind,
+            kind_word: object.first.kind_word,
+            name: object.first.name,
+            block: object.first.block,
+            parts: object.parts,
         };
         let mut counts = [0; 13];
-        for object in &self.file.objects {
-            counts[object.kind] += 1;
+        for object in &self.objects {
+            counts[object.first.kind] += 1;
         }
         Reading {
             definitions: self.definitions.iter().map(definition_row).collect(),
             enumerators: self.enumerators.iter().map(enumerator_row).collect(),
-            objects: self.file.objects.iter().map(object_row).collect(),
+            objects: self.objects.iter().map(object_row).collect(),
             values,
             counts,
         }

@@ -62,8 +62,8 @@ pub fn program(text: &[u8]) -> Vec<u8> {
     }
 }
 
-/// All that a reading says but places, lengths and the stated mark, with words in their place:
-/// "Read back, all is the same."
+/// All that a reading says but places, lengths, the stated mark and the numbers of parts, with
+/// words in their place: "Read back, all is the same"; "read back, each number of parts is one".
 pub fn without_places(text: &[u8], reading: &Reading) -> String {
     let word = |part: Part| part.of(text).escape_ascii().to_string();
     let mut all = format!("{:?}\n", reading.counts);

@@ -4,6 +4,7 @@
 
 use crate::corpus::{self, Sample};
 use crate::limits::{self, Limit};
+use crate::parts;
 use crate::random::Random;
 use crate::ranges;
 use crate::sorts::{self, Case, Each, Known, Sort, PLANTED};
@@ -111,7 +112,7 @@ const fn seeded(name: &'static str, parts: usize, texts: fn(u64, &Sources, Each)
 }
 
 /// The mix: about as the sorts are mixed that are compared with the reference.
-const MIX: [Seeded; 14] = [
+const MIX: [Seeded; 15] = [
     seeded(sorts::ACCEPTED.name, 120, |seed, _, each| {
         each(sorts::accepted_text(seed));
     }),
@@ -150,6 +151,9 @@ const MIX: [Seeded; 14] = [
     }),
     seeded(sorts::RANGES.name, 60, |seed, _, each| {
         own_text(seed, ranges::ranged, each);
+    }),
+    seeded(sorts::PARTS.name, 60, |seed, _, each| {
+        own_text(seed, parts::parted, each);
     }),
     seeded(sorts::DAMAGED_LIMITS.name, 1, |seed, sources, each| {
         let random = &mut Random::new(seed);

@@ -7,7 +7,7 @@ use crate::random::Random;
 use crate::texts;
 use crate::token::{step, Step, Token};
 use crate::tree::file;
-use crate::{answered, corpus, grammar, heavy, limits, ranges, tempting, token};
+use crate::{answered, corpus, grammar, heavy, limits, parts, ranges, tempting, token};
 
 /// A text, and what is known of the answer that `read` gives.
 pub struct Case {
@@ -62,6 +62,7 @@ pub const TRUNCATIONS: Sort = sort("truncations", 10_000, truncations);
 pub const BYTES: Sort = sort("bytes and token soup", 15_000, bytes_and_tokens);
 pub const DERIVED: Sort = sort("derived texts", 7_000, derived);
 pub const HEAVY: Sort = sort("heavy texts", 20, heavy_texts);
+pub const PARTS: Sort = sort("Q-2, objects in parts", 20_000, part_texts);
 pub const RANGES: Sort = sort("Q-1, ranges and defaults", 20_000, range_texts);
 
 /// How many times as many generated texts are compared as usual: `KAUKSLINI_TEXTS`.
@@ -137,7 +138,7 @@ pub fn configuration_text(bytes: usize) -> Case {
 }
 
 /// The numbers of which a fault can be planted anywhere.
-pub const PLANTED: [u8; 13] = [6, 8, 9, 12, 13, 14, 15, 16, 17, 18, 21, 22, 23];
+pub const PLANTED: [u8; 12] = [6, 8, 9, 13, 14, 15, 16, 17, 18, 21, 22, 23];
 
 /// The text of a seed with faults of these numbers, if it has sites for them.
 pub fn text_with_faults(seed: u64, numbers: &[u8]) -> Option<Case> {
@@ -376,6 +377,10 @@ pub fn text_off(seed: u64, case: &Case) -> Case {
 fn range_texts(each: Each) {
     ranges::bounds().into_iter().for_each(&mut *each);
     own_texts(ranges::ranged, each);
+}
+
+fn part_texts(each: Each) {
+    own_texts(parts::parted, each);
 }
 
 fn heavy_texts(each: Each) {

@@ -10,7 +10,7 @@ use crate::tree::{Part, Type};
 pub const NAMES: [&str; 4] = ["definitions", "enumerators", "objects", "values"];
 
 /// The cells of a row of each table.
-pub const WIDTHS: [usize; 4] = [13, 3, 7, 9];
+pub const WIDTHS: [usize; 4] = [13, 3, 8, 9];
 
 /// The cells of each room.
 pub const ROOMS: [usize; 4] = [
@@ -99,11 +99,11 @@ fn enumerator(row: &EnumeratorRow) -> [usize; 3] {
     [row.attribute, name[0], name[1]]
 }
 
-/// kind, the kind's word, name, block
-fn object(row: &ObjectRow) -> [usize; 7] {
+/// kind, the kind's word, name, block, number of parts
+fn object(row: &ObjectRow) -> [usize; 8] {
     let [word, name, block] = [row.kind_word, row.name, row.block].map(cells);
     [
-        row.kind, word[0], word[1], name[0], name[1], block[0], block[1],
+        row.kind, word[0], word[1], name[0], name[1], block[0], block[1], row.parts,
     ]
 }
 

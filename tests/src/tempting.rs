@@ -30,7 +30,7 @@ fn marked((name, specs, objects, number): (&'static str, &str, &str, u8)) -> Tem
 }
 
 /// Each name, the specs, the objects with an `@` at the place of the refusal, and its number.
-const TEMPTING: [(&str, &str, &str, u8); 12] = [
+const TEMPTING: [(&str, &str, &str, u8); 18] = [
     (
         "a reference is not found by name alone",
         "TASK { EVENT_TYPE EVENT; };",
@@ -90,6 +90,42 @@ const TEMPTING: [(&str, &str, &str, u8); 12] = [
         "TASK { ENUM [A { BOOLEAN [TRUE { UINT32 x; }, FALSE] b = TRUE; }] e; };",
         "TASK t { e = @A { }; };",
         16,
+    ),
+    (
+        "a missing value of an object in parts is at its first part's name",
+        "TASK { UINT32 x; UINT32 y; };",
+        "TASK @t; TASK u { x = 1; y = 1; }; TASK t { x = 1; }; TASK t {};",
+        16,
+    ),
+    (
+        "a single attribute is stated again in another part",
+        "TASK { UINT32 x; UINT32 l[]; };",
+        "TASK t { x = 1; l = 2; }; TASK u { x = 3; }; TASK t { l = 4; @x = 1; };",
+        14,
+    ),
+    (
+        "a value's braces are not continued in another part",
+        "TASK { ENUM [A { UINT32 x; UINT32 y; }] e; };",
+        "TASK t { e = @A { x = 1; }; }; TASK t { e = A { y = 1; }; };",
+        16,
+    ),
+    (
+        "a part of another kind is another object",
+        "TASK { UINT32 x; }; ISR { UINT32 x; };",
+        "TASK t { x = 1; }; ISR @t; ALARM t;",
+        16,
+    ),
+    (
+        "a further part of an OS is no second one",
+        "OS { UINT32 x[] = 1; };",
+        "OS o { x = 3; }; APPMODE a; OS o { x = 2; };",
+        0,
+    ),
+    (
+        "a reference leads to an object in parts, also to a later one",
+        "TASK { TASK_TYPE r[]; };",
+        "TASK t { r = u; }; TASK u; TASK t { r = t; r = @v; }; TASK u { r = t; };",
+        18,
     ),
     (
         "1..0xff is no number with a dot",

@@ -100,6 +100,7 @@ pub enum Form {
     Name,
 }
 
+/// An object, or a part of one (document 02, Q-2).
 pub struct Object {
     pub kind: Kind,
     pub kind_word: Part,

@@ -87,6 +87,14 @@ fn ranges_and_defaults() {
     assert!(counts.refused[21..=23].iter().all(|count| *count > 1_000));
 }
 
+#[test]
+fn objects_in_parts() {
+    let counts = reads(&sorts::PARTS);
+    assert!([11, 13, 14, 15, 16, 17, 18]
+        .iter()
+        .all(|number| counts.refused[*number] > 50));
+}
+
 /// Refusal 1 comes before all others and touches no cell.
 #[test]
 fn tables_too_short() {

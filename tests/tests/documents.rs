@@ -174,8 +174,8 @@ fn refusals() {
             assert_eq!(calls_agree(&mut lent, example), Ok(()), "line {line}");
         }
     }
-    // 10 is no longer given.
-    for number in (1..=23).filter(|number| *number != 10) {
+    // 10 and 12 are no longer given.
+    for number in (1..=23).filter(|number| ![10, 12].contains(number)) {
         let mut answers = examples.iter().filter_map(|example| example.answer);
         assert!(
             answers.any(|refusal| refusal.number == number),

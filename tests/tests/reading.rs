@@ -44,6 +44,7 @@ fn reads_back(name: &str, text: &[u8]) {
         "{name}"
     );
     assert!(second.values.iter().all(|value| value.stated), "{name}");
+    assert!(second.objects.iter().all(|row| row.parts == 1), "{name}");
     assert!(normal(&written).as_ref() == Ok(&written), "{name}");
 }
 
@@ -81,8 +82,11 @@ fn rows_hold(name: &str, text: &[u8], reading: &Reading) {
         let Owner::Object(object) = owner else {
             unreachable!("owners end at an object");
         };
-        let block = reading.objects[object].block;
-        assert_eq!(row.stated, inside(row.word, block), "{name}");
+        // A default lies in the implementation, before all objects.
+        let object = &reading.objects[object];
+        assert_eq!(row.stated, row.word.place > object.name.place, "{name}");
+        let is_inside = inside(row.word, object.block);
+        assert!(object.parts > 1 || row.stated == is_inside, "{name}");
         assert_eq!(row.stated, row.word != definition.default, "{name}");
         match row.value {
             Resolved::Enumerator(enumerator) => {
@@ -180,6 +184,7 @@ CPU c { TASK t { b = TRUE { r = u; }; l = \"x\"; l = \"y\"; }; OS o; APPMODE p {
     ];
     assert_eq!(objects, expected);
     assert_eq!(reading.objects[1].block, Part::default());
+    assert!(reading.objects.iter().all(|row| row.parts == 1));
     assert_eq!(reading.counts, [1, 1, 2, 0, 0, 0, 0, 0, 0, 0, 0, 0, 0]);
 
     let values = reading.values.iter();

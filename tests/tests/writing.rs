@@ -55,6 +55,9 @@ fn reads_back(
     if !back.values.iter().all(|value| value.stated) {
         return Err("a value that is not stated".into());
     }
+    if back.objects.iter().any(|object| object.parts != 1) {
+        return Err("an object in parts".into());
+    }
     lent.write(written, LONGER, written.len(), &answer, written)
 }
 
@@ -141,6 +144,11 @@ fn derived_texts() {
 #[test]
 fn ranges_and_defaults() {
     writes(&sorts::RANGES);
+}
+
+#[test]
+fn objects_in_parts() {
+    writes(&sorts::PARTS);
 }
 
 /// Each by one call only.

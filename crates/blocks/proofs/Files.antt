@@ -19,6 +19,8 @@ use Rattle.meaning.specs.Actions.{syntax, word-of, num-of-step}
 use Rattle.meaning.proofs.Order.{Ordered, InOrder, Sub, sub-nil, keep, ordered-sub, drop as leave}
 use Rattle.meaning.proofs.Leaves.{words, leaves-words, words-leaves, leaves-in-order}
 use Rattle.meaning.proofs.Settled.{text-ordered}
+use Rattle.meaning.specs.Merging.{merge}
+use Rattle.meaning.proofs.Merges.{In, in-here, in-there, merge-in, syntax-merged}
 use Rattle.meaning.proofs.Sites.{option-words, spec-words, statement-words, object-words, file-words}
 use Rattle.layout.specs.Kept.{statement-cells, statement-rows, object-cells, object-rows, all-statement-rows, statement-count, kept-objects, kept-statements, Wide}
 use Rattle.layout.proofs.Lengths.{wide-append, length-all, object-wide, length-objects}
@@ -86,7 +88,7 @@ later-in s (t ∷ l) lo h r o =
 
 -- The words of a file, but for the version's.
 unfoldable pub words-of : File → List Word
-words-of f = spec-words (f .specs) ++ (f .cpu ∷ object-words (f .objects))
+words-of f = spec-words (f .specs) ++ (f .cpu ∷ object-words (f .parts))
 
 pub file-in : (s : List ℕ) (d : Derivation (tokens-of s)) → AllIn s (words-of (syntax s (d .tree)))
 unfolding words-of file-words
@@ -108,11 +110,26 @@ in-back s (w ∷ a) b h = in-back s a b (h .1)
 
 pub specs-in : (s : List ℕ) (f : File) → AllIn s (words-of f) → AllIn s (spec-words (f .specs))
 unfolding words-of
-specs-in s f h = in-front s (spec-words (f .specs)) (f .cpu ∷ object-words (f .objects)) h
+specs-in s f h = in-front s (spec-words (f .specs)) (f .cpu ∷ object-words (f .parts)) h
 
-pub objects-in : (s : List ℕ) (f : File) → AllIn s (words-of f) → AllIn s (object-words (f .objects))
+pub parts-in : (s : List ℕ) (f : File) → AllIn s (words-of f) → AllIn s (object-words (f .parts))
 unfolding words-of
-objects-in s f h = in-back s (spec-words (f .specs)) (f .cpu ∷ object-words (f .objects)) h .1
+parts-in s f h = in-back s (spec-words (f .specs)) (f .cpu ∷ object-words (f .parts)) h .1
+
+-- The words of the objects are words of their parts.
+one-in : (s : List ℕ) {w : Word} {l : List Word} → In w l → AllIn s l → WordIn s w
+one-in s (in-here e) g = subst (WordIn s) e (g .0)
+one-in s (in-there h) g = one-in s h (g .1)
+
+among-in : (s : List ℕ) (l m : List Word) → ((w : Word) → In w l → In w m) → AllIn s m → AllIn s l
+among-in s [] m f g = tt
+among-in s (w ∷ l) m f g = (one-in s (f w (in-here refl)) g, among-in s l m (λ v h. f v (in-there h)) g)
+
+pub objects-in : (s : List ℕ) (d : Derivation (tokens-of s)) → AllIn s (object-words (syntax s (d .tree) .objects))
+objects-in s d =
+    let f = syntax s (d .tree) in
+    subst (λ (os : List Object). AllIn s (object-words os)) (sym (syntax-merged s (d .tree)))
+    (among-in s (object-words (merge (f .parts))) (object-words (f .parts)) (λ w i. merge-in (f .parts) i) (parts-in s f (file-in s d)))
 
 brace-in : (s : List ℕ) (o : Option Word) → AllIn s (option-words o) → BraceIn s o
 unfolding option-words
@@ -139,7 +156,7 @@ object-in s [] x rest h = (h .1 .0, statements-in-text s (x .statements) (in-fro
 object-in s (y ∷ front) x rest h =
     object-in s front x rest (in-back s (statement-words (y .statements)) (object-words (front ++ (x ∷ rest))) (h .1 .1))
 
-wide-statements : (ss : Statements) (m : ℕ) → Wide 7 (statement-rows ss m)
+pub wide-statements : (ss : Statements) (m : ℕ) → Wide 7 (statement-rows ss m)
 unfolding statement-rows statement-cells
 wide-statements done m = tt
 wide-statements (state x inside rest) m = (
@@ -148,7 +165,7 @@ wide-statements (state x inside rest) m = (
       (wide-statements rest (suc m + statements-in inside)),
 )
 
-wide-all : (xs : List Object) (m : ℕ) → Wide 7 (all-statement-rows xs m)
+pub wide-all : (xs : List Object) (m : ℕ) → Wide 7 (all-statement-rows xs m)
 unfolding all-statement-rows
 wide-all [] m = tt
 wide-all (x ∷ xs) m =
@@ -161,14 +178,14 @@ statements-held f h =
     let l = length-all (f .objects) 0 in
     record { table = refl; fits = omega arith; wide = wide-all (f .objects) 0 }
 
-pub objects-held : (f : File) → length (f .objects) ≤ 257 → Holds 257 9 (kept-objects f) (object-rows (f .objects) 0)
+pub objects-held : (f : File) → length (f .objects) ≤ 257 → Holds 257 10 (kept-objects f) (object-rows (f .objects) 0)
 unfolding kept-objects
 objects-held f h =
     let l = length-objects (f .objects) 0 in
     record { table = refl; fits = omega arith; wide = object-wide (f .objects) 0 }
 
 -- The rows of one object of a list, before which m statements stand.
-all-split : (front : List Object) (x : Object) (rest : List Object) (m : ℕ)
+pub all-split : (front : List Object) (x : Object) (rest : List Object) (m : ℕ)
     → all-statement-rows (front ++ (x ∷ rest)) m ≡ all-statement-rows front m ++ (statement-rows (x .statements) (m + statement-count front) ++ all-statement-rows rest (m + statement-count front + statements-in (x .statements)))
 unfolding all-statement-rows statement-count
 all-split [] x rest m =
@@ -181,7 +198,7 @@ all-split (y ∷ front) x rest m =
     ∙ ap (λ k. statement-rows (y .statements) m ++ (all-statement-rows front n ++ (statement-rows (x .statements) k ++ all-statement-rows rest (k + statements-in (x .statements))))) e
     ∙ sym (append-assoc (statement-rows (y .statements) m) (all-statement-rows front n) _)
 
-object-split : (front : List Object) (x : Object) (rest : List Object) (m : ℕ)
+pub object-split : (front : List Object) (x : Object) (rest : List Object) (m : ℕ)
     → object-rows (front ++ (x ∷ rest)) m ≡ object-rows front m ++ (object-cells x (m + statement-count front) ∷ object-rows rest (m + statement-count front + statements-in (x .statements)))
 unfolding object-rows statement-count
 object-split [] x rest m =
@@ -196,13 +213,13 @@ object-split (y ∷ front) x rest m =
 
 module _ (s : List ℕ) (f : File) (front : List Object) (x : Object) (rest : List Object) (e : f .objects ≡ front ++ (x ∷ rest)) where
   -- A cell of the object's row.
-  pub object-cell : (o : List ℕ) → o ≡ kept-objects f → length (f .objects) ≤ 257 → (c : ℕ) → c < 9
-      → getD o (length front * 9 + c) 0 ≡ getD (object-cells x (statement-count front)) c 0
+  pub object-cell : (o : List ℕ) → o ≡ kept-objects f → length (f .objects) ≤ 257 → (c : ℕ) → c < 10
+      → getD o (length front * 10 + c) 0 ≡ getD (object-cells x (statement-count front)) c 0
   object-cell o p h c k =
       let n : length (object-rows front 0) ≡ length front = length-objects front 0 in
       let z : 0 + statement-count front ≡ statement-count front = omega arith in
-      let w : Holds 257 9 o (object-rows (f .objects) 0) = subst (λ t. Holds 257 9 t (object-rows (f .objects) 0)) (sym p) (objects-held f h) in
-      ap (λ i. getD o (i * 9 + c) 0) (sym n)
+      let w : Holds 257 10 o (object-rows (f .objects) 0) = subst (λ t. Holds 257 10 t (object-rows (f .objects) 0)) (sym p) (objects-held f h) in
+      ap (λ i. getD o (i * 10 + c) 0) (sym n)
       ∙ cell-held (object-rows front 0) _ (object-cells x (0 + statement-count front)) c w (ap (λ l. object-rows l 0) e ∙ object-split front x rest 0) k
       ∙ ap (λ m. getD (object-cells x m) c 0) z
 

@@ -7,7 +7,7 @@ use native.Mathlib.Omega.{arith}
 use lib.ListN.{length-append, getD}
 use lib.Dec.{ltb, leb, eqb}
 use borrow.Author.Tests.{eq-eqb, ne-eqb, lt-ltb, le-ltb, le-leb, ltb-true, leb-true, lt-leb}
-use Rattle.meaning.proofs.Entries.{then}
+use Rattle.meaning.specs.Merging.{then}
 use Rattle.token.specs.Find.{pick, both, either}
 use Rattle.token.specs.Words.{same}
 use Rattle.token.specs.Tokens.{partOf}
@@ -124,7 +124,7 @@ unfolding then
 then-done done = refl
 then-done (state x inside rest) = ap (state x inside) (then-done rest)
 
-rows-then : (a b : Statements) (m : ℕ) → statement-rows (then a b) m ≡ statement-rows a m ++ statement-rows b (m + statements-in a)
+pub rows-then : (a b : Statements) (m : ℕ) → statement-rows (then a b) m ≡ statement-rows a m ++ statement-rows b (m + statements-in a)
 unfolding then statement-rows statements-in
 rows-then done b m = let e : m ≡ m + 0 = omega arith in ap (statement-rows b) e
 rows-then (state x inside rest) b m =

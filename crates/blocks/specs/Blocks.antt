@@ -7,7 +7,7 @@ use mathlib.Core.Option.{Option, none, some}
 use Prim.Native.Nat.{ℕ, suc, _+_, _*_, _≤_, _<_}
 use lib.ListN.{length, getD}
 use lib.Dec.{ltb, leb}
-use Rattle.meaning.proofs.Entries.{then}
+use Rattle.meaning.specs.Merging.{then}
 use Rattle.token.specs.Find.{pick, both}
 use Rattle.token.specs.Tokens.{partOf, stepAt}
 use Rattle.meaning.specs.Syntax.{Word, Statement, Statements, done, state, statements-in}

@@ -1,50 +1,55 @@
--- What the checks of the objects' rows give is the fault by which the stage of 11, 12 and 17 answers. Assumes nothing.
+-- What the checks of the parts' rows give is the fault by which the stage of 11 and 17 answers. Assumes nothing.
 use mathlib.Core.Path.{_≡_, refl, sym, _∙_, ap, ap₂, subst}
 use mathlib.Core.List.{List, [], _∷_, _++_, append-assoc, append-nil}
-use mathlib.Core.Bool.{Bool, true, false}
+use mathlib.Core.Bool.{Bool, true, false, false≢true}
 use mathlib.Core.Option.{Option, none, some}
 use mathlib.Core.Logic.{⊎-elim}
 use Prim.Native.Nat.{ℕ, suc, _+_, _*_, _≤_, _<_, min}
 use native.Mathlib.Omega.{arith}
-use lib.ListN.{length, getD, length-append}
+use native.Mathlib.Decide.{ℕ-discrete}
+use lib.ListN.{length, getD, replicate, length-append}
 use lib.Dec.{eqb, ltb}
+use borrow.Author.Tests.{lt-ltb, le-ltb}
 use Rattle.rows.specs.Table.{cellOf}
-use Rattle.meaning.proofs.Numbered.{of-few}
-use Rattle.token.specs.Find.{pick, both, bit, is-there}
-use Rattle.token.specs.Words.{same}
-use Rattle.token.specs.Tokens.{partOf}
+use Rattle.rows.specs.Tally.{oneMore, countOn}
+use Rattle.rows.proofs.Tallies.{count-on-append}
+use Rattle.token.specs.Find.{pick, either, bit}
 use Rattle.grammar.specs.Grammar.{Kind, OS, APPMODE, TASK, ISR, COUNTER, ALARM, RESOURCE, EVENT, COM, MESSAGE, NETWORKMESSAGE, IPDU, NM}
 use Rattle.rows.specs.declared.Fault.{Fault as Code}
 use Rattle.rows.specs.declared.Found.{Found}
 use Rattle.rows.specs.declared.Found.the-variants.{At, Nothing}
 use Rattle.rows.specs.Order as order
 use Rattle.rows.specs.Table as table
-use Rattle.rows.specs.Search.{hasKey, findNamed, isFound}
+use Rattle.rows.specs.Search.{isFound}
 use Rattle.meaning.specs.Syntax.{Word, Statement, Statements, done, state, Object, File, statements-in}
-use Rattle.meaning.specs.Words.{alike}
+use Rattle.meaning.specs.Words.{choose}
 use Rattle.meaning.specs.Kinds.{kinds, kind-number, same-kind, fewest, most}
-use Rattle.meaning.specs.Scopes.{find-object}
+use Rattle.meaning.specs.Merging.{same-object, used, merged, merge-from, merge}
 use Rattle.meaning.specs.Faults.{Fault, fault-if, first, sooner}
-use Rattle.meaning.specs.Applying.{how-many, counts-of, counts, too-few, full, statement-faults, each-object, object-faults}
+use Rattle.meaning.specs.Applying.{how-many, counts-of, counts, too-few, full, statement-faults, each-object, each-part, object-faults}
+use Rattle.meaning.proofs.Numbered.{of-few}
+use Rattle.meaning.proofs.Merges.{Alike, same-alike, used-more, used-none}
 use Rattle.meaning.proofs.Order.{InOrder, sub-behind, sub-all, drop, ordered-sub}
 use Rattle.meaning.proofs.Sooner.{left-of}
 use Rattle.meaning.proofs.Sites.{statement-words, object-words, spec-words}
 use Rattle.meaning.proofs.Numbering.{Counts, statement-numbers, object-numbers, all-statement-numbers}
-use Rattle.layout.specs.Kept.{statement-cells, statement-rows, all-statement-rows, object-cells, kept-objects, kept-statements, statement-count, Wide}
+use Rattle.layout.specs.Kept.{statement-cells, statement-rows, all-statement-rows, object-cells, kept-parts, kept-part-statements, statement-count, Wide}
+use Rattle.layout.proofs.Codes.{kind-low}
 use Rattle.scopes.specs.Situations.{Situation, Nth}
 use Rattle.scopes.specs.Promises.{fault-of}
-use Rattle.scopes.proofs.Rooms.{kept-cell, object-cell, split, nth-of}
-use Rattle.scopes.proofs.Finding.{seek-all, is-object, find-in-objects}
-use Rattle.scopes.proofs.Goodness.{Good, Goods, good-back, object-good, later-words}
+use Rattle.scopes.proofs.Rooms.{kept-cell, row-cell, nth-of}
+use Rattle.scopes.proofs.Finding.{seek-all}
+use Rattle.scopes.proofs.Goodness.{later-words}
 use Rattle.scopes.proofs.Descents.{whole}
 use Rattle.kinds.specs.Kinds.{kind-at, most-of}
-use Rattle.scopes.specs.Listing.{each}
-use Rattle.checks.specs.Listing.{object-row-faults}
-use Rattle.checks.specs.Cells.{lacking-from, count-rows, full-of, too-many, name-again, object-codes, room-fault}
-use Rattle.checks.specs.Promises.{ObjectFaults}
-use Rattle.scopes.proofs.Firsts.{Has, here, there, has-none, has-left, has-right, has-split, in-if, Covered, covered, covered-by, first-same, Real, real, real-none, real-append, real-if, fault-append, fault-one, real-each, found-at, at-row}
-use Rattle.checks.proofs.Rows.{Stands, in-front, in-rest, stands, get-at, nth-fault, fault-nth, real-nth, room-code, numbers-of, numbered, numbered-append, numbers-append, numbered-is}
-use Rattle.token.proofs.Bytes.{eqb-sym}
+use Rattle.merging.specs.Parts.{row-or}
+use Rattle.merging.proofs.Places.{row-is, new-by, old-by}
+use Rattle.checks.specs.declared.objects.Checked.{Checked}
+use Rattle.checks.specs.Cells.{lacking-from, full-of, room-fault}
+use Rattle.checks.specs.Promises.{Noted, numbers, Met, ChecksParts, Checks, ObjectFaults}
+use Rattle.scopes.proofs.Firsts.{Has, here, there, has-none, has-left, has-right, has-split, in-if, Covered, covered, covered-by, first-same, Real, real, real-none, real-append, real-if, fault-append, fault-one}
+use Rattle.checks.proofs.Tallying.{alike, cell, tallied}
+use Rattle.checks.proofs.Rows.{get-at, nth-fault, fault-nth, real-nth, room-code, numbers-of, numbered, numbered-append, numbers-append as codes-append, numbered-is}
 
 -- Kinds ------------------------------------------------------------------------------------------------------------------------------------
 
@@ -120,115 +125,188 @@ pub too-few-is : (os : List Object) (cpu : Word) (cs : List ℕ) (p : ℕ) → c
 too-few-is os cpu cs p e h =
     ap₂ (λ (l : List ℕ) (q : ℕ). order.faultIf (isFound (lacking-from l 0)) 17 q) e h ∙ ap (λ (x : Found). order.faultIf (isFound x) 17 (cpu .place)) (lacking-is os) ∙ few-code kinds os cpu 0
 
--- The row of an object -----------------------------------------------------------------------------------------------------------------------
+-- Objects begun by parts -----------------------------------------------------------------------------------------------------------------------
 
-module _ (s : List ℕ) (f : File) (o : List ℕ) (k : Situation s f) (e : o ≡ kept-objects f) where
-  kind-cell : (j : ℕ) (x : Object) → Nth (f .objects) j x → j < 257 → getD o (j * 9 + 0) 0 ≡ kind-number (x .kind)
-  unfolding object-cells
-  kind-cell j x q h = object-cell f o j 0 x e q h (omega arith)
+-- The faults of one object, where the objects os stand before it.
+unfoldable own-faults : List Object → (k : ℕ) → Object → List Fault
+own-faults os k x = fault-if (eqb k 256) (x .word) 11 ++ fault-if (full (most (x .kind)) (how-many (x .kind) os)) (x .word) 17
 
-  pub word-cell : (j : ℕ) (x : Object) → Nth (f .objects) j x → j < 257 → getD o (j * 9 + 1) 0 ≡ x .word .place
-  unfolding object-cells
-  word-cell j x q h = object-cell f o j 1 x e q h (omega arith)
+own-real : (os : List Object) (k : ℕ) (x : Object) → Real (own-faults os k x)
+unfolding own-faults
+own-real os k x =
+    real-append (fault-if (eqb k 256) (x .word) 11) (fault-if (full (most (x .kind)) (how-many (x .kind) os)) (x .word) 17)
+    (real-if (eqb k 256) (x .word) 11 (omega arith)) (real-if (full (most (x .kind)) (how-many (x .kind) os)) (x .word) 17 (omega arith))
 
-  name-cell : (j : ℕ) (x : Object) → Nth (f .objects) j x → j < 257 → getD o (j * 9 + 3) 0 ≡ x .name .place
-  unfolding object-cells
-  name-cell j x q h = object-cell f o j 3 x e q h (omega arith)
+each-behind : (before a b : List Object) → each-object before (a ++ b) ≡ each-object before a ++ each-object (before ++ a) b
+unfolding each-object
+each-behind before [] b = ap (λ (l : List Object). each-object l b) (sym (append-nil before))
+each-behind before (x ∷ a) b =
+    let F = fault-if (eqb (x .row) 256) (x .word) 11 ++ fault-if (full (most (x .kind)) (how-many (x .kind) before)) (x .word) 17 in
+    ap (λ (l : List Fault). F ++ l) (each-behind (before ++ (x ∷ [])) a b ∙ ap (λ (l : List Object). each-object (before ++ (x ∷ [])) a ++ each-object l b) (append-assoc before (x ∷ []) a))
+    ∙ sym (append-assoc F (each-object (before ++ (x ∷ [])) a) (each-object (before ++ (x ∷ a)) b))
 
-  size-cell : (j : ℕ) (x : Object) → Nth (f .objects) j x → j < 257 → getD o (j * 9 + 4) 0 ≡ x .name .length
-  unfolding object-cells
-  size-cell j x q h = object-cell f o j 4 x e q h (omega arith)
+each-one : (os : List Object) (z : Object) (k : ℕ) (rest : List Object) → each-object os (merged z k rest ∷ []) ≡ own-faults os k z
+unfolding each-object merged own-faults
+each-one os z k rest = append-nil (fault-if (eqb k 256) (z .word) 11 ++ fault-if (full (most (z .kind)) (how-many (z .kind) os)) (z .word) 17)
 
-  count-objects : (z : Kind) (a xs rest : List Object) (i : ℕ) → f .objects ≡ a ++ (xs ++ rest) → length a ≡ i → i + length xs ≤ 257
-      → count-rows o 9 0 (kind-number z) (length xs) i ≡ how-many z xs
-  unfolding count-rows how-many hasKey same-kind
-  count-objects z a [] rest i w l h = refl
-  count-objects z a (x ∷ xs) rest i w l h =
-      let q : Nth (f .objects) i x = record { front = a; rest = xs ++ rest; whole = w; place = l } in
-      let y : eqb (getD o (i * 9 + 0) 0) (kind-number z) ≡ eqb (kind-number z) (kind-number (x .kind)) =
-      ap (λ (n : ℕ). eqb n (kind-number z)) (kind-cell i x q (omega arith)) ∙ eqb-sym (kind-number (x .kind)) (kind-number z) in
-      let g = length-append a (x ∷ []) in
-      ap₂ (λ (b : Bool) (n : ℕ). bit b + n) y
-      (count-objects z (a ++ (x ∷ [])) xs rest (suc i) (w ∙ sym (append-assoc a (x ∷ []) (xs ++ rest))) (omega arith) (omega arith))
+each-real : (before xs : List Object) → Real (each-object before xs)
+unfolding each-object
+each-real before [] = real-none
+each-real before (x ∷ xs) =
+    let a = fault-if (eqb (x .row) 256) (x .word) 11 in
+    let b = fault-if (full (most (x .kind)) (how-many (x .kind) before)) (x .word) 17 in
+    real-append (a ++ b) (each-object (before ++ (x ∷ [])) xs)
+    (real-append a b (real-if (eqb (x .row) 256) (x .word) 11 (omega arith)) (real-if (full (most (x .kind)) (how-many (x .kind) before)) (x .word) 17 (omega arith)))
+    (each-real (before ++ (x ∷ [])) xs)
 
-  many-is : (p : List Object) (x : Object) (rest : List Object) (j : ℕ) → f .objects ≡ p ++ (x ∷ rest) → length p ≡ j → j < 257
-      → too-many o j ≡ fault-of (first (fault-if (full (most (x .kind)) (how-many (x .kind) p)) (x .word) 17))
-  unfolding too-many
-  many-is p x rest j w l h =
-      let q : Nth (f .objects) j x = record { front = p; rest = rest; whole = w; place = l } in
-      let c : count-rows o 9 0 (kind-number (x .kind)) j 0 ≡ how-many (x .kind) p =
-      ap (λ (n : ℕ). count-rows o 9 0 (kind-number (x .kind)) n 0) (sym l) ∙ count-objects (x .kind) [] p (x ∷ rest) 0 w refl (omega arith) in
-      rw (kind-cell j x q h, word-cell j x q h, kind-at-number (x .kind), c, full-most (most (x .kind)) (how-many (x .kind) p))
-      (sym (fault-one (full (most (x .kind)) (how-many (x .kind) p)) (x .word) 17))
+numbers-append : (a b : List Object) → numbers (a ++ b) ≡ numbers a ++ numbers b
+unfolding numbers
+numbers-append [] b = refl
+numbers-append (x ∷ a) b = ap (λ (l : List ℕ). kind-number (x .kind) ∷ l) (numbers-append a b)
 
-  seek-name : (z : Kind) (at len : ℕ) (t : Word) → t .bytes ≡ partOf s at len → (i : ℕ) (xs rest : List Object) → Goods s (object-words (xs ++ rest)) → (n p : ℕ)
-      → order.faultIf (isFound (table.first (is-object s (kind-number z) at len) At Nothing i xs)) n p ≡ order.faultIf (is-there (find-object z xs t)) n p
-  unfolding table.first is-object find-object is-there order.faultIf object-words same-kind alike
-  seek-name z at len t q i [] rest g n p = refl
-  seek-name z at len t q i (x ∷ xs) rest g n p =
-      ap₂ (λ (a b : Bool). order.faultIf (isFound (pick (both a b) (At i) (table.first (is-object s (kind-number z) at len) At Nothing (suc i) xs))) n p)
-      (eqb-sym (kind-number (x .kind)) (kind-number z)) (ap₂ same (sym (g .1 .0 .read .bytes)) (sym q))
-      ∙ by (both (eqb (kind-number z) (kind-number (x .kind))) (same (x .name .bytes) (t .bytes)))
-      (seek-name z at len t q (suc i) xs rest (good-back s (statement-words (x .statements)) (object-words (xs ++ rest)) (g .1 .1)) n p)
-    where
-      by : (b : Bool) → order.faultIf (isFound (table.first (is-object s (kind-number z) at len) At Nothing (suc i) xs)) n p ≡ order.faultIf (is-there (find-object z xs t)) n p
-          → order.faultIf (isFound (pick b (At i) (table.first (is-object s (kind-number z) at len) At Nothing (suc i) xs))) n p ≡ order.faultIf (is-there (pick b (some x) (find-object z xs t))) n p
-      by true r = refl
-      by false r = r
+numbers-one : (z : Object) (k : ℕ) (rest : List Object) → numbers (merged z k rest ∷ []) ≡ kind-number (z .kind) ∷ []
+unfolding numbers merged
+numbers-one z k rest = refl
 
-  object-goods : Goods s (object-words (f .objects))
-  object-goods = object-good s f (whole k .good)
+counted-one : (cs : List ℕ) (k : ℕ) → countOn cs (k ∷ []) ≡ oneMore cs k
+unfolding countOn
+counted-one cs k = refl
 
-  good-name : (p : List Object) (x : Object) (rest : List Object) → Goods s (object-words (p ++ (x ∷ rest))) → Good s (x .name)
-  unfolding object-words
-  good-name [] x rest g = g .1 .0
-  good-name (y ∷ p) x rest g = good-name p x rest (good-back s (statement-words (y .statements)) (object-words (p ++ (x ∷ rest))) (g .1 .1))
+merge-old : (before : List Object) (z : Object) (rest : List Object) (k : ℕ) → used z before ≡ true → merge-from before (z ∷ rest) k ≡ merge-from (before ++ (z ∷ [])) rest k
+unfolding merge-from choose
+merge-old before z rest k u = ap (λ (b : Bool). choose b (λ _. merge-from (before ++ (z ∷ [])) rest k) (λ _. merged z k rest ∷ merge-from (before ++ (z ∷ [])) rest (suc k))) u
 
-  again-is : (p : List Object) (x : Object) (rest : List Object) (j : ℕ) → f .objects ≡ p ++ (x ∷ rest) → length p ≡ j → j < 257
-      → name-again s o j ≡ fault-of (first (fault-if (is-there (find-object (x .kind) p (x .name))) (x .name) 12))
-  unfolding name-again
-  again-is p x rest j w l h =
-      let q : Nth (f .objects) j x = record { front = p; rest = rest; whole = w; place = l } in
-      let g : Goods s (object-words (p ++ (x ∷ rest))) = subst (λ (os : List Object). Goods s (object-words os)) w object-goods in
-      let z : findNamed s o 9 j 0 (kind-number (x .kind)) 3 (x .name .place) (x .name .length) 0
-      ≡ table.first (is-object s (kind-number (x .kind)) (x .name .place) (x .name .length)) At Nothing 0 p =
-      find-in-objects f s o p (x ∷ rest) j (kind-number (x .kind)) (x .name .place) (x .name .length) e w (sym l) (omega arith) in
-      rw (kind-cell j x q h, name-cell j x q h, size-cell j x q h, z)
-      (seek-name (x .kind) (x .name .place) (x .name .length) (x .name) (good-name p x rest g .read .bytes) 0 p (x ∷ rest) g 12 (x .name .place)
-      ∙ sym (fault-one (is-there (find-object (x .kind) p (x .name))) (x .name) 12))
+merge-new : (before : List Object) (z : Object) (rest : List Object) (k : ℕ) → used z before ≡ false
+    → merge-from before (z ∷ rest) k ≡ merged z k rest ∷ merge-from (before ++ (z ∷ [])) rest (k + 1)
+unfolding merge-from choose
+merge-new before z rest k u =
+    let e : suc k ≡ k + 1 = omega arith in
+    ap (λ (b : Bool). choose b (λ _. merge-from (before ++ (z ∷ [])) rest k) (λ _. merged z k rest ∷ merge-from (before ++ (z ∷ [])) rest (suc k))) u
+    ∙ ap (λ (i : ℕ). merged z k rest ∷ merge-from (before ++ (z ∷ [])) rest i) e
 
-  real-row : (p : List Object) (x : Object) → Real (object-row-faults p x)
-  unfolding object-row-faults
-  real-row p x =
-      real-append (fault-if (full (most (x .kind)) (how-many (x .kind) p)) (x .word) 17) (fault-if (is-there (find-object (x .kind) p (x .name))) (x .name) 12)
-      (real-if (full (most (x .kind)) (how-many (x .kind) p)) (x .word) 17 (omega arith))
-      (real-if (is-there (find-object (x .kind) p (x .name))) (x .name) 12 (omega arith))
+own-code : (os : List Object) (k : ℕ) (x : Object) (a b : Code) → a ≡ fault-of (first (fault-if (eqb k 256) (x .word) 11))
+    → b ≡ fault-of (first (fault-if (full (most (x .kind)) (how-many (x .kind) os)) (x .word) 17)) → order.sooner a b ≡ fault-of (first (own-faults os k x))
+unfolding own-faults
+own-code os k x a b e g =
+    ap₂ order.sooner e g
+    ∙ sym (fault-append (fault-if (eqb k 256) (x .word) 11) (fault-if (full (most (x .kind)) (how-many (x .kind) os)) (x .word) 17)
+    (real-if (eqb k 256) (x .word) 11 (omega arith)) (real-if (full (most (x .kind)) (how-many (x .kind) os)) (x .word) 17 (omega arith)))
 
-  row-code : (p : List Object) (x : Object) (rest : List Object) (j : ℕ) → f .objects ≡ p ++ (x ∷ rest) → length p ≡ j → j < 257
-      → order.sooner (too-many o j) (name-again s o j) ≡ fault-of (first (object-row-faults p x))
-  unfolding object-row-faults
-  row-code p x rest j w l h =
-      ap₂ order.sooner (many-is p x rest j w l h) (again-is p x rest j w l h)
-      ∙ sym (fault-append (fault-if (full (most (x .kind)) (how-many (x .kind) p)) (x .word) 17) (fault-if (is-there (find-object (x .kind) p (x .name))) (x .name) 12)
-      (real-if (full (most (x .kind)) (how-many (x .kind) p)) (x .word) 17 (omega arith))
-      (real-if (is-there (find-object (x .kind) p (x .name))) (x .name) 12 (omega arith)))
+-- The cells of a part's row.
+module _ (f : File) (p : List ℕ) (e : p ≡ kept-parts f) (j : ℕ) (z : Object) (q : Nth (f .parts) j z) (h : j < 513) where
+  kind-cell : getD p (j * 10 + 0) 0 ≡ kind-number (z .kind)
+  unfolding kept-parts object-cells
+  kind-cell = row-cell 513 (f .parts) p j 0 z e q h (omega arith)
 
-  rows-code : (L : List Fault) → Real L → (p xs rest : List Object) (j : ℕ) → f .objects ≡ p ++ (xs ++ rest) → length p ≡ j → j + length xs ≤ 257
-      → order.soonest (fault-of (first L)) (object-codes s o (length xs) j) ≡ fault-of (first (L ++ each object-row-faults p xs))
-  unfolding object-codes order.soonest each
-  rows-code L r p [] rest j w l h = ap (λ (y : List Fault). fault-of (first y)) (sym (append-nil L))
-  rows-code L r p (x ∷ xs) rest j w l h =
-      let g = length-append p (x ∷ []) in
-      ap (λ (a : Code). order.soonest a (object-codes s o (length xs) (suc j)))
-      (ap (order.sooner (fault-of (first L))) (row-code p x (xs ++ rest) j w l (omega arith)) ∙ sym (fault-append L (object-row-faults p x) r (real-row p x)))
-      ∙ rows-code (L ++ object-row-faults p x) (real-append L (object-row-faults p x) r (real-row p x)) (p ++ (x ∷ [])) xs rest (suc j)
-      (w ∙ sym (append-assoc p (x ∷ []) (xs ++ rest))) (omega arith) (omega arith)
-      ∙ ap (λ (y : List Fault). fault-of (first y)) (append-assoc L (object-row-faults p x) (each object-row-faults (p ++ (x ∷ [])) xs))
+  word-cell : getD p (j * 10 + 1) 0 ≡ z .word .place
+  unfolding kept-parts object-cells
+  word-cell = row-cell 513 (f .parts) p j 1 z e q h (omega arith)
 
-  pub objects-code : (n : ℕ) (F R : List Object) → f .objects ≡ F ++ R → length F ≡ n → n ≤ 257
-      → order.soonest order.none (object-codes s o n 0) ≡ fault-of (first (each object-row-faults [] F))
-  unfolding fault-of first
-  objects-code n F R w l h = ap (λ (m : ℕ). order.soonest order.none (object-codes s o m 0)) (sym l) ∙ rows-code [] real-none [] F R 0 w refl (omega arith)
+-- The part behind those that were met.
+record Next (f : File) (before left : List Object) : Type 0 where
+  part : Object
+  rest : List Object
+  is : left ≡ part ∷ rest
+  parts : f .parts ≡ before ++ (part ∷ rest)
+
+next : (f : File) (before left : List Object) → f .parts ≡ before ++ left → length before < length (f .parts) → Next f before left
+next f before [] w h = let a : length (f .parts) ≡ length (before ++ []) = ap (λ (l : List Object). length l) w in let b = length-append before [] in absurd (omega arith)
+next f before (z ∷ rest) w h = record { part = z; rest = rest; is = refl; parts = w }
+
+module _ {s p x : List ℕ} {n : ℕ} {f : File} (N : Noted s p x n f) {j : ℕ} (h : j < n) {best : Code} {k : ℕ} {cs : List ℕ} (M : Met f j best k cs) where
+  after : Next f (M .before) (M .left)
+  after = let a = M .place in let b = N .inside in next f (M .before) (M .left) (M .whole) (omega arith)
+
+  cell-of : getD x j 0 ≡ row-or j (table.first (same-object (after .part)) At Nothing 0 (M .before))
+  cell-of =
+      let a = N .few in
+      N .firsts j h ∙ row-is s p f j (M .before) (after .part) (after .rest) (N .situation) (N .in-parts) (after .parts) (M .place) (omega arith)
+
+  length-more : length (M .before ++ (after .part ∷ [])) ≡ j + 1
+  length-more = let a = M .place in let b = length-append (M .before) (after .part ∷ []) in omega arith
+
+  -- A further part changes nothing,
+  pub met-old : (getD x j 0 ≡ j → ⊥) → Met f (j + 1) best k cs
+  met-old g =
+      let z = after .part in
+      let rest = after .rest in
+      let u = old-by j (getD x j 0) (M .before) z cell-of g in
+      let l = M .low in
+      record {
+        before = M .before ++ (z ∷ []);
+        left = rest;
+        so-far = M .so-far;
+        whole = after .parts ∙ sym (append-assoc (M .before) (z ∷ []) rest);
+        place = length-more;
+        merged-so = ap (λ (os : List Object). M .so-far ++ os) (sym (merge-old (M .before) z rest k u) ∙ ap (λ (v : List Object). merge-from (M .before) v k) (sym (after .is))) ∙ M .merged-so;
+        number = M .number;
+        low = omega arith;
+        counted = M .counted;
+        found = M .found;
+      }
+
+  -- and the first part of an object is one more.
+  pub met-new : {number place : ℕ} {a b c r : Code} {more : List ℕ} → getD x j 0 ≡ j → number ≡ getD p (j * 10 + 0) 0 → place ≡ getD p (j * 10 + 1) 0
+      → a ≡ order.faultIf (eqb k 256) 11 place → b ≡ order.faultIf (full-of (most-of (most (kind-at number))) (getD cs number 0)) 17 place → c ≡ order.sooner a b
+      → r ≡ order.sooner best c → more ≡ oneMore cs number → Met f (j + 1) r (k + 1) more
+  met-new {number} {place} {a} {b} {c} {r} {more} g e₁ e₂ e₃ e₄ e₅ e₆ e₇ =
+      let z = after .part in
+      let rest = after .rest in
+      let u = new-by j (getD x j 0) (M .before) z cell-of (M .place) g in
+      let q : Nth (f .parts) j z = record { front = M .before; rest = rest; whole = after .parts; place = M .place } in
+      let fw = N .few in
+      let l = M .low in
+      let nb = M .number in
+      let kd : number ≡ kind-number (z .kind) = e₁ ∙ kind-cell f p (N .in-parts) j z q (omega arith) in
+      let wd : place ≡ z .word .place = e₂ ∙ word-cell f p (N .in-parts) j z q (omega arith) in
+      let os = M .so-far in
+      let y = merged z k rest in
+      let ct : cs ≡ counts os = M .counted ∙ tallied os (omega arith) in
+      let hm : getD cs number 0 ≡ how-many (z .kind) os =
+      ap₂ (λ (c : List ℕ) (i : ℕ). getD c i 0) ct kd ∙ sym (cell os (kind-number (z .kind)) (let i = kind-low (z .kind) in omega arith)) ∙ alike (z .kind) os in
+      let b′ : b ≡ fault-of (first (fault-if (full (most (z .kind)) (how-many (z .kind) os)) (z .word) 17)) =
+      e₄ ∙ ap₂ (λ (i m : ℕ). order.faultIf (full-of (most-of (most (kind-at i))) m) 17 place) kd hm
+      ∙ ap (λ (d : Kind). order.faultIf (full-of (most-of (most d)) (how-many (z .kind) os)) 17 place) (kind-at-number (z .kind))
+      ∙ ap₂ (λ (t : Bool) (i : ℕ). order.faultIf t 17 i) (full-most (most (z .kind)) (how-many (z .kind) os)) wd
+      ∙ sym (fault-one (full (most (z .kind)) (how-many (z .kind) os)) (z .word) 17) in
+      let a′ : a ≡ fault-of (first (fault-if (eqb k 256) (z .word) 11)) = e₃ ∙ ap (order.faultIf (eqb k 256) 11) wd ∙ sym (fault-one (eqb k 256) (z .word) 11) in
+      let c′ : c ≡ fault-of (first (own-faults os k z)) = e₅ ∙ own-code os k z a b a′ b′ in
+      let ln = length-append os (y ∷ []) in
+      record {
+        before = M .before ++ (z ∷ []);
+        left = rest;
+        so-far = os ++ (y ∷ []);
+        whole = after .parts ∙ sym (append-assoc (M .before) (z ∷ []) rest);
+        place = length-more;
+        merged-so = append-assoc os (y ∷ []) (merge-from (M .before ++ (z ∷ [])) rest (k + 1))
+            ∙ ap (λ (v : List Object). os ++ v) (sym (merge-new (M .before) z rest k u) ∙ ap (λ (v : List Object). merge-from (M .before) v k) (sym (after .is))) ∙ M .merged-so;
+        number = omega arith;
+        low = omega arith;
+        counted = e₇ ∙ ap₂ oneMore (M .counted) kd ∙ sym (counted-one (countOn (replicate 13 0) (numbers os)) (kind-number (z .kind)))
+            ∙ sym (count-on-append (replicate 13 0) (numbers os) (kind-number (z .kind) ∷ []))
+            ∙ ap (countOn (replicate 13 0)) (ap (λ (v : List ℕ). numbers os ++ v) (sym (numbers-one z k rest)) ∙ sym (numbers-append os (y ∷ [])));
+        found = e₆ ∙ ap₂ order.sooner (M .found) c′
+            ∙ sym (fault-append (each-object [] os) (own-faults os k z) (each-real [] os) (own-real os k z))
+            ∙ ap (λ (v : List Fault). fault-of (first v)) (ap (λ (v : List Fault). each-object [] os ++ v) (sym (each-one os z k rest)) ∙ sym (each-behind [] os (y ∷ [])));
+      }
+
+pub met-start : (f : File) → Met f 0 (record { number = 0; place = 0 }) 0 (replicate 13 0)
+unfolding merge numbers countOn each-object first fault-of
+met-start f = record {
+  before = [];
+  left = f .parts;
+  so-far = [];
+  whole = refl;
+  place = refl;
+  merged-so = refl;
+  number = refl;
+  low = omega arith;
+  counted = refl;
+  found = refl;
+}
+
+pub met-end : {f : File} {j n : ℕ} {best : Code} {k : ℕ} {cs : List ℕ} → j ≤ n → n ≤ j → Met f j best k cs → Met f n best k cs
+met-end {f} {j} {n} {best} {k} {cs} h g M = let e : j ≡ n = omega arith in subst (λ (i : ℕ). Met f i best k cs) e M
 
 -- Statements ---------------------------------------------------------------------------------------------------------------------------------
 
@@ -253,28 +331,18 @@ statements-numbered (state x inside rest) =
     ∙ ap (λ (l : List Fault). fault-if (eqb (x .number) 2048) (x .name) 11 ++ l)
     (sym (numbered-append (λ (x : Statement). x .number) (λ (x : Statement). x .name) 2048 11 (flat-of inside) (flat-of rest)))
 
-unfoldable inside-faults : List Object → Object → List Fault
-inside-faults before x = statement-faults (x .statements)
-
-all-inside : (p os : List Object) → each inside-faults p os ≡ numbered-statements (flat os)
-unfolding each inside-faults flat numbered-statements numbered
-all-inside p [] = refl
-all-inside p (x ∷ xs) =
-    ap₂ _++_ (statements-numbered (x .statements)) (all-inside (p ++ (x ∷ [])) xs)
-    ∙ sym (numbered-append (λ (x : Statement). x .number) (λ (x : Statement). x .name) 2048 11 (flat-of (x .statements)) (flat xs))
-
 numbers-flat-of : (ss : Statements) → numbers-of (λ (x : Statement). x .number) (λ (x : Statement). x .name) 2048 11 (flat-of ss) ≡ statement-numbers ss
 unfolding flat-of numbers-of statement-numbers
 numbers-flat-of done = refl
 numbers-flat-of (state x inside rest) =
     ap (λ (l : List ℕ). x .number ∷ l)
-    (numbers-append (λ (x : Statement). x .number) (λ (x : Statement). x .name) 2048 11 (flat-of inside) (flat-of rest) ∙ ap₂ _++_ (numbers-flat-of inside) (numbers-flat-of rest))
+    (codes-append (λ (x : Statement). x .number) (λ (x : Statement). x .name) 2048 11 (flat-of inside) (flat-of rest) ∙ ap₂ _++_ (numbers-flat-of inside) (numbers-flat-of rest))
 
 numbers-flat : (os : List Object) → numbers-of (λ (x : Statement). x .number) (λ (x : Statement). x .name) 2048 11 (flat os) ≡ all-statement-numbers os
 unfolding flat numbers-of all-statement-numbers
 numbers-flat [] = refl
 numbers-flat (x ∷ xs) =
-    numbers-append (λ (x : Statement). x .number) (λ (x : Statement). x .name) 2048 11 (flat-of (x .statements)) (flat xs) ∙ ap₂ _++_ (numbers-flat-of (x .statements)) (numbers-flat xs)
+    codes-append (λ (x : Statement). x .number) (λ (x : Statement). x .name) 2048 11 (flat-of (x .statements)) (flat xs) ∙ ap₂ _++_ (numbers-flat-of (x .statements)) (numbers-flat xs)
 
 length-flat-of : (ss : Statements) → length (flat-of ss) ≡ statements-in ss
 unfolding flat-of statements-in
@@ -334,15 +402,15 @@ rowed-nth (more-rows {xs} {rs = rs′} y m p) (z ∷ a) x b e =
     let n = r .nth in
     record { after = r .after; nth = record { front = statement-cells y m ∷ n .front; rest = n .rest; whole = ap (λ (l : List (List ℕ)). statement-cells y m ∷ l) (n .whole); place = ap suc (n .place) } }
 
-statement-cell : (f : File) (st : List ℕ) (x : Statement) → st ≡ kept-statements f → Nth (flat (f .objects)) 2048 x → cellOf st 7 2048 0 ≡ x .name .place
-unfolding kept-statements statement-cells
+statement-cell : (f : File) (st : List ℕ) (x : Statement) → st ≡ kept-part-statements f → Nth (flat (f .parts)) 2048 x → cellOf st 7 2048 0 ≡ x .name .place
+unfolding kept-part-statements statement-cells
 statement-cell f st x e q =
-    let w = rowed (f .objects) 0 in
+    let w = rowed (f .parts) 0 in
     let r = rowed-nth w (q .front) x (q .rest) (q .whole) in
-    let n : Nth (all-statement-rows (f .objects) 0) 2048 (statement-cells x (r .after)) =
-    subst (λ (j : ℕ). Nth (all-statement-rows (f .objects) 0) j (statement-cells x (r .after))) (q .place) (r .nth) in
+    let n : Nth (all-statement-rows (f .parts) 0) 2048 (statement-cells x (r .after)) =
+    subst (λ (j : ℕ). Nth (all-statement-rows (f .parts) 0) j (statement-cells x (r .after))) (q .place) (r .nth) in
     ap (λ (t : List ℕ). getD t (2048 * 7 + 0) 0) e
-    ∙ kept-cell (2049 * 7) 7 2048 0 (all-statement-rows (f .objects) 0) (statement-cells x (r .after)) (rowed-wide w) n (omega arith) (omega arith)
+    ∙ kept-cell (2049 * 7) 7 2048 0 (all-statement-rows (f .parts) 0) (statement-cells x (r .after)) (rowed-wide w) n (omega arith) (omega arith)
 
 -- Order --------------------------------------------------------------------------------------------------------------------------------------
 
@@ -363,231 +431,333 @@ words-from p (z ∷ c) x b o =
     let r₁ = r .1 in
     (omega arith, omega arith)
 
+-- The faults of the parts are 11 at part 513 and 11 at statement 2,049.
+numbers-parts : (os : List Object) → numbers-of (λ (x : Object). x .row) (λ (x : Object). x .word) 512 11 os ≡ object-numbers os
+unfolding numbers-of object-numbers
+numbers-parts [] = refl
+numbers-parts (x ∷ xs) = ap (λ (l : List ℕ). x .row ∷ l) (numbers-parts xs)
+
+unfoldable limits : List Object → List Fault
+limits os = numbered (λ (x : Object). x .row) (λ (x : Object). x .word) 512 11 os
+
+parts-split : {g : Fault} (os : List Object) → Has g (each-part os) → Has g (limits os ++ numbered-statements (flat os))
+unfolding each-part limits numbered flat numbered-statements
+parts-split [] m = m
+parts-split {g} (x ∷ xs) m =
+    let A = fault-if (eqb (x .row) 512) (x .word) 11 in
+    let B = statement-faults (x .statements) in
+    let L = limits xs in
+    let S = numbered-statements (flat xs) in
+    let S₀ = numbered-statements (flat-of (x .statements)) in
+    let whole : numbered-statements (flat-of (x .statements) ++ flat xs) ≡ S₀ ++ S = numbered-append (λ (x : Statement). x .number) (λ (x : Statement). x .name) 2048 11 (flat-of (x .statements)) (flat xs) in
+    ⊎-elim
+    (λ i. ⊎-elim (λ a. has-left (A ++ L) (numbered-statements (flat-of (x .statements) ++ flat xs)) (has-left A L a))
+    (λ b. has-right (A ++ L) (numbered-statements (flat-of (x .statements) ++ flat xs)) (subst (Has g) (sym whole) (has-left S₀ S (subst (Has g) (statements-numbered (x .statements)) b))))
+    (has-split A B i))
+    (λ i. ⊎-elim (λ a. has-left (A ++ L) (numbered-statements (flat-of (x .statements) ++ flat xs)) (has-right A L a))
+    (λ b. has-right (A ++ L) (numbered-statements (flat-of (x .statements) ++ flat xs)) (subst (Has g) (sym whole) (has-right S₀ S b)))
+    (has-split L S (parts-split xs i)))
+    (has-split (A ++ B) (each-part xs) m)
+
+parts-join : {g : Fault} (os : List Object) → Has g (limits os ++ numbered-statements (flat os)) → Has g (each-part os)
+unfolding each-part limits numbered flat numbered-statements
+parts-join [] m = m
+parts-join {g} (x ∷ xs) m =
+    let A = fault-if (eqb (x .row) 512) (x .word) 11 in
+    let B = statement-faults (x .statements) in
+    let L = limits xs in
+    let S = numbered-statements (flat xs) in
+    let S₀ = numbered-statements (flat-of (x .statements)) in
+    let whole : numbered-statements (flat-of (x .statements) ++ flat xs) ≡ S₀ ++ S = numbered-append (λ (x : Statement). x .number) (λ (x : Statement). x .name) 2048 11 (flat-of (x .statements)) (flat xs) in
+    ⊎-elim
+    (λ i. ⊎-elim (λ a. has-left (A ++ B) (each-part xs) (has-left A B a)) (λ b. has-right (A ++ B) (each-part xs) (parts-join xs (has-left L S b))) (has-split A L i))
+    (λ i. ⊎-elim (λ a. has-left (A ++ B) (each-part xs) (has-right A B (subst (Has g) (sym (statements-numbered (x .statements))) a)))
+    (λ b. has-right (A ++ B) (each-part xs) (parts-join xs (has-right L S b)))
+    (has-split S₀ S (subst (Has g) whole i)))
+    (has-split (A ++ L) (numbered-statements (flat-of (x .statements) ++ flat xs)) m)
+
+-- Faults of objects that later parts begin ---------------------------------------------------------------------------------------------------------
+
+-- The kind words of parts stand at lo or behind it.
+abbrev From : ℕ → List Object → Type 0
+From lo [] = Unit {0}
+From lo (x ∷ xs) = (lo ≤ x .word .place) × From lo xs
+
+from-order : (p lo : ℕ) (xs : List Object) → lo ≤ p → InOrder p (object-words xs) → From lo xs
+unfolding object-words
+from-order p lo [] h o = tt
+from-order p lo (x ∷ xs) h o =
+    let a = o .0 in
+    let b = o .1 .0 in
+    (omega arith, from-order (suc (x .name .place)) lo xs (omega arith) (ordered-sub (sub-behind (statement-words (x .statements)) (sub-all (object-words xs))) (suc (x .name .place)) (o .1 .1)))
+
+own-from : {g : Fault} (lo : ℕ) (os : List Object) (k : ℕ) (x : Object) → lo ≤ x .word .place → Has g (own-faults os k x) → lo ≤ g .place
+unfolding own-faults
+own-from {g} lo os k x h m =
+    let b = full (most (x .kind)) (how-many (x .kind) os) in
+    ⊎-elim (λ n. let e : x .word .place ≡ g .place = ap (λ (y : Fault). y .place) (in-if (eqb k 256) (x .word) 11 n .1) in omega (arith, e))
+    (λ n. let e : x .word .place ≡ g .place = ap (λ (y : Fault). y .place) (in-if b (x .word) 17 n .1) in omega (arith, e))
+    (has-split (fault-if (eqb k 256) (x .word) 11) (fault-if b (x .word) 17) m)
+
+merge-from-lo : {g : Fault} (lo : ℕ) (os before xs : List Object) (k : ℕ) → From lo xs → Has g (each-object os (merge-from before xs k)) → lo ≤ g .place
+unfolding merge-from each-object choose
+merge-from-lo lo os before [] k h m = absurd (has-none m)
+merge-from-lo {g} lo os before (x ∷ xs) k h m =
+    go (used x before) (λ n. merge-from-lo lo os (before ++ (x ∷ [])) xs k (h .1) n) (λ n. merge-from-lo lo (os ++ (merged x k xs ∷ [])) (before ++ (x ∷ [])) xs (suc k) (h .1) n) m
+  where
+    go : (b : Bool) → (Has g (each-object os (merge-from (before ++ (x ∷ [])) xs k)) → lo ≤ g .place)
+        → (Has g (each-object (os ++ (merged x k xs ∷ [])) (merge-from (before ++ (x ∷ [])) xs (suc k))) → lo ≤ g .place)
+        → Has g (each-object os (choose b (λ _. merge-from (before ++ (x ∷ [])) xs k) (λ _. merged x k xs ∷ merge-from (before ++ (x ∷ [])) xs (suc k)))) → lo ≤ g .place
+    go true p q n = p n
+    go false p q n =
+        let r = merge-from (before ++ (x ∷ [])) xs (suc k) in
+        ⊎-elim (λ i. own-from lo os k x (h .0) (subst (Has g) (each-one os x k xs) i)) (λ i. q i)
+        (has-split (each-object os (merged x k xs ∷ [])) (each-object (os ++ (merged x k xs ∷ [])) r) (subst (Has g) (each-behind os (merged x k xs ∷ []) r) n))
+
+-- Kinds that have no object have no part -----------------------------------------------------------------------------------------------------------
+
+bit-kind : (k : Kind) (x : Object) → bit (same-kind k (x .kind)) ≡ 0 → same-kind k (x .kind) ≡ false
+unfolding bit
+bit-kind k x e = go (same-kind k (x .kind)) e
+  where
+    go : (b : Bool) → bit b ≡ 0 → b ≡ false
+    go true e = absurd (omega arith)
+    go false e = refl
+
+fewer : (k : Kind) (before xs : List Object) (n : ℕ) → how-many k (merge-from before xs n) ≤ how-many k xs
+unfolding merge-from how-many choose merged
+fewer k before [] n = omega arith
+fewer k before (x ∷ xs) n = go (used x before) (fewer k (before ++ (x ∷ [])) xs n) (fewer k (before ++ (x ∷ [])) xs (suc n))
+  where
+    go : (b : Bool) → how-many k (merge-from (before ++ (x ∷ [])) xs n) ≤ how-many k xs → how-many k (merge-from (before ++ (x ∷ [])) xs (suc n)) ≤ how-many k xs
+        → how-many k (choose b (λ _. merge-from (before ++ (x ∷ [])) xs n) (λ _. merged x n xs ∷ merge-from (before ++ (x ∷ [])) xs (suc n))) ≤ bit (same-kind k (x .kind)) + how-many k xs
+    go true p q = omega arith
+    go false p q = omega arith
+
+-- What was used before was of its kind.
+used-kind : (k : Kind) (x : Object) (l : List Object) → same-kind k (x .kind) ≡ true → how-many k l ≡ 0 → used x l ≡ false
+unfolding how-many same-kind
+used-kind k x [] t e = used-none x
+used-kind k x (y ∷ l) t e =
+    let a : bit (same-kind k (y .kind)) ≡ 0 = omega arith in
+    used-more x y l ∙ go (same-object x y) (λ h. false≢true (sym (bit-kind k y a) ∙ kind-through h)) (used-kind k x l t (omega arith))
+  where
+    kind-through : same-object x y ≡ true → same-kind k (y .kind) ≡ true
+    kind-through h =
+        let q = same-alike x y h .kinds in
+        ap (eqb (kind-number k)) (sym q) ∙ t
+
+    go : (b : Bool) → (b ≡ true → ⊥) → used x l ≡ false → either b (used x l) ≡ false
+    go true f r = absurd (f refl)
+    go false f r = r
+
+many-behind : (k : Kind) (l : List Object) (x : Object) → how-many k (l ++ (x ∷ [])) ≡ how-many k l + bit (same-kind k (x .kind))
+unfolding how-many
+many-behind k [] x = omega arith
+many-behind k (y ∷ l) x = let e = many-behind k l x in omega arith
+
+none-left : (k : Kind) (before xs : List Object) (n : ℕ) → how-many k before ≡ 0 → how-many k (merge-from before xs n) ≡ 0 → how-many k xs ≡ 0
+unfolding merge-from how-many choose merged bit
+none-left k before [] n h e = refl
+none-left k before (x ∷ xs) n h e =
+    go (same-kind k (x .kind)) (used x before) (λ t. used-kind k x before t h)
+    (λ z g. none-left k (before ++ (x ∷ [])) xs n (let a = many-behind k before x in omega arith) g)
+    (λ z g. none-left k (before ++ (x ∷ [])) xs (suc n) (let a = many-behind k before x in omega arith) g) refl e
+  where
+    go : (t u : Bool) → (t ≡ true → u ≡ false) → (bit (same-kind k (x .kind)) ≡ 0 → how-many k (merge-from (before ++ (x ∷ [])) xs n) ≡ 0 → how-many k xs ≡ 0)
+        → (bit (same-kind k (x .kind)) ≡ 0 → how-many k (merge-from (before ++ (x ∷ [])) xs (suc n)) ≡ 0 → how-many k xs ≡ 0) → same-kind k (x .kind) ≡ t
+        → how-many k (choose u (λ _. merge-from (before ++ (x ∷ [])) xs n) (λ _. merged x n xs ∷ merge-from (before ++ (x ∷ [])) xs (suc n))) ≡ 0
+        → bit (same-kind k (x .kind)) + how-many k xs ≡ 0
+    go true true f p q i g = absurd (false≢true (sym (f refl)))
+    go true false f p q i g = let z : bit (same-kind k (x .kind)) ≡ 1 = ap bit i in absurd (omega arith)
+    go false true f p q i g = let z : bit (same-kind k (x .kind)) ≡ 0 = ap bit i in let y = p z g in omega arith
+    go false false f p q i g = let z : bit (same-kind k (x .kind)) ≡ 0 = ap bit i in let y = q z (omega arith) in omega arith
+
+merged-none : (k : Kind) (ps : List Object) → how-many k (merge ps) ≡ 0 → how-many k ps ≡ 0
+unfolding merge how-many
+merged-none k ps e = none-left k [] ps 0 refl e
+
+merged-fewer : (k : Kind) (ps : List Object) → how-many k (merge ps) ≤ how-many k ps
+unfolding merge
+merged-fewer k ps = fewer k [] ps 0
+
+merge-none : (before l : List Object) (k : ℕ) → l ≡ [] → merge-from before l k ≡ []
+unfolding merge-from
+merge-none before l k e = ap (λ (v : List Object). merge-from before v k) e
+
+ltb-none : (a b : ℕ) → ltb a 0 ≡ ltb b 0
+ltb-none a b = le-ltb a 0 (omega arith) ∙ sym (le-ltb b 0 (omega arith))
+
+ltb-one : (a b : ℕ) → (a ≡ 0 → b ≡ 0) → (b ≡ 0 → a ≡ 0) → ltb a 1 ≡ ltb b 1
+ltb-one a b f g = by (ℕ-discrete a 0)
+  where
+    by : Dec (a ≡ 0) → ltb a 1 ≡ ltb b 1
+    by (yes e) = let h = f e in lt-ltb a 1 (omega arith) ∙ sym (lt-ltb b 1 (omega arith))
+    by (no e) = by-other (ℕ-discrete b 0)
+      where
+        by-other : Dec (b ≡ 0) → ltb a 1 ≡ ltb b 1
+        by-other (yes h) = absurd (e (g h))
+        by-other (no h) = le-ltb a 1 (omega (arith, e)) ∙ sym (le-ltb b 1 (omega (arith, h)))
+
+few-same : (a b : ℕ) → (a ≡ 0 → b ≡ 0) → (b ≡ 0 → a ≡ 0) → (k : Kind) → ltb a (fewest k) ≡ ltb b (fewest k)
+unfolding fewest
+few-same a b f g OS = ltb-one a b f g
+few-same a b f g APPMODE = ltb-one a b f g
+few-same a b f g TASK = ltb-none a b
+few-same a b f g ISR = ltb-none a b
+few-same a b f g COUNTER = ltb-none a b
+few-same a b f g ALARM = ltb-none a b
+few-same a b f g RESOURCE = ltb-none a b
+few-same a b f g EVENT = ltb-none a b
+few-same a b f g COM = ltb-none a b
+few-same a b f g MESSAGE = ltb-none a b
+few-same a b f g NETWORKMESSAGE = ltb-none a b
+few-same a b f g IPDU = ltb-none a b
+few-same a b f g NM = ltb-none a b
+
+too-few-same : (ks : List Kind) (ps : List Object) (cpu : Word) → too-few ks (merge ps) cpu ≡ too-few ks ps cpu
+unfolding too-few
+too-few-same [] ps cpu = refl
+too-few-same (k ∷ ks) ps cpu =
+    ap₂ (λ (b : Bool) (l : List Fault). fault-if b cpu 17 ++ l)
+    (few-same (how-many k (merge ps)) (how-many k ps) (λ e. merged-none k ps e) (λ e. let h = merged-fewer k ps in omega arith) k) (too-few-same ks ps cpu)
+
 -- The stage ----------------------------------------------------------------------------------------------------------------------------------
 
-unfoldable all-row-faults : List Object → Object → List Fault
-all-row-faults before x =
-    fault-if (eqb (x .row) 256) (x .word) 11
-    ++ (fault-if (full (most (x .kind)) (how-many (x .kind) before)) (x .word) 17
-    ++ (fault-if (is-there (find-object (x .kind) before (x .name))) (x .name) 12
-    ++ statement-faults (x .statements)))
+from-back : (lo : ℕ) (a b : List Object) → From lo (a ++ b) → From lo b
+from-back lo [] b h = h
+from-back lo (x ∷ a) b h = from-back lo a b (h .1)
 
-each-is : (before xs : List Object) → each-object before xs ≡ each all-row-faults before xs
-unfolding each-object each all-row-faults
-each-is before [] = refl
-each-is before (x ∷ xs) = ap (λ (l : List Fault). all-row-faults before x ++ l) (each-is (before ++ (x ∷ [])) xs)
-
-unfoldable limit-faults : List Object → Object → List Fault
-limit-faults before x = fault-if (eqb (x .row) 256) (x .word) 11
-
-limit-is : (p os : List Object) → each limit-faults p os ≡ numbered (λ (x : Object). x .row) (λ (x : Object). x .word) 256 11 os
-unfolding each limit-faults numbered
-limit-is p [] = refl
-limit-is p (x ∷ xs) = ap (λ (l : List Fault). fault-if (eqb (x .row) 256) (x .word) 11 ++ l) (limit-is (p ++ (x ∷ [])) xs)
-
-numbers-objects : (os : List Object) → numbers-of (λ (x : Object). x .row) (λ (x : Object). x .word) 256 11 os ≡ object-numbers os
-unfolding numbers-of object-numbers
-numbers-objects [] = refl
-numbers-objects (x ∷ xs) = ap (λ (l : List ℕ). x .row ∷ l) (numbers-objects xs)
-
--- A fault of a row is 11 at its kind word, one of the row's own, or one of its statements'.
-module _ (before : List Object) (x : Object) where
-  limit-in : {g : Fault} → Has g (limit-faults before x) → Has g (all-row-faults before x)
-  unfolding limit-faults all-row-faults
-  limit-in m =
-      has-left (fault-if (eqb (x .row) 256) (x .word) 11)
-      (fault-if (full (most (x .kind)) (how-many (x .kind) before)) (x .word) 17
-      ++ (fault-if (is-there (find-object (x .kind) before (x .name))) (x .name) 12 ++ statement-faults (x .statements))) m
-
-  own-in : {g : Fault} → Has g (object-row-faults before x) → Has g (all-row-faults before x)
-  unfolding object-row-faults all-row-faults
-  own-in {g} m =
-      let a = fault-if (eqb (x .row) 256) (x .word) 11 in
-      let b = fault-if (full (most (x .kind)) (how-many (x .kind) before)) (x .word) 17 in
-      let c = fault-if (is-there (find-object (x .kind) before (x .name))) (x .name) 12 in
-      let d = statement-faults (x .statements) in
-      has-right a (b ++ (c ++ d)) (subst (Has g) (append-assoc b c d) (has-left (b ++ c) d m))
-
-  inside-in : {g : Fault} → Has g (inside-faults before x) → Has g (all-row-faults before x)
-  unfolding inside-faults all-row-faults
-  inside-in m =
-      let a = fault-if (eqb (x .row) 256) (x .word) 11 in
-      let b = fault-if (full (most (x .kind)) (how-many (x .kind) before)) (x .word) 17 in
-      let c = fault-if (is-there (find-object (x .kind) before (x .name))) (x .name) 12 in
-      let d = statement-faults (x .statements) in
-      has-right a (b ++ (c ++ d)) (has-right b (c ++ d) (has-right c d m))
-
-  data Sorts (g : Fault) : Type 0 where
-    a-limit : Has g (limit-faults before x) → Sorts g
-    an-own : Has g (object-row-faults before x) → Sorts g
-    inside : Has g (inside-faults before x) → Sorts g
-
-  sorts : {g : Fault} → Has g (all-row-faults before x) → Sorts g
-  unfolding limit-faults object-row-faults inside-faults all-row-faults
-  sorts {g} m =
-      let a = fault-if (eqb (x .row) 256) (x .word) 11 in
-      let b = fault-if (full (most (x .kind)) (how-many (x .kind) before)) (x .word) 17 in
-      let c = fault-if (is-there (find-object (x .kind) before (x .name))) (x .name) 12 in
-      let d = statement-faults (x .statements) in
-      ⊎-elim (λ n. a-limit n)
-      (λ n. ⊎-elim (λ i. an-own (has-left b c i)) (λ i. ⊎-elim (λ u. an-own (has-right b c u)) (λ u. inside u) (has-split c d i)) (has-split b (c ++ d) n))
-      (has-split a (b ++ (c ++ d)) m)
-
-  -- Its own stand at the two words.
-  own-place : {g : Fault} (p : ℕ) → p ≤ x .word .place → p ≤ x .name .place → Has g (object-row-faults before x) → p ≤ g .place
-  unfolding object-row-faults
-  own-place {g} p h i m =
-      let b = full (most (x .kind)) (how-many (x .kind) before) in
-      let c = is-there (find-object (x .kind) before (x .name)) in
-      ⊎-elim (λ n. let e : x .word .place ≡ g .place = ap (λ (y : Fault). y .place) (in-if b (x .word) 17 n .1) in omega (arith, e))
-      (λ n. let e : x .name .place ≡ g .place = ap (λ (y : Fault). y .place) (in-if c (x .name) 12 n .1) in omega (arith, e))
-      (has-split (fault-if b (x .word) 17) (fault-if c (x .name) 12) m)
-
-module _ (s : List ℕ) (f : File) (k : Situation s f) where
-  limits-is : each limit-faults [] (f .objects) ≡ nth-fault (λ (x : Object). x .word) 11 256 (f .objects)
+module _ (s : List ℕ) (f : File) (K : Situation s f) where
+  limits-is : limits (f .parts) ≡ nth-fault (λ (x : Object). x .word) 11 512 (f .parts)
+  unfolding limits
   limits-is =
-      limit-is [] (f .objects)
-      ∙ numbered-is (λ (x : Object). x .row) (λ (x : Object). x .word) 256 11 (f .objects)
-      (subst (Counts 0) (sym (numbers-objects (f .objects))) (whole k .numbers .1 .0))
+      numbered-is (λ (x : Object). x .row) (λ (x : Object). x .word) 512 11 (f .parts)
+      (subst (Counts 0) (sym (numbers-parts (f .parts))) (whole K .numbers .1 .1 .0))
 
-  inside-is : each inside-faults [] (f .objects) ≡ nth-fault (λ (x : Statement). x .name) 11 2048 (flat (f .objects))
+  inside-is : numbered-statements (flat (f .parts)) ≡ nth-fault (λ (x : Statement). x .name) 11 2048 (flat (f .parts))
   unfolding numbered-statements
   inside-is =
-      all-inside [] (f .objects)
-      ∙ numbered-is (λ (x : Statement). x .number) (λ (x : Statement). x .name) 2048 11 (flat (f .objects))
-      (subst (Counts 0) (sym (numbers-flat (f .objects))) (whole k .numbers .1 .1))
+      numbered-is (λ (x : Statement). x .number) (λ (x : Statement). x .name) 2048 11 (flat (f .parts))
+      (subst (Counts 0) (sym (numbers-flat (f .parts))) (whole K .numbers .1 .1 .1))
 
-  object-order : InOrder 1 (object-words (f .objects))
+  part-order : InOrder 1 (object-words (f .parts))
   unfolding later-words
-  object-order = ordered-sub (sub-behind (spec-words (f .specs)) (drop {t = f .cpu} (sub-all (object-words (f .objects))))) 1 (whole k .order)
+  part-order = ordered-sub (sub-behind (spec-words (f .specs)) (drop {t = f .cpu} (sub-all (object-words (f .parts))))) 1 (whole K .order)
 
-  module _ (F R : List Object) (w : f .objects ≡ F ++ R) (full-front : (0 < length R → length F ≡ 257)) where
+  module _ {l : ℕ} {best : Code} {k : ℕ} {cs : List ℕ} (M : Met f l best k cs) (full-front : (0 < length (M .left) → length (M .before) ≡ 513)) where
+    abbrev C : List Fault
+    C = nth-fault (λ (x : Object). x .word) 11 512 (f .parts)
+
+    abbrev D : List Fault
+    D = nth-fault (λ (x : Statement). x .name) 11 2048 (flat (f .parts))
+
     unfoldable found : List Fault
-    found =
-        too-few kinds (f .objects) (f .cpu)
-        ++ (each object-row-faults [] F
-        ++ (nth-fault (λ (x : Object). x .word) 11 256 (f .objects) ++ nth-fault (λ (x : Statement). x .name) 11 2048 (flat (f .objects))))
+    found = too-few kinds (f .objects) (f .cpu) ++ (each-object [] (M .so-far) ++ (C ++ D))
 
-    in-stage : {g : Fault} (a : List Object) (x : Object) (b : List Object) → f .objects ≡ a ++ (x ∷ b) → Has g (all-row-faults a x) → Covered g (object-faults f)
-    unfolding object-faults
-    in-stage {g} a x b e m =
-        covered (has-right (too-few kinds (f .objects) (f .cpu)) (each-object [] (f .objects))
-        (subst (Has g) (sym (each-is [] (f .objects)))
-        (subst (λ (l : List Object). Has g (each all-row-faults [] l)) (sym e) (at-row all-row-faults a x b m))))
+    objects-split : each-object [] (f .objects) ≡ each-object [] (M .so-far) ++ each-object (M .so-far) (merge-from (M .before) (M .left) k)
+    objects-split = ap (each-object []) (whole K .merged ∙ sym (M .merged-so)) ∙ each-behind [] (M .so-far) (merge-from (M .before) (M .left) k)
 
-    rows-in-stage : {g : Fault} → Has g (each object-row-faults [] F) → Covered g (object-faults f)
-    rows-in-stage m =
-        let r = found-at object-row-faults F m in
-        in-stage (r .front) (r .row) (r .rest ++ R) (w ∙ ap (λ (l : List Object). l ++ R) (r .whole) ∙ append-assoc (r .front) (r .row ∷ r .rest) R) (own-in (r .front) (r .row) (r .has))
+    parts-is : {g : Fault} → Has g (each-part (f .parts)) → Has g (C ++ D)
+    parts-is {g} m = subst (Has g) (ap₂ _++_ limits-is inside-is) (parts-split (f .parts) m)
 
-    limits-in-stage : {g : Fault} → Has g (nth-fault (λ (x : Object). x .word) 11 256 (f .objects)) → Covered g (object-faults f)
-    limits-in-stage {g} m =
-        let r = found-at limit-faults (f .objects) (subst (Has g) (sym limits-is) m) in
-        in-stage (r .front) (r .row) (r .rest) (r .whole) (limit-in (r .front) (r .row) (r .has))
-
-    inside-in-stage : {g : Fault} → Has g (nth-fault (λ (x : Statement). x .name) 11 2048 (flat (f .objects))) → Covered g (object-faults f)
-    inside-in-stage {g} m =
-        let r = found-at inside-faults (f .objects) (subst (Has g) (sym inside-is) m) in
-        in-stage (r .front) (r .row) (r .rest) (r .whole) (inside-in (r .front) (r .row) (r .has))
+    is-parts : {g : Fault} → Has g (C ++ D) → Has g (each-part (f .parts))
+    is-parts {g} m = parts-join (f .parts) (subst (Has g) (sym (ap₂ _++_ limits-is inside-is)) m)
 
     found-in-stage : (g : Fault) → Has g found → Covered g (object-faults f)
     unfolding found object-faults
     found-in-stage g m =
         let a = too-few kinds (f .objects) (f .cpu) in
-        let b = each object-row-faults [] F in
-        let c = nth-fault (λ (x : Object). x .word) 11 256 (f .objects) in
-        let d = nth-fault (λ (x : Statement). x .name) 11 2048 (flat (f .objects)) in
-        ⊎-elim (λ n. covered (has-left a (each-object [] (f .objects)) n))
-        (λ n. ⊎-elim (λ i. rows-in-stage i) (λ i. ⊎-elim (λ u. limits-in-stage u) (λ u. inside-in-stage u) (has-split c d i)) (has-split b (c ++ d) n))
-        (has-split a (b ++ (c ++ d)) m)
+        let b = each-object [] (M .so-far) in
+        let os = each-object [] (f .objects) in
+        let ps = each-part (f .parts) in
+        ⊎-elim (λ n. covered (has-left a (os ++ ps) n))
+        (λ n. ⊎-elim
+        (λ i. covered (has-right a (os ++ ps) (has-left os ps (subst (Has g) (sym objects-split) (has-left b (each-object (M .so-far) (merge-from (M .before) (M .left) k)) i)))))
+        (λ i. covered (has-right a (os ++ ps) (has-right os ps (is-parts i))))
+        (has-split b (C ++ D) n))
+        (has-split a (b ++ (C ++ D)) m)
 
-    in-rows : {g : Fault} → Has g (each object-row-faults [] F) → Covered g found
-    unfolding found
-    in-rows m =
-        covered (has-right (too-few kinds (f .objects) (f .cpu)) _ (has-left (each object-row-faults [] F) _ m))
-
-    in-limits : {g : Fault} → Has g (nth-fault (λ (x : Object). x .word) 11 256 (f .objects)) → Has g found
-    unfolding found
-    in-limits m = has-right (too-few kinds (f .objects) (f .cpu)) _ (has-right (each object-row-faults [] F) _ (has-left (nth-fault (λ (x : Object). x .word) 11 256 (f .objects)) _ m))
-
-    in-inside : {g : Fault} → Has g (nth-fault (λ (x : Statement). x .name) 11 2048 (flat (f .objects))) → Has g found
-    unfolding found
-    in-inside m =
-        has-right (too-few kinds (f .objects) (f .cpu)) _ (has-right (each object-row-faults [] F) _ (has-right (nth-fault (λ (x : Object). x .word) 11 256 (f .objects)) _ m))
-
-    -- The faults of a row past the room lie right of 11 at the first row that is one too many.
-    past-room : {g : Fault} (a : List Object) (x : Object) (b c : List Object) → R ≡ c ++ (x ∷ b) → Has g (object-row-faults a x) → Covered g found
-    past-room {g} a x b c q m =
-        let e : length R ≡ length (c ++ (x ∷ b)) = ap length q in
-        let n = length-append c (x ∷ b) in
-        let h = full-front (omega arith) in
-        let i = nth-of F 256 (omega arith) in
+    -- The faults of objects that parts past the room begin lie right of 11 at the part that is one too many.
+    past-room : (g : Fault) (R : List Object) → M .left ≡ R → Has g (each-object (M .so-far) (merge-from (M .before) R k)) → Covered g found
+    unfolding found merge-from each-object
+    past-room g [] e m = absurd (has-none m)
+    past-room g (x ∷ R) e m =
+        let F = M .before in
+        let n : 0 < length (M .left) = let z : length (M .left) ≡ length (x ∷ R) = ap (λ (v : List Object). length v) e in omega arith in
+        let h = full-front n in
+        let i = nth-of F 512 (omega arith) in
         let y = i .element in
         let u = i .nth in
-        let v : f .objects ≡ u .front ++ (y ∷ (u .rest ++ R)) = w ∙ ap (λ (l : List Object). l ++ R) (u .whole) ∙ append-assoc (u .front) (y ∷ u .rest) R in
-        let z : u .rest ++ R ≡ (u .rest ++ c) ++ (x ∷ b) = ap (λ (l : List Object). u .rest ++ l) q ∙ sym (append-assoc (u .rest) c (x ∷ b)) in
-        let o = words-behind 1 (u .front) y (u .rest ++ R) (subst (λ (l : List Object). InOrder 1 (object-words l)) v object-order) in
-        let p = words-from (suc (y .word .place)) (u .rest ++ c) x b (subst (λ (l : List Object). InOrder (suc (y .word .place)) (object-words l)) z o) in
-        let t = own-place a x (suc (y .word .place)) (p .0) (p .1) m in
+        let w : f .parts ≡ F ++ (x ∷ R) = M .whole ∙ ap (λ (v : List Object). F ++ v) e in
+        let v : f .parts ≡ u .front ++ (y ∷ (u .rest ++ (x ∷ R))) = w ∙ ap (λ (l : List Object). l ++ (x ∷ R)) (u .whole) ∙ append-assoc (u .front) (y ∷ u .rest) (x ∷ R) in
+        let o = words-behind 1 (u .front) y (u .rest ++ (x ∷ R)) (subst (λ (l : List Object). InOrder 1 (object-words l)) v part-order) in
+        let q = from-back (suc (y .word .place)) (u .rest) (x ∷ R) (from-order (suc (y .word .place)) (suc (y .word .place)) (u .rest ++ (x ∷ R)) (omega arith) o) in
+        let t = merge-from-lo (suc (y .word .place)) (M .so-far) F (x ∷ R) k q m in
         covered-by (record { place = y .word .place; number = 11 })
-        (in-limits (fault-nth (λ (x : Object). x .word) 11 {x = y} (record { front = u .front; rest = u .rest ++ R; whole = v; place = u .place }) refl))
+        (has-right (too-few kinds (f .objects) (f .cpu)) _ (has-right (each-object [] (M .so-far)) _ (has-left C D
+        (fault-nth (λ (x : Object). x .word) 11 {x = y} (record { front = u .front; rest = u .rest ++ (x ∷ R); whole = v; place = u .place }) refl))))
         (left-of t)
 
-    row-in-found : {g : Fault} (a : List Object) (x : Object) (b : List Object) → f .objects ≡ a ++ (x ∷ b) → Sorts a x g → Covered g found
-    row-in-found {g} a x b e (a-limit m) =
-        covered (in-limits (subst (Has g) limits-is (subst (λ (l : List Object). Has g (each limit-faults [] l)) (sym e) (at-row limit-faults a x b m))))
-    row-in-found {g} a x b e (inside m) =
-        covered (in-inside (subst (Has g) inside-is (subst (λ (l : List Object). Has g (each inside-faults [] l)) (sym e) (at-row inside-faults a x b m))))
-    row-in-found {g} a x b e (an-own m) = by (stands F R a x b (sym w ∙ e))
-      where
-        by : Stands F R a x b → Covered g found
-        by (in-front c q) = in-rows (subst (λ (l : List Object). Has g (each object-row-faults [] l)) (sym q) (at-row object-row-faults a x c m))
-        by (in-rest c q p) = past-room a x b c q m
-
-    in-few : {g : Fault} → Has g (too-few kinds (f .objects) (f .cpu)) → Covered g found
-    unfolding found
-    in-few m = covered (has-left (too-few kinds (f .objects) (f .cpu)) _ m)
-
     stage-in-found : (g : Fault) → Has g (object-faults f) → Covered g found
-    unfolding object-faults
+    unfolding found object-faults
     stage-in-found g m =
-        ⊎-elim (λ n. in-few n)
-        (λ n. let r = found-at all-row-faults (f .objects) (subst (Has g) (each-is [] (f .objects)) n) in
-        row-in-found (r .front) (r .row) (r .rest) (r .whole) (sorts (r .front) (r .row) (r .has)))
-        (has-split (too-few kinds (f .objects) (f .cpu)) (each-object [] (f .objects)) m)
+        let a = too-few kinds (f .objects) (f .cpu) in
+        let b = each-object [] (M .so-far) in
+        let os = each-object [] (f .objects) in
+        let ps = each-part (f .parts) in
+        ⊎-elim (λ n. covered (has-left a (b ++ (C ++ D)) n))
+        (λ n. ⊎-elim
+        (λ i. ⊎-elim (λ j. covered (has-right a (b ++ (C ++ D)) (has-left b (C ++ D) j))) (λ j. past-room g (M .left) refl j)
+        (has-split b (each-object (M .so-far) (merge-from (M .before) (M .left) k)) (subst (Has g) objects-split i)))
+        (λ i. covered (has-right a (b ++ (C ++ D)) (has-right b (C ++ D) (parts-is i))))
+        (has-split os ps n))
+        (has-split a (os ++ ps) m)
 
     stage-is : first (object-faults f) ≡ first found
     stage-is = first-same (object-faults f) found found-in-stage stage-in-found
 
-word-is : (o : List ℕ) {s : List ℕ} (f : File) → Situation s f → o ≡ kept-objects f → (x : Object) → Nth (f .objects) 256 x → cellOf o 9 256 1 ≡ x .word .place
-word-is o {s} f k e x q = word-cell s f o k e 256 x q (omega arith)
-
 real-few : (ks : List Kind) (os : List Object) (cpu : Word) → Real (too-few ks os cpu)
 real-few ks os cpu = real (of-few ks os cpu)
 
+part-word : (p : List ℕ) (f : File) → p ≡ kept-parts f → (x : Object) → Nth (f .parts) 512 x → cellOf p 10 512 1 ≡ x .word .place
+part-word p f e x q = word-cell f p e 512 x q (omega arith)
+
+none-left-over : (l : List Object) → length l ≡ 0 → l ≡ []
+none-left-over [] h = refl
+none-left-over (x ∷ l) h = absurd (omega arith)
+
 -- The four parts, joined.
-pub objects-answer : (s o st : List ℕ) (n m : ℕ) (cs : List ℕ) (cpu l : ℕ) (a b c d x y r : Code) → a ≡ order.faultIf (isFound (lacking-from cs 0)) 17 cpu
-    → l ≡ min n 257 → b ≡ order.soonest order.none (object-codes s o l 0) → c ≡ room-fault o 9 256 1 n 11 → d ≡ room-fault st 7 2048 0 m 11
-    → x ≡ order.sooner c d → y ≡ order.sooner b x → r ≡ order.sooner a y → ObjectFaults s o st n m cs cpu r
+pub objects-answer : (p st x : List ℕ) (n m : ℕ) (cs : List ℕ) (cpu l : ℕ) (a b c d y z : Code) (r u : Checked)
+    → a ≡ order.faultIf (isFound (lacking-from cs 0)) 17 cpu → l ≡ min n 513 → ChecksParts p x l u → b ≡ u .fault → c ≡ room-fault p 10 512 1 n 11 → d ≡ room-fault st 7 2048 0 m 11
+    → y ≡ order.sooner c d → z ≡ order.sooner b y → r .fault ≡ order.sooner a z → r .objects ≡ u .objects → r .counts ≡ u .counts → ObjectFaults p st x n m cs cpu r
 unfolding found
-objects-answer s o st n m cs cpu l a b c d x y r e₁ e₂ e₃ e₄ e₅ e₆ e₇ e₈ f k h₁ h₂ h₃ h₄ h₅ h₆ =
-    let os = f .objects in
-    let u = split os l (omega (arith, e₂, h₃)) in
-    let many = u .many in
-    let total : length os ≡ length (u .front) + length (u .rest) = ap length (u .whole) ∙ length-append (u .front) (u .rest) in
-    let A = too-few kinds os (f .cpu) in
-    let B = each object-row-faults [] (u .front) in
-    let C = nth-fault (λ (x : Object). x .word) 11 256 os in
-    let D = nth-fault (λ (x : Statement). x .name) 11 2048 (flat os) in
-    let rB = real-each object-row-faults (λ p x. real-row s f o k h₁ p x) [] (u .front) in
-    let rC = real-nth (λ (x : Object). x .word) 11 (omega arith) os 256 in
-    let rD = real-nth (λ (x : Statement). x .name) 11 (omega arith) (flat os) 2048 in
-    let qA : a ≡ fault-of (first A) = e₁ ∙ too-few-is os (f .cpu) cs cpu h₅ h₆ in
-    let qB : b ≡ fault-of (first B) = e₃ ∙ objects-code s f o k h₁ l (u .front) (u .rest) (u .whole) many (omega (arith, e₂)) in
-    let qC : c ≡ fault-of (first C) = e₄ ∙ room-code (λ (x : Object). x .word) 11 o 9 256 1 n os h₃ (λ x q. word-is o f k h₁ x q) in
-    let qD : d ≡ fault-of (first D) = e₅ ∙ room-code (λ (x : Statement). x .name) 11 st 7 2048 0 m (flat os) (h₄ ∙ sym (length-flat os)) (λ x q. statement-cell f st x h₂ q) in
-    let qx : x ≡ fault-of (first (C ++ D)) = e₆ ∙ ap₂ order.sooner qC qD ∙ sym (fault-append C D rC rD) in
-    let qy : y ≡ fault-of (first (B ++ (C ++ D))) = e₇ ∙ ap₂ order.sooner qB qx ∙ sym (fault-append B (C ++ D) rB (real-append C D rC rD)) in
-    let qr : r ≡ fault-of (first (A ++ (B ++ (C ++ D)))) =
-    e₈ ∙ ap₂ order.sooner qA qy ∙ sym (fault-append A (B ++ (C ++ D)) (real-few kinds os (f .cpu)) (real-append B (C ++ D) rB (real-append C D rC rD))) in
-    qr ∙ sym (ap fault-of (stage-is s f k (u .front) (u .rest) (u .whole) (λ z. omega (arith, e₂, h₃, many, total, z))))
+objects-answer p st x n m cs cpu l a b c d y z r t e₁ e₂ e₃ e₀ e₄ e₅ e₆ e₇ e₈ e₉ e₁₀ s f K h₁ h₂ h₃ h₄ h₅ h₆ h₇ =
+    let N : Noted s p x l f = record { situation = K; in-parts = h₁; firsts = λ j i. h₇ j (omega (arith, i, e₂)); few = omega (arith, e₂); inside = omega (arith, e₂, h₃) } in
+    let M = e₃ s f N in
+    let whole-length : length (f .parts) ≡ length (M .before) + length (M .left) = ap (λ (v : List Object). length v) (M .whole) ∙ length-append (M .before) (M .left) in
+    let pl = M .place in
+    let A = too-few kinds (f .objects) (f .cpu) in
+    let B = each-object [] (M .so-far) in
+    let C₀ = nth-fault (λ (x : Object). x .word) 11 512 (f .parts) in
+    let D₀ = nth-fault (λ (x : Statement). x .name) 11 2048 (flat (f .parts)) in
+    let rB = each-real [] (M .so-far) in
+    let rC = real-nth (λ (x : Object). x .word) 11 (omega arith) (f .parts) 512 in
+    let rD = real-nth (λ (x : Statement). x .name) 11 (omega arith) (flat (f .parts)) 2048 in
+    let same-few : too-few kinds (f .objects) (f .cpu) ≡ too-few kinds (f .parts) (f .cpu) = ap (λ (os : List Object). too-few kinds os (f .cpu)) (whole K .merged) ∙ too-few-same kinds (f .parts) (f .cpu) in
+    let qA : a ≡ fault-of (first A) = e₁ ∙ too-few-is (f .parts) (f .cpu) cs cpu h₅ h₆ ∙ ap (λ (v : List Fault). fault-of (first v)) (sym same-few) in
+    let qB : b ≡ fault-of (first B) = e₀ ∙ M .found in
+    let qC : c ≡ fault-of (first C₀) = e₄ ∙ room-code (λ (x : Object). x .word) 11 p 10 512 1 n (f .parts) h₃ (λ x q. part-word p f h₁ x q) in
+    let qD : d ≡ fault-of (first D₀) = e₅ ∙ room-code (λ (x : Statement). x .name) 11 st 7 2048 0 m (flat (f .parts)) (h₄ ∙ sym (length-flat (f .parts))) (λ x q. statement-cell f st x h₂ q) in
+    let qy : y ≡ fault-of (first (C₀ ++ D₀)) = e₆ ∙ ap₂ order.sooner qC qD ∙ sym (fault-append C₀ D₀ rC rD) in
+    let qz : z ≡ fault-of (first (B ++ (C₀ ++ D₀))) = e₇ ∙ ap₂ order.sooner qB qy ∙ sym (fault-append B (C₀ ++ D₀) rB (real-append C₀ D₀ rC rD)) in
+    let qr : r .fault ≡ fault-of (first (A ++ (B ++ (C₀ ++ D₀)))) =
+    e₈ ∙ ap₂ order.sooner qA qz ∙ sym (fault-append A (B ++ (C₀ ++ D₀)) (real-few kinds (f .objects) (f .cpu)) (real-append B (C₀ ++ D₀) rB (real-append C₀ D₀ rC rD))) in
+    let all : length (f .parts) ≤ 513 → M .so-far ≡ f .objects =
+    λ h. sym (append-nil (M .so-far)) ∙ ap (λ (v : List Object). M .so-far ++ v) (sym (merge-none (M .before) (M .left) (t .objects) (none-left-over (M .left) (omega (arith, h, e₂, h₃, whole-length, pl))))) ∙ M .merged-so ∙ sym (whole K .merged) in
+    let nb = M .number in
+    record {
+      fault = qr ∙ sym (ap fault-of (stage-is s f K M (λ w. omega (arith, e₂, h₃, whole-length, pl, w))));
+      objects = λ h. e₉ ∙ sym nb ∙ ap (λ (v : List Object). length v) (all h);
+      counted = λ h. e₁₀ ∙ M .counted ∙ tallied (M .so-far) (let i = M .low in omega (arith, nb, i, e₂)) ∙ ap counts (all h);
+    }

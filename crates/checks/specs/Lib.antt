@@ -1,4 +1,3 @@
 -- What the checks of kept rows promise. Assumes nothing.
-pub mod Listing
 pub mod Cells
 pub mod Promises

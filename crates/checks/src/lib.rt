@@ -1,3 +1,3 @@
-// The faults 6 to 10, and 11, 12 and 17, over the rows kept while a text is read.
+// The faults 11 and 17, over the rows of parts kept while a text is read.
 pub mod objects;
 pub mod parts;

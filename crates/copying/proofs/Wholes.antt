@@ -49,24 +49,24 @@ copies-definitions d n l l′ e = (
 
 -- Objects.
 objects-copied : (f : File) (o : List ℕ) (n : ℕ) → o ≡ kept-objects f → n ≡ length (f .objects) → n ≤ 256
-    → each-row as-is o 9 7 0 n ≡ cells lent-object (lent-objects (f .objects))
+    → each-row as-is o 10 8 0 n ≡ cells lent-object (lent-objects (f .objects))
 unfolding kept-objects as-is
 objects-copied f o n e m h =
     let rs = object-rows (f .objects) 0 in
     let l = length-objects (f .objects) 0 in
     let q : n ≡ length rs = omega arith in
-    ap (λ (t : List ℕ). each-row as-is t 9 7 0 n) e
-    ∙ ap (each-row as-is (kept (257 * 9) rs) 9 7 0) q
-    ∙ rows-kept as-is 9 7 (omega arith) (257 * 9) rs (object-wide (f .objects) 0) (omega arith)
+    ap (λ (t : List ℕ). each-row as-is t 10 8 0 n) e
+    ∙ ap (each-row as-is (kept (257 * 10) rs) 10 8 0) q
+    ∙ rows-kept as-is 10 8 (omega arith) (257 * 10) rs (object-wide (f .objects) 0) (omega arith)
     ∙ object-heads (f .objects) 0
 
-pub copies-objects : (o : List ℕ) (n : ℕ) (l l′ : List ℕ) → l′ ≡ sets l 0 (each-row as-is o 9 7 0 n) → CopiesObjects o n l l′
+pub copies-objects : (o : List ℕ) (n : ℕ) (l l′ : List ℕ) → l′ ≡ sets l 0 (each-row as-is o 10 8 0 n) → CopiesObjects o n l l′
 unfolding object-room
 copies-objects o n l l′ e = (
-  ap length e ∙ length-sets l 0 (each-row as-is o 9 7 0 n),
+  ap length e ∙ length-sets l 0 (each-row as-is o 10 8 0 n),
   λ s f k a b h z.
-      let q = length-rows as-is as-is-keeps o 9 7 0 n in
-      room-of lent-object (lent-objects (f .objects)) (256 * 7) l l′ (each-row as-is o 9 7 0 n) z e (objects-copied f o n a b h) (omega arith),
+      let q = length-rows as-is as-is-keeps o 10 8 0 n in
+      room-of lent-object (lent-objects (f .objects)) (256 * 8) l l′ (each-row as-is o 10 8 0 n) z e (objects-copied f o n a b h) (omega arith),
 )
 
 -- Enumerators.

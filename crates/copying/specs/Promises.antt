@@ -30,4 +30,4 @@ abbrev pub CopiesObjects : List ℕ → ℕ → List ℕ → List ℕ → Type 0
 CopiesObjects o n l l′ =
     (length l′ ≡ length l)
     × ((s : List ℕ) (f : File) → Situation s f → o ≡ kept-objects f → n ≡ length (f .objects) → n ≤ 256
-    → l ≡ zeros (256 * 7) → l′ ≡ object-room (object-rows (f .objects)))
+    → l ≡ zeros (256 * 8) → l′ ≡ object-room (object-rows (f .objects)))

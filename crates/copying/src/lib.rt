@@ -19,9 +19,9 @@ pub fn copy_enumerators(d: &[usize], n: usize, e: &[usize], m: usize, out: &mut 
     attributes::copy_attributed(d, n, e, m, out);
 }
 
-// The objects: 7 cells of 9.
+// The objects: 8 cells of 10.
 pub fn copy_objects(o: &[usize], n: usize, out: &mut [usize])
     ensures { λ _. ⌜ CopiesObjects (now (o .entry)) n (now (out .entry)) (now (out .exit)) ⌝ }
 {
-    heads::copy_rows(o, 9, n, 7, out);
+    heads::copy_rows(o, 10, n, 8, out);
 }

@@ -11,7 +11,8 @@ use lib.Dec.{eqb, leb}
 use borrow.Author.Tests.{eq-eqb, ne-eqb, le-leb}
 use Rattle.meaning.proofs.Rooms.{no-first}
 use Rattle.meaning.proofs.Numbered.{of-reference, of-brace, of-type, of-own, of-judged, of-judge, of-object, of-objects-judged, of-first}
-use Rattle.meaning.proofs.Entries.{then, then-assoc}
+use Rattle.meaning.proofs.Entries.{then-assoc}
+use Rattle.meaning.specs.Merging.{then}
 use Rattle.rows.proofs.Orders.{is-none}
 use Rattle.token.specs.Find.{pick, both, bit, is-there}
 use Rattle.token.specs.Tokens.{partOf}
@@ -511,7 +512,7 @@ module _ (s d e o st ms : List ℕ) (z : Sizes) (key m n : ℕ) where
 -- All objects ------------------------------------------------------------------------------------------------------------------------------
 
 pub object-by : (s d e o st ms : List ℕ) (z : Sizes) (ps : List ℕ) (i kind key owner m n : ℕ) (r : Fault)
-    → kind ≡ getD o (i * 9 + 0) 0 → key ≡ getD ps kind 0 → owner ≡ getD o (i * 9 + 3) 0 → m ≡ getD o (i * 9 + 7) 0 → n ≡ getD o (i * 9 + 8) 0
+    → kind ≡ getD o (i * 10 + 0) 0 → key ≡ getD ps kind 0 → owner ≡ getD o (i * 10 + 3) 0 → m ≡ getD o (i * 10 + 8) 0 → n ≡ getD o (i * 10 + 9) 0
     → JudgesBlock s d e o st ms z key m n owner r → JudgesObject s d e o st ms z ps i r
 unfolding judge-object
 object-by s d e o st ms z ps i kind key owner m n r pk py po pm pn g f front x rest c mk pl w q =

@@ -47,10 +47,10 @@ pub definition-found : (s d x y : List ℕ) (n key at len : ℕ) (r : Found) →
 unfolding DefinitionIndexed
 definition-found s d x y n key at len r i e g = g n (index-of s d x y 19 2 n 0 i e) (few-of s d x y 19 2 n 0 i e)
 
-pub object-found : (s o x y : List ℕ) (n kind at len : ℕ) (r : Found) → IndexAt s o 9 3 n 1536 x → y ≡ part x 1536 n → ObjectIndexed s o y kind at len r
+pub object-found : (s o x y : List ℕ) (n kind at len : ℕ) (r : Found) → IndexAt s o 10 3 n 1536 x → y ≡ part x 1536 n → ObjectIndexed s o y kind at len r
     → FindsObject s o n kind at len r
 unfolding ObjectIndexed
-object-found s o x y n kind at len r i e g = g n (index-of s o x y 9 3 n 1536 i e) (few-of s o x y 9 3 n 1536 i e)
+object-found s o x y n kind at len r i e g = g n (index-of s o x y 10 3 n 1536 i e) (few-of s o x y 10 3 n 1536 i e)
 
 pub word-found : (s d a x y : List ℕ) (n j at len r : ℕ) → IndexAt s a 3 1 n 512 x → y ≡ part x 512 n → WordIndexed s d a y j at len r
     → FindsWord s d a n j at len r
@@ -116,7 +116,7 @@ pub lent-count : (x : List ℕ) (at n : ℕ) → at + n ≤ length x → length 
 lent-count x at n h = mid-len at (at + n) x h ∙ add-sub-cancel-left at n
 
 pub named-by : (s d e o st : List ℕ) (z : Sizes) (x₀ x₁ x₂ x₃ x₄ x₅ v : List ℕ) (r₁ r₂ r₃ : ℕ) → FewRows z → 512 ≤ r₁ → 512 ≤ r₂ → 512 ≤ r₃
-    → PutsIndex s d 19 2 (z .definitions) 0 r₁ x₀ x₁ → PutsIndex s e 3 1 (z .enumerators) 512 r₂ x₁ x₂ → PutsIndex s o 9 3 (z .objects) 1536 r₃ x₂ x₃
+    → PutsIndex s d 19 2 (z .definitions) 0 r₁ x₀ x₁ → PutsIndex s e 3 1 (z .enumerators) 512 r₂ x₁ x₂ → PutsIndex s o 10 3 (z .objects) 1536 r₃ x₂ x₃
     → v ≡ part x₃ 0 (z .definitions) → PutsRanks s d v st 7 0 2049 1792 x₃ x₄ → PutsRanks s d v d 19 2 512 3841 x₄ x₅ → Named s d e o st z x₅
 unfolding NotesRanks
 named-by s d e o st z x₀ x₁ x₂ x₃ x₄ x₅ v r₁ r₂ r₃ f g₁ g₂ g₃ p₁ p₂ p₃ ev p₄ p₅ =
@@ -140,7 +140,7 @@ named-by s d e o st z x₀ x₁ x₂ x₃ x₄ x₅ v r₁ r₂ r₃ f g₁ g₂
       };
       objects = record {
         few = omega (arith, fo);
-        index = subst (λ (v : List ℕ). Indexed s o 9 (z .objects) 0 3 v) (sym (last 1536 (z .objects) (omega (arith, fo)))) (p₃ .index (omega (arith, fo, g₃)));
+        index = subst (λ (v : List ℕ). Indexed s o 10 (z .objects) 0 3 v) (sym (last 1536 (z .objects) (omega (arith, fo)))) (p₃ .index (omega (arith, fo, g₃)));
       };
       ranks = record {
         rank = nameRank s d 19 0 2 v;
@@ -163,7 +163,7 @@ ready-by s d e o st z x y u k l h q n c w =
       named = record {
         definitions = record { few = fd; index = subst (λ (v : List ℕ). Indexed s d 19 (z .definitions) 0 2 v) (sym (same 0 (z .definitions) (omega (arith, fd)))) (n .definitions .index) };
         enumerators = record { few = fe; index = subst (λ (v : List ℕ). Indexed s e 3 (z .enumerators) 0 1 v) (sym (same 512 (z .enumerators) (omega (arith, fe)))) (n .enumerators .index) };
-        objects = record { few = fo; index = subst (λ (v : List ℕ). Indexed s o 9 (z .objects) 0 3 v) (sym (same 1536 (z .objects) (omega (arith, fo)))) (n .objects .index) };
+        objects = record { few = fo; index = subst (λ (v : List ℕ). Indexed s o 10 (z .objects) 0 3 v) (sym (same 1536 (z .objects) (omega (arith, fo)))) (n .objects .index) };
         ranks = record {
           rank = r .rank;
           definitions = subst (λ (v : List ℕ). Ranked (r .rank) s d 19 2 v) (sym (same 3841 512 (omega arith))) (r .definitions);

@@ -27,7 +27,7 @@ pub record Ranks (s d st x : List ℕ) : Type 0 where
 pub record Named (s d e o st : List ℕ) (z : Sizes) (x : List ℕ) : Type 0 where
   pub definitions : IndexAt s d 19 2 (z .definitions) 0 x
   pub enumerators : IndexAt s e 3 1 (z .enumerators) 512 x
-  pub objects : IndexAt s o 9 3 (z .objects) 1536 x
+  pub objects : IndexAt s o 10 3 (z .objects) 1536 x
   pub ranks : Ranks s d st x
 
 -- There is room for all.

@@ -5,7 +5,7 @@ use mathlib.Core.Bool.{Bool, true, false, not}
 use Prim.Native.Nat.{ℕ, suc, _+_, _*_, _≤_, _<_}
 use lib.ListN.{length, getD}
 use lib.Dec.{eqb, leb}
-use Rattle.meaning.proofs.Entries.{then}
+use Rattle.meaning.specs.Merging.{then}
 use Rattle.token.specs.Find.{pick, both, bit}
 use Rattle.token.specs.Tokens.{partOf}
 use Rattle.grammar.specs.Grammar.{Kind}

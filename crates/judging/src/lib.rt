@@ -221,11 +221,11 @@ fn judge_object(
     requires { ⌜ Ready (now text) (now d) (now e) (now o) (now st) z (now names) (now known) ⌝ }
     ensures { λ r. ⌜ JudgesObject (now (text .entry)) (now (d .entry)) (now (e .entry)) (now (o .entry)) (now (st .entry)) (now (known .entry)) z (now (places .entry)) i r ⌝ }
 {
-    let kind = cells::cell_of(o, 9, i, 0);
+    let kind = cells::cell_of(o, 10, i, 0);
     let key = cells::get(places, kind);
-    let owner = cells::cell_of(o, 9, i, 3);
-    let from = cells::cell_of(o, 9, i, 7);
-    let end = cells::cell_of(o, 9, i, 8);
+    let owner = cells::cell_of(o, 10, i, 3);
+    let from = cells::cell_of(o, 10, i, 8);
+    let end = cells::cell_of(o, 10, i, 9);
     judge_block(text, d, e, o, st, names, known, z, key, from, end, owner)
 }
 

@@ -54,7 +54,7 @@ pub fn find_object(
     at: usize,
     len: usize,
 ) -> Found
-    requires { ⌜ IndexAt (now text) (now o) 9 3 objects 1536 (now names) ⌝ }
+    requires { ⌜ IndexAt (now text) (now o) 10 3 objects 1536 (now names) ⌝ }
     ensures { λ r. ⌜ FindsObject (now (text .entry)) (now (o .entry)) objects kind at len r ⌝ }
 {
     lookups::find_object(text, o, cells_from(names, 1536, objects), kind, at, len)
@@ -193,7 +193,7 @@ pub fn note(
     let mut spare = [0; 512];
     put_index(text, d, 19, 2, z.definitions, 0, &mut names, &mut spare);
     put_index(text, e, 3, 1, z.enumerators, 512, &mut names, &mut spare);
-    put_index(text, o, 9, 3, z.objects, 1536, &mut names, &mut spare);
+    put_index(text, o, 10, 3, z.objects, 1536, &mut names, &mut spare);
     let indexes = names;
     let x = cells_from(&indexes, 0, z.definitions);
     put_ranks(text, d, x, st, 7, 0, 2049, 1792, &mut names);

@@ -43,7 +43,7 @@ fn reference_fault(
     len: usize,
     code: usize,
 ) -> Fault
-    requires { ⌜ IndexAt (now text) (now o) 9 3 objects 1536 (now names) ⌝ }
+    requires { ⌜ IndexAt (now text) (now o) 10 3 objects 1536 (now names) ⌝ }
     ensures { λ r. ⌜ ReferenceFault (now (text .entry)) (now (o .entry)) objects kind at len code r ⌝ }
 {
     if !is_name(code) {

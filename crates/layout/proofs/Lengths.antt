@@ -138,7 +138,7 @@ length-all (x ∷ xs) m =
     let c = length-all xs n in
     omega arith
 
-pub object-wide : (xs : List Object) (m : ℕ) → Wide 9 (object-rows xs m)
+pub object-wide : (xs : List Object) (m : ℕ) → Wide 10 (object-rows xs m)
 unfolding object-rows object-cells
 object-wide [] m = tt
 object-wide (x ∷ xs) m = (refl, object-wide xs (m + statements-in (x .statements)))

@@ -147,11 +147,11 @@ statement-rows done m = []
 statement-rows (state x inside rest) m =
     statement-cells x (suc m + statements-in inside) ∷ (statement-rows inside (suc m) ++ statement-rows rest (suc m + statements-in inside))
 
--- kind, kind word, name, block; its first statement and the one after its last.
+-- kind, kind word, name, block, its number of parts; its first statement and the one after its last.
 unfoldable pub object-cells : Object → ℕ → List ℕ
 object-cells x m =
     kind-number (x .kind) ∷ x .word .place ∷ x .word .length ∷ x .name .place ∷ x .name .length ∷ x .block .place ∷ x .block .length
-    ∷ m ∷ (m + statements-in (x .statements)) ∷ []
+    ∷ x .parts ∷ m ∷ (m + statements-in (x .statements)) ∷ []
 
 -- The rows of objects, before which m statements stand.
 unfoldable pub object-rows : List Object → ℕ → List (List ℕ)
@@ -188,10 +188,17 @@ unfoldable pub kept-enumerators : File → List ℕ
 kept-enumerators f = kept (1025 * 3) (map-cells choice-cells (spec-choices (f .specs)))
 
 unfoldable pub kept-objects : File → List ℕ
-kept-objects f = kept (257 * 9) (object-rows (f .objects) 0)
+kept-objects f = kept (257 * 10) (object-rows (f .objects) 0)
 
 unfoldable pub kept-statements : File → List ℕ
 kept-statements f = kept (2049 * 7) (all-statement-rows (f .objects) 0)
+
+-- The rows of the parts of objects, and of their statements, as they stand in the text.
+unfoldable pub kept-parts : File → List ℕ
+kept-parts f = kept (513 * 10) (object-rows (f .parts) 0)
+
+unfoldable pub kept-part-statements : File → List ℕ
+kept-part-statements f = kept (2049 * 7) (all-statement-rows (f .parts) 0)
 
 -- How many there are in all.
 unfoldable pub statement-count : List Object → ℕ

@@ -5,7 +5,7 @@ pub const DEFINITION_CELLS: usize = 19;
 
 pub const ENUMERATOR_CELLS: usize = 3;
 
-pub const OBJECT_CELLS: usize = 9;
+pub const OBJECT_CELLS: usize = 10;
 
 pub const STATEMENT_CELLS: usize = 7;
 
@@ -15,5 +15,7 @@ pub const DEFINITION_ROOM: usize = 513;
 pub const ENUMERATOR_ROOM: usize = 1025;
 
 pub const OBJECT_ROOM: usize = 257;
+
+pub const PART_ROOM: usize = 513;
 
 pub const STATEMENT_ROOM: usize = 2049;

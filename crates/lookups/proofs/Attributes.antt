@@ -15,7 +15,7 @@ use Rattle.meaning.specs.Judging.{taken}
 use Rattle.meaning.proofs.Sites.{option-words, object-words}
 use Rattle.layout.specs.Kept.{Entry, spec-entries, spec-choices, definition-cells, default-code, code-of, object-cells, statement-count, statement-rows, all-statement-rows}
 use Rattle.blocks.specs.Blocks.{Holds, WordIn, AllIn, none-in, BlockAt}
-use Rattle.blocks.proofs.Files.{file-in, objects-in, object-cell, object-block, statements-held}
+use Rattle.blocks.proofs.Files.{objects-in, object-cell, object-block, statements-held}
 use Rattle.scopes.specs.Situations.{Situation, HasValue, Stands, Nth, RowOf, Reached, ReadAt}
 use Rattle.scopes.specs.Given.{Tables, Given, Attribute, Below}
 use Rattle.scopes.specs.Forms.{Formed}
@@ -174,10 +174,10 @@ nothing-at {f = f} g =
 
 -- The row of an object, and its block.
 pub record KeptObject (s o st : List ℕ) (i : ℕ) (front : List Object) (x : Object) : Type 0 where
-  pub kind : getD o (i * 9 + 0) 0 ≡ kind-number (x .kind)
-  pub name : getD o (i * 9 + 3) 0 ≡ x .name .place
-  pub from : getD o (i * 9 + 7) 0 ≡ statement-count front
-  pub till : getD o (i * 9 + 8) 0 ≡ statement-count front + statements-in (x .statements)
+  pub kind : getD o (i * 10 + 0) 0 ≡ kind-number (x .kind)
+  pub name : getD o (i * 10 + 3) 0 ≡ x .name .place
+  pub from : getD o (i * 10 + 8) 0 ≡ statement-count front
+  pub till : getD o (i * 10 + 9) 0 ≡ statement-count front + statements-in (x .statements)
   pub block : BlockAt s st (statement-count front) (statement-count front + statements-in (x .statements)) (x .statements)
 
 pub kept-object : {s d e o st : List ℕ} {z : Sizes} {f : File} {i : ℕ} (front : List Object) (x : Object) (rest : List Object) → Given s d e o st z f
@@ -189,13 +189,13 @@ kept-object {s} {d} {e} {o} {st} {z} {f} {i} front x rest g w p =
     let h = T .objects-fit in
     let k = g .statements-fit in
     let l : length (f .objects) ≤ 257 = omega arith in
-    let a : AllIn s (object-words (f .objects)) = subst (λ q. AllIn s (object-words (q .objects))) (sym (T .situation .syntax-of)) (objects-in s _ (file-in s (T .situation .derivation))) in
-    let b : (m : ℕ) → m < 9 → getD o (i * 9 + m) 0 ≡ getD (object-cells x (statement-count front)) m 0 =
-    λ m q. ap (λ n. getD o (n * 9 + m) 0) (sym p) ∙ object-cell s f front x rest w o (T .in-objects) l m q in
+    let a : AllIn s (object-words (f .objects)) = subst (λ q. AllIn s (object-words (q .objects))) (sym (T .situation .syntax-of)) (objects-in s (T .situation .derivation)) in
+    let b : (m : ℕ) → m < 10 → getD o (i * 10 + m) 0 ≡ getD (object-cells x (statement-count front)) m 0 =
+    λ m q. ap (λ n. getD o (n * 10 + m) 0) (sym p) ∙ object-cell s f front x rest w o (T .in-objects) l m q in
     record {
       kind = b 0 (omega arith);
       name = b 3 (omega arith);
-      from = b 7 (omega arith);
-      till = b 8 (omega arith);
+      from = b 8 (omega arith);
+      till = b 9 (omega arith);
       block = object-block s f front x rest w st (g .in-statements) (omega arith) a;
     }

@@ -17,7 +17,7 @@ unfolding Finds DefinitionIndexed
 definition-indexed s d x key at len r f n i b = finds-in-scope s d n key at len r (f n i b)
 
 -- an object
-pub object-indexed : (s o x : List ℕ) (kind at len : ℕ) (r : Found) → Finds s o 9 0 kind 3 at len x r → ObjectIndexed s o x kind at len r
+pub object-indexed : (s o x : List ℕ) (kind at len : ℕ) (r : Found) → Finds s o 10 0 kind 3 at len x r → ObjectIndexed s o x kind at len r
 unfolding Finds ObjectIndexed
 object-indexed s o x kind at len r f n i b = finds-in-objects s o n kind at len r (f n i b)
 

@@ -11,7 +11,7 @@ DefinitionIndexed s d x key at len r = (n : ℕ) → Indexed s d 19 n 0 2 x → 
 
 -- r is the row of the object of a kind that has the name at a place
 unfoldable pub ObjectIndexed : List ℕ → List ℕ → List ℕ → (kind at len : ℕ) → Found → Type 0
-ObjectIndexed s o x kind at len r = (n : ℕ) → Indexed s o 9 n 0 3 x → n ≤ 65536 → FindsObject s o n kind at len r
+ObjectIndexed s o x kind at len r = (n : ℕ) → Indexed s o 10 n 0 3 x → n ≤ 65536 → FindsObject s o n kind at len r
 
 -- r is the row of the enumerator that the word at a place is, of the list of the attribute of row j
 unfoldable pub EnumeratorIndexed : List ℕ → List ℕ → List ℕ → List ℕ → (j at len : ℕ) → Found → Type 0

@@ -37,7 +37,7 @@ pub fn find_object(
 ) -> Found
     ensures { λ r. ⌜ ObjectIndexed (now (text .entry)) (now (o .entry)) (now (x .entry)) kind at len r ⌝ }
 {
-    indexes::find_indexed(text, o, 9, 0, kind, 3, at, len, x)
+    indexes::find_indexed(text, o, 10, 0, kind, 3, at, len, x)
 }
 
 // The enumerator of the list of the ENUM of row j that a word is; x is the index of the enumerators.

@@ -11,11 +11,7 @@ use Rattle.meaning.specs.Resolving.{take-value, Resolved, end, resolved,
 use Rattle.meaning.specs.Scopes.{names}
 use Rattle.meaning.specs.Syntax.{Definition, Definitions, define, Values, Statements, done, state, Object, Word}
 use Rattle.meaning.specs.Words.{alike, among, choose}
-
--- One list of statements behind another.
-unfoldable pub then : Statements → Statements → Statements
-then done b = b
-then (state x inside rest) b = state x inside (then rest b)
+use Rattle.meaning.specs.Merging.{then}
 
 pub then-assoc : (a b c : Statements) → then (then a b) c ≡ then a (then b c)
 unfolding then

@@ -5,12 +5,10 @@ use mathlib.Core.List.{List, [], _∷_, _++_, append-assoc}
 use Prim.Native.Nat.{ℕ, suc}
 use Rattle.grammar.specs.Grammar.{Token, tokens, Rule, Form, _▸_, ∎, _⟶_, Trees, nil, leaf, node, file, version, implementation, specs, spec, definitions, definition, attribute, D, P, auto, mark, integer-range, numbers, boolean-range, enumerator, enumerators, application, objects, object, block, statements, statement, default, own, file-is, version-is, implementation-is, no-spec, a-spec, spec-is, no-definition, a-definition, an-attribute, a-reference, an-integer, a-string, a-boolean, an-enum, reference-is, no-D, a-D, no-P, a-P, no-auto, with-auto, no-mark, a-mark, no-range, a-range, a-list, no-number, a-number, no-boolean-range, a-boolean-range, enumerator-is, no-enumerator, an-enumerator, no-default, a-default, own-auto, own-none, own-number, own-string, own-true, own-false, own-name, application-is, no-object, an-object, an-object-alone, an-object-with, no-block, a-block, no-statement, a-statement, statement-is, value-number, value-string, value-auto, value-name, value-true, value-false, reference as reference-rule, value as value-rule}
 use Rattle.meaning.proofs.Order.{Ordered, Sub, sub-nil, keep, drop, sub-none, sub-append, sub-behind, sub-front, sub-all, ordered-sub, at-rises, foremost, rises-first, InOrder}
-use Rattle.meaning.proofs.Sites.{bound-words, option-words, definition-words, value-words, defined-words, spec-words, statement-words, object-words, file-words, definition-at, object-at, stage-at}
+use Rattle.meaning.proofs.Sites.{bound-words, option-words, definition-words, value-words, defined-words, spec-words, statement-words, object-words, file-words, definition-at}
 use Rattle.meaning.specs.Actions.{M, Enumerator, first-value, truths, defined, defining, specifying, stating, means, meaning, syntax, word-of}
-use Rattle.meaning.specs.Applying.{object-faults}
 use Rattle.meaning.specs.Defining.{definition-faults}
 use Rattle.meaning.specs.Faults.{first}
-use Rattle.meaning.specs.Judging.{statement-stage}
 use Rattle.meaning.specs.Syntax.{Values, Word}
 
 -- The words at the leaves, in order.
@@ -166,25 +164,12 @@ pub words-leaves : (s : List ℕ) (t : Trees _⟶_ (file ▸ ∎)) → Sub (file
 unfolding syntax meaning leaves
 words-leaves s (node p us nil) = sub-front (means-words s p us (all-words s us)) []
 
--- Where the tokens are in order, the first fault of each stage's list is the leftmost, and of those at its place the one with the smallest number.
+-- Where the tokens are in order, the first fault of the list of 6 to 10 is the leftmost, and of those at its place the one with the smallest
+-- number. With objects in parts the later stages' faults are not met in text order.
 module _ (s : List ℕ) (t : Trees _⟶_ (file ▸ ∎)) (o : Ordered 0 (tokens t)) where
   pub definition-order : first (definition-faults (syntax s t)) ≡ foremost (definition-faults (syntax s t))
   unfolding file-words
   definition-order =
       let f = syntax s t in
       let w = ordered-sub (words-leaves s t) 0 (leaves-in-order s t o) in
-      rises-first (definition-faults f) (at-rises 0 (definition-at f) (ordered-sub (sub-front (sub-all (f .version ∷ spec-words (f .specs))) (f .cpu ∷ object-words (f .objects))) 0 w))
-
-  pub object-order : first (object-faults (syntax s t)) ≡ foremost (object-faults (syntax s t))
-  unfolding file-words
-  object-order =
-      let f = syntax s t in
-      let w = ordered-sub (words-leaves s t) 0 (leaves-in-order s t o) in
-      rises-first (object-faults f) (at-rises 0 (object-at f) (ordered-sub (sub-behind (f .version ∷ spec-words (f .specs)) (sub-all (f .cpu ∷ object-words (f .objects)))) 0 w))
-
-  pub statement-order : first (statement-stage (syntax s t)) ≡ foremost (statement-stage (syntax s t))
-  unfolding file-words
-  statement-order =
-      let f = syntax s t in
-      let w = ordered-sub (words-leaves s t) 0 (leaves-in-order s t o) in
-      rises-first (statement-stage f) (at-rises 0 (stage-at f) (ordered-sub (sub-behind (f .version ∷ spec-words (f .specs)) (drop (sub-all (object-words (f .objects))))) 0 w))
+      rises-first (definition-faults f) (at-rises 0 (definition-at f) (ordered-sub (sub-front (sub-all (f .version ∷ spec-words (f .specs))) (f .cpu ∷ object-words (f .parts))) 0 w))

@@ -2,6 +2,7 @@
 pub mod Everything
 pub mod Edges
 pub mod Samples
+pub mod PartSamples
 pub mod Nineteen
 pub mod Limits
 pub mod Order
@@ -13,6 +14,7 @@ pub mod Runs
 pub mod Standing
 pub mod Choices
 pub mod Entries
+pub mod Merges
 pub mod Lookups
 pub mod Unders
 pub mod Found

@@ -10,7 +10,7 @@ use Rattle.meaning.specs.Syntax.{Num, Word, absent, no-bounds, Definitio
 use Rattle.meaning.specs.Words.{in-type}
 use Rattle.meaning.specs.Faults.{Fault}
 use Rattle.meaning.specs.Defining.{name-faults, word-faults}
-use Rattle.meaning.specs.Applying.{each-object, statement-faults}
+use Rattle.meaning.specs.Applying.{each-object, each-part, statement-faults}
 use Rattle.meaning.specs.Resolving.{too-many, number, auto, of-object, of-value}
 use Rattle.meaning.specs.Answers.{refused}
 use Rattle.meaning.specs.Reading.{normal-text}
@@ -33,7 +33,7 @@ abbrev a-definition : ℕ → Definition
 a-definition n = record { row = n; type = reference TASK; word = word-at 3; auto = false; range = absent; bounds = no-bounds; name = word-at 7; list = false; default = none }
 
 abbrev an-object : ℕ → Object
-an-object n = record { row = n; kind = TASK; word = word-at 3; name = word-at 7; block = absent; statements = done }
+an-object n = record { row = n; kind = TASK; word = word-at 3; name = word-at 7; block = absent; parts = 1; statements = done }
 
 abbrev a-statement : ℕ → Statements → Statements
 a-statement n ss = state (record { number = n; name = word-at 7; value = word-at 9; brace = none }) ss done
@@ -68,6 +68,14 @@ object-256 = refl
 object-257 : each-object [] (an-object 256 ∷ []) ≡ fault 11 3 ∷ []
 unfolding everything
 object-257 = refl
+
+part-512 : each-part (an-object 511 ∷ []) ≡ []
+unfolding everything
+part-512 = refl
+
+part-513 : each-part (an-object 512 ∷ []) ≡ fault 11 3 ∷ []
+unfolding everything
+part-513 = refl
 
 statement-2048 : statement-faults (a-statement 2046 (a-statement 2047 done)) ≡ []
 unfolding everything
@@ -182,7 +190,7 @@ enumerator-example : enumerator-cells (en 7 (sp 269 3)) ≡ 7 ∷ 269 ∷ 3 ∷ 
 unfolding everything
 enumerator-example = refl
 
-object-example : object-cells (ob TASK (sp 141 4) (sp 146 1) (sp 148 21)) ≡ 2 ∷ 141 ∷ 4 ∷ 146 ∷ 1 ∷ 148 ∷ 21 ∷ []
+object-example : object-cells (ob TASK (sp 141 4) (sp 146 1) (sp 148 21)) ≡ 2 ∷ 141 ∷ 4 ∷ 146 ∷ 1 ∷ 148 ∷ 21 ∷ 1 ∷ []
 unfolding everything
 object-example = refl
 

@@ -10,6 +10,8 @@ use Rattle.token.specs.Find.{bit}
 use Rattle.grammar.specs.Grammar.{Rule, Form, _▸_, ∎, _⟶_, Trees, nil, leaf, node, file, version, implementation, specs, spec, definitions, definition, attribute, D, P, auto, mark, integer-range, numbers, boolean-range, enumerator, enumerators, application, objects, object, block, statements, statement, default, own, file-is, version-is, implementation-is, no-spec, a-spec, spec-is, no-definition, a-definition, an-attribute, a-reference, an-integer, a-string, a-boolean, an-enum, reference-is, no-D, a-D, no-P, a-P, no-auto, with-auto, no-mark, a-mark, no-range, a-range, a-list, no-number, a-number, no-boolean-range, a-boolean-range, enumerator-is, no-enumerator, an-enumerator, no-default, a-default, own-auto, own-none, own-number, own-string, own-true, own-false, own-name, application-is, no-object, an-object, an-object-alone, an-object-with, no-block, a-block, no-statement, a-statement, statement-is, value-number, value-string, value-auto, value-name, value-true, value-false, reference as reference-rule, value as value-rule}
 use Rattle.meaning.specs.Actions.{M, Enumerator, Stated, first-value, truths, defined, defining, specifying, stating, means, meaning, syntax, word-of}
 use Rattle.meaning.specs.Syntax.{Definitions, no-more, define, Values, no-value, value, Defined, Statements, done, state, Object, Spec, is-enum, definitions-in, definitions-under, enumerators-in, enumerators-under, statements-in, Word}
+use Rattle.meaning.specs.Merging.{used, merged, merge-from, merge}
+use Rattle.meaning.specs.Words.{choose}
 
 -- The numbers --------------------------------------------------------------------------------------------------------------------------
 
@@ -127,7 +129,7 @@ length-statements (state x inside rest) =
 
 -- What a rule means bears the numbers from those given on.
 abbrev pub N : (x : Rule) → M x → Type 0
-N file f = (Counts 0 (spec-numbers (f .specs)) × Counts 0 (spec-enumerator-numbers (f .specs))) × (Counts 0 (object-numbers (f .objects)) × Counts 0 (all-statement-numbers (f .objects)))
+N file f = (Counts 0 (spec-numbers (f .specs)) × Counts 0 (spec-enumerator-numbers (f .specs))) × (Counts 0 (object-numbers (f .objects)) × (Counts 0 (object-numbers (f .parts)) × Counts 0 (all-statement-numbers (f .parts))))
 N version v = Unit {0}
 N implementation i = Counts 0 (spec-numbers (i .specs)) × Counts 0 (spec-enumerator-numbers (i .specs))
 N specs g = (n e : ℕ) → Counts n (spec-numbers (g n e)) × Counts e (spec-enumerator-numbers (g n e))
@@ -227,9 +229,24 @@ object-more x n k g p q =
     let a = length-statements (x .statements) in
     (counts-more (p .0) (q (suc n) k′ .0), counts-append (p .1) (q (suc n) k′ .1) (omega arith))
 
+-- The rows of merged objects.
+merge-numbers : (before xs : List Object) (n : ℕ) → Counts n (object-numbers (merge-from before xs n))
+unfolding merge-from object-numbers merged choose
+merge-numbers before [] n = counts-none
+merge-numbers before (x ∷ xs) n = go (used x before) (merge-numbers (before ++ (x ∷ [])) xs n) (merge-numbers (before ++ (x ∷ [])) xs (suc n))
+  where
+    go : (b : Bool) → Counts n (object-numbers (merge-from (before ++ (x ∷ [])) xs n)) → Counts (suc n) (object-numbers (merge-from (before ++ (x ∷ [])) xs (suc n)))
+        → Counts n (object-numbers (choose b (λ _. merge-from (before ++ (x ∷ [])) xs n) (λ _. merged x n xs ∷ merge-from (before ++ (x ∷ [])) xs (suc n))))
+    go true p q = p
+    go false p q = counts-more refl q
+
+pub merged-numbers : (xs : List Object) → Counts 0 (object-numbers (merge xs))
+unfolding merge
+merged-numbers xs = merge-numbers [] xs 0
+
 means-numbers : {x : Rule} {g : Form} (s : List ℕ) (p : x ⟶ g) (us : Trees _⟶_ g) → AllN s us → N x (means p (meaning s us))
 unfolding means meaning defined definition-numbers enumerator-numbers statement-numbers spec-numbers spec-enumerator-numbers object-numbers all-statement-numbers definitions-under is-enum
-means-numbers s file-is (node _ v (node _ i (node _ a nil))) h = (h .1 .0, h .1 .1 .0)
+means-numbers s file-is (node _ v (node _ i (node q a nil))) h = (h .1 .0, (merged-numbers (means q (meaning s a) .objects), h .1 .1 .0))
 means-numbers s version-is us h = tt
 means-numbers s implementation-is (leaf _ _ (leaf _ _ (leaf _ _ (node _ ss (leaf _ _ (node _ d (leaf _ _ nil))))))) h = h .0 0 0
 means-numbers s no-spec nil h = λ n e. (counts-none, counts-none)

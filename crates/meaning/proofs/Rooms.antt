@@ -18,7 +18,7 @@ use Rattle.meaning.specs.Faults.{Fault, fault-if, sooner, first}
 use Rattle.meaning.specs.Actions.{syntax}
 use Rattle.meaning.specs.Scopes.{heads, find-object}
 use Rattle.meaning.specs.Defining.{DefinitionRow, EnumeratorRow, definition-rows, enumerator-rows, all-definition-rows, all-enumerator-rows, range-faults, default-faults, defined-in, differs, name-faults, word-faults, scope-faults, value-faults, specified, spec-faults, definition-faults}
-use Rattle.meaning.specs.Applying.{ObjectRow, object-rows, how-many, full, too-few, statement-faults, each-object, object-faults}
+use Rattle.meaning.specs.Applying.{ObjectRow, object-rows, how-many, full, too-few, statement-faults, each-object, each-part, object-faults}
 use Rattle.meaning.specs.Kinds.{kinds, most}
 use Rattle.meaning.specs.Judging.{statement-stage}
 use Rattle.meaning.specs.Resolving.{ValueRow, Resolved, all-values, value-rows, all-value-rows, how-many-values, how-many-in-all, of-object, too-many}
@@ -39,7 +39,7 @@ pub enumerator-width : (r : EnumeratorRow) → length (enumerator-cells r) ≡ 3
 unfolding enumerator-cells
 enumerator-width r = refl
 
-pub object-width : (r : ObjectRow) → length (object-cells r) ≡ 7
+pub object-width : (r : ObjectRow) → length (object-cells r) ≡ 8
 unfolding object-cells
 object-width r = refl
 
@@ -247,8 +247,7 @@ unfolding each-object object-numbers
 objects-without before [] e = tt
 objects-without before (x ∷ xs) e =
     let a = fault-if (eqb (x .row) 256) (x .word) 11 in
-    let b = fault-if (full (most (x .kind)) (how-many (x .kind) before)) (x .word) 17
-    ++ (fault-if (is-there (find-object (x .kind) before (x .name))) (x .name) 12 ++ statement-faults (x .statements)) in
+    let b = fault-if (full (most (x .kind)) (how-many (x .kind) before)) (x .word) 17 in
     let c = each-object (before ++ (x ∷ [])) xs in (
       eqb-false (x .row) 256 (not-faulty (eqb (x .row) 256) (x .word) 11 (nothing-front a b (nothing-front (a ++ b) c e))),
       objects-without (before ++ (x ∷ [])) xs (nothing-back (a ++ b) c e),
@@ -267,24 +266,28 @@ statements-without (state x inside rest) e =
           (statements-without rest (nothing-back (a ++ b) c e)),
     )
 
-all-statements-without : (before xs : List Object) → each-object before xs ≡ [] → Without 2048 (all-statement-numbers xs)
-unfolding each-object all-statement-numbers
-all-statements-without before [] e = tt
-all-statements-without before (x ∷ xs) e =
-    let a = fault-if (eqb (x .row) 256) (x .word) 11 in
-    let b = fault-if (full (most (x .kind)) (how-many (x .kind) before)) (x .word) 17 in
-    let c = fault-if (is-there (find-object (x .kind) before (x .name))) (x .name) 12 in
-    let d = statement-faults (x .statements) in
-    let r = each-object (before ++ (x ∷ [])) xs in
-    let i = nothing-back a (b ++ (c ++ d)) (nothing-front (a ++ (b ++ (c ++ d))) r e) in
-    without-append 2048 (statement-numbers (x .statements)) (all-statement-numbers xs)
-    (statements-without (x .statements) (nothing-back c d (nothing-back b (c ++ d) i)))
-    (all-statements-without (before ++ (x ∷ [])) xs (nothing-back (a ++ (b ++ (c ++ d))) r e))
+parts-without : (xs : List Object) → each-part xs ≡ [] → Without 512 (object-numbers xs) × Without 2048 (all-statement-numbers xs)
+unfolding each-part object-numbers all-statement-numbers
+parts-without [] e = (tt, tt)
+parts-without (x ∷ xs) e =
+    let a = fault-if (eqb (x .row) 512) (x .word) 11 in
+    let b = statement-faults (x .statements) in
+    let c = each-part xs in
+    let front = nothing-front (a ++ b) c e in
+    let r = parts-without xs (nothing-back (a ++ b) c e) in (
+      (eqb-false (x .row) 512 (not-faulty (eqb (x .row) 512) (x .word) 11 (nothing-front a b front)), r .0),
+      without-append 2048 (statement-numbers (x .statements)) (all-statement-numbers xs) (statements-without (x .statements) (nothing-back a b front)) (r .1),
+    )
 
 object-rows-length : (xs : List Object) → length (object-rows xs) ≡ length (object-numbers xs)
 unfolding object-rows object-numbers
 object-rows-length [] = refl
 object-rows-length (x ∷ xs) = ap suc (object-rows-length xs)
+
+object-numbers-length : (xs : List Object) → length (object-numbers xs) ≡ length xs
+unfolding object-numbers
+object-numbers-length [] = refl
+object-numbers-length (x ∷ xs) = ap suc (object-numbers-length xs)
 
 pub value-rows-length : (rs : List Resolved) (o n : ℕ) → length (all-value-rows rs o n) ≡ how-many-in-all rs
 unfolding all-value-rows how-many-in-all
@@ -303,7 +306,7 @@ few-values n e = ltb-false 2048 n (go (ltb 2048 n) e)
 
 -- The rooms ----------------------------------------------------------------------------------------------------------------------------------
 
--- Where the stage of 6 to 9 and 21 to 23 has no fault, definitions and enumerators fit; where that of 11, 12 and 17 has none, objects and statements do.
+-- Where the stage of 6 to 9 and 21 to 23 has no fault, definitions and enumerators fit; where that of 11 and 17 has none, objects, parts and statements do.
 pub definitions-fit : (s : List ℕ) (t : Trees _⟶_ (file ▸ ∎)) → first (definition-faults (syntax s t)) ≡ none
     → (length (all-definition-rows (syntax s t .specs)) ≤ 512) × (length (all-enumerator-rows (syntax s t .specs)) ≤ 1024)
 unfolding definition-faults
@@ -316,16 +319,17 @@ definitions-fit s t e =
     )
 
 pub objects-fit : (s : List ℕ) (t : Trees _⟶_ (file ▸ ∎)) → first (object-faults (syntax s t)) ≡ none
-    → (length (object-rows (syntax s t .objects)) ≤ 256) × (length (all-statement-numbers (syntax s t .objects)) ≤ 2048)
+    → (length (object-rows (syntax s t .objects)) ≤ 256) × (length (syntax s t .parts) ≤ 512) × (length (all-statement-numbers (syntax s t .parts)) ≤ 2048)
 unfolding object-faults
 objects-fit s t e =
     let f = syntax s t in
-    let z = nothing-back (too-few kinds (f .objects) (f .cpu)) (each-object [] (f .objects)) (no-first (object-faults f) e) in
-    let os = objects-without [] (f .objects) z in
-    let ss = all-statements-without [] (f .objects) z in
+    let z = nothing-back (too-few kinds (f .objects) (f .cpu)) (each-object [] (f .objects) ++ each-part (f .parts)) (no-first (object-faults f) e) in
+    let os = objects-without [] (f .objects) (nothing-front (each-object [] (f .objects)) (each-part (f .parts)) z) in
+    let ps = parts-without (f .parts) (nothing-back (each-object [] (f .objects)) (each-part (f .parts)) z) in
     let n = numbered s t in (
       (let a = stays (object-numbers (f .objects)) 0 256 (n .1 .0) (omega arith) os in let l = object-rows-length (f .objects) in omega arith),
-      (let a = stays (all-statement-numbers (f .objects)) 0 2048 (n .1 .1) (omega arith) ss in omega arith),
+      (let a = stays (object-numbers (f .parts)) 0 512 (n .1 .1 .0) (omega arith) (ps .0) in let l = object-numbers-length (f .parts) in omega arith),
+      (let a = stays (all-statement-numbers (f .parts)) 0 2048 (n .1 .1 .1) (omega arith) (ps .1) in omega arith),
     )
 
 -- The rows of the tables fit into the stated rooms.
@@ -364,12 +368,12 @@ accepted-fits s t x e =
 -- So the rooms have their stated lengths.
 pub rooms-full : (t : Tables) → Fits t
     → (length (definition-room (t .definitions)) ≡ 512 * 13) × (length (enumerator-room (t .enumerators)) ≡ 1024 * 3)
-    × (length (object-room (t .objects)) ≡ 256 * 7) × (length (value-room (t .values)) ≡ 2048 * 9)
+    × (length (object-room (t .objects)) ≡ 256 * 8) × (length (value-room (t .values)) ≡ 2048 * 9)
 unfolding definition-room enumerator-room object-room value-room
 rooms-full t h =
     let a = cells-length 13 definition-cells definition-width (t .definitions) in
     let b = cells-length 3 enumerator-cells enumerator-width (t .enumerators) in
-    let c = cells-length 7 object-cells object-width (t .objects) in
+    let c = cells-length 8 object-cells object-width (t .objects) in
     let d = cells-length 9 value-cells value-width (t .values) in
     let a′ = h .definitions in
     let b′ = h .enumerators in
@@ -377,6 +381,6 @@ rooms-full t h =
     let d′ = h .values in (
       room-length (512 * 13) definition-cells (t .definitions) (omega arith),
       room-length (1024 * 3) enumerator-cells (t .enumerators) (omega arith),
-      room-length (256 * 7) object-cells (t .objects) (omega arith),
+      room-length (256 * 8) object-cells (t .objects) (omega arith),
       room-length (2048 * 9) value-cells (t .values) (omega arith),
     )

@@ -54,10 +54,6 @@ v22-default-no-enumerator : reading (bytesOf "OIL_VERSION=\"2.5\";IMPLEMENTATION
 unfolding everything
 v22-default-no-enumerator = refl
 
-v12-name-twice : reading (bytesOf "OIL_VERSION=\"2.5\";IMPLEMENTATION m{};CPU c{OS a;APPMODE a;TASK t;ISR t;TASK t;};") ≡ refused 12 76
-unfolding everything
-v12-name-twice = refl
-
 v13-not-defined : reading (bytesOf "OIL_VERSION=\"2.5\";IMPLEMENTATION m{TASK{ENUM[A{UINT32 X=1;},B]E=B;};};CPU c{OS o;APPMODE a;TASK t{E=B{X=1;};};};") ≡ refused 13 102
 unfolding everything
 v13-not-defined = refl

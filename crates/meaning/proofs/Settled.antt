@@ -1,11 +1,9 @@
--- A text's tokens are in order; so a text is answered by the first fault of the first stage that has one. Assumes nothing.
+-- A text's tokens are in order; so the stage of 6 to 10 is answered by its first fault. Assumes nothing.
 use mathlib.Core.Path.{_≡_, refl, sym, _∙_, subst}
 use mathlib.Core.List.{List, [], _∷_}
-use mathlib.Core.Bool.{Bool, true, false}
 use Prim.Native.Nat.{ℕ, zero, suc, _-_, _≤_}
 use native.Mathlib.Omega.{arith}
 use lib.ListN.{length}
-use lib.Dec.{ltb}
 use Rattle.token.specs.Tokens.{stepAt}
 use Rattle.token.specs.Lexing.{lexN, lexFrom, afterStep, Lexed}
 use Rattle.token.specs.declared.Step.{Step}
@@ -15,8 +13,7 @@ use Rattle.grammar.specs.Grammar.{Token, file, _▸_, ∎, _⟶_, Trees, tokens
 use Rattle.grammar.specs.Terminals.{tokenOf, tokensIn, tokens as tokens-of}
 use Rattle.grammar.specs.Demand.{Covered}
 use Rattle.meaning.specs.Syntax.{File}
-use Rattle.meaning.specs.Words.{choose}
-use Rattle.meaning.specs.Faults.{first, sooner}
+use Rattle.meaning.specs.Faults.{first}
 use Rattle.meaning.specs.Actions.{syntax}
 use Rattle.meaning.specs.Defining.{definition-faults}
 use Rattle.meaning.specs.Applying.{object-faults}
@@ -26,7 +23,7 @@ use Rattle.meaning.specs.Answers.{Answer, accepted, unless, tables, answ
 use Rattle.meaning.specs.Reading.{reading}
 use Rattle.meaning.proofs.Found.{reading-derived}
 use Rattle.meaning.proofs.Order.{Ordered, foremost}
-use Rattle.meaning.proofs.Leaves.{definition-order, object-order, statement-order}
+use Rattle.meaning.proofs.Leaves.{definition-order}
 
 tokens-later : (l : List Token) {p q : ℕ} → p ≤ q → Ordered q l → Ordered p l
 tokens-later [] h o = tt
@@ -52,26 +49,19 @@ pub text-ordered : (s : List ℕ) → Ordered 0 (tokens-of s)
 unfolding tokens-of lexFrom
 text-ordered s = lex-ordered (suc (length s - 0)) s 0
 
--- The answer by the first fault of each stage's list: what a reader that stops at the first fault gives.
+-- The answer where the stage of 6 to 10 is answered by the first fault of its list: what a reader of the implementation that stops at its first
+-- fault gives.
 unfoldable pub answer-in-order : File → Answer
 answer-in-order f =
     unless (foremost (definition-faults f)) (λ _.
-    unless (foremost (object-faults f)) (λ _.
-    unless (foremost (statement-stage f)) (λ _.
+    unless (first (object-faults f)) (λ _.
+    unless (first (statement-stage f)) (λ _.
     let rs = all-values f (f .objects) in
-    unless (foremost (too-many (how-many-in-all rs))) (λ _. accepted (tables f rs)))))
-
-one-fault : (n : ℕ) → first (too-many n) ≡ foremost (too-many n)
-unfolding too-many foremost first sooner choose
-one-fault n = go (ltb 2048 n)
-  where
-    go : (b : Bool) → first (choose b (λ _. record { place = 0; number = 19 } ∷ []) (λ _. [])) ≡ foremost (choose b (λ _. record { place = 0; number = 19 } ∷ []) (λ _. []))
-    go true = refl
-    go false = refl
+    unless (first (too-many (how-many-in-all rs))) (λ _. accepted (tables f rs)))))
 
 pub in-order : (s : List ℕ) (t : Trees _⟶_ (file ▸ ∎)) → Ordered 0 (tokens t) → answer (syntax s t) ≡ answer-in-order (syntax s t)
 unfolding answer answer-in-order
-in-order s t o = simp (definition-order s t o, object-order s t o, statement-order s t o, one-fault)
+in-order s t o = simp (definition-order s t o)
 
 -- All together: a text of at most 65,535 bytes that divides into the tokens of a derivation, with never more than sixteen braces open.
 pub reading-in-order : (s : List ℕ) → Covered s → (d : Derivation (tokens-of s)) → reading s ≡ answer-in-order (syntax s (d .tree))

@@ -58,7 +58,7 @@ object-words (x ∷ xs) = x .word ∷ x .name ∷ (statement-words (x .statement
 
 unfoldable pub file-words : File → List Word
 unfolding spec-words object-words
-file-words f = (f .version ∷ spec-words (f .specs)) ++ (f .cpu ∷ object-words (f .objects))
+file-words f = (f .version ∷ spec-words (f .specs)) ++ (f .cpu ∷ object-words (f .parts))
 
 -- 6 to 9 and 21 to 23 --------------------------------------------------------------------------------------------------------------------------------
 
@@ -118,31 +118,7 @@ pub definition-at : (f : File) → At 0 (f .version ∷ spec-words (f .specs)) (
 unfolding definition-faults
 definition-at f = at-if _ 6 (omega arith) (on (spec-at [] (f .specs)))
 
--- 11, 12 and 17 --------------------------------------------------------------------------------------------------------------------------
-
-few-at : (ks : List Kind) (os : List Object) (cpu : Word) {k : ℕ} → k ≤ 17 → At k (cpu ∷ []) (too-few ks os cpu)
-unfolding too-few
-few-at [] os cpu h = on nowhere
-few-at (k ∷ ks) os cpu h = at-if _ 17 h (few-at ks os cpu (omega arith))
-
-statement-at : (ss : Statements) → At 0 (statement-words ss) (statement-faults ss)
-unfolding statement-faults statement-words
-statement-at done = nowhere
-statement-at (state x inside rest) =
-    at-append (at-append (at-only _ 11 (x .name) (x .value ∷ option-words (x .brace)) (omega arith)) (statement-at inside)) (statement-at rest)
-
-each-at : (before xs : List Object) → At 0 (object-words xs) (each-object before xs)
-unfolding each-object object-words
-each-at before [] = nowhere
-each-at before (x ∷ xs) =
-    at-append (at-if _ 11 (omega arith) (at-if _ 17 (omega arith) (on (at-if _ 12 (omega arith) (on (statement-at (x .statements)))))))
-    (each-at (before ++ (x ∷ [])) xs)
-
-pub object-at : (f : File) → At 0 (f .cpu ∷ object-words (f .objects)) (object-faults f)
-unfolding object-faults
-object-at f = at-append (few-at kinds (f .objects) (f .cpu) (omega arith)) (each-at [] (f .objects))
-
--- 13 to 16 and 18 ------------------------------------------------------------------------------------------------------------------------
+-- Inside one block -----------------------------------------------------------------------------------------------------------------------
 
 reference-at : (os : List Object) (k : Kind) (o : Sort) (t : Word) → At 0 (t ∷ []) (reference-faults os k o t)
 unfolding reference-faults
@@ -188,14 +164,3 @@ judge-at (state x inside rest) os ds before =
     at-append
     (judged-at (find-definition ds (x .name)) os x before (names inside) (λ us. judge inside os us []) (statement-words inside) (λ us. judge-at inside os us []))
     (judge-at rest os ds (before ++ (x .name ∷ [])))
-
-judge-objects-at : (f : File) (xs : List Object) → At 0 (object-words xs) (judge-objects f xs)
-unfolding judge-objects judge-object object-words
-judge-objects-at f [] = nowhere
-judge-objects-at f (x ∷ xs) =
-    at-append (on {t = x .word} (at-if _ 16 (omega arith) (on (judge-at (x .statements) (f .objects) (of-kind (x .kind) (f .specs)) []))))
-    (judge-objects-at f xs)
-
-pub stage-at : (f : File) → At 0 (object-words (f .objects)) (statement-stage f)
-unfolding statement-stage
-stage-at f = judge-objects-at f (f .objects)

@@ -287,6 +287,6 @@ unfolding file-words
 scopes s t o =
     let f = syntax s t in
     let w = ordered-sub (words-leaves s t) 0 (leaves-in-order s t o) in
-    let v = ordered-sub (drop {t = f .version} (sub-front (sub-all (spec-words (f .specs))) (f .cpu ∷ object-words (f .objects)))) 0 w in
+    let v = ordered-sub (drop {t = f .version} (sub-front (sub-all (spec-words (f .specs))) (f .cpu ∷ object-words (f .parts)))) 0 w in
     let e = ends (spec-words (f .specs)) 0 v in
     deep-specs (f .specs) 0 (e .hi) (all-definition-rows (f .specs)) [] refl (e .run) (numbered s t .0 .0) (λ x p q. tt)

@@ -399,7 +399,7 @@ all-enumerator-rows-unplaced (x ∷ xs) =
 pub object-rows-unplaced : (xs : List Object) → object-rows (each unplaced-object xs) ≡ each unplaced-object-row (object-rows xs)
 unfolding object-rows each unplaced-object unplaced-object-row unplaced-word span-of absent
 object-rows-unplaced [] = refl
-object-rows-unplaced (x ∷ xs) = ap (record { kind = x .kind; word = absent; name = absent; block = absent } ∷_) (object-rows-unplaced xs)
+object-rows-unplaced (x ∷ xs) = ap (record { kind = x .kind; word = absent; name = absent; block = absent; parts = x .parts } ∷_) (object-rows-unplaced xs)
 
 pub how-many-objects-unplaced : (k : Kind) (xs : List Object) → how-many k (each unplaced-object xs) ≡ how-many k xs
 unfolding how-many each unplaced-object

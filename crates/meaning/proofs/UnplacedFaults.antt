@@ -15,7 +15,7 @@ use Rattle.meaning.specs.Kinds.{same-kind, kinds, fewest, most}
 use Rattle.meaning.specs.Faults.{Fault, fault-if, sooner, first}
 use Rattle.meaning.specs.Scopes.{Sort, a-number, a-string, a-truth, an-auto, a-no-default, a-name, sort-of, of-kind, Under, find-value, definitions-or, under, find-definition, heads, names, find-object, fits-number, fits-as, fits}
 use Rattle.meaning.specs.Defining.{outside, bound-faults, range-faults, default-wrong, default-number, default-faults, defined-in, differs, name-faults, word-faults, scope-faults, value-faults, specified, spec-faults, definition-faults}
-use Rattle.meaning.specs.Applying.{how-many, too-few, full, statement-faults, each-object, object-faults}
+use Rattle.meaning.specs.Applying.{how-many, too-few, full, statement-faults, each-object, each-part, object-faults}
 use Rattle.meaning.specs.Judging.{lacks, reference-faults, brace-faults, faults-as, own-faults, and-inside, judged, judge, judge-object, judge-objects, statement-stage}
 use Rattle.meaning.specs.Resolving.{all-values, how-many-in-all, too-many}
 use Rattle.meaning.specs.Answers.{Tables, Answer, accepted, refused, tables, unless, answer}
@@ -170,7 +170,7 @@ definition-faults-unplaced f =
     append-unplaced (fault-if (not (same (f .version .bytes) (bytesOf "\"2.5\""))) (f .version) 6) (spec-faults [] (f .specs))
     (if-unplaced (not (same (f .version .bytes) (bytesOf "\"2.5\""))) (f .version) 6) (specs-unplaced [] (f .specs))
 
--- 11, 12 and 17 ----------------------------------------------------------------------------------------------------------------------------
+-- 11 and 17 ----------------------------------------------------------------------------------------------------------------------------
 
 few-unplaced : (ks : List Kind) (os : List Object) (cpu : Word) → too-few ks (each unplaced-object os) (unplaced-word cpu) ≡ at-zero (too-few ks os cpu)
 unfolding too-few each
@@ -193,18 +193,25 @@ objects-unplaced before [] = refl
 objects-unplaced before (x ∷ xs) =
     let a = fault-if (eqb (x .row) 256) (x .word) 11 in
     let b = fault-if (full (most (x .kind)) (how-many (x .kind) before)) (x .word) 17 in
-    let c = fault-if (is-there (find-object (x .kind) before (x .name))) (x .name) 12 in
-    let d = statement-faults (x .statements) in
-    append-unplaced (a ++ (b ++ (c ++ d))) (each-object (before ++ (x ∷ [])) xs)
-    (append-unplaced a (b ++ (c ++ d)) (if-unplaced (eqb (x .row) 256) (x .word) 11)
-    (append-unplaced b (c ++ d) (if-same (x .word) 17 (ap (full (most (x .kind))) (how-many-objects-unplaced (x .kind) before)))
-    (append-unplaced c d (if-same (x .name) 12 (ap is-there (object-unplaced (x .kind) before (x .name)) ∙ there-unplaced unplaced-object (find-object (x .kind) before (x .name))))
-    (statements-unplaced (x .statements)))))
+    append-unplaced (a ++ b) (each-object (before ++ (x ∷ [])) xs)
+    (append-unplaced a b (if-unplaced (eqb (x .row) 256) (x .word) 11)
+    (if-same (x .word) 17 (ap (full (most (x .kind))) (how-many-objects-unplaced (x .kind) before))))
     (ap (λ l. each-object l (each unplaced-object xs)) (behind unplaced-object before x) ∙ objects-unplaced (before ++ (x ∷ [])) xs)
+
+parts-unplaced : (xs : List Object) → each-part (each unplaced-object xs) ≡ at-zero (each-part xs)
+unfolding each-part each unplaced-object
+parts-unplaced [] = refl
+parts-unplaced (x ∷ xs) =
+    let a = fault-if (eqb (x .row) 512) (x .word) 11 in
+    append-unplaced (a ++ statement-faults (x .statements)) (each-part xs)
+    (append-unplaced a (statement-faults (x .statements)) (if-unplaced (eqb (x .row) 512) (x .word) 11) (statements-unplaced (x .statements)))
+    (parts-unplaced xs)
 
 pub object-faults-unplaced : (f : File) → object-faults (unplaced f) ≡ each unplaced-fault (object-faults f)
 unfolding object-faults unplaced each
-object-faults-unplaced f = append-unplaced (too-few kinds (f .objects) (f .cpu)) (each-object [] (f .objects)) (few-unplaced kinds (f .objects) (f .cpu)) (objects-unplaced [] (f .objects))
+object-faults-unplaced f =
+    append-unplaced (too-few kinds (f .objects) (f .cpu)) (each-object [] (f .objects) ++ each-part (f .parts)) (few-unplaced kinds (f .objects) (f .cpu))
+    (append-unplaced (each-object [] (f .objects)) (each-part (f .parts)) (objects-unplaced [] (f .objects)) (parts-unplaced (f .parts)))
 
 -- 13 to 16 and 18 --------------------------------------------------------------------------------------------------------------------------
 

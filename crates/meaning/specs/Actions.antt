@@ -13,6 +13,7 @@ use Rattle.token.specs.declared.Sort.{Sort as TokenSort}
 use Rattle.token.specs.declared.Sort.the-variants.{Word as WordToken, Number, String, Punctuator}
 use Rattle.grammar.specs.Grammar.{Token, Kind, OS, Integer, UINT32, Class, ordinary, numeral, quoted, other, kind-word, type-word, integer-word, word, sign, Rule, rule, tok, Form, _▸_, ∎, _⟶_, Trees, nil, leaf, node, file, version, implementation, specs, spec, definitions, definition, attribute, D, P, auto, mark, integer-range, numbers, boolean-range, enumerator, enumerators, application, objects, object, block, statements, statement, default, own, file-is, version-is, implementation-is, no-spec, a-spec, spec-is, no-definition, a-definition, an-attribute, a-reference, an-integer, a-string, a-boolean, an-enum, reference-is, no-D, a-D, no-P, a-P, no-auto, with-auto, no-mark, a-mark, no-range, a-range, a-list, no-number, a-number, no-boolean-range, a-boolean-range, enumerator-is, no-enumerator, an-enumerator, no-default, a-default, own-auto, own-none, own-number, own-string, own-true, own-false, own-name, application-is, no-object, an-object, an-object-alone, an-object-with, no-block, a-block, no-statement, a-statement, statement-is, value-number, value-string, value-auto, value-name, value-true, value-false, reference as reference-rule, value as value-rule}
 use Rattle.meaning.specs.Syntax.{Num, Word, Span, absent, through, AttributeType, integer, string, boolean, enum, Bounds, no-bounds, from-to, one-of, Definitions, no-more, define, Values, no-value, Defined, Statement, Statements, done, state, Spec, Object, File, definitions-in, definitions-under, enumerators-in, statements-in, value as a-value, reference as reference-to}
+use Rattle.meaning.specs.Merging.{merge}
 
 -- Words ------------------------------------------------------------------------------------------------------------------------------------
 
@@ -70,6 +71,7 @@ pub record Implementation : Type 0 where
   pub name : Word
   pub specs : List Spec
 
+-- The parts of objects, in text order.
 pub record Application : Type 0 where
   pub name : Word
   pub objects : List Object
@@ -163,7 +165,7 @@ stating x m rest = state (x .statement) (x .inside) (rest (suc m + statements-in
 -- What a form means by what its parts mean.
 unfoldable pub means : {x : Rule} {g : Form} → x ⟶ g → Parts g → M x
 means file-is (v, (i, (a, _))) =
-    record { version = v; implementation = i .span; implementation-name = i .name; specs = i .specs; cpu = a .name; objects = a .objects }
+    record { version = v; implementation = i .span; implementation-name = i .name; specs = i .specs; cpu = a .name; parts = a .objects; objects = merge (a .objects) }
 -- OIL_VERSION `=` string
 means version-is (_, (_, (v, _))) = v
 -- IMPLEMENTATION name `{` specs `}` D `;`
@@ -218,10 +220,10 @@ means no-object m = λ n k. []
 means an-object (x, (xs, _)) = λ n k. let y = x n k in y ∷ xs (suc n) (k + statements-in (y .statements))
 -- kind name
 means an-object-alone (t, (x, _)) = λ n k.
-    record { row = n; kind = kind-of (t .class); word = t; name = x; block = absent; statements = done }
+    record { row = n; kind = kind-of (t .class); word = t; name = x; block = absent; parts = 1; statements = done }
 -- kind name `{` statements `}`
 means an-object-with (t, (x, (o, (ss, (c, _))))) = λ n k.
-    record { row = n; kind = kind-of (t .class); word = t; name = x; block = through o c; statements = ss k }
+    record { row = n; kind = kind-of (t .class); word = t; name = x; block = through o c; parts = 1; statements = ss k }
 means no-block m = record { brace = none; inside = λ k. done }
 means a-block (o, (ss, _)) = record { brace = some o; inside = ss }
 means no-statement m = λ k. done

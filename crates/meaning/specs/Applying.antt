@@ -1,27 +1,27 @@
--- The application: the rows of objects, the counts of the kinds, and the stage of 11, 12 and 17, its faults in the order of their places
--- (document 01, "Meaning" and "Refusals and their order"). Assumes nothing.
+-- The application: the rows of objects, the counts of the kinds, and the stage of 11 and 17 (document 01, "Meaning" and "Refusals and
+-- their order"; document 02, Q-2). Assumes nothing.
 use mathlib.Core.List.{List, [], _∷_, _++_}
 use mathlib.Core.Bool.{Bool, false}
 use mathlib.Core.Option.{Option, none, some}
 use Prim.Native.Nat.{ℕ, _+_}
 use lib.Dec.{eqb, ltb, leb}
-use Rattle.token.specs.Find.{bit, is-there}
+use Rattle.token.specs.Find.{bit}
 use Rattle.grammar.specs.Grammar.{Kind}
 use Rattle.meaning.specs.Syntax.{Word, Span, span-of, Statements, done, state, Object, File}
 use Rattle.meaning.specs.Kinds.{same-kind, kinds, fewest, most}
 use Rattle.meaning.specs.Faults.{Fault, fault-if}
-use Rattle.meaning.specs.Scopes.{find-object}
 
--- "an object row its kind, name and block": the kind with its word.
+-- "an object row its kind, name and block": the kind with its word. "The object row holds its first part's block and its number of parts."
 pub record ObjectRow : Type 0 where
   pub kind : Kind
   pub word : Span
   pub name : Span
   pub block : Span
+  pub parts : ℕ
 
 unfoldable pub object-rows : List Object → List ObjectRow
 object-rows [] = []
-object-rows (x ∷ xs) = record { kind = x .kind; word = span-of (x .word); name = span-of (x .name); block = x .block } ∷ object-rows xs
+object-rows (x ∷ xs) = record { kind = x .kind; word = span-of (x .word); name = span-of (x .name); block = x .block; parts = x .parts } ∷ object-rows xs
 
 -- How many objects are of a kind: what is counted, and what "fewest and most objects" bound.
 unfoldable pub how-many : Kind → List Object → ℕ
@@ -51,16 +51,19 @@ unfoldable pub statement-faults : Statements → List Fault
 statement-faults done = []
 statement-faults (state x inside rest) = (fault-if (eqb (x .number) 2048) (x .name) 11 ++ statement-faults inside) ++ statement-faults rest
 
--- 11 ("object 257") and 17 at the kind word, 12 ("object name used before in its kind") at the name: before are the objects before it.
+-- "The limit of 256 counts objects": 11 ("object 257") at the kind word of its first part, and 17 there; before are the objects before it. "A
+-- further part of an OS, COM or NM is no second one for 17."
 unfoldable pub each-object : (before : List Object) → List Object → List Fault
 each-object before [] = []
 each-object before (x ∷ xs) =
-    (fault-if (eqb (x .row) 256) (x .word) 11
-    ++ (fault-if (full (most (x .kind)) (how-many (x .kind) before)) (x .word) 17
-    ++ (fault-if (is-there (find-object (x .kind) before (x .name))) (x .name) 12
-    ++ statement-faults (x .statements))))
+    (fault-if (eqb (x .row) 256) (x .word) 11 ++ fault-if (full (most (x .kind)) (how-many (x .kind) before)) (x .word) 17)
     ++ each-object (before ++ (x ∷ [])) xs
 
--- The stage of 11, 12 and 17.
+-- "and 512 counts parts; both give 11 at the kind word": part 513; and the statements.
+unfoldable pub each-part : List Object → List Fault
+each-part [] = []
+each-part (x ∷ xs) = (fault-if (eqb (x .row) 512) (x .word) 11 ++ statement-faults (x .statements)) ++ each-part xs
+
+-- The stage of 11 and 17. "Refusal 12 is retired."
 unfoldable pub object-faults : File → List Fault
-object-faults f = too-few kinds (f .objects) (f .cpu) ++ each-object [] (f .objects)
+object-faults f = too-few kinds (f .objects) (f .cpu) ++ (each-object [] (f .objects) ++ each-part (f .parts))

@@ -37,10 +37,11 @@ definition-cells r =
 unfoldable pub enumerator-cells : EnumeratorRow → List ℕ
 enumerator-cells r = r .attribute ∷ r .name .place ∷ r .name .length ∷ []
 
--- Objects: 7 cells a row.
+-- Objects: 8 cells a row.
 unfoldable pub object-cells : ObjectRow → List ℕ
 object-cells r =
-    kind-number (r .kind) ∷ r .word .place ∷ r .word .length ∷ r .name .place ∷ r .name .length ∷ r .block .place ∷ r .block .length ∷ []
+    kind-number (r .kind) ∷ r .word .place ∷ r .word .length ∷ r .name .place ∷ r .name .length ∷ r .block .place ∷ r .block .length
+    ∷ r .parts ∷ []
 
 -- Resolved values: 9 cells a row. The owner's sort and row; the value's sort, sign and amount.
 unfoldable pub owner-sort : Owner → ℕ
@@ -95,7 +96,7 @@ zeros (suc n) = 0 ∷ zeros n
 unfoldable pub room-cells : {R : Type 0} → ℕ → (R → List ℕ) → List R → List ℕ
 room-cells n f rs = cells f rs ++ zeros (n - length (cells f rs))
 
--- The cells of the four stated rooms: 512 rows of 13, 1,024 of 3, 256 of 7, 2,048 of 9.
+-- The cells of the four stated rooms: 512 rows of 13, 1,024 of 3, 256 of 8, 2,048 of 9.
 unfoldable pub definition-room : List DefinitionRow → List ℕ
 definition-room rs = room-cells (512 * 13) definition-cells rs
 
@@ -103,7 +104,7 @@ unfoldable pub enumerator-room : List EnumeratorRow → List ℕ
 enumerator-room rs = room-cells (1024 * 3) enumerator-cells rs
 
 unfoldable pub object-room : List ObjectRow → List ℕ
-object-room rs = room-cells (256 * 7) object-cells rs
+object-room rs = room-cells (256 * 8) object-cells rs
 
 unfoldable pub value-room : List ValueRow → List ℕ
 value-room rs = room-cells (2048 * 9) value-cells rs

@@ -5,6 +5,7 @@ pub mod Words
 pub mod Kinds
 pub mod Faults
 pub mod Scopes
+pub mod Merging
 pub mod Defining
 pub mod Applying
 pub mod Judging

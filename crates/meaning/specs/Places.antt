@@ -71,6 +71,7 @@ unplaced-object x = record {
   word = unplaced-word (x .word);
   name = unplaced-word (x .name);
   block = absent;
+  parts = x .parts;
   statements = unplaced-statements (x .statements);
 }
 
@@ -81,6 +82,7 @@ unplaced f = record {
   implementation-name = unplaced-word (f .implementation-name);
   specs = each unplaced-spec (f .specs);
   cpu = unplaced-word (f .cpu);
+  parts = each unplaced-object (f .parts);
   objects = each unplaced-object (f .objects);
 }
 
@@ -104,7 +106,7 @@ unfoldable pub unplaced-enumerator-row : EnumeratorRow → EnumeratorRow
 unplaced-enumerator-row r = record { attribute = r .attribute; name = absent }
 
 unfoldable pub unplaced-object-row : ObjectRow → ObjectRow
-unplaced-object-row r = record { kind = r .kind; word = absent; name = absent; block = absent }
+unplaced-object-row r = record { kind = r .kind; word = absent; name = absent; block = absent; parts = r .parts }
 
 unfoldable pub unplaced-value-row : ValueRow → ValueRow
 unplaced-value-row r = record { definition = r .definition; owner = r .owner; value = r .value; stated = r .stated; word = absent }

@@ -106,13 +106,15 @@ pub data Statements : Type 0 where
   done : Statements
   state : Statement → Statements → Statements → Statements
 
--- "object: kind name .. or kind name `{` statements `}`".
+-- "object: kind name .. or kind name `{` statements `}`". What a text has is a part, an object of one part whose row is its number among the
+-- parts; parts of one kind and name are one object (Merging).
 pub record Object : Type 0 where
   pub row : ℕ
   pub kind : Kind
   pub word : Word
   pub name : Word
   pub block : Span
+  pub parts : ℕ
   pub statements : Statements
 
 -- "file: version, implementation, application, end."
@@ -125,6 +127,9 @@ pub record File : Type 0 where
   pub specs : List Spec
   -- the name behind CPU
   pub cpu : Word
+  -- what stands in the CPU's braces
+  pub parts : List Object
+  -- the parts of one kind and name as one object
   pub objects : List Object
 
 -- How many there are -----------------------------------------------------------------------------------------------------------------------

@@ -36,7 +36,7 @@ module _ (x y z : Table × Table) (a b : Put) (d : FillBoth x a y) (e : FillBoth
   put-then : FillBoth x (also a b) z
   put-then =
       record {
-        wide = λ k. wide-then 9 (a .0 k) (b .0 (k + length (a .1 k))) (d .wide k) (e .wide (k + length (a .1 k)));
+        wide = λ k. wide-then 10 (a .0 k) (b .0 (k + length (a .1 k))) (d .wide k) (e .wide (k + length (a .1 k)));
         same = λ k l.
             length-append (a .0 k) (b .0 (k + length (a .1 k)))
             ∙ ap₂ _+_ (d .same k l) (e .same (k + length (a .1 k)) (l + length (a .1 l)))
@@ -56,9 +56,9 @@ module _ (x y z : Table × Table) (a b : Put) (d : FillBoth x a y) (e : FillBoth
             let j : y .1 .1 ≡ k = omega (arith, d .lines .1 .count, r, h′) in
             let u : y .1 .1 + length (b .1 (y .1 .1)) ≤ 65536 = subst (λ (n : ℕ). n + length (b .1 n) ≤ 65536) (sym j) (omega (arith, r, h′)) in
             e .table (omega (arith, d .count, p, q, h)) u
-            ∙ ap₂ (λ (n n′ : ℕ). sets (y .0 .0) (n * 9) (join (b .0 n′))) i j
-            ∙ ap (λ (t : List ℕ). sets t ((x .0 .1 + length (a .0 m)) * 9) (join (b .0 k))) (d .table (omega (arith, p, h)) (omega (arith, r, h′)))
-            ∙ sym (rows-append 9 (x .0 .0) (x .0 .1) (a .0 m) (b .0 k) (d .wide m));
+            ∙ ap₂ (λ (n n′ : ℕ). sets (y .0 .0) (n * 10) (join (b .0 n′))) i j
+            ∙ ap (λ (t : List ℕ). sets t ((x .0 .1 + length (a .0 m)) * 10) (join (b .0 k))) (d .table (omega (arith, p, h)) (omega (arith, r, h′)))
+            ∙ sym (rows-append 10 (x .0 .0) (x .0 .1) (a .0 m) (b .0 k) (d .wide m));
         lines = lines .does-then (x .1) (y .1) (z .1) (a .1) (b .1) (d .lines) (e .lines);
       }
 
@@ -102,27 +102,27 @@ pub all : Effects All (List ℕ × (Table × Table)) beside ([], no-put) FillAll
 all = side-by-side counting puts
 
 -- One object.
-put-object : {l l′ : List ℕ} {n n′ : ℕ} {t u : Table} (w : Lines) (r : ℕ → List ℕ) (c : List ℕ) → ((k : ℕ) → length (r k) ≡ 9) → Fill t w u
-    → l′ ≡ sets l (n * 9) c → (t .1 + length (w (t .1)) ≤ 65536 → c ≡ r (t .1)) → n′ ≡ n + min 1 (65536 - n) → FillBoth ((l, n), t) ((λ k. r k ∷ []), w) ((l′, n′), u)
+put-object : {l l′ : List ℕ} {n n′ : ℕ} {t u : Table} (w : Lines) (r : ℕ → List ℕ) (c : List ℕ) → ((k : ℕ) → length (r k) ≡ 10) → Fill t w u
+    → l′ ≡ sets l (n * 10) c → (t .1 + length (w (t .1)) ≤ 65536 → c ≡ r (t .1)) → n′ ≡ n + min 1 (65536 - n) → FillBoth ((l, n), t) ((λ k. r k ∷ []), w) ((l′, n′), u)
 unfolding join
 put-object {l} {n} {t} w r c h f p i q =
     record {
-      wide = λ k. wide-one 9 (r k) (h k);
+      wide = λ k. wide-one 10 (r k) (h k);
       same = λ k k′. refl;
-      size = ap length p ∙ length-sets l (n * 9) c;
+      size = ap length p ∙ length-sets l (n * 10) c;
       count = q;
-      table = λ a b. p ∙ ap (sets l (n * 9)) (i b ∙ sym (append-nil (r (t .1))));
+      table = λ a b. p ∙ ap (sets l (n * 10)) (i b ∙ sym (append-nil (r (t .1))));
       lines = f;
     }
 
 module _ {s : List ℕ} {a b c : Look} {l l′ : List ℕ} {n n′ : ℕ} where
   pub object-alone : {e k v w m : ℕ} {t : List ℕ} {r : Look} → k ≡ a .code - 9 → Meets 1 (kind · ∎) s a b → Meets 1 (name · ∎) s b c → v ≡ a .next - a .at → w ≡ b .next - b .at
-      → n′ ≡ n + min 1 (65536 - n) → (c .code ≡ 44 → ⊥) → l′ ≡ sets l (n * 9) (k ∷ a .at ∷ v ∷ b .at ∷ w ∷ 0 ∷ 0 ∷ m ∷ m ∷ []) → Meets e (D ▸ sg semicolon · ∎) s c r
+      → n′ ≡ n + min 1 (65536 - n) → (c .code ≡ 44 → ⊥) → l′ ≡ sets l (n * 10) (k ∷ a .at ∷ v ∷ b .at ∷ w ∷ 0 ∷ 0 ∷ 1 ∷ m ∷ m ∷ []) → Meets e (D ▸ sg semicolon · ∎) s c r
       → Walks FillBoth 1 (object ▸ ∎) (λ w m. ObjectRows a w (m .0)) s a r ((l, n), (t, m)) ((l′, n′), (t, m))
   unfolding means absent front-of behind ObjectRows object-cells statement-rows statements-in
   object-alone {k} {v} {w} {m} {t} g x y p q i h o d =
       let f = matched kind x ▻ first name y ▻ plain (D ▸ sg semicolon · ∎) d in
-      let row : ℕ → List ℕ = λ j. k ∷ a .at ∷ v ∷ b .at ∷ w ∷ 0 ∷ 0 ∷ j ∷ j ∷ [] in
+      let row : ℕ → List ℕ = λ j. k ∷ a .at ∷ v ∷ b .at ∷ w ∷ 0 ∷ 0 ∷ 1 ∷ j ∷ j ∷ [] in
       let z : Put = ((λ j. row j ∷ []), none-yet) in
       record {
         what = z;
@@ -136,7 +136,7 @@ module _ {s : List ℕ} {a b c : Look} {l l′ : List ℕ} {n n′ : ℕ} where
                 kd,
                 ap (λ (r : List ℕ). r ∷ [])
                     ((kd ∙ sym g) ⸬ seen-place (q′ .0 .0) ⸬ (seen-length (q′ .0 .0) ∙ sym p) ⸬ seen-place (q′ .1 .0) ⸬ (seen-length (q′ .1 .0) ∙ sym q) ⸬ refl ⸬ refl
-                    ⸬ refl ⸬ add-zero j′ ⸬ refl),
+                    ⸬ refl ⸬ refl ⸬ add-zero j′ ⸬ refl),
                 refl,
               )));
         };
@@ -146,18 +146,18 @@ module _ {s : List ℕ} {a b c g : Look} {l l′ : List ℕ} {n n′ : ℕ} wher
   pub object-with : {e e′ k v w m m′ extent : ℕ} {t t′ : List ℕ} {d r f : Look} → k ≡ a .code - 9 → Meets 1 (kind · ∎) s a b → Meets 1 (name · ∎) s b c → v ≡ a .next - a .at
       → w ≡ b .next - b .at → n′ ≡ n + min 1 (65536 - n) → c .code ≡ 44 → d ≡ advanced s c
       → Walks Fill 0 (statements ▸ ∎) (λ w m. StatementRows w (m .0)) s d g (t, m) (t′, m′) → extent ≡ (g .at + (g .next - g .at)) - c .at
-      → l′ ≡ sets l (n * 9) (k ∷ a .at ∷ v ∷ b .at ∷ w ∷ c .at ∷ extent ∷ m ∷ m′ ∷ []) → Meets e (sg rbrace · ∎) s g f → Meets e′ (D ▸ sg semicolon · ∎) s f r
+      → l′ ≡ sets l (n * 10) (k ∷ a .at ∷ v ∷ b .at ∷ w ∷ c .at ∷ extent ∷ 1 ∷ m ∷ m′ ∷ []) → Meets e (sg rbrace · ∎) s g f → Meets e′ (D ▸ sg semicolon · ∎) s f r
       → Walks FillBoth 1 (object ▸ ∎) (λ w m. ObjectRows a w (m .0)) s a r ((l, n), (t, m)) ((l′, n′), (t′, m′))
   unfolding means through front-of behind ObjectRows StatementRows object-cells matches classAt
   object-with {k} {v} {w} {m} {m′} {extent} gk x y p q i h o ss ex wr cl d =
       let br = take (sg lbrace) {s = s} {a = c} (at-code (matches (sg lbrace)) 44 tt h) o in
       let f = matched kind x ▻ first name y ▻ first (sg lbrace) br ▻ ss .fills ▻ first (sg rbrace) cl ▻ plain (D ▸ sg semicolon · ∎) d in
-      let row : ℕ → List ℕ = λ j. k ∷ a .at ∷ v ∷ b .at ∷ w ∷ c .at ∷ extent ∷ j ∷ (j + length (ss .what j)) ∷ [] in
+      let row : ℕ → List ℕ = λ j. k ∷ a .at ∷ v ∷ b .at ∷ w ∷ c .at ∷ extent ∷ 1 ∷ j ∷ (j + length (ss .what j)) ∷ [] in
       let z : Put = ((λ j. row j ∷ []), ss .what) in
       record {
         what = z;
-        does = put-object (ss .what) row (k ∷ a .at ∷ v ∷ b .at ∷ w ∷ c .at ∷ extent ∷ m ∷ m′ ∷ []) (λ j. refl) (ss .does) wr
-            (λ u. let e : m′ ≡ m + length (ss .what m) = omega (arith, ss .does .1 .count, u) in ap (λ (j : ℕ). k ∷ a .at ∷ v ∷ b .at ∷ w ∷ c .at ∷ extent ∷ m ∷ j ∷ []) e) i;
+        does = put-object (ss .what) row (k ∷ a .at ∷ v ∷ b .at ∷ w ∷ c .at ∷ extent ∷ 1 ∷ m ∷ m′ ∷ []) (λ j. refl) (ss .does) wr
+            (λ u. let e : m′ ≡ m + length (ss .what m) = omega (arith, ss .does .1 .count, u) in ap (λ (j : ℕ). k ∷ a .at ∷ v ∷ b .at ∷ w ∷ c .at ∷ extent ∷ 1 ∷ m ∷ j ∷ []) e) i;
         fills = record {
           meets = object-by (x ⊳ y ⊳ block-by h o (ss .fills .meets ⊳ cl) ⊳ d);
           told = λ u.
@@ -174,7 +174,7 @@ module _ {s : List ℕ} {a b c g : Look} {l l′ : List ℕ} {n n′ : ℕ} wher
                     ((kd ∙ sym gk) ⸬ seen-place (q′ .0 .0) ⸬ (seen-length (q′ .0 .0) ∙ sym p) ⸬ seen-place (q′ .1 .0) ⸬ (seen-length (q′ .1 .0) ∙ sym q) ⸬ seen-place open-brace
                     ⸬ (ap₂ (λ (i j : ℕ). (i + j) - m .1 .1 .0 .place) (seen-place last) (seen-length last)
                     ∙ ap (λ (i : ℕ). (g .at + (g .next - g .at)) - i) (seen-place open-brace) ∙ sym ex)
-                    ⸬ refl ⸬ ap (λ (i : ℕ). j′ + i) e ⸬ refl),
+                    ⸬ refl ⸬ refl ⸬ ap (λ (i : ℕ). j′ + i) e ⸬ refl),
                 rows,
               )));
         };

@@ -48,12 +48,12 @@ also a b = ((λ k. a .0 k ++ b .0 (k + length (a .1 k))), then (a .1) (b .1))
 -- The tables of objects and of statements have been filled. Rows of objects hold numbers of statements: nothing is said of their cells where
 -- either table has more than 65,536 rows.
 pub record FillBoth (x : Table × Table) (w : Put) (y : Table × Table) : Type 0 where
-  pub wide : (k : ℕ) → Wide 9 (w .0 k)
+  pub wide : (k : ℕ) → Wide 10 (w .0 k)
   pub same : (k l : ℕ) → length (w .0 k) ≡ length (w .0 l)
   pub size : length (y .0 .0) ≡ length (x .0 .0)
   pub count : y .0 .1 ≡ x .0 .1 + min (length (w .0 0)) (65536 - x .0 .1)
   pub table : x .0 .1 + length (w .0 0) ≤ 65536 → x .1 .1 + length (w .1 (x .1 .1)) ≤ 65536
-      → y .0 .0 ≡ sets (x .0 .0) (x .0 .1 * 9) (join (w .0 (x .1 .1)))
+      → y .0 .0 ≡ sets (x .0 .0) (x .0 .1 * 10) (join (w .0 (x .1 .1)))
   pub lines : Fill (x .1) (w .1) (y .1)
 
 -- With the counts of the kinds.

@@ -1,4 +1,4 @@
-// The walk of the application: it reads the objects and puts a row for each object and each statement, in text order.
+// The walk of the application: it reads the parts of objects and puts a row for each part and each statement, in text order.
 ghost use mathlib.Core.Path.{_≡_};
 ghost use lib.ListN.{replicate};
 ghost use Rattle.grammar.specs.Grammar.{_▸_, ∎, block, value, statement, statements, object, objects};
@@ -159,8 +159,8 @@ pub fn object(text: &[u8], o: &mut [usize], s: &mut [usize], a: Look, n: usize, 
     let len = filling::length(b);
     let k = filling::next(n);
     if c.code != LBRACE {
-        let cells = [kind, a.at, size, b.at, len, 0, 0, m, m];
-        filling::put_row(o, 9, n, &cells);
+        let cells = [kind, a.at, size, b.at, len, 0, 0, 1, m, m];
+        filling::put_row(o, 10, n, &cells);
         let d = parts::finish(text, c);
         return Passed {
             look: d,
@@ -172,8 +172,19 @@ pub fn object(text: &[u8], o: &mut [usize], s: &mut [usize], a: Look, n: usize, 
     let e = statements(text, s, d, m);
     let last = e.look;
     let extent = filling::through(c.at, last);
-    let cells = [kind, a.at, size, b.at, len, c.at, extent, m, e.statements];
-    filling::put_row(o, 9, n, &cells);
+    let cells = [
+        kind,
+        a.at,
+        size,
+        b.at,
+        len,
+        c.at,
+        extent,
+        1,
+        m,
+        e.statements,
+    ];
+    filling::put_row(o, 10, n, &cells);
     let f = lookahead::expect(text, last, RBRACE);
     let g = parts::finish(text, f);
     Passed {

@@ -32,12 +32,12 @@ use Rattle.meaning.specs.Judging.{statement-stage}
 use Rattle.meaning.specs.Answers.{Answer as Meant, refused, unless, answer}
 use Rattle.meaning.specs.Reading.{not-grammar, meant, reading}
 use Rattle.meaning.proofs.Whole.{one-answer}
-use Rattle.layout.specs.Kept.{kept, kept-definitions, kept-enumerators, kept-objects, kept-statements}
+use Rattle.layout.specs.Kept.{kept, kept-definitions, kept-enumerators, kept-parts, kept-part-statements}
 use Rattle.scopes.specs.Situations.{Situation}
 use Rattle.scopes.specs.Promises.{fault-of}
 use Rattle.walk.specs.Whole.{Rooms, Few, Whole}
 use Rattle.walk.specs.declared.Walked.{Walked}
-use Rattle.reading.specs.Decisions.{grammarFault, Kept, orElse, stageFault, Decided, blank}
+use Rattle.reading.specs.Decisions.{grammarFault, KeptParts, orElse, stageFault, Decided, blank, Staged}
 use Rattle.reading.specs.declared.Decision.{Decision}
 use Rattle.meaning.proofs.Numbered.{NumberedOne, of-definitions, of-objects, of-stage, of-first}
 
@@ -92,11 +92,11 @@ module _ (s : List ℕ) (x y : Rooms) (w : Walked) (h : Whole s x y w) where
 -- The text has the syntax f, and its rows are kept.
 pub record Arrived (s : List ℕ) (y : Rooms) (w : Walked) : Type 0 where
   pub file : File
-  pub kept : Kept s y w file
+  pub kept : KeptParts s y w file
   pub covered : Covered s
 
 pub arrived : (s : List ℕ) (y : Rooms) (w : Walked) → Whole s blank y w → length s ≤ 65535 → numberOf (answerOf (w .look)) ≡ 0 → Arrived s y w
-unfolding rest restBy lexAt tokens syntax Few kept-definitions kept-enumerators kept-objects kept-statements kept
+unfolding rest restBy lexAt tokens syntax Few kept-definitions kept-enumerators kept-parts kept-part-statements kept
 arrived s y w h l z =
     let e = number-zero (answerOf (w .look)) z in
     let c = passes-code (w .look) e in
@@ -175,10 +175,11 @@ stages-refuse none (some x) c k r e n = ap (λ (q : Fault). refused (q .number) 
 stages-refuse (some x) b c k r e n = ap (λ (q : Fault). refused (q .number) (q .place)) (sym e)
 
 -- What the fault of these stages decides.
-pub decided : (s : List ℕ) (y : Rooms) (d : Decision) (t : Arrived s y (d .walked)) → d .fault ≡ fault-of (stageFault (t .file)) → Decided s y d
+pub decided : (s : List ℕ) (y y′ : Rooms) (w : Walked) (d : Decision) (t : Arrived s y w) → Staged s y′ (t .file) d → Decided s y′ d
 unfolding stageFault answer
-decided s y d t e =
+decided s y y′ w d t g =
     let f = t .file in
+    let e = g .fault in
     record {
       refused-by = λ n.
           reading-is s f (t .kept .situation) (t .covered)
@@ -188,7 +189,7 @@ decided s y d t e =
           (of-first (object-faults f) (of-objects f)) (of-first (statement-stage f) (of-stage f)) (sym (ap (λ (q : Fault). q .number) e) ∙ n) in
           record {
             file = f;
-            kept = t .kept;
+            kept = g .kept n;
             covered = t .covered;
             no-definition-fault = z .0;
             no-object-fault = z .1 .0;

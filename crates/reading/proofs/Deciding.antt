@@ -1,9 +1,12 @@
 -- The stages from 6 to 18 of a text whose rows are kept, one after the other. Assumes nothing.
-use mathlib.Core.Path.{_≡_, sym, _∙_, ap, subst}
-use mathlib.Core.List.{List}
+use mathlib.Core.Path.{_≡_, refl, sym, _∙_, ap, subst}
+use mathlib.Core.List.{List, [], _∷_}
 use mathlib.Core.Bool.{true, false}
-use mathlib.Core.Option.{Option}
-use Prim.Native.Nat.{ℕ}
+use mathlib.Core.Option.{Option, none}
+use Prim.Native.Nat.{ℕ, zero, suc, _+_, _≤_, _<_, min}
+use native.Mathlib.Omega.{arith}
+use lib.ListN.{length, getD, set, replicate, length-set, length-replicate}
+use lib.Seq.{sets, getD-set-same, getD-set-other}
 use Rattle.scopes.proofs.Firsts.{none-there}
 use Rattle.rows.proofs.Orders.{is-one, is-none}
 use Rattle.grammar.specs.Stage.{numberOf}
@@ -13,68 +16,156 @@ use Rattle.rows.specs.Order.{isFault}
 use Rattle.meaning.specs.Syntax.{File}
 use Rattle.meaning.specs.Faults.{first, Fault as Refusal}
 use Rattle.meaning.specs.Defining.{definition-faults}
-use Rattle.meaning.specs.Applying.{object-faults}
+use Rattle.meaning.specs.Applying.{object-faults, counts}
 use Rattle.scopes.specs.Promises.{fault-of}
-use Rattle.checks.specs.Promises.{ObjectFaults}
+use Rattle.checks.specs.Promises.{Checks, ObjectFaults}
+use Rattle.checks.specs.declared.objects.Checked.{Checked}
+use Rattle.layout.specs.Kept.{kept, kept-objects, kept-statements, object-rows, all-statement-rows, statement-count, join}
+use Rattle.scopes.proofs.Descents.{whole}
+use Rattle.merging.specs.Parts.{first-row, first-rows, FirstRows}
+use Rattle.merging.specs.Promises.{Parted, Merges}
+use Rattle.merging.proofs.Laying.{merge-count}
 use Rattle.defining_checks.specs.Promises.{DefinitionFaults}
 use Rattle.judging.specs.Promises.{JudgesAll}
 use Rattle.scopes.specs.declared.Sizes.{Sizes}
 use Rattle.walk.specs.Whole.{Rooms, Whole}
 use Rattle.walk.specs.declared.Walked.{Walked}
-use Rattle.reading.specs.Decisions.{grammarFault, Kept, orElse, stageFault, StageFault, Decides}
+use Rattle.reading.specs.Decisions.{grammarFault, Kept, KeptParts, with-objects, orElse, stageFault, Staged, Stages, Decides}
+use Rattle.reading.specs.declared.Decision.{Decision}
 use Rattle.meaning.proofs.Numbered.{of-definitions, of-objects, of-first}
 use Rattle.reading.proofs.Arriving.{refused-early, arrived, answers-first, answers-next, decided}
-use Rattle.reading.proofs.Settling.{given, places}
+use Rattle.reading.proofs.Settling.{Fitting, fitting, given, places}
+
+-- The first part of each row, by the cells that were stored.
+sets-before : (vs l : List ℕ) (i k : ℕ) → k < i → getD (sets l i vs) k 0 ≡ getD l k 0
+sets-before [] l i k h = refl
+sets-before (v ∷ vs) l i k h = sets-before vs (set l i v) (suc i) k (omega arith) ∙ getD-set-other l i k v 0 (λ e. omega arith)
+
+first-cell : (s p : List ℕ) (m j : ℕ) (l : List ℕ) (k : ℕ) → k < m → j + k < length l → getD (sets l j (first-rows s p m j)) (j + k) 0 ≡ first-row s p (j + k)
+unfolding first-rows
+first-cell s p zero j l k h g = absurd (omega arith)
+first-cell s p (suc m) j l zero h g =
+    let e : j + 0 ≡ j = omega arith in
+    ap (λ (i : ℕ). getD (sets (set l j (first-row s p j)) (suc j) (first-rows s p m (suc j))) i 0) e
+    ∙ sets-before (first-rows s p m (suc j)) (set l j (first-row s p j)) (suc j) j (omega arith)
+    ∙ getD-set-same l j (first-row s p j) 0 (omega arith) ∙ ap (first-row s p) (sym e)
+first-cell s p (suc m) j l (suc k) h g =
+    let e : j + suc k ≡ suc j + k = omega arith in
+    let n = length-set l j (first-row s p j) in
+    ap (λ (i : ℕ). getD (sets (set l j (first-row s p j)) (suc j) (first-rows s p m (suc j))) i 0) e
+    ∙ first-cell s p m (suc j) (set l j (first-row s p j)) k (omega arith) (omega arith) ∙ ap (first-row s p) (sym e)
+
+cells-of : (s p x : List ℕ) (l n : ℕ) → l ≡ min n 513 → FirstRows s p l x → (j : ℕ) → j < min n 513 → getD x j 0 ≡ first-row s p j
+cells-of s p x l n e h j g =
+    let r = length-replicate {A = ℕ} 513 0 in
+    let z : 0 + j ≡ j = omega arith in
+    ap (λ (v : List ℕ). getD v j 0) (h (omega (arith, e)))
+    ∙ ap (λ (i : ℕ). getD (sets (replicate 513 0) 0 (first-rows s p l 0)) i 0) (sym z)
+    ∙ first-cell s p l 0 (replicate 513 0) j (omega (arith, e, g)) (omega (arith, r, g)) ∙ ap (first-row s p) z
+
+-- The rows of the objects are kept.
+module _ {s : List ℕ} {y : Rooms} {w : Walked} {f : File} (k : KeptParts s y w f) (p : first (definition-faults f) ≡ none) (q : first (object-faults f) ≡ none) where
+  kept-merged : (x o t o′ t′ : List ℕ) (l r n : ℕ) (cs : List ℕ) → l ≡ min (w .objects) 513 → FirstRows s (y .objects) l x → Merges (y .objects) (y .statements) x (w .objects) o t o′ t′ r
+      → o ≡ replicate 2570 0 → t ≡ replicate 14343 0 → (length (f .parts) ≤ 513 → n ≡ length (f .objects)) → (length (f .parts) ≤ 513 → cs ≡ counts (f .objects))
+      → Kept s (record { definitions = y .definitions; enumerators = y .enumerators; objects = o′; statements = t′ }) (with-objects w n cs) f
+  unfolding kept-objects kept-statements kept
+  kept-merged x o t o′ t′ l r n cs e h m eo et en ec =
+      let F = fitting s f (k .situation) p q in
+      let F₁ = F .parts in
+      let F₂ = F .part-statements in
+      let ko = k .objects in
+      let fewer : length (f .parts) ≤ 513 = omega arith in
+      let P : Parted s (y .objects) (y .statements) x (w .objects) f = record {
+        situation = k .situation;
+        in-parts = k .in-objects;
+        in-statements = k .in-statements;
+        parts = ko;
+        firsts = λ j i. cells-of s (y .objects) x l (w .objects) e h j (omega arith);
+        parts-fit = omega arith;
+        statements-fit = F₂;
+      } in
+      let A = m s f P in
+      let c : statement-count (f .objects) ≡ statement-count (f .parts) = ap statement-count (whole (k .situation) .merged) ∙ merge-count (f .parts) in
+      record {
+        situation = k .situation;
+        in-definitions = k .in-definitions;
+        in-enumerators = k .in-enumerators;
+        in-objects = A .objects ∙ ap (λ (v : List ℕ). sets v 0 (join (object-rows (f .objects) 0))) eo;
+        in-statements = A .statements ∙ ap (λ (v : List ℕ). sets v 0 (join (all-statement-rows (f .objects) 0))) et;
+        definitions = k .definitions;
+        enumerators = k .enumerators;
+        objects = en fewer;
+        statements = k .statements ∙ sym c;
+        version = k .version;
+        implementation = k .implementation;
+        cpu = k .cpu;
+        places = k .places;
+        again = k .again;
+        counted = ec fewer;
+      }
 
 module _ (s : List ℕ) (y : Rooms) (w : Walked) (a : Fault)
     (p : DefinitionFaults s (y .definitions) (y .enumerators) (w .definitions) (w .enumerators) (w .«version_at») (w .«version_len») (w .again) a) where
-  stage-one : (f : File) → Kept s y w f → a ≡ fault-of (first (definition-faults f))
+  stage-one : (f : File) → KeptParts s y w f → a ≡ fault-of (first (definition-faults f))
   stage-one f k = p f (k .situation) (k .in-definitions) (k .in-enumerators) (k .definitions) (k .enumerators) (sym (k .version .0)) (sym (k .version .1)) (k .again)
 
-  pub by-first : isFault a ≡ true → StageFault s y w a
+  pub by-first : (o t o′ t′ : List ℕ) → isFault a ≡ true → Stages s y o t o′ t′ w (record { fault = a; walked = w })
   unfolding stageFault
-  by-first h f k = answers-first _ (first (definition-faults f)) a (stage-one f k) (is-one a h)
+  by-first o t o′ t′ h f k eo et = record { fault = answers-first _ (first (definition-faults f)) a (stage-one f k) (is-one a h); kept = λ n. absurd (is-one a h n) }
 
-  module _ (h : isFault a ≡ false) (b : Fault)
-      (q : ObjectFaults s (y .objects) (y .statements) (w .objects) (w .statements) (w .counts) (w .«cpu_at») b) where
-    stage-two : (f : File) → Kept s y w f → b ≡ fault-of (first (object-faults f))
-    stage-two f k = q f (k .situation) (k .in-objects) (k .in-statements) (k .objects) (k .statements) (k .counted) (sym (k .cpu .0))
+  module _ (h : isFault a ≡ false) (x : List ℕ) (l : ℕ) (e : l ≡ min (w .objects) 513) (F : FirstRows s (y .objects) l x) (b : Checked)
+      (q : ObjectFaults (y .objects) (y .statements) x (w .objects) (w .statements) (w .counts) (w .«cpu_at») b) where
+    checked : (f : File) → KeptParts s y w f → Checks f b
+    checked f k =
+        q s f (k .situation) (k .in-objects) (k .in-statements) (k .objects) (k .statements) (k .counted) (sym (k .cpu .0)) (cells-of s (y .objects) x l (w .objects) e F)
 
-    after-first : (f : File) → Kept s y w f → (o : Option Refusal) → fault-of o ≡ fault-of (orElse (first (definition-faults f)) o)
+    stage-two : (f : File) → KeptParts s y w f → b .fault ≡ fault-of (first (object-faults f))
+    stage-two f k = checked f k .fault
+
+    after-first : (f : File) → KeptParts s y w f → (o : Option Refusal) → fault-of o ≡ fault-of (orElse (first (definition-faults f)) o)
     after-first f k o = answers-next o (first (definition-faults f)) a (of-first (definition-faults f) (of-definitions f)) (stage-one f k) (is-none a h)
 
-    pub by-second : isFault b ≡ true → StageFault s y w b
+    pub by-second : (o t o′ t′ : List ℕ) → isFault (b .fault) ≡ true → Stages s y o t o′ t′ w (record { fault = b .fault; walked = w })
     unfolding stageFault
-    by-second i f k = answers-first _ (first (object-faults f)) b (stage-two f k) (is-one b i) ∙ after-first f k _
+    by-second o t o′ t′ i f k eo et = record {
+      fault = answers-first _ (first (object-faults f)) (b .fault) (stage-two f k) (is-one (b .fault) i) ∙ after-first f k _;
+      kept = λ n. absurd (is-one (b .fault) i n);
+    }
 
-    pub by-third : isFault b ≡ false → (z : Sizes) (c : Fault) → z .definitions ≡ w .definitions → z .enumerators ≡ w .enumerators → z .objects ≡ w .objects
-        → JudgesAll s (y .definitions) (y .enumerators) (y .objects) (y .statements) z (w .places) c → StageFault s y w c
+    pub by-third : isFault (b .fault) ≡ false → (o t o′ t′ : List ℕ) (r : ℕ) → Merges (y .objects) (y .statements) x (w .objects) o t o′ t′ r → (m : Walked) → m ≡ with-objects w (b .objects) (b .counts)
+        → (z : Sizes) (c : Fault) → z .definitions ≡ w .definitions → z .enumerators ≡ w .enumerators → z .objects ≡ b .objects
+        → JudgesAll s (y .definitions) (y .enumerators) o′ t′ z (w .places) c → Stages s y o t o′ t′ w (record { fault = c; walked = m })
     unfolding stageFault
-    by-third i z c d e o j f k =
+    by-third i o t o′ t′ r M m em z c d e₁ e₂ j f k eo et =
         let n₁ = none-there (first (definition-faults f)) (of-first (definition-faults f) (of-definitions f)) (ap (λ (q : Fault). q .number) (sym (stage-one f k)) ∙ is-none a h) in
-        let n₂ = none-there (first (object-faults f)) (of-first (object-faults f) (of-objects f)) (ap (λ (q : Fault). q .number) (sym (stage-two f k)) ∙ is-none b i) in
-        j f (given k n₁ n₂ z d e o) (places k)
-        ∙ answers-next _ (first (object-faults f)) b (of-first (object-faults f) (of-objects f)) (stage-two f k) (is-none b i)
-        ∙ after-first f k _
+        let n₂ = none-there (first (object-faults f)) (of-first (object-faults f) (of-objects f)) (ap (λ (q : Fault). q .number) (sym (stage-two f k)) ∙ is-none (b .fault) i) in
+        let C = checked f k in
+        let K = kept-merged k n₁ n₂ x o t o′ t′ l r (b .objects) (b .counts) e F M eo et (C .objects) (C .counted) in
+        record {
+          fault = j f (given K n₁ n₂ z d e₁ e₂) (places K)
+              ∙ answers-next _ (first (object-faults f)) (b .fault) (of-first (object-faults f) (of-objects f)) (stage-two f k) (is-none (b .fault) i)
+              ∙ after-first f k _;
+          kept = λ n. subst (λ (v : Walked). Kept s (record { definitions = y .definitions; enumerators = y .enumerators; objects = o′; statements = t′ }) v f) (sym em) K;
+        }
 
 -- The decision -----------------------------------------------------------------------------------------------------------------------------
 
-pub decides-early : (s : List ℕ) (x y : Rooms) (w : Walked) (g : Fault) → Whole s x y w → g ≡ grammarFault (answerOf (w .look)) → isFault g ≡ true
-    → Decides s x y (record { fault = g; walked = w })
-decides-early s x y w g h e i =
+pub decides-early : (s : List ℕ) (x y : Rooms) (o t o′ t′ : List ℕ) (w : Walked) (g : Fault) → Whole s x y w → g ≡ grammarFault (answerOf (w .look)) → isFault g ≡ true
+    → Decides s x y o t o′ t′ (record { fault = g; walked = w })
+decides-early s x y o t o′ t′ w g h e i =
     record {
       sizes = h .sizes;
-      decided = λ l b. record { refused-by = λ n. refused-early s x y w h l g e n; passes = λ n. absurd (is-one g i n) };
+      decided = λ l b eo et. record { refused-by = λ n. refused-early s x y w h l g e n; passes = λ n. absurd (is-one g i n) };
     }
 
-pub decides-late : (s : List ℕ) (x y : Rooms) (w : Walked) (g r : Fault) → Whole s x y w → g ≡ grammarFault (answerOf (w .look)) → isFault g ≡ false
-    → StageFault s y w r → Decides s x y (record { fault = r; walked = w })
+pub decides-late : (s : List ℕ) (x y : Rooms) (o t o′ t′ : List ℕ) (w : Walked) (g : Fault) (r : Decision) → Whole s x y w → g ≡ grammarFault (answerOf (w .look)) → isFault g ≡ false
+    → Stages s y o t o′ t′ w r → Decides s x y o t o′ t′ r
 unfolding grammarFault
-decides-late s x y w g r h e i k =
+decides-late s x y o t o′ t′ w g r h e i k =
     record {
       sizes = h .sizes;
-      decided = λ l b.
+      decided = λ l b eo et.
           let z : numberOf (answerOf (w .look)) ≡ 0 = sym (ap (λ (q : Fault). q .number) e) ∙ is-none g i in
-          let t = arrived s y w (subst (λ q. Whole s q y w) b h) l z in
-          decided s y (record { fault = r; walked = w }) t (k (t .file) (t .kept));
+          let v = arrived s y w (subst (λ q. Whole s q y w) b h) l z in
+          decided s y (record { definitions = y .definitions; enumerators = y .enumerators; objects = o′; statements = t′ }) w r v (k (v .file) (v .kept) eo et);
     }

@@ -58,7 +58,7 @@ module _ (s : List ℕ) (y : Rooms) (w : Walked) (z : Sizes) (a : z .definitions
       accepted-fills s y w p n d₂ e₂ o₂ v₁ v (u .count) h (k .values) (u .table)
       (i .1 s (p .file) (g .situation) (g .in-definitions) (g .definitions) (omega arith) (k .definitions ∙ cleared-zeros 6656))
       (j .1 s (p .file) (g .situation) (g .in-definitions) (g .definitions) (omega arith) (g .in-enumerators) (g .enumerators) (omega arith) (k .enumerators ∙ cleared-zeros 3072))
-      (l .1 s (p .file) (g .situation) (g .in-objects) (g .objects) (omega arith) (k .objects ∙ cleared-zeros 1792))
+      (l .1 s (p .file) (g .situation) (g .in-objects) (g .objects) (omega arith) (k .objects ∙ cleared-zeros 2048))
 
 -- Rooms that were cleared first --------------------------------------------------------------------------------------------------------------
 
@@ -76,11 +76,11 @@ module _ (s d₀ e₀ o₀ v₀ d e o v : List ℕ) (z : RoomSizes d₀ e₀ o�
   pub fill-long : (r : Reading) → 65535 < length s → r ≡ readingOf (refused 2 0) → Filled s d e o v r
   fill-long r h q = refused-fills s 2 0 d e o v r (reading-long s h) q (blanks .definitions) (blanks .enumerators) (blanks .objects) (blanks .values)
 
-  module _ (h : length s ≤ 65535) (y : Rooms) (x : Decision) (t : Decides s blank y x) where
+  module _ (h : length s ≤ 65535) (y : Rooms) (m n : List ℕ) (x : Decision) (t : Decides s blank y (replicate 2570 0) (replicate 14343 0) m n x) where
     pub fill-refused : (r : Reading) → isFault (x .fault) ≡ true → r ≡ readingOf (refused (x .fault .number) (x .fault .place)) → Filled s d e o v r
     fill-refused r i q =
-        refused-fills s (x .fault .number) (x .fault .place) d e o v r (t .decided h refl .refused-by (is-one (x .fault) i)) q (blanks .definitions) (blanks .enumerators)
+        refused-fills s (x .fault .number) (x .fault .place) d e o v r (t .decided h refl refl refl .refused-by (is-one (x .fault) i)) q (blanks .definitions) (blanks .enumerators)
         (blanks .objects) (blanks .values)
 
-    pub fill-settled : (d′ e′ o′ v′ : List ℕ) (r : Reading) → isFault (x .fault) ≡ false → Settles s y (x .walked) d e o v d′ e′ o′ v′ r → Filled s d′ e′ o′ v′ r
-    fill-settled d′ e′ o′ v′ r i k = k (t .decided h refl .passes (is-none (x .fault) i)) blanks
+    pub fill-settled : (d′ e′ o′ v′ : List ℕ) (r : Reading) → isFault (x .fault) ≡ false → Settles s (record { definitions = y .definitions; enumerators = y .enumerators; objects = m; statements = n }) (x .walked) d e o v d′ e′ o′ v′ r → Filled s d′ e′ o′ v′ r
+    fill-settled d′ e′ o′ v′ r i k = k (t .decided h refl refl refl .passes (is-none (x .fault) i)) blanks

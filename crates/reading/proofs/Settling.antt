@@ -37,6 +37,8 @@ use Rattle.reading.specs.Decisions.{Kept, Passed, Filled}
 use Rattle.reading.specs.declared.Answer.the-variants.{Accepted}
 use Rattle.reading.specs.declared.Reading.{Reading}
 use Rattle.reading.proofs.Arriving.{reading-is}
+use Rattle.meaning.proofs.Merges.{syntax-merged}
+use Rattle.merging.proofs.Laying.{merge-count}
 
 -- Numbers of rows ------------------------------------------------------------------------------------------------------------------------------
 
@@ -81,6 +83,8 @@ pub record Fitting (f : File) : Type 0 where
   pub definitions : length (spec-entries (f .specs)) ≤ 512
   pub enumerators : length (spec-choices (f .specs)) ≤ 1024
   pub objects : length (f .objects) ≤ 256
+  pub parts : length (f .parts) ≤ 512
+  pub part-statements : statement-count (f .parts) ≤ 2048
   pub statements : statement-count (f .objects) ≤ 2048
 
 fitting-by : (s : List ℕ) (f : File) (t : Situation s f) → first (definition-faults (syntax s (t .derivation .tree))) ≡ none
@@ -93,11 +97,14 @@ fitting-by s f t a b =
     let d₁ = d .1 in
     let o₀ = o .0 in
     let o₁ = o .1 in
+    let o₂ = o .2 in
     let i = definitions-as-many (g .specs) in
     let j = enumerators-as-many (g .specs) in
     let k = objects-as-many (g .objects) in
-    let l = statements-as-many (g .objects) in
-    record { definitions = omega arith; enumerators = omega arith; objects = omega arith; statements = omega arith }
+    let l = statements-as-many (g .parts) in
+    let m = ap statement-count (syntax-merged s (t .derivation .tree)) in
+    let n = merge-count (g .parts) in
+    record { definitions = omega arith; enumerators = omega arith; objects = omega arith; parts = omega arith; part-statements = omega arith; statements = omega arith }
 
 pub fitting : (s : List ℕ) (f : File) → Situation s f → first (definition-faults f) ≡ none → first (object-faults f) ≡ none → Fitting f
 fitting s f t a b =
@@ -151,14 +158,14 @@ blank-room n f l e = let z : n ≡ n - 0 = omega arith in e ∙ cleared-zeros n 
 
 -- A refusal leaves the rooms blank.
 pub refused-fills : (s : List ℕ) (n p : ℕ) (d e o v : List ℕ) (r : Reading) → reading s ≡ refused n p → r ≡ readingOf (refused n p)
-    → d ≡ replicate 6656 0 → e ≡ replicate 3072 0 → o ≡ replicate 1792 0 → v ≡ replicate 18432 0 → Filled s d e o v r
+    → d ≡ replicate 6656 0 → e ≡ replicate 3072 0 → o ≡ replicate 2048 0 → v ≡ replicate 18432 0 → Filled s d e o v r
 unfolding rooms-after definition-room enumerator-room object-room value-room
 refused-fills s n p d e o v r q h d₀ e₀ o₀ v₀ =
     record {
       result = h ∙ ap readingOf (sym q);
       definitions = blank-room 6656 definition-cells d d₀ ∙ ap (λ a. rooms-after a .definitions) (sym q);
       enumerators = blank-room 3072 enumerator-cells e e₀ ∙ ap (λ a. rooms-after a .enumerators) (sym q);
-      objects = blank-room 1792 object-cells o o₀ ∙ ap (λ a. rooms-after a .objects) (sym q);
+      objects = blank-room 2048 object-cells o o₀ ∙ ap (λ a. rooms-after a .objects) (sym q);
       values = blank-room 18432 value-cells v v₀ ∙ ap (λ a. rooms-after a .values) (sym q);
     }
 

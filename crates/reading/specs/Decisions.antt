@@ -16,7 +16,7 @@ use Rattle.meaning.specs.Judging.{statement-stage}
 use Rattle.meaning.specs.Answers.{refused}
 use Rattle.meaning.specs.Reading.{reading}
 use Rattle.meaning.specs.Cells.{rooms-after}
-use Rattle.layout.specs.Kept.{spec-entries, spec-choices, statement-count, kept-definitions, kept-enumerators, kept-objects, kept-statements, again-place}
+use Rattle.layout.specs.Kept.{spec-entries, spec-choices, statement-count, kept-definitions, kept-enumerators, kept-objects, kept-statements, kept-parts, kept-part-statements, again-place}
 use Rattle.scopes.specs.Situations.{Situation}
 use Rattle.scopes.specs.Promises.{fault-of}
 use Rattle.walk.specs.Whole.{Rooms, Stands, kind-places, SameSizes}
@@ -49,6 +49,43 @@ pub record Kept (s : List ℕ) (y : Rooms) (w : Walked) (f : File) : Type 0 wher
   pub again : w .again ≡ again-place [] (f .specs)
   pub counted : w .counts ≡ counts (f .objects)
 
+-- The same of the parts: of them and of their statements are the rows, and as many w counts.
+pub record KeptParts (s : List ℕ) (y : Rooms) (w : Walked) (f : File) : Type 0 where
+  pub situation : Situation s f
+  pub in-definitions : y .definitions ≡ kept-definitions f
+  pub in-enumerators : y .enumerators ≡ kept-enumerators f
+  pub in-objects : y .objects ≡ kept-parts f
+  pub in-statements : y .statements ≡ kept-part-statements f
+  pub definitions : w .definitions ≡ length (spec-entries (f .specs))
+  pub enumerators : w .enumerators ≡ length (spec-choices (f .specs))
+  pub objects : w .objects ≡ length (f .parts)
+  pub statements : w .statements ≡ statement-count (f .parts)
+  pub version : Stands (f .version) (w .«version_at») (w .«version_len»)
+  pub implementation : (f .implementation .place ≡ w .«implementation_at») × (f .implementation .length ≡ w .«implementation_len»)
+  pub cpu : Stands (f .cpu) (w .«cpu_at») (w .«cpu_len»)
+  pub places : w .places ≡ kind-places (f .specs)
+  pub again : w .again ≡ again-place [] (f .specs)
+  pub counted : w .counts ≡ counts (f .parts)
+
+-- What w tells, with n objects, cs of each kind.
+abbrev pub with-objects : Walked → ℕ → List ℕ → Walked
+with-objects w n cs = record {
+  look = w .look;
+  «version_at» = w .«version_at»;
+  «version_len» = w .«version_len»;
+  «implementation_at» = w .«implementation_at»;
+  «implementation_len» = w .«implementation_len»;
+  «cpu_at» = w .«cpu_at»;
+  «cpu_len» = w .«cpu_len»;
+  definitions = w .definitions;
+  enumerators = w .enumerators;
+  objects = n;
+  statements = w .statements;
+  places = w .places;
+  again = w .again;
+  counts = cs;
+}
+
 -- The first of two faults that there is.
 unfoldable pub orElse : Option Refusal → Option Refusal → Option Refusal
 orElse none o = o
@@ -58,8 +95,16 @@ orElse (some x) o = some x
 unfoldable pub stageFault : File → Option Refusal
 stageFault f = orElse (first (definition-faults f)) (orElse (first (object-faults f)) (first (statement-stage f)))
 
-abbrev pub StageFault : (s : List ℕ) → Rooms → Walked → Fault → Type 0
-StageFault s y w r = (f : File) → Kept s y w f → r ≡ fault-of (stageFault f)
+-- The stages have decided; where none has a fault the rows of the objects are in the tables y.
+pub record Staged (s : List ℕ) (y : Rooms) (f : File) (r : Decision) : Type 0 where
+  pub fault : r .fault ≡ fault-of (stageFault f)
+  pub kept : r .fault .number ≡ 0 → Kept s y (r .walked) f
+
+-- With the rows of parts in the tables y, and blank tables o and t for those of the objects and their statements.
+abbrev pub Stages : (s : List ℕ) → Rooms → (o t o′ t′ : List ℕ) → Walked → Decision → Type 0
+Stages s y o t o′ t′ w r =
+    (f : File) → KeptParts s y w f → o ≡ replicate 2570 0 → t ≡ replicate 14343 0
+    → Staged s (record { definitions = y .definitions; enumerators = y .enumerators; objects = o′; statements = t′ }) f r
 
 -- No stage up to 18 has a fault.
 pub record Passed (s : List ℕ) (y : Rooms) (w : Walked) : Type 0 where
@@ -74,13 +119,14 @@ pub record Decided (s : List ℕ) (y : Rooms) (r : Decision) : Type 0 where
   pub refused-by : (r .fault .number ≡ 0 → ⊥) → reading s ≡ refused (r .fault .number) (r .fault .place)
   pub passes : r .fault .number ≡ 0 → Passed s y (r .walked)
 
--- Blank tables for the rows that are kept.
+-- Blank tables for the rows that the walk keeps.
 abbrev pub blank : Rooms
-blank = record { definitions = replicate 9747 0; enumerators = replicate 3075 0; objects = replicate 2313 0; statements = replicate 14343 0 }
+blank = record { definitions = replicate 9747 0; enumerators = replicate 3075 0; objects = replicate 5130 0; statements = replicate 14343 0 }
 
-pub record Decides (s : List ℕ) (x y : Rooms) (r : Decision) : Type 0 where
+pub record Decides (s : List ℕ) (x y : Rooms) (o t o′ t′ : List ℕ) (r : Decision) : Type 0 where
   pub sizes : SameSizes x y
-  pub decided : length s ≤ 65535 → x ≡ blank → Decided s y r
+  pub decided : length s ≤ 65535 → x ≡ blank → o ≡ replicate 2570 0 → t ≡ replicate 14343 0
+      → Decided s (record { definitions = y .definitions; enumerators = y .enumerators; objects = o′; statements = t′ }) r
 
 -- The rooms of the lent tables, and the answer, are those of the text s.
 pub record Filled (s d′ e′ o′ v′ : List ℕ) (r : Reading) : Type 0 where
@@ -105,7 +151,7 @@ pub record FilledSpanned (s d′ e′ o′ v′ : List ℕ) (r : Spanned) : Type
 pub record BlankRooms (d e o v : List ℕ) : Type 0 where
   pub definitions : d ≡ replicate 6656 0
   pub enumerators : e ≡ replicate 3072 0
-  pub objects : o ≡ replicate 1792 0
+  pub objects : o ≡ replicate 2048 0
   pub values : v ≡ replicate 18432 0
 
 abbrev pub Settles : (s : List ℕ) → Rooms → Walked → (d e o v d′ e′ o′ v′ : List ℕ) → Reading → Type 0
@@ -115,5 +161,5 @@ Settles s y w d e o v d′ e′ o′ v′ r = Passed s y w → BlankRooms d e o 
 pub record RoomSizes (d e o v : List ℕ) : Type 0 where
   pub definitions : length d ≡ 6656
   pub enumerators : length e ≡ 3072
-  pub objects : length o ≡ 1792
+  pub objects : length o ≡ 2048
   pub values : length v ≡ 18432

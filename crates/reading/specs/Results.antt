@@ -28,9 +28,9 @@ readingOf (accepted t) = record {
 }
 readingOf (refused n p) = record { answer = Refused n p; definitions = 0; enumerators = 0; objects = 0; values = 0; counts = replicate 13 0 }
 
--- How many rows there is room for in lent tables of these cells: 13, 3, 7 and 9 cells a row (docs/TABLES.md).
+-- How many rows there is room for in lent tables of these cells: 13, 3, 8 and 9 cells a row (docs/TABLES.md).
 unfoldable pub roomsOf : (d e o v : List ℕ) → Rooms
-roomsOf d e o v = record { definitions = length d / 13; enumerators = length e / 3; objects = length o / 7; values = length v / 9 }
+roomsOf d e o v = record { definitions = length d / 13; enumerators = length e / 3; objects = length o / 8; values = length v / 9 }
 
 -- A lent table after the call. "Refusal 1 changes nothing." Else its room of n cells holds the given ones, and "Memory past the stated room is
 -- unchanged."
@@ -44,7 +44,7 @@ pub record Reads (s d e o v d′ e′ o′ v′ : List ℕ) (r : Reading) : Type
   pub result : r ≡ readingOf (call (roomsOf d e o v) none s)
   pub definitions : d′ ≡ tableAfter (enough (roomsOf d e o v)) (rooms-after (reading s) .definitions) 6656 d
   pub enumerators : e′ ≡ tableAfter (enough (roomsOf d e o v)) (rooms-after (reading s) .enumerators) 3072 e
-  pub objects : o′ ≡ tableAfter (enough (roomsOf d e o v)) (rooms-after (reading s) .objects) 1792 o
+  pub objects : o′ ≡ tableAfter (enough (roomsOf d e o v)) (rooms-after (reading s) .objects) 2048 o
   pub values : v′ ≡ tableAfter (enough (roomsOf d e o v)) (rooms-after (reading s) .values) 18432 v
 
 -- The text s is the file, by which it is answered, and these are the spans of its implementation and its CPU's name.

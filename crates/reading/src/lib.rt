@@ -7,7 +7,7 @@ ghost use Rattle.meaning.specs.Calls.{enough};
 ghost use Rattle.grammar.specs.Readers.{answerOf};
 ghost use Rattle.reading.specs.Results.{readingOf, roomsOf, Reads, ReadsSpanned};
 ghost use Rattle.reading.specs.Demand.{Demand-3};
-ghost use Rattle.reading.specs.Decisions.{grammarFault, StageFault, Decides, Settles, RoomSizes, Unspanned, FilledSpanned};
+ghost use Rattle.reading.specs.Decisions.{grammarFault, with-objects, Stages, Decides, Settles, RoomSizes, Unspanned, FilledSpanned};
 use grammar::Answer as Grammar;
 use grammar::Look;
 use rows::Fault;
@@ -98,9 +98,42 @@ fn grammar_fault(look: Look) -> Fault
     }
 }
 
-// The fault by which the stages from 6 to 18 answer.
-fn stage_fault(text: &[u8], d: &[usize], e: &[usize], o: &[usize], s: &[usize], w: Walked) -> Fault
-    ensures { λ r. ⌜ StageFault (now (text .entry)) (record { definitions = now (d .entry); enumerators = now (e .entry); objects = now (o .entry); statements = now (s .entry) }) w r ⌝ }
+// What a walk tells, with so many objects.
+fn with_objects(w: Walked, objects: usize, counts: [usize; 13]) -> Walked
+    ensures { λ r. ⌜ r ≡ with-objects w objects counts ⌝ }
+{
+    let look = w.look;
+    let places = w.places;
+    Walked {
+        look: look,
+        version_at: w.version_at,
+        version_len: w.version_len,
+        implementation_at: w.implementation_at,
+        implementation_len: w.implementation_len,
+        cpu_at: w.cpu_at,
+        cpu_len: w.cpu_len,
+        definitions: w.definitions,
+        enumerators: w.enumerators,
+        objects: objects,
+        statements: w.statements,
+        places: places,
+        again: w.again,
+        counts: counts,
+    }
+}
+
+// The stages from 6 to 18: from the rows p and q of parts and their statements come the rows o and s of the objects.
+fn stages(
+    text: &[u8],
+    d: &[usize],
+    e: &[usize],
+    p: &[usize],
+    q: &[usize],
+    o: &mut [usize],
+    s: &mut [usize],
+    w: Walked,
+) -> Decision
+    ensures { λ r. ⌜ Stages (now (text .entry)) (record { definitions = now (d .entry); enumerators = now (e .entry); objects = now (p .entry); statements = now (q .entry) }) (now (o .entry)) (now (s .entry)) (now (o .exit)) (now (s .exit)) w r ⌝ }
 {
     let a = defining_checks::definition_faults(
         text,
@@ -113,20 +146,36 @@ fn stage_fault(text: &[u8], d: &[usize], e: &[usize], o: &[usize], s: &[usize], 
         w.again,
     );
     if faults::is_fault(a) {
-        return a;
+        return Decision {
+            fault: a,
+            walked: w,
+        };
     }
-    let counts = w.counts;
-    let b = checks::objects::object_faults(text, o, s, w.objects, w.statements, counts, w.cpu_at);
-    if faults::is_fault(b) {
-        return b;
+    let n = cells::least_of(w.objects, 513);
+    let x = merging::firsts(text, p, n);
+    let of_parts = w.counts;
+    let b = checks::objects::object_faults(p, q, &x, w.objects, w.statements, of_parts, w.cpu_at);
+    let own = b.fault;
+    if faults::is_fault(own) {
+        return Decision {
+            fault: own,
+            walked: w,
+        };
     }
+    merging::objects::merge(p, q, &x, w.objects, o, s);
+    let of_kinds = b.counts;
+    let m = with_objects(w, b.objects, of_kinds);
     let places = w.places;
     let z = Sizes {
         definitions: w.definitions,
         enumerators: w.enumerators,
-        objects: w.objects,
+        objects: b.objects,
     };
-    judging::judge_all(text, d, e, o, s, z, places)
+    let f = judging::judge_all(text, d, e, o, s, z, places);
+    Decision {
+        fault: f,
+        walked: m,
+    }
 }
 
 // The walk of the text and the faults up to 18.
@@ -134,12 +183,14 @@ fn decide(
     text: &[u8],
     d: &mut [usize],
     e: &mut [usize],
+    p: &mut [usize],
+    q: &mut [usize],
     o: &mut [usize],
     s: &mut [usize],
 ) -> Decision
-    ensures { λ r. ⌜ Decides (now (text .entry)) (record { definitions = now (d .entry); enumerators = now (e .entry); objects = now (o .entry); statements = now (s .entry) }) (record { definitions = now (d .exit); enumerators = now (e .exit); objects = now (o .exit); statements = now (s .exit) }) r ⌝ }
+    ensures { λ r. ⌜ Decides (now (text .entry)) (record { definitions = now (d .entry); enumerators = now (e .entry); objects = now (p .entry); statements = now (q .entry) }) (record { definitions = now (d .exit); enumerators = now (e .exit); objects = now (p .exit); statements = now (q .exit) }) (now (o .entry)) (now (s .entry)) (now (o .exit)) (now (s .exit)) r ⌝ }
 {
-    let w = walk::walk(text, d, e, o, s);
+    let w = walk::walk(text, d, e, p, q);
     let look = w.look;
     let g = grammar_fault(look);
     if faults::is_fault(g) {
@@ -148,11 +199,7 @@ fn decide(
             walked: w,
         };
     }
-    let f = stage_fault(text, d, e, o, s, w);
-    Decision {
-        fault: f,
-        walked: w,
-    }
+    stages(text, d, e, p, q, o, s, w)
 }
 
 // The values, refusal 19, and the rows of the lent tables.
@@ -215,9 +262,11 @@ fn fill(
     }
     let mut d = [0; 9747];
     let mut e = [0; 3075];
-    let mut o = [0; 2313];
+    let mut p = [0; 5130];
+    let mut q = [0; 14343];
+    let mut o = [0; 2570];
     let mut s = [0; 14343];
-    let r = decide(text, &mut d, &mut e, &mut o, &mut s);
+    let r = decide(text, &mut d, &mut e, &mut p, &mut q, &mut o, &mut s);
     let f = r.fault;
     if faults::is_fault(f) {
         return refused(f.number, f.place);
@@ -265,7 +314,7 @@ pub fn read_spanned(
     if enumerators.len() < 3072 {
         return refused(1, 0);
     }
-    if objects.len() < 1792 {
+    if objects.len() < 2048 {
         return refused(1, 0);
     }
     if values.len() < 18432 {
@@ -275,7 +324,7 @@ pub fn read_spanned(
         text,
         &mut definitions[..6656],
         &mut enumerators[..3072],
-        &mut objects[..1792],
+        &mut objects[..2048],
         &mut values[..18432],
     )
 }

@@ -8,6 +8,8 @@ pub mod SayingPieces
 pub mod SayingLines
 pub mod SayingCopied
 pub mod SayingTokens
+pub mod MergedAgain
+pub mod MergedRestated
 pub mod Unplacing
 pub mod WordTrees
 pub mod RestatedTrees

@@ -7,11 +7,13 @@ use Rattle.token.specs.Words.{bytesOf}
 use Rattle.grammar.specs.Grammar.{Token, matches, sg, word, OIL-VERSION, semicolon, _▸_, ∎, _⟶_, Trees, nil, leaf, node, file, version, implementation, application, file-is, no-D, version-is, implementation-is, Derivation, tokens as leaves-of}
 use Rattle.grammar.specs.Terminals.{tokens}
 use Rattle.grammar.proofs.Viable.{one-derivation}
-use Rattle.meaning.specs.Syntax.{Word, absent, through, File}
+use Rattle.meaning.specs.Syntax.{Word, absent, through, Object, File}
+use Rattle.meaning.specs.Merging.{merge}
+use Rattle.reads_back.proofs.MergedRestated.{merged-restated}
 use Rattle.meaning.specs.Actions.{word-of, Implementation, Application, means, meaning, syntax}
 use Rattle.meaning.specs.Resolving.{all-values}
 use Rattle.meaning.specs.Places.{each, unplaced, unplaced-word, unplaced-spec}
-use Rattle.reads_back.proofs.Restated.{given, equal-sign, version-string, stop, version-words, application-words, restated-file, Said, plain-word}
+use Rattle.reads_back.proofs.Restated.{given, equal-sign, version-string, stop, version-words, application-words, restated-objects, restated-file, Said, plain-word}
 use Rattle.reads_back.proofs.Unplacing.{bare-implementation, bare-application, bare-M, bare-parts, means-bare}
 use Rattle.reads_back.proofs.WordTrees.{WordTrees, word-nil, word-leaf, word-node, lifted, planted}
 use Rattle.reads_back.proofs.RestatedTrees.{restated-application, application-tree}
@@ -178,9 +180,19 @@ pub record Planted (s n : List ℕ) (d : Derivation (tokens s)) (middle ts : Lis
   pub leaves-are : implementation-leaves tree ≡ middle
   pub span-is : syntax n tree .implementation ≡ through (word-of n first) (word-of n final)
 
-restated-parts : (f : File) → file-of version-string (restated-implementation f) (restated-application f) ≡ restated-file f
+restated-parts : (f : File) → merge (restated-objects (f .objects) (all-values f (f .objects)) 0) ≡ restated-objects (f .objects) (all-values f (f .objects)) 0
+    → file-of version-string (restated-implementation f) (restated-application f) ≡ restated-file f
 unfolding file-of means restated-implementation restated-application restated-file
-restated-parts f = refl
+restated-parts f e =
+    ap (λ (os : List Object). record {
+      version = version-string;
+      implementation = absent;
+      implementation-name = unplaced-word (f .implementation-name);
+      specs = each unplaced-spec (f .specs);
+      cpu = unplaced-word (f .cpu);
+      parts = restated-objects (f .objects) (all-values f (f .objects)) 0;
+      objects = os;
+    }) e
 
 -- Tokens of a text n whose words are the version's, the implementation's of s, and the restated application's have a tree with the restated syntax.
 pub planted-text : (s n : List ℕ) (d : Derivation (tokens s)) (im : ImplementationTokens s d) → Said (syntax s (d .tree))
@@ -201,7 +213,7 @@ planted-text s n d im said heading middle last h m l =
       tree = whole-tree (v .tree) (i .tree) (a .tree);
       leaves = whole-leaves (v .tree) (i .tree) (a .tree) ∙ ap₂ _++_ (v .leaves) (ap₂ _++_ (i .leaves) (a .leaves));
       syntax-is = ap unplaced w ∙ file-bare (meaning n (v .tree) .0) (meaning n (i .tree) .0) (meaning n (a .tree) .0)
-          ∙ file-same (ap (λ k. k .0) (v .meaning-is)) (ap (λ k. k .0) (i .meaning-is)) (ap (λ k. k .0) (a .meaning-is)) ∙ restated-parts f;
+          ∙ file-same (ap (λ k. k .0) (v .meaning-is)) (ap (λ k. k .0) (i .meaning-is)) (ap (λ k. k .0) (a .meaning-is)) ∙ restated-parts f (merged-restated s d said);
       first = e .first;
       mid = e .mid;
       final = e .final;

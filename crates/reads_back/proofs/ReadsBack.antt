@@ -12,7 +12,8 @@ use Rattle.meaning.specs.Syntax.{File}
 use Rattle.meaning.specs.Actions.{syntax}
 use Rattle.meaning.specs.Resolving.{all-values}
 use Rattle.meaning.specs.Normal.{part, application-lines, normal}
-use Rattle.meaning.specs.Places.{each}
+use Rattle.meaning.specs.Places.{each, unplaced-object-row, unplaced-tables}
+use Rattle.meaning.specs.Applying.{ObjectRow}
 use Rattle.meaning.specs.Answers.{Tables, Answer, accepted, tables, answer}
 use Rattle.meaning.specs.Reading.{Answers, too-long, not-grammar, meant, reading, normal-text}
 use Rattle.meaning.proofs.Found.{reading-derived, normal-derived}
@@ -39,10 +40,23 @@ record Accepts (a : Answer) (t : Tables) : Type 0 where
   placed : Tables
   accepted-as : a ≡ accepted placed
   same-as : bare placed ≡ bare t
+  parts-as : each (λ (r : ObjectRow). r .parts) (placed .objects) ≡ each (λ (r : ObjectRow). 1) (placed .objects)
 
-accepts : {a b : Answer} (t : Tables) → SameAnswer a b → b ≡ accepted t → Accepts a t
-accepts t (both-accept u) e = record { placed = u; accepted-as = refl; same-as = sym (bare-unplaced u) ∙ ap bare cc }
-accepts t (both-refuse n p m q) e = absurd (let z : _≡_ {A = Bool} false true = cc in false≢true z)
+parts-unplaced : (l : List ObjectRow) (g : ℕ → ℕ) → each (λ (r : ObjectRow). g (r .parts)) (each unplaced-object-row l) ≡ each (λ (r : ObjectRow). g (r .parts)) l
+unfolding each unplaced-object-row
+parts-unplaced [] g = refl
+parts-unplaced (r ∷ l) g = ap (λ (k : List ℕ). g (r .parts) ∷ k) (parts-unplaced l g)
+
+alone : (u t : Tables) → unplaced-tables u ≡ t → each (λ (r : ObjectRow). r .parts) (t .objects) ≡ each (λ (r : ObjectRow). 1) (t .objects)
+    → each (λ (r : ObjectRow). r .parts) (u .objects) ≡ each (λ (r : ObjectRow). 1) (u .objects)
+unfolding unplaced-tables
+alone u t e h =
+    sym (parts-unplaced (u .objects) (λ n. n)) ∙ ap (λ (v : Tables). each (λ (r : ObjectRow). r .parts) (v .objects)) e ∙ h
+    ∙ sym (ap (λ (v : Tables). each (λ (r : ObjectRow). 1) (v .objects)) e) ∙ parts-unplaced (u .objects) (λ n. 1)
+
+accepts : {a b : Answer} (t : Tables) → each (λ (r : ObjectRow). r .parts) (t .objects) ≡ each (λ (r : ObjectRow). 1) (t .objects) → SameAnswer a b → b ≡ accepted t → Accepts a t
+accepts t h (both-accept u) e = let q : unplaced-tables u ≡ t = cc in record { placed = u; accepted-as = refl; same-as = sym (bare-unplaced u) ∙ ap bare q; parts-as = alone u t q h }
+accepts t h (both-refuse n p m q) e = absurd (let z : _≡_ {A = Bool} false true = cc in false≢true z)
 
 -- The lines of a file's application.
 lines-of : File → List ℕ
@@ -94,7 +108,7 @@ module _ (s : List ℕ) (w : Covered s) (d : Derivation (tokens s)) (n : List �
 
     accepted-back : Accepts (answer (syntax n (normal-tree .tree))) (same-meaning .back)
     accepted-back =
-        accepts (same-meaning .back) (answer-unplaced (syntax n (normal-tree .tree))) (ap answer (normal-tree .syntax-is) ∙ same-meaning .accepts)
+        accepts (same-meaning .back) (same-meaning .one-part) (answer-unplaced (syntax n (normal-tree .tree))) (ap answer (normal-tree .syntax-is) ∙ same-meaning .accepts)
 
     lines-again : lines-of (syntax n (normal-tree .tree)) ≡ lines-of (syntax s (d .tree))
     unfolding lines-of
@@ -148,6 +162,7 @@ by-derivation {s} t (meant w d) e h =
       back = accepted-back s w d n i h t e .placed;
       accepts = reads-back-derived s w d n i h t e;
       same = same-again s w d n i h t e;
+      one-part = accepted-back s w d n i h t e .parts-as;
       words = row-words-again s w d n i h t e;
       ranges = ranges-again s w d n i h t e;
       again = own-normal s w d n i h t e;

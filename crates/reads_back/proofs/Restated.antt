@@ -93,7 +93,7 @@ restated (resolved t us rest) k =
 
 unfoldable pub restated-object : Object → Resolved → ℕ → Object
 restated-object x r k = record
-    { row = x .row; kind = x .kind; word = unplaced-word (x .word); name = unplaced-word (x .name); block = absent; statements = restated r k }
+    { row = x .row; kind = x .kind; word = unplaced-word (x .word); name = unplaced-word (x .name); block = absent; parts = 1; statements = restated r k }
 
 unfoldable pub restated-objects : List Object → List Resolved → ℕ → List Object
 restated-objects [] rs k = []
@@ -108,6 +108,7 @@ restated-file f = record {
   implementation-name = unplaced-word (f .implementation-name);
   specs = each unplaced-spec (f .specs);
   cpu = unplaced-word (f .cpu);
+  parts = restated-objects (f .objects) (all-values f (f .objects)) 0;
   objects = restated-objects (f .objects) (all-values f (f .objects)) 0;
 }
 

@@ -84,7 +84,7 @@ unfoldable said-objects : List Object → List Resolved → ℕ → ℕ → List
 said-objects [] rs n k = []
 said-objects (x ∷ xs) [] n k = []
 said-objects (x ∷ xs) (r ∷ rs) n k =
-    record { row = n; kind = kind-of (x .word .class); word = unplaced-word (x .word); name = unplaced-word (x .name); block = absent; statements = restated r k }
+    record { row = n; kind = kind-of (x .word .class); word = unplaced-word (x .word); name = unplaced-word (x .name); block = absent; parts = 1; statements = restated r k }
     ∷ said-objects xs rs (suc n) (k + how-many-values r)
 
 -- They are the restated objects.
@@ -94,7 +94,7 @@ said-restated [] rs n k h = refl
 said-restated (x ∷ xs) [] n k h = absurd h
 said-restated (x ∷ xs) (r ∷ rs) n k (h, hs) =
     ap₂ _∷_
-    (ap₂ (λ (a : ℕ) (b : Kind). record { row = a; kind = b; word = unplaced-word (x .word); name = unplaced-word (x .name); block = absent; statements = restated r k })
+    (ap₂ (λ (a : ℕ) (b : Kind). record { row = a; kind = b; word = unplaced-word (x .word); name = unplaced-word (x .name); block = absent; parts = 1; statements = restated r k })
     (sym (h .row-is)) (h .kind-is))
     (said-restated xs rs (suc n) (k + how-many-values r) hs)
 
@@ -111,7 +111,7 @@ objects-tree (x ∷ xs) [] n h more = absurd h
 objects-tree {f} {ws} {m} (x ∷ xs) (r ∷ rs) n (h, hs) more =
     subst₂ (λ l k. WordTrees (objects ▸ f) l (k, m))
     (object-grouped (unplaced-word (x .word)) (unplaced-word (x .name)) (line-words r) (object-words xs rs) ws)
-    (λ i n k. record { row = n; kind = kind-of (x .word .class); word = unplaced-word (x .word); name = unplaced-word (x .name); block = absent; statements = restated r k }
+    (λ i n k. record { row = n; kind = kind-of (x .word .class); word = unplaced-word (x .word); name = unplaced-word (x .name); block = absent; parts = 1; statements = restated r k }
     ∷ said-objects xs rs (suc n) (k + restated-count r k i))
     (word-node an-object (word-node an-object-with (word-leaf (unplaced-word (x .word)) (h .word-class) (word-leaf (unplaced-word (x .name)) (h .name .class-is)
     (word-leaf opening refl (lines-tree r (h .lines) (word-leaf closing refl stop-tree))))) (objects-tree xs rs (suc n) hs word-nil)) more)

@@ -3,6 +3,7 @@ use mathlib.Core.Path.{_≡_, refl, sym, _∙_, ap, ap₂, subst}
 use mathlib.Core.List.{List, [], _∷_, _++_}
 use mathlib.Core.Bool.{Bool, true, false}
 use Prim.Native.Nat.{ℕ, suc, _+_, _≤_}
+use lib.ListN.{length}
 use native.Mathlib.Omega.{arith}
 use lib.Dec.{eqb, ltb}
 use borrow.Author.Tests.{ne-eqb}
@@ -14,7 +15,8 @@ use Rattle.meaning.specs.Kinds.{same-kind, fewest, most}
 use Rattle.meaning.specs.Faults.{fault-if}
 use Rattle.meaning.specs.Scopes.{of-kind, find-object, names}
 use Rattle.meaning.specs.Defining.{scope-faults, specified, spec-faults}
-use Rattle.meaning.specs.Applying.{how-many, too-few, full, statement-faults, each-object}
+use Rattle.meaning.specs.Applying.{how-many, too-few, full, statement-faults, each-object, each-part}
+use Rattle.meaning.proofs.Numbering.{Counts, counts-more, object-numbers}
 use Rattle.meaning.specs.Judging.{lacks, judge, judge-object, judge-objects}
 use Rattle.meaning.specs.Resolving.{Resolved, end, resolved, resolve, object-values, all-values, how-many-values, how-many-in-all}
 use Rattle.meaning.specs.Normal.{object-lines}
@@ -121,7 +123,7 @@ module _ (f : File) (g : File) (specs-are : g .specs ≡ f .specs) (kin : SameOb
       ap₂ _++_ (ap (judge-object g (restated-object x r k)) (object-kind x r k) ∙ restated-object-judged x r k (of-kind (x .kind) (f .specs)) s)
       (restated-objects-judged (k + how-many-values r) p)
 
--- 11, 12 and 17 ----------------------------------------------------------------------------------------------------------------------------
+-- 11 and 17 ----------------------------------------------------------------------------------------------------------------------------
 
 -- No kind has too few objects.
 pub kindred-few : {xs ys : List Object} (ks : List Kind) (cpu : Word) → AllKindred xs ys → too-few ks ys cpu ≡ [] → too-few ks xs cpu ≡ []
@@ -145,38 +147,39 @@ same-fault : {b c : Bool} (t u : Word) (n : ℕ) → b ≡ c → fault-if c u n 
 unfolding fault-if
 same-fault {b} {c} t u n e h = ap (λ z. fault-if z t n) (e ∙ not-faulty c u n h)
 
-restated-one : (before before′ : List Object) (x : Object) (r : Resolved) (k : ℕ) → AllKindred before′ before → k + how-many-values r ≤ 2048
+restated-one : (before before′ : List Object) (x : Object) (r : Resolved) (k : ℕ) → AllKindred before′ before
     → fault-if (eqb (x .row) 256) (x .word) 11 ≡ [] → fault-if (full (most (x .kind)) (how-many (x .kind) before)) (x .word) 17 ≡ []
-    → fault-if (is-there (find-object (x .kind) before (x .name))) (x .name) 12 ≡ []
     → fault-if (eqb (restated-object x r k .row) 256) (restated-object x r k .word) 11
-    ++ (fault-if (full (most (restated-object x r k .kind)) (how-many (restated-object x r k .kind) before′)) (restated-object x r k .word) 17
-    ++ (fault-if (is-there (find-object (restated-object x r k .kind) before′ (restated-object x r k .name))) (restated-object x r k .name) 12
-    ++ statement-faults (restated-object x r k .statements))) ≡ []
+    ++ fault-if (full (most (restated-object x r k .kind)) (how-many (restated-object x r k .kind) before′)) (restated-object x r k .word) 17 ≡ []
 unfolding restated-object unplaced-word
-restated-one before before′ x r k p h a b c =
-    ap₂ _++_ (same-fault _ (x .word) 11 refl a)
-    (ap₂ _++_ (same-fault _ (x .word) 17 (ap (full (most (x .kind))) (kindred-many (x .kind) p)) b)
-    (ap₂ _++_ (same-fault _ (x .name) 12 (kindred-there (x .kind) _ p ∙ ap is-there (find-object-bytes (x .kind) before _ (x .name) refl)) c)
-    (restated-numbers r k h)))
+restated-one before before′ x r k p a b =
+    ap₂ _++_ (same-fault _ (x .word) 11 refl a) (same-fault _ (x .word) 17 (ap (full (most (x .kind))) (kindred-many (x .kind) p)) b)
 
--- No object of the normal text is at fault by 11, 12 or 17, and no statement by 11.
+-- No object of the normal text is at fault by 11 or 17,
 pub restated-each : (f : File) (before before′ xs : List Object) (k : ℕ) → AllKindred before′ before → each-object before xs ≡ []
-    → k + how-many-in-all (all-values f xs) ≤ 2048 → each-object before′ (restated-objects xs (all-values f xs) k) ≡ []
-unfolding each-object restated-objects all-values how-many-in-all
-restated-each f before before′ [] k p e h = refl
-restated-each f before before′ (x ∷ xs) k p e h =
+    → each-object before′ (restated-objects xs (all-values f xs) k) ≡ []
+unfolding each-object restated-objects all-values
+restated-each f before before′ [] k p e = refl
+restated-each f before before′ (x ∷ xs) k p e =
     let a = fault-if (eqb (x .row) 256) (x .word) 11 in
     let b = fault-if (full (most (x .kind)) (how-many (x .kind) before)) (x .word) 17 in
-    let c = fault-if (is-there (find-object (x .kind) before (x .name))) (x .name) 12 in
-    let d = statement-faults (x .statements) in
     let r = each-object (before ++ (x ∷ [])) xs in
-    let i = nothing-front (a ++ (b ++ (c ++ d))) r e in
-    let j = nothing-back a (b ++ (c ++ d)) i in
+    let i = nothing-front (a ++ b) r e in
     let v = object-values f x in
-    ap₂ _++_
-    (restated-one before before′ x v k p (omega arith) (nothing-front a (b ++ (c ++ d)) i) (nothing-front b (c ++ d) j) (nothing-front c d (nothing-back b (c ++ d) j)))
+    ap₂ _++_ (restated-one before before′ x v k p (nothing-front a b i) (nothing-back a b i))
     (restated-each f (before ++ (x ∷ [])) (before′ ++ (restated-object x v k ∷ [])) xs (k + how-many-values v)
-    (kindred-behind (restated-object x v k) x p (restated-kin x v k)) (nothing-back (a ++ (b ++ (c ++ d))) r e) (omega arith))
+    (kindred-behind (restated-object x v k) x p (restated-kin x v k)) (nothing-back (a ++ b) r e))
+
+-- and no part and no statement by 11, where there are at most 256 objects.
+pub restated-parts-each : (f : File) (xs : List Object) (k i : ℕ) → Counts i (object-numbers xs) → i + length xs ≤ 256 → k + how-many-in-all (all-values f xs) ≤ 2048
+    → each-part (restated-objects xs (all-values f xs) k) ≡ []
+unfolding each-part restated-objects all-values how-many-in-all object-numbers restated-object fault-if
+restated-parts-each f [] k i c l h = refl
+restated-parts-each f (x ∷ xs) k i (counts-more e c) l h =
+    let v = object-values f x in
+    let q : eqb (x .row) 512 ≡ false = ne-eqb (x .row) 512 (λ z. omega arith) in
+    ap₂ _++_ (ap₂ (λ b t. fault-if b (unplaced-word (x .word)) 11 ++ t) q (restated-numbers v k (omega arith)))
+    (restated-parts-each f xs (k + how-many-values v) (suc i) c (omega arith) (omega arith))
 
 -- Lines --------------------------------------------------------------------------------------------------------------------------------------
 

@@ -4,7 +4,8 @@ use mathlib.Core.List.{List, [], _∷_, _++_}
 use mathlib.Core.Bool.{Bool, true, false, false≢true}
 use mathlib.Core.Option.{none}
 use Prim.Native.Nat.{ℕ, suc, _+_}
-use Rattle.meaning.proofs.Entries.{then, then-assoc}
+use Rattle.meaning.proofs.Entries.{then-assoc}
+use Rattle.meaning.specs.Merging.{then}
 use Rattle.token.specs.Find.{either}
 use Rattle.token.proofs.Bytes.{neither-first, neither-second, not-true}
 use Rattle.meaning.specs.Syntax.{Word, Definition, Definitions, define, Values, value, Statement, Statements, done, state, Object}

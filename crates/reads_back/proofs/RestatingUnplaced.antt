@@ -15,6 +15,7 @@ kept-file f = record {
   implementation-name = f .implementation-name;
   specs = f .specs;
   cpu = f .cpu;
+  parts = restated-objects (f .objects) (all-values f (f .objects)) 0;
   objects = restated-objects (f .objects) (all-values f (f .objects)) 0;
 }
 
@@ -53,7 +54,7 @@ unplaced-restated (resolved t us rest) k =
 unplaced-one : (x : Object) (r : Resolved) (k : ℕ) → unplaced-object (restated-object x r k) ≡ restated-object x r k
 unfolding unplaced-object restated-object unplaced-word
 unplaced-one x r k =
-    ap (λ ss. record { row = x .row; kind = x .kind; word = unplaced-word (x .word); name = unplaced-word (x .name); block = absent; statements = ss }) (unplaced-restated r k)
+    ap (λ ss. record { row = x .row; kind = x .kind; word = unplaced-word (x .word); name = unplaced-word (x .name); block = absent; parts = 1; statements = ss }) (unplaced-restated r k)
 
 unplaced-objects : (xs : List Object) (rs : List Resolved) (k : ℕ) → each unplaced-object (restated-objects xs rs k) ≡ restated-objects xs rs k
 unfolding each restated-objects
@@ -71,5 +72,6 @@ unplaced-kept f =
       implementation-name = unplaced-word (f .implementation-name);
       specs = each unplaced-spec (f .specs);
       cpu = unplaced-word (f .cpu);
+      parts = os;
       objects = os;
     }) (unplaced-objects (f .objects) (all-values f (f .objects)) 0)

@@ -13,7 +13,8 @@ use Rattle.meaning.specs.Kinds.{same-kind}
 use Rattle.meaning.specs.Scopes.{find-object}
 use Rattle.meaning.specs.Applying.{object-rows, how-many, counts-of}
 use Rattle.meaning.specs.Resolving.{row-or}
-use Rattle.meaning.specs.Places.{each, unplaced-object-row}
+use Rattle.meaning.specs.Places.{each}
+use Rattle.reads_back.specs.ReadsBack.{bare-object-row}
 use Rattle.reads_back.proofs.RestatingValues.{SameObjects}
 
 -- The same row, kind and name.
@@ -68,7 +69,7 @@ unfolding row-or
 kindred-objects p = record { row = λ k t. kindred-find row-or k t (λ x y h. h .row) p; there = λ k t. kindred-there k t p }
 
 -- Their rows, without places.
-pub kindred-rows : {xs ys : List Object} → AllKindred xs ys → each unplaced-object-row (object-rows xs) ≡ each unplaced-object-row (object-rows ys)
-unfolding object-rows each unplaced-object-row
+pub kindred-rows : {xs ys : List Object} → AllKindred xs ys → each bare-object-row (object-rows xs) ≡ each bare-object-row (object-rows ys)
+unfolding object-rows each bare-object-row
 kindred-rows no-kindred = refl
-kindred-rows (more-kindred h p) = ap₂ (λ k l. record { kind = k; word = absent; name = absent; block = absent } ∷ l) (h .kind) (kindred-rows p)
+kindred-rows (more-kindred h p) = ap₂ (λ k l. record { kind = k; word = absent; name = absent; block = absent; parts = 1 } ∷ l) (h .kind) (kindred-rows p)

@@ -1,36 +1,38 @@
 -- The syntax of a normal text means the same as that of the text. Assumes nothing.
 use mathlib.Core.Path.{_≡_, refl, sym, _∙_, ap, ap₂}
-use mathlib.Core.List.{List, [], _++_}
+use mathlib.Core.List.{List, [], _∷_, _++_}
 use mathlib.Core.Bool.{Bool, true, false, not, false≢true}
 use mathlib.Core.Option.{Option, none, some}
-use Prim.Native.Nat.{ℕ, _≤_}
+use Prim.Native.Nat.{ℕ, suc, _+_, _≤_}
+use lib.ListN.{length}
 use native.Mathlib.Omega.{arith}
 use Rattle.token.specs.Words.{bytesOf, same}
 use Rattle.grammar.specs.Grammar.{Derivation}
 use Rattle.grammar.specs.Terminals.{tokens}
-use Rattle.meaning.specs.Syntax.{File}
+use Rattle.meaning.specs.Syntax.{Object, File}
 use Rattle.meaning.specs.Kinds.{kinds}
 use Rattle.meaning.specs.Faults.{Fault, fault-if, first}
 use Rattle.meaning.specs.Actions.{syntax}
 use Rattle.meaning.specs.Defining.{spec-faults, definition-faults}
-use Rattle.meaning.specs.Applying.{counts, too-few, each-object, object-faults}
+use Rattle.meaning.specs.Applying.{ObjectRow, object-rows, counts, too-few, each-object, each-part, object-faults}
 use Rattle.meaning.specs.Judging.{statement-stage}
-use Rattle.meaning.specs.Resolving.{all-values, how-many-in-all, too-many}
+use Rattle.meaning.specs.Resolving.{Resolved, all-values, how-many-values, how-many-in-all, too-many}
 use Rattle.meaning.specs.Normal.{application-lines}
 use Rattle.meaning.specs.Answers.{Tables, Answer, accepted, tables, unless, answer}
-use Rattle.meaning.specs.Places.{unplaced-tables}
-use Rattle.meaning.proofs.Rooms.{no-first, few-values, nothing-front, nothing-back}
+use Rattle.meaning.specs.Places.{each, unplaced-object-row, unplaced-tables}
+use Rattle.meaning.proofs.Rooms.{no-first, few-values, nothing-front, nothing-back, objects-fit}
+use Rattle.meaning.proofs.Numbering.{Counts, object-numbers, numbered}
 use Rattle.meaning.proofs.Unplaced.{application-unplaced, tables-same}
 use Rattle.meaning.proofs.UnplacedFaults.{answer-unplaced}
 use Rattle.reads_back.specs.ReadsBack.{bare}
-use Rattle.reads_back.proofs.Restated.{given, restated-file}
+use Rattle.reads_back.proofs.Restated.{given, restated-object, restated-objects, restated-file}
 use Rattle.reads_back.proofs.RestatingUnplaced.{kept-file, unplaced-kept}
 use Rattle.reads_back.proofs.SameValues.{SameAll, all-same-many, all-same-rows}
 use Rattle.reads_back.proofs.SameTables.{bare-unplaced, accepts-unplaced}
 use Rattle.reads_back.proofs.SameNames.{names-of, words-same, names-unplaced, objects-restated, all-same-names}
 use Rattle.reads_back.proofs.RestatingPlain.{PlainSpecs, syntax-plain}
 use Rattle.reads_back.proofs.SameKindred.{AllKindred, no-kindred, kindred-objects, kindred-counts, kindred-rows}
-use Rattle.reads_back.proofs.RestatingObjects.{SettledObjects, settle-objects, restated-kindred, all-restated-values, restated-objects-judged, kindred-few, restated-each, restated-lines}
+use Rattle.reads_back.proofs.RestatingObjects.{SettledObjects, settle-objects, restated-kindred, all-restated-values, restated-objects-judged, kindred-few, restated-each, restated-parts-each, restated-lines}
 
 -- Stages -------------------------------------------------------------------------------------------------------------------------------------
 
@@ -85,12 +87,15 @@ kept-kindred : (f : File) → AllKindred (kept-file f .objects) (f .objects)
 unfolding kept-file
 kept-kindred f = restated-kindred f (f .objects) 0
 
-objects-kept : (f : File) → object-faults f ≡ [] → how-many-in-all (all-values f (f .objects)) ≤ 2048 → object-faults (kept-file f) ≡ []
+objects-kept : (f : File) → Counts 0 (object-numbers (f .objects)) → length (f .objects) ≤ 256 → object-faults f ≡ [] → how-many-in-all (all-values f (f .objects)) ≤ 2048
+    → object-faults (kept-file f) ≡ []
 unfolding object-faults kept-file
-objects-kept f e h =
+objects-kept f c l e h =
     let a = too-few kinds (f .objects) (f .cpu) in
     let b = each-object [] (f .objects) in
-    ap₂ _++_ (kindred-few kinds (f .cpu) (kept-kindred f) (nothing-front a b e)) (restated-each f [] [] (f .objects) 0 no-kindred (nothing-back a b e) (omega arith))
+    let p = each-part (f .parts) in
+    ap₂ _++_ (kindred-few kinds (f .cpu) (kept-kindred f) (nothing-front a (b ++ p) e))
+    (ap₂ _++_ (restated-each f [] [] (f .objects) 0 no-kindred (nothing-front b p (nothing-back a (b ++ p) e))) (restated-parts-each f (f .objects) 0 0 c (omega arith) (omega arith)))
 
 kept-specs : (f : File) → kept-file f .specs ≡ f .specs
 unfolding kept-file
@@ -117,6 +122,19 @@ module _ (f : File) (s : SettledObjects f (f .objects)) where
   unfolding names-of kept-file
   names-kept = words-same refl refl (objects-restated f (f .objects) 0) (all-same-names values-kept)
 
+-- Each object of the normal text has one part.
+alone-rows : (xs : List Object) (rs : List Resolved) (k : ℕ) → each (λ (r : ObjectRow). r .parts) (each unplaced-object-row (object-rows (restated-objects xs rs k)))
+    ≡ each (λ (r : ObjectRow). 1) (each unplaced-object-row (object-rows (restated-objects xs rs k)))
+unfolding restated-objects restated-object object-rows each unplaced-object-row
+alone-rows [] rs k = refl
+alone-rows (x ∷ xs) [] k = refl
+alone-rows (x ∷ xs) (r ∷ rs) k = ap (λ (l : List ℕ). 1 ∷ l) (alone-rows xs rs (k + how-many-values r))
+
+rows-many : (xs : List Object) → length (object-rows xs) ≡ length xs
+unfolding object-rows
+rows-many [] = refl
+rows-many (x ∷ xs) = ap suc (rows-many xs)
+
 -- The theorem --------------------------------------------------------------------------------------------------------------------------------
 
 -- The syntax of the normal text of f, with the tables t, is accepted, with the same tables but places, lengths and the stated mark, and has the
@@ -125,28 +143,38 @@ pub record MeansSame (f : File) (t : Tables) : Type 0 where
   pub back : Tables
   pub accepts : answer (restated-file f) ≡ accepted back
   pub same : bare back ≡ bare t
+  pub one-part : each (λ (r : ObjectRow). r .parts) (back .objects) ≡ each (λ (r : ObjectRow). 1) (back .objects)
   pub names : names-of (restated-file f) ≡ names-of f
   pub lines : application-lines (restated-file f) (all-values (restated-file f) (restated-file f .objects)) ≡ application-lines f (all-values f (f .objects))
 
 -- An accepted syntax with plain definitions.
-same-of : (f : File) (t : Tables) → PlainSpecs (f .specs) → answer f ≡ accepted t → MeansSame f t
-unfolding statement-stage
-same-of f t p e =
+same-of : (f : File) (t : Tables) → Counts 0 (object-numbers (f .objects)) → length (f .objects) ≤ 256 → PlainSpecs (f .specs) → answer f ≡ accepted t → MeansSame f t
+unfolding statement-stage unplaced-tables tables kept-file
+same-of f t c l p e =
     let n = no-faults f t e in
     let s = settle-objects f (f .objects) (specs-free f (n .definitions)) p (n .statements) in
     let g = kept-file f in
     let rs = all-values g (g .objects) in
     let many = all-same-many (values-kept f s) in
-    let a = accepts-it g (definitions-kept f (n .definitions)) (objects-kept f (n .objects) (few-values (how-many-in-all (all-values f (f .objects))) (n .values)))
+    let a = accepts-it g (definitions-kept f (n .definitions)) (objects-kept f c l (n .objects) (few-values (how-many-in-all (all-values f (f .objects))) (n .values)))
     (statements-kept f s) (ap too-many many ∙ n .values) in
     record {
       back = unplaced-tables (tables g rs);
       accepts = ap answer (sym (unplaced-kept f)) ∙ accepts-unplaced (tables g rs) (answer-unplaced g) a;
       same = bare-unplaced (tables g rs) ∙ tables-kept f s ∙ ap bare (n .tables-are);
+      one-part = alone-rows (f .objects) (all-values f (f .objects)) 0;
       names = ap names-of (sym (unplaced-kept f)) ∙ names-unplaced g ∙ names-kept f s;
       lines = ap (λ z. application-lines z (all-values z (z .objects))) (sym (unplaced-kept f)) ∙ application-unplaced g ∙ lines-kept f s;
     }
 
+no-fault : (l : List Fault) → l ≡ [] → first l ≡ none
+unfolding first
+no-fault l e = ap first e
+
 -- So it is for the syntax of an accepted text.
 pub means-same : (s : List ℕ) (d : Derivation (tokens s)) (t : Tables) → answer (syntax s (d .tree)) ≡ accepted t → MeansSame (syntax s (d .tree)) t
-means-same s d t e = same-of (syntax s (d .tree)) t (syntax-plain s (d .tree)) e
+means-same s d t e =
+    let f = syntax s (d .tree) in
+    let fit = objects-fit s (d .tree) (no-fault (object-faults f) (no-faults f t e .objects)) .0 in
+    let m = rows-many (f .objects) in
+    same-of f t (numbered s (d .tree) .1 .0) (omega arith) (syntax-plain s (d .tree)) e

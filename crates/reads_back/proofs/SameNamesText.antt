@@ -1,9 +1,11 @@
 -- The words that rows point to in a text are the words of its syntax. Assumes nothing.
-use mathlib.Core.Path.{_≡_, refl, sym, _∙_, ap, ap₂}
+use mathlib.Core.Path.{_≡_, refl, sym, _∙_, ap, ap₂, subst}
 use mathlib.Core.List.{List, [], _∷_, _++_}
 use mathlib.Core.Bool.{Bool, true, false}
 use mathlib.Core.Option.{Option, none, some}
 use Prim.Native.Nat.{ℕ, suc, _+_}
+use Rattle.meaning.specs.Merging.{merge}
+use Rattle.meaning.proofs.Merges.{In, in-here, in-there, merge-in, syntax-merged}
 use Rattle.grammar.specs.Grammar.{Kind, file, _▸_, ∎, _⟶_, Trees}
 use Rattle.token.specs.Find.{pick}
 use Rattle.meaning.specs.Syntax.{Word, absent, span-of, span-or, Definition, Definitions, no-more, define, Values, no-value, value, Statements, done, state, Spec, Object, File, is-enum}
@@ -226,11 +228,21 @@ all-values-there s f (x ∷ xs) o n h k =
     ∙ ap₂ _++_ (values-there s r n (of-object o) (resolve-there s (f .objects) (of-kind (x .kind) (f .specs)) (x .statements) (kind-there s (x .kind) (f .specs) h) (p .0)))
     (all-values-there s f xs (suc o) (n + how-many-values r) h (p .1))
 
+-- The words of the objects are words of their parts.
+one-text : (s : List ℕ) {w : Word} {l : List Word} → In w l → InText s l → w .bytes ≡ part s (span-of w)
+one-text s (in-here e) g = subst (λ (v : Word). v .bytes ≡ part s (span-of v)) e (g .0)
+one-text s (in-there h) g = one-text s h (g .1)
+
+among-text : (s : List ℕ) (l m : List Word) → ((w : Word) → In w l → In w m) → InText s m → InText s l
+among-text s [] m f g = tt
+among-text s (w ∷ l) m f g = (one-text s (f w (in-here refl)) g, among-text s l m (λ v h. f v (in-there h)) g)
+
 -- The words of the rows of a text's syntax.
 pub names-there : (s : List ℕ) (t : Trees _⟶_ (file ▸ ∎)) → words-of s (tables (syntax s t) (all-values (syntax s t) (syntax s t .objects))) ≡ names-of (syntax s t)
 unfolding words-of tables names-of file-words
 names-there s t =
     let f = syntax s t in
-    let p = parts s (f .version ∷ spec-words (f .specs)) (f .cpu ∷ object-words (f .objects)) (syntax-text s t) in
-    words-same (all-scopes-there s (f .specs) (p .0 .1)) (all-enumerators-there s (f .specs) (p .0 .1)) (objects-there s (f .objects) (p .1 .1))
-    (all-values-there s f (f .objects) 0 0 (p .0 .1) (p .1 .1))
+    let p = parts s (f .version ∷ spec-words (f .specs)) (f .cpu ∷ object-words (f .parts)) (syntax-text s t) in
+    let o = subst (λ (os : List Object). InText s (object-words os)) (sym (syntax-merged s t)) (among-text s (object-words (merge (f .parts))) (object-words (f .parts)) (λ w i. merge-in (f .parts) i) (p .1 .1)) in
+    words-same (all-scopes-there s (f .specs) (p .0 .1)) (all-enumerators-there s (f .specs) (p .0 .1)) (objects-there s (f .objects) o)
+    (all-values-there s f (f .objects) 0 0 (p .0 .1) o)

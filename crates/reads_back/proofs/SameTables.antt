@@ -9,7 +9,7 @@ use Rattle.meaning.specs.Answers.{Tables, Answer, accepted}
 use Rattle.meaning.specs.Places.{each, unplaced-definition-row, unplaced-enumerator-row, unplaced-object-row, unplaced-value-row, unplaced-tables}
 use Rattle.meaning.proofs.UnplacedFaults.{SameAnswer, both-accept, both-refuse}
 use Rattle.meaning.proofs.Unplaced.{tables-same}
-use Rattle.reads_back.specs.ReadsBack.{bare-value-row, bare}
+use Rattle.reads_back.specs.ReadsBack.{bare-value-row, bare-object-row, bare}
 
 each-twice : {A B : Type 0} (g : A → B) (h : A → A) → ((a : A) → g (h a) ≡ g a) → (l : List A) → each g (each h l) ≡ each g l
 unfolding each
@@ -25,8 +25,8 @@ enumerator-twice : (r : EnumeratorRow) → unplaced-enumerator-row (unplaced-enu
 unfolding unplaced-enumerator-row
 enumerator-twice r = refl
 
-object-twice : (r : ObjectRow) → unplaced-object-row (unplaced-object-row r) ≡ unplaced-object-row r
-unfolding unplaced-object-row
+object-twice : (r : ObjectRow) → bare-object-row (unplaced-object-row r) ≡ bare-object-row r
+unfolding unplaced-object-row bare-object-row
 object-twice r = refl
 
 value-twice : (r : ValueRow) → bare-value-row (unplaced-value-row r) ≡ bare-value-row r
@@ -39,7 +39,7 @@ unfolding bare unplaced-tables
 bare-unplaced t =
     tables-same (each-twice unplaced-definition-row unplaced-definition-row definition-twice (t .definitions))
     (each-twice unplaced-enumerator-row unplaced-enumerator-row enumerator-twice (t .enumerators))
-    (each-twice unplaced-object-row unplaced-object-row object-twice (t .objects))
+    (each-twice bare-object-row unplaced-object-row object-twice (t .objects))
     (each-twice bare-value-row unplaced-value-row value-twice (t .values)) refl
 
 -- Where one is accepted, so is the other.

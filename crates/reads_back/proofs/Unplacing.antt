@@ -4,9 +4,10 @@ use mathlib.Core.List.{List, [], _∷_}
 use mathlib.Core.Bool.{Bool, false}
 use mathlib.Core.Option.{Option, none}
 use Prim.Native.Nat.{ℕ, suc, _+_}
+use Rattle.reads_back.proofs.MergedAgain.{merge-unplaced}
 use Rattle.token.specs.Find.{bit}
 use Rattle.grammar.specs.Grammar.{Rule, rule, tok, Form, _⟶_, file, version, implementation, specs, spec, definitions, definition, attribute, D, P, auto, mark, integer-range, numbers, boolean-range, enumerator, enumerators, application, objects, object, block, statements, statement, default, own, file-is, version-is, implementation-is, no-spec, a-spec, spec-is, no-definition, a-definition, an-attribute, a-reference, an-integer, a-string, a-boolean, an-enum, reference-is, no-D, a-D, no-P, a-P, no-auto, with-auto, no-mark, a-mark, no-range, a-range, a-list, no-number, a-number, no-boolean-range, a-boolean-range, enumerator-is, no-enumerator, an-enumerator, no-default, a-default, own-auto, own-none, own-number, own-string, own-true, own-false, own-name, application-is, no-object, an-object, an-object-alone, an-object-with, no-block, a-block, no-statement, a-statement, statement-is, value-number, value-string, value-auto, value-name, value-true, value-false, reference as reference-rule, value as value-rule}
-use Rattle.meaning.specs.Syntax.{Word, Span, absent, through, AttributeType, integer, string, boolean, enum, Bounds, no-bounds, Definitions, no-more, define, Values, no-value, Defined, Spec, Statements, done, state, definitions-in, definitions-under, is-enum, enumerators-in, enumerators-under, statements-in, value as a-value, reference as reference-to}
+use Rattle.meaning.specs.Syntax.{Word, Span, absent, through, AttributeType, integer, string, boolean, enum, Bounds, no-bounds, Definitions, no-more, define, Values, no-value, Defined, Spec, Statements, done, state, definitions-in, definitions-under, is-enum, enumerators-in, enumerators-under, statements-in, value as a-value, reference as reference-to, Object}
 use Rattle.meaning.specs.Actions.{kind-of, integer-of, Implementation, Application, IntegerRange, BooleanRange, Enumerator, Block, ValueWithBlock, Stated, M, Parts, first-value, truths, defined, defining, specifying, stating, means}
 use Rattle.meaning.specs.Places.{each, if-there, unplaced-word, unplaced-bounds, unplaced-definition, unplaced-definitions, unplaced-values, unplaced-defined, unplaced-spec, unplaced-statement, unplaced-statements, unplaced-object, unplaced}
 
@@ -153,7 +154,16 @@ stating-bare x k xs =
 -- What a form means of unplaced parts is what it means, unplaced.
 pub means-bare : {x : Rule} {g : Form} (p : x ⟶ g) (m : Parts g) → means p (bare-parts g m) ≡ bare-M x (means p m)
 unfolding means bare-parts bare-M unplaced bare-implementation bare-application bare-integer-range bare-boolean-range bare-enumerator bare-block bare-value bare-stated each if-there through unplaced-word absent unplaced-bounds unplaced-values unplaced-definitions unplaced-spec unplaced-object unplaced-statement unplaced-statements
-means-bare file-is (v, (i, (a, u))) = refl
+means-bare file-is (v, (i, (a, u))) =
+    ap (λ (os : List Object). record {
+      version = unplaced-word v;
+      implementation = absent;
+      implementation-name = unplaced-word (i .name);
+      specs = each unplaced-spec (i .specs);
+      cpu = unplaced-word (a .name);
+      parts = each unplaced-object (a .objects);
+      objects = os;
+    }) (merge-unplaced (a .objects))
 means-bare version-is (_, (_, (v, _))) = refl
 means-bare implementation-is m = refl
 means-bare no-spec m = refl

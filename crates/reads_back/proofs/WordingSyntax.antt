@@ -4,6 +4,9 @@ use mathlib.Core.List.{List, [], _∷_, _++_}
 use mathlib.Core.Bool.{Bool, true, false}
 use mathlib.Core.Option.{Option, none, some}
 use Prim.Native.Nat.{ℕ, suc}
+use Rattle.token.specs.Find.{pick}
+use Rattle.meaning.specs.Words.{choose}
+use Rattle.meaning.specs.Merging.{then, same-object, used, continued, merged, merge-from, merge}
 use Rattle.grammar.specs.Grammar.{Token, tokens, matches, Rule, Form, _▸_, ∎, _⟶_, Trees, nil, leaf, node, file, version, implementation, specs, spec, definitions, definition, attribute, D, P, auto, mark, integer-range, numbers, boolean-range, enumerator, enumerators, application, objects, object, block, statements, statement, default, own, file-is, version-is, implementation-is, no-spec, a-spec, spec-is, no-definition, a-definition, an-attribute, a-reference, an-integer, a-string, a-boolean, an-enum, reference-is, no-D, a-D, no-P, a-P, no-auto, with-auto, no-mark, a-mark, no-range, a-range, a-list, no-number, a-number, no-boolean-range, a-boolean-range, enumerator-is, no-enumerator, an-enumerator, no-default, a-default, own-auto, own-none, own-number, own-string, own-true, own-false, own-name, application-is, no-object, an-object, an-object-alone, an-object-with, no-block, a-block, no-statement, a-statement, statement-is, value-number, value-string, value-auto, value-name, value-true, value-false, reference as reference-rule, value as value-rule, kind as a-kind}
 use Rattle.meaning.specs.Syntax.{Word, Definition, Definitions, no-more, define, Values, no-value, value, Defined, Statement, Statements, done, state, Spec, Object, File}
 use Rattle.meaning.specs.Actions.{M, Enumerator, word-of, kind-of, first-value, truths, defined, defining, specifying, stating, means, meaning, syntax}
@@ -61,6 +64,44 @@ pub record WordedObject (x : Object) : Type 0 where
 abbrev pub WordedObjects : List Object → Type 0
 WordedObjects [] = Unit {0}
 WordedObjects (x ∷ xs) = WordedObject x × WordedObjects xs
+
+-- So are the objects that are made of parts.
+worded-then : {a b : Statements} → WordedStatements a → WordedStatements b → WordedStatements (then a b)
+unfolding then
+worded-then worded-done q = q
+worded-then (worded-state v i r) q = worded-state v i (worded-then r q)
+
+worded-continued : (x : Object) (ys : List Object) → WordedObjects ys → WordedStatements (continued x ys)
+unfolding continued
+worded-continued x [] w = worded-done
+worded-continued x (y ∷ ys) w = go (same-object x y) (worded-continued x ys (w .1))
+  where
+    go : (b : Bool) → WordedStatements (continued x ys) → WordedStatements (pick b (then (y .statements) (continued x ys)) (continued x ys))
+    go true r = worded-then (w .0 .statements) r
+    go false r = r
+
+worded-from : (before xs : List Object) (n : ℕ) → WordedObjects xs → WordedObjects (merge-from before xs n)
+unfolding merge-from merged choose
+worded-from before [] n w = tt
+worded-from before (x ∷ xs) n w = go (used x before) (worded-from (before ++ (x ∷ [])) xs n (w .1)) (worded-from (before ++ (x ∷ [])) xs (suc n) (w .1)) (worded-continued x xs (w .1))
+  where
+    go : (b : Bool) → WordedObjects (merge-from (before ++ (x ∷ [])) xs n) → WordedObjects (merge-from (before ++ (x ∷ [])) xs (suc n)) → WordedStatements (continued x xs)
+        → WordedObjects (choose b (λ _. merge-from (before ++ (x ∷ [])) xs n) (λ _. merged x n xs ∷ merge-from (before ++ (x ∷ [])) xs (suc n)))
+    go true p q c = p
+    go false p q c = (
+      record {
+        word-alone = w .0 .word-alone;
+        word-class = w .0 .word-class;
+        kind-is = w .0 .kind-is;
+        name = w .0 .name;
+        statements = worded-then (w .0 .statements) c;
+      },
+      q,
+    )
+
+worded-merge : (xs : List Object) → WordedObjects xs → WordedObjects (merge xs)
+unfolding merge
+worded-merge xs w = worded-from [] xs 0 w
 
 -- A whole text.
 pub record WordedFile (f : File) : Type 0 where
@@ -132,7 +173,7 @@ own-nothing t e = subst (λ b. WordedOption (taken-by b t)) (sym e) tt
 
 means-worded : {x : Rule} {g : Form} (s : List ℕ) (p : x ⟶ g) (us : Trees _⟶_ g) → All s us → W x (means p (meaning s us))
 unfolding means meaning first-value truths defined defining specifying stating word-of taken
-means-worded s file-is (node _ v (node _ i (node _ a nil))) h = record { cpu = h .1 .1 .0 .0; specs = h .1 .0; objects = h .1 .1 .0 .1 }
+means-worded s file-is (node _ v (node _ i (node q a nil))) h = record { cpu = h .1 .1 .0 .0; specs = h .1 .0; objects = worded-merge (means q (meaning s a) .objects) (h .1 .1 .0 .1) }
 means-worded s version-is us h = tt
 means-worded s implementation-is (leaf _ _ (leaf _ _ (leaf _ _ (node _ ss (leaf _ _ (node _ d (leaf _ _ nil))))))) h = h .1 .1 .1 .0 0 0
 means-worded s no-spec nil h = λ n e. tt

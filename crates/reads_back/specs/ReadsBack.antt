@@ -5,6 +5,7 @@ use mathlib.Core.Bool.{false}
 use Prim.Native.Nat.{ℕ}
 use Rattle.meaning.specs.Defining.{DefinitionRow, EnumeratorRow}
 use Rattle.meaning.specs.Applying.{ObjectRow}
+use Rattle.meaning.specs.Syntax.{absent}
 use Rattle.meaning.specs.Resolving.{Value, number, truth, auto, string, enumerator, object, ValueRow}
 use Rattle.meaning.specs.Normal.{part}
 use Rattle.meaning.specs.Places.{each, unplaced-value-row, unplaced-tables}
@@ -15,11 +16,15 @@ use Rattle.meaning.specs.Reading.{reading, normal-text}
 unfoldable pub bare-value-row : ValueRow → ValueRow
 bare-value-row r = record { definition = r .definition; owner = r .owner; value = r .value; stated = false; word = unplaced-value-row r .word }
 
+-- The number of parts left out too: it is one where a text is read back.
+unfoldable pub bare-object-row : ObjectRow → ObjectRow
+bare-object-row r = record { kind = r .kind; word = absent; name = absent; block = absent; parts = 1 }
+
 unfoldable pub bare : Tables → Tables
 bare t = record {
   definitions = unplaced-tables t .definitions;
   enumerators = unplaced-tables t .enumerators;
-  objects = unplaced-tables t .objects;
+  objects = each bare-object-row (t .objects);
   values = each bare-value-row (t .values);
   counts = t .counts;
 }
@@ -83,8 +88,10 @@ pub record ReadsBack (s : List ℕ) (t : Tables) : Type 0 where
   -- the normal text is accepted,
   pub back : Tables
   pub accepts : reading (normal-text s) ≡ accepted back
-  -- with the same definitions, enumerators, objects, resolved values and counts "but places, lengths and the stated mark",
+  -- with the same definitions, enumerators, objects, resolved values and counts "but places, lengths and the stated mark", and numbers of parts,
   pub same : bare back ≡ bare t
+  -- "read back, each number of parts is one",
+  pub one-part : each (λ (r : ObjectRow). r .parts) (back .objects) ≡ each (λ (r : ObjectRow). 1) (back .objects)
   -- whose words have the same bytes,
   pub words : words-of (normal-text s) back ≡ words-of s t
   -- and whose ranges have the same bytes,

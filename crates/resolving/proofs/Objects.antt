@@ -92,7 +92,7 @@ module _ {s d e o st v : List ℕ} {z : Sizes} {ps : List ℕ} where
           let d = g .tables .objects in
           absurd (omega arith)
 
-  module _ {v₁ : List ℕ} {n i kind : ℕ} (h : i < z .objects) (c₀ : kind ≡ getD o (i * 9 + 0) 0) (t : Does s d e o st v z ps v₁ n i) where
+  module _ {v₁ : List ℕ} {n i kind : ℕ} (h : i < z .objects) (c₀ : kind ≡ getD o (i * 10 + 0) 0) (t : Does s d e o st v z ps v₁ n i) where
     pub does-stop : 13 ≤ kind → ResolvesAll s d e o st v z ps v₁ n
     does-stop lo f g p l =
         let x = here h t g p l in
@@ -100,7 +100,7 @@ module _ {s d e o st v : List ℕ} {z : Sizes} {ps : List ℕ} where
         let b = kind-low (x .object .kind) in
         absurd (omega arith)
 
-    pub does-more : {key from till : ℕ} {v₂ : List ℕ} {r : ℕ} → key ≡ getD ps kind 0 → from ≡ getD o (i * 9 + 7) 0 → till ≡ getD o (i * 9 + 8) 0
+    pub does-more : {key from till : ℕ} {v₂ : List ℕ} {r : ℕ} → key ≡ getD ps kind 0 → from ≡ getD o (i * 10 + 8) 0 → till ≡ getD o (i * 10 + 9) 0
         → Resolves s d e o st v₁ z (z .definitions) key from till (record { sort = 0; row = i }) n v₂ r → Does s d e o st v z ps v₂ r (i + 1)
     unfolding object-values owner-sort owner-row
     does-more {key} {from} {till} {v₂} {r} c₁ c₂ c₃ res f g p l =

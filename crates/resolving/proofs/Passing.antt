@@ -165,7 +165,7 @@ module _ {s d e o st v : List ℕ} {z : Sizes} {limit key from till : ℕ} {w : 
 -- What is noted ----------------------------------------------------------------------------------------------------------------------------
 
 pub noted-all : {s d e o st : List ℕ} {z : Sizes} {known words xd₀ xe₀ xo₀ spare₀ rs rd us : List ℕ} (xd : List ℕ) {xe xo : List ℕ} {l n m k₀ k k₂ : ℕ} → KnownDefaults s d known × DefaultOwners d us × Rooms d z xd₀ xe₀ xo₀ spare₀
-    → l ≡ length xd₀ → k₀ ≡ length spare₀ → Makes s d 19 l 0 2 k₀ xd → n ≡ length xe₀ → k ≡ length spare₀ → Makes s e 3 n 0 1 k xe → m ≡ length xo₀ → k₂ ≡ length spare₀ → Makes s o 9 m 0 3 k₂ xo
+    → l ≡ length xd₀ → k₀ ≡ length spare₀ → Makes s d 19 l 0 2 k₀ xd → n ≡ length xe₀ → k ≡ length spare₀ → Makes s e 3 n 0 1 k xe → m ≡ length xo₀ → k₂ ≡ length spare₀ → Makes s o 10 m 0 3 k₂ xo
     → NotesTo s d e xe (length words) words → NotesRanks s d xd st 7 0 rs → NotesRanks s d xd d 19 2 rd → Noted s d e o st z known words xe xo rs rd us
 unfolding Makes NotesRanks
 noted-all {s} {d} {e} {o} {st} {z} {known} {words} {xd₀} {xe₀} {xo₀} {spare₀} {rs} {rd} {us} xd {xe} {xo} {l} {n} {m} {k₀} {k} {k₂} h d₁ d₂ ix a₁ a₂ ie b₁ b₂ io w p q =
@@ -182,7 +182,7 @@ noted-all {s} {d} {e} {o} {st} {z} {known} {words} {xd₀} {xe₀} {xo₀} {spar
     let u : n ≡ z .enumerators = omega arith in
     let t : m ≡ z .objects = omega arith in
     let x : Indexed s e 3 (z .enumerators) 0 1 xe = subst (λ i. Indexed s e 3 i 0 1 xe) u (ie (omega arith)) in
-    let y : Indexed s o 9 (z .objects) 0 3 xo = subst (λ i. Indexed s o 9 i 0 3 xo) t (io (omega arith)) in
+    let y : Indexed s o 10 (z .objects) 0 3 xo = subst (λ i. Indexed s o 10 i 0 3 xo) t (io (omega arith)) in
     record {
       defaults = h .0;
       indexes = record {

@@ -29,7 +29,7 @@ pub record WordsNoted (s d e : List ℕ) (n : ℕ) (t : List ℕ) : Type 0 where
 pub record Indexes (s d e o : List ℕ) (z : Sizes) (words xe xo : List ℕ) : Type 0 where
   pub defaults : WordsNoted s d e (z .enumerators) words
   pub enumerators : Indexed s e 3 (z .enumerators) 0 1 xe
-  pub objects : Indexed s o 9 (z .objects) 0 3 xo
+  pub objects : Indexed s o 10 (z .objects) 0 3 xo
   pub enumerators-fit : z .enumerators ≤ 1024
   pub objects-fit : z .objects ≤ 256
 

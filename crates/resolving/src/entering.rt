@@ -435,13 +435,13 @@ fn resolve_objects(
     let mut n = 0;
     let mut i = 0;
     while i < z.objects {
-        let kind = cells::cell_of(o, 9, i, 0);
+        let kind = cells::cell_of(o, 10, i, 0);
         if 13 <= kind {
             return n;
         }
         let key = places[kind];
-        let from = cells::cell_of(o, 9, i, 7);
-        let end = cells::cell_of(o, 9, i, 8);
+        let from = cells::cell_of(o, 10, i, 8);
+        let end = cells::cell_of(o, 10, i, 9);
         n = resolve(
             text,
             d,
@@ -494,7 +494,7 @@ fn resolve_noted(
 {
     indexes::index(text, d, 19, 0, 2, xd, spare);
     indexes::index(text, e, 3, 0, 1, xe, spare);
-    indexes::index(text, o, 9, 0, 3, xo, spare);
+    indexes::index(text, o, 10, 0, 3, xo, spare);
     words::note_words(text, d, e, xe, noted);
     lookups::note_ranks(text, d, xd, st, 7, 0, rs);
     lookups::note_ranks(text, d, xd, d, 19, 2, rd);

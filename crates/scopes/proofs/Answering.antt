@@ -185,9 +185,9 @@ search-objects s k at len t q i (x ∷ os) g c =
     by true e n = ap At n
     by false e n = e
 
-pub finds-in-objects : (s o : List ℕ) (n kind at len : ℕ) (r : Found) → r ≡ findNamed s o 9 n 0 kind 3 at len 0 → FindsObject s o n kind at len r
+pub finds-in-objects : (s o : List ℕ) (n kind at len : ℕ) (r : Found) → r ≡ findNamed s o 10 n 0 kind 3 at len 0 → FindsObject s o n kind at len r
 finds-in-objects s o n kind at len r e f k t z h m l p q =
     let w = whole z in
-    e ∙ ap (λ c. findNamed s o 9 n 0 c 3 at len 0) p
+    e ∙ ap (λ c. findNamed s o 10 n 0 c 3 at len 0) p
     ∙ find-in-objects f s o (f .objects) [] n (kind-number k) at len h (sym (append-nil (f .objects))) m l
-    ∙ search-objects s k at len t q 0 (f .objects) (object-good s f (w .good)) (w .numbers .1 .0)
+    ∙ search-objects s k at len t q 0 (f .objects) (object-good s f (w .merged) (w .good)) (w .numbers .1 .0)

@@ -19,6 +19,8 @@ use Rattle.meaning.specs.Scopes.{Under, find-definition, find-value, under, def
 use Rattle.meaning.specs.Defining.{all-definition-rows}
 use Rattle.meaning.proofs.Order.{Ordered, InOrder, sub-front, sub-all, ordered-sub}
 use Rattle.meaning.proofs.Settled.{text-ordered}
+use Rattle.meaning.specs.Merging.{merge}
+use Rattle.meaning.proofs.Merges.{syntax-merged}
 use Rattle.meaning.proofs.Sites.{bound-words, option-words, definition-words, value-words, spec-words, object-words}
 use Rattle.meaning.proofs.Numbering.{numbered, Counts, N, definition-numbers, numbers-under, spec-numbers}
 use Rattle.meaning.proofs.Standing.{Scope, Deep, deep-more, DeepValues, more-values, DeepSpecs, more-specs, scopes, counts-back, counts-head}
@@ -223,6 +225,7 @@ pub record Whole (s : List ℕ) (f : File) : Type 0 where
   pub order : InOrder 1 (later-words f)
   pub facts : SpecFacts s f (f .specs)
   pub numbers : N file f
+  pub merged : f .objects ≡ merge (f .parts)
   pub rows : Counts 0 (rows-of (spec-entries (f .specs)))
 
 whole-tree : (s : List ℕ) (t : Trees _⟶_ (file ▸ ∎)) → tree-tokens t ≡ tokens s → Whole s (syntax s t)
@@ -246,6 +249,7 @@ whole-tree s t e =
         within = record { front = []; rest = []; whole = sym (append-nil (spec-entries (f .specs))) };
       };
       numbers = n;
+      merged = syntax-merged s t;
       rows = subst (Counts 0) (sym (spec-entry-numbers (f .specs))) (n .0 .0);
     }
 
@@ -255,7 +259,7 @@ whole {s} k = subst (Whole s) (sym (k .syntax-of)) (whole-tree s (k .derivation 
 -- The words of a text's specs are in order.
 pub spec-run : {s : List ℕ} {f : File} → Situation s f → Ends 1 (spec-words (f .specs))
 unfolding later-words
-spec-run {s} {f} k = ends (spec-words (f .specs)) 1 (ordered-sub (sub-front (sub-all (spec-words (f .specs))) (f .cpu ∷ object-words (f .objects))) 1 (whole k .order))
+spec-run {s} {f} k = ends (spec-words (f .specs)) 1 (ordered-sub (sub-front (sub-all (spec-words (f .specs))) (f .cpu ∷ object-words (f .parts))) 1 (whole k .order))
 
 spec-word : {s : List ℕ} {xs : List Spec} {x : Spec} → HasSpec xs x → Goods s (spec-words xs) → Good s (x .word)
 unfolding spec-words

@@ -19,9 +19,9 @@ use Rattle.rows.specs.Search.{findFrom, hasKey, isNamed, findNamed}
 use Rattle.rows.proofs.Searches.{find-stop, find-more, find-end, first-is}
 use Rattle.meaning.specs.Syntax.{Object, File}
 use Rattle.meaning.specs.Kinds.{kind-number}
-use Rattle.layout.specs.Kept.{Entry, Choice, spec-entries, spec-choices, kept-definitions, kept-enumerators, kept-objects, definition-cells, choice-cells, object-cells}
+use Rattle.layout.specs.Kept.{Entry, Choice, spec-entries, spec-choices, kept-definitions, kept-enumerators, kept, kept-objects, definition-cells, choice-cells, object-cells, object-rows}
 use Rattle.scopes.specs.Situations.{Nth, NoneOf}
-use Rattle.scopes.proofs.Rooms.{definition-cell, choice-cell, object-cell}
+use Rattle.scopes.proofs.Rooms.{definition-cell, choice-cell, row-cell}
 
 -- Which of two names is asked for does not matter.
 pub same-sym : (a b : List ℕ) → same a b ≡ same b a
@@ -158,18 +158,24 @@ find-in-enumerators f s e front rest n key at len t w k h =
     (choice-cell f e (length a) 1 x t q (omega arith) (omega arith))
     (choice-cell f e (length a) 2 x t q (omega arith) (omega arith)))
 
-pub find-in-objects : (f : File) (s o : List ℕ) (front rest : List Object) (n key at len : ℕ) → o ≡ kept-objects f → f .objects ≡ front ++ rest
-    → n ≡ length front → n ≤ 257 → findNamed s o 9 n 0 key 3 at len 0 ≡ first (is-object s key at len) At Nothing 0 front
+-- Among objects, or their parts, of which the table has room for so many.
+pub find-in-rows : (room : ℕ) (os : List Object) (s o : List ℕ) (front rest : List Object) (n key at len : ℕ) → o ≡ kept (room * 10) (object-rows os 0)
+    → os ≡ front ++ rest → n ≡ length front → n ≤ room → findNamed s o 10 n 0 key 3 at len 0 ≡ first (is-object s key at len) At Nothing 0 front
 unfolding findNamed is-object object-cells
-find-in-objects f s o front rest n key at len e w k h =
-    ap (λ (m : ℕ). findFrom (λ j. isNamed s o (j * 9) 0 key 3 4 at len) m 0) k
-    ∙ seek-all (is-object s key at len) (λ j. isNamed s o (j * 9) 0 key 3 4 at len) front (λ a x b g.
+find-in-rows room os s o front rest n key at len e w k h =
+    ap (λ (m : ℕ). findFrom (λ j. isNamed s o (j * 10) 0 key 3 4 at len) m 0) k
+    ∙ seek-all (is-object s key at len) (λ j. isNamed s o (j * 10) 0 key 3 4 at len) front (λ a x b g.
     let q = nth-front rest w a x b g in
     let l = below-front front a x b g in
-    named-cells s o (length a * 9) 0 key 3 4 at len (kind-number (x .kind)) (x .name .place) (x .name .length)
-    (object-cell f o (length a) 0 x e q (omega arith) (omega arith))
-    (object-cell f o (length a) 3 x e q (omega arith) (omega arith))
-    (object-cell f o (length a) 4 x e q (omega arith) (omega arith)))
+    named-cells s o (length a * 10) 0 key 3 4 at len (kind-number (x .kind)) (x .name .place) (x .name .length)
+    (row-cell room os o (length a) 0 x e q (omega arith) (omega arith))
+    (row-cell room os o (length a) 3 x e q (omega arith) (omega arith))
+    (row-cell room os o (length a) 4 x e q (omega arith) (omega arith)))
+
+pub find-in-objects : (f : File) (s o : List ℕ) (front rest : List Object) (n key at len : ℕ) → o ≡ kept-objects f → f .objects ≡ front ++ rest
+    → n ≡ length front → n ≤ 257 → findNamed s o 10 n 0 key 3 at len 0 ≡ first (is-object s key at len) At Nothing 0 front
+unfolding kept-objects
+find-in-objects f s o front rest n key at len e w k h = find-in-rows 257 (f .objects) s o front rest n key at len e w k h
 
 -- None of the list's key passes the test.
 pub none-chosen : (s : List ℕ) (key at len : ℕ) (xs : List Choice) → NoneOf key xs → anyOf (is-choice s key at len) xs ≡ false

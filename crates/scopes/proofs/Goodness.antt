@@ -7,7 +7,9 @@ use native.Mathlib.Omega.{arith}
 use Rattle.grammar.specs.Grammar.{Token, file, _▸_, ∎, _⟶_, Trees, tokens}
 use Rattle.meaning.specs.Normal.{part}
 use Rattle.meaning.specs.Actions.{word-of, syntax}
-use Rattle.meaning.specs.Syntax.{Word, span-of, File}
+use Rattle.meaning.specs.Syntax.{Word, span-of, Object, File}
+use Rattle.meaning.specs.Merging.{merge}
+use Rattle.meaning.proofs.Merges.{In, in-here, in-there, merge-in}
 use Rattle.meaning.proofs.Order.{Ordered, InOrder, Sub, sub-nil, keep, drop, sub-front, sub-all, ordered-sub, ordered-from}
 use Rattle.meaning.proofs.Sites.{spec-words, object-words, file-words}
 use Rattle.meaning.proofs.Leaves.{words, leaves-words, leaves-in-order, words-leaves}
@@ -58,7 +60,7 @@ words-good s (t ∷ l) p c = (record { read = step-read s p t (c .0); text = ref
 
 -- The words behind the version's.
 unfoldable pub later-words : File → List Word
-later-words f = spec-words (f .specs) ++ (f .cpu ∷ object-words (f .objects))
+later-words f = spec-words (f .specs) ++ (f .cpu ∷ object-words (f .parts))
 
 syntax-plain : (s : List ℕ) (t : Trees _⟶_ (file ▸ ∎)) (p : ℕ) → Chain s p (tokens t) → Plains s (file-words (syntax s t))
 syntax-plain s t p c = plain-sub s (words-leaves s t) (subst (λ l. Plains s l) (sym (leaves-words s t)) (words-good s (tokens t) p c))
@@ -74,7 +76,7 @@ unfolding file-words later-words
 syntax-order s t o =
     let f = syntax s t in
     let w = ordered-sub (words-leaves s t) 0 (leaves-in-order s t o) in
-    ordered-from (spec-words (f .specs) ++ (f .cpu ∷ object-words (f .objects))) (omega arith) (w .1)
+    ordered-from (spec-words (f .specs) ++ (f .cpu ∷ object-words (f .parts))) (omega arith) (w .1)
 
 pub syntax-good : (s : List ℕ) (t : Trees _⟶_ (file ▸ ∎)) (p : ℕ) → Chain s p (tokens t) → Ordered 0 (tokens t) → Goods s (later-words (syntax s t))
 unfolding file-words later-words
@@ -82,12 +84,25 @@ syntax-good s t p c o = plain-good s (later-words (syntax s t)) 1 (omega arith) 
 
 pub spec-order : (s : List ℕ) (t : Trees _⟶_ (file ▸ ∎)) → Ordered 0 (tokens t) → InOrder 1 (spec-words (syntax s t .specs))
 unfolding later-words
-spec-order s t o = let f = syntax s t in ordered-sub (sub-front (sub-all (spec-words (f .specs))) (f .cpu ∷ object-words (f .objects))) 1 (syntax-order s t o)
+spec-order s t o = let f = syntax s t in ordered-sub (sub-front (sub-all (spec-words (f .specs))) (f .cpu ∷ object-words (f .parts))) 1 (syntax-order s t o)
 
 pub spec-good : (s : List ℕ) (f : File) → Goods s (later-words f) → Goods s (spec-words (f .specs))
 unfolding later-words
-spec-good s f h = good-front s (spec-words (f .specs)) (f .cpu ∷ object-words (f .objects)) h
+spec-good s f h = good-front s (spec-words (f .specs)) (f .cpu ∷ object-words (f .parts)) h
 
-pub object-good : (s : List ℕ) (f : File) → Goods s (later-words f) → Goods s (object-words (f .objects))
+pub part-good : (s : List ℕ) (f : File) → Goods s (later-words f) → Goods s (object-words (f .parts))
 unfolding later-words
-object-good s f h = good-back s (spec-words (f .specs)) (f .cpu ∷ object-words (f .objects)) h .1
+part-good s f h = good-back s (spec-words (f .specs)) (f .cpu ∷ object-words (f .parts)) h .1
+
+-- The words of the objects are words of their parts.
+one-good : (s : List ℕ) {w : Word} {l : List Word} → In w l → Goods s l → Good s w
+one-good s (in-here e) g = subst (Good s) e (g .0)
+one-good s (in-there h) g = one-good s h (g .1)
+
+in-good : (s : List ℕ) (l m : List Word) → ((w : Word) → In w l → In w m) → Goods s m → Goods s l
+in-good s [] m f g = tt
+in-good s (w ∷ l) m f g = (one-good s (f w (in-here refl)) g, in-good s l m (λ v h. f v (in-there h)) g)
+
+pub object-good : (s : List ℕ) (f : File) → f .objects ≡ merge (f .parts) → Goods s (later-words f) → Goods s (object-words (f .objects))
+object-good s f e h =
+    subst (λ (os : List Object). Goods s (object-words os)) (sym e) (in-good s (object-words (merge (f .parts))) (object-words (f .parts)) (λ w i. merge-in (f .parts) i) (part-good s f h))

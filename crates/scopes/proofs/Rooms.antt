@@ -112,9 +112,14 @@ object-row {os} {x = x} q =
     let r = object-nth (q .front) x (q .rest) 0 in
     subst (λ (k : ℕ). ObjectRow os 0 k x) (q .place) (subst (λ (l : List Object). ObjectRow l 0 (length (q .front)) x) (sym (q .whole)) r)
 
-pub object-cell : (f : File) (o : List ℕ) (j c : ℕ) (x : Object) → o ≡ kept-objects f → (q : Nth (f .objects) j x) → j < 257 → c < 9
-    → getD o (j * 9 + c) 0 ≡ getD (object-cells x (object-row q .first)) c 0
+-- Rows of objects, or of their parts, in a room of so many.
+pub row-cell : (room : ℕ) (os : List Object) (o : List ℕ) (j c : ℕ) (x : Object) → o ≡ kept (room * 10) (object-rows os 0) → (q : Nth os j x) → j < room → c < 10
+    → getD o (j * 10 + c) 0 ≡ getD (object-cells x (object-row q .first)) c 0
+row-cell room os o j c x e q h l =
+    ap (λ (t : List ℕ). getD t (j * 10 + c) 0) e
+    ∙ kept-cell (room * 10) 10 j c (object-rows os 0) (object-cells x (object-row q .first)) (object-wide os 0) (object-row q .nth) l (omega arith)
+
+pub object-cell : (f : File) (o : List ℕ) (j c : ℕ) (x : Object) → o ≡ kept-objects f → (q : Nth (f .objects) j x) → j < 257 → c < 10
+    → getD o (j * 10 + c) 0 ≡ getD (object-cells x (object-row q .first)) c 0
 unfolding kept-objects
-object-cell f o j c x e q h l =
-    ap (λ (t : List ℕ). getD t (j * 9 + c) 0) e
-    ∙ kept-cell (257 * 9) 9 j c (object-rows (f .objects) 0) (object-cells x (object-row q .first)) (object-wide (f .objects) 0) (object-row q .nth) l (omega arith)
+object-cell f o j c x e q h l = row-cell 257 (f .objects) o j c x e q h l

@@ -50,7 +50,7 @@ fn write_refused(number: u8, place: usize) {
 fn write_answer(text: &[u8]) {
     let mut definitions = [0; 6656];
     let mut enumerators = [0; 3072];
-    let mut objects = [0; 1792];
+    let mut objects = [0; 2048];
     let mut values = [0; 18432];
     let mut output = [0; 65535];
     let written = writing::write(

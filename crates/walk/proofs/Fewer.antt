@@ -45,7 +45,7 @@ spec-choices-many (x ∷ xs) =
 
 -- What a rule means holds no more rows than n.
 unfoldable Small : (x : Rule) → M x → ℕ → Type 0
-Small file m n = (all-definitions (m .specs) ≤ n) × (all-enumerators (m .specs) ≤ n) × (length (m .objects) ≤ n) × (statement-count (m .objects) ≤ n)
+Small file m n = (all-definitions (m .specs) ≤ n) × (all-enumerators (m .specs) ≤ n) × (length (m .parts) ≤ n) × (statement-count (m .parts) ≤ n)
 Small version m n = Unit {0}
 Small implementation m n = (all-definitions (m .specs) ≤ n) × (all-enumerators (m .specs) ≤ n)
 Small specs m n = (i j : ℕ) → (all-definitions (m i j) ≤ n) × (all-enumerators (m i j) ≤ n)

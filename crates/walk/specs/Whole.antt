@@ -41,24 +41,24 @@ pub record Tells (f : File) (x y : Rooms) (r : Walked) : Type 0 where
   pub cpu : Stands (f .cpu) (r .«cpu_at») (r .«cpu_len»)
   pub definitions : r .definitions ≡ min 65536 (length (spec-entries (f .specs)))
   pub enumerators : r .enumerators ≡ min 65536 (length (spec-choices (f .specs)))
-  pub objects : r .objects ≡ min 65536 (length (f .objects))
-  pub statements : r .statements ≡ min 65536 (statement-count (f .objects))
+  pub objects : r .objects ≡ min 65536 (length (f .parts))
+  pub statements : r .statements ≡ min 65536 (statement-count (f .parts))
   pub definition-rows : length (spec-entries (f .specs)) ≤ 65536
       → y .definitions ≡ sets (x .definitions) 0 (join (map-cells definition-cells (spec-entries (f .specs))))
   pub enumerator-rows : length (spec-choices (f .specs)) ≤ 65536
       → y .enumerators ≡ sets (x .enumerators) 0 (join (map-cells choice-cells (spec-choices (f .specs))))
-  pub object-table : length (f .objects) ≤ 65536 → statement-count (f .objects) ≤ 65536 → y .objects ≡ sets (x .objects) 0 (join (object-rows (f .objects) 0))
-  pub statement-table : statement-count (f .objects) ≤ 65536 → y .statements ≡ sets (x .statements) 0 (join (all-statement-rows (f .objects) 0))
+  pub object-table : length (f .parts) ≤ 65536 → statement-count (f .parts) ≤ 65536 → y .objects ≡ sets (x .objects) 0 (join (object-rows (f .parts) 0))
+  pub statement-table : statement-count (f .parts) ≤ 65536 → y .statements ≡ sets (x .statements) 0 (join (all-statement-rows (f .parts) 0))
   pub places : r .places ≡ kind-places (f .specs)
   pub again : r .again ≡ again-place [] (f .specs)
-  pub counted : length (f .objects) ≤ 65536 → r .counts ≡ counts (f .objects)
+  pub counted : length (f .parts) ≤ 65536 → r .counts ≡ counts (f .parts)
 
 -- A text of at most 65,535 bytes has no more rows than are counted: what `Tells` asks is so.
 unfoldable pub Few : List ℕ → File → Type 0
 Few s f =
     length s ≤ 65535
-    → (length (spec-entries (f .specs)) ≤ 65536) × (length (spec-choices (f .specs)) ≤ 65536) × (length (f .objects) ≤ 65536)
-    × (statement-count (f .objects) ≤ 65536)
+    → (length (spec-entries (f .specs)) ≤ 65536) × (length (spec-choices (f .specs)) ≤ 65536) × (length (f .parts) ≤ 65536)
+    × (statement-count (f .parts) ≤ 65536)
 
 -- The tables keep their lengths.
 pub record SameSizes (x y : Rooms) : Type 0 where

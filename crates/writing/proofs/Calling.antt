@@ -116,7 +116,7 @@ module _ {s d e o v d₁ e₁ o₁ v₁ : List ℕ} {w : Spanned} (h : ReadsSpan
         result = ap (writtenOf (normal-text s)) (sym z);
         definitions = h .reads .definitions ∙ after-same (enough (roomsOf d e o v)) _ _ 6656 d (λ b. ap (λ (a : Meant). rooms-after a .definitions) (q b));
         enumerators = h .reads .enumerators ∙ after-same (enough (roomsOf d e o v)) _ _ 3072 e (λ b. ap (λ (a : Meant). rooms-after a .enumerators) (q b));
-        objects = h .reads .objects ∙ after-same (enough (roomsOf d e o v)) _ _ 1792 o (λ b. ap (λ (a : Meant). rooms-after a .objects) (q b));
+        objects = h .reads .objects ∙ after-same (enough (roomsOf d e o v)) _ _ 2048 o (λ b. ap (λ (a : Meant). rooms-after a .objects) (q b));
         values = h .reads .values ∙ after-same (enough (roomsOf d e o v)) _ _ 18432 v (λ b. ap (λ (a : Meant). rooms-after a .values) (q b));
         output = ap (outputAfter (normal-text s) l) (sym z);
       }
@@ -184,19 +184,19 @@ module _ {s d e o v d₁ e₁ o₁ v₁ : List ℕ} {w : Spanned} (h : ReadsSpan
     abbrev objects-room : List ℕ
     objects-room = object-room (object-rows (file .objects))
 
-    objects-are : o₁ ≡ objects-room ++ drop 1792 o
+    objects-are : o₁ ≡ objects-room ++ drop 2048 o
     unfolding tableAfter rooms-after tables
-    objects-are = h .reads .objects ∙ ap₂ (λ (b : Bool) (a : Meant). tableAfter b (rooms-after a .objects) 1792 o) all-enough reads-own
+    objects-are = h .reads .objects ∙ ap₂ (λ (b : Bool) (a : Meant). tableAfter b (rooms-after a .objects) 2048 o) all-enough reads-own
 
-    objects-wide : length objects-room ≡ 1792
+    objects-wide : length objects-room ≡ 2048
     unfolding tables
     objects-wide = rooms-full own own-fits .2
 
-    pub objects-long : 1792 ≤ length o₁
-    objects-long = let a = ap length objects-are in let b = length-append objects-room (drop 1792 o) in let c = objects-wide in omega (arith, a, b, c)
+    pub objects-long : 2048 ≤ length o₁
+    objects-long = let a = ap length objects-are in let b = length-append objects-room (drop 2048 o) in let c = objects-wide in omega (arith, a, b, c)
 
-    pub objects-front : 1792 ≡ length (take 1792 o₁)
-    objects-front = sym (length-take-le 1792 o₁ objects-long)
+    pub objects-front : 2048 ≡ length (take 2048 o₁)
+    objects-front = sym (length-take-le 2048 o₁ objects-long)
 
     abbrev values-room : List ℕ
     values-room = value-room (all-value-rows (all-values file (file .objects)) 0 0)
@@ -215,7 +215,7 @@ module _ {s d e o v d₁ e₁ o₁ v₁ : List ℕ} {w : Spanned} (h : ReadsSpan
     pub values-front : 18432 ≡ length (take 18432 v₁)
     values-front = sym (length-take-le 18432 v₁ values-long)
 
-    given : Given s (take 6656 d₁) (take 1792 o₁) (take 18432 v₁) w file
+    given : Given s (take 6656 d₁) (take 2048 o₁) (take 18432 v₁) w file
     unfolding readingOf tables
     given =
         let a = h .spans i in
@@ -224,7 +224,7 @@ module _ {s d e o v d₁ e₁ o₁ v₁ : List ℕ} {w : Spanned} (h : ReadsSpan
           tables = record {
             situation = a .situation;
             definitions = room-is 6656 definitions-room d d₁ definitions-are definitions-wide;
-            objects = room-is 1792 objects-room o o₁ objects-are objects-wide;
+            objects = room-is 2048 objects-room o o₁ objects-are objects-wide;
             values = room-is 18432 values-room v v₁ values-are values-wide;
             many-objects = ap (λ (x : Reading). x .objects) r;
             many-values = ap (λ (x : Reading). x .values) r;
@@ -246,20 +246,20 @@ module _ {s d e o v d₁ e₁ o₁ v₁ : List ℕ} {w : Spanned} (h : ReadsSpan
         ap (λ (b : Bool). choose b (λ _. output-asked (some (length l)) (normal-text s) (reading s)) (λ _. refused 1 0)) all-enough
         ∙ ap (output-asked (some (length l)) (normal-text s)) reads-own
 
-    pub accepted-writes : (l d₂ e₂ o₂ v₂ l₂ : List ℕ) (r : Written) → PutsOut s (take 6656 d₁) (take 3072 e₁) (take 1792 o₁) (take 18432 v₁) w l d₂ e₂ o₂ v₂ l₂ r
-        → Writes s d e o v l (d₂ ++ drop 6656 d₁) (e₂ ++ drop 3072 e₁) (o₂ ++ drop 1792 o₁) (v₂ ++ drop 18432 v₁) l₂ r
+    pub accepted-writes : (l d₂ e₂ o₂ v₂ l₂ : List ℕ) (r : Written) → PutsOut s (take 6656 d₁) (take 3072 e₁) (take 2048 o₁) (take 18432 v₁) w l d₂ e₂ o₂ v₂ l₂ r
+        → Writes s d e o v l (d₂ ++ drop 6656 d₁) (e₂ ++ drop 3072 e₁) (o₂ ++ drop 2048 o₁) (v₂ ++ drop 18432 v₁) l₂ r
     unfolding writtenOf outputAfter tableAfter rooms-after definition-room enumerator-room object-room value-room tables
     accepted-writes l d₂ e₂ o₂ v₂ l₂ r p = by (p file given)
       where
-        by : PutOut (normal s file) (take 6656 d₁) (take 3072 e₁) (take 1792 o₁) (take 18432 v₁) l d₂ e₂ o₂ v₂ l₂ r
-            → Writes s d e o v l (d₂ ++ drop 6656 d₁) (e₂ ++ drop 3072 e₁) (o₂ ++ drop 1792 o₁) (v₂ ++ drop 18432 v₁) l₂ r
+        by : PutOut (normal s file) (take 6656 d₁) (take 3072 e₁) (take 2048 o₁) (take 18432 v₁) l d₂ e₂ o₂ v₂ l₂ r
+            → Writes s d e o v l (d₂ ++ drop 6656 d₁) (e₂ ++ drop 3072 e₁) (o₂ ++ drop 2048 o₁) (v₂ ++ drop 18432 v₁) l₂ r
         by (fits k a b c g m q) =
             let z : asked s d e o v l ≡ accepted own = asked-is l ∙ asked-fits (length l) (normal-text s) own (subst (λ (x : List ℕ). length x ≤ length l) text-is k) in
             record {
               result = q ∙ ap (λ (x : List ℕ). record { answer = Accepted; length = length x }) text-is ∙ ap (writtenOf (normal-text s)) (sym z);
               definitions = kept 6656 definitions-room d d₁ definitions-are definitions-wide d₂ a ∙ ap₂ (λ (b : Bool) (y : Meant). tableAfter b (rooms-after y .definitions) 6656 d) (sym all-enough) (sym z);
               enumerators = kept 3072 enumerators-room e e₁ enumerators-are enumerators-wide e₂ b ∙ ap₂ (λ (b : Bool) (y : Meant). tableAfter b (rooms-after y .enumerators) 3072 e) (sym all-enough) (sym z);
-              objects = kept 1792 objects-room o o₁ objects-are objects-wide o₂ c ∙ ap₂ (λ (b : Bool) (y : Meant). tableAfter b (rooms-after y .objects) 1792 o) (sym all-enough) (sym z);
+              objects = kept 2048 objects-room o o₁ objects-are objects-wide o₂ c ∙ ap₂ (λ (b : Bool) (y : Meant). tableAfter b (rooms-after y .objects) 2048 o) (sym all-enough) (sym z);
               values = kept 18432 values-room v v₁ values-are values-wide v₂ g ∙ ap₂ (λ (b : Bool) (y : Meant). tableAfter b (rooms-after y .values) 18432 v) (sym all-enough) (sym z);
               output = m ∙ ap (λ (x : List ℕ). x ++ drop (length x) l) text-is ∙ ap (outputAfter (normal-text s) l) (sym z);
             }
@@ -269,7 +269,7 @@ module _ {s d e o v d₁ e₁ o₁ v₁ : List ℕ} {w : Spanned} (h : ReadsSpan
               result = q ∙ ap (writtenOf (normal-text s)) (sym z);
               definitions = cleared 6656 definitions-room d d₁ definitions-are definitions-wide definition-cells d₂ a ∙ ap₂ (λ (b : Bool) (y : Meant). tableAfter b (rooms-after y .definitions) 6656 d) (sym all-enough) (sym z);
               enumerators = cleared 3072 enumerators-room e e₁ enumerators-are enumerators-wide enumerator-cells e₂ b ∙ ap₂ (λ (b : Bool) (y : Meant). tableAfter b (rooms-after y .enumerators) 3072 e) (sym all-enough) (sym z);
-              objects = cleared 1792 objects-room o o₁ objects-are objects-wide object-cells o₂ c ∙ ap₂ (λ (b : Bool) (y : Meant). tableAfter b (rooms-after y .objects) 1792 o) (sym all-enough) (sym z);
+              objects = cleared 2048 objects-room o o₁ objects-are objects-wide object-cells o₂ c ∙ ap₂ (λ (b : Bool) (y : Meant). tableAfter b (rooms-after y .objects) 2048 o) (sym all-enough) (sym z);
               values = cleared 18432 values-room v v₁ values-are values-wide value-cells v₂ g ∙ ap₂ (λ (b : Bool) (y : Meant). tableAfter b (rooms-after y .values) 18432 v) (sym all-enough) (sym z);
               output = m ∙ ap (outputAfter (normal-text s) l) (sym z);
             }

@@ -40,7 +40,7 @@ module _ {l : List ℕ} {at : ℕ} {l′ : List ℕ} {r : ℕ} where
   unfolding head-at
   wrote-head s d v k j e x y z = wrote-as (ap (λ (i : ℕ). rowName s d 13 2 i ++ (bytesOf " = " ++ value-at s v k)) e) (wrote-then x (wrote-then y z))
 
-  pub wrote-opening : {l₁ l₂ l₃ : List ℕ} {a b c : ℕ} (s o : List ℕ) (i p q m n : ℕ) → p ≡ cellOf o 7 i 1 → q ≡ cellOf o 7 i 2 → m ≡ cellOf o 7 i 3 → n ≡ cellOf o 7 i 4
+  pub wrote-opening : {l₁ l₂ l₃ : List ℕ} {a b c : ℕ} (s o : List ℕ) (i p q m n : ℕ) → p ≡ cellOf o 8 i 1 → q ≡ cellOf o 8 i 2 → m ≡ cellOf o 8 i 3 → n ≡ cellOf o 8 i 4
       → Wrote l at (partOf s p q) l₁ a → Wrote l₁ a (bytesOf " ") l₂ b → Wrote l₂ b (partOf s m n) l₃ c → Wrote l₃ c (bytesOf " {\n") l′ r
       → Wrote l at (opening-at s o i) l′ r
   unfolding opening-at rowName

@@ -55,10 +55,10 @@ objects-end (end ∷ ys) k i j m h = objects-end ys k i (suc j) (m + how-many-va
 objects-end (resolved t us r ∷ ys) k i j m h = ends-before (λ (e : of-object j ≡ of-object i). let z : j ≡ i = ap owner-row e in omega arith) (λ n g. not-value j n)
 
 module _ {s d o v : List ℕ} {m n i k : ℕ} {x : Object} {xs : List Object} {y : Resolved} {ys : List Resolved} where
-  row-cell : LaidAll s d o v m n i k (x ∷ xs) (y ∷ ys) → (c : ℕ) → c < 7
-      → cellOf o 7 i c ≡ getD (object-cells (record { kind = x .kind; word = span-of (x .word); name = span-of (x .name); block = x .block })) c 0
+  row-cell : LaidAll s d o v m n i k (x ∷ xs) (y ∷ ys) → (c : ℕ) → c < 8
+      → cellOf o 8 i c ≡ getD (object-cells (record { kind = x .kind; word = span-of (x .word); name = span-of (x .name); block = x .block; parts = x .parts })) c 0
   unfolding object-rows
-  row-cell a c h = from-cell 7 object-cells object-width _ (object-rows xs) c h (a .objects)
+  row-cell a c h = from-cell 8 object-cells object-width _ (object-rows xs) c h (a .objects)
 
   pub laid-object : LaidAll s d o v m n i k (x ∷ xs) (y ∷ ys) → LaidObject s d o v n i k x y (all-value-rows ys (suc i) (k + how-many-values y))
   unfolding rowName object-cells span-of all-value-rows owner-sort owner-row
@@ -88,7 +88,7 @@ module _ {s d o v : List ℕ} {m n i k : ℕ} {x : Object} {xs : List Object} {y
           let l = length-values y k (of-object i) in
           let z : suc i ≡ i + 1 = sym (add-one i) in
           record {
-            objects = from-append 7 object-cells object-width (_ ∷ []) (object-rows xs) refl (a .objects);
+            objects = from-append 8 object-cells object-width (_ ∷ []) (object-rows xs) refl (a .objects);
             values = subst (λ (j : ℕ). From 9 value-cells v n h (all-value-rows ys j h)) z
                 (subst (λ (j : ℕ). From 9 value-cells v n h (all-value-rows ys (suc i) j)) (sym e)
                 (from-append 9 value-cells value-width (value-rows y k (of-object i)) (all-value-rows ys (suc i) (k + how-many-values y)) (omega (arith, e, l)) (a .values)));
@@ -144,7 +144,7 @@ module _ {s d o v : List ℕ} {m n : ℕ} {l : List ℕ} {at i k : ℕ} {l₁ : 
   objects-done h = record { size = g .size; puts = λ c xs ys a. by xs ys (g .left c xs ys a) }
     where
       by-object : (xs : List Object) (ys : List Resolved) (bs : List ℕ) (us : List Object) (vs : List Resolved) → bs ++ object-lines us vs ≡ object-lines xs ys
-          → Wrote l at bs l₁ e → From 7 object-cells o m i (object-rows us) → Wrote l at (object-lines xs ys) l₁ e
+          → Wrote l at bs l₁ e → From 8 object-cells o m i (object-rows us) → Wrote l at (object-lines xs ys) l₁ e
       by-object xs ys bs [] vs f w a = wrote-as (sym (append-nil bs) ∙ f) w
       by-object xs ys bs (x ∷ us) vs f w a = absurd (let j = a .count in omega arith)
 

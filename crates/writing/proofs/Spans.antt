@@ -54,4 +54,4 @@ module _ {s : List ℕ} {f : File} (t : Situation s f) where
   unfolding words-of
   cpu-part =
       let w : AllIn s (words-of f) = subst (λ (g : File). AllIn s (words-of g)) (sym (t .syntax-of)) (file-in s (t .derivation)) in
-      sym (in-back s (spec-words (f .specs)) (f .cpu ∷ object-words (f .objects)) w .0 .bytes)
+      sym (in-back s (spec-words (f .specs)) (f .cpu ∷ object-words (f .parts)) w .0 .bytes)

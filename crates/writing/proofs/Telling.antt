@@ -19,7 +19,7 @@ use Rattle.meaning.proofs.Rooms.{definition-width}
 use Rattle.meaning.proofs.Sites.{option-words, statement-words, object-words}
 use Rattle.layout.specs.Kept.{Entry}
 use Rattle.blocks.specs.Blocks.{AllIn, StatementsIn, none-in, more-in}
-use Rattle.blocks.proofs.Files.{in-front, in-back, file-in, objects-in, statements-in-text}
+use Rattle.blocks.proofs.Files.{in-front, in-back, objects-in, statements-in-text}
 use Rattle.scopes.specs.Situations.{Situation, HasDefinition, this-definition, later-definition, HasValue, this-value, later-value, Stands, under-value, ScopeAt, no-scope, scope}
 use Rattle.scopes.specs.Given.{entry-rows}
 use Rattle.scopes.proofs.Answering.{spec-rows}
@@ -130,4 +130,4 @@ module _ {s d : List ℕ} {f : File} (t : Situation s f) (h : d ≡ definition-r
 
   -- The objects of a text with their values.
   pub file-pairs : Pairs s d (f .objects) (all-values f (f .objects))
-  file-pairs = pairs-of (f .objects) (subst (λ (g : File). AllIn s (object-words (g .objects))) (sym (t .syntax-of)) (objects-in s _ (file-in s (t .derivation))))
+  file-pairs = pairs-of (f .objects) (subst (λ (g : File). AllIn s (object-words (g .objects))) (sym (t .syntax-of)) (objects-in s (t .derivation)))

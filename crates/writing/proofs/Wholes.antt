@@ -20,7 +20,7 @@ laid-all : {s d o v : List ℕ} {m n : ℕ} {f : File} → Tables s d o v m n f 
 unfolding object-room value-room
 laid-all {s} {d} {o} {v} {m} {n} {f} t =
     record {
-      objects = from-room 7 object-cells (256 * 7) (object-rows (f .objects)) o m (t .objects) (t .many-objects);
+      objects = from-room 8 object-cells (256 * 8) (object-rows (f .objects)) o m (t .objects) (t .many-objects);
       values = from-room 9 value-cells (2048 * 9) (all-value-rows (all-values f (f .objects)) 0 0) v n (t .values) (t .many-values);
       pairs = file-pairs (t .situation) (t .definitions);
     }

@@ -32,7 +32,7 @@ line t us = t .definition .name .bytes ++ (bytesOf " = " ++ (written (t .value) 
 
 -- The kind word and the name of object i of the table o.
 unfoldable pub opening-at : (s o : List ℕ) → ℕ → List ℕ
-opening-at s o i = rowName s o 7 1 i ++ (bytesOf " " ++ (rowName s o 7 3 i ++ bytesOf " {\n"))
+opening-at s o i = rowName s o 8 1 i ++ (bytesOf " " ++ (rowName s o 8 3 i ++ bytesOf " {\n"))
 
 -- The lines of an object with its values.
 unfoldable pub object-line : Object → Resolved → List ℕ

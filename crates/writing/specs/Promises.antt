@@ -88,8 +88,8 @@ pub record PutsLine (s d v : List ℕ) (n k : ℕ) (l : List ℕ) (at : ℕ) (l�
 
 -- Row i is that of the object x, and from row k on stand its values.
 pub record LaidObject (s d o v : List ℕ) (n i k : ℕ) (x : Object) (y : Resolved) (rest : List ValueRow) : Type 0 where
-  pub word : rowName s o 7 1 i ≡ x .word .bytes
-  pub name : rowName s o 7 3 i ≡ x .name .bytes
+  pub word : rowName s o 8 1 i ≡ x .word .bytes
+  pub name : rowName s o 8 3 i ≡ x .name .bytes
   pub laid : Laid s d v n k 0 i (of-object i) y rest
 
 -- `put_object`: the lines of the object of row i.
@@ -105,7 +105,7 @@ pub data Pairs (s d : List ℕ) : List Object → List Resolved → Type 0 where
 
 -- From row i on stand the objects xs, and from row k on their values ys.
 pub record LaidAll (s d o v : List ℕ) (m n i k : ℕ) (xs : List Object) (ys : List Resolved) : Type 0 where
-  pub objects : From 7 object-cells o m i (object-rows xs)
+  pub objects : From 8 object-cells o m i (object-rows xs)
   pub values : From 9 value-cells v n k (all-value-rows ys i k)
   pub pairs : Pairs s d xs ys
 

@@ -32,6 +32,6 @@ pub record Writes (s d e o v l d′ e′ o′ v′ l′ : List ℕ) (r : Written
   pub result : r ≡ writtenOf (normal-text s) (asked s d e o v l)
   pub definitions : d′ ≡ tableAfter (enough (roomsOf d e o v)) (rooms-after (asked s d e o v l) .definitions) 6656 d
   pub enumerators : e′ ≡ tableAfter (enough (roomsOf d e o v)) (rooms-after (asked s d e o v l) .enumerators) 3072 e
-  pub objects : o′ ≡ tableAfter (enough (roomsOf d e o v)) (rooms-after (asked s d e o v l) .objects) 1792 o
+  pub objects : o′ ≡ tableAfter (enough (roomsOf d e o v)) (rooms-after (asked s d e o v l) .objects) 2048 o
   pub values : v′ ≡ tableAfter (enough (roomsOf d e o v)) (rooms-after (asked s d e o v l) .values) 18432 v
   pub output : l′ ≡ outputAfter (normal-text s) l (asked s d e o v l)

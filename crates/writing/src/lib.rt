@@ -152,7 +152,7 @@ pub fn write(
             text,
             &mut definitions[..6656],
             &mut enumerators[..3072],
-            &mut objects[..1792],
+            &mut objects[..2048],
             &mut values[..18432],
             w,
             out,

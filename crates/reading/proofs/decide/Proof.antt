@@ -1,12 +1,13 @@
 use Rattle.reading.proofs.Deciding.{decides-early, decides-late}
-use mathlib.Core.Path.{sym, _∙_}
+use native.Mathlib.Omega.{arith}
+use mathlib.Core.Path.{refl, sym, _∙_}
 use borrow.Author.Needs.{needs}
 use Rattle.reading.proofs.decide.Statement.{statement}
 use Rattle.reading.proofs.decide.Tie as tie
 use Rattle.reading.proofs.decide.Reads as reads
 use Rattle.reading.proofs.decide.Lts as lts
 use Rattle.reading.proofs.grammar_fault.Reads as grammar-fault-reads
-use Rattle.reading.proofs.stage_fault.Reads as stage-fault-reads
+use Rattle.reading.proofs.stages.Reads as stages-reads
 use Rattle.rows.proofs.faults.is_fault.Reads as is-fault-reads
 use Rattle.walk.proofs.walk.Reads as walk-reads
 
@@ -32,16 +33,16 @@ same-length-4 : tie.Need-same-length-4
 same-length-4 c = search needs
 
 returns : tie.Need-returns
-returns c = decides-early _ _ _ _ _ (c .before .before .before .before .before .before .before .before .before .before .before .before .walk .ensures) (c .before .before .grammar-fault .ensures) (sym (c .before .is-fault .ensures) ∙ (c .if1 .taken))
+returns c = decides-early _ _ _ _ _ _ _ _ _ (c .before .before .before .before .before .before .before .before .before .before .before .before .walk .ensures) (c .before .before .grammar-fault .ensures) (sym (c .before .is-fault .ensures) ∙ (c .if1 .taken))
 
-stage-fault-requires : tie.Need-stage-fault-requires
-stage-fault-requires c κs = search needs
+stages-requires : tie.Need-stages-requires
+stages-requires c κs = search needs
 
 same-length-5 : tie.Need-same-length-5
-same-length-5 c = search needs
+same-length-5 c = (c .before .before .before .before .before .before .before .before .before .before .before .before .before .before .before .before .before .before .before .before .before .before .before .walk .ensures) .sizes .definitions
 
 same-length-6 : tie.Need-same-length-6
-same-length-6 c = search needs
+same-length-6 c = (c .before .before .before .before .before .before .before .before .before .before .before .before .before .before .before .before .before .before .before .before .before .before .before .walk .ensures) .sizes .enumerators
 
 same-length-7 : tie.Need-same-length-7
 same-length-7 c = search needs
@@ -49,8 +50,14 @@ same-length-7 c = search needs
 same-length-8 : tie.Need-same-length-8
 same-length-8 c = search needs
 
+same-length-9 : tie.Need-same-length-9
+same-length-9 c = search needs
+
+same-length-10 : tie.Need-same-length-10
+same-length-10 c = search needs
+
 returns-2 : tie.Need-returns-2
-returns-2 c = decides-late _ _ _ _ _ _ (c .before .before .before .before .before .before .before .before .before .before .before .before .before .before .before .before .before .walk .ensures) (c .before .before .before .before .before .before .before .grammar-fault .ensures) (sym (c .before .before .before .before .before .before .is-fault .ensures) ∙ (c .before .before .before .before .before .if1 .left)) (c .stage-fault .ensures)
+returns-2 c = decides-late _ _ _ _ _ _ _ _ _ _ (c .before .before .before .before .before .before .before .before .before .before .before .before .before .before .before .before .before .before .before .before .before .before .before .walk .ensures) (c .before .before .before .before .before .before .before .before .before .before .before .before .before .grammar-fault .ensures) (sym (c .before .before .before .before .before .before .before .before .before .before .before .before .is-fault .ensures) ∙ (c .before .before .before .before .before .before .before .before .before .before .before .if1 .left)) (c .before .before .before .before .stages .ensures)
 
 pub decide-spec : {M : Type 1} → statement M
 decide-spec =
@@ -64,9 +71,11 @@ decide-spec =
     same-length-3
     same-length-4
     returns
-    stage-fault-requires
+    stages-requires
     same-length-5
     same-length-6
     same-length-7
     same-length-8
+    same-length-9
+    same-length-10
     returns-2)

@@ -51,7 +51,7 @@ slice-relend-prefix-fill-3 : tie.Need-slice-relend-prefix-fill-3
 slice-relend-prefix-fill-3 c = search needs
 
 slice-aggregate-fill-3 : tie.Need-slice-aggregate-fill-3
-slice-aggregate-fill-3 c = sym (length-take-le 1792 ((c .before .before .before .before .before .before .before .before .before .before .before .before .args .objects) .now) (omega arith))
+slice-aggregate-fill-3 c = sym (length-take-le 2048 ((c .before .before .before .before .before .before .before .before .before .before .before .before .args .objects) .now) (omega arith))
 
 slice-relend-prefix-fill-4 : tie.Need-slice-relend-prefix-fill-4
 slice-relend-prefix-fill-4 c = search needs
@@ -60,7 +60,7 @@ slice-aggregate-fill-4 : tie.Need-slice-aggregate-fill-4
 slice-aggregate-fill-4 c = sym (length-take-le 18432 ((c .before .before .before .before .before .before .before .before .before .before .before .before .before .args .values) .now) (omega arith))
 
 fill-requires : tie.Need-fill-requires
-fill-requires c κs = record { definitions = length-take-le 6656 ((c .before .before .before .before .before .before .before .before .before .before .before .before .before .args .definitions) .now) (omega arith); enumerators = length-take-le 3072 ((c .before .before .before .before .before .before .before .before .before .before .before .before .before .args .enumerators) .now) (omega arith); objects = length-take-le 1792 ((c .before .before .before .before .before .before .before .before .before .before .before .before .before .args .objects) .now) (omega arith); values = length-take-le 18432 ((c .before .before .before .before .before .before .before .before .before .before .before .before .before .args .values) .now) (omega arith) }
+fill-requires c κs = record { definitions = length-take-le 6656 ((c .before .before .before .before .before .before .before .before .before .before .before .before .before .args .definitions) .now) (omega arith); enumerators = length-take-le 3072 ((c .before .before .before .before .before .before .before .before .before .before .before .before .before .args .enumerators) .now) (omega arith); objects = length-take-le 2048 ((c .before .before .before .before .before .before .before .before .before .before .before .before .before .args .objects) .now) (omega arith); values = length-take-le 18432 ((c .before .before .before .before .before .before .before .before .before .before .before .before .before .args .values) .now) (omega arith) }
 
 same-length : tie.Need-same-length
 same-length c = search needs

@@ -65,7 +65,7 @@ same-length-6 : tie.Need-same-length-6
 same-length-6 c = lent-length 3072 ((c .before .before .before .before .before .before .before .before .before .before .before .before .before .before .before .before .before .before .before .before .before .before .before .before .before .before .before .before .before .before .before .before .before .before .before .before .before .before .args .enumerators) .now) ((c .before .before .before .before .before .before .before .before .before .before .before .before .before .before .before .before .before .before .before .before .before .before .before .before .before .before .before .read-spanned .last) .1 .1 .0) ((c .before .before .before .before .before .before .before .before .before .before .put-out .last) .1 .1 .0) ((c .before .before .before .before .before .before .before .before .before .before .put-out .kept) .1 .1 .0) ((c .before .before .before .before .before .before .before .before .before .before .before .before .before .before .before .before .before .before .before .before .before .before .before .before .before .before .before .read-spanned .kept) .1 .1 .0)
 
 same-length-7 : tie.Need-same-length-7
-same-length-7 c = lent-length 1792 ((c .before .before .before .before .before .before .before .before .before .before .before .before .before .before .before .before .before .before .before .before .before .before .before .before .before .before .before .before .before .before .before .before .before .before .before .before .before .before .args .objects) .now) ((c .before .before .before .before .before .before .before .before .before .before .before .before .before .before .before .before .before .before .before .before .before .before .before .before .before .before .before .read-spanned .last) .1 .1 .1 .0) ((c .before .before .before .before .before .before .before .before .before .before .put-out .last) .1 .1 .1 .0) ((c .before .before .before .before .before .before .before .before .before .before .put-out .kept) .1 .1 .1 .0) ((c .before .before .before .before .before .before .before .before .before .before .before .before .before .before .before .before .before .before .before .before .before .before .before .before .before .before .before .read-spanned .kept) .1 .1 .1 .0)
+same-length-7 c = lent-length 2048 ((c .before .before .before .before .before .before .before .before .before .before .before .before .before .before .before .before .before .before .before .before .before .before .before .before .before .before .before .before .before .before .before .before .before .before .before .before .before .before .args .objects) .now) ((c .before .before .before .before .before .before .before .before .before .before .before .before .before .before .before .before .before .before .before .before .before .before .before .before .before .before .before .read-spanned .last) .1 .1 .1 .0) ((c .before .before .before .before .before .before .before .before .before .before .put-out .last) .1 .1 .1 .0) ((c .before .before .before .before .before .before .before .before .before .before .put-out .kept) .1 .1 .1 .0) ((c .before .before .before .before .before .before .before .before .before .before .before .before .before .before .before .before .before .before .before .before .before .before .before .before .before .before .before .read-spanned .kept) .1 .1 .1 .0)
 
 same-length-8 : tie.Need-same-length-8
 same-length-8 c = lent-length 18432 ((c .before .before .before .before .before .before .before .before .before .before .before .before .before .before .before .before .before .before .before .before .before .before .before .before .before .before .before .before .before .before .before .before .before .before .before .before .before .before .args .values) .now) ((c .before .before .before .before .before .before .before .before .before .before .before .before .before .before .before .before .before .before .before .before .before .before .before .before .before .before .before .read-spanned .last) .1 .1 .1 .1 .0) ((c .before .before .before .before .before .before .before .before .before .before .put-out .last) .1 .1 .1 .1 .0) ((c .before .before .before .before .before .before .before .before .before .before .put-out .kept) .1 .1 .1 .1 .0) ((c .before .before .before .before .before .before .before .before .before .before .before .before .before .before .before .before .before .before .before .before .before .before .before .before .before .before .before .read-spanned .kept) .1 .1 .1 .1 .0)

@@ -1,13 +1,14 @@
 use Rattle.checks.proofs.Applications.{objects-answer}
+use mathlib.Core.Path.{refl}
 use borrow.Author.Needs.{needs}
 use Rattle.checks.proofs.objects.object_faults.Statement.{statement}
 use Rattle.checks.proofs.objects.object_faults.Tie as tie
 use Rattle.checks.proofs.objects.object_faults.Reads as reads
 use Rattle.checks.proofs.objects.object_faults.Lts as lts
-use Rattle.checks.proofs.objects.first_objects.Reads as first-objects-reads
+use Rattle.checks.proofs.objects.check_parts.Reads as check-parts-reads
 use Rattle.checks.proofs.objects.too_few.Reads as too-few-reads
-use Rattle.rows.proofs.cells.least_of.Reads as least-of-reads
 use Rattle.checks.proofs.parts.room_fault.Reads as room-fault-reads
+use Rattle.rows.proofs.cells.least_of.Reads as least-of-reads
 use Rattle.rows.proofs.faults.sooner.Reads as sooner-reads
 
 too-few-requires : tie.Need-too-few-requires
@@ -16,8 +17,8 @@ too-few-requires c κs = search needs
 least-of-requires : tie.Need-least-of-requires
 least-of-requires c κs = search needs
 
-first-objects-requires : tie.Need-first-objects-requires
-first-objects-requires c κs = search needs
+check-parts-requires : tie.Need-check-parts-requires
+check-parts-requires c κs = search needs
 
 room-fault-requires : tie.Need-room-fault-requires
 room-fault-requires c κs = search needs
@@ -35,7 +36,7 @@ sooner-requires-3 : tie.Need-sooner-requires-3
 sooner-requires-3 c κs = search needs
 
 returns : tie.Need-returns
-returns c = objects-answer _ _ _ _ _ _ _ _ _ _ _ _ _ _ _ ((c .before .before .before .before .before .before .before .too-few .ensures)) ((c .before .before .before .before .before .before .least-of .ensures)) ((c .before .before .before .before .before .first-objects .ensures)) ((c .before .before .before .before .room-fault .ensures)) ((c .before .before .before .room-fault2 .ensures)) ((c .before .before .sooner .ensures)) ((c .before .sooner2 .ensures)) ((c .sooner3 .ensures))
+returns c = objects-answer _ _ _ _ _ _ _ _ _ _ _ _ _ _ _ ((c .before .before .before .before .before .before .before .check-parts .result)) (c .before .before .before .before .before .before .before .before .before .too-few .ensures) (c .before .before .before .before .before .before .before .before .least-of .ensures) (c .before .before .before .before .before .before .before .check-parts .ensures) refl (c .before .before .before .before .before .before .room-fault .ensures) (c .before .before .before .before .before .room-fault2 .ensures) (c .before .before .before .sooner .ensures) (c .before .before .sooner2 .ensures) (c .before .sooner3 .ensures) refl refl
 
 pub object-faults-spec : {M : Type 1} → statement M
 object-faults-spec =
@@ -43,7 +44,7 @@ object-faults-spec =
     (tie.spec
     too-few-requires
     least-of-requires
-    first-objects-requires
+    check-parts-requires
     room-fault-requires
     room-fault-requires-2
     sooner-requires
