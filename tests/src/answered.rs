@@ -42,10 +42,16 @@ pub fn with_faults(seed: u64, numbers: &[u8]) -> Option<Answered> {
     answered.answer.is_err().then_some(answered)
 }
 
+/// The seeds whose texts have mostly FLOATs as attributes: one in four.
+pub fn float_seed(number: u64) -> u64 {
+    4 * number + 3
+}
+
 /// Makes the text of a seed; also counts the sites at which each number may be planted.
 fn make(seed: u64, plan: Plan) -> (Answered, [usize; NUMBERS]) {
     let mut maker = Maker {
         random: Random::new(seed),
+        mostly_floats: seed % 4 == 3,
         plan,
         text: Vec::new(),
         objects: Vec::new(),
@@ -68,6 +74,7 @@ const NUMBERS: usize = 24;
 /// The stage that a refusal's number belongs to.
 pub fn stage_of(number: u8) -> u8 {
     match number {
+        3..=5 => 0,
         6..=9 | 21..=23 => 1,
         11 | 17 => 2,
         _ => 3,
@@ -88,6 +95,11 @@ enum Domain {
     Integer {
         bounds: (i128, i128),
         range: Range,
+    },
+    /// Whole numbers of a unit, which is a power of ten; the ends of the range where there is one.
+    Float {
+        unit: i32,
+        range: Option<(i128, i128)>,
     },
     String,
     /// The values of a BOOLEAN or ENUM with what is under them, and whether they are written.
@@ -111,6 +123,8 @@ enum Preset {
 #[derive(Clone)]
 enum Given {
     Number(i128),
+    /// The word, which the normal text keeps.
+    Float(Vec<u8>),
     String(Vec<u8>),
     /// A BOOLEAN's or ENUM's value by its index.
     Choice(usize),
@@ -147,11 +161,12 @@ struct Block<'m, 'e> {
     owner: usize,
 }
 
-const TYPES: [&str; 8] = [
+const TYPES: [&str; 9] = [
     "UINT32",
     "INT32",
     "UINT64",
     "INT64",
+    "FLOAT",
     "STRING",
     "BOOLEAN",
     "ENUM",
@@ -172,6 +187,25 @@ const REFERENCE_TYPES: [&str; 13] = [
     "NETWORKMESSAGE_TYPE",
     "IPDU_TYPE",
     "NM_TYPE",
+];
+
+/// The greatest number of a float's units: 17 digits, so that the next one has 18 at most.
+const MOST_UNITS: i128 = 99_999_999_999_999_999;
+
+/// Floats that are none, each refused at its first byte.
+const NO_FLOATS: [&str; 12] = [
+    "1.5x",
+    "1.5e",
+    "-1.5E+",
+    "1.5e+5e+6",
+    "1.5ee+5",
+    "1.0e65",
+    "1.0e-65",
+    "-1.0E+0065",
+    "1234567890.123456789",
+    "0000000000000000000.0",
+    "0x1.5",
+    "1a.5",
 ];
 
 const LEAST_NUMBER: i128 = i64::MIN as i128;
@@ -207,6 +241,7 @@ impl Attribute {
 
 struct Maker {
     random: Random,
+    mostly_floats: bool,
     plan: Plan,
     text: Vec<u8>,
     /// The names of the objects of each kind.
@@ -263,8 +298,8 @@ impl Maker {
         depth: usize,
         types: &mut HashMap<&'static str, &'static str>,
     ) -> Vec<Attribute> {
-        const NAMES: [&str; 10] = [
-            "A", "B", "MASK", "TASK", "EVENT", "x", "y_1", "UINT32", "PRIORITY", "CPU",
+        const NAMES: [&str; 11] = [
+            "A", "B", "MASK", "TASK", "EVENT", "x", "y_1", "UINT32", "PRIORITY", "CPU", "FLOAT",
         ];
         let count = self.random.below(if depth == 0 { 5 } else { 4 });
         let mut scope = Vec::new();
@@ -280,6 +315,9 @@ impl Maker {
     }
 
     fn make_type(&mut self, depth: usize) -> &'static str {
+        if self.mostly_floats && !self.random.once_in(3) {
+            return "FLOAT";
+        }
         let simple = if depth < 3 { 0 } else { 2 };
         match TYPES[self.random.below(TYPES.len() - simple)] {
             "reference" => {
@@ -301,6 +339,7 @@ impl Maker {
         let domain = match (type_word, reference) {
             (_, Some(kind)) => Domain::Reference(kind),
             ("STRING", _) => Domain::String,
+            ("FLOAT", _) => self.make_floats(),
             ("BOOLEAN", _) => {
                 let listed = depth < 3 && self.random.once_in(2);
                 let words = ["TRUE", "FALSE"];
@@ -373,6 +412,94 @@ impl Maker {
         }
     }
 
+    /// Units as small and as great as there may be, with a range that is often narrow.
+    fn make_floats(&mut self) -> Domain {
+        let unit = match self.random.below(4) {
+            0 => -81,
+            1 => 63,
+            2 => -1,
+            _ => self.random.below(145) as i32 - 81,
+        };
+        let first = self.make_units();
+        let second = match self.random.below(3) {
+            0 => first,
+            1 => (first + self.random.below(4) as i128).min(MOST_UNITS),
+            _ => self.make_units(),
+        };
+        let range = match self.random.once_in(3) {
+            true => None,
+            false => Some((first.min(second), first.max(second))),
+        };
+        Domain::Float { unit, range }
+    }
+
+    fn make_units(&mut self) -> i128 {
+        let digits = 10u64.pow(self.random.below(18) as u32);
+        let units = i128::from(self.random.number() % digits);
+        match self.random.below(6) {
+            0 => 0,
+            1 => MOST_UNITS,
+            2 => -MOST_UNITS,
+            3 => -units,
+            _ => units,
+        }
+    }
+
+    /// One of the words for so many units: with zeros before and behind it, the dot anywhere
+    /// and the exponent that belongs to it.
+    fn float_word(&mut self, units: i128, unit: i32) -> Vec<u8> {
+        let mut digits = match units {
+            0 => String::new(),
+            _ => units.unsigned_abs().to_string(),
+        };
+        let mut power = unit;
+        if self.random.once_in(2) {
+            let zeros = self
+                .random
+                .below(19 - digits.len())
+                .min((power + 81) as usize);
+            digits += &"0".repeat(zeros);
+            power -= zeros as i32;
+        }
+        let least = (-64 - power).max(1) as usize;
+        let most = (64 - power).min(17) as usize;
+        let after = match self.random.below(3) {
+            0 => least,
+            1 => most,
+            _ => self.random.from_to(least, most),
+        };
+        let all = digits.len().max(after + 1);
+        let all = match self.random.once_in(4) {
+            true => self.random.from_to(all, 18),
+            false => all,
+        };
+        let digits = format!("{digits:0>all$}");
+        let (before, behind) = digits.split_at(all - after);
+        let sign = match units.signum() {
+            -1 => "-",
+            0 => self.random.pick(&["", "", "+", "-"]),
+            _ => self.random.pick(&["", "", "+"]),
+        };
+        let exponent = self.exponent_word(power + after as i32);
+        format!("{sign}{before}.{behind}{exponent}").into_bytes()
+    }
+
+    fn exponent_word(&mut self, exponent: i32) -> String {
+        if exponent == 0 && self.random.once_in(2) {
+            return String::new();
+        }
+        let mark = self.random.pick(&["e", "E"]);
+        let sign = match exponent.signum() {
+            -1 => "-",
+            0 => self.random.pick(&["", "+", "-"]),
+            _ => self.random.pick(&["", "+"]),
+        };
+        let zeros = self
+            .random
+            .pick(&["", "", "", "0", "0000000000000000000000"]);
+        format!("{mark}{sign}{zeros}{}", exponent.abs())
+    }
+
     fn make_value(&mut self, attribute: &Attribute) -> Given {
         if attribute.with_auto && self.random.once_in(4) {
             return Given::Auto;
@@ -383,6 +510,11 @@ impl Maker {
                 Range::Between(low, high) => self.number_between(*low, *high),
                 Range::Nothing => self.number_between(bounds.0, bounds.1),
             }),
+            Domain::Float { unit, range } => {
+                let (low, high) = range.unwrap_or((-MOST_UNITS, MOST_UNITS));
+                let units = self.number_between(low, high);
+                Given::Float(self.float_word(units, *unit))
+            }
             Domain::String => Given::String(self.make_string()),
             Domain::Choices(choices, _) => Given::Choice(self.random.below(choices.len())),
             Domain::Reference(kind) => {
@@ -544,16 +676,16 @@ impl Maker {
         }
         if !scope.is_empty() && self.plants(8) {
             let name = scope[self.random.below(scope.len())].name;
-            let type_word = self
-                .random
-                .pick(&["UINT32", "STRING", "BOOLEAN", "TASK_TYPE"]);
+            let type_word =
+                self.random
+                    .pick(&["UINT32", "STRING", "BOOLEAN", "FLOAT", "TASK_TYPE"]);
             self.put(type_word);
             let place = self.put(name);
             self.planted(8, place);
             self.end();
         }
         if let Some((name, type_word)) = again {
-            let others = ["UINT32", "STRING", "TASK_TYPE", "INT64"];
+            let others = ["UINT32", "STRING", "TASK_TYPE", "INT64", "FLOAT"];
             let others: Vec<&str> = others
                 .into_iter()
                 .filter(|word| *word != type_word)
@@ -574,6 +706,10 @@ impl Maker {
         }
         match &attribute.domain {
             Domain::Integer { bounds, range } => self.range(*bounds, range),
+            Domain::Float {
+                unit,
+                range: Some(range),
+            } => self.float_range(*unit, *range),
             Domain::Choices(choices, true) => self.choices(attribute, choices),
             _ => (),
         }
@@ -646,6 +782,42 @@ impl Maker {
         self.put("]");
     }
 
+    fn float_range(&mut self, unit: i32, (mut low, mut high): (i128, i128)) {
+        let crossed = low < high && self.plants(21);
+        if crossed {
+            (low, high) = (high, low);
+        }
+        self.put("[");
+        let low_place = self.float_bound(low, unit);
+        self.put("..");
+        self.float_bound(high, unit);
+        self.put("]");
+        if crossed {
+            self.planted(21, low_place);
+        }
+    }
+
+    fn float_bound(&mut self, units: i128, unit: i32) -> usize {
+        if self.plants(4) {
+            let place = self.put("1");
+            self.planted(4, place);
+            return place;
+        }
+        let word = self.float_word(units, unit);
+        self.float(&word)
+    }
+
+    /// Writes a float, or in its place what is none.
+    fn float(&mut self, word: &[u8]) -> usize {
+        if !self.plants(3) {
+            return self.put(word);
+        }
+        let word = self.random.pick(&NO_FLOATS);
+        let place = self.put(word);
+        self.planted(3, place);
+        place
+    }
+
     fn choices(&mut self, attribute: &Attribute, choices: &[(&'static str, Vec<Attribute>)]) {
         self.put("[");
         for (index, (word, under)) in choices.iter().enumerate() {
@@ -678,6 +850,14 @@ impl Maker {
         if matches!(attribute.domain, Domain::Reference(_)) {
             return;
         }
+        if let Some(other) = of_the_other_sort(attribute) {
+            if self.plants(4) {
+                self.put("=");
+                let place = self.put(other);
+                self.planted(4, place);
+                return;
+            }
+        }
         if !attribute.with_auto && self.plants(23) {
             self.put("=");
             let place = self.put("AUTO");
@@ -702,10 +882,13 @@ impl Maker {
 
     /// Whether there are values of the attribute's own form that are not inside.
     fn outside_can_be_default(&self, attribute: &Attribute) -> bool {
-        matches!(attribute.domain, Domain::Integer { .. }) || attribute.type_word == "ENUM"
+        let is_inside = matches!(attribute.domain, Domain::Float { range: None, .. });
+        let forms = ["UINT32", "INT32", "UINT64", "INT64", "FLOAT", "ENUM"];
+        forms.contains(&attribute.type_word) && !is_inside
     }
 
-    /// Writes a number outside of type, range or list, or an enumerator of no or another list.
+    /// Writes a number or float outside of type, range or list, or an enumerator of no or
+    /// another list.
     fn outside(&mut self, attribute: &Attribute) -> usize {
         match &attribute.domain {
             Domain::Integer { bounds, range } => {
@@ -722,6 +905,14 @@ impl Maker {
                 let number = near[self.random.below(near.len())];
                 self.number(number)
             }
+            Domain::Float {
+                unit,
+                range: Some((low, high)),
+            } => {
+                let units = [low - 1, high + 1][self.random.below(2)];
+                let word = self.float_word(units, *unit);
+                self.put(word)
+            }
             Domain::Choices(choices, _) => {
                 let words = ["NONE", "A", "B", "a", "none", "SOMEE"];
                 let known = |word: &&str| choices.iter().all(|(choice, _)| choice != word);
@@ -736,6 +927,7 @@ impl Maker {
     fn value(&mut self, attribute: &Attribute, value: &Given) -> usize {
         match value {
             Given::Number(number) => self.number(*number),
+            Given::Float(word) => self.float(word),
             Given::Auto => self.put("AUTO"),
             _ => self.put(written(attribute, value)),
         }
@@ -885,9 +1077,13 @@ impl Maker {
         let name = self.random.pick(&names);
         let place = self.put(name);
         self.planted(13, place);
-        let rest = self
-            .random
-            .pick(&["= 1 ;", "= TRUE { A = 1 ; } ;", "= AUTO ;", "= \"\" ;"]);
+        let rest = self.random.pick(&[
+            "= 1 ;",
+            "= 1.5 ;",
+            "= TRUE { A = 1 ; } ;",
+            "= AUTO ;",
+            "= \"\" ;",
+        ]);
         self.put_all(rest);
     }
 
@@ -941,12 +1137,13 @@ impl Maker {
         }
         let is_other = |form: &&str| match (&attribute.domain, *form) {
             (Domain::Integer { .. }, "1") | (Domain::String, "\"2.5\"") => false,
+            (Domain::Float { .. }, "1.5") => false,
             (Domain::Choices(..), "TRUE") => attribute.type_word != "BOOLEAN",
             (Domain::Choices(..), "name") => attribute.type_word != "ENUM",
             (Domain::Reference(_), "name") => false,
             _ => true,
         };
-        let forms = ["1", "\"2.5\"", "TRUE", "name"];
+        let forms = ["1", "1.5", "\"2.5\"", "TRUE", "name"];
         let forms: Vec<&str> = forms.into_iter().filter(is_other).collect();
         let form = self.random.pick(&forms);
         let place = self.put(form);
@@ -973,11 +1170,20 @@ impl Maker {
     }
 }
 
+/// What is no number of an attribute of floats, but one of integers, or the other way round.
+fn of_the_other_sort(attribute: &Attribute) -> Option<&'static str> {
+    match attribute.domain {
+        Domain::Integer { .. } => Some("1.0"),
+        Domain::Float { .. } => Some("1"),
+        _ => None,
+    }
+}
+
 /// A value as the normal text writes it.
 fn written(attribute: &Attribute, value: &Given) -> Vec<u8> {
     match (value, &attribute.domain) {
         (Given::Number(number), _) => number.to_string().into_bytes(),
-        (Given::String(string), _) => string.clone(),
+        (Given::String(word) | Given::Float(word), _) => word.clone(),
         (Given::Choice(index), Domain::Choices(choices, _)) => choices[*index].0.into(),
         (Given::Object(name), _) => (*name).into(),
         _ => "AUTO".into(),

@@ -1,12 +1,12 @@
-//! Document 01, "Grammar": the rules as data, and the stage of refusals 3 to 5 found by
+//! Document 01, "Grammar", with document 02's FLOAT: the rules as data, and the stage of refusals 3 to 5 found by
 //! following all derivations at once.
 
 use crate::token::{step, Sort, Step, WORDS};
 use std::sync::OnceLock;
 
-/// The grammar of document 01. A rule's name stands before the colon, its forms after it,
-/// parted by bars; a form may be empty. `name`, `number` and `string` are sorts of tokens,
-/// all else that is no rule's name is a token itself.
+/// The grammar of document 01, widened by document 02's FLOAT. A rule's name stands before
+/// the colon, its forms after it, parted by bars; a form may be empty. `name`, `number`,
+/// `float` and `string` are sorts of tokens, all else that is no rule's name is a token itself.
 pub const RULES: &[&str] = &[
     "file: version implementation application",
     "version: OIL_VERSION = string D ;",
@@ -20,7 +20,8 @@ pub const RULES: &[&str] = &[
     "attribute: integer auto integer_range name mark integer_default D ; \
      | STRING auto name mark string_default D ; \
      | BOOLEAN auto boolean_range name mark boolean_default D ; \
-     | ENUM auto enum_range name mark enum_default D ;",
+     | ENUM auto enum_range name mark enum_default D ; \
+     | FLOAT auto float_range name mark float_default D ;",
     "reference: kind_type name mark D ;",
     "kind_type: OS_TYPE | APPMODE_TYPE | TASK_TYPE | ISR_TYPE | COUNTER_TYPE | ALARM_TYPE \
      | RESOURCE_TYPE | EVENT_TYPE | COM_TYPE | MESSAGE_TYPE | NETWORKMESSAGE_TYPE | IPDU_TYPE \
@@ -33,18 +34,20 @@ pub const RULES: &[&str] = &[
     "enum_range: [ enumerators ]",
     "enumerators: enumerator | enumerator , enumerators",
     "enumerator: name P D",
+    "float_range: | [ float .. float ]",
     "P: | { definitions }",
     "mark: | [ ]",
     "integer_default: | = AUTO | = NO_DEFAULT | = number",
     "string_default: | = AUTO | = NO_DEFAULT | = string",
     "boolean_default: | = AUTO | = NO_DEFAULT | = TRUE | = FALSE",
     "enum_default: | = AUTO | = NO_DEFAULT | = name",
+    "float_default: | = AUTO | = NO_DEFAULT | = float",
     "application: CPU name { objects } D ;",
     "objects: | object objects",
     "object: kind name D ; | kind name { statements } D ;",
     "statements: | statement statements",
     "statement: name = value D ;",
-    "value: number | string | AUTO | named | named { statements }",
+    "value: number | float | string | AUTO | named | named { statements }",
     "named: name | TRUE | FALSE",
     "D: | : string",
 ];
@@ -56,6 +59,7 @@ pub enum Symbol {
     Word(u8),
     Name,
     Number,
+    Float,
     Quoted,
     Punctuator(u8),
 }
@@ -68,6 +72,7 @@ impl Symbol {
             (Symbol::Word(word), Sort::Word(code)) => word == code,
             (Symbol::Name, Sort::Word(code)) => !(1..=5).contains(&code),
             (Symbol::Number, Sort::Number { .. }) | (Symbol::Quoted, Sort::Quoted) => true,
+            (Symbol::Float, Sort::Float(_)) => true,
             (Symbol::Punctuator(sign), Sort::Punctuator(byte)) => sign == byte,
             _ => false,
         }
@@ -95,6 +100,7 @@ pub fn grammar() -> &'static Grammar {
             match word {
                 "name" => Symbol::Name,
                 "number" => Symbol::Number,
+                "float" => Symbol::Float,
                 "string" => Symbol::Quoted,
                 _ => Symbol::Punctuator(word.as_bytes()[0]),
             }
@@ -258,7 +264,7 @@ mod tests {
             .flatten()
             .copied()
             .collect();
-        for code in 1..=41 {
+        for code in 1..=42 {
             assert!(symbols.contains(&Symbol::Word(code)));
         }
         for (rule, text) in RULES.iter().enumerate().skip(1) {
@@ -296,5 +302,7 @@ mod tests {
         assert_eq!(stage(b"OIL_VERSION = AUTO"), refused(4, 14));
         assert_eq!(stage(b"18446744073709551615"), refused(4, 0));
         assert_eq!(stage(b"18446744073709551616"), refused(3, 0));
+        assert_eq!(stage(b"OIL_VERSION = 2.5;"), refused(4, 14));
+        assert_eq!(stage(b"OIL_VERSION = 2.5x;"), refused(3, 14));
     }
 }

@@ -15,6 +15,7 @@ pub struct Heavy {
 pub fn heavy() -> Vec<Heavy> {
     let mut all = full();
     all.extend(against_numbers());
+    all.extend(against_floats());
     all.extend(against_names());
     all.extend(against_defaults());
     all.extend(against_scopes());
@@ -140,6 +141,68 @@ fn against_numbers() -> Vec<Heavy> {
         filled(
             "a long number by default, taken 1,024 times",
             "TASK{ENUM[A{UINT32 y=0x#9;}]x[];};",
+            &format!("TASK t{{{}}};", "x=A;".repeat(1_024)),
+            "0",
+        ),
+    ]
+}
+
+/// Floats (document 02, Q-4): many of them, far apart, and long words that are read from the
+/// text again and again.
+fn against_floats() -> Vec<Heavy> {
+    let stated = |value: &str| format!("TASK t{{{}}};", format!("x={value};").repeat(2_048));
+    let ranged = each(512, |number| {
+        format!(
+            "FLOAT[-{number}.5e-64..{number}.5e64]{}=0.{number}e{};",
+            name(2, number),
+            number % 65
+        )
+    });
+    let different = each(2_048, |number| {
+        format!("x=0.1234567890123{number:04}e-{};", number % 65)
+    });
+    vec![
+        accepted(
+            "2,048 floats far from their bounds",
+            "TASK{FLOAT[-99999999999999999.9e64..99999999999999999.9e64]x[];};",
+            &stated("0.00000000000000001e-64"),
+        ),
+        accepted(
+            "2,048 floats near to their bounds",
+            "TASK{FLOAT[0.10000000000000000..0.10000000000000002]x[];};",
+            &stated("100000000000.000010e-12"),
+        ),
+        accepted(
+            "2,048 different floats of 17 digits",
+            "TASK{FLOAT[0.0..1.0]x[];};",
+            &format!("TASK t{{{different}}};"),
+        ),
+        accepted(
+            "512 FLOATs with ranges and defaults",
+            &format!("TASK{{{ranged}}};"),
+            "TASK t;",
+        ),
+        filled(
+            "a range of floats with a long comment",
+            "TASK{FLOAT[0.0../*#*/9.0]x[];};",
+            &stated("0.0"),
+            "x",
+        ),
+        filled(
+            "a range of floats with many small comments",
+            "TASK{FLOAT[0.0..#9.0]x[];};",
+            &stated("0.0"),
+            "/**/",
+        ),
+        filled(
+            "a range of floats with a long bound",
+            "TASK{FLOAT[0.0..1.0e#9]x[];};",
+            &stated("0.0"),
+            "0",
+        ),
+        filled(
+            "a long float by default, taken 1,024 times",
+            "TASK{ENUM[A{FLOAT[0.0..1.0e9]y=1.0e#9;}]x[];};",
             &format!("TASK t{{{}}};", "x=A;".repeat(1_024)),
             "0",
         ),

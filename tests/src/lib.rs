@@ -1,10 +1,12 @@
 //! A reference implementation of document 01 and of the requests of document 02 that have
 //! landed, written from the papers alone, and the means to compare the proved implementation with it.
 
+pub mod amount;
 pub mod answered;
 pub mod comparing;
 pub mod configuration;
 pub mod corpus;
+pub mod floats;
 pub mod grammar;
 pub mod heavy;
 pub mod limits;

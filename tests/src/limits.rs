@@ -58,6 +58,12 @@ pub fn limits() -> Vec<Limit> {
     for count in 14..=18 {
         all.extend(braces(count));
     }
+    for digits in 16..=20 {
+        all.extend(float_digits(digits));
+    }
+    for exponent in [-128, -66, -65, -64, -63, 0, 63, 64, 65, 66, 128, 320] {
+        all.extend(float_exponents(exponent));
+    }
     all.extend(two_limits());
     all.extend(object_limits());
     all
@@ -284,6 +290,53 @@ fn braces(count: usize) -> Vec<Limit> {
         place: find(&blocks.text, "{ b = TRUE { b") + 13,
     }));
     vec![deep, blocks]
+}
+
+/// A float as default, as bound and as value; refused where it is none.
+fn float(word: &str, is_float: bool) -> Vec<Limit> {
+    let mark = if is_float { "" } else { "@" };
+    let name = |shape: &str| format!("{word} as {shape}");
+    let default = format!("OS {{ FLOAT f = {mark}{word}; }};\n");
+    let bound = format!("OS {{ FLOAT [{mark}{word}..{word}] f = {word}; }};\n");
+    let value = format!("OS o {{ f = {mark}{word}; }};\nAPPMODE a;\n");
+    vec![
+        limit(name("default"), &default, OBJECTS, 3),
+        limit(name("bound"), &bound, OBJECTS, 3),
+        limit(name("value"), "OS { FLOAT f; };\n", &value, 3),
+    ]
+}
+
+/// Floats with so many digits around the dot.
+fn float_digits(count: usize) -> Vec<Limit> {
+    let mut all = Vec::new();
+    for digit in ["0", "1", "9"] {
+        for before in [1, 2, count / 2, count - 1] {
+            let (before, after) = (digit.repeat(before), digit.repeat(count - before));
+            all.extend(float(&format!("{before}.{after}"), count <= 18));
+            all.extend(float(&format!("-{before}.{after}E-64"), count <= 18));
+            all.extend(float(&format!("+{before}.{after}e+064"), count <= 18));
+        }
+    }
+    all
+}
+
+/// Floats with this exponent.
+fn float_exponents(exponent: i32) -> Vec<Limit> {
+    let is_float = (-64..=64).contains(&exponent);
+    let sign = if exponent < 0 { "-" } else { "" };
+    let plus = if exponent < 0 { "-" } else { "+" };
+    let amount = exponent.abs();
+    let mut all = Vec::new();
+    for word in [
+        format!("1.0e{sign}{amount}"),
+        format!("-0.0E{plus}{amount}"),
+        format!("99999999999999999.9e{plus}{amount}"),
+        format!("0.00000000000000001e{sign}00{amount}"),
+        format!("1.5E{plus}{}{amount}", "0".repeat(300)),
+    ] {
+        all.extend(float(&word, is_float));
+    }
+    all
 }
 
 /// Accepted texts whose normal text has this length: the implementation, which is copied, has a

@@ -2,6 +2,7 @@
 //! collected as place and number, and the least one of the first stage that has any is the
 //! answer. A text without faults gives the rows of the four tables and the counts.
 
+use crate::amount::Amount;
 use crate::grammar::{stage, Stage};
 use crate::token::KINDS;
 use crate::tree::{self, Choice, Definition, File, Form, Kind, Object, Part, Range};
@@ -84,10 +85,12 @@ pub enum Owner {
     Value(usize),
 }
 
-/// "a number, TRUE, FALSE, AUTO, an enumerator's or object's row; a string is its value word"
+/// "a number, TRUE, FALSE, AUTO, an enumerator's or object's row; a string is its value word".
+/// "In a row a float, like a string, is its value word".
 #[derive(Clone, Copy, Debug, PartialEq, Eq)]
 pub enum Resolved {
     Number(i128),
+    Float,
     True,
     False,
     Auto,
@@ -159,10 +162,25 @@ fn number_of(value: &Value) -> i128 {
     }
 }
 
+fn amount_of(value: &Value) -> Amount {
+    match value.form {
+        Form::Float(float) => float.into(),
+        _ => panic!("a float by the grammar"),
+    }
+}
+
 fn choices_of(definition: &Definition) -> &[Choice] {
     match &definition.range {
         Range::Choices(choices) => choices,
         _ => &[],
+    }
+}
+
+/// Whether a bound of a range is above another: both are numbers, or both floats.
+fn is_above(low: &Value, high: &Value) -> bool {
+    match low.form {
+        Form::Float(_) => amount_of(low) > amount_of(high),
+        _ => number_of(low) > number_of(high),
     }
 }
 
@@ -349,7 +367,7 @@ impl<'t> Meaning<'t> {
             at_fault.extend(bounds.iter().filter(outside).map(|bound| (bound, 21)));
         }
         if let Range::Between(low, high) = &definition.range {
-            if number_of(low) > number_of(high) {
+            if is_above(low, high) {
                 at_fault.push((low, 21));
             }
         }
@@ -374,6 +392,12 @@ impl<'t> Meaning<'t> {
             (Type::Boolean, Form::True | Form::False) => true,
             (Type::Enum, Form::Name) => self.choice(definition, value).is_some(),
             (Type::Reference(_), Form::Name) => true,
+            (Type::Float, Form::Float(_)) => match &definition.range {
+                Range::Between(low, high) => {
+                    (amount_of(low)..=amount_of(high)).contains(&amount_of(value))
+                }
+                _ => true,
+            },
             (sort, Form::Number(number)) => {
                 let in_type = match bounds_of(sort) {
                     Some((least, greatest)) => (least..=greatest).contains(&number),
@@ -591,6 +615,7 @@ impl<'t> Meaning<'t> {
     fn resolved(&self, definition: &'t Definition, value: &Value) -> Resolved {
         match (value.form, definition.sort) {
             (Form::Number(number), _) => Resolved::Number(number),
+            (Form::Float(_), _) => Resolved::Float,
             (Form::String, _) => Resolved::String,
             (Form::True, _) => Resolved::True,
             (Form::False, _) => Resolved::False,

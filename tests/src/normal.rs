@@ -82,7 +82,7 @@ pub fn without_places(text: &[u8], reading: &Reading) -> String {
     }
     for row in &reading.values {
         let string = match row.value {
-            Resolved::String => word(row.word),
+            Resolved::String | Resolved::Float => word(row.word),
             _ => String::new(),
         };
         all += &format!(
@@ -134,7 +134,7 @@ impl<'t> Writer<'t> {
                 written.extend(self.reading.enumerators[row].name.of(self.text));
             }
             Resolved::Object(row) => written.extend(self.reading.objects[row].name.of(self.text)),
-            Resolved::String => written.extend(value.word.of(self.text)),
+            Resolved::String | Resolved::Float => written.extend(value.word.of(self.text)),
         }
         let under = &self.under_values[row];
         if !under.is_empty() {

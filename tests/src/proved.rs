@@ -92,6 +92,7 @@ pub mod token {
                 Sort::Number { negative, amount } => (3, place, next, amount, negative),
                 Sort::Quoted => (4, place, next, 0, false),
                 Sort::Punctuator(byte) => (5, place, next, u64::from(byte), false),
+                Sort::Float(float) => (6, place, next, float.digits, float.negative),
             },
         };
         Answers {

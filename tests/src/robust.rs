@@ -3,6 +3,7 @@
 //! texts made of seeds as are asked for.
 
 use crate::corpus::{self, Sample};
+use crate::floats;
 use crate::limits::{self, Limit};
 use crate::parts;
 use crate::random::Random;
@@ -112,7 +113,7 @@ const fn seeded(name: &'static str, parts: usize, texts: fn(u64, &Sources, Each)
 }
 
 /// The mix: about as the sorts are mixed that are compared with the reference.
-const MIX: [Seeded; 15] = [
+const MIX: [Seeded; 16] = [
     seeded(sorts::ACCEPTED.name, 120, |seed, _, each| {
         each(sorts::accepted_text(seed));
     }),
@@ -154,6 +155,9 @@ const MIX: [Seeded; 15] = [
     }),
     seeded(sorts::PARTS.name, 60, |seed, _, each| {
         own_text(seed, parts::parted, each);
+    }),
+    seeded(sorts::FLOATS.name, 60, |seed, _, each| {
+        own_text(seed, floats::other_words, each);
     }),
     seeded(sorts::DAMAGED_LIMITS.name, 1, |seed, sources, each| {
         let random = &mut Random::new(seed);

@@ -7,7 +7,7 @@ use crate::random::Random;
 use crate::texts;
 use crate::token::{step, Step, Token};
 use crate::tree::file;
-use crate::{answered, corpus, grammar, heavy, limits, parts, ranges, tempting, token};
+use crate::{answered, corpus, floats, grammar, heavy, limits, parts, ranges, tempting, token};
 
 /// A text, and what is known of the answer that `read` gives.
 pub struct Case {
@@ -64,9 +64,10 @@ pub const DERIVED: Sort = sort("derived texts", 7_000, derived);
 pub const HEAVY: Sort = sort("heavy texts", 20, heavy_texts);
 pub const PARTS: Sort = sort("Q-2, objects in parts", 20_000, part_texts);
 pub const RANGES: Sort = sort("Q-1, ranges and defaults", 20_000, range_texts);
+pub const FLOATS: Sort = sort("Q-4, floats", 40_000, floats::texts);
 
 /// How many times as many generated texts are compared as usual: `KAUKSLINI_TEXTS`.
-fn times() -> u64 {
+pub fn times() -> u64 {
     match std::env::var("KAUKSLINI_TEXTS") {
         Ok(times) => times.parse().expect("KAUKSLINI_TEXTS is a number"),
         Err(_) => 1,
@@ -74,7 +75,7 @@ fn times() -> u64 {
 }
 
 /// A text of which nothing is known.
-fn unknown(name: &str, text: Vec<u8>) -> Case {
+pub fn unknown(name: &str, text: Vec<u8>) -> Case {
     Case {
         name: name.into(),
         text,
@@ -138,7 +139,7 @@ pub fn configuration_text(bytes: usize) -> Case {
 }
 
 /// The numbers of which a fault can be planted anywhere.
-pub const PLANTED: [u8; 12] = [6, 8, 9, 13, 14, 15, 16, 17, 18, 21, 22, 23];
+pub const PLANTED: [u8; 14] = [3, 4, 6, 8, 9, 13, 14, 15, 16, 17, 18, 21, 22, 23];
 
 /// The text of a seed with faults of these numbers, if it has sites for them.
 pub fn text_with_faults(seed: u64, numbers: &[u8]) -> Option<Case> {
@@ -200,7 +201,7 @@ pub fn damaged_text(name: &str, random: &mut Random, text: &[u8]) -> Case {
 }
 
 /// The tokens of a text.
-fn tokens_of(text: &[u8]) -> Vec<Token> {
+pub fn tokens_of(text: &[u8]) -> Vec<Token> {
     let mut tokens = Vec::new();
     let mut place = 0;
     while let Step::Token(token, next) = step(text, place) {
@@ -211,7 +212,7 @@ fn tokens_of(text: &[u8]) -> Vec<Token> {
 }
 
 /// The bytes of a token.
-fn word(text: &[u8], token: &Token) -> Vec<u8> {
+pub fn word(text: &[u8], token: &Token) -> Vec<u8> {
     text[token.place..token.place + token.length].to_vec()
 }
 
@@ -223,6 +224,7 @@ fn exchanged(random: &mut Random, text: &[u8]) -> Vec<u8> {
         token::Sort::Word(_) => 0,
         token::Sort::Number { .. } => 1,
         token::Sort::Quoted => 2,
+        token::Sort::Float(_) => 3,
         token::Sort::Punctuator(byte) => byte,
     };
     let mut words: Vec<Vec<u8>> = tokens.iter().map(|token| word(text, token)).collect();

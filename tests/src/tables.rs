@@ -125,6 +125,7 @@ fn value(row: &ValueRow) -> [usize; 9] {
         Resolved::String => [3, 0, 0],
         Resolved::Enumerator(enumerator) => [4, 0, enumerator],
         Resolved::Object(object) => [5, 0, object],
+        Resolved::Float => [6, 0, 0],
     };
     let word = cells(row.word);
     [
@@ -156,5 +157,6 @@ fn code(sort: Type) -> usize {
         Type::String => 39,
         Type::Boolean => 40,
         Type::Enum => 41,
+        Type::Float => 42,
     }
 }

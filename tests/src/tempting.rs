@@ -30,7 +30,7 @@ fn marked((name, specs, objects, number): (&'static str, &str, &str, u8)) -> Tem
 }
 
 /// Each name, the specs, the objects with an `@` at the place of the refusal, and its number.
-const TEMPTING: [(&str, &str, &str, u8); 18] = [
+const TEMPTING: [(&str, &str, &str, u8); 24] = [
     (
         "a reference is not found by name alone",
         "TASK { EVENT_TYPE EVENT; };",
@@ -138,5 +138,41 @@ const TEMPTING: [(&str, &str, &str, u8); 18] = [
         "TASK { UINT32 x; };",
         "TASK t { x @x = 1; };",
         4,
+    ),
+    (
+        "floats are equal by amount, not by digits",
+        "TASK { FLOAT [1.50..1.5] x = 15.0e-1; };",
+        "TASK t { x = 1500.0E-3; };",
+        0,
+    ),
+    (
+        "a float is not rounded",
+        "TASK { FLOAT [0.3..0.3] x; };",
+        "TASK t { x = 0.30000000000000000; }; TASK u { x = @0.30000000000000001; };",
+        15,
+    ),
+    (
+        "the exponent's sign counts",
+        "TASK { FLOAT [0.0..1.0] x; };",
+        "TASK t { x = 1.0e-1; }; TASK u { x = @1.0e1; };",
+        15,
+    ),
+    (
+        "a dot behind a number makes no float",
+        "TASK { FLOAT x; };",
+        "TASK t { x = 1@.; };",
+        3,
+    ),
+    (
+        "a whole number is no float",
+        "TASK { FLOAT [0.0..1.0] x; };",
+        "TASK t { x = @1; };",
+        15,
+    ),
+    (
+        "the type FLOAT may be a name",
+        "TASK { FLOAT FLOAT = 0.5; TASK_TYPE f; };",
+        "TASK FLOAT { FLOAT = -0.5; f = FLOAT; };",
+        0,
     ),
 ];

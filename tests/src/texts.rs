@@ -24,7 +24,7 @@ const ORDINARY: [&str; 24] = [
     "OIL_VERSIOM",
     "IMPLEMENTATIONS",
     "CPU_TYPE",
-    "FLOAT",
+    "FLOATS",
     "UINT16",
     "NETWORKMESSAGE_TYP",
     "a",
@@ -81,6 +81,66 @@ const NUMBERS: [&str; 44] = [
     "-9223372036854775809",
 ];
 
+/// Runs that are floats, that nearly are, and the bounds of what they may be.
+const FLOATS: [&str; 56] = [
+    "0.0",
+    "-0.0",
+    "+0.0e-64",
+    "1.5",
+    "1.50",
+    "15.0e-1",
+    "-1.5",
+    "+1.0",
+    "007.5",
+    "1.0e5",
+    "1.0E+5",
+    "1.0e-064",
+    "1.0e0000000064",
+    "1.0e64",
+    "1.0e65",
+    "1.0e-64",
+    "1.0e-65",
+    "1.0E064",
+    "1.0e-065",
+    "1.0e128",
+    "1.0e18446744073709551616",
+    "12345678901234567.8",
+    "1.23456789012345678",
+    "123456789.012345678",
+    "123456789.0123456789",
+    "1.234567890123456789",
+    "123456789012345678.9",
+    "00000000000000000.0",
+    "000000000000000000.0",
+    "99999999999999999.9e64",
+    "0.00000000000000001e-64",
+    "0x1.5",
+    "0x.5",
+    "1a.5",
+    "1_.5",
+    "1.5x",
+    "1.5_",
+    "1.5e",
+    "1.5E",
+    "1.5e+",
+    "1.5e-",
+    "1.5e+x",
+    "1.5e+5e+6",
+    "1.5e5e5",
+    "1.5ee+5",
+    "1.5xe+5",
+    "1.5e_5",
+    "1.5e5+3",
+    "1.5-3",
+    "1.5.5",
+    "1.5..2.5",
+    "1.e5",
+    "1.",
+    ".5",
+    "+.5",
+    "-1.5e-5-1.5",
+];
+
 /// What may stand between tokens, and what nearly may.
 const GAPS: [&str; 20] = [
     " ",
@@ -131,7 +191,8 @@ pub fn bytes(random: &mut Random, length: usize) -> Vec<u8> {
 
 /// Random bytes of those that the token rules name, so that tokens touch one another.
 pub fn chosen_bytes(random: &mut Random, length: usize) -> Vec<u8> {
-    const CHOICES: &[u8] = b"//**\"\"..{}[]=;:,+-01290xXaAfFgG_ET \t\r\n\x0b\x0c#\\'\0\x7f\x80\xff";
+    const CHOICES: &[u8] =
+        b"//**\"\"..{}[]=;:,+-01290xXaAeEfFgG_T \t\r\n\x0b\x0c#\\'\0\x7f\x80\xff";
     (0..length).map(|_| random.pick_byte(CHOICES)).collect()
 }
 
@@ -145,9 +206,26 @@ pub fn few_bytes(random: &mut Random, length: usize) -> Vec<u8> {
         b"-+0x1",
         b"0x1aF_",
         b"019+-.",
+        b"1.e+x0",
+        b"05.eE-",
         b"a_0Z ",
     ]);
     (0..length).map(|_| random.pick_byte(choices)).collect()
+}
+
+/// Every run of these bytes, up to so many of them.
+pub fn every_run(choices: &[u8], longest: usize) -> Vec<Vec<u8>> {
+    let mut runs: Vec<Vec<u8>> = vec![Vec::new()];
+    let mut first = 0;
+    for _ in 0..longest {
+        for index in first..runs.len() {
+            for &byte in choices {
+                runs.push([&runs[index][..], &[byte]].concat());
+            }
+            first += 1;
+        }
+    }
+    runs
 }
 
 /// A word of the known ones, of their near misses, or one made of random run bytes.
@@ -191,6 +269,42 @@ fn number(random: &mut Random) -> Vec<u8> {
     }
 }
 
+/// A float, something near it, or digits around a dot.
+pub fn float(random: &mut Random) -> Vec<u8> {
+    match random.below(6) {
+        0 | 1 => random.pick(&FLOATS).as_bytes().to_vec(),
+        2 => {
+            let text = random.pick(&FLOATS).as_bytes();
+            damaged(random, text)
+        }
+        _ => around_a_dot(random).into_bytes(),
+    }
+}
+
+/// Random digits around a dot, about as many as there may be, often with an exponent, about as
+/// great as it may be.
+fn around_a_dot(random: &mut Random) -> String {
+    let all = match random.below(3) {
+        0 => random.from_to(17, 20),
+        _ => random.from_to(2, 18),
+    };
+    let digits = (0..all).map(|_| random.pick_byte(b"0123456789"));
+    let mut text: String = digits.map(char::from).collect();
+    text.insert(random.from_to(1, all - 1), '.');
+    text.insert_str(0, random.pick(&["", "", "+", "-"]));
+    if random.once_in(2) {
+        let exponent = match random.below(3) {
+            0 => random.below(30),
+            _ => random.from_to(62, 66),
+        };
+        text += random.pick(&["e", "E"]);
+        text += random.pick(&["", "+", "-"]);
+        text += random.pick(&["", "", "0", "00000"]);
+        text += &exponent.to_string();
+    }
+    text
+}
+
 /// A string that ends.
 fn string(random: &mut Random) -> Vec<u8> {
     if random.once_in(2) {
@@ -208,7 +322,8 @@ pub fn soup(random: &mut Random, tokens: usize) -> Vec<u8> {
     for _ in 0..tokens {
         text.extend(match random.below(10) {
             0..=2 => word(random),
-            3..=4 => number(random),
+            3 => number(random),
+            4 => float(random),
             5 => string(random),
             6..=8 => random.pick(&PUNCTUATORS).as_bytes().to_vec(),
             _ if random.once_in(6) => random.pick(&UNENDED).as_bytes().to_vec(),
@@ -397,6 +512,7 @@ fn a_token(random: &mut Random, symbol: Symbol) -> Vec<u8> {
         Symbol::Word(code) => WORDS[code as usize - 1],
         Symbol::Name => random.pick(&NAMES),
         Symbol::Number => random.pick(&["0", "1", "-5", "0x1F", "255", "+3", "-0"]),
+        Symbol::Float => random.pick(&["0.0", "1.5", "-0.0", "15.0e-1", "-2.50E+1", "1.0e-64"]),
         Symbol::Quoted => random.pick(&["\"2.5\"", "\"\"", "\"}\"", "\"//\""]),
         Symbol::Punctuator(b'.') => "..",
         Symbol::Punctuator(byte) => return vec![byte],
@@ -410,6 +526,7 @@ pub fn any_token(random: &mut Random) -> Vec<u8> {
     let symbol = match random.below(10) {
         0..=2 => Symbol::Word(random.from_to(1, WORDS.len()) as u8),
         3 | 4 => Symbol::Name,
+        5 if random.once_in(2) => Symbol::Float,
         5 => Symbol::Number,
         6 => Symbol::Quoted,
         _ => Symbol::Punctuator(random.pick_byte(b"{}[]=;:,.")),
@@ -420,7 +537,7 @@ pub fn any_token(random: &mut Random) -> Vec<u8> {
 /// One token for each that the grammar can tell from the others.
 pub fn every_token() -> impl Iterator<Item = &'static [u8]> {
     let others = [
-        "a", "1", "\"a\"", "{", "}", "[", "]", "=", ";", ":", ",", "..",
+        "a", "1", "1.5", "\"a\"", "{", "}", "[", "]", "=", ";", ":", ",", "..",
     ];
     WORDS.into_iter().chain(others).map(str::as_bytes)
 }
@@ -493,6 +610,7 @@ pub fn any(seed: u64) -> Vec<u8> {
         1 | 2 => chosen_bytes(random, length),
         3 | 4 => few_bytes(random, length),
         5 => word(random),
+        6 if random.once_in(2) => float(random),
         6 => number(random),
         7 | 8 => soup(random, length / 2),
         9 => {

@@ -1,7 +1,8 @@
-//! Document 01, "Tokens": the token that begins at or after a place of a text.
+//! Document 01, "Tokens", with document 02's floats: the token that begins at or after a
+//! place of a text.
 
 /// The known words; a word's code is its number in this list, counted from 1.
-pub const WORDS: [&str; 41] = [
+pub const WORDS: [&str; 42] = [
     "TRUE",
     "FALSE",
     "AUTO",
@@ -43,6 +44,7 @@ pub const WORDS: [&str; 41] = [
     "STRING",
     "BOOLEAN",
     "ENUM",
+    "FLOAT",
 ];
 
 /// The thirteen kinds, in document 01's order.
@@ -54,8 +56,18 @@ pub const KINDS: [&str; 13] = *WORDS.split_at(8).1.first_chunk().unwrap();
 pub enum Sort {
     Word(u8),
     Number { negative: bool, amount: u64 },
+    Float(Float),
     Quoted,
     Punctuator(u8),
+}
+
+/// The digits around the dot as one whole number, times ten to a power. Where the digits are
+/// all 0 it is never negative.
+#[derive(Clone, Copy, Debug, PartialEq, Eq)]
+pub struct Float {
+    pub negative: bool,
+    pub digits: u64,
+    pub power: i32,
 }
 
 /// A token, the place of its first byte and the count of its bytes.
@@ -120,6 +132,11 @@ fn first(text: &[u8]) -> Option<(Sort, usize)> {
         }
         [b'0'..=b'9' | b'+' | b'-', rest @ ..] => {
             let length = 1 + run(rest, of_a_run);
+            // "A number's run followed by a dot and a digit is a float or no token".
+            if let [b'.', b'0'..=b'9', ..] = text[length..] {
+                let length = length + 1 + run_of_float(&text[length + 1..]);
+                return Some((Sort::Float(float(&text[..length])?), length));
+            }
             Some((number(&text[..length])?, length))
         }
         [b'"', rest @ ..] => {
@@ -165,6 +182,65 @@ fn number(word: &[u8]) -> Option<Sort> {
     };
     let negative = word.starts_with('-') && amount > 0;
     (!negative || amount <= 1 << 63).then_some(Sort::Number { negative, amount })
+}
+
+/// "the longest run after the dot belongs to it, through one sign right after its first e or
+/// E": the sign stands right after the run, whose only e or E is its last byte.
+fn run_of_float(after: &[u8]) -> usize {
+    let length = run(after, of_a_run);
+    let mark = after[..length].iter().position(|byte| b"eE".contains(byte));
+    match after[length..] {
+        [b'+' | b'-', ref rest @ ..] if mark == length.checked_sub(1) => {
+            length + 1 + run(rest, of_a_run)
+        }
+        _ => length,
+    }
+}
+
+/// "A float is an optional sign, digits, a dot, digits and optionally e or E with an optional
+/// sign and digits. It has at most 18 digits around the dot and an exponent from -64 to 64".
+fn float(word: &[u8]) -> Option<Float> {
+    let word = std::str::from_utf8(word).ok()?;
+    let (before, rest) = word.split_once('.')?;
+    let before = before.strip_prefix(['+', '-']).unwrap_or(before);
+    let (after, exponent) = match rest.split_once(['e', 'E']) {
+        Some((after, exponent)) => (after, exponent_of(exponent)?),
+        None => (rest, 0),
+    };
+    if !are_digits(before) || !are_digits(after) || before.len() + after.len() > 18 {
+        return None;
+    }
+    let digits = [before, after].concat().parse().ok()?;
+    Some(Float {
+        negative: word.starts_with('-') && digits > 0,
+        digits,
+        power: exponent - after.len() as i32,
+    })
+}
+
+fn exponent_of(word: &str) -> Option<i32> {
+    let digits = word.strip_prefix(['+', '-']).unwrap_or(word);
+    if !are_digits(digits) {
+        return None;
+    }
+    // However many zeros stand before it, what is left has two digits at most.
+    let digits = digits.trim_start_matches('0');
+    let amount: i32 = match digits.len() {
+        0 => 0,
+        1 | 2 => digits.parse().ok()?,
+        _ => return None,
+    };
+    let signed = if word.starts_with('-') {
+        -amount
+    } else {
+        amount
+    };
+    (-64..=64).contains(&signed).then_some(signed)
+}
+
+/// One or more digits.
+fn are_digits(word: &str) -> bool {
+    !word.is_empty() && word.bytes().all(|byte| byte.is_ascii_digit())
 }
 
 /// "Given the text, a place and a length, a public call hands back that part of the lent
@@ -256,7 +332,7 @@ mod tests {
             assert_eq!(step(word.as_bytes(), 0), Step::Token(token, length));
         }
         for word in [
-            "true", "TASKS", "_TASK", "TASK_", "FLOAT", "CPU_TYPE", "x", "_",
+            "true", "TASKS", "_TASK", "TASK_", "FLOATS", "CPU_TYPE", "x", "_",
         ] {
             assert_eq!(tokens(word.as_bytes()).0[0].sort, Sort::Word(0));
         }
@@ -304,8 +380,102 @@ mod tests {
     #[test]
     fn t6_number_and_dot() {
         refuses("1.", &["1"], 1);
-        refuses("1.0xff", &["1"], 1);
+        refuses("1.x", &["1"], 1);
+        is_none("1.0xff");
         divides("1..0xff", &["1", "..", "0xff"]);
+    }
+
+    #[track_caller]
+    fn is_float(text: &str, negative: bool, digits: u64, power: i32) {
+        let float = Float {
+            negative,
+            digits,
+            power,
+        };
+        let length = text.len();
+        let token = Token {
+            sort: Sort::Float(float),
+            place: 0,
+            length,
+        };
+        assert_eq!(step(text.as_bytes(), 0), Step::Token(token, length));
+    }
+
+    #[test]
+    fn c4_1_floats() {
+        is_float("1.5", false, 15, -1);
+        is_float("007.5", false, 75, -1);
+        is_float("+1.0", false, 10, -1);
+        is_float("-1.0", true, 10, -1);
+        is_float("-0.0", false, 0, -1);
+        is_float("1.0e5", false, 10, 4);
+        is_float("1.0E+5", false, 10, 4);
+        is_float("1.0e-064", false, 10, -65);
+        is_float("1.0e-64", false, 10, -65);
+        is_float("1.0e64", false, 10, 63);
+        is_float("1.0e-0", false, 10, -1);
+        is_float("1.0e00000000000000000000064", false, 10, 63);
+        is_float("00000000000000000.0", false, 0, -1);
+        is_float("-99999999999999999.9", true, 999_999_999_999_999_999, -1);
+        is_float("0.00000000000000001e-64", false, 1, -81);
+    }
+
+    #[test]
+    fn c4_1_no_floats() {
+        for text in [
+            "0x1.5",
+            "1a.5",
+            "1.5x",
+            "1.5e",
+            "1.5E",
+            "1.5e+",
+            "1.5e-",
+            "1.5e+5e+6",
+            "1.5ee+5",
+            "1.5e5e5",
+            "1.5e+5x",
+            "1.5_",
+            "1_.5",
+            "1.5e_5",
+            "1.5eE5",
+            "1.5e++5",
+            "+.5",
+            "-.5",
+            "1.0e65",
+            "1.0e-65",
+            "1.0e+65",
+            "1.0e064x",
+            "1.0e100",
+            "1.0e18446744073709551616",
+            "1.0e4294967296",
+            "1.0e-4294967297",
+            "0000000000000000000.0",
+            "123456789012345678.9",
+            "1.234567890123456789",
+            "1234567890.123456789",
+        ] {
+            is_none(text);
+        }
+    }
+
+    #[test]
+    fn c4_1_floats_and_what_follows() {
+        divides("1..2", &["1", "..", "2"]);
+        divides("1.5..2.5", &["1.5", "..", "2.5"]);
+        divides("1.5-3", &["1.5", "-3"]);
+        divides("1.5e5-3", &["1.5e5", "-3"]);
+        divides("1.5e+5+3", &["1.5e+5", "+3"]);
+        divides("1.5e5-3.0", &["1.5e5", "-3.0"]);
+        refuses("1.5e5+", &["1.5e5"], 5);
+        refuses("1.", &["1"], 1);
+        refuses("1.e5", &["1"], 1);
+        refuses(".5", &[], 0);
+        refuses("abc.5", &["abc"], 3);
+        refuses("1.5.5", &["1.5"], 3);
+        refuses("1.5.", &["1.5"], 3);
+        refuses("1 .5", &["1"], 2);
+        refuses("1. 5", &["1"], 1);
+        refuses("1...5", &["1", ".."], 3);
     }
 
     #[test]

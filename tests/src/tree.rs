@@ -1,7 +1,7 @@
 //! The tree of a text that passes the grammar stage. Nothing is judged here: each reader
 //! follows a rule of document 01's grammar and trusts that the tokens are as it says.
 
-use crate::token::{step, Sort, Step, Token};
+use crate::token::{step, Float, Sort, Step, Token};
 
 /// A part of the text: a word, a range, a block. Where there is none it is 0, 0.
 #[derive(Clone, Copy, Debug, Default, PartialEq, Eq)]
@@ -36,6 +36,7 @@ pub enum Type {
     String,
     Boolean,
     Enum,
+    Float,
     Reference(Kind),
 }
 
@@ -92,6 +93,7 @@ pub struct Value {
 #[derive(Clone, Copy, PartialEq, Eq)]
 pub enum Form {
     Number(i128),
+    Float(Float),
     String,
     True,
     False,
@@ -231,6 +233,7 @@ impl Reader {
             Sort::Word(39) => Type::String,
             Sort::Word(40) => Type::Boolean,
             Sort::Word(41) => Type::Enum,
+            Sort::Word(42) => Type::Float,
             _ => panic!("a type's word"),
         };
         let type_word = self.part();
@@ -297,6 +300,7 @@ impl Reader {
         let form = match self.tokens[self.next].sort {
             Sort::Number { negative, amount } if negative => Form::Number(-i128::from(amount)),
             Sort::Number { amount, .. } => Form::Number(i128::from(amount)),
+            Sort::Float(float) => Form::Float(float),
             Sort::Quoted => Form::String,
             Sort::Word(1) => Form::True,
             Sort::Word(2) => Form::False,

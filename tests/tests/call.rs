@@ -45,6 +45,11 @@ fn two_faults() {
 }
 
 #[test]
+fn floats() {
+    reads(&sorts::FLOATS);
+}
+
+#[test]
 fn limit_texts() {
     reads(&sorts::LIMITS);
     reads(&sorts::DAMAGED_LIMITS);

@@ -47,6 +47,7 @@ fn tokens(text: &[u8]) -> Vec<u8> {
                 let sort = match token.sort {
                     Sort::Word(_) => "word",
                     Sort::Number { .. } => "number",
+                    Sort::Float(_) => "float",
                     Sort::Quoted => "string",
                     Sort::Punctuator(_) => "punctuator",
                 };

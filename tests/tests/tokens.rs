@@ -9,6 +9,14 @@ fn token_readers_agree() {
     }
 }
 
+/// Every run of up to six bytes of those that floats are made of.
+#[test]
+fn token_readers_agree_on_short_runs() {
+    if proved::is_linked("token") {
+        compare::short_runs();
+    }
+}
+
 #[test]
 fn parts_agree() {
     if proved::is_linked("token") {
@@ -19,6 +27,7 @@ fn parts_agree() {
 #[cfg(not(proved_token))]
 mod compare {
     pub fn tokens() {}
+    pub fn short_runs() {}
     pub fn parts() {}
 }
 
@@ -27,7 +36,7 @@ mod compare {
     use std::collections::BTreeSet;
     use tests::random::Random;
     use tests::token::{part, step, Step};
-    use tests::{corpus, proved, texts};
+    use tests::{corpus, floats, proved, texts};
 
     const SEEDS: u64 = 60_000;
     const LONG_SEEDS: u64 = 300;
@@ -101,6 +110,21 @@ mod compare {
             generated.len()
         );
         assert!(generated.len() >= 20_000);
+    }
+
+    pub fn short_runs() {
+        let mut floats = 0;
+        let mut steps = 0;
+        let runs = texts::every_run(floats::RUN_BYTES, 6);
+        for run in &runs {
+            steps += along_the_tokens("short run", run) + at_every_place("short run", run);
+            floats += usize::from(proved::token::sort(run, 0) == 6);
+        }
+        println!(
+            "token readers agree: {} short runs, {floats} beginning with a float, {steps} steps",
+            runs.len()
+        );
+        assert_eq!(runs.len(), 55_987);
     }
 
     pub fn parts() {

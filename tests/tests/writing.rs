@@ -110,6 +110,11 @@ fn two_faults() {
 }
 
 #[test]
+fn floats() {
+    writes(&sorts::FLOATS);
+}
+
+#[test]
 fn limit_texts() {
     writes(&sorts::LIMITS);
     writes(&sorts::DAMAGED_LIMITS);

@@ -11,9 +11,9 @@ use Rattle.rows.specs.Table.{part}
 use Rattle.rows.proofs.Tables.{cell-of}
 use Rattle.rows.proofs.Stores.{part-sets-same, part-sets-before, part-sets-after}
 use Rattle.meaning.specs.Syntax.{Bounds}
-use Rattle.scopes.specs.Ranges.{RangeAt}
+use Rattle.scopes.specs.Ranges.{RangeAt, FloatsAt}
 use Rattle.amounts.specs.Keys.{signed-code, Listing}
-use Rattle.amounts.specs.Known.{Told, Noted, Known}
+use Rattle.amounts.specs.Known.{Told, ToldFloats, Noted, Known}
 
 -- What stands before a place is not changed by what comes behind it.
 part-front : (t q : List ℕ) (u a n : ℕ) → u ≤ length t → a + n ≤ u → part (take u t ++ q) a n ≡ part t a n
@@ -52,6 +52,7 @@ noted-behind s d t q u k =
       told = λ j h b x.
           subst (λ r. Told (signed-code (getD d (j * 19 + 12) 0)) b r (take u t ++ q) u) (sym (part-front t q u (512 + j * 5) 5 i (omega (arith, h, o))))
           (told-kept _ b _ t (take u t ++ q) u u (k .told j h b x) (omega arith) (λ a n e f. part-front t q u a n i f));
+      floats = λ j h b x. subst (ToldFloats b) (sym (part-front t q u (512 + j * 5) 5 i (omega (arith, h, o)))) (k .floats j h b x);
     }
 
 -- A row is put.
@@ -71,14 +72,16 @@ module _ (s d t : List ℕ) (u u′ j : ℕ) (c : List ℕ) (k : Noted s d t u) 
       let o = k .room in
       ap (part (sets t (512 + j * 5) c) (512 + j * 5)) (sym w) ∙ part-sets-same t (512 + j * 5) c (omega (arith, h, w, m, i, o))
 
-  pub noted-put : ((b : Bounds) → RangeAt s (getD d (j * 19 + 8) 0) b → Told (signed-code (getD d (j * 19 + 12) 0)) b c (sets t (512 + j * 5) c) u′) → Noted s d (sets t (512 + j * 5) c) u′
-  noted-put f =
+  pub noted-put : ((b : Bounds) → RangeAt s (getD d (j * 19 + 8) 0) b → Told (signed-code (getD d (j * 19 + 12) 0)) b c (sets t (512 + j * 5) c) u′)
+      → ((b : Bounds) → FloatsAt s (getD d (j * 19 + 8) 0) b → ToldFloats b c) → Noted s d (sets t (512 + j * 5) c) u′
+  noted-put f g =
       let o = k .room in
       let z = length-sets t (512 + j * 5) c in
       record {
         room = omega (arith, o, m);
         inside = omega (arith, i, z);
         told = λ v l b x. by v l b x (ℕ-discrete v j);
+        floats = λ v l b x. floats-by v l b x (ℕ-discrete v j);
       }
     where
       by : (v : ℕ) → v < 512 → (b : Bounds) → RangeAt s (getD d (v * 19 + 8) 0) b → Dec (v ≡ j)
@@ -90,6 +93,12 @@ module _ (s d t : List ℕ) (u u′ j : ℕ) (c : List ℕ) (k : Noted s d t u) 
           subst (λ r. Told (signed-code (getD d (v * 19 + 12) 0)) b r (sets t (512 + j * 5) c) u′) (sym (others v n l))
           (told-kept _ b _ t (sets t (512 + j * 5) c) u u′ (k .told v l b x) m kept)
 
+      floats-by : (v : ℕ) → v < 512 → (b : Bounds) → FloatsAt s (getD d (v * 19 + 8) 0) b → Dec (v ≡ j) → ToldFloats b (part (sets t (512 + j * 5) c) (512 + v * 5) 5)
+      floats-by v l b x (yes e) =
+          subst (λ y. FloatsAt s (getD d (y * 19 + 8) 0) b → ToldFloats b (part (sets t (512 + j * 5) c) (512 + y * 5) 5)) (sym e)
+          (λ z. subst (ToldFloats b) (sym own) (g b z)) x
+      floats-by v l b x (no n) = subst (ToldFloats b) (sym (others v n l)) (k .floats v l b x)
+
 -- A table of zeros says nothing.
 pub noted-blank : (s d : List ℕ) (n : ℕ) → 3072 ≤ n → Noted s d (replicate n 0) 3072
 noted-blank s d n h =
@@ -98,13 +107,17 @@ noted-blank s d n h =
       room = omega arith;
       inside = omega (arith, z, h);
       told = λ j l b x.
-          let e : getD (part (replicate n 0) (512 + j * 5) 5) 0 0 ≡ 0 = cell-of (replicate n 0) (512 + j * 5) 5 0 (omega arith) ∙ getD-replicate n (512 + j * 5 + 0) 0 0 (omega (arith, l, h)) in
+          let e = blank j l in
           record {
             two = λ o. absurd (omega (arith, e, o));
             within = λ o. absurd (omega (arith, e, o));
             list = λ o. absurd (omega (arith, e, o));
           };
+      floats = λ j l b x o. let e = blank j l in absurd (omega (arith, e, o));
     }
+  where
+    blank : (j : ℕ) → j < 512 → getD (part (replicate n 0) (512 + j * 5) 5) 0 0 ≡ 0
+    blank j l = cell-of (replicate n 0) (512 + j * 5) 5 0 (omega arith) ∙ getD-replicate n (512 + j * 5 + 0) 0 0 (omega (arith, l, h))
 
 -- The first 512 cells are the caller's.
 pub known-marked : (s d t vs : List ℕ) → length vs ≤ 512 → Known s d t → Known s d (sets t 0 vs)
@@ -121,5 +134,6 @@ known-marked s d t vs h k =
         told = λ j l b x.
             subst (λ r. Told (signed-code (getD d (j * 19 + 12) 0)) b r (sets t 0 vs) (k .used)) (sym (part-sets-after t 0 vs (512 + j * 5) 5 (omega (arith, h))))
             (told-kept _ b _ t (sets t 0 vs) (k .used) (k .used) (n .told j l b x) (omega arith) (λ a m e f. part-sets-after t 0 vs a m (omega (arith, h, e))));
+        floats = λ j l b x. subst (ToldFloats b) (sym (part-sets-after t 0 vs (512 + j * 5) 5 (omega (arith, h)))) (n .floats j l b x);
       };
     }

@@ -1,14 +1,15 @@
--- Numbers as cells: two numbers that have cells have the same one where they are equal. Assumes nothing.
+-- Numbers as cells: two numbers that have cells have the same one where they are equal; a float's two cells hold it. Assumes nothing.
 use mathlib.Core.Path.{_≡_, refl, sym, _∙_, ap, ap₂}
 use mathlib.Core.Bool.{Bool, true, false, not, false≢true}
-use Prim.Native.Nat.{ℕ, _-_, _≤_, _<_}
+use Prim.Native.Nat.{ℕ, _+_, _-_, _*_, _/_, _%_, _^_, _≤_, _<_}
 use native.Mathlib.Omega.{arith}
 use lib.Dec.{eqb, leb, ltb}
 use borrow.Author.Tests.{eqb-true, eqb-false, leb-true, ltb-true, le-leb, lt-leb, eq-eqb, ne-eqb}
-use Rattle.token.specs.Find.{pick, both, either, bit}
+use Rattle.token.specs.Find.{pick, both, either}
 use Rattle.meaning.specs.Syntax.{Num}
 use Rattle.meaning.specs.Words.{at-most, equal}
 use Rattle.amounts.specs.Keys.{signed-code, has-key, key}
+use Rattle.amounts.specs.Known.{float-in}
 
 -- Tests ------------------------------------------------------------------------------------------------------------------------------------
 
@@ -67,6 +68,21 @@ keys-of true false false x y p q = two-tests y x x y sym sym
 
 pub keys-equal : (g : Bool) (n m : Num) → has-key g n ≡ true → has-key g m ≡ true → eqb (key m) (key n) ≡ equal n m
 keys-equal g n m p q = keys-of g (n .negative) (m .negative) (n .amount) (m .amount) p q
+
+-- Floats ------------------------------------------------------------------------------------------------------------------------------------
+
+module _ (b : Bool) (m k : ℕ) (h : k < 256) where
+  scale-cell : (c s : ℕ) (v : Bool) → c % 2 ≡ s → not (eqb s 0) ≡ v → c / 2 ≡ k → b ≡ v → float-in m c ≡ record { negative = b; amount = m * 10 ^ k }
+  unfolding float-in
+  scale-cell c s v x y z e =
+      let w : k % 256 ≡ k = omega (arith, h) in
+      ap₂ (λ u n. record { negative = u; amount = m * 10 ^ n }) (ap (λ n. not (eqb n 0)) x ∙ y ∙ sym e) (ap (λ n. n % 256) z ∙ w)
+
+  pub scale-negative : b ≡ true → float-in m (k * 2 + 1) ≡ record { negative = b; amount = m * 10 ^ k }
+  scale-negative e = scale-cell (k * 2 + 1) 1 true (omega arith) refl (omega arith) e
+
+  pub scale-other : b ≡ false → float-in m (k * 2) ≡ record { negative = b; amount = m * 10 ^ k }
+  scale-other e = scale-cell (k * 2) 0 false (omega arith) refl (omega arith) e
 
 -- What the functions cite --------------------------------------------------------------------------------------------------------------------
 

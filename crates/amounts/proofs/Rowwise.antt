@@ -1,4 +1,4 @@
--- The row of a range: two bounds, or a list. Assumes nothing.
+-- The row of a range: two bounds, a list, or two floats. Assumes nothing.
 use mathlib.Core.Path.{_≡_, refl, sym, _∙_, ap, ap₂, subst}
 use mathlib.Core.List.{List, [], _∷_, _++_, append-nil}
 use mathlib.Core.Bool.{Bool, true, false}
@@ -7,18 +7,21 @@ use native.Mathlib.Omega.{arith}
 use lib.ListN.{length, getD, take, drop, length-append, length-drop, drop-of-length-le, replicate}
 use lib.Seq.{sets, length-sets, length-take-le, take-at, drop-at, length-front}
 use Rattle.token.specs.Find.{both, either, bit}
+use Rattle.token.specs.Tokens.{stepAt}
 use Rattle.rows.specs.Table.{part}
 use Rattle.rows.proofs.Stores.{part-sets-after}
 use Rattle.sorting.specs.Sorted.{among-cells, Rising, Sorted}
 use Rattle.meaning.specs.Syntax.{Num, Word, Bounds}
-use Rattle.meaning.specs.Words.{at-most, equal, among-numbers, in-bounds}
+use Rattle.meaning.specs.Actions.{float-of-step}
+use Rattle.meaning.specs.Words.{at-most, equal, among-numbers, in-bounds, in-float-bounds}
 use Rattle.scopes.specs.declared.Item.{Item}
 use Rattle.scopes.specs.Items.{num, itemAt}
-use Rattle.scopes.specs.Ranges.{Listed, RangeAt, range-none, range-two, range-list}
+use Rattle.scopes.specs.Ranges.{Listed, RangeAt, range-none, range-two, range-list, FloatsAt}
 use Rattle.scopes.proofs.Ranging.{in-two, below-two}
+use Rattle.scopes.proofs.Floating.{floats-in, floats-below}
 use Rattle.amounts.specs.Keys.{signed-code, key, Listing}
-use Rattle.amounts.specs.Known.{num-in, Noted}
-use Rattle.amounts.specs.Promises.{Keyed, KeyedRising, NotesRow, Notes}
+use Rattle.amounts.specs.Known.{num-in, float-in, Noted}
+use Rattle.amounts.specs.Promises.{Keyed, KeyedRising, NotesRow, NotesFloats, Notes}
 use Rattle.amounts.proofs.Frames.{noted-behind, noted-put, noted-blank}
 
 -- Sorted cells -------------------------------------------------------------------------------------------------------------------------------
@@ -114,7 +117,7 @@ module _ (s d : List ℕ) (j p : ℕ) (h : p ≡ getD d (j * 19 + 8) 0) where
                       ∙ between y n b i u (range-here b x);
                   within = λ g. absurd (omega (arith, g));
                   list = λ g. absurd (omega (arith, g));
-                }));
+                }) (λ b x g. absurd (omega (arith, g))));
           }
 
       module _ (g : Bool) (c : ℕ) (gc : g ≡ signed-code c) (cd : c ≡ getD d (j * 19 + 12) 0) (i : z .sign ≡ 46 → ⊥) (q : List ℕ) (n : ℕ) (k : KeyedRising s g (num (a .number)) (a .next) (take (length t - used) (drop used t)) q n) (le : used ≤ length t) where
@@ -160,8 +163,32 @@ module _ (s d : List ℕ) (j p : ℕ) (h : p ≡ getD d (j * 19 + 8) 0) where
                     two = λ e. absurd (omega (arith, e));
                     within = λ e. (o, omega (arith, r), omega arith);
                     list = λ e. subst (Listing (signed-code (getD d (j * 19 + 12) 0)) b) (sym cells) (listing b y (range-here b f′));
-                  }));
+                  }) (λ b f′ e. absurd (omega (arith, e))));
             }
+
+-- Two floats --------------------------------------------------------------------------------------------------------------------------------
+
+module _ (s d : List ℕ) (j p : ℕ) (h : p ≡ getD d (j * 19 + 8) 0) (f : p ≡ 0 → ⊥) (o a z : Item) (e : o ≡ itemAt s p) (v : a ≡ itemAt s (o .next))
+    (w : z ≡ itemAt s (a .next)) (x y : Num) (u : x ≡ float-of-step (stepAt s (o .next))) (r : y ≡ float-of-step (stepAt s (z .next))) where
+  floats-between : (n : Num) (b : Bounds) → FloatsAt s p b → both (at-most x n) (at-most n y) ≡ in-float-bounds n b
+  floats-between n b k = by (at-most x n) refl
+    where
+      by : (c : Bool) → at-most x n ≡ c → both c (at-most n y) ≡ in-float-bounds n b
+      by true q = floats-in s p f o a z e v w x y u r n true (at-most n y) (sym q) refl refl b k
+      by false q = floats-below s p f o a z e v w x y u r n false (sym q) refl b k
+
+  pub row-floats : (t : List ℕ) → j < 512 → (m c m′ c′ : ℕ) → float-in m c ≡ x → float-in m′ c′ ≡ y → (t′ : List ℕ)
+      → t′ ≡ sets t (512 + j * 5) (3 ∷ m ∷ c ∷ m′ ∷ c′ ∷ []) → NotesFloats s d t t′
+  row-floats t l m c m′ c′ i i′ t′ q used =
+      let cs : List ℕ = 3 ∷ m ∷ c ∷ m′ ∷ c′ ∷ [] in
+      record {
+        size = ap length q ∙ length-sets t (512 + j * 5) cs;
+        keeps = λ k. subst (λ c. Noted s d c used) (sym q) (noted-put s d t used used j cs k l refl (omega arith) (k .inside)
+            (λ b g. record { two = λ n. absurd (omega (arith, n)); within = λ n. absurd (omega (arith, n)); list = λ n. absurd (omega (arith, n)) })
+            (λ b g k n.
+            ap₂ (λ c r. both (at-most c n) (at-most n r)) i i′
+            ∙ floats-between n b (subst (λ i. FloatsAt s i b) (sym h) g)));
+      }
 
 -- Rows ----------------------------------------------------------------------------------------------------------------------------------------
 

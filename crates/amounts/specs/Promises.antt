@@ -9,7 +9,7 @@ use Rattle.sorting.specs.Sorted.{among-cells, Rising}
 use Rattle.meaning.specs.Syntax.{Num, Word}
 use Rattle.meaning.specs.Words.{equal, among-numbers}
 use Rattle.scopes.specs.Ranges.{Listed}
-use Rattle.scopes.specs.Promises.{InRange}
+use Rattle.scopes.specs.Promises.{InRange, InFloats}
 use Rattle.amounts.specs.Keys.{has-key, key}
 use Rattle.amounts.specs.Known.{Noted, Known, KnownDefaults}
 
@@ -37,6 +37,10 @@ pub record NotesRow (s d t : List ℕ) (used : ℕ) (t′ : List ℕ) (r : ℕ) 
   pub size : length t′ ≡ length t
   pub keeps : Noted s d t used → Noted s d t′ r
 
+-- A row of two floats is noted, and no list.
+abbrev pub NotesFloats : (s d t t′ : List ℕ) → Type 0
+NotesFloats s d t t′ = (used : ℕ) → NotesRow s d t used t′ used
+
 -- The table of ranges is made.
 abbrev pub Notes : (s d t t′ : List ℕ) → Type 0
 Notes s d t t′ = (n : ℕ) → 3072 ≤ n → t ≡ replicate n 0 → Known s d t′
@@ -44,6 +48,10 @@ Notes s d t t′ = (n : ℕ) → 3072 ≤ n → t ≡ replicate n 0 → Known s 
 -- Whether a number is in the range of the definition of row j.
 abbrev pub InRangeOf : (s d : List ℕ) → ℕ → Num → Bool → Type 0
 InRangeOf s d j n r = InRange s (getD d (j * 19 + 8) 0) n r
+
+-- Whether a float is in the range of the definition of row j.
+abbrev pub InFloatsOf : (s d : List ℕ) → ℕ → Num → Bool → Type 0
+InFloatsOf s d j n r = InFloats s (getD d (j * 19 + 8) 0) n r
 
 -- A default more is noted.
 pub record NotesDefault (s d t t′ : List ℕ) : Type 0 where

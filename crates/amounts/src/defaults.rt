@@ -21,7 +21,7 @@ fn note_default(text: &[u8], d: &[usize], j: usize, t: &mut [usize])
     if 512 <= j {
         return;
     }
-    if cells::cell_of(d, 19, j, 18) != 42 {
+    if cells::cell_of(d, 19, j, 18) != 43 {
         return;
     }
     let n = numbers::number_at(text, cells::cell_of(d, 19, j, 10));

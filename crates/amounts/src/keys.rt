@@ -1,8 +1,10 @@
 // Numbers as cells.
 ghost use mathlib.Core.Path.{_≡_};
 ghost use Rattle.token.specs.Find.{bit};
-ghost use Rattle.scopes.specs.Items.{num};
+ghost use Rattle.scopes.specs.Items.{num, real};
 ghost use Rattle.amounts.specs.Keys.{signed-code, has-key, key};
+ghost use Rattle.amounts.specs.Known.{float-in};
+use scopes::Float;
 use scopes::Num;
 
 // 1 for a negative number.
@@ -52,4 +54,25 @@ pub fn key(n: Num) -> usize
         return (18446744073709551615 - (n.amount - 1)) as usize;
     }
     n.amount as usize
+}
+
+// The second cell of a float, whose first are its digits: twice its scale, and 1 more for a negative one.
+pub fn scale_of(f: Float) -> usize
+    ensures { λ r. ⌜ float-in (f .digits) r ≡ real f ⌝ }
+{
+    if f.negative {
+        return f.scale as usize * 2 + 1;
+    }
+    f.scale as usize * 2
+}
+
+// The float in two cells.
+pub fn float_in(digits: usize, scale: usize) -> Float
+    ensures { λ r. ⌜ real r ≡ float-in digits scale ⌝ }
+{
+    Float {
+        negative: scale % 2 != 0,
+        digits: digits as u64,
+        scale: (scale / 2 % 256) as u8,
+    }
 }

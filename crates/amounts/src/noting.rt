@@ -6,10 +6,11 @@ ghost use lib.ListN.{length};
 ghost use lib.Seq.{sets};
 ghost use Rattle.token.specs.Find.{bit};
 ghost use Rattle.scopes.specs.Items.{num};
-ghost use Rattle.amounts.specs.Promises.{KeyedBehind, Keyed, KeyedRising, NotesRow, Notes};
+ghost use Rattle.amounts.specs.Promises.{KeyedBehind, Keyed, KeyedRising, NotesRow, NotesFloats, Notes};
 use super::keys;
 use rows::cells;
 use scopes::Num;
+use scopes::floats;
 use scopes::numbers;
 
 // Puts behind the first cells, so many, those of the numbers that stand from a place on, a comma before each; gives how many cells there are then,
@@ -87,7 +88,7 @@ fn note_two(t: &mut [usize], j: usize, a: Num, b: Num)
     cells::put_cells(t, 512 + j * 5, &row);
 }
 
-// The row of the definition of row j, if it has a range; gives where the lists end.
+// The row of the definition of row j, of an integer type, if it has a range; gives where the lists end.
 fn note_row(
     text: &[u8],
     d: &[usize],
@@ -126,6 +127,50 @@ fn note_row(
     end
 }
 
+// The row of the definition of row j, a FLOAT, if it has a range.
+fn note_floats(text: &[u8], d: &[usize], j: usize, t: &mut [usize])
+    ensures { λ _. ⌜ NotesFloats (now (text .entry)) (now (d .entry)) (now (t .entry)) (now (t .exit)) ⌝ }
+{
+    if 512 <= j {
+        return;
+    }
+    let range = cells::cell_of(d, 19, j, 8);
+    if range == 0 {
+        return;
+    }
+    let o = numbers::item_at(text, range);
+    let a = numbers::item_at(text, o.next);
+    let s = numbers::item_at(text, a.next);
+    let low = floats::float_at(text, o.next);
+    let high = floats::float_at(text, s.next);
+    let row = [
+        3,
+        low.digits as usize,
+        keys::scale_of(low),
+        high.digits as usize,
+        keys::scale_of(high),
+    ];
+    cells::put_cells(t, 512 + j * 5, &row);
+}
+
+// The row of the definition of row j, if it has a range; gives where the lists end.
+fn note_range(
+    text: &[u8],
+    d: &[usize],
+    j: usize,
+    t: &mut [usize],
+    spare: &mut [usize],
+    used: usize,
+) -> usize
+    ensures { λ r. ⌜ NotesRow (now (text .entry)) (now (d .entry)) (now (t .entry)) used (now (t .exit)) r ⌝ }
+{
+    if cells::cell_of(d, 19, j, 12) == 42 {
+        note_floats(text, d, j, t);
+        return used;
+    }
+    note_row(text, d, j, t, spare, used)
+}
+
 // The rows of the first n definitions, in a table that was 0 before.
 pub fn note_ranges(text: &[u8], d: &[usize], n: usize, t: &mut [usize], spare: &mut [usize])
     ensures { λ _. ⌜ Notes (now (text .entry)) (now (d .entry)) (now (t .entry)) (now (t .exit)) ⌝ }
@@ -136,7 +181,7 @@ pub fn note_ranges(text: &[u8], d: &[usize], n: usize, t: &mut [usize], spare: &
         if 512 <= j {
             return;
         }
-        used = note_row(text, d, j, t, spare, used);
+        used = note_range(text, d, j, t, spare, used);
         j += 1;
     }
 }

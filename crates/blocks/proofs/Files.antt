@@ -15,7 +15,7 @@ use Rattle.token.proofs.Steps.{StepOk, step-ok}
 use Rattle.grammar.specs.Grammar.{Token, tokens, Derivation}
 use Rattle.grammar.specs.Terminals.{tokenOf, tokensIn, tokens as tokens-of}
 use Rattle.meaning.specs.Syntax.{Word, Statements, done, state, Object, File, statements-in}
-use Rattle.meaning.specs.Actions.{syntax, word-of, num-of-step}
+use Rattle.meaning.specs.Actions.{syntax, word-of, num-of-step, float-of-step}
 use Rattle.meaning.proofs.Order.{Ordered, InOrder, Sub, sub-nil, keep, ordered-sub, drop as leave}
 use Rattle.meaning.proofs.Leaves.{words, leaves-words, words-leaves, leaves-in-order}
 use Rattle.meaning.proofs.Settled.{text-ordered}
@@ -63,6 +63,7 @@ part-inside s p n h =
 record Read (s : List ℕ) (t : Word) : Type 0 where
   bytes : t .bytes ≡ partOf s (t .place) (t .length)
   number : t .number ≡ num-of-step (stepAt s (t .place))
+  float : t .float ≡ float-of-step (stepAt s (t .place))
   long : 0 < t .length
 
 abbrev AllRead : List ℕ → List Word → Type 0
@@ -73,7 +74,7 @@ read-words : (s : List ℕ) (l : List Token) → TokensIn s l → AllRead s (wor
 unfolding words word-of
 read-words s [] h = tt
 read-words s (t ∷ l) h =
-    (record { bytes = sym (part-inside s (t .place) (t .length) (h .0 .1)); number = refl; long = h .0 .0 }, read-words s l (h .1))
+    (record { bytes = sym (part-inside s (t .place) (t .length) (h .0 .1)); number = refl; float = refl; long = h .0 .0 }, read-words s l (h .1))
 
 read-sub : (s : List ℕ) {l m : List Word} → Sub l m → AllRead s m → AllRead s l
 read-sub s sub-nil h = tt
@@ -84,7 +85,7 @@ later-in : (s : List ℕ) (l : List Word) (lo : ℕ) → 0 < lo → AllRead s l 
 later-in s [] lo h r o = tt
 later-in s (t ∷ l) lo h r o =
     let a = o .0 in
-    (record { bytes = r .0 .bytes; number = r .0 .number; long = r .0 .long; later = omega arith }, later-in s l (suc (t .place)) (omega arith) (r .1) (o .1))
+    (record { bytes = r .0 .bytes; number = r .0 .number; float = r .0 .float; long = r .0 .long; later = omega arith }, later-in s l (suc (t .place)) (omega arith) (r .1) (o .1))
 
 -- The words of a file, but for the version's.
 unfoldable pub words-of : File → List Word

@@ -13,7 +13,7 @@ use Rattle.token.specs.Tokens.{partOf, stepAt}
 use Rattle.meaning.specs.Syntax.{Word, Statement, Statements, done, state, statements-in}
 use Rattle.meaning.specs.Words.{alike, among}
 use Rattle.meaning.specs.Scopes.{names}
-use Rattle.meaning.specs.Actions.{num-of-step}
+use Rattle.meaning.specs.Actions.{num-of-step, float-of-step}
 use Rattle.layout.specs.Kept.{statement-rows, kept, Wide}
 use Rattle.rows.specs.declared.Found.{Found}
 use Rattle.rows.specs.declared.Found.the-variants.{At, Nothing}
@@ -32,6 +32,7 @@ pub record Holds (room w : ℕ) (t : List ℕ) (rs : List (List ℕ)) : Type 0 w
 pub record WordIn (s : List ℕ) (t : Word) : Type 0 where
   pub bytes : t .bytes ≡ partOf s (t .place) (t .length)
   pub number : t .number ≡ num-of-step (stepAt s (t .place))
+  pub float : t .float ≡ float-of-step (stepAt s (t .place))
   pub long : 0 < t .length
   pub later : 0 < t .place
 

@@ -8,7 +8,7 @@ use Rattle.meaning.specs.Syntax.{Word, span-of, span-or, Definition, Definition
 use Rattle.meaning.specs.Defining.{definition-row, definition-rows, definition-rows-under, all-definition-rows}
 use Rattle.meaning.specs.Cells.{type-code, cells, definition-cells as lent-cells}
 use Rattle.layout.specs.Kept.{Entry, entries, entries-under, spec-entries, list-key, code-of, definition-cells}
-use Rattle.scopes.specs.Forms.{Formed, an-integer, a-string, a-boolean, an-enum, a-reference, AllFormed, none-formed, more-formed, AllFormedUnder, none-under, more-under}
+use Rattle.scopes.specs.Forms.{Formed, an-integer, a-string, a-boolean, an-enum, a-float, a-reference, AllFormed, none-formed, more-formed, AllFormedUnder, none-under, more-under}
 use Rattle.scopes.proofs.Forming.{FormedSpecs}
 use Rattle.copying.proofs.Rooms.{cells-append}
 
@@ -17,6 +17,7 @@ type-coded : {s : List ℕ} {d : Definition} {vs : Values} → Formed s d vs →
 unfolding type-code
 type-coded (an-integer i t c r) = c ∙ sym (ap type-code t)
 type-coded (a-string t c b) = c ∙ sym (ap type-code t)
+type-coded (a-float t c b) = c ∙ sym (ap type-code t)
 type-coded (a-boolean t c b v) = c ∙ sym (ap type-code t)
 type-coded (an-enum t c b v) = c ∙ sym (ap type-code t)
 type-coded (a-reference k t c b) = c ∙ sym (ap type-code t)

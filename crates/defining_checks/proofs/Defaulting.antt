@@ -16,7 +16,7 @@ use Rattle.grammar.specs.Grammar.{Class}
 use Rattle.meaning.specs.Syntax.{Word, File, span-or, span-of, absent}
 use Rattle.meaning.specs.Faults.{Fault as Refusal, fault-if, sooner, first}
 use Rattle.meaning.specs.Defining.{default-wrong, default-number, default-faults}
-use Rattle.meaning.specs.Scopes.{a-number, a-string, a-truth, an-auto, a-no-default, a-name, sort-of, fits}
+use Rattle.meaning.specs.Scopes.{a-number, a-string, a-truth, an-auto, a-no-default, a-name, a-float, sort-of, fits}
 use Rattle.meaning.proofs.Sites.{option-words}
 use Rattle.layout.specs.Kept.{Entry, spec-entries, kept-definitions, definition-cells, default-code, code-of, class-number}
 use Rattle.scopes.specs.Situations.{Nth, RowOf, ReadAt}
@@ -39,7 +39,7 @@ late-yes full limit at e = sym (ap (λ b. both b (leb limit at)) e)
 -- NO_DEFAULT is the word with the code 4.
 wrong-other : (c : Class) (b : Bool) → (class-number c ≡ 4 → ⊥) → default-wrong (sort-of c) b ≡ not b
 unfolding default-wrong
-wrong-other c b h = ap (λ q. default-wrong q b) (tells c .sort) ∙ other-coded (λ q. default-wrong q b ≡ not b) refl refl refl refl refl (class-number c) h
+wrong-other c b h = ap (λ q. default-wrong q b) (tells c .sort) ∙ other-coded (λ q. default-wrong q b ≡ not b) refl refl refl refl refl refl (class-number c) h
 
 wrong-none : (c : Class) (b : Bool) → class-number c ≡ 4 → default-wrong (sort-of c) b ≡ false
 unfolding sort-coded default-wrong
@@ -53,16 +53,17 @@ number-auto c h = sym (ap default-number (tells c .sort ∙ ap sort-coded h))
 number-coded : (n : ℕ) → (n ≡ 3 → ⊥) → 22 ≡ default-number (sort-coded n)
 unfolding sort-coded default-number
 number-coded n h =
-    subst (λ t. 22 ≡ default-number (pick (eqb n 42) a-number (pick (eqb n 43) a-string (pick (eqb n 1) a-truth (pick (eqb n 2) a-truth (pick t an-auto (pick (eqb n 4) a-no-default a-name)))))))
-    (sym (ne-eqb n 3 h)) (by (eqb n 42) (eqb n 43) (eqb n 1) (eqb n 2) (eqb n 4))
+    subst (λ t. 22 ≡ default-number (pick (eqb n 43) a-number (pick (eqb n 44) a-string (pick (eqb n 1) a-truth (pick (eqb n 2) a-truth (pick t an-auto (pick (eqb n 4) a-no-default (pick (eqb n 54) a-float a-name))))))))
+    (sym (ne-eqb n 3 h)) (by (eqb n 43) (eqb n 44) (eqb n 1) (eqb n 2) (eqb n 4) (eqb n 54))
   where
-    by : (p q r s t : Bool) → 22 ≡ default-number (pick p a-number (pick q a-string (pick r a-truth (pick s a-truth (pick t a-no-default a-name)))))
-    by true q r s t = refl
-    by false true r s t = refl
-    by false false true s t = refl
-    by false false false true t = refl
-    by false false false false true = refl
-    by false false false false false = refl
+    by : (p q r s t u : Bool) → 22 ≡ default-number (pick p a-number (pick q a-string (pick r a-truth (pick s a-truth (pick t a-no-default (pick u a-float a-name))))))
+    by true q r s t u = refl
+    by false true r s t u = refl
+    by false false true s t u = refl
+    by false false false true t u = refl
+    by false false false false true u = refl
+    by false false false false false true = refl
+    by false false false false false false = refl
 
 number-other : (c : Class) → (class-number c ≡ 3 → ⊥) → 22 ≡ default-number (sort-of c)
 number-other c h = number-coded (class-number c) h ∙ sym (ap default-number (tells c .sort))

@@ -10,15 +10,15 @@ use lib.ListN.{length}
 use lib.Dec.{eqb}
 use Rattle.token.specs.Find.{both}
 use Rattle.grammar.specs.Grammar.{Integer}
-use Rattle.meaning.specs.Syntax.{Word, AttributeType, integer, string, boolean, enum, reference, Bounds, no-bounds, from-to, one-of, Definition, Definitions, no-more, define, Values, no-value, value, Spec, is-enum}
+use Rattle.meaning.specs.Syntax.{Word, AttributeType, integer, string, boolean, enum, float, reference, Bounds, no-bounds, from-to, one-of, Definition, Definitions, no-more, define, Values, no-value, value, Spec, is-enum}
 use Rattle.meaning.specs.Words.{at-most, in-type, among}
 use Rattle.meaning.specs.Scopes.{sort-of, fits}
 use Rattle.meaning.specs.Faults.{Fault, fault-if}
-use Rattle.meaning.specs.Defining.{outside, bound-faults, range-faults, default-wrong, default-number, default-faults, defined-in, differs, name-faults, word-faults}
+use Rattle.meaning.specs.Defining.{outside, bound-faults, low-faults, range-faults, default-wrong, default-number, default-faults, defined-in, differs, name-faults, word-faults}
 use Rattle.meaning.proofs.Standing.{Run}
 use Rattle.meaning.proofs.Sites.{bound-words, option-words, definition-words, value-words, spec-words}
 use Rattle.layout.specs.Kept.{Entry, Choice, list-key, entries, entries-under, spec-entries, choice-if, choices, choices-of, spec-choices}
-use Rattle.scopes.specs.Forms.{Formed, an-integer, a-string, a-boolean, an-enum, a-reference, AllFormed, none-formed, more-formed, AllFormedUnder, none-under, more-under}
+use Rattle.scopes.specs.Forms.{Formed, an-integer, a-string, a-boolean, an-enum, a-float, a-reference, AllFormed, none-formed, more-formed, AllFormedUnder, none-under, more-under}
 use Rattle.scopes.proofs.Forming.{FormedSpecs}
 use Rattle.scopes.specs.Listing.{each}
 use Rattle.defining_checks.specs.Listing.{others-for, under-of, row-name-faults, row-faults, list-of, choice-faults}
@@ -49,12 +49,19 @@ in-bounds {g} i (from-to a b) lo hi r m =
     (has-split (fault-if (not (at-most (a .number) (b .number))) a 21) (outside i (a ∷ b ∷ [])) m)
 in-bounds i (one-of ts) lo hi r m = in-outside i ts lo hi r m
 
+in-low : {g : Fault} (b : Bounds) (lo hi : ℕ) → Run lo (bound-words b) hi → Has g (low-faults b) → lo ≤ g .place
+unfolding low-faults bound-words
+in-low no-bounds lo hi r m = absurd (has-none m)
+in-low {g} (from-to a b) lo hi r m = let h = r .0 in let e = if-at (not (at-most (a .float) (b .float))) a 21 m .0 in omega (arith, h, e)
+in-low (one-of ts) lo hi r m = absurd (has-none m)
+
 in-range : {g : Fault} (y : AttributeType) (b : Bounds) (lo hi : ℕ) → Run lo (bound-words b) hi → Has g (range-faults y b) → lo ≤ g .place
 unfolding range-faults
 in-range (integer i) b lo hi r m = in-bounds i b lo hi r m
 in-range string b lo hi r m = absurd (has-none m)
 in-range boolean b lo hi r m = absurd (has-none m)
 in-range enum b lo hi r m = absurd (has-none m)
+in-range float b lo hi r m = in-low b lo hi r m
 in-range (reference k) b lo hi r m = absurd (has-none m)
 
 in-name : {g : Fault} (d : Definition) (others before : List Definition) → Has g (name-faults d others before) → g .place ≡ d .name .place
@@ -137,6 +144,18 @@ module _ (s : List ℕ) (u : Word) (o : ℕ) (d : Definition) (ds : Definitions)
       → Rise lo (entries-under vs (list-key vs) ++ (record { under = u; outer = o; definition = d; values = vs } ∷ E)) hi
   unfolding entries-under range-faults
   rise-definition vs (an-integer i e c r) h k p q =
+      let x : Entry = record { under = u; outer = o; definition = d; values = no-value } in
+      let a = k .low in
+      let b = run-le (value-words no-value) (k .values) in
+      let n = k .named .0 in
+      let m = run-le (option-words (d .default)) (k .named .1) in (
+        (
+          behind-row x lo (k .b) (k .c) (λ g m. let j = in-range (d .type) (d .bounds) (suc (d .word .place)) (k .a) (k .bounds) m in omega (arith, h, j)) (omega (arith, a, b)) (k .named),
+          omega (arith, a, b, n),
+        ),
+        rise-from E (suc (d .name .place)) (k .c) hi (omega (arith, m)) q,
+      )
+  rise-definition vs (a-float e c r) h k p q =
       let x : Entry = record { under = u; outer = o; definition = d; values = no-value } in
       let a = k .low in
       let b = run-le (value-words no-value) (k .values) in

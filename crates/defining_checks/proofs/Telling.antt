@@ -11,9 +11,9 @@ use Rattle.token.specs.Find.{pick, either}
 use Rattle.token.specs.Words.{same}
 use Rattle.token.proofs.Promises.{CodeOk, found-code}
 use Rattle.token.specs.declared.Sort.{Sort}
-use Rattle.token.specs.declared.Sort.the-variants.{Word as WordToken, Number, String, Punctuator}
+use Rattle.token.specs.declared.Sort.the-variants.{Word as WordToken, Number, String, Punctuator, Float}
 use Rattle.grammar.specs.Grammar.{Token, Class, tokens, matches, the, TRUE, FALSE}
-use Rattle.grammar.specs.Grammar.{Rule, Form, _▸_, ∎, _⟶_, Trees, nil, leaf, node, file, version, implementation, specs, spec, definitions, definition, attribute, D, P, auto, mark, integer-range, numbers, boolean-range, enumerator, enumerators, application, objects, object, block, statements, statement, default, own, file-is, version-is, implementation-is, no-spec, a-spec, spec-is, no-definition, a-definition, an-attribute, a-reference, an-integer, a-string, a-boolean, an-enum, reference-is, no-D, a-D, no-P, a-P, no-auto, with-auto, no-mark, a-mark, no-range, a-range, a-list, no-number, a-number, no-boolean-range, a-boolean-range, enumerator-is, no-enumerator, an-enumerator, no-default, a-default, own-auto, own-none, own-number, own-string, own-true, own-false, own-name, application-is, no-object, an-object, an-object-alone, an-object-with, no-block, a-block, no-statement, a-statement, statement-is, value-number, value-string, value-auto, value-name, value-true, value-false}
+use Rattle.grammar.specs.Grammar.{Rule, Form, _▸_, ∎, _⟶_, Trees, nil, leaf, node, file, version, implementation, specs, spec, definitions, definition, attribute, D, P, auto, mark, integer-range, numbers, boolean-range, float-range, enumerator, enumerators, application, objects, object, block, statements, statement, default, own, file-is, version-is, implementation-is, no-spec, a-spec, spec-is, no-definition, a-definition, an-attribute, a-reference, an-integer, a-string, a-boolean, an-enum, a-float, reference-is, no-D, a-D, no-P, a-P, no-auto, with-auto, no-mark, a-mark, no-range, a-range, a-list, no-number, a-number, no-boolean-range, no-float-range, a-boolean-range, a-float-range, enumerator-is, no-enumerator, an-enumerator, no-default, a-default, own-auto, own-none, own-number, own-string, own-true, own-false, own-name, own-float, application-is, no-object, an-object, an-object-alone, an-object-with, no-block, a-block, no-statement, a-statement, statement-is, value-number, value-string, value-float, value-auto, value-name, value-true, value-false}
 use Rattle.grammar.specs.Grammar.{reference as reference-rule, value as value-rule}
 use Rattle.grammar.specs.Terminals.{signOf, classOf}
 use Rattle.grammar.specs.Terminals.{tokenOf as token-of}
@@ -27,11 +27,11 @@ use Rattle.scopes.proofs.Coding.{given-is}
 use Rattle.token.proofs.Codes.{same-equal}
 
 -- A sign's number is past those of the words.
-far-pick : (b : Bool) (x y : Class) → 44 ≤ class-number x → 44 ≤ class-number y → 44 ≤ class-number (pick b x y)
+far-pick : (b : Bool) (x y : Class) → 45 ≤ class-number x → 45 ≤ class-number y → 45 ≤ class-number (pick b x y)
 far-pick true x y h k = h
 far-pick false x y h k = k
 
-sign-far : (b : ℕ) → 44 ≤ class-number (signOf b)
+sign-far : (b : ℕ) → 45 ≤ class-number (signOf b)
 unfolding signOf class-number sign-number
 sign-far b =
     far-pick (eqb b 123) _ _ (omega arith) (far-pick (eqb b 125) _ _ (omega arith) (far-pick (eqb b 91) _ _ (omega arith) (far-pick (eqb b 93) _ _ (omega arith)
@@ -45,9 +45,11 @@ unfolding classOf class-number
 sorts-agree (WordToken k) (WordToken l) b h i m n = ap (λ (c : ℕ). class-number (classOf (WordToken c))) (h ∙ sym i)
 sorts-agree (WordToken k) (Number v w) b h i m n = absurd (omega arith)
 sorts-agree (WordToken k) String b h i m n = absurd (omega arith)
+sorts-agree (WordToken k) (Float v w e) b h i m n = absurd (omega arith)
 sorts-agree (WordToken k) (Punctuator c) b h i m n = let a = sign-far c in absurd (omega arith)
 sorts-agree (Number v w) y b h i m n = absurd (omega arith)
 sorts-agree String y b h i m n = absurd (omega arith)
+sorts-agree (Float v w e) y b h i m n = absurd (omega arith)
 sorts-agree (Punctuator c) y b h i m n = let a = sign-far c in absurd (omega arith)
 
 tokens-agree : (s : List ℕ) (p q : ℕ) (t u : Token) → StepTo s p t → StepTo s q u → word-of s t .bytes ≡ word-of s u .bytes
@@ -122,6 +124,7 @@ W P g = (n e : ℕ) → AllApart (g n e)
 W auto m = Unit {0}
 W mark m = Unit {0}
 W integer-range r = Unit {0}
+W float-range r = Unit {0}
 W numbers ws = Unit {0}
 W boolean-range g = (n e : ℕ) → Apart [] (g n e .values) × AllApartUnder (g n e .values)
 W enumerator g = (n e : ℕ) → AllApart (g n e .under)
@@ -161,6 +164,7 @@ means-apart s a-definition (node _ x (node _ xs nil)) h q c = λ n e. more-apart
 means-apart s an-attribute (node _ x nil) h q c = λ n e. h .0 n e
 means-apart s a-reference (node _ x nil) h q c = λ n e. h .0 n e
 means-apart s an-integer (leaf t m (node _ a (node _ r (leaf x _ (node _ k (node _ d b)))))) h q c = λ n e. record { own = λ z. tt; under = none-under }
+means-apart s a-float (leaf t m (node _ a (node _ r (leaf x _ (node _ k (node _ d b)))))) h q c = λ n e. record { own = λ z. tt; under = none-under }
 means-apart s a-string (leaf t m (node _ a (leaf x _ (node _ k (node _ d b))))) h q c = λ n e. record { own = λ z. tt; under = none-under }
 means-apart s a-boolean (leaf t m (node _ a (node _ r (leaf x _ (node _ k (node _ d b)))))) h q c = λ n e. record { own = λ z. h .1 .0 n e .0; under = h .1 .0 n e .1 }
 means-apart s an-enum (leaf t m (node _ a (leaf _ _ (node o v (node r vs (leaf _ _ (leaf x _ (node _ k (node _ d b))))))))) h q c = λ n e.
@@ -175,7 +179,9 @@ means-apart s with-auto us h q c = tt
 means-apart s no-mark us h q c = tt
 means-apart s a-mark us h q c = tt
 means-apart s no-range us h q c = tt
+means-apart s no-float-range us h q c = tt
 means-apart s a-range us h q c = tt
+means-apart s a-float-range us h q c = tt
 means-apart s a-list us h q c = tt
 means-apart s no-number us h q c = tt
 means-apart s a-number us h q c = tt
@@ -193,6 +199,7 @@ means-apart s own-auto us h q c = tt
 means-apart s own-none us h q c = tt
 means-apart s own-number us h q c = tt
 means-apart s own-string us h q c = tt
+means-apart s own-float us h q c = tt
 means-apart s own-true us h q c = tt
 means-apart s own-false us h q c = tt
 means-apart s own-name us h q c = tt
@@ -208,6 +215,7 @@ means-apart s a-statement us h q c = tt
 means-apart s statement-is us h q c = tt
 means-apart s value-number us h q c = tt
 means-apart s value-string us h q c = tt
+means-apart s value-float us h q c = tt
 means-apart s value-auto us h q c = tt
 means-apart s value-name us h q c = tt
 means-apart s value-true us h q c = tt

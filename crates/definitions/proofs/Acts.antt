@@ -7,14 +7,14 @@ use Prim.Native.Nat.{ℕ, suc, _+_, _-_, _*_, min}
 use lib.Seq.{sets}
 use Rattle.filling.specs.Tables.{Table}
 use Rattle.token.specs.Find.{bit}
-use Rattle.grammar.specs.Grammar.{Form, _⟶_, _·_, _▸_, ∎, matches, name, type, integer, the, sg, TRUE, FALSE, STRING, BOOLEAN, ENUM, lbrace, rbrace, lsquare, rsquare, semicolon, comma, integers, strings, booleans, enums, definitions, definition, attribute, D, P, auto, mark, integer-range, boolean-range, enumerator, enumerators, default, a-definition, no-definition, an-attribute, a-reference, an-integer, a-string, a-boolean, an-enum, reference-is, a-P, no-P, a-boolean-range, no-boolean-range, enumerator-is, an-enumerator, no-enumerator}
+use Rattle.grammar.specs.Grammar.{Form, _⟶_, _·_, _▸_, ∎, matches, name, type, integer, the, sg, TRUE, FALSE, STRING, BOOLEAN, ENUM, FLOAT, lbrace, rbrace, lsquare, rsquare, semicolon, comma, integers, strings, booleans, enums, floats, definitions, definition, attribute, D, P, auto, mark, integer-range, float-range, boolean-range, enumerator, enumerators, default, a-definition, no-definition, an-attribute, a-reference, an-integer, a-string, a-boolean, an-enum, a-float, reference-is, a-P, no-P, a-boolean-range, no-boolean-range, enumerator-is, an-enumerator, no-enumerator}
 use Rattle.grammar.specs.Factored.{paper}
 use Rattle.grammar.specs.Machine.{starts}
 use Rattle.grammar.specs.Readers.{classAt, advanced, refusal, Meets}
 use Rattle.grammar.specs.declared.Look.{Look}
 use Rattle.grammar.proofs.Codes.{at-code, in-set}
 use Rattle.grammar.proofs.Meeting.{_⊳_, take}
-use Rattle.grammar.proofs.Rules.{reference-by, string-by, integer-by, boolean-by, enum-by, boolean-range-pass, boolean-range-by, lsquare-taken, P-pass, P-by, enumerator-by, enumerators-item, enumerators-again, enumerators-done, definitions-again, definitions-done}
+use Rattle.grammar.proofs.Rules.{reference-by, string-by, integer-by, float-by, boolean-by, enum-by, boolean-range-pass, boolean-range-by, lsquare-taken, P-pass, P-by, enumerator-by, enumerators-item, enumerators-again, enumerators-done, definitions-again, definitions-done}
 use Rattle.meaning.specs.Syntax.{Word, Span, absent, through, Definition, Definitions, no-more, define, Values, no-value, value, is-enum, definitions-in, enumerators-in}
 use Rattle.meaning.specs.Actions.{Parts, means, first-value, truths, defined, defining}
 use Rattle.layout.specs.Kept.{Entry, Choice, code-of, list-key, truth-cells, default-code, entries, entries-under, choices, choices-of, choice-if, definition-cells, choice-cells, map-cells}
@@ -223,6 +223,20 @@ module _ {s : List ℕ} {a : Look} {y z t : Table} where
       let l = unlisted a (d .range) refl refl refl in
       (one-rows x g u d no-value st (head-is d no-value (typed-plain a refl) (q .0) refl l) refl (q .1), refl))
 
+  pub float-defined : (x : Under) {e : ℕ} {b r : Look} → a .code ≡ 42 → b ≡ advanced s a
+      → Walks (Puts 19) e (auto ▸ float-range ▸ name · mark ▸ default floats ▸ D ▸ sg semicolon · ∎)
+      (λ w m. Named x (head-of a (bit (m .0)) (m .1 .0 .span .place) (m .1 .0 .span .length)) w (m .1 .1 .0) (m .1 .1 .1 .0) (m .1 .1 .1 .1 .0)) s b r y z
+      → Walks Fill 1 (definition ▸ ∎) (λ w m. Rows x w (λ i j. one (m .0 i j))) s a r (y, t) (z, t)
+  unfolding means defined Rows Named row-of is-enum front-of behind matches classAt entries map-cells choices list-key truth-cells
+  float-defined x h p w =
+      attribute-by x a-float (w .what, []) (float-by h p (w .fills .meets)) (w .does, wrote-none)
+      (first (the FLOAT) (take (the FLOAT) {s = s} {a = a} (at-code (matches (the FLOAT)) 42 tt h) p) ▻ w .fills)
+      (λ m q u st i j.
+      let d = means a-float m i j .definition in
+      let g = head-of a (bit (m .1 .0)) (m .1 .1 .0 .span .place) (m .1 .1 .0 .span .length) in
+      let l = unlisted a (d .range) refl refl refl in
+      (one-rows x g u d no-value st (head-is d no-value (typed-plain a refl) (q .0) refl l) refl (q .1), refl))
+
   pub string-defined : (x : Under) {e : ℕ} {b r : Look} → a .code ≡ 39 → b ≡ advanced s a
       → Walks (Puts 19) e (auto ▸ name · mark ▸ default strings ▸ D ▸ sg semicolon · ∎)
       (λ w m. Named x (head-of a (bit (m .0)) 0 0) w (m .1 .0) (m .1 .1 .0) (m .1 .1 .1 .0)) s b r y z
@@ -254,7 +268,7 @@ module _ {s : List ℕ} {a : Look} {y y₁ z t t₁ : Table} where
       (one-rows x h u d vs st (head-is d vs k (q .0) (q .1 .0) l) (l .rows) (q .1 .1 .1), one-choices d vs (l .choices)))
 
 module _ {s : List ℕ} {c : Look} {y : Table × Table} where
-  pub truths-none : (a : Look) {i : ℕ} {h : Head} → (c .code ≡ 46 → ⊥) → h ≡ head-of a i 0 0
+  pub truths-none : (a : Look) {i : ℕ} {h : Head} → (c .code ≡ 47 → ⊥) → h ≡ head-of a i 0 0
       → Walks Fill 0 (boolean-range ▸ ∎) (λ w m. (i j : ℕ) → Listed h false w (m .0 i j .span) (m .0 i j .values)) s c c y y
   unfolding means absent
   truths-none a {h} n e =
@@ -267,7 +281,7 @@ module _ {s : List ℕ} {c : Look} {y : Table × Table} where
         };
       }
 
-  pub parameters-none : (x : Under) → (c .code ≡ 44 → ⊥) → Walks Fill 0 (P ▸ ∎) (λ w m. Rows x w (m .0)) s c c y y
+  pub parameters-none : (x : Under) → (c .code ≡ 45 → ⊥) → Walks Fill 0 (P ▸ ∎) (λ w m. Rows x w (m .0)) s c c y y
   unfolding means Rows entries choices map-cells
   parameters-none x h =
       record {
@@ -281,7 +295,7 @@ module _ {s : List ℕ} {c : Look} {y : Table × Table} where
   definition-none x m e = record { what = ([], []); does = (wrote-none, wrote-none); fills = record { meets = m; told = λ k. refused c e k } }
 
 module _ {s : List ℕ} {c f j l : Look} {x y z : Table × Table} where
-  pub truths-there : (a : Look) {e₁ e₂ e₃ e₄ e₅ e₆ e₇ e₈ i v w extent : ℕ} {h : Head} {g o k p q r : Look} → c .code ≡ 46 → f ≡ advanced s c → Meets e₁ (the TRUE · ∎) s f g
+  pub truths-there : (a : Look) {e₁ e₂ e₃ e₄ e₅ e₆ e₇ e₈ i v w extent : ℕ} {h : Head} {g o k p q r : Look} → c .code ≡ 47 → f ≡ advanced s c → Meets e₁ (the TRUE · ∎) s f g
       → v ≡ f .next - f .at → Walks Fill e₂ (P ▸ ∎) (λ w m. Rows (record { at = f .at; len = v; list = f .at }) w (m .0)) s g p x y → Meets e₃ (D ▸ ∎) s p q
       → Meets e₄ (sg comma · ∎) s q j → Meets e₅ (the FALSE · ∎) s j k → w ≡ j .next - j .at
       → Walks Fill e₆ (P ▸ ∎) (λ u m. Rows (record { at = j .at; len = w; list = f .at }) u (m .0)) s k o y z → Meets e₇ (D ▸ ∎) s o l → Meets e₈ (sg rsquare · ∎) s l r
@@ -324,11 +338,11 @@ module _ {s : List ℕ} {c f j l : Look} {x y z : Table × Table} where
       }
 
 module _ {s : List ℕ} {a : Look} {y z : Table × Table} where
-  pub parameters-there : (x : Under) {e e′ : ℕ} {b c r : Look} → a .code ≡ 44 → b ≡ advanced s a → Walks Fill e (definitions ▸ ∎) (λ w m. Rows x w (m .0)) s b c y z
+  pub parameters-there : (x : Under) {e e′ : ℕ} {b c r : Look} → a .code ≡ 45 → b ≡ advanced s a → Walks Fill e (definitions ▸ ∎) (λ w m. Rows x w (m .0)) s b c y z
       → Meets e′ (sg rbrace · ∎) s c r → Walks Fill 0 (P ▸ ∎) (λ w m. Rows x w (m .0)) s a r y z
   unfolding means front-of behind matches classAt
   parameters-there x h p w m =
-      let f = plain (sg lbrace · ∎) (take (sg lbrace) {s = s} {a = a} (at-code (matches (sg lbrace)) 44 tt h) p) ▻ w .fills ▻ plain (sg rbrace · ∎) m in
+      let f = plain (sg lbrace · ∎) (take (sg lbrace) {s = s} {a = a} (at-code (matches (sg lbrace)) 45 tt h) p) ▻ w .fills ▻ plain (sg rbrace · ∎) m in
       record {
         what = w .what;
         does = w .does;
@@ -373,12 +387,12 @@ module _ {s : List ℕ} {a : Look} {x y z : Table × Table} where
       let ds = m .1 .0 i″ j″ in
       (rows-defining d vs ds v (u .list) ∙ ap₂ _++_ (q v st i j .0) (r v st i″ j″ .0), choices-defining d vs ds ∙ ap₂ _++_ (q v st i j .1) (r v st i″ j″ .1)))
 
-  pub enumerators-on : (k : ℕ) {b o r : Look} → Going then Fill enumerators (ValueRows k) s o a x y → a .code ≡ 51 → b ≡ advanced s a
+  pub enumerators-on : (k : ℕ) {b o r : Look} → Going then Fill enumerators (ValueRows k) s o a x y → a .code ≡ 52 → b ≡ advanced s a
       → Walks Fill 1 (enumerator ▸ ∎) (λ w m. EnumeratorRows s b k w (m .0)) s b r y z → Going then Fill enumerators (ValueRows k) s o r x z
   unfolding means first-value front-of behind matches classAt ValueRows EnumeratorRows
   enumerators-on k g h p w =
       going-on tables (ValueRows k) (sg comma · enumerator ▸ ∎) an-enumerator g (enumerators-again (g .still) h (enumerators-item h p (w .fills .meets))) (w .does)
-      (plain (sg comma · ∎) (take (sg comma) {s = s} {a = a} (at-code (matches (sg comma)) 51 tt h) p) ▻ w .fills)
+      (plain (sg comma · ∎) (take (sg comma) {s = s} {a = a} (at-code (matches (sg comma)) 52 tt h) p) ▻ w .fills)
       (λ m more q r i j.
       let v = m .1 .0 i j in
       let i″ = i + definitions-in (v .under) in
@@ -397,7 +411,7 @@ module _ {s : List ℕ} {a : Look} {x y : Table × Table} where
 module _ {s : List ℕ} {a c f g : Look} {y y₁ y₂ z t t₁ t₂ : Table} where
   pub enum-defined : (x : Under) {e₁ e₂ e₃ e₄ e₅ i extent : ℕ} {h : Head} {b o p r : Look} → a .code ≡ 41 → b ≡ advanced s a → Fills e₁ (auto ▸ ∎) s b c (λ m. bit (m .0) ≡ i)
       → Meets e₂ (sg lsquare · ∎) s c f → Walks Fill e₃ (enumerator ▸ ∎) (λ w m. EnumeratorRows s f (f .at) w (m .0)) s f o (y, t) (y₁, t₁)
-      → Going then Fill enumerators (ValueRows (f .at)) s o g (y₁, t₁) (y₂, t₂) → (g .code ≡ 51 → ⊥) → Meets e₄ (sg rsquare · ∎) s g p
+      → Going then Fill enumerators (ValueRows (f .at)) s o g (y₁, t₁) (y₂, t₂) → (g .code ≡ 52 → ⊥) → Meets e₄ (sg rsquare · ∎) s g p
       → extent ≡ (g .at + (g .next - g .at)) - c .at → h ≡ list-head a i (c .at) extent (f .at) 0 0 0
       → Walks (Puts 19) e₅ (name · mark ▸ default enums ▸ D ▸ sg semicolon · ∎) (λ w m. Named x h w (m .0) (m .1 .0) (m .1 .1 .0)) s p r y₂ z
       → Walks Fill 1 (definition ▸ ∎) (λ w m. Rows x w (λ i j. one (m .0 i j))) s a r (y, t) (z, t₂)

@@ -7,7 +7,7 @@ use Prim.Native.Nat.{ℕ, _+_, _-_, _*_, min}
 use lib.ListN.{length}
 use lib.Seq.{sets}
 use Rattle.token.specs.Find.{bit}
-use Rattle.grammar.specs.Grammar.{Form, Token, Trees, nil, leaf, node, tokens, _⟶_, _·_, _▸_, ∎, matches, name, number, the, sg, WITH-AUTO, lsquare, rsquare, equals, semicolon, comma, Sort, integers, strings, booleans, enums, D, auto, mark, integer-range, numbers, default, own, no-auto, with-auto, no-mark, a-mark, no-range, a-range, a-list, no-number, a-number, no-default, a-default, own-auto, own-none, own-number, own-string, own-true, own-false, own-name}
+use Rattle.grammar.specs.Grammar.{Form, Token, Trees, nil, leaf, node, tokens, _⟶_, _·_, _▸_, ∎, matches, name, number, float, the, sg, WITH-AUTO, lsquare, rsquare, equals, semicolon, comma, dots, Sort, integers, strings, booleans, enums, floats, D, auto, mark, integer-range, float-range, numbers, default, own, no-auto, with-auto, no-mark, a-mark, no-range, a-range, a-list, no-float-range, a-float-range, no-number, a-number, no-default, a-default, own-auto, own-none, own-number, own-string, own-true, own-false, own-name, own-float}
 use Rattle.grammar.specs.Factored.{span, _⟹_, one-number, up-to, many-numbers}
 use Rattle.grammar.specs.Machine.{Stream, prepend}
 use Rattle.grammar.specs.Readers.{classAt, rest, advanced, expected, Took, Reads, Meets}
@@ -16,8 +16,8 @@ use Rattle.grammar.proofs.Codes.{at-code}
 use Rattle.grammar.proofs.Steps.{prepend-append}
 use Rattle.grammar.proofs.Literal.{lifted, from, tokens-from}
 use Rattle.grammar.proofs.Meeting.{_⊳_, take}
-use Rattle.grammar.proofs.Terminals.{number-is, rsquare-is}
-use Rattle.grammar.proofs.Rules.{auto-pass, auto-is, mark-pass, mark-is, range-pass, range-by, default-pass, default-is, lsquare-taken}
+use Rattle.grammar.proofs.Terminals.{number-is, float-is, dots-is, rsquare-is}
+use Rattle.grammar.proofs.Rules.{auto-pass, auto-is, mark-pass, mark-is, range-pass, range-by, float-range-pass, float-range-by, default-pass, default-is, lsquare-taken}
 use Rattle.meaning.specs.Syntax.{Span, absent, span-of, span-or, through}
 use Rattle.meaning.specs.Actions.{word-of, means, meaning}
 use Rattle.layout.specs.Kept.{default-code}
@@ -40,6 +40,7 @@ own-told {s} strings a b (node own-string (leaf t m nil) nil) q = record { trees
 own-told {s} booleans a b (node own-true (leaf t m nil) nil) q = record { trees = node own-true (leaf t m nil) nil; split = q; holds = is-first s a t [] (rest s b) q }
 own-told {s} booleans a b (node own-false (leaf t m nil) nil) q = record { trees = node own-false (leaf t m nil) nil; split = q; holds = is-first s a t [] (rest s b) q }
 own-told {s} enums a b (node own-name (leaf t m nil) nil) q = record { trees = node own-name (leaf t m nil) nil; split = q; holds = is-first s a t [] (rest s b) q }
+own-told {s} floats a b (node own-float (leaf t m nil) nil) q = record { trees = node own-float (leaf t m nil) nil; split = q; holds = is-first s a t [] (rest s b) q }
 
 module _ {s : List ℕ} {a : Look} where
   pub auto-none : (a .code ≡ 5 → ⊥) → Fills 0 (auto ▸ ∎) s a a (λ m. bit (m .0) ≡ 0)
@@ -52,33 +53,33 @@ module _ {s : List ℕ} {a : Look} where
       let f = plain (the WITH-AUTO · ∎) (take (the WITH-AUTO) {s = s} {a = a} (at-code (matches (the WITH-AUTO)) 5 tt h) p) in
       record { meets = auto-is h p; told = λ k. told-rule (λ m. bit m ≡ 1) with-auto (told-map (λ m q. refl) (f .told k)) }
 
-  pub mark-none : (a .code ≡ 46 → ⊥) → Fills 0 (mark ▸ ∎) s a a (λ m. bit (m .0) ≡ 0)
+  pub mark-none : (a .code ≡ 47 → ⊥) → Fills 0 (mark ▸ ∎) s a a (λ m. bit (m .0) ≡ 0)
   unfolding means bit
   mark-none h = record { meets = mark-pass h; told = λ k. told-none (λ m. bit m ≡ 0) no-mark refl }
 
-  pub mark-there : {b c : Look} → a .code ≡ 46 → b ≡ advanced s a → c ≡ expected s b 47 → Fills 0 (mark ▸ ∎) s a c (λ m. bit (m .0) ≡ 1)
+  pub mark-there : {b c : Look} → a .code ≡ 47 → b ≡ advanced s a → c ≡ expected s b 48 → Fills 0 (mark ▸ ∎) s a c (λ m. bit (m .0) ≡ 1)
   unfolding means bit
   mark-there h p q =
       let f = plain (sg lsquare · sg rsquare · ∎) (lsquare-taken h p ⊳ rsquare-is q) in
       record { meets = mark-is h p q; told = λ k. told-rule (λ m. bit m ≡ 1) a-mark (told-map (λ m q. refl) (f .told k)) }
 
-  pub range-none : (a .code ≡ 46 → ⊥) → Fills 0 (integer-range ▸ ∎) s a a (λ m. Spanned (m .0 .span) 0 0)
+  pub range-none : (a .code ≡ 47 → ⊥) → Fills 0 (integer-range ▸ ∎) s a a (λ m. Spanned (m .0 .span) 0 0)
   unfolding means absent
   range-none h = record { meets = range-pass h; told = λ k. told-none (λ m. Spanned (m .span) 0 0) no-range (refl, refl) }
 
   own-first : (x : Sort) {e : ℕ} {b : Look} → Meets e (own x ▸ ∎) s a b → Fills e (own x ▸ ∎) s a b (λ m. Seen s a (m .0))
   own-first x {b} m = record { meets = m; told = λ h. let w = told-took {s = s} (own x ▸ ∎) (m .took h .1) in own-told x a b (w .trees) (w .split) }
 
-  pub default-none : (x : Sort) → (a .code ≡ 48 → ⊥) → Fills 0 (default x ▸ ∎) s a a (λ m. Defaulted (m .0) 0 0 0)
+  pub default-none : (x : Sort) → (a .code ≡ 49 → ⊥) → Fills 0 (default x ▸ ∎) s a a (λ m. Defaulted (m .0) 0 0 0)
   unfolding means span-or absent default-code
   default-none x h = record { meets = default-pass x h; told = λ k. told-none (λ m. Defaulted m 0 0 0) no-default (refl, refl, refl) }
 
 module _ {s : List ℕ} {a b : Look} where
-  pub default-there : (x : Sort) {c : Look} {n : ℕ} → a .code ≡ 48 → b ≡ advanced s a → Meets 1 (own x ▸ ∎) s b c → n ≡ b .next - b .at
+  pub default-there : (x : Sort) {c : Look} {n : ℕ} → a .code ≡ 49 → b ≡ advanced s a → Meets 1 (own x ▸ ∎) s b c → n ≡ b .next - b .at
       → Fills 0 (default x ▸ ∎) s a c (λ m. Defaulted (m .0) (b .at) n (b .code))
   unfolding means span-or span-of default-code classAt matches front-of behind
   default-there x {n} h p m e =
-      let f = plain (sg equals · ∎) (take (sg equals) {s = s} {a = a} (at-code (matches (sg equals)) 48 tt h) p) ▻ own-first x m in
+      let f = plain (sg equals · ∎) (take (sg equals) {s = s} {a = a} (at-code (matches (sg equals)) 49 tt h) p) ▻ own-first x m in
       record {
         meets = default-is x h p m;
         told = λ k.
@@ -121,7 +122,7 @@ range-parts {s} a b d e (leaf o i nil) p x w (leaf c j nil) q y k =
     (range-told o c i j (w .took) (p ∙ ap (λ u. prepend (o ∷ []) u) (w .split ∙ ap (prepend (tokens (w .took))) q ∙ sym (prepend-append (tokens (w .took)) (c ∷ []) (rest s e)))))
 
 module _ {s : List ℕ} {a b c d : Look} where
-  pub range-there : {e : Look} {n : ℕ} → a .code ≡ 46 → b ≡ advanced s a → c ≡ expected s b 42 → Reads 0 (span ▸ ∎) s c d → e ≡ expected s d 47
+  pub range-there : {e : Look} {n : ℕ} → a .code ≡ 47 → b ≡ advanced s a → c ≡ expected s b 43 → Reads 0 (span ▸ ∎) s c d → e ≡ expected s d 48
       → n ≡ (d .at + (d .next - d .at)) - a .at → Fills 0 (integer-range ▸ ∎) s a e (λ m. Spanned (m .0 .span) (a .at) n)
   range-there {e} h p q m r k =
       let x = lsquare-taken {s = s} {a = a} h p in
@@ -134,6 +135,31 @@ module _ {s : List ℕ} {a b c d : Look} where
             let o = y .took (z .took i .0) in
             let g = first (sg lsquare) x .told (o .0) in
             range-parts a b d e (g .trees) (g .split) (g .holds) (o .1) (f .trees) (f .split) (f .holds) k;
+      }
+
+-- The range of a float.
+module _ {s : List ℕ} {a : Look} where
+  pub float-range-none : (a .code ≡ 47 → ⊥) → Fills 0 (float-range ▸ ∎) s a a (λ m. Spanned (m .0 .span) 0 0)
+  unfolding means absent
+  float-range-none h = record { meets = float-range-pass h; told = λ k. told-none (λ m. Spanned (m .span) 0 0) no-float-range (refl, refl) }
+
+  pub float-range-there : {b c d e f : Look} {n : ℕ} → a .code ≡ 47 → b ≡ advanced s a → c ≡ expected s b 54 → d ≡ expected s c 53 → e ≡ expected s d 54
+      → f ≡ expected s e 48 → n ≡ (e .at + (e .next - e .at)) - a .at → Fills 0 (float-range ▸ ∎) s a f (λ m. Spanned (m .0 .span) (a .at) n)
+  unfolding means through front-of behind
+  float-range-there {e} {n} h p q r t u k =
+      let y = float-is {s = s} q ⊳ dots-is {s = s} r ⊳ float-is {s = s} t in
+      let z = rsquare-is {s = s} {a = e} u in
+      let g = first (sg lsquare) (lsquare-taken {s = s} {a = a} h p) ▻ plain (float · sg dots · float · ∎) y ▻ first (sg rsquare) z in
+      record {
+        meets = float-range-by h p (y ⊳ z);
+        told = λ i.
+            told-rule (λ m. Spanned (m .span) (a .at) n) a-float-range
+            (told-as (g .told i) (λ m w. (
+              seen-place (w .0),
+              ap₂ (λ (i j : ℕ). (i + j) - m .0 .place) (seen-place (w .1 .1)) (seen-length (w .1 .1))
+                  ∙ ap (λ (i : ℕ). (e .at + (e .next - e .at)) - i) (seen-place (w .0))
+                  ∙ sym k,
+            )));
       }
 
 -- A definition from its name on.
@@ -178,6 +204,25 @@ module _ {s : List ℕ} {a : Look} {y z : List ℕ × ℕ} where
       (λ w m. Named x (head-of t (bit (m .0)) (m .1 .0 .span .place) (m .1 .0 .span .length)) w (m .1 .1 .0) (m .1 .1 .1 .0) (m .1 .1 .1 .1 .0)) s a f y z
   unfolding Named row-of front-of behind
   integer-walks x t {i} {p} u r g w =
+      record {
+        what = w .what;
+        does = w .does;
+        fills = fills-map (u ▻ r ▻ w .fills)
+            (λ m v. ap (λ (k : Head). row-of x k (m .1 .1 .0) (m .1 .1 .1 .0) (m .1 .1 .1 .1 .0) ∷ [])
+            (ap (λ (k : ℕ). head-of t k (m .1 .0 .span .place) (m .1 .0 .span .length)) (v .0)
+            ∙ ap (λ (k : ℕ). head-of t i k (m .1 .0 .span .length)) (v .1 .0 .0)
+            ∙ ap (λ (k : ℕ). head-of t i p k) (v .1 .0 .1)
+            ∙ sym g)
+            ∙ v .1 .1);
+      }
+
+  pub float-walks : (x : Under) (t : Look) {h : Head} {b c f : Look} {i p q : ℕ} → Fills 0 (auto ▸ ∎) s a b (λ m. bit (m .0) ≡ i)
+      → Fills 0 (float-range ▸ ∎) s b c (λ m. Spanned (m .0 .span) p q) → h ≡ head-of t i p q
+      → Walks (Puts 19) 1 (name · mark ▸ default floats ▸ D ▸ sg semicolon · ∎) (λ w m. Named x h w (m .0) (m .1 .0) (m .1 .1 .0)) s c f y z
+      → Walks (Puts 19) 0 (auto ▸ float-range ▸ name · mark ▸ default floats ▸ D ▸ sg semicolon · ∎)
+      (λ w m. Named x (head-of t (bit (m .0)) (m .1 .0 .span .place) (m .1 .0 .span .length)) w (m .1 .1 .0) (m .1 .1 .1 .0) (m .1 .1 .1 .1 .0)) s a f y z
+  unfolding Named row-of front-of behind
+  float-walks x t {i} {p} u r g w =
       record {
         what = w .what;
         does = w .does;

@@ -2,7 +2,7 @@
 ghost use mathlib.Core.Path.{_≡_};
 ghost use mathlib.Core.Option.{none};
 ghost use Rattle.token.specs.Find.{bit};
-ghost use Rattle.grammar.specs.Grammar.{_·_, _▸_, ∎, sg, semicolon, name, D, auto, mark, integer-range, default, integers, strings};
+ghost use Rattle.grammar.specs.Grammar.{_·_, _▸_, ∎, sg, semicolon, name, D, auto, mark, integer-range, float-range, default, integers, strings, floats};
 ghost use Rattle.grammar.specs.Readers.{sortAt};
 ghost use Rattle.filling.specs.Fills.{Fills, Walks};
 ghost use Rattle.definitions.specs.Rows.{Puts, Named, head-of, list-head};
@@ -15,7 +15,9 @@ use super::Ranged;
 use super::Under;
 use grammar::Look;
 use grammar::lookahead;
+use grammar::lookahead::DOTS;
 use grammar::lookahead::EQUALS;
+use grammar::lookahead::FLOATING;
 use grammar::lookahead::LSQUARE;
 use grammar::lookahead::NUMERAL;
 use grammar::lookahead::RSQUARE;
@@ -63,6 +65,30 @@ pub fn range(text: &[u8], a: Look) -> Ranged
     let len = filling::through(a.at, d);
     Ranged {
         look: e,
+        at: a.at,
+        len: len,
+    }
+}
+
+// The range of a float.
+pub fn float_range(text: &[u8], a: Look) -> Ranged
+    ensures { λ r. ⌜ Fills 0 (float-range ▸ ∎) (now (text .entry)) a (r .look) (λ m. Spanned (m .0 .span) (r .at) (r .len)) ⌝ }
+{
+    if a.code != LSQUARE {
+        return Ranged {
+            look: a,
+            at: 0,
+            len: 0,
+        };
+    }
+    let b = lookahead::advance(text, a);
+    let c = lookahead::expect(text, b, FLOATING);
+    let d = lookahead::expect(text, c, DOTS);
+    let e = lookahead::expect(text, d, FLOATING);
+    let f = lookahead::expect(text, e, RSQUARE);
+    let len = filling::through(a.at, e);
+    Ranged {
+        look: f,
         at: a.at,
         len: len,
     }
@@ -234,4 +260,14 @@ pub fn string(text: &[u8], d: &mut [usize], t: Look, a: Look, n: usize, under: U
     let b = auto(text, a);
     let h = head(t, b.bit, 0, 0);
     named(text, d, b.look, n, under, h, 1)
+}
+
+// A float behind its type.
+pub fn float(text: &[u8], d: &mut [usize], t: Look, a: Look, n: usize, under: Under) -> Put
+    ensures { λ r. ⌜ Walks (Puts 19) 0 (auto ▸ float-range ▸ name · mark ▸ default floats ▸ D ▸ sg semicolon · ∎) (λ w m. Named under (head-of t (bit (m .0)) (m .1 .0 .span .place) (m .1 .0 .span .length)) w (m .1 .1 .0) (m .1 .1 .1 .0) (m .1 .1 .1 .1 .0)) (now (text .entry)) a (r .look) (now (d .entry), n) (now (d .exit), r .n) ⌝ }
+{
+    let b = auto(text, a);
+    let c = float_range(text, b.look);
+    let h = head(t, b.bit, c.at, c.len);
+    named(text, d, c.look, n, under, h, 4)
 }

@@ -10,6 +10,7 @@ use grammar::lookahead::BOOLEAN;
 use grammar::lookahead::COMMA;
 use grammar::lookahead::ENUM;
 use grammar::lookahead::FALSE;
+use grammar::lookahead::FLOAT;
 use grammar::lookahead::LBRACE;
 use grammar::lookahead::LSQUARE;
 use grammar::lookahead::RBRACE;
@@ -265,6 +266,16 @@ pub fn definition(
     if lookahead::is_type(code) {
         let b = lookahead::advance(text, a);
         let x = attributes::reference(text, d, a, b, n, under);
+        let y = x.look;
+        return Spot {
+            look: y,
+            definitions: x.n,
+            enumerators: m,
+        };
+    }
+    if code == FLOAT {
+        let b = lookahead::advance(text, a);
+        let x = attributes::float(text, d, a, b, n, under);
         let y = x.look;
         return Spot {
             look: y,

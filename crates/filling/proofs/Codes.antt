@@ -18,11 +18,11 @@ use Rattle.meaning.specs.Actions.{word-of, kind-of}
 use Rattle.layout.specs.Kept.{class-number, given-number, sign-number, code-of}
 use Rattle.filling.specs.Fills.{Seen}
 
-pub class-back : (n : ℕ) → n < 54 → class-number (classAt n) ≡ n
+pub class-back : (n : ℕ) → n < 56 → class-number (classAt n) ≡ n
 unfolding class-number integer-code given-number sign-number kind-number classAt
 class-back n h =
     eqb-true (class-number (classAt n)) n
-    (T-true {b = eqb (class-number (classAt n)) n} (below (λ m. eqb (class-number (classAt m)) m) 54 tt n h))
+    (T-true {b = eqb (class-number (classAt n)) n} (below (λ m. eqb (class-number (classAt m)) m) 56 tt n h))
 
 module _ {s : List ℕ} {a : Look} {w : Word} (q : Seen s a w) where
   pub seen-code : code-of w ≡ a .code
@@ -39,11 +39,11 @@ module _ {s : List ℕ} {a : Look} {w : Word} (q : Seen s a w) where
 
 -- Kinds ----------------------------------------------------------------------------------------------------------------------------------
 
-kind-code : (n : ℕ) → n < 54 → matches kind (classAt n) ≡ true → kind-number (kind-of (classAt n)) ≡ n - 9
+kind-code : (n : ℕ) → n < 56 → matches kind (classAt n) ≡ true → kind-number (kind-of (classAt n)) ≡ n - 9
 unfolding matches classAt kind-of kind-number
 kind-code n h e =
     let t = T-true {b = pick (matches kind (classAt n)) (eqb (kind-number (kind-of (classAt n))) (n - 9)) true}
-    (below (λ m. pick (matches kind (classAt m)) (eqb (kind-number (kind-of (classAt m))) (m - 9)) true) 54 tt n h) in
+    (below (λ m. pick (matches kind (classAt m)) (eqb (kind-number (kind-of (classAt m))) (m - 9)) true) 56 tt n h) in
     eqb-true (kind-number (kind-of (classAt n))) (n - 9) (sym (ap (λ (b : Bool). pick b (eqb (kind-number (kind-of (classAt n))) (n - 9)) true) e) ∙ t)
 
 pub kind-seen : {s : List ℕ} {a : Look} {w : Word} → Seen s a w → matches kind (w .class) ≡ true → kind-number (kind-of (w .class)) ≡ a .code - 9

@@ -116,12 +116,12 @@ pub is-first : (s : List ℕ) (a : Look) (t : Token) (l : List Token) (v : Strea
 unfolding rest restBy prepend head-or begun
 is-first s a t l v q =
     record {
-      word = ap (word-of s) (sym (ap (head-or (seen a)) q) ∙ head-rest s a (ltb (a .code) 54));
-      low = low (ltb (a .code) 54) refl (ap begun q);
+      word = ap (word-of s) (sym (ap (head-or (seen a)) q) ∙ head-rest s a (ltb (a .code) 56));
+      low = low (ltb (a .code) 56) refl (ap begun q);
     }
   where
-    low : (b : Bool) → ltb (a .code) 54 ≡ b → begun (restBy b s a) ≡ true → a .code < 54
-    low true e h = ltb-true (a .code) 54 e
+    low : (b : Bool) → ltb (a .code) 56 ≡ b → begun (restBy b s a) ≡ true → a .code < 56
+    low true e h = ltb-true (a .code) 56 e
     low false e h = absurd (false≢true h)
 
 pub first : {e : ℕ} (t : Terminal) {s : List ℕ} {a b : Look} → Meets e (t · ∎) s a b → Fills e (t · ∎) s a b (λ m. Seen s a (m .0))
@@ -141,13 +141,13 @@ matched t {s} {a} {b} m = record { meets = m; told = λ h. let w = told-took {s 
     go (leaf u e ts) q = record { trees = leaf u e ts; split = q; holds = (is-first s a u (tokens ts) (rest s b) q, e) }
 
 -- A refusal is told nothing of.
-pub refused : {s : List ℕ} {f : Form} (a : Look) {r : Look} {u v : Stream} {Q : Parts f → Type 0} → r ≡ refusal a → r .code ≤ 54 → Told s f u v Q
+pub refused : {s : List ℕ} {f : Form} (a : Look) {r : Look} {u v : Stream} {Q : Parts f → Type 0} → r ≡ refusal a → r .code ≤ 56 → Told s f u v Q
 unfolding refusal
-refused a e k = absurd (go (leb (a .code) 54) refl (rw e at k))
+refused a e k = absurd (go (leb (a .code) 56) refl (rw e at k))
   where
-    go : (b : Bool) → leb (a .code) 54 ≡ b → pick b (record { code = 58; at = a .at; next = a .next; depth = a .depth }) a .code ≤ 54 → ⊥
+    go : (b : Bool) → leb (a .code) 56 ≡ b → pick b (record { code = 60; at = a .at; next = a .next; depth = a .depth }) a .code ≤ 56 → ⊥
     go true q k = omega arith
-    go false q k = let h = leb-false (a .code) 54 q in omega arith
+    go false q k = let h = leb-false (a .code) 56 q in omega arith
 
 -- Lists, read by a loop ------------------------------------------------------------------------------------------------------------------
 

@@ -12,7 +12,7 @@ use Rattle.meaning.specs.Actions.{M, Parts, word-of, meaning}
 -- The word w of the text s is that of the token that is seen.
 pub record Seen (s : List ℕ) (a : Look) (w : Word) : Type 0 where
   pub word : w ≡ word-of s (seen a)
-  pub low : a .code < 54
+  pub low : a .code < 56
 
 -- The tokens of u before v are those of trees of the form f over the text s, whose meaning has Q.
 pub record Told (s : List ℕ) (f : Form) (u v : Stream) (Q : Parts f → Type 0) : Type 0 where
@@ -23,7 +23,7 @@ pub record Told (s : List ℕ) (f : Form) (u v : Stream) (Q : Parts f → Type 0
 -- A reader of the form f that, where it ends in no refusal, has read trees whose meaning has Q.
 pub record Fills (e : ℕ) (f : Form) (s : List ℕ) (a b : Look) (Q : Parts f → Type 0) : Type 0 where
   pub meets : Meets e f s a b
-  pub told : b .code ≤ 54 → Told s f (rest s a) (rest s b) Q
+  pub told : b .code ≤ 56 → Told s f (rest s a) (rest s b) Q
 
 -- A reader of the form f that has done something to the state x; where it ends in no refusal, Q says what by the meaning of what it read.
 pub record Walks {W S : Type 0} (Does : S → W → S → Type 0) (e : ℕ) (f : Form) (Q : W → Parts f → Type 0) (s : List ℕ) (a b : Look) (x y : S) : Type 0 where
@@ -36,7 +36,7 @@ pub record Going {W S : Type 0} (then : W → W → W) (Does : S → W → S →
   pub what : W
   pub does : Does x what y
   pub still : Still r s a b
-  pub wraps : b .code ≤ 54 → (v : Stream) (more : W) → Told s (r ▸ ∎) (rest s b) v (λ m. Q more (m .0))
+  pub wraps : b .code ≤ 56 → (v : Stream) (more : W) → Told s (r ▸ ∎) (rest s b) v (λ m. Q more (m .0))
       → Told s (r ▸ ∎) (rest s a) v (λ m. Q (then what more) (m .0))
 
 -- What can be done, one thing after another.

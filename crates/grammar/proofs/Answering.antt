@@ -24,9 +24,9 @@ answer-is : (s : List ℕ) (a : Look) → on s a ∎ ≡ answerOf a
 unfolding answerOf refusalOf run next at-end nullable-form feed seen
 answer-is s a =
     by-look s a (λ o. o ∎ ≡ answerOf a)
-    (λ h. rw (ne-eqb (a .code) 54 (λ e. omega arith), lt-ltb (a .code) 54 h) refl)
-    (λ e. rw (eq-eqb (a .code) 54 e) refl)
-    (λ h. rw (ne-eqb (a .code) 54 (λ e. omega arith), le-ltb (a .code) 54 (omega arith)) refl)
+    (λ h. rw (ne-eqb (a .code) 56 (λ e. omega arith), lt-ltb (a .code) 56 h) refl)
+    (λ e. rw (eq-eqb (a .code) 56 e) refl)
+    (λ h. rw (ne-eqb (a .code) 56 (λ e. omega arith), le-ltb (a .code) 56 (omega arith)) refl)
 
 -- The stage is the run of the whole text.
 pub stage-runs : (s : List ℕ) (a b : Look) (r : Answer) → a ≡ lookAt s 0 0 → Meets 1 (file ▸ ∎) s a b → r ≡ answerOf b

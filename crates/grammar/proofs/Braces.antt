@@ -3,7 +3,7 @@ use mathlib.Core.Path.{_≡_, refl, sym, ap}
 use mathlib.Core.Bool.{Bool, true, false, _&&_, _||_, not, false≢true}
 use Prim.Native.Nat.{ℕ}
 use lib.Dec.{eqb, eqb→eq, T}
-use Rattle.grammar.specs.Grammar.{Terminal, Class, Kind, Integer, matches, sg, lbrace, rbrace, code, given-code, sign-code, is-name, name, number, string, kind, type, integer, the}
+use Rattle.grammar.specs.Grammar.{Terminal, Class, Kind, Integer, matches, sg, lbrace, rbrace, code, given-code, sign-code, is-name, name, number, string, float, kind, type, integer, the}
 use Rattle.grammar.proofs.Choices.{all, classes, every-class}
 
 unfoldable pub terminal-code : Terminal → ℕ
@@ -11,6 +11,7 @@ unfolding given-code sign-code
 terminal-code name = 99
 terminal-code number = 1
 terminal-code string = 2
+terminal-code float = 6
 terminal-code kind = 3
 terminal-code type = 4
 terminal-code integer = 5
@@ -49,6 +50,7 @@ unfolding matches terminal-code is-plain
 agree name c h = name-plain (is-name c) (eqb 30 (code c)) (eqb 31 (code c)) (every-class is-plain plain-all c) h
 agree number c h = same-code 1 (code c) h
 agree string c h = same-code 2 (code c) h
+agree float c h = same-code 6 (code c) h
 agree kind c h = same-code 3 (code c) h
 agree type c h = same-code 4 (code c) h
 agree integer c h = same-code 5 (code c) h

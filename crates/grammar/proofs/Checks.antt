@@ -2,7 +2,7 @@
 use mathlib.Core.Path.{_≡_, refl}
 use mathlib.Core.List.{List, [], _∷_}
 use mathlib.Core.Bool.{Bool, true, false, _&&_, _||_, not}
-use Rattle.grammar.specs.Grammar.{Terminal, Class, Kind, Integer, tok, rule, matches, file, version, implementation, specs, spec, definitions, definition, attribute, reference, D, P, auto, mark, integer-range, numbers, boolean-range, enumerator, enumerators, default, own, application, objects, object, block, statements, statement, value, integers, strings, booleans, enums, name, kind, type, integer, the, sg, IMPLEMENTATION, CPU, STRING, BOOLEAN, ENUM, rbrace, lsquare, rsquare, equals, semicolon, colon, comma}
+use Rattle.grammar.specs.Grammar.{Terminal, Class, Kind, Integer, tok, rule, matches, file, version, implementation, specs, spec, definitions, definition, attribute, reference, D, P, auto, mark, integer-range, numbers, boolean-range, float-range, enumerator, enumerators, default, own, application, objects, object, block, statements, statement, value, integers, strings, booleans, enums, floats, name, kind, type, integer, the, sg, IMPLEMENTATION, CPU, STRING, BOOLEAN, ENUM, FLOAT, rbrace, lsquare, rsquare, equals, semicolon, colon, comma}
 use Rattle.grammar.specs.Factored.{Nonterminal, paper, span, Symbols, Choice, by, choices}
 use Rattle.grammar.specs.Machine.{nullable, nullable-form, tries, begin, takes, starts}
 use Rattle.grammar.proofs.Choices.{all, nonterminals, classes, every-rule, every-class}
@@ -44,6 +44,9 @@ begin-is c (paper block) = refl
 begin-is c (paper statements) = refl
 begin-is c (paper statement) = refl
 begin-is c (paper value) = refl
+begin-is c (paper float-range) = refl
+begin-is c (paper (default floats)) = refl
+begin-is c (paper (own floats)) = refl
 
 -- At most one form of a rule takes a class.
 unfoldable pub none-takes : {x : Nonterminal} → List (Choice x) → Class → Bool
@@ -71,9 +74,9 @@ follow (paper implementation) = the CPU ∷ []
 follow (paper specs) = sg rbrace ∷ []
 follow (paper spec) = kind ∷ sg rbrace ∷ []
 follow (paper definitions) = sg rbrace ∷ []
-follow (paper definition) = integer ∷ the STRING ∷ the BOOLEAN ∷ the ENUM ∷ type ∷ sg rbrace ∷ []
-follow (paper attribute) = integer ∷ the STRING ∷ the BOOLEAN ∷ the ENUM ∷ type ∷ sg rbrace ∷ []
-follow (paper reference) = integer ∷ the STRING ∷ the BOOLEAN ∷ the ENUM ∷ type ∷ sg rbrace ∷ []
+follow (paper definition) = integer ∷ the STRING ∷ the BOOLEAN ∷ the ENUM ∷ the FLOAT ∷ type ∷ sg rbrace ∷ []
+follow (paper attribute) = integer ∷ the STRING ∷ the BOOLEAN ∷ the ENUM ∷ the FLOAT ∷ type ∷ sg rbrace ∷ []
+follow (paper reference) = integer ∷ the STRING ∷ the BOOLEAN ∷ the ENUM ∷ the FLOAT ∷ type ∷ sg rbrace ∷ []
 follow (paper D) = sg semicolon ∷ sg comma ∷ sg rsquare ∷ []
 follow (paper P) = sg colon ∷ sg comma ∷ sg rsquare ∷ []
 follow (paper auto) = sg lsquare ∷ name ∷ []
@@ -82,6 +85,7 @@ follow (paper integer-range) = name ∷ []
 follow span = sg rsquare ∷ []
 follow (paper numbers) = sg rsquare ∷ []
 follow (paper boolean-range) = name ∷ []
+follow (paper float-range) = name ∷ []
 follow (paper enumerator) = sg comma ∷ sg rsquare ∷ []
 follow (paper enumerators) = sg rsquare ∷ []
 follow (paper (default s)) = sg colon ∷ sg semicolon ∷ []

@@ -4,7 +4,7 @@ use mathlib.Core.List.{List, [], _∷_}
 use mathlib.Core.Bool.{Bool, true, false, _&&_, false≢true, Bool-set}
 use Prim.Native.Nat.{ℕ, zero, suc}
 use lib.ListN.{getD}
-use Rattle.grammar.specs.Grammar.{Form, Rule, _⟶_, Class, Kind, Integer, OS, UINT32, integers, strings, booleans, enums, file, version, implementation, specs, spec, definitions, definition, attribute, reference, D, P, auto, mark, integer-range, numbers, boolean-range, enumerator, enumerators, default, own, application, objects, object, block, statements, statement, value, file-is, version-is, implementation-is, no-spec, a-spec, spec-is, no-definition, a-definition, an-attribute, a-reference, an-integer, a-string, a-boolean, an-enum, reference-is, no-D, a-D, no-P, a-P, no-auto, with-auto, no-mark, a-mark, no-range, a-range, a-list, no-number, a-number, no-boolean-range, a-boolean-range, enumerator-is, no-enumerator, an-enumerator, no-default, a-default, own-auto, own-none, own-number, own-string, own-true, own-false, own-name, application-is, no-object, an-object, an-object-alone, an-object-with, no-block, a-block, no-statement, a-statement, statement-is, value-number, value-string, value-auto, value-name, value-true, value-false, ordinary, numeral, quoted, other, kind-word, type-word, integer-word, word, sign, OIL-VERSION, IMPLEMENTATION, CPU, STRING, BOOLEAN, ENUM, TRUE, FALSE, AUTO, NO-DEFAULT, WITH-AUTO, lbrace, rbrace, lsquare, rsquare, equals, semicolon, colon, comma, dots}
+use Rattle.grammar.specs.Grammar.{Form, Rule, _⟶_, Class, Kind, Integer, OS, UINT32, integers, strings, booleans, enums, floats, file, version, implementation, specs, spec, definitions, definition, attribute, reference, D, P, auto, mark, integer-range, numbers, boolean-range, float-range, enumerator, enumerators, default, own, application, objects, object, block, statements, statement, value, file-is, version-is, implementation-is, no-spec, a-spec, spec-is, no-definition, a-definition, an-attribute, a-reference, an-integer, a-string, a-boolean, an-enum, a-float, reference-is, no-D, a-D, no-P, a-P, no-auto, with-auto, no-mark, a-mark, no-range, a-range, a-list, no-number, a-number, no-boolean-range, no-float-range, a-boolean-range, a-float-range, enumerator-is, no-enumerator, an-enumerator, no-default, a-default, own-auto, own-none, own-number, own-string, own-true, own-false, own-name, own-float, application-is, no-object, an-object, an-object-alone, an-object-with, no-block, a-block, no-statement, a-statement, statement-is, value-number, value-string, value-float, value-auto, value-name, value-true, value-false, ordinary, numeral, quoted, floating, other, kind-word, type-word, integer-word, word, sign, OIL-VERSION, IMPLEMENTATION, CPU, STRING, BOOLEAN, ENUM, FLOAT, TRUE, FALSE, AUTO, NO-DEFAULT, WITH-AUTO, lbrace, rbrace, lsquare, rsquare, equals, semicolon, colon, comma, dots}
 use Rattle.grammar.specs.Factored.{Written, written, forms, Status, same, changed, status, is-same, kept, Nonterminal, paper, span, Symbols, _⟹_, keep, object-is, range-none, range-is, one-number, up-to, many-numbers, by, kept-choices, choices-by, choices}
 
 -- `In a l`: a is an element of l.
@@ -32,6 +32,7 @@ formed an-integer = here
 formed a-string = there here
 formed a-boolean = there (there here)
 formed an-enum = there (there (there here))
+formed a-float = there (there (there (there here)))
 formed reference-is = here
 formed no-D = here
 formed a-D = there here
@@ -48,6 +49,8 @@ formed no-number = here
 formed a-number = there here
 formed no-boolean-range = here
 formed a-boolean-range = there here
+formed no-float-range = here
+formed a-float-range = there here
 formed enumerator-is = here
 formed no-enumerator = here
 formed an-enumerator = there here
@@ -58,6 +61,7 @@ formed own-string = there (there here)
 formed own-true = there (there here)
 formed own-false = there (there (there here))
 formed own-name = there (there here)
+formed own-float = there (there here)
 formed application-is = here
 formed no-object = here
 formed an-object = there here
@@ -74,14 +78,17 @@ formed value-auto = there (there here)
 formed value-name = there (there (there here))
 formed value-true = there (there (there (there here)))
 formed value-false = there (there (there (there (there here))))
+formed value-float = there (there (there (there (there (there here)))))
 formed (own-auto {s = integers}) = here
 formed (own-auto {s = strings}) = here
 formed (own-auto {s = booleans}) = here
 formed (own-auto {s = enums}) = here
+formed (own-auto {s = floats}) = here
 formed (own-none {s = integers}) = there here
 formed (own-none {s = strings}) = there here
 formed (own-none {s = booleans}) = there here
 formed (own-none {s = enums}) = there here
+formed (own-none {s = floats}) = there here
 
 kept-listed : {x : Rule} {f : Form} {p : x ⟶ f} (e : kept x ≡ true) {ws : List (Written x)} → In (written p) ws → In (by (keep p e)) (kept-choices e ws)
 unfolding kept-choices
@@ -125,13 +132,14 @@ nonterminals =
     ∷ paper attribute ∷ paper reference ∷ paper D ∷ paper P ∷ paper auto ∷ paper mark ∷ paper integer-range
     ∷ paper numbers ∷ paper boolean-range ∷ paper enumerator ∷ paper enumerators ∷ paper (default integers) ∷ paper (default strings) ∷ paper (default booleans)
     ∷ paper (default enums) ∷ paper (own integers) ∷ paper (own strings) ∷ paper (own booleans) ∷ paper (own enums) ∷ paper application ∷ paper objects
-    ∷ paper object ∷ paper block ∷ paper statements ∷ paper statement ∷ paper value ∷ span ∷ []
+    ∷ paper object ∷ paper block ∷ paper statements ∷ paper statement ∷ paper value ∷ span
+    ∷ paper float-range ∷ paper (default floats) ∷ paper (own floats) ∷ []
 
 abbrev pub classes : Kind → Integer → List Class
 classes k i =
     ordinary ∷ numeral ∷ quoted ∷ other ∷ kind-word k ∷ type-word k ∷ integer-word i
     ∷ word OIL-VERSION ∷ word IMPLEMENTATION ∷ word CPU ∷ word STRING ∷ word BOOLEAN ∷ word ENUM ∷ word TRUE ∷ word FALSE ∷ word AUTO ∷ word NO-DEFAULT ∷ word WITH-AUTO
-    ∷ sign lbrace ∷ sign rbrace ∷ sign lsquare ∷ sign rsquare ∷ sign equals ∷ sign semicolon ∷ sign colon ∷ sign comma ∷ sign dots ∷ []
+    ∷ sign lbrace ∷ sign rbrace ∷ sign lsquare ∷ sign rsquare ∷ sign equals ∷ sign semicolon ∷ sign colon ∷ sign comma ∷ sign dots ∷ floating ∷ word FLOAT ∷ []
 
 rule-at : (Q : Nonterminal → Bool) → all Q nonterminals ≡ true → (n : ℕ) → Q (getD nonterminals n (paper file)) ≡ true
 rule-at Q h = at Q nonterminals (paper file) (both (Q (paper file)) _ h .0) h
@@ -171,6 +179,9 @@ every-rule Q h (paper statements) = rule-at Q h 30
 every-rule Q h (paper statement) = rule-at Q h 31
 every-rule Q h (paper value) = rule-at Q h 32
 every-rule Q h span = rule-at Q h 33
+every-rule Q h (paper float-range) = rule-at Q h 34
+every-rule Q h (paper (default floats)) = rule-at Q h 35
+every-rule Q h (paper (own floats)) = rule-at Q h 36
 
 class-at : (Q : Class → Bool) (k : Kind) (i : Integer) → all Q (classes k i) ≡ true → (n : ℕ) → Q (getD (classes k i) n ordinary) ≡ true
 class-at Q k i h = at Q (classes k i) ordinary (both (Q ordinary) _ h .0) h
@@ -203,3 +214,5 @@ every-class Q h (sign semicolon) = class-at Q OS UINT32 (h OS UINT32) 23
 every-class Q h (sign colon) = class-at Q OS UINT32 (h OS UINT32) 24
 every-class Q h (sign comma) = class-at Q OS UINT32 (h OS UINT32) 25
 every-class Q h (sign dots) = class-at Q OS UINT32 (h OS UINT32) 26
+every-class Q h floating = class-at Q OS UINT32 (h OS UINT32) 27
+every-class Q h (word FLOAT) = class-at Q OS UINT32 (h OS UINT32) 28

@@ -3,11 +3,12 @@ use Prim.Native.String.{String}
 use mathlib.Core.Path.{_≡_, refl, subst}
 use mathlib.Core.List.{List, [], _∷_}
 use Rattle.token.specs.Find.{firstOf, find}
-use Rattle.token.specs.Bytes.{classOf, isWordByte, wordEnd, findByte, pairAt, findClose}
+use Rattle.token.specs.Bytes.{classOf, isWordByte, wordEnd, findByte, pairAt, findClose, isDotted, findMark, isSigned}
 use Rattle.token.specs.Gaps.{commentAt, gapOf, gapAt, skipN, skip}
 use Rattle.token.specs.Words.{bytesOf, same, codeIn, codeOf}
 use Rattle.token.specs.Numbers.{digitOf, valueAfter, atMost, digitsAfter, numeral}
-use Rattle.token.specs.Tokens.{found, wordAt, limitOf, isNegative, numberAt, stringAt, dotsAt, tokenOf, tokenAt, stepAt}
+use Rattle.token.specs.Floats.{someDigits, digitsBehind, mantissaOf, powerOf, powerAt, scaleOf}
+use Rattle.token.specs.Tokens.{found, wordAt, limitOf, isNegative, wholeAt, floatBy, floatAt, numberBy, numberAt, stringAt, dotsAt, tokenOf, tokenAt, stepAt}
 use Rattle.token.specs.Lexing.{lexN, lexFrom}
 use Rattle.grammar.specs.Terminals.{signOf, classOf as classOfToken, tokenOf as tokenOfToken}
 use Rattle.grammar.specs.Stage.{Answers}
@@ -36,6 +37,15 @@ edges =
     record { text = "OIL_VERSION = \"2.5\";\nIMPLEMENTATION m { OS { BOOLEAN H = FALSE; }; TASK { UINT32 [1..0xff] STACKSIZE = 16; }; };\nCPU c { OS o; APPMODE a {}; TASK t { STACKSIZE = 0x20; }; };\n"; result = Passes } ∷
     record { text = "OIL_VERSION=\"\";IMPLEMENTATION m{};CPU c{OS o{a=a{a=a{a=a{a=a{a=a{a=a{a=a{a=a{a=a{a=a{a=a{a=a{a=a{a=a{};};};};};};};};};};};};};};};};"; result = Passes } ∷
     record { text = "OIL_VERSION=\"\";IMPLEMENTATION m{};CPU c{OS o{a=a{a=a{a=a{a=a{a=a{a=a{a=a{a=a{a=a{a=a{a=a{a=a{a=a{a=a{a=a{"; result = TooDeep 104 } ∷
+    -- floats (document 02, Q-4)
+    record { text = "OIL_VERSION=\"\";IMPLEMENTATION m{OS{FLOAT WITH_AUTO[0.5..1.5e1]F[]=1.0;};};CPU c{OS o{F=1.5;};};"; result = Passes } ∷
+    record { text = "OIL_VERSION=\"\";IMPLEMENTATION m{OS{FLOAT FLOAT=AUTO;};};CPU c{OS o{FLOAT=1;};};"; result = Passes } ∷
+    record { text = "OIL_VERSION=\"\";IMPLEMENTATION m{OS{FLOAT[1..2.5]F;};};CPU c{OS o{};};"; result = NotAdmitted 41 } ∷
+    record { text = "OIL_VERSION=\"\";IMPLEMENTATION m{OS{FLOAT[1.5,2.5]F;};};CPU c{OS o{};};"; result = NotAdmitted 44 } ∷
+    record { text = "OIL_VERSION=\"\";IMPLEMENTATION m{OS{FLOAT F=1;};};CPU c{OS o{};};"; result = NotAdmitted 43 } ∷
+    record { text = "OIL_VERSION=\"\";IMPLEMENTATION m{OS{UINT32 F=1.5;};};CPU c{OS o{};};"; result = NotAdmitted 44 } ∷
+    record { text = "OIL_VERSION=\"\";IMPLEMENTATION m{OS{UINT32[1..1.5]F;};};CPU c{OS o{};};"; result = NotAdmitted 45 } ∷
+    record { text = "OIL_VERSION=\"\";IMPLEMENTATION m{OS{FLOAT F;};};CPU c{OS o{F=1.5{};};};"; result = NotAdmitted 63 } ∷
     []
 
 abbrev Computed : List Edge → Type 0
@@ -43,8 +53,8 @@ Computed [] = Unit {0}
 Computed (e ∷ es) = (answerTo (bytesOf (e .text)) ≡ e .result) × Computed es
 
 computed : Computed edges
-unfolding lexAt run classOfToken tokenOfToken signOf lexFrom lexN stepAt skip skipN gapAt gapOf commentAt findByte findClose pairAt find firstOf classOf isWordByte wordEnd codeOf codeIn same digitOf valueAfter atMost digitsAfter numeral found wordAt limitOf isNegative numberAt stringAt dotsAt tokenOf tokenAt
-computed = (refl, (refl, (refl, (refl, (refl, (refl, (refl, (refl, (refl, (refl, (refl, (refl, (refl, tt)))))))))))))
+unfolding lexAt run classOfToken tokenOfToken signOf lexFrom lexN stepAt skip skipN gapAt gapOf commentAt findByte findClose pairAt find firstOf classOf isWordByte wordEnd codeOf codeIn same digitOf valueAfter atMost digitsAfter numeral found wordAt limitOf isNegative wholeAt isDotted findMark isSigned someDigits digitsBehind mantissaOf powerOf powerAt scaleOf floatBy floatAt numberBy numberAt stringAt dotsAt tokenOf tokenAt
+computed = (refl, (refl, (refl, (refl, (refl, (refl, (refl, (refl, (refl, (refl, (refl, (refl, (refl, (refl, (refl, (refl, (refl, (refl, (refl, (refl, (refl, tt)))))))))))))))))))))
 
 abbrev pub Hold : List Edge → Type 0
 Hold [] = Unit {0}

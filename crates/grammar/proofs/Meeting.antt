@@ -14,7 +14,7 @@ use Rattle.token.specs.Tokens.{stepAt}
 use Rattle.token.specs.declared.Step.{Step}
 use Rattle.token.specs.declared.Step.the-variants.{Found, Refused, End}
 use Rattle.token.specs.declared.Sort.{Sort}
-use Rattle.token.specs.declared.Sort.the-variants.{Word, Number, String, Punctuator}
+use Rattle.token.specs.declared.Sort.the-variants.{Word, Number, String, Punctuator, Float}
 use Rattle.token.proofs.Find.{by-test}
 use Rattle.token.proofs.Tables.{upTo}
 use Rattle.token.proofs.Steps.{found-fits, lex-found, lex-bad, lex-end}
@@ -34,33 +34,33 @@ use Rattle.grammar.proofs.Codes.{Yes, No, at-code, not-code, brace-open
 -- What holds of the outcomes of a token, of the end and of a refusal holds of those of a look.
 module _ (s : List ℕ) (a : Look) where
   pub by-look : (Q : (Symbols → Answer) → Type 0)
-      → (a .code < 54 → Q (λ k. run (a .depth) k (seen a ▹ lexAt s (a .next))))
-      → (a .code ≡ 54 → Q (λ k. run (a .depth) k (ended (a .at))))
-      → (54 < a .code → Q (λ k. refusalOf (a .code) (a .at)))
+      → (a .code < 56 → Q (λ k. run (a .depth) k (seen a ▹ lexAt s (a .next))))
+      → (a .code ≡ 56 → Q (λ k. run (a .depth) k (ended (a .at))))
+      → (56 < a .code → Q (λ k. refusalOf (a .code) (a .at)))
       → Q (on s a)
   unfolding on onBy
-  by-look Q t e r = go (ltb (a .code) 54) refl (eqb (a .code) 54) refl
+  by-look Q t e r = go (ltb (a .code) 56) refl (eqb (a .code) 56) refl
     where
-      go : (b : Bool) → ltb (a .code) 54 ≡ b → (b′ : Bool) → eqb (a .code) 54 ≡ b′ → Q (λ k. onBy b b′ s a k)
-      go true p b′ q = t (ltb-true (a .code) 54 p)
-      go false p true q = e (eqb-true (a .code) 54 q)
-      go false p false q = r (let g = ltb-false (a .code) 54 p in let n = eqb-false (a .code) 54 q in omega arith)
+      go : (b : Bool) → ltb (a .code) 56 ≡ b → (b′ : Bool) → eqb (a .code) 56 ≡ b′ → Q (λ k. onBy b b′ s a k)
+      go true p b′ q = t (ltb-true (a .code) 56 p)
+      go false p true q = e (eqb-true (a .code) 56 q)
+      go false p false q = r (let g = ltb-false (a .code) 56 p in let n = eqb-false (a .code) 56 q in omega arith)
 
-  pub on-token : a .code < 54 → (k : Symbols) → on s a k ≡ run (a .depth) k (seen a ▹ lexAt s (a .next))
+  pub on-token : a .code < 56 → (k : Symbols) → on s a k ≡ run (a .depth) k (seen a ▹ lexAt s (a .next))
   unfolding on onBy
-  on-token h k = ap (λ b. onBy b (eqb (a .code) 54) s a k) (lt-ltb (a .code) 54 h)
+  on-token h k = ap (λ b. onBy b (eqb (a .code) 56) s a k) (lt-ltb (a .code) 56 h)
 
-  pub left-token : a .code < 54 → left s a ≡ suc (length s - a .next)
+  pub left-token : a .code < 56 → left s a ≡ suc (length s - a .next)
   unfolding left
-  left-token h = ap (λ b. pick b (suc (length s - a .next)) 0) (lt-ltb (a .code) 54 h)
+  left-token h = ap (λ b. pick b (suc (length s - a .next)) 0) (lt-ltb (a .code) 56 h)
 
-punctuator-low : (b : ℕ) → punctuatorCode b < 54
+punctuator-low : (b : ℕ) → punctuatorCode b < 56
 unfolding punctuatorCode
 punctuator-low b =
     go (eqb b 123) (eqb b 125) (eqb b 91) (eqb b 93) (eqb b 61) (eqb b 59) (eqb b 58) (eqb b 44) (eqb b 46)
   where
     go : (a b c d e f g h i : Bool)
-        → pick a 44 (pick b 45 (pick c 46 (pick d 47 (pick e 48 (pick f 49 (pick g 50 (pick h 51 (pick i 52 53)))))))) < 54
+        → pick a 45 (pick b 46 (pick c 47 (pick d 48 (pick e 49 (pick f 50 (pick g 51 (pick h 52 (pick i 53 55)))))))) < 56
     go true b c d e f g h i = omega arith
     go false true c d e f g h i = omega arith
     go false false true d e f g h i = omega arith
@@ -72,11 +72,12 @@ punctuator-low b =
     go false false false false false false false false true = omega arith
     go false false false false false false false false false = omega arith
 
-code-low : (k : Sort) → codeOf k < 54
+code-low : (k : Sort) → codeOf k < 56
 unfolding codeOf
-code-low (Word c) = by-test (λ (n : ℕ). n < 54) (ltb c 42) c 53 (λ t. let h = ltb-true c 42 t in omega arith) (λ _. omega arith)
+code-low (Word c) = by-test (λ (n : ℕ). n < 56) (ltb c 43) c 55 (λ t. let h = ltb-true c 43 t in omega arith) (λ _. omega arith)
 code-low (Number n m) = omega arith
 code-low String = omega arith
+code-low (Float n m k) = omega arith
 code-low (Punctuator b) = punctuator-low b
 
 -- A look at a place goes on with the tokens from there.
@@ -106,15 +107,15 @@ left-look s p d = go (stepAt s p) refl
     go (Refused q) e = omega arith
     go (End n) e = omega arith
 
-pub rest-token : (s : List ℕ) (a : Look) → a .code < 54 → rest s a ≡ seen a ▹ lexAt s (a .next)
+pub rest-token : (s : List ℕ) (a : Look) → a .code < 56 → rest s a ≡ seen a ▹ lexAt s (a .next)
 unfolding rest restBy
-rest-token s a h = ap (λ b. restBy b s a) (lt-ltb (a .code) 54 h)
+rest-token s a h = ap (λ b. restBy b s a) (lt-ltb (a .code) 56 h)
 
-pub rest-look : (s : List ℕ) (p d : ℕ) → lookAt s p d .code ≤ 54 → rest s (lookAt s p d) ≡ lexAt s p
+pub rest-look : (s : List ℕ) (p d : ℕ) → lookAt s p d .code ≤ 56 → rest s (lookAt s p d) ≡ lexAt s p
 unfolding lookAt lookOf lexAt streamOf tokenOf seen rest restBy
 rest-look s p d = go (stepAt s p) refl
   where
-    go : (r : Step) → stepAt s p ≡ r → lookOf r d .code ≤ 54 → rest s (lookOf r d) ≡ lexAt s p
+    go : (r : Step) → stepAt s p ≡ r → lookOf r d .code ≤ 56 → rest s (lookOf r d) ≡ lexAt s p
     go (Found t c) e h =
         let o = found-fits s p t c e in
         let n : c .at - t .at ≡ t .len = omega arith in
@@ -152,12 +153,12 @@ take t {s} {a} {r} (l, m) e =
           on-token s a l (t · k)
           ∙ ap₂ (λ o d. next o d (a .at) (λ j i. run i j (lexAt s (a .next)))) (feed-tok t k (classAt (a .code)) ∙ ap (λ b. when b (some k)) m)
           (ap₂ (λ p q. deeper-by p q (a .depth)) (brace-open (a .code) l) (brace-close (a .code) l))
-          ∙ go (eqb (a .code) 44) (eqb (a .code) 45) (ltb (a .depth) 16) refl k;
-      falls = let x = left-token s a l in let y = down (eqb (a .code) 44) (eqb (a .code) 45) (ltb (a .depth) 16) in omega arith;
+          ∙ go (eqb (a .code) 45) (eqb (a .code) 46) (ltb (a .depth) 16) refl k;
+      falls = let x = left-token s a l in let y = down (eqb (a .code) 45) (eqb (a .code) 46) (ltb (a .depth) 16) in omega arith;
       took = λ h. (
         omega arith,
         subst (λ u. Took _⟹_ (t · ∎) u (rest s (advanced s a))) (sym (rest-token s a l))
-            (took-tok (seen a) m (gone (eqb (a .code) 44) (eqb (a .code) 45) (ltb (a .depth) 16) h)),
+            (took-tok (seen a) m (gone (eqb (a .code) 45) (eqb (a .code) 46) (ltb (a .depth) 16) h)),
       );
     })
   where
@@ -176,10 +177,10 @@ take t {s} {a} {r} (l, m) e =
     go false true c e k = ap (λ d. run d k (lexAt s (a .next))) (pred-is (a .depth)) ∙ sym (on-look s (a .next) (a .depth - 1) k)
     go false false c e k = sym (on-look s (a .next) (a .depth) k)
 
-    none-at : (p d : ℕ) → lookAt s p d .code ≤ 54 → Took _⟹_ ∎ (lexAt s p) (rest s (lookAt s p d))
+    none-at : (p d : ℕ) → lookAt s p d .code ≤ 56 → Took _⟹_ ∎ (lexAt s p) (rest s (lookAt s p d))
     none-at p d h = subst (λ u. Took _⟹_ ∎ u (rest s (lookAt s p d))) (rest-look s p d h) (took-nil (rest s (lookAt s p d)))
 
-    gone : (b b′ c : Bool) → to b b′ c .code ≤ 54 → Took _⟹_ ∎ (lexAt s (a .next)) (rest s (to b b′ c))
+    gone : (b b′ c : Bool) → to b b′ c .code ≤ 56 → Took _⟹_ ∎ (lexAt s (a .next)) (rest s (to b b′ c))
     gone true b′ true h = none-at (a .next) (a .depth + 1) h
     gone true b′ false h = absurd (omega arith)
     gone false true c h = none-at (a .next) (a .depth - 1) h
@@ -193,23 +194,23 @@ take t {s} {a} {r} (l, m) e =
 
 -- The refusal of what is seen.
 stays : (s : List ℕ) (a : Look) (e : ℕ) (f : Symbols)
-    → (a .code < 54 → (k : Symbols) → run (a .depth) (f ++ k) (seen a ▹ lexAt s (a .next)) ≡ NotAdmitted (a .at))
+    → (a .code < 56 → (k : Symbols) → run (a .depth) (f ++ k) (seen a ▹ lexAt s (a .next)) ≡ NotAdmitted (a .at))
     → ((k : Symbols) → run (a .depth) (f ++ k) (ended (a .at)) ≡ NotAdmitted (a .at))
     → Reads e f s a (refusal a)
 unfolding refusal refusalOf on onBy left
-stays s a e f t n = go (leb (a .code) 54) refl
+stays s a e f t n = go (leb (a .code) 56) refl
   where
-    go : (b : Bool) → leb (a .code) 54 ≡ b → Reads e f s a (pick b (stop 4 a) a)
+    go : (b : Bool) → leb (a .code) 56 ≡ b → Reads e f s a (pick b (stop 4 a) a)
     go true p =
-        let h = leb-true (a .code) 54 p in
+        let h = leb-true (a .code) 56 p in
         record {
           reads = by-look s a (λ o. (k : Symbols) → o (f ++ k) ≡ NotAdmitted (a .at)) t (λ _. n) (λ g. absurd (omega arith));
           falls = omega arith;
           took = λ g. absurd (omega arith);
         }
     go false p =
-        let h = leb-false (a .code) 54 p in
-        let z : left s a ≡ 0 = ap (λ b. pick b (suc (length s - a .next)) 0) (le-ltb (a .code) 54 (omega arith)) in
+        let h = leb-false (a .code) 56 p in
+        let z : left s a ≡ 0 = ap (λ b. pick b (suc (length s - a .next)) 0) (le-ltb (a .code) 56 (omega arith)) in
         record {
           reads = by-look s a (λ o. (k : Symbols) → o (f ++ k) ≡ o k) (λ g. absurd (omega arith)) (λ g. absurd (omega arith)) (λ g k. refl);
           falls = omega arith;
@@ -224,7 +225,7 @@ not-taken t {s} {a} h e =
 
 -- A terminal that has one code.
 abbrev pub Single : Terminal → ℕ → Type 0
-Single t m = T (both (ltb m 54) (matches t (classAt m))) × T (upTo (λ k. either (eqb k m) (not (matches t (classAt k)))) 54)
+Single t m = T (both (ltb m 56) (matches t (classAt m))) × T (upTo (λ k. either (eqb k m) (not (matches t (classAt k)))) 56)
 
 pub tokened : (t : Terminal) (m : ℕ) → Single t m → {s : List ℕ} {a r : Look} → r ≡ expected s a m → Reads 1 (t · ∎) s a r
 unfolding expected
@@ -306,16 +307,16 @@ done x {s} {a} {b} z n h =
     }
 
 -- A reader that goes on from a token leaves less.
-pub fell : {f : Symbols} {s : List ℕ} {a b : Look} → a .code < 54 → Reads 1 f s a b → left s b < left s a
+pub fell : {f : Symbols} {s : List ℕ} {a b : Look} → a .code < 56 → Reads 1 f s a b → left s b < left s a
 fell {s} {a} h m = let x = left-token s a h in let y = m .falls in omega arith
 
 -- Past a token less is left.
-pub went-on : (m : ℕ) → T (ltb m 54) → (s : List ℕ) (a b : Look) → a .code ≡ m → b ≡ advanced s a → left s b < left s a
+pub went-on : (m : ℕ) → T (ltb m 56) → (s : List ℕ) (a b : Look) → a .code ≡ m → b ≡ advanced s a → left s b < left s a
 unfolding advanced left
 went-on m t s a b h e =
-    let l : a .code < 54 = rw h (ltb→lt m 54 t) in
+    let l : a .code < 56 = rw h (ltb→lt m 56 t) in
     let x = left-token s a l in
-    let y = down (eqb (a .code) 44) (eqb (a .code) 45) (ltb (a .depth) 16) in
+    let y = down (eqb (a .code) 45) (eqb (a .code) 46) (ltb (a .depth) 16) in
     let z : left s b ≡ left s (advanced s a) = ap (left s) e in
     omega arith
   where

@@ -7,7 +7,7 @@ use native.Mathlib.Omega.{arith}
 use lib.Dec.{T, ltb, eqb}
 use borrow.Author.Tests.{eqb-true, ne-eqb}
 use Rattle.token.specs.Find.{either}
-use Rattle.grammar.specs.Grammar.{Rule, Terminal, _·_, _▸_, ∎, matches, name, kind, type, integer, number, string, the, sg, TRUE, FALSE, AUTO, NO-DEFAULT, WITH-AUTO, STRING, BOOLEAN, ENUM, OIL-VERSION, IMPLEMENTATION, CPU, lbrace, rbrace, lsquare, rsquare, equals, semicolon, colon, comma, dots, Sort, integers, strings, booleans, enums, file, version, implementation, specs, spec, definitions, definition, attribute, reference, D, P, auto, mark, integer-range, numbers, boolean-range, enumerator, enumerators, default, own, application, objects, object, block, statements, statement, value, file-is, version-is, implementation-is, a-spec, spec-is, a-definition, an-attribute, a-reference, an-integer, a-string, a-boolean, an-enum, reference-is, a-D, a-P, with-auto, a-mark, a-number, a-boolean-range, enumerator-is, an-enumerator, a-default, own-auto, own-none, own-number, own-string, own-true, own-false, own-name, application-is, an-object, a-block, a-statement, statement-is, value-number, value-string, value-auto, value-name, value-true, value-false}
+use Rattle.grammar.specs.Grammar.{Rule, Terminal, _·_, _▸_, ∎, matches, name, kind, type, integer, number, string, float, the, sg, TRUE, FALSE, AUTO, NO-DEFAULT, WITH-AUTO, STRING, BOOLEAN, ENUM, FLOAT, OIL-VERSION, IMPLEMENTATION, CPU, lbrace, rbrace, lsquare, rsquare, equals, semicolon, colon, comma, dots, Sort, integers, strings, booleans, enums, floats, file, version, implementation, specs, spec, definitions, definition, attribute, reference, D, P, auto, mark, integer-range, numbers, boolean-range, float-range, enumerator, enumerators, default, own, application, objects, object, block, statements, statement, value, file-is, version-is, implementation-is, a-spec, spec-is, a-definition, an-attribute, a-reference, an-integer, a-string, a-boolean, an-enum, a-float, reference-is, a-D, a-P, with-auto, a-mark, a-number, a-boolean-range, a-float-range, enumerator-is, an-enumerator, a-default, own-auto, own-none, own-number, own-string, own-true, own-false, own-name, own-float, application-is, an-object, a-block, a-statement, statement-is, value-number, value-string, value-float, value-auto, value-name, value-true, value-false}
 use Rattle.grammar.specs.Factored.{Nonterminal, paper, span, Symbols, lift, _⟹_, keep, kept, choices, object-is, range-is, up-to, many-numbers}
 use Rattle.grammar.specs.Machine.{nullable, nullable-form, takes, starts}
 use Rattle.grammar.proofs.Uniqueness.{takes-tok}
@@ -26,27 +26,27 @@ pub enter : {x : Nonterminal} {t : Terminal} {g : Symbols} (p : x ⟹ (t · g)) 
     → b ≡ advanced s a → Reads e g s b r → Reads 1 (x ▸ ∎) s a r
 enter {t} {g} p {a} y q m = form p (y .0, takes-tok t g (classAt (a .code)) ∙ y .1) (take t y q ⊳ m)
 
-comma-at : {n : ℕ} → n ≡ 51 → Yes (matches (sg comma)) n
+comma-at : {n : ℕ} → n ≡ 52 → Yes (matches (sg comma)) n
 unfolding classAt matches
-comma-at h = at-code (matches (sg comma)) 51 tt h
+comma-at h = at-code (matches (sg comma)) 52 tt h
 
-lsquare-at : {n : ℕ} → n ≡ 46 → Yes (matches (sg lsquare)) n
+lsquare-at : {n : ℕ} → n ≡ 47 → Yes (matches (sg lsquare)) n
 unfolding classAt matches
-lsquare-at h = at-code (matches (sg lsquare)) 46 tt h
+lsquare-at h = at-code (matches (sg lsquare)) 47 tt h
 
-lbrace-at : {n : ℕ} → n ≡ 44 → Yes (matches (sg lbrace)) n
+lbrace-at : {n : ℕ} → n ≡ 45 → Yes (matches (sg lbrace)) n
 unfolding classAt matches
-lbrace-at h = at-code (matches (sg lbrace)) 44 tt h
+lbrace-at h = at-code (matches (sg lbrace)) 45 tt h
 
 module _ {s : List ℕ} {a : Look} where
   -- Parts.
-  pub D-pass : (a .code ≡ 50 → ⊥) → Meets 0 (D ▸ ∎) s a a
+  pub D-pass : (a .code ≡ 51 → ⊥) → Meets 0 (D ▸ ∎) s a a
   unfolding nullable starts classAt
-  D-pass h = pass (paper D) refl (not-code (starts (paper D)) 50 tt h)
+  D-pass h = pass (paper D) refl (not-code (starts (paper D)) 51 tt h)
 
-  pub D-is : {b r : Look} → a .code ≡ 50 → b ≡ advanced s a → r ≡ expected s b 43 → Meets 0 (D ▸ ∎) s a r
+  pub D-is : {b r : Look} → a .code ≡ 51 → b ≡ advanced s a → r ≡ expected s b 44 → Meets 0 (D ▸ ∎) s a r
   unfolding kept classAt matches
-  D-is h p q = loosen (enter (keep a-D refl) (at-code (matches (sg colon)) 50 tt h) p (string-is q))
+  D-is h p q = loosen (enter (keep a-D refl) (at-code (matches (sg colon)) 51 tt h) p (string-is q))
 
   pub auto-pass : (a .code ≡ 5 → ⊥) → Meets 0 (auto ▸ ∎) s a a
   unfolding nullable starts classAt
@@ -56,60 +56,70 @@ module _ {s : List ℕ} {a : Look} where
   unfolding kept classAt matches
   auto-is h p = loosen (enter (keep with-auto refl) (at-code (matches (the WITH-AUTO)) 5 tt h) p nothing)
 
-  pub mark-pass : (a .code ≡ 46 → ⊥) → Meets 0 (mark ▸ ∎) s a a
+  pub mark-pass : (a .code ≡ 47 → ⊥) → Meets 0 (mark ▸ ∎) s a a
   unfolding nullable starts classAt
-  mark-pass h = pass (paper mark) refl (not-code (starts (paper mark)) 46 tt h)
+  mark-pass h = pass (paper mark) refl (not-code (starts (paper mark)) 47 tt h)
 
-  pub mark-is : {b r : Look} → a .code ≡ 46 → b ≡ advanced s a → r ≡ expected s b 47 → Meets 0 (mark ▸ ∎) s a r
+  pub mark-is : {b r : Look} → a .code ≡ 47 → b ≡ advanced s a → r ≡ expected s b 48 → Meets 0 (mark ▸ ∎) s a r
   unfolding kept classAt matches
-  mark-is h p q = loosen (enter (keep a-mark refl) (at-code (matches (sg lsquare)) 46 tt h) p (rsquare-is q))
+  mark-is h p q = loosen (enter (keep a-mark refl) (at-code (matches (sg lsquare)) 47 tt h) p (rsquare-is q))
 
   -- Ranges.
-  pub number-item : {b r : Look} → a .code ≡ 51 → b ≡ advanced s a → r ≡ expected s b 42 → Meets 1 (sg comma · number · ∎) s a r
+  pub number-item : {b r : Look} → a .code ≡ 52 → b ≡ advanced s a → r ≡ expected s b 43 → Meets 1 (sg comma · number · ∎) s a r
   number-item h p q = take (sg comma) (comma-at h) p ⊳ number-is q
 
-  pub numbers-again : {o r : Look} → Still numbers s o a → a .code ≡ 51 → Meets 1 (sg comma · number · ∎) s a r → Still numbers s o r
+  pub numbers-again : {o r : Look} → Still numbers s o a → a .code ≡ 52 → Meets 1 (sg comma · number · ∎) s a r → Still numbers s o r
   unfolding kept classAt takes
-  numbers-again z h m = again (lift (sg comma · number · ∎)) (keep a-number refl) z (at-code (takes (lift (sg comma · number · numbers ▸ ∎))) 51 tt h) m
+  numbers-again z h m = again (lift (sg comma · number · ∎)) (keep a-number refl) z (at-code (takes (lift (sg comma · number · numbers ▸ ∎))) 52 tt h) m
 
-  pub comma-less : {f : Symbols} {r : Look} → a .code ≡ 51 → Reads 1 f s a r → left s r < left s a
+  pub comma-less : {f : Symbols} {r : Look} → a .code ≡ 52 → Reads 1 f s a r → left s r < left s a
   comma-less h m = fell (omega arith) m
 
-  pub numbers-done : {o : Look} → Still numbers s o a → (a .code ≡ 51 → ⊥) → Meets 0 (numbers ▸ ∎) s o a
+  pub numbers-done : {o : Look} → Still numbers s o a → (a .code ≡ 52 → ⊥) → Meets 0 (numbers ▸ ∎) s o a
   unfolding nullable starts classAt
-  numbers-done z h = done numbers z refl (not-code (starts (paper numbers)) 51 tt h)
+  numbers-done z h = done numbers z refl (not-code (starts (paper numbers)) 52 tt h)
 
-  pub span-pass : (a .code ≡ 52 → ⊥) → (a .code ≡ 51 → ⊥) → Reads 0 (span ▸ ∎) s a a
+  pub span-pass : (a .code ≡ 53 → ⊥) → (a .code ≡ 52 → ⊥) → Reads 0 (span ▸ ∎) s a a
   unfolding nullable starts classAt
   span-pass h i =
       pass span refl
-      (not-any (starts span) ((λ n. eqb n 52) ∷ (λ n. eqb n 51) ∷ []) tt (ne-eqb (a .code) 52 h, (ne-eqb (a .code) 51 i, tt)))
+      (not-any (starts span) ((λ n. eqb n 53) ∷ (λ n. eqb n 52) ∷ []) tt (ne-eqb (a .code) 53 h, (ne-eqb (a .code) 52 i, tt)))
 
-  pub span-up : {b r : Look} → a .code ≡ 52 → b ≡ advanced s a → r ≡ expected s b 42 → Reads 0 (span ▸ ∎) s a r
+  pub span-up : {b r : Look} → a .code ≡ 53 → b ≡ advanced s a → r ≡ expected s b 43 → Reads 0 (span ▸ ∎) s a r
   unfolding classAt matches
-  span-up h p q = loosen (enter up-to (at-code (matches (sg dots)) 52 tt h) p (number-is q))
+  span-up h p q = loosen (enter up-to (at-code (matches (sg dots)) 53 tt h) p (number-is q))
 
-  pub span-many : {b c r : Look} → a .code ≡ 51 → b ≡ advanced s a → c ≡ expected s b 42 → Meets 0 (numbers ▸ ∎) s c r → Reads 0 (span ▸ ∎) s a r
+  pub span-many : {b c r : Look} → a .code ≡ 52 → b ≡ advanced s a → c ≡ expected s b 43 → Meets 0 (numbers ▸ ∎) s c r → Reads 0 (span ▸ ∎) s a r
   span-many h p q m = loosen (enter many-numbers (comma-at h) p (number-is q ⊳ m))
 
-  pub range-pass : (a .code ≡ 46 → ⊥) → Meets 0 (integer-range ▸ ∎) s a a
+  pub range-pass : (a .code ≡ 47 → ⊥) → Meets 0 (integer-range ▸ ∎) s a a
   unfolding nullable starts classAt
-  range-pass h = pass (paper integer-range) refl (not-code (starts (paper integer-range)) 46 tt h)
+  range-pass h = pass (paper integer-range) refl (not-code (starts (paper integer-range)) 47 tt h)
 
-  pub range-by : {e : ℕ} {b r : Look} → a .code ≡ 46 → b ≡ advanced s a → Reads e (number · span ▸ sg rsquare · ∎) s b r → Meets 0 (integer-range ▸ ∎) s a r
+  pub range-by : {e : ℕ} {b r : Look} → a .code ≡ 47 → b ≡ advanced s a → Reads e (number · span ▸ sg rsquare · ∎) s b r → Meets 0 (integer-range ▸ ∎) s a r
   range-by h p m = loosen (enter range-is (lsquare-at h) p m)
 
-  -- Defaults.
-  pub default-pass : (x : Sort) → (a .code ≡ 48 → ⊥) → Meets 0 (default x ▸ ∎) s a a
+  pub float-range-pass : (a .code ≡ 47 → ⊥) → Meets 0 (float-range ▸ ∎) s a a
   unfolding nullable starts classAt
-  default-pass integers h = pass (paper (default integers)) refl (not-code (starts (paper (default integers))) 48 tt h)
-  default-pass strings h = pass (paper (default strings)) refl (not-code (starts (paper (default strings))) 48 tt h)
-  default-pass booleans h = pass (paper (default booleans)) refl (not-code (starts (paper (default booleans))) 48 tt h)
-  default-pass enums h = pass (paper (default enums)) refl (not-code (starts (paper (default enums))) 48 tt h)
+  float-range-pass h = pass (paper float-range) refl (not-code (starts (paper float-range)) 47 tt h)
 
-  pub default-is : (x : Sort) {b r : Look} → a .code ≡ 48 → b ≡ advanced s a → Meets 1 (own x ▸ ∎) s b r → Meets 0 (default x ▸ ∎) s a r
+  pub float-range-by : {e : ℕ} {b r : Look} → a .code ≡ 47 → b ≡ advanced s a → Meets e (float · sg dots · float · sg rsquare · ∎) s b r
+      → Meets 0 (float-range ▸ ∎) s a r
+  unfolding kept
+  float-range-by h p m = loosen (enter (keep a-float-range refl) (lsquare-at h) p m)
+
+  -- Defaults.
+  pub default-pass : (x : Sort) → (a .code ≡ 49 → ⊥) → Meets 0 (default x ▸ ∎) s a a
+  unfolding nullable starts classAt
+  default-pass integers h = pass (paper (default integers)) refl (not-code (starts (paper (default integers))) 49 tt h)
+  default-pass strings h = pass (paper (default strings)) refl (not-code (starts (paper (default strings))) 49 tt h)
+  default-pass booleans h = pass (paper (default booleans)) refl (not-code (starts (paper (default booleans))) 49 tt h)
+  default-pass enums h = pass (paper (default enums)) refl (not-code (starts (paper (default enums))) 49 tt h)
+  default-pass floats h = pass (paper (default floats)) refl (not-code (starts (paper (default floats))) 49 tt h)
+
+  pub default-is : (x : Sort) {b r : Look} → a .code ≡ 49 → b ≡ advanced s a → Meets 1 (own x ▸ ∎) s b r → Meets 0 (default x ▸ ∎) s a r
   unfolding kept classAt matches
-  default-is x h p m = loosen (enter (keep a-default refl) (at-code (matches (sg equals)) 48 tt h) p m)
+  default-is x h p m = loosen (enter (keep a-default refl) (at-code (matches (sg equals)) 49 tt h) p m)
 
   pub own-autos : (x : Sort) {r : Look} → a .code ≡ 3 → r ≡ advanced s a → Meets 1 (own x ▸ ∎) s a r
   unfolding kept classAt matches
@@ -121,13 +131,14 @@ module _ {s : List ℕ} {a : Look} where
 
   pub own-fits : (x : Sort) {r : Look} → fitting x (a .code) ≡ true → r ≡ advanced s a → Meets 1 (own x ▸ ∎) s a r
   unfolding kept fitting classAt matches
-  own-fits integers h p = enter (keep own-number refl) (at-code (matches number) 42 tt (eqb-true (a .code) 42 h)) p nothing
-  own-fits strings h p = enter (keep own-string refl) (at-code (matches string) 43 tt (eqb-true (a .code) 43 h)) p nothing
+  own-fits integers h p = enter (keep own-number refl) (at-code (matches number) 43 tt (eqb-true (a .code) 43 h)) p nothing
+  own-fits strings h p = enter (keep own-string refl) (at-code (matches string) 44 tt (eqb-true (a .code) 44 h)) p nothing
   own-fits booleans {r} h p = go (eqb (a .code) 1) refl h
     where
       go : (b : Bool) → eqb (a .code) 1 ≡ b → either b (eqb (a .code) 2) ≡ true → Meets 1 (own booleans ▸ ∎) s a r
       go true e i = enter (keep own-true refl) (at-code (matches (the TRUE)) 1 tt (eqb-true (a .code) 1 e)) p nothing
       go false e i = enter (keep own-false refl) (at-code (matches (the FALSE)) 2 tt (eqb-true (a .code) 2 i)) p nothing
+  own-fits floats h p = enter (keep own-float refl) (at-code (matches float) 54 tt (eqb-true (a .code) 54 h)) p nothing
   own-fits enums h p = enter (keep own-name refl) (in-set (matches name) (matches name) refl tt h) p nothing
 
   pub own-no : (x : Sort) {r : Look} → (a .code ≡ 3 → ⊥) → (a .code ≡ 4 → ⊥) → fitting x (a .code) ≡ false → r ≡ refusal a → Meets 1 (own x ▸ ∎) s a r
@@ -135,9 +146,10 @@ module _ {s : List ℕ} {a : Look} where
   own-no integers h i j = not-begun (paper (own integers)) refl (not-any (starts (paper (own integers))) ((λ n. eqb n 3) ∷ (λ n. eqb n 4) ∷ (λ n. fitting integers n) ∷ []) tt (ne-eqb (a .code) 3 h, (ne-eqb (a .code) 4 i, (j, tt))))
   own-no strings h i j = not-begun (paper (own strings)) refl (not-any (starts (paper (own strings))) ((λ n. eqb n 3) ∷ (λ n. eqb n 4) ∷ (λ n. fitting strings n) ∷ []) tt (ne-eqb (a .code) 3 h, (ne-eqb (a .code) 4 i, (j, tt))))
   own-no booleans h i j = not-begun (paper (own booleans)) refl (not-any (starts (paper (own booleans))) ((λ n. eqb n 3) ∷ (λ n. eqb n 4) ∷ (λ n. fitting booleans n) ∷ []) tt (ne-eqb (a .code) 3 h, (ne-eqb (a .code) 4 i, (j, tt))))
+  own-no floats h i j = not-begun (paper (own floats)) refl (not-any (starts (paper (own floats))) ((λ n. eqb n 3) ∷ (λ n. eqb n 4) ∷ (λ n. fitting floats n) ∷ []) tt (ne-eqb (a .code) 3 h, (ne-eqb (a .code) 4 i, (j, tt))))
   own-no enums h i j = not-begun (paper (own enums)) refl (not-any (starts (paper (own enums))) ((λ n. eqb n 3) ∷ (λ n. eqb n 4) ∷ (λ n. fitting enums n) ∷ []) tt (ne-eqb (a .code) 3 h, (ne-eqb (a .code) 4 i, (j, tt))))
 
-  pub lsquare-taken : {r : Look} → a .code ≡ 46 → r ≡ advanced s a → Meets 1 (sg lsquare · ∎) s a r
+  pub lsquare-taken : {r : Look} → a .code ≡ 47 → r ≡ advanced s a → Meets 1 (sg lsquare · ∎) s a r
   lsquare-taken h p = take (sg lsquare) (lsquare-at h) p
 
   -- Names and kinds.
@@ -156,11 +168,11 @@ module _ {s : List ℕ} {a : Look} where
   kind-no h p = not-taken kind (λ _. h) p
 
   -- Definitions.
-  pub P-pass : (a .code ≡ 44 → ⊥) → Meets 0 (P ▸ ∎) s a a
+  pub P-pass : (a .code ≡ 45 → ⊥) → Meets 0 (P ▸ ∎) s a a
   unfolding nullable starts classAt
-  P-pass h = pass (paper P) refl (not-code (starts (paper P)) 44 tt h)
+  P-pass h = pass (paper P) refl (not-code (starts (paper P)) 45 tt h)
 
-  pub P-by : {e : ℕ} {b r : Look} → a .code ≡ 44 → b ≡ advanced s a → Meets e (definitions ▸ sg rbrace · ∎) s b r → Meets 0 (P ▸ ∎) s a r
+  pub P-by : {e : ℕ} {b r : Look} → a .code ≡ 45 → b ≡ advanced s a → Meets e (definitions ▸ sg rbrace · ∎) s b r → Meets 0 (P ▸ ∎) s a r
   unfolding kept
   P-by h p m = loosen (enter (keep a-P refl) (lbrace-at h) p m)
 
@@ -168,23 +180,23 @@ module _ {s : List ℕ} {a : Look} where
   unfolding kept choices nullable nullable-form
   enumerator-by m = only (keep enumerator-is refl) refl refl refl m
 
-  pub enumerators-item : {b r : Look} → a .code ≡ 51 → b ≡ advanced s a → Meets 1 (enumerator ▸ ∎) s b r → Meets 1 (sg comma · enumerator ▸ ∎) s a r
+  pub enumerators-item : {b r : Look} → a .code ≡ 52 → b ≡ advanced s a → Meets 1 (enumerator ▸ ∎) s b r → Meets 1 (sg comma · enumerator ▸ ∎) s a r
   enumerators-item h p m = take (sg comma) (comma-at h) p ⊳ m
 
-  pub enumerators-again : {o r : Look} → Still enumerators s o a → a .code ≡ 51 → Meets 1 (sg comma · enumerator ▸ ∎) s a r → Still enumerators s o r
+  pub enumerators-again : {o r : Look} → Still enumerators s o a → a .code ≡ 52 → Meets 1 (sg comma · enumerator ▸ ∎) s a r → Still enumerators s o r
   unfolding kept classAt takes
   enumerators-again z h m =
-      again (lift (sg comma · enumerator ▸ ∎)) (keep an-enumerator refl) z (at-code (takes (lift (sg comma · enumerator ▸ enumerators ▸ ∎))) 51 tt h) m
+      again (lift (sg comma · enumerator ▸ ∎)) (keep an-enumerator refl) z (at-code (takes (lift (sg comma · enumerator ▸ enumerators ▸ ∎))) 52 tt h) m
 
-  pub enumerators-done : {o : Look} → Still enumerators s o a → (a .code ≡ 51 → ⊥) → Meets 0 (enumerators ▸ ∎) s o a
+  pub enumerators-done : {o : Look} → Still enumerators s o a → (a .code ≡ 52 → ⊥) → Meets 0 (enumerators ▸ ∎) s o a
   unfolding nullable starts classAt
-  enumerators-done z h = done enumerators z refl (not-code (starts (paper enumerators)) 51 tt h)
+  enumerators-done z h = done enumerators z refl (not-code (starts (paper enumerators)) 52 tt h)
 
-  pub boolean-range-pass : (a .code ≡ 46 → ⊥) → Meets 0 (boolean-range ▸ ∎) s a a
+  pub boolean-range-pass : (a .code ≡ 47 → ⊥) → Meets 0 (boolean-range ▸ ∎) s a a
   unfolding nullable starts classAt
-  boolean-range-pass h = pass (paper boolean-range) refl (not-code (starts (paper boolean-range)) 46 tt h)
+  boolean-range-pass h = pass (paper boolean-range) refl (not-code (starts (paper boolean-range)) 47 tt h)
 
-  pub boolean-range-by : {e : ℕ} {b r : Look} → a .code ≡ 46 → b ≡ advanced s a
+  pub boolean-range-by : {e : ℕ} {b r : Look} → a .code ≡ 47 → b ≡ advanced s a
       → Meets e (the TRUE · P ▸ D ▸ sg comma · the FALSE · P ▸ D ▸ sg rsquare · ∎) s b r → Meets 0 (boolean-range ▸ ∎) s a r
   unfolding kept
   boolean-range-by h p m = loosen (enter (keep a-boolean-range refl) (lsquare-at h) p m)
@@ -211,6 +223,13 @@ module _ {s : List ℕ} {a : Look} where
       form (keep an-attribute refl) (at-code (takes (lift (attribute ▸ ∎))) 39 tt h)
       (enter (keep a-string refl) (at-code (matches (the STRING)) 39 tt h) p m)
 
+  pub float-by : {e : ℕ} {b r : Look} → a .code ≡ 42 → b ≡ advanced s a
+      → Meets e (auto ▸ float-range ▸ name · mark ▸ default floats ▸ D ▸ sg semicolon · ∎) s b r → Meets 1 (definition ▸ ∎) s a r
+  unfolding kept classAt matches takes
+  float-by h p m =
+      form (keep an-attribute refl) (at-code (takes (lift (attribute ▸ ∎))) 42 tt h)
+      (enter (keep a-float refl) (at-code (matches (the FLOAT)) 42 tt h) p m)
+
   pub integer-by : {e : ℕ} {b r : Look} → matches integer (classAt (a .code)) ≡ true → b ≡ advanced s a
       → Meets e (auto ▸ integer-range ▸ name · mark ▸ default integers ▸ D ▸ sg semicolon · ∎) s b r → Meets 1 (definition ▸ ∎) s a r
   unfolding kept classAt matches takes
@@ -226,13 +245,13 @@ module _ {s : List ℕ} {a : Look} where
       (enter (keep reference-is refl) (in-set (matches type) (matches type) refl tt h) p m)
 
   pub definition-no : {r : Look} → (a .code ≡ 40 → ⊥) → (a .code ≡ 41 → ⊥) → (a .code ≡ 39 → ⊥) → matches integer (classAt (a .code)) ≡ false
-      → matches type (classAt (a .code)) ≡ false → r ≡ refusal a → Meets 1 (definition ▸ ∎) s a r
+      → matches type (classAt (a .code)) ≡ false → (a .code ≡ 42 → ⊥) → r ≡ refusal a → Meets 1 (definition ▸ ∎) s a r
   unfolding nullable starts classAt matches
-  definition-no h i j k l =
+  definition-no h i j k l m =
       not-begun (paper definition) refl
       (not-any (starts (paper definition))
-      ((λ n. eqb n 40) ∷ (λ n. eqb n 41) ∷ (λ n. eqb n 39) ∷ (λ n. matches integer (classAt n)) ∷ (λ n. matches type (classAt n)) ∷ []) tt
-      (ne-eqb (a .code) 40 h, (ne-eqb (a .code) 41 i, (ne-eqb (a .code) 39 j, (k, (l, tt))))))
+      ((λ n. eqb n 40) ∷ (λ n. eqb n 41) ∷ (λ n. eqb n 39) ∷ (λ n. matches integer (classAt n)) ∷ (λ n. matches type (classAt n)) ∷ (λ n. eqb n 42) ∷ []) tt
+      (ne-eqb (a .code) 40 h, (ne-eqb (a .code) 41 i, (ne-eqb (a .code) 39 j, (k, (l, (ne-eqb (a .code) 42 m, tt)))))))
 
   pub definitions-again : {o r : Look} → Still definitions s o a → starts (paper definition) (classAt (a .code)) ≡ true → Meets 1 (definition ▸ ∎) s a r
       → Still definitions s o r
@@ -249,21 +268,25 @@ module _ {s : List ℕ} {a : Look} where
   definitions-less h m = fell (in-set (starts (paper definition)) (starts (paper definition)) refl tt h .0) m
 
   -- Statements.
-  pub block-pass : (a .code ≡ 44 → ⊥) → Meets 0 (block ▸ ∎) s a a
+  pub block-pass : (a .code ≡ 45 → ⊥) → Meets 0 (block ▸ ∎) s a a
   unfolding nullable starts classAt
-  block-pass h = pass (paper block) refl (not-code (starts (paper block)) 44 tt h)
+  block-pass h = pass (paper block) refl (not-code (starts (paper block)) 45 tt h)
 
-  pub block-by : {e : ℕ} {b r : Look} → a .code ≡ 44 → b ≡ advanced s a → Meets e (statements ▸ sg rbrace · ∎) s b r → Meets 0 (block ▸ ∎) s a r
+  pub block-by : {e : ℕ} {b r : Look} → a .code ≡ 45 → b ≡ advanced s a → Meets e (statements ▸ sg rbrace · ∎) s b r → Meets 0 (block ▸ ∎) s a r
   unfolding kept
   block-by h p m = loosen (enter (keep a-block refl) (lbrace-at h) p m)
 
-  pub value-numbers : {r : Look} → a .code ≡ 42 → r ≡ advanced s a → Meets 1 (value ▸ ∎) s a r
+  pub value-numbers : {r : Look} → a .code ≡ 43 → r ≡ advanced s a → Meets 1 (value ▸ ∎) s a r
   unfolding kept classAt matches
-  value-numbers h p = enter (keep value-number refl) (at-code (matches number) 42 tt h) p nothing
+  value-numbers h p = enter (keep value-number refl) (at-code (matches number) 43 tt h) p nothing
 
-  pub value-strings : {r : Look} → a .code ≡ 43 → r ≡ advanced s a → Meets 1 (value ▸ ∎) s a r
+  pub value-strings : {r : Look} → a .code ≡ 44 → r ≡ advanced s a → Meets 1 (value ▸ ∎) s a r
   unfolding kept classAt matches
-  value-strings h p = enter (keep value-string refl) (at-code (matches string) 43 tt h) p nothing
+  value-strings h p = enter (keep value-string refl) (at-code (matches string) 44 tt h) p nothing
+
+  pub value-floats : {r : Look} → a .code ≡ 54 → r ≡ advanced s a → Meets 1 (value ▸ ∎) s a r
+  unfolding kept classAt matches
+  value-floats h p = enter (keep value-float refl) (at-code (matches float) 54 tt h) p nothing
 
   pub value-autos : {r : Look} → a .code ≡ 3 → r ≡ advanced s a → Meets 1 (value ▸ ∎) s a r
   unfolding kept classAt matches
@@ -281,14 +304,14 @@ module _ {s : List ℕ} {a : Look} where
   unfolding kept classAt matches
   value-names h p m = enter (keep value-name refl) (in-set (matches name) (matches name) refl tt h) p m
 
-  pub value-no : {r : Look} → (a .code ≡ 42 → ⊥) → (a .code ≡ 43 → ⊥) → (a .code ≡ 3 → ⊥) → (a .code ≡ 1 → ⊥) → (a .code ≡ 2 → ⊥)
-      → matches name (classAt (a .code)) ≡ false → r ≡ refusal a → Meets 1 (value ▸ ∎) s a r
+  pub value-no : {r : Look} → (a .code ≡ 43 → ⊥) → (a .code ≡ 44 → ⊥) → (a .code ≡ 3 → ⊥) → (a .code ≡ 1 → ⊥) → (a .code ≡ 2 → ⊥)
+      → matches name (classAt (a .code)) ≡ false → (a .code ≡ 54 → ⊥) → r ≡ refusal a → Meets 1 (value ▸ ∎) s a r
   unfolding nullable starts classAt matches
-  value-no h i j k l m =
+  value-no h i j k l m o =
       not-begun (paper value) refl
       (not-any (starts (paper value))
-      ((λ n. eqb n 42) ∷ (λ n. eqb n 43) ∷ (λ n. eqb n 3) ∷ (λ n. eqb n 1) ∷ (λ n. eqb n 2) ∷ (λ n. matches name (classAt n)) ∷ []) tt
-      (ne-eqb (a .code) 42 h, (ne-eqb (a .code) 43 i, (ne-eqb (a .code) 3 j, (ne-eqb (a .code) 1 k, (ne-eqb (a .code) 2 l, (m, tt)))))))
+      ((λ n. eqb n 43) ∷ (λ n. eqb n 44) ∷ (λ n. eqb n 3) ∷ (λ n. eqb n 1) ∷ (λ n. eqb n 2) ∷ (λ n. matches name (classAt n)) ∷ (λ n. eqb n 54) ∷ []) tt
+      (ne-eqb (a .code) 43 h, (ne-eqb (a .code) 44 i, (ne-eqb (a .code) 3 j, (ne-eqb (a .code) 1 k, (ne-eqb (a .code) 2 l, (m, (ne-eqb (a .code) 54 o, tt))))))))
 
   pub statement-by : {r : Look} → Meets 1 (name · sg equals · value ▸ D ▸ sg semicolon · ∎) s a r → Meets 1 (statement ▸ ∎) s a r
   unfolding kept choices nullable nullable-form
@@ -357,13 +380,13 @@ module _ {s : List ℕ} {a : Look} where
 
 -- What falls in the cycle of definitions: behind a token and more, and in the loop over commas.
 module _ {s : List ℕ} {t : ℕ} where
-  pub twice-less : (a : Look) {f : Symbols} {b c : Look} {e : ℕ} (m : ℕ) → T (ltb m 54) → 2 * left s a ≡ t → a .code ≡ m → b ≡ advanced s a → Reads e f s b c
+  pub twice-less : (a : Look) {f : Symbols} {b c : Look} {e : ℕ} (m : ℕ) → T (ltb m 56) → 2 * left s a ≡ t → a .code ≡ m → b ≡ advanced s a → Reads e f s b c
       → 2 * left s c < t
   twice-less a {b} m y q h p w = let u = went-on m y s a b h p in let v = w .falls in omega arith
 
-  pub twice-one-less : (a : Look) {f : Symbols} {b c : Look} {e : ℕ} (m : ℕ) → T (ltb m 54) → 2 * left s a ≡ t → a .code ≡ m → b ≡ advanced s a → Reads e f s b c
+  pub twice-one-less : (a : Look) {f : Symbols} {b c : Look} {e : ℕ} (m : ℕ) → T (ltb m 56) → 2 * left s a ≡ t → a .code ≡ m → b ≡ advanced s a → Reads e f s b c
       → 2 * left s c + 1 < t
   twice-one-less a {b} m y q h p w = let u = went-on m y s a b h p in let v = w .falls in omega arith
 
-  pub comma-one-less : {x : Rule} {o e : Look} (f : Look) → 2 * left s o < t → Still x s o e → e .code ≡ 51 → f ≡ advanced s e → 2 * left s f + 1 < t
-  comma-one-less {e} f q z h p = let u = went-on 51 tt s e f h p in let v = z .less in omega arith
+  pub comma-one-less : {x : Rule} {o e : Look} (f : Look) → 2 * left s o < t → Still x s o e → e .code ≡ 52 → f ≡ advanced s e → 2 * left s f + 1 < t
+  comma-one-less {e} f q z h p = let u = went-on 52 tt s e f h p in let v = z .less in omega arith

@@ -2,7 +2,7 @@
 use mathlib.Core.Path.{_≡_}
 use mathlib.Core.List.{List}
 use Prim.Native.Nat.{ℕ}
-use Rattle.grammar.specs.Grammar.{_·_, ∎, matches, sg, the, number, string, OIL-VERSION, IMPLEMENTATION, CPU, TRUE, FALSE, lbrace, rbrace, lsquare, rsquare, equals, semicolon, comma}
+use Rattle.grammar.specs.Grammar.{_·_, ∎, matches, sg, the, number, string, float, OIL-VERSION, IMPLEMENTATION, CPU, TRUE, FALSE, lbrace, rbrace, lsquare, rsquare, equals, semicolon, comma, dots}
 use Rattle.grammar.specs.Readers.{classAt, expected, Meets}
 use Rattle.grammar.specs.declared.Look.{Look}
 use Rattle.grammar.proofs.Meeting.{tokened}
@@ -28,38 +28,46 @@ module _ {s : List ℕ} {a r : Look} where
   unfolding classAt matches
   cpu-is = tokened (the CPU) 8 (tt, tt)
 
-  pub number-is : r ≡ expected s a 42 → Meets 1 (number · ∎) s a r
+  pub number-is : r ≡ expected s a 43 → Meets 1 (number · ∎) s a r
   unfolding classAt matches
-  number-is = tokened number 42 (tt, tt)
+  number-is = tokened number 43 (tt, tt)
 
-  pub string-is : r ≡ expected s a 43 → Meets 1 (string · ∎) s a r
+  pub string-is : r ≡ expected s a 44 → Meets 1 (string · ∎) s a r
   unfolding classAt matches
-  string-is = tokened string 43 (tt, tt)
+  string-is = tokened string 44 (tt, tt)
 
-  pub lbrace-is : r ≡ expected s a 44 → Meets 1 (sg lbrace · ∎) s a r
+  pub lbrace-is : r ≡ expected s a 45 → Meets 1 (sg lbrace · ∎) s a r
   unfolding classAt matches
-  lbrace-is = tokened (sg lbrace) 44 (tt, tt)
+  lbrace-is = tokened (sg lbrace) 45 (tt, tt)
 
-  pub rbrace-is : r ≡ expected s a 45 → Meets 1 (sg rbrace · ∎) s a r
+  pub rbrace-is : r ≡ expected s a 46 → Meets 1 (sg rbrace · ∎) s a r
   unfolding classAt matches
-  rbrace-is = tokened (sg rbrace) 45 (tt, tt)
+  rbrace-is = tokened (sg rbrace) 46 (tt, tt)
 
-  pub lsquare-is : r ≡ expected s a 46 → Meets 1 (sg lsquare · ∎) s a r
+  pub lsquare-is : r ≡ expected s a 47 → Meets 1 (sg lsquare · ∎) s a r
   unfolding classAt matches
-  lsquare-is = tokened (sg lsquare) 46 (tt, tt)
+  lsquare-is = tokened (sg lsquare) 47 (tt, tt)
 
-  pub rsquare-is : r ≡ expected s a 47 → Meets 1 (sg rsquare · ∎) s a r
+  pub rsquare-is : r ≡ expected s a 48 → Meets 1 (sg rsquare · ∎) s a r
   unfolding classAt matches
-  rsquare-is = tokened (sg rsquare) 47 (tt, tt)
+  rsquare-is = tokened (sg rsquare) 48 (tt, tt)
 
-  pub equals-is : r ≡ expected s a 48 → Meets 1 (sg equals · ∎) s a r
+  pub equals-is : r ≡ expected s a 49 → Meets 1 (sg equals · ∎) s a r
   unfolding classAt matches
-  equals-is = tokened (sg equals) 48 (tt, tt)
+  equals-is = tokened (sg equals) 49 (tt, tt)
 
-  pub semicolon-is : r ≡ expected s a 49 → Meets 1 (sg semicolon · ∎) s a r
+  pub semicolon-is : r ≡ expected s a 50 → Meets 1 (sg semicolon · ∎) s a r
   unfolding classAt matches
-  semicolon-is = tokened (sg semicolon) 49 (tt, tt)
+  semicolon-is = tokened (sg semicolon) 50 (tt, tt)
 
-  pub comma-is : r ≡ expected s a 51 → Meets 1 (sg comma · ∎) s a r
+  pub comma-is : r ≡ expected s a 52 → Meets 1 (sg comma · ∎) s a r
   unfolding classAt matches
-  comma-is = tokened (sg comma) 51 (tt, tt)
+  comma-is = tokened (sg comma) 52 (tt, tt)
+
+  pub dots-is : r ≡ expected s a 53 → Meets 1 (sg dots · ∎) s a r
+  unfolding classAt matches
+  dots-is = tokened (sg dots) 53 (tt, tt)
+
+  pub float-is : r ≡ expected s a 54 → Meets 1 (float · ∎) s a r
+  unfolding classAt matches
+  float-is = tokened float 54 (tt, tt)

@@ -8,7 +8,7 @@ use native.Mathlib.Omega.{arith}
 use lib.Dec.{eqb-refl}
 use Rattle.token.specs.Find.{is-there}
 use Rattle.token.proofs.Bytes.{T-true}
-use Rattle.grammar.specs.Grammar.{Symbol, Terminal, Class, Token, Kind, Integer, tok, rule, matches, Trees, nil, leaf, node, tokens, name, number, string, kind, type, integer, the, sg, ordinary, numeral, quoted, kind-word, type-word, integer-word, word, sign, OS, UINT32, given-code, sign-code}
+use Rattle.grammar.specs.Grammar.{Symbol, Terminal, Class, Token, Kind, Integer, tok, rule, matches, Trees, nil, leaf, node, tokens, name, number, string, float, kind, type, integer, the, sg, ordinary, numeral, quoted, floating, kind-word, type-word, integer-word, word, sign, OS, UINT32, given-code, sign-code}
 use Rattle.grammar.specs.Factored.{Nonterminal, Symbols, _⟹_, Choice, by, choices}
 use Rattle.grammar.specs.Machine.{has-empty, empty-of, nullable, empty-form, nullable-form, Move, take, enter, skip, after, Start, start, test, take-step, skip-step, rule-step, form-step, tries, begin, move, takes, starts, left-of, feed}
 use Rattle.grammar.proofs.Choices.{In, here, there, listed, all, nonterminals, classes, both, every, every-rule, every-class}
@@ -397,6 +397,7 @@ unfolding matches
 sample name = (ordinary, refl)
 sample number = (numeral, refl)
 sample string = (quoted, refl)
+sample float = (floating, refl)
 sample kind = (kind-word OS, refl)
 sample type = (type-word OS, refl)
 sample integer = (integer-word UINT32, refl)

@@ -4,7 +4,7 @@
 use mathlib.Core.Path.{_≡_, refl, ap}
 use mathlib.Core.List.{List, [], _∷_}
 use mathlib.Core.Bool.{Bool, true, false}
-use Rattle.grammar.specs.Grammar.{Form, Symbol, tok, rule, Rule, _⟶_, _·_, _▸_, ∎, name, number, kind, sg, lsquare, rsquare, semicolon, dots, comma, integers, strings, booleans, enums, file, version, implementation, specs, spec, definitions, definition, attribute, reference, D, P, auto, mark, integer-range, numbers, boolean-range, enumerator, enumerators, default, own, application, objects, object, block, statements, statement, value, file-is, version-is, implementation-is, no-spec, a-spec, spec-is, no-definition, a-definition, an-attribute, a-reference, an-integer, a-string, a-boolean, an-enum, reference-is, no-D, a-D, no-P, a-P, no-auto, with-auto, no-mark, a-mark, no-range, a-range, a-list, no-number, a-number, no-boolean-range, a-boolean-range, enumerator-is, no-enumerator, an-enumerator, no-default, a-default, own-auto, own-none, own-number, own-string, own-true, own-false, own-name, application-is, no-object, an-object, an-object-alone, an-object-with, no-block, a-block, no-statement, a-statement, statement-is, value-number, value-string, value-auto, value-name, value-true, value-false}
+use Rattle.grammar.specs.Grammar.{Form, Symbol, tok, rule, Rule, _⟶_, _·_, _▸_, ∎, name, number, kind, sg, lsquare, rsquare, semicolon, dots, comma, integers, strings, booleans, enums, floats, file, version, implementation, specs, spec, definitions, definition, attribute, reference, D, P, auto, mark, integer-range, numbers, boolean-range, float-range, enumerator, enumerators, default, own, application, objects, object, block, statements, statement, value, file-is, version-is, implementation-is, no-spec, a-spec, spec-is, no-definition, a-definition, an-attribute, a-reference, an-integer, a-string, a-boolean, an-enum, a-float, reference-is, no-D, a-D, no-P, a-P, no-auto, with-auto, no-mark, a-mark, no-range, a-range, a-list, no-number, a-number, no-boolean-range, no-float-range, a-boolean-range, a-float-range, enumerator-is, no-enumerator, an-enumerator, no-default, a-default, own-auto, own-none, own-number, own-string, own-true, own-false, own-name, own-float, application-is, no-object, an-object, an-object-alone, an-object-with, no-block, a-block, no-statement, a-statement, statement-is, value-number, value-string, value-float, value-auto, value-name, value-true, value-false}
 
 -- The forms of each rule of document 01, as a list.
 pub data Written (x : Rule) : Type 0 where
@@ -18,7 +18,7 @@ forms specs = written no-spec ∷ written a-spec ∷ []
 forms spec = written spec-is ∷ []
 forms definitions = written no-definition ∷ written a-definition ∷ []
 forms definition = written an-attribute ∷ written a-reference ∷ []
-forms attribute = written an-integer ∷ written a-string ∷ written a-boolean ∷ written an-enum ∷ []
+forms attribute = written an-integer ∷ written a-string ∷ written a-boolean ∷ written an-enum ∷ written a-float ∷ []
 forms reference = written reference-is ∷ []
 forms D = written no-D ∷ written a-D ∷ []
 forms P = written no-P ∷ written a-P ∷ []
@@ -27,6 +27,7 @@ forms mark = written no-mark ∷ written a-mark ∷ []
 forms integer-range = written no-range ∷ written a-range ∷ written a-list ∷ []
 forms numbers = written no-number ∷ written a-number ∷ []
 forms boolean-range = written no-boolean-range ∷ written a-boolean-range ∷ []
+forms float-range = written no-float-range ∷ written a-float-range ∷ []
 forms enumerator = written enumerator-is ∷ []
 forms enumerators = written no-enumerator ∷ written an-enumerator ∷ []
 forms (default s) = written no-default ∷ written a-default ∷ []
@@ -34,13 +35,14 @@ forms (own integers) = written own-auto ∷ written own-none ∷ written own-num
 forms (own strings) = written own-auto ∷ written own-none ∷ written own-string ∷ []
 forms (own booleans) = written own-auto ∷ written own-none ∷ written own-true ∷ written own-false ∷ []
 forms (own enums) = written own-auto ∷ written own-none ∷ written own-name ∷ []
+forms (own floats) = written own-auto ∷ written own-none ∷ written own-float ∷ []
 forms application = written application-is ∷ []
 forms objects = written no-object ∷ written an-object ∷ []
 forms object = written an-object-alone ∷ written an-object-with ∷ []
 forms block = written no-block ∷ written a-block ∷ []
 forms statements = written no-statement ∷ written a-statement ∷ []
 forms statement = written statement-is ∷ []
-forms value = written value-number ∷ written value-string ∷ written value-auto ∷ written value-name ∷ written value-true ∷ written value-false ∷ []
+forms value = written value-number ∷ written value-string ∷ written value-auto ∷ written value-name ∷ written value-true ∷ written value-false ∷ written value-float ∷ []
 
 -- The rules whose forms are changed.
 pub data Changed : Rule → Type 0 where
@@ -68,6 +70,7 @@ status mark = same
 status integer-range = changed range-changed
 status numbers = same
 status boolean-range = same
+status float-range = same
 status enumerator = same
 status enumerators = same
 status (default s) = same

@@ -21,12 +21,12 @@ pub data Integer : Type 0 where
 
 -- the other words that a form names; the last five are reserved
 pub data Given : Type 0 where
-  OIL-VERSION IMPLEMENTATION CPU STRING BOOLEAN ENUM TRUE FALSE AUTO NO-DEFAULT WITH-AUTO : Given
+  OIL-VERSION IMPLEMENTATION CPU STRING BOOLEAN ENUM FLOAT TRUE FALSE AUTO NO-DEFAULT WITH-AUTO : Given
 
 -- What the grammar sees of a token: a word is a kind's, a kind's followed by `_TYPE`, an integer type's, one that a form names, or ordinary.
 -- A token that is none of these is `other`.
 pub data Class : Type 0 where
-  ordinary numeral quoted other : Class
+  ordinary numeral quoted floating other : Class
   kind-word type-word : Kind → Class
   integer-word : Integer → Class
   word : Given → Class
@@ -39,10 +39,10 @@ pub record Token : Type 0 where
 
 -- Terminals --------------------------------------------------------------------------------------------------------------------------
 
--- What may stand at a leaf: any name, number or string; any kind, any kind followed by `_TYPE`, any integer type; a word that the form
+-- What may stand at a leaf: any name, number, string or float; any kind, any kind followed by `_TYPE`, any integer type; a word that the form
 -- names; a sign that it names.
 pub data Terminal : Type 0 where
-  name number string kind type integer : Terminal
+  name number string float kind type integer : Terminal
   the : Given → Terminal
   sg : Sign → Terminal
 
@@ -54,6 +54,7 @@ may-name CPU = true
 may-name STRING = true
 may-name BOOLEAN = true
 may-name ENUM = true
+may-name FLOAT = true
 may-name TRUE = false
 may-name FALSE = false
 may-name AUTO = false
@@ -66,6 +67,7 @@ unfolding may-name
 is-name ordinary = true
 is-name numeral = false
 is-name quoted = false
+is-name floating = false
 is-name other = false
 is-name (kind-word k) = true
 is-name (type-word k) = true
@@ -86,6 +88,7 @@ given-code FALSE = 17
 given-code AUTO = 18
 given-code NO-DEFAULT = 19
 given-code WITH-AUTO = 20
+given-code FLOAT = 21
 
 unfoldable pub sign-code : Sign → ℕ
 sign-code lbrace = 30
@@ -103,6 +106,7 @@ unfolding given-code sign-code
 code ordinary = 0
 code numeral = 1
 code quoted = 2
+code floating = 6
 code other = 9
 code (kind-word k) = 3
 code (type-word k) = 4
@@ -115,6 +119,7 @@ unfolding code given-code sign-code is-name
 matches name c = is-name c
 matches number c = eqb 1 (code c)
 matches string c = eqb 2 (code c)
+matches float c = eqb 6 (code c)
 matches kind c = eqb 3 (code c)
 matches type c = eqb 4 (code c)
 matches integer c = eqb 5 (code c)
@@ -123,16 +128,16 @@ matches (sg s) c = eqb (sign-code s) (code c)
 
 -- Rules ------------------------------------------------------------------------------------------------------------------------------
 
--- "default: .. the type's own form (number, string, TRUE or FALSE, name)"
+-- "default: .. the type's own form (number, string, TRUE or FALSE, name)", and a float (document 02, Q-4)
 pub data Sort : Type 0 where
-  integers strings booleans enums : Sort
+  integers strings booleans enums floats : Sort
 
 -- The rules. `auto` is "WITH_AUTO or nothing", `mark` "list mark or nothing", `block` "with or without `{` statements `}`", `own` what follows
 -- the `=` of a default. "Specs, definitions, objects and statements may be none": each of these is a rule, none or one and more of them; so
 -- is what follows the first of "one or more .. parted by commas" (`numbers`, `enumerators`).
 pub data Rule : Type 0 where
   file version implementation specs spec definitions definition attribute reference : Rule
-  D P auto mark integer-range numbers boolean-range enumerator enumerators : Rule
+  D P auto mark integer-range numbers boolean-range float-range enumerator enumerators : Rule
   default own : Sort → Rule
   application objects object block statements statement value : Rule
 
@@ -180,6 +185,10 @@ pub data _⟶_ : Rule → Form → Type 0 where
   a-string : attribute ⟶ the STRING · auto ▸ name · mark ▸ default strings ▸ D ▸ sg semicolon · ∎
   a-boolean : attribute ⟶ the BOOLEAN · auto ▸ boolean-range ▸ name · mark ▸ default booleans ▸ D ▸ sg semicolon · ∎
   an-enum : attribute ⟶ the ENUM · auto ▸ sg lsquare · enumerator ▸ enumerators ▸ sg rsquare · name · mark ▸ default enums ▸ D ▸ sg semicolon · ∎
+  -- document 02, Q-4: "Add the type FLOAT, with WITH_AUTO, a range of two floats, list mark, default and values"
+  a-float : attribute ⟶ the FLOAT · auto ▸ float-range ▸ name · mark ▸ default floats ▸ D ▸ sg semicolon · ∎
+  no-float-range : float-range ⟶ ∎
+  a-float-range : float-range ⟶ sg lsquare · float · sg dots · float · sg rsquare · ∎
   no-auto : auto ⟶ ∎
   with-auto : auto ⟶ the WITH-AUTO · ∎
   no-mark : mark ⟶ ∎
@@ -212,6 +221,7 @@ pub data _⟶_ : Rule → Form → Type 0 where
   own-true : own booleans ⟶ the TRUE · ∎
   own-false : own booleans ⟶ the FALSE · ∎
   own-name : own enums ⟶ name · ∎
+  own-float : own floats ⟶ float · ∎
   -- "application: CPU name `{` objects `}` D `;` with each object: kind name D `;` or kind name `{` statements `}` D `;`"
   application-is : application ⟶ the CPU · name · sg lbrace · objects ▸ sg rbrace · D ▸ sg semicolon · ∎
   no-object : objects ⟶ ∎
@@ -224,6 +234,7 @@ pub data _⟶_ : Rule → Form → Type 0 where
   statement-is : statement ⟶ name · sg equals · value ▸ D ▸ sg semicolon · ∎
   value-number : value ⟶ number · ∎
   value-string : value ⟶ string · ∎
+  value-float : value ⟶ float · ∎
   value-auto : value ⟶ the AUTO · ∎
   value-name : value ⟶ name · block ▸ ∎
   value-true : value ⟶ the TRUE · block ▸ ∎

@@ -8,6 +8,7 @@ use super::lookahead::BOOLEAN;
 use super::lookahead::COMMA;
 use super::lookahead::ENUM;
 use super::lookahead::FALSE;
+use super::lookahead::FLOAT;
 use super::lookahead::LBRACE;
 use super::lookahead::LSQUARE;
 use super::lookahead::RBRACE;
@@ -82,6 +83,10 @@ pub fn definition(text: &[u8], a: Look) -> Look
     if lookahead::is_type(code) {
         let b = lookahead::advance(text, a);
         return parts::reference_rest(text, b);
+    }
+    if code == FLOAT {
+        let b = lookahead::advance(text, a);
+        return parts::float_rest(text, b);
     }
     lookahead::refuse(a)
 }

@@ -22,8 +22,8 @@ pub mod lookahead;
 pub mod parts;
 mod statements;
 
-// A look at the next token: its code, its place, the place after it, and how many braces are open before it. The code 54 is the text's end,
-// and 54 + n is refusal n at the place.
+// A look at the next token: its code, its place, the place after it, and how many braces are open before it. The code 56 is the text's end,
+// and 56 + n is refusal n at the place.
 pub struct Look {
     pub code: u8,
     pub at: usize,

@@ -9,7 +9,7 @@ use token::Cursor;
 use token::Sort;
 use token::Step;
 
-// The codes of the words that a form names, of numbers and of strings. Tokens have the codes below END, and END + n is refusal n.
+// The codes of the words that a form names, of numbers, strings and floats. Tokens have the codes below END, and END + n is refusal n.
 pub const TRUE: u8 = 1;
 
 pub const FALSE: u8 = 2;
@@ -32,53 +32,57 @@ pub const BOOLEAN: u8 = 40;
 
 pub const ENUM: u8 = 41;
 
-pub const NUMERAL: u8 = 42;
+pub const FLOAT: u8 = 42;
 
-pub const QUOTED: u8 = 43;
+pub const NUMERAL: u8 = 43;
 
-pub const LBRACE: u8 = 44;
+pub const QUOTED: u8 = 44;
 
-pub const RBRACE: u8 = 45;
+pub const LBRACE: u8 = 45;
 
-pub const LSQUARE: u8 = 46;
+pub const RBRACE: u8 = 46;
 
-pub const RSQUARE: u8 = 47;
+pub const LSQUARE: u8 = 47;
 
-pub const EQUALS: u8 = 48;
+pub const RSQUARE: u8 = 48;
 
-pub const SEMICOLON: u8 = 49;
+pub const EQUALS: u8 = 49;
 
-pub const COLON: u8 = 50;
+pub const SEMICOLON: u8 = 50;
 
-pub const COMMA: u8 = 51;
+pub const COLON: u8 = 51;
 
-pub const DOTS: u8 = 52;
+pub const COMMA: u8 = 52;
+
+pub const DOTS: u8 = 53;
+
+pub const FLOATING: u8 = 54;
 
 // A token that the grammar has no terminal for.
-pub const OTHER: u8 = 53;
+pub const OTHER: u8 = 55;
 
-pub const END: u8 = 54;
+pub const END: u8 = 56;
 
-pub const NO_TOKEN: u8 = 57;
+pub const NO_TOKEN: u8 = 59;
 
-pub const NOT_ADMITTED: u8 = 58;
+pub const NOT_ADMITTED: u8 = 60;
 
-pub const TOO_DEEP: u8 = 59;
+pub const TOO_DEEP: u8 = 61;
 
 // A punctuator's code, by its byte.
 pub fn punctuator_code(b: u8) -> u8
     ensures { λ r. ⌜ r ≡ punctuatorCode b ⌝ }
 {
     match b {
-        b'{' => 44,
-        b'}' => 45,
-        b'[' => 46,
-        b']' => 47,
-        b'=' => 48,
-        b';' => 49,
-        b':' => 50,
-        b',' => 51,
-        b'.' => 52,
+        b'{' => 45,
+        b'}' => 46,
+        b'[' => 47,
+        b']' => 48,
+        b'=' => 49,
+        b';' => 50,
+        b':' => 51,
+        b',' => 52,
+        b'.' => 53,
         _ => OTHER,
     }
 }
@@ -88,10 +92,11 @@ pub fn code_of(sort: Sort) -> u8
     ensures { λ r. ⌜ r ≡ codeOf sort ⌝ }
 {
     match sort {
-        Sort::Word(c) => { if c < 42 { c } else { OTHER } }
+        Sort::Word(c) => { if c < 43 { c } else { OTHER } }
         Sort::Number(_, _) => NUMERAL,
         Sort::String => QUOTED,
         Sort::Punctuator(b) => punctuator_code(b),
+        Sort::Float(_, _, _) => FLOATING,
     }
 }
 
@@ -199,7 +204,7 @@ pub fn is_name(code: u8) -> bool
     if code == 0 {
         return true;
     }
-    is_between(6, code, 41)
+    is_between(6, code, 42)
 }
 
 // Whether a token is one of the thirteen kinds.
@@ -227,7 +232,7 @@ pub fn is_integer(code: u8) -> bool
 pub fn is_definition(code: u8) -> bool
     ensures { λ r. ⌜ r ≡ starts (paper definition) (classAt code) ⌝ }
 {
-    is_between(22, code, 41)
+    is_between(22, code, 42)
 }
 
 // A name.

@@ -1,6 +1,6 @@
 // The readers of the parts that hold no definitions and no statements.
 ghost use mathlib.Core.Path.{_≡_};
-ghost use Rattle.grammar.specs.Grammar.{_·_, _▸_, ∎, sg, semicolon, rbrace, name, D, auto, mark, integer-range, numbers, default, own, integers, strings, enums};
+ghost use Rattle.grammar.specs.Grammar.{_·_, _▸_, ∎, sg, semicolon, rbrace, name, D, auto, mark, integer-range, numbers, default, own, float-range, integers, strings, enums, floats};
 ghost use Rattle.grammar.specs.Factored.{span};
 ghost use Rattle.grammar.specs.Readers.{Meets, Reads, sortAt, fitting};
 use super::Look;
@@ -11,6 +11,7 @@ use super::lookahead::COMMA;
 use super::lookahead::DOTS;
 use super::lookahead::EQUALS;
 use super::lookahead::FALSE;
+use super::lookahead::FLOATING;
 use super::lookahead::LSQUARE;
 use super::lookahead::NO_DEFAULT;
 use super::lookahead::NUMERAL;
@@ -110,7 +111,21 @@ pub fn integer_range(text: &[u8], a: Look) -> Look
     lookahead::expect(text, d, RSQUARE)
 }
 
-// Whether the token is the own form of a default: of an integer (0), a string (1), a truth (2), an enumerator (3 and more).
+// A float range: nothing, or `[` float `..` float `]`.
+pub fn float_range(text: &[u8], a: Look) -> Look
+    ensures { λ r. ⌜ Meets 0 (float-range ▸ ∎) (now (text .entry)) a r ⌝ }
+{
+    if a.code != LSQUARE {
+        return a;
+    }
+    let b = lookahead::advance(text, a);
+    let c = lookahead::expect(text, b, FLOATING);
+    let d = lookahead::expect(text, c, DOTS);
+    let e = lookahead::expect(text, d, FLOATING);
+    lookahead::expect(text, e, RSQUARE)
+}
+
+// Whether the token is the own form of a default: of an integer (0), a string (1), a truth (2), a float (4), an enumerator (any other).
 pub fn is_own(sort: u8, code: u8) -> bool
     ensures { λ r. ⌜ r ≡ fitting (sortAt sort) code ⌝ }
 {
@@ -125,6 +140,9 @@ pub fn is_own(sort: u8, code: u8) -> bool
             return true;
         }
         return code == FALSE;
+    }
+    if sort == 4 {
+        return code == FLOATING;
     }
     lookahead::is_name(code)
 }
@@ -182,6 +200,15 @@ pub fn string_rest(text: &[u8], a: Look) -> Look
 {
     let b = auto(text, a);
     named(text, b, 1)
+}
+
+// A float attribute behind its type.
+pub fn float_rest(text: &[u8], a: Look) -> Look
+    ensures { λ r. ⌜ Meets 0 (auto ▸ float-range ▸ name · mark ▸ default floats ▸ D ▸ sg semicolon · ∎) (now (text .entry)) a r ⌝ }
+{
+    let b = auto(text, a);
+    let c = float_range(text, b);
+    named(text, c, 4)
 }
 
 // A reference behind its type.

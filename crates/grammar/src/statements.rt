@@ -7,6 +7,7 @@ use super::lookahead;
 use super::lookahead::AUTO;
 use super::lookahead::EQUALS;
 use super::lookahead::FALSE;
+use super::lookahead::FLOATING;
 use super::lookahead::LBRACE;
 use super::lookahead::NUMERAL;
 use super::lookahead::QUOTED;
@@ -26,7 +27,7 @@ pub fn block(text: &[u8], a: Look) -> Look
     lookahead::expect(text, c, RBRACE)
 }
 
-// A number, string, AUTO, or a name, TRUE or FALSE with or without `{` statements `}`.
+// A number, string, float, AUTO, or a name, TRUE or FALSE with or without `{` statements `}`.
 pub fn value(text: &[u8], a: Look) -> Look
     ensures { λ r. ⌜ Meets 1 (value ▸ ∎) (now (text .entry)) a r ⌝ }
 {
@@ -51,6 +52,9 @@ pub fn value(text: &[u8], a: Look) -> Look
     if lookahead::is_name(code) {
         let b = lookahead::advance(text, a);
         return block(text, b);
+    }
+    if code == FLOATING {
+        return lookahead::advance(text, a);
     }
     lookahead::refuse(a)
 }

@@ -23,7 +23,7 @@ use Rattle.rows.specs.declared.Found.the-variants.{At, Nothing}
 use Rattle.rows.specs.Search.{isFound, rowOf}
 use Rattle.rows.specs.Order.{faultIf, isFault}
 use Rattle.rows.specs.Order.{sooner as sooner-of}
-use Rattle.meaning.specs.Syntax.{Word, AttributeType, integer, string, boolean, enum, reference, Definitions, Values, Defined, Statement, Statements, done, state, Object, File, statements-in}
+use Rattle.meaning.specs.Syntax.{Word, AttributeType, integer, string, boolean, enum, float, reference, Definitions, Values, Defined, Statement, Statements, done, state, Object, File, statements-in}
 use Rattle.meaning.specs.Words.{among}
 use Rattle.meaning.specs.Kinds.{kind-number}
 use Rattle.meaning.specs.Faults.{first, fault-if}
@@ -35,7 +35,7 @@ use Rattle.blocks.specs.Blocks.{BraceIn, no-brace, a-brace, BlockAt, row-after,
 use Rattle.scopes.specs.Situations.{HasDefinition, Stands, ScopeAt, no-scope, scope}
 use Rattle.scopes.specs.Given.{Given, Places}
 use Rattle.scopes.specs.Promises.{fault-of, row-found, object-found, FindsDefinition, FindsWord, FindsObject, TakesUnder}
-use Rattle.scopes.specs.Forms.{Formed, an-integer, a-string, a-boolean, an-enum, a-reference}
+use Rattle.scopes.specs.Forms.{Formed, an-integer, a-string, a-boolean, an-enum, a-float, a-reference}
 use Rattle.scopes.proofs.Sorts.{sort-coded, tells, name-coded}
 use Rattle.scopes.proofs.Descents.{found-definition, scope-under, scope-of-kind}
 use Rattle.judging.specs.Promises.{name-code, ReferenceFault, StatedAs, OwnFault, Marked, Lacks, LackFault, Scoped, Judges, JudgesOne, JudgesBlock, JudgesObject, JudgesObjects}
@@ -53,25 +53,31 @@ use Rattle.layout.proofs.Codes.{kind-low, integer-low}
 
 -- The cases of a code.
 module _ (c : ℕ) where
-  pub code-number : c ≡ 42 → name-code c ≡ false
+  pub code-number : c ≡ 43 → name-code c ≡ false
   unfolding name-code
-  code-number h = ap (λ b. pick b false (pick (eqb c 43) false (pick (eqb c 0) true (leb 5 c)))) (eq-eqb c 42 h)
+  code-number h = ap (λ b. pick b false (pick (eqb c 44) false (pick (eqb c 0) true (pick (eqb c 54) false (leb 5 c))))) (eq-eqb c 43 h)
 
-  code-not-number : (c ≡ 42 → ⊥) → name-code c ≡ pick (eqb c 43) false (pick (eqb c 0) true (leb 5 c))
+  code-not-number : (c ≡ 43 → ⊥) → name-code c ≡ pick (eqb c 44) false (pick (eqb c 0) true (pick (eqb c 54) false (leb 5 c)))
   unfolding name-code
-  code-not-number h = ap (λ b. pick b false (pick (eqb c 43) false (pick (eqb c 0) true (leb 5 c)))) (ne-eqb c 42 h)
+  code-not-number h = ap (λ b. pick b false (pick (eqb c 44) false (pick (eqb c 0) true (pick (eqb c 54) false (leb 5 c))))) (ne-eqb c 43 h)
 
-  pub code-string : (c ≡ 42 → ⊥) → c ≡ 43 → name-code c ≡ false
-  code-string h i = code-not-number h ∙ ap (λ b. pick b false (pick (eqb c 0) true (leb 5 c))) (eq-eqb c 43 i)
+  pub code-string : (c ≡ 43 → ⊥) → c ≡ 44 → name-code c ≡ false
+  code-string h i = code-not-number h ∙ ap (λ b. pick b false (pick (eqb c 0) true (pick (eqb c 54) false (leb 5 c)))) (eq-eqb c 44 i)
 
-  code-not-string : (c ≡ 42 → ⊥) → (c ≡ 43 → ⊥) → name-code c ≡ pick (eqb c 0) true (leb 5 c)
-  code-not-string h i = code-not-number h ∙ ap (λ b. pick b false (pick (eqb c 0) true (leb 5 c))) (ne-eqb c 43 i)
+  code-not-string : (c ≡ 43 → ⊥) → (c ≡ 44 → ⊥) → name-code c ≡ pick (eqb c 0) true (pick (eqb c 54) false (leb 5 c))
+  code-not-string h i = code-not-number h ∙ ap (λ b. pick b false (pick (eqb c 0) true (pick (eqb c 54) false (leb 5 c)))) (ne-eqb c 44 i)
 
-  pub code-ordinary : (c ≡ 42 → ⊥) → (c ≡ 43 → ⊥) → c ≡ 0 → name-code c ≡ true
-  code-ordinary h i k = code-not-string h i ∙ ap (λ b. pick b true (leb 5 c)) (eq-eqb c 0 k)
+  pub code-ordinary : (c ≡ 43 → ⊥) → (c ≡ 44 → ⊥) → c ≡ 0 → name-code c ≡ true
+  code-ordinary h i k = code-not-string h i ∙ ap (λ b. pick b true (pick (eqb c 54) false (leb 5 c))) (eq-eqb c 0 k)
 
-  pub code-other : (c ≡ 42 → ⊥) → (c ≡ 43 → ⊥) → (c ≡ 0 → ⊥) → name-code c ≡ leb 5 c
-  code-other h i k = code-not-string h i ∙ ap (λ b. pick b true (leb 5 c)) (ne-eqb c 0 k)
+  code-not-ordinary : (c ≡ 43 → ⊥) → (c ≡ 44 → ⊥) → (c ≡ 0 → ⊥) → name-code c ≡ pick (eqb c 54) false (leb 5 c)
+  code-not-ordinary h i k = code-not-string h i ∙ ap (λ b. pick b true (pick (eqb c 54) false (leb 5 c))) (ne-eqb c 0 k)
+
+  pub code-float : (c ≡ 43 → ⊥) → (c ≡ 44 → ⊥) → (c ≡ 0 → ⊥) → c ≡ 54 → name-code c ≡ false
+  code-float h i k l = code-not-ordinary h i k ∙ ap (λ b. pick b false (leb 5 c)) (eq-eqb c 54 l)
+
+  pub code-other : (c ≡ 43 → ⊥) → (c ≡ 44 → ⊥) → (c ≡ 0 → ⊥) → (c ≡ 54 → ⊥) → name-code c ≡ leb 5 c
+  code-other h i k l = code-not-ordinary h i k ∙ ap (λ b. pick b false (leb 5 c)) (ne-eqb c 54 l)
 
 from-five : (n : ℕ) → (n ≡ 0 → ⊥) → (n ≡ 1 → ⊥) → (n ≡ 2 → ⊥) → (n ≡ 3 → ⊥) → (n ≡ 4 → ⊥) → 5 ≤ n
 from-five zero a b c d e = absurd (a refl)
@@ -88,19 +94,20 @@ module _ (os : List Object) (k : Kind) (t : Word) where
 
   reference-coded : (n : ℕ) → Coded n
   unfolding reference-faults sort-coded name-code
-  reference-coded n = by (ℕ-discrete n 42) (ℕ-discrete n 43) (ℕ-discrete n 0) (ℕ-discrete n 1) (ℕ-discrete n 2) (ℕ-discrete n 3) (ℕ-discrete n 4)
+  reference-coded n = by (ℕ-discrete n 43) (ℕ-discrete n 44) (ℕ-discrete n 0) (ℕ-discrete n 1) (ℕ-discrete n 2) (ℕ-discrete n 3) (ℕ-discrete n 4) (ℕ-discrete n 54)
     where
-      by : Dec (n ≡ 42) → Dec (n ≡ 43) → Dec (n ≡ 0) → Dec (n ≡ 1) → Dec (n ≡ 2) → Dec (n ≡ 3) → Dec (n ≡ 4) → Coded n
-      by (yes e) _ _ _ _ _ _ = subst Coded (sym e) refl
-      by (no _) (yes e) _ _ _ _ _ = subst Coded (sym e) refl
-      by (no _) (no _) (yes e) _ _ _ _ = subst Coded (sym e) refl
-      by (no _) (no _) (no _) (yes e) _ _ _ = subst Coded (sym e) refl
-      by (no _) (no _) (no _) (no _) (yes e) _ _ = subst Coded (sym e) refl
-      by (no _) (no _) (no _) (no _) (no _) (yes e) _ = subst Coded (sym e) refl
-      by (no _) (no _) (no _) (no _) (no _) (no _) (yes e) = subst Coded (sym e) refl
-      by (no a) (no b) (no c) (no d) (no e) (no f) (no g) =
-          ap (λ q. reference-faults os k q t) (name-coded n a b d e f g)
-          ∙ ap (λ q. pick q (fault-if (not (is-there (find-object k os t))) t 18) (fault-if true t 15)) (sym (code-other n a b c ∙ le-leb 5 n (from-five n c d e f g)))
+      by : Dec (n ≡ 43) → Dec (n ≡ 44) → Dec (n ≡ 0) → Dec (n ≡ 1) → Dec (n ≡ 2) → Dec (n ≡ 3) → Dec (n ≡ 4) → Dec (n ≡ 54) → Coded n
+      by (yes e) _ _ _ _ _ _ _ = subst Coded (sym e) refl
+      by (no _) (yes e) _ _ _ _ _ _ = subst Coded (sym e) refl
+      by (no _) (no _) (yes e) _ _ _ _ _ = subst Coded (sym e) refl
+      by (no _) (no _) (no _) (yes e) _ _ _ _ = subst Coded (sym e) refl
+      by (no _) (no _) (no _) (no _) (yes e) _ _ _ = subst Coded (sym e) refl
+      by (no _) (no _) (no _) (no _) (no _) (yes e) _ _ = subst Coded (sym e) refl
+      by (no _) (no _) (no _) (no _) (no _) (no _) (yes e) _ = subst Coded (sym e) refl
+      by (no _) (no _) (no _) (no _) (no _) (no _) (no _) (yes e) = subst Coded (sym e) refl
+      by (no a) (no b) (no c) (no d) (no e) (no f) (no g) (no h) =
+          ap (λ q. reference-faults os k q t) (name-coded n a b d e f g h)
+          ∙ ap (λ q. pick q (fault-if (not (is-there (find-object k os t))) t 18) (fault-if true t 15)) (sym (code-other n a b c h ∙ le-leb 5 n (from-five n c d e f g)))
 
   reference-by : (c : Class) → reference-faults os k (sort-of c) t ≡ pick (name-code (class-number c)) (fault-if (not (is-there (find-object k os t))) t 18) (fault-if true t 15)
   reference-by c = ap (λ q. reference-faults os k q t) (tells c .sort) ∙ reference-coded (class-number c)
@@ -185,6 +192,7 @@ module _ {s d e o st : List ℕ} {z : Sizes} {k j : ℕ} {f : File} {x : Stateme
       go : c ≡ code-of (y .definition .word) → {vs : Values} → Formed s (y .definition) vs → ⊥
       go q (an-integer i t w b) = let l = integer-low i in omega arith
       go q (a-string t w b) = omega arith
+      go q (a-float t w b) = omega arith
       go q (a-boolean t w b v) = omega arith
       go q (an-enum t w b v) = omega arith
       go q (a-reference r t w b) = omega arith
@@ -205,6 +213,7 @@ module _ {s d e o st : List ℕ} {z : Sizes} {k j : ℕ} {f : File} {x : Stateme
           → sooner-of g (faultIf (not (eqb brace 0)) 15 brace) ≡ fault-of (first (faults-as (y .definition .type) (f .objects) x y))
       go m (an-integer i t w b) = let l = integer-low i in absurd (omega arith)
       go m (a-string t w b) = absurd (omega arith)
+      go m (a-float t w b) = absurd (omega arith)
       go m (a-boolean t w b v) = absurd (omega arith)
       go m (an-enum t w b v) = absurd (omega arith)
       go m (a-reference q t w b) =
@@ -245,6 +254,7 @@ module _ {s d e o st : List ℕ} {z : Sizes} {k j : ℕ} {f : File} {x : Stateme
           → fault-of (first (fault-if (not (fits (y .definition) (y .values) (x .value))) (x .value) 15)) ≡ fault-of (first (faults-as (y .definition .type) (f .objects) x y))
       go m (an-integer i t w b) = no-reference (integer i) t refl
       go m (a-string t w b) = no-reference string t refl
+      go m (a-float t w b) = no-reference float t refl
       go m (a-boolean t w b v) = no-reference boolean t refl
       go m (an-enum t w b v) = no-reference enum t refl
       go m (a-reference q t w b) = let l = kind-low q in absurd (omega arith)

@@ -84,7 +84,7 @@ Marks s d e st z ms = (o : List ℕ) (f : File) → Given s d e o st z f → Mar
 
 -- Whether a word with this code is a name: no number, string, TRUE, FALSE, AUTO or NO_DEFAULT.
 unfoldable pub name-code : ℕ → Bool
-name-code c = pick (eqb c 42) false (pick (eqb c 43) false (pick (eqb c 0) true (leb 5 c)))
+name-code c = pick (eqb c 43) false (pick (eqb c 44) false (pick (eqb c 0) true (pick (eqb c 54) false (leb 5 c))))
 
 -- 15 and 18 of a reference to the kind of a number, whose value is the word at a place with a code.
 abbrev pub ReferenceFault : (s o : List ℕ) → (n kind at len code : ℕ) → Fault → Type 0

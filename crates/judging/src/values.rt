@@ -20,14 +20,17 @@ use scopes::Sizes;
 fn is_name(code: usize) -> bool
     ensures { λ r. ⌜ r ≡ name-code code ⌝ }
 {
-    if code == 42 {
+    if code == 43 {
         return false;
     }
-    if code == 43 {
+    if code == 44 {
         return false;
     }
     if code == 0 {
         return true;
+    }
+    if code == 54 {
+        return false;
     }
     5 <= code
 }

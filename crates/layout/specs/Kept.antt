@@ -9,7 +9,7 @@ use lib.ListN.{length, replicate}
 use lib.Seq.{sets}
 use lib.Dec.{eqb}
 use Rattle.token.specs.Find.{pick, bit}
-use Rattle.grammar.specs.Grammar.{Class, Given, Sign, ordinary, numeral, quoted, other, kind-word, type-word, integer-word, word, sign, OIL-VERSION, IMPLEMENTATION, CPU, STRING, BOOLEAN, ENUM, TRUE, FALSE, AUTO, NO-DEFAULT, WITH-AUTO, lbrace, rbrace, lsquare, rsquare, equals, semicolon, colon, comma, dots}
+use Rattle.grammar.specs.Grammar.{Class, Given, Sign, ordinary, numeral, quoted, floating, other, kind-word, type-word, integer-word, word, sign, OIL-VERSION, IMPLEMENTATION, CPU, STRING, BOOLEAN, ENUM, FLOAT, TRUE, FALSE, AUTO, NO-DEFAULT, WITH-AUTO, lbrace, rbrace, lsquare, rsquare, equals, semicolon, colon, comma, dots}
 use Rattle.meaning.specs.Syntax.{Word, span-or, Definition, Definitions, no-more, define, Values, no-value, value, Spec, Statement, Statements, done, state, Object, File, is-enum, statements-in}
 use Rattle.meaning.specs.Kinds.{kind-number}
 use Rattle.meaning.specs.Defining.{specified}
@@ -29,24 +29,26 @@ given-number CPU = 8
 given-number STRING = 39
 given-number BOOLEAN = 40
 given-number ENUM = 41
+given-number FLOAT = 42
 
 unfoldable pub sign-number : Sign → ℕ
-sign-number lbrace = 44
-sign-number rbrace = 45
-sign-number lsquare = 46
-sign-number rsquare = 47
-sign-number equals = 48
-sign-number semicolon = 49
-sign-number colon = 50
-sign-number comma = 51
-sign-number dots = 52
+sign-number lbrace = 45
+sign-number rbrace = 46
+sign-number lsquare = 47
+sign-number rsquare = 48
+sign-number equals = 49
+sign-number semicolon = 50
+sign-number colon = 51
+sign-number comma = 52
+sign-number dots = 53
 
 -- The code of a word, by its class: that of the look at its token.
 unfoldable pub class-number : Class → ℕ
 class-number ordinary = 0
-class-number numeral = 42
-class-number quoted = 43
-class-number other = 53
+class-number numeral = 43
+class-number quoted = 44
+class-number floating = 54
+class-number other = 55
 class-number (kind-word k) = 9 + kind-number k
 class-number (type-word k) = 22 + kind-number k
 class-number (integer-word i) = integer-code i

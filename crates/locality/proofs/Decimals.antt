@@ -11,13 +11,20 @@ use lib.Seq.{take-length}
 use lib.Dec.{T, ltb, eqb}
 use borrow.Author.Tests.{lt-ltb, ltb-true, ne-eqb, eqb-true}
 use Rattle.token.specs.Find.{both, byte}
-use Rattle.token.specs.Bytes.{digit, plusMinus, classOf, classCode, isWordByte, wordEnd}
+use Rattle.token.specs.Bytes.{digit, plusMinus, classOf, classCode, isWordByte, wordEnd, isDotted, findMark}
 use Rattle.token.specs.Numbers.{digitOf, allDigits, valueAfter, digitsAfter, numeral}
-use Rattle.token.specs.Tokens.{bytesBetween, found, wordAt, limitOf, isNegative, numberOf, numberAt, tokenOf, stepAt}
+use Rattle.token.specs.Floats.{mantissaOf, powerAt}
+use Rattle.token.specs.declared.Amount.{Amount}
+use Rattle.token.specs.declared.Amount.the-variants.{Is, Not}
+use Rattle.token.specs.declared.Power.{Power}
+use Rattle.token.specs.declared.Power.the-variants.{Times, None}
+use Rattle.token.proofs.Lexemes.{number-whole}
+use Rattle.token.proofs.Decimals.{dotted-short}
+use Rattle.token.specs.Tokens.{bytesBetween, found, wordAt, limitOf, isNegative, numberOf, wholeAt, floatOf, floatBy, floatAt, numberBy, numberAt, tokenOf, stepAt}
 use Rattle.token.specs.declared.Cursor.{Cursor}
 use Rattle.token.specs.declared.Token.{Token}
 use Rattle.token.specs.declared.Sort.{Sort}
-use Rattle.token.specs.declared.Sort.the-variants.{Word, Number, String, Punctuator}
+use Rattle.token.specs.declared.Sort.the-variants.{Word, Number, String, Punctuator, Float}
 use Rattle.token.specs.declared.Step.{Step}
 use Rattle.token.specs.declared.Step.the-variants.{Found, Refused, End}
 use Rattle.token.proofs.Tables.{upTo, below}
@@ -39,6 +46,7 @@ abbrev NumberOk : Sort → Type 0
 NumberOk (Word k) = Unit {0}
 NumberOk (Number n m) = WithinLimits n m
 NumberOk String = Unit {0}
+NumberOk (Float n m k) = Unit {0}
 NumberOk (Punctuator b) = Unit {0}
 
 abbrev StepNumber : Step → Type 0
@@ -55,11 +63,27 @@ unfolding limitOf isNegative
 within true m h = negative m (ltb 0 m) refl h
 within false m h = h
 
-number-ok : (s : List ℕ) (p q : ℕ) → StepNumber (numberAt s p q)
-unfolding numberAt found
-number-ok s p q =
+whole-ok : (s : List ℕ) (p q : ℕ) → StepNumber (wholeAt s p q)
+unfolding wholeAt found
+whole-ok s p q =
     number-form (eqb (byte s p) 45) (ltb p q) (limitOf (eqb (byte s p) 45)) (λ (f : ℕ → ℕ → Step). StepNumber (f p (wordEnd s q)))
     (λ m h. within (eqb (byte s p) 45) m h) tt (bytesBetween s q (wordEnd s q))
+
+float-ok : (minus : Bool) (v : Amount) (w : Power) (n p : ℕ) → StepNumber (floatOf minus v w n p)
+unfolding found
+float-ok minus (Is m) (Times b x e) n p = tt
+float-ok minus (Is m) None n p = tt
+float-ok minus Not (Times b x e) n p = tt
+float-ok minus Not None n p = tt
+
+number-by-ok : (b : Bool) (s : List ℕ) (p q : ℕ) → StepNumber (numberBy b s p q)
+unfolding numberBy floatAt floatBy
+number-by-ok true s p q = float-ok (eqb (byte s p) 45) (mantissaOf _ _) (powerAt s _ _) _ p
+number-by-ok false s p q = whole-ok s p q
+
+number-ok : (s : List ℕ) (p q : ℕ) → StepNumber (numberAt s p q)
+unfolding numberAt
+number-ok s p q = number-by-ok (isDotted s (wordEnd s q)) s p q
 
 -- the numbers of a text lie within the limits
 pub found-number : (s : List ℕ) (p : ℕ) (t : Token) (c : Cursor) (n : Bool) (m : ℕ) → stepAt s p ≡ Found t c → t .sort ≡ Number n m → WithinLimits n m
@@ -177,7 +201,7 @@ tail-word x w e (suc i) h l = digits-word w e i (omega arith)
 
 -- the digits of a number
 plus : (n : ℕ) (w : List ℕ) → Decimal n w → n ≤ 18446744073709551615 → One w (Number false n)
-unfolding tokenOf limitOf isNegative parting numberAt
+unfolding tokenOf limitOf isNegative parting wholeAt
 plus n w r h =
     let d = first-digit w (r .digits) (r .long) in
     let c : classOf (byte w 0) ≡ digit = ap classOf (d .1) ∙ class-is (48 + d .0) 1 (digit-class (d .0) (d .2)) in
@@ -185,15 +209,17 @@ plus n w r h =
     let run : wordEnd w 0 ≡ length w = run-end w 0 (omega arith) (λ i _ l. digits-word w (r .digits) i l) in
     step-one w (Number false n)
     (start w digit (r .long) c refl
+    ∙ number-whole w 0 0 (length w) (sym run) (dotted-short w (length w) (omega arith))
     ∙ rw (run, whole-between w, minus) (numeral-is false (ltb 0 0) 18446744073709551615 n w 0 (length w) r h (decLt 0 n)))
 
 -- and after a minus
 minus : (n : ℕ) (w : List ℕ) → Decimal n w → 0 < n → n ≤ 9223372036854775808 → One (45 ∷ w) (Number true n)
-unfolding tokenOf limitOf isNegative parting classOf numberAt
+unfolding tokenOf limitOf isNegative parting classOf wholeAt
 minus n w r l h =
     let run : wordEnd (45 ∷ w) 1 ≡ suc (length w) = run-end (45 ∷ w) 1 (omega arith) (tail-word 45 w (r .digits)) in
     step-one (45 ∷ w) (Number true n)
     (start (45 ∷ w) plusMinus (omega arith) refl refl
+    ∙ number-whole (45 ∷ w) 0 1 (suc (length w)) (sym run) (dotted-short (45 ∷ w) (suc (length w)) (omega arith))
     ∙ rw (run, after-first 45 w) (numeral-is true (ltb 0 1) 9223372036854775808 n w 0 (suc (length w)) r h (decLt 0 n))
     ∙ ap (λ (b : Bool). found (Number b n) 0 (suc (length w))) (lt-ltb 0 n l))
 

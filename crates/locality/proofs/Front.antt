@@ -1,26 +1,34 @@
 -- A token is found by its own bytes: a text that has them at the same places, and goes on so that they end there, has it too. Assumes nothing.
-use Prim.Native.Nat.{ℕ, zero, suc, _+_, _-_, _≤_, _<_}
-use mathlib.Core.Path.{_≡_, refl, sym, _∙_, ap, subst}
+use Prim.Native.Nat.{ℕ, zero, suc, _+_, _-_, min, _≤_, _<_}
+use mathlib.Core.Path.{_≡_, refl, sym, _∙_, ap, ap₂, subst}
 use mathlib.Core.List.{List}
-use mathlib.Core.Bool.{Bool, true, false, not}
+use mathlib.Core.Bool.{Bool, true, false, not, false≢true}
 use mathlib.Core.Logic.{⊎-elim}
 use native.Mathlib.Omega.{arith}
-use native.Mathlib.Nat.{eq-or-lt-of-le, add-zero}
-use lib.ListN.{length, drop, length-take, length-drop}
+use native.Mathlib.Decide.{ℕ-discrete}
+use native.Mathlib.Nat.{eq-or-lt-of-le, add-zero, zero-min}
+use lib.ListN.{length, take, List·getD-eq-default, drop, length-take, length-drop}
 use lib.Seq.{ext-getD, getD-take, getD-drop}
 use lib.Dec.{ltb, eqb}
-use borrow.Author.Tests.{lt-ltb, ltb-true}
-use Rattle.token.specs.Find.{byte, find}
-use Rattle.token.specs.Bytes.{Class, letter, digit, blank, plusMinus, quote, punctuator, dot, slash, other, classOf, isWordByte, wordEnd, findByte, pairAt, findClose}
-use Rattle.token.specs.Tokens.{bytesBetween, found, wordAt, limitOf, numberAt, stringAt, dotsAt, tokenOf, tokenAt, stepAt}
+use borrow.Author.Tests.{lt-ltb, ltb-true, eqb-true}
+use Rattle.token.specs.Find.{byte, find, both, either}
+use Rattle.token.specs.Bytes.{Class, letter, digit, blank, plusMinus, quote, punctuator, dot, slash, other, classOf, isWordByte, wordEnd, findByte, pairAt, findClose, isDigit, isLetter, isPlusMinus, isExponentMark, isDotted, findMark, isSigned}
+use Rattle.token.specs.Floats.{someDigits, mantissaOf, powerOf, powerAt}
+use Rattle.token.specs.declared.Amount.{Amount}
+use Rattle.token.specs.declared.Amount.the-variants.{Is, Not}
+use Rattle.token.specs.declared.Power.{Power}
+use Rattle.token.specs.declared.Power.the-variants.{Times, None}
+use Rattle.token.proofs.Lexemes.{number-float, number-whole}
+use Rattle.token.proofs.Decimals.{mark-low, mark-high, dotted-inside, signed-inside, signed-past, signed-other, power-none, power-signed, power-unsigned, some-none, power-fits}
+use Rattle.token.specs.Tokens.{bytesBetween, found, wordAt, limitOf, wholeAt, floatOf, floatBy, floatAt, numberBy, numberAt, stringAt, dotsAt, tokenOf, tokenAt, stepAt}
 use Rattle.token.specs.declared.Cursor.{Cursor}
 use Rattle.token.specs.declared.Token.{Token}
 use Rattle.token.specs.declared.Sort.{Sort}
-use Rattle.token.specs.declared.Sort.the-variants.{Word, Number, String, Punctuator}
+use Rattle.token.specs.declared.Sort.the-variants.{Word, Number, String, Punctuator, Float}
 use Rattle.token.specs.declared.Step.{Step}
 use Rattle.token.specs.declared.Step.the-variants.{Found, Refused, End}
-use Rattle.token.proofs.Find.{by-test, find-here, find-next, find-past, find-low, find-holds, find-before}
-use Rattle.token.proofs.Bytes.{pair-inside, byte-low, word-high}
+use Rattle.token.proofs.Find.{by-test, find-here, find-next, find-past, find-low, find-high, find-holds, find-before}
+use Rattle.token.proofs.Bytes.{pair-inside, either-true, byte-low, word-high, word-low, both-true, both-second}
 use Rattle.token.proofs.Steps.{TokenOk, token-ok}
 use Rattle.locality.proofs.Skipping.{Gap, a-blank, a-line, a-block, parting, Bare, plain, lone, unended, gap-step, plain-step, lone-step, unended-step, Skips, here, on, skips-step, skips-low, stop}
 use Rattle.locality.proofs.Forms.{number-form}
@@ -29,10 +37,12 @@ use Rattle.locality.proofs.Forms.{number-form}
 abbrev pub Same : List ℕ → List ℕ → ℕ → ℕ → Type 0
 Same s u p e = (i : ℕ) → p ≤ i → i < e → byte u i ≡ byte s i
 
--- a token of a sort ends where a text goes on: a word or a number before a byte of no word and before nothing, a string or a sign before any
+-- a token of a sort ends where a text goes on: a word, a number or a float before a byte of no word and before nothing, and a number not before a dot
+-- and a digit; a string or a sign before any
 unfoldable pub ends : Sort → List ℕ → Bool
 ends (Word k) b = not (isWordByte (byte b 0))
-ends (Number n m) b = not (isWordByte (byte b 0))
+ends (Number n m) b = both (not (isWordByte (byte b 0))) (not (isDotted b 0))
+ends (Float n m k) b = not (isWordByte (byte b 0))
 ends String b = true
 ends (Punctuator m) b = true
 
@@ -77,6 +87,37 @@ module _ (s u : List ℕ) where
       find-is (λ i. not (isWordByte (byte u i))) (length u) p (find t (length s) p) (find-low t (length s) p) h
       (λ i k m. ap (λ (b : ℕ). not (isWordByte b)) (f i k m) ∙ find-before t (length s) p i k m)
       (λ _. ap (λ (b : ℕ). not (isWordByte b)) (sym (first-rest u (find t (length s) p))) ∙ e)
+
+-- the byte after a run is no word's
+pub word-ends : (s : List ℕ) (p : ℕ) → p ≤ length s → not (isWordByte (byte (drop (wordEnd s p) s) 0)) ≡ true
+unfolding wordEnd isWordByte
+word-ends s p h =
+    let t : ℕ → Bool = λ i. not (isWordByte (byte s i)) in
+    ap (λ (b : ℕ). not (isWordByte b)) (first-rest s (find t (length s) p))
+    ∙ ⊎-elim (λ e. past (find t (length s) p) (omega arith)) (λ l. find-holds t (length s) p h l) (eq-or-lt-of-le (find-high t (length s) p h))
+  where
+    past : (n : ℕ) → length s ≤ n → not (isWordByte (byte s n)) ≡ true
+    past n l = ap (λ (b : ℕ). not (isWordByte b)) (List·getD-eq-default s 0 l)
+
+-- a digit is in a run
+digit-on : (s : List ℕ) (p : ℕ) → p < length s → isDigit (byte s p) ≡ true → p < wordEnd s p
+unfolding wordEnd isWordByte
+digit-on s p h e =
+    let t : ℕ → Bool = λ i. not (isWordByte (byte s i)) in
+    let z : isWordByte (byte s p) ≡ true = ap (either (isLetter (byte s p))) e ∙ either-true (isLetter (byte s p)) in
+    let n = find-next t (length s) p h (ap not z) in
+    let l = find-low t (length s) (p + 1) in
+    omega arith
+
+-- a dot and a digit, seen from where a text goes on
+pub dotted-rest : (s : List ℕ) (e : ℕ) → isDotted (drop e s) 0 ≡ isDotted s e
+unfolding isDotted
+dotted-rest s e = ap₂ (λ (a b : ℕ). both (eqb a 46) (isDigit b)) (first-rest s e) (getD-drop e s 1 0)
+
+not-both : (a b : Bool) → both a (not b) ≡ true → (a ≡ true) × (b ≡ false)
+not-both true true e = absurd (false≢true e)
+not-both true false e = (refl, refl)
+not-both false b e = absurd (false≢true e)
 
 close-low : (s : List ℕ) (p : ℕ) → p ≤ findClose s p
 unfolding findClose
@@ -133,6 +174,150 @@ module _ (s u : List ℕ) (z e : ℕ) (es : e ≤ length s) (eu : e ≤ length u
       let f = gap-step s p q g .1 in
       on p q (gap-front p q h (omega arith) g) (skips-front m q (omega arith) k r)
 
+-- ---- floats
+
+power-end : (b : Bool) (v : Amount) (E : ℕ) (c : Bool) (x e : ℕ) → powerOf b v E ≡ Times c x e → e ≡ E
+unfolding powerOf
+power-end b (Is m) E c x e q = cc
+power-end b Not E c x e q = absurd (let y : _≡_ {A = ℕ} 0 1 = cc in omega arith)
+
+no-power : (b : Bool) (v : Amount) (E : ℕ) (c : Bool) (x e : ℕ) → v ≡ Not → powerOf b v E ≡ Times c x e → ⊥
+unfolding powerOf
+no-power b v E c x e n q = let z : None ≡ Times c x e = sym (ap (λ (w : Amount). powerOf b w E) n) ∙ q in let y : _≡_ {A = ℕ} 0 1 = cc in omega arith
+
+-- a float of s that ends at e is one of u, if u has its bytes and its run ends there too
+module _ (s u : List ℕ) (p q d r m : ℕ) (dd : d ≡ wordEnd s q) (rr : r ≡ wordEnd s (d + 1)) (mm : m ≡ findMark s r (d + 1)) (pq : p ≤ q) (ql : q ≤ length s)
+    (dot-at : isDotted s d ≡ true) (low : Bool) (x e : ℕ) (pw : powerAt s m r ≡ Times low x e) (eu : e ≤ length u) (same : Same s u p e)
+    (stops : not (isWordByte (byte (drop e u) 0)) ≡ true) where
+  digit-at : isDigit (byte s (d + 1)) ≡ true
+  unfolding isDotted
+  digit-at = both-second (eqb (byte s d) 46) (isDigit (byte s (d + 1))) dot-at
+
+  di : d + 1 < length s
+  di = dotted-inside s d dot-at
+
+  qd : q ≤ d
+  qd = let z = word-low s q in omega arith
+
+  dr : d + 1 < r
+  dr = let z = digit-on s (d + 1) di digit-at in omega arith
+
+  rl : r ≤ length s
+  rl = let i = di in let z = word-high s (d + 1) (omega arith) in omega arith
+
+  re : r ≤ e
+  re = power-fits s m r rl low x e pw .1
+
+  el : e ≤ length s
+  el = power-fits s m r rl low x e pw .2
+
+  md : d + 1 ≤ m
+  md = let z = mark-low s r (d + 1) in omega arith
+
+  mr : m ≤ r
+  mr = let i = dr in let z = mark-high s r (d + 1) (omega arith) in omega arith
+
+  -- a run that ends before e, and one that ends at e
+  run-kept : (a : ℕ) → p ≤ a → a ≤ length s → wordEnd s a < e → wordEnd u a ≡ wordEnd s a
+  run-kept a h l k =
+      let w = wordEnd s a in
+      let lo = word-low s a in
+      word-same s u a l (omega arith) (λ i f g. same i (omega arith) (omega arith))
+      (ap (λ (b : ℕ). not (isWordByte b)) (first-rest u w ∙ same w (omega arith) k ∙ sym (first-rest s w)) ∙ word-ends s a l)
+
+  last-kept : (a : ℕ) → p ≤ a → a ≤ length s → wordEnd s a ≡ e → wordEnd u a ≡ wordEnd s a
+  last-kept a h l k =
+      word-same s u a l (omega arith) (λ i f g. same i (omega arith) (omega arith))
+      (ap (λ (n : ℕ). not (isWordByte (byte (drop n u) 0))) k ∙ stops)
+
+  either-kept : (a : ℕ) → p ≤ a → a ≤ length s → wordEnd s a ≤ e → wordEnd u a ≡ wordEnd s a
+  either-kept a h l k = ⊎-elim (λ z. last-kept a h l z) (λ z. run-kept a h l z) (eq-or-lt-of-le k)
+
+  dot-kept : isDotted u d ≡ true
+  unfolding isDotted
+  dot-kept =
+      let i = dr in
+      let j = re in
+      let k = qd in
+      ap₂ (λ (a b : ℕ). both (eqb a 46) (isDigit b)) (same d (omega arith) (omega arith)) (same (d + 1) (omega arith) (omega arith)) ∙ dot-at
+
+  first-kept : wordEnd u q ≡ d
+  first-kept = let i = dr in let j = re in run-kept q pq ql (omega arith) ∙ sym dd
+
+  second-kept : wordEnd u (d + 1) ≡ r
+  second-kept = let i = di in let j = qd in let k = re in either-kept (d + 1) (omega arith) (omega arith) (omega arith) ∙ sym rr
+
+  mark-kept : findMark u r (d + 1) ≡ m
+  unfolding findMark
+  mark-kept =
+      let t : ℕ → Bool = λ i. isExponentMark (byte s i) in
+      let j = qd in
+      let k = re in
+      let n = dr in
+      find-is (λ i. isExponentMark (byte u i)) r (d + 1) (find t r (d + 1)) (find-low t r (d + 1)) (find-high t r (d + 1) (omega arith))
+      (λ i a b. ap isExponentMark (same i (omega arith) (let z = find-high t r (d + 1) (omega arith) in omega arith)) ∙ find-before t r (d + 1) i a b)
+      (λ b. ap isExponentMark (same (find t r (d + 1)) (let z = find-low t r (d + 1) in omega arith) (omega arith)) ∙ find-holds t r (d + 1) (omega arith) b)
+      ∙ sym mm
+
+  unsigned-kept : (m ≡ r → ⊥) → isSigned s m r ≡ false → powerAt u m r ≡ powerAt s m r
+  unsigned-kept n t =
+      let j = qd in
+      let k = md in
+      let l = re in
+      let o = el in
+      let i = mr in
+      let w : List ℕ = bytesBetween s (m + 1) r in
+      let long : m + 1 ≡ r → ⊥ = λ z.
+      no-power false (someDigits 64 0 w) r low x e
+      (some-none 64 0 w (length-take (r - (m + 1)) (drop (m + 1) s) ∙ (let y : r - (m + 1) ≡ 0 = omega arith in ap (λ (n : ℕ). min n (length (drop (m + 1) s))) y ∙ zero-min (length (drop (m + 1) s)))))
+      (sym (power-unsigned s m r n t) ∙ pw) in
+      power-unsigned u m r n (signed-other u m r long)
+      ∙ ap (λ (v : List ℕ). powerOf false (someDigits 64 0 v) r) (between-same s u (m + 1) r (omega arith) (omega arith) (λ i a b. same i (omega arith) (omega arith)))
+      ∙ sym (power-unsigned s m r n t)
+
+  signed-kept : (m ≡ r → ⊥) → isSigned s m r ≡ true → powerAt u m r ≡ powerAt s m r
+  unfolding isSigned
+  signed-kept n t =
+      let j = qd in
+      let k = md in
+      let mh = mr in
+      let g = signed-inside s m r t in
+      let E = wordEnd s (r + 1) in
+      let ee : e ≡ E = power-end (eqb (byte s r) 45) (someDigits 64 0 (take (E - (r + 1)) (drop (r + 1) s))) E low x e (sym (power-signed s m r n t E refl) ∙ pw) in
+      let lo = word-low s (r + 1) in
+      let o = el in
+      let b : byte u r ≡ byte s r = same r (omega arith) (omega arith) in
+      power-signed u m r n (ap (λ (c : ℕ). both (eqb (m + 1) r) (isPlusMinus c)) b ∙ t) E (sym (last-kept (r + 1) (omega arith) (omega arith) (sym ee)))
+      ∙ ap₂ (λ (c : ℕ) (v : List ℕ). powerOf (eqb c 45) (someDigits 64 0 v) E) b (between-same s u (r + 1) E (omega arith) (omega arith) (λ n′ a f. same n′ (omega arith) (omega arith)))
+      ∙ sym (power-signed s m r n t E refl)
+
+  power-kept : powerAt u m r ≡ powerAt s m r
+  power-kept = by (ℕ-discrete m r) (isSigned s m r) refl
+    where
+      by : Dec (m ≡ r) → (b : Bool) → isSigned s m r ≡ b → powerAt u m r ≡ powerAt s m r
+      by (yes z) b t = power-none u m r z ∙ sym (power-none s m r z)
+      by (no n) true t = signed-kept n t
+      by (no n) false t = unsigned-kept n t
+
+  pub float-same : numberAt u p q ≡ floatBy s p q d r m
+  unfolding floatAt floatBy
+  float-same =
+      let i = dr in
+      let j = qd in
+      let k = re in
+      let l = el in
+      let a = md in
+      let b = mr in
+      number-float u p q d (sym first-kept) dot-kept
+      ∙ rw (
+        second-kept,
+        mark-kept,
+        same p (omega arith) (omega arith),
+        between-same s u q d (omega arith) (omega arith) (λ i f g. same i (omega arith) (omega arith)),
+        between-same s u (d + 1) m (omega arith) (omega arith) (λ i f g. same i (omega arith) (omega arith)),
+        power-kept,
+      )
+
 -- ---- tokens
 
 -- r is what s has at p; if it is a token, and u has its bytes and goes on so that it ends there, then x, what u has at p, is r
@@ -159,17 +344,50 @@ module _ (s u : List ℕ) (p : ℕ) (inside : p < length s) where
       λ _ k f e.
       rw (word-same s u p (omega arith) k f e, between-same s u p (wordEnd s p) (word-high s p (omega arith)) k f)
 
-  number-kept : (q : ℕ) → p ≤ q → q ≤ length s → Kept s u p (numberAt u p q) (numberAt s p q)
-  unfolding numberAt found ends
-  number-kept q h l =
+  whole-kept : (q : ℕ) → p ≤ q → q ≤ length s → Kept s u p (numberAt u p q) (wholeAt s p q)
+  unfolding wholeAt found ends
+  whole-kept q h l =
       number-form (eqb (byte s p) 45) (ltb p q) (limitOf (eqb (byte s p) 45))
       (λ (f : ℕ → ℕ → Step).
-      (p < wordEnd s q → wordEnd s q ≤ length u → Same s u p (wordEnd s q) → not (isWordByte (byte (drop (wordEnd s q) u) 0)) ≡ true →
+      (p < wordEnd s q → wordEnd s q ≤ length u → Same s u p (wordEnd s q) → both (not (isWordByte (byte (drop (wordEnd s q) u) 0))) (not (isDotted (drop (wordEnd s q) u) 0)) ≡ true →
       numberAt u p q ≡ f p (wordEnd s q)) → Kept s u p (numberAt u p q) (f p (wordEnd s q)))
       (λ m _ g. g) (λ _. tt) (bytesBetween s q (wordEnd s q))
       (λ n k f e.
       let g : Same s u q (wordEnd s q) = λ i a b. f i (omega arith) b in
-      rw (word-same s u q l k g e, between-same s u q (wordEnd s q) (word-high s q l) k g, f p (omega arith) n))
+      let x = not-both (not (isWordByte (byte (drop (wordEnd s q) u) 0))) (isDotted (drop (wordEnd s q) u) 0) e in
+      let w : wordEnd u q ≡ wordEnd s q = word-same s u q l k g (x .0) in
+      number-whole u p q (wordEnd s q) (sym w) (sym (dotted-rest u (wordEnd s q)) ∙ x .1)
+      ∙ rw (w, between-same s u q (wordEnd s q) (word-high s q l) k g, f p (omega arith) n))
+
+  float-kept : (q : ℕ) → p ≤ q → q ≤ length s → isDotted s (wordEnd s q) ≡ true → Kept s u p (numberAt u p q) (floatAt s p q (wordEnd s q))
+  unfolding floatAt floatBy found ends
+  float-kept q h l t = by (mantissaOf (bytesBetween s q (wordEnd s q)) (bytesBetween s (wordEnd s q + 1) m)) (powerAt s m r) refl refl
+    where
+      r : ℕ
+      r = wordEnd s (wordEnd s q + 1)
+
+      m : ℕ
+      m = findMark s (wordEnd s (wordEnd s q + 1)) (wordEnd s q + 1)
+
+      by : (v : Amount) (w : Power)
+          → mantissaOf (bytesBetween s q (wordEnd s q)) (bytesBetween s (wordEnd s q + 1) (findMark s (wordEnd s (wordEnd s q + 1)) (wordEnd s q + 1))) ≡ v
+          → powerAt s (findMark s (wordEnd s (wordEnd s q + 1)) (wordEnd s q + 1)) (wordEnd s (wordEnd s q + 1)) ≡ w
+          → Kept s u p (numberAt u p q) (floatOf (eqb (byte s p) 45) v w (findMark s (wordEnd s (wordEnd s q + 1)) (wordEnd s q + 1) - (wordEnd s q + 1)) p)
+      by (Is a) (Times b x e) f g = λ _ k sm st.
+          float-same s u p q (wordEnd s q) (wordEnd s (wordEnd s q + 1)) (findMark s (wordEnd s (wordEnd s q + 1)) (wordEnd s q + 1)) refl refl refl h l t b x e g k sm st
+          ∙ ap₂ (λ (v : Amount) (w : Power). floatOf (eqb (byte s p) 45) v w (findMark s (wordEnd s (wordEnd s q + 1)) (wordEnd s q + 1) - (wordEnd s q + 1)) p) f g
+      by (Is a) None f g = tt
+      by Not (Times b x e) f g = tt
+      by Not None f g = tt
+
+  number-by-kept : (q : ℕ) → p ≤ q → q ≤ length s → (b : Bool) → isDotted s (wordEnd s q) ≡ b → Kept s u p (numberAt u p q) (numberBy b s p q)
+  unfolding numberBy
+  number-by-kept q h l true t = float-kept q h l t
+  number-by-kept q h l false t = whole-kept q h l
+
+  number-kept : (q : ℕ) → p ≤ q → q ≤ length s → Kept s u p (numberAt u p q) (numberAt s p q)
+  unfolding numberAt
+  number-kept q h l = number-by-kept q h l (isDotted s (wordEnd s q)) refl
 
   string-kept : Kept s u p (stringAt u p) (stringAt s p)
   unfolding stringAt found

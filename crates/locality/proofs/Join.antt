@@ -5,45 +5,78 @@ use mathlib.Core.List.{List, [], _∷_, _++_}
 use mathlib.Core.Bool.{Bool, true, false, not}
 use mathlib.Core.Logic.{⊎-elim}
 use native.Mathlib.Omega.{arith}
+use native.Mathlib.Decide.{ℕ-discrete, decLt}
 use native.Mathlib.Nat.{eq-or-lt-of-le, add-zero, sub-zero}
 use lib.ListN.{length, length-append, List·getD-append, List·getD-eq-default, take, drop, take-append-drop, drop-of-length-le, length-drop}
 use lib.Seq.{length-take-le, drop-append-le, drop-append-seam, drop-drop}
 use lib.Dec.{ltb, eqb}
 use borrow.Author.Tests.{lt-ltb}
-use Rattle.token.specs.Find.{byte, find}
-use Rattle.token.specs.Bytes.{Class, punctuator, classOf, isWordByte, wordEnd}
-use Rattle.token.specs.Tokens.{bytesBetween, found, wordAt, limitOf, numberAt, tokenOf, tokenAt, stepAt}
+use Rattle.token.specs.Find.{byte, both}
+use Rattle.token.specs.Bytes.{Class, punctuator, classOf, isWordByte, wordEnd, isDigit, isDotted, findMark, isSigned}
+use Rattle.token.specs.Floats.{someDigits, mantissaOf, powerOf, powerAt}
+use Rattle.token.specs.declared.Amount.{Amount}
+use Rattle.token.specs.declared.Amount.the-variants.{Is, Not}
+use Rattle.token.specs.declared.Power.{Power}
+use Rattle.token.specs.declared.Power.the-variants.{Times, None}
+use Rattle.token.proofs.Decimals.{dotted-inside, signed-inside, dotted-other, dotted-short}
+use Rattle.token.specs.Tokens.{bytesBetween, found, wordAt, limitOf, wholeAt, floatOf, floatBy, floatAt, numberBy, numberAt, tokenOf, tokenAt, stepAt}
 use Rattle.token.specs.Lexing.{Lexed, more, ended, lexFrom}
 use Rattle.token.specs.declared.Cursor.{Cursor}
 use Rattle.token.specs.declared.Token.{Token}
 use Rattle.token.specs.declared.Sort.{Sort}
-use Rattle.token.specs.declared.Sort.the-variants.{Word, Number, String, Punctuator}
+use Rattle.token.specs.declared.Sort.the-variants.{Word, Number, String, Punctuator, Float}
 use Rattle.token.specs.declared.Step.{Step}
 use Rattle.token.specs.declared.Step.the-variants.{Found, Refused, End}
-use Rattle.token.proofs.Find.{find-high, find-holds}
+use Rattle.token.proofs.Find.{by-test}
+use Rattle.token.proofs.Bytes.{both-true, both-false}
 use Rattle.token.proofs.Steps.{found-fits, step-past, step-again, lex-found, lex-end}
 use Rattle.locality.proofs.Skipping.{parting, plain-step}
 use Rattle.locality.proofs.Shift.{moved, movedStep, movedAll, step-shift, lex-rest}
-use Rattle.locality.proofs.Front.{ends, first-rest, step-front}
+use Rattle.locality.proofs.Front.{ends, first-rest, word-ends, dotted-rest, step-front}
 use Rattle.locality.proofs.Forms.{number-form, step-form}
 
 -- ---- a token ends before the byte after it
 
 ends-last : (k : Sort) → ends k [] ≡ true
-unfolding ends isWordByte
+unfolding ends isWordByte isDotted
 ends-last (Word c) = refl
 ends-last (Number n m) = refl
 ends-last String = refl
+ends-last (Float n m e) = refl
 ends-last (Punctuator m) = refl
 
--- it is told by the first byte
-ends-more : (k : Sort) (y b : List ℕ) → 0 < length y → ends k (y ++ b) ≡ ends k y
+-- it is told by the first byte, and the second where the first is a dot
+dotted-more : (x : ℕ) (y b : List ℕ) → (x ≡ 46 → 0 < length y) → isDotted (x ∷ (y ++ b)) 0 ≡ isDotted (x ∷ y) 0
+unfolding isDotted
+dotted-more x y b h = by (ℕ-discrete x 46)
+  where
+    by : Dec (x ≡ 46) → isDotted (x ∷ (y ++ b)) 0 ≡ isDotted (x ∷ y) 0
+    by (yes e) = ap (λ (n : ℕ). both (eqb x 46) (isDigit n)) (List·getD-append y b 0 0 (h e))
+    by (no g) = dotted-other (x ∷ (y ++ b)) 0 g ∙ sym (dotted-other (x ∷ y) 0 g)
+
+pub ends-more : (k : Sort) (y b : List ℕ) → 0 < length y → (byte y 0 ≡ 46 → 1 < length y) → ends k (y ++ b) ≡ ends k y
 unfolding ends
-ends-more k [] b h = absurd (omega arith)
-ends-more (Word c) (x ∷ y) b h = refl
-ends-more (Number n m) (x ∷ y) b h = refl
-ends-more String (x ∷ y) b h = refl
-ends-more (Punctuator m) (x ∷ y) b h = refl
+ends-more k [] b h g = absurd (omega arith)
+ends-more (Word c) (x ∷ y) b h g = refl
+ends-more (Number n m) (x ∷ y) b h g = ap (λ (t : Bool). both (not (isWordByte x)) (not t)) (dotted-more x y b (λ e. let z = g e in omega arith))
+ends-more (Float n m e) (x ∷ y) b h g = refl
+ends-more String (x ∷ y) b h g = refl
+ends-more (Punctuator m) (x ∷ y) b h g = refl
+
+-- where the text goes on for less, it ends too
+ends-less : (k : Sort) (y b : List ℕ) → 0 < length y → ends k (y ++ b) ≡ true → ends k y ≡ true
+unfolding ends
+ends-less k [] b h e = absurd (omega arith)
+ends-less (Word c) (x ∷ y) b h e = e
+ends-less (Number n m) (x ∷ []) b h e =
+    ap (λ (t : Bool). both (not (isWordByte x)) (not t)) (dotted-short (x ∷ []) 0 (omega arith)) ∙ one (not (isWordByte x)) (both-true (not (isWordByte x)) (not (isDotted (x ∷ b) 0)) e)
+  where
+    one : (a : Bool) → a ≡ true → both a true ≡ true
+    one a z = ap (λ (t : Bool). both t true) z
+ends-less (Number n m) (x ∷ z ∷ y) b h e = sym (ap (λ (t : Bool). both (not (isWordByte x)) (not t)) (dotted-more x (z ∷ y) b (λ _. omega arith))) ∙ e
+ends-less (Float n m k) (x ∷ y) b h e = e
+ends-less String (x ∷ y) b h e = refl
+ends-less (Punctuator m) (x ∷ y) b h e = refl
 
 abbrev EndsOk : List ℕ → Step → Type 0
 EndsOk s (Found t c) = ends (t .sort) (drop (c .at) s) ≡ true
@@ -51,27 +84,58 @@ EndsOk s (Refused q) = Unit {0}
 EndsOk s (End n) = Unit {0}
 
 module _ (s : List ℕ) where
-  word-ends : (p : ℕ) → p ≤ length s → not (isWordByte (byte (drop (wordEnd s p) s) 0)) ≡ true
-  unfolding wordEnd isWordByte
-  word-ends p h =
-      let t : ℕ → Bool = λ i. not (isWordByte (byte s i)) in
-      ap (λ (b : ℕ). not (isWordByte b)) (first-rest s (find t (length s) p))
-      ∙ ⊎-elim (λ e. past (find t (length s) p) (omega arith)) (λ l. find-holds t (length s) p h l) (eq-or-lt-of-le (find-high t (length s) p h))
-    where
-      past : (n : ℕ) → length s ≤ n → not (isWordByte (byte s n)) ≡ true
-      past n l = ap (λ (b : ℕ). not (isWordByte b)) (List·getD-eq-default s 0 l)
+  whole-ends : (p q : ℕ) → q ≤ length s → isDotted s (wordEnd s q) ≡ false → EndsOk s (wholeAt s p q)
+  unfolding wholeAt found ends
+  whole-ends p q h f =
+      number-form (eqb (byte s p) 45) (ltb p q) (limitOf (eqb (byte s p) 45)) (λ (f : ℕ → ℕ → Step). EndsOk s (f p (wordEnd s q)))
+      (λ m _. rw (word-ends s q h, dotted-rest s (wordEnd s q), f)) tt (bytesBetween s q (wordEnd s q))
+
+  abbrev PowerEnds : Power → Type 0
+  PowerEnds (Times b x e) = not (isWordByte (byte (drop e s) 0)) ≡ true
+  PowerEnds None = Unit {0}
+
+  power-of-ends : (b : Bool) (v : Amount) (e : ℕ) → not (isWordByte (byte (drop e s) 0)) ≡ true → PowerEnds (powerOf b v e)
+  unfolding powerOf
+  power-of-ends b (Is m) e h = h
+  power-of-ends b Not e h = tt
+
+  power-ends : (m r : ℕ) → not (isWordByte (byte (drop r s) 0)) ≡ true → PowerEnds (powerAt s m r)
+  unfolding powerAt
+  power-ends m r h =
+      by-test PowerEnds (eqb m r) (Times false 0 r) _ (λ _. h)
+      (λ _.
+      by-test PowerEnds (isSigned s m r) _ _
+      (λ t.
+      let i = signed-inside s m r t in
+      power-of-ends (eqb (byte s r) 45) (someDigits 64 0 (bytesBetween s (r + 1) (wordEnd s (r + 1)))) (wordEnd s (r + 1)) (word-ends s (r + 1) (omega arith)))
+      (λ _. power-of-ends false (someDigits 64 0 (bytesBetween s (m + 1) r)) r h))
+
+  float-of-ends : (minus : Bool) (v : Amount) (w : Power) (n p : ℕ) → PowerEnds w → EndsOk s (floatOf minus v w n p)
+  unfolding found ends
+  float-of-ends minus (Is m) (Times b x e) n p h = h
+  float-of-ends minus (Is m) None n p h = tt
+  float-of-ends minus Not (Times b x e) n p h = tt
+  float-of-ends minus Not None n p h = tt
+
+  number-by-ends : (p q : ℕ) → q ≤ length s → (b : Bool) → isDotted s (wordEnd s q) ≡ b → EndsOk s (numberBy b s p q)
+  unfolding numberBy floatAt floatBy
+  number-by-ends p q h true t =
+      let d = wordEnd s q in
+      let i = dotted-inside s d t in
+      let m = findMark s (wordEnd s (d + 1)) (d + 1) in
+      float-of-ends (eqb (byte s p) 45) (mantissaOf (bytesBetween s q d) (bytesBetween s (d + 1) m)) (powerAt s m (wordEnd s (d + 1))) (m - (d + 1)) p
+      (power-ends m (wordEnd s (d + 1)) (word-ends s (d + 1) (omega arith)))
+  number-by-ends p q h false t = whole-ends p q h t
 
   number-ends : (p q : ℕ) → q ≤ length s → EndsOk s (numberAt s p q)
-  unfolding numberAt found ends
-  number-ends p q h =
-      number-form (eqb (byte s p) 45) (ltb p q) (limitOf (eqb (byte s p) 45)) (λ (f : ℕ → ℕ → Step). EndsOk s (f p (wordEnd s q)))
-      (λ m _. word-ends q h) tt (bytesBetween s q (wordEnd s q))
+  unfolding numberAt
+  number-ends p q h = number-by-ends p q h (isDotted s (wordEnd s q)) refl
 
-  found-ends : (p : ℕ) (t : Token) (c : Cursor) → stepAt s p ≡ Found t c → ends (t .sort) (drop (c .at) s) ≡ true
+  pub found-ends : (p : ℕ) (t : Token) (c : Cursor) → stepAt s p ≡ Found t c → ends (t .sort) (drop (c .at) s) ≡ true
   unfolding wordAt found ends
   found-ends p t c e =
       subst (EndsOk s) e
-      (step-form s (EndsOk s) (λ q h. word-ends q (omega arith)) (λ q h. number-ends q q (omega arith)) (λ q h. number-ends q (q + 1) (omega arith))
+      (step-form s (EndsOk s) (λ q h. word-ends s q (omega arith)) (λ q h. number-ends q q (omega arith)) (λ q h. number-ends q (q + 1) (omega arith))
       (λ q e. refl) (λ m q e. refl) (λ q. tt) tt p)
 
 -- ---- a token of one text in a longer and in a shorter one
@@ -80,19 +144,16 @@ module _ (a b : List ℕ) where
   kept-byte : (i : ℕ) → i < length a → byte (a ++ b) i ≡ byte a i
   kept-byte i h = List·getD-append a b 0 i h
 
-  rest-ends : (k : Sort) (e : ℕ) → e < length a → ends k (drop e (a ++ b)) ≡ ends k (drop e a)
-  rest-ends k e h = ap (ends k) (drop-append-le e a b (omega arith)) ∙ ends-more k (drop e a) b (omega (arith, length-drop e a))
+  pub rest-ends : (k : Sort) (e : ℕ) → e < length a → (byte a e ≡ 46 → e + 1 < length a) → ends k (drop e (a ++ b)) ≡ ends k (drop e a)
+  rest-ends k e h g =
+      let n = length-drop e a in
+      ap (ends k) (drop-append-le e a b (omega arith)) ∙ ends-more k (drop e a) b (omega arith) (λ z. let y = g (sym (first-rest a e) ∙ z) in omega arith)
 
-  -- a token of a, where b does not go on with it
-  pub step-longer : (p : ℕ) (t : Token) (c : Cursor) → stepAt a p ≡ Found t c → (c .at ≡ length a → ends (t .sort) b ≡ true) →
-      stepAt (a ++ b) p ≡ Found t c
+  -- a token of a, where what goes on behind it in a and b does not go on with it
+  pub step-longer : (p : ℕ) (t : Token) (c : Cursor) → stepAt a p ≡ Found t c → ends (t .sort) (drop (c .at) (a ++ b)) ≡ true → stepAt (a ++ b) p ≡ Found t c
   step-longer p t c e f =
       let o = found-fits a p t c e in
-      step-front a (a ++ b) p t c e (omega (arith, length-append a b)) (λ i _ h. kept-byte i (omega arith))
-      (⊎-elim
-      (λ z. ap (ends (t .sort)) (ap (λ (i : ℕ). drop i (a ++ b)) z ∙ drop-append-seam a b) ∙ f z)
-      (λ l. rest-ends (t .sort) (c .at) l ∙ found-ends a p t c e)
-      (eq-or-lt-of-le (o .inside)))
+      step-front a (a ++ b) p t c e (omega (arith, length-append a b)) (λ i _ h. kept-byte i (omega arith)) f
 
   -- a token of a and b that ends inside a, or where a ends
   pub step-shorter : (p : ℕ) (t : Token) (c : Cursor) → stepAt (a ++ b) p ≡ Found t c → c .at ≤ length a → stepAt a p ≡ Found t c
@@ -100,7 +161,7 @@ module _ (a b : List ℕ) where
       step-front (a ++ b) a p t c e h (λ i _ l. sym (kept-byte i (omega arith)))
       (⊎-elim
       (λ z. ap (ends (t .sort)) (drop-of-length-le a {i = c .at} (omega arith)) ∙ ends-last (t .sort))
-      (λ l. sym (rest-ends (t .sort) (c .at) l) ∙ found-ends (a ++ b) p t c e)
+      (λ l. ends-less (t .sort) (drop (c .at) a) b (omega (arith, length-drop (c .at) a)) (sym (ap (ends (t .sort)) (drop-append-le (c .at) a b (omega arith))) ∙ found-ends (a ++ b) p t c e))
       (eq-or-lt-of-le h))
 
 -- ---- the text from a place on

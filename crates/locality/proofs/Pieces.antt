@@ -2,25 +2,31 @@
 use Prim.Native.Nat.{ℕ, _+_, _≤_, _<_}
 use mathlib.Core.Path.{_≡_, refl, sym, _∙_, ap, ap₂, subst}
 use mathlib.Core.List.{List, [], _∷_, _++_, map, append-assoc, append-nil}
-use mathlib.Core.Bool.{Bool, true, false, not}
+use mathlib.Core.Bool.{Bool, true, false, not, false≢true}
 use native.Mathlib.Omega.{arith}
 use native.Mathlib.Nat.{add-assoc, zero-add}
-use lib.ListN.{length, length-append}
-use Rattle.token.specs.Find.{byte}
-use Rattle.token.specs.Bytes.{blank, classOf, isWordByte}
-use Rattle.token.specs.Tokens.{stepAt}
+use lib.ListN.{length, drop, length-append, List·getD-append}
+use lib.Seq.{drop-append-seam}
+use lib.Dec.{eqb, ltb}
+use borrow.Author.Tests.{eq-eqb, lt-ltb}
+use Rattle.token.specs.Find.{byte, both}
+use Rattle.token.proofs.Find.{by-test}
+use Rattle.token.proofs.Bytes.{both-true, both-second, class-past}
+use Rattle.token.proofs.Decimals.{dotted-other}
+use Rattle.token.specs.Bytes.{blank, dot, pairAt, classOf, isWordByte, isDotted}
+use Rattle.token.specs.Tokens.{stepAt, found, dotsAt, tokenOf, tokenAt}
 use Rattle.token.specs.Lexing.{Lexed, more, ended, refused, afterStep, Divides, tokensOf, lexFrom, afterAll}
 use Rattle.token.specs.declared.Cursor.{Cursor}
 use Rattle.token.specs.declared.Token.{Token}
 use Rattle.token.specs.declared.Sort.{Sort}
-use Rattle.token.specs.declared.Sort.the-variants.{Word, Number, String, Punctuator}
+use Rattle.token.specs.declared.Sort.the-variants.{Word, Number, String, Punctuator, Float}
 use Rattle.token.specs.declared.Step.{Step}
 use Rattle.token.specs.declared.Step.the-variants.{Found, Refused, End}
 use Rattle.token.proofs.Steps.{found-fits, lex-law, lex-found, lex-bad, lex-end}
-use Rattle.locality.proofs.Skipping.{a-blank, gap-step}
+use Rattle.locality.proofs.Skipping.{a-blank, gap-step, plain-step, parting}
 use Rattle.locality.proofs.Shift.{moved, movedAll, lex-rest}
 use Rattle.locality.proofs.Front.{ends}
-use Rattle.locality.proofs.Join.{step-longer, step-shorter, One}
+use Rattle.locality.proofs.Join.{step-longer, step-shorter, rest-ends, found-ends, One}
 
 -- ---- tokens, and then others
 
@@ -95,15 +101,15 @@ inside-append n (t ∷ ts) us i j = (i .0, inside-append n ts us (i .1) j)
 
 -- ---- pieces
 
--- b may go on after a text, which ends with a word or a number or does not
+-- b may go on after a text, which ends with a word, a number or a float or does not: with a byte of no word and no dot
 unfoldable pub mayFollow : Bool → List ℕ → Bool
-mayFollow true b = not (isWordByte (byte b 0))
+mayFollow true b = both (not (isWordByte (byte b 0))) (not (eqb (byte b 0) 46))
 mayFollow false b = true
 
 -- the same of b and whatever goes on after b
 unfoldable pub mayStart : Bool → List ℕ → Bool
 mayStart true [] = false
-mayStart true (x ∷ b) = not (isWordByte x)
+mayStart true (x ∷ b) = both (not (isWordByte x)) (not (eqb x 46))
 mayStart false b = true
 
 -- the text a has the tokens ts, and keeps them whatever goes on after it that may
@@ -204,16 +210,45 @@ LastEnds b (t ∷ u ∷ ts) = LastEnds b (u ∷ ts)
 first-step : (s : List ℕ) (q p : ℕ) (t : Token) (ts : List Token) → Run s q p (t ∷ ts) → p < q
 first-step s q p t ts (go _ _ c _ e r) = let o = found-fits s p t c e in let l = run-low s q (c .at) ts r in omega arith
 
+-- a step from a dot finds `..`
+dot-two : (s : List ℕ) (p : ℕ) (t : Token) (c : Cursor) → byte s p ≡ 46 → stepAt s p ≡ Found t c → c .at ≡ p + 2
+unfolding parting classOf tokenAt tokenOf dotsAt found
+dot-two s p t c e h =
+    by-test (λ (r : Step). r ≡ Found t c → c .at ≡ p + 2) (ltb p (length s)) (tokenOf (classOf (byte s p)) s p) (End (length s))
+    (λ _ k.
+    by-test (λ (r : Step). r ≡ Found t c → c .at ≡ p + 2) (pairAt s p 46 46) _ (Refused p)
+    (λ _ z. let y : (record { at = p + 2 }) ≡ c = cc in sym (ap (λ (x : Cursor). x .at) y))
+    (λ _ z. absurd (let y : _≡_ {A = ℕ} 0 1 = cc in omega arith))
+    (sym (ap (λ (n : ℕ). tokenOf (classOf n) s p) e) ∙ k))
+    (λ _ k. absurd (let y : _≡_ {A = ℕ} 0 1 = cc in omega arith))
+    (sym (plain-step s p (ap (λ (n : ℕ). parting (classOf n)) e)) ∙ h)
+
 -- the tokens of a text up to a place stay if another text goes on there
 run-other : (a b z : List ℕ) (p : ℕ) (ts : List Token) → Run (a ++ z) (length a) p ts → LastEnds b ts → Run (a ++ b) (length a) p ts
 run-other a b z p [] (stay _ e) h = stay p e
 run-other a b z p (t ∷ []) (go _ _ c _ e r) h =
-    go p t c [] (step-longer a b p t c (step-shorter a z p t c e (run-low (a ++ z) (length a) (c .at) [] r)) (λ _. h))
+    go p t c []
+    (step-longer a b p t c (step-shorter a z p t c e (run-low (a ++ z) (length a) (c .at) [] r)) (ap (ends (t .sort)) (ap (λ (i : ℕ). drop i (a ++ b)) (at-end r) ∙ drop-append-seam a b) ∙ h))
     (run-other a b z (c .at) [] r tt)
+  where
+    at-end : {n : ℕ} → Run (a ++ z) (length a) n [] → n ≡ length a
+    at-end (stay _ i) = i
 run-other a b z p (t ∷ u ∷ ts) (go _ _ c _ e r) h =
     let l = first-step (a ++ z) (length a) (c .at) u ts r in
-    go p t c (u ∷ ts) (step-longer a b p t c (step-shorter a z p t c e (omega arith)) (λ w. absurd (omega arith)))
+    let n = dotted-next r in
+    go p t c (u ∷ ts)
+    (step-longer a b p t c (step-shorter a z p t c e (omega arith))
+    (rest-ends a b (t .sort) (c .at) l n ∙ sym (rest-ends a z (t .sort) (c .at) l n) ∙ found-ends (a ++ z) p t c e))
     (run-other a b z (c .at) (u ∷ ts) r h)
+  where
+    -- a dot behind the token is `..`, whose second byte is in a
+    dotted-next : {n : ℕ} → Run (a ++ z) (length a) n (u ∷ ts) → byte a n ≡ 46 → n + 1 < length a
+    dotted-next {n} (go _ _ k _ i j) y =
+        let low = run-low (a ++ z) (length a) (k .at) ts j in
+        let o = found-fits (a ++ z) n u k i in
+        let x : n < length a = omega arith in
+        let w = dot-two (a ++ z) n u k (List·getD-append a z 0 n x ∙ y) i in
+        omega arith
 
 -- a text whose tokens are found up to its end, and the last ends before whatever may follow
 pub piece-run : (f : Bool) (a z : List ℕ) (ts : List Token) → Run (a ++ z) (length a) 0 ts →
@@ -265,8 +300,11 @@ leading s p (t ∷ ts) us k =
 
 ends-follow : (k : Sort) (b : List ℕ) → mayFollow true b ≡ true → ends k b ≡ true
 unfolding ends mayFollow
-ends-follow (Word c) b e = e
-ends-follow (Number n m) b e = e
+ends-follow (Word c) b e = both-true (not (isWordByte (byte b 0))) (not (eqb (byte b 0) 46)) e
+ends-follow (Float n m k) b e = both-true (not (isWordByte (byte b 0))) (not (eqb (byte b 0) 46)) e
+ends-follow (Number n m) b e =
+    ap₂ (λ (x y : Bool). both x (not y)) (both-true (not (isWordByte (byte b 0))) (not (eqb (byte b 0) 46)) e)
+    (dotted-other b 0 (λ z. false≢true (sym (ap not (eq-eqb (byte b 0) 46 z)) ∙ both-second (not (isWordByte (byte b 0))) (not (eqb (byte b 0) 46)) e)))
 ends-follow String b e = refl
 ends-follow (Punctuator m) b e = refl
 

@@ -6,15 +6,20 @@ use mathlib.Core.Bool.{Bool, true, false, not}
 use native.Mathlib.Omega.{arith}
 use native.Mathlib.Nat.{suc-add, zero-add, add-zero, suc-sub-suc}
 use lib.ListN.{length, take, drop}
-use lib.Dec.{ltb, eqb, leb·suc-suc}
+use lib.Dec.{ltb, eqb, leb·suc-suc, eqb·suc-suc}
 use Rattle.token.specs.Find.{pick, both, byte, firstOf, find}
-use Rattle.token.specs.Bytes.{Class, letter, digit, blank, plusMinus, quote, punctuator, dot, slash, other, classOf, isWordByte, wordEnd, findByte, pairAt, findClose}
+use Rattle.token.specs.Bytes.{Class, letter, digit, blank, plusMinus, quote, punctuator, dot, slash, other, classOf, isWordByte, wordEnd, findByte, pairAt, findClose, isDigit, isPlusMinus, isExponentMark, isDotted, findMark, isSigned}
 use Rattle.token.specs.Words.{codeOf}
 use Rattle.token.specs.Numbers.{numeral}
-use Rattle.token.specs.Tokens.{bytesBetween, found, wordAt, limitOf, isNegative, numberOf, numberAt, stringAt, dotsAt, tokenOf, tokenAt, stepAt}
+use Rattle.token.specs.Floats.{someDigits, mantissaOf, powerOf, powerAt, scaleOf}
+use Rattle.token.specs.declared.Amount.{Amount}
+use Rattle.token.specs.declared.Amount.the-variants.{Is, Not}
+use Rattle.token.specs.declared.Power.{Power}
+use Rattle.token.specs.declared.Power.the-variants.{Times, None}
+use Rattle.token.specs.Tokens.{bytesBetween, found, wordAt, limitOf, isNegative, numberOf, wholeAt, floatOf, floatBy, floatAt, numberBy, numberAt, stringAt, dotsAt, tokenOf, tokenAt, stepAt}
 use Rattle.token.specs.Lexing.{Lexed, more, ended, refused, lexFrom}
 use Rattle.token.specs.declared.Sort.{Sort}
-use Rattle.token.specs.declared.Sort.the-variants.{Word, Number, String, Punctuator}
+use Rattle.token.specs.declared.Sort.the-variants.{Word, Number, String, Punctuator, Float}
 use Rattle.token.specs.declared.Token.{Token}
 use Rattle.token.specs.declared.Step.{Step}
 use Rattle.token.specs.declared.Step.the-variants.{Found, Refused, End}
@@ -88,6 +93,18 @@ module _ (x : ℕ) (b : List ℕ) where
   between-up : (p e : ℕ) → bytesBetween (x ∷ b) (suc p) (suc e) ≡ bytesBetween b p e
   between-up p e = ap (λ (n : ℕ). take n (drop p b)) (suc-sub-suc e p)
 
+  dotted-up : (e : ℕ) → isDotted (x ∷ b) (suc e) ≡ isDotted b e
+  unfolding isDotted
+  dotted-up e = ap (λ (n : ℕ). both (eqb (byte b e) 46) (isDigit (byte (x ∷ b) n))) (suc-add e 1)
+
+  mark-up : (e p : ℕ) → findMark (x ∷ b) (suc e) (suc p) ≡ suc (findMark b e p)
+  unfolding findMark
+  mark-up e p = find-up (λ i. isExponentMark (byte (x ∷ b) i)) e p
+
+  signed-up : (m r : ℕ) → isSigned (x ∷ b) (suc m) (suc r) ≡ isSigned b m r
+  unfolding isSigned
+  signed-up m r = ap (λ (t : Bool). both t (isPlusMinus (byte b r))) (ap (λ (n : ℕ). eqb n (suc r)) (suc-add m 1) ∙ eqb·suc-suc (m + 1) r)
+
 -- ---- blanks and comments
 
 module _ (x : ℕ) (b : List ℕ) where
@@ -113,17 +130,81 @@ number-up : (minus signed : Bool) (max : ℕ) (w : List ℕ) (p e : ℕ) → num
 number-up minus signed max w p e =
     number-form minus signed max (λ (f : ℕ → ℕ → Step). f (suc p) (suc e) ≡ up (f p e)) (λ m _. found-up (Number (isNegative minus m) m) p e) refl w
 
+-- the end of an exponent, one place further on
+abbrev later : Power → Power
+later (Times t m e) = Times t m (suc e)
+later None = None
+
+power-of-up : (t : Bool) (v : Amount) (e : ℕ) → powerOf t v (suc e) ≡ later (powerOf t v e)
+unfolding powerOf
+power-of-up t (Is m) e = refl
+power-of-up t Not e = refl
+
+two-up : (t v : Bool) (x y z : Power) → pick t (later x) (pick v (later y) (later z)) ≡ later (pick t x (pick v y z))
+two-up true v x y z = refl
+two-up false true x y z = refl
+two-up false false x y z = refl
+
+float-of-up : (minus : Bool) (v : Amount) (w : Power) (n p : ℕ) → floatOf minus v (later w) n (suc p) ≡ up (floatOf minus v w n p)
+float-of-up minus (Is m) (Times t x e) n p = found-up (Float (isNegative minus m) m (scaleOf t x n)) p e
+float-of-up minus (Is m) None n p = refl
+float-of-up minus Not (Times t x e) n p = refl
+float-of-up minus Not None n p = refl
+
 module _ (x : ℕ) (b : List ℕ) where
   word-at-up : (p : ℕ) → wordAt (x ∷ b) (suc p) ≡ up (wordAt b p)
   unfolding wordAt
   word-at-up p =
       rw (word-up x b p, between-up x b p (wordEnd b p)) (found-up (Word (codeOf (bytesBetween b p (wordEnd b p)))) p (wordEnd b p))
 
+  whole-up : (p q : ℕ) → wholeAt (x ∷ b) (suc p) (suc q) ≡ up (wholeAt b p q)
+  unfolding wholeAt
+  whole-up p q =
+      rw (word-up x b q, between-up x b q (wordEnd b q), leb·suc-suc (suc p) q)
+      (number-up (eqb (byte b p) 45) (ltb p q) (limitOf (eqb (byte b p) 45)) (bytesBetween b q (wordEnd b q)) p (wordEnd b q))
+
+  power-up : (m r : ℕ) → powerAt (x ∷ b) (suc m) (suc r) ≡ later (powerAt b m r)
+  unfolding powerAt
+  power-up m r =
+      rw (
+        eqb·suc-suc m r,
+        signed-up x b m r,
+        suc-add r 1,
+        suc-add m 1,
+        word-up x b (r + 1),
+        suc-sub-suc (wordEnd b (r + 1)) (r + 1),
+        suc-sub-suc r (m + 1),
+        power-of-up (eqb (byte b r) 45) (someDigits 64 0 (bytesBetween b (r + 1) (wordEnd b (r + 1)))) (wordEnd b (r + 1)),
+        power-of-up false (someDigits 64 0 (bytesBetween b (m + 1) r)) r,
+      )
+      (two-up (eqb m r) (isSigned b m r) (Times false 0 r)
+      (powerOf (eqb (byte b r) 45) (someDigits 64 0 (bytesBetween b (r + 1) (wordEnd b (r + 1)))) (wordEnd b (r + 1)))
+      (powerOf false (someDigits 64 0 (bytesBetween b (m + 1) r)) r))
+
+  float-by-up : (p q d r m : ℕ) → floatBy (x ∷ b) (suc p) (suc q) (suc d) (suc r) (suc m) ≡ up (floatBy b p q d r m)
+  unfolding floatBy
+  float-by-up p q d r m =
+      rw (suc-add d 1, between-up x b q d, between-up x b (d + 1) m, suc-sub-suc m (d + 1), power-up m r)
+      (float-of-up (eqb (byte b p) 45) (mantissaOf (bytesBetween b q d) (bytesBetween b (d + 1) m)) (powerAt b m r) (m - (d + 1)) p)
+
+  float-up : (p q d : ℕ) → floatAt (x ∷ b) (suc p) (suc q) (suc d) ≡ up (floatAt b p q d)
+  unfolding floatAt
+  float-up p q d =
+      let r = wordEnd b (d + 1) in
+      let e : wordEnd (x ∷ b) (suc d + 1) ≡ suc r = ap (wordEnd (x ∷ b)) (suc-add d 1) ∙ word-up x b (d + 1) in
+      let m : findMark (x ∷ b) (suc r) (suc d + 1) ≡ suc (findMark b r (d + 1)) = ap (findMark (x ∷ b) (suc r)) (suc-add d 1) ∙ mark-up x b r (d + 1) in
+      rw (e, m) (float-by-up p q d r (findMark b r (d + 1)))
+
+  number-by-up : (t : Bool) (p q : ℕ) → numberBy t (x ∷ b) (suc p) (suc q) ≡ up (numberBy t b p q)
+  unfolding numberBy
+  number-by-up true p q = ap (floatAt (x ∷ b) (suc p) (suc q)) (word-up x b q) ∙ float-up p q (wordEnd b q)
+  number-by-up false p q = whole-up p q
+
   number-at-up : (p q : ℕ) → numberAt (x ∷ b) (suc p) (suc q) ≡ up (numberAt b p q)
   unfolding numberAt
   number-at-up p q =
-      rw (word-up x b q, between-up x b q (wordEnd b q), leb·suc-suc (suc p) q)
-      (number-up (eqb (byte b p) 45) (ltb p q) (limitOf (eqb (byte b p) 45)) (bytesBetween b q (wordEnd b q)) p (wordEnd b q))
+      ap (λ (t : Bool). numberBy t (x ∷ b) (suc p) (suc q)) (ap (isDotted (x ∷ b)) (word-up x b q) ∙ dotted-up x b (wordEnd b q))
+      ∙ number-by-up (isDotted b (wordEnd b q)) p q
 
   string-up : (p : ℕ) → stringAt (x ∷ b) (suc p) ≡ up (stringAt b p)
   unfolding stringAt

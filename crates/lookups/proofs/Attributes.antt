@@ -8,7 +8,7 @@ use lib.ListN.{length, getD}
 use Rattle.token.specs.Find.{bit}
 use Rattle.token.specs.Tokens.{partOf, stepAt}
 use Rattle.meaning.specs.Syntax.{Word, span-of, span-or, absent, Definitions, Values, Defined, done, Object, File, statements-in}
-use Rattle.meaning.specs.Actions.{num-of-step}
+use Rattle.meaning.specs.Actions.{num-of-step, float-of-step}
 use Rattle.meaning.specs.Kinds.{kind-number}
 use Rattle.meaning.specs.Scopes.{Under}
 use Rattle.meaning.specs.Judging.{taken}
@@ -30,6 +30,7 @@ pub read-at : {s : List ℕ} {t : Word} {at len : ℕ} → WordIn s t → at ≡
 read-at {s} h p l = record {
   bytes = h .bytes ∙ ap₂ (partOf s) (sym p) (sym l);
   number = h .number ∙ ap (λ i. num-of-step (stepAt s i)) (sym p);
+  float = h .float ∙ ap (λ i. float-of-step (stepAt s i)) (sym p);
 }
 
 -- The row of an attribute ------------------------------------------------------------------------------------------------------------------

@@ -3,7 +3,7 @@
 use mathlib.Core.Path.{_≡_, refl, sym, _∙_, ap, ap₂, subst}
 use mathlib.Core.List.{List, [], _∷_, _++_, append-assoc}
 use Prim.Native.Nat.{ℕ, suc}
-use Rattle.grammar.specs.Grammar.{Token, tokens, Rule, Form, _▸_, ∎, _⟶_, Trees, nil, leaf, node, file, version, implementation, specs, spec, definitions, definition, attribute, D, P, auto, mark, integer-range, numbers, boolean-range, enumerator, enumerators, application, objects, object, block, statements, statement, default, own, file-is, version-is, implementation-is, no-spec, a-spec, spec-is, no-definition, a-definition, an-attribute, a-reference, an-integer, a-string, a-boolean, an-enum, reference-is, no-D, a-D, no-P, a-P, no-auto, with-auto, no-mark, a-mark, no-range, a-range, a-list, no-number, a-number, no-boolean-range, a-boolean-range, enumerator-is, no-enumerator, an-enumerator, no-default, a-default, own-auto, own-none, own-number, own-string, own-true, own-false, own-name, application-is, no-object, an-object, an-object-alone, an-object-with, no-block, a-block, no-statement, a-statement, statement-is, value-number, value-string, value-auto, value-name, value-true, value-false, reference as reference-rule, value as value-rule}
+use Rattle.grammar.specs.Grammar.{Token, tokens, Rule, Form, _▸_, ∎, _⟶_, Trees, nil, leaf, node, file, version, implementation, specs, spec, definitions, definition, attribute, D, P, auto, mark, integer-range, numbers, boolean-range, float-range, enumerator, enumerators, application, objects, object, block, statements, statement, default, own, file-is, version-is, implementation-is, no-spec, a-spec, spec-is, no-definition, a-definition, an-attribute, a-reference, an-integer, a-string, a-boolean, an-enum, a-float, reference-is, no-D, a-D, no-P, a-P, no-auto, with-auto, no-mark, a-mark, no-range, a-range, a-list, no-number, a-number, no-boolean-range, no-float-range, a-boolean-range, a-float-range, enumerator-is, no-enumerator, an-enumerator, no-default, a-default, own-auto, own-none, own-number, own-string, own-true, own-false, own-name, own-float, application-is, no-object, an-object, an-object-alone, an-object-with, no-block, a-block, no-statement, a-statement, statement-is, value-number, value-string, value-float, value-auto, value-name, value-true, value-false, reference as reference-rule, value as value-rule}
 use Rattle.meaning.proofs.Order.{Ordered, Sub, sub-nil, keep, drop, sub-none, sub-append, sub-behind, sub-front, sub-all, ordered-sub, at-rises, foremost, rises-first, InOrder}
 use Rattle.meaning.proofs.Sites.{bound-words, option-words, definition-words, value-words, defined-words, spec-words, statement-words, object-words, file-words, definition-at}
 use Rattle.meaning.specs.Actions.{M, Enumerator, first-value, truths, defined, defining, specifying, stating, means, meaning, syntax, word-of}
@@ -57,6 +57,7 @@ W P g l = (n e : ℕ) → Sub (definition-words (g n e)) l
 W auto m l = Unit {0}
 W mark m l = Unit {0}
 W integer-range r l = Sub (bound-words (r .bounds)) l
+W float-range r l = Sub (bound-words (r .bounds)) l
 W numbers ts l = Sub ts l
 W boolean-range g l = (n e : ℕ) → Sub (value-words (g n e .values)) l
 W enumerator g l = (n e : ℕ) → Sub (g n e .word ∷ definition-words (g n e .under)) l
@@ -99,6 +100,8 @@ means-words s an-attribute (node _ x nil) h = λ n e. sub-front (h .0 n e) []
 means-words s a-reference (node _ x nil) h = λ n e. sub-front (h .0 n e) []
 means-words s an-integer (leaf _ _ (node _ a (node _ r (leaf x _ (node _ k (node _ d b)))))) h = λ n e.
     keep (sub-behind (leaves s a) (sub-append (h .1 .0) (keep (sub-behind (leaves s k) (sub-front (h .1 .1 .1 .0) _)))))
+means-words s a-float (leaf _ _ (node _ a (node _ r (leaf x _ (node _ k (node _ d b)))))) h = λ n e.
+    keep (sub-behind (leaves s a) (sub-append (h .1 .0) (keep (sub-behind (leaves s k) (sub-front (h .1 .1 .1 .0) _)))))
 means-words s a-string (leaf _ _ (node _ a (leaf x _ (node _ k (node _ d b))))) h = λ n e.
     keep (sub-behind (leaves s a) (keep (sub-behind (leaves s k) (sub-front (h .1 .1 .0) _))))
 means-words s a-boolean (leaf _ _ (node _ a (node _ r (leaf x _ (node _ k (node _ d b)))))) h = λ n e.
@@ -117,7 +120,9 @@ means-words s with-auto us h = tt
 means-words s no-mark us h = tt
 means-words s a-mark us h = tt
 means-words s no-range nil h = sub-nil
+means-words s no-float-range nil h = sub-nil
 means-words s a-range (leaf _ _ (leaf a _ (leaf _ _ (leaf b _ r)))) h = drop (keep (drop (keep (sub-none _))))
+means-words s a-float-range (leaf _ _ (leaf a _ (leaf _ _ (leaf b _ r)))) h = drop (keep (drop (keep (sub-none _))))
 means-words s a-list (leaf _ _ (leaf a _ (node _ ns r))) h = drop (keep (sub-front (h .0) _))
 means-words s no-number nil h = sub-nil
 means-words s a-number (leaf _ _ (leaf a _ (node _ ns nil))) h = drop (keep (sub-front (h .0) []))
@@ -134,6 +139,7 @@ means-words s own-auto (leaf t _ nil) h = keep sub-nil
 means-words s own-none (leaf t _ nil) h = keep sub-nil
 means-words s own-number (leaf t _ nil) h = keep sub-nil
 means-words s own-string (leaf t _ nil) h = keep sub-nil
+means-words s own-float (leaf t _ nil) h = keep sub-nil
 means-words s own-true (leaf t _ nil) h = keep sub-nil
 means-words s own-false (leaf t _ nil) h = keep sub-nil
 means-words s own-name (leaf t _ nil) h = keep sub-nil
@@ -149,6 +155,7 @@ means-words s a-statement (node _ x (node _ xs nil)) h = λ k. sub-append (h .0 
 means-words s statement-is (leaf x _ (leaf _ _ (node _ v r))) h = λ k. keep (drop (sub-front (h .0 (suc k)) _))
 means-words s value-number (leaf t _ nil) h = λ k. keep sub-nil
 means-words s value-string (leaf t _ nil) h = λ k. keep sub-nil
+means-words s value-float (leaf t _ nil) h = λ k. keep sub-nil
 means-words s value-auto (leaf t _ nil) h = λ k. keep sub-nil
 means-words s value-name (leaf t _ (node _ b nil)) h = λ k. keep (sub-front (h .0 k) [])
 means-words s value-true (leaf t _ (node _ b nil)) h = λ k. keep (sub-front (h .0 k) [])

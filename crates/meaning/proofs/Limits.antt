@@ -6,7 +6,7 @@ use mathlib.Core.Option.{none, some}
 use Prim.Native.Nat.{ℕ}
 use Rattle.token.specs.Words.{bytesOf, codeOf}
 use Rattle.grammar.specs.Grammar.{ordinary, OS, APPMODE, TASK, ISR, COUNTER, ALARM, RESOURCE, EVENT, COM, MESSAGE, NETWORKMESSAGE, IPDU, NM, UINT32, INT32, UINT64, INT64}
-use Rattle.meaning.specs.Syntax.{Num, Word, absent, no-bounds, Definition, integer, boolean, enum, reference, Statements, done, state, Object, string as string-type}
+use Rattle.meaning.specs.Syntax.{Num, Word, absent, no-bounds, Definition, integer, boolean, enum, float, reference, Statements, done, state, Object, string as string-type}
 use Rattle.meaning.specs.Words.{in-type}
 use Rattle.meaning.specs.Faults.{Fault}
 use Rattle.meaning.specs.Defining.{name-faults, word-faults}
@@ -27,7 +27,7 @@ abbrev minus-number : ℕ → Num
 minus-number n = record { negative = true; amount = n }
 
 abbrev word-at : ℕ → Word
-word-at p = record { class = ordinary; bytes = bytesOf "x"; number = whole-number 0; place = p; length = 1 }
+word-at p = record { class = ordinary; bytes = bytesOf "x"; number = whole-number 0; float = whole-number 0; place = p; length = 1 }
 
 abbrev a-definition : ℕ → Definition
 a-definition n = record { row = n; type = reference TASK; word = word-at 3; auto = false; range = absent; bounds = no-bounds; name = word-at 7; list = false; default = none }
@@ -173,11 +173,11 @@ type-codes :
     (type-code (reference OS) ∷ type-code (reference APPMODE) ∷ type-code (reference TASK) ∷ type-code (reference ISR) ∷ type-code (reference COUNTER)
     ∷ type-code (reference ALARM) ∷ type-code (reference RESOURCE) ∷ type-code (reference EVENT) ∷ type-code (reference COM) ∷ type-code (reference MESSAGE)
     ∷ type-code (reference NETWORKMESSAGE) ∷ type-code (reference IPDU) ∷ type-code (reference NM) ∷ type-code (integer UINT32) ∷ type-code (integer INT32)
-    ∷ type-code (integer UINT64) ∷ type-code (integer INT64) ∷ type-code string-type ∷ type-code boolean ∷ type-code enum ∷ [])
+    ∷ type-code (integer UINT64) ∷ type-code (integer INT64) ∷ type-code string-type ∷ type-code boolean ∷ type-code enum ∷ type-code float ∷ [])
     ≡ (codeOf (bytesOf "OS_TYPE") ∷ codeOf (bytesOf "APPMODE_TYPE") ∷ codeOf (bytesOf "TASK_TYPE") ∷ codeOf (bytesOf "ISR_TYPE") ∷ codeOf (bytesOf "COUNTER_TYPE")
     ∷ codeOf (bytesOf "ALARM_TYPE") ∷ codeOf (bytesOf "RESOURCE_TYPE") ∷ codeOf (bytesOf "EVENT_TYPE") ∷ codeOf (bytesOf "COM_TYPE") ∷ codeOf (bytesOf "MESSAGE_TYPE")
     ∷ codeOf (bytesOf "NETWORKMESSAGE_TYPE") ∷ codeOf (bytesOf "IPDU_TYPE") ∷ codeOf (bytesOf "NM_TYPE") ∷ codeOf (bytesOf "UINT32") ∷ codeOf (bytesOf "INT32")
-    ∷ codeOf (bytesOf "UINT64") ∷ codeOf (bytesOf "INT64") ∷ codeOf (bytesOf "STRING") ∷ codeOf (bytesOf "BOOLEAN") ∷ codeOf (bytesOf "ENUM") ∷ [])
+    ∷ codeOf (bytesOf "UINT64") ∷ codeOf (bytesOf "INT64") ∷ codeOf (bytesOf "STRING") ∷ codeOf (bytesOf "BOOLEAN") ∷ codeOf (bytesOf "ENUM") ∷ codeOf (bytesOf "FLOAT") ∷ [])
 unfolding everything
 type-codes = refl
 

@@ -7,11 +7,11 @@ use Prim.Native.Nat.{ℕ, _<_}
 use native.Mathlib.Omega.{arith}
 use Rattle.token.proofs.Find.{by-test}
 use Rattle.grammar.specs.Grammar.{Kind, Integer}
-use Rattle.meaning.specs.Syntax.{Word, Bounds, no-bounds, from-to, one-of, AttributeType, integer, string, boolean, enum, reference, Definition, Definitions, no-more, define, Values, no-value, value, Defined, Spec, Statement, Statements, done, state, Object, File, is-enum}
+use Rattle.meaning.specs.Syntax.{Word, Bounds, no-bounds, from-to, one-of, AttributeType, integer, string, boolean, enum, float, reference, Definition, Definitions, no-more, define, Values, no-value, value, Defined, Spec, Statement, Statements, done, state, Object, File, is-enum}
 use Rattle.meaning.specs.Kinds.{kinds}
 use Rattle.meaning.specs.Faults.{Fault, fault-if, ahead, sooner, first}
-use Rattle.meaning.specs.Scopes.{Sort, a-number, a-string, a-truth, an-auto, a-no-default, a-name, sort-of, heads, of-kind, find-definition, names}
-use Rattle.meaning.specs.Defining.{outside, bound-faults, range-faults, default-number, default-faults, name-faults, word-faults, scope-faults, value-faults, spec-faults, definition-faults}
+use Rattle.meaning.specs.Scopes.{Sort, a-number, a-string, a-truth, an-auto, a-no-default, a-name, a-float, sort-of, heads, of-kind, find-definition, names}
+use Rattle.meaning.specs.Defining.{outside, bound-faults, low-faults, range-faults, default-number, default-faults, name-faults, word-faults, scope-faults, value-faults, spec-faults, definition-faults}
 use Rattle.meaning.specs.Applying.{too-few, statement-faults, each-object, each-part, object-faults}
 use Rattle.meaning.specs.Judging.{reference-faults, brace-faults, faults-as, own-faults, and-inside, judged, judge, judge-object, judge-objects, statement-stage}
 
@@ -42,12 +42,19 @@ of-bounds i no-bounds = no-fault
 of-bounds i (from-to a b) = with-more (at-if _ a 21 (omega arith)) (of-outside i (a ∷ b ∷ []))
 of-bounds i (one-of ts) = of-outside i ts
 
+of-low : (b : Bounds) → Numbered (low-faults b)
+unfolding low-faults
+of-low no-bounds = no-fault
+of-low (from-to a b) = at-if _ a 21 (omega arith)
+of-low (one-of ts) = no-fault
+
 pub of-range : (y : AttributeType) (b : Bounds) → Numbered (range-faults y b)
 unfolding range-faults
 of-range (integer i) b = of-bounds i b
 of-range string b = no-fault
 of-range boolean b = no-fault
 of-range enum b = no-fault
+of-range float b = of-low b
 of-range (reference k) b = no-fault
 
 -- The number of a fault of a default is 22 or 23.
@@ -59,6 +66,7 @@ default-high a-truth = omega arith
 default-high an-auto = omega arith
 default-high a-no-default = omega arith
 default-high a-name = omega arith
+default-high a-float = omega arith
 
 pub of-default : (d : Definition) (vs : Values) (o : Option Word) → Numbered (default-faults d vs o)
 unfolding default-faults
@@ -132,6 +140,7 @@ pub of-reference : (os : List Object) (k : Kind) (y : Sort) (t : Word) → Numbe
 unfolding reference-faults
 of-reference os k a-number t = at-if true t 15 (omega arith)
 of-reference os k a-string t = at-if true t 15 (omega arith)
+of-reference os k a-float t = at-if true t 15 (omega arith)
 of-reference os k a-truth t = at-if true t 15 (omega arith)
 of-reference os k an-auto t = at-if true t 15 (omega arith)
 of-reference os k a-no-default t = at-if true t 15 (omega arith)
@@ -146,6 +155,7 @@ pub of-type : (y : AttributeType) (os : List Object) (x : Statement) (d : Define
 unfolding faults-as
 of-type (integer i) os x d = at-if _ (x .value) 15 (omega arith)
 of-type string os x d = at-if _ (x .value) 15 (omega arith)
+of-type float os x d = at-if _ (x .value) 15 (omega arith)
 of-type boolean os x d = at-if _ (x .value) 15 (omega arith)
 of-type enum os x d = at-if _ (x .value) 15 (omega arith)
 of-type (reference k) os x d = with-more (of-reference os k (sort-of (x .value .class)) (x .value)) (of-brace (x .brace))

@@ -7,7 +7,7 @@ use Prim.Native.Nat.{ℕ, suc, _+_}
 use native.Mathlib.Omega.{arith}
 use lib.ListN.{length, length-append}
 use Rattle.token.specs.Find.{bit}
-use Rattle.grammar.specs.Grammar.{Rule, Form, _▸_, ∎, _⟶_, Trees, nil, leaf, node, file, version, implementation, specs, spec, definitions, definition, attribute, D, P, auto, mark, integer-range, numbers, boolean-range, enumerator, enumerators, application, objects, object, block, statements, statement, default, own, file-is, version-is, implementation-is, no-spec, a-spec, spec-is, no-definition, a-definition, an-attribute, a-reference, an-integer, a-string, a-boolean, an-enum, reference-is, no-D, a-D, no-P, a-P, no-auto, with-auto, no-mark, a-mark, no-range, a-range, a-list, no-number, a-number, no-boolean-range, a-boolean-range, enumerator-is, no-enumerator, an-enumerator, no-default, a-default, own-auto, own-none, own-number, own-string, own-true, own-false, own-name, application-is, no-object, an-object, an-object-alone, an-object-with, no-block, a-block, no-statement, a-statement, statement-is, value-number, value-string, value-auto, value-name, value-true, value-false, reference as reference-rule, value as value-rule}
+use Rattle.grammar.specs.Grammar.{Rule, Form, _▸_, ∎, _⟶_, Trees, nil, leaf, node, file, version, implementation, specs, spec, definitions, definition, attribute, D, P, auto, mark, integer-range, numbers, boolean-range, float-range, enumerator, enumerators, application, objects, object, block, statements, statement, default, own, file-is, version-is, implementation-is, no-spec, a-spec, spec-is, no-definition, a-definition, an-attribute, a-reference, an-integer, a-string, a-boolean, an-enum, a-float, reference-is, no-D, a-D, no-P, a-P, no-auto, with-auto, no-mark, a-mark, no-range, a-range, a-list, no-number, a-number, no-boolean-range, no-float-range, a-boolean-range, a-float-range, enumerator-is, no-enumerator, an-enumerator, no-default, a-default, own-auto, own-none, own-number, own-string, own-true, own-false, own-name, own-float, application-is, no-object, an-object, an-object-alone, an-object-with, no-block, a-block, no-statement, a-statement, statement-is, value-number, value-string, value-float, value-auto, value-name, value-true, value-false, reference as reference-rule, value as value-rule}
 use Rattle.meaning.specs.Actions.{M, Enumerator, Stated, first-value, truths, defined, defining, specifying, stating, means, meaning, syntax, word-of}
 use Rattle.meaning.specs.Syntax.{Definitions, no-more, define, Values, no-value, value, Defined, Statements, done, state, Object, Spec, is-enum, definitions-in, definitions-under, enumerators-in, enumerators-under, statements-in, Word}
 use Rattle.meaning.specs.Merging.{used, merged, merge-from, merge}
@@ -143,6 +143,7 @@ N P g = (n e : ℕ) → Counts n (definition-numbers (g n e)) × Counts e (enume
 N auto m = Unit {0}
 N mark m = Unit {0}
 N integer-range r = Unit {0}
+N float-range r = Unit {0}
 N numbers ts = Unit {0}
 N boolean-range g = (n e : ℕ) → Counts n (numbers-under (g n e .values)) × Counts e (enumerator-numbers-of (g n e .values) false)
 N enumerator g = (n e : ℕ) → Counts n (definition-numbers (g n e .under)) × Counts (suc e) (enumerator-numbers (g n e .under))
@@ -257,6 +258,7 @@ means-numbers s a-definition (node p x (node q xs nil)) h = λ n e. defining-num
 means-numbers s an-attribute (node _ x nil) h = h .0
 means-numbers s a-reference (node _ x nil) h = h .0
 means-numbers s an-integer (leaf _ _ (node _ a (node _ r (leaf x _ (node _ k (node _ d b)))))) h = λ n e. (refl, (counts-none, counts-none))
+means-numbers s a-float (leaf _ _ (node _ a (node _ r (leaf x _ (node _ k (node _ d b)))))) h = λ n e. (refl, (counts-none, counts-none))
 means-numbers s a-string (leaf _ _ (node _ a (leaf x _ (node _ k (node _ d b))))) h = λ n e. (refl, (counts-none, counts-none))
 means-numbers s a-boolean (leaf _ _ (node _ a (node _ r (leaf x _ (node _ k (node _ d b)))))) h = λ n e. (refl, h .1 .0 n e)
 means-numbers s an-enum (leaf _ _ (node _ a (leaf _ _ (node q v (node r vs (leaf _ _ (leaf x _ (node _ k (node _ d b))))))))) h = λ n e.
@@ -271,7 +273,9 @@ means-numbers s with-auto us h = tt
 means-numbers s no-mark us h = tt
 means-numbers s a-mark us h = tt
 means-numbers s no-range us h = tt
+means-numbers s no-float-range us h = tt
 means-numbers s a-range us h = tt
+means-numbers s a-float-range us h = tt
 means-numbers s a-list us h = tt
 means-numbers s no-number us h = tt
 means-numbers s a-number us h = tt
@@ -287,6 +291,7 @@ means-numbers s own-auto us h = tt
 means-numbers s own-none us h = tt
 means-numbers s own-number us h = tt
 means-numbers s own-string us h = tt
+means-numbers s own-float us h = tt
 means-numbers s own-true us h = tt
 means-numbers s own-false us h = tt
 means-numbers s own-name us h = tt
@@ -302,6 +307,7 @@ means-numbers s a-statement (node p x (node q xs nil)) h = λ k. stating-numbers
 means-numbers s statement-is (leaf x _ (leaf _ _ (node _ v r))) h = λ k. (refl, h .0 (suc k))
 means-numbers s value-number (leaf t _ nil) h = λ k. counts-none
 means-numbers s value-string (leaf t _ nil) h = λ k. counts-none
+means-numbers s value-float (leaf t _ nil) h = λ k. counts-none
 means-numbers s value-auto (leaf t _ nil) h = λ k. counts-none
 means-numbers s value-name (leaf t _ (node _ b nil)) h = h .0
 means-numbers s value-true (leaf t _ (node _ b nil)) h = h .0

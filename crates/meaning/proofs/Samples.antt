@@ -7,7 +7,7 @@ use Rattle.grammar.specs.Grammar.{OS, APPMODE, TASK, ISR, RESOURCE, EVENT, UINT
 use Rattle.meaning.specs.Syntax.{integer, boolean, enum, reference, string as string-type}
 use Rattle.meaning.specs.Resolving.{number, truth, auto, string, enumerator, object, of-object, of-value}
 use Rattle.meaning.specs.Answers.{accepted, refused}
-use Rattle.meaning.specs.Reading.{reading}
+use Rattle.meaning.specs.Reading.{reading, normal-text}
 use Rattle.meaning.proofs.Everything.{everything, whole, sp, df, en, ob, va}
 
 v6-version : reading (bytesOf "OIL_VERSION=\"2.4\";IMPLEMENTATION m{};CPU c{};") ≡ refused 6 12
@@ -152,3 +152,41 @@ ok-lists : whole (bytesOf "OIL_VERSION=\"2.5\";IMPLEMENTATION m{OS{UINT32 A[]=5;
 )
 unfolding everything
 ok-lists = refl
+
+-- Floats (document 02, Q-4) -----------------------------------------------------------------------------------------------------------------
+
+float-low-above-high : reading (bytesOf "OIL_VERSION=\"2.5\";IMPLEMENTATION m{OS{FLOAT[1.6..15.0e-1]F;};};CPU c{APPMODE a;OS o{F=1.5;};};") ≡ refused 21 44
+unfolding everything
+float-low-above-high = refl
+
+float-default-below : reading (bytesOf "OIL_VERSION=\"2.5\";IMPLEMENTATION m{OS{FLOAT[-1.0e-64..1.5]F=-10.1E-65;};};CPU c{APPMODE a;OS o{};};") ≡ refused 3 60
+unfolding everything
+float-default-below = refl
+
+float-default-outside : reading (bytesOf "OIL_VERSION=\"2.5\";IMPLEMENTATION m{OS{FLOAT[-1.0e-64..1.5]F=-1.1e-64;};};CPU c{APPMODE a;OS o{};};") ≡ refused 22 60
+unfolding everything
+float-default-outside = refl
+
+float-auto : reading (bytesOf "OIL_VERSION=\"2.5\";IMPLEMENTATION m{OS{FLOAT F=AUTO;};};CPU c{APPMODE a;OS o{};};") ≡ refused 23 46
+unfolding everything
+float-auto = refl
+
+float-whole : reading (bytesOf "OIL_VERSION=\"2.5\";IMPLEMENTATION m{OS{FLOAT F;};};CPU c{APPMODE a;OS o{F=1;};};") ≡ refused 15 73
+unfolding everything
+float-whole = refl
+
+float-for-integer : reading (bytesOf "OIL_VERSION=\"2.5\";IMPLEMENTATION m{OS{UINT32 F;};};CPU c{APPMODE a;OS o{F=1.0;};};") ≡ refused 15 74
+unfolding everything
+float-for-integer = refl
+
+float-above : reading (bytesOf "OIL_VERSION=\"2.5\";IMPLEMENTATION m{OS{FLOAT[-1.0..1.5]F;};};CPU c{APPMODE a;OS o{F=1.500000000000001;};};") ≡ refused 15 83
+unfolding everything
+float-above = refl
+
+float-missing : reading (bytesOf "OIL_VERSION=\"2.5\";IMPLEMENTATION m{OS{FLOAT F;};};CPU c{APPMODE a;OS o{};};") ≡ refused 16 69
+unfolding everything
+float-missing = refl
+
+float-normal : normal-text (bytesOf "OIL_VERSION=\"2.5\";IMPLEMENTATION m{OS{FLOAT WITH_AUTO[15.0e-1..1.50]F[]=00.15E+01;FLOAT Z=-0.0;};};CPU c{APPMODE a;OS o{F=1500.0e-3;F=AUTO;};};") ≡ bytesOf "OIL_VERSION = \"2.5\";\nIMPLEMENTATION m{OS{FLOAT WITH_AUTO[15.0e-1..1.50]F[]=00.15E+01;FLOAT Z=-0.0;};};\nCPU c {\nAPPMODE a {\n};\nOS o {\nF = 1500.0e-3;\nF = AUTO;\nZ = -0.0;\n};\n};\n"
+unfolding everything
+float-normal = refl

@@ -8,12 +8,12 @@ use Rattle.grammar.specs.Grammar.{Kind, Integer}
 use Rattle.meaning.proofs.Numbered.{default-high}
 use Rattle.meaning.proofs.Order.{At, nowhere, on, at-append, at-none, at-if, at-only, at-more}
 use Rattle.meaning.specs.Applying.{too-few, statement-faults, each-object, object-faults}
-use Rattle.meaning.specs.Defining.{outside, bound-faults, range-faults, default-number, default-faults, name-faults, word-faults, scope-faults, value-faults, spec-faults, definition-faults}
+use Rattle.meaning.specs.Defining.{outside, bound-faults, low-faults, range-faults, default-number, default-faults, name-faults, word-faults, scope-faults, value-faults, spec-faults, definition-faults}
 use Rattle.meaning.specs.Faults.{Fault}
 use Rattle.meaning.specs.Judging.{reference-faults, brace-faults, faults-as, own-faults, and-inside, judged, judge, judge-object, judge-objects, statement-stage}
 use Rattle.meaning.specs.Kinds.{kinds}
-use Rattle.meaning.specs.Scopes.{Sort, a-number, a-string, a-truth, an-auto, a-no-default, a-name, sort-of, heads, under, find-definition, of-kind, names}
-use Rattle.meaning.specs.Syntax.{AttributeType, integer, string, boolean, enum, reference, Bounds, no-bounds, from-to, one-of, Definition, Definitions, no-more, define, Values, no-value, value, Defined, Statement, Statements, done, state, Spec, Object, File, is-enum, Word}
+use Rattle.meaning.specs.Scopes.{Sort, a-number, a-string, a-truth, an-auto, a-no-default, a-name, a-float, sort-of, heads, under, find-definition, of-kind, names}
+use Rattle.meaning.specs.Syntax.{AttributeType, integer, string, boolean, enum, float, reference, Bounds, no-bounds, from-to, one-of, Definition, Definitions, no-more, define, Values, no-value, value, Defined, Statement, Statements, done, state, Spec, Object, File, is-enum, Word}
 
 -- The words ------------------------------------------------------------------------------------------------------------------------------
 
@@ -73,12 +73,19 @@ bound-at i no-bounds = nowhere
 bound-at i (from-to a b) = at-if _ 21 (omega arith) (at-if _ 21 (omega arith) (on (outside-at i (b ∷ []))))
 bound-at i (one-of ts) = outside-at i ts
 
+low-at : (b : Bounds) → At 0 (bound-words b) (low-faults b)
+unfolding low-faults bound-words
+low-at no-bounds = nowhere
+low-at (from-to a b) = at-only _ 21 a (b ∷ []) (omega arith)
+low-at (one-of ts) = at-none ts
+
 range-at : (y : AttributeType) (b : Bounds) → At 0 (bound-words b) (range-faults y b)
 unfolding range-faults
 range-at (integer i) b = bound-at i b
 range-at string b = at-none (bound-words b)
 range-at boolean b = at-none (bound-words b)
 range-at enum b = at-none (bound-words b)
+range-at float b = low-at b
 range-at (reference k) b = at-none (bound-words b)
 
 default-at : (d : Definition) (vs : Values) (o : Option Word) → At 0 (option-words o) (default-faults d vs o)
@@ -124,6 +131,7 @@ reference-at : (os : List Object) (k : Kind) (o : Sort) (t : Word) → At 0 (t �
 unfolding reference-faults
 reference-at os k a-number t = at-only true 15 t [] (omega arith)
 reference-at os k a-string t = at-only true 15 t [] (omega arith)
+reference-at os k a-float t = at-only true 15 t [] (omega arith)
 reference-at os k a-truth t = at-only true 15 t [] (omega arith)
 reference-at os k an-auto t = at-only true 15 t [] (omega arith)
 reference-at os k a-no-default t = at-only true 15 t [] (omega arith)
@@ -138,6 +146,7 @@ as-at : (y : AttributeType) (os : List Object) (x : Statement) (d : Defined) →
 unfolding faults-as
 as-at (integer i) os x d = at-only _ 15 (x .value) (option-words (x .brace)) (omega arith)
 as-at string os x d = at-only _ 15 (x .value) (option-words (x .brace)) (omega arith)
+as-at float os x d = at-only _ 15 (x .value) (option-words (x .brace)) (omega arith)
 as-at boolean os x d = at-only _ 15 (x .value) (option-words (x .brace)) (omega arith)
 as-at enum os x d = at-only _ 15 (x .value) (option-words (x .brace)) (omega arith)
 as-at (reference k) os x d = at-append (reference-at os k (sort-of (x .value .class)) (x .value)) (brace-at (x .brace))

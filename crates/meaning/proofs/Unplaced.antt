@@ -7,15 +7,15 @@ use Prim.Native.Nat.{ℕ, suc, _+_}
 use Rattle.grammar.specs.Grammar.{Kind}
 use Rattle.token.specs.Find.{pick, both, either, bit, is-there}
 use Rattle.token.specs.Words.{bytesOf, same}
-use Rattle.meaning.specs.Syntax.{Num, Word, Span, absent, span-of, span-or, AttributeType, integer, string, boolean, enum, reference, Bounds, no-bounds, from-to, one-of, Definition, Definitions, no-more, define, Values, no-value, value, Spec, Statements, done, state, Object, File, is-enum}
+use Rattle.meaning.specs.Syntax.{Num, Word, Span, absent, span-of, span-or, AttributeType, integer, string, boolean, enum, float, reference, Bounds, no-bounds, from-to, one-of, Definition, Definitions, no-more, define, Values, no-value, value, Spec, Statements, done, state, Object, File, is-enum}
 use Rattle.meaning.specs.Words.{choose, alike, among, equal, among-numbers, in-bounds}
 use Rattle.meaning.specs.Kinds.{same-kind, kinds}
-use Rattle.meaning.specs.Scopes.{Sort, a-number, a-string, a-truth, an-auto, a-no-default, a-name, sort-of, of-kind, Under, find-value, under, find-definition, names, find-object}
+use Rattle.meaning.specs.Scopes.{Sort, a-number, a-string, a-truth, an-auto, a-no-default, a-name, a-float, sort-of, of-kind, Under, find-value, under, find-definition, names, find-object}
 use Rattle.meaning.specs.Defining.{DefinitionRow, EnumeratorRow, definition-row, definition-rows, definition-rows-under, enumerator-row, enumerator-rows, enumerator-rows-of, all-definition-rows, all-enumerator-rows}
 use Rattle.meaning.specs.Applying.{ObjectRow, object-rows, how-many, counts-of, counts}
 use Rattle.meaning.specs.Answers.{Tables, tables}
 use Rattle.meaning.specs.Judging.{is-no-default, taken-by, taken, lacking, lacks, lacks-under}
-use Rattle.meaning.specs.Resolving.{Value, number, truth, auto, string as string-value, enumerator, object, Taken, Resolved, end, resolved, number-or, row-or, named, valued, take-value, entries, default-entry, resolve, resolve-under, object-values, all-values, Owner, of-object, of-value, ValueRow, value-row, how-many-values, value-rows, all-value-rows, how-many-in-all}
+use Rattle.meaning.specs.Resolving.{Value, number, truth, auto, string as string-value, float as float-value, enumerator, object, Taken, Resolved, end, resolved, number-or, row-or, named, valued, take-value, entries, default-entry, resolve, resolve-under, object-values, all-values, Owner, of-object, of-value, ValueRow, value-row, how-many-values, value-rows, all-value-rows, how-many-in-all}
 use Rattle.meaning.specs.Normal.{written, closed, lines, object-lines, application-lines}
 use Rattle.meaning.specs.Places.{each, if-there, unplaced-word, unplaced-bounds, unplaced-definition, unplaced-definitions, unplaced-values, unplaced-defined, unplaced-spec, unplaced-statement, unplaced-statements, unplaced-object, unplaced, unplaced-taken, unplaced-resolved, unplaced-definition-row, unplaced-enumerator-row, unplaced-object-row, unplaced-value-row, unplaced-tables}
 
@@ -159,6 +159,7 @@ named-unplaced : (y : AttributeType) (os : List Object) (vs : Values) (t : Word)
 unfolding named
 named-unplaced (integer i) os vs t = refl
 named-unplaced string os vs t = refl
+named-unplaced float os vs t = refl
 named-unplaced boolean os vs t = refl
 named-unplaced enum os vs t = ap enumerator (ap number-or (value-unplaced vs t) ∙ number-unplaced (find-value vs t))
 named-unplaced (reference k) os vs t = ap object (ap row-or (object-unplaced k os t) ∙ row-unplaced (find-object k os t))
@@ -168,6 +169,7 @@ valued-unplaced : (o : Sort) (os : List Object) (d : Definition) (vs : Values) (
 unfolding valued unplaced-definition unplaced-word
 valued-unplaced a-number os d vs t = refl
 valued-unplaced a-string os d vs t = refl
+valued-unplaced a-float os d vs t = refl
 valued-unplaced a-truth os d vs t = refl
 valued-unplaced an-auto os d vs t = refl
 valued-unplaced a-no-default os d vs t = refl
@@ -272,6 +274,7 @@ written-unplaced (number n) t = refl
 written-unplaced (truth b) t = refl
 written-unplaced auto t = refl
 written-unplaced string-value t = refl
+written-unplaced float-value t = refl
 written-unplaced (enumerator e) t = refl
 written-unplaced (object o) t = refl
 

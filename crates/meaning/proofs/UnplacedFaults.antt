@@ -9,12 +9,12 @@ use lib.Dec.{eqb, ltb}
 use Rattle.grammar.specs.Grammar.{Kind, Integer}
 use Rattle.token.specs.Find.{pick, both, either, is-there}
 use Rattle.token.specs.Words.{bytesOf, same}
-use Rattle.meaning.specs.Syntax.{Num, Word, AttributeType, integer, string, boolean, enum, reference, Bounds, no-bounds, from-to, one-of, Definition, Definitions, no-more, define, Values, no-value, value, Defined, Spec, Statement, Statements, done, state, Object, File, is-enum}
-use Rattle.meaning.specs.Words.{choose, alike, among, at-most, in-type}
+use Rattle.meaning.specs.Syntax.{Num, Word, AttributeType, integer, string, boolean, enum, float, reference, Bounds, no-bounds, from-to, one-of, Definition, Definitions, no-more, define, Values, no-value, value, Defined, Spec, Statement, Statements, done, state, Object, File, is-enum}
+use Rattle.meaning.specs.Words.{choose, alike, among, at-most, in-float-bounds, in-type}
 use Rattle.meaning.specs.Kinds.{same-kind, kinds, fewest, most}
 use Rattle.meaning.specs.Faults.{Fault, fault-if, sooner, first}
-use Rattle.meaning.specs.Scopes.{Sort, a-number, a-string, a-truth, an-auto, a-no-default, a-name, sort-of, of-kind, Under, find-value, definitions-or, under, find-definition, heads, names, find-object, fits-number, fits-as, fits}
-use Rattle.meaning.specs.Defining.{outside, bound-faults, range-faults, default-wrong, default-number, default-faults, defined-in, differs, name-faults, word-faults, scope-faults, value-faults, specified, spec-faults, definition-faults}
+use Rattle.meaning.specs.Scopes.{Sort, a-number, a-string, a-truth, an-auto, a-no-default, a-name, a-float, sort-of, of-kind, Under, find-value, definitions-or, under, find-definition, heads, names, find-object, fits-number, fits-float, fits-as, fits}
+use Rattle.meaning.specs.Defining.{outside, bound-faults, low-faults, range-faults, default-wrong, default-number, default-faults, defined-in, differs, name-faults, word-faults, scope-faults, value-faults, specified, spec-faults, definition-faults}
 use Rattle.meaning.specs.Applying.{how-many, too-few, full, statement-faults, each-object, each-part, object-faults}
 use Rattle.meaning.specs.Judging.{lacks, reference-faults, brace-faults, faults-as, own-faults, and-inside, judged, judge, judge-object, judge-objects, statement-stage}
 use Rattle.meaning.specs.Resolving.{all-values, how-many-in-all, too-many}
@@ -46,11 +46,24 @@ number-fits (integer i) b n = ap (both (in-type i n)) (bounds-unplaced n b)
 number-fits string b n = refl
 number-fits boolean b n = refl
 number-fits enum b n = refl
+number-fits float b n = refl
 number-fits (reference k) b n = refl
+
+float-fits : (y : AttributeType) (b : Bounds) (n : Num) → fits-float y (unplaced-bounds b) n ≡ fits-float y b n
+unfolding fits-float in-float-bounds unplaced-bounds unplaced-word
+float-fits (integer i) b n = refl
+float-fits string b n = refl
+float-fits boolean b n = refl
+float-fits enum b n = refl
+float-fits float no-bounds n = refl
+float-fits float (from-to a c) n = refl
+float-fits float (one-of ts) n = refl
+float-fits (reference k) b n = refl
 
 as-fits : (o : Sort) (d : Definition) (vs : Values) (t : Word) → fits-as o (unplaced-definition d) (unplaced-values vs) (unplaced-word t) ≡ fits-as o d vs t
 unfolding fits-as unplaced-definition unplaced-word
 as-fits a-number d vs t = number-fits (d .type) (d .bounds) (t .number)
+as-fits a-float d vs t = float-fits (d .type) (d .bounds) (t .float)
 as-fits a-string d vs t = refl
 as-fits a-truth d vs t = refl
 as-fits an-auto d vs t = refl
@@ -75,12 +88,19 @@ bound-unplaced i (from-to a b) =
     append-unplaced (fault-if (not (at-most (a .number) (b .number))) a 21) (outside i (a ∷ b ∷ [])) (if-unplaced (not (at-most (a .number) (b .number))) a 21) (outside-unplaced i (a ∷ b ∷ []))
 bound-unplaced i (one-of ts) = outside-unplaced i ts
 
+low-unplaced : (b : Bounds) → low-faults (unplaced-bounds b) ≡ at-zero (low-faults b)
+unfolding low-faults unplaced-bounds each unplaced-word
+low-unplaced no-bounds = refl
+low-unplaced (from-to a b) = if-unplaced (not (at-most (a .float) (b .float))) a 21
+low-unplaced (one-of ts) = refl
+
 range-unplaced : (y : AttributeType) (b : Bounds) → range-faults y (unplaced-bounds b) ≡ at-zero (range-faults y b)
 unfolding range-faults each
 range-unplaced (integer i) b = bound-unplaced i b
 range-unplaced string b = refl
 range-unplaced boolean b = refl
 range-unplaced enum b = refl
+range-unplaced float b = low-unplaced b
 range-unplaced (reference k) b = refl
 
 default-unplaced : (d : Definition) (vs : Values) (o : Option Word)
@@ -219,6 +239,7 @@ reference-unplaced : (os : List Object) (k : Kind) (o : Sort) (t : Word) → ref
 unfolding reference-faults
 reference-unplaced os k a-number t = if-unplaced true t 15
 reference-unplaced os k a-string t = if-unplaced true t 15
+reference-unplaced os k a-float t = if-unplaced true t 15
 reference-unplaced os k a-truth t = if-unplaced true t 15
 reference-unplaced os k an-auto t = if-unplaced true t 15
 reference-unplaced os k a-no-default t = if-unplaced true t 15
@@ -244,6 +265,7 @@ as-unplaced : (y : AttributeType) (os : List Object) (x : Statement) (d : Define
 unfolding faults-as unplaced-statement unplaced-defined
 as-unplaced (integer i) os x d = value-fault x d
 as-unplaced string os x d = value-fault x d
+as-unplaced float os x d = value-fault x d
 as-unplaced boolean os x d = value-fault x d
 as-unplaced enum os x d = value-fault x d
 as-unplaced (reference k) os x d =

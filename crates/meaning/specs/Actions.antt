@@ -4,15 +4,15 @@
 use mathlib.Core.List.{List, [], _∷_}
 use mathlib.Core.Bool.{Bool, true, false}
 use mathlib.Core.Option.{Option, none, some}
-use Prim.Native.Nat.{ℕ, suc, _+_}
+use Prim.Native.Nat.{ℕ, suc, _+_, _*_, _^_}
 use lib.ListN.{take, drop}
 use Rattle.token.specs.Tokens.{stepAt}
 use Rattle.token.specs.declared.Step.{Step}
 use Rattle.token.specs.declared.Step.the-variants.{Found, Refused, End}
 use Rattle.token.specs.declared.Sort.{Sort as TokenSort}
-use Rattle.token.specs.declared.Sort.the-variants.{Word as WordToken, Number, String, Punctuator}
-use Rattle.grammar.specs.Grammar.{Token, Kind, OS, Integer, UINT32, Class, ordinary, numeral, quoted, other, kind-word, type-word, integer-word, word, sign, Rule, rule, tok, Form, _▸_, ∎, _⟶_, Trees, nil, leaf, node, file, version, implementation, specs, spec, definitions, definition, attribute, D, P, auto, mark, integer-range, numbers, boolean-range, enumerator, enumerators, application, objects, object, block, statements, statement, default, own, file-is, version-is, implementation-is, no-spec, a-spec, spec-is, no-definition, a-definition, an-attribute, a-reference, an-integer, a-string, a-boolean, an-enum, reference-is, no-D, a-D, no-P, a-P, no-auto, with-auto, no-mark, a-mark, no-range, a-range, a-list, no-number, a-number, no-boolean-range, a-boolean-range, enumerator-is, no-enumerator, an-enumerator, no-default, a-default, own-auto, own-none, own-number, own-string, own-true, own-false, own-name, application-is, no-object, an-object, an-object-alone, an-object-with, no-block, a-block, no-statement, a-statement, statement-is, value-number, value-string, value-auto, value-name, value-true, value-false, reference as reference-rule, value as value-rule}
-use Rattle.meaning.specs.Syntax.{Num, Word, Span, absent, through, AttributeType, integer, string, boolean, enum, Bounds, no-bounds, from-to, one-of, Definitions, no-more, define, Values, no-value, Defined, Statement, Statements, done, state, Spec, Object, File, definitions-in, definitions-under, enumerators-in, statements-in, value as a-value, reference as reference-to}
+use Rattle.token.specs.declared.Sort.the-variants.{Word as WordToken, Number, String, Punctuator, Float}
+use Rattle.grammar.specs.Grammar.{Token, Kind, OS, Integer, UINT32, Class, ordinary, numeral, quoted, floating, other, kind-word, type-word, integer-word, word, sign, Rule, rule, tok, Form, _▸_, ∎, _⟶_, Trees, nil, leaf, node, file, version, implementation, specs, spec, definitions, definition, attribute, D, P, auto, mark, integer-range, numbers, boolean-range, float-range, enumerator, enumerators, application, objects, object, block, statements, statement, default, own, file-is, version-is, implementation-is, no-spec, a-spec, spec-is, no-definition, a-definition, an-attribute, a-reference, an-integer, a-string, a-boolean, an-enum, a-float, reference-is, no-D, a-D, no-P, a-P, no-auto, with-auto, no-mark, a-mark, no-range, a-range, a-list, no-number, a-number, no-boolean-range, no-float-range, a-boolean-range, a-float-range, enumerator-is, no-enumerator, an-enumerator, no-default, a-default, own-auto, own-none, own-number, own-string, own-true, own-false, own-name, own-float, application-is, no-object, an-object, an-object-alone, an-object-with, no-block, a-block, no-statement, a-statement, statement-is, value-number, value-string, value-float, value-auto, value-name, value-true, value-false, reference as reference-rule, value as value-rule}
+use Rattle.meaning.specs.Syntax.{Num, Word, Span, absent, through, AttributeType, integer, string, boolean, enum, float, Bounds, no-bounds, from-to, one-of, Definitions, no-more, define, Values, no-value, Defined, Statement, Statements, done, state, Spec, Object, File, definitions-in, definitions-under, enumerators-in, statements-in, value as a-value, reference as reference-to}
 use Rattle.meaning.specs.Merging.{merge}
 
 -- Words ------------------------------------------------------------------------------------------------------------------------------------
@@ -26,18 +26,33 @@ num-of-sort (WordToken c) = zero-num
 num-of-sort (Number b n) = record { negative = b; amount = n }
 num-of-sort String = zero-num
 num-of-sort (Punctuator b) = zero-num
+num-of-sort (Float b m k) = zero-num
 
 unfoldable pub num-of-step : Step → Num
 num-of-step (Found t c) = num-of-sort (t .sort)
 num-of-step (Refused p) = zero-num
 num-of-step (End n) = zero-num
 
--- The token t of the text s, with its bytes and its number: the one place where the meaning looks at the text.
+-- The float that a token is: its digits m count by 10 to the k. "1.50 equals 15.0e-1" (document 02, Q-4).
+unfoldable pub float-of-sort : TokenSort → Num
+float-of-sort (WordToken c) = zero-num
+float-of-sort (Number b n) = zero-num
+float-of-sort String = zero-num
+float-of-sort (Punctuator b) = zero-num
+float-of-sort (Float b m k) = record { negative = b; amount = m * 10 ^ k }
+
+unfoldable pub float-of-step : Step → Num
+float-of-step (Found t c) = float-of-sort (t .sort)
+float-of-step (Refused p) = zero-num
+float-of-step (End n) = zero-num
+
+-- The token t of the text s, with its bytes, its number and its float: the one place where the meaning looks at the text.
 unfoldable pub word-of : List ℕ → Token → Word
 word-of s t = record {
   class = t .class;
   bytes = take (t .length) (drop (t .place) s);
   number = num-of-step (stepAt s (t .place));
+  float = float-of-step (stepAt s (t .place));
   place = t .place;
   length = t .length;
 }
@@ -47,6 +62,7 @@ unfoldable pub kind-of : Class → Kind
 kind-of ordinary = OS
 kind-of numeral = OS
 kind-of quoted = OS
+kind-of floating = OS
 kind-of other = OS
 kind-of (kind-word k) = k
 kind-of (type-word k) = k
@@ -58,6 +74,7 @@ unfoldable pub integer-of : Class → Integer
 integer-of ordinary = UINT32
 integer-of numeral = UINT32
 integer-of quoted = UINT32
+integer-of floating = UINT32
 integer-of other = UINT32
 integer-of (kind-word k) = UINT32
 integer-of (type-word k) = UINT32
@@ -118,6 +135,7 @@ M mark = Bool
 M integer-range = IntegerRange
 M numbers = List Word
 M boolean-range = ℕ → ℕ → BooleanRange
+M float-range = IntegerRange
 M enumerator = ℕ → ℕ → Enumerator
 M enumerators = ℕ → ℕ → Values
 M application = Application
@@ -185,6 +203,10 @@ means a-boolean (t, (a, (r, (x, (l, (d, _)))))) = λ n e. let vs = r n e in defi
 -- type auto [ enumerator enumerators ] name mark default
 means an-enum (t, (a, (o, (v, (vs, (c, (x, (l, (d, _))))))))) = λ n e. defined n (first-value (v n e) n e vs) enum t a (through o c) no-bounds x l d
 means reference-is (t, (x, (l, _))) = λ n e. defined n no-value (reference-to (kind-of (t .class))) t false absent no-bounds x l none
+-- FLOAT auto range name mark default
+means a-float (t, (a, (r, (x, (l, (d, _)))))) = λ n e. defined n no-value float t a (r .span) (r .bounds) x l d
+means no-float-range m = record { span = absent; bounds = no-bounds }
+means a-float-range (o, (a, (_, (b, (c, _))))) = record { span = through o c; bounds = from-to a b }
 means no-D m = tt
 means a-D m = tt
 means no-P m = λ n e. no-more
@@ -214,6 +236,7 @@ means own-string m = m .0
 means own-true m = m .0
 means own-false m = m .0
 means own-name m = m .0
+means own-float m = m .0
 -- CPU name `{` objects `}`
 means application-is (_, (x, (_, (os, _)))) = record { name = x; objects = os 0 0 }
 means no-object m = λ n k. []
@@ -233,6 +256,7 @@ means statement-is (x, (_, (v, _))) = λ k.
     record { statement = record { number = k; name = x; value = v .word; brace = v .block .brace }; inside = v .block .inside (suc k) }
 means value-number m = record { word = m .0; block = record { brace = none; inside = λ k. done } }
 means value-string m = record { word = m .0; block = record { brace = none; inside = λ k. done } }
+means value-float m = record { word = m .0; block = record { brace = none; inside = λ k. done } }
 means value-auto m = record { word = m .0; block = record { brace = none; inside = λ k. done } }
 means value-name (t, (b, _)) = record { word = t; block = b }
 means value-true (t, (b, _)) = record { word = t; block = b }

@@ -6,11 +6,11 @@ use Prim.Native.Nat.{ℕ, zero, suc, _+_, _-_, _*_}
 use lib.ListN.{length}
 use Rattle.token.specs.Find.{bit}
 use Rattle.grammar.specs.Grammar.{Integer, UINT32, INT32, UINT64, INT64}
-use Rattle.meaning.specs.Syntax.{AttributeType, integer, boolean, enum, reference, string as string-type}
+use Rattle.meaning.specs.Syntax.{AttributeType, integer, boolean, enum, float as float-type, reference, string as string-type}
 use Rattle.meaning.specs.Kinds.{kind-number}
 use Rattle.meaning.specs.Defining.{DefinitionRow, EnumeratorRow}
 use Rattle.meaning.specs.Applying.{ObjectRow}
-use Rattle.meaning.specs.Resolving.{Value, number, truth, auto, string, enumerator, object, Owner, of-object, of-value, ValueRow}
+use Rattle.meaning.specs.Resolving.{Value, number, truth, auto, string, float, enumerator, object, Owner, of-object, of-value, ValueRow}
 use Rattle.meaning.specs.Answers.{Answer, accepted, refused}
 
 -- The token reader's code of an integer type's word, and of any type's word.
@@ -25,6 +25,7 @@ type-code (integer i) = integer-code i
 type-code string-type = 39
 type-code boolean = 40
 type-code enum = 41
+type-code float-type = 42
 type-code (reference k) = 22 + kind-number k
 
 -- Definitions: 13 cells a row.
@@ -59,12 +60,14 @@ value-sort auto = 2
 value-sort string = 3
 value-sort (enumerator e) = 4
 value-sort (object o) = 5
+value-sort float = 6
 
 unfoldable pub value-negative : Value → Bool
 value-negative (number n) = n .negative
 value-negative (truth b) = false
 value-negative auto = false
 value-negative string = false
+value-negative float = false
 value-negative (enumerator e) = false
 value-negative (object o) = false
 
@@ -73,6 +76,7 @@ value-amount (number n) = n .amount
 value-amount (truth b) = bit b
 value-amount auto = 0
 value-amount string = 0
+value-amount float = 0
 value-amount (enumerator e) = e
 value-amount (object o) = o
 

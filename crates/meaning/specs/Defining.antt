@@ -8,11 +8,11 @@ use lib.Dec.{eqb}
 use Rattle.grammar.specs.Grammar.{Integer}
 use Rattle.token.specs.Find.{pick, both, either}
 use Rattle.token.specs.Words.{bytesOf, same}
-use Rattle.meaning.specs.Syntax.{Word, Span, span-of, span-or, AttributeType, integer, string, boolean, enum, reference, Bounds, no-bounds, from-to, one-of, Definition, Definitions, no-more, define, Values, no-value, value, Spec, File, is-enum}
+use Rattle.meaning.specs.Syntax.{Word, Span, span-of, span-or, AttributeType, integer, string, boolean, enum, float, reference, Bounds, no-bounds, from-to, one-of, Definition, Definitions, no-more, define, Values, no-value, value, Spec, File, is-enum}
 use Rattle.meaning.specs.Words.{alike, among, at-most, in-type}
 use Rattle.meaning.specs.Kinds.{same-kind}
 use Rattle.meaning.specs.Faults.{Fault, fault-if}
-use Rattle.meaning.specs.Scopes.{Sort, a-number, a-string, a-truth, an-auto, a-no-default, a-name, sort-of, fits, heads}
+use Rattle.meaning.specs.Scopes.{Sort, a-number, a-string, a-truth, an-auto, a-no-default, a-name, a-float, sort-of, fits, heads}
 
 -- Rows -------------------------------------------------------------------------------------------------------------------------------------
 
@@ -91,11 +91,18 @@ bound-faults i no-bounds = []
 bound-faults i (from-to a b) = fault-if (not (at-most (a .number) (b .number))) a 21 ++ outside i (a ∷ b ∷ [])
 bound-faults i (one-of ts) = outside i ts
 
+-- The same of two floats; FLOAT has no bound of its own.
+unfoldable pub low-faults : Bounds → List Fault
+low-faults no-bounds = []
+low-faults (from-to a b) = fault-if (not (at-most (a .float) (b .float))) a 21
+low-faults (one-of ts) = []
+
 unfoldable pub range-faults : AttributeType → Bounds → List Fault
 range-faults (integer i) b = bound-faults i b
 range-faults string b = []
 range-faults boolean b = []
 range-faults enum b = []
+range-faults float b = low-faults b
 range-faults (reference k) b = []
 
 -- 22, "default outside type, range or list", or 23, "AUTO without WITH_AUTO", at "the default". NO_DEFAULT is never at fault.
@@ -106,6 +113,7 @@ default-wrong a-truth b = not b
 default-wrong an-auto b = not b
 default-wrong a-no-default b = false
 default-wrong a-name b = not b
+default-wrong a-float b = not b
 
 unfoldable pub default-number : Sort → ℕ
 default-number a-number = 22
@@ -114,6 +122,7 @@ default-number a-truth = 22
 default-number an-auto = 23
 default-number a-no-default = 22
 default-number a-name = 22
+default-number a-float = 22
 
 unfoldable pub default-faults : Definition → Values → Option Word → List Fault
 default-faults d vs none = []

@@ -5,10 +5,10 @@ use mathlib.Core.Bool.{Bool, true, false, not}
 use mathlib.Core.Option.{Option, none, some}
 use Rattle.grammar.specs.Grammar.{Kind}
 use Rattle.token.specs.Find.{both, either, is-there}
-use Rattle.meaning.specs.Syntax.{Word, AttributeType, integer, string, boolean, enum, reference, Definitions, no-more, define, Values, no-value, value, Defined, Statement, Statements, done, state, Object, File}
+use Rattle.meaning.specs.Syntax.{Word, AttributeType, integer, string, boolean, enum, float, reference, Definitions, no-more, define, Values, no-value, value, Defined, Statement, Statements, done, state, Object, File}
 use Rattle.meaning.specs.Words.{alike, among, choose}
 use Rattle.meaning.specs.Faults.{Fault, fault-if}
-use Rattle.meaning.specs.Scopes.{Sort, a-number, a-string, a-truth, an-auto, a-no-default, a-name, sort-of, under, find-definition, of-kind, find-object, names, fits}
+use Rattle.meaning.specs.Scopes.{Sort, a-number, a-string, a-truth, an-auto, a-no-default, a-name, a-float, sort-of, under, find-definition, of-kind, find-object, names, fits}
 
 -- What must be stated ----------------------------------------------------------------------------------------------------------------------
 
@@ -20,6 +20,7 @@ is-no-default a-truth = false
 is-no-default an-auto = false
 is-no-default a-no-default = true
 is-no-default a-name = false
+is-no-default a-float = false
 
 unfoldable pub taken-by : Bool → Word → Option Word
 taken-by true t = none
@@ -56,6 +57,7 @@ reference-faults os k a-string t = fault-if true t 15
 reference-faults os k a-truth t = fault-if true t 15
 reference-faults os k an-auto t = fault-if true t 15
 reference-faults os k a-no-default t = fault-if true t 15
+reference-faults os k a-float t = fault-if true t 15
 reference-faults os k a-name t = fault-if (not (is-there (find-object k os t))) t 18
 
 -- 15, "braces after a reference", at "the `{`".
@@ -69,6 +71,7 @@ faults-as (integer i) os x d = fault-if (not (fits (d .definition) (d .values) (
 faults-as string os x d = fault-if (not (fits (d .definition) (d .values) (x .value))) (x .value) 15
 faults-as boolean os x d = fault-if (not (fits (d .definition) (d .values) (x .value))) (x .value) 15
 faults-as enum os x d = fault-if (not (fits (d .definition) (d .values) (x .value))) (x .value) 15
+faults-as float os x d = fault-if (not (fits (d .definition) (d .values) (x .value))) (x .value) 15
 faults-as (reference k) os x d = reference-faults os k (sort-of (x .value .class)) (x .value) ++ brace-faults (x .brace)
 
 -- Statements -------------------------------------------------------------------------------------------------------------------------------

@@ -7,7 +7,7 @@ use lib.Dec.{ltb}
 use Rattle.token.specs.Words.{bytesOf}
 use Rattle.meaning.specs.Syntax.{Num, Word, Span, Object, File}
 use Rattle.meaning.specs.Words.{choose}
-use Rattle.meaning.specs.Resolving.{Value, number, truth, auto, string, enumerator, object, Resolved, end, resolved, all-values}
+use Rattle.meaning.specs.Resolving.{Value, number, truth, auto, string, float, enumerator, object, Resolved, end, resolved, all-values}
 
 -- "Numbers are decimal, with `-` if negative." Twenty digits are enough for any number of a text.
 unfoldable pub digits-in : ℕ → ℕ → List ℕ
@@ -27,6 +27,7 @@ written (number n) t = decimal n
 written (truth b) t = t .bytes
 written auto t = t .bytes
 written string t = t .bytes
+written float t = t .bytes
 written (enumerator e) t = t .bytes
 written (object o) t = t .bytes
 

@@ -21,7 +21,7 @@ if-there f (some a) = some (f a)
 -- The syntax -------------------------------------------------------------------------------------------------------------------------------
 
 unfoldable pub unplaced-word : Word → Word
-unplaced-word t = record { class = t .class; bytes = t .bytes; number = t .number; place = 0; length = 0 }
+unplaced-word t = record { class = t .class; bytes = t .bytes; number = t .number; float = t .float; place = 0; length = 0 }
 
 unfoldable pub unplaced-bounds : Bounds → Bounds
 unplaced-bounds no-bounds = no-bounds

@@ -6,17 +6,18 @@ use mathlib.Core.Option.{Option, none, some}
 use Prim.Native.Nat.{ℕ, suc, _+_}
 use lib.Dec.{eqb, ltb}
 use Rattle.grammar.specs.Grammar.{Class, TRUE, code, given-code}
-use Rattle.meaning.specs.Syntax.{Num, Word, Span, span-of, AttributeType, integer, boolean, enum, reference, Definition, Definitions, no-more, define, Values, no-value, value, Statements, done, state, Object, File, string as string-type}
+use Rattle.meaning.specs.Syntax.{Num, Word, Span, span-of, AttributeType, integer, boolean, enum, float as float-type, reference, Definition, Definitions, no-more, define, Values, no-value, value, Statements, done, state, Object, File, string as string-type}
 use Rattle.meaning.specs.Words.{alike, among, choose}
 use Rattle.meaning.specs.Faults.{Fault}
-use Rattle.meaning.specs.Scopes.{Sort, a-number, a-string, a-truth, an-auto, a-no-default, a-name, sort-of, Under, find-value, of-kind, find-object, names}
+use Rattle.meaning.specs.Scopes.{Sort, a-number, a-string, a-truth, an-auto, a-no-default, a-name, a-float, sort-of, Under, find-value, of-kind, find-object, names}
 use Rattle.meaning.specs.Judging.{taken}
 
--- "value (a number, TRUE, FALSE, AUTO, an enumerator's or object's row; a string is its value word)".
+-- "value (a number, TRUE, FALSE, AUTO, an enumerator's or object's row; a string is its value word)". "In a row a float, like a string, is its
+-- value word" (document 02, Q-4).
 pub data Value : Type 0 where
   number : Num → Value
   truth : Bool → Value
-  auto string : Value
+  auto string float : Value
   enumerator object : ℕ → Value
 
 -- A value that an attribute takes, "whether it was stated", and its word, "which for a default" lies "in the definition".
@@ -49,6 +50,7 @@ unfoldable pub named : AttributeType → List Object → Values → Word → Val
 named (integer i) os vs t = string
 named string-type os vs t = string
 named boolean os vs t = string
+named float-type os vs t = string
 named enum os vs t = enumerator (number-or (find-value vs t))
 named (reference k) os vs t = object (row-or (find-object k os t))
 
@@ -59,6 +61,7 @@ valued a-string os d vs t = string
 valued a-truth os d vs t = truth (is-true (t .class))
 valued an-auto os d vs t = auto
 valued a-no-default os d vs t = auto
+valued a-float os d vs t = float
 valued a-name os d vs t = named (d .type) os vs t
 
 -- The value that an attribute takes by the word t, stated or not.

@@ -4,10 +4,10 @@ use mathlib.Core.List.{List, [], _∷_}
 use mathlib.Core.Bool.{Bool, true, false}
 use mathlib.Core.Option.{Option, none, some}
 use Prim.Native.Nat.{ℕ}
-use Rattle.grammar.specs.Grammar.{Kind, Class, Given, ordinary, numeral, quoted, other, kind-word, type-word, integer-word, word, sign, OIL-VERSION, IMPLEMENTATION, CPU, STRING, BOOLEAN, ENUM, TRUE, FALSE, AUTO, NO-DEFAULT, WITH-AUTO}
+use Rattle.grammar.specs.Grammar.{Kind, Class, Given, ordinary, numeral, quoted, floating, other, kind-word, type-word, integer-word, word, sign, OIL-VERSION, IMPLEMENTATION, CPU, STRING, BOOLEAN, ENUM, FLOAT, TRUE, FALSE, AUTO, NO-DEFAULT, WITH-AUTO}
 use Rattle.token.specs.Find.{pick, both, is-there}
-use Rattle.meaning.specs.Syntax.{Num, Word, AttributeType, integer, string, boolean, enum, reference, Bounds, Definition, Definitions, no-more, define, Values, no-value, value, Defined, Statements, done, state, Spec, Object, is-enum}
-use Rattle.meaning.specs.Words.{alike, in-type, in-bounds}
+use Rattle.meaning.specs.Syntax.{Num, Word, AttributeType, integer, string, boolean, enum, float, reference, Bounds, Definition, Definitions, no-more, define, Values, no-value, value, Defined, Statements, done, state, Spec, Object, is-enum}
+use Rattle.meaning.specs.Words.{alike, in-type, in-bounds, in-float-bounds}
 use Rattle.meaning.specs.Kinds.{same-kind}
 
 -- Definitions in scope ---------------------------------------------------------------------------------------------------------------------
@@ -57,9 +57,9 @@ find-object k (x ∷ xs) t = let r = find-object k xs t in pick (both (same-kind
 
 -- Values ------------------------------------------------------------------------------------------------------------------------------------
 
--- What a value or a default is: "a number, string, AUTO, or a name, TRUE or FALSE", or NO_DEFAULT.
+-- What a value or a default is: "a number, string, AUTO, or a name, TRUE or FALSE", or NO_DEFAULT; a float.
 pub data Sort : Type 0 where
-  a-number a-string a-truth an-auto a-no-default a-name : Sort
+  a-number a-string a-truth an-auto a-no-default a-name a-float : Sort
 
 unfoldable pub sort-of-word : Given → Sort
 sort-of-word OIL-VERSION = a-name
@@ -68,6 +68,7 @@ sort-of-word CPU = a-name
 sort-of-word STRING = a-name
 sort-of-word BOOLEAN = a-name
 sort-of-word ENUM = a-name
+sort-of-word FLOAT = a-name
 sort-of-word TRUE = a-truth
 sort-of-word FALSE = a-truth
 sort-of-word AUTO = an-auto
@@ -78,6 +79,7 @@ unfoldable pub sort-of : Class → Sort
 sort-of ordinary = a-name
 sort-of numeral = a-number
 sort-of quoted = a-string
+sort-of floating = a-float
 sort-of other = a-name
 sort-of (kind-word k) = a-name
 sort-of (type-word k) = a-name
@@ -90,6 +92,7 @@ is-string (integer i) = false
 is-string string = true
 is-string boolean = false
 is-string enum = false
+is-string float = false
 is-string (reference k) = false
 
 unfoldable pub is-boolean : AttributeType → Bool
@@ -97,6 +100,7 @@ is-boolean (integer i) = false
 is-boolean string = false
 is-boolean boolean = true
 is-boolean enum = false
+is-boolean float = false
 is-boolean (reference k) = false
 
 -- "Integer bounds are the type's and the range's": a number is in both.
@@ -105,16 +109,27 @@ fits-number (integer i) b n = both (in-type i n) (in-bounds n b)
 fits-number string b n = false
 fits-number boolean b n = false
 fits-number enum b n = false
+fits-number float b n = false
 fits-number (reference k) b n = false
 
+-- A float is in the range of a FLOAT, both ends included; "A whole number is no value for a FLOAT" (document 02, Q-4), nor a float for another.
+unfoldable pub fits-float : AttributeType → Bounds → Num → Bool
+fits-float (integer i) b n = false
+fits-float string b n = false
+fits-float boolean b n = false
+fits-float enum b n = false
+fits-float float b n = in-float-bounds n b
+fits-float (reference k) b n = false
+
 -- By the value's sort: a number for an integer type, in its bounds; a string for STRING; TRUE or FALSE for BOOLEAN; AUTO with WITH_AUTO; an
--- enumerator of the list for ENUM.
+-- enumerator of the list for ENUM; a float for FLOAT, in its range.
 unfoldable pub fits-as : Sort → Definition → Values → Word → Bool
 fits-as a-number d vs t = fits-number (d .type) (d .bounds) (t .number)
 fits-as a-string d vs t = is-string (d .type)
 fits-as a-truth d vs t = is-boolean (d .type)
 fits-as an-auto d vs t = d .auto
 fits-as a-no-default d vs t = false
+fits-as a-float d vs t = fits-float (d .type) (d .bounds) (t .float)
 fits-as a-name d vs t = both (is-enum (d .type)) (is-there (find-value vs t))
 
 -- The attribute d with the values vs of its list, no reference, takes the value t: else 15, "wrong sort of value, out of range, unknown

@@ -15,12 +15,14 @@ pub record Num : Type 0 where
   pub negative : Bool
   pub amount : ℕ
 
--- A token of the text with its bytes, and the number that it is (zero for what is no number). Rules compare classes, bytes and numbers;
--- places and lengths are only reported.
+-- A token of the text with its bytes, the number that it is (zero for what is no number), and the float that it is, as a number of parts of which
+-- 10 to the 82 are one (zero for what is no float): every float is a whole number of them, and so "Comparison is exact" (document 02, Q-4).
+-- Rules compare classes, bytes, numbers and floats; places and lengths are only reported.
 pub record Word : Type 0 where
   pub class : Class
   pub bytes : List ℕ
   pub number : Num
+  pub float : Num
   pub place : ℕ
   pub length : ℕ
 
@@ -45,13 +47,13 @@ through t u = record { place = t .place; length = (u .place + u .length) - t .pl
 
 -- Definitions ------------------------------------------------------------------------------------------------------------------------------
 
--- "types: UINT32, INT32, UINT64, INT64 ..; STRING ..; BOOLEAN ..; ENUM .." and "reference: a kind followed by `_TYPE`".
+-- "types: UINT32, INT32, UINT64, INT64 ..; STRING ..; BOOLEAN ..; ENUM .." and "reference: a kind followed by `_TYPE`"; FLOAT (document 02, Q-4).
 pub data AttributeType : Type 0 where
   integer : Integer → AttributeType
-  string boolean enum : AttributeType
+  string boolean enum float : AttributeType
   reference : Kind → AttributeType
 
--- An integer's range: "nothing, `[` number `..` number `]` or `[` one or more numbers parted by commas `]`".
+-- A float's range: nothing, or "two floats" (document 02, Q-4). An integer's range: "nothing, `[` number `..` number `]` or `[` one or more numbers parted by commas `]`".
 pub data Bounds : Type 0 where
   no-bounds : Bounds
   from-to : Word → Word → Bounds
@@ -148,6 +150,7 @@ is-enum (integer i) = false
 is-enum string = false
 is-enum boolean = false
 is-enum enum = true
+is-enum float = false
 is-enum (reference k) = false
 
 unfoldable mutual

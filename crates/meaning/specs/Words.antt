@@ -70,3 +70,9 @@ unfoldable pub in-bounds : Num → Bounds → Bool
 in-bounds n no-bounds = true
 in-bounds n (from-to a b) = both (at-most (a .number) n) (at-most n (b .number))
 in-bounds n (one-of ts) = among-numbers n ts
+
+-- A float in a range of floats, both ends included (document 02, Q-4). A FLOAT has no list of floats.
+unfoldable pub in-float-bounds : Num → Bounds → Bool
+in-float-bounds n no-bounds = true
+in-float-bounds n (from-to a b) = both (at-most (a .float) n) (at-most n (b .float))
+in-float-bounds n (one-of ts) = false

@@ -117,7 +117,7 @@ put-object {l} {n} {t} w r c h f p i q =
 
 module _ {s : List ℕ} {a b c : Look} {l l′ : List ℕ} {n n′ : ℕ} where
   pub object-alone : {e k v w m : ℕ} {t : List ℕ} {r : Look} → k ≡ a .code - 9 → Meets 1 (kind · ∎) s a b → Meets 1 (name · ∎) s b c → v ≡ a .next - a .at → w ≡ b .next - b .at
-      → n′ ≡ n + min 1 (65536 - n) → (c .code ≡ 44 → ⊥) → l′ ≡ sets l (n * 10) (k ∷ a .at ∷ v ∷ b .at ∷ w ∷ 0 ∷ 0 ∷ 1 ∷ m ∷ m ∷ []) → Meets e (D ▸ sg semicolon · ∎) s c r
+      → n′ ≡ n + min 1 (65536 - n) → (c .code ≡ 45 → ⊥) → l′ ≡ sets l (n * 10) (k ∷ a .at ∷ v ∷ b .at ∷ w ∷ 0 ∷ 0 ∷ 1 ∷ m ∷ m ∷ []) → Meets e (D ▸ sg semicolon · ∎) s c r
       → Walks FillBoth 1 (object ▸ ∎) (λ w m. ObjectRows a w (m .0)) s a r ((l, n), (t, m)) ((l′, n′), (t, m))
   unfolding means absent front-of behind ObjectRows object-cells statement-rows statements-in
   object-alone {k} {v} {w} {m} {t} g x y p q i h o d =
@@ -144,13 +144,13 @@ module _ {s : List ℕ} {a b c : Look} {l l′ : List ℕ} {n n′ : ℕ} where
 
 module _ {s : List ℕ} {a b c g : Look} {l l′ : List ℕ} {n n′ : ℕ} where
   pub object-with : {e e′ k v w m m′ extent : ℕ} {t t′ : List ℕ} {d r f : Look} → k ≡ a .code - 9 → Meets 1 (kind · ∎) s a b → Meets 1 (name · ∎) s b c → v ≡ a .next - a .at
-      → w ≡ b .next - b .at → n′ ≡ n + min 1 (65536 - n) → c .code ≡ 44 → d ≡ advanced s c
+      → w ≡ b .next - b .at → n′ ≡ n + min 1 (65536 - n) → c .code ≡ 45 → d ≡ advanced s c
       → Walks Fill 0 (statements ▸ ∎) (λ w m. StatementRows w (m .0)) s d g (t, m) (t′, m′) → extent ≡ (g .at + (g .next - g .at)) - c .at
       → l′ ≡ sets l (n * 10) (k ∷ a .at ∷ v ∷ b .at ∷ w ∷ c .at ∷ extent ∷ 1 ∷ m ∷ m′ ∷ []) → Meets e (sg rbrace · ∎) s g f → Meets e′ (D ▸ sg semicolon · ∎) s f r
       → Walks FillBoth 1 (object ▸ ∎) (λ w m. ObjectRows a w (m .0)) s a r ((l, n), (t, m)) ((l′, n′), (t′, m′))
   unfolding means through front-of behind ObjectRows StatementRows object-cells matches classAt
   object-with {k} {v} {w} {m} {m′} {extent} gk x y p q i h o ss ex wr cl d =
-      let br = take (sg lbrace) {s = s} {a = c} (at-code (matches (sg lbrace)) 44 tt h) o in
+      let br = take (sg lbrace) {s = s} {a = c} (at-code (matches (sg lbrace)) 45 tt h) o in
       let f = matched kind x ▻ first name y ▻ first (sg lbrace) br ▻ ss .fills ▻ first (sg rbrace) cl ▻ plain (D ▸ sg semicolon · ∎) d in
       let row : ℕ → List ℕ = λ j. k ∷ a .at ∷ v ∷ b .at ∷ w ∷ c .at ∷ extent ∷ 1 ∷ j ∷ (j + length (ss .what j)) ∷ [] in
       let z : Put = ((λ j. row j ∷ []), ss .what) in

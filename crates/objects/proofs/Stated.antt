@@ -8,12 +8,12 @@ use native.Mathlib.Omega.{arith}
 use native.Mathlib.Nat.{add-zero}
 use lib.ListN.{length, length-append}
 use lib.Seq.{sets}
-use Rattle.grammar.specs.Grammar.{Terminal, _⟶_, _·_, _▸_, ∎, matches, name, number, string, the, sg, TRUE, FALSE, AUTO, lbrace, rbrace, equals, semicolon, D, block, statements, statement, value, no-block, a-block, no-statement, a-statement, statement-is, value-number, value-string, value-auto, value-name, value-true, value-false}
+use Rattle.grammar.specs.Grammar.{Terminal, _⟶_, _·_, _▸_, ∎, matches, name, number, string, float, the, sg, TRUE, FALSE, AUTO, lbrace, rbrace, equals, semicolon, D, block, statements, statement, value, no-block, a-block, no-statement, a-statement, statement-is, value-number, value-string, value-float, value-auto, value-name, value-true, value-false}
 use Rattle.grammar.specs.Readers.{classAt, advanced, refusal, Meets}
 use Rattle.grammar.specs.declared.Look.{Look}
 use Rattle.grammar.proofs.Codes.{at-code}
 use Rattle.grammar.proofs.Meeting.{_⊳_, take}
-use Rattle.grammar.proofs.Rules.{name-taken, block-pass, block-by, value-numbers, value-strings, value-autos, value-trues, value-falses, value-names, statement-by, statements-again, statements-done}
+use Rattle.grammar.proofs.Rules.{name-taken, block-pass, block-by, value-numbers, value-strings, value-floats, value-autos, value-trues, value-falses, value-names, statement-by, statements-again, statements-done}
 use Rattle.meaning.specs.Syntax.{Statement, Statements, done, state, statements-in}
 use Rattle.meaning.specs.Actions.{Parts, means, stating}
 use Rattle.layout.specs.Kept.{place-or, statement-cells, statement-rows, join}
@@ -83,11 +83,11 @@ module _ {s : List ℕ} {a : Look} {x y : Table} where
   unfolding means StatementRows statement-rows
   statements-gone g h = gone lines StatementRows no-statement (λ k. refl) g (statements-done (g .still) h)
 
-  pub block-there : {e e′ : ℕ} {b c r : Look} → a .code ≡ 44 → b ≡ advanced s a → Walks Fill e (statements ▸ ∎) (λ w m. StatementRows w (m .0)) s b c x y
+  pub block-there : {e e′ : ℕ} {b c r : Look} → a .code ≡ 45 → b ≡ advanced s a → Walks Fill e (statements ▸ ∎) (λ w m. StatementRows w (m .0)) s b c x y
       → Meets e′ (sg rbrace · ∎) s c r → Walks Fill 0 (block ▸ ∎) (λ w m. BlockRows (a .at) w (m .0)) s a r x y
   unfolding means front-of behind matches classAt StatementRows BlockRows place-or
   block-there h p w m =
-      let f = first (sg lbrace) (take (sg lbrace) {s = s} {a = a} (at-code (matches (sg lbrace)) 44 tt h) p) ▻ w .fills ▻ plain (sg rbrace · ∎) m in
+      let f = first (sg lbrace) (take (sg lbrace) {s = s} {a = a} (at-code (matches (sg lbrace)) 45 tt h) p) ▻ w .fills ▻ plain (sg rbrace · ∎) m in
       record {
         what = w .what;
         does = w .does;
@@ -133,7 +133,7 @@ module _ {s : List ℕ} {a : Look} {x y : Table} where
   value-name-there i h p w = value-with name value-name i (value-names h p (w .fills .meets)) (name-taken h p) (λ m. refl) w
 
 module _ {s : List ℕ} {a : Look} {x : Table} where
-  pub block-none : (a .code ≡ 44 → ⊥) → Walks Fill 0 (block ▸ ∎) (λ w m. BlockRows 0 w (m .0)) s a a x x
+  pub block-none : (a .code ≡ 45 → ⊥) → Walks Fill 0 (block ▸ ∎) (λ w m. BlockRows 0 w (m .0)) s a a x x
   unfolding means BlockRows place-or statement-rows
   block-none h =
       record {
@@ -159,13 +159,17 @@ module _ {s : List ℕ} {a : Look} {x : Table} where
         };
       }
 
-  pub value-number-there : {r : Look} → a .code ≡ 42 → r ≡ advanced s a → Walks Fill 1 (value ▸ ∎) (λ w m. ValueRows s a 0 w (m .0)) s a r x x
+  pub value-number-there : {r : Look} → a .code ≡ 43 → r ≡ advanced s a → Walks Fill 1 (value ▸ ∎) (λ w m. ValueRows s a 0 w (m .0)) s a r x x
   unfolding means matches classAt
-  value-number-there h p = value-alone number value-number (value-numbers h p) (take number (at-code (matches number) 42 tt h) p) (λ m. refl)
+  value-number-there h p = value-alone number value-number (value-numbers h p) (take number (at-code (matches number) 43 tt h) p) (λ m. refl)
 
-  pub value-string-there : {r : Look} → a .code ≡ 43 → r ≡ advanced s a → Walks Fill 1 (value ▸ ∎) (λ w m. ValueRows s a 0 w (m .0)) s a r x x
+  pub value-string-there : {r : Look} → a .code ≡ 44 → r ≡ advanced s a → Walks Fill 1 (value ▸ ∎) (λ w m. ValueRows s a 0 w (m .0)) s a r x x
   unfolding means matches classAt
-  value-string-there h p = value-alone string value-string (value-strings h p) (take string (at-code (matches string) 43 tt h) p) (λ m. refl)
+  value-string-there h p = value-alone string value-string (value-strings h p) (take string (at-code (matches string) 44 tt h) p) (λ m. refl)
+
+  pub value-float-there : {r : Look} → a .code ≡ 54 → r ≡ advanced s a → Walks Fill 1 (value ▸ ∎) (λ w m. ValueRows s a 0 w (m .0)) s a r x x
+  unfolding means matches classAt
+  value-float-there h p = value-alone float value-float (value-floats h p) (take float (at-code (matches float) 54 tt h) p) (λ m. refl)
 
   pub value-auto-there : {r : Look} → a .code ≡ 3 → r ≡ advanced s a → Walks Fill 1 (value ▸ ∎) (λ w m. ValueRows s a 0 w (m .0)) s a r x x
   unfolding means matches classAt

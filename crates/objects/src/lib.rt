@@ -9,6 +9,7 @@ use grammar::lookahead;
 use grammar::lookahead::AUTO;
 use grammar::lookahead::EQUALS;
 use grammar::lookahead::FALSE;
+use grammar::lookahead::FLOATING;
 use grammar::lookahead::LBRACE;
 use grammar::lookahead::NUMERAL;
 use grammar::lookahead::QUOTED;
@@ -104,6 +105,14 @@ pub fn value(text: &[u8], s: &mut [usize], a: Look, m: usize) -> Braced
     if lookahead::is_name(code) {
         let b = lookahead::advance(text, a);
         return block(text, s, b, m);
+    }
+    if code == FLOATING {
+        let b = lookahead::advance(text, a);
+        return Braced {
+            look: b,
+            statements: m,
+            brace: 0,
+        };
     }
     let b = lookahead::refuse(a);
     Braced {

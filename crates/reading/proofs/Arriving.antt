@@ -60,20 +60,20 @@ passed-is (too-deep l t r q h b m o) e = absurd (let z : _≡_ {A = ℕ} 0 1 = c
 refusal-not : (n p : ℕ) → refusalOf n p ≡ Passes → ⊥
 unfolding refusalOf
 refusal-not n p =
-    by-test (λ (v : GrammarAnswer). v ≡ Passes → ⊥) (eqb n 57) (NoToken p) _
+    by-test (λ (v : GrammarAnswer). v ≡ Passes → ⊥) (eqb n 59) (NoToken p) _
     (λ t e. let z : _≡_ {A = ℕ} 0 1 = cc in omega arith)
     (λ _.
-    by-test (λ (v : GrammarAnswer). v ≡ Passes → ⊥) (eqb n 58) (NotAdmitted p) (TooDeep p)
+    by-test (λ (v : GrammarAnswer). v ≡ Passes → ⊥) (eqb n 60) (NotAdmitted p) (TooDeep p)
     (λ t e. let z : _≡_ {A = ℕ} 0 1 = cc in omega arith)
     (λ t e. let z : _≡_ {A = ℕ} 0 1 = cc in omega arith))
 
-passes-code : (a : Look) → answerOf a ≡ Passes → a .code ≡ 54
+passes-code : (a : Look) → answerOf a ≡ Passes → a .code ≡ 56
 unfolding answerOf
 passes-code a =
-    by-test (λ (v : GrammarAnswer). v ≡ Passes → a .code ≡ 54) (eqb (a .code) 54) Passes _
-    (λ t e. eqb-true (a .code) 54 t)
+    by-test (λ (v : GrammarAnswer). v ≡ Passes → a .code ≡ 56) (eqb (a .code) 56) Passes _
+    (λ t e. eqb-true (a .code) 56 t)
     (λ _.
-    by-test (λ (v : GrammarAnswer). v ≡ Passes → a .code ≡ 54) (ltb (a .code) 54) (NotAdmitted (a .at)) (refusalOf (a .code) (a .at))
+    by-test (λ (v : GrammarAnswer). v ≡ Passes → a .code ≡ 56) (ltb (a .code) 56) (NotAdmitted (a .at)) (refusalOf (a .code) (a .at))
     (λ t e. absurd (let z : _≡_ {A = ℕ} 0 1 = cc in omega arith))
     (λ t e. absurd (refusal-not (a .code) (a .at) e)))
 
@@ -101,11 +101,11 @@ arrived s y w h l z =
     let e = number-zero (answerOf (w .look)) z in
     let c = passes-code (w .look) e in
     let g = passed-is (grammar-answers s blank y w h) e in
-    let i : w .look .code ≤ 54 = omega arith in
+    let i : w .look .code ≤ 56 = omega arith in
     let t = h .told i in
     let p = h .meets .took i .0 in
     let q : lexAt s 0 ≡ prepend (tokens-of (t .trees)) (rest s (w .look)) = sym (rest-look s 0 0 p) ∙ t .split in
-    let r : rest s (w .look) ≡ ended (w .look .at) = ap (λ (b : Bool). restBy b s (w .look)) (le-ltb (w .look .code) 54 (omega arith)) in
+    let r : rest s (w .look) ≡ ended (w .look .at) = ap (λ (b : Bool). restBy b s (w .look)) (le-ltb (w .look .code) 56 (omega arith)) in
     let v = ended-is (length s) (lexFrom s 0) (tokens-of (t .trees)) (w .look .at) (lex-ends s 0) (q ∙ ap (prepend (tokens-of (t .trees))) r) in
     let k = t .holds .0 in
     let m = t .holds .1 l in

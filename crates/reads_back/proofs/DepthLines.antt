@@ -6,7 +6,7 @@ use mathlib.Core.Option.{Option, none, some}
 use Prim.Native.Nat.{ℕ, suc, _≤_}
 use native.Mathlib.Omega.{arith}
 use Rattle.token.specs.Find.{pick}
-use Rattle.grammar.specs.Grammar.{Kind, Terminal, matches, name, number, string, kind, the, AUTO, TRUE, FALSE, given-code, Derivation, file, _▸_, ∎, _⟶_, Trees, nil, node, file-is, tokens as leaf-tokens}
+use Rattle.grammar.specs.Grammar.{Kind, Terminal, matches, name, number, string, float, kind, the, AUTO, TRUE, FALSE, given-code, Derivation, file, _▸_, ∎, _⟶_, Trees, nil, node, file-is, tokens as leaf-tokens}
 use Rattle.grammar.specs.Stage.{Shallow}
 use Rattle.grammar.specs.Terminals.{tokens}
 use Rattle.grammar.proofs.Braces.{terminal-code, agree, opening as is-opening, closing as is-closing}
@@ -18,7 +18,7 @@ use Rattle.meaning.specs.Scopes.{of-kind, names}
 use Rattle.meaning.specs.Judging.{taken}
 use Rattle.meaning.specs.Resolving.{take-value, Resolved, end, resolved, entries, default-entry, resolve, resolve-under, object-values, all-values}
 use Rattle.meaning.specs.Places.{each, unplaced-word}
-use Rattle.reads_back.proofs.Restated.{given, equal-sign, stop, version-words, closed-words, line-words, object-words, application-words, restated-word, plain-word, Stateable, as-number, as-string, as-auto, as-name, as-true, as-false, Named, SaidLines, SaidObjects, Said, ShallowWords}
+use Rattle.reads_back.proofs.Restated.{given, equal-sign, stop, version-words, closed-words, line-words, object-words, application-words, restated-word, plain-word, Stateable, as-number, as-string, as-float, as-auto, as-name, as-true, as-false, Named, SaidLines, SaidObjects, Said, ShallowWords}
 use Rattle.reads_back.proofs.SameWords.{by-choose}
 use Rattle.reads_back.proofs.Planting.{implementation-leaves}
 use Rattle.reads_back.proofs.DepthWords.{Low, low-shift, low-front, low-back, tokens-low, Level, Flat, level-none, level-append, level-word, level-braces, level-shallow}
@@ -85,6 +85,7 @@ value-flat : (w : Word) (r : Resolved) → Stateable (w .class) r → Flat w
 unfolding terminal-code given-code
 value-flat w r (as-number m) = flat-by number w refl refl m
 value-flat w r (as-string m) = flat-by string w refl refl m
+value-flat w r (as-float m) = flat-by float w refl refl m
 value-flat w r (as-auto m) = flat-by (the AUTO) w refl refl m
 value-flat w r (as-name m) = flat-by name w refl refl m
 value-flat w r (as-true m) = flat-by (the TRUE) w refl refl m

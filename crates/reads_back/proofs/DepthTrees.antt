@@ -4,7 +4,7 @@ use mathlib.Core.List.{List, [], _∷_, _++_}
 use Prim.Native.Nat.{ℕ, suc, _+_, _≤_}
 use native.Mathlib.Omega.{arith}
 use Rattle.token.specs.Find.{bit}
-use Rattle.grammar.specs.Grammar.{tokens, given-code, sign-code, Rule, rule, tok, Form, _▸_, ∎, _⟶_, Trees, nil, leaf, node, file, version, implementation, specs, spec, definitions, definition, attribute, D, P, auto, mark, integer-range, numbers, boolean-range, enumerator, enumerators, application, objects, object, block, statements, statement, default, own, file-is, version-is, implementation-is, no-spec, a-spec, spec-is, no-definition, a-definition, an-attribute, a-reference, an-integer, a-string, a-boolean, an-enum, reference-is, no-D, a-D, no-P, a-P, no-auto, with-auto, no-mark, a-mark, no-range, a-range, a-list, no-number, a-number, no-boolean-range, a-boolean-range, enumerator-is, no-enumerator, an-enumerator, no-default, a-default, own-auto, own-none, own-number, own-string, own-true, own-false, own-name, application-is, no-object, an-object, an-object-alone, an-object-with, no-block, a-block, no-statement, a-statement, statement-is, value-number, value-string, value-auto, value-name, value-true, value-false, reference as reference-rule, value as value-rule}
+use Rattle.grammar.specs.Grammar.{tokens, given-code, sign-code, Rule, rule, tok, Form, _▸_, ∎, _⟶_, Trees, nil, leaf, node, file, version, implementation, specs, spec, definitions, definition, attribute, D, P, auto, mark, integer-range, numbers, boolean-range, float-range, enumerator, enumerators, application, objects, object, block, statements, statement, default, own, file-is, version-is, implementation-is, no-spec, a-spec, spec-is, no-definition, a-definition, an-attribute, a-reference, an-integer, a-string, a-boolean, an-enum, a-float, reference-is, no-D, a-D, no-P, a-P, no-auto, with-auto, no-mark, a-mark, no-range, a-range, a-list, no-number, a-number, no-boolean-range, no-float-range, a-boolean-range, a-float-range, enumerator-is, no-enumerator, an-enumerator, no-default, a-default, own-auto, own-none, own-number, own-string, own-true, own-false, own-name, own-float, application-is, no-object, an-object, an-object-alone, an-object-with, no-block, a-block, no-statement, a-statement, statement-is, value-number, value-string, value-float, value-auto, value-name, value-true, value-false, reference as reference-rule, value as value-rule}
 use Rattle.grammar.proofs.Braces.{terminal-code, opening, closing, agree}
 use Rattle.meaning.specs.Syntax.{Word, Definition, Definitions, no-more, define, Values, no-value, value, Spec}
 use Rattle.meaning.specs.Actions.{M, word-of, first-value, truths, defined, defining, specifying, means, meaning, syntax}
@@ -54,6 +54,7 @@ form-balanced a-definition = refl
 form-balanced an-attribute = refl
 form-balanced a-reference = refl
 form-balanced an-integer = refl
+form-balanced a-float = refl
 form-balanced a-string = refl
 form-balanced a-boolean = refl
 form-balanced an-enum = refl
@@ -63,7 +64,9 @@ form-balanced no-mark = refl
 form-balanced a-mark = refl
 form-balanced reference-is = refl
 form-balanced no-range = refl
+form-balanced no-float-range = refl
 form-balanced a-range = refl
+form-balanced a-float-range = refl
 form-balanced a-list = refl
 form-balanced no-number = refl
 form-balanced a-number = refl
@@ -80,6 +83,7 @@ form-balanced own-auto = refl
 form-balanced own-none = refl
 form-balanced own-number = refl
 form-balanced own-string = refl
+form-balanced own-float = refl
 form-balanced own-true = refl
 form-balanced own-false = refl
 form-balanced own-name = refl
@@ -93,6 +97,7 @@ form-balanced a-statement = refl
 form-balanced statement-is = refl
 form-balanced value-number = refl
 form-balanced value-string = refl
+form-balanced value-float = refl
 form-balanced value-auto = refl
 form-balanced value-name = refl
 form-balanced value-true = refl
@@ -154,6 +159,7 @@ W k P g = (n e : ℕ) → Room (suc k) (g n e)
 W k auto m = Unit {0}
 W k mark m = Unit {0}
 W k integer-range r = Unit {0}
+W k float-range r = Unit {0}
 W k numbers ts = Unit {0}
 W k boolean-range g = (n e : ℕ) → RoomUnder k (g n e .values)
 W k enumerator g = (n e : ℕ) → Room (suc k) (g n e .under)
@@ -186,6 +192,7 @@ means-room s a-definition (node _ x (node _ xs nil)) a b k e l h = λ n m. room-
 means-room s an-attribute (node _ x nil) a b k e l h = h .0 k e
 means-room s a-reference (node _ x nil) a b k e l h = h .0 k e
 means-room s an-integer (leaf _ _ (node _ c (node _ r (leaf x _ (node _ i (node _ d z)))))) a b k e l h = λ n m. under-none
+means-room s a-float (leaf _ _ (node _ c (node _ r (leaf x _ (node _ i (node _ d z)))))) a b k e l h = λ n m. under-none
 means-room s a-string (leaf _ _ (node _ c (leaf x _ (node _ i (node _ d z))))) a b k e l h = λ n m. under-none
 means-room s a-boolean (leaf _ _ (node _ c (node _ r (leaf x _ (node _ i (node _ d z)))))) a b k e l h = h .1 .0 k (omega arith)
 means-room s an-enum (leaf _ _ (node _ c (leaf _ _ (node q v (node r vs (leaf _ _ (leaf x _ (node _ i (node _ d z))))))))) a b k e l h = λ n m.
@@ -208,7 +215,9 @@ means-room s with-auto us a b k e l h = tt
 means-room s no-mark us a b k e l h = tt
 means-room s a-mark us a b k e l h = tt
 means-room s no-range us a b k e l h = tt
+means-room s no-float-range us a b k e l h = tt
 means-room s a-range us a b k e l h = tt
+means-room s a-float-range us a b k e l h = tt
 means-room s a-list us a b k e l h = tt
 means-room s no-number us a b k e l h = tt
 means-room s a-number us a b k e l h = tt
@@ -218,6 +227,7 @@ means-room s own-auto us a b k e l h = tt
 means-room s own-none us a b k e l h = tt
 means-room s own-number us a b k e l h = tt
 means-room s own-string us a b k e l h = tt
+means-room s own-float us a b k e l h = tt
 means-room s own-true us a b k e l h = tt
 means-room s own-false us a b k e l h = tt
 means-room s own-name us a b k e l h = tt
@@ -233,6 +243,7 @@ means-room s a-statement us a b k e l h = tt
 means-room s statement-is us a b k e l h = tt
 means-room s value-number us a b k e l h = tt
 means-room s value-string us a b k e l h = tt
+means-room s value-float us a b k e l h = tt
 means-room s value-auto us a b k e l h = tt
 means-room s value-name us a b k e l h = tt
 means-room s value-true us a b k e l h = tt

@@ -9,11 +9,11 @@ use Rattle.token.specs.Words.{bytesOf}
 use Rattle.token.specs.Lexing.{lexFrom, more, ended}
 use Rattle.token.specs.declared.Sort.{Sort as TokenSort}
 use mathlib.Core.Bool.{true}
-use Rattle.grammar.specs.Grammar.{Token, Class, matches, the, sg, numeral, quoted, word, sign, OIL-VERSION, CPU, AUTO, TRUE, FALSE, lbrace, rbrace, equals, semicolon, kind as a-kind, name as a-name, number as a-number, string as a-string}
+use Rattle.grammar.specs.Grammar.{Token, Class, matches, the, sg, numeral, quoted, word, sign, OIL-VERSION, CPU, AUTO, TRUE, FALSE, lbrace, rbrace, equals, semicolon, kind as a-kind, name as a-name, number as a-number, string as a-string, float as a-float}
 use Rattle.grammar.specs.Terminals.{classOf}
 use Rattle.meaning.specs.Syntax.{Word, absent, Statements, done, state, Object, File}
-use Rattle.meaning.specs.Actions.{zero-num, num-of-sort, word-of, kind-of}
-use Rattle.meaning.specs.Resolving.{Value, number, truth, auto, string, enumerator, object, Taken, Resolved, end, resolved, all-values, how-many-values}
+use Rattle.meaning.specs.Actions.{zero-num, num-of-sort, float-of-sort, word-of, kind-of}
+use Rattle.meaning.specs.Resolving.{Value, number, truth, auto, string, float, enumerator, object, Taken, Resolved, end, resolved, all-values, how-many-values}
 use Rattle.meaning.specs.Normal.{decimal}
 use Rattle.meaning.specs.Places.{each, unplaced-word, unplaced-spec}
 
@@ -21,7 +21,7 @@ use Rattle.meaning.specs.Places.{each, unplaced-word, unplaced-spec}
 
 -- A word that a normal text has of itself: a given word or a sign, with its bytes.
 unfoldable pub given : Class → List ℕ → Word
-given c b = record { class = c; bytes = b; number = zero-num; place = 0; length = 0 }
+given c b = record { class = c; bytes = b; number = zero-num; float = zero-num; place = 0; length = 0 }
 
 abbrev pub opening : Word
 opening = given (sign lbrace) (bytesOf "{")
@@ -40,10 +40,11 @@ version-string = given quoted (bytesOf "\"2.5\"")
 
 -- The word that is written for a value: a number in decimal, any other as it stands.
 unfoldable pub restated-word : Value → Word → Word
-restated-word (number n) t = record { class = numeral; bytes = decimal n; number = n; place = 0; length = 0 }
+restated-word (number n) t = record { class = numeral; bytes = decimal n; number = n; float = zero-num; place = 0; length = 0 }
 restated-word (truth b) t = unplaced-word t
 restated-word auto t = unplaced-word t
 restated-word string t = unplaced-word t
+restated-word float t = unplaced-word t
 restated-word (enumerator e) t = unplaced-word t
 restated-word (object o) t = unplaced-word t
 
@@ -76,6 +77,7 @@ pub record Alone (w : Word) : Type 0 where
   pub one : lexFrom (w .bytes) 0 ≡ more (record { sort = sort; at = 0; len = length (w .bytes) }) (ended (length (w .bytes)))
   pub class-is : w .class ≡ classOf sort
   pub number-is : w .number ≡ num-of-sort sort
+  pub float-is : w .float ≡ float-of-sort sort
 
 -- Syntax -----------------------------------------------------------------------------------------------------------------------------------
 
@@ -126,6 +128,7 @@ AllAlone (w ∷ ws) = Alone w × AllAlone ws
 pub data Stateable (c : Class) : Resolved → Type 0 where
   as-number : matches a-number c ≡ true → Stateable c end
   as-string : matches a-string c ≡ true → Stateable c end
+  as-float : matches a-float c ≡ true → Stateable c end
   as-auto : matches (the AUTO) c ≡ true → Stateable c end
   as-name : {r : Resolved} → matches a-name c ≡ true → Stateable c r
   as-true : {r : Resolved} → matches (the TRUE) c ≡ true → Stateable c r

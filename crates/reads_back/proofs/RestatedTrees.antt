@@ -3,12 +3,12 @@ use mathlib.Core.Path.{_≡_, refl, sym, _∙_, ap, ap₂, subst, subst₂}
 use mathlib.Core.List.{List, [], _∷_, _++_, append-assoc, append-nil}
 use Prim.Native.Nat.{ℕ, suc, _+_}
 use Rattle.token.specs.Words.{bytesOf}
-use Rattle.grammar.specs.Grammar.{Kind, word, CPU, matches, sg, rbrace, semicolon, Form, _·_, _▸_, ∎, D, application, objects, block, statements, no-D, application-is, no-object, an-object, an-object-with, no-statement, a-statement, statement-is, value-number, value-string, value-auto, value-name, value-true, value-false, no-block, a-block, value as value-rule}
+use Rattle.grammar.specs.Grammar.{Kind, word, CPU, matches, sg, rbrace, semicolon, Form, _·_, _▸_, ∎, D, application, objects, block, statements, no-D, application-is, no-object, an-object, an-object-with, no-statement, a-statement, statement-is, value-number, value-string, value-float, value-auto, value-name, value-true, value-false, no-block, a-block, value as value-rule}
 use Rattle.meaning.specs.Syntax.{Word, absent, through, state, Object, File, statements-in}
 use Rattle.meaning.specs.Actions.{kind-of, Application, Block, Parts, stating, means}
 use Rattle.meaning.specs.Resolving.{Resolved, end, resolved, all-values, how-many-values}
 use Rattle.meaning.specs.Places.{unplaced-word}
-use Rattle.reads_back.proofs.Restated.{given, opening, closing, equal-sign, stop, restated-word, closed-words, line-words, object-words, application-words, brace-after, restated, restated-object, restated-objects, Stateable, as-number, as-string, as-auto, as-name, as-true, as-false, SaidLines, SaidObjects, Said}
+use Rattle.reads_back.proofs.Restated.{given, opening, closing, equal-sign, stop, restated-word, closed-words, line-words, object-words, application-words, brace-after, restated, restated-object, restated-objects, Stateable, as-number, as-string, as-float, as-auto, as-name, as-true, as-false, SaidLines, SaidObjects, Said}
 use Rattle.reads_back.proofs.WordTrees.{WordTrees, word-nil, word-leaf, word-node}
 
 -- Statements ---------------------------------------------------------------------------------------------------------------------------------
@@ -51,6 +51,7 @@ value-tree : {f : Form} {ws : List Word} {m : Parts f} (w : Word) (us : Resolved
 unfolding means block-words block-of brace-after restated
 value-tree w end (as-number h) b more = word-node value-number (word-leaf w h word-nil) more
 value-tree w end (as-string h) b more = word-node value-string (word-leaf w h word-nil) more
+value-tree w end (as-float h) b more = word-node value-float (word-leaf w h word-nil) more
 value-tree w end (as-auto h) b more = word-node value-auto (word-leaf w h word-nil) more
 value-tree w us (as-name h) b more = word-node value-name (word-leaf w h b) more
 value-tree w us (as-true h) b more = word-node value-true (word-leaf w h b) more

@@ -10,16 +10,16 @@ use Rattle.grammar.specs.Grammar.{Kind}
 use Rattle.grammar.proofs.Uniqueness.{none≢some}
 use Rattle.token.specs.Find.{both, is-there}
 use Rattle.token.proofs.Bytes.{neither-first, neither-second}
-use Rattle.meaning.specs.Syntax.{Word, AttributeType, integer, string, boolean, enum, reference, Bounds, Definition, Definitions, define, Values, no-value, value, Defined, Statement, Statements, state, Object, is-enum}
+use Rattle.meaning.specs.Syntax.{Word, AttributeType, integer, string, boolean, enum, float, reference, Bounds, Definition, Definitions, define, Values, no-value, value, Defined, Statement, Statements, state, Object, is-enum}
 use Rattle.meaning.specs.Words.{among}
 use Rattle.meaning.specs.Faults.{Fault, fault-if}
-use Rattle.meaning.specs.Scopes.{Sort, a-number, a-string, a-truth, an-auto, a-no-default, a-name, sort-of, under, find-definition, heads, names, find-object, fits-number, fits-as, fits}
+use Rattle.meaning.specs.Scopes.{Sort, a-number, a-string, a-truth, an-auto, a-no-default, a-name, a-float, sort-of, under, find-definition, heads, names, find-object, fits-number, fits-as, fits}
 use Rattle.meaning.specs.Defining.{range-faults, default-wrong, default-number, default-faults, defined-in, differs, name-faults, word-faults, scope-faults, value-faults}
 use Rattle.meaning.specs.Judging.{is-no-default, taken-by, taken, lacking, lacks, lacks-under, reference-faults, brace-faults, faults-as, own-faults, and-inside, judged, judge}
 use Rattle.meaning.proofs.Rooms.{nothing-front, nothing-back, not-faulty}
 use Rattle.reads_back.proofs.WordingClasses.{is-number}
 use Rattle.reads_back.proofs.RestatingScopes.{is-reference, Taking, numbered, told, referred}
-use Rattle.reads_back.proofs.RestatingPlain.{Plain, plain-integer, plain-string, plain-boolean, plain-enum, plain-reference}
+use Rattle.reads_back.proofs.RestatingPlain.{Plain, plain-integer, plain-string, plain-boolean, plain-enum, plain-float, plain-reference}
 
 -- Lists of faults --------------------------------------------------------------------------------------------------------------------------
 
@@ -95,6 +95,7 @@ number-plain b n plain-integer e = refl
 number-plain b n plain-string e = absurd (false≢true e)
 number-plain b n plain-boolean e = absurd (false≢true e)
 number-plain b n plain-enum e = absurd (false≢true e)
+number-plain b n plain-float e = absurd (false≢true e)
 number-plain b n plain-reference e = refl
 
 -- What fits an attribute that is no reference.
@@ -105,6 +106,7 @@ fit-taking os d vs t p r e = go (sort-of (t .class)) refl e
     go : (o : Sort) → sort-of (t .class) ≡ o → fits-as o d vs t ≡ true → Taking os d vs t
     go a-number q f = numbered q r f (number-plain (d .bounds) (t .number) p f)
     go a-string q f = told (ap is-number q) r e
+    go a-float q f = told (ap is-number q) r e
     go a-truth q f = told (ap is-number q) r e
     go an-auto q f = told (ap is-number q) r e
     go a-no-default q f = told (ap is-number q) r e
@@ -116,6 +118,7 @@ fits-free : (y : AttributeType) (os : List Object) (x : Statement) (d : Definiti
 unfolding faults-as is-reference
 fits-free (integer i) os x d vs r e = not-false (fits d vs (x .value)) (not-faulty (not (fits d vs (x .value))) (x .value) 15 e)
 fits-free string os x d vs r e = not-false (fits d vs (x .value)) (not-faulty (not (fits d vs (x .value))) (x .value) 15 e)
+fits-free float os x d vs r e = not-false (fits d vs (x .value)) (not-faulty (not (fits d vs (x .value))) (x .value) 15 e)
 fits-free boolean os x d vs r e = not-false (fits d vs (x .value)) (not-faulty (not (fits d vs (x .value))) (x .value) 15 e)
 fits-free enum os x d vs r e = not-false (fits d vs (x .value)) (not-faulty (not (fits d vs (x .value))) (x .value) 15 e)
 fits-free (reference k) os x d vs r e = absurd (false≢true (sym r))
@@ -125,6 +128,7 @@ reference-free : (os : List Object) (k : Kind) (o : Sort) (t : Word) → referen
 unfolding reference-faults
 reference-free os k a-number t e = absurd (false≢true (sym (not-faulty true t 15 e)))
 reference-free os k a-string t e = absurd (false≢true (sym (not-faulty true t 15 e)))
+reference-free os k a-float t e = absurd (false≢true (sym (not-faulty true t 15 e)))
 reference-free os k a-truth t e = absurd (false≢true (sym (not-faulty true t 15 e)))
 reference-free os k an-auto t e = absurd (false≢true (sym (not-faulty true t 15 e)))
 reference-free os k a-no-default t e = absurd (false≢true (sym (not-faulty true t 15 e)))
@@ -136,6 +140,7 @@ reference-plain plain-integer e = refl
 reference-plain plain-string e = absurd (false≢true (ap is-reference e))
 reference-plain plain-boolean e = absurd (false≢true (ap is-reference e))
 reference-plain plain-enum e = absurd (false≢true (ap is-reference e))
+reference-plain plain-float e = absurd (false≢true (ap is-reference e))
 reference-plain plain-reference e = refl
 
 refers-free : (os : List Object) (x : Statement) (d : Definition) (vs : Values) (k : Kind) → Plain (d .type) (d .default) vs → d .type ≡ reference k
@@ -158,6 +163,7 @@ stated-taking os x d vs p e = go (d .type) refl e
     go : (y : AttributeType) → d .type ≡ y → faults-as y os x (record { definition = d; values = vs }) ≡ [] → Taking os d vs (x .value)
     go (integer i) q f = as-fit (ap is-reference q)
     go string q f = as-fit (ap is-reference q)
+    go float q f = as-fit (ap is-reference q)
     go boolean q f = as-fit (ap is-reference q)
     go enum q f = as-fit (ap is-reference q)
     go (reference k) q f = refers-free os x d vs k p q f
@@ -167,6 +173,7 @@ default-fits : (o : Sort) (b : Bool) → is-no-default o ≡ false → default-w
 unfolding is-no-default default-wrong
 default-fits a-number b n e = not-false b e
 default-fits a-string b n e = not-false b e
+default-fits a-float b n e = not-false b e
 default-fits a-truth b n e = not-false b e
 default-fits an-auto b n e = not-false b e
 default-fits a-no-default b n e = absurd (false≢true (sym n))
@@ -178,6 +185,7 @@ default-plain plain-integer e = refl
 default-plain plain-string e = refl
 default-plain plain-boolean e = refl
 default-plain plain-enum e = refl
+default-plain plain-float e = refl
 default-plain plain-reference e = absurd (none≢some e)
 
 default-free : (d : Definition) (vs : Values) (o : Option Word) (t : Word) → default-faults d vs o ≡ [] → taken o ≡ some t → (o ≡ some t) × (fits d vs t ≡ true)

@@ -2,9 +2,9 @@
 use mathlib.Core.List.{List, [], _∷_}
 use mathlib.Core.Option.{Option, none}
 use Prim.Native.Nat.{ℕ, suc}
-use Rattle.grammar.specs.Grammar.{Kind, Integer, Rule, Form, _▸_, ∎, _⟶_, Trees, nil, leaf, node, file, version, implementation, specs, spec, definitions, definition, attribute, D, P, auto, mark, integer-range, numbers, boolean-range, enumerator, enumerators, application, objects, object, block, statements, statement, default, own, file-is, version-is, implementation-is, no-spec, a-spec, spec-is, no-definition, a-definition, an-attribute, a-reference, an-integer, a-string, a-boolean, an-enum, reference-is, no-D, a-D, no-P, a-P, no-auto, with-auto, no-mark, a-mark, no-range, a-range, a-list, no-number, a-number, no-boolean-range, a-boolean-range, enumerator-is, no-enumerator, an-enumerator, no-default, a-default, own-auto, own-none, own-number, own-string, own-true, own-false, own-name, application-is, no-object, an-object, an-object-alone, an-object-with, no-block, a-block, no-statement, a-statement, statement-is, value-number, value-string, value-auto, value-name, value-true, value-false, reference as reference-rule, value as value-rule}
+use Rattle.grammar.specs.Grammar.{Kind, Integer, Rule, Form, _▸_, ∎, _⟶_, Trees, nil, leaf, node, file, version, implementation, specs, spec, definitions, definition, attribute, D, P, auto, mark, integer-range, numbers, boolean-range, float-range, enumerator, enumerators, application, objects, object, block, statements, statement, default, own, file-is, version-is, implementation-is, no-spec, a-spec, spec-is, no-definition, a-definition, an-attribute, a-reference, an-integer, a-string, a-boolean, an-enum, a-float, reference-is, no-D, a-D, no-P, a-P, no-auto, with-auto, no-mark, a-mark, no-range, a-range, a-list, no-number, a-number, no-boolean-range, no-float-range, a-boolean-range, a-float-range, enumerator-is, no-enumerator, an-enumerator, no-default, a-default, own-auto, own-none, own-number, own-string, own-true, own-false, own-name, own-float, application-is, no-object, an-object, an-object-alone, an-object-with, no-block, a-block, no-statement, a-statement, statement-is, value-number, value-string, value-float, value-auto, value-name, value-true, value-false, reference as reference-rule, value as value-rule}
 use Rattle.meaning.specs.Actions.{M, first-value, truths, defined, defining, specifying, means, meaning, syntax}
-use Rattle.meaning.specs.Syntax.{Word, AttributeType, integer, string, boolean, enum, reference, Definition, Definitions, no-more, define, Values, no-value, value, Defined, Spec}
+use Rattle.meaning.specs.Syntax.{Word, AttributeType, integer, string, boolean, enum, float, reference, Definition, Definitions, no-more, define, Values, no-value, value, Defined, Spec}
 
 -- Integers and references have no values in a list, and references no default.
 pub data Plain : AttributeType → Option Word → Values → Type 0 where
@@ -12,6 +12,7 @@ pub data Plain : AttributeType → Option Word → Values → Type 0 where
   plain-string : {o : Option Word} {vs : Values} → Plain string o vs
   plain-boolean : {o : Option Word} {vs : Values} → Plain boolean o vs
   plain-enum : {o : Option Word} {vs : Values} → Plain enum o vs
+  plain-float : {o : Option Word} {vs : Values} → Plain float o vs
   plain-reference : {k : Kind} → Plain (reference k) none no-value
 
 -- So it is for definitions, and for those under their values.
@@ -73,6 +74,7 @@ W P g = (n e : ℕ) → AllPlain (g n e)
 W auto m = Unit {0}
 W mark m = Unit {0}
 W integer-range r = Unit {0}
+W float-range r = Unit {0}
 W numbers ts = Unit {0}
 W boolean-range g = (n e : ℕ) → AllPlainUnder (g n e .values)
 W enumerator g = (n e : ℕ) → AllPlain (g n e .under)
@@ -105,6 +107,7 @@ means-plain s a-definition (node _ x (node _ xs nil)) h = λ n e. more-plain (h 
 means-plain s an-attribute (node _ x nil) h = h .0
 means-plain s a-reference (node _ x nil) h = h .0
 means-plain s an-integer (leaf _ _ (node _ a (node _ r (leaf x _ (node _ k (node _ d b)))))) h = λ n e. record { own = plain-integer; under = none-under }
+means-plain s a-float (leaf _ _ (node _ a (node _ r (leaf x _ (node _ k (node _ d b)))))) h = λ n e. record { own = plain-float; under = none-under }
 means-plain s a-string (leaf _ _ (node _ a (leaf x _ (node _ k (node _ d b))))) h = λ n e. record { own = plain-string; under = none-under }
 means-plain s a-boolean (leaf _ _ (node _ a (node _ r (leaf x _ (node _ k (node _ d b)))))) h = λ n e. record { own = plain-boolean; under = h .1 .0 n e }
 means-plain s an-enum (leaf _ _ (node _ a (leaf _ _ (node q v (node r vs (leaf _ _ (leaf x _ (node _ k (node _ d b))))))))) h = λ n e.
@@ -119,7 +122,9 @@ means-plain s with-auto us h = tt
 means-plain s no-mark us h = tt
 means-plain s a-mark us h = tt
 means-plain s no-range us h = tt
+means-plain s no-float-range us h = tt
 means-plain s a-range us h = tt
+means-plain s a-float-range us h = tt
 means-plain s a-list us h = tt
 means-plain s no-number us h = tt
 means-plain s a-number us h = tt
@@ -135,6 +140,7 @@ means-plain s own-auto us h = tt
 means-plain s own-none us h = tt
 means-plain s own-number us h = tt
 means-plain s own-string us h = tt
+means-plain s own-float us h = tt
 means-plain s own-true us h = tt
 means-plain s own-false us h = tt
 means-plain s own-name us h = tt
@@ -150,6 +156,7 @@ means-plain s a-statement us h = tt
 means-plain s statement-is us h = tt
 means-plain s value-number us h = tt
 means-plain s value-string us h = tt
+means-plain s value-float us h = tt
 means-plain s value-auto us h = tt
 means-plain s value-name us h = tt
 means-plain s value-true us h = tt

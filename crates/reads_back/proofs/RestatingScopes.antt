@@ -5,7 +5,7 @@ use mathlib.Core.Bool.{Bool, true, false, false≢true}
 use mathlib.Core.Option.{none, some}
 use Rattle.grammar.specs.Grammar.{Kind}
 use Rattle.token.specs.Find.{pick, is-there}
-use Rattle.meaning.specs.Syntax.{Word, AttributeType, integer, string, boolean, enum, reference, Definition, Definitions, no-more, define, Values, no-value, Object}
+use Rattle.meaning.specs.Syntax.{Word, AttributeType, integer, string, boolean, enum, float, reference, Definition, Definitions, no-more, define, Values, no-value, Object}
 use Rattle.meaning.specs.Scopes.{a-number, a-name, sort-of, under, find-definition, find-object, fits-number, fits}
 use Rattle.meaning.specs.Defining.{defined-in}
 use Rattle.meaning.specs.Judging.{taken}
@@ -44,6 +44,7 @@ is-reference (integer i) = false
 is-reference string = false
 is-reference boolean = false
 is-reference enum = false
+is-reference float = false
 is-reference (reference k) = true
 
 -- The word t is a value of the attribute d with the values vs of its list, among the objects os: a number; any other but a reference; or the

@@ -3,7 +3,7 @@ use mathlib.Core.Path.{_≡_, refl, _∙_, ap, ap₂}
 use mathlib.Core.List.{List, [], _∷_}
 use Prim.Native.Nat.{ℕ, suc, _+_}
 use Rattle.meaning.specs.Syntax.{Word, absent, Statement, Statements, state, Object, File}
-use Rattle.meaning.specs.Resolving.{Value, number, truth, auto, string, enumerator, object, Resolved, end, resolved, all-values, how-many-values}
+use Rattle.meaning.specs.Resolving.{Value, number, truth, auto, string, float, enumerator, object, Resolved, end, resolved, all-values, how-many-values}
 use Rattle.meaning.specs.Places.{each, if-there, unplaced-word, unplaced-spec, unplaced-statement, unplaced-statements, unplaced-object, unplaced}
 use Rattle.reads_back.proofs.Restated.{given, version-string, restated-word, brace-after, restated, restated-object, restated-objects, restated-file}
 
@@ -28,6 +28,7 @@ unplaced-restated-word (number n) t = refl
 unplaced-restated-word (truth b) t = refl
 unplaced-restated-word auto t = refl
 unplaced-restated-word string t = refl
+unplaced-restated-word float t = refl
 unplaced-restated-word (enumerator e) t = refl
 unplaced-restated-word (object o) t = refl
 

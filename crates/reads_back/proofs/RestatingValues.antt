@@ -6,13 +6,13 @@ use mathlib.Core.Option.{Option, none, some}
 use Rattle.grammar.specs.Grammar.{Kind}
 use Rattle.token.specs.Find.{pick, both, is-there}
 use Rattle.token.specs.Words.{same}
-use Rattle.meaning.specs.Syntax.{Word, AttributeType, integer, string, boolean, enum, reference, Definition, Values, no-value, value, Statement, Object, is-enum}
+use Rattle.meaning.specs.Syntax.{Word, AttributeType, integer, string, boolean, enum, float, reference, Definition, Values, no-value, value, Statement, Object, is-enum}
 use Rattle.meaning.specs.Words.{alike}
 use Rattle.meaning.specs.Kinds.{same-kind}
 use Rattle.meaning.specs.Faults.{fault-if}
-use Rattle.meaning.specs.Scopes.{Sort, a-number, a-string, a-truth, an-auto, a-no-default, a-name, sort-of, find-value, definitions-or, under, find-object, fits-number, fits-as, fits}
+use Rattle.meaning.specs.Scopes.{Sort, a-number, a-string, a-truth, an-auto, a-no-default, a-name, a-float, sort-of, find-value, definitions-or, under, find-object, fits-number, fits-as, fits}
 use Rattle.meaning.specs.Judging.{reference-faults, brace-faults, faults-as}
-use Rattle.meaning.specs.Resolving.{Value, number, truth, auto, enumerator, object, number-or, row-or, named, valued, string as string-value}
+use Rattle.meaning.specs.Resolving.{Value, number, truth, auto, enumerator, object, number-or, row-or, named, valued, string as string-value, float as float-value}
 use Rattle.meaning.specs.Normal.{written}
 use Rattle.meaning.specs.Places.{unplaced-word}
 use Rattle.reads_back.proofs.Restated.{restated-word}
@@ -57,6 +57,7 @@ fits-as-without : (o : Sort) (d : Definition) (vs : Values) (t : Word) → fits-
 unfolding fits-as unplaced-word
 fits-as-without a-number d vs t = refl
 fits-as-without a-string d vs t = refl
+fits-as-without a-float d vs t = refl
 fits-as-without a-truth d vs t = refl
 fits-as-without an-auto d vs t = refl
 fits-as-without a-no-default d vs t = refl
@@ -71,6 +72,7 @@ module _ {os os′ : List Object} (same-objects : SameObjects os os′) where
   unfolding named
   named-without (integer i) vs t = refl
   named-without string vs t = refl
+  named-without float vs t = refl
   named-without boolean vs t = refl
   named-without enum vs t = ap (λ o. enumerator (number-or o)) (value-without vs t)
   named-without (reference k) vs t = ap object (ap row-or (object-without k os′ t) ∙ same-objects .row k t)
@@ -79,6 +81,7 @@ module _ {os os′ : List Object} (same-objects : SameObjects os os′) where
   unfolding valued unplaced-word
   valued-without a-number d vs t = refl
   valued-without a-string d vs t = refl
+  valued-without a-float d vs t = refl
   valued-without a-truth d vs t = refl
   valued-without an-auto d vs t = refl
   valued-without a-no-default d vs t = refl
@@ -103,6 +106,7 @@ named-kept : (y : AttributeType) (os : List Object) (vs : Values) (t : Word) →
 unfolding restated-word named
 named-kept (integer i) os vs t = refl
 named-kept string os vs t = refl
+named-kept float os vs t = refl
 named-kept boolean os vs t = refl
 named-kept enum os vs t = refl
 named-kept (reference k) os vs t = refl
@@ -112,6 +116,7 @@ pub valued-kept : (o : Sort) (os : List Object) (d : Definition) (vs : Values) (
 unfolding restated-word valued is-number
 valued-kept a-number os d vs t e = absurd (false≢true (sym e))
 valued-kept a-string os d vs t e = refl
+valued-kept a-float os d vs t e = refl
 valued-kept a-truth os d vs t e = refl
 valued-kept an-auto os d vs t e = refl
 valued-kept a-no-default os d vs t e = refl
@@ -137,6 +142,7 @@ written-kept (number n) t = refl
 written-kept (truth b) t = refl
 written-kept auto t = refl
 written-kept string-value t = refl
+written-kept float-value t = refl
 written-kept (enumerator e) t = refl
 written-kept (object o) t = refl
 
@@ -173,6 +179,7 @@ fits-faults : (y : AttributeType) (os : List Object) (x : Statement) (d : Defini
 unfolding faults-as is-reference fault-if
 fits-faults (integer i) os x d vs r e = ap (λ b. fault-if (not b) (x .value) 15) e
 fits-faults string os x d vs r e = ap (λ b. fault-if (not b) (x .value) 15) e
+fits-faults float os x d vs r e = ap (λ b. fault-if (not b) (x .value) 15) e
 fits-faults boolean os x d vs r e = ap (λ b. fault-if (not b) (x .value) 15) e
 fits-faults enum os x d vs r e = ap (λ b. fault-if (not b) (x .value) 15) e
 fits-faults (reference k) os x d vs r e = absurd (false≢true (sym r))

@@ -5,7 +5,7 @@ use mathlib.Core.Bool.{Bool, true, false}
 use mathlib.Core.Option.{Option, none, some}
 use Prim.Native.Nat.{ℕ, _+_}
 use Rattle.meaning.specs.Syntax.{Word, Definition, Definitions, no-more, define, Values, no-value, value, Spec, Object, File, is-enum}
-use Rattle.meaning.specs.Resolving.{Value, number, truth, auto, string, enumerator, object, Taken, Resolved, end, resolved, object-values, all-values, how-many-values}
+use Rattle.meaning.specs.Resolving.{Value, number, truth, auto, string, float, enumerator, object, Taken, Resolved, end, resolved, object-values, all-values, how-many-values}
 use Rattle.meaning.specs.Normal.{written}
 use Rattle.meaning.specs.Places.{each, if-there, unplaced-word, unplaced-definition, unplaced-definitions, unplaced-values, unplaced-spec, unplaced-object, unplaced, unplaced-taken, unplaced-resolved}
 use Rattle.meaning.proofs.Unplaced.{all-values-unplaced}
@@ -176,6 +176,7 @@ as-written (number n) t = refl
 as-written (truth b) t = refl
 as-written auto t = refl
 as-written string t = refl
+as-written float t = refl
 as-written (enumerator e) t = refl
 as-written (object o) t = refl
 

@@ -3,7 +3,7 @@ use mathlib.Core.Path.{_≡_, refl, sym, _∙_, ap, ap₂, subst}
 use mathlib.Core.List.{List, [], _∷_, _++_}
 use Prim.Native.Nat.{ℕ, suc}
 use lib.ListN.{take, drop}
-use Rattle.grammar.specs.Grammar.{Token, Rule, rule, tok, Form, matches, _▸_, ∎, _⟶_, Trees, nil, leaf, node, file, version, implementation, specs, spec, definitions, definition, attribute, D, P, auto, mark, integer-range, numbers, boolean-range, enumerator, enumerators, application, objects, object, block, statements, statement, default, own, file-is, version-is, implementation-is, no-spec, a-spec, spec-is, no-definition, a-definition, an-attribute, a-reference, an-integer, a-string, a-boolean, an-enum, reference-is, no-D, a-D, no-P, a-P, no-auto, with-auto, no-mark, a-mark, no-range, a-range, a-list, no-number, a-number, no-boolean-range, a-boolean-range, enumerator-is, no-enumerator, an-enumerator, no-default, a-default, own-auto, own-none, own-number, own-string, own-true, own-false, own-name, application-is, no-object, an-object, an-object-alone, an-object-with, no-block, a-block, no-statement, a-statement, statement-is, value-number, value-string, value-auto, value-name, value-true, value-false, reference as reference-rule, value as value-rule, tokens as leaves-of}
+use Rattle.grammar.specs.Grammar.{Token, Rule, rule, tok, Form, matches, _▸_, ∎, _⟶_, Trees, nil, leaf, node, file, version, implementation, specs, spec, definitions, definition, attribute, D, P, auto, mark, integer-range, numbers, boolean-range, float-range, enumerator, enumerators, application, objects, object, block, statements, statement, default, own, file-is, version-is, implementation-is, no-spec, a-spec, spec-is, no-definition, a-definition, an-attribute, a-reference, an-integer, a-string, a-boolean, an-enum, a-float, reference-is, no-D, a-D, no-P, a-P, no-auto, with-auto, no-mark, a-mark, no-range, a-range, a-list, no-number, a-number, no-boolean-range, no-float-range, a-boolean-range, a-float-range, enumerator-is, no-enumerator, an-enumerator, no-default, a-default, own-auto, own-none, own-number, own-string, own-true, own-false, own-name, own-float, application-is, no-object, an-object, an-object-alone, an-object-with, no-block, a-block, no-statement, a-statement, statement-is, value-number, value-string, value-float, value-auto, value-name, value-true, value-false, reference as reference-rule, value as value-rule, tokens as leaves-of}
 use Rattle.meaning.specs.Syntax.{Word, Span, absent, span-of, through, Definitions, Values, Defined, Spec}
 use Rattle.meaning.specs.Actions.{word-of, Enumerator, M, Parts, first-value, truths, defined, defining, specifying, means, meaning, syntax}
 use Rattle.meaning.specs.Defining.{DefinitionRow, definition-row, definition-rows, definition-rows-under, all-definition-rows}
@@ -43,6 +43,7 @@ module _ (s n : List ℕ) (p q m : ℕ) (copied : take m (drop p s) ≡ take m (
   AlikeM auto f g = Unit {0}
   AlikeM mark f g = Unit {0}
   AlikeM integer-range f g = AlikeSpan (f .span) (g .span)
+  AlikeM float-range f g = AlikeSpan (f .span) (g .span)
   AlikeM numbers f g = Unit {0}
   AlikeM boolean-range f g =
       (a b c d : ℕ) → AlikeSpan (f a b .span) (g c d .span) × Alike (definition-rows-under (f a b .values)) (definition-rows-under (g c d .values))
@@ -120,6 +121,7 @@ module _ (s n : List ℕ) (p q m : ℕ) (copied : take m (drop p s) ≡ take m (
   means-alike an-attribute j k h = h .0
   means-alike a-reference j k h = h .0
   means-alike an-integer j k h = λ a b c d. record { range = h .1 .1 .0; under = refl }
+  means-alike a-float j k h = λ a b c d. record { range = h .1 .1 .0; under = refl }
   means-alike a-string j k h = λ a b c d. record { range = no-range-alike; under = refl }
   means-alike a-boolean j k h = λ a b c d. record { range = h .1 .1 .0 a b c d .0; under = h .1 .1 .0 a b c d .1 }
   means-alike an-enum j k h = λ a b c d. record {
@@ -136,7 +138,9 @@ module _ (s n : List ℕ) (p q m : ℕ) (copied : take m (drop p s) ≡ take m (
   means-alike no-mark j k h = tt
   means-alike a-mark j k h = tt
   means-alike no-range j k h = no-range-alike
+  means-alike no-float-range j k h = no-range-alike
   means-alike a-range j k h = through-alike (j .0) (j .1 .1 .1 .1 .0) (k .0) (k .1 .1 .1 .1 .0) (h .0) (h .1 .1 .1 .1 .0)
+  means-alike a-float-range j k h = through-alike (j .0) (j .1 .1 .1 .1 .0) (k .0) (k .1 .1 .1 .1 .0) (h .0) (h .1 .1 .1 .1 .0)
   means-alike a-list j k h = through-alike (j .0) (j .1 .1 .1 .0) (k .0) (k .1 .1 .1 .0) (h .0) (h .1 .1 .1 .0)
   means-alike no-number j k h = tt
   means-alike a-number j k h = tt
@@ -155,6 +159,7 @@ module _ (s n : List ℕ) (p q m : ℕ) (copied : take m (drop p s) ≡ take m (
   means-alike own-none j k h = tt
   means-alike own-number j k h = tt
   means-alike own-string j k h = tt
+  means-alike own-float j k h = tt
   means-alike own-true j k h = tt
   means-alike own-false j k h = tt
   means-alike own-name j k h = tt
@@ -170,6 +175,7 @@ module _ (s n : List ℕ) (p q m : ℕ) (copied : take m (drop p s) ≡ take m (
   means-alike statement-is j k h = tt
   means-alike value-number j k h = tt
   means-alike value-string j k h = tt
+  means-alike value-float j k h = tt
   means-alike value-auto j k h = tt
   means-alike value-name j k h = tt
   means-alike value-true j k h = tt

@@ -13,7 +13,7 @@ use Rattle.token.specs.Lexing.{Lexed, tokensOf}
 use Rattle.token.specs.declared.Cursor.{Cursor}
 use Rattle.token.specs.declared.Token.{Token as Lexeme}
 use Rattle.token.specs.declared.Sort.{Sort as TokenSort}
-use Rattle.token.specs.declared.Sort.the-variants.{Word as WordToken, Number, String, Punctuator}
+use Rattle.token.specs.declared.Sort.the-variants.{Word as WordToken, Number, String, Punctuator, Float}
 use Rattle.token.specs.declared.Step.the-variants.{Found}
 use Rattle.token.proofs.Steps.{found-fits, step-again}
 use Rattle.locality.proofs.Onward.{reading}
@@ -23,7 +23,7 @@ use Rattle.locality.proofs.Decimals.{WithinLimits, found-number, Decimal, one-d
 use Rattle.grammar.specs.Grammar.{Class, other, numeral, matches, number as a-number}
 use Rattle.grammar.specs.Terminals.{words, signOf, classOf, tokenOf, tokensIn, tokens}
 use Rattle.meaning.specs.Syntax.{Num, Word}
-use Rattle.meaning.specs.Actions.{num-of-sort, num-of-step, word-of}
+use Rattle.meaning.specs.Actions.{num-of-sort, float-of-sort, num-of-step, float-of-step, word-of}
 use Rattle.meaning.specs.Resolving.{number}
 use Rattle.meaning.specs.Normal.{digits-in, minus, decimal}
 use Rattle.meaning.specs.Places.{each, unplaced-word}
@@ -33,7 +33,7 @@ use Rattle.reads_back.proofs.Restated.{restated-word, Alone, plain-word
 -- ---- each token alone
 
 found-alone : (s : List ℕ) (p : ℕ) (t : Lexeme) (c : Cursor) → stepAt s p ≡ Found t c → Alone (plain-word s (tokenOf t))
-unfolding plain-word unplaced-word word-of tokenOf num-of-step
+unfolding plain-word unplaced-word word-of tokenOf num-of-step float-of-step
 found-alone s p t c e =
     let o = found-fits s p t c e in
     let n : c .at - t .at ≡ t .len = omega arith in
@@ -42,6 +42,7 @@ found-alone s p t c e =
       one = subst (λ (i : ℕ). One (take i (drop (t .at) s)) (t .sort)) n (token-one s p t c e);
       class-is = refl;
       number-is = ap num-of-step (step-again s p t c e);
+      float-is = ap float-of-step (step-again s p t c e);
     }
 
 -- each token's bytes, taken alone, are that one token
@@ -87,7 +88,7 @@ with-sign false w = refl
 
 -- a number within the limits, written in decimal, is that number
 decimal-alone : (b : Bool) (n : ℕ) (w : Word) → WithinLimits b n → Alone (restated-word (number (record { negative = b; amount = n })) w)
-unfolding restated-word decimal num-of-sort classOf
+unfolding restated-word decimal num-of-sort float-of-sort classOf
 decimal-alone b n w h =
     record {
       sort = Number b n;
@@ -96,6 +97,7 @@ decimal-alone b n w h =
           (decimal-one b n (digits-in 20 n) h (digits-decimal 19 n (most b n h)));
       class-is = refl;
       number-is = refl;
+      float-is = refl;
     }
 
 no-numeral : (c : Class) → matches a-number c ≡ false → c ≡ numeral → ⊥
@@ -130,6 +132,7 @@ module _ (w : Word) where
       let f = first (w .bytes) 0 _ [] (ap tokensOf o) in
       subst (λ (v : Num). Alone (restated-word (number v) w)) (sym n) (decimal-alone b m w (found-number (w .bytes) 0 _ (f .next) b m (f .step) refl))
   by-sort String o c n e = absurd (let z = sym c ∙ e in let y : _≡_ {A = ℕ} 0 1 = cc in omega arith)
+  by-sort (Float b m k) o c n e = absurd (let z = sym c ∙ e in let y : _≡_ {A = ℕ} 0 1 = cc in omega arith)
   by-sort (Punctuator b) o c n e = absurd (no-numeral (signOf b) (no-sign b) (sym c ∙ e))
 
 -- a number written in decimal is a token with the same number

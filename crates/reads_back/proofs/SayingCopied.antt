@@ -11,7 +11,7 @@ use Rattle.token.specs.Lexing.{tokensOf, lexFrom}
 use Rattle.token.specs.declared.Cursor.{Cursor}
 use Rattle.token.specs.declared.Token.{Token as Lexeme}
 use Rattle.token.specs.declared.Sort.{Sort as TokenSort}
-use Rattle.token.specs.declared.Sort.the-variants.{Word as WordToken, Number, String, Punctuator}
+use Rattle.token.specs.declared.Sort.the-variants.{Word as WordToken, Number, String, Punctuator, Float}
 use Rattle.token.specs.declared.Step.the-variants.{Found}
 use Rattle.token.proofs.Steps.{found-fits, step-again, lex-again}
 use Rattle.locality.proofs.Shift.{moved}
@@ -22,7 +22,7 @@ use Rattle.locality.proofs.Slices.{Slice, slice}
 use Rattle.grammar.specs.Grammar.{Token, matches, sg, semicolon}
 use Rattle.grammar.specs.Terminals.{words, classOf, tokenOf}
 use Rattle.meaning.specs.Syntax.{Word, through}
-use Rattle.meaning.specs.Actions.{num-of-step, word-of}
+use Rattle.meaning.specs.Actions.{num-of-step, float-of-step, word-of}
 use Rattle.meaning.specs.Normal.{part}
 use Rattle.meaning.specs.Places.{each, unplaced-word}
 use Rattle.reads_back.proofs.Restated.{plain-word}
@@ -32,9 +32,9 @@ use Rattle.reads_back.proofs.SayingPieces.{lexeme-word, words-moved, wo
 -- ---- the words of tokens that are found
 
 found-word : (s : List ℕ) (p : ℕ) (t : Lexeme) (c : Cursor) → stepAt s p ≡ Found t c → plain-word s (tokenOf t) ≡ lexeme-word s t
-unfolding plain-word unplaced-word word-of tokenOf lexeme-word num-of-step
+unfolding plain-word unplaced-word word-of tokenOf lexeme-word num-of-step float-of-step
 found-word s p t c e = λ j.
-    record { class = classOf (t .sort); bytes = take (t .len) (drop (t .at) s); number = num-of-step (step-again s p t c e j); place = 0; length = 0 }
+    record { class = classOf (t .sort); bytes = take (t .len) (drop (t .at) s); number = num-of-step (step-again s p t c e j); float = float-of-step (step-again s p t c e j); place = 0; length = 0 }
 
 -- of tokens found one after the other
 pub run-words : (s : List ℕ) (q p : ℕ) (ts : List Lexeme) → Run s q p ts → each (plain-word s) (map tokenOf ts) ≡ each (lexeme-word s) ts
@@ -61,6 +61,7 @@ stop-ends : (k : TokenSort) (b : List ℕ) → matches (sg semicolon) (classOf k
 unfolding ends matches classOf
 stop-ends (WordToken k) b e = absurd (let f = fails-at (matches (sg semicolon)) words refl k in let z : _≡_ {A = ℕ} 0 1 = cc in omega arith)
 stop-ends (Number n m) b e = absurd (let z : _≡_ {A = ℕ} 0 1 = cc in omega arith)
+stop-ends (Float n m k) b e = absurd (let z : _≡_ {A = ℕ} 0 1 = cc in omega arith)
 stop-ends String b e = refl
 stop-ends (Punctuator m) b e = refl
 

@@ -16,8 +16,8 @@ use Rattle.locality.proofs.Pieces.{mayStart}
 use Rattle.grammar.specs.Grammar.{word, OIL-VERSION, CPU}
 use Rattle.grammar.specs.Terminals.{signOf, classOf as sortClass}
 use Rattle.meaning.specs.Syntax.{Word, Object, File}
-use Rattle.meaning.specs.Actions.{zero-num, num-of-sort}
-use Rattle.meaning.specs.Resolving.{Value, number, truth, auto, string, enumerator, object, Resolved, end, resolved}
+use Rattle.meaning.specs.Actions.{zero-num, num-of-sort, float-of-sort}
+use Rattle.meaning.specs.Resolving.{Value, number, truth, auto, string, float, enumerator, object, Resolved, end, resolved}
 use Rattle.meaning.specs.Normal.{written, closed, lines, object-lines, application-lines}
 use Rattle.meaning.specs.Places.{unplaced-word}
 use Rattle.reads_back.proofs.Restated.{given, opening, closing, equal-sign, stop, version-string, restated-word, version-words, closed-words, line-words, object-words, application-words, Alone, Named, SaidLines, SaidObjects}
@@ -35,9 +35,9 @@ unfolding classOf
 line-feed = says-blank 10 refl
 
 sign-says : (b : ℕ) → classOf b ≡ punctuator → Says false (b ∷ []) (given (signOf b) (b ∷ []) ∷ [])
-unfolding given zero-num num-of-sort sortClass unplaced-word ends
+unfolding given zero-num num-of-sort float-of-sort sortClass unplaced-word ends
 sign-says b e =
-    says-sign (given (signOf b) (b ∷ [])) (record { sort = Punctuator b; one = sign-one b e; class-is = refl; number-is = refl }) (λ b. refl)
+    says-sign (given (signOf b) (b ∷ [])) (record { sort = Punctuator b; one = sign-one b e; class-is = refl; number-is = refl; float-is = refl }) (λ b. refl)
 
 -- ` = `
 says-equal : Says false (bytesOf " = ") (equal-sign ∷ [])
@@ -60,17 +60,17 @@ unfolding classOf signOf mayStart
 says-closing = says-append refl (sign-says 125 refl) says-stop
 
 says-version : Says false (bytesOf "\"2.5\"") (version-string ∷ [])
-unfolding given zero-num num-of-sort sortClass unplaced-word ends lexFrom lexN stepAt skip skipN gapAt gapOf classOf tokenOf tokenAt stringAt findByte find firstOf found
-says-version = says-sign version-string (record { sort = String; one = refl; class-is = refl; number-is = refl }) (λ b. refl)
+unfolding given zero-num num-of-sort float-of-sort sortClass unplaced-word ends lexFrom lexN stepAt skip skipN gapAt gapOf classOf tokenOf tokenAt stringAt findByte find firstOf found
+says-version = says-sign version-string (record { sort = String; one = refl; class-is = refl; number-is = refl; float-is = refl }) (λ b. refl)
 
 says-oil-version : Says true (bytesOf "OIL_VERSION") (given (word OIL-VERSION) (bytesOf "OIL_VERSION") ∷ [])
-unfolding given zero-num num-of-sort sortClass unplaced-word lexFrom lexN stepAt skip skipN gapAt gapOf classOf tokenOf tokenAt wordAt wordEnd isWordByte codeOf codeIn same find firstOf found
+unfolding given zero-num num-of-sort float-of-sort sortClass unplaced-word lexFrom lexN stepAt skip skipN gapAt gapOf classOf tokenOf tokenAt wordAt wordEnd isWordByte codeOf codeIn same find firstOf found
 says-oil-version =
-    says-alone (given (word OIL-VERSION) (bytesOf "OIL_VERSION")) (record { sort = WordToken 6; one = refl; class-is = refl; number-is = refl })
+    says-alone (given (word OIL-VERSION) (bytesOf "OIL_VERSION")) (record { sort = WordToken 6; one = refl; class-is = refl; number-is = refl; float-is = refl })
 
 says-cpu : Says true (bytesOf "CPU") (given (word CPU) (bytesOf "CPU") ∷ [])
-unfolding given zero-num num-of-sort sortClass unplaced-word lexFrom lexN stepAt skip skipN gapAt gapOf classOf tokenOf tokenAt wordAt wordEnd isWordByte codeOf codeIn same find firstOf found
-says-cpu = says-alone (given (word CPU) (bytesOf "CPU")) (record { sort = WordToken 8; one = refl; class-is = refl; number-is = refl })
+unfolding given zero-num num-of-sort float-of-sort sortClass unplaced-word lexFrom lexN stepAt skip skipN gapAt gapOf classOf tokenOf tokenAt wordAt wordEnd isWordByte codeOf codeIn same find firstOf found
+says-cpu = says-alone (given (word CPU) (bytesOf "CPU")) (record { sort = WordToken 8; one = refl; class-is = refl; number-is = refl; float-is = refl })
 
 -- OIL_VERSION = "2.5"; and LF
 pub says-heading : Says false (bytesOf "OIL_VERSION = \"2.5\";\n") version-words
@@ -85,6 +85,7 @@ written-is (number n) t = refl
 written-is (truth b) t = refl
 written-is auto t = refl
 written-is string t = refl
+written-is float t = refl
 written-is (enumerator e) t = refl
 written-is (object o) t = refl
 

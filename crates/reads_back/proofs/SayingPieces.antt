@@ -14,14 +14,14 @@ use Rattle.locality.proofs.Front.{ends}
 use Rattle.locality.proofs.Pieces.{Inside, mayStart, Piece, piece-append, piece-none, piece-blank, piece-one, piece-sign}
 use Rattle.grammar.specs.Terminals.{classOf}
 use Rattle.meaning.specs.Syntax.{Word}
-use Rattle.meaning.specs.Actions.{num-of-sort}
+use Rattle.meaning.specs.Actions.{num-of-sort, float-of-sort}
 use Rattle.meaning.specs.Places.{each, unplaced-word}
 use Rattle.meaning.proofs.Unplaced.{each-append}
 use Rattle.reads_back.proofs.Restated.{Alone}
 
 -- a token of the text s, as a word without its place
 unfoldable pub lexeme-word : List ℕ → Lexeme → Word
-lexeme-word s t = record { class = classOf (t .sort); bytes = take (t .len) (drop (t .at) s); number = num-of-sort (t .sort); place = 0; length = 0 }
+lexeme-word s t = record { class = classOf (t .sort); bytes = take (t .len) (drop (t .at) s); number = num-of-sort (t .sort); float = float-of-sort (t .sort); place = 0; length = 0 }
 
 -- ---- the words of a text that goes on, and of one behind another
 
@@ -31,7 +31,7 @@ module _ (a b : List ℕ) where
   unfolding each lexeme-word moved
   words-moved [] = refl
   words-moved (t ∷ ts) =
-      ap₂ (λ (v : List ℕ) (ws : List Word). record { class = classOf (t .sort); bytes = take (t .len) v; number = num-of-sort (t .sort); place = 0; length = 0 } ∷ ws)
+      ap₂ (λ (v : List ℕ) (ws : List Word). record { class = classOf (t .sort); bytes = take (t .len) v; number = num-of-sort (t .sort); float = float-of-sort (t .sort); place = 0; length = 0 } ∷ ws)
       (drop-append-add a b (t .at)) (words-moved ts)
 
   -- the words of a, where b goes on
@@ -41,7 +41,7 @@ module _ (a b : List ℕ) where
   words-kept (t ∷ ts) i =
       let h = i .0 in
       let l = length-drop (t .at) a in
-      ap₂ (λ (v : List ℕ) (ws : List Word). record { class = classOf (t .sort); bytes = v; number = num-of-sort (t .sort); place = 0; length = 0 } ∷ ws)
+      ap₂ (λ (v : List ℕ) (ws : List Word). record { class = classOf (t .sort); bytes = v; number = num-of-sort (t .sort); float = float-of-sort (t .sort); place = 0; length = 0 } ∷ ws)
       (ap (take (t .len)) (drop-append-le (t .at) a b (omega arith)) ∙ take-append-le (t .len) (drop (t .at) a) b (omega arith)) (words-kept ts (i .1))
 
 -- ---- pieces
@@ -73,11 +73,11 @@ pub says-blank : (x : ℕ) → byteClass x ≡ blank → Says false (x ∷ []) [
 unfolding each
 says-blank x e = record { tokens = []; piece = piece-blank x e; words = refl }
 
-one-word : (w : Word) (k : TokenSort) → w .class ≡ classOf k → w .number ≡ num-of-sort k →
+one-word : (w : Word) (k : TokenSort) → w .class ≡ classOf k → w .number ≡ num-of-sort k → w .float ≡ float-of-sort k →
     each (lexeme-word (w .bytes)) (record { sort = k; at = 0; len = length (w .bytes) } ∷ []) ≡ unplaced-word w ∷ []
 unfolding each lexeme-word unplaced-word
-one-word w k c n =
-    λ j. record { class = sym c j; bytes = take-length (w .bytes) j; number = sym n j; place = 0; length = 0 } ∷ []
+one-word w k c n r =
+    λ j. record { class = sym c j; bytes = take-length (w .bytes) j; number = sym n j; float = sym r j; place = 0; length = 0 } ∷ []
 
 -- a word that stands alone
 pub says-alone : (w : Word) → Alone w → Says true (w .bytes) (unplaced-word w ∷ [])
@@ -85,7 +85,7 @@ says-alone w a =
     record {
       tokens = record { sort = a .sort; at = 0; len = length (w .bytes) } ∷ [];
       piece = piece-one (a .one);
-      words = one-word w (a .sort) (a .class-is) (a .number-is);
+      words = one-word w (a .sort) (a .class-is) (a .number-is) (a .float-is);
     }
 
 -- a string or a sign
@@ -94,5 +94,5 @@ says-sign w a e =
     record {
       tokens = record { sort = a .sort; at = 0; len = length (w .bytes) } ∷ [];
       piece = piece-sign e (a .one);
-      words = one-word w (a .sort) (a .class-is) (a .number-is);
+      words = one-word w (a .sort) (a .class-is) (a .number-is) (a .float-is);
     }

@@ -6,8 +6,8 @@ use mathlib.Core.Option.{Option, none}
 use Prim.Native.Nat.{ℕ, suc, _+_}
 use Rattle.reads_back.proofs.MergedAgain.{merge-unplaced}
 use Rattle.token.specs.Find.{bit}
-use Rattle.grammar.specs.Grammar.{Rule, rule, tok, Form, _⟶_, file, version, implementation, specs, spec, definitions, definition, attribute, D, P, auto, mark, integer-range, numbers, boolean-range, enumerator, enumerators, application, objects, object, block, statements, statement, default, own, file-is, version-is, implementation-is, no-spec, a-spec, spec-is, no-definition, a-definition, an-attribute, a-reference, an-integer, a-string, a-boolean, an-enum, reference-is, no-D, a-D, no-P, a-P, no-auto, with-auto, no-mark, a-mark, no-range, a-range, a-list, no-number, a-number, no-boolean-range, a-boolean-range, enumerator-is, no-enumerator, an-enumerator, no-default, a-default, own-auto, own-none, own-number, own-string, own-true, own-false, own-name, application-is, no-object, an-object, an-object-alone, an-object-with, no-block, a-block, no-statement, a-statement, statement-is, value-number, value-string, value-auto, value-name, value-true, value-false, reference as reference-rule, value as value-rule}
-use Rattle.meaning.specs.Syntax.{Word, Span, absent, through, AttributeType, integer, string, boolean, enum, Bounds, no-bounds, Definitions, no-more, define, Values, no-value, Defined, Spec, Statements, done, state, definitions-in, definitions-under, is-enum, enumerators-in, enumerators-under, statements-in, value as a-value, reference as reference-to, Object}
+use Rattle.grammar.specs.Grammar.{Rule, rule, tok, Form, _⟶_, file, version, implementation, specs, spec, definitions, definition, attribute, D, P, auto, mark, integer-range, numbers, boolean-range, float-range, enumerator, enumerators, application, objects, object, block, statements, statement, default, own, file-is, version-is, implementation-is, no-spec, a-spec, spec-is, no-definition, a-definition, an-attribute, a-reference, an-integer, a-string, a-boolean, an-enum, a-float, reference-is, no-D, a-D, no-P, a-P, no-auto, with-auto, no-mark, a-mark, no-range, a-range, a-list, no-number, a-number, no-boolean-range, no-float-range, a-boolean-range, a-float-range, enumerator-is, no-enumerator, an-enumerator, no-default, a-default, own-auto, own-none, own-number, own-string, own-true, own-false, own-name, own-float, application-is, no-object, an-object, an-object-alone, an-object-with, no-block, a-block, no-statement, a-statement, statement-is, value-number, value-string, value-float, value-auto, value-name, value-true, value-false, reference as reference-rule, value as value-rule}
+use Rattle.meaning.specs.Syntax.{Word, Span, absent, through, AttributeType, integer, string, boolean, enum, float, Bounds, no-bounds, Definitions, no-more, define, Values, no-value, Defined, Spec, Statements, done, state, definitions-in, definitions-under, is-enum, enumerators-in, enumerators-under, statements-in, value as a-value, reference as reference-to, Object}
 use Rattle.meaning.specs.Actions.{kind-of, integer-of, Implementation, Application, IntegerRange, BooleanRange, Enumerator, Block, ValueWithBlock, Stated, M, Parts, first-value, truths, defined, defining, specifying, stating, means}
 use Rattle.meaning.specs.Places.{each, if-there, unplaced-word, unplaced-bounds, unplaced-definition, unplaced-definitions, unplaced-values, unplaced-defined, unplaced-spec, unplaced-statement, unplaced-statements, unplaced-object, unplaced}
 
@@ -54,6 +54,7 @@ bare-M P m = λ n e. unplaced-definitions (m n e)
 bare-M auto m = m
 bare-M mark m = m
 bare-M integer-range m = bare-integer-range m
+bare-M float-range m = bare-integer-range m
 bare-M numbers m = each unplaced-word m
 bare-M boolean-range m = λ n e. bare-boolean-range (m n e)
 bare-M enumerator m = λ n e. bare-enumerator (m n e)
@@ -174,6 +175,7 @@ means-bare a-definition (x, (xs, _)) = λ i n e. defining-bare (x n e) e xs i
 means-bare an-attribute m = refl
 means-bare a-reference m = refl
 means-bare an-integer (t, (a, (r, (x, (l, (d, _)))))) = λ i n e. defined-bare n no-value (integer (integer-of (t .class))) t a (r .span) (r .bounds) x l d i
+means-bare a-float (t, (a, (r, (x, (l, (d, _)))))) = λ i n e. defined-bare n no-value float t a (r .span) (r .bounds) x l d i
 means-bare a-string (t, (a, (x, (l, (d, _))))) = λ i n e. defined-bare n no-value string t a absent no-bounds x l d i
 means-bare a-boolean (t, (a, (r, (x, (l, (d, _)))))) = λ i n e. defined-bare n (r n e .values) boolean t a (r n e .span) no-bounds x l d i
 means-bare an-enum (t, (a, (o, (v, (vs, (c, (x, (l, (d, _))))))))) =
@@ -190,7 +192,9 @@ means-bare with-auto m = refl
 means-bare no-mark m = refl
 means-bare a-mark m = refl
 means-bare no-range m = refl
+means-bare no-float-range m = refl
 means-bare a-range m = refl
+means-bare a-float-range m = refl
 means-bare a-list m = refl
 means-bare no-number m = refl
 means-bare a-number m = refl
@@ -206,6 +210,7 @@ means-bare own-auto m = refl
 means-bare own-none m = refl
 means-bare own-number m = refl
 means-bare own-string m = refl
+means-bare own-float m = refl
 means-bare own-true m = refl
 means-bare own-false m = refl
 means-bare own-name m = refl
@@ -222,6 +227,7 @@ means-bare a-statement (x, (xs, _)) = λ i k. stating-bare (x k) k xs i
 means-bare statement-is m = refl
 means-bare value-number m = refl
 means-bare value-string m = refl
+means-bare value-float m = refl
 means-bare value-auto m = refl
 means-bare value-name m = refl
 means-bare value-true m = refl

@@ -4,11 +4,11 @@ use mathlib.Core.Bool.{Bool, true, false, not, false≢true}
 use Rattle.token.specs.Find.{both, either}
 use Rattle.token.specs.Lexing.{Lexed, lexFrom, more, ended, refused}
 use Rattle.token.specs.declared.Sort.{Sort as TokenSort}
-use Rattle.grammar.specs.Grammar.{Class, Kind, Integer, matches, the, ordinary, numeral, quoted, other, kind-word, type-word, integer-word, word, sign, AUTO, NO-DEFAULT, TRUE, FALSE, name, number, string}
+use Rattle.grammar.specs.Grammar.{Class, Kind, Integer, matches, the, ordinary, numeral, quoted, floating, other, kind-word, type-word, integer-word, word, sign, AUTO, NO-DEFAULT, TRUE, FALSE, name, number, string, float}
 use Rattle.grammar.specs.Terminals.{classOf}
 use Rattle.grammar.proofs.Choices.{all, classes, every-class}
 use Rattle.meaning.specs.Syntax.{Word}
-use Rattle.meaning.specs.Scopes.{Sort, a-number, a-string, a-truth, an-auto, a-no-default, a-name, sort-of, sort-of-word}
+use Rattle.meaning.specs.Scopes.{Sort, a-number, a-string, a-truth, an-auto, a-no-default, a-name, a-float, sort-of, sort-of-word}
 use Rattle.meaning.specs.Judging.{is-no-default}
 use Rattle.reads_back.proofs.Restated.{Alone}
 
@@ -37,6 +37,7 @@ unfoldable is-numeral : Class → Bool
 is-numeral ordinary = false
 is-numeral numeral = true
 is-numeral quoted = false
+is-numeral floating = false
 is-numeral other = false
 is-numeral (kind-word k) = false
 is-numeral (type-word k) = false
@@ -49,6 +50,7 @@ unfolding is-numeral
 numeral-is ordinary h = absurd (false≢true h)
 numeral-is numeral h = refl
 numeral-is quoted h = absurd (false≢true h)
+numeral-is floating h = absurd (false≢true h)
 numeral-is other h = absurd (false≢true h)
 numeral-is (kind-word k) h = absurd (false≢true h)
 numeral-is (type-word k) h = absurd (false≢true h)
@@ -60,6 +62,7 @@ numeral-is (sign s) h = absurd (false≢true h)
 pub data ValueForm (c : Class) : Type 0 where
   number-form : matches number c ≡ true → ValueForm c
   string-form : matches string c ≡ true → ValueForm c
+  float-form : matches float c ≡ true → ValueForm c
   auto-form : matches (the AUTO) c ≡ true → ValueForm c
   name-form : matches name c ≡ true → ValueForm c
   true-form : matches (the TRUE) c ≡ true → ValueForm c
@@ -77,6 +80,7 @@ by-class P Q h c p = go (P c) p (every-class (λ d. either (not (P d)) (Q d)) h 
 unfoldable pub is-number : Sort → Bool
 is-number a-number = true
 is-number a-string = false
+is-number a-float = false
 is-number a-truth = false
 is-number an-auto = false
 is-number a-no-default = false
@@ -122,6 +126,11 @@ number-apart c h = ap in-list (number-class c h)
 pub string-apart : (c : Class) → matches string c ≡ true → Apart c
 unfolding matches is-apart
 string-apart c h = apart-is _ _ (by-class (matches string) is-apart (λ k i. refl) c h)
+
+-- Nor is a float.
+pub float-apart : (c : Class) → matches float c ≡ true → Apart c
+unfolding matches is-apart
+float-apart c h = apart-is _ _ (by-class (matches float) is-apart (λ k i. refl) c h)
 
 -- Nor is AUTO.
 pub auto-apart : (c : Class) → matches (the AUTO) c ≡ true → Apart c

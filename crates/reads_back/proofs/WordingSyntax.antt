@@ -7,14 +7,14 @@ use Prim.Native.Nat.{ℕ, suc}
 use Rattle.token.specs.Find.{pick}
 use Rattle.meaning.specs.Words.{choose}
 use Rattle.meaning.specs.Merging.{then, same-object, used, continued, merged, merge-from, merge}
-use Rattle.grammar.specs.Grammar.{Token, tokens, matches, Rule, Form, _▸_, ∎, _⟶_, Trees, nil, leaf, node, file, version, implementation, specs, spec, definitions, definition, attribute, D, P, auto, mark, integer-range, numbers, boolean-range, enumerator, enumerators, application, objects, object, block, statements, statement, default, own, file-is, version-is, implementation-is, no-spec, a-spec, spec-is, no-definition, a-definition, an-attribute, a-reference, an-integer, a-string, a-boolean, an-enum, reference-is, no-D, a-D, no-P, a-P, no-auto, with-auto, no-mark, a-mark, no-range, a-range, a-list, no-number, a-number, no-boolean-range, a-boolean-range, enumerator-is, no-enumerator, an-enumerator, no-default, a-default, own-auto, own-none, own-number, own-string, own-true, own-false, own-name, application-is, no-object, an-object, an-object-alone, an-object-with, no-block, a-block, no-statement, a-statement, statement-is, value-number, value-string, value-auto, value-name, value-true, value-false, reference as reference-rule, value as value-rule, kind as a-kind}
+use Rattle.grammar.specs.Grammar.{Token, tokens, matches, Rule, Form, _▸_, ∎, _⟶_, Trees, nil, leaf, node, file, version, implementation, specs, spec, definitions, definition, attribute, D, P, auto, mark, integer-range, numbers, boolean-range, float-range, enumerator, enumerators, application, objects, object, block, statements, statement, default, own, file-is, version-is, implementation-is, no-spec, a-spec, spec-is, no-definition, a-definition, an-attribute, a-reference, an-integer, a-string, a-boolean, an-enum, a-float, reference-is, no-D, a-D, no-P, a-P, no-auto, with-auto, no-mark, a-mark, no-range, a-range, a-list, no-number, a-number, no-boolean-range, no-float-range, a-boolean-range, a-float-range, enumerator-is, no-enumerator, an-enumerator, no-default, a-default, own-auto, own-none, own-number, own-string, own-true, own-false, own-name, own-float, application-is, no-object, an-object, an-object-alone, an-object-with, no-block, a-block, no-statement, a-statement, statement-is, value-number, value-string, value-float, value-auto, value-name, value-true, value-false, reference as reference-rule, value as value-rule, kind as a-kind}
 use Rattle.meaning.specs.Syntax.{Word, Definition, Definitions, no-more, define, Values, no-value, value, Defined, Statement, Statements, done, state, Spec, Object, File}
 use Rattle.meaning.specs.Actions.{M, Enumerator, word-of, kind-of, first-value, truths, defined, defining, specifying, stating, means, meaning, syntax}
 use Rattle.meaning.specs.Scopes.{sort-of}
 use Rattle.meaning.specs.Judging.{is-no-default, taken-by, taken}
 use Rattle.meaning.specs.Places.{each, unplaced-word}
 use Rattle.reads_back.proofs.Restated.{plain-word, Alone, AllAlone, Named}
-use Rattle.reads_back.proofs.WordingClasses.{in-list, ValueForm, number-form, string-form, auto-form, name-form, true-form, false-form, name-within, true-within, false-within, none-taken}
+use Rattle.reads_back.proofs.WordingClasses.{in-list, ValueForm, number-form, string-form, float-form, auto-form, name-form, true-form, false-form, name-within, true-within, false-within, none-taken}
 
 -- The syntax --------------------------------------------------------------------------------------------------------------------------------
 
@@ -137,6 +137,7 @@ W P g = (n e : ℕ) → Worded (g n e)
 W auto m = Unit {0}
 W mark m = Unit {0}
 W integer-range r = Unit {0}
+W float-range r = Unit {0}
 W numbers ts = Unit {0}
 W boolean-range g = (n e : ℕ) → WordedList (g n e .values)
 W enumerator g = (n e : ℕ) → WordedEnumerator (g n e)
@@ -185,6 +186,8 @@ means-worded s an-attribute (node _ x nil) h = h .0
 means-worded s a-reference (node _ x nil) h = h .0
 means-worded s an-integer (leaf _ _ (node _ a (node _ r (leaf x m (node _ k (node _ d b)))))) h = λ n e.
     record { name = record { alone = h .1 .1 .1 .0; class-is = m }; default = h .1 .1 .1 .1 .1 .0; values = list-none }
+means-worded s a-float (leaf _ _ (node _ a (node _ r (leaf x m (node _ k (node _ d b)))))) h = λ n e.
+    record { name = record { alone = h .1 .1 .1 .0; class-is = m }; default = h .1 .1 .1 .1 .1 .0; values = list-none }
 means-worded s a-string (leaf _ _ (node _ a (leaf x m (node _ k (node _ d b))))) h = λ n e.
     record { name = record { alone = h .1 .1 .0; class-is = m }; default = h .1 .1 .1 .1 .0; values = list-none }
 means-worded s a-boolean (leaf _ _ (node _ a (node _ r (leaf x m (node _ k (node _ d b)))))) h = λ n e.
@@ -207,7 +210,9 @@ means-worded s with-auto us h = tt
 means-worded s no-mark us h = tt
 means-worded s a-mark us h = tt
 means-worded s no-range us h = tt
+means-worded s no-float-range us h = tt
 means-worded s a-range us h = tt
+means-worded s a-float-range us h = tt
 means-worded s a-list us h = tt
 means-worded s no-number us h = tt
 means-worded s a-number us h = tt
@@ -227,6 +232,7 @@ means-worded s own-auto (leaf t m nil) h = own-value (word-of s t) (h .0) (auto-
 means-worded s own-none (leaf t m nil) h = own-nothing (word-of s t) (none-taken (t .class) m)
 means-worded s own-number (leaf t m nil) h = own-value (word-of s t) (h .0) (number-form m)
 means-worded s own-string (leaf t m nil) h = own-value (word-of s t) (h .0) (string-form m)
+means-worded s own-float (leaf t m nil) h = own-value (word-of s t) (h .0) (float-form m)
 means-worded s own-true (leaf t m nil) h = own-value (word-of s t) (h .0) (true-form m)
 means-worded s own-false (leaf t m nil) h = own-value (word-of s t) (h .0) (false-form m)
 means-worded s own-name (leaf t m nil) h = own-value (word-of s t) (h .0) (name-form m)
@@ -244,6 +250,7 @@ means-worded s a-statement (node _ x (node _ xs nil)) h = λ k. worded-state (h 
 means-worded s statement-is (leaf x _ (leaf _ _ (node _ v r))) h = λ k. (h .1 .1 .0 .0, h .1 .1 .0 .1 (suc k))
 means-worded s value-number (leaf t m nil) h = (record { alone = h .0; form = number-form m }, λ k. worded-done)
 means-worded s value-string (leaf t m nil) h = (record { alone = h .0; form = string-form m }, λ k. worded-done)
+means-worded s value-float (leaf t m nil) h = (record { alone = h .0; form = float-form m }, λ k. worded-done)
 means-worded s value-auto (leaf t m nil) h = (record { alone = h .0; form = auto-form m }, λ k. worded-done)
 means-worded s value-name (leaf t m (node _ b nil)) h = (record { alone = h .0; form = name-form m }, h .1 .0)
 means-worded s value-true (leaf t m (node _ b nil)) h = (record { alone = h .0; form = true-form m }, h .1 .0)

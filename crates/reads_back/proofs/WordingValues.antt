@@ -17,10 +17,10 @@ use Rattle.meaning.specs.Resolving.{number, valued, take-value, Resolved, end, 
 use Rattle.meaning.specs.Places.{each, unplaced-word}
 use Rattle.meaning.proofs.Numbering.{Counts, object-numbers, numbered}
 use Rattle.meaning.proofs.Standing.{counts-head, counts-tail}
-use Rattle.reads_back.proofs.Restated.{restated-word, plain-word, Alone, AllAlone, Named, Stateable, as-number, as-string, as-auto, as-name, as-true, as-false, SaidTaken, SaidLines, SaidObjects, Said}
+use Rattle.reads_back.proofs.Restated.{restated-word, plain-word, Alone, AllAlone, Named, Stateable, as-number, as-string, as-float, as-auto, as-name, as-true, as-false, SaidTaken, SaidLines, SaidObjects, Said}
 use Rattle.reads_back.proofs.SameWords.{by-choose, alike-bytes}
 use Rattle.reads_back.proofs.RestatingValues.{valued-kept}
-use Rattle.reads_back.proofs.WordingClasses.{alone-class, in-list, is-number, ValueForm, number-form, string-form, auto-form, name-form, true-form, false-form, number-class, number-apart, string-apart, auto-apart, name-within, true-within, false-within}
+use Rattle.reads_back.proofs.WordingClasses.{alone-class, in-list, is-number, ValueForm, number-form, string-form, float-form, auto-form, name-form, true-form, false-form, number-class, number-apart, string-apart, float-apart, auto-apart, name-within, true-within, false-within}
 use Rattle.reads_back.proofs.WordingSyntax.{WordedValue, WordedOption, Worded, worded-none, worded-more, WordedList, list-more, WordedSpecs, WordedStatements, worded-done, worded-state, WordedObjects, worded}
 
 -- A number that stands alone still does so in decimal.
@@ -68,6 +68,9 @@ module _ (decimal-alone : DecimalAlone) (os : List Object) where
     value-said n a (string-form m) h =
         let k = string-apart (t .class) m in
         plain-said n a (k .1) (subst (λ r. Stateable (t .class) r) (sym (h (k .0))) (as-string m))
+    value-said n a (float-form m) h =
+        let k = float-apart (t .class) m in
+        plain-said n a (k .1) (subst (λ r. Stateable (t .class) r) (sym (h (k .0))) (as-float m))
     value-said n a (auto-form m) h =
         let k = auto-apart (t .class) m in
         plain-said n a (k .1) (subst (λ r. Stateable (t .class) r) (sym (h (k .0))) (as-auto m))

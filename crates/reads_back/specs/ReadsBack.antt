@@ -6,7 +6,7 @@ use Prim.Native.Nat.{ℕ}
 use Rattle.meaning.specs.Defining.{DefinitionRow, EnumeratorRow}
 use Rattle.meaning.specs.Applying.{ObjectRow}
 use Rattle.meaning.specs.Syntax.{absent}
-use Rattle.meaning.specs.Resolving.{Value, number, truth, auto, string, enumerator, object, ValueRow}
+use Rattle.meaning.specs.Resolving.{Value, number, truth, auto, string, float, enumerator, object, ValueRow}
 use Rattle.meaning.specs.Normal.{part}
 use Rattle.meaning.specs.Places.{each, unplaced-value-row, unplaced-tables}
 use Rattle.meaning.specs.Answers.{Tables, accepted}
@@ -50,6 +50,7 @@ unless-number (number n) b = []
 unless-number (truth x) b = b
 unless-number auto b = b
 unless-number string b = b
+unless-number float b = b
 unless-number (enumerator e) b = b
 unless-number (object o) b = b
 

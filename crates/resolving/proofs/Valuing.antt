@@ -13,16 +13,16 @@ use Rattle.token.specs.Find.{bit}
 use Rattle.token.specs.Tokens.{stepAt}
 use Rattle.grammar.specs.Grammar.{Kind}
 use Rattle.rows.specs.declared.Found.{Found}
-use Rattle.meaning.specs.Syntax.{Num, Word, span-of, AttributeType, integer, string, boolean, enum, reference, Values, Defined, Object, File, is-enum}
+use Rattle.meaning.specs.Syntax.{Num, Word, span-of, AttributeType, integer, string, boolean, enum, float, reference, Values, Defined, Object, File, is-enum}
 use Rattle.meaning.specs.Kinds.{kind-number}
 use Rattle.meaning.specs.Actions.{num-of-step}
-use Rattle.meaning.specs.Scopes.{Sort, a-number, a-string, a-truth, an-auto, a-no-default, a-name, sort-of, Under, find-value, find-object}
+use Rattle.meaning.specs.Scopes.{Sort, a-number, a-string, a-truth, an-auto, a-no-default, a-name, a-float as float-sort, sort-of, Under, find-value, find-object}
 use Rattle.meaning.specs.Resolving.{number, truth, is-true, number-or, row-or, named, valued, take-value, value-row}
 use Rattle.meaning.specs.Resolving.{string as string-value}
 use Rattle.meaning.specs.Cells.{value-sort, value-negative, value-amount, value-cells}
 use Rattle.layout.specs.Kept.{code-of}
 use Rattle.amounts.specs.Known.{InCells}
-use Rattle.scopes.specs.Forms.{Formed, an-integer, a-string, a-boolean, an-enum, a-reference}
+use Rattle.scopes.specs.Forms.{Formed, an-integer, a-string, a-boolean, an-enum, a-float, a-reference}
 use Rattle.scopes.specs.Forms as forms
 use Rattle.scopes.specs.Promises.{FindsEnumerator, FindsObject, number-found, object-found}
 use Rattle.scopes.specs.declared.Sizes.{Sizes}
@@ -68,9 +68,14 @@ other-boolean : (t : AttributeType) → t ≡ boolean → (os : List Object) (vs
 unfolding named
 other-boolean t e os vs w = ap (λ q. named q os vs w) e
 
+other-float : (t : AttributeType) → t ≡ float → (os : List Object) (vs : Values) (w : Word) → named t os vs w ≡ string-value
+unfolding named
+other-float t e os vs w = ap (λ q. named q os vs w) e
+
 typed : {s : List ℕ} (x : Defined) (vs : Values) (c : ℕ) → Formed s (x .definition) vs → c ≡ code-of (x .definition .word) → Typed (x .definition .type) c
 typed x vs n (an-integer i t c r) e = let l = integer-low i in is-other (other-integer (x .definition .type) i t) (λ q. omega arith) (λ q. omega arith)
 typed x vs n (a-string t c b) e = is-other (other-string (x .definition .type) t) (λ q. omega arith) (λ q. omega arith)
+typed x vs n (a-float t c b) e = is-other (other-float (x .definition .type) t) (λ q. omega arith) (λ q. omega arith)
 typed x vs n (a-boolean t c b v) e = is-other (other-boolean (x .definition .type) t) (λ q. omega arith) (λ q. omega arith)
 typed x vs n (an-enum t c b v) e = an-enumeration t (e ∙ c)
 typed x vs n (a-reference k t c b) e = a-kind k t (e ∙ c)
@@ -142,13 +147,17 @@ by-sort : (f : File) (x : Defined) (t : Word) (q : Sort) {h : Held} → sort-of 
 by-sort f x t q {h} p k = subst (λ y. Holds h (valued y (f .objects) (x .definition) (x .values) t)) (sym p) k
 
 module _ {s d e o : List ℕ} {z : Sizes} {j at len code : ℕ} where
-  pub value-number : {h : Held} → code ≡ 42 → Holds h (number (num-of-step (stepAt s at))) → ValueOf s d e o z j at len code h
+  pub value-number : {h : Held} → code ≡ 43 → Holds h (number (num-of-step (stepAt s at))) → ValueOf s d e o z j at len code h
   unfolding sort-coded valued
   value-number {h} c k f x t g a w = by-sort f x t a-number (sort-is w (ap sort-coded c)) (subst (λ y. Holds h (number y)) (sym (w .read .number)) k)
 
-  pub value-string : code ≡ 43 → ValueOf s d e o z j at len code (held 3 0 0)
+  pub value-string : code ≡ 44 → ValueOf s d e o z j at len code (held 3 0 0)
   unfolding sort-coded valued value-sort value-negative value-amount bit
   value-string c f x t g a w = by-sort f x t a-string (sort-is w (ap sort-coded c)) (record { sort = refl; negative = refl; amount = refl })
+
+  pub value-float : code ≡ 54 → ValueOf s d e o z j at len code (held 6 0 0)
+  unfolding sort-coded valued value-sort value-negative value-amount bit
+  value-float c f x t g a w = by-sort f x t float-sort (sort-is w (ap sort-coded c)) (record { sort = refl; negative = refl; amount = refl })
 
   pub value-true : code ≡ 1 → ValueOf s d e o z j at len code (held 1 0 1)
   unfolding sort-coded valued value-sort value-negative value-amount bit code-of
@@ -170,10 +179,10 @@ module _ {s d e o : List ℕ} {z : Sizes} {j at len code : ℕ} where
   unfolding sort-coded valued value-sort value-negative value-amount bit
   value-no-default c f x t g a w = by-sort f x t a-no-default (sort-is w (ap sort-coded c)) (record { sort = refl; negative = refl; amount = refl })
 
-  pub value-name : {h : Held} → (code ≡ 42 → ⊥) → (code ≡ 43 → ⊥) → (code ≡ 1 → ⊥) → (code ≡ 2 → ⊥) → (code ≡ 3 → ⊥) → (code ≡ 4 → ⊥)
+  pub value-name : {h : Held} → (code ≡ 43 → ⊥) → (code ≡ 44 → ⊥) → (code ≡ 1 → ⊥) → (code ≡ 2 → ⊥) → (code ≡ 3 → ⊥) → (code ≡ 4 → ⊥) → (code ≡ 54 → ⊥)
       → NamedValue s d e o z j at len h → ValueOf s d e o z j at len code h
   unfolding valued
-  value-name h₁ h₂ h₃ h₄ h₅ h₆ k f x t g a w = by-sort f x t a-name (sort-is w (name-coded code h₁ h₂ h₃ h₄ h₅ h₆)) (k f x t g a (w .read))
+  value-name h₁ h₂ h₃ h₄ h₅ h₆ h₇ k f x t g a w = by-sort f x t a-name (sort-is w (name-coded code h₁ h₂ h₃ h₄ h₅ h₆ h₇)) (k f x t g a (w .read))
 
   -- The row of a value.
   pub put-row : (v : List ℕ) (n : ℕ) (w : OwnerOf) (stated : ℕ) (h : Held) (v′ : List ℕ) → ValueOf s d e o z j at len code h

@@ -89,7 +89,7 @@ fn named_value(
     }
 }
 
-// The value of the word at a place, for the attribute of row j; the codes of words are 42 for a number, 43 for a string, 1 and 2 for TRUE and
+// The value of the word at a place, for the attribute of row j; the codes of words are 43 for a number, 44 for a string, 54 for a float, 1 and 2 for TRUE and
 // FALSE, 3 for AUTO, 4 for NO_DEFAULT.
 pub fn value_of(
     text: &[u8],
@@ -109,10 +109,10 @@ pub fn value_of(
     requires { ⌜ KnownDefaults (now text) (now d) (now known) × Indexes (now text) (now d) (now e) (now o) z (now noted) (now xe) (now xo) ⌝ }
     ensures { λ r. ⌜ ValueOf (now (text .entry)) (now (d .entry)) (now (e .entry)) (now (o .entry)) z j at len code r ⌝ }
 {
-    if code == 42 {
+    if code == 43 {
         return number_value(text, d, known, j, at);
     }
-    if code == 43 {
+    if code == 44 {
         return Held {
             sort: 3,
             negative: 0,
@@ -143,6 +143,13 @@ pub fn value_of(
     if code == 4 {
         return Held {
             sort: 2,
+            negative: 0,
+            amount: 0,
+        };
+    }
+    if code == 54 {
+        return Held {
+            sort: 6,
             negative: 0,
             amount: 0,
         };

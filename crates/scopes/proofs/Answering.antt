@@ -31,7 +31,7 @@ use Rattle.meaning.proofs.Lookups.{InText, first-standing, row-under, finds-def
 use Rattle.layout.specs.Kept.{Entry, list-key, entries, entries-under, spec-entries, spec-choices, kept-enumerators, choice-cells}
 use Rattle.scopes.specs.Situations.{Situation, ScopeAt, no-scope, scope, Reached}
 use Rattle.scopes.specs.Given.{entry-rows}
-use Rattle.scopes.specs.Forms.{Some, Formed, an-integer, a-string, a-boolean, an-enum, a-reference}
+use Rattle.scopes.specs.Forms.{Some, Formed, an-integer, a-string, a-boolean, an-enum, a-float, a-reference}
 use Rattle.scopes.specs.Promises.{row-found, number-found, object-found, FindsDefinition, FindsObject}
 use Rattle.scopes.proofs.Goodness.{Good, Goods, good-back, object-good}
 use Rattle.scopes.proofs.Finding.{is-row, is-choice, is-object, first-front, none-first, none-chosen, first-one, found-one, found-below, find-in-definitions, find-in-enumerators, find-in-objects}
@@ -132,6 +132,7 @@ some-values : {s : List ℕ} {d : Definition} {vs : Values} → is-enum (d .type
 unfolding is-enum
 some-values e (an-integer i t c r) = absurd (false≢true (sym (ap is-enum t) ∙ e))
 some-values e (a-string t c r) = absurd (false≢true (sym (ap is-enum t) ∙ e))
+some-values e (a-float t c r) = absurd (false≢true (sym (ap is-enum t) ∙ e))
 some-values e (a-boolean t c b v) = absurd (false≢true (sym (ap is-enum t) ∙ e))
 some-values e (an-enum t c b v) = v
 some-values e (a-reference k t c b) = absurd (false≢true (sym (ap is-enum t) ∙ e))

@@ -11,17 +11,17 @@ use Rattle.token.specs.Lexing.{lexN, lexFrom, afterStep, Lexed}
 use Rattle.token.specs.declared.Cursor.{Cursor}
 use Rattle.token.specs.declared.Token.{Token as Lexeme}
 use Rattle.token.specs.declared.Sort.{Sort}
-use Rattle.token.specs.declared.Sort.the-variants.{Word as WordToken, Number, String, Punctuator}
+use Rattle.token.specs.declared.Sort.the-variants.{Word as WordToken, Number, String, Punctuator, Float}
 use Rattle.token.specs.declared.Step.{Step}
 use Rattle.token.specs.declared.Step.the-variants.{Found, Refused, End}
 use Rattle.token.proofs.Steps.{found-fits, step-again}
 use Rattle.grammar.specs.Grammar.{Token}
 use Rattle.grammar.specs.Terminals.{tokenOf, tokensIn, tokens as tokens-of}
-use Rattle.meaning.specs.Actions.{word-of, num-of-step, num-of-sort, zero-num}
+use Rattle.meaning.specs.Actions.{word-of, num-of-step, float-of-step, num-of-sort, zero-num}
 use Rattle.scopes.specs.declared.Item.{Item}
 use Rattle.scopes.specs.Items.{num, itemOf, itemOfStep, itemAt}
 use Rattle.scopes.specs.Situations.{ReadAt}
-use Rattle.scopes.specs.Ranges.{NumberAt}
+use Rattle.scopes.specs.Ranges.{NumberAt, FloatAt}
 
 -- A step from p finds the token t.
 pub record StepTo (s : List ℕ) (p : ℕ) (t : Token) : Type 0 where
@@ -101,7 +101,7 @@ step-read s p t h =
     let y = o .inside in
     let u : t .place ≤ length s = omega (arith, a, b, x, y) in
     let v : t .length ≤ length s - t .place = omega (arith, a, b, x, y) in
-    record { bytes = sym (rw (le-leb (t .place) (length s) u, le-leb (t .length) (length s - t .place) v)); number = refl }
+    record { bytes = sym (rw (le-leb (t .place) (length s) u, le-leb (t .length) (length s - t .place) v)); number = refl; float = refl }
 
 -- What is found at a token ------------------------------------------------------------------------------------------------------------------
 
@@ -110,6 +110,7 @@ unfolding itemOf num-of-sort zero-num
 item-number (WordToken c) a n = refl
 item-number (Number b m) a n = refl
 item-number String a n = refl
+item-number (Float b m e) a n = refl
 item-number (Punctuator b) a n = refl
 
 pub item-at : (k : Sort) (a n : ℕ) → itemOf k a n .at ≡ a
@@ -117,6 +118,7 @@ unfolding itemOf
 item-at (WordToken c) a n = refl
 item-at (Number b m) a n = refl
 item-at String a n = refl
+item-at (Float b m e) a n = refl
 item-at (Punctuator b) a n = refl
 
 pub item-next : (k : Sort) (a n : ℕ) → itemOf k a n .next ≡ n
@@ -124,6 +126,7 @@ unfolding itemOf
 item-next (WordToken c) a n = refl
 item-next (Number b m) a n = refl
 item-next String a n = refl
+item-next (Float b m e) a n = refl
 item-next (Punctuator b) a n = refl
 
 pub step-item : (s : List ℕ) (p : ℕ) (t : Lexeme) (c : Cursor) → stepAt s p ≡ Found t c → itemAt s p ≡ itemOf (t .sort) (t .at) (c .at)
@@ -162,4 +165,17 @@ step-number s p t h =
       place = ap (λ (z : Item). z .at) i ∙ item-at (x .sort) (x .at) (c .at) ∙ a;
       next = step-next s p t h;
       long = omega arith;
+    }
+
+pub step-float : (s : List ℕ) (p : ℕ) (t : Token) → StepTo s p t → FloatAt s p (word-of s t) (t .place + t .length)
+unfolding word-of tokenOf
+step-float s p t h =
+    let x = h .lexeme in
+    let c = h .cursor in
+    let i = step-item s p x c (h .finds) in
+    let a : x .at ≡ t .place = ap (λ (y : Token). y .place) (h .is) in
+    record {
+      float = ap float-of-step (h .finds) ∙ sym (ap float-of-step (ap (stepAt s) (sym a) ∙ step-again s p x c (h .finds)));
+      place = ap (λ (z : Item). z .at) i ∙ item-at (x .sort) (x .at) (c .at) ∙ a;
+      next = step-next s p t h;
     }

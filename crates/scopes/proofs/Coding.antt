@@ -10,10 +10,10 @@ use borrow.Author.Tests.{eqb-true, ltb-true}
 use Rattle.meaning.specs.Cells.{integer-code}
 use Rattle.token.specs.Find.{pick, both}
 use Rattle.token.specs.declared.Sort.{Sort}
-use Rattle.token.specs.declared.Sort.the-variants.{Word as WordToken, Number, String, Punctuator}
+use Rattle.token.specs.declared.Sort.the-variants.{Word as WordToken, Number, String, Punctuator, Float}
 use Rattle.token.proofs.Find.{by-test}
 use Rattle.token.proofs.Bytes.{both-true, both-second}
-use Rattle.grammar.specs.Grammar.{Class, Given, Sign, Token, ordinary, numeral, quoted, other, kind-word, type-word, integer-word, word, sign, OIL-VERSION, IMPLEMENTATION, CPU, STRING, BOOLEAN, ENUM, TRUE, FALSE, AUTO, NO-DEFAULT, WITH-AUTO, lbrace, rbrace, lsquare, rsquare, equals, semicolon, colon, comma, dots, matches, the, sg, integer, type, given-code, sign-code, code}
+use Rattle.grammar.specs.Grammar.{Class, Given, Sign, Token, ordinary, numeral, quoted, floating, other, kind-word, type-word, integer-word, word, sign, OIL-VERSION, IMPLEMENTATION, CPU, STRING, BOOLEAN, ENUM, FLOAT, TRUE, FALSE, AUTO, NO-DEFAULT, WITH-AUTO, lbrace, rbrace, lsquare, rsquare, equals, semicolon, colon, comma, dots, matches, the, sg, integer, type, given-code, sign-code, code}
 use Rattle.grammar.specs.Terminals.{words, signOf, classOf, tokenOf}
 use Rattle.meaning.specs.Kinds.{kind-number}
 use Rattle.meaning.specs.Actions.{kind-of, integer-of}
@@ -23,7 +23,7 @@ use Rattle.scopes.specs.Items.{itemOf}
 use Rattle.scopes.specs.Ranges.{SignAt}
 use Rattle.scopes.proofs.Chains.{StepTo, step-item, step-next}
 
-given-low : (g : Given) → (10 ≤ given-code g) × (given-code g ≤ 20)
+given-low : (g : Given) → (10 ≤ given-code g) × (given-code g ≤ 21)
 unfolding given-code
 given-low OIL-VERSION = (omega arith, omega arith)
 given-low IMPLEMENTATION = (omega arith, omega arith)
@@ -31,6 +31,7 @@ given-low CPU = (omega arith, omega arith)
 given-low STRING = (omega arith, omega arith)
 given-low BOOLEAN = (omega arith, omega arith)
 given-low ENUM = (omega arith, omega arith)
+given-low FLOAT = (omega arith, omega arith)
 given-low TRUE = (omega arith, omega arith)
 given-low FALSE = (omega arith, omega arith)
 given-low AUTO = (omega arith, omega arith)
@@ -53,7 +54,7 @@ sign-low dots = omega arith
 
 -- The words that forms name, by their codes from 10 on.
 unfoldable numbers : List ℕ
-numbers = 6 ∷ 7 ∷ 8 ∷ 39 ∷ 40 ∷ 41 ∷ 1 ∷ 2 ∷ 3 ∷ 4 ∷ 5 ∷ []
+numbers = 6 ∷ 7 ∷ 8 ∷ 39 ∷ 40 ∷ 41 ∷ 1 ∷ 2 ∷ 3 ∷ 4 ∷ 5 ∷ 42 ∷ []
 
 given-by : (g : Given) → getD (0 ∷ 0 ∷ 0 ∷ 0 ∷ 0 ∷ 0 ∷ 0 ∷ 0 ∷ 0 ∷ 0 ∷ numbers) (given-code g) 0 ≡ given-number g
 unfolding given-code given-number numbers
@@ -63,6 +64,7 @@ given-by CPU = refl
 given-by STRING = refl
 given-by BOOLEAN = refl
 given-by ENUM = refl
+given-by FLOAT = refl
 given-by TRUE = refl
 given-by FALSE = refl
 given-by AUTO = refl
@@ -74,6 +76,7 @@ unfolding code class-number
 by-code g ordinary e = let a = given-low g in absurd (omega arith)
 by-code g numeral e = let a = given-low g in absurd (omega arith)
 by-code g quoted e = let a = given-low g in absurd (omega arith)
+by-code g floating e = let a = given-low g in absurd (omega arith)
 by-code g other e = let a = given-low g in absurd (omega arith)
 by-code g (kind-word k) e = let a = given-low g in absurd (omega arith)
 by-code g (type-word k) e = let a = given-low g in absurd (omega arith)
@@ -90,6 +93,7 @@ unfolding code class-number integer-of
 integer-by ordinary e = absurd (omega arith)
 integer-by numeral e = absurd (omega arith)
 integer-by quoted e = absurd (omega arith)
+integer-by floating e = absurd (omega arith)
 integer-by other e = absurd (omega arith)
 integer-by (kind-word k) e = absurd (omega arith)
 integer-by (type-word k) e = absurd (omega arith)
@@ -106,6 +110,7 @@ unfolding code class-number kind-of
 type-by ordinary e = absurd (omega arith)
 type-by numeral e = absurd (omega arith)
 type-by quoted e = absurd (omega arith)
+type-by floating e = absurd (omega arith)
 type-by other e = absurd (omega arith)
 type-by (kind-word k) e = absurd (omega arith)
 type-by (type-word k) e = refl
@@ -197,6 +202,7 @@ unfolding classOf itemOf code is-byte
 sort-sign x (WordToken c) a n m = absurd (no-sign x (getD words c other) (word-low c) m)
 sort-sign x (Number b p) a n m = absurd (no-sign x numeral (omega arith) m)
 sort-sign x String a n m = absurd (no-sign x quoted (omega arith) m)
+sort-sign x (Float b p e) a n m = absurd (no-sign x floating (omega arith) m)
 sort-sign x (Punctuator b) a n m = sign-byte x b m
 
 sign-found : (x : Sign) (s : List ℕ) (p : ℕ) (t : Token) → StepTo s p t → matches (sg x) (t .class) ≡ true → SignAt s p (byte x) (t .place + t .length)

@@ -12,7 +12,7 @@ use Rattle.token.specs.Tokens.{stepAt}
 use Rattle.token.specs.declared.Cursor.{Cursor}
 use Rattle.token.specs.declared.Token.{Token as Lexeme}
 use Rattle.token.specs.declared.Sort.{Sort}
-use Rattle.token.specs.declared.Sort.the-variants.{Word as WordToken, Number, String, Punctuator}
+use Rattle.token.specs.declared.Sort.the-variants.{Word as WordToken, Number, String, Punctuator, Float}
 use Rattle.token.specs.declared.Step.the-variants.{Found, Refused, End}
 use Rattle.grammar.specs.Grammar.{Integer, UINT32, INT32, UINT64, INT64}
 use Rattle.meaning.specs.Syntax.{Num}
@@ -40,6 +40,10 @@ module _ (k : Sort) (a n : ℕ) where
   pub item-sign : (b : ℕ) → k ≡ Punctuator b → record { number = record { negative = false; amount = 0 }; sign = b; at = a; next = n } ≡ itemOf k a n
   unfolding itemOf
   item-sign b e = sym (ap (λ (j : Sort). itemOf j a n) e)
+
+  pub item-float : (b : Bool) (m e : ℕ) → k ≡ Float b m e → record { number = record { negative = false; amount = 0 }; sign = 0; at = a; next = n } ≡ itemOf k a n
+  unfolding itemOf
+  item-float b m e q = sym (ap (λ (j : Sort). itemOf j a n) q)
 
 module _ (s : List ℕ) (p : ℕ) where
   pub at-found : (t : Lexeme) (c : Cursor) (r : Item) → stepAt s p ≡ Found t c → r ≡ itemOf (t .sort) (t .at) (c .at) → r ≡ itemAt s p

@@ -4,16 +4,16 @@ use mathlib.Core.List.{List, [], _∷_, _++_, append-assoc}
 use mathlib.Core.Bool.{true}
 use Prim.Native.Nat.{ℕ, suc, _+_, _<_}
 use native.Mathlib.Omega.{arith}
-use Rattle.grammar.specs.Grammar.{Token, tokens, matches, sg, rsquare, lsquare, dots, comma, STRING, BOOLEAN, ENUM, Rule, Form, _▸_, ∎, _⟶_, Trees, nil, leaf, node, file, version, implementation, specs, spec, definitions, definition, attribute, D, P, auto, mark, integer-range, numbers, boolean-range, enumerator, enumerators, application, objects, object, block, statements, statement, default, own, file-is, version-is, implementation-is, no-spec, a-spec, spec-is, no-definition, a-definition, an-attribute, a-reference, an-integer, a-string, a-boolean, an-enum, reference-is, no-D, a-D, no-P, a-P, no-auto, with-auto, no-mark, a-mark, no-range, a-range, a-list, no-number, a-number, no-boolean-range, a-boolean-range, enumerator-is, no-enumerator, an-enumerator, no-default, a-default, own-auto, own-none, own-number, own-string, own-true, own-false, own-name, application-is, no-object, an-object, an-object-alone, an-object-with, no-block, a-block, no-statement, a-statement, statement-is, value-number, value-string, value-auto, value-name, value-true, value-false, reference as reference-rule, value as value-rule}
+use Rattle.grammar.specs.Grammar.{Token, tokens, matches, sg, rsquare, lsquare, dots, comma, STRING, BOOLEAN, ENUM, FLOAT, Rule, Form, _▸_, ∎, _⟶_, Trees, nil, leaf, node, file, version, implementation, specs, spec, definitions, definition, attribute, D, P, auto, mark, integer-range, numbers, boolean-range, float-range, enumerator, enumerators, application, objects, object, block, statements, statement, default, own, file-is, version-is, implementation-is, no-spec, a-spec, spec-is, no-definition, a-definition, an-attribute, a-reference, an-integer, a-string, a-boolean, an-enum, a-float, reference-is, no-D, a-D, no-P, a-P, no-auto, with-auto, no-mark, a-mark, no-range, a-range, a-list, no-number, a-number, no-boolean-range, no-float-range, a-boolean-range, a-float-range, enumerator-is, no-enumerator, an-enumerator, no-default, a-default, own-auto, own-none, own-number, own-string, own-true, own-false, own-name, own-float, application-is, no-object, an-object, an-object-alone, an-object-with, no-block, a-block, no-statement, a-statement, statement-is, value-number, value-string, value-float, value-auto, value-name, value-true, value-false, reference as reference-rule, value as value-rule}
 use Rattle.meaning.specs.Actions.{M, word-of, kind-of, integer-of, first-value, truths, defined, defining, specifying, means, meaning, syntax}
 use Rattle.meaning.specs.Syntax.{Word, absent, through, from-to, one-of, Defined, Spec}
 use Rattle.layout.specs.Kept.{code-of, given-number}
 use Rattle.scopes.specs.Situations.{ReadAt}
 use Rattle.scopes.specs.Items.{itemAt}
-use Rattle.scopes.specs.Ranges.{SignAt, Listed, listed-none, listed-more, RangeAt, range-none, range-two, range-list}
+use Rattle.scopes.specs.Ranges.{SignAt, Listed, listed-none, listed-more, RangeAt, FloatsAt, range-none, floats-none, range-two, floats-two, range-list}
 use Rattle.scopes.specs.Forms.{Truths, no-truths, both-truths, at-least-one, Formed, AllFormed, none-formed, more-formed, AllFormedUnder, none-under, more-under}
 use Rattle.scopes.specs.Forms as forms
-use Rattle.scopes.proofs.Chains.{StepTo, Chain, step-on, step-self, step-number, step-read, chain-front, chain-back}
+use Rattle.scopes.proofs.Chains.{StepTo, Chain, step-on, step-self, step-number, step-float, step-read, chain-front, chain-back}
 use Rattle.scopes.proofs.Coding.{given-is, integer-is, type-is, lsquare-at, rsquare-at, dots-at, comma-at}
 
 abbrev pub FormedSpecs : List ℕ → List Spec → Type 0
@@ -42,6 +42,7 @@ W s P g l = (n e : ℕ) → AllFormed s (g n e)
 W s auto m l = Unit {0}
 W s mark m l = Unit {0}
 W s integer-range r l = (p : ℕ) → 0 < p → Chain s p l → RangeAt s (r .span .place) (r .bounds)
+W s float-range r l = (p : ℕ) → 0 < p → Chain s p l → FloatsAt s (r .span .place) (r .bounds)
 W s numbers ws l = (p : ℕ) (c : Token) → matches (sg rsquare) (c .class) ≡ true → Chain s p (l ++ (c ∷ [])) → Listed s p ws × (itemAt s p .sign ≡ 46 → ⊥)
 W s boolean-range g l = (n e : ℕ) → Truths (g n e .values) × AllFormedUnder s (g n e .values)
 W s enumerator g l = (n e : ℕ) → AllFormed s (g n e .under)
@@ -76,6 +77,13 @@ range-of-two s p o a t b c h k m n =
     let x = self s p o h (k .0) in
     range-two (x .0) (lsquare-at s (o .place) o (x .1) m) (step-number s (o .place + o .length) a (k .1 .0))
     (dots-at s (a .place + a .length) t (k .1 .1 .0) n) (step-number s (t .place + t .length) b (k .1 .1 .1 .0))
+
+floats-of-two : (s : List ℕ) (p : ℕ) (o a t b c : Token) → 0 < p → Chain s p (o ∷ a ∷ t ∷ b ∷ c ∷ []) → matches (sg lsquare) (o .class) ≡ true
+    → matches (sg dots) (t .class) ≡ true → FloatsAt s (o .place) (from-to (word-of s a) (word-of s b))
+floats-of-two s p o a t b c h k m n =
+    let x = self s p o h (k .0) in
+    floats-two (x .0) (lsquare-at s (o .place) o (x .1) m) (step-float s (o .place + o .length) a (k .1 .0))
+    (dots-at s (a .place + a .length) t (k .1 .1 .0) n) (step-float s (t .place + t .length) b (k .1 .1 .1 .0))
 
 range-of-list : (s : List ℕ) (p : ℕ) (o a : Token) (l : List Token) (ws : List Word) → 0 < p → Chain s p (o ∷ a ∷ l) → matches (sg lsquare) (o .class) ≡ true
     → (Listed s (a .place + a .length) ws × (itemAt s (a .place + a .length) .sign ≡ 46 → ⊥)) → RangeAt s (o .place) (one-of (word-of s a ∷ ws))
@@ -124,6 +132,9 @@ means-formed s a-reference (node _ x nil) h q c = λ n e. h .0 n e
 means-formed s an-integer (leaf t m (node _ a (node _ r (leaf x _ (node _ k (node _ d b)))))) h q c = λ n e.
     let i = inside s q t (tokens a) (tokens r) (x ∷ (tokens k ++ (tokens d ++ tokens b))) c in
     record { formed = forms.an-integer (integer-of (t .class)) refl (integer-is (t .class) m) (h .1 .0 (i .from) (i .later) (i .chain)); typed = step-read s q t (c .0); under = none-under }
+means-formed s a-float (leaf t m (node _ a (node _ r (leaf x _ (node _ k (node _ d b)))))) h q c = λ n e.
+    let i = inside s q t (tokens a) (tokens r) (x ∷ (tokens k ++ (tokens d ++ tokens b))) c in
+    record { formed = forms.a-float refl (given-is FLOAT (t .class) m) (h .1 .0 (i .from) (i .later) (i .chain)); typed = step-read s q t (c .0); under = none-under }
 means-formed s a-string (leaf t m (node _ a (leaf x _ (node _ k (node _ d b))))) h q c = λ n e.
     record { formed = forms.a-string refl (given-is STRING (t .class) m) refl; typed = step-read s q t (c .0); under = none-under }
 means-formed s a-boolean (leaf t m (node _ a (node _ r (leaf x _ (node _ k (node _ d b)))))) h q c = λ n e.
@@ -141,7 +152,9 @@ means-formed s with-auto us h q c = tt
 means-formed s no-mark us h q c = tt
 means-formed s a-mark us h q c = tt
 means-formed s no-range nil h q c = λ p l k. range-none refl
+means-formed s no-float-range nil h q c = λ p l k. floats-none refl
 means-formed s a-range (leaf o m (leaf a _ (leaf t n (leaf b _ (leaf z _ nil))))) h q c = λ p l k. range-of-two s p o a t b z l k m n
+means-formed s a-float-range (leaf o m (leaf a _ (leaf t n (leaf b _ (leaf z _ nil))))) h q c = λ p l k. floats-of-two s p o a t b z l k m n
 means-formed s a-list (leaf o m (leaf a _ (node _ ns (leaf z n nil)))) h q c = λ p l k.
     range-of-list s p o a (tokens ns ++ (z ∷ [])) _ l k m (h .0 (a .place + a .length) z n (k .1 .1))
 means-formed s no-number nil h q c = λ p z n k. no-numbers s p z n k
@@ -160,6 +173,7 @@ means-formed s own-auto us h q c = tt
 means-formed s own-none us h q c = tt
 means-formed s own-number us h q c = tt
 means-formed s own-string us h q c = tt
+means-formed s own-float us h q c = tt
 means-formed s own-true us h q c = tt
 means-formed s own-false us h q c = tt
 means-formed s own-name us h q c = tt
@@ -175,6 +189,7 @@ means-formed s a-statement us h q c = tt
 means-formed s statement-is us h q c = tt
 means-formed s value-number us h q c = tt
 means-formed s value-string us h q c = tt
+means-formed s value-float us h q c = tt
 means-formed s value-auto us h q c = tt
 means-formed s value-name us h q c = tt
 means-formed s value-true us h q c = tt

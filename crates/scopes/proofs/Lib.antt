@@ -12,3 +12,4 @@ pub mod Sorts
 pub mod Taking
 pub mod Ranging
 pub mod Firsts
+pub mod Floating

@@ -366,7 +366,7 @@ module _ (i : Integer) (a b : Word) (l : a .place < b .place) where
   unfolding outside
   high-fault t e = ap (λ c. first (fault-if (not c) b 21 ++ [])) e ∙ ap first (append-nil (fault-if (not t) b 21))
 
-fault-if-is : (t : Bool) (w : Word) (p : ℕ) → p ≡ w .place → faultIf t 21 p ≡ fault-of (first (fault-if t w 21))
+pub fault-if-is : (t : Bool) (w : Word) (p : ℕ) → p ≡ w .place → faultIf t 21 p ≡ fault-of (first (fault-if t w 21))
 unfolding faultIf fault-of first sooner fault-if
 fault-if-is true w p e = ap (λ (n : ℕ). record { number = 21; place = n }) e
 fault-if-is false w p e = refl

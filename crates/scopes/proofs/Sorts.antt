@@ -7,10 +7,10 @@ use lib.Dec.{eqb}
 use borrow.Author.Tests.{ne-eqb}
 use Rattle.meaning.specs.Cells.{integer-code}
 use Rattle.token.specs.Find.{pick}
-use Rattle.grammar.specs.Grammar.{Class, Kind, Integer, Given, Sign, ordinary, numeral, quoted, other, kind-word, type-word, integer-word, word, sign, UINT32, INT32, UINT64, INT64, OIL-VERSION, IMPLEMENTATION, CPU, STRING, BOOLEAN, ENUM, TRUE, FALSE, AUTO, NO-DEFAULT, WITH-AUTO, lbrace, rbrace, lsquare, rsquare, equals, semicolon, colon, comma, dots, given-code, sign-code, code}
+use Rattle.grammar.specs.Grammar.{Class, Kind, Integer, Given, Sign, ordinary, numeral, quoted, floating, other, kind-word, type-word, integer-word, word, sign, UINT32, INT32, UINT64, INT64, OIL-VERSION, IMPLEMENTATION, CPU, STRING, BOOLEAN, ENUM, FLOAT, TRUE, FALSE, AUTO, NO-DEFAULT, WITH-AUTO, lbrace, rbrace, lsquare, rsquare, equals, semicolon, colon, comma, dots, given-code, sign-code, code}
 use Rattle.grammar.specs.Grammar.{OS, APPMODE, TASK, ISR, COUNTER, ALARM, RESOURCE, EVENT, COM, MESSAGE, NETWORKMESSAGE, IPDU, NM}
 use Rattle.meaning.specs.Kinds.{kind-number}
-use Rattle.meaning.specs.Scopes.{Sort, a-number, a-string, a-truth, an-auto, a-no-default, a-name, sort-of, sort-of-word}
+use Rattle.meaning.specs.Scopes.{Sort, a-number, a-string, a-truth, an-auto, a-no-default, a-name, a-float, sort-of, sort-of-word}
 use Rattle.meaning.specs.Syntax.{Word}
 use Rattle.meaning.specs.Judging.{is-no-default, taken-by, taken}
 use Rattle.meaning.specs.Resolving.{is-true}
@@ -18,7 +18,7 @@ use Rattle.layout.specs.Kept.{class-number, given-number, sign-number, code-of}
 
 unfoldable pub sort-coded : ℕ → Sort
 sort-coded n =
-    pick (eqb n 42) a-number (pick (eqb n 43) a-string (pick (eqb n 1) a-truth (pick (eqb n 2) a-truth (pick (eqb n 3) an-auto (pick (eqb n 4) a-no-default a-name)))))
+    pick (eqb n 43) a-number (pick (eqb n 44) a-string (pick (eqb n 1) a-truth (pick (eqb n 2) a-truth (pick (eqb n 3) an-auto (pick (eqb n 4) a-no-default (pick (eqb n 54) a-float a-name))))))
 
 -- The sort and the truth that a code tells.
 pub record Tells (c : Class) : Type 0 where
@@ -72,6 +72,7 @@ tells-word CPU = record { sort = refl; truth = refl }
 tells-word STRING = record { sort = refl; truth = refl }
 tells-word BOOLEAN = record { sort = refl; truth = refl }
 tells-word ENUM = record { sort = refl; truth = refl }
+tells-word FLOAT = record { sort = refl; truth = refl }
 tells-word TRUE = record { sort = refl; truth = refl }
 tells-word FALSE = record { sort = refl; truth = refl }
 tells-word AUTO = record { sort = refl; truth = refl }
@@ -95,6 +96,7 @@ unfolding sort-of sort-coded class-number is-true code given-code
 tells ordinary = record { sort = refl; truth = refl }
 tells numeral = record { sort = refl; truth = refl }
 tells quoted = record { sort = refl; truth = refl }
+tells floating = record { sort = refl; truth = refl }
 tells other = record { sort = refl; truth = refl }
 tells (kind-word k) = tells-kind k
 tells (type-word k) = tells-type k
@@ -103,24 +105,25 @@ tells (word g) = tells-word g
 tells (sign x) = tells-sign x
 
 -- A code that is none of the others is a name's.
-pub name-coded : (n : ℕ) → (n ≡ 42 → ⊥) → (n ≡ 43 → ⊥) → (n ≡ 1 → ⊥) → (n ≡ 2 → ⊥) → (n ≡ 3 → ⊥) → (n ≡ 4 → ⊥) → sort-coded n ≡ a-name
+pub name-coded : (n : ℕ) → (n ≡ 43 → ⊥) → (n ≡ 44 → ⊥) → (n ≡ 1 → ⊥) → (n ≡ 2 → ⊥) → (n ≡ 3 → ⊥) → (n ≡ 4 → ⊥) → (n ≡ 54 → ⊥) → sort-coded n ≡ a-name
 unfolding sort-coded
-name-coded n a b c d e f = rw (ne-eqb n 42 a, ne-eqb n 43 b, ne-eqb n 1 c, ne-eqb n 2 d, ne-eqb n 3 e, ne-eqb n 4 f)
+name-coded n a b c d e f g = rw (ne-eqb n 43 a, ne-eqb n 44 b, ne-eqb n 1 c, ne-eqb n 2 d, ne-eqb n 3 e, ne-eqb n 4 f, ne-eqb n 54 g)
 
 -- Only the code 4 is that of NO_DEFAULT.
-pub other-coded : (P : Sort → Type 0) → P a-number → P a-string → P a-truth → P an-auto → P a-name → (n : ℕ) → (n ≡ 4 → ⊥) → P (sort-coded n)
+pub other-coded : (P : Sort → Type 0) → P a-number → P a-string → P a-truth → P an-auto → P a-name → P a-float → (n : ℕ) → (n ≡ 4 → ⊥) → P (sort-coded n)
 unfolding sort-coded
-other-coded P a b c d e n h =
-    subst (λ t. P (pick (eqb n 42) a-number (pick (eqb n 43) a-string (pick (eqb n 1) a-truth (pick (eqb n 2) a-truth (pick (eqb n 3) an-auto (pick t a-no-default a-name)))))))
-    (sym (ne-eqb n 4 h)) (by (eqb n 42) (eqb n 43) (eqb n 1) (eqb n 2) (eqb n 3))
+other-coded P a b c d e f n h =
+    subst (λ t. P (pick (eqb n 43) a-number (pick (eqb n 44) a-string (pick (eqb n 1) a-truth (pick (eqb n 2) a-truth (pick (eqb n 3) an-auto (pick t a-no-default (pick (eqb n 54) a-float a-name))))))))
+    (sym (ne-eqb n 4 h)) (by (eqb n 43) (eqb n 44) (eqb n 1) (eqb n 2) (eqb n 3) (eqb n 54))
   where
-    by : (p q r s t : Bool) → P (pick p a-number (pick q a-string (pick r a-truth (pick s a-truth (pick t an-auto a-name)))))
-    by true q r s t = a
-    by false true r s t = b
-    by false false true s t = c
-    by false false false true t = c
-    by false false false false true = d
-    by false false false false false = e
+    by : (p q r s t u : Bool) → P (pick p a-number (pick q a-string (pick r a-truth (pick s a-truth (pick t an-auto (pick u a-float a-name))))))
+    by true q r s t u = a
+    by false true r s t u = b
+    by false false true s t u = c
+    by false false false true t u = c
+    by false false false false true u = d
+    by false false false false false true = f
+    by false false false false false false = e
 
 -- NO_DEFAULT is not taken, any other default is.
 pub taken-none : (t : Word) → code-of t ≡ 4 → taken (some t) ≡ none
@@ -131,4 +134,4 @@ pub taken-some : (t : Word) → (code-of t ≡ 4 → ⊥) → taken (some t) ≡
 unfolding taken taken-by code-of is-no-default
 taken-some t h =
     ap (λ q. taken-by (is-no-default q) t) (tells (t .class) .sort)
-    ∙ other-coded (λ q. taken-by (is-no-default q) t ≡ some t) refl refl refl refl refl (class-number (t .class)) h
+    ∙ other-coded (λ q. taken-by (is-no-default q) t ≡ some t) refl refl refl refl refl refl (class-number (t .class)) h

@@ -19,18 +19,18 @@ use Rattle.rows.specs.declared.Found.the-variants.{At, Nothing}
 use Rattle.rows.specs.Search.{findNamed, isFound}
 use Rattle.meaning.specs.Faults.{first}
 use Rattle.meaning.specs.Syntax.{Num, Word, AttributeType, boolean, Definition, Values, no-value, value, Defined, File, is-enum}
-use Rattle.meaning.specs.Actions.{num-of-step}
-use Rattle.meaning.specs.Words.{alike, in-type, in-bounds}
-use Rattle.meaning.specs.Scopes.{Under, find-value, Sort, a-number, a-truth, an-auto, a-no-default, a-name, is-string, is-boolean, fits-number, fits-as, fits, a-string as string-sort}
-use Rattle.meaning.specs.Defining.{range-faults, bound-faults}
+use Rattle.meaning.specs.Actions.{num-of-step, float-of-step}
+use Rattle.meaning.specs.Words.{alike, in-type, in-bounds, in-float-bounds}
+use Rattle.meaning.specs.Scopes.{Under, find-value, Sort, a-number, a-truth, an-auto, a-no-default, a-name, a-float as float-sort, is-string, is-boolean, fits-number, fits-float, fits-as, fits, a-string as string-sort}
+use Rattle.meaning.specs.Defining.{range-faults, bound-faults, low-faults}
 use Rattle.meaning.proofs.Sites.{value-words, definition-words}
 use Rattle.layout.specs.Kept.{Entry, list-key, truth-cells, default-code, definition-cells, code-of, kept-definitions}
 use Rattle.layout.proofs.Codes.{kind-low, integer-low}
 use Rattle.scopes.specs.Items.{integer-coded}
 use Rattle.scopes.specs.Situations.{Situation, RowOf}
-use Rattle.scopes.specs.Ranges.{RangeAt}
-use Rattle.scopes.specs.Forms.{Truths, no-truths, both-truths, Formed, an-integer, a-string, a-boolean, an-enum, a-reference}
-use Rattle.scopes.specs.Promises.{fault-of, InRange, BoundFault, number-found, place-found, FindsEnumerator, FindsWord, FindsTruth, TakesNumber, TakesUnder, TakesWord, RangeFault}
+use Rattle.scopes.specs.Ranges.{RangeAt, FloatsAt}
+use Rattle.scopes.specs.Forms.{Truths, no-truths, both-truths, Formed, an-integer, a-string, a-boolean, an-enum, a-float, a-reference}
+use Rattle.scopes.specs.Promises.{fault-of, InRange, InFloats, BoundFault, LowFault, number-found, place-found, FindsEnumerator, FindsWord, FindsTruth, TakesNumber, TakesFloat, TakesUnder, TakesWord, RangeFault}
 use Rattle.scopes.proofs.Goodness.{Good, Goods, good-back}
 use Rattle.scopes.proofs.Rooms.{definition-cell}
 use Rattle.scopes.proofs.Descents.{nth-in, entry-facts, DefinitionFacts, found-value, value-word}
@@ -88,6 +88,7 @@ module _ {s : List ℕ} {d : Definition} where
   pub coded-boolean : {vs : Values} → Formed s d vs → code-of (d .word) ≡ 40 → d .type ≡ boolean
   coded-boolean (an-integer i t c r) e = let a = integer-low i in absurd (omega arith)
   coded-boolean (a-string t c b) e = absurd (omega arith)
+  coded-boolean (a-float t c g) e = absurd (omega arith)
   coded-boolean (a-boolean t c b v) e = t
   coded-boolean (an-enum t c b v) e = absurd (omega arith)
   coded-boolean (a-reference k t c b) e = let a = kind-low k in absurd (omega arith)
@@ -96,6 +97,7 @@ module _ {s : List ℕ} {d : Definition} where
   unfolding is-enum
   coded-enum (an-integer i t c r) e = let a = integer-low i in absurd (omega arith)
   coded-enum (a-string t c b) e = absurd (omega arith)
+  coded-enum (a-float t c g) e = absurd (omega arith)
   coded-enum (a-boolean t c b v) e = absurd (omega arith)
   coded-enum (an-enum t c b v) e = ap is-enum t
   coded-enum (a-reference k t c b) e = let a = kind-low k in absurd (omega arith)
@@ -104,6 +106,7 @@ module _ {s : List ℕ} {d : Definition} where
   unfolding is-enum
   coded-other (an-integer i t c r) e = ap is-enum t
   coded-other (a-string t c b) e = ap is-enum t
+  coded-other (a-float t c g) e = ap is-enum t
   coded-other (a-boolean t c b v) e = ap is-enum t
   coded-other (an-enum t c b v) e = absurd (e c)
   coded-other (a-reference k t c b) e = ap is-enum t
@@ -111,6 +114,7 @@ module _ {s : List ℕ} {d : Definition} where
   coded-none : {vs : Values} → Formed s d vs → (code-of (d .word) ≡ 40 → ⊥) → (code-of (d .word) ≡ 41 → ⊥) → vs ≡ no-value
   coded-none (an-integer i t c r) e g = refl
   coded-none (a-string t c b) e g = refl
+  coded-none (a-float t c y) e g = refl
   coded-none (a-boolean t c b v) e g = absurd (e c)
   coded-none (an-enum t c b v) e g = absurd (g c)
   coded-none (a-reference k t c b) e g = refl
@@ -121,12 +125,14 @@ module _ {s : List ℕ} {d : Definition} where
   string-test (a-string t c b) = eq-eqb (code-of (d .word)) 39 c ∙ sym (ap is-string t)
   string-test (a-boolean t c b v) = ne-eqb (code-of (d .word)) 39 (λ e. omega arith) ∙ sym (ap is-string t)
   string-test (an-enum t c b v) = ne-eqb (code-of (d .word)) 39 (λ e. omega arith) ∙ sym (ap is-string t)
+  string-test (a-float t c g) = ne-eqb (code-of (d .word)) 39 (λ e. omega arith) ∙ sym (ap is-string t)
   string-test (a-reference k t c b) = let a = kind-low k in ne-eqb (code-of (d .word)) 39 (λ e. omega arith) ∙ sym (ap is-string t)
 
   boolean-test : {vs : Values} → Formed s d vs → eqb (code-of (d .word)) 40 ≡ is-boolean (d .type)
   unfolding is-boolean
   boolean-test (an-integer i t c r) = let a = integer-low i in ne-eqb (code-of (d .word)) 40 (λ e. omega arith) ∙ sym (ap is-boolean t)
   boolean-test (a-string t c b) = ne-eqb (code-of (d .word)) 40 (λ e. omega arith) ∙ sym (ap is-boolean t)
+  boolean-test (a-float t c g) = ne-eqb (code-of (d .word)) 40 (λ e. omega arith) ∙ sym (ap is-boolean t)
   boolean-test (a-boolean t c b v) = eq-eqb (code-of (d .word)) 40 c ∙ sym (ap is-boolean t)
   boolean-test (an-enum t c b v) = ne-eqb (code-of (d .word)) 40 (λ e. omega arith) ∙ sym (ap is-boolean t)
   boolean-test (a-reference k t c b) = let a = kind-low k in ne-eqb (code-of (d .word)) 40 (λ e. omega arith) ∙ sym (ap is-boolean t)
@@ -135,6 +141,7 @@ module _ {s : List ℕ} {d : Definition} where
   unfolding is-boolean
   the-truths (an-integer i t c r) e = absurd (false≢true (sym (ap is-boolean t) ∙ ap is-boolean e))
   the-truths (a-string t c b) e = absurd (false≢true (sym (ap is-boolean t) ∙ ap is-boolean e))
+  the-truths (a-float t c g) e = absurd (false≢true (sym (ap is-boolean t) ∙ ap is-boolean e))
   the-truths (a-boolean t c b v) e = v
   the-truths (an-enum t c b v) e = absurd (false≢true (sym (ap is-boolean t) ∙ ap is-boolean e))
   the-truths (a-reference k t c b) e = absurd (false≢true (sym (ap is-boolean t) ∙ ap is-boolean e))
@@ -246,6 +253,7 @@ module _ {s : List ℕ} {d : Definition} (n : Num) where
   unfolding fits-number
   fits-below (an-integer i t c r) h = let a = integer-low i in absurd (omega arith)
   fits-below (a-string t c b) h = absurd (omega arith)
+  fits-below (a-float t c g) h = absurd (omega arith)
   fits-below (a-boolean t c b v) h = absurd (omega arith)
   fits-below (an-enum t c b v) h = absurd (omega arith)
   fits-below (a-reference k t c b) h = sym (ap (λ y. fits-number y (d .bounds) n) t)
@@ -254,6 +262,7 @@ module _ {s : List ℕ} {d : Definition} (n : Num) where
   unfolding fits-number
   fits-above (an-integer i t c r) h = let a = integer-low i in absurd (omega arith)
   fits-above (a-string t c b) h = sym (ap (λ y. fits-number y (d .bounds) n) t)
+  fits-above (a-float t c g) h = sym (ap (λ y. fits-number y (d .bounds) n) t)
   fits-above (a-boolean t c b v) h = sym (ap (λ y. fits-number y (d .bounds) n) t)
   fits-above (an-enum t c b v) h = sym (ap (λ y. fits-number y (d .bounds) n) t)
   fits-above (a-reference k t c b) h = sym (ap (λ y. fits-number y (d .bounds) n) t)
@@ -264,6 +273,7 @@ module _ {s : List ℕ} {d : Definition} (n : Num) where
   fits-between (an-integer i t c g) h l r k =
       k g ∙ ap (λ y. both (in-type y n) (in-bounds n (d .bounds))) (ap integer-coded c ∙ coded i) ∙ sym (ap (λ y. fits-number y (d .bounds) n) t)
   fits-between (a-string t c b) h l r k = absurd (omega arith)
+  fits-between (a-float t c g) h l r k = absurd (omega arith)
   fits-between (a-boolean t c b v) h l r k = absurd (omega arith)
   fits-between (an-enum t c b v) h l r k = absurd (omega arith)
   fits-between (a-reference z t c b) h l r k = let a = kind-low z in absurd (omega arith)
@@ -292,6 +302,39 @@ module _ (s d : List ℕ) (j at c : ℕ) (h : c ≡ getD d (j * 19 + 12) 0) wher
         fits-between (num-of-step (stepAt s at)) (row-facts st row .formed) (omega arith) (omega arith) false
         (λ w. sym (ap (λ b. both b (in-bounds (num-of-step (stepAt s at)) (x .definition .bounds))) (sym (ap₂ (λ a m. in-type (integer-coded a) m) z y) ∙ sym k ∙ u)))
 
+-- Floats ------------------------------------------------------------------------------------------------------------------------------------
+
+module _ {s : List ℕ} {d : Definition} (n : Num) where
+  float-other : {vs : Values} → Formed s d vs → (code-of (d .word) ≡ 42 → ⊥) → false ≡ fits-float (d .type) (d .bounds) n
+  unfolding fits-float
+  float-other (an-integer i t c r) h = sym (ap (λ y. fits-float y (d .bounds) n) t)
+  float-other (a-string t c b) h = sym (ap (λ y. fits-float y (d .bounds) n) t)
+  float-other (a-boolean t c b v) h = sym (ap (λ y. fits-float y (d .bounds) n) t)
+  float-other (an-enum t c b v) h = sym (ap (λ y. fits-float y (d .bounds) n) t)
+  float-other (a-float t c g) h = absurd (h c)
+  float-other (a-reference k t c b) h = sym (ap (λ y. fits-float y (d .bounds) n) t)
+
+  float-is : {vs : Values} → Formed s d vs → code-of (d .word) ≡ 42 → (r : Bool) → (FloatsAt s (d .range .place) (d .bounds) → r ≡ in-float-bounds n (d .bounds))
+      → r ≡ fits-float (d .type) (d .bounds) n
+  unfolding fits-float
+  float-is (an-integer i t c g) h r k = let a = integer-low i in absurd (omega arith)
+  float-is (a-string t c b) h r k = absurd (omega arith)
+  float-is (a-boolean t c b v) h r k = absurd (omega arith)
+  float-is (an-enum t c b v) h r k = absurd (omega arith)
+  float-is (a-float t c g) h r k = k g ∙ sym (ap (λ y. fits-float y (d .bounds) n) t)
+  float-is (a-reference z t c b) h r k = let a = kind-low z in absurd (omega arith)
+
+module _ (s d : List ℕ) (j at c : ℕ) (h : c ≡ getD d (j * 19 + 12) 0) where
+  pub float-none : (c ≡ 42 → ⊥) → TakesFloat s d j at false
+  float-none k f x st hd row l =
+      float-other (float-of-step (stepAt s at)) (row-facts st row .formed) (λ e. k (h ∙ code-cell f d j x hd row l ∙ e))
+
+  pub float-in : c ≡ 42 → (n : Num) → n ≡ float-of-step (stepAt s at) → (p : ℕ) (r : Bool) → p ≡ getD d (j * 19 + 8) 0 → InFloats s p n r → TakesFloat s d j at r
+  float-in k n y p r q g f x st hd row l =
+      float-is (float-of-step (stepAt s at)) (row-facts st row .formed) (sym (h ∙ code-cell f d j x hd row l) ∙ k) r
+      (λ w. g (x .definition .bounds) (subst (λ a. FloatsAt s a (x .definition .bounds)) (sym (q ∙ range-cell f d j x hd row l)) w)
+      ∙ ap (λ m. in-float-bounds m (x .definition .bounds)) y)
+
 -- Words -------------------------------------------------------------------------------------------------------------------------------------
 
 of-sort : (x : Definition) (vs : Values) (t : Word) (code : ℕ) (k : Sort) (r : Bool) → code-of t ≡ code → sort-coded code ≡ k → r ≡ fits-as k x vs t → r ≡ fits x vs t
@@ -303,52 +346,57 @@ unfolding bit
 bit-test true n e = eq-eqb n 1 e
 bit-test false n e = ne-eqb n 1 (λ z. omega arith)
 
-pub takes-42 : (s d : List ℕ) (j at code u : ℕ) (r : Bool) → code ≡ 42 → TakesNumber s d j at r → TakesUnder s d j at code u r
+pub takes-numeral : (s d : List ℕ) (j at code u : ℕ) (r : Bool) → code ≡ 43 → TakesNumber s d j at r → TakesUnder s d j at code u r
 unfolding fits-as sort-coded
-takes-42 s d j at code u r k g e m len w f x t st hd he row l rch rd c =
+takes-numeral s d j at code u r k g e m len w f x t st hd he row l rch rd c =
     of-sort (x .definition) (x .values) t code a-number r c (rw k) (g f x st hd row l ∙ ap (fits-number (x .definition .type) (x .definition .bounds)) (sym (rd .number)))
+
+pub takes-floating : (s d : List ℕ) (j at code u : ℕ) (r : Bool) → code ≡ 54 → TakesFloat s d j at r → TakesUnder s d j at code u r
+unfolding fits-as sort-coded
+takes-floating s d j at code u r k g e m len w f x t st hd he row l rch rd c =
+    of-sort (x .definition) (x .values) t code float-sort r c (rw k) (g f x st hd row l ∙ ap (fits-float (x .definition .type) (x .definition .bounds)) (sym (rd .float)))
 
 module _ (d : List ℕ) (j code u : ℕ) where
   pub takes-3 : (a : ℕ) → code ≡ 3 → a ≡ getD d (j * 19 + 7) 0 → TakesWord d j code u (eqb a 1)
   unfolding fits-as sort-coded
-  takes-3 a k h n₁ s at e m len w f x t st hd he row l rch rd c =
+  takes-3 a k h n₁ n₀ s at e m len w f x t st hd he row l rch rd c =
       of-sort (x .definition) (x .values) t code an-auto (eqb a 1) c (rw k) (bit-test (x .definition .auto) a (h ∙ auto-cell f d j x hd row l))
 
   pub takes-4 : code ≡ 4 → TakesWord d j code u false
   unfolding fits-as sort-coded
-  takes-4 k n₁ s at e m len w f x t st hd he row l rch rd c = of-sort (x .definition) (x .values) t code a-no-default false c (rw k) refl
+  takes-4 k n₁ n₀ s at e m len w f x t st hd he row l rch rd c = of-sort (x .definition) (x .values) t code a-no-default false c (rw k) refl
 
   module _ (y : ℕ) (h : y ≡ getD d (j * 19 + 12) 0) where
-    pub takes-43 : code ≡ 43 → TakesWord d j code u (eqb y 39)
+    pub takes-quoted : code ≡ 44 → TakesWord d j code u (eqb y 39)
     unfolding fits-as sort-coded
-    takes-43 k n₁ s at e m len w f x t st hd he row l rch rd c =
+    takes-quoted k n₁ n₀ s at e m len w f x t st hd he row l rch rd c =
         of-sort (x .definition) (x .values) t code string-sort (eqb y 39) c (rw k) (ap (λ n. eqb n 39) (h ∙ code-cell f d j x hd row l) ∙ string-test (row-facts st row .formed))
 
     pub takes-1 : code ≡ 1 → TakesWord d j code u (eqb y 40)
     unfolding fits-as sort-coded
-    takes-1 k n₁ s at e m len w f x t st hd he row l rch rd c =
+    takes-1 k n₁ n₀ s at e m len w f x t st hd he row l rch rd c =
         of-sort (x .definition) (x .values) t code a-truth (eqb y 40) c (rw k) (ap (λ n. eqb n 40) (h ∙ code-cell f d j x hd row l) ∙ boolean-test (row-facts st row .formed))
 
     pub takes-2 : code ≡ 2 → TakesWord d j code u (eqb y 40)
     unfolding fits-as sort-coded
-    takes-2 k n₁ s at e m len w f x t st hd he row l rch rd c =
+    takes-2 k n₁ n₀ s at e m len w f x t st hd he row l rch rd c =
         of-sort (x .definition) (x .values) t code a-truth (eqb y 40) c (rw k) (ap (λ n. eqb n 40) (h ∙ code-cell f d j x hd row l) ∙ boolean-test (row-facts st row .formed))
 
-    module _ (n₂ : code ≡ 3 → ⊥) (n₃ : code ≡ 4 → ⊥) (n₄ : code ≡ 43 → ⊥) (n₅ : code ≡ 1 → ⊥) (n₆ : code ≡ 2 → ⊥) where
-      name-sort : (code ≡ 42 → ⊥) → sort-coded code ≡ a-name
-      name-sort n₁ = name-coded code n₁ n₄ n₅ n₆ n₂ n₃
+    module _ (n₂ : code ≡ 3 → ⊥) (n₃ : code ≡ 4 → ⊥) (n₄ : code ≡ 44 → ⊥) (n₅ : code ≡ 1 → ⊥) (n₆ : code ≡ 2 → ⊥) where
+      name-sort : (code ≡ 43 → ⊥) → (code ≡ 54 → ⊥) → sort-coded code ≡ a-name
+      name-sort n₁ n₀ = name-coded code n₁ n₄ n₅ n₆ n₂ n₃ n₀
 
       pub takes-other : (y ≡ 41 → ⊥) → TakesWord d j code u false
       unfolding fits-as
-      takes-other k n₁ s at e m len w f x t st hd he row l rch rd c =
-          of-sort (x .definition) (x .values) t code a-name false c (name-sort n₁)
+      takes-other k n₁ n₀ s at e m len w f x t st hd he row l rch rd c =
+          of-sort (x .definition) (x .values) t code a-name false c (name-sort n₁ n₀)
           (sym (ap (λ b. both b (is-there (find-value (x .values) t))) (coded-other (row-facts st row .formed) (λ z. k (h ∙ code-cell f d j x hd row l ∙ z)))))
 
       pub takes-name : y ≡ 41 → TakesWord d j code u (not (eqb u 0))
       unfolding fits-as place-found is-there
-      takes-name k n₁ s at e m len w f x t st hd he row l rch rd c =
+      takes-name k n₁ n₀ s at e m len w f x t st hd he row l rch rd c =
           let a = row-facts st row in
-          of-sort (x .definition) (x .values) t code a-name (not (eqb u 0)) c (name-sort n₁)
+          of-sort (x .definition) (x .values) t code a-name (not (eqb u 0)) c (name-sort n₁ n₀)
           (by (find-value (x .values) t) refl (w f x t st hd he row l rch (rd .bytes)) (λ v p. value-word (found-value (x .values) t p) (a .values .good) .later)
           ∙ sym (ap (λ b. both b (is-there (find-value (x .values) t))) (coded-enum (a .formed) (sym (h ∙ code-cell f d j x hd row l) ∙ k))))
         where
@@ -359,13 +407,14 @@ module _ (d : List ℕ) (j code u : ℕ) where
 -- 21 at the bounds --------------------------------------------------------------------------------------------------------------------------
 
 module _ {s : List ℕ} {d : Definition} where
-  no-range : {vs : Values} → Formed s d vs → ((i : Integer) → code-of (d .word) ≡ integer-code i → ⊥) → range-faults (d .type) (d .bounds) ≡ []
+  no-range : {vs : Values} → Formed s d vs → ((i : Integer) → code-of (d .word) ≡ integer-code i → ⊥) → (code-of (d .word) ≡ 42 → ⊥) → range-faults (d .type) (d .bounds) ≡ []
   unfolding range-faults
-  no-range (an-integer i t c r) h = absurd (h i c)
-  no-range (a-string t c b) h = ap (λ y. range-faults y (d .bounds)) t
-  no-range (a-boolean t c b v) h = ap (λ y. range-faults y (d .bounds)) t
-  no-range (an-enum t c b v) h = ap (λ y. range-faults y (d .bounds)) t
-  no-range (a-reference k t c b) h = ap (λ y. range-faults y (d .bounds)) t
+  no-range (an-integer i t c r) h g = absurd (h i c)
+  no-range (a-float t c r) h g = absurd (g c)
+  no-range (a-string t c b) h g = ap (λ y. range-faults y (d .bounds)) t
+  no-range (a-boolean t c b v) h g = ap (λ y. range-faults y (d .bounds)) t
+  no-range (an-enum t c b v) h g = ap (λ y. range-faults y (d .bounds)) t
+  no-range (a-reference k t c b) h g = ap (λ y. range-faults y (d .bounds)) t
 
   a-range : {vs : Values} → Formed s d vs → 35 ≤ code-of (d .word) → code-of (d .word) ≤ 38 → (r : Fault)
       → (RangeAt s (d .range .place) (d .bounds) → r ≡ fault-of (first (bound-faults (integer-coded (code-of (d .word))) (d .bounds)))) → r ≡ fault-of (first (range-faults (d .type) (d .bounds)))
@@ -373,22 +422,39 @@ module _ {s : List ℕ} {d : Definition} where
   a-range (an-integer i t c g) h l r k =
       k g ∙ ap (λ y. fault-of (first (bound-faults y (d .bounds)))) (ap integer-coded c ∙ coded i) ∙ sym (ap (λ y. fault-of (first (range-faults y (d .bounds)))) t)
   a-range (a-string t c b) h l r k = absurd (omega arith)
+  a-range (a-float t c g) h l r k = absurd (omega arith)
   a-range (a-boolean t c b v) h l r k = absurd (omega arith)
   a-range (an-enum t c b v) h l r k = absurd (omega arith)
   a-range (a-reference z t c b) h l r k = let a = kind-low z in absurd (omega arith)
+
+  floats-range : {vs : Values} → Formed s d vs → code-of (d .word) ≡ 42 → (r : Fault)
+      → (FloatsAt s (d .range .place) (d .bounds) → r ≡ fault-of (first (low-faults (d .bounds)))) → r ≡ fault-of (first (range-faults (d .type) (d .bounds)))
+  unfolding range-faults
+  floats-range (an-integer i t c g) h r k = let a = integer-low i in absurd (omega arith)
+  floats-range (a-string t c b) h r k = absurd (omega arith)
+  floats-range (a-boolean t c b v) h r k = absurd (omega arith)
+  floats-range (an-enum t c b v) h r k = absurd (omega arith)
+  floats-range (a-float t c g) h r k = k g ∙ sym (ap (λ y. fault-of (first (range-faults y (d .bounds)))) t)
+  floats-range (a-reference z t c b) h r k = let a = kind-low z in absurd (omega arith)
 
 module _ (s d : List ℕ) (j c : ℕ) (h : c ≡ getD d (j * 19 + 12) 0) where
   pub range-below : c < 35 → RangeFault s d j (record { number = 0; place = 0 })
   unfolding first fault-of
   range-below k f x st hd row l =
       let z = h ∙ code-cell f d j x hd row l in
-      sym (ap (λ y. fault-of (first y)) (no-range (row-facts st row .formed) (λ i e. let a = integer-low i in omega arith)))
+      sym (ap (λ y. fault-of (first y)) (no-range (row-facts st row .formed) (λ i e. let a = integer-low i in omega arith) (λ e. omega arith)))
 
-  pub range-above : 38 < c → RangeFault s d j (record { number = 0; place = 0 })
+  pub range-above : 38 < c → (c ≡ 42 → ⊥) → RangeFault s d j (record { number = 0; place = 0 })
   unfolding first fault-of
-  range-above k f x st hd row l =
+  range-above k n f x st hd row l =
       let z = h ∙ code-cell f d j x hd row l in
-      sym (ap (λ y. fault-of (first y)) (no-range (row-facts st row .formed) (λ i e. let a = integer-low i in omega arith)))
+      sym (ap (λ y. fault-of (first y)) (no-range (row-facts st row .formed) (λ i e. let a = integer-low i in omega arith) (λ e. n (z ∙ e))))
+
+  pub range-float : c ≡ 42 → (p : ℕ) (r : Fault) → p ≡ getD d (j * 19 + 8) 0 → LowFault s p r → RangeFault s d j r
+  range-float k p r q g f x st hd row l =
+      let z = h ∙ code-cell f d j x hd row l in
+      floats-range (row-facts st row .formed) (sym z ∙ k) r
+      (λ w. g (x .definition .bounds) (subst (λ a. FloatsAt s a (x .definition .bounds)) (sym (q ∙ range-cell f d j x hd row l)) w))
 
   pub range-between : 35 ≤ c → c ≤ 38 → (p : ℕ) (r : Fault) → p ≡ getD d (j * 19 + 8) 0 → BoundFault s (integer-coded c) p r → RangeFault s d j r
   range-between lo hi p r q g f x st hd row l =

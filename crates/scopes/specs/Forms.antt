@@ -5,10 +5,10 @@ use Prim.Native.Nat.{ℕ, _+_}
 use Rattle.meaning.specs.Cells.{integer-code}
 use Rattle.grammar.specs.Grammar.{Kind, Integer}
 use Rattle.meaning.specs.Kinds.{kind-number}
-use Rattle.meaning.specs.Syntax.{Word, integer, string, boolean, enum, reference, no-bounds, Definition, Definitions, no-more, define, Values, no-value, value}
+use Rattle.meaning.specs.Syntax.{Word, integer, string, boolean, enum, float, reference, no-bounds, Definition, Definitions, no-more, define, Values, no-value, value}
 use Rattle.layout.specs.Kept.{code-of}
 use Rattle.scopes.specs.Situations.{ReadAt}
-use Rattle.scopes.specs.Ranges.{RangeAt}
+use Rattle.scopes.specs.Ranges.{RangeAt, FloatsAt}
 
 -- Nothing, or TRUE and FALSE.
 pub data Truths : Values → Type 0 where
@@ -24,6 +24,7 @@ pub data Formed (s : List ℕ) (d : Definition) : Values → Type 0 where
   a-string : d .type ≡ string → code-of (d .word) ≡ 39 → d .bounds ≡ no-bounds → Formed s d no-value
   a-boolean : {vs : Values} → d .type ≡ boolean → code-of (d .word) ≡ 40 → d .bounds ≡ no-bounds → Truths vs → Formed s d vs
   an-enum : {vs : Values} → d .type ≡ enum → code-of (d .word) ≡ 41 → d .bounds ≡ no-bounds → Some vs → Formed s d vs
+  a-float : d .type ≡ float → code-of (d .word) ≡ 42 → FloatsAt s (d .range .place) (d .bounds) → Formed s d no-value
   a-reference : (k : Kind) → d .type ≡ reference k → code-of (d .word) ≡ 22 + kind-number k → d .bounds ≡ no-bounds → Formed s d no-value
 
 -- So it is at every depth.

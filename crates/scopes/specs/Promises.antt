@@ -11,15 +11,15 @@ use Rattle.rows.specs.declared.Fault.{Fault}
 use Rattle.rows.specs.declared.Found.{Found}
 use Rattle.rows.specs.declared.Found.the-variants.{At, Nothing}
 use Rattle.meaning.specs.Syntax.{Num, Word, boolean, Bounds, Definitions, Defined, Object, File, is-enum}
-use Rattle.meaning.specs.Actions.{num-of-step}
-use Rattle.meaning.specs.Words.{in-bounds, among-numbers}
+use Rattle.meaning.specs.Actions.{num-of-step, float-of-step}
+use Rattle.meaning.specs.Words.{in-bounds, in-float-bounds, among-numbers}
 use Rattle.meaning.specs.Kinds.{kind-number}
 use Rattle.meaning.specs.Faults.{Fault as Refusal, first}
-use Rattle.meaning.specs.Scopes.{Under, find-definition, find-value, find-object, fits, fits-number}
-use Rattle.meaning.specs.Defining.{range-faults, bound-faults, outside}
+use Rattle.meaning.specs.Scopes.{Under, find-definition, find-value, find-object, fits, fits-number, fits-float}
+use Rattle.meaning.specs.Defining.{range-faults, bound-faults, low-faults, outside}
 use Rattle.layout.specs.Kept.{spec-entries, kept-definitions, kept-enumerators, kept-objects, code-of}
 use Rattle.scopes.specs.Situations.{Situation, ScopeAt, RowOf, Reached, ReadAt}
-use Rattle.scopes.specs.Ranges.{Listed, RangeAt}
+use Rattle.scopes.specs.Ranges.{Listed, RangeAt, FloatsAt}
 
 -- Faults -----------------------------------------------------------------------------------------------------------------------------------
 
@@ -45,6 +45,14 @@ ListFault s i p r = (ws : List Word) → Listed s p ws → r ≡ fault-of (first
 -- 21 at the bounds of the range whose `[` stands at p.
 abbrev pub BoundFault : List ℕ → Integer → ℕ → Fault → Type 0
 BoundFault s i p r = (b : Bounds) → RangeAt s p b → r ≡ fault-of (first (bound-faults i b))
+
+-- Whether n is in the bounds of the range of floats whose `[` stands at p.
+abbrev pub InFloats : List ℕ → ℕ → Num → Bool → Type 0
+InFloats s p n r = (b : Bounds) → FloatsAt s p b → r ≡ in-float-bounds n b
+
+-- 21 at the low of the range of floats whose `[` stands at p, where it is above the high.
+abbrev pub LowFault : List ℕ → ℕ → Fault → Type 0
+LowFault s p r = (b : Bounds) → FloatsAt s p b → r ≡ fault-of (first (low-faults b))
 
 -- Lookups ----------------------------------------------------------------------------------------------------------------------------------
 
@@ -99,9 +107,9 @@ Takes s d e m j at len code r =
 abbrev pub TakesUnder : List ℕ → List ℕ → (j at code u : ℕ) → Bool → Type 0
 TakesUnder s d j at code u r = (e : List ℕ) (m len : ℕ) → FindsWord s d e m j at len u → Takes s d e m j at len code r
 
--- Of a word that is no number, wherever it stands.
+-- Of a word that is no number and no float, wherever it stands.
 abbrev pub TakesWord : List ℕ → (j code u : ℕ) → Bool → Type 0
-TakesWord d j code u r = (code ≡ 42 → ⊥) → (s : List ℕ) (at : ℕ) → TakesUnder s d j at code u r
+TakesWord d j code u r = (code ≡ 43 → ⊥) → (code ≡ 54 → ⊥) → (s : List ℕ) (at : ℕ) → TakesUnder s d j at code u r
 
 -- The word TRUE or FALSE that the word at a place is, of the list of the BOOLEAN of row j; 0 for none.
 abbrev pub FindsTruth : List ℕ → List ℕ → (j at len : ℕ) → ℕ → Type 0
@@ -114,6 +122,12 @@ abbrev pub TakesNumber : List ℕ → List ℕ → (j at : ℕ) → Bool → Typ
 TakesNumber s d j at r =
     (f : File) (x : Defined) → Situation s f → d ≡ kept-definitions f → RowOf f j x → j < 513
     → r ≡ fits-number (x .definition .type) (x .definition .bounds) (num-of-step (stepAt s at))
+
+-- Whether the attribute of row j takes the float at a place.
+abbrev pub TakesFloat : List ℕ → List ℕ → (j at : ℕ) → Bool → Type 0
+TakesFloat s d j at r =
+    (f : File) (x : Defined) → Situation s f → d ≡ kept-definitions f → RowOf f j x → j < 513
+    → r ≡ fits-float (x .definition .type) (x .definition .bounds) (float-of-step (stepAt s at))
 
 -- 21 at the bounds of the range of the attribute of row j.
 abbrev pub RangeFault : List ℕ → List ℕ → ℕ → Fault → Type 0

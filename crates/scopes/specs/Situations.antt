@@ -7,7 +7,7 @@ use Rattle.token.specs.Tokens.{stepAt, partOf}
 use Rattle.grammar.specs.Grammar.{Derivation}
 use Rattle.grammar.specs.Terminals.{tokens}
 use Rattle.meaning.specs.Syntax.{Word, Definition, Definitions, no-more, define, Values, value, Defined, Spec, File}
-use Rattle.meaning.specs.Actions.{syntax, num-of-step}
+use Rattle.meaning.specs.Actions.{syntax, num-of-step, float-of-step}
 use Rattle.meaning.specs.Scopes.{Under}
 use Rattle.layout.specs.Kept.{Choice, spec-entries, spec-choices, list-key}
 
@@ -77,3 +77,4 @@ pub record Reached (f : File) (m : ℕ) (vs : Values) : Type 0 where
 pub record ReadAt (s : List ℕ) (t : Word) (at len : ℕ) : Type 0 where
   pub bytes : t .bytes ≡ partOf s at len
   pub number : t .number ≡ num-of-step (stepAt s at)
+  pub float : t .float ≡ float-of-step (stepAt s at)

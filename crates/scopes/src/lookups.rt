@@ -1,7 +1,8 @@
 // What the row of a definition tells: the words of a BOOLEAN's list, the values that an attribute takes, the bounds of its range.
-ghost use Rattle.scopes.specs.Promises.{TakesWord, TakesUnder, TakesNumber, FindsTruth, RangeFault};
+ghost use Rattle.scopes.specs.Promises.{TakesWord, TakesUnder, TakesNumber, TakesFloat, FindsTruth, RangeFault};
 use super::Num;
 use super::bounds;
+use super::floats;
 use super::numbers;
 use rows::Fault;
 use rows::cells;
@@ -42,8 +43,20 @@ fn takes_number(text: &[u8], d: &[usize], j: usize, at: usize) -> bool
     false
 }
 
-// Whether the attribute of row j takes a word that is no number; `under` is the place of the value word that it is, 0 for none. The codes of
-// words are 42 for a number, 43 for a string, 1 and 2 for TRUE and FALSE, 3 for AUTO, 4 for NO_DEFAULT.
+// Whether the attribute of row j takes the float at a place.
+pub fn takes_float(text: &[u8], d: &[usize], j: usize, at: usize) -> bool
+    ensures { λ r. ⌜ TakesFloat (now (text .entry)) (now (d .entry)) j at r ⌝ }
+{
+    let code = cells::cell_of(d, 19, j, 12);
+    if code != 42 {
+        return false;
+    }
+    let f = floats::float_at(text, at);
+    floats::in_range(text, cells::cell_of(d, 19, j, 8), f)
+}
+
+// Whether the attribute of row j takes a word that is no number and no float; `under` is the place of the value word that it is, 0 for none. The
+// codes of words are 43 for a number, 44 for a string, 54 for a float, 1 and 2 for TRUE and FALSE, 3 for AUTO, 4 for NO_DEFAULT.
 pub fn takes_word(d: &[usize], j: usize, code: usize, under: usize) -> bool
     ensures { λ r. ⌜ TakesWord (now (d .entry)) j code under r ⌝ }
 {
@@ -54,7 +67,7 @@ pub fn takes_word(d: &[usize], j: usize, code: usize, under: usize) -> bool
         return false;
     }
     let t = cells::cell_of(d, 19, j, 12);
-    if code == 43 {
+    if code == 44 {
         return t == 39;
     }
     if code == 1 {
@@ -73,8 +86,11 @@ pub fn takes_word(d: &[usize], j: usize, code: usize, under: usize) -> bool
 pub fn takes(text: &[u8], d: &[usize], j: usize, at: usize, code: usize, under: usize) -> bool
     ensures { λ r. ⌜ TakesUnder (now (text .entry)) (now (d .entry)) j at code under r ⌝ }
 {
-    if code == 42 {
+    if code == 43 {
         return takes_number(text, d, j, at);
+    }
+    if code == 54 {
+        return takes_float(text, d, j, at);
     }
     takes_word(d, j, code, under)
 }
@@ -91,6 +107,9 @@ pub fn range_fault(text: &[u8], d: &[usize], j: usize) -> Fault
         };
     }
     if 38 < code {
+        if code == 42 {
+            return floats::low_fault(text, cells::cell_of(d, 19, j, 8));
+        }
         return Fault {
             number: 0,
             place: 0,

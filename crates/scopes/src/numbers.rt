@@ -52,6 +52,15 @@ fn item_of(sort: Sort, at: usize, next: usize) -> Item
             at: at,
             next: next,
         },
+        Sort::Float(_, _, _) => Item {
+            number: Num {
+                negative: false,
+                amount: 0,
+            },
+            sign: 0,
+            at: at,
+            next: next,
+        },
     }
 }
 

@@ -8,7 +8,7 @@ use lib.Dec.{leb}
 use Rattle.token.specs.Find.{pick, both}
 use Rattle.token.specs.Tokens.{partOf}
 use Rattle.token.specs.declared.Sort.{Sort}
-use Rattle.token.specs.declared.Sort.the-variants.{Word, Number, String, Punctuator}
+use Rattle.token.specs.declared.Sort.the-variants.{Word, Number, String, Punctuator, Float}
 use Rattle.token.specs.declared.Step.{Step}
 use Rattle.token.specs.declared.Step.the-variants.{Found, Refused, End}
 
@@ -17,6 +17,7 @@ numberOfSort (Word code) = 2
 numberOfSort (Number negative amount) = 3
 numberOfSort String = 4
 numberOfSort (Punctuator b) = 5
+numberOfSort (Float negative digits scale) = 6
 
 -- a word's code, a number's amount, a punctuator's byte
 unfoldable pub detailOfSort : Sort → ℕ
@@ -24,12 +25,14 @@ detailOfSort (Word code) = code
 detailOfSort (Number negative amount) = amount
 detailOfSort String = 0
 detailOfSort (Punctuator b) = b
+detailOfSort (Float negative digits scale) = digits
 
 unfoldable pub signOfSort : Sort → Bool
 signOfSort (Word code) = false
 signOfSort (Number negative amount) = negative
 signOfSort String = false
 signOfSort (Punctuator b) = false
+signOfSort (Float negative digits scale) = negative
 
 -- what was found: 0 the end, 1 the refusal, from 2 on the tokens
 unfoldable pub sortOf : Step → ℕ

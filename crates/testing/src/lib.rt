@@ -19,6 +19,7 @@ fn number_of_sort(sort: Sort) -> u8
         Sort::Number(_, _) => 3,
         Sort::String => 4,
         Sort::Punctuator(_) => 5,
+        Sort::Float(_, _, _) => 6,
     }
 }
 
@@ -31,6 +32,7 @@ fn detail_of_sort(sort: Sort) -> u64
         Sort::Number(_, amount) => amount,
         Sort::String => 0,
         Sort::Punctuator(b) => b as u64,
+        Sort::Float(_, digits, _) => digits,
     }
 }
 
@@ -43,10 +45,11 @@ fn sign_of_sort(sort: Sort) -> bool
         Sort::Word(_) => false,
         Sort::String => false,
         Sort::Punctuator(_) => false,
+        Sort::Float(negative, _, _) => negative,
     }
 }
 
-// What the step from a place finds: 0 the end, 1 the refusal, 2 a word, 3 a number, 4 a string, 5 a punctuator.
+// What the step from a place finds: 0 the end, 1 the refusal, 2 a word, 3 a number, 4 a string, 5 a punctuator, 6 a float.
 #[no_mangle]
 pub extern "C" fn kaukslini_step_sort(text: &[u8], at: usize) -> u8
     ensures { λ r. ⌜ r ≡ sortOf (stepAt (now (text .entry)) at) ⌝ }

@@ -20,21 +20,21 @@ use Rattle.token.proofs.Find.{by-test}
 use Rattle.token.proofs.Tables.{valuesFrom, at, below}
 
 -- the known words have bytes, and less than twenty
-pub long : (k : ℕ) → k < 41 → 0 < length (getD known k [])
-long k h = ltb→lt 0 (length (getD known k [])) (below (λ i. ltb 0 (length (getD known i []))) 41 tt k h)
+pub long : (k : ℕ) → k < 42 → 0 < length (getD known k [])
+long k h = ltb→lt 0 (length (getD known k [])) (below (λ i. ltb 0 (length (getD known i []))) 42 tt k h)
 
-pub short : (k : ℕ) → k < 41 → length (getD known k []) < 20
-short k h = ltb→lt (length (getD known k [])) 20 (below (λ i. ltb (length (getD known i [])) 20) 41 tt k h)
+pub short : (k : ℕ) → k < 42 → length (getD known k []) < 20
+short k h = ltb→lt (length (getD known k [])) 20 (below (λ i. ltb (length (getD known i [])) 20) 42 tt k h)
 
 -- the letters of the known words, twenty to a word: past a word's end spaces
 abbrev pub letters : List ℕ
-letters = valuesFrom (λ i. getD (getD known (i / 20) []) (i % 20) 32) 0 820
+letters = valuesFrom (λ i. getD (getD known (i / 20) []) (i % 20) 32) 0 840
 
-pub letter-at : (k j : ℕ) → k < 41 → j < 20 → getD letters (k * 20 + j) 0 ≡ getD (getD known k []) j 32
+pub letter-at : (k j : ℕ) → k < 42 → j < 20 → getD letters (k * 20 + j) 0 ≡ getD (getD known k []) j 32
 letter-at k j h l =
     let row : (k * 20 + j) / 20 ≡ k = omega arith in
     let column : (k * 20 + j) % 20 ≡ j = omega arith in
-    at (λ (i : ℕ). getD (getD known (i / 20) []) (i % 20) 32) 820 (k * 20 + j) (omega arith)
+    at (λ (i : ℕ). getD (getD known (i / 20) []) (i % 20) 32) 840 (k * 20 + j) (omega arith)
     ∙ ap₂ (λ (n m : ℕ). getD (getD known n []) m 32) row column
 
 pub different : (xs ys : List ℕ) → (length ys ≡ length xs → ⊥) → same xs ys ≡ false
@@ -93,7 +93,7 @@ listed n (k ∷ ks) w =
     (λ t. ⊎-elim (λ e. inl e) (λ l. inr (later k ks w l)) (listed (suc n) ks w))
 
 module _ (w : List ℕ) where
-  none : ((j : ℕ) → j < 41 → w ≡ getD known j [] → ⊥) → codeOf w ≡ 0
+  none : ((j : ℕ) → j < 42 → w ≡ getD known j [] → ⊥) → codeOf w ≡ 0
   unfolding codeOf Listed
   none f = ⊎-elim (λ e. e) (λ l. absurd (f (l .0) (l .1) (l .2))) (listed 1 known w)
 
@@ -105,11 +105,11 @@ module _ (w : List ℕ) where
 
   module _ (k : ℕ) (h : k ≡ candidateOf (slotOf w)) where
     -- the candidate of a known word is its own code
-    own : (j : ℕ) → j < 41 → w ≡ getD known j [] → k ≡ j + 1
+    own : (j : ℕ) → j < 42 → w ≡ getD known j [] → k ≡ j + 1
     unfolding candidateOf candidateIn slotOf slotBy
     own j l e =
         h ∙ ap (λ (v : List ℕ). candidateOf (slotOf v)) e
-        ∙ eqb→eq _ (j + 1) (below (λ i. eqb (candidateOf (slotOf (getD known i []))) (i + 1)) 41 tt j l)
+        ∙ eqb→eq _ (j + 1) (below (λ i. eqb (candidateOf (slotOf (getD known i []))) (i + 1)) 42 tt j l)
 
     pub code-no-candidate : k ≡ 0 → codeOf w ≡ 0
     code-no-candidate z = none (λ j l e. let m = own j l e in omega arith)
@@ -123,17 +123,17 @@ module _ (w : List ℕ) where
         let g : same w (getD known j []) ≡ false = subst (λ (n : ℕ). same w (getD known n []) ≡ false) i f in
         false≢true (sym (subst (λ (v : List ℕ). same w v ≡ false) (sym e) g) ∙ same-self w))
 
-  pub code-is : (k : ℕ) → 0 < k → k ≤ 41 → same w (getD known (k - 1) []) ≡ true → codeOf w ≡ k
+  pub code-is : (k : ℕ) → 0 < k → k ≤ 42 → same w (getD known (k - 1) []) ≡ true → codeOf w ≡ k
   unfolding codeOf codeIn same
   code-is k z h f =
       let own : k - 1 + 1 ≡ k = omega arith in
       ap codeOf (same-equal w (getD known (k - 1) []) f)
-      ∙ eqb→eq _ (k - 1 + 1) (below (λ i. eqb (codeOf (getD known i [])) (i + 1)) 41 tt (k - 1) (omega arith))
+      ∙ eqb→eq _ (k - 1 + 1) (below (λ i. eqb (codeOf (getD known i [])) (i + 1)) 42 tt (k - 1) (omega arith))
       ∙ own
 
-pub candidate-below : (k i : ℕ) → k ≡ candidateOf i → i < 128 → k ≤ 41
+pub candidate-below : (k i : ℕ) → k ≡ candidateOf i → i < 128 → k ≤ 42
 unfolding candidateOf candidateIn slotOf slotBy
-candidate-below k i e h = rw e (leb→le _ 41 (below (λ n. leb (candidateOf n) 41) 128 tt i h))
+candidate-below k i e h = rw e (leb→le _ 42 (below (λ n. leb (candidateOf n) 42) 128 tt i h))
 
 pub slot-below : (i n a z : ℕ) → i ≡ slotBy n a z → i < 128
 unfolding slotBy

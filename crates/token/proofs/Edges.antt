@@ -6,13 +6,14 @@ use mathlib.Core.Path.{_≡_, refl}
 use mathlib.Core.List.{List, [], _∷_}
 use mathlib.Core.Bool.{true, false}
 use Rattle.token.specs.Find.{firstOf, find}
-use Rattle.token.specs.Bytes.{classOf, isWordByte, wordEnd, findByte, pairAt, findClose}
+use Rattle.token.specs.Bytes.{classOf, isWordByte, wordEnd, findByte, pairAt, findClose, isDotted, findMark, isSigned}
 use Rattle.token.specs.Gaps.{commentAt, gapOf, gapAt, skipN, skip}
 use Rattle.token.specs.Words.{bytesOf, same, codeIn, codeOf}
 use Rattle.token.specs.Numbers.{digitOf, valueAfter, atMost, digitsAfter, numeral}
-use Rattle.token.specs.Tokens.{found, wordAt, limitOf, isNegative, numberAt, stringAt, dotsAt, tokenOf, tokenAt, stepAt}
+use Rattle.token.specs.Floats.{someDigits, digitsBehind, mantissaOf, powerOf, powerAt, scaleOf}
+use Rattle.token.specs.Tokens.{found, wordAt, limitOf, isNegative, wholeAt, floatBy, floatAt, numberBy, numberAt, stringAt, dotsAt, tokenOf, tokenAt, stepAt}
 use Rattle.token.specs.Lexing.{Lexed, ended, refused, lexN, lexFrom, afterAll}
-use Rattle.token.specs.declared.Sort.the-variants.{Word, Number, String, Punctuator}
+use Rattle.token.specs.declared.Sort.the-variants.{Word, Number, String, Punctuator, Float}
 use Rattle.token.specs.declared.Token.{Token}
 
 pub record Edge : Type 0 where
@@ -38,6 +39,12 @@ string p n = record { sort = String; at = p; len = n }
 
 abbrev punctuator : ℕ → ℕ → ℕ → Token
 punctuator b p n = record { sort = Punctuator b; at = p; len = n }
+
+abbrev float : ℕ → ℕ → ℕ → ℕ → Token
+float m k p n = record { sort = Float false m k; at = p; len = n }
+
+abbrev negative : ℕ → ℕ → ℕ → ℕ → Token
+negative m k p n = record { sort = Float true m k; at = p; len = n }
 
 abbrev edges : List Edge
 edges =
@@ -67,7 +74,7 @@ edges =
     []) (ended 174) ∷
     -- a range is three tokens, and no number with a dot
     edge "1..0xff" (plus 1 0 1 ∷ punctuator 46 1 2 ∷ plus 255 3 4 ∷ []) (ended 7) ∷
-    edge "1.0xff" (plus 1 0 1 ∷ []) (refused 1) ∷
+    edge "1.0xff" [] (refused 0) ∷
     edge "..." (punctuator 46 0 2 ∷ []) (refused 2) ∷
     -- signs
     edge "-0x1" [] (refused 0) ∷
@@ -100,7 +107,40 @@ edges =
     edge "\"/*\"" (string 0 4 ∷ []) (ended 4) ∷
     -- words
     edge "TASK task TASK_TYPE" (word 11 0 4 ∷ word 0 5 4 ∷ word 24 10 9 ∷ []) (ended 19) ∷
-    edge "NETWORKMESSAGE_TYPE CPU_TYPE FLOAT" (word 32 0 19 ∷ word 0 20 8 ∷ word 0 29 5 ∷ []) (ended 34) ∷
+    edge "NETWORKMESSAGE_TYPE CPU_TYPE FLOAT" (word 32 0 19 ∷ word 0 20 8 ∷ word 42 29 5 ∷ []) (ended 34) ∷
+    -- floats (document 02, Q-4), and what is none
+    edge "1.5" (float 15 81 0 3 ∷ []) (ended 3) ∷
+    edge "007.5" (float 75 81 0 5 ∷ []) (ended 5) ∷
+    edge "+1.0" (float 10 81 0 4 ∷ []) (ended 4) ∷
+    edge "-0.0" (float 0 81 0 4 ∷ []) (ended 4) ∷
+    edge "-1.5" (negative 15 81 0 4 ∷ []) (ended 4) ∷
+    edge "1.0e5" (float 10 86 0 5 ∷ []) (ended 5) ∷
+    edge "1.0E+5" (float 10 86 0 6 ∷ []) (ended 6) ∷
+    edge "1.0e-064" (float 10 17 0 8 ∷ []) (ended 8) ∷
+    edge "1.0e64" (float 10 145 0 6 ∷ []) (ended 6) ∷
+    edge "0.00000000000000001" (float 1 65 0 19 ∷ []) (ended 19) ∷
+    edge "12345678901234567.8" (float 123456789012345678 81 0 19 ∷ []) (ended 19) ∷
+    edge "0x1.5" [] (refused 0) ∷
+    edge "1a.5" [] (refused 0) ∷
+    edge "1.5x" [] (refused 0) ∷
+    edge "1.5e" [] (refused 0) ∷
+    edge "1.5e+" [] (refused 0) ∷
+    edge "1.5e+5e+6" [] (refused 0) ∷
+    edge "1.5ee+5" [] (refused 0) ∷
+    edge "1.0e65" [] (refused 0) ∷
+    edge "1.0e-65" [] (refused 0) ∷
+    edge "1234567890123456.789" [] (refused 0) ∷
+    edge "+.5" [] (refused 0) ∷
+    edge "1.5_" [] (refused 0) ∷
+    edge "1..2" (plus 1 0 1 ∷ punctuator 46 1 2 ∷ plus 2 3 1 ∷ []) (ended 4) ∷
+    edge "1.5..2.5" (float 15 81 0 3 ∷ punctuator 46 3 2 ∷ float 25 81 5 3 ∷ []) (ended 8) ∷
+    edge "1." (plus 1 0 1 ∷ []) (refused 1) ∷
+    edge "1.x" (plus 1 0 1 ∷ []) (refused 1) ∷
+    edge ".5" [] (refused 0) ∷
+    edge "abc.5" (word 0 0 3 ∷ []) (refused 3) ∷
+    edge "1.5-3" (float 15 81 0 3 ∷ minus 3 3 2 ∷ []) (ended 5) ∷
+    edge "1.5e5-3" (float 15 86 0 5 ∷ minus 3 5 2 ∷ []) (ended 7) ∷
+    edge "1.5.5" (float 15 81 0 3 ∷ []) (refused 3) ∷
     []
 
 abbrev all : List Edge → Type 0
@@ -108,5 +148,5 @@ all [] = Unit {0}
 all (e ∷ es) = (lexFrom (bytesOf (e .text)) 0 ≡ afterAll (e .tokens) (e .last)) × all es
 
 pub edges-hold : all edges
-unfolding afterAll lexFrom lexN stepAt skip skipN gapAt gapOf commentAt findByte findClose pairAt find firstOf classOf isWordByte wordEnd codeOf codeIn same digitOf valueAfter atMost digitsAfter numeral found wordAt limitOf isNegative numberAt stringAt dotsAt tokenOf tokenAt
-edges-hold = (refl, (refl, (refl, (refl, (refl, (refl, (refl, (refl, (refl, (refl, (refl, (refl, (refl, (refl, (refl, (refl, (refl, (refl, (refl, (refl, (refl, (refl, (refl, (refl, (refl, (refl, (refl, (refl, (refl, (refl, (refl, (refl, (refl, (refl, (refl, (refl, (refl, (refl, (refl, (refl, (refl, tt)))))))))))))))))))))))))))))))))))))))))
+unfolding afterAll lexFrom lexN stepAt skip skipN gapAt gapOf commentAt findByte findClose pairAt find firstOf classOf isWordByte wordEnd codeOf codeIn same digitOf valueAfter atMost digitsAfter numeral found wordAt limitOf isNegative wholeAt isDotted findMark isSigned someDigits digitsBehind mantissaOf powerOf powerAt scaleOf floatBy floatAt numberBy numberAt stringAt dotsAt tokenOf tokenAt
+edges-hold = (refl, (refl, (refl, (refl, (refl, (refl, (refl, (refl, (refl, (refl, (refl, (refl, (refl, (refl, (refl, (refl, (refl, (refl, (refl, (refl, (refl, (refl, (refl, (refl, (refl, (refl, (refl, (refl, (refl, (refl, (refl, (refl, (refl, (refl, (refl, (refl, (refl, (refl, (refl, (refl, (refl, (refl, (refl, (refl, (refl, (refl, (refl, (refl, (refl, (refl, (refl, (refl, (refl, (refl, (refl, (refl, (refl, (refl, (refl, (refl, (refl, (refl, (refl, (refl, (refl, (refl, (refl, (refl, (refl, (refl, (refl, (refl, (refl, tt)))))))))))))))))))))))))))))))))))))))))))))))))))))))))))))))))))))))))

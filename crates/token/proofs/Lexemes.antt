@@ -1,22 +1,26 @@
 -- The laws of tokens: which case of `stepAt` holds.
 -- Assumes nothing.
 use Prim.Native.Nat.{ℕ, _+_, _-_, _≤_, _<_}
-use mathlib.Core.Path.{_≡_, refl, _∙_, ap}
+use mathlib.Core.Path.{_≡_, refl, sym, _∙_, ap}
 use mathlib.Core.List.{List, []}
 use mathlib.Core.Bool.{Bool, true, false}
 use lib.ListN.{length, take, drop}
 use lib.Dec.{leb, ltb, eqb}
 use borrow.Author.Tests.{lt-ltb, le-ltb, le-leb, lt-leb}
 use Rattle.token.specs.Find.{byte}
-use Rattle.token.specs.Bytes.{Class, letter, digit, blank, plusMinus, quote, punctuator, dot, slash, other, classOf, classCode, wordEnd, findByte, pairAt}
+use Rattle.token.specs.Bytes.{Class, letter, digit, blank, plusMinus, quote, punctuator, dot, slash, other, classOf, classCode, wordEnd, findByte, pairAt, isDotted, findMark}
 use Rattle.token.specs.Gaps.{skip}
 use Rattle.token.specs.Words.{codeOf}
 use Rattle.token.specs.Numbers.{numeral}
-use Rattle.token.specs.Tokens.{bytesBetween, found, wordAt, limitOf, isNegative, numberAt, stringAt, dotsAt, tokenOf, tokenAt, afterSkip, stepAt, partOf}
-use Rattle.token.specs.declared.Sort.the-variants.{Word, Number, String, Punctuator}
+use Rattle.token.specs.Floats.{mantissaOf, powerAt, scaleOf}
+use Rattle.token.specs.Tokens.{bytesBetween, found, wordAt, limitOf, isNegative, wholeAt, floatOf, floatBy, floatAt, numberBy, numberAt, stringAt, dotsAt, tokenOf, tokenAt, afterSkip, stepAt, partOf}
+use Rattle.token.specs.declared.Sort.the-variants.{Word, Number, String, Punctuator, Float}
 use Rattle.token.specs.declared.Step.the-variants.{Refused, End}
 use Rattle.token.specs.declared.Skip.the-variants.{At, Open}
+use Rattle.token.specs.declared.Amount.{Amount}
 use Rattle.token.specs.declared.Amount.the-variants.{Is, Not}
+use Rattle.token.specs.declared.Power.{Power}
+use Rattle.token.specs.declared.Power.the-variants.{Times, None}
 use Rattle.token.proofs.Bytes.{classAt, class-is, both-false}
 
 module _ (s : List ℕ) (p : ℕ) where
@@ -26,13 +30,45 @@ module _ (s : List ℕ) (p : ℕ) where
 
   module _ (q e max : ℕ) (f : e ≡ wordEnd s q) (g : max ≡ limitOf (eqb (byte s p) 45)) where
     pub number-is : (n : Bool) (m : ℕ) → numeral (ltb p q) max (bytesBetween s q e) ≡ Is m → n ≡ isNegative (eqb (byte s p) 45) m →
-        found (Number n m) p e ≡ numberAt s p q
-    unfolding numberAt
+        found (Number n m) p e ≡ wholeAt s p q
+    unfolding wholeAt
     number-is n m h k = rw (← f, ← g, h, k)
 
-    pub number-bad : numeral (ltb p q) max (bytesBetween s q e) ≡ Not → Refused p ≡ numberAt s p q
-    unfolding numberAt
+    pub number-bad : numeral (ltb p q) max (bytesBetween s q e) ≡ Not → Refused p ≡ wholeAt s p q
+    unfolding wholeAt
     number-bad h = rw (← f, ← g, h)
+
+  module _ (q d r x : ℕ) (f : r ≡ wordEnd s (d + 1)) (g : x ≡ findMark s r (d + 1)) where
+    float-by : floatBy s p q d r x ≡ floatAt s p q d
+    unfolding floatAt
+    float-by = rw (g, f)
+
+    pub float-is : (v : Amount) (w : Power) (m : ℕ) (b : Bool) (y e : ℕ) → v ≡ mantissaOf (bytesBetween s q d) (bytesBetween s (d + 1) x) → w ≡ powerAt s x r
+        → v ≡ Is m → w ≡ Times b y e → (n : Bool) → n ≡ isNegative (eqb (byte s p) 45) m → (k : ℕ) → k ≡ scaleOf b y (x - (d + 1))
+        → found (Float n m k) p e ≡ floatAt s p q d
+    unfolding floatBy
+    float-is v w m b y e h i j o n t k u = rw (t, u) (sym (rw (← h, ← i, j, o)) ∙ float-by)
+
+    pub float-no-power : (v : Amount) (w : Power) (m : ℕ) → v ≡ mantissaOf (bytesBetween s q d) (bytesBetween s (d + 1) x) → w ≡ powerAt s x r
+        → v ≡ Is m → w ≡ None → Refused p ≡ floatAt s p q d
+    unfolding floatBy
+    float-no-power v w m h i j o = sym (rw (← h, ← i, j, o)) ∙ float-by
+
+    pub float-no-digits : (v : Amount) → v ≡ mantissaOf (bytesBetween s q d) (bytesBetween s (d + 1) x) → v ≡ Not → Refused p ≡ floatAt s p q d
+    unfolding floatBy
+    float-no-digits v h j = sym (rw (← h, j) (none-of (powerAt s x r))) ∙ float-by
+      where
+        none-of : (w : Power) → floatOf (eqb (byte s p) 45) Not w (x - (d + 1)) p ≡ Refused p
+        none-of (Times b y e) = refl
+        none-of None = refl
+
+  pub number-float : (q e : ℕ) → e ≡ wordEnd s q → isDotted s e ≡ true → numberAt s p q ≡ floatAt s p q e
+  unfolding numberAt numberBy
+  number-float q e f t = ap (λ (b : Bool). numberBy b s p q) (ap (isDotted s) (sym f) ∙ t) ∙ ap (floatAt s p q) (sym f)
+
+  pub number-whole : (q e : ℕ) → e ≡ wordEnd s q → isDotted s e ≡ false → numberAt s p q ≡ wholeAt s p q
+  unfolding numberAt numberBy
+  number-whole q e f t = ap (λ (b : Bool). numberBy b s p q) (ap (isDotted s) (sym f) ∙ t)
 
   pub string-is : (e : ℕ) → e ≡ findByte 34 s (p + 1) → e < length s → found String p (e + 1) ≡ stringAt s p
   unfolding stringAt

@@ -4,6 +4,7 @@ pub mod Bytes
 pub mod Gaps
 pub mod Codes
 pub mod Values
+pub mod Decimals
 pub mod Lexemes
 pub mod Steps
 pub mod Edges

@@ -7,17 +7,20 @@ use mathlib.Core.Bool.{Bool, true, false}
 use lib.Dec.{eqb, ltb}
 use lib.ListN.{length, take, drop}
 use Rattle.token.specs.Find.{pick, byte}
-use Rattle.token.specs.Bytes.{Class, letter, digit, blank, plusMinus, quote, punctuator, dot, slash, other, classOf, pairAt, findByte, wordEnd}
+use Rattle.token.specs.Bytes.{Class, letter, digit, blank, plusMinus, quote, punctuator, dot, slash, other, classOf, pairAt, findByte, wordEnd, isDotted}
 use Rattle.token.specs.Gaps.{skip}
 use Rattle.token.specs.Words.{codeOf}
 use Rattle.token.specs.Numbers.{numeral}
-use Rattle.token.specs.Tokens.{bytesBetween, found, wordAt, limitOf, numberOf, numberAt, stringAt, dotsAt, tokenOf, tokenAt, afterSkip, stepAt}
+use Rattle.token.specs.Floats.{mantissaOf, powerAt}
+use Rattle.token.specs.Tokens.{bytesBetween, found, wordAt, limitOf, numberOf, wholeAt, floatOf, floatBy, floatAt, numberBy, numberAt, stringAt, dotsAt, tokenOf, tokenAt, afterSkip, stepAt}
 use Rattle.token.specs.declared.Cursor.{Cursor}
 use Rattle.token.specs.declared.Token.{Token}
 use Rattle.token.specs.declared.Sort.{Sort}
-use Rattle.token.specs.declared.Sort.the-variants.{Word, Number, String, Punctuator}
+use Rattle.token.specs.declared.Sort.the-variants.{Word, Number, String, Punctuator, Float}
 use Rattle.token.specs.declared.Skip.{Skip}
 use Rattle.token.specs.declared.Skip.the-variants.{At, Open}
+use Rattle.token.specs.declared.Power.{Power}
+use Rattle.token.specs.declared.Power.the-variants.{Times, None}
 use Rattle.token.specs.declared.Amount.{Amount}
 use Rattle.token.specs.declared.Amount.the-variants.{Is, Not}
 use Rattle.token.specs.Lexing.{Lexed, more, ended, refused, afterStep, lexN, lexFrom}
@@ -53,6 +56,7 @@ CodeOk (Word k) b = k ≡ codeOf b
 CodeOk (Number n m) b = Unit {0}
 CodeOk String b = Unit {0}
 CodeOk (Punctuator c) b = Unit {0}
+CodeOk (Float n m k) b = Unit {0}
 
 abbrev StepCode : List ℕ → Step → Type 0
 StepCode s (Found t c) = CodeOk (t .sort) (take (t .len) (drop (t .at) s))
@@ -68,12 +72,24 @@ unfolding found
 number-code s m (Is n) p e = tt
 number-code s m Not p e = tt
 
+float-code : (s : List ℕ) (m : Bool) (a : Amount) (w : Power) (n p : ℕ) → StepCode s (floatOf m a w n p)
+unfolding found
+float-code s m (Is a) (Times b x e) n p = tt
+float-code s m (Is a) None n p = tt
+float-code s m Not (Times b x e) n p = tt
+float-code s m Not None n p = tt
+
+number-by-code : (s : List ℕ) (p q : ℕ) (b : Bool) → StepCode s (numberBy b s p q)
+unfolding numberBy wholeAt floatAt floatBy
+number-by-code s p q true = float-code s (eqb (byte s p) 45) (mantissaOf _ _) (powerAt s _ _) _ p
+number-by-code s p q false = number-code s (eqb (byte s p) 45) (numeral (ltb p q) (limitOf (eqb (byte s p) 45)) (bytesBetween s q (wordEnd s q))) p (wordEnd s q)
+
 class-code : (s : List ℕ) (p : ℕ) (c : Class) → StepCode s (tokenOf c s p)
 unfolding tokenOf wordAt found numberAt stringAt dotsAt
 class-code s p letter = refl
-class-code s p digit = number-code s (eqb (byte s p) 45) (numeral (ltb p p) (limitOf (eqb (byte s p) 45)) (bytesBetween s p (wordEnd s p))) p (wordEnd s p)
+class-code s p digit = number-by-code s p p (isDotted s (wordEnd s p))
 class-code s p blank = tt
-class-code s p plusMinus = number-code s (eqb (byte s p) 45) (numeral (ltb p (p + 1)) (limitOf (eqb (byte s p) 45)) (bytesBetween s (p + 1) (wordEnd s (p + 1)))) p (wordEnd s (p + 1))
+class-code s p plusMinus = number-by-code s p (p + 1) (isDotted s (wordEnd s (p + 1)))
 class-code s p quote = by-pick s (ltb (findByte 34 s (p + 1)) (length s)) _ (Refused p) tt tt
 class-code s p punctuator = tt
 class-code s p dot = by-pick s (pairAt s p 46 46) _ (Refused p) tt tt

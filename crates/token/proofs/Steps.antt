@@ -4,22 +4,23 @@
 use Prim.Native.Nat.{ℕ, zero, suc, _+_, _-_, _≤_, _<_}
 use mathlib.Core.Path.{_≡_, refl, sym, _∙_, ap, subst}
 use mathlib.Core.List.{List}
-use mathlib.Core.Bool.{Bool, not}
+use mathlib.Core.Bool.{Bool, true, false, not}
 use native.Mathlib.Omega.{arith}
 use native.Mathlib.Nat.{le-trans}
 use lib.ListN.{length}
 use lib.Dec.{ltb, eqb}
 use borrow.Author.Tests.{lt-ltb, ltb-true}
 use Rattle.token.specs.Find.{byte}
-use Rattle.token.specs.Bytes.{Class, letter, digit, blank, plusMinus, quote, punctuator, dot, slash, other, classOf, classCode, isWordByte, wordEnd, findByte, pairAt}
+use Rattle.token.specs.Bytes.{Class, letter, digit, blank, plusMinus, quote, punctuator, dot, slash, other, classOf, classCode, isWordByte, wordEnd, findByte, pairAt, isDotted, findMark}
 use Rattle.token.specs.Gaps.{gapAt, afterGap, skipN, skip}
 use Rattle.token.specs.Numbers.{numeral}
-use Rattle.token.specs.Tokens.{bytesBetween, found, wordAt, limitOf, isNegative, numberOf, numberAt, stringAt, dotsAt, tokenOf, tokenAt, afterSkip, stepAt}
+use Rattle.token.specs.Floats.{mantissaOf, powerAt, scaleOf}
+use Rattle.token.specs.Tokens.{bytesBetween, found, wordAt, limitOf, isNegative, numberOf, wholeAt, floatOf, floatBy, floatAt, numberBy, numberAt, stringAt, dotsAt, tokenOf, tokenAt, afterSkip, stepAt}
 use Rattle.token.specs.Lexing.{Lexed, more, ended, refused, afterStep, lexN, lexFrom}
 use Rattle.token.specs.declared.Cursor.{Cursor}
 use Rattle.token.specs.declared.Token.{Token}
 use Rattle.token.specs.declared.Sort.{Sort}
-use Rattle.token.specs.declared.Sort.the-variants.{Number, String, Punctuator}
+use Rattle.token.specs.declared.Sort.the-variants.{Number, String, Punctuator, Float}
 use Rattle.token.specs.declared.Step.{Step}
 use Rattle.token.specs.declared.Step.the-variants.{Found, Refused, End}
 use Rattle.token.specs.declared.Gap.{Gap}
@@ -30,6 +31,9 @@ use Rattle.token.specs.declared.Amount.{Amount}
 use Rattle.token.specs.declared.Amount.the-variants.{Is, Not}
 use Rattle.token.proofs.Find.{by-test, find-next, find-low}
 use Rattle.token.proofs.Bytes.{word-byte, word-low, word-high, byte-low, pair-inside}
+use Rattle.token.specs.declared.Power.{Power}
+use Rattle.token.specs.declared.Power.the-variants.{Times, None}
+use Rattle.token.proofs.Decimals.{PowerOk, power-ok, dotted-inside}
 use Rattle.token.proofs.Gaps.{GapOk, gap-ok, gap-past, skip-here, skip-open}
 use Rattle.token.proofs.Lexemes.{token-end, step-token, step-open}
 
@@ -84,11 +88,35 @@ number-ok : (s : List ℕ) (p e : ℕ) (m : Bool) (v : Amount) → p < e → e �
 number-ok s p e m (Is n) h l = found-ok s (Number (isNegative m n) n) p e h l
 number-ok s p e m Not h l = (refl, omega arith)
 
-number-at-ok : (s : List ℕ) (p q : ℕ) → p < wordEnd s q → wordEnd s q ≤ length s → TokenOk s p (numberAt s p q)
-unfolding numberAt
-number-at-ok s p q =
+whole-ok : (s : List ℕ) (p q : ℕ) → p < wordEnd s q → wordEnd s q ≤ length s → TokenOk s p (wholeAt s p q)
+unfolding wholeAt
+whole-ok s p q =
     number-ok s p (wordEnd s q) (eqb (byte s p) 45)
     (numeral (ltb p q) (limitOf (eqb (byte s p) 45)) (bytesBetween s q (wordEnd s q)))
+
+float-of-ok : (s : List ℕ) (p r : ℕ) → p < r → r ≤ length s → (m : Bool) (n : ℕ) (v : Amount) (w : Power) → PowerOk s r w → TokenOk s p (floatOf m v w n p)
+float-of-ok s p r h l m n (Is a) (Times b x e) o = found-ok s (Float (isNegative m a) a (scaleOf b x n)) p e (omega arith) (o .2)
+float-of-ok s p r h l m n (Is a) None o = (refl, omega arith)
+float-of-ok s p r h l m n Not (Times b x e) o = (refl, omega arith)
+float-of-ok s p r h l m n Not None o = (refl, omega arith)
+
+float-ok : (s : List ℕ) (p q d : ℕ) → p < d → d + 1 < length s → TokenOk s p (floatAt s p q d)
+unfolding floatAt floatBy
+float-ok s p q d h l =
+    let i = word-low s (d + 1) in
+    let k = word-high s (d + 1) (omega arith) in
+    let x = findMark s (wordEnd s (d + 1)) (d + 1) in
+    float-of-ok s p (wordEnd s (d + 1)) (omega arith) k (eqb (byte s p) 45) (x - (d + 1)) (mantissaOf (bytesBetween s q d) (bytesBetween s (d + 1) x))
+    (powerAt s x (wordEnd s (d + 1))) (power-ok s x (wordEnd s (d + 1)) k)
+
+number-by-ok : (s : List ℕ) (p q : ℕ) → p < wordEnd s q → wordEnd s q ≤ length s → (b : Bool) → isDotted s (wordEnd s q) ≡ b → TokenOk s p (numberBy b s p q)
+unfolding numberBy
+number-by-ok s p q h l true e = float-ok s p q (wordEnd s q) h (dotted-inside s (wordEnd s q) e)
+number-by-ok s p q h l false e = whole-ok s p q h l
+
+number-at-ok : (s : List ℕ) (p q : ℕ) → p < wordEnd s q → wordEnd s q ≤ length s → TokenOk s p (numberAt s p q)
+unfolding numberAt
+number-at-ok s p q h l = number-by-ok s p q h l (isDotted s (wordEnd s q)) refl
 
 string-ok : (s : List ℕ) (p : ℕ) → p < length s → TokenOk s p (stringAt s p)
 unfolding stringAt

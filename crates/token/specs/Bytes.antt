@@ -26,6 +26,10 @@ isBlank b = either (between 9 13 b) (eqb b 32)
 abbrev pub isPlusMinus : ℕ → Bool
 isPlusMinus b = either (eqb b 43) (eqb b 45)
 
+-- Q-4: "e or E"
+abbrev pub isExponentMark : ℕ → Bool
+isExponentMark b = either (eqb b 69) (eqb b 101)
+
 -- "`{ } [ ] = ; : ,`"
 abbrev pub isPunctuator : ℕ → Bool
 isPunctuator b =
@@ -85,3 +89,15 @@ pairAt s p a b = both (ltb (p + 1) (length s)) (both (eqb (byte s p) a) (eqb (by
 -- the first place of `*/` at or after p, or the length
 unfoldable pub findClose : List ℕ → ℕ → ℕ
 findClose s p = find (λ i. pairAt s i 42 47) (length s) p
+
+-- Q-4: "followed by a dot and a digit"
+unfoldable pub isDotted : List ℕ → ℕ → Bool
+isDotted s p = both (eqb (byte s p) 46) (isDigit (byte s (p + 1)))
+
+-- Q-4: "its first e or E": its place at or after p and before e, or e
+unfoldable pub findMark : List ℕ → ℕ → ℕ → ℕ
+findMark s e p = find (λ i. isExponentMark (byte s i)) e p
+
+-- Q-4: "one sign right after its first e or E": the mark at x is the last byte of the run that ends at r, and a sign stands there
+unfoldable pub isSigned : List ℕ → ℕ → ℕ → Bool
+isSigned s x r = both (eqb (x + 1) r) (isPlusMinus (byte s r))

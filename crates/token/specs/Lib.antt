@@ -3,6 +3,7 @@ pub mod Bytes
 pub mod Gaps
 pub mod Words
 pub mod Numbers
+pub mod Floats
 pub mod Tokens
 pub mod Lexing
 pub mod Slots

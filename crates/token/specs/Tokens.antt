@@ -6,16 +6,19 @@ use mathlib.Core.Bool.{Bool, true, false}
 use lib.ListN.{length, take, drop}
 use lib.Dec.{leb, ltb, eqb}
 use Rattle.token.specs.Find.{pick, both, byte}
-use Rattle.token.specs.Bytes.{Class, letter, digit, blank, plusMinus, quote, punctuator, dot, slash, other, classOf, wordEnd, findByte, pairAt}
+use Rattle.token.specs.Bytes.{Class, letter, digit, blank, plusMinus, quote, punctuator, dot, slash, other, classOf, wordEnd, findByte, pairAt, isDotted, findMark}
 use Rattle.token.specs.Gaps.{skip}
 use Rattle.token.specs.Words.{codeOf}
 use Rattle.token.specs.Numbers.{leastAmount, greatestAmount, numeral}
+use Rattle.token.specs.Floats.{mantissaOf, powerAt, scaleOf}
 use Rattle.token.specs.declared.Sort.{Sort}
-use Rattle.token.specs.declared.Sort.the-variants.{Word, Number, String, Punctuator}
+use Rattle.token.specs.declared.Sort.the-variants.{Word, Number, String, Punctuator, Float}
 use Rattle.token.specs.declared.Step.{Step}
 use Rattle.token.specs.declared.Step.the-variants.{Found, Refused, End}
 use Rattle.token.specs.declared.Skip.{Skip}
 use Rattle.token.specs.declared.Skip.the-variants.{At, Open}
+use Rattle.token.specs.declared.Power.{Power}
+use Rattle.token.specs.declared.Power.the-variants.{Times, None}
 use Rattle.token.specs.declared.Amount.{Amount}
 use Rattle.token.specs.declared.Amount.the-variants.{Is, Not}
 
@@ -47,9 +50,33 @@ numberOf minus Not p e = Refused p
 
 -- "Number: an optional sign (`+` or `-`), then the longest run of letters, digits and underscores." It begins at p and its run at q: at p
 -- itself, or after a sign
-unfoldable pub numberAt : List ℕ → ℕ → ℕ → Step
-numberAt s p q =
+unfoldable pub wholeAt : List ℕ → ℕ → ℕ → Step
+wholeAt s p q =
     numberOf (eqb (byte s p) 45) (numeral (ltb p q) (limitOf (eqb (byte s p) 45)) (bytesBetween s q (wordEnd s q))) p (wordEnd s q)
+
+-- Q-4: "a malformed or larger one is no token at its first byte": with n digits behind the dot. -0.0 is not negative
+abbrev pub floatOf : Bool → Amount → Power → ℕ → ℕ → Step
+floatOf minus (Is m) (Times below x e) n p = found (Float (isNegative minus m) m (scaleOf below x n)) p e
+floatOf minus (Is m) None n p = Refused p
+floatOf minus Not (Times below x e) n p = Refused p
+floatOf minus Not None n p = Refused p
+
+-- Q-4: "the longest run after the dot belongs to it, through one sign right after its first e or E." It begins at p and its first run at q,
+-- its dot stands at d, the run behind the dot ends at r, with its first e or E at x
+unfoldable pub floatBy : List ℕ → ℕ → ℕ → ℕ → ℕ → ℕ → Step
+floatBy s p q d r x =
+    floatOf (eqb (byte s p) 45) (mantissaOf (bytesBetween s q d) (bytesBetween s (d + 1) x)) (powerAt s x r) (x - (d + 1)) p
+
+unfoldable pub floatAt : List ℕ → ℕ → ℕ → ℕ → Step
+floatAt s p q d = floatBy s p q d (wordEnd s (d + 1)) (findMark s (wordEnd s (d + 1)) (d + 1))
+
+-- Q-4: "A number's run followed by a dot and a digit is a float or no token"
+unfoldable pub numberBy : Bool → List ℕ → ℕ → ℕ → Step
+numberBy true s p q = floatAt s p q (wordEnd s q)
+numberBy false s p q = wholeAt s p q
+
+unfoldable pub numberAt : List ℕ → ℕ → ℕ → Step
+numberAt s p q = numberBy (isDotted s (wordEnd s q)) s p q
 
 -- "String: `"`, any bytes but `"`, then `"`." The refusal of one that is not ended is at its first byte
 unfoldable pub stringAt : List ℕ → ℕ → Step

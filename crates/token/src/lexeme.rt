@@ -1,13 +1,16 @@
 // The token at a place where no blank and no comment stands.
 ghost use mathlib.Core.Path.{_≡_};
-ghost use Prim.Native.Nat.{_≤_, _<_};
+ghost use Prim.Native.Nat.{_≤_, _<_, _+_};
 ghost use lib.ListN.{length};
-ghost use Rattle.token.specs.Tokens.{found, limitOf, isNegative, wordAt, numberAt, stringAt, dotsAt, tokenAt};
+ghost use Rattle.token.specs.Bytes.{wordEnd};
+ghost use Rattle.token.specs.Tokens.{found, limitOf, isNegative, wordAt, wholeAt, floatAt, numberAt, stringAt, dotsAt, tokenAt};
 use super::Amount;
 use super::Cursor;
+use super::Power;
 use super::Sort;
 use super::Step;
 use super::Token;
+use super::floats;
 use super::numbers;
 use super::scan;
 use super::words;
@@ -55,12 +58,11 @@ fn is_negative(minus: bool, m: u64) -> bool
     if minus { 0 < m } else { false }
 }
 
-// The number at a place, whose run begins at from.
-fn number_at(text: &[u8], at: usize, from: usize) -> Step
-    requires { ⌜ (at < length (now text)) × ((at ≤ from) × (from ≤ length (now text))) ⌝ }
-    ensures { λ r. ⌜ r ≡ numberAt (now (text .entry)) at from ⌝ }
+// The whole number at a place, whose run begins at from and ends at end.
+fn whole_at(text: &[u8], at: usize, from: usize, end: usize) -> Step
+    requires { ⌜ (at < length (now text)) × ((at ≤ from) × ((from ≤ length (now text)) × (end ≡ wordEnd (now text) from))) ⌝ }
+    ensures { λ r. ⌜ r ≡ wholeAt (now (text .entry)) at from ⌝ }
 {
-    let end = scan::word_end(text, from);
     let minus = text[at] == b'-';
     let max = limit(minus);
     match numbers::numeral(&text[from..end], at < from, max) {
@@ -70,6 +72,44 @@ fn number_at(text: &[u8], at: usize, from: usize) -> Step
         }
         Amount::Not => Step::Refused(at),
     }
+}
+
+// The float at a place, whose first run begins at from and ends at its dot, with a digit behind.
+fn float_at(text: &[u8], at: usize, from: usize, dot: usize) -> Step
+    requires { ⌜ (at ≤ from) × ((from ≤ dot) × (dot + 1 < length (now text))) ⌝ }
+    ensures { λ r. ⌜ r ≡ floatAt (now (text .entry)) at from dot ⌝ }
+{
+    let start = dot + 1;
+    let end = scan::word_end(text, start);
+    let mark = scan::find_mark(text, end, start);
+    let minus = text[at] == b'-';
+    let digits = floats::mantissa(&text[from..dot], &text[start..mark]);
+    let power = floats::power_at(text, mark, end);
+    match digits {
+        Amount::Is(m) => {
+            match power {
+                Power::Times(below, x, last) => {
+                    let negative = is_negative(minus, m);
+                    let scale = floats::scale(below, x, mark - start);
+                    found(Sort::Float(negative, m, scale), at, last)
+                }
+                Power::None => Step::Refused(at),
+            }
+        }
+        Amount::Not => Step::Refused(at),
+    }
+}
+
+// The number or float at a place, whose run begins at from.
+fn number_at(text: &[u8], at: usize, from: usize) -> Step
+    requires { ⌜ (at < length (now text)) × ((at ≤ from) × (from ≤ length (now text))) ⌝ }
+    ensures { λ r. ⌜ r ≡ numberAt (now (text .entry)) at from ⌝ }
+{
+    let end = scan::word_end(text, from);
+    if scan::dotted(text, end) {
+        return float_at(text, at, from, end);
+    }
+    whole_at(text, at, from, end)
 }
 
 // The string at a place.

@@ -2,6 +2,7 @@
 ghost use mathlib.Core.Path.{_≡_};
 ghost use Rattle.token.specs.Tokens.{stepAt, partOf};
 
+mod floats;
 mod lexeme;
 mod numbers;
 mod scan;
@@ -23,6 +24,8 @@ pub enum Sort {
     String,
     // `{ } [ ] = ; : ,` by its byte, and `..` as `.`.
     Punctuator(u8),
+    // A float: whether it is negative, its digits as one whole number, and the power of ten by which they count, plus 82.
+    Float(bool, u64, u8),
 }
 
 pub struct Token {
@@ -59,10 +62,18 @@ enum Skip {
 }
 
 // The value of a numeral.
-enum Amount {
+pub enum Amount {
     Is(u64),
     // It is none, or its value is too large.
     Not,
+}
+
+// The exponent of a float.
+pub enum Power {
+    // Whether it is below 0, its amount, and the place after the float.
+    Times(bool, u64, usize),
+    // It is none, or its amount is too large.
+    None,
 }
 
 impl Cursor {

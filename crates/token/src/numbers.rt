@@ -1,6 +1,6 @@
 // Numbers.
 ghost use mathlib.Core.Path.{_≡_};
-ghost use Prim.Native.Nat.{_+_, _*_, _<_};
+ghost use Prim.Native.Nat.{_+_, _*_, _<_, _≤_};
 ghost use lib.ListN.{drop};
 ghost use Rattle.token.specs.Numbers.{digitOf, atMost, digitsAfter, numeral};
 use super::Amount;
@@ -44,12 +44,12 @@ fn push(a: u64, base: u64, d: u64, max: u64) -> Amount
     Amount::Is(a * base + d)
 }
 
-// The value of the digits from a place to the end of a word, if it is at most max.
-fn digits(word: &[u8], from: usize, base: u64, max: u64) -> Amount
-    requires { ⌜ 0 < base ⌝ }
-    ensures { λ r. ⌜ r ≡ digitsAfter base max 0 (drop from (now (word .entry))) ⌝ }
+// The value of the digits from a place to the end of a word, after those whose value is first, if it is at most max.
+pub fn digits(word: &[u8], from: usize, base: u64, max: u64, first: u64) -> Amount
+    requires { ⌜ (0 < base) × (first ≤ max) ⌝ }
+    ensures { λ r. ⌜ r ≡ digitsAfter base max first (drop from (now (word .entry))) ⌝ }
 {
-    let mut a: u64 = 0;
+    let mut a = first;
     let mut i = from;
     while i < word.len() {
         let d = digit(word[i]) as u64;
@@ -83,9 +83,9 @@ pub fn numeral(word: &[u8], signed: bool, max: u64) -> Amount
             return Amount::Not;
         }
         if word[1] == b'x' {
-            return digits(word, 2, 16, max);
+            return digits(word, 2, 16, max, 0);
         }
         return Amount::Not;
     }
-    digits(word, 0, 10, max)
+    digits(word, 0, 10, max, 0)
 }

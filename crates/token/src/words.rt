@@ -7,7 +7,7 @@ ghost use Rattle.token.specs.Words.{known, same, codeOf};
 ghost use Rattle.token.specs.Slots.{slotBy, candidateOf};
 
 // The known words, each in twenty bytes.
-const LETTERS: [u8; 820] = *b"TRUE                \
+const LETTERS: [u8; 840] = *b"TRUE                \
           FALSE               \
           AUTO                \
           NO_DEFAULT          \
@@ -47,16 +47,17 @@ const LETTERS: [u8; 820] = *b"TRUE                \
           INT64               \
           STRING              \
           BOOLEAN             \
-          ENUM                ";
+          ENUM                \
+          FLOAT               ";
 
 // The lengths of the known words.
-const LENGTHS: [u8; 41] = *b"\x04\x05\x04\x0a\x09\x0b\x0e\x03\x02\x07\x04\x03\x07\x05\x08\x05\
+const LENGTHS: [u8; 42] = *b"\x04\x05\x04\x0a\x09\x0b\x0e\x03\x02\x07\x04\x03\x07\x05\x08\x05\
     \x03\x07\x0e\x04\x02\x07\x0c\x09\x08\x0c\x0a\x0d\x0a\x08\x0c\x13\
-    \x09\x07\x06\x05\x06\x05\x06\x07\x04";
+    \x09\x07\x06\x05\x06\x05\x06\x07\x04\x05";
 
 // How long a known word is.
 fn known_length(k: usize) -> u8
-    requires { ⌜ k < 41 ⌝ }
+    requires { ⌜ k < 42 ⌝ }
     ensures { λ r. ⌜ r ≡ length (getD known k []) ⌝ }
 {
     LENGTHS[k]
@@ -64,7 +65,7 @@ fn known_length(k: usize) -> u8
 
 // Whether a word is the known word k.
 fn is_known(word: &[u8], k: usize) -> bool
-    requires { ⌜ k < 41 ⌝ }
+    requires { ⌜ k < 42 ⌝ }
     ensures { λ r. ⌜ r ≡ same (now (word .entry)) (getD known k []) ⌝ }
 {
     let length = known_length(k) as usize;
@@ -88,7 +89,7 @@ const CANDIDATES: [u8; 128] = *b"\x00\x11\x00\x00\x00\x00\x00\x00\x29\x00\x00\x2
     \x00\x00\x00\x00\x00\x00\x00\x00\x00\x00\x00\x00\x00\x00\x00\x00\
     \x00\x15\x24\x0b\x00\x00\x00\x07\x00\x00\x00\x00\x00\x00\x00\x00\
     \x00\x00\x0d\x00\x26\x00\x06\x0a\x00\x00\x1b\x00\x17\x00\x1e\x00\
-    \x0c\x00\x1a\x00\x02\x00\x1d\x23\x10\x08\x00\x00\x00\x00\x00\x00\
+    \x0c\x00\x1a\x00\x02\x00\x1d\x23\x10\x08\x00\x2a\x00\x00\x00\x00\
     \x19\x21\x00\x00\x00\x05\x00\x00\x00\x25\x09\x12\x14\x00\x22\x00\
     \x1f\x16\x00\x00\x00\x13\x00\x00\x04\x00\x20\x0f\x00\x01\x00\x00\
     \x1c\x00\x18\x00\x00\x00\x00\x00\x00\x00\x00\x00\x00\x0e\x27\x00";

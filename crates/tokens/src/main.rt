@@ -24,6 +24,7 @@ fn write_sort(sort: Sort) {
         Sort::Number(_, _) => write(b"\tnumber\t"),
         Sort::String => write(b"\tstring\t"),
         Sort::Punctuator(_) => write(b"\tpunctuator\t"),
+        Sort::Float(_, _, _) => write(b"\tfloat\t"),
     }
 }
 

@@ -10,7 +10,7 @@ use Rattle.token.specs.Tokens.{stepAt}
 use Rattle.token.specs.Lexing.{lexN, lexFrom, afterStep}
 use Rattle.token.specs.declared.Step.{Step}
 use Rattle.token.specs.declared.Step.the-variants.{Found, Refused, End}
-use Rattle.grammar.specs.Grammar.{Token, Rule, rule, tok, Form, _▸_, ∎, _⟶_, Trees, nil, leaf, node, tokens, file, version, implementation, specs, spec, definitions, definition, attribute, reference, D, P, auto, mark, integer-range, numbers, boolean-range, enumerator, enumerators, application, objects, object, block, statements, statement, value, default, own, file-is, version-is, implementation-is, no-spec, a-spec, spec-is, no-definition, a-definition, an-attribute, a-reference, an-integer, a-string, a-boolean, an-enum, reference-is, no-D, a-D, no-P, a-P, no-auto, with-auto, no-mark, a-mark, no-range, a-range, a-list, no-number, a-number, no-boolean-range, a-boolean-range, enumerator-is, no-enumerator, an-enumerator, no-default, a-default, own-auto, own-none, own-number, own-string, own-true, own-false, own-name, application-is, no-object, an-object, an-object-alone, an-object-with, no-block, a-block, no-statement, a-statement, statement-is, value-number, value-string, value-auto, value-name, value-true, value-false}
+use Rattle.grammar.specs.Grammar.{Token, Rule, rule, tok, Form, _▸_, ∎, _⟶_, Trees, nil, leaf, node, tokens, file, version, implementation, specs, spec, definitions, definition, attribute, reference, D, P, auto, mark, integer-range, numbers, boolean-range, float-range, enumerator, enumerators, application, objects, object, block, statements, statement, value, default, own, file-is, version-is, implementation-is, no-spec, a-spec, spec-is, no-definition, a-definition, an-attribute, a-reference, an-integer, a-string, a-boolean, an-enum, a-float, reference-is, no-D, a-D, no-P, a-P, no-auto, with-auto, no-mark, a-mark, no-range, a-range, a-list, no-number, a-number, no-boolean-range, no-float-range, a-boolean-range, a-float-range, enumerator-is, no-enumerator, an-enumerator, no-default, a-default, own-auto, own-none, own-number, own-string, own-true, own-false, own-name, own-float, application-is, no-object, an-object, an-object-alone, an-object-with, no-block, a-block, no-statement, a-statement, statement-is, value-number, value-string, value-float, value-auto, value-name, value-true, value-false}
 use Rattle.grammar.specs.Machine.{Stream, ended, bad, _▹_, prepend}
 use Rattle.grammar.specs.Readers.{streamOf, lexAt, lookAt, rest}
 use Rattle.grammar.proofs.Meeting.{rest-look}
@@ -59,6 +59,7 @@ Small P m n = (i j : ℕ) → (definitions-in (m i j) ≤ n) × (enumerators-in 
 Small auto m n = Unit {0}
 Small mark m n = Unit {0}
 Small integer-range m n = Unit {0}
+Small float-range m n = Unit {0}
 Small numbers m n = Unit {0}
 Small boolean-range m n = (i j : ℕ) → (definitions-under (m i j .values) ≤ n) × (enumerators-under (m i j .values) false ≤ n)
 Small enumerator m n = (i j : ℕ) → (definitions-in (m i j .under) ≤ n) × (suc (enumerators-in (m i j .under)) ≤ n)
@@ -110,6 +111,7 @@ fewer a-definition m n q = λ i j.
 fewer an-attribute m n q = λ i j. let a = q .3 i j in (omega (arith, q .2, a .0), omega (arith, q .2, a .1))
 fewer a-reference m n q = λ i j. let a = q .3 i j in (omega (arith, q .2, a .0), omega (arith, q .2, a .1))
 fewer an-integer m n q = λ i j. (omega (arith, q .1), omega arith)
+fewer a-float m n q = λ i j. (omega (arith, q .1), omega arith)
 fewer a-string m n q = λ i j. (omega (arith, q .1), omega arith)
 fewer a-boolean m n q = λ i j.
     let b = q .2 in
@@ -135,7 +137,9 @@ fewer with-auto m n q = tt
 fewer no-mark m n q = tt
 fewer a-mark m n q = tt
 fewer no-range m n q = tt
+fewer no-float-range m n q = tt
 fewer a-range m n q = tt
+fewer a-float-range m n q = tt
 fewer a-list m n q = tt
 fewer no-number m n q = tt
 fewer a-number m n q = tt
@@ -165,6 +169,7 @@ fewer own-auto m n q = tt
 fewer own-none m n q = tt
 fewer own-number m n q = tt
 fewer own-string m n q = tt
+fewer own-float m n q = tt
 fewer own-true m n q = tt
 fewer own-false m n q = tt
 fewer own-name m n q = tt
@@ -189,6 +194,7 @@ fewer a-statement m n q = λ k.
 fewer statement-is m n q = λ k. let c = q .2 .2 in let r = c .3 (suc k) in omega (arith, q .1, q .2 .1, c .2, r)
 fewer value-number m n q = λ k. omega arith
 fewer value-string m n q = λ k. omega arith
+fewer value-float m n q = λ k. omega arith
 fewer value-auto m n q = λ k. omega arith
 fewer value-name m n q = λ k. let c = q .2 in let r = c .3 k in omega (arith, q .1, c .2, r)
 fewer value-true m n q = λ k. let c = q .2 in let r = c .3 k in omega (arith, q .1, c .2, r)
@@ -223,7 +229,7 @@ size-lex (suc n) s p = go (stepAt s p) (λ q. size-lex n s q)
     go (Refused q) h = omega arith
     go (End m) h = omega arith
 
-pub few-rows : (s : List ℕ) (v : Stream) (ts : Trees _⟶_ (file ▸ ∎)) → lookAt s 0 0 .code ≤ 54 → rest s (lookAt s 0 0) ≡ prepend (tokens ts) v → Few s (meaning s ts .0)
+pub few-rows : (s : List ℕ) (v : Stream) (ts : Trees _⟶_ (file ▸ ∎)) → lookAt s 0 0 .code ≤ 56 → rest s (lookAt s 0 0) ≡ prepend (tokens ts) v → Few s (meaning s ts .0)
 unfolding Few Parted Small lexAt lexFrom
 few-rows s v ts c q h =
     let a = parted s ts in

@@ -67,7 +67,7 @@ module _ {s : List ℕ} {a b : Look} {x y : List ℕ × (Table × Table)} where
         };
       }
 
-few : {s : List ℕ} {x y : Rooms} {r : Walked} {v : Stream} → lookAt s 0 0 .code ≤ 54 → Told s (file ▸ ∎) (rest s (lookAt s 0 0)) v (λ m. Tells (m .0) x y r)
+few : {s : List ℕ} {x y : Rooms} {r : Walked} {v : Stream} → lookAt s 0 0 .code ≤ 56 → Told s (file ▸ ∎) (rest s (lookAt s 0 0)) v (λ m. Tells (m .0) x y r)
     → Told s (file ▸ ∎) (rest s (lookAt s 0 0)) v (λ m. Tells (m .0) x y r × Few s (m .0))
 few {s} {v} c d = record { trees = d .trees; split = d .split; holds = (d .holds, few-rows s v (d .trees) c (d .split)) }
 

@@ -72,7 +72,7 @@ pub record Whole (s : List ℕ) (x y : Rooms) (r : Walked) : Type 0 where
   pub meets : Meets 1 (file ▸ ∎) s (lookAt s 0 0) (r .look)
   pub sizes : SameSizes x y
   -- where it is no refusal: a tree of the tokens read, with its syntax
-  pub told : r .look .code ≤ 54 → Told s (file ▸ ∎) (rest s (lookAt s 0 0)) (rest s (r .look)) (λ m. Tells (m .0) x y r × Few s (m .0))
+  pub told : r .look .code ≤ 56 → Told s (file ▸ ∎) (rest s (lookAt s 0 0)) (rest s (r .look)) (λ m. Tells (m .0) x y r × Few s (m .0))
 
 -- The rows are those of an application whose name stands at p, with n bytes.
 unfoldable pub ApplicationRows : ℕ → ℕ → All → Application → Type 0

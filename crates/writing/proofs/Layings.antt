@@ -15,7 +15,7 @@ use Rattle.token.specs.Tokens.{partOf}
 use Rattle.token.specs.Words.{bytesOf}
 use Rattle.token.proofs.Bytes.{both-true, both-second}
 use Rattle.meaning.specs.Syntax.{Word, span-of}
-use Rattle.meaning.specs.Resolving.{Value, number, truth, auto, string, enumerator, object, Taken, Resolved, end, resolved, Owner, of-object, of-value, ValueRow, value-row, value-rows, how-many-values}
+use Rattle.meaning.specs.Resolving.{Value, number, truth, auto, string, float, enumerator, object, Taken, Resolved, end, resolved, Owner, of-object, of-value, ValueRow, value-row, value-rows, how-many-values}
 use Rattle.meaning.specs.Cells.{owner-sort, owner-row, value-sort, value-negative, value-amount, value-cells}
 use Rattle.meaning.specs.Normal.{decimal, written}
 use Rattle.meaning.proofs.Rooms.{value-width}
@@ -134,6 +134,7 @@ shown s (number n) t h = ap (λ (b : Bool). decimal (record { negative = b; amou
 shown s (truth b) t h = sym (h .bytes)
 shown s auto t h = sym (h .bytes)
 shown s string t h = sym (h .bytes)
+shown s float t h = sym (h .bytes)
 shown s (enumerator e) t h = sym (h .bytes)
 shown s (object e) t h = sym (h .bytes)
 

@@ -1,6 +1,6 @@
 use native.Mathlib.Omega.{arith}
 use borrow.Author.Needs.{needs}
-use Rattle.definitions.proofs.Acts.{tables, typed-plain, typed-list, reference-defined, integer-defined, string-defined, truths-none, truths-there, boolean-defined, enum-defined, parameters-none, parameters-there, enumerator-there, definition-none, definitions-on, definitions-gone, enumerators-on}
+use Rattle.definitions.proofs.Acts.{tables, typed-plain, typed-list, reference-defined, integer-defined, float-defined, string-defined, truths-none, truths-there, boolean-defined, enum-defined, parameters-none, parameters-there, enumerator-there, definition-none, definitions-on, definitions-gone, enumerators-on}
 use Rattle.definitions.specs.Rows.{then, Fill, Rows, ValueRows}
 use Rattle.filling.proofs.Filling.{going}
 use Rattle.filling.specs.Fills.{Going}
@@ -30,6 +30,7 @@ use Rattle.definitions.proofs.attributes.auto.Reads as auto-reads
 use Rattle.definitions.proofs.attributes.head.Reads as head-reads
 use Rattle.definitions.proofs.attributes.integer.Reads as integer-reads
 use Rattle.definitions.proofs.attributes.named.Reads as named-reads
+use Rattle.definitions.proofs.attributes.float.Reads as float-reads
 use Rattle.definitions.proofs.attributes.reference.Reads as reference-reads
 use Rattle.definitions.proofs.attributes.string.Reads as string-reads
 use Rattle.definitions.proofs.attributes.with_list.Reads as with-list-reads
@@ -132,6 +133,8 @@ definition-claims t = (
   is-type-reads.Learnt,
   reference-reads.Asked,
   reference-reads.Learnt,
+  float-reads.Asked,
+  float-reads.Learnt,
   refuse-reads.Asked,
   refuse-reads.Learnt,
 )
@@ -298,11 +301,23 @@ definition-same-length-8 t c = (c .before .before .before .reference .ensures) .
 definition-returns-6 : (t : ℕ) → definition-lts.Need-returns-6 (definition-claims t) (definition-at t) definition.Post definition-Inv-loop definition-μ-loop
 definition-returns-6 t c = reference-defined _ (sym (c .before .before .before .before .before .before .before .is-type .ensures) ∙ (c .before .before .before .before .before .before .if7 .taken)) (c .before .before .before .before .before .advance7 .ensures) (c .before .before .before .reference .ensures)
 
+definition-advance-requires-8 : (t : ℕ) → definition-lts.Need-advance-requires-8 (definition-claims t) (definition-at t) definition.Post definition-Inv-loop definition-μ-loop
+definition-advance-requires-8 t c κs = search needs
+
+definition-float-requires : (t : ℕ) → definition-lts.Need-float-requires (definition-claims t) (definition-at t) definition.Post definition-Inv-loop definition-μ-loop
+definition-float-requires t c κs = search needs
+
+definition-same-length-9 : (t : ℕ) → definition-lts.Need-same-length-9 (definition-claims t) (definition-at t) definition.Post definition-Inv-loop definition-μ-loop
+definition-same-length-9 t c = (c .before .before .before .float .ensures) .does .size
+
+definition-returns-7 : (t : ℕ) → definition-lts.Need-returns-7 (definition-claims t) (definition-at t) definition.Post definition-Inv-loop definition-μ-loop
+definition-returns-7 t c = float-defined _ (c .before .before .before .before .before .before .if8 .taken) (c .before .before .before .before .before .advance8 .ensures) (c .before .before .before .float .ensures)
+
 definition-refuse-requires : (t : ℕ) → definition-lts.Need-refuse-requires (definition-claims t) (definition-at t) definition.Post definition-Inv-loop definition-μ-loop
 definition-refuse-requires t c κs = search needs
 
-definition-returns-7 : (t : ℕ) → definition-lts.Need-returns-7 (definition-claims t) (definition-at t) definition.Post definition-Inv-loop definition-μ-loop
-definition-returns-7 t c = definition-none _ (definition-no (c .before .before .before .before .before .before .before .if1 .left) (c .before .before .before .before .before .before .if3 .left) (c .before .before .before .before .before .if5 .left) (sym (c .before .before .before .before .is-integer .ensures) ∙ (c .before .before .before .if6 .left)) (sym (c .before .before .is-type .ensures) ∙ (c .before .if7 .left)) (c .refuse .ensures)) (c .refuse .ensures)
+definition-returns-8 : (t : ℕ) → definition-lts.Need-returns-8 (definition-claims t) (definition-at t) definition.Post definition-Inv-loop definition-μ-loop
+definition-returns-8 t c = definition-none _ (definition-no (c .before .before .before .before .before .before .before .before .if1 .left) (c .before .before .before .before .before .before .before .if3 .left) (c .before .before .before .before .before .before .if5 .left) (sym (c .before .before .before .before .before .is-integer .ensures) ∙ (c .before .before .before .before .if6 .left)) (sym (c .before .before .before .is-type .ensures) ∙ (c .before .before .if7 .left)) (c .before .if8 .left) (c .refuse .ensures)) (c .refuse .ensures)
 
 abbrev definitions-Inv-loop : definitions-lts.InvT-loop
 definitions-Inv-loop text d₀ e₀ n m under a₀ i₀ j₀ d e a i j = Going then Fill definitions (Rows under) text a₀ a ((d₀, i₀), (e₀, j₀)) ((d, i), (e, j))
@@ -405,7 +420,7 @@ parameters-advance-requires : (t : ℕ) → parameters-lts.Need-advance-requires
 parameters-advance-requires t c κs = search needs
 
 parameters-definitions-requires : (t : ℕ) → parameters-lts.Need-definitions-requires (parameters-claims t) (parameters-at t) parameters.Post
-parameters-definitions-requires t c κs = let w = went-on 44 tt _ _ _ (c .before .before .before .if1 .left) (c .before .before .advance .ensures) in (omega arith, tt)
+parameters-definitions-requires t c κs = let w = went-on 45 tt _ _ _ (c .before .before .before .if1 .left) (c .before .before .advance .ensures) in (omega arith, tt)
 
 parameters-expect-requires : (t : ℕ) → parameters-lts.Need-expect-requires (parameters-claims t) (parameters-at t) parameters.Post
 parameters-expect-requires t c κs = search needs
@@ -479,8 +494,12 @@ pub +definition+definitions+enumerator+parameters-spec : {M : Type 1} → statem
     (definition-reference-requires t)
     (definition-same-length-8 t)
     (definition-returns-6 t)
+    (definition-advance-requires-8 t)
+    (definition-float-requires t)
+    (definition-same-length-9 t)
+    (definition-returns-7 t)
     (definition-refuse-requires t)
-    (definition-returns-7 t))
+    (definition-returns-8 t))
     (λ t. definitions-lts.spec (definitions-claims t)
     (definitions-at t)
     definitions.Post

@@ -1,6 +1,6 @@
 use native.Mathlib.Omega.{arith}
 use borrow.Author.Needs.{needs}
-use Rattle.objects.proofs.Stated.{lines, statements-on, statements-gone, block-none, block-there, value-true-there, value-false-there, value-name-there, value-number-there, value-string-there, value-auto-there, value-none, statement-there}
+use Rattle.objects.proofs.Stated.{lines, statements-on, statements-gone, block-none, block-there, value-true-there, value-false-there, value-name-there, value-number-there, value-string-there, value-float-there, value-auto-there, value-none, statement-there}
 use Rattle.objects.specs.Rows.{then, Fill, StatementRows}
 use Rattle.filling.proofs.Filling.{going}
 use Rattle.filling.specs.Fills.{Going}
@@ -94,7 +94,7 @@ block-advance-requires : (t : ℕ) → block-lts.Need-advance-requires (block-cl
 block-advance-requires t c κs = search needs
 
 block-statements-requires : (t : ℕ) → block-lts.Need-statements-requires (block-claims t) (block-at t) block.Post
-block-statements-requires t c κs = let w = went-on 44 tt _ _ _ (c .before .before .if1 .left) (c .before .advance .ensures) in (omega arith, tt)
+block-statements-requires t c κs = let w = went-on 45 tt _ _ _ (c .before .before .if1 .left) (c .before .advance .ensures) in (omega arith, tt)
 
 block-expect-requires : (t : ℕ) → block-lts.Need-expect-requires (block-claims t) (block-at t) block.Post
 block-expect-requires t c κs = search needs
@@ -263,11 +263,17 @@ value-same-length-3 t c = (c .before .before .block3 .ensures) .does .1 .size
 value-returns-6 : (t : ℕ) → value-lts.Need-returns-6 (value-claims t) (value-at t) value.Post
 value-returns-6 t c = value-name-there _ (sym (c .before .before .before .before .before .before .is-name .ensures) ∙ (c .before .before .before .before .before .if6 .taken)) (c .before .before .before .before .advance6 .ensures) (c .before .before .block3 .ensures)
 
+value-advance-requires-7 : (t : ℕ) → value-lts.Need-advance-requires-7 (value-claims t) (value-at t) value.Post
+value-advance-requires-7 t c κs = search needs
+
+value-returns-7 : (t : ℕ) → value-lts.Need-returns-7 (value-claims t) (value-at t) value.Post
+value-returns-7 t c = value-float-there (c .before .if7 .taken) (c .advance7 .ensures)
+
 value-refuse-requires : (t : ℕ) → value-lts.Need-refuse-requires (value-claims t) (value-at t) value.Post
 value-refuse-requires t c κs = search needs
 
-value-returns-7 : (t : ℕ) → value-lts.Need-returns-7 (value-claims t) (value-at t) value.Post
-value-returns-7 t c = value-none (value-no (c .before .before .before .before .before .before .before .if1 .left) (c .before .before .before .before .before .before .if2 .left) (c .before .before .before .before .before .if3 .left) (c .before .before .before .before .if4 .left) (c .before .before .before .if5 .left) (sym (c .before .before .is-name .ensures) ∙ (c .before .if6 .left)) (c .refuse .ensures)) (c .refuse .ensures)
+value-returns-8 : (t : ℕ) → value-lts.Need-returns-8 (value-claims t) (value-at t) value.Post
+value-returns-8 t c = value-none (value-no (c .before .before .before .before .before .before .before .before .if1 .left) (c .before .before .before .before .before .before .before .if2 .left) (c .before .before .before .before .before .before .if3 .left) (c .before .before .before .before .before .if4 .left) (c .before .before .before .before .if5 .left) (sym (c .before .before .before .is-name .ensures) ∙ (c .before .before .if6 .left)) (c .before .if7 .left) (c .refuse .ensures)) (c .refuse .ensures)
 
 pub +block+statement+statements+value-spec : {M : Type 1} → statement M
 +block+statement+statements+value-spec =
@@ -329,5 +335,7 @@ pub +block+statement+statements+value-spec : {M : Type 1} → statement M
     (value-block-requires-3 t)
     (value-same-length-3 t)
     (value-returns-6 t)
-    (value-refuse-requires t)
+    (value-advance-requires-7 t)
     (value-returns-7 t)
+    (value-refuse-requires t)
+    (value-returns-8 t)

@@ -24,6 +24,9 @@ enum-known-sort-3 c = search needs
 cast-result-2 : tie.Need-cast-result-2
 cast-result-2 c = search needs
 
+enum-known-sort-4 : tie.Need-enum-known-sort-4
+enum-known-sort-4 c = search needs
+
 returns : tie.Need-returns
 unfolding detailOfSort
 returns c = sym (ap detailOfSort (c .before .sort .given .1))
@@ -40,6 +43,10 @@ returns-4 : tie.Need-returns-4
 unfolding detailOfSort
 returns-4 c = sym (ap detailOfSort (c .before .sort3 .given .1))
 
+returns-5 : tie.Need-returns-5
+unfolding detailOfSort
+returns-5 c = sym (ap detailOfSort (c .before .sort4 .given .1))
+
 pub detail-of-sort-spec : {M : Type 1} → statement M
 detail-of-sort-spec =
     tie.close
@@ -50,7 +57,9 @@ detail-of-sort-spec =
     enum-told
     enum-known-sort-3
     cast-result-2
+    enum-known-sort-4
     returns
     returns-2
     returns-3
-    returns-4)
+    returns-4
+    returns-5)

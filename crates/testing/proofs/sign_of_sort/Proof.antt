@@ -18,6 +18,9 @@ enum-told-2 c = search needs
 enum-told-3 : tie.Need-enum-told-3
 enum-told-3 c = search needs
 
+enum-known-sort-2 : tie.Need-enum-known-sort-2
+enum-known-sort-2 c = search needs
+
 returns : tie.Need-returns
 unfolding signOfSort
 returns c = sym (ap signOfSort (c .before .sort .given .1))
@@ -34,6 +37,10 @@ returns-4 : tie.Need-returns-4
 unfolding signOfSort
 returns-4 c = sym (ap signOfSort (c .enum-told3 .given .1))
 
+returns-5 : tie.Need-returns-5
+unfolding signOfSort
+returns-5 c = sym (ap signOfSort (c .before .sort2 .given .1))
+
 pub sign-of-sort-spec : {M : Type 1} → statement M
 sign-of-sort-spec =
     tie.close
@@ -42,7 +49,9 @@ sign-of-sort-spec =
     enum-told
     enum-told-2
     enum-told-3
+    enum-known-sort-2
     returns
     returns-2
     returns-3
-    returns-4)
+    returns-4
+    returns-5)

@@ -9,7 +9,7 @@ use Rattle.amounts.proofs.noting.note_ranges.Statement.{statement}
 use Rattle.amounts.proofs.noting.note_ranges.Tie as tie
 use Rattle.amounts.proofs.noting.note_ranges.Reads as reads
 use Rattle.amounts.proofs.noting.note_ranges.Lts as lts
-use Rattle.amounts.proofs.noting.note_row.Reads as note-row-reads
+use Rattle.amounts.proofs.noting.note_range.Reads as note-range-reads
 
 abbrev Inv-loop : tie.InvT-loop
 Inv-loop text d n t₀ spare₀ used₀ j₀ t spare used j = Rows text d t₀ t used × (length spare ≡ length spare₀)
@@ -29,8 +29,8 @@ same-length-2 c = (c .before .before .loop .inv) .1
 returns : tie.Need-returns Inv-loop μ-loop
 returns c = rows-end _ _ _ _ _ ((c .before .before .loop .inv) .0)
 
-note-row-requires : tie.Need-note-row-requires Inv-loop μ-loop
-note-row-requires c κs = tt
+note-range-requires : tie.Need-note-range-requires Inv-loop μ-loop
+note-range-requires c κs = tt
 
 add-j : tie.Need-add-j Inv-loop μ-loop
 add-j c = omega arith
@@ -39,7 +39,7 @@ loop-less : tie.Need-loop-less Inv-loop μ-loop
 loop-less c = omega arith
 
 loop-again : tie.Need-loop-again Inv-loop μ-loop
-loop-again c = (rows-more _ _ _ _ _ _ _ ((c .before .before .before .before .before .before .before .before .before .loop .inv) .0) (c .before .before .before .before .note-row .ensures), omega (arith, (c .before .before .before .before .note-row .kept), (c .before .before .before .before .before .before .before .before .before .loop .inv) .1))
+loop-again c = (rows-more _ _ _ _ _ _ _ ((c .before .before .before .before .before .before .before .before .before .loop .inv) .0) (c .before .before .before .before .note-range .ensures), omega (arith, (c .before .before .before .before .note-range .kept), (c .before .before .before .before .before .before .before .before .before .loop .inv) .1))
 
 same-length-3 : tie.Need-same-length-3 Inv-loop μ-loop
 same-length-3 c = (c .before .loop .inv) .0 .size
@@ -60,7 +60,7 @@ note-ranges-spec =
     same-length
     same-length-2
     returns
-    note-row-requires
+    note-range-requires
     add-j
     loop-less
     loop-again

@@ -1,6 +1,6 @@
 use native.Mathlib.Omega.{arith}
 use borrow.Author.Needs.{needs}
-use Rattle.grammar.proofs.Rules.{comma-less, lsquare-taken, P-pass, P-by, enumerator-by, enumerators-item, enumerators-again, enumerators-done, boolean-range-pass, boolean-range-by, boolean-by, enum-by, string-by, integer-by, reference-by, definition-no, definitions-again, definitions-done, definitions-less, twice-less, twice-one-less, comma-one-less}
+use Rattle.grammar.proofs.Rules.{comma-less, lsquare-taken, P-pass, P-by, enumerator-by, enumerators-item, enumerators-again, enumerators-done, boolean-range-pass, boolean-range-by, boolean-by, enum-by, string-by, float-by, integer-by, reference-by, definition-no, definitions-again, definitions-done, definitions-less, twice-less, twice-one-less, comma-one-less}
 use Rattle.grammar.proofs.Terminals.{rbrace-is, lsquare-is, rsquare-is, true-is, false-is, comma-is}
 use Rattle.grammar.proofs.Meeting.{_⊳_, still, went-on}
 use Rattle.grammar.specs.Readers.{Still, left, sortAt}
@@ -31,6 +31,7 @@ use Rattle.grammar.proofs.lookahead.is_type.Reads as is-type-reads
 use Rattle.grammar.proofs.lookahead.refuse.Reads as refuse-reads
 use Rattle.grammar.proofs.parts.auto.Reads as auto-reads
 use Rattle.grammar.proofs.parts.description.Reads as description-reads
+use Rattle.grammar.proofs.parts.float_rest.Reads as float-rest-reads
 use Rattle.grammar.proofs.parts.integer_rest.Reads as integer-rest-reads
 use Rattle.grammar.proofs.parts.named.Reads as named-reads
 use Rattle.grammar.proofs.parts.reference_rest.Reads as reference-rest-reads
@@ -118,6 +119,8 @@ definition-claims t = (
   is-type-reads.Learnt,
   reference-rest-reads.Asked,
   reference-rest-reads.Learnt,
+  float-rest-reads.Asked,
+  float-rest-reads.Learnt,
   refuse-reads.Asked,
   refuse-reads.Learnt,
 )
@@ -239,11 +242,20 @@ definition-reference-rest-requires t c κs = search needs
 definition-returns-6 : (t : ℕ) → definition-lts.Need-returns-6 (definition-claims t) (definition-at t) definition.Post definition-Inv-loop definition-μ-loop
 definition-returns-6 t c = reference-by (sym (c .before .before .before .is-type .ensures) ∙ (c .before .before .if7 .taken)) (c .before .advance7 .ensures) (c .reference-rest .ensures)
 
+definition-advance-requires-8 : (t : ℕ) → definition-lts.Need-advance-requires-8 (definition-claims t) (definition-at t) definition.Post definition-Inv-loop definition-μ-loop
+definition-advance-requires-8 t c κs = search needs
+
+definition-float-rest-requires : (t : ℕ) → definition-lts.Need-float-rest-requires (definition-claims t) (definition-at t) definition.Post definition-Inv-loop definition-μ-loop
+definition-float-rest-requires t c κs = search needs
+
+definition-returns-7 : (t : ℕ) → definition-lts.Need-returns-7 (definition-claims t) (definition-at t) definition.Post definition-Inv-loop definition-μ-loop
+definition-returns-7 t c = float-by (c .before .before .if8 .taken) (c .before .advance8 .ensures) (c .float-rest .ensures)
+
 definition-refuse-requires : (t : ℕ) → definition-lts.Need-refuse-requires (definition-claims t) (definition-at t) definition.Post definition-Inv-loop definition-μ-loop
 definition-refuse-requires t c κs = search needs
 
-definition-returns-7 : (t : ℕ) → definition-lts.Need-returns-7 (definition-claims t) (definition-at t) definition.Post definition-Inv-loop definition-μ-loop
-definition-returns-7 t c = definition-no (c .before .before .before .before .before .before .before .if1 .left) (c .before .before .before .before .before .before .if3 .left) (c .before .before .before .before .before .if5 .left) (sym (c .before .before .before .before .is-integer .ensures) ∙ (c .before .before .before .if6 .left)) (sym (c .before .before .is-type .ensures) ∙ (c .before .if7 .left)) (c .refuse .ensures)
+definition-returns-8 : (t : ℕ) → definition-lts.Need-returns-8 (definition-claims t) (definition-at t) definition.Post definition-Inv-loop definition-μ-loop
+definition-returns-8 t c = definition-no (c .before .before .before .before .before .before .before .before .if1 .left) (c .before .before .before .before .before .before .before .if3 .left) (c .before .before .before .before .before .before .if5 .left) (sym (c .before .before .before .before .before .is-integer .ensures) ∙ (c .before .before .before .before .if6 .left)) (sym (c .before .before .before .is-type .ensures) ∙ (c .before .before .if7 .left)) (c .before .if8 .left) (c .refuse .ensures)
 
 abbrev definitions-Inv-loop : definitions-lts.InvT-loop
 definitions-Inv-loop text a₀ a = Still definitions text a₀ a
@@ -316,7 +328,7 @@ parameters-advance-requires : (t : ℕ) → parameters-lts.Need-advance-requires
 parameters-advance-requires t c κs = search needs
 
 parameters-definitions-requires : (t : ℕ) → parameters-lts.Need-definitions-requires (parameters-claims t) (parameters-at t) parameters.Post
-parameters-definitions-requires t c κs = let w = went-on 44 tt _ _ _ (c .before .if1 .left) (c .advance .ensures) in (omega arith, tt)
+parameters-definitions-requires t c κs = let w = went-on 45 tt _ _ _ (c .before .if1 .left) (c .advance .ensures) in (omega arith, tt)
 
 parameters-expect-requires : (t : ℕ) → parameters-lts.Need-expect-requires (parameters-claims t) (parameters-at t) parameters.Post
 parameters-expect-requires t c κs = search needs
@@ -369,8 +381,11 @@ pub +definition+definitions+enumerator+parameters-spec : {M : Type 1} → statem
     (definition-advance-requires-7 t)
     (definition-reference-rest-requires t)
     (definition-returns-6 t)
+    (definition-advance-requires-8 t)
+    (definition-float-rest-requires t)
+    (definition-returns-7 t)
     (definition-refuse-requires t)
-    (definition-returns-7 t))
+    (definition-returns-8 t))
     (λ t. definitions-lts.spec (definitions-claims t)
     (definitions-at t)
     definitions.Post

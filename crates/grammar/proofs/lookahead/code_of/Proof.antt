@@ -20,6 +20,9 @@ enum-told-2 c = search needs
 enum-known-sort-2 : tie.Need-enum-known-sort-2
 enum-known-sort-2 c = search needs
 
+enum-told-3 : tie.Need-enum-told-3
+enum-told-3 c = search needs
+
 punctuator-code-requires : tie.Need-punctuator-code-requires
 punctuator-code-requires c κs = search needs
 
@@ -41,6 +44,10 @@ returns-5 : tie.Need-returns-5
 unfolding codeOf
 returns-5 c = (c .punctuator-code .ensures) ∙ sym (ap codeOf (c .before .before .sort2 .given .1))
 
+returns-6 : tie.Need-returns-6
+unfolding codeOf
+returns-6 c = sym (ap codeOf (c .enum-told3 .given .1))
+
 pub code-of-spec : {M : Type 1} → statement M
 code-of-spec =
     tie.close
@@ -50,8 +57,10 @@ code-of-spec =
     enum-told-2
     enum-known-sort-2
     punctuator-code-requires
+    enum-told-3
     returns
     returns-2
     returns-3
     returns-4
-    returns-5)
+    returns-5
+    returns-6)

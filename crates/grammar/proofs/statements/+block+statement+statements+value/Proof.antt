@@ -1,6 +1,6 @@
 use native.Mathlib.Omega.{arith}
 use borrow.Author.Needs.{needs}
-use Rattle.grammar.proofs.Rules.{name-taken, name-less, block-pass, block-by, value-numbers, value-strings, value-autos, value-trues, value-falses, value-names, value-no, statement-by, statements-again, statements-done}
+use Rattle.grammar.proofs.Rules.{name-taken, name-less, block-pass, block-by, value-numbers, value-strings, value-floats, value-autos, value-trues, value-falses, value-names, value-no, statement-by, statements-again, statements-done}
 use Rattle.grammar.proofs.Terminals.{rbrace-is, equals-is}
 use Rattle.grammar.proofs.Meeting.{_⊳_, still, went-on}
 use Rattle.grammar.specs.Readers.{Still, left}
@@ -87,7 +87,7 @@ block-advance-requires : (t : ℕ) → block-lts.Need-advance-requires (block-cl
 block-advance-requires t c κs = search needs
 
 block-statements-requires : (t : ℕ) → block-lts.Need-statements-requires (block-claims t) (block-at t) block.Post
-block-statements-requires t c κs = let w = went-on 44 tt _ _ _ (c .before .if1 .left) (c .advance .ensures) in (omega arith, tt)
+block-statements-requires t c κs = let w = went-on 45 tt _ _ _ (c .before .if1 .left) (c .advance .ensures) in (omega arith, tt)
 
 block-expect-requires : (t : ℕ) → block-lts.Need-expect-requires (block-claims t) (block-at t) block.Post
 block-expect-requires t c κs = search needs
@@ -214,11 +214,17 @@ value-block-requires-3 t c κs = let h = sym (c .before .before .is-name .ensure
 value-returns-6 : (t : ℕ) → value-lts.Need-returns-6 (value-claims t) (value-at t) value.Post
 value-returns-6 t c = value-names (sym (c .before .before .before .is-name .ensures) ∙ (c .before .before .if6 .taken)) (c .before .advance6 .ensures) (c .block3 .ensures)
 
+value-advance-requires-7 : (t : ℕ) → value-lts.Need-advance-requires-7 (value-claims t) (value-at t) value.Post
+value-advance-requires-7 t c κs = search needs
+
+value-returns-7 : (t : ℕ) → value-lts.Need-returns-7 (value-claims t) (value-at t) value.Post
+value-returns-7 t c = value-floats (c .before .if7 .taken) (c .advance7 .ensures)
+
 value-refuse-requires : (t : ℕ) → value-lts.Need-refuse-requires (value-claims t) (value-at t) value.Post
 value-refuse-requires t c κs = search needs
 
-value-returns-7 : (t : ℕ) → value-lts.Need-returns-7 (value-claims t) (value-at t) value.Post
-value-returns-7 t c = value-no (c .before .before .before .before .before .before .before .if1 .left) (c .before .before .before .before .before .before .if2 .left) (c .before .before .before .before .before .if3 .left) (c .before .before .before .before .if4 .left) (c .before .before .before .if5 .left) (sym (c .before .before .is-name .ensures) ∙ (c .before .if6 .left)) (c .refuse .ensures)
+value-returns-8 : (t : ℕ) → value-lts.Need-returns-8 (value-claims t) (value-at t) value.Post
+value-returns-8 t c = value-no (c .before .before .before .before .before .before .before .before .if1 .left) (c .before .before .before .before .before .before .before .if2 .left) (c .before .before .before .before .before .before .if3 .left) (c .before .before .before .before .before .if4 .left) (c .before .before .before .before .if5 .left) (sym (c .before .before .before .is-name .ensures) ∙ (c .before .before .if6 .left)) (c .before .if7 .left) (c .refuse .ensures)
 
 pub +block+statement+statements+value-spec : {M : Type 1} → statement M
 +block+statement+statements+value-spec =
@@ -268,5 +274,7 @@ pub +block+statement+statements+value-spec : {M : Type 1} → statement M
     (value-advance-requires-6 t)
     (value-block-requires-3 t)
     (value-returns-6 t)
-    (value-refuse-requires t)
+    (value-advance-requires-7 t)
     (value-returns-7 t)
+    (value-refuse-requires t)
+    (value-returns-8 t)

@@ -1,7 +1,6 @@
 -- `resolving::values::value_of` meets its contract: by the word's code, each answer its own law.
 -- Assumes nothing.
-use native.Mathlib.Omega.{arith}
-use Rattle.resolving.proofs.Valuing.{value-number, value-string, value-true, value-false, value-auto, value-no-default, value-name}
+use Rattle.resolving.proofs.Valuing.{value-number, value-string, value-float, value-true, value-false, value-auto, value-no-default, value-name}
 use borrow.Author.Needs.{needs}
 use Rattle.resolving.proofs.values.value_of.Statement.{statement}
 use Rattle.resolving.proofs.values.value_of.Tie as tie
@@ -31,11 +30,14 @@ returns-5 c = value-auto (c .if5 .taken)
 returns-6 : tie.Need-returns-6
 returns-6 c = value-no-default (c .if6 .taken)
 
+returns-7 : tie.Need-returns-7
+returns-7 c = value-float (c .if7 .taken)
+
 named-value-requires : tie.Need-named-value-requires
 named-value-requires c κs = search needs
 
-returns-7 : tie.Need-returns-7
-returns-7 c = value-name (λ q. omega arith) (λ q. omega arith) (λ q. omega arith) (λ q. omega arith) (λ q. omega arith) (λ q. omega arith) (c .named-value .ensures)
+returns-8 : tie.Need-returns-8
+returns-8 c = value-name (c .before .before .before .before .before .before .before .if1 .left) (c .before .before .before .before .before .before .if2 .left) (c .before .before .before .before .before .if3 .left) (c .before .before .before .before .if4 .left) (c .before .before .before .if5 .left) (c .before .before .if6 .left) (c .before .if7 .left) (c .named-value .ensures)
 
 pub value-of-spec : {M : Type 1} → statement M
 value-of-spec =
@@ -48,5 +50,6 @@ value-of-spec =
     returns-4
     returns-5
     returns-6
+    returns-7
     named-value-requires
-    returns-7)
+    returns-8)

@@ -1,5 +1,5 @@
 -- `lookups::takes_word` meets its contract: each code by its law. Assumes nothing.
-use Rattle.scopes.proofs.Taking.{takes-3, takes-4, takes-43, takes-1, takes-2, takes-other, takes-name}
+use Rattle.scopes.proofs.Taking.{takes-3, takes-4, takes-quoted, takes-1, takes-2, takes-other, takes-name}
 use borrow.Author.Needs.{needs}
 use Rattle.scopes.proofs.lookups.takes_word.Statement.{statement}
 use Rattle.scopes.proofs.lookups.takes_word.Tie as tie
@@ -20,7 +20,7 @@ cell-of-requires-2 : tie.Need-cell-of-requires-2
 cell-of-requires-2 c κs = search needs
 
 returns-3 : tie.Need-returns-3
-returns-3 c = takes-43 _ _ _ _ _ (c .before .cell-of2 .ensures) (c .if3 .taken)
+returns-3 c = takes-quoted _ _ _ _ _ (c .before .cell-of2 .ensures) (c .if3 .taken)
 
 returns-4 : tie.Need-returns-4
 returns-4 c = takes-1 _ _ _ _ _ (c .before .before .cell-of2 .ensures) (c .if4 .taken)

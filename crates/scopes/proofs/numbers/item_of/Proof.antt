@@ -1,4 +1,4 @@
-use Rattle.scopes.proofs.Deciding.{item-word, item-numeral, item-string, item-sign}
+use Rattle.scopes.proofs.Deciding.{item-word, item-numeral, item-string, item-sign, item-float}
 use borrow.Author.Needs.{needs}
 use Rattle.scopes.proofs.numbers.item_of.Statement.{statement}
 use Rattle.scopes.proofs.numbers.item_of.Tie as tie
@@ -17,6 +17,9 @@ enum-told-2 c = search needs
 enum-known-sort-2 : tie.Need-enum-known-sort-2
 enum-known-sort-2 c = search needs
 
+enum-told-3 : tie.Need-enum-told-3
+enum-told-3 c = search needs
+
 returns : tie.Need-returns
 returns c = item-word _ _ _ _ ((c .enum-told .given) .1)
 
@@ -29,6 +32,9 @@ returns-3 c = item-string _ _ _ ((c .enum-told2 .given) .1)
 returns-4 : tie.Need-returns-4
 returns-4 c = item-sign _ _ _ _ ((c .before .sort2 .given) .1)
 
+returns-5 : tie.Need-returns-5
+returns-5 c = item-float _ _ _ _ _ _ ((c .enum-told3 .given) .1)
+
 pub item-of-spec : {M : Type 1} → statement M
 item-of-spec =
     tie.close
@@ -37,7 +43,9 @@ item-of-spec =
     enum-known-sort
     enum-told-2
     enum-known-sort-2
+    enum-told-3
     returns
     returns-2
     returns-3
-    returns-4)
+    returns-4
+    returns-5)

@@ -13,7 +13,7 @@ array-read-result : tie.Need-array-read-result
 array-read-result c = search needs
 
 returns : tie.Need-returns
-returns c = at (λ (k : ℕ). length (getD known k [])) 41 (c .args .k) (c .pre)
+returns c = at (λ (k : ℕ). length (getD known k [])) 42 (c .args .k) (c .pre)
 
 pub known-length-spec : {M : Type 1} → statement M
 known-length-spec = tie.close (tie.spec array-read-result returns)
