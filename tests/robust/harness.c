@@ -55,7 +55,7 @@ static const size_t WIDTHS[TABLES] = {13, 3, 8, 9};
 #define USUAL_OUTPUT ((size_t)65535)
 #define PAST ((size_t)40)            // cells past the room of a longer table
 
-enum { LAST_NUMBER = 23, TABLES_TOO_SHORT = 1, TEXT_TOO_LONG = 2, OUTPUT_TOO_SHORT = 20 };
+enum { LAST_NUMBER = 24, TABLES_TOO_SHORT = 1, TEXT_TOO_LONG = 2, OUTPUT_TOO_SHORT = 20 };
 
 // Whether no refusal has this number any more.
 static bool is_retired(unsigned number) {
@@ -1031,7 +1031,7 @@ static const struct {
     [CELL_ON_REFUSAL_1] = {"refusal 1 changes a cell", "a write to read-only memory: definitions", false},
     [CELL_OF_AN_UNUSED_ROW] = {"a cell of an unused row is left", "definitions: an unused cell is not zero", false},
     [CELL_OF_A_USED_ROW] = {"write leaves another row than read", "objects: the rows are not those of the first reading", false},
-    [NUMBER_TOO_GREAT] = {"the number is 24", "the number is 24", false},
+    [NUMBER_TOO_GREAT] = {"the number is 25", "the number is 25", false},
     [RETIRED_NUMBER] = {"the number is 10", "the number is 10", false},
     [PLACE_PAST_THE_TEXT] = {"the place is past the text", "the place is 2 of 1", false},
     [OBJECT_WITHOUT_PARTS] = {"an object has no part", "object 0 has 0 parts", false},

@@ -69,14 +69,14 @@ struct Plan {
 }
 
 /// One more than the greatest number of a refusal.
-const NUMBERS: usize = 24;
+const NUMBERS: usize = 25;
 
 /// The stage that a refusal's number belongs to.
 pub fn stage_of(number: u8) -> u8 {
     match number {
         3..=5 => 0,
         6..=9 | 21..=23 => 1,
-        11 | 17 => 2,
+        11 | 17 | 24 => 2,
         _ => 3,
     }
 }
@@ -276,9 +276,13 @@ impl Maker {
 
     // ---- what the text means ----
 
-    /// The names of all objects: as many of each kind as may be.
+    /// The names of all objects, each in one kind: as many of each kind as may be.
     fn make_objects(&mut self) {
-        const NAMES: [&str; 7] = ["o", "t1", "t2", "a", "TASK", "x", "NONE"];
+        const NAMES: [&str; 26] = [
+            "o", "t1", "t2", "a", "TASK", "x", "NONE", "m", "c", "A", "B", "MASK", "EVENT", "CPU",
+            "ON", "OFF", "y_1", "UINT32", "X", "_", "t", "t11", "T2", "SOME", "OS", "COM",
+        ];
+        let mut names = self.some(&NAMES, NAMES.len());
         for kind in KINDS {
             let count = match kind {
                 "OS" => 1,
@@ -286,8 +290,7 @@ impl Maker {
                 "COM" | "NM" => self.random.below(2),
                 _ => self.random.below(3),
             };
-            let names = self.some(&NAMES, count);
-            self.objects.push(names);
+            self.objects.push(names.split_off(names.len() - count));
         }
     }
 
@@ -1024,7 +1027,15 @@ impl Maker {
 
     /// Objects that there may not be.
     fn more_objects(&mut self, objects: &[(Kind, &'static str)]) {
-        for &(kind, _) in objects {
+        for &(kind, name) in objects {
+            if self.plants(24) {
+                let mut others = ["TASK", "ISR", "EVENT", "IPDU"].into_iter();
+                let other = others.find(|word| *word != KINDS[kind]);
+                self.put(other.expect("another kind"));
+                let place = self.put(name);
+                self.end();
+                self.planted(24, place);
+            }
             if ["OS", "COM", "NM"].contains(&KINDS[kind]) && self.plants(17) {
                 let place = self.put(KINDS[kind]);
                 self.put("another");

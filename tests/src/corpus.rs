@@ -4,7 +4,7 @@ use std::fs;
 use std::path::{Path, PathBuf};
 
 /// The requests of document 02 that have landed.
-pub const LANDED: &[u8] = &[1, 2, 4];
+pub const LANDED: &[u8] = &[1, 2, 4, 5];
 
 /// A text of the corpus and what the program writes for it.
 pub struct Sample {

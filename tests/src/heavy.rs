@@ -21,6 +21,7 @@ pub fn heavy() -> Vec<Heavy> {
     all.extend(against_scopes());
     all.extend(against_all());
     all.extend(in_parts());
+    all.extend(against_kinds());
     all
 }
 
@@ -485,6 +486,35 @@ fn in_parts() -> Vec<Heavy> {
                 name(100, 253)
             ),
             11,
+        ),
+    ]
+}
+
+/// Names in several kinds (document 02, Q-5).
+fn against_kinds() -> Vec<Heavy> {
+    const WORDS: [&str; 4] = ["TASK", "EVENT", "MESSAGE", "IPDU"];
+    let object = |number: usize| format!("{} {};", WORDS[number % 4], name(230, number));
+    let all = each(254, object);
+    // 255 objects in two parts each; the last part is of another kind.
+    let parts = each(253, |number| format!("TASK {};", name(115, number)));
+    let last = name(115, 252);
+    let front = parts.strip_suffix(&format!("TASK {last};"));
+    let front = front.expect("the last part");
+    vec![
+        accepted("256 objects of five kinds, names of 230 bytes", "", &all),
+        refused(
+            "510 parts, the last of another kind",
+            "",
+            &format!("{parts}OS o;APPMODE a;{front}ISR {last};"),
+            24,
+        ),
+        refused(
+            "254 objects, each name in two kinds",
+            "",
+            &each(254, |number| {
+                format!("{} {};", WORDS[number / 127], name(250, number % 127))
+            }),
+            24,
         ),
     ]
 }

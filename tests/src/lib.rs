@@ -11,6 +11,7 @@ pub mod grammar;
 pub mod heavy;
 pub mod limits;
 pub mod meaning;
+pub mod names;
 pub mod normal;
 pub mod parts;
 pub mod proved;

@@ -417,6 +417,10 @@ fn object_limits() -> Vec<Limit> {
     let both = format!("{OBJECTS}{tasks}{further}@TASK u;\n");
     let part = format!("{OBJECTS}{tasks}{further}@OS o;\nTASK u;\n");
     let object = format!("{OBJECTS}{tasks}@TASK u;\n{further}OS o;\n");
+    // A name of another kind at object 257, before it and behind it.
+    let used = format!("{OBJECTS}{tasks}@EVENT t1;\n");
+    let earlier = format!("{OBJECTS}TASK t1;\nEVENT @t1;\n{tasks}TASK u;\n");
+    let later = format!("{OBJECTS}{tasks}@TASK u;\nEVENT t1;\n");
     // The second OS in parts is at its first part's kind word.
     let systems = "OS o;\nOS o {};\nAPPMODE a;\n@OS p;\nOS o;\nOS p;\n";
     vec![
@@ -425,6 +429,9 @@ fn object_limits() -> Vec<Limit> {
         limit("object 257 and part 513".into(), "", &both, 11),
         limit("part before object".into(), "", &part, 11),
         limit("object before part".into(), "", &object, 11),
+        limit("object 257 with a used name".into(), "", &used, 11),
+        limit("a used name before object 257".into(), "", &earlier, 24),
+        limit("a used name behind object 257".into(), "", &later, 11),
         limit("a second OS in parts".into(), "", systems, 17),
     ]
 }

@@ -434,8 +434,9 @@ impl<'t> Meaning<'t> {
         }
     }
 
-    /// Refusals 11 and 17. Q-2: "The limit of 256 counts objects, and 512 counts parts; both give
+    /// Refusals 11, 17 and 24. Q-2: "The limit of 256 counts objects, and 512 counts parts; both give
     /// 11 at the kind word"; "A further part of an OS, COM or NM is no second one for 17".
+    /// Q-5: "a name already used by an object of another kind, placed at the later name".
     fn object_faults(&self) -> Vec<Fault> {
         let objects = &self.objects;
         let mut faults = Vec::new();
@@ -448,6 +449,10 @@ impl<'t> Meaning<'t> {
         if let Some(statement) = self.statements.get(MOST_STATEMENTS) {
             faults.push((statement.name.place, 11));
         }
+        // Objects of one name are of different kinds.
+        let names = objects.iter().map(|object| object.first.name);
+        let used = second_times(names.map(|name| (self.word(name), name)));
+        faults.extend(used.into_iter().map(|name| (name.place, 24)));
         for kind in 0..KINDS.len() {
             let (fewest, most) = fewest_and_most(kind);
             let of_kind = || {

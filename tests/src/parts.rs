@@ -151,7 +151,7 @@ impl Maker {
         };
         let number = self.random.below(most);
         // Now and then another kind's name.
-        let of = match !self.is_long && self.random.once_in(40) {
+        let of = match !self.is_long && self.random.once_in(300) {
             true => KINDS[self.random.below(KINDS.len())].0,
             false => word,
         };

@@ -5,6 +5,7 @@
 use crate::corpus::{self, Sample};
 use crate::floats;
 use crate::limits::{self, Limit};
+use crate::names;
 use crate::parts;
 use crate::random::Random;
 use crate::ranges;
@@ -113,7 +114,7 @@ const fn seeded(name: &'static str, parts: usize, texts: fn(u64, &Sources, Each)
 }
 
 /// The mix: about as the sorts are mixed that are compared with the reference.
-const MIX: [Seeded; 16] = [
+const MIX: [Seeded; 17] = [
     seeded(sorts::ACCEPTED.name, 120, |seed, _, each| {
         each(sorts::accepted_text(seed));
     }),
@@ -158,6 +159,9 @@ const MIX: [Seeded; 16] = [
     }),
     seeded(sorts::FLOATS.name, 60, |seed, _, each| {
         own_text(seed, floats::other_words, each);
+    }),
+    seeded(sorts::NAMES.name, 60, |seed, _, each| {
+        own_text(seed, names::named, each);
     }),
     seeded(sorts::DAMAGED_LIMITS.name, 1, |seed, sources, each| {
         let random = &mut Random::new(seed);

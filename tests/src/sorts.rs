@@ -7,7 +7,8 @@ use crate::random::Random;
 use crate::texts;
 use crate::token::{step, Step, Token};
 use crate::tree::file;
-use crate::{answered, corpus, floats, grammar, heavy, limits, parts, ranges, tempting, token};
+use crate::{answered, corpus, floats, grammar, heavy, limits, names, parts, ranges};
+use crate::{tempting, token};
 
 /// A text, and what is known of the answer that `read` gives.
 pub struct Case {
@@ -63,6 +64,7 @@ pub const BYTES: Sort = sort("bytes and token soup", 15_000, bytes_and_tokens);
 pub const DERIVED: Sort = sort("derived texts", 7_000, derived);
 pub const HEAVY: Sort = sort("heavy texts", 20, heavy_texts);
 pub const PARTS: Sort = sort("Q-2, objects in parts", 20_000, part_texts);
+pub const NAMES: Sort = sort("Q-5, names in several kinds", 20_000, name_texts);
 pub const RANGES: Sort = sort("Q-1, ranges and defaults", 20_000, range_texts);
 pub const FLOATS: Sort = sort("Q-4, floats", 40_000, floats::texts);
 
@@ -139,7 +141,7 @@ pub fn configuration_text(bytes: usize) -> Case {
 }
 
 /// The numbers of which a fault can be planted anywhere.
-pub const PLANTED: [u8; 14] = [3, 4, 6, 8, 9, 13, 14, 15, 16, 17, 18, 21, 22, 23];
+pub const PLANTED: [u8; 15] = [3, 4, 6, 8, 9, 13, 14, 15, 16, 17, 18, 21, 22, 23, 24];
 
 /// The text of a seed with faults of these numbers, if it has sites for them.
 pub fn text_with_faults(seed: u64, numbers: &[u8]) -> Option<Case> {
@@ -350,7 +352,7 @@ pub fn derived_text(seed: u64) -> Case {
     if grammar::stage(&text) == grammar::Stage::Passes && random.once_in(2) {
         let name = file(&text).cpu_name;
         if let Step::Token(_, next) = step(&text, name.place + name.length) {
-            text.splice(next..next, *b" OS o; APPMODE a; ");
+            text.splice(next..next, *b" OS o_1; APPMODE a_1; ");
         }
     }
     unknown(&format!("seed {seed}"), text)
@@ -379,6 +381,10 @@ pub fn text_off(seed: u64, case: &Case) -> Case {
 fn range_texts(each: Each) {
     ranges::bounds().into_iter().for_each(&mut *each);
     own_texts(ranges::ranged, each);
+}
+
+fn name_texts(each: Each) {
+    own_texts(names::named, each);
 }
 
 fn part_texts(each: Each) {

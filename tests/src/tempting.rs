@@ -38,10 +38,10 @@ const TEMPTING: [(&str, &str, &str, u8); 24] = [
         18,
     ),
     (
-        "a reference finds the object of its kind among those of its name",
+        "a name is used for one kind only, though references are found by kind and name",
         "TASK { EVENT_TYPE EVENT; };",
-        "RESOURCE r; TASK r { EVENT = r; }; EVENT r;",
-        0,
+        "RESOURCE r; TASK @r { EVENT = r; }; EVENT r;",
+        24,
     ),
     (
         "a sub-attribute is not taken from another enumerator's scope",
@@ -112,8 +112,8 @@ const TEMPTING: [(&str, &str, &str, u8); 24] = [
     (
         "a part of another kind is another object",
         "TASK { UINT32 x; }; ISR { UINT32 x; };",
-        "TASK t { x = 1; }; ISR @t; ALARM t;",
-        16,
+        "TASK t { x = 1; }; ISR @t; TASK t; ALARM t;",
+        24,
     ),
     (
         "a further part of an OS is no second one",

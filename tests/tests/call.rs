@@ -100,6 +100,12 @@ fn objects_in_parts() {
         .all(|number| counts.refused[*number] > 50));
 }
 
+#[test]
+fn names_in_several_kinds() {
+    let counts = reads(&sorts::NAMES);
+    assert!(counts.refused[24] > 1_000 && counts.refused[18] > 50);
+}
+
 /// Refusal 1 comes before all others and touches no cell.
 #[test]
 fn tables_too_short() {

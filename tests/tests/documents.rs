@@ -175,7 +175,7 @@ fn refusals() {
         }
     }
     // 10 and 12 are no longer given.
-    for number in (1..=23).filter(|number| ![10, 12].contains(number)) {
+    for number in (1..=24).filter(|number| ![10, 12].contains(number)) {
         let mut answers = examples.iter().filter_map(|example| example.answer);
         assert!(
             answers.any(|refusal| refusal.number == number),

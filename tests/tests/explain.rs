@@ -27,7 +27,7 @@ fn written(text: &[u8]) -> Vec<u8> {
 }
 
 /// What the refusals mean, from 1 on; nothing where a number is retired.
-const MEANINGS: [&str; 23] = [
+const MEANINGS: [&str; 24] = [
     "the lent tables are too short",
     "the text is longer than 65,535 bytes",
     "no token begins here, or a string or comment that begins here is not ended",
@@ -51,6 +51,7 @@ const MEANINGS: [&str; 23] = [
     "a bound or listed number outside its type, or a low bound above the high one",
     "a default outside type, range or list",
     "AUTO as a default without WITH_AUTO",
+    "the name is used before by an object of another kind",
 ];
 
 /// The most bytes of a line that are shown, and those before the place where more follow.

@@ -156,6 +156,11 @@ fn objects_in_parts() {
     writes(&sorts::PARTS);
 }
 
+#[test]
+fn names_in_several_kinds() {
+    writes(&sorts::NAMES);
+}
+
 /// Each by one call only.
 #[test]
 fn heavy_texts() {

@@ -1,4 +1,4 @@
--- What the checks of the parts' rows give is the fault by which the stage of 11 and 17 answers. Assumes nothing.
+-- What the checks of the parts' rows give is the fault by which the stage of 11, 17 and 24 answers. Assumes nothing.
 use mathlib.Core.Path.{_≡_, refl, sym, _∙_, ap, ap₂, subst}
 use mathlib.Core.List.{List, [], _∷_, _++_, append-assoc, append-nil}
 use mathlib.Core.Bool.{Bool, true, false, false≢true}
@@ -26,7 +26,7 @@ use Rattle.meaning.specs.Words.{choose}
 use Rattle.meaning.specs.Kinds.{kinds, kind-number, same-kind, fewest, most}
 use Rattle.meaning.specs.Merging.{same-object, used, merged, merge-from, merge}
 use Rattle.meaning.specs.Faults.{Fault, fault-if, first, sooner}
-use Rattle.meaning.specs.Applying.{how-many, counts-of, counts, too-few, full, statement-faults, each-object, each-part, object-faults}
+use Rattle.meaning.specs.Applying.{how-many, counts-of, counts, too-few, full, statement-faults, each-object, each-part, elsewhere, each-name, object-faults}
 use Rattle.meaning.proofs.Numbered.{of-few}
 use Rattle.meaning.proofs.Merges.{Alike, same-alike, used-more, used-none}
 use Rattle.meaning.proofs.Order.{InOrder, sub-behind, sub-all, drop, ordered-sub}
@@ -42,12 +42,14 @@ use Rattle.scopes.proofs.Finding.{seek-all}
 use Rattle.scopes.proofs.Goodness.{later-words}
 use Rattle.scopes.proofs.Descents.{whole}
 use Rattle.kinds.specs.Kinds.{kind-at, most-of}
-use Rattle.merging.specs.Parts.{row-or}
 use Rattle.merging.proofs.Places.{row-is, new-by, old-by}
 use Rattle.checks.specs.declared.objects.Checked.{Checked}
 use Rattle.checks.specs.Cells.{lacking-from, full-of, room-fault}
-use Rattle.checks.specs.Promises.{Noted, numbers, Met, ChecksParts, Checks, ObjectFaults}
-use Rattle.scopes.proofs.Firsts.{Has, here, there, has-none, has-left, has-right, has-split, in-if, Covered, covered, covered-by, first-same, Real, real, real-none, real-append, real-if, fault-append, fault-one}
+use Rattle.checks.specs.Promises.{Noted, numbers, Met, ChecksParts, Titled, Unclashed, Clashes, clash, no-clash, NameFault, Checks, ObjectFaults}
+use Rattle.scopes.proofs.Firsts.{Has, here, there, has-none, has-left, has-right, has-split, in-if, if-in, Covered, covered, covered-by, first-same, Real, real, real-none, real-append, real-if, fault-append, fault-one}
+use Rattle.merging.specs.Parts.{row-or, first-row, FirstRows}
+use Rattle.merging.proofs.Storing.{cells-of}
+use Rattle.checks.proofs.Names.{each-name-append}
 use Rattle.checks.proofs.Tallying.{alike, cell, tallied}
 use Rattle.checks.proofs.Rows.{get-at, nth-fault, fault-nth, real-nth, room-code, numbers-of, numbered, numbered-append, numbers-append as codes-append, numbered-is}
 
@@ -514,6 +516,38 @@ merge-from-lo {g} lo os before (x ∷ xs) k h m =
         ⊎-elim (λ i. own-from lo os k x (h .0) (subst (Has g) (each-one os x k xs) i)) (λ i. q i)
         (has-split (each-object os (merged x k xs ∷ [])) (each-object (os ++ (merged x k xs ∷ [])) r) (subst (Has g) (each-behind os (merged x k xs ∷ []) r) n))
 
+-- The names of parts stand at lo or behind it.
+abbrev NamesFrom : ℕ → List Object → Type 0
+NamesFrom lo [] = Unit {0}
+NamesFrom lo (x ∷ xs) = (lo ≤ x .name .place) × NamesFrom lo xs
+
+names-order : (p lo : ℕ) (xs : List Object) → lo ≤ p → InOrder p (object-words xs) → NamesFrom lo xs
+unfolding object-words
+names-order p lo [] h o = tt
+names-order p lo (x ∷ xs) h o =
+    let a = o .0 in
+    let b = o .1 .0 in
+    (omega arith, names-order (suc (x .name .place)) lo xs (omega arith) (ordered-sub (sub-behind (statement-words (x .statements)) (sub-all (object-words xs))) (suc (x .name .place)) (o .1 .1)))
+
+names-back : (lo : ℕ) (a b : List Object) → NamesFrom lo (a ++ b) → NamesFrom lo b
+names-back lo [] b h = h
+names-back lo (x ∷ a) b h = names-back lo a b (h .1)
+
+names-behind : (p : ℕ) (c : List Object) (y : Object) (d : List Object) → InOrder p (object-words (c ++ (y ∷ d))) → InOrder (suc (y .name .place)) (object-words d)
+unfolding object-words
+names-behind p [] y d o = ordered-sub (sub-behind (statement-words (y .statements)) (sub-all (object-words d))) (suc (y .name .place)) (o .1 .1)
+names-behind p (z ∷ c) y d o =
+    names-behind (suc (z .name .place)) c y d (ordered-sub (sub-behind (statement-words (z .statements)) (sub-all (object-words (c ++ (y ∷ d))))) (suc (z .name .place)) (o .1 .1))
+
+names-lo : {g : Fault} (lo : ℕ) (before xs : List Object) → NamesFrom lo xs → Has g (each-name before xs) → lo ≤ g .place
+unfolding each-name
+names-lo lo before [] h m = absurd (has-none m)
+names-lo {g} lo before (x ∷ xs) h m =
+    let a = h .0 in
+    ⊎-elim (λ n. let e : x .name .place ≡ g .place = ap (λ (y : Fault). y .place) (in-if (elsewhere x before) (x .name) 24 n .1) in omega (arith, a, e))
+    (λ n. names-lo lo (before ++ (x ∷ [])) xs (h .1) n)
+    (has-split (fault-if (elsewhere x before) (x .name) 24) (each-name (before ++ (x ∷ [])) xs) m)
+
 -- Kinds that have no object have no part -----------------------------------------------------------------------------------------------------------
 
 bit-kind : (k : Kind) (x : Object) → bit (same-kind k (x .kind)) ≡ 0 → same-kind k (x .kind) ≡ false
@@ -645,7 +679,31 @@ module _ (s : List ℕ) (f : File) (K : Situation s f) where
   unfolding later-words
   part-order = ordered-sub (sub-behind (spec-words (f .specs)) (drop {t = f .cpu} (sub-all (object-words (f .parts))))) 1 (whole K .order)
 
-  module _ {l : ℕ} {best : Code} {k : ℕ} {cs : List ℕ} (M : Met f l best k cs) (full-front : (0 < length (M .left) → length (M .before) ≡ 513)) where
+  -- The fault 24 that was found.
+  unfoldable clashes : {n : ℕ} {r : Code} → Clashes f n r → List Fault
+  clashes (clash front z rest w c h e) = record { place = z .name .place; number = 24 } ∷ []
+  clashes (no-clash u e) = []
+
+  clashes-real : {n : ℕ} {r : Code} (Q : Clashes f n r) → Real (clashes Q)
+  unfolding clashes fault-if
+  clashes-real (clash front z rest w c h e) = real-if true (z .name) 24 (omega arith)
+  clashes-real (no-clash u e) = real-none
+
+  clashes-code : {n : ℕ} {r : Code} (Q : Clashes f n r) → r ≡ fault-of (first (clashes Q))
+  unfolding clashes fault-of first sooner
+  clashes-code (clash front z rest w c h e) = e
+  clashes-code (no-clash u e) = e
+
+  clashes-in : {n : ℕ} {r : Code} (Q : Clashes f n r) (g : Fault) → Has g (clashes Q) → Has g (each-name [] (f .parts))
+  unfolding clashes each-name fault-if
+  clashes-in (clash front z rest w c h e) g m =
+      subst (λ (os : List Object). Has g (each-name [] os)) (sym w)
+      (subst (Has g) (sym (each-name-append [] front (z ∷ rest)))
+      (has-right (each-name [] front) (each-name front (z ∷ rest))
+      (has-left (fault-if (elsewhere z front) (z .name) 24) (each-name (front ++ (z ∷ [])) rest) (subst (λ (b : Bool). Has g (fault-if b (z .name) 24)) (sym h) m))))
+  clashes-in (no-clash u e) g m = absurd (has-none m)
+
+  module _ {l : ℕ} {best : Code} {k : ℕ} {cs : List ℕ} (M : Met f l best k cs) (full-front : (0 < length (M .left) → length (M .before) ≡ 513)) {r : Code} (Q : Clashes f l r) where
     abbrev C : List Fault
     C = nth-fault (λ (x : Object). x .word) 11 512 (f .parts)
 
@@ -653,7 +711,7 @@ module _ (s : List ℕ) (f : File) (K : Situation s f) where
     D = nth-fault (λ (x : Statement). x .name) 11 2048 (flat (f .parts))
 
     unfoldable found : List Fault
-    found = too-few kinds (f .objects) (f .cpu) ++ (each-object [] (M .so-far) ++ (C ++ D))
+    found = too-few kinds (f .objects) (f .cpu) ++ (each-object [] (M .so-far) ++ ((C ++ D) ++ clashes Q))
 
     objects-split : each-object [] (f .objects) ≡ each-object [] (M .so-far) ++ each-object (M .so-far) (merge-from (M .before) (M .left) k)
     objects-split = ap (each-object []) (whole K .merged ∙ sym (M .merged-so)) ∙ each-behind [] (M .so-far) (merge-from (M .before) (M .left) k)
@@ -671,12 +729,15 @@ module _ (s : List ℕ) (f : File) (K : Situation s f) where
         let b = each-object [] (M .so-far) in
         let os = each-object [] (f .objects) in
         let ps = each-part (f .parts) in
-        ⊎-elim (λ n. covered (has-left a (os ++ ps) n))
+        let ns = each-name [] (f .parts) in
+        ⊎-elim (λ n. covered (has-left a (os ++ (ps ++ ns)) n))
         (λ n. ⊎-elim
-        (λ i. covered (has-right a (os ++ ps) (has-left os ps (subst (Has g) (sym objects-split) (has-left b (each-object (M .so-far) (merge-from (M .before) (M .left) k)) i)))))
-        (λ i. covered (has-right a (os ++ ps) (has-right os ps (is-parts i))))
-        (has-split b (C ++ D) n))
-        (has-split a (b ++ (C ++ D)) m)
+        (λ i. covered (has-right a (os ++ (ps ++ ns)) (has-left os (ps ++ ns) (subst (Has g) (sym objects-split) (has-left b (each-object (M .so-far) (merge-from (M .before) (M .left) k)) i)))))
+        (λ i. ⊎-elim (λ j. covered (has-right a (os ++ (ps ++ ns)) (has-right os (ps ++ ns) (has-left ps ns (is-parts j)))))
+        (λ j. covered (has-right a (os ++ (ps ++ ns)) (has-right os (ps ++ ns) (has-right ps ns (clashes-in Q g j)))))
+        (has-split (C ++ D) (clashes Q) i))
+        (has-split b ((C ++ D) ++ clashes Q) n))
+        (has-split a (b ++ ((C ++ D) ++ clashes Q)) m)
 
     -- The faults of objects that parts past the room begin lie right of 11 at the part that is one too many.
     past-room : (g : Fault) (R : List Object) → M .left ≡ R → Has g (each-object (M .so-far) (merge-from (M .before) R k)) → Covered g found
@@ -695,9 +756,51 @@ module _ (s : List ℕ) (f : File) (K : Situation s f) where
         let q = from-back (suc (y .word .place)) (u .rest) (x ∷ R) (from-order (suc (y .word .place)) (suc (y .word .place)) (u .rest ++ (x ∷ R)) (omega arith) o) in
         let t = merge-from-lo (suc (y .word .place)) (M .so-far) F (x ∷ R) k q m in
         covered-by (record { place = y .word .place; number = 11 })
-        (has-right (too-few kinds (f .objects) (f .cpu)) _ (has-right (each-object [] (M .so-far)) _ (has-left C D
-        (fault-nth (λ (x : Object). x .word) 11 {x = y} (record { front = u .front; rest = u .rest ++ (x ∷ R); whole = v; place = u .place }) refl))))
+        (has-right (too-few kinds (f .objects) (f .cpu)) _ (has-right (each-object [] (M .so-far)) _ (has-left (C ++ D) _ (has-left C D
+        (fault-nth (λ (x : Object). x .word) 11 {x = y} (record { front = u .front; rest = u .rest ++ (x ∷ R); whole = v; place = u .place }) refl)))))
         (left-of t)
+
+    -- The faults of names lie right of the one that was found, or of 11 at the part that is one too many.
+    names-past : (g : Fault) (F R : List Object) → f .parts ≡ F ++ R → (0 < length R → length F ≡ 513) → Has g (each-name F R) → Covered g found
+    unfolding found each-name
+    names-past g F [] w full m = absurd (has-none m)
+    names-past g F (x ∷ R) w full m =
+        let h = full (omega arith) in
+        let i = nth-of F 512 (omega arith) in
+        let y = i .element in
+        let u = i .nth in
+        let v : f .parts ≡ u .front ++ (y ∷ (u .rest ++ (x ∷ R))) = w ∙ ap (λ (l : List Object). l ++ (x ∷ R)) (u .whole) ∙ append-assoc (u .front) (y ∷ u .rest) (x ∷ R) in
+        let o = words-behind 1 (u .front) y (u .rest ++ (x ∷ R)) (subst (λ (l : List Object). InOrder 1 (object-words l)) v part-order) in
+        let q = names-back (suc (y .word .place)) (u .rest) (x ∷ R) (names-order (suc (y .word .place)) (suc (y .word .place)) (u .rest ++ (x ∷ R)) (omega arith) o) in
+        let t = names-lo (suc (y .word .place)) F (x ∷ R) q m in
+        covered-by (record { place = y .word .place; number = 11 })
+        (has-right (too-few kinds (f .objects) (f .cpu)) _ (has-right (each-object [] (M .so-far)) _ (has-left (C ++ D) _ (has-left C D
+        (fault-nth (λ (x : Object). x .word) 11 {x = y} (record { front = u .front; rest = u .rest ++ (x ∷ R); whole = v; place = u .place }) refl)))))
+        (left-of t)
+
+    names-found : (P : Clashes f l r) → clashes P ≡ clashes Q → (g : Fault) → Has g (each-name [] (f .parts)) → Covered g found
+    unfolding clashes found each-name
+    names-found (clash front z rest w c h e) q g m =
+        let n = subst (Has g) (each-name-append [] front (z ∷ rest)) (subst (λ (os : List Object). Has g (each-name [] os)) w m) in
+        let own : Has (record { place = z .name .place; number = 24 }) found =
+        has-right (too-few kinds (f .objects) (f .cpu)) _ (has-right (each-object [] (M .so-far)) _ (has-right (C ++ D) _ (subst (Has (record { place = z .name .place; number = 24 })) q (here refl)))) in
+        ⊎-elim (λ i. absurd (has-none (subst (Has g) c i)))
+        (λ i. ⊎-elim (λ j. covered (subst (λ (v : Fault). Has v found) (in-if (elsewhere z front) (z .name) 24 j .1) own))
+        (λ j.
+        let o = names-behind 1 front z rest (subst (λ (os : List Object). InOrder 1 (object-words os)) w part-order) in
+        let t = names-lo (suc (z .name .place)) (front ++ (z ∷ [])) rest (names-order (suc (z .name .place)) (suc (z .name .place)) rest (omega arith) o) j in
+        covered-by (record { place = z .name .place; number = 24 }) own (left-of t))
+        (has-split (fault-if (elsewhere z front) (z .name) 24) (each-name (front ++ (z ∷ [])) rest) i))
+        (has-split (each-name [] front) (each-name front (z ∷ rest)) n)
+    names-found (no-clash u e) q g m =
+        let n = subst (Has g) (each-name-append [] (u .front) (u .rest)) (subst (λ (os : List Object). Has g (each-name [] os)) (u .whole) m) in
+        let a : length (f .parts) ≡ length (u .front) + length (u .rest) = ap (λ (v : List Object). length v) (u .whole) ∙ length-append (u .front) (u .rest) in
+        let b : length (f .parts) ≡ length (M .before) + length (M .left) = ap (λ (v : List Object). length v) (M .whole) ∙ length-append (M .before) (M .left) in
+        let c = u .place in
+        let d = M .place in
+        ⊎-elim (λ i. absurd (has-none (subst (Has g) (u .clear) i)))
+        (λ i. names-past g (u .front) (u .rest) (u .whole) (λ t. let z = full-front (omega (arith, a, b, c, d, t)) in omega (arith, c, d, z)) i)
+        (has-split (each-name [] (u .front)) (each-name (u .front) (u .rest)) n)
 
     stage-in-found : (g : Fault) → Has g (object-faults f) → Covered g found
     unfolding found object-faults
@@ -706,13 +809,15 @@ module _ (s : List ℕ) (f : File) (K : Situation s f) where
         let b = each-object [] (M .so-far) in
         let os = each-object [] (f .objects) in
         let ps = each-part (f .parts) in
-        ⊎-elim (λ n. covered (has-left a (b ++ (C ++ D)) n))
+        let ns = each-name [] (f .parts) in
+        let cd = (C ++ D) ++ clashes Q in
+        ⊎-elim (λ n. covered (has-left a (b ++ cd) n))
         (λ n. ⊎-elim
-        (λ i. ⊎-elim (λ j. covered (has-right a (b ++ (C ++ D)) (has-left b (C ++ D) j))) (λ j. past-room g (M .left) refl j)
+        (λ i. ⊎-elim (λ j. covered (has-right a (b ++ cd) (has-left b cd j))) (λ j. past-room g (M .left) refl j)
         (has-split b (each-object (M .so-far) (merge-from (M .before) (M .left) k)) (subst (Has g) objects-split i)))
-        (λ i. covered (has-right a (b ++ (C ++ D)) (has-right b (C ++ D) (parts-is i))))
-        (has-split os ps n))
-        (has-split a (os ++ ps) m)
+        (λ i. ⊎-elim (λ j. covered (has-right a (b ++ cd) (has-right b cd (has-left (C ++ D) (clashes Q) (parts-is j))))) (λ j. names-found Q refl g j) (has-split ps ns i))
+        (has-split os (ps ++ ns) n))
+        (has-split a (os ++ (ps ++ ns)) m)
 
     stage-is : first (object-faults f) ≡ first found
     stage-is = first-same (object-faults f) found found-in-stage stage-in-found
@@ -727,14 +832,18 @@ none-left-over : (l : List Object) → length l ≡ 0 → l ≡ []
 none-left-over [] h = refl
 none-left-over (x ∷ l) h = absurd (omega arith)
 
--- The four parts, joined.
-pub objects-answer : (p st x : List ℕ) (n m : ℕ) (cs : List ℕ) (cpu l : ℕ) (a b c d y z : Code) (r u : Checked)
+-- The five parts, joined.
+pub objects-answer : (s p st x xn : List ℕ) (n m : ℕ) (cs : List ℕ) (cpu l : ℕ) (a b c d v y w z : Code) (r u : Checked)
     → a ≡ order.faultIf (isFound (lacking-from cs 0)) 17 cpu → l ≡ min n 513 → ChecksParts p x l u → b ≡ u .fault → c ≡ room-fault p 10 512 1 n 11 → d ≡ room-fault st 7 2048 0 m 11
-    → y ≡ order.sooner c d → z ≡ order.sooner b y → r .fault ≡ order.sooner a z → r .objects ≡ u .objects → r .counts ≡ u .counts → ObjectFaults p st x n m cs cpu r
+    → y ≡ order.sooner c d → FirstRows (length p) s p l xn → NameFault p xn l v → w ≡ order.sooner y v → z ≡ order.sooner b w → r .fault ≡ order.sooner a z → r .objects ≡ u .objects → r .counts ≡ u .counts
+    → ObjectFaults s p st x n m cs cpu r
 unfolding found
-objects-answer p st x n m cs cpu l a b c d y z r t e₁ e₂ e₃ e₀ e₄ e₅ e₆ e₇ e₈ e₉ e₁₀ s f K h₁ h₂ h₃ h₄ h₅ h₆ h₇ =
+objects-answer s p st x xn n m cs cpu l a b c d v y w z r t e₁ e₂ e₃ e₀ e₄ e₅ e₆ j₁ j₂ j₃ e₇ e₈ e₉ e₁₀ f K h₁ h₂ h₃ h₄ h₅ h₆ h₇ =
     let N : Noted s p x l f = record { situation = K; in-parts = h₁; firsts = λ j i. h₇ j (omega (arith, i, e₂)); few = omega (arith, e₂); inside = omega (arith, e₂, h₃) } in
     let M = e₃ s f N in
+    let Q = j₂ s f (record { situation = K; in-parts = h₁; firsts = λ j i. cells-of (length p) s p xn l n e₂ j₁ j (omega (arith, i, e₂)); few = omega (arith, e₂); inside = omega (arith, e₂, h₃) }) in
+    let E₀ = clashes s f K Q in
+    let rE = clashes-real s f K Q in
     let whole-length : length (f .parts) ≡ length (M .before) + length (M .left) = ap (λ (v : List Object). length v) (M .whole) ∙ length-append (M .before) (M .left) in
     let pl = M .place in
     let A = too-few kinds (f .objects) (f .cpu) in
@@ -750,14 +859,17 @@ objects-answer p st x n m cs cpu l a b c d y z r t e₁ e₂ e₃ e₀ e₄ e₅
     let qC : c ≡ fault-of (first C₀) = e₄ ∙ room-code (λ (x : Object). x .word) 11 p 10 512 1 n (f .parts) h₃ (λ x q. part-word p f h₁ x q) in
     let qD : d ≡ fault-of (first D₀) = e₅ ∙ room-code (λ (x : Statement). x .name) 11 st 7 2048 0 m (flat (f .parts)) (h₄ ∙ sym (length-flat (f .parts))) (λ x q. statement-cell f st x h₂ q) in
     let qy : y ≡ fault-of (first (C₀ ++ D₀)) = e₆ ∙ ap₂ order.sooner qC qD ∙ sym (fault-append C₀ D₀ rC rD) in
-    let qz : z ≡ fault-of (first (B ++ (C₀ ++ D₀))) = e₇ ∙ ap₂ order.sooner qB qy ∙ sym (fault-append B (C₀ ++ D₀) rB (real-append C₀ D₀ rC rD)) in
-    let qr : r .fault ≡ fault-of (first (A ++ (B ++ (C₀ ++ D₀)))) =
-    e₈ ∙ ap₂ order.sooner qA qz ∙ sym (fault-append A (B ++ (C₀ ++ D₀)) (real-few kinds (f .objects) (f .cpu)) (real-append B (C₀ ++ D₀) rB (real-append C₀ D₀ rC rD))) in
+    let rCD = real-append C₀ D₀ rC rD in
+    let qw : w ≡ fault-of (first ((C₀ ++ D₀) ++ E₀)) = j₃ ∙ ap₂ order.sooner qy (clashes-code s f K Q) ∙ sym (fault-append (C₀ ++ D₀) E₀ rCD rE) in
+    let rCE = real-append (C₀ ++ D₀) E₀ rCD rE in
+    let qz : z ≡ fault-of (first (B ++ ((C₀ ++ D₀) ++ E₀))) = e₇ ∙ ap₂ order.sooner qB qw ∙ sym (fault-append B ((C₀ ++ D₀) ++ E₀) rB rCE) in
+    let qr : r .fault ≡ fault-of (first (A ++ (B ++ ((C₀ ++ D₀) ++ E₀)))) =
+    e₈ ∙ ap₂ order.sooner qA qz ∙ sym (fault-append A (B ++ ((C₀ ++ D₀) ++ E₀)) (real-few kinds (f .objects) (f .cpu)) (real-append B ((C₀ ++ D₀) ++ E₀) rB rCE)) in
     let all : length (f .parts) ≤ 513 → M .so-far ≡ f .objects =
     λ h. sym (append-nil (M .so-far)) ∙ ap (λ (v : List Object). M .so-far ++ v) (sym (merge-none (M .before) (M .left) (t .objects) (none-left-over (M .left) (omega (arith, h, e₂, h₃, whole-length, pl))))) ∙ M .merged-so ∙ sym (whole K .merged) in
     let nb = M .number in
     record {
-      fault = qr ∙ sym (ap fault-of (stage-is s f K M (λ w. omega (arith, e₂, h₃, whole-length, pl, w))));
+      fault = qr ∙ sym (ap fault-of (stage-is s f K M (λ w. omega (arith, e₂, h₃, whole-length, pl, w)) Q));
       objects = λ h. e₉ ∙ sym nb ∙ ap (λ (v : List Object). length v) (all h);
       counted = λ h. e₁₀ ∙ M .counted ∙ tallied (M .so-far) (let i = M .low in omega (arith, nb, i, e₂)) ∙ ap counts (all h);
     }

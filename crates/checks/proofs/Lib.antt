@@ -1,4 +1,5 @@
 pub mod Turns
 pub mod Rows
 pub mod Tallying
+pub mod Names
 pub mod Applications

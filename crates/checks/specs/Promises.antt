@@ -1,5 +1,6 @@
 -- What the checks promise, for every file whose text and rows these are. Assumes nothing.
 use mathlib.Core.Path.{_≡_}
+use mathlib.Core.Bool.{true}
 use mathlib.Core.List.{List, [], _∷_, _++_}
 use Prim.Native.Nat.{ℕ, _+_, _≤_, _<_, min}
 use lib.ListN.{length, getD, replicate}
@@ -9,7 +10,7 @@ use Rattle.meaning.specs.Syntax.{Object, File}
 use Rattle.meaning.specs.Kinds.{kind-number}
 use Rattle.meaning.specs.Faults.{first}
 use Rattle.meaning.specs.Merging.{merge-from, merge}
-use Rattle.meaning.specs.Applying.{counts, each-object, object-faults}
+use Rattle.meaning.specs.Applying.{counts, each-object, elsewhere, each-name, object-faults}
 use Rattle.layout.specs.Kept.{kept-parts, kept-part-statements, statement-count}
 use Rattle.scopes.specs.Situations.{Situation}
 use Rattle.scopes.specs.Promises.{fault-of}
@@ -20,7 +21,7 @@ use Rattle.checks.specs.declared.objects.Checked.{Checked}
 pub record Noted (s p x : List ℕ) (n : ℕ) (f : File) : Type 0 where
   pub situation : Situation s f
   pub in-parts : p ≡ kept-parts f
-  pub firsts : (j : ℕ) → j < n → getD x j 0 ≡ first-row s p j
+  pub firsts : (j : ℕ) → j < n → getD x j 0 ≡ first-row 0 s p j
   pub few : n ≤ 513
   pub inside : n ≤ length (f .parts)
 
@@ -48,14 +49,39 @@ ChecksOne p x j best k cs r = (s : List ℕ) (n : ℕ) (f : File) → Noted s p 
 abbrev pub ChecksParts : (p x : List ℕ) → ℕ → Checked → Type 0
 ChecksParts p x n r = (s : List ℕ) (f : File) → Noted s p x n f → Met f n (r .fault) (r .objects) (r .counts)
 
--- The fault by which the stage of 11 and 17 answers; where there is room for all parts, how many objects there are, and of each kind.
+-- The text s is f, its parts are in the table p, and y has the first part with the name of each of the first n, for which there is room.
+pub record Titled (s p y : List ℕ) (n : ℕ) (f : File) : Type 0 where
+  pub situation : Situation s f
+  pub in-parts : p ≡ kept-parts f
+  pub firsts : (j : ℕ) → j < n → getD y j 0 ≡ first-row (length p) s p j
+  pub few : n ≤ 513
+  pub inside : n ≤ length (f .parts)
+
+-- The names of the first j parts are not at fault by 24.
+pub record Unclashed (f : File) (j : ℕ) : Type 0 where
+  pub front : List Object
+  pub rest : List Object
+  pub whole : f .parts ≡ front ++ rest
+  pub place : length front ≡ j
+  pub clear : each-name [] front ≡ []
+
+-- The fault 24 at the first part that has it, or none of the first n has it.
+pub data Clashes (f : File) (n : ℕ) (r : Fault) : Type 0 where
+  clash : (front : List Object) (z : Object) (rest : List Object) → f .parts ≡ front ++ (z ∷ rest) → each-name [] front ≡ [] → elsewhere z front ≡ true
+      → r ≡ record { number = 24; place = z .name .place } → Clashes f n r
+  no-clash : Unclashed f n → r ≡ record { number = 0; place = 0 } → Clashes f n r
+
+abbrev pub NameFault : (p y : List ℕ) → ℕ → Fault → Type 0
+NameFault p y n r = (s : List ℕ) (f : File) → Titled s p y n f → Clashes f n r
+
+-- The fault by which the stage of 11, 17 and 24 answers; where there is room for all parts, how many objects there are, and of each kind.
 pub record Checks (f : File) (r : Checked) : Type 0 where
   pub fault : r .fault ≡ fault-of (first (object-faults f))
   pub objects : length (f .parts) ≤ 513 → r .objects ≡ length (f .objects)
   pub counted : length (f .parts) ≤ 513 → r .counts ≡ counts (f .objects)
 
 -- n parts and m statements, and cs of each kind, stand in the text.
-abbrev pub ObjectFaults : (p st x : List ℕ) → (n m : ℕ) → (cs : List ℕ) → (cpu : ℕ) → Checked → Type 0
-ObjectFaults p st x n m cs cpu r =
-    (s : List ℕ) (f : File) → Situation s f → p ≡ kept-parts f → st ≡ kept-part-statements f → n ≡ length (f .parts) → m ≡ statement-count (f .parts)
-    → cs ≡ counts (f .parts) → cpu ≡ f .cpu .place → ((j : ℕ) → j < min n 513 → getD x j 0 ≡ first-row s p j) → Checks f r
+abbrev pub ObjectFaults : (s p st x : List ℕ) → (n m : ℕ) → (cs : List ℕ) → (cpu : ℕ) → Checked → Type 0
+ObjectFaults s p st x n m cs cpu r =
+    (f : File) → Situation s f → p ≡ kept-parts f → st ≡ kept-part-statements f → n ≡ length (f .parts) → m ≡ statement-count (f .parts)
+    → cs ≡ counts (f .parts) → cpu ≡ f .cpu .place → ((j : ℕ) → j < min n 513 → getD x j 0 ≡ first-row 0 s p j) → Checks f r

@@ -1,4 +1,4 @@
-// The faults 11 and 17 of the application, over the rows of parts.
+// The faults 11, 17 and 24 of the application, over the rows of parts.
 ghost use mathlib.Core.Path.{_≡_};
 ghost use Prim.Native.Nat.{_+_, _≤_, _<_};
 ghost use lib.ListN.{getD};
@@ -7,7 +7,7 @@ ghost use Rattle.rows.specs.Search.{isFound};
 ghost use Rattle.meaning.specs.Kinds.{most};
 ghost use Rattle.kinds.specs.Kinds.{kind-at, most-of};
 ghost use Rattle.checks.specs.Cells.{lacking-from, full-of};
-ghost use Rattle.checks.specs.Promises.{ChecksOne, ChecksParts, ObjectFaults};
+ghost use Rattle.checks.specs.Promises.{ChecksOne, ChecksParts, NameFault, ObjectFaults};
 use super::parts;
 use kinds::Kind;
 use kinds::Most;
@@ -120,8 +120,33 @@ fn check_parts(p: &[usize], x: &[usize], n: usize) -> Checked
     }
 }
 
-// The fault by which the stage of 11 and 17 answers, and how many objects there are; `counts` are those of the parts.
+// 24 at the name of the first part whose name an object of another kind has before; y has the first part with the name of each of n rows.
+fn name_fault(p: &[usize], y: &[usize], n: usize) -> Fault
+    ensures { λ r. ⌜ NameFault (now (p .entry)) (now (y .entry)) n r ⌝ }
+{
+    let mut j = 0;
+    while j < n {
+        let i = cells::get(y, j);
+        let kind = cells::cell_of(p, 10, j, 0);
+        let before = cells::cell_of(p, 10, i, 0);
+        if kind != before {
+            let place = cells::cell_of(p, 10, j, 3);
+            return Fault {
+                number: 24,
+                place: place,
+            };
+        }
+        j += 1;
+    }
+    Fault {
+        number: 0,
+        place: 0,
+    }
+}
+
+// The fault by which the stage of 11, 17 and 24 answers, and how many objects there are; `counts` are those of the parts.
 pub fn object_faults(
+    text: &[u8],
     p: &[usize],
     st: &[usize],
     x: &[usize],
@@ -130,14 +155,20 @@ pub fn object_faults(
     counts: [usize; 13],
     cpu: usize,
 ) -> Checked
-    ensures { λ r. ⌜ ObjectFaults (now (p .entry)) (now (st .entry)) (now (x .entry)) parts statements counts cpu r ⌝ }
+    ensures { λ r. ⌜ ObjectFaults (now (text .entry)) (now (p .entry)) (now (st .entry)) (now (x .entry)) parts statements counts cpu r ⌝ }
 {
     let a = too_few(counts, cpu);
-    let b = check_parts(p, x, cells::least_of(parts, 513));
+    let n = cells::least_of(parts, 513);
+    let b = check_parts(p, x, n);
+    let y = merging::firsts(text, p, p.len(), n);
+    let e = name_fault(p, &y, n);
     let c = parts::room_fault(p, 10, 512, 1, parts, 11);
     let d = parts::room_fault(st, 7, 2048, 0, statements, 11);
     let own = b.fault;
-    let f = faults::sooner(a, faults::sooner(own, faults::sooner(c, d)));
+    let f = faults::sooner(
+        a,
+        faults::sooner(own, faults::sooner(faults::sooner(c, d), e)),
+    );
     let of_kinds = b.counts;
     Checked {
         fault: f,

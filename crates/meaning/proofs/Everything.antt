@@ -5,7 +5,7 @@ use Prim.Native.Nat.{ℕ}
 use Rattle.grammar.specs.Grammar.{Kind, code, given-code}
 use Rattle.meaning.specs.Syntax.{Span, AttributeType, absent, span-of, span-or, through, definitions-in, definitions-under, is-enum, enumerators-in, enumerators-under, statements-in}
 use Rattle.meaning.specs.Defining.{DefinitionRow, EnumeratorRow, definition-row, definition-rows, definition-rows-under, enumerator-row, enumerator-rows, enumerator-rows-of, all-definition-rows, all-enumerator-rows, outside, bound-faults, low-faults, range-faults, default-wrong, default-number, default-faults, defined-in, differs, name-faults, word-faults, scope-faults, value-faults, specified, spec-faults, definition-faults}
-use Rattle.meaning.specs.Applying.{ObjectRow, object-rows, how-many, counts-of, counts, too-few, full, statement-faults, each-object, each-part, object-faults}
+use Rattle.meaning.specs.Applying.{ObjectRow, object-rows, how-many, counts-of, counts, too-few, full, statement-faults, each-object, each-part, elsewhere, each-name, object-faults}
 use Rattle.meaning.specs.Merging.{then, same-object, used, further, continued, merged, merge-from, merge}
 use Rattle.meaning.specs.Resolving.{ValueRow, Value, Owner, is-true, number-or, row-or, named, valued, take-value, entries, default-entry, resolve, resolve-under, object-values, all-values, value-row, how-many-values, value-rows, all-value-rows, how-many-in-all, too-many}
 use Rattle.meaning.specs.Answers.{Answer, tables, unless, answer}
@@ -39,7 +39,7 @@ unfoldable pub whole : List ℕ → Answer × List ℕ
 whole s = let p = parse s in (answer-of p, normal-of s p)
 
 unfoldable pub everything : Unit {0}
-unfolding whole find firstOf classOf isWordByte wordEnd findByte pairAt findClose commentAt gapOf gapAt skipN skip digitOf valueAfter atMost digitsAfter numeral-of found wordAt limitOf isNegative wholeAt isDotted findMark isSigned someDigits digitsBehind mantissaOf powerOf powerAt scaleOf floatBy floatAt numberBy numberAt stepAt stringAt dotsAt tokenOf tokenAt same codeIn codeOf lexN lexFrom code given-code signOf class-of token-of tokensIn run move test nullable-form after streamOf back empty from lifted absent span-of span-or through definitions-in definitions-under is-enum bit enumerators-in enumerators-under statements-in zero-num num-of-sort num-of-step float-of-sort float-of-step word-of kind-of integer-of first-value truths defined defining specifying stating means meaning syntax choose alike among at-most equal least-of greatest-of signed width in-type among-numbers in-bounds in-float-bounds kind-number same-kind fewest most fault-if ahead sooner first of-kind find-value definitions-or under find-definition heads names find-object is-there sort-of-word sort-of is-string is-boolean fits-number fits-float fits-as fits definition-row definition-rows definition-rows-under enumerator-row enumerator-rows enumerator-rows-of all-definition-rows all-enumerator-rows outside bound-faults low-faults range-faults default-wrong default-number default-faults defined-in differs name-faults word-faults scope-faults value-faults specified spec-faults definition-faults object-rows how-many counts-of counts too-few full statement-faults each-object each-part object-faults then same-object used further continued merged merge-from merge is-no-default taken-by taken lacking lacks lacks-under reference-faults brace-faults faults-as own-faults and-inside judged judge judge-object judge-objects statement-stage is-true number-or row-or named valued take-value entries default-entry resolve resolve-under object-values all-values value-row how-many-values value-rows all-value-rows how-many-in-all too-many digits-in minus decimal written closed lines object-lines application-lines part normal tables unless answer empty-trees trees-from trees-of tree by-tree after-grammar parse answer-of reading normal-of normal-text enough too-short output-asked call line program integer-code type-code definition-cells enumerator-cells object-cells owner-sort owner-row value-sort value-negative value-amount value-cells cells zeros room-cells definition-room enumerator-room object-room value-room rooms-after
+unfolding whole find firstOf classOf isWordByte wordEnd findByte pairAt findClose commentAt gapOf gapAt skipN skip digitOf valueAfter atMost digitsAfter numeral-of found wordAt limitOf isNegative wholeAt isDotted findMark isSigned someDigits digitsBehind mantissaOf powerOf powerAt scaleOf floatBy floatAt numberBy numberAt stepAt stringAt dotsAt tokenOf tokenAt same codeIn codeOf lexN lexFrom code given-code signOf class-of token-of tokensIn run move test nullable-form after streamOf back empty from lifted absent span-of span-or through definitions-in definitions-under is-enum bit enumerators-in enumerators-under statements-in zero-num num-of-sort num-of-step float-of-sort float-of-step word-of kind-of integer-of first-value truths defined defining specifying stating means meaning syntax choose alike among at-most equal least-of greatest-of signed width in-type among-numbers in-bounds in-float-bounds kind-number same-kind fewest most fault-if ahead sooner first of-kind find-value definitions-or under find-definition heads names find-object is-there sort-of-word sort-of is-string is-boolean fits-number fits-float fits-as fits definition-row definition-rows definition-rows-under enumerator-row enumerator-rows enumerator-rows-of all-definition-rows all-enumerator-rows outside bound-faults low-faults range-faults default-wrong default-number default-faults defined-in differs name-faults word-faults scope-faults value-faults specified spec-faults definition-faults object-rows how-many counts-of counts too-few full statement-faults each-object each-part elsewhere each-name object-faults then same-object used further continued merged merge-from merge is-no-default taken-by taken lacking lacks lacks-under reference-faults brace-faults faults-as own-faults and-inside judged judge judge-object judge-objects statement-stage is-true number-or row-or named valued take-value entries default-entry resolve resolve-under object-values all-values value-row how-many-values value-rows all-value-rows how-many-in-all too-many digits-in minus decimal written closed lines object-lines application-lines part normal tables unless answer empty-trees trees-from trees-of tree by-tree after-grammar parse answer-of reading normal-of normal-text enough too-short output-asked call line program integer-code type-code definition-cells enumerator-cells object-cells owner-sort owner-row value-sort value-negative value-amount value-cells cells zeros room-cells definition-room enumerator-room object-room value-room rooms-after
 everything = tt
 
 abbrev pub sp : ℕ → ℕ → Span

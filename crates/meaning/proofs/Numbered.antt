@@ -12,7 +12,7 @@ use Rattle.meaning.specs.Kinds.{kinds}
 use Rattle.meaning.specs.Faults.{Fault, fault-if, ahead, sooner, first}
 use Rattle.meaning.specs.Scopes.{Sort, a-number, a-string, a-truth, an-auto, a-no-default, a-name, a-float, sort-of, heads, of-kind, find-definition, names}
 use Rattle.meaning.specs.Defining.{outside, bound-faults, low-faults, range-faults, default-number, default-faults, name-faults, word-faults, scope-faults, value-faults, spec-faults, definition-faults}
-use Rattle.meaning.specs.Applying.{too-few, statement-faults, each-object, each-part, object-faults}
+use Rattle.meaning.specs.Applying.{too-few, statement-faults, each-object, each-part, elsewhere, each-name, object-faults}
 use Rattle.meaning.specs.Judging.{reference-faults, brace-faults, faults-as, own-faults, and-inside, judged, judge, judge-object, judge-objects, statement-stage}
 
 -- Each of the faults has a number above 5.
@@ -107,7 +107,7 @@ pub of-definitions : (f : File) → Numbered (definition-faults f)
 unfolding definition-faults
 of-definitions f = with-more (at-if _ (f .version) 6 (omega arith)) (of-specs [] (f .specs))
 
--- 11 and 17 ------------------------------------------------------------------------------------------------------------------------------
+-- 11, 17 and 24 ------------------------------------------------------------------------------------------------------------------------------
 
 pub of-few : (ks : List Kind) (os : List Object) (cpu : Word) → Numbered (too-few ks os cpu)
 unfolding too-few
@@ -130,9 +130,14 @@ unfolding each-part
 of-parts [] = no-fault
 of-parts (x ∷ xs) = with-more (with-more (at-if _ (x .word) 11 (omega arith)) (of-statements (x .statements))) (of-parts xs)
 
+of-names : (before xs : List Object) → Numbered (each-name before xs)
+unfolding each-name
+of-names before [] = no-fault
+of-names before (x ∷ xs) = with-more (at-if _ (x .name) 24 (omega arith)) (of-names (before ++ (x ∷ [])) xs)
+
 pub of-objects : (f : File) → Numbered (object-faults f)
 unfolding object-faults
-of-objects f = with-more (of-few kinds (f .objects) (f .cpu)) (with-more (of-each [] (f .objects)) (of-parts (f .parts)))
+of-objects f = with-more (of-few kinds (f .objects) (f .cpu)) (with-more (of-each [] (f .objects)) (with-more (of-parts (f .parts)) (of-names [] (f .parts))))
 
 -- 13 to 16 and 18 ----------------------------------------------------------------------------------------------------------------------------
 

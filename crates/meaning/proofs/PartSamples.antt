@@ -49,7 +49,7 @@ parts-list-order : whole (bytesOf "OIL_VERSION=\"2.5\";IMPLEMENTATION m{TASK{UIN
 unfolding everything
 parts-list-order = refl
 
-v12-retired : whole (bytesOf "OIL_VERSION=\"2.5\";IMPLEMENTATION m{};CPU c{OS a;APPMODE a;TASK t;ISR t;TASK t;};") ≡ (
+v12-retired : whole (bytesOf "OIL_VERSION=\"2.5\";IMPLEMENTATION m{};CPU c{OS a;APPMODE b;TASK t;ISR u;TASK t;};") ≡ (
   accepted (record {
     definitions = ([]);
     enumerators = ([]);
@@ -57,7 +57,7 @@ v12-retired : whole (bytesOf "OIL_VERSION=\"2.5\";IMPLEMENTATION m{};CPU c{OS a;
     values = ([]);
     counts = (1 ∷ 1 ∷ 1 ∷ 1 ∷ 0 ∷ 0 ∷ 0 ∷ 0 ∷ 0 ∷ 0 ∷ 0 ∷ 0 ∷ 0 ∷ []);
   }),
-  bytesOf "OIL_VERSION = \"2.5\";\nIMPLEMENTATION m{};\nCPU c {\nOS a {\n};\nAPPMODE a {\n};\nTASK t {\n};\nISR t {\n};\n};\n",
+  bytesOf "OIL_VERSION = \"2.5\";\nIMPLEMENTATION m{};\nCPU c {\nOS a {\n};\nAPPMODE b {\n};\nTASK t {\n};\nISR u {\n};\n};\n",
 )
 unfolding everything
 v12-retired = refl
@@ -116,6 +116,14 @@ v17-further = refl
 v17-second : reading (bytesOf "OIL_VERSION=\"2.5\";IMPLEMENTATION m{};CPU c{OS o;APPMODE a;OS o;OS p;};") ≡ refused 17 63
 unfolding everything
 v17-second = refl
+
+v24-other-kind : reading (bytesOf "OIL_VERSION=\"2.5\";IMPLEMENTATION m{};CPU c{OS o;APPMODE a;TASK t;EVENT t;TASK t;};") ≡ refused 24 71
+unfolding everything
+v24-other-kind = refl
+
+v24-behind-17 : reading (bytesOf "OIL_VERSION=\"2.5\";IMPLEMENTATION m{};CPU c{OS o;APPMODE a;OS a;};") ≡ refused 17 58
+unfolding everything
+v24-behind-17 = refl
 
 least-not-first : reading (bytesOf "OIL_VERSION=\"2.5\";IMPLEMENTATION m{TASK{UINT32 X=1;};};CPU c{OS o;APPMODE a;TASK t{X=1;};TASK u{Z=1;};TASK t{X=2;Y=3;};};") ≡ refused 13 96
 unfolding everything

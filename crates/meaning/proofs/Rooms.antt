@@ -18,7 +18,7 @@ use Rattle.meaning.specs.Faults.{Fault, fault-if, sooner, first}
 use Rattle.meaning.specs.Actions.{syntax}
 use Rattle.meaning.specs.Scopes.{heads, find-object}
 use Rattle.meaning.specs.Defining.{DefinitionRow, EnumeratorRow, definition-rows, enumerator-rows, all-definition-rows, all-enumerator-rows, range-faults, default-faults, defined-in, differs, name-faults, word-faults, scope-faults, value-faults, specified, spec-faults, definition-faults}
-use Rattle.meaning.specs.Applying.{ObjectRow, object-rows, how-many, full, too-few, statement-faults, each-object, each-part, object-faults}
+use Rattle.meaning.specs.Applying.{ObjectRow, object-rows, how-many, full, too-few, statement-faults, each-object, each-part, each-name, object-faults}
 use Rattle.meaning.specs.Kinds.{kinds, most}
 use Rattle.meaning.specs.Judging.{statement-stage}
 use Rattle.meaning.specs.Resolving.{ValueRow, Resolved, all-values, value-rows, all-value-rows, how-many-values, how-many-in-all, of-object, too-many}
@@ -306,7 +306,7 @@ few-values n e = ltb-false 2048 n (go (ltb 2048 n) e)
 
 -- The rooms ----------------------------------------------------------------------------------------------------------------------------------
 
--- Where the stage of 6 to 9 and 21 to 23 has no fault, definitions and enumerators fit; where that of 11 and 17 has none, objects, parts and statements do.
+-- Where the stage of 6 to 9 and 21 to 23 has no fault, definitions and enumerators fit; where that of 11, 17 and 24 has none, objects, parts and statements do.
 pub definitions-fit : (s : List ℕ) (t : Trees _⟶_ (file ▸ ∎)) → first (definition-faults (syntax s t)) ≡ none
     → (length (all-definition-rows (syntax s t .specs)) ≤ 512) × (length (all-enumerator-rows (syntax s t .specs)) ≤ 1024)
 unfolding definition-faults
@@ -323,9 +323,9 @@ pub objects-fit : (s : List ℕ) (t : Trees _⟶_ (file ▸ ∎)) → first (obj
 unfolding object-faults
 objects-fit s t e =
     let f = syntax s t in
-    let z = nothing-back (too-few kinds (f .objects) (f .cpu)) (each-object [] (f .objects) ++ each-part (f .parts)) (no-first (object-faults f) e) in
-    let os = objects-without [] (f .objects) (nothing-front (each-object [] (f .objects)) (each-part (f .parts)) z) in
-    let ps = parts-without (f .parts) (nothing-back (each-object [] (f .objects)) (each-part (f .parts)) z) in
+    let z = nothing-back (too-few kinds (f .objects) (f .cpu)) (each-object [] (f .objects) ++ (each-part (f .parts) ++ each-name [] (f .parts))) (no-first (object-faults f) e) in
+    let os = objects-without [] (f .objects) (nothing-front (each-object [] (f .objects)) (each-part (f .parts) ++ each-name [] (f .parts)) z) in
+    let ps = parts-without (f .parts) (nothing-front (each-part (f .parts)) (each-name [] (f .parts)) (nothing-back (each-object [] (f .objects)) (each-part (f .parts) ++ each-name [] (f .parts)) z)) in
     let n = numbered s t in (
       (let a = stays (object-numbers (f .objects)) 0 256 (n .1 .0) (omega arith) os in let l = object-rows-length (f .objects) in omega arith),
       (let a = stays (object-numbers (f .parts)) 0 512 (n .1 .1 .0) (omega arith) (ps .0) in let l = object-numbers-length (f .parts) in omega arith),

@@ -94,7 +94,7 @@ v16-default-chain : reading (bytesOf "OIL_VERSION=\"2.5\";IMPLEMENTATION m{TASK{
 unfolding everything
 v16-default-chain = refl
 
-v17-second-os : reading (bytesOf "OIL_VERSION=\"2.5\";IMPLEMENTATION m{};CPU c{OS a;APPMODE a;APPMODE b;OS b;};") ≡ refused 17 68
+v17-second-os : reading (bytesOf "OIL_VERSION=\"2.5\";IMPLEMENTATION m{};CPU c{OS o;APPMODE a;APPMODE b;OS p;};") ≡ refused 17 68
 unfolding everything
 v17-second-os = refl
 

@@ -15,7 +15,7 @@ use Rattle.meaning.specs.Kinds.{same-kind, kinds, fewest, most}
 use Rattle.meaning.specs.Faults.{Fault, fault-if, sooner, first}
 use Rattle.meaning.specs.Scopes.{Sort, a-number, a-string, a-truth, an-auto, a-no-default, a-name, a-float, sort-of, of-kind, Under, find-value, definitions-or, under, find-definition, heads, names, find-object, fits-number, fits-float, fits-as, fits}
 use Rattle.meaning.specs.Defining.{outside, bound-faults, low-faults, range-faults, default-wrong, default-number, default-faults, defined-in, differs, name-faults, word-faults, scope-faults, value-faults, specified, spec-faults, definition-faults}
-use Rattle.meaning.specs.Applying.{how-many, too-few, full, statement-faults, each-object, each-part, object-faults}
+use Rattle.meaning.specs.Applying.{how-many, too-few, full, statement-faults, each-object, each-part, elsewhere, each-name, object-faults}
 use Rattle.meaning.specs.Judging.{lacks, reference-faults, brace-faults, faults-as, own-faults, and-inside, judged, judge, judge-object, judge-objects, statement-stage}
 use Rattle.meaning.specs.Resolving.{all-values, how-many-in-all, too-many}
 use Rattle.meaning.specs.Answers.{Tables, Answer, accepted, refused, tables, unless, answer}
@@ -227,11 +227,24 @@ parts-unplaced (x ∷ xs) =
     (append-unplaced a (statement-faults (x .statements)) (if-unplaced (eqb (x .row) 512) (x .word) 11) (statements-unplaced (x .statements)))
     (parts-unplaced xs)
 
+elsewhere-unplaced : (x : Object) (l : List Object) → elsewhere (unplaced-object x) (each unplaced-object l) ≡ elsewhere x l
+unfolding elsewhere each alike unplaced-object unplaced-word
+elsewhere-unplaced x [] = refl
+elsewhere-unplaced x (y ∷ l) = ap (either (both (not (same-kind (x .kind) (y .kind))) (same (y .name .bytes) (x .name .bytes)))) (elsewhere-unplaced x l)
+
+each-name-unplaced : (before xs : List Object) → each-name (each unplaced-object before) (each unplaced-object xs) ≡ at-zero (each-name before xs)
+unfolding each-name each unplaced-object
+each-name-unplaced before [] = refl
+each-name-unplaced before (x ∷ xs) =
+    append-unplaced (fault-if (elsewhere x before) (x .name) 24) (each-name (before ++ (x ∷ [])) xs) (if-same (x .name) 24 (elsewhere-unplaced x before))
+    (ap (λ l. each-name l (each unplaced-object xs)) (behind unplaced-object before x) ∙ each-name-unplaced (before ++ (x ∷ [])) xs)
+
 pub object-faults-unplaced : (f : File) → object-faults (unplaced f) ≡ each unplaced-fault (object-faults f)
 unfolding object-faults unplaced each
 object-faults-unplaced f =
-    append-unplaced (too-few kinds (f .objects) (f .cpu)) (each-object [] (f .objects) ++ each-part (f .parts)) (few-unplaced kinds (f .objects) (f .cpu))
-    (append-unplaced (each-object [] (f .objects)) (each-part (f .parts)) (objects-unplaced [] (f .objects)) (parts-unplaced (f .parts)))
+    append-unplaced (too-few kinds (f .objects) (f .cpu)) (each-object [] (f .objects) ++ (each-part (f .parts) ++ each-name [] (f .parts))) (few-unplaced kinds (f .objects) (f .cpu))
+    (append-unplaced (each-object [] (f .objects)) (each-part (f .parts) ++ each-name [] (f .parts)) (objects-unplaced [] (f .objects))
+    (append-unplaced (each-part (f .parts)) (each-name [] (f .parts)) (parts-unplaced (f .parts)) (each-name-unplaced [] (f .parts))))
 
 -- 13 to 16 and 18 --------------------------------------------------------------------------------------------------------------------------
 

@@ -1,13 +1,14 @@
--- The application: the rows of objects, the counts of the kinds, and the stage of 11 and 17 (document 01, "Meaning" and "Refusals and
--- their order"; document 02, Q-2). Assumes nothing.
+-- The application: the rows of objects, the counts of the kinds, and the stage of 11, 17 and 24 (document 01, "Meaning" and "Refusals and
+-- their order"; document 02, Q-2, Q-5). Assumes nothing.
 use mathlib.Core.List.{List, [], _∷_, _++_}
-use mathlib.Core.Bool.{Bool, false}
+use mathlib.Core.Bool.{Bool, false, not}
 use mathlib.Core.Option.{Option, none, some}
 use Prim.Native.Nat.{ℕ, _+_}
 use lib.Dec.{eqb, ltb, leb}
-use Rattle.token.specs.Find.{bit}
+use Rattle.token.specs.Find.{bit, both, either}
 use Rattle.grammar.specs.Grammar.{Kind}
 use Rattle.meaning.specs.Syntax.{Word, Span, span-of, Statements, done, state, Object, File}
+use Rattle.meaning.specs.Words.{alike}
 use Rattle.meaning.specs.Kinds.{same-kind, kinds, fewest, most}
 use Rattle.meaning.specs.Faults.{Fault, fault-if}
 
@@ -64,6 +65,17 @@ unfoldable pub each-part : List Object → List Fault
 each-part [] = []
 each-part (x ∷ xs) = (fault-if (eqb (x .row) 512) (x .word) 11 ++ statement-faults (x .statements)) ++ each-part xs
 
--- The stage of 11 and 17. "Refusal 12 is retired."
+-- 24, "a name already used by an object of another kind", "at the later name": whether one of those before has x's name and another kind.
+unfoldable pub elsewhere : Object → List Object → Bool
+elsewhere x [] = false
+elsewhere x (y ∷ ys) = either (both (not (same-kind (x .kind) (y .kind))) (alike (y .name) (x .name))) (elsewhere x ys)
+
+-- Of each part: before are the parts before it. (A further part of an object whose name was used elsewhere in between is at fault too, behind
+-- that one.)
+unfoldable pub each-name : (before : List Object) → List Object → List Fault
+each-name before [] = []
+each-name before (x ∷ xs) = fault-if (elsewhere x before) (x .name) 24 ++ each-name (before ++ (x ∷ [])) xs
+
+-- The stage of 11, 17 and 24. "Refusal 12 is retired."
 unfoldable pub object-faults : File → List Fault
-object-faults f = too-few kinds (f .objects) (f .cpu) ++ (each-object [] (f .objects) ++ each-part (f .parts))
+object-faults f = too-few kinds (f .objects) (f .cpu) ++ (each-object [] (f .objects) ++ (each-part (f .parts) ++ each-name [] (f .parts)))

@@ -3,3 +3,4 @@ pub mod Moving
 pub mod Places
 pub mod Laying
 pub mod Turns
+pub mod Storing

@@ -99,14 +99,14 @@ module _ (s : List ℕ) (x : Object) (g : Good s (x .name)) where
       ap₂ (λ (b : Bool) (f : Found). pick b (At i) f) (object-test y (h .1 .0))
       (object-tests (suc i) l rest (good-back s (statement-words (y .statements)) (object-words (l ++ rest)) (h .1 .1)))
 
-good-name : (s : List ℕ) (p : List Object) (x : Object) (rest : List Object) → Goods s (object-words (p ++ (x ∷ rest))) → Good s (x .name)
+pub good-name : (s : List ℕ) (p : List Object) (x : Object) (rest : List Object) → Goods s (object-words (p ++ (x ∷ rest))) → Good s (x .name)
 unfolding object-words
 good-name s [] x rest g = g .1 .0
 good-name s (y ∷ p) x rest g = good-name s p x rest (good-back s (statement-words (y .statements)) (object-words (p ++ (x ∷ rest))) (g .1 .1))
 
 -- The first row of a part, by the parts before it.
 pub row-is : (s p : List ℕ) (f : File) (j : ℕ) (before : List Object) (z : Object) (rest : List Object) → Situation s f → p ≡ kept-parts f → f .parts ≡ before ++ (z ∷ rest)
-    → length before ≡ j → j < 513 → first-row s p j ≡ row-or j (first (same-object z) At Nothing 0 before)
+    → length before ≡ j → j < 513 → first-row 0 s p j ≡ row-or j (first (same-object z) At Nothing 0 before)
 unfolding first-row kept-parts object-cells
 row-is s p f j before z rest k e w l h =
     let q : Nth (f .parts) j z = record { front = before; rest = rest; whole = w; place = l } in

@@ -24,36 +24,36 @@ use Rattle.merging.proofs.Laying.{gathered-none, gathered-then, continu
 
 -- First rows -----------------------------------------------------------------------------------------------------------------------------------
 
-module _ (s p : List ℕ) (j : ℕ) {k a n : ℕ} {f : Found} (e₁ : k ≡ getD p (j * 10 + 0) 0) (e₂ : a ≡ getD p (j * 10 + 3) 0) (e₃ : n ≡ getD p (j * 10 + 4) 0) where
-  named : f ≡ findNamed s p 10 j 0 k 3 a n 0 → f ≡ findNamed s p 10 j 0 (getD p (j * 10 + 0) 0) 3 (getD p (j * 10 + 3) 0) (getD p (j * 10 + 4) 0) 0
+module _ (col : ℕ) (s p : List ℕ) (j : ℕ) {k a n : ℕ} {f : Found} (e₁ : k ≡ getD p (j * 10 + col) 0) (e₂ : a ≡ getD p (j * 10 + 3) 0) (e₃ : n ≡ getD p (j * 10 + 4) 0) where
+  named : f ≡ findNamed s p 10 j col k 3 a n 0 → f ≡ findNamed s p 10 j col (getD p (j * 10 + col) 0) 3 (getD p (j * 10 + 3) 0) (getD p (j * 10 + 4) 0) 0
   named h =
-      h ∙ ap (λ (x : ℕ). findNamed s p 10 j 0 x 3 a n 0) e₁ ∙ ap₂ (λ (x y : ℕ). findNamed s p 10 j 0 (getD p (j * 10 + 0) 0) 3 x y 0) e₂ e₃
+      h ∙ ap (λ (x : ℕ). findNamed s p 10 j col x 3 a n 0) e₁ ∙ ap₂ (λ (x y : ℕ). findNamed s p 10 j col (getD p (j * 10 + col) 0) 3 x y 0) e₂ e₃
 
-  pub first-found : {i : ℕ} → f ≡ At i → f ≡ findNamed s p 10 j 0 k 3 a n 0 → i ≡ first-row s p j
+  pub first-found : {i : ℕ} → f ≡ At i → f ≡ findNamed s p 10 j col k 3 a n 0 → i ≡ first-row col s p j
   unfolding first-row row-or
   first-found g h = ap (row-or j) (sym g ∙ named h)
 
-  pub first-nothing : f ≡ Nothing → f ≡ findNamed s p 10 j 0 k 3 a n 0 → j ≡ first-row s p j
+  pub first-nothing : f ≡ Nothing → f ≡ findNamed s p 10 j col k 3 a n 0 → j ≡ first-row col s p j
   unfolding first-row row-or
   first-nothing g h = ap (row-or j) (sym g ∙ named h)
 
-pub each-start : (s p out : List ℕ) (n : ℕ) → sets out 0 (first-rows s p (n - 0) 0) ≡ sets out 0 (first-rows s p n 0)
-each-start s p out n = let e : n - 0 ≡ n = omega arith in ap (λ (m : ℕ). sets out 0 (first-rows s p m 0)) e
+pub each-start : (col : ℕ) (s p out : List ℕ) (n : ℕ) → sets out 0 (first-rows col s p (n - 0) 0) ≡ sets out 0 (first-rows col s p n 0)
+each-start col s p out n = let e : n - 0 ≡ n = omega arith in ap (λ (m : ℕ). sets out 0 (first-rows col s p m 0)) e
 
-pub each-more : (s p out out′ t : List ℕ) (n j i : ℕ) → j < n → out′ ≡ sets out j (i ∷ []) → i ≡ first-row s p j → sets out j (first-rows s p (n - j) j) ≡ t
-    → sets out′ (j + 1) (first-rows s p (n - (j + 1)) (j + 1)) ≡ t
+pub each-more : (col : ℕ) (s p out out′ t : List ℕ) (n j i : ℕ) → j < n → out′ ≡ sets out j (i ∷ []) → i ≡ first-row col s p j → sets out j (first-rows col s p (n - j) j) ≡ t
+    → sets out′ (j + 1) (first-rows col s p (n - (j + 1)) (j + 1)) ≡ t
 unfolding first-rows
-each-more s p out out′ t n j i h e g k =
+each-more col s p out out′ t n j i h e g k =
     let m : n - j ≡ suc (n - (j + 1)) = omega (arith, h) in
     let z : j + 1 ≡ suc j = omega arith in
-    ap₂ (λ (l : List ℕ) (q : ℕ). sets l q (first-rows s p (n - (j + 1)) q)) (e ∙ ap (λ (q : ℕ). sets out j (q ∷ [])) g) z
-    ∙ sym (ap (λ (q : ℕ). sets out j (first-rows s p q j)) m) ∙ k
+    ap₂ (λ (l : List ℕ) (q : ℕ). sets l q (first-rows col s p (n - (j + 1)) q)) (e ∙ ap (λ (q : ℕ). sets out j (q ∷ [])) g) z
+    ∙ sym (ap (λ (q : ℕ). sets out j (first-rows col s p q j)) m) ∙ k
 
-pub each-end : (s p out t : List ℕ) (n j : ℕ) → n ≤ j → sets out j (first-rows s p (n - j) j) ≡ t → out ≡ t
+pub each-end : (col : ℕ) (s p out t : List ℕ) (n j : ℕ) → n ≤ j → sets out j (first-rows col s p (n - j) j) ≡ t → out ≡ t
 unfolding first-rows
-each-end s p out t n j h k =
+each-end col s p out t n j h k =
     let m : n - j ≡ 0 = omega (arith, h) in
-    sym (ap (λ (q : ℕ). sets out j (first-rows s p q j)) m) ∙ k
+    sym (ap (λ (q : ℕ). sets out j (first-rows col s p q j)) m) ∙ k
 
 -- Lists ----------------------------------------------------------------------------------------------------------------------------------------
 

@@ -14,15 +14,16 @@ unfoldable pub row-or : ℕ → Found → ℕ
 row-or j (At i) = i
 row-or j Nothing = j
 
--- The first row before row j that has its kind and name; row j itself where there is none.
-unfoldable pub first-row : (s p : List ℕ) → ℕ → ℕ
-first-row s p j = row-or j (findNamed s p 10 j 0 (cellOf p 10 j 0) 3 (cellOf p 10 j 3) (cellOf p 10 j 4) 0)
+-- The first row before row j that has its name and the same in column c; row j itself where there is none. Column 0 is the kind; in a column
+-- past the table, as `length p`, all rows have 0, so that the name alone counts.
+unfoldable pub first-row : (c : ℕ) → (s p : List ℕ) → ℕ → ℕ
+first-row c s p j = row-or j (findNamed s p 10 j c (cellOf p 10 j c) 3 (cellOf p 10 j 3) (cellOf p 10 j 4) 0)
 
 -- Those of m rows from row j on.
-unfoldable pub first-rows : (s p : List ℕ) → (m j : ℕ) → List ℕ
-first-rows s p zero j = []
-first-rows s p (suc m) j = first-row s p j ∷ first-rows s p m (suc j)
+unfoldable pub first-rows : (c : ℕ) → (s p : List ℕ) → (m j : ℕ) → List ℕ
+first-rows c s p zero j = []
+first-rows c s p (suc m) j = first-row c s p j ∷ first-rows c s p m (suc j)
 
 -- x has them for the first n rows.
-abbrev pub FirstRows : (s p : List ℕ) → ℕ → List ℕ → Type 0
-FirstRows s p n x = n ≤ 513 → x ≡ sets (replicate 513 0) 0 (first-rows s p n 0)
+abbrev pub FirstRows : (c : ℕ) → (s p : List ℕ) → ℕ → List ℕ → Type 0
+FirstRows c s p n x = n ≤ 513 → x ≡ sets (replicate 513 0) 0 (first-rows c s p n 0)

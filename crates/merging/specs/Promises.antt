@@ -18,7 +18,7 @@ pub record Parted (s p st x : List ℕ) (n : ℕ) (f : File) : Type 0 where
   pub in-parts : p ≡ kept-parts f
   pub in-statements : st ≡ kept-part-statements f
   pub parts : n ≡ length (f .parts)
-  pub firsts : (j : ℕ) → j < n → getD x j 0 ≡ first-row s p j
+  pub firsts : (j : ℕ) → j < n → getD x j 0 ≡ first-row 0 s p j
   pub parts-fit : n ≤ 512
   pub statements-fit : statement-count (f .parts) ≤ 2048
 

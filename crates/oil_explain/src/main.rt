@@ -30,8 +30,7 @@ fn write_meaning(number: u8) {
         9 => write(
             b"the name stands under another value of the same attribute with other type words",
         ),
-        11 => write(b"more than 256 objects, or more than 2,048 statements"),
-        12 => write(b"the name is used before by an object of the same kind"),
+        11 => write(b"more than 256 objects, more than 512 parts, or more than 2,048 statements"),
         13 => write(b"the name is not defined in its scope"),
         14 => write(b"an attribute that is no list is stated again in its block"),
         15 => write(
@@ -47,6 +46,7 @@ fn write_meaning(number: u8) {
         ),
         22 => write(b"a default outside type, range or list"),
         23 => write(b"AUTO as a default without WITH_AUTO"),
+        24 => write(b"the name is used before by an object of another kind"),
         _ => write(b"unknown"),
     }
 }

@@ -22,8 +22,9 @@ use Rattle.checks.specs.Promises.{Checks, ObjectFaults}
 use Rattle.checks.specs.declared.objects.Checked.{Checked}
 use Rattle.layout.specs.Kept.{kept, kept-objects, kept-statements, object-rows, all-statement-rows, statement-count, join}
 use Rattle.scopes.proofs.Descents.{whole}
-use Rattle.merging.specs.Parts.{first-row, first-rows, FirstRows}
+use Rattle.merging.specs.Parts.{FirstRows}
 use Rattle.merging.specs.Promises.{Parted, Merges}
+use Rattle.merging.proofs.Storing.{cells-of}
 use Rattle.merging.proofs.Laying.{merge-count}
 use Rattle.defining_checks.specs.Promises.{DefinitionFaults}
 use Rattle.judging.specs.Promises.{JudgesAll}
@@ -36,36 +37,9 @@ use Rattle.meaning.proofs.Numbered.{of-definitions, of-objects, of-first}
 use Rattle.reading.proofs.Arriving.{refused-early, arrived, answers-first, answers-next, decided}
 use Rattle.reading.proofs.Settling.{Fitting, fitting, given, places}
 
--- The first part of each row, by the cells that were stored.
-sets-before : (vs l : List ℕ) (i k : ℕ) → k < i → getD (sets l i vs) k 0 ≡ getD l k 0
-sets-before [] l i k h = refl
-sets-before (v ∷ vs) l i k h = sets-before vs (set l i v) (suc i) k (omega arith) ∙ getD-set-other l i k v 0 (λ e. omega arith)
-
-first-cell : (s p : List ℕ) (m j : ℕ) (l : List ℕ) (k : ℕ) → k < m → j + k < length l → getD (sets l j (first-rows s p m j)) (j + k) 0 ≡ first-row s p (j + k)
-unfolding first-rows
-first-cell s p zero j l k h g = absurd (omega arith)
-first-cell s p (suc m) j l zero h g =
-    let e : j + 0 ≡ j = omega arith in
-    ap (λ (i : ℕ). getD (sets (set l j (first-row s p j)) (suc j) (first-rows s p m (suc j))) i 0) e
-    ∙ sets-before (first-rows s p m (suc j)) (set l j (first-row s p j)) (suc j) j (omega arith)
-    ∙ getD-set-same l j (first-row s p j) 0 (omega arith) ∙ ap (first-row s p) (sym e)
-first-cell s p (suc m) j l (suc k) h g =
-    let e : j + suc k ≡ suc j + k = omega arith in
-    let n = length-set l j (first-row s p j) in
-    ap (λ (i : ℕ). getD (sets (set l j (first-row s p j)) (suc j) (first-rows s p m (suc j))) i 0) e
-    ∙ first-cell s p m (suc j) (set l j (first-row s p j)) k (omega arith) (omega arith) ∙ ap (first-row s p) (sym e)
-
-cells-of : (s p x : List ℕ) (l n : ℕ) → l ≡ min n 513 → FirstRows s p l x → (j : ℕ) → j < min n 513 → getD x j 0 ≡ first-row s p j
-cells-of s p x l n e h j g =
-    let r = length-replicate {A = ℕ} 513 0 in
-    let z : 0 + j ≡ j = omega arith in
-    ap (λ (v : List ℕ). getD v j 0) (h (omega (arith, e)))
-    ∙ ap (λ (i : ℕ). getD (sets (replicate 513 0) 0 (first-rows s p l 0)) i 0) (sym z)
-    ∙ first-cell s p l 0 (replicate 513 0) j (omega (arith, e, g)) (omega (arith, r, g)) ∙ ap (first-row s p) z
-
 -- The rows of the objects are kept.
 module _ {s : List ℕ} {y : Rooms} {w : Walked} {f : File} (k : KeptParts s y w f) (p : first (definition-faults f) ≡ none) (q : first (object-faults f) ≡ none) where
-  kept-merged : (x o t o′ t′ : List ℕ) (l r n : ℕ) (cs : List ℕ) → l ≡ min (w .objects) 513 → FirstRows s (y .objects) l x → Merges (y .objects) (y .statements) x (w .objects) o t o′ t′ r
+  kept-merged : (x o t o′ t′ : List ℕ) (l r n : ℕ) (cs : List ℕ) → l ≡ min (w .objects) 513 → FirstRows 0 s (y .objects) l x → Merges (y .objects) (y .statements) x (w .objects) o t o′ t′ r
       → o ≡ replicate 2570 0 → t ≡ replicate 14343 0 → (length (f .parts) ≤ 513 → n ≡ length (f .objects)) → (length (f .parts) ≤ 513 → cs ≡ counts (f .objects))
       → Kept s (record { definitions = y .definitions; enumerators = y .enumerators; objects = o′; statements = t′ }) (with-objects w n cs) f
   unfolding kept-objects kept-statements kept
@@ -80,7 +54,7 @@ module _ {s : List ℕ} {y : Rooms} {w : Walked} {f : File} (k : KeptParts s y w
         in-parts = k .in-objects;
         in-statements = k .in-statements;
         parts = ko;
-        firsts = λ j i. cells-of s (y .objects) x l (w .objects) e h j (omega arith);
+        firsts = λ j i. cells-of 0 s (y .objects) x l (w .objects) e h j (omega arith);
         parts-fit = omega arith;
         statements-fit = F₂;
       } in
@@ -113,11 +87,11 @@ module _ (s : List ℕ) (y : Rooms) (w : Walked) (a : Fault)
   unfolding stageFault
   by-first o t o′ t′ h f k eo et = record { fault = answers-first _ (first (definition-faults f)) a (stage-one f k) (is-one a h); kept = λ n. absurd (is-one a h n) }
 
-  module _ (h : isFault a ≡ false) (x : List ℕ) (l : ℕ) (e : l ≡ min (w .objects) 513) (F : FirstRows s (y .objects) l x) (b : Checked)
-      (q : ObjectFaults (y .objects) (y .statements) x (w .objects) (w .statements) (w .counts) (w .«cpu_at») b) where
+  module _ (h : isFault a ≡ false) (x : List ℕ) (l : ℕ) (e : l ≡ min (w .objects) 513) (F : FirstRows 0 s (y .objects) l x) (b : Checked)
+      (q : ObjectFaults s (y .objects) (y .statements) x (w .objects) (w .statements) (w .counts) (w .«cpu_at») b) where
     checked : (f : File) → KeptParts s y w f → Checks f b
     checked f k =
-        q s f (k .situation) (k .in-objects) (k .in-statements) (k .objects) (k .statements) (k .counted) (sym (k .cpu .0)) (cells-of s (y .objects) x l (w .objects) e F)
+        q f (k .situation) (k .in-objects) (k .in-statements) (k .objects) (k .statements) (k .counted) (sym (k .cpu .0)) (cells-of 0 s (y .objects) x l (w .objects) e F)
 
     stage-two : (f : File) → KeptParts s y w f → b .fault ≡ fault-of (first (object-faults f))
     stage-two f k = checked f k .fault

@@ -152,9 +152,18 @@ fn stages(
         };
     }
     let n = cells::least_of(w.objects, 513);
-    let x = merging::firsts(text, p, n);
+    let x = merging::firsts(text, p, 0, n);
     let of_parts = w.counts;
-    let b = checks::objects::object_faults(p, q, &x, w.objects, w.statements, of_parts, w.cpu_at);
+    let b = checks::objects::object_faults(
+        text,
+        p,
+        q,
+        &x,
+        w.objects,
+        w.statements,
+        of_parts,
+        w.cpu_at,
+    );
     let own = b.fault;
     if faults::is_fault(own) {
         return Decision {

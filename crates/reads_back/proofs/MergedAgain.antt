@@ -2,13 +2,17 @@
 -- merging changes nothing. Assumes nothing.
 use mathlib.Core.Path.{_≡_, refl, sym, _∙_, ap, ap₂, subst}
 use mathlib.Core.List.{List, [], _∷_, _++_, append-assoc}
-use mathlib.Core.Bool.{Bool, true, false, false≢true}
+use mathlib.Core.Bool.{Bool, true, false, not, false≢true}
 use Prim.Native.Nat.{ℕ, suc, _+_}
 use native.Mathlib.Omega.{arith}
-use Rattle.token.specs.Find.{pick, either, bit}
+use Rattle.token.specs.Find.{pick, both, either, bit}
 use Rattle.token.proofs.Bytes.{neither-first, neither-second}
 use Rattle.meaning.specs.Syntax.{Statements, done, state, Object}
 use Rattle.meaning.specs.Words.{alike, choose}
+use Rattle.meaning.specs.Kinds.{same-kind}
+use Rattle.meaning.specs.Faults.{fault-if}
+use Rattle.meaning.specs.Applying.{elsewhere, each-name}
+use Rattle.meaning.proofs.Rooms.{nothing-front, nothing-back, not-faulty}
 use Rattle.meaning.specs.Merging.{then, same-object, used, further, continued, merged, merge-from, merge}
 use Rattle.meaning.specs.Places.{each, unplaced-word, unplaced-statement, unplaced-statements, unplaced-object}
 use Rattle.meaning.proofs.Unplaced.{each-append}
@@ -173,3 +177,60 @@ same-from before (x ∷ xs) n h s =
 pub merge-same : (xs : List Object) → AllNew [] xs → Single 0 xs → merge xs ≡ xs
 unfolding merge
 merge-same xs h s = same-from [] xs 0 h s
+
+-- Names used by objects of other kinds ---------------------------------------------------------------------------------------------------------------
+
+either-assoc : (a b c : Bool) → either a (either b c) ≡ either (either a b) c
+either-assoc true b c = refl
+either-assoc false b c = refl
+
+elsewhere-append : (x : Object) (a b : List Object) → elsewhere x (a ++ b) ≡ either (elsewhere x a) (elsewhere x b)
+unfolding elsewhere
+elsewhere-append x [] b = refl
+elsewhere-append x (y ∷ a) b =
+    ap (either (both (not (same-kind (x .kind) (y .kind))) (alike (y .name) (x .name)))) (elsewhere-append x a b)
+    ∙ either-assoc (both (not (same-kind (x .kind) (y .kind))) (alike (y .name) (x .name))) (elsewhere x a) (elsewhere x b)
+
+-- A merged object has the kind and name of its first part.
+elsewhere-merged : (x : Object) (n : ℕ) (xs os : List Object) → elsewhere (merged x n xs) os ≡ elsewhere x os
+unfolding elsewhere merged
+elsewhere-merged x n xs [] = refl
+elsewhere-merged x n xs (y ∷ os) = ap (either (both (not (same-kind (x .kind) (y .kind))) (alike (y .name) (x .name)))) (elsewhere-merged x n xs os)
+
+merged-elsewhere : (y x : Object) (n : ℕ) (xs : List Object) → elsewhere y (merged x n xs ∷ []) ≡ elsewhere y (x ∷ [])
+unfolding elsewhere merged
+merged-elsewhere y x n xs = refl
+
+-- What no part of before has, no object of os has.
+abbrev Fewer : List Object → List Object → Type 0
+Fewer os before = (y : Object) → elsewhere y before ≡ false → elsewhere y os ≡ false
+
+fewer-old : (os before : List Object) (x : Object) → Fewer os before → Fewer os (before ++ (x ∷ []))
+fewer-old os before x c y h = c y (neither-first (elsewhere y before) (elsewhere y (x ∷ [])) (sym (elsewhere-append y before (x ∷ [])) ∙ h))
+
+fewer-new : (os before : List Object) (x : Object) (n : ℕ) (xs : List Object) → Fewer os before → Fewer (os ++ (merged x n xs ∷ [])) (before ++ (x ∷ []))
+fewer-new os before x n xs c y h =
+    let e = sym (elsewhere-append y before (x ∷ [])) ∙ h in
+    elsewhere-append y os (merged x n xs ∷ [])
+    ∙ ap₂ either (c y (neither-first (elsewhere y before) (elsewhere y (x ∷ [])) e)) (merged-elsewhere y x n xs ∙ neither-second (elsewhere y before) (elsewhere y (x ∷ [])) e)
+
+names-from : (before os xs : List Object) (n : ℕ) → Fewer os before → each-name before xs ≡ [] → each-name os (merge-from before xs n) ≡ []
+unfolding merge-from each-name choose fault-if
+names-from before os [] n c e = refl
+names-from before os (x ∷ xs) n c e =
+    let A = fault-if (elsewhere x before) (x .name) 24 in
+    let B = each-name (before ++ (x ∷ [])) xs in
+    let t = elsewhere-merged x n xs os ∙ c x (not-faulty (elsewhere x before) (x .name) 24 (nothing-front A B e)) in
+    let r = nothing-back A B e in
+    go (used x before) (names-from (before ++ (x ∷ [])) os xs n (fewer-old os before x c) r)
+    (ap₂ _++_ (ap (λ (b : Bool). fault-if b (merged x n xs .name) 24) t) (names-from (before ++ (x ∷ [])) (os ++ (merged x n xs ∷ [])) xs (suc n) (fewer-new os before x n xs c) r))
+  where
+    go : (b : Bool) → each-name os (merge-from (before ++ (x ∷ [])) xs n) ≡ []
+        → fault-if (elsewhere (merged x n xs) os) (merged x n xs .name) 24 ++ each-name (os ++ (merged x n xs ∷ [])) (merge-from (before ++ (x ∷ [])) xs (suc n)) ≡ []
+        → each-name os (choose b (λ _. merge-from (before ++ (x ∷ [])) xs n) (λ _. merged x n xs ∷ merge-from (before ++ (x ∷ [])) xs (suc n))) ≡ []
+    go true p q = p
+    go false p q = q
+
+pub merge-names : (xs : List Object) → each-name [] xs ≡ [] → each-name [] (merge xs) ≡ []
+unfolding merge
+merge-names xs e = names-from [] [] xs 0 (λ y h. h) e

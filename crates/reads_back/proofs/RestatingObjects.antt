@@ -1,21 +1,22 @@
 -- The objects of a normal text: their faults and their resolved values. Assumes nothing.
 use mathlib.Core.Path.{_≡_, refl, sym, _∙_, ap, ap₂, subst}
 use mathlib.Core.List.{List, [], _∷_, _++_}
-use mathlib.Core.Bool.{Bool, true, false}
+use mathlib.Core.Bool.{Bool, true, false, not}
 use Prim.Native.Nat.{ℕ, suc, _+_, _≤_}
 use lib.ListN.{length}
 use native.Mathlib.Omega.{arith}
 use lib.Dec.{eqb, ltb}
 use borrow.Author.Tests.{ne-eqb}
 use Rattle.grammar.specs.Grammar.{Kind}
-use Rattle.token.specs.Find.{pick, is-there}
-use Rattle.token.specs.Words.{bytesOf}
+use Rattle.token.specs.Find.{pick, both, either, is-there}
+use Rattle.token.specs.Words.{bytesOf, same}
 use Rattle.meaning.specs.Syntax.{Word, Definitions, Spec, Object, File}
+use Rattle.meaning.specs.Words.{alike}
 use Rattle.meaning.specs.Kinds.{same-kind, fewest, most}
 use Rattle.meaning.specs.Faults.{fault-if}
 use Rattle.meaning.specs.Scopes.{of-kind, find-object, names}
 use Rattle.meaning.specs.Defining.{scope-faults, specified, spec-faults}
-use Rattle.meaning.specs.Applying.{how-many, too-few, full, statement-faults, each-object, each-part}
+use Rattle.meaning.specs.Applying.{how-many, too-few, full, statement-faults, each-object, each-part, elsewhere, each-name}
 use Rattle.meaning.proofs.Numbering.{Counts, counts-more, object-numbers}
 use Rattle.meaning.specs.Judging.{lacks, judge, judge-object, judge-objects}
 use Rattle.meaning.specs.Resolving.{Resolved, end, resolved, resolve, object-values, all-values, how-many-values, how-many-in-all}
@@ -180,6 +181,21 @@ restated-parts-each f (x ∷ xs) k i (counts-more e c) l h =
     let q : eqb (x .row) 512 ≡ false = ne-eqb (x .row) 512 (λ z. omega arith) in
     ap₂ _++_ (ap₂ (λ b t. fault-if b (unplaced-word (x .word)) 11 ++ t) q (restated-numbers v k (omega arith)))
     (restated-parts-each f xs (k + how-many-values v) (suc i) c (omega arith) (omega arith))
+
+-- No name is at fault by 24, where none of the objects is.
+kindred-elsewhere : {xs ys : List Object} (x y : Object) → Kindred x y → AllKindred xs ys → elsewhere x xs ≡ elsewhere y ys
+unfolding elsewhere alike
+kindred-elsewhere x y k no-kindred = refl
+kindred-elsewhere x y k (more-kindred h p) =
+    ap₂ either (ap₂ both (ap not (ap₂ same-kind (k .kind) (h .kind))) (ap₂ same (h .name) (k .name))) (kindred-elsewhere x y k p)
+
+pub kindred-names : {before before′ xs ys : List Object} → AllKindred before′ before → AllKindred ys xs → each-name before xs ≡ [] → each-name before′ ys ≡ []
+unfolding each-name
+kindred-names q no-kindred e = refl
+kindred-names {before} {before′} q (more-kindred {x} {y} {xs} {ys} h p) e =
+    let A = fault-if (elsewhere y before) (y .name) 24 in
+    let B = each-name (before ++ (y ∷ [])) ys in
+    ap₂ _++_ (same-fault (x .name) (y .name) 24 (kindred-elsewhere x y h q) (nothing-front A B e)) (kindred-names (kindred-behind x y q h) p (nothing-back A B e))
 
 -- Lines --------------------------------------------------------------------------------------------------------------------------------------
 

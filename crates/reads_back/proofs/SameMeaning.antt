@@ -14,12 +14,14 @@ use Rattle.meaning.specs.Kinds.{kinds}
 use Rattle.meaning.specs.Faults.{Fault, fault-if, first}
 use Rattle.meaning.specs.Actions.{syntax}
 use Rattle.meaning.specs.Defining.{spec-faults, definition-faults}
-use Rattle.meaning.specs.Applying.{ObjectRow, object-rows, counts, too-few, each-object, each-part, object-faults}
+use Rattle.meaning.specs.Applying.{ObjectRow, object-rows, counts, too-few, each-object, each-part, each-name, object-faults}
 use Rattle.meaning.specs.Judging.{statement-stage}
 use Rattle.meaning.specs.Resolving.{Resolved, all-values, how-many-values, how-many-in-all, too-many}
 use Rattle.meaning.specs.Normal.{application-lines}
 use Rattle.meaning.specs.Answers.{Tables, Answer, accepted, tables, unless, answer}
 use Rattle.meaning.specs.Places.{each, unplaced-object-row, unplaced-tables}
+use Rattle.meaning.specs.Merging.{merge}
+use Rattle.meaning.proofs.Merges.{syntax-merged}
 use Rattle.meaning.proofs.Rooms.{no-first, few-values, nothing-front, nothing-back, objects-fit}
 use Rattle.meaning.proofs.Numbering.{Counts, object-numbers, numbered}
 use Rattle.meaning.proofs.Unplaced.{application-unplaced, tables-same}
@@ -30,9 +32,10 @@ use Rattle.reads_back.proofs.RestatingUnplaced.{kept-file, unplaced-kep
 use Rattle.reads_back.proofs.SameValues.{SameAll, all-same-many, all-same-rows}
 use Rattle.reads_back.proofs.SameTables.{bare-unplaced, accepts-unplaced}
 use Rattle.reads_back.proofs.SameNames.{names-of, words-same, names-unplaced, objects-restated, all-same-names}
+use Rattle.reads_back.proofs.MergedAgain.{merge-names}
 use Rattle.reads_back.proofs.RestatingPlain.{PlainSpecs, syntax-plain}
 use Rattle.reads_back.proofs.SameKindred.{AllKindred, no-kindred, kindred-objects, kindred-counts, kindred-rows}
-use Rattle.reads_back.proofs.RestatingObjects.{SettledObjects, settle-objects, restated-kindred, all-restated-values, restated-objects-judged, kindred-few, restated-each, restated-parts-each, restated-lines}
+use Rattle.reads_back.proofs.RestatingObjects.{SettledObjects, settle-objects, restated-kindred, all-restated-values, restated-objects-judged, kindred-few, restated-each, restated-parts-each, kindred-names, restated-lines}
 
 -- Stages -------------------------------------------------------------------------------------------------------------------------------------
 
@@ -87,15 +90,19 @@ kept-kindred : (f : File) → AllKindred (kept-file f .objects) (f .objects)
 unfolding kept-file
 kept-kindred f = restated-kindred f (f .objects) 0
 
-objects-kept : (f : File) → Counts 0 (object-numbers (f .objects)) → length (f .objects) ≤ 256 → object-faults f ≡ [] → how-many-in-all (all-values f (f .objects)) ≤ 2048
+objects-kept : (f : File) → f .objects ≡ merge (f .parts) → Counts 0 (object-numbers (f .objects)) → length (f .objects) ≤ 256 → object-faults f ≡ [] → how-many-in-all (all-values f (f .objects)) ≤ 2048
     → object-faults (kept-file f) ≡ []
 unfolding object-faults kept-file
-objects-kept f c l e h =
+objects-kept f mg c l e h =
     let a = too-few kinds (f .objects) (f .cpu) in
     let b = each-object [] (f .objects) in
     let p = each-part (f .parts) in
-    ap₂ _++_ (kindred-few kinds (f .cpu) (kept-kindred f) (nothing-front a (b ++ p) e))
-    (ap₂ _++_ (restated-each f [] [] (f .objects) 0 no-kindred (nothing-front b p (nothing-back a (b ++ p) e))) (restated-parts-each f (f .objects) 0 0 c (omega arith) (omega arith)))
+    let n = each-name [] (f .parts) in
+    let z = nothing-back a (b ++ (p ++ n)) e in
+    let names : each-name [] (f .objects) ≡ [] = ap (each-name []) mg ∙ merge-names (f .parts) (nothing-back p n (nothing-back b (p ++ n) z)) in
+    ap₂ _++_ (kindred-few kinds (f .cpu) (kept-kindred f) (nothing-front a (b ++ (p ++ n)) e))
+    (ap₂ _++_ (restated-each f [] [] (f .objects) 0 no-kindred (nothing-front b (p ++ n) z))
+    (ap₂ _++_ (restated-parts-each f (f .objects) 0 0 c (omega arith) (omega arith)) (kindred-names no-kindred (kept-kindred f) names)))
 
 kept-specs : (f : File) → kept-file f .specs ≡ f .specs
 unfolding kept-file
@@ -148,15 +155,15 @@ pub record MeansSame (f : File) (t : Tables) : Type 0 where
   pub lines : application-lines (restated-file f) (all-values (restated-file f) (restated-file f .objects)) ≡ application-lines f (all-values f (f .objects))
 
 -- An accepted syntax with plain definitions.
-same-of : (f : File) (t : Tables) → Counts 0 (object-numbers (f .objects)) → length (f .objects) ≤ 256 → PlainSpecs (f .specs) → answer f ≡ accepted t → MeansSame f t
+same-of : (f : File) (t : Tables) → f .objects ≡ merge (f .parts) → Counts 0 (object-numbers (f .objects)) → length (f .objects) ≤ 256 → PlainSpecs (f .specs) → answer f ≡ accepted t → MeansSame f t
 unfolding statement-stage unplaced-tables tables kept-file
-same-of f t c l p e =
+same-of f t mg c l p e =
     let n = no-faults f t e in
     let s = settle-objects f (f .objects) (specs-free f (n .definitions)) p (n .statements) in
     let g = kept-file f in
     let rs = all-values g (g .objects) in
     let many = all-same-many (values-kept f s) in
-    let a = accepts-it g (definitions-kept f (n .definitions)) (objects-kept f c l (n .objects) (few-values (how-many-in-all (all-values f (f .objects))) (n .values)))
+    let a = accepts-it g (definitions-kept f (n .definitions)) (objects-kept f mg c l (n .objects) (few-values (how-many-in-all (all-values f (f .objects))) (n .values)))
     (statements-kept f s) (ap too-many many ∙ n .values) in
     record {
       back = unplaced-tables (tables g rs);
@@ -177,4 +184,4 @@ means-same s d t e =
     let f = syntax s (d .tree) in
     let fit = objects-fit s (d .tree) (no-fault (object-faults f) (no-faults f t e .objects)) .0 in
     let m = rows-many (f .objects) in
-    same-of f t (numbered s (d .tree) .1 .0) (omega arith) (syntax-plain s (d .tree)) e
+    same-of f t (syntax-merged s (d .tree)) (numbered s (d .tree) .1 .0) (omega arith) (syntax-plain s (d .tree)) e

@@ -16,13 +16,13 @@ use Rattle.merging.proofs.first_part.Reads as first-part-reads
 use Rattle.rows.proofs.cells.put_cells.Reads as put-cells-reads
 
 abbrev Inv-loop : tie.InvT-loop
-Inv-loop text p n x out₀ j₀ out j = (length out ≡ length out₀) × Through (By text p 10 0 3 x) n (sets out j (first-rows text p (n - j) j) ≡ sets out₀ 0 (first-rows text p n 0))
+Inv-loop text p column n x out₀ j₀ out j = (length out ≡ length out₀) × Through (By text p 10 column 3 x) n (sets out j (first-rows column text p (n - j) j) ≡ sets out₀ 0 (first-rows column text p n 0))
 
 abbrev μ-loop : tie.MeasureT-loop
-μ-loop text p n x out₀ j₀ out j = n - j
+μ-loop text p column n x out₀ j₀ out j = n - j
 
 loop-holds : tie.Need-loop-holds Inv-loop μ-loop
-loop-holds c = (refl, through (each-start _ _ _ _))
+loop-holds c = (refl, through (each-start _ _ _ _ _))
 
 first-part-requires : tie.Need-first-part-requires Inv-loop μ-loop
 first-part-requires c κs = tt
@@ -40,13 +40,13 @@ loop-less : tie.Need-loop-less Inv-loop μ-loop
 loop-less c = omega arith
 
 loop-again : tie.Need-loop-again Inv-loop μ-loop
-loop-again c = (omega arith, through-two (omega arith) (λ k h. each-more _ _ _ _ _ _ ((c .before .before .before .before .before .before .before .loop .j)) _ (omega arith) (c .before .before .put-cells .ensures) h k) ((c .before .before .before .before .before .before .before .loop .inv .1)) (c .before .before .before .before .before .first-part .ensures))
+loop-again c = (omega arith, through-two (omega arith) (λ k h. each-more _ _ _ _ _ _ _ ((c .before .before .before .before .before .before .before .loop .j)) _ (omega arith) (c .before .before .put-cells .ensures) h k) ((c .before .before .before .before .before .before .before .loop .inv .1)) (c .before .before .before .before .before .first-part .ensures))
 
 same-length : tie.Need-same-length Inv-loop μ-loop
 same-length c = omega arith
 
 returns : tie.Need-returns Inv-loop μ-loop
-returns c = through-one (each-end _ _ _ _ _ ((c .before .loop .j)) (omega arith)) ((c .before .loop .inv .1))
+returns c = through-one (each-end _ _ _ _ _ _ ((c .before .loop .j)) (omega arith)) ((c .before .loop .inv .1))
 
 pub each-first-spec : {M : Type 1} → statement M
 each-first-spec =

@@ -27,10 +27,10 @@ enum-told : tie.Need-enum-told
 enum-told c = search needs
 
 returns : tie.Need-returns
-returns c = through-one (first-found _ _ _ (c .before .before .before .before .before .before .cell-of .ensures) (c .before .before .before .before .before .cell-of2 .ensures) (c .before .before .before .before .cell-of3 .ensures) (c .before .i .given .1)) (through-found _ _ _ _ _ _ _ _ _ _ _ (c .before .before .before .find-before .ensures))
+returns c = through-one (first-found _ _ _ _ (c .before .before .before .before .before .before .cell-of .ensures) (c .before .before .before .before .before .cell-of2 .ensures) (c .before .before .before .before .cell-of3 .ensures) (c .before .i .given .1)) (through-found _ _ _ _ _ _ _ _ _ _ _ (c .before .before .before .find-before .ensures))
 
 returns-2 : tie.Need-returns-2
-returns-2 c = through-one (first-nothing _ _ _ (c .before .before .before .before .before .cell-of .ensures) (c .before .before .before .before .cell-of2 .ensures) (c .before .before .before .cell-of3 .ensures) (c .enum-told .given .1)) (through-found _ _ _ _ _ _ _ _ _ _ _ (c .before .before .find-before .ensures))
+returns-2 c = through-one (first-nothing _ _ _ _ (c .before .before .before .before .before .cell-of .ensures) (c .before .before .before .before .cell-of2 .ensures) (c .before .before .before .cell-of3 .ensures) (c .enum-told .given .1)) (through-found _ _ _ _ _ _ _ _ _ _ _ (c .before .before .find-before .ensures))
 
 pub first-part-spec : {M : Type 1} → statement M
 first-part-spec =
