@@ -41,7 +41,7 @@ const MEANINGS: [&str; 24] = [
     "more than 256 objects, more than 512 parts, or more than 2,048 statements",
     "",
     "the name is not defined in its scope",
-    "an attribute that is no list is stated again in its block",
+    "an attribute that is no list is stated again, in its braces or in a part of its object",
     "the value does not fit its attribute: wrong sort, out of range, unknown enumerator, or AUTO not allowed; or braces after a reference",
     "an attribute of this object or value must be stated and is not",
     "a second OS, COM or NM, or no OS or no APPMODE",
@@ -53,6 +53,49 @@ const MEANINGS: [&str; 24] = [
     "AUTO as a default without WITH_AUTO",
     "the name is used before by an object of another kind",
 ];
+
+/// The last word before a place, WITH_AUTO aside: before a bound that of its type.
+fn type_word(text: &[u8], place: usize) -> &[u8] {
+    use tests::token::{part, step, Sort, Step};
+    let mut word: &[u8] = b"";
+    let mut from = 0;
+    while let Step::Token(token, next) = step(text, from) {
+        if token.place >= place {
+            break;
+        }
+        let bytes = part(text, token.place, token.length);
+        if matches!(token.sort, Sort::Word(_)) && bytes != b"WITH_AUTO" {
+            word = bytes;
+        }
+        from = next;
+    }
+    word
+}
+
+/// Which fault refusal 21 is given for: the number at the place is outside its type, or else a
+/// low above its high. A FLOAT has no bounds of its own.
+fn bound_meaning(text: &[u8], place: usize) -> &'static str {
+    use tests::token::{step, Sort, Step};
+    let bounds: (i128, i128) = match type_word(text, place) {
+        b"UINT32" => (0, u32::MAX.into()),
+        b"INT32" => (i32::MIN.into(), i32::MAX.into()),
+        b"UINT64" => (0, u64::MAX.into()),
+        b"INT64" => (i64::MIN.into(), i64::MAX.into()),
+        _ => (i128::MIN, i128::MAX),
+    };
+    let number = match step(text, place) {
+        Step::Token(token, _) => match token.sort {
+            Sort::Number { negative, amount } if negative => -i128::from(amount),
+            Sort::Number { amount, .. } => i128::from(amount),
+            _ => 0,
+        },
+        _ => 0,
+    };
+    if number < bounds.0 || bounds.1 < number {
+        return "the bound or listed number lies outside its type";
+    }
+    "the low bound is above the high one"
+}
 
 /// The most bytes of a line that are shown, and those before the place where more follow.
 const SHOWN: usize = 72;
@@ -92,7 +135,10 @@ fn expected(text: &[u8]) -> Vec<u8> {
     let Err(Refusal { number, place }) = read(text) else {
         return b"accepted\n".to_vec();
     };
-    let meaning = MEANINGS[usize::from(number) - 1];
+    let meaning = match number {
+        21 => bound_meaning(text, place),
+        _ => MEANINGS[usize::from(number) - 1],
+    };
     let refusal = format!("refusal {number}: {meaning}\n");
     if [1, 2, 19, 20].contains(&number) {
         return refusal.into_bytes();

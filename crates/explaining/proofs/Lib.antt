@@ -7,4 +7,6 @@ pub mod Glyphs
 pub mod Stores
 pub mod Told
 pub mod Marks
+pub mod TypeWords
+pub mod BoundSamples
 pub mod Edges

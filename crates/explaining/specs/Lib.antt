@@ -1,3 +1,4 @@
 pub mod Places
 pub mod Windows
 pub mod Pictures
+pub mod Bounds

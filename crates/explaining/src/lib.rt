@@ -1,6 +1,7 @@
 // A place of a text, told to a person: its line and column, and its line with a mark under it.
 ghost use Rattle.explaining.specs.Pictures.{Explains};
 
+pub mod bounds;
 mod drawing;
 mod lines;
 mod window;

@@ -12,8 +12,8 @@ fn write_number(n: usize) {
     io::print_decimal(STDOUT_FILENO, n as u64);
 }
 
-// What a refusal means.
-fn write_meaning(number: u8) {
+// What a refusal from 1 to 9 means.
+fn write_early(number: u8) {
     match number {
         1 => write(b"the lent tables are too short"),
         2 => write(b"the text is longer than 65,535 bytes"),
@@ -27,12 +27,29 @@ fn write_meaning(number: u8) {
         8 => write(
             b"a kind specified, an attribute defined in its scope, or an enumerator listed a second time",
         ),
-        9 => write(
+        _ => write(
             b"the name stands under another value of the same attribute with other type words",
         ),
+    }
+}
+
+// What refusal 21 means at a place: which of its two faults it is.
+fn write_bound(text: &[u8], place: usize) {
+    if explaining::bounds::outside_type(text, place) {
+        write(b"the bound or listed number lies outside its type");
+        return;
+    }
+    write(b"the low bound is above the high one");
+}
+
+// What a refusal means at a place; 10 and 12 are no longer given.
+fn write_meaning(text: &[u8], number: u8, place: usize) {
+    match number {
         11 => write(b"more than 256 objects, more than 512 parts, or more than 2,048 statements"),
         13 => write(b"the name is not defined in its scope"),
-        14 => write(b"an attribute that is no list is stated again in its block"),
+        14 => write(
+            b"an attribute that is no list is stated again, in its braces or in a part of its object",
+        ),
         15 => write(
             b"the value does not fit its attribute: wrong sort, out of range, unknown enumerator, or AUTO not allowed; or braces after a reference",
         ),
@@ -41,21 +58,19 @@ fn write_meaning(number: u8) {
         18 => write(b"the reference names no object of its kind"),
         19 => write(b"more than 2,048 resolved values"),
         20 => write(b"the written text is longer than the output's room"),
-        21 => write(
-            b"a bound or listed number outside its type, or a low bound above the high one",
-        ),
+        21 => write_bound(text, place),
         22 => write(b"a default outside type, range or list"),
         23 => write(b"AUTO as a default without WITH_AUTO"),
         24 => write(b"the name is used before by an object of another kind"),
-        _ => write(b"unknown"),
+        _ => write_early(number),
     }
 }
 
-fn write_refusal(number: u8) {
+fn write_refusal(text: &[u8], number: u8, place: usize) {
     write(b"refusal ");
     write_number(number as usize);
     write(b": ");
-    write_meaning(number);
+    write_meaning(text, number, place);
     write(b"\n");
 }
 
@@ -67,7 +82,7 @@ fn write_placed(text: &[u8], number: u8, place: usize) {
     write(b", column ");
     write_number(told.column);
     write(b": ");
-    write_refusal(number);
+    write_refusal(text, number, place);
     write(token::part(&lines, 0, told.len));
 }
 
@@ -75,7 +90,7 @@ fn write_answer(text: &[u8], answer: Answer) {
     match answer {
         Answer::Accepted => write(b"accepted\n"),
         Answer::Refused(number, place) => match number {
-            1 | 2 | 19 | 20 => write_refusal(number),
+            1 | 2 | 19 | 20 => write_refusal(text, number, place),
             _ => write_placed(text, number, place),
         },
     }
