@@ -24,8 +24,13 @@ use Rattle.meaning.proofs.Merges.{In, in-here, in-there, merge-in, syntax-merge
 use Rattle.meaning.proofs.Sites.{option-words, spec-words, statement-words, object-words, file-words}
 use Rattle.layout.specs.Kept.{statement-cells, statement-rows, object-cells, object-rows, all-statement-rows, statement-count, kept-objects, kept-statements, Wide}
 use Rattle.layout.proofs.Lengths.{wide-append, length-all, object-wide, length-objects}
-use Rattle.blocks.specs.Blocks.{Holds, WordIn, AllIn, BraceIn, no-brace, a-brace, StatementsIn, none-in, more-in, BlockAt}
+use Rattle.blocks.specs.Blocks.{Holds, WordIn, BraceIn, no-brace, a-brace, StatementsIn, none-in, more-in, BlockAt}
 use Rattle.blocks.proofs.Holding.{cell-held}
+
+-- All words of a list stand in the text.
+abbrev pub AllIn : List ℕ → List Word → Type 0
+AllIn s [] = Unit {0}
+AllIn s (t ∷ l) = WordIn s t × AllIn s l
 
 -- Words ------------------------------------------------------------------------------------------------------------------------------------
 

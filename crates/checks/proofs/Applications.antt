@@ -19,7 +19,7 @@ use Rattle.rows.specs.declared.Fault.{Fault as Code}
 use Rattle.rows.specs.declared.Found.{Found}
 use Rattle.rows.specs.declared.Found.the-variants.{At, Nothing}
 use Rattle.rows.specs.Order as order
-use Rattle.rows.specs.Table as table
+use Rattle.rows.proofs.Walks as table
 use Rattle.rows.specs.Search.{isFound}
 use Rattle.meaning.specs.Syntax.{Word, Statement, Statements, done, state, Object, File, statements-in}
 use Rattle.meaning.specs.Words.{choose}

@@ -12,10 +12,9 @@ use Rattle.token.specs.Words.{same}
 use Rattle.token.specs.Tokens.{partOf}
 use Rattle.token.proofs.Bytes.{both-true, both-second, eqb-sym}
 use Rattle.token.proofs.Codes.{same-self, same-equal}
-use Rattle.rows.specs.declared.Fault.{Fault as Code}
 use Rattle.rows.specs.declared.Found.{Found}
 use Rattle.rows.specs.declared.Found.the-variants.{At, Nothing}
-use Rattle.rows.specs.Table.{first, anyOf}
+use Rattle.rows.proofs.Walks.{first, anyOf}
 use Rattle.rows.specs.Search.{findNamed, findFrom, isNamed, hasKey}
 use Rattle.rows.proofs.Searches.{first-is}
 use Rattle.rows.proofs.Starts.{cell-past}
@@ -24,6 +23,7 @@ use Rattle.meaning.specs.Words.{alike}
 use Rattle.meaning.specs.Kinds.{kind-number, same-kind}
 use Rattle.meaning.specs.Faults.{fault-if}
 use Rattle.meaning.specs.Applying.{elsewhere, each-name}
+use Rattle.meaning.proofs.Merges.{elsewhere-append}
 use Rattle.meaning.proofs.Rooms.{nothing-front, nothing-back, not-faulty}
 use Rattle.meaning.proofs.Sites.{statement-words, object-words}
 use Rattle.layout.specs.Kept.{kept-parts, object-cells}
@@ -45,17 +45,6 @@ other x y = both (not (same-kind (x .kind) (y .kind))) (alike (y .name) (x .name
 -- Whether y has x's name.
 unfoldable same-name : Object → Object → Bool
 same-name x y = alike (y .name) (x .name)
-
-either-assoc : (a b c : Bool) → either a (either b c) ≡ either (either a b) c
-either-assoc true b c = refl
-either-assoc false b c = refl
-
-elsewhere-append : (x : Object) (a b : List Object) → elsewhere x (a ++ b) ≡ either (elsewhere x a) (elsewhere x b)
-unfolding elsewhere
-elsewhere-append x [] b = refl
-elsewhere-append x (y ∷ a) b =
-    ap (either (both (not (same-kind (x .kind) (y .kind))) (alike (y .name) (x .name)))) (elsewhere-append x a b)
-    ∙ either-assoc (both (not (same-kind (x .kind) (y .kind))) (alike (y .name) (x .name))) (elsewhere x a) (elsewhere x b)
 
 elsewhere-at : (x w : Object) (a c : List Object) → other x w ≡ true → elsewhere x (a ++ (w ∷ c)) ≡ true
 unfolding elsewhere other

@@ -13,8 +13,8 @@ use Rattle.grammar.specs.Grammar.{Kind, OS, APPMODE, TASK, ISR, COUNTER, ALARM,
 use Rattle.meaning.specs.Syntax.{Object}
 use Rattle.meaning.specs.Kinds.{kind-number, same-kind}
 use Rattle.meaning.specs.Applying.{how-many, counts-of, counts}
-use Rattle.rows.specs.Tally.{oneMore, countOn, countsOf, howMany}
-use Rattle.rows.proofs.Tallies.{length-one-more, counts-of as cells-of}
+use Rattle.rows.specs.Tally.{oneMore, countOn}
+use Rattle.rows.proofs.Tallies.{countsOf, howMany, length-one-more, counts-of as cells-of}
 use Rattle.checks.specs.Promises.{numbers}
 
 pub alike : (k : Kind) (os : List Object) → howMany (kind-number k) (numbers os) ≡ how-many k os

@@ -14,6 +14,7 @@ use kinds::Most;
 use rows::Fault;
 use rows::cells;
 use rows::faults;
+use rows::refusals;
 
 // A fault, or one of number 0; how many objects there are, and how many of each kind.
 pub struct Checked {
@@ -31,7 +32,7 @@ fn too_few(counts: [usize; 13], cpu: usize) -> Fault
         let kind = Kind::of(i);
         if counts[i] < kind.least() {
             return Fault {
-                number: 17,
+                number: refusals::COUNT_OF_KIND,
                 place: cpu,
             };
         }
@@ -59,7 +60,7 @@ fn too_many(counts: [usize; 13], number: usize, place: usize) -> Fault
 {
     let kind = Kind::of(number);
     let n = cells::get(&counts, number);
-    faults::fault_if(is_full(kind.most(), n), 17, place)
+    faults::fault_if(is_full(kind.most(), n), refusals::COUNT_OF_KIND, place)
 }
 
 // One part more: 11 and 17 at its kind word, if it is the first of its object; x has the first part of each row.
@@ -83,7 +84,7 @@ fn check_one(
     }
     let number = cells::cell_of(p, 10, j, 0);
     let place = cells::cell_of(p, 10, j, 1);
-    let a = faults::fault_if(k == 256, 11, place);
+    let a = faults::fault_if(k == 256, refusals::MANY_APPLIED, place);
     let b = too_many(counts, number, place);
     let f = faults::sooner(best, faults::sooner(a, b));
     let more = rows::counts::one_more(counts, number);
@@ -132,7 +133,7 @@ fn name_fault(p: &[usize], y: &[usize], n: usize) -> Fault
         if kind != before {
             let place = cells::cell_of(p, 10, j, 3);
             return Fault {
-                number: 24,
+                number: refusals::OTHER_KIND,
                 place: place,
             };
         }
@@ -162,8 +163,8 @@ pub fn object_faults(
     let b = check_parts(p, x, n);
     let y = merging::firsts(text, p, p.len(), n);
     let e = name_fault(p, &y, n);
-    let c = parts::room_fault(p, 10, 512, 1, parts, 11);
-    let d = parts::room_fault(st, 7, 2048, 0, statements, 11);
+    let c = parts::room_fault(p, 10, 512, 1, parts, refusals::MANY_APPLIED);
+    let d = parts::room_fault(st, 7, 2048, 0, statements, refusals::MANY_APPLIED);
     let own = b.fault;
     let f = faults::sooner(
         a,

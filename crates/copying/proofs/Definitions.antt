@@ -8,7 +8,7 @@ use Rattle.meaning.specs.Syntax.{Word, span-of, span-or, Definition, Definition
 use Rattle.meaning.specs.Defining.{definition-row, definition-rows, definition-rows-under, all-definition-rows}
 use Rattle.meaning.specs.Cells.{type-code, cells, definition-cells as lent-cells}
 use Rattle.layout.specs.Kept.{Entry, entries, entries-under, spec-entries, list-key, code-of, definition-cells}
-use Rattle.scopes.specs.Forms.{Formed, an-integer, a-string, a-boolean, an-enum, a-float, a-reference, AllFormed, none-formed, more-formed, AllFormedUnder, none-under, more-under}
+use Rattle.scopes.proofs.Forms.{Formed, an-integer, a-string, a-boolean, an-enum, a-float, a-reference, AllFormed, none-formed, more-formed, AllFormedUnder, none-under, more-under}
 use Rattle.scopes.proofs.Forming.{FormedSpecs}
 use Rattle.copying.proofs.Rooms.{cells-append}
 

@@ -9,9 +9,8 @@ use lib.Dec.{eqb}
 use borrow.Author.Tests.{eq-eqb, ne-eqb}
 use Rattle.token.specs.Find.{pick}
 use Rattle.rows.specs.declared.Found.the-variants.{At, Nothing}
-use Rattle.rows.specs.Table.{first, anyOf}
+use Rattle.rows.proofs.Walks.{first, anyOf, first-append}
 use Rattle.rows.specs.Search.{findFrom, hasKey, findRow, rowOf}
-use Rattle.rows.proofs.Walks.{first-append}
 use Rattle.meaning.specs.Syntax.{Word, Definitions, no-more, define, Values, no-value, value, File}
 use Rattle.meaning.proofs.Standing.{Run}
 use Rattle.meaning.proofs.Sites.{definition-words, value-words}

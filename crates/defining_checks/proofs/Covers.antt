@@ -24,7 +24,8 @@ use Rattle.meaning.proofs.Standing.{counts-back, counts-head}
 use Rattle.layout.specs.Kept.{Entry, Choice, spec-entries, spec-choices}
 use Rattle.scopes.proofs.Descents.{rows-of, whole, rows-append, rows-length}
 use Rattle.scopes.specs.Listing.{each}
-use Rattle.defining_checks.specs.Listing.{others-for, under-of, row-name-faults, row-faults, judged, judged-faults, kept-row-faults, list-of, choice-faults}
+use Rattle.defining_checks.specs.Listing.{others-for, under-of, row-name-faults, judged, judged-faults, kept-row-faults, list-of, choice-faults}
+use Rattle.defining_checks.proofs.Rowwise.{row-faults}
 use Rattle.defining_checks.specs.Promises.{Room}
 use Rattle.scopes.proofs.Firsts.{Has, has-none, has-left, has-right, has-split, if-in, Covered, covered, covered-by, first-same, each-append, From, found-at, at-row}
 use Rattle.defining_checks.proofs.Rising.{if-at, Rise, rise-back, rise-each, Ascend, ascend-back, ascend-each}

@@ -13,7 +13,7 @@ use Rattle.token.specs.Tokens.{partOf}
 use Rattle.rows.specs.declared.Fault.{Fault}
 use Rattle.rows.specs.declared.Found.{Found}
 use Rattle.rows.specs.declared.Found.the-variants.{At, Nothing}
-use Rattle.rows.specs.Table.{first, anyOf}
+use Rattle.rows.proofs.Walks.{first, anyOf}
 use Rattle.rows.specs.Search.{findNamed, findFrom, isNamed, hasKey, isFound}
 use Rattle.rows.specs.Order.{faultIf}
 use Rattle.rows.proofs.Searches.{found-first, first-found, nothing-none, none-nothing, first-any, first-is, first-nothing}
@@ -27,8 +27,14 @@ use Rattle.scopes.proofs.Rooms.{definition-cell}
 use Rattle.scopes.proofs.Finding.{is-row, find-in-definitions, seek-all, nth-front, below-front}
 use Rattle.scopes.proofs.Descents.{In, here, there, nth-in, entry-facts}
 use Rattle.defining_checks.specs.Listing.{keep-if, under-of, others-of, others-for}
-use Rattle.defining_checks.specs.Promises.{AgainFault, first-again, TypeFault}
+use Rattle.defining_checks.specs.Promises.{first-again, TypeFault}
 use Rattle.token.proofs.Bytes.{neither-first, neither-second}
+
+-- 8 at the name of row j: an earlier row under the same word has it.
+abbrev pub AgainFault : (s d : List ℕ) → ℕ → Fault → Type 0
+AgainFault s d j r =
+    (f : File) (x : Entry) → Situation s f → d ≡ kept-definitions f → (q : Nth (spec-entries (f .specs)) j x) → j < 513
+    → r ≡ faultIf (defined-in (x .definition .name) (under-of (x .under .place) (q .front))) 8 (x .definition .name .place)
 
 -- A fault by what is found.
 -- The rows before row j are rows of the text.

@@ -18,10 +18,11 @@ use Rattle.meaning.specs.Defining.{outside, bound-faults, low-faults, range-fau
 use Rattle.meaning.proofs.Standing.{Run}
 use Rattle.meaning.proofs.Sites.{bound-words, option-words, definition-words, value-words, spec-words}
 use Rattle.layout.specs.Kept.{Entry, Choice, list-key, entries, entries-under, spec-entries, choice-if, choices, choices-of, spec-choices}
-use Rattle.scopes.specs.Forms.{Formed, an-integer, a-string, a-boolean, an-enum, a-float, a-reference, AllFormed, none-formed, more-formed, AllFormedUnder, none-under, more-under}
+use Rattle.scopes.proofs.Forms.{Formed, an-integer, a-string, a-boolean, an-enum, a-float, a-reference, AllFormed, none-formed, more-formed, AllFormedUnder, none-under, more-under}
 use Rattle.scopes.proofs.Forming.{FormedSpecs}
 use Rattle.scopes.specs.Listing.{each}
-use Rattle.defining_checks.specs.Listing.{others-for, under-of, row-name-faults, row-faults, list-of, choice-faults}
+use Rattle.defining_checks.specs.Listing.{others-for, under-of, row-name-faults, list-of, choice-faults}
+use Rattle.defining_checks.proofs.Rowwise.{row-faults}
 use Rattle.scopes.proofs.Firsts.{Has, has-none, has-split, in-if}
 use Rattle.meaning.proofs.Runs.{run-le, cut, Cuts, cuts}
 

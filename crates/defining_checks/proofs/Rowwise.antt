@@ -22,12 +22,23 @@ use Rattle.layout.specs.Kept.{Entry, Choice, list-key, entries, entries-under, 
 use Rattle.scopes.specs.Situations.{NoneOf}
 use Rattle.scopes.proofs.Lists.{none-append, none-in, none-of, none-if}
 use Rattle.scopes.specs.Listing.{each}
-use Rattle.defining_checks.specs.Listing.{under-of, others-of, others-for, row-name-faults, row-faults, word-if, list-of, choice-faults, again-faults}
+use Rattle.defining_checks.specs.Listing.{under-of, others-of, others-for, row-name-faults, word-if, list-of, choice-faults}
 use Rattle.scopes.proofs.Firsts.{each-append}
 use Rattle.defining_checks.proofs.Telling.{Apart, AllApart, more-apart, AllApartUnder, more-under, ApartSpecs}
 use Rattle.defining_checks.proofs.Clearing.{Clear, clear-append, clear-in, clear-list, under-clear, others-clear, list-none, under-append, others-append, list-append, under-more, others-for-more, under-own, others-own, own-heads}
 use Rattle.meaning.proofs.Runs.{run-le, cut, Out, cuts}
 use Rattle.layout.proofs.Lengths.{length-choices, length-choices-of}
+
+-- 21 at the bounds; 7, 8 and 9 at the name; 22 or 23 at the default.
+unfoldable pub row-faults : List Entry → Entry → List Fault
+row-faults before x =
+    range-faults (x .definition .type) (x .definition .bounds)
+    ++ (row-name-faults before x ++ default-faults (x .definition) (x .values) (x .definition .default))
+
+-- 8 at each kind word that comes a second time.
+unfoldable pub again-faults : (before : List Spec) → List Spec → List Fault
+again-faults before [] = []
+again-faults before (x ∷ xs) = fault-if (specified x before) (x .word) 8 ++ again-faults (before ++ (x ∷ [])) xs
 
 -- The earlier of many, in another order ------------------------------------------------------------------------------------------------------
 

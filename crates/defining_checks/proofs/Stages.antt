@@ -26,11 +26,11 @@ use Rattle.scopes.specs.Situations.{Situation}
 use Rattle.scopes.specs.Promises.{fault-of}
 use Rattle.scopes.proofs.Descents.{whole, spec-run}
 use Rattle.scopes.specs.Listing.{each}
-use Rattle.defining_checks.specs.Listing.{others-for, under-of, row-name-faults, row-faults, judged, judged-faults, kept-row-faults, list-of, choice-faults, again-faults}
+use Rattle.defining_checks.specs.Listing.{others-for, under-of, row-name-faults, judged, judged-faults, kept-row-faults, list-of, choice-faults}
+use Rattle.defining_checks.proofs.Rowwise.{row-faults, again-faults, all-rows}
 use Rattle.defining_checks.specs.Promises.{Room}
 use Rattle.scopes.proofs.Firsts.{Real, real, real-none, real-append, real-if, fault-append, fault-one, real-each}
 use Rattle.defining_checks.proofs.Telling.{text-apart}
-use Rattle.defining_checks.proofs.Rowwise.{all-rows}
 use Rattle.defining_checks.proofs.Rising.{rise-specs, ascend-specs}
 use Rattle.defining_checks.proofs.Covers.{kept-same}
 use Rattle.meaning.proofs.Runs.{run-le, cut}

@@ -13,7 +13,7 @@ use Rattle.token.specs.Tokens.{partOf}
 use Rattle.rows.specs.declared.Fault.{Fault}
 use Rattle.rows.specs.declared.Found.{Found}
 use Rattle.rows.specs.declared.Found.the-variants.{At, Nothing}
-use Rattle.rows.specs.Table.{anyOf}
+use Rattle.rows.proofs.Walks.{anyOf}
 use Rattle.rows.specs.Search.{findNamed, isFound}
 use Rattle.indexes.specs.Indexing.{Indexed, Makes, By, Fits, Through}
 use Rattle.rows.specs.Order.{none, before, faultIf, sooner}
@@ -32,12 +32,12 @@ use Rattle.scopes.proofs.Finding.{is-choice, find-in-enumerators, same-sym}
 use Rattle.scopes.proofs.Descents.{whole}
 use Rattle.scopes.specs.Listing.{each}
 use Rattle.defining_checks.specs.Listing.{others-for, under-of, row-name-faults, judged-faults, kept-row-faults, word-if, list-of, choice-faults}
-use Rattle.defining_checks.specs.Promises.{Room, AgainFault, first-again, NewTypeFault, NameFault, DefaultFault, RowFault, RowsFault, EnumeratorFault, EnumeratorsFault, version-code, DefinitionFaults}
+use Rattle.defining_checks.specs.Promises.{Room, first-again, NewTypeFault, NameFault, DefaultFault, RowFault, RowsFault, EnumeratorFault, EnumeratorsFault, version-code, DefinitionFaults}
+use Rattle.defining_checks.proofs.Naming.{AgainFault, again-is}
 use Rattle.scopes.proofs.Firsts.{real-append, real-if, fault-append, fault-one, each-snoc, real-each}
 use Rattle.defining_checks.proofs.Reaching.{last-of}
 use Rattle.defining_checks.proofs.Covers.{row-is}
 use Rattle.rows.proofs.Orders.{found-some, found-none}
-use Rattle.defining_checks.proofs.Naming.{again-is}
 use Rattle.defining_checks.proofs.Stages.{real-range, real-judged, real-row-name, real-row, real-choice, stage-is}
 
 -- A row of a definition --------------------------------------------------------------------------------------------------------------------------

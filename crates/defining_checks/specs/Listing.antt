@@ -1,16 +1,15 @@
 -- The faults of definitions and enumerators row by row, each with the rows before it. Assumes nothing.
 use mathlib.Core.List.{List, [], _∷_, _++_}
 use mathlib.Core.Bool.{Bool, true, false, not}
-use mathlib.Core.Option.{Option, none, some}
+use mathlib.Core.Option.{Option}
 use Prim.Native.Nat.{ℕ}
 use lib.ListN.{length}
 use lib.Dec.{eqb, leb}
 use Rattle.token.specs.Find.{pick, both}
-use Rattle.meaning.specs.Syntax.{Word, Definition, Values, Spec, span-or}
-use Rattle.meaning.specs.Faults.{Fault, fault-if}
-use Rattle.meaning.specs.Defining.{range-faults, name-faults, default-faults, word-faults, specified}
+use Rattle.meaning.specs.Syntax.{Word, Definition, Values, span-or}
+use Rattle.meaning.specs.Faults.{Fault}
+use Rattle.meaning.specs.Defining.{range-faults, name-faults, default-faults, word-faults}
 use Rattle.layout.specs.Kept.{Entry, Choice}
-use Rattle.scopes.specs.Listing.{each}
 
 -- Definitions ------------------------------------------------------------------------------------------------------------------------------
 
@@ -37,12 +36,6 @@ others-for o p xs = pick (eqb o 0) [] (others-of o p xs)
 unfoldable pub row-name-faults : List Entry → Entry → List Fault
 row-name-faults before x =
     name-faults (x .definition) (others-for (x .outer) (x .under .place) before) (under-of (x .under .place) before)
-
--- 21 at the bounds; 7, 8 and 9 at the name; 22 or 23 at the default.
-unfoldable pub row-faults : List Entry → Entry → List Fault
-row-faults before x =
-    range-faults (x .definition .type) (x .definition .bounds)
-    ++ (row-name-faults before x ++ default-faults (x .definition) (x .values) (x .definition .default))
 
 -- A default is judged if it stands before the enumerator that is one too many, at the place limit, where there is one (full): the list of
 -- its attribute has been kept as a whole.
@@ -74,10 +67,3 @@ list-of k (x ∷ xs) = word-if (eqb (x .list) k) (x .word) ++ list-of k xs
 -- 7 and 8 at an enumerator.
 unfoldable pub choice-faults : List Choice → Choice → List Fault
 choice-faults before x = word-faults true (length before) (x .word) (list-of (x .list) before)
-
--- Specs ------------------------------------------------------------------------------------------------------------------------------------
-
--- 8 at each kind word that comes a second time.
-unfoldable pub again-faults : (before : List Spec) → List Spec → List Fault
-again-faults before [] = []
-again-faults before (x ∷ xs) = fault-if (specified x before) (x .word) 8 ++ again-faults (before ++ (x ∷ [])) xs

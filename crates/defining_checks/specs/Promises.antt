@@ -15,12 +15,12 @@ use Rattle.rows.specs.Order.{faultIf}
 use Rattle.indexes.specs.Indexing.{Indexed}
 use Rattle.meaning.specs.Syntax.{File}
 use Rattle.meaning.specs.Faults.{first}
-use Rattle.meaning.specs.Defining.{defined-in, differs, definition-faults}
+use Rattle.meaning.specs.Defining.{differs, definition-faults}
 use Rattle.layout.specs.Kept.{Entry, Choice, spec-entries, spec-choices, kept-definitions, kept-enumerators, again-place}
 use Rattle.scopes.specs.Situations.{Situation, Nth}
 use Rattle.scopes.specs.Promises.{fault-of}
 use Rattle.scopes.specs.Listing.{each}
-use Rattle.defining_checks.specs.Listing.{under-of, others-for, row-name-faults, judged-faults, kept-row-faults, choice-faults}
+use Rattle.defining_checks.specs.Listing.{others-for, row-name-faults, judged-faults, kept-row-faults, choice-faults}
 
 -- How many enumerators are kept, whether one is too many, and where that one stands.
 pub record Room (f : File) (m : ℕ) (full : Bool) (limit : ℕ) : Type 0 where
@@ -29,12 +29,6 @@ pub record Room (f : File) (m : ℕ) (full : Bool) (limit : ℕ) : Type 0 where
   pub edge : (c : Choice) → Nth (spec-choices (f .specs)) 1024 c → limit ≡ c .word .place
 
 -- Definitions --------------------------------------------------------------------------------------------------------------------------------
-
--- 8 at the name of row j: an earlier row under the same word has it.
-abbrev pub AgainFault : (s d : List ℕ) → ℕ → Fault → Type 0
-AgainFault s d j r =
-    (f : File) (x : Entry) → Situation s f → d ≡ kept-definitions f → (q : Nth (spec-entries (f .specs)) j x) → j < 513
-    → r ≡ faultIf (defined-in (x .definition .name) (under-of (x .under .place) (q .front))) 8 (x .definition .name .place)
 
 -- The first row before row j that is under the same word and has the same name.
 unfoldable pub first-again : (s d : List ℕ) → ℕ → Found

@@ -11,6 +11,7 @@ use rows::Found;
 use rows::cells;
 use rows::faults;
 use rows::parts;
+use rows::refusals;
 
 // The first row before row j that is under the same word, and has the same name; x is the index of the rows by these.
 fn again(text: &[u8], d: &[usize], j: usize, x: &[usize]) -> Found
@@ -47,7 +48,7 @@ fn type_fault(text: &[u8], d: &[usize], j: usize, y: &[usize]) -> Fault
     let first = cells::cell_of(d, 19, i, 4);
     let size2 = cells::cell_of(d, 19, i, 5);
     let same = parts::same_part(text, first, size2, word, size);
-    faults::fault_if(!same, 9, at)
+    faults::fault_if(!same, refusals::OTHER_TYPE, at)
 }
 
 // 7, 8 and 9 at the name of row j; x and y are the indexes of the rows.
@@ -55,11 +56,11 @@ fn name_fault(text: &[u8], d: &[usize], j: usize, x: &[usize], y: &[usize]) -> F
     ensures { λ r. ⌜ Through (ByTwo (now (text .entry)) (now (d .entry)) 19 0 13 2 (now (x .entry)) (now (y .entry))) j (NameFault (now (text .entry)) (now (d .entry)) j r) ⌝ }
 {
     let at = cells::cell_of(d, 19, j, 2);
-    let a = faults::fault_if(j == 512, 7, at);
+    let a = faults::fault_if(j == 512, refusals::MANY_DEFINED, at);
     match again(text, d, j, x) {
         Found::At(_) => {
             let b = Fault {
-                number: 8,
+                number: refusals::DEFINED_AGAIN,
                 place: at,
             };
             faults::sooner(a, b)
@@ -118,9 +119,9 @@ fn default_fault(
     let under = lookups::word_under(text, d, e, xe, j, at, len);
     let taken = scopes::lookups::takes(text, d, j, at, code, under);
     if code == 3 {
-        return faults::fault_if(!taken, 23, at);
+        return faults::fault_if(!taken, refusals::AUTO_DEFAULT, at);
     }
-    faults::fault_if(!taken, 22, at)
+    faults::fault_if(!taken, refusals::WRONG_DEFAULT, at)
 }
 
 // The faults of row j; x and y are the indexes of the rows, xe is that of the enumerators.

@@ -4,6 +4,7 @@ ghost use Rattle.defining_checks.specs.Promises.{EnumeratorFault, Enumer
 use rows::Fault;
 use rows::cells;
 use rows::faults;
+use rows::refusals;
 
 // 7 and 8 at the enumerator of row j; x is the index of the rows.
 fn row_fault(text: &[u8], e: &[usize], j: usize, x: &[usize]) -> Fault
@@ -12,9 +13,9 @@ fn row_fault(text: &[u8], e: &[usize], j: usize, x: &[usize]) -> Fault
     let list = cells::cell_of(e, 3, j, 0);
     let at = cells::cell_of(e, 3, j, 1);
     let len = cells::cell_of(e, 3, j, 2);
-    let a = faults::fault_if(j == 1024, 7, at);
+    let a = faults::fault_if(j == 1024, refusals::MANY_DEFINED, at);
     let found = indexes::find_before(text, e, 3, j, 0, list, 1, at, len, x);
-    let b = faults::fault_found(found, 8, at);
+    let b = faults::fault_found(found, refusals::DEFINED_AGAIN, at);
     faults::sooner(a, b)
 }
 

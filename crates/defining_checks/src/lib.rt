@@ -12,6 +12,7 @@ use rows::Fault;
 use rows::cells;
 use rows::faults;
 use rows::parts;
+use rows::refusals;
 
 // 6 at the version's word.
 fn version_fault(text: &[u8], at: usize, len: usize) -> Fault
@@ -19,7 +20,7 @@ fn version_fault(text: &[u8], at: usize, len: usize) -> Fault
 {
     let version = [34, 50, 46, 53, 34];
     let same = parts::same_bytes(token::part(text, at, len), &version);
-    faults::fault_if(!same, 6, at)
+    faults::fault_if(!same, refusals::OTHER_VERSION, at)
 }
 
 // The fault by which the stage of 6 to 9 and 21 to 23 answers, as below; so many enumerators are kept, x is room for their index, and b for half of it.
@@ -44,7 +45,7 @@ fn indexed_faults(
     let limit = cells::cell_of(e, 3, 1024, 1);
     let rows = cells::least_of(n, 513);
     let v = version_fault(text, at, len);
-    let a = faults::fault_if(again != 0, 8, again);
+    let a = faults::fault_if(again != 0, refusals::DEFINED_AGAIN, again);
     let r = definitions::rows_fault(text, d, e, x, full, limit, rows);
     let c = enumerators::rows_fault(text, e, kept, x);
     faults::sooner(v, faults::sooner(a, faults::sooner(r, c)))

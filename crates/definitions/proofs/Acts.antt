@@ -19,13 +19,26 @@ use Rattle.meaning.specs.Syntax.{Word, Span, absent, through, Definition, Defin
 use Rattle.meaning.specs.Actions.{Parts, means, first-value, truths, defined, defining}
 use Rattle.layout.specs.Kept.{Entry, Choice, code-of, list-key, truth-cells, default-code, entries, entries-under, choices, choices-of, choice-if, definition-cells, choice-cells, map-cells}
 use Rattle.layout.proofs.Lengths.{map-append}
-use Rattle.filling.specs.Fills.{Seen, Fills, Walks, Going, Effects, front-of, behind}
-use Rattle.filling.proofs.Filling.{plain, first, _▻_, told-as, told-rule, told-none, refused, going-on, gone, both}
+use Rattle.filling.specs.Fills.{Seen, Fills, Walks}
+use Rattle.filling.proofs.Filling.{Going, Effects, front-of, behind, plain, first, _▻_, told-as, told-rule, told-none, refused, going-on, gone, both}
 use Rattle.filling.proofs.Tables.{wrote-none, wrote-then, wrote-row, _⸬_}
 use Rattle.definitions.specs.declared.Under.{Under}
 use Rattle.definitions.specs.declared.Head.{Head}
-use Rattle.definitions.specs.Rows.{Puts, Done, then, Fill, rows-of, rows-in, choice-rows, choice-rows-in, one, Stands, row-of, head-of, list-head, Named, Rows, EnumeratorRows, ValueRows}
+use Rattle.definitions.specs.Rows.{Puts, Done, Fill, rows-of, choice-rows, one, Stands, row-of, head-of, list-head, Named, Rows, EnumeratorRows}
 use Rattle.filling.proofs.Codes.{seen-code, seen-place, seen-length}
+
+abbrev pub then : Done → Done → Done
+then a b = (a .0 ++ b .0, a .1 ++ b .1)
+
+abbrev pub rows-in : Values → ℕ → List (List ℕ)
+rows-in vs o = map-cells definition-cells (entries-under vs o)
+
+abbrev pub choice-rows-in : Values → Bool → ℕ → List (List ℕ)
+choice-rows-in vs b o = map-cells choice-cells (choices-of vs b o)
+
+-- The rows are those of the values of an ENUM's list.
+unfoldable pub ValueRows : ℕ → Done → (ℕ → ℕ → Values) → Type 0
+ValueRows k w m = (n e : ℕ) → (rows-in (m n e) k ≡ w .0) × (choice-rows-in (m n e) true k ≡ w .1)
 
 -- Tables ---------------------------------------------------------------------------------------------------------------------------------
 

@@ -21,8 +21,8 @@ use Rattle.grammar.proofs.Rules.{auto-pass, auto-is, mark-pass, mark-is, range-
 use Rattle.meaning.specs.Syntax.{Span, absent, span-of, span-or, through}
 use Rattle.meaning.specs.Actions.{word-of, means, meaning}
 use Rattle.layout.specs.Kept.{default-code}
-use Rattle.filling.specs.Fills.{Seen, Told, Fills, Walks, front-of, behind}
-use Rattle.filling.proofs.Filling.{plain, first, is-first, _▻_, fills-map, told-map, told-as, told-rule, told-none, told-took}
+use Rattle.filling.specs.Fills.{Seen, Told, Fills, Walks}
+use Rattle.filling.proofs.Filling.{front-of, behind, plain, first, is-first, _▻_, fills-map, told-map, told-as, told-rule, told-none, told-took}
 use Rattle.filling.proofs.Tables.{wrote-row, _⸬_}
 use Rattle.definitions.specs.declared.Under.{Under}
 use Rattle.definitions.specs.declared.Head.{Head}

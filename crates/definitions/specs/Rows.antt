@@ -1,15 +1,15 @@
 -- The rows that the walk of the implementation puts, by the meaning of what it reads. They hold places, lengths and codes, no numbers of rows:
 -- so each is said for every numbering n, e of definitions and enumerators. Assumes nothing.
 use mathlib.Core.Path.{_≡_}
-use mathlib.Core.List.{List, [], _∷_, _++_}
-use mathlib.Core.Bool.{Bool, true}
+use mathlib.Core.List.{List, [], _∷_}
+use mathlib.Core.Bool.{Bool}
 use mathlib.Core.Option.{Option}
 use Prim.Native.Nat.{ℕ, _-_}
 use Rattle.token.specs.Find.{bit}
 use Rattle.grammar.specs.declared.Look.{Look}
-use Rattle.meaning.specs.Syntax.{Word, span-or, Definitions, no-more, define, Values, Defined}
+use Rattle.meaning.specs.Syntax.{Word, span-or, Definitions, no-more, define, Defined}
 use Rattle.meaning.specs.Actions.{Enumerator}
-use Rattle.layout.specs.Kept.{default-code, entries, entries-under, choices, choices-of, definition-cells, choice-cells, map-cells}
+use Rattle.layout.specs.Kept.{default-code, entries, choices, definition-cells, choice-cells, map-cells}
 use Rattle.filling.specs.Tables.{Wrote, Table}
 use Rattle.filling.specs.Fills.{Seen}
 use Rattle.definitions.specs.declared.Under.{Under}
@@ -22,24 +22,15 @@ Puts c x w y = Wrote c (x .0) (x .1) w (y .0) (y .1)
 abbrev pub Done : Type 0
 Done = List (List ℕ) × List (List ℕ)
 
-abbrev pub then : Done → Done → Done
-then a b = (a .0 ++ b .0, a .1 ++ b .1)
-
 abbrev pub Fill : Table × Table → Done → Table × Table → Type 0
 Fill x w y = Puts 19 (x .0) (w .0) (y .0) × Puts 3 (x .1) (w .1) (y .1)
 
--- The rows of definitions, of what stands under the values of a list, and the enumerators.
+-- The rows of definitions, and of their enumerators.
 abbrev pub rows-of : Definitions → Word → ℕ → List (List ℕ)
 rows-of ds u o = map-cells definition-cells (entries ds u o)
 
-abbrev pub rows-in : Values → ℕ → List (List ℕ)
-rows-in vs o = map-cells definition-cells (entries-under vs o)
-
 abbrev pub choice-rows : Definitions → List (List ℕ)
 choice-rows ds = map-cells choice-cells (choices ds)
-
-abbrev pub choice-rows-in : Values → Bool → ℕ → List (List ℕ)
-choice-rows-in vs b o = map-cells choice-cells (choices-of vs b o)
 
 abbrev pub one : Defined → Definitions
 one x = define (x .definition) (x .values) no-more
@@ -84,12 +75,8 @@ Named u h w x l d = (row-of u h x l d ∷ []) ≡ w
 unfoldable pub Rows : Under → Done → (ℕ → ℕ → Definitions) → Type 0
 Rows x w m = (u : Word) → Stands x u → (n e : ℕ) → (rows-of (m n e) u (x .list) ≡ w .0) × (choice-rows (m n e) ≡ w .1)
 
--- The rows are those of an enumerator of the list k, whose word is seen at a,
+-- The rows are those of an enumerator of the list k, whose word is seen at a.
 unfoldable pub EnumeratorRows : List ℕ → Look → ℕ → Done → (ℕ → ℕ → Enumerator) → Type 0
 EnumeratorRows s a k w m =
     (n e : ℕ) → Seen s a (m n e .word) × (rows-of (m n e .under) (m n e .word) k ≡ w .0)
     × ((choice-cells (record { list = k; word = m n e .word }) ∷ choice-rows (m n e .under)) ≡ w .1)
-
--- and of the values of an ENUM's list.
-unfoldable pub ValueRows : ℕ → Done → (ℕ → ℕ → Values) → Type 0
-ValueRows k w m = (n e : ℕ) → (rows-in (m n e) k ≡ w .0) × (choice-rows-in (m n e) true k ≡ w .1)

@@ -13,8 +13,8 @@ use Rattle.token.specs.Tokens.{bytesBetween}
 use Rattle.token.specs.Find.{byte}
 use Rattle.token.proofs.Find.{by-test}
 use Rattle.explaining.specs.declared.View.{View}
-use Rattle.explaining.specs.Places.{lineStart, lineEnd, crBefore, shownEnd}
-use Rattle.explaining.specs.Windows.{Fits, viewIn, viewOf, IsWindow}
+use Rattle.explaining.specs.Places.{lineEnd, crBefore, shownEnd}
+use Rattle.explaining.specs.Windows.{Fits, viewIn, viewOf, ViewsAreWindows}
 use Rattle.explaining.specs.Pictures.{dots, lineBytes, markBytes, shownLine, markLine, picture}
 use Rattle.explaining.proofs.Starts.{start-low}
 use Rattle.explaining.proofs.Ends.{end-low, end-at, cr-inside}
@@ -73,8 +73,7 @@ place-shown s p h n =
         absurd (n (ap (byte s) (sym e) ∙ end-at s p h (cr-inside s (lineEnd s p) t)))
 
 -- so the view of such a place is a window on its line around it
-pub view-is-window : (s : List ℕ) (p : ℕ) → p ≤ length s → byte s p ≢ 10
-    → IsWindow (lineStart s p) (shownEnd s (lineEnd s p)) p (viewOf s p .from) (viewOf s p .to)
+pub view-is-window : ViewsAreWindows
 unfolding viewOf viewIn
 view-is-window s p h n = window-is _ _ p (start-low s p) (place-shown s p h n)
 

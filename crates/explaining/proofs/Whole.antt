@@ -8,12 +8,12 @@ use native.Mathlib.Decide.{decLt}
 use lib.ListN.{length}
 use Rattle.token.specs.Find.{byte}
 use Rattle.token.proofs.Find.{by-test}
-use Rattle.explaining.specs.Places.{IsLine, lineStart, lineEnd, crBefore, shownEnd}
+use Rattle.explaining.specs.Places.{IsLine, LinesFound, LinesApart, lineStart, lineEnd, crBefore, shownEnd}
 use Rattle.explaining.proofs.Starts.{start-low, start-after, start-clear}
 use Rattle.explaining.proofs.Ends.{end-low, end-high, end-at, end-clear, cr-after}
 
 -- the line of a place is from `lineStart` to `lineEnd`
-pub line-is : (s : List ℕ) (p : ℕ) → p ≤ length s → IsLine s p (lineStart s p) (lineEnd s p)
+pub line-is : LinesFound
 line-is s p h =
     record {
       before = start-low s p;
@@ -44,6 +44,9 @@ one-line {a = a} {e} {b} {f} l m =
     same x y (yes h) d n m = absurd (n h)
     same x y (no k) (yes h) n m = absurd (m h)
     same x y (no k) (no h) n m = omega arith
+
+pub only-line : LinesApart
+only-line s p a e b f l m = one-line l m
 
 -- what is shown of a line ends at or after its start, at most one byte before the place, and in the text
 pub shown-after : (s : List ℕ) (p : ℕ) → p ≤ length s → lineStart s p ≤ shownEnd s (lineEnd s p)

@@ -56,3 +56,10 @@ pub record IsLine (s : List ℕ) (p a e : ℕ) : Type 0 where
   pub starts : 0 < a → byte s (a - 1) ≡ 10
   pub ends : e < length s → byte s e ≡ 10
   pub clear : (i : ℕ) → a ≤ i → i < e → byte s i ≢ 10
+
+-- THE STATEMENTS, which proofs/Whole has: the line of a place is from `lineStart` to `lineEnd` (`line-is`), and no other (`only-line`).
+abbrev pub LinesFound : Type 0
+LinesFound = (s : List ℕ) (p : ℕ) → p ≤ length s → IsLine s p (lineStart s p) (lineEnd s p)
+
+abbrev pub LinesApart : Type 0
+LinesApart = (s : List ℕ) (p a e b f : ℕ) → IsLine s p a e → IsLine s p b f → (a ≡ b) × (e ≡ f)

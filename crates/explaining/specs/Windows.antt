@@ -3,9 +3,10 @@
 use Prim.Native.Nat.{ℕ, _+_, _-_, _≤_, _<_, min, max}
 use mathlib.Core.Path.{_≡_}
 use mathlib.Core.List.{List}
+use mathlib.Core.Logic.{_≢_}
 use lib.ListN.{length}
 use lib.Dec.{ltb}
-use Rattle.token.specs.Find.{pick}
+use Rattle.token.specs.Find.{pick, byte}
 use Rattle.explaining.specs.declared.View.{View}
 use Rattle.explaining.specs.Places.{lineStart, lineEnd, shownEnd}
 
@@ -55,3 +56,8 @@ pub record IsWindow (a e p b c : ℕ) : Type 0 where
   -- where bytes are cut, 36 are shown between there and the place
   pub near-before : a < b → b + 36 ≤ p
   pub near-behind : c < e → p + 36 ≤ c
+
+-- THE STATEMENT, which proofs/Marks has (`view-is-window`): the view of a place that is not at an LF is a window on its line around it.
+abbrev pub ViewsAreWindows : Type 0
+ViewsAreWindows =
+    (s : List ℕ) (p : ℕ) → p ≤ length s → byte s p ≢ 10 → IsWindow (lineStart s p) (shownEnd s (lineEnd s p)) p (viewOf s p .from) (viewOf s p .to)

@@ -2,7 +2,7 @@
 ghost use Prim.Native.Nat.{_≤_, _+_, _-_, min};
 ghost use mathlib.Core.Path.{_≡_};
 ghost use lib.ListN.{length};
-ghost use Rattle.explaining.specs.Windows.{windowFrom, windowTo, dotsFor, viewIn, viewOf};
+ghost use Rattle.explaining.specs.Windows.{windowFrom, dotsFor, viewIn, viewOf};
 use crate::View;
 use crate::lines;
 

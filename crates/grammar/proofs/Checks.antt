@@ -4,8 +4,14 @@ use mathlib.Core.List.{List, [], _∷_}
 use mathlib.Core.Bool.{Bool, true, false, _&&_, _||_, not}
 use Rattle.grammar.specs.Grammar.{Terminal, Class, Kind, Integer, tok, rule, matches, file, version, implementation, specs, spec, definitions, definition, attribute, reference, D, P, auto, mark, integer-range, numbers, boolean-range, float-range, enumerator, enumerators, default, own, application, objects, object, block, statements, statement, value, integers, strings, booleans, enums, floats, name, kind, type, integer, the, sg, IMPLEMENTATION, CPU, STRING, BOOLEAN, ENUM, FLOAT, rbrace, lsquare, rsquare, equals, semicolon, colon, comma}
 use Rattle.grammar.specs.Factored.{Nonterminal, paper, span, Symbols, Choice, by, choices}
-use Rattle.grammar.specs.Machine.{nullable, nullable-form, tries, begin, takes, starts}
+use Rattle.grammar.specs.Machine.{nullable, nullable-form, tries, begin, starts, move}
 use Rattle.grammar.proofs.Choices.{all, nonterminals, classes, every-rule, every-class}
+use Rattle.token.specs.Find.{is-there}
+
+-- The form takes a token of class c.
+unfoldable pub takes : Symbols → Class → Bool
+unfolding move is-there
+takes k c = is-there (move c k)
 
 -- Trying a rule's forms one step deeper finds nothing else.
 pub begin-is : (c : Class) (x : Nonterminal) → begin c x ≡ tries c (begin c) (choices x)

@@ -7,7 +7,7 @@ use lib.ListN.{length}
 use Rattle.token.specs.Lexing.{lexFrom, Lexed, more, ended, refused}
 use Rattle.grammar.specs.Grammar.{Token, Derivation, Begins}
 use Rattle.grammar.specs.Terminals.{tokens}
-use Rattle.grammar.specs.Stage.{Divides, StopsAt, Shallow, Answers, passes, no-token, not-admitted, ends-early, too-deep}
+use Rattle.grammar.specs.Stage.{Divides, StopsAt, Shallow, Answers, AnswersDecided, passes, no-token, not-admitted, ends-early, too-deep}
 use Rattle.grammar.specs.declared.Answer.{Answer}
 use Rattle.grammar.specs.declared.Answer.the-variants.{Passes, NoToken, NotAdmitted, TooDeep}
 use Rattle.grammar.proofs.Fronts.{one-more, begins-front, shallow-front, derived-begins, not-shallow, stops-not}
@@ -110,3 +110,6 @@ both-cases {q} (at-token l t a c) (at-token m u a′ c′) =
 -- A text has one answer.
 pub decided : {s : List ℕ} {r q : Answer} → Answers s r → Answers s q → r ≡ q
 decided a b = both-cases (case-of a) (case-of b)
+
+pub answers-decided : AnswersDecided
+answers-decided s r q a b = decided a b

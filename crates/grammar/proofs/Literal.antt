@@ -1,7 +1,8 @@
 -- The factored grammar has the same trees as the grammar of document 01: they are carried over and back, with the same tokens. Assumes nothing.
 use mathlib.Core.Path.{_≡_, refl, sym, _∙_, ap, ap₂}
 use mathlib.Core.List.{[], _∷_, _++_, append-assoc}
-use Rattle.grammar.specs.Grammar.{Form, Rule, Terminal, tok, rule, _⟶_, _·_, _▸_, ∎, number, sg, semicolon, comma, rsquare, D, numbers, Trees, nil, leaf, node, tokens, an-object-alone, an-object-with, no-block, a-block, no-range, a-range, a-list, no-number, a-number}
+pub use Rattle.grammar.specs.Building.{Lifted, lifted-nil, lifted-tok, lifted-rule, lifted, from}
+use Rattle.grammar.specs.Grammar.{Form, Rule, _⟶_, _·_, _▸_, ∎, number, sg, semicolon, comma, rsquare, D, numbers, Trees, nil, leaf, node, tokens, an-object-alone, an-object-with, no-block, a-block, no-range, a-range, a-list, no-number, a-number}
 use Rattle.grammar.specs.Factored.{Changed, object-changed, range-changed, Status, same, changed, status, is-same, kept, paper, Symbols, lift, _⟹_, keep, object-is, range-none, range-is, one-number, up-to, many-numbers}
 
 -- From the grammar's trees ---------------------------------------------------------------------------------------------------------------
@@ -27,35 +28,6 @@ unfolding to-node
 to nil = nil
 to (leaf t m ts) = leaf t m (to ts)
 to (node {x} p us ts) = to-node (status x) refl p (to us) (to ts)
-
--- And back -------------------------------------------------------------------------------------------------------------------------------
-
--- The symbols k are those of the form f.
-pub data Lifted : Form → Symbols → Type 0 where
-  lifted-nil : Lifted [] []
-  lifted-tok : {a : Terminal} {f : Form} {k : Symbols} → Lifted f k → Lifted (tok a ∷ f) (tok a ∷ k)
-  lifted-rule : {x : Rule} {f : Form} {k : Symbols} → Lifted f k → Lifted (rule x ∷ f) (rule (paper x) ∷ k)
-
-unfoldable pub lifted : (f : Form) → Lifted f (lift f)
-lifted [] = lifted-nil
-lifted (tok a ∷ f) = lifted-tok (lifted f)
-lifted (rule x ∷ f) = lifted-rule (lifted f)
-
-unfoldable pub from : {k : Symbols} → Trees _⟹_ k → {f : Form} → Lifted f k → Trees _⟶_ f
-from nil lifted-nil = nil
-from (leaf t m ts) (lifted-tok h) = leaf t m (from ts h)
-from (node (keep {g} p e) us ts) (lifted-rule h) = node p (from us (lifted g)) (from ts h)
-from (node object-is (leaf k m₁ (leaf n m₂ (node (keep no-block e) nil r))) ts) (lifted-rule h) =
-    node an-object-alone (leaf k m₁ (leaf n m₂ (from r (lifted (D ▸ sg semicolon · ∎))))) (from ts h)
-from (node object-is (leaf k m₁ (leaf n m₂ (node (keep a-block e) (leaf o m₃ (node (keep {g} q e′) ss (leaf c m₄ nil))) r))) ts) (lifted-rule h) =
-    node an-object-with (leaf k m₁ (leaf n m₂ (leaf o m₃ (node q (from ss (lifted g)) (leaf c m₄ (from r (lifted (D ▸ sg semicolon · ∎)))))))) (from ts h)
-from (node range-none nil ts) (lifted-rule h) = node no-range nil (from ts h)
-from (node range-is (leaf o m₁ (leaf n m₂ (node one-number nil r))) ts) (lifted-rule h) =
-    node a-list (leaf o m₁ (leaf n m₂ (node no-number nil (from r (lifted (sg rsquare · ∎)))))) (from ts h)
-from (node range-is (leaf o m₁ (leaf n m₂ (node up-to (leaf d m₃ (leaf e m₄ nil)) r))) ts) (lifted-rule h) =
-    node a-range (leaf o m₁ (leaf n m₂ (leaf d m₃ (leaf e m₄ (from r (lifted (sg rsquare · ∎))))))) (from ts h)
-from (node range-is (leaf o m₁ (leaf n m₂ (node many-numbers vs r))) ts) (lifted-rule h) =
-    node a-list (leaf o m₁ (leaf n m₂ (node a-number (from vs (lifted (sg comma · number · numbers ▸ ∎))) (from r (lifted (sg rsquare · ∎)))))) (from ts h)
 
 -- There and back -------------------------------------------------------------------------------------------------------------------------
 

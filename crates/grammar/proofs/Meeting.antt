@@ -21,13 +21,20 @@ use Rattle.token.proofs.Steps.{found-fits, lex-found, lex-bad, lex-end}
 use Rattle.grammar.specs.Grammar.{Rule, Terminal, Class, _·_, _▸_, ∎, matches}
 use Rattle.grammar.specs.Terminals.{tokenOf}
 use Rattle.grammar.specs.Factored.{Nonterminal, paper, Symbols, _⟹_, choices, by}
-use Rattle.grammar.specs.Machine.{nullable, nullable-form, empty-form, takes, starts, ended, _▹_, opened, deeper-by, deeper, at-end, next, run}
-use Rattle.grammar.specs.Readers.{punctuatorCode, codeOf, classAt, streamOf, lexAt, lookOf, lookAt, stop, advanced, refusal, expected, refusalOf, seen, onBy, on, left, restBy, rest, Took, Reads, Still}
+use Rattle.grammar.specs.Machine.{nullable, nullable-form, empty-form, starts, ended, _▹_, opened, deeper-by, deeper, at-end, next, run, Stream}
+use Rattle.grammar.proofs.Checks.{takes}
+use Rattle.grammar.specs.Readers.{punctuatorCode, codeOf, classAt, streamOf, lexAt, lookOf, lookAt, stop, advanced, refusal, expected, refusalOf, seen, onBy, on, left, restBy, rest, Took, Reads}
 use Rattle.grammar.specs.declared.Look.{Look}
 use Rattle.grammar.specs.declared.Answer.{Answer}
 use Rattle.grammar.specs.declared.Answer.the-variants.{NotAdmitted}
 use Rattle.grammar.proofs.Steps.{when, feed-tok, feed-enter, feed-only, nullable-append, run-tok-no, run-pass, run-pass-end, run-no, run-no-end, took-nil, took-tok, took-rule, took-then}
 use Rattle.grammar.proofs.Codes.{Yes, No, at-code, not-code, brace-open, brace-close, class-code}
+
+-- THE INVARIANT of a loop that reads the rule x from the look a: it is still to be read from the look b.
+pub record Still (x : Rule) (s : List ℕ) (a b : Look) : Type 0 where
+  pub same : (k : Symbols) → on s a (paper x ▸ k) ≡ on s b (paper x ▸ k)
+  pub less : left s b ≤ left s a
+  pub wraps : b .code ≤ 56 → (a .code ≤ 56) × ((u : Stream) → Took _⟹_ (paper x ▸ ∎) (rest s b) u → Took _⟹_ (paper x ▸ ∎) (rest s a) u)
 
 -- Looks ----------------------------------------------------------------------------------------------------------------------------------
 

@@ -1,19 +1,10 @@
 -- Trees of a form in two parts. Assumes nothing.
 use mathlib.Core.Path.{_≡_, refl, sym, _∙_, ap}
 use mathlib.Core.List.{List, [], _∷_, _++_, append-assoc}
+pub use Rattle.grammar.specs.Building.{left, right}
 use Rattle.grammar.specs.Grammar.{Symbol, tok, rule, Trees, nil, leaf, node, tokens}
 
 module _ {N : Type 0} {G : N → List (Symbol N) → Type 0} where
-  unfoldable pub left : (g k : List (Symbol N)) → Trees G (g ++ k) → Trees G g
-  left [] k ts = nil
-  left (tok a ∷ g) k (leaf t m ts) = leaf t m (left g k ts)
-  left (rule x ∷ g) k (node p us ts) = node p us (left g k ts)
-
-  unfoldable pub right : (g k : List (Symbol N)) → Trees G (g ++ k) → Trees G k
-  right [] k ts = ts
-  right (tok a ∷ g) k (leaf t m ts) = right g k ts
-  right (rule x ∷ g) k (node p us ts) = right g k ts
-
   unfoldable pub join : {g k : List (Symbol N)} → Trees G g → Trees G k → Trees G (g ++ k)
   join nil ks = ks
   join (leaf t m ts) ks = leaf t m (join ts ks)

@@ -7,12 +7,12 @@ use Prim.Native.Nat.{ℕ}
 use Rattle.token.specs.Find.{is-there}
 use Rattle.grammar.specs.Grammar.{Symbol, Terminal, Class, Token, tok, rule, _▸_, _·_, ∎, matches, nil, leaf, node, tokens}
 use Rattle.grammar.specs.Factored.{Nonterminal, Symbols, _⟹_, Choice, by, choices}
-use Rattle.grammar.specs.Machine.{nullable, nullable-form, Move, after, Start, start, test, take-step, skip-step, rule-step, form-step, tries, begin, move, takes, starts, left-of, feed, Stream, ended, _▹_, prepend, deeper, at-end, next, run}
+use Rattle.grammar.specs.Machine.{nullable, nullable-form, Move, after, Start, start, test, take-step, skip-step, rule-step, form-step, tries, begin, move, starts, left-of, feed, Stream, ended, _▹_, prepend, deeper, at-end, next, run}
+use Rattle.grammar.proofs.Checks.{takes, begin-is, clear-is}
 use Rattle.grammar.specs.Readers.{Took}
 use Rattle.grammar.specs.declared.Answer.the-variants.{NotAdmitted}
 use Rattle.grammar.proofs.Choices.{listed}
 use Rattle.grammar.proofs.Splits.{join, tokens-join}
-use Rattle.grammar.proofs.Checks.{begin-is, clear-is}
 use Rattle.grammar.proofs.Uniqueness.{test-is, found, is-none}
 
 -- The machine's step, symbol by symbol -------------------------------------------------------------------------------------------------

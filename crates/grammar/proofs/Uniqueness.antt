@@ -8,20 +8,16 @@ use native.Mathlib.Omega.{arith}
 use lib.Dec.{eqb-refl}
 use Rattle.token.specs.Find.{is-there}
 use Rattle.token.proofs.Bytes.{T-true}
+pub use Rattle.grammar.specs.Building.{back, empty}
+use Rattle.grammar.specs.Building.{and-parts}
 use Rattle.grammar.specs.Grammar.{Symbol, Terminal, Class, Token, Kind, Integer, tok, rule, matches, Trees, nil, leaf, node, tokens, name, number, string, float, kind, type, integer, the, sg, ordinary, numeral, quoted, floating, kind-word, type-word, integer-word, word, sign, OS, UINT32, given-code, sign-code}
 use Rattle.grammar.specs.Factored.{Nonterminal, Symbols, _⟹_, Choice, by, choices}
-use Rattle.grammar.specs.Machine.{has-empty, empty-of, nullable, empty-form, nullable-form, Move, take, enter, skip, after, Start, start, test, take-step, skip-step, rule-step, form-step, tries, begin, move, takes, starts, left-of, feed}
+use Rattle.grammar.specs.Machine.{has-empty, empty-of, nullable, empty-form, nullable-form, Move, take, enter, skip, after, Start, start, test, take-step, skip-step, rule-step, form-step, tries, begin, move, starts, left-of, feed}
+use Rattle.grammar.proofs.Checks.{takes, begin-is, none-takes, clear, clear-is, follows, apart, apart-is, implies, link, linked, linked?, linked-all, not-nullable?, proper, proper-is}
 use Rattle.grammar.proofs.Choices.{In, here, there, listed, all, nonterminals, classes, both, every, every-rule, every-class}
 use Rattle.grammar.proofs.Splits.{left, right, join, tokens-parts, left-join, right-join}
-use Rattle.grammar.proofs.Checks.{begin-is, none-takes, clear, clear-is, follows, apart, apart-is, implies, link, linked, linked?, linked-all, not-nullable?, proper, proper-is}
 
 -- A move and the trees of what is left make trees ------------------------------------------------------------------------------------
-
-unfoldable pub back : (t : Token) {k : Symbols} (v : Move (t .class) k) → Trees _⟹_ (after v) → Trees _⟹_ k
-unfolding after left right empty-form
-back t (take m) ts = leaf t m ts
-back t (enter {k} p v) ts = node p (back t v (left (after v) k ts)) (right (after v) k ts)
-back t (skip e v) ts = node (empty-form _ e) nil (back t v ts)
 
 pub tokens-back : (t : Token) {k : Symbols} (v : Move (t .class) k) (ts : Trees _⟹_ (after v)) → tokens (back t v ts) ≡ t ∷ tokens ts
 unfolding back tokens
@@ -97,17 +93,11 @@ empty-unique (node {x} p vs ts) (node q ws us) h h′ =
     let b′ = empty-node q ws us (e′ .0) in
     b .1 ∙ ap₂ (λ n rest. node (empty-form x n) nil rest) (Bool-set (nullable x) true (b .0) (b′ .0)) (empty-unique ts us (e .1) (e′ .1)) ∙ sym (b′ .1)
 
-unfoldable pub empty : (k : Symbols) → nullable-form k ≡ true → Trees _⟹_ k
-unfolding nullable-form
-empty [] h = nil
-empty (tok a ∷ k) h = absurd (false≢true h)
-empty (rule x ∷ k) h = node (empty-form x (both (nullable x) (nullable-form k) h .0)) nil (empty k (both (nullable x) (nullable-form k) h .1))
-
 pub tokens-empty : (k : Symbols) (h : nullable-form k ≡ true) → tokens (empty k h) ≡ []
 unfolding empty tokens
 tokens-empty [] h = refl
 tokens-empty (tok a ∷ k) h = absurd (false≢true h)
-tokens-empty (rule x ∷ k) h = tokens-empty k (both (nullable x) (nullable-form k) h .1)
+tokens-empty (rule x ∷ k) h = tokens-empty k (and-parts (nullable x) (nullable-form k) h .1)
 
 -- Trees _⟹_ with a token -----------------------------------------------------------------------------------------------------------------
 

@@ -1,5 +1,6 @@
 -- The factored grammar: what the readers go by, where no two forms of a rule begin alike. The forms of `object` and `integer-range` are drawn
--- together, with one more rule, `span`. It has the same trees as the grammar of document 01 (proofs/Literal). No part of the public contract.
+-- together, with one more rule, `span`. It has the same trees as the grammar of document 01 (proofs/Literal). The rules do not name it;
+-- `reading`, which computes their answer, does.
 -- Assumes nothing.
 use mathlib.Core.Path.{_≡_, refl, ap}
 use mathlib.Core.List.{List, [], _∷_}

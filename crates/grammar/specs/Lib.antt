@@ -3,9 +3,9 @@ pub mod Grammar
 pub mod Terminals
 pub mod Stage
 pub mod Demand
--- For the layers above.
-pub mod Actions
 -- The contracts of the inner readers, and the machine that they are stated with.
 pub mod Factored
 pub mod Machine
 pub mod Readers
+-- What they build.
+pub mod Building

@@ -1,5 +1,5 @@
 -- The machine of the factored grammar. Its state is a list of symbols, those still to be read; `move` takes one token's class, `run` a whole
--- text. No part of the public contract: the inner readers' contracts cite it. Assumes nothing.
+-- text. The rules do not name it; the inner readers' contracts do, and `reading`, which computes the rules' answer. Assumes nothing.
 use mathlib.Core.Path.{_≡_, refl}
 use mathlib.Core.List.{List, [], _∷_, _++_}
 use mathlib.Core.Bool.{Bool, true, false, _&&_, false≢true}
@@ -108,11 +108,7 @@ module _ (c : Class) where
   unfolding move-with begin
   move k = move-with begin k
 
--- The form takes a token of class c, or the rule does by one of its forms.
-unfoldable pub takes : Symbols → Class → Bool
-unfolding move is-there
-takes k c = is-there (move c k)
-
+-- The rule takes a token of class c by one of its forms.
 unfoldable pub starts : Nonterminal → Class → Bool
 unfolding begin is-there
 starts x c = is-there (begin c x)

@@ -1,4 +1,4 @@
--- The contracts of the inner readers: looks, and what a reader of a form does. No part of the public contract. Assumes nothing.
+-- The contracts of the inner readers: looks, and what a reader of a form does. The rules do not name them. Assumes nothing.
 use mathlib.Core.Path.{_≡_}
 use mathlib.Core.List.{List, [], _∷_, _++_}
 use mathlib.Core.Bool.{Bool, true, false}
@@ -12,9 +12,9 @@ use Rattle.token.specs.declared.Sort.{Sort as TokenSort}
 use Rattle.token.specs.declared.Sort.the-variants.{Word, Number, String, Punctuator, Float}
 use Rattle.token.specs.declared.Step.{Step}
 use Rattle.token.specs.declared.Step.the-variants.{Found, Refused, End}
-use Rattle.grammar.specs.Grammar.{Form, Symbol, Rule, _▸_, ∎, Class, Token, Trees, tokens, matches, name, numeral, quoted, floating, other, sign, lbrace, rbrace, lsquare, rsquare, equals, semicolon, colon, comma, dots, Sort, integers, strings, booleans, enums, floats}
+use Rattle.grammar.specs.Grammar.{Form, Symbol, Class, Token, Trees, tokens, matches, name, numeral, quoted, floating, other, sign, lbrace, rbrace, lsquare, rsquare, equals, semicolon, colon, comma, dots, Sort, integers, strings, booleans, enums, floats}
 use Rattle.grammar.specs.Terminals.{words, tokenOf}
-use Rattle.grammar.specs.Factored.{Symbols, paper, lift, _⟹_}
+use Rattle.grammar.specs.Factored.{Symbols, lift, _⟹_}
 use Rattle.grammar.specs.Machine.{Stream, ended, bad, _▹_, prepend, run}
 use Rattle.grammar.specs.declared.Look.{Look}
 use Rattle.grammar.specs.declared.Answer.{Answer}
@@ -157,9 +157,3 @@ pub record Reads (e : ℕ) (f : Symbols) (s : List ℕ) (a b : Look) : Type 0 wh
 -- of a form of document 01
 abbrev pub Meets : ℕ → Form → List ℕ → Look → Look → Type 0
 Meets e f s a b = Reads e (lift f) s a b
-
--- THE INVARIANT of a loop that reads the rule x from the look a: it is still to be read from the look b.
-pub record Still (x : Rule) (s : List ℕ) (a b : Look) : Type 0 where
-  pub same : (k : Symbols) → on s a (paper x ▸ k) ≡ on s b (paper x ▸ k)
-  pub less : left s b ≤ left s a
-  pub wraps : b .code ≤ 56 → (a .code ≤ 56) × ((u : Stream) → Took _⟹_ (paper x ▸ ∎) (rest s b) u → Took _⟹_ (paper x ▸ ∎) (rest s a) u)

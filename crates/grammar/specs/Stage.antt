@@ -63,3 +63,8 @@ pub data Answers (s : List ℕ) : Answer → Type 0 where
   -- 5: "`{` the grammar admits, but seventeenth open", at "the `{`"
   too-deep : (l : List Token) (t : Token) (r : List Token) → tokens s ≡ l ++ (t ∷ r) → Shallow l → Begins (l ++ (t ∷ []))
       → matches (sg lbrace) (t .class) ≡ true → opens l ≡ closes l + 16 → Answers s (TooDeep (t .place))
+
+-- "A reading accepts or gives one numbered refusal and a byte place, both fixed by the rules": these cases decide the answer. proofs/Decided has it
+-- (`answers-decided`).
+abbrev pub AnswersDecided : Type 0
+AnswersDecided = (s : List ℕ) (r q : Answer) → Answers s r → Answers s q → r ≡ q

@@ -1,6 +1,6 @@
 // Definitions. A definition may hold an ENUM whose enumerators hold definitions again: the four readers call each other.
 ghost use mathlib.Core.Path.{_≡_};
-ghost use Rattle.grammar.specs.Grammar.{_·_, _▸_, ∎, P, enumerator, definition, definitions};
+ghost use Rattle.grammar.specs.Grammar.{_▸_, ∎, P, enumerator, definition, definitions};
 ghost use Rattle.grammar.specs.Readers.{Meets};
 use super::Look;
 use super::lookahead;

@@ -1,7 +1,6 @@
 // The grammar stage of a reading: refusals 3, 4 and 5. Readers by recursive descent, one for each rule of document 01's grammar. Each goes from
 // a look at the next token to the look behind what it reads; a look that is a refusal goes through every reader unchanged.
-// Lists are loops. Calls nest by braces alone, of which at most sixteen are open: the four readers of definitions, and the four of statements,
-// are each at work at most seventeen times at once, whatever the text.
+// Lists are loops. Calls nest by braces alone: of the definitions, and of the statements, the four readers call each other.
 ghost use mathlib.Core.Path.{_≡_};
 ghost use Rattle.grammar.specs.Grammar.{_▸_, ∎, version, implementation, specs, spec, application, objects, object, file};
 ghost use Rattle.grammar.specs.Readers.{Meets, answerOf};

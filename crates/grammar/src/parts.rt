@@ -1,6 +1,6 @@
 // The readers of the parts that hold no definitions and no statements.
 ghost use mathlib.Core.Path.{_≡_};
-ghost use Rattle.grammar.specs.Grammar.{_·_, _▸_, ∎, sg, semicolon, rbrace, name, D, auto, mark, integer-range, numbers, default, own, float-range, integers, strings, enums, floats};
+ghost use Rattle.grammar.specs.Grammar.{_·_, _▸_, ∎, sg, semicolon, rbrace, name, D, auto, mark, integer-range, numbers, default, own, float-range, integers, strings, floats};
 ghost use Rattle.grammar.specs.Factored.{span};
 ghost use Rattle.grammar.specs.Readers.{Meets, Reads, sortAt, fitting};
 use super::Look;

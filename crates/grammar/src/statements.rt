@@ -1,6 +1,6 @@
 // Statements. A value may hold statements again: the readers call each other.
 ghost use mathlib.Core.Path.{_≡_};
-ghost use Rattle.grammar.specs.Grammar.{_·_, _▸_, ∎, block, value, statement, statements};
+ghost use Rattle.grammar.specs.Grammar.{_▸_, ∎, block, value, statement, statements};
 ghost use Rattle.grammar.specs.Readers.{Meets};
 use super::Look;
 use super::lookahead;

@@ -12,13 +12,16 @@ use Rattle.meaning.specs.Syntax.{through, definitions-in, enumerators-in}
 use Rattle.meaning.specs.Actions.{means, specifying}
 use Rattle.layout.specs.Kept.{entries, choices, spec-entries, spec-choices, definition-cells, choice-cells, map-cells}
 use Rattle.layout.proofs.Lengths.{map-append}
-use Rattle.filling.specs.Fills.{Walks, Going, Effects, front-of, behind}
-use Rattle.filling.proofs.Filling.{plain, first, matched, _▻_, told-as, told-rule, going-on, gone, both}
+use Rattle.filling.specs.Fills.{Walks}
+use Rattle.filling.proofs.Filling.{Going, Effects, front-of, behind, plain, first, matched, _▻_, told-as, told-rule, going-on, gone, both}
 use Rattle.filling.proofs.Codes.{seen-place, seen-length, kind-seen}
 use Rattle.definitions.specs.Rows.{Fill, Rows}
-use Rattle.definitions.proofs.Acts.{tables}
-use Rattle.implementation.specs.Places.{Noted, note-all, heads, All, beside, FillAll, SpecRows, AllRows, ImplementationRows}
+use Rattle.definitions.proofs.Acts.{tables, then}
+use Rattle.implementation.specs.Places.{Noted, note-all, heads, All, FillAll, SpecRows, AllRows, ImplementationRows}
 use Rattle.implementation.proofs.Noting.{noting}
+
+abbrev pub beside : All → All → All
+beside a b = (a .0 ++ b .0, then (a .1) (b .1))
 
 pub all : Effects All (Noted × (Table × Table)) beside ([], ([], [])) FillAll
 all = both noting tables

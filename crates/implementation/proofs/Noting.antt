@@ -8,7 +8,7 @@ use lib.ListN.{length, getD, set}
 use lib.Seq.{set-out}
 use borrow.Author.Tests.{eq-eqb, ne-eqb}
 use Rattle.token.specs.Find.{pick}
-use Rattle.filling.specs.Fills.{Effects}
+use Rattle.filling.proofs.Filling.{Effects}
 use Rattle.implementation.specs.Places.{Noted, placed, again-after, found-after, note, note-all}
 
 pub set-past : (l : List ℕ) (i v : ℕ) → length l ≤ i → l ≡ set l i v

@@ -1,6 +1,6 @@
 -- The kinds that an implementation specifies, with the places of their words, and its rows. Assumes nothing.
 use mathlib.Core.Path.{_≡_}
-use mathlib.Core.List.{List, [], _∷_, _++_}
+use mathlib.Core.List.{List, [], _∷_}
 use Prim.Native.Nat.{ℕ, _-_}
 use lib.ListN.{getD, set}
 use lib.Dec.{eqb}
@@ -12,7 +12,7 @@ use Rattle.meaning.specs.Kinds.{kind-number}
 use Rattle.meaning.specs.Actions.{Implementation}
 use Rattle.layout.specs.Kept.{spec-entries, spec-choices, definition-cells, choice-cells, map-cells}
 use Rattle.filling.specs.Fills.{Seen}
-use Rattle.definitions.specs.Rows.{Done, then, Fill, rows-of, choice-rows}
+use Rattle.definitions.specs.Rows.{Done, Fill, rows-of, choice-rows}
 use Rattle.definitions.specs.Parts.{Spanned}
 
 -- What is noted of kinds: 1 for each that has come, the place of its first word; the place of the first word that came again, and 1 when one has.
@@ -53,9 +53,6 @@ heads (x ∷ xs) = (kind-number (x .kind), x .word .place) ∷ heads xs
 -- What is done: kinds are noted, rows are put.
 abbrev pub All : Type 0
 All = List (ℕ × ℕ) × Done
-
-abbrev pub beside : All → All → All
-beside a b = (a .0 ++ b .0, then (a .1) (b .1))
 
 abbrev pub FillAll : Noted × (Table × Table) → All → Noted × (Table × Table) → Type 0
 FillAll x w y = (y .0 ≡ note-all (x .0) (w .0)) × Fill (x .1) (w .1) (y .1)

@@ -21,13 +21,11 @@ use Rattle.rows.specs.declared.Fault.{Fault}
 use Rattle.rows.specs.declared.Found.{Found}
 use Rattle.rows.specs.declared.Found.the-variants.{At, Nothing}
 use Rattle.rows.specs.Search.{isFound, rowOf}
-use Rattle.rows.specs.Order.{faultIf, isFault}
-use Rattle.rows.specs.Order.{sooner as sooner-of}
+use Rattle.rows.specs.Order.{faultIf, isFault, sooner as sooner-of}
 use Rattle.meaning.specs.Syntax.{Word, AttributeType, integer, string, boolean, enum, float, reference, Definitions, Values, Defined, Statement, Statements, done, state, Object, File, statements-in}
 use Rattle.meaning.specs.Words.{among}
 use Rattle.meaning.specs.Kinds.{kind-number}
-use Rattle.meaning.specs.Faults.{first, fault-if}
-use Rattle.meaning.specs.Faults.{Fault as Refusal}
+use Rattle.meaning.specs.Faults.{first, fault-if, Fault as Refusal}
 use Rattle.meaning.specs.Scopes.{sort-of, names, find-definition, find-object, fits, under, of-kind}
 use Rattle.meaning.specs.Judging.{lacks, reference-faults, brace-faults, faults-as, own-faults, and-inside, judged, judge, judge-object, judge-objects, statement-stage}
 use Rattle.layout.specs.Kept.{class-number, code-of, place-or, statement-cells, statement-count, kind-place}
@@ -35,7 +33,7 @@ use Rattle.blocks.specs.Blocks.{BraceIn, no-brace, a-brace, BlockAt, row-after,
 use Rattle.scopes.specs.Situations.{HasDefinition, Stands, ScopeAt, no-scope, scope}
 use Rattle.scopes.specs.Given.{Given, Places}
 use Rattle.scopes.specs.Promises.{fault-of, row-found, object-found, FindsDefinition, FindsWord, FindsObject, TakesUnder}
-use Rattle.scopes.specs.Forms.{Formed, an-integer, a-string, a-boolean, an-enum, a-float, a-reference}
+use Rattle.scopes.proofs.Forms.{Formed, an-integer, a-string, a-boolean, an-enum, a-float, a-reference}
 use Rattle.scopes.proofs.Sorts.{sort-coded, tells, name-coded}
 use Rattle.scopes.proofs.Descents.{found-definition, scope-under, scope-of-kind}
 use Rattle.judging.specs.Promises.{name-code, ReferenceFault, StatedAs, OwnFault, Marked, Lacks, LackFault, Scoped, Judges, JudgesOne, JudgesBlock, JudgesObject, JudgesObjects}

@@ -11,6 +11,7 @@ use rows::Fault;
 use rows::Found;
 use rows::cells;
 use rows::faults;
+use rows::refusals;
 use scopes::Sizes;
 
 mod marking;
@@ -55,7 +56,7 @@ fn lack_fault(
                 from,
                 end,
             ),
-            16,
+            refusals::NOT_STATED,
             owner,
         );
     }
@@ -137,7 +138,7 @@ fn judge_one(
     let size = cells::cell_of(st, 7, k, 1);
     let Found::At(j) = names::find_definition(text, d, names, z.definitions, key, name, size) else {
         return Fault {
-            number: 13,
+            number: refusals::NOT_DEFINED,
             place: name,
         };
     };

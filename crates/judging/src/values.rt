@@ -14,6 +14,7 @@ use rows::Fault;
 use rows::Found;
 use rows::cells;
 use rows::faults;
+use rows::refusals;
 use scopes::Sizes;
 
 // Whether a word with this code is a name.
@@ -51,13 +52,13 @@ fn reference_fault(
 {
     if !is_name(code) {
         return Fault {
-            number: 15,
+            number: refusals::WRONG_VALUE,
             place: at,
         };
     }
     let Found::At(_) = names::find_object(text, o, names, objects, kind, at, len) else {
         return Fault {
-            number: 18,
+            number: refusals::NO_OBJECT,
             place: at,
         };
     };
@@ -90,17 +91,21 @@ fn value_fault(
     let kind = cells::cell_of(d, 19, j, 12);
     if kind < 22 {
         return Fault {
-            number: 15,
+            number: refusals::WRONG_VALUE,
             place: at,
         };
     }
     if kind < 35 {
         let a = reference_fault(text, o, names, z.objects, kind - 22, at, len, code);
         let brace = cells::cell_of(st, 7, k, 5);
-        let b = faults::fault_if(brace != 0, 15, brace);
+        let b = faults::fault_if(brace != 0, refusals::WRONG_VALUE, brace);
         return faults::sooner(a, b);
     }
-    faults::fault_if(!takes(text, d, known, j, at, code, under), 15, at)
+    faults::fault_if(
+        !takes(text, d, known, j, at, code, under),
+        refusals::WRONG_VALUE,
+        at,
+    )
 }
 
 // Whether the attribute of row j is single and stated before the statement of row k, in the block from `from` to `end`; here and below `first`
@@ -151,7 +156,7 @@ pub fn own_fault(
     let name = cells::cell_of(st, 7, k, 0);
     let a = faults::fault_if(
         again(text, d, e, o, st, names, first, z, from, k, end, j),
-        14,
+        refusals::STATED_AGAIN,
         name,
     );
     let b = value_fault(text, d, e, o, st, names, known, z, k, j, under);

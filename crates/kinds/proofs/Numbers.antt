@@ -1,12 +1,13 @@
--- The kinds by their numbers. Assumes nothing.
-use mathlib.Core.Path.{_≡_, ap}
+-- The kinds by their numbers, and their words. Assumes nothing.
+use mathlib.Core.Path.{_≡_, sym, ap}
 use Prim.Native.Nat.{ℕ, suc, _≤_}
 use native.Mathlib.Omega.{arith}
 use native.Mathlib.Decide.{ℕ-discrete}
 use lib.ListN.{length, List·getD-eq-default}
 use Rattle.grammar.specs.Grammar.{NM}
 use Rattle.meaning.specs.Kinds.{kinds}
-use Rattle.kinds.specs.Kinds.{kind-at}
+use Rattle.kinds.specs.Kinds.{kind-of, kind-at, word-of, padded}
+use Rattle.kinds.specs.declared.Kind.{Kind}
 
 -- The last kind is that of 12, and of every number past it.
 pub last-kind : (n : ℕ) → 12 ≤ n → kind-at n ≡ NM
@@ -23,3 +24,8 @@ zero-least n = omega arith
 
 pub past : (n k : ℕ) → k ≤ n → (n ≡ k → ⊥) → suc k ≤ n
 past n k h d = omega (arith, h, d)
+
+-- The word of the kind that a value is told to be is the value's.
+pub told-word : (j k : Kind) → j ≡ k
+    → (padded (word-of (kind-of k)) ≡ padded (word-of (kind-of j))) × (length (word-of (kind-of k)) ≡ length (word-of (kind-of j)))
+told-word j k e = (sym (ap (λ (i : Kind). padded (word-of (kind-of i))) e), sym (ap (λ (i : Kind). length (word-of (kind-of i))) e))

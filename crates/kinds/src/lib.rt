@@ -1,11 +1,8 @@
-// The thirteen kinds of objects: the number, the word, and the least and greatest count of each.
+// The thirteen kinds of objects: by number, the word, and the least and greatest count of each.
 ghost use mathlib.Core.Path.{_≡_};
-ghost use mathlib.Core.List.{[]};
-ghost use Prim.Native.Nat.{_+_};
-ghost use lib.ListN.{getD, take};
-ghost use Rattle.token.specs.Words.{known};
-ghost use Rattle.meaning.specs.Kinds.{kind-number, fewest, most};
-ghost use Rattle.kinds.specs.Kinds.{kind-of, kind-at, most-of};
+ghost use lib.ListN.{length};
+ghost use Rattle.meaning.specs.Kinds.{fewest, most};
+ghost use Rattle.kinds.specs.Kinds.{kind-of, kind-at, most-of, word-of, padded};
 
 pub enum Kind {
     Os,
@@ -60,27 +57,6 @@ impl Kind {
         }
     }
 
-    // Its number in the order of document 01.
-    pub fn number(self) -> usize
-        ensures { λ r. ⌜ r ≡ kind-number (kind-of self) ⌝ }
-    {
-        match self {
-            Kind::Os => 0,
-            Kind::Appmode => 1,
-            Kind::Task => 2,
-            Kind::Isr => 3,
-            Kind::Counter => 4,
-            Kind::Alarm => 5,
-            Kind::Resource => 6,
-            Kind::Event => 7,
-            Kind::Com => 8,
-            Kind::Message => 9,
-            Kind::Networkmessage => 10,
-            Kind::Ipdu => 11,
-            Kind::Nm => 12,
-        }
-    }
-
     // The fewest objects of the kind that a text may have.
     pub fn least(self) -> usize
         ensures { λ r. ⌜ r ≡ fewest (kind-of self) ⌝ }
@@ -125,7 +101,8 @@ impl Kind {
 
     // Its word.
     pub fn word(self) -> Word
-        ensures { λ r. ⌜ take (r .length) (r .letters) ≡ getD known (8 + kind-number (kind-of self)) [] ⌝ }
+        ensures letters { λ r. ⌜ r .letters ≡ padded (word-of (kind-of self)) ⌝ }
+        ensures length { λ r. ⌜ r .length ≡ length (word-of (kind-of self)) ⌝ }
     {
         match self {
             Kind::Os => Word {

@@ -8,14 +8,15 @@ use native.Mathlib.Nat.{add-assoc, zero-add}
 use lib.ListN.{length, drop, length-append, List·getD-append}
 use lib.Seq.{drop-append-seam}
 use lib.Dec.{eqb, ltb}
-use borrow.Author.Tests.{eq-eqb, lt-ltb}
+use borrow.Author.Tests.{eq-eqb}
 use Rattle.token.specs.Find.{byte, both}
 use Rattle.token.proofs.Find.{by-test}
-use Rattle.token.proofs.Bytes.{both-true, both-second, class-past}
+use Rattle.token.proofs.Bytes.{both-true, both-second}
 use Rattle.token.proofs.Decimals.{dotted-other}
-use Rattle.token.specs.Bytes.{blank, dot, pairAt, classOf, isWordByte, isDotted}
+use Rattle.token.specs.Bytes.{blank, pairAt, classOf, isWordByte}
 use Rattle.token.specs.Tokens.{stepAt, found, dotsAt, tokenOf, tokenAt}
-use Rattle.token.specs.Lexing.{Lexed, more, ended, refused, afterStep, Divides, tokensOf, lexFrom, afterAll}
+use Rattle.token.specs.Lexing.{Lexed, more, ended, refused, afterStep, Divides, lexFrom}
+use Rattle.token.proofs.Sequences.{tokensOf, afterAll}
 use Rattle.token.specs.declared.Cursor.{Cursor}
 use Rattle.token.specs.declared.Token.{Token}
 use Rattle.token.specs.declared.Sort.{Sort}

@@ -6,7 +6,8 @@ use native.Mathlib.Omega.{arith}
 use native.Mathlib.Nat.{add-assoc}
 use lib.ListN.{length, drop, length-drop}
 use Rattle.token.specs.Tokens.{bytesBetween}
-use Rattle.token.specs.Lexing.{tokensOf, lexFrom}
+use Rattle.token.specs.Lexing.{lexFrom}
+use Rattle.token.proofs.Sequences.{tokensOf}
 use Rattle.token.specs.declared.Token.{Token}
 use Rattle.locality.proofs.Shift.{moved}
 use Rattle.locality.proofs.Join.{lex-drop, halves, part-long}

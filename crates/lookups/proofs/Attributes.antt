@@ -14,11 +14,11 @@ use Rattle.meaning.specs.Scopes.{Under}
 use Rattle.meaning.specs.Judging.{taken}
 use Rattle.meaning.proofs.Sites.{option-words, object-words}
 use Rattle.layout.specs.Kept.{Entry, spec-entries, spec-choices, definition-cells, default-code, code-of, object-cells, statement-count, statement-rows, all-statement-rows}
-use Rattle.blocks.specs.Blocks.{Holds, WordIn, AllIn, none-in, BlockAt}
-use Rattle.blocks.proofs.Files.{objects-in, object-cell, object-block, statements-held}
+use Rattle.blocks.specs.Blocks.{Holds, WordIn, none-in, BlockAt}
+use Rattle.blocks.proofs.Files.{AllIn, objects-in, object-cell, object-block, statements-held}
 use Rattle.scopes.specs.Situations.{Situation, HasValue, Stands, Nth, RowOf, Reached, ReadAt}
 use Rattle.scopes.specs.Given.{Tables, Given, Attribute, Below}
-use Rattle.scopes.specs.Forms.{Formed}
+use Rattle.scopes.proofs.Forms.{Formed}
 use Rattle.scopes.specs.declared.Sizes.{Sizes}
 use Rattle.scopes.proofs.Rooms.{definition-cell, nth-low, default-cell}
 use Rattle.scopes.proofs.Descents.{nth-in, entry-facts}

@@ -1,6 +1,6 @@
 -- The laws of noted ranks, and of names that are compared by them first.
 -- Assumes nothing.
-use Prim.Native.Nat.{ℕ, _+_, _*_, _<_, min}
+use Prim.Native.Nat.{ℕ, _+_, _*_, _<_, min, _≤_}
 use mathlib.Core.Path.{_≡_, sym, ap, ap₂, subst, _∙_}
 use mathlib.Core.List.{List}
 use native.Mathlib.Omega.{arith}
@@ -10,8 +10,16 @@ use lib.Seq.{getD-set-same, getD-set-other}
 use Rattle.rows.specs.Search.{rowName}
 use Rattle.token.specs.Tokens.{partOf}
 use Rattle.rows.proofs.Starts.{cell-start, cell-column}
-use Rattle.indexes.specs.Indexing.{Ranks, nameRank}
-use Rattle.lookups.specs.Ranks.{NotesRanks, NotesRanksTo}
+use Rattle.indexes.specs.Indexing.{Ranks, nameRank, Indexed}
+use Rattle.lookups.specs.Ranks.{NotesRanks}
+
+-- each of the first n cells of h is the number of the name of the row of its place
+pub record RankedTo (f : List ℕ → ℕ) (s t : List ℕ) (w m n : ℕ) (h : List ℕ) : Type 0 where
+  pub cell : (i : ℕ) → i < n → getD h i 0 ≡ f (rowName s t w m i)
+
+-- the first n cells of h are ranks of names among those of the definitions d, if x is the index of the definitions
+unfoldable pub NotesRanksTo : List ℕ → List ℕ → List ℕ → List ℕ → (w m n : ℕ) → List ℕ → Type 0
+NotesRanksTo s d x t w m n h = (k : ℕ) → Indexed s d 19 k 0 2 x → k ≤ 65536 → RankedTo (nameRank s d 19 0 2 x) s t w m n h
 
 -- the cells of a row's name, by a place where the row begins that is no larger than the end
 module _ (t : List ℕ) (w m i a m2 p n : ℕ) (d : m2 ≡ min (length t) (m + 1)) (e : a ≡ min (length t) (i * w)) where

@@ -10,8 +10,8 @@ use Rattle.meaning.specs.Scopes.{Under, under}
 use Rattle.meaning.proofs.Numbering.{Counts, counts-more}
 use Rattle.meaning.proofs.Sites.{bound-words, option-words, definition-words, value-words, spec-words}
 use Rattle.layout.specs.Kept.{Entry, entries, entries-under, spec-entries, list-key}
-use Rattle.blocks.specs.Blocks.{WordIn, AllIn}
-use Rattle.blocks.proofs.Files.{in-front, in-back, file-in, specs-in}
+use Rattle.blocks.specs.Blocks.{WordIn}
+use Rattle.blocks.proofs.Files.{AllIn, in-front, in-back, file-in, specs-in}
 use Rattle.scopes.specs.Situations.{Situation, HasDefinition, this-definition, later-definition, HasValue, this-value, later-value, HasSpec, this-spec, later-spec, Stands, under-kind, under-value, Nth}
 use Rattle.scopes.proofs.Descents.{rows-of, whole}
 

@@ -16,18 +16,11 @@ use Rattle.rows.specs.declared.Found.the-variants.{Nothing}
 use Rattle.indexes.specs.Indexing.{Indexed, nameRank}
 use Rattle.blocks.specs.Blocks.{row-after, FindsStated, IsStated}
 
--- each of the first n cells of h is the number of the name of the row of its place
-pub record RankedTo (f : List ℕ → ℕ) (s t : List ℕ) (w m n : ℕ) (h : List ℕ) : Type 0 where
-  pub cell : (i : ℕ) → i < n → getD h i 0 ≡ f (rowName s t w m i)
-
--- so is each cell of h
+-- each cell of h is the number of the name of the row of its place
 pub record Ranked (f : List ℕ → ℕ) (s t : List ℕ) (w m : ℕ) (h : List ℕ) : Type 0 where
   pub cell : (i : ℕ) → i < length h → getD h i 0 ≡ f (rowName s t w m i)
 
--- the first n cells of h, or all, are ranks of names among those of the definitions d, if x is the index of the definitions
-unfoldable pub NotesRanksTo : List ℕ → List ℕ → List ℕ → List ℕ → (w m n : ℕ) → List ℕ → Type 0
-NotesRanksTo s d x t w m n h = (k : ℕ) → Indexed s d 19 k 0 2 x → k ≤ 65536 → RankedTo (nameRank s d 19 0 2 x) s t w m n h
-
+-- each cell of h is the rank of a name among those of the definitions d, if x is the index of the definitions
 unfoldable pub NotesRanks : List ℕ → List ℕ → List ℕ → List ℕ → (w m : ℕ) → List ℕ → Type 0
 NotesRanks s d x t w m h = (k : ℕ) → Indexed s d 19 k 0 2 x → k ≤ 65536 → Ranked (nameRank s d 19 0 2 x) s t w m h
 

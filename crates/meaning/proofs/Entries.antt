@@ -6,22 +6,18 @@ use mathlib.Core.Option.{Option, none, some}
 use Prim.Native.Nat.{ℕ, suc, _+_}
 use native.Mathlib.Omega.{arith}
 use lib.ListN.{length, length-append}
+unfoldable pub use Rattle.meaning.specs.Merging.{then}
+unfoldable pub use Rattle.meaning.specs.Joining.{joins}
 use Rattle.meaning.specs.Judging.{taken}
 use Rattle.meaning.specs.Resolving.{take-value, Resolved, end, resolved, entries, default-entry, resolve, resolve-under, Owner, of-value, value-row, value-rows, how-many-values}
 use Rattle.meaning.specs.Scopes.{names}
 use Rattle.meaning.specs.Syntax.{Definition, Definitions, define, Values, Statements, done, state, Object, Word}
 use Rattle.meaning.specs.Words.{alike, among, choose}
-use Rattle.meaning.specs.Merging.{then}
 
 pub then-assoc : (a b c : Statements) → then (then a b) c ≡ then a (then b c)
 unfolding then
 then-assoc done b c = refl
 then-assoc (state x inside rest) b c = ap (state x inside) (then-assoc rest b c)
-
--- One list of resolved values behind another.
-unfoldable pub joins : Resolved → Resolved → Resolved
-joins end b = b
-joins (resolved t us a) b = resolved t us (joins a b)
 
 pub length-values : (r : Resolved) (n : ℕ) (o : Owner) → length (value-rows r n o) ≡ how-many-values r
 unfolding value-rows how-many-values

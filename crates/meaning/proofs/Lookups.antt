@@ -4,7 +4,7 @@ use mathlib.Core.List.{List, [], _∷_, _++_}
 use mathlib.Core.Bool.{Bool, true, false}
 use mathlib.Core.Option.{Option, none, some}
 use Prim.Native.Nat.{ℕ}
-use Rattle.meaning.specs.Places.{if-there}
+use Rattle.meaning.proofs.Unplaced.{if-there}
 use Rattle.grammar.specs.Grammar.{Token, file, _▸_, ∎, _⟶_, Trees, tokens}
 use Rattle.token.specs.Find.{pick}
 use Rattle.token.specs.Words.{same}

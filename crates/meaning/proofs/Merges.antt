@@ -2,28 +2,27 @@
 -- comes twice the parts are the objects; places play no part. Assumes nothing.
 use mathlib.Core.Path.{_≡_, refl, sym, _∙_, ap, ap₂, subst}
 use mathlib.Core.List.{List, [], _∷_, _++_, append-assoc}
-use mathlib.Core.Bool.{Bool, true, false, false≢true}
-use mathlib.Core.Option.{Option, none, some}
+use mathlib.Core.Bool.{Bool, true, false, not, false≢true}
+use mathlib.Core.Option.{Option, some}
 use mathlib.Core.Logic.{_⊎_, inl, inr, ⊎-elim}
 use Prim.Native.Nat.{ℕ, suc, _+_}
 use native.Mathlib.Omega.{arith}
-use lib.ListN.{length, length-append}
+use lib.ListN.{length}
 use lib.Dec.{eqb}
 use borrow.Author.Tests.{eq-eqb, eqb-true}
-use Rattle.token.specs.Find.{pick, both, either, bit, is-there}
+use Rattle.token.specs.Find.{pick, both, either, is-there}
 use Rattle.token.specs.Words.{same}
-use Rattle.token.proofs.Find.{by-test}
-use Rattle.token.proofs.Bytes.{both-true, both-second}
+use Rattle.token.proofs.Bytes.{both-true, both-second, either-assoc}
 use Rattle.token.proofs.Codes.{same-self, same-equal}
-use Rattle.grammar.specs.Grammar.{Kind}
 use Rattle.meaning.specs.Syntax.{Word, Statements, done, state, Object, statements-in}
 use Rattle.meaning.specs.Words.{alike, choose}
 use Rattle.meaning.specs.Kinds.{kind-number, same-kind}
 use Rattle.meaning.specs.Scopes.{find-object}
+use Rattle.meaning.specs.Applying.{elsewhere}
 use Rattle.meaning.specs.Actions.{means, meaning, syntax}
 use Rattle.grammar.specs.Grammar.{file, _▸_, ∎, _⟶_, Trees, nil, node, file-is}
 use Rattle.meaning.proofs.Sites.{option-words, statement-words, object-words}
-use Rattle.meaning.specs.Merging.{then, same-object, used, further, continued, merged, merge-from, merge}
+use Rattle.meaning.specs.Merging.{then, same-object, used, continued, merged, merge-from, merge}
 
 -- Statements one behind the other ------------------------------------------------------------------------------------------------------------
 
@@ -90,10 +89,6 @@ pub used-none : (x : Object) → used x [] ≡ false
 unfolding used find-object is-there
 used-none x = refl
 
-either-last : (a b c : Bool) → either a (either b c) ≡ either (either a b) c
-either-last true b c = refl
-either-last false b c = refl
-
 pub used-behind : (x y : Object) (l : List Object) → used x (l ++ (y ∷ [])) ≡ either (used x l) (same-object x y)
 used-behind x y [] = used-more x y [] ∙ ap (either (same-object x y)) (used-none x) ∙ either-none (same-object x y) ∙ ap (λ (b : Bool). either b (same-object x y)) (sym (used-none x))
   where
@@ -101,12 +96,20 @@ used-behind x y [] = used-more x y [] ∙ ap (either (same-object x y)) (used-no
     either-none true = refl
     either-none false = refl
 used-behind x y (z ∷ l) =
-    used-more x z (l ++ (y ∷ [])) ∙ ap (either (same-object x z)) (used-behind x y l) ∙ either-last (same-object x z) (used x l) (same-object x y)
+    used-more x z (l ++ (y ∷ [])) ∙ ap (either (same-object x z)) (used-behind x y l) ∙ either-assoc (same-object x z) (used x l) (same-object x y)
     ∙ ap (λ (b : Bool). either b (same-object x y)) (sym (used-more x z l))
 
 pub used-alike : (x y : Object) (l : List Object) → Alike x y → used x l ≡ used y l
 used-alike x y [] a = used-none x ∙ sym (used-none y)
 used-alike x y (z ∷ l) a = used-more x z l ∙ ap₂ either (alike-object x y z a) (used-alike x y l a) ∙ sym (used-more y z l)
+
+-- Names used by objects of another kind: by one of two lists.
+pub elsewhere-append : (x : Object) (a b : List Object) → elsewhere x (a ++ b) ≡ either (elsewhere x a) (elsewhere x b)
+unfolding elsewhere
+elsewhere-append x [] b = refl
+elsewhere-append x (y ∷ a) b =
+    ap (either (both (not (same-kind (x .kind) (y .kind))) (alike (y .name) (x .name)))) (elsewhere-append x a b)
+    ∙ either-assoc (both (not (same-kind (x .kind) (y .kind))) (alike (y .name) (x .name))) (elsewhere x a) (elsewhere x b)
 
 -- What is told of each part: those of a kind and name that was not used before --------------------------------------------------------------------
 

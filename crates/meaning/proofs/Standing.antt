@@ -2,7 +2,6 @@
 -- numbers. A reader that has filled the table looks names up in it, and finds what the scope has. Assumes nothing.
 use mathlib.Core.Path.{_≡_, refl, sym, _∙_, ap, ap₂, subst}
 use mathlib.Core.List.{List, [], _∷_, _++_, append-assoc, append-nil}
-use mathlib.Core.Bool.{Bool, true, false}
 use Prim.Native.Nat.{ℕ, suc, _+_, _≤_, _<_}
 use native.Mathlib.Omega.{arith}
 use lib.ListN.{length, length-append}
@@ -15,28 +14,11 @@ use Rattle.meaning.proofs.Order.{Ordered, drop, sub-front, sub-all, ord
 pub use Rattle.meaning.proofs.Runs.{Run}
 use Rattle.meaning.proofs.Runs.{run-le, cut, Out, cuts, ends}
 use Rattle.meaning.proofs.Sites.{definition-words, value-words, spec-words, object-words, file-words}
+pub use Rattle.meaning.specs.Standing.{Standing}
+unfoldable pub use Rattle.meaning.specs.Standing.{standing-if, select, standing}
 use Rattle.meaning.specs.Actions.{syntax}
 use Rattle.meaning.specs.Defining.{DefinitionRow, definition-row, definition-rows, definition-rows-under, all-definition-rows}
 use Rattle.meaning.specs.Syntax.{span-of, Definition, Definitions, no-more, define, Values, no-value, value, Spec, definitions-in, definitions-under, Word}
-
--- A row with its number.
-pub record Standing : Type 0 where
-  pub number : ℕ
-  pub row : DefinitionRow
-
--- The rows, numbered from i on, that stand under the word at p.
-unfoldable pub standing-if : Bool → ℕ → DefinitionRow → List Standing
-standing-if true i r = record { number = i; row = r } ∷ []
-standing-if false i r = []
-
-unfoldable pub select : ℕ → ℕ → List DefinitionRow → List Standing
-select p i [] = []
-select p i (r ∷ rs) = standing-if (eqb (r .under .place) p) i r ++ select p (suc i) rs
-
--- The definitions of a scope, as rows under the word u.
-unfoldable pub standing : Word → Definitions → List Standing
-standing u no-more = []
-standing u (define d vs ds) = record { number = d .row; row = definition-row u d } ∷ standing u ds
 
 -- Rows of which none stands under the word at p ----------------------------------------------------------------------------------------------
 

@@ -7,7 +7,7 @@ use Prim.Native.Nat.{ℕ, suc, _+_}
 use Rattle.grammar.specs.Grammar.{Kind}
 use Rattle.token.specs.Find.{pick, both, either, bit, is-there}
 use Rattle.token.specs.Words.{bytesOf, same}
-use Rattle.meaning.specs.Syntax.{Num, Word, Span, absent, span-of, span-or, AttributeType, integer, string, boolean, enum, float, reference, Bounds, no-bounds, from-to, one-of, Definition, Definitions, no-more, define, Values, no-value, value, Spec, Statements, done, state, Object, File, is-enum}
+use Rattle.meaning.specs.Syntax.{Num, Word, Span, absent, span-of, span-or, AttributeType, integer, string, boolean, enum, float, reference, Bounds, no-bounds, from-to, one-of, Definition, Definitions, no-more, define, Values, no-value, value, Spec, Statements, done, state, Object, File, is-enum, Defined, Statement}
 use Rattle.meaning.specs.Words.{choose, alike, among, equal, among-numbers, in-bounds}
 use Rattle.meaning.specs.Kinds.{same-kind, kinds}
 use Rattle.meaning.specs.Scopes.{Sort, a-number, a-string, a-truth, an-auto, a-no-default, a-name, a-float, sort-of, of-kind, Under, find-value, under, find-definition, names, find-object}
@@ -17,7 +17,91 @@ use Rattle.meaning.specs.Answers.{Tables, tables}
 use Rattle.meaning.specs.Judging.{is-no-default, taken-by, taken, lacking, lacks, lacks-under}
 use Rattle.meaning.specs.Resolving.{Value, number, truth, auto, string as string-value, float as float-value, enumerator, object, Taken, Resolved, end, resolved, number-or, row-or, named, valued, take-value, entries, default-entry, resolve, resolve-under, object-values, all-values, Owner, of-object, of-value, ValueRow, value-row, how-many-values, value-rows, all-value-rows, how-many-in-all}
 use Rattle.meaning.specs.Normal.{written, closed, lines, object-lines, application-lines}
-use Rattle.meaning.specs.Places.{each, if-there, unplaced-word, unplaced-bounds, unplaced-definition, unplaced-definitions, unplaced-values, unplaced-defined, unplaced-spec, unplaced-statement, unplaced-statements, unplaced-object, unplaced, unplaced-taken, unplaced-resolved, unplaced-definition-row, unplaced-enumerator-row, unplaced-object-row, unplaced-value-row, unplaced-tables}
+use Rattle.meaning.specs.Places.{each, unplaced-definition-row, unplaced-enumerator-row, unplaced-object-row, unplaced-value-row, unplaced-tables}
+use Rattle.meaning.specs.Faults.{Fault}
+
+-- The syntax without its places: every place and length is 0. -----------------------------------------------------------------------------------
+
+-- A function of what may be there.
+unfoldable pub if-there : {A B : Type 0} → (A → B) → Option A → Option B
+if-there f none = none
+if-there f (some a) = some (f a)
+
+unfoldable pub unplaced-word : Word → Word
+unplaced-word t = record { class = t .class; bytes = t .bytes; number = t .number; float = t .float; place = 0; length = 0 }
+
+unfoldable pub unplaced-bounds : Bounds → Bounds
+unplaced-bounds no-bounds = no-bounds
+unplaced-bounds (from-to a b) = from-to (unplaced-word a) (unplaced-word b)
+unplaced-bounds (one-of ts) = one-of (each unplaced-word ts)
+
+unfoldable pub unplaced-definition : Definition → Definition
+unplaced-definition d = record {
+  row = d .row;
+  type = d .type;
+  word = unplaced-word (d .word);
+  auto = d .auto;
+  range = absent;
+  bounds = unplaced-bounds (d .bounds);
+  name = unplaced-word (d .name);
+  list = d .list;
+  default = if-there unplaced-word (d .default);
+}
+
+unfoldable mutual
+  pub unplaced-definitions : Definitions → Definitions
+  unplaced-definitions no-more = no-more
+  unplaced-definitions (define d vs ds) = define (unplaced-definition d) (unplaced-values vs) (unplaced-definitions ds)
+
+  pub unplaced-values : Values → Values
+  unplaced-values no-value = no-value
+  unplaced-values (value w e us vs) = value (unplaced-word w) e (unplaced-definitions us) (unplaced-values vs)
+
+unfoldable pub unplaced-defined : Defined → Defined
+unplaced-defined x = record { definition = unplaced-definition (x .definition); values = unplaced-values (x .values) }
+
+unfoldable pub unplaced-spec : Spec → Spec
+unplaced-spec x = record { kind = x .kind; word = unplaced-word (x .word); definitions = unplaced-definitions (x .definitions) }
+
+unfoldable pub unplaced-statement : Statement → Statement
+unplaced-statement x = record
+    { number = x .number; name = unplaced-word (x .name); value = unplaced-word (x .value); brace = if-there unplaced-word (x .brace) }
+
+unfoldable pub unplaced-statements : Statements → Statements
+unplaced-statements done = done
+unplaced-statements (state x inside rest) = state (unplaced-statement x) (unplaced-statements inside) (unplaced-statements rest)
+
+unfoldable pub unplaced-object : Object → Object
+unplaced-object x = record {
+  row = x .row;
+  kind = x .kind;
+  word = unplaced-word (x .word);
+  name = unplaced-word (x .name);
+  block = absent;
+  parts = x .parts;
+  statements = unplaced-statements (x .statements);
+}
+
+unfoldable pub unplaced : File → File
+unplaced f = record {
+  version = unplaced-word (f .version);
+  implementation = absent;
+  implementation-name = unplaced-word (f .implementation-name);
+  specs = each unplaced-spec (f .specs);
+  cpu = unplaced-word (f .cpu);
+  parts = each unplaced-object (f .parts);
+  objects = each unplaced-object (f .objects);
+}
+
+unfoldable pub unplaced-fault : Fault → Fault
+unplaced-fault f = record { place = 0; number = f .number }
+
+unfoldable pub unplaced-taken : Taken → Taken
+unplaced-taken t = record { definition = unplaced-definition (t .definition); value = t .value; stated = t .stated; word = unplaced-word (t .word) }
+
+unfoldable pub unplaced-resolved : Resolved → Resolved
+unplaced-resolved end = end
+unplaced-resolved (resolved t us rest) = resolved (unplaced-taken t) (unplaced-resolved us) (unplaced-resolved rest)
 
 -- Words ------------------------------------------------------------------------------------------------------------------------------------
 

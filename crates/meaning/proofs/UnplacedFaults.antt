@@ -19,8 +19,8 @@ use Rattle.meaning.specs.Applying.{how-many, too-few, full, statement-fa
 use Rattle.meaning.specs.Judging.{lacks, reference-faults, brace-faults, faults-as, own-faults, and-inside, judged, judge, judge-object, judge-objects, statement-stage}
 use Rattle.meaning.specs.Resolving.{all-values, how-many-in-all, too-many}
 use Rattle.meaning.specs.Answers.{Tables, Answer, accepted, refused, tables, unless, answer}
-use Rattle.meaning.specs.Places.{each, if-there, unplaced-word, unplaced-bounds, unplaced-definition, unplaced-definitions, unplaced-values, unplaced-defined, unplaced-spec, unplaced-statement, unplaced-statements, unplaced-object, unplaced, unplaced-fault, unplaced-resolved, unplaced-tables}
-use Rattle.meaning.proofs.Unplaced.{each-append, among-unplaced, bounds-unplaced, unplaced-under, value-unplaced, definition-unplaced, kind-unplaced, object-unplaced, names-unplaced, there-unplaced, lacks-unplaced, all-values-unplaced, how-many-objects-unplaced, how-many-all-unplaced, tables-unplaced}
+use Rattle.meaning.specs.Places.{each, unplaced-tables}
+use Rattle.meaning.proofs.Unplaced.{if-there, unplaced-word, unplaced-bounds, unplaced-definition, unplaced-definitions, unplaced-values, unplaced-defined, unplaced-spec, unplaced-statement, unplaced-statements, unplaced-object, unplaced, unplaced-fault, unplaced-resolved, each-append, among-unplaced, bounds-unplaced, unplaced-under, value-unplaced, definition-unplaced, kind-unplaced, object-unplaced, names-unplaced, there-unplaced, lacks-unplaced, all-values-unplaced, how-many-objects-unplaced, how-many-all-unplaced, tables-unplaced}
 
 -- Faults at the place 0.
 abbrev at-zero : List Fault → List Fault

@@ -1,7 +1,7 @@
 -- `reading` gives the answer to every text, and no text has another. Assumes nothing.
 use mathlib.Core.Path.{_≡_, refl, sym, subst}
 use mathlib.Core.List.{List}
-use mathlib.Core.Bool.{Bool, true, false}
+use mathlib.Core.Bool.{Bool, true, false, false≢true}
 use Prim.Native.Nat.{ℕ, _≤_}
 use native.Mathlib.Omega.{arith}
 use lib.ListN.{length}
@@ -17,9 +17,11 @@ use Rattle.grammar.specs.Readers.{streamOf}
 use Rattle.grammar.proofs.Decided.{decided}
 use Rattle.grammar.specs.declared.Answer.{Answer as GrammarAnswer}
 use Rattle.grammar.specs.declared.Answer.the-variants.{Passes, NoToken, NotAdmitted, TooDeep}
-use Rattle.meaning.specs.Answers.{Answer}
-use Rattle.meaning.specs.Reading.{Answers, too-long, not-grammar, meant, reading}
-use Rattle.meaning.proofs.Found.{run-answers, reading-long, reading-derived, reading-refused}
+use Rattle.meaning.specs.Answers.{Tables, Answer, accepted}
+use Rattle.meaning.specs.Reading.{Answers, too-long, not-grammar, meant, reading, normal-text}
+use Rattle.meaning.specs.Rules.{TheNormalText}
+use Rattle.meaning.specs.Computed.{OneAnswer, OneNormalText}
+use Rattle.meaning.proofs.Found.{run-answers, reading-long, reading-derived, reading-refused, normal-derived}
 
 module _ (s : List ℕ) (h : length s ≤ 65535) where
   refusing : (a : GrammarAnswer) → run 0 (paper file ▸ ∎) (streamOf (lexFrom s 0)) ≡ a → (a ≡ Passes → ⊥) → StageAnswers s a → Answers s (reading s)
@@ -46,3 +48,16 @@ pub one-answer : {s : List ℕ} {a : Answer} → Answers s a → reading s ≡ a
 one-answer {s} (too-long h) = reading-long s h
 one-answer {s} (not-grammar a h n t) = reading-refused s a h (decided (run-answers s) t) n
 one-answer {s} (meant w d) = reading-derived s w d
+
+-- So `reading` gives the one answer of the rules.
+pub the-answer : OneAnswer
+the-answer s = record { given = answers s; no-other = λ b h. sym (one-answer h) }
+
+-- And `normal-text` the one normal text of an accepted text.
+pub the-normal-text : {s : List ℕ} {a : Answer} (t : Tables) → Answers s a → a ≡ accepted t → TheNormalText s (normal-text s)
+the-normal-text t (too-long h) e = absurd (let z : _≡_ {A = Bool} false true = cc in false≢true z)
+the-normal-text t (not-grammar a h n k) e = absurd (let z : _≡_ {A = Bool} false true = cc in false≢true z)
+the-normal-text {s} t (meant w d) e = record { derivation = d; written = normal-derived s w }
+
+pub every-normal-text : OneNormalText
+every-normal-text s t a = the-normal-text t a refl

@@ -16,4 +16,10 @@ pub mod Tree
 pub mod Reading
 pub mod Calls
 pub mod Cells
+-- What the public calls promise by the rules.
+pub mod Rules
+pub mod Computed
 pub mod Places
+pub mod Joining
+pub mod Standing
+pub mod Edges

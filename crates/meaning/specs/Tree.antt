@@ -6,8 +6,7 @@ use mathlib.Core.Option.{Option, none, some}
 use Rattle.grammar.specs.Grammar.{Token, file, _▸_, ∎, _⟶_, Trees}
 use Rattle.grammar.specs.Factored.{Symbols, paper, _⟹_}
 use Rattle.grammar.specs.Machine.{Move, move, after, nullable-form, test}
-use Rattle.grammar.proofs.Uniqueness.{back, empty}
-use Rattle.grammar.proofs.Literal.{from, lifted}
+use Rattle.grammar.specs.Building.{back, empty, from, lifted}
 
 -- The trees of the symbols k without a token, if there are any.
 unfoldable pub empty-trees : (k : Symbols) → Option (nullable-form k ≡ true) → Option (Trees _⟹_ k)

@@ -5,13 +5,11 @@ use mathlib.Core.Bool.{Bool, true, false, false≢true}
 use Prim.Native.Nat.{ℕ, suc, _+_, _*_, _≤_, _<_}
 use native.Mathlib.Omega.{arith}
 use lib.ListN.{length, getD, length-append}
-use lib.Dec.{eqb}
 use Rattle.token.specs.Find.{pick, both, either}
 use Rattle.token.specs.Words.{same}
-use Rattle.token.specs.Tokens.{partOf}
 use Rattle.token.proofs.Bytes.{eqb-sym}
-use Rattle.rows.specs.Table.{first}
-use Rattle.rows.specs.Search.{findNamed, isFound, FirstOf}
+use Rattle.rows.proofs.Walks.{first}
+use Rattle.rows.specs.Search.{findNamed, isFound}
 use Rattle.rows.specs.declared.Found.{Found}
 use Rattle.rows.specs.declared.Found.the-variants.{At, Nothing}
 use Rattle.rows.proofs.Searches.{first-is}
@@ -19,7 +17,7 @@ use Rattle.meaning.specs.Syntax.{Object, File}
 use Rattle.meaning.specs.Words.{alike}
 use Rattle.meaning.specs.Kinds.{kind-number, same-kind}
 use Rattle.meaning.specs.Merging.{same-object, used}
-use Rattle.meaning.proofs.Merges.{Alike, same-alike, same-itself, same-swap, used-more, used-none, used-alike}
+use Rattle.meaning.proofs.Merges.{same-alike, same-itself, same-swap, used-more, used-none, used-alike}
 use Rattle.meaning.proofs.Sites.{statement-words, object-words}
 use Rattle.layout.specs.Kept.{kept-parts, object-cells}
 use Rattle.scopes.specs.Situations.{Situation, Nth}

@@ -20,12 +20,18 @@ use Rattle.layout.specs.Kept.{statement-rows, object-cells, object-rows, all-st
 use Rattle.layout.proofs.Lengths.{length-statements}
 use Rattle.rows.specs.Tally.{oneMore, countOn}
 use Rattle.rows.proofs.Tallies.{count-on-append}
-use Rattle.filling.specs.Fills.{Walks, Going, Effects, front-of, behind}
-use Rattle.filling.proofs.Filling.{plain, first, matched, _▻_, told-as, told-rule, going-on, gone, both as side-by-side}
+use Rattle.filling.specs.Fills.{Walks}
+use Rattle.filling.proofs.Filling.{Going, Effects, front-of, behind, plain, first, matched, _▻_, told-as, told-rule, going-on, gone, both as side-by-side}
 use Rattle.filling.proofs.Tables.{wide-one, wide-then, rows-append, _⸬_}
 use Rattle.filling.proofs.Codes.{seen-place, seen-length, kind-seen}
-use Rattle.objects.specs.Rows.{Lines, Fill, StatementRows, Put, also, FillBoth, All, beside, FillAll, numbers, ObjectRows, AllRows}
-use Rattle.objects.proofs.Stated.{none-yet, lines}
+use Rattle.objects.specs.Rows.{Lines, Fill, StatementRows, Put, FillBoth, All, FillAll, numbers, ObjectRows, AllRows}
+use Rattle.objects.proofs.Stated.{then, none-yet, lines}
+
+abbrev pub also : Put → Put → Put
+also a b = ((λ k. a .0 k ++ b .0 (k + length (a .1 k))), then (a .1) (b .1))
+
+abbrev pub beside : All → All → All
+beside a b = (a .0 ++ b .0, also (a .1) (b .1))
 
 -- Tables ---------------------------------------------------------------------------------------------------------------------------------
 

@@ -1,7 +1,7 @@
 -- The rows that the walk of the application puts, by the meaning of what it reads. A row of a statement holds the number of the row after the
 -- last one in its braces: so what is done depends on the number k of the first statement. Assumes nothing.
 use mathlib.Core.Path.{_≡_}
-use mathlib.Core.List.{List, [], _∷_, _++_}
+use mathlib.Core.List.{List, [], _∷_}
 use Prim.Native.Nat.{ℕ, _+_, _-_, _*_, _≤_, min}
 use lib.ListN.{length}
 use lib.Seq.{sets}
@@ -17,9 +17,6 @@ use Rattle.filling.specs.Fills.{Seen}
 -- Rows of statements, of which the first is row k.
 abbrev pub Lines : Type 0
 Lines = ℕ → List (List ℕ)
-
-abbrev pub then : Lines → Lines → Lines
-then a b = λ k. a k ++ b (k + length (a k))
 
 abbrev pub Fill : Table → Lines → Table → Type 0
 Fill x w y = ((k : ℕ) → Wide 7 (w k)) × Wrote 7 (x .0) (x .1) (w (x .1)) (y .0) (y .1)
@@ -42,9 +39,6 @@ ValueRows s a b w m = Seen s a (m .word) × (place-or (m .block .brace) ≡ b) �
 abbrev pub Put : Type 0
 Put = Lines × Lines
 
-abbrev pub also : Put → Put → Put
-also a b = ((λ k. a .0 k ++ b .0 (k + length (a .1 k))), then (a .1) (b .1))
-
 -- The tables of objects and of statements have been filled. Rows of objects hold numbers of statements: nothing is said of their cells where
 -- either table has more than 65,536 rows.
 pub record FillBoth (x : Table × Table) (w : Put) (y : Table × Table) : Type 0 where
@@ -59,9 +53,6 @@ pub record FillBoth (x : Table × Table) (w : Put) (y : Table × Table) : Type 0
 -- With the counts of the kinds.
 abbrev pub All : Type 0
 All = List ℕ × Put
-
-abbrev pub beside : All → All → All
-beside a b = (a .0 ++ b .0, also (a .1) (b .1))
 
 abbrev pub FillAll : List ℕ × (Table × Table) → All → List ℕ × (Table × Table) → Type 0
 FillAll x w y = (y .0 ≡ countOn (x .0) (w .0)) × FillBoth (x .1) (w .1) (y .1)

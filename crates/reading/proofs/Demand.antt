@@ -82,12 +82,16 @@ module _ (s : List ℕ) (w : Covered s) where
       subst (λ m. RefusedByGrammar s (Refused m (placeOf a))) (sym (q .0)) (refused-at (placeOf a) (q .1))
   refusing (meant c d) k = absurd (k (derived-passes _))
 
+-- Of the rules' answer to any text.
+pub reading-demand-3 : (s : List ℕ) → Demand-3 s (readingOf (reading s) .answer)
+reading-demand-3 s = record {
+  passes-exactly = λ w. passing s w (answers s);
+  one-derivation = one-derivation (tokens s);
+  refusal = λ w. refusing s w (answers s);
+}
+
 -- DEMAND 3, for a call with tables that are long enough.
 pub demand-3 : {s d e o v d′ e′ o′ v′ : List ℕ} {r : Reading} → enough (roomsOf d e o v) ≡ true → Reads s d e o v d′ e′ o′ v′ r → Demand-3 s (r .answer)
 demand-3 {s} {d} {e} {o} {v} {r} h k =
     let q : r .answer ≡ given (reading s) = ap (λ (x : Reading). x .answer) (k .result) ∙ ap given (call-enough s d e o v h) in
-    subst (λ a. Demand-3 s a) (sym q) (record {
-      passes-exactly = λ w. passing s w (answers s);
-      one-derivation = one-derivation (tokens s);
-      refusal = λ w. refusing s w (answers s);
-    })
+    subst (λ a. Demand-3 s a) (sym q) (reading-demand-3 s)

@@ -29,7 +29,7 @@ module _ (s d e o v : List ℕ) where
   unfolding call choose
   call-enough h = rw h (asked-none (normal-text s) (reading s))
 
-  call-short : enough (roomsOf d e o v) ≡ false → call (roomsOf d e o v) none s ≡ refused 1 0
+  pub call-short : enough (roomsOf d e o v) ≡ false → call (roomsOf d e o v) none s ≡ refused 1 0
   unfolding call choose
   call-short h = rw h
 

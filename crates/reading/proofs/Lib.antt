@@ -6,3 +6,4 @@ pub mod Finishing
 pub mod Lending
 pub mod Spans
 pub mod Demand
+pub mod ByRules

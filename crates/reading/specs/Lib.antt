@@ -1,4 +1,5 @@
 -- What the public calls promise. Assumes nothing.
+pub mod Rules
 pub mod Results
 pub mod Decisions
 pub mod Demand

@@ -1,11 +1,11 @@
 // Reading a text into four lent tables.
 ghost use mathlib.Core.Path.{_≡_};
 ghost use lib.ListN.{length};
-ghost use mathlib.Core.Bool.{true};
 ghost use Rattle.meaning.specs.Answers.{refused};
-ghost use Rattle.meaning.specs.Calls.{enough};
+ghost use Rattle.meaning.specs.Rules.{FullRoom};
 ghost use Rattle.grammar.specs.Readers.{answerOf};
-ghost use Rattle.reading.specs.Results.{readingOf, roomsOf, Reads, ReadsSpanned};
+ghost use Rattle.reading.specs.Results.{readingOf, Reads, ReadsSpanned};
+ghost use Rattle.reading.specs.Rules.{ReadsByRules};
 ghost use Rattle.reading.specs.Demand.{Demand-3};
 ghost use Rattle.reading.specs.Decisions.{grammarFault, with-objects, Stages, Decides, Settles, RoomSizes, Unspanned, FilledSpanned};
 use grammar::Answer as Grammar;
@@ -13,6 +13,7 @@ use grammar::Look;
 use rows::Fault;
 use rows::cells;
 use rows::faults;
+use rows::refusals;
 use scopes::Sizes;
 use walk::Walked;
 
@@ -84,15 +85,15 @@ fn grammar_fault(look: Look) -> Fault
             place: 0,
         },
         Grammar::NoToken(p) => Fault {
-            number: 3,
+            number: refusals::NO_TOKEN,
             place: p,
         },
         Grammar::NotAdmitted(p) => Fault {
-            number: 4,
+            number: refusals::NOT_ADMITTED,
             place: p,
         },
         Grammar::TooDeep(p) => Fault {
-            number: 5,
+            number: refusals::TOO_DEEP,
             place: p,
         },
     }
@@ -235,7 +236,7 @@ fn settle(
     let n = resolving::entering::resolve_all(text, d, e, o, s, values, z, places);
     if 2048 < n {
         cells::clear(values);
-        return refusal(19, 0);
+        return refusal(refusals::MANY_VALUES, 0);
     }
     copying::copy_definitions(d, w.definitions, definitions);
     copying::copy_enumerators(d, w.definitions, e, w.enumerators, enumerators);
@@ -267,7 +268,7 @@ fn fill(
     cells::clear(objects);
     cells::clear(values);
     if 65535 < text.len() {
-        return refused(2, 0);
+        return refused(refusals::LONG_TEXT, 0);
     }
     let mut d = [0; 9747];
     let mut e = [0; 3075];
@@ -315,19 +316,21 @@ pub fn read_spanned(
     objects: &mut [usize],
     values: &mut [usize],
 ) -> Spanned
-    ensures { λ r. ⌜ ReadsSpanned (now (text .entry)) (now (definitions .entry)) (now (enumerators .entry)) (now (objects .entry)) (now (values .entry)) (now (definitions .exit)) (now (enumerators .exit)) (now (objects .exit)) (now (values .exit)) r ⌝ }
+    ensures reads { λ r. ⌜ ReadsSpanned (now (text .entry)) (now (definitions .entry)) (now (enumerators .entry)) (now (objects .entry)) (now (values .entry)) (now (definitions .exit)) (now (enumerators .exit)) (now (objects .exit)) (now (values .exit)) r ⌝ }
+    ensures rules { λ r. ⌜ ReadsByRules (now (text .entry)) (now (definitions .entry)) (now (enumerators .entry)) (now (objects .entry)) (now (values .entry)) (now (definitions .exit)) (now (enumerators .exit)) (now (objects .exit)) (now (values .exit)) (r .reading) ⌝ }
+    ensures demand_3 { λ r. ⌜ (FullRoom (now (definitions .entry)) (now (enumerators .entry)) (now (objects .entry)) (now (values .entry)) → Demand-3 (now (text .entry)) (r .reading .answer)) ⌝ }
 {
     if definitions.len() < 6656 {
-        return refused(1, 0);
+        return refused(refusals::SHORT_TABLES, 0);
     }
     if enumerators.len() < 3072 {
-        return refused(1, 0);
+        return refused(refusals::SHORT_TABLES, 0);
     }
     if objects.len() < 2048 {
-        return refused(1, 0);
+        return refused(refusals::SHORT_TABLES, 0);
     }
     if values.len() < 18432 {
-        return refused(1, 0);
+        return refused(refusals::SHORT_TABLES, 0);
     }
     fill(
         text,
@@ -347,7 +350,8 @@ pub fn read(
     values: &mut [usize],
 ) -> Reading
     ensures reads { λ r. ⌜ Reads (now (text .entry)) (now (definitions .entry)) (now (enumerators .entry)) (now (objects .entry)) (now (values .entry)) (now (definitions .exit)) (now (enumerators .exit)) (now (objects .exit)) (now (values .exit)) r ⌝ }
-    ensures demand_3 { λ r. ⌜ (enough (roomsOf (now (definitions .entry)) (now (enumerators .entry)) (now (objects .entry)) (now (values .entry))) ≡ true → Demand-3 (now (text .entry)) (r .answer)) ⌝ }
+    ensures rules { λ r. ⌜ ReadsByRules (now (text .entry)) (now (definitions .entry)) (now (enumerators .entry)) (now (objects .entry)) (now (values .entry)) (now (definitions .exit)) (now (enumerators .exit)) (now (objects .exit)) (now (values .exit)) r ⌝ }
+    ensures demand_3 { λ r. ⌜ (FullRoom (now (definitions .entry)) (now (enumerators .entry)) (now (objects .entry)) (now (values .entry)) → Demand-3 (now (text .entry)) (r .answer)) ⌝ }
 {
     let r = read_spanned(text, definitions, enumerators, objects, values);
     r.reading

@@ -17,7 +17,8 @@ use Rattle.meaning.specs.Kinds.{same-kind}
 use Rattle.meaning.specs.Scopes.{of-kind, names}
 use Rattle.meaning.specs.Judging.{taken}
 use Rattle.meaning.specs.Resolving.{take-value, Resolved, end, resolved, entries, default-entry, resolve, resolve-under, object-values, all-values}
-use Rattle.meaning.specs.Places.{each, unplaced-word}
+use Rattle.meaning.specs.Places.{each}
+use Rattle.meaning.proofs.Unplaced.{unplaced-word}
 use Rattle.reads_back.proofs.Restated.{given, equal-sign, stop, version-words, closed-words, line-words, object-words, application-words, restated-word, plain-word, Stateable, as-number, as-string, as-float, as-auto, as-name, as-true, as-false, Named, SaidLines, SaidObjects, Said, ShallowWords}
 use Rattle.reads_back.proofs.SameWords.{by-choose}
 use Rattle.reads_back.proofs.Planting.{implementation-leaves}

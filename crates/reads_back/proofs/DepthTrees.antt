@@ -8,8 +8,8 @@ use Rattle.grammar.specs.Grammar.{tokens, given-code, sign-code, Rule, rule, to
 use Rattle.grammar.proofs.Braces.{terminal-code, opening, closing, agree}
 use Rattle.meaning.specs.Syntax.{Word, Definition, Definitions, no-more, define, Values, no-value, value, Spec}
 use Rattle.meaning.specs.Actions.{M, word-of, first-value, truths, defined, defining, specifying, means, meaning, syntax}
-use Rattle.meaning.specs.Places.{each, unplaced-word}
-use Rattle.meaning.proofs.Unplaced.{each-append}
+use Rattle.meaning.specs.Places.{each}
+use Rattle.meaning.proofs.Unplaced.{unplaced-word, each-append}
 use Rattle.reads_back.proofs.Restated.{plain-word, word-opens, word-closes}
 use Rattle.reads_back.proofs.DepthWords.{Low, low-here, low-shift, low-front, low-back, append-opens, append-closes}
 

@@ -9,8 +9,8 @@ use Rattle.grammar.specs.Grammar.{Token, matches, sg, lbrace, rbrace}
 use Rattle.grammar.specs.Stage.{opens, closes, Shallow}
 use Rattle.meaning.specs.Syntax.{Word}
 use Rattle.meaning.specs.Actions.{word-of}
-use Rattle.meaning.specs.Places.{each, unplaced-word}
-use Rattle.meaning.proofs.Unplaced.{each-append}
+use Rattle.meaning.specs.Places.{each}
+use Rattle.meaning.proofs.Unplaced.{unplaced-word, each-append}
 use Rattle.reads_back.proofs.Restated.{given, opening, closing, plain-word, word-opens, word-closes, ShallowWords}
 
 -- Front parts -------------------------------------------------------------------------------------------------------------------------------

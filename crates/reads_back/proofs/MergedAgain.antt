@@ -2,9 +2,8 @@
 -- merging changes nothing. Assumes nothing.
 use mathlib.Core.Path.{_≡_, refl, sym, _∙_, ap, ap₂, subst}
 use mathlib.Core.List.{List, [], _∷_, _++_, append-assoc}
-use mathlib.Core.Bool.{Bool, true, false, not, false≢true}
+use mathlib.Core.Bool.{Bool, true, false, not}
 use Prim.Native.Nat.{ℕ, suc, _+_}
-use native.Mathlib.Omega.{arith}
 use Rattle.token.specs.Find.{pick, both, either, bit}
 use Rattle.token.proofs.Bytes.{neither-first, neither-second}
 use Rattle.meaning.specs.Syntax.{Statements, done, state, Object}
@@ -14,9 +13,9 @@ use Rattle.meaning.specs.Faults.{fault-if}
 use Rattle.meaning.specs.Applying.{elsewhere, each-name}
 use Rattle.meaning.proofs.Rooms.{nothing-front, nothing-back, not-faulty}
 use Rattle.meaning.specs.Merging.{then, same-object, used, further, continued, merged, merge-from, merge}
-use Rattle.meaning.specs.Places.{each, unplaced-word, unplaced-statement, unplaced-statements, unplaced-object}
-use Rattle.meaning.proofs.Unplaced.{each-append}
-use Rattle.meaning.proofs.Merges.{Alike, same-alike, same-swap, then-done, used-more, used-none, used-behind, used-alike}
+use Rattle.meaning.specs.Places.{each}
+use Rattle.meaning.proofs.Unplaced.{unplaced-word, unplaced-statement, unplaced-statements, unplaced-object, each-append}
+use Rattle.meaning.proofs.Merges.{Alike, same-alike, same-swap, then-done, used-more, used-none, used-behind, used-alike, elsewhere-append}
 
 -- Without places -------------------------------------------------------------------------------------------------------------------------------
 
@@ -180,24 +179,13 @@ merge-same xs h s = same-from [] xs 0 h s
 
 -- Names used by objects of other kinds ---------------------------------------------------------------------------------------------------------------
 
-either-assoc : (a b c : Bool) → either a (either b c) ≡ either (either a b) c
-either-assoc true b c = refl
-either-assoc false b c = refl
-
-elsewhere-append : (x : Object) (a b : List Object) → elsewhere x (a ++ b) ≡ either (elsewhere x a) (elsewhere x b)
-unfolding elsewhere
-elsewhere-append x [] b = refl
-elsewhere-append x (y ∷ a) b =
-    ap (either (both (not (same-kind (x .kind) (y .kind))) (alike (y .name) (x .name)))) (elsewhere-append x a b)
-    ∙ either-assoc (both (not (same-kind (x .kind) (y .kind))) (alike (y .name) (x .name))) (elsewhere x a) (elsewhere x b)
-
 -- A merged object has the kind and name of its first part.
-elsewhere-merged : (x : Object) (n : ℕ) (xs os : List Object) → elsewhere (merged x n xs) os ≡ elsewhere x os
+pub elsewhere-merged : (x : Object) (n : ℕ) (xs os : List Object) → elsewhere (merged x n xs) os ≡ elsewhere x os
 unfolding elsewhere merged
 elsewhere-merged x n xs [] = refl
 elsewhere-merged x n xs (y ∷ os) = ap (either (both (not (same-kind (x .kind) (y .kind))) (alike (y .name) (x .name)))) (elsewhere-merged x n xs os)
 
-merged-elsewhere : (y x : Object) (n : ℕ) (xs : List Object) → elsewhere y (merged x n xs ∷ []) ≡ elsewhere y (x ∷ [])
+pub merged-elsewhere : (y x : Object) (n : ℕ) (xs : List Object) → elsewhere y (merged x n xs ∷ []) ≡ elsewhere y (x ∷ [])
 unfolding elsewhere merged
 merged-elsewhere y x n xs = refl
 

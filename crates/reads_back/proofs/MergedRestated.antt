@@ -1,7 +1,6 @@
 -- The objects of a normal text are parts of objects of their own. Assumes nothing.
-use mathlib.Core.Path.{_≡_, refl, sym, _∙_, ap, ap₂, subst}
+use mathlib.Core.Path.{_≡_, refl, sym, _∙_, ap₂, subst}
 use mathlib.Core.List.{List, [], _∷_, _++_}
-use mathlib.Core.Bool.{Bool, false}
 use Prim.Native.Nat.{ℕ, suc, _+_}
 use Rattle.token.specs.Find.{either}
 use Rattle.grammar.specs.Grammar.{Derivation}
@@ -11,9 +10,9 @@ use Rattle.meaning.specs.Words.{alike}
 use Rattle.meaning.specs.Actions.{syntax}
 use Rattle.meaning.specs.Merging.{same-object, used, merge}
 use Rattle.meaning.specs.Resolving.{Resolved, all-values, how-many-values}
-use Rattle.meaning.specs.Places.{unplaced-word}
+use Rattle.meaning.proofs.Unplaced.{unplaced-word}
 use Rattle.meaning.proofs.Merges.{Alike, used-behind, used-alike, syntax-merged}
-use Rattle.reads_back.proofs.Restated.{restated, restated-object, restated-objects, SaidObject, SaidObjects, Said}
+use Rattle.reads_back.proofs.Restated.{restated-object, restated-objects, SaidObjects, Said}
 use Rattle.reads_back.proofs.MergedAgain.{AllNew, merge-new, Single, merge-same}
 
 restated-single : (xs : List Object) (rs : List Resolved) (n k : ℕ) → SaidObjects xs rs n → Single n (restated-objects xs rs k)

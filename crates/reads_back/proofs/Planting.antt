@@ -12,7 +12,8 @@ use Rattle.meaning.specs.Merging.{merge}
 use Rattle.reads_back.proofs.MergedRestated.{merged-restated}
 use Rattle.meaning.specs.Actions.{word-of, Implementation, Application, means, meaning, syntax}
 use Rattle.meaning.specs.Resolving.{all-values}
-use Rattle.meaning.specs.Places.{each, unplaced, unplaced-word, unplaced-spec}
+use Rattle.meaning.specs.Places.{each}
+use Rattle.meaning.proofs.Unplaced.{unplaced, unplaced-word, unplaced-spec}
 use Rattle.reads_back.proofs.Restated.{given, equal-sign, version-string, stop, version-words, application-words, restated-objects, restated-file, Said, plain-word}
 use Rattle.reads_back.proofs.Unplacing.{bare-implementation, bare-application, bare-M, bare-parts, means-bare}
 use Rattle.reads_back.proofs.WordTrees.{WordTrees, word-nil, word-leaf, word-node, lifted, planted}

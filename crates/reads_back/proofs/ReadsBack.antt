@@ -3,6 +3,7 @@ use mathlib.Core.Path.{_≡_, refl, sym, _∙_, ap, ap₂, subst, subst₂}
 use mathlib.Core.List.{List, [], _∷_, _++_}
 use mathlib.Core.Bool.{Bool, true, false, false≢true}
 use Prim.Native.Nat.{ℕ, _≤_}
+use Prim.Native.String.{String}
 use lib.ListN.{length}
 use Rattle.token.specs.Words.{bytesOf}
 use Rattle.grammar.specs.Grammar.{Derivation}
@@ -14,13 +15,16 @@ use Rattle.meaning.specs.Resolving.{all-values}
 use Rattle.meaning.specs.Normal.{part, application-lines, normal}
 use Rattle.meaning.specs.Places.{each, unplaced-object-row, unplaced-tables}
 use Rattle.meaning.specs.Applying.{ObjectRow}
+use Rattle.meaning.specs.Edges.{worked-tables}
+use Rattle.meaning.proofs.Edges.{edges-hold}
 use Rattle.meaning.specs.Answers.{Tables, Answer, accepted, tables, answer}
 use Rattle.meaning.specs.Reading.{Answers, too-long, not-grammar, meant, reading, normal-text}
 use Rattle.meaning.proofs.Found.{reading-derived, normal-derived}
-use Rattle.meaning.proofs.Whole.{answers}
+use Rattle.meaning.specs.Rules.{TheAnswer, TheNormalText}
+use Rattle.meaning.proofs.Whole.{answers, one-answer, the-answer, the-normal-text}
 use Rattle.meaning.proofs.Unplaced.{each-append, application-unplaced}
 use Rattle.meaning.proofs.UnplacedFaults.{SameAnswer, both-accept, both-refuse, answer-unplaced}
-use Rattle.reads_back.specs.ReadsBack.{bare, words-of, ranges-of, ReadsBack}
+use Rattle.reads_back.specs.ReadsBack.{bare, words-of, ranges-of, AllStated, ReadsBack, TextsReadBack}
 use Rattle.reads_back.proofs.Restated.{plain-word, version-words, application-words, Said, ShallowWords}
 use Rattle.reads_back.proofs.SayingAlone.{tokens-alone, number-alone}
 use Rattle.reads_back.proofs.SayingOffsets.{Copied}
@@ -30,6 +34,7 @@ use Rattle.reads_back.proofs.WordingValues.{said}
 use Rattle.reads_back.proofs.DepthWords.{shallow-by-words}
 use Rattle.reads_back.proofs.DepthLines.{normal-shallow}
 use Rattle.reads_back.proofs.SameTables.{bare-unplaced}
+use Rattle.reads_back.proofs.SameValues.{stated-placed}
 use Rattle.reads_back.proofs.SameRanges.{ranges-same}
 use Rattle.reads_back.proofs.SameNames.{names-of, names-unplaced}
 use Rattle.reads_back.proofs.SameNamesText.{names-there}
@@ -41,6 +46,7 @@ record Accepts (a : Answer) (t : Tables) : Type 0 where
   accepted-as : a ≡ accepted placed
   same-as : bare placed ≡ bare t
   parts-as : each (λ (r : ObjectRow). r .parts) (placed .objects) ≡ each (λ (r : ObjectRow). 1) (placed .objects)
+  stated-as : AllStated (t .values) → AllStated (placed .values)
 
 parts-unplaced : (l : List ObjectRow) (g : ℕ → ℕ) → each (λ (r : ObjectRow). g (r .parts)) (each unplaced-object-row l) ≡ each (λ (r : ObjectRow). g (r .parts)) l
 unfolding each unplaced-object-row
@@ -55,7 +61,16 @@ alone u t e h =
     ∙ sym (ap (λ (v : Tables). each (λ (r : ObjectRow). 1) (v .objects)) e) ∙ parts-unplaced (u .objects) (λ n. 1)
 
 accepts : {a b : Answer} (t : Tables) → each (λ (r : ObjectRow). r .parts) (t .objects) ≡ each (λ (r : ObjectRow). 1) (t .objects) → SameAnswer a b → b ≡ accepted t → Accepts a t
-accepts t h (both-accept u) e = let q : unplaced-tables u ≡ t = cc in record { placed = u; accepted-as = refl; same-as = sym (bare-unplaced u) ∙ ap bare q; parts-as = alone u t q h }
+unfolding unplaced-tables
+accepts t h (both-accept u) e =
+    let q : unplaced-tables u ≡ t = cc in
+    record {
+      placed = u;
+      accepted-as = refl;
+      same-as = sym (bare-unplaced u) ∙ ap bare q;
+      parts-as = alone u t q h;
+      stated-as = λ i. stated-placed (u .values) (subst (λ (x : Tables). AllStated (x .values)) (sym q) i);
+    }
 accepts t h (both-refuse n p m q) e = absurd (let z : _≡_ {A = Bool} false true = cc in false≢true z)
 
 -- The lines of a file's application.
@@ -127,6 +142,9 @@ module _ (s : List ℕ) (w : Covered s) (d : Derivation (tokens s)) (n : List �
     unfolding normal-derivation
     reads-back-derived = reading-derived n normal-covered normal-derivation ∙ accepted-back .accepted-as
 
+    stated-again : AllStated (accepted-back .placed .values)
+    stated-again = accepted-back .stated-as (same-meaning .stated)
+
     same-again : bare (accepted-back .placed) ≡ bare t
     same-again = accepted-back .same-as ∙ same-meaning .same
 
@@ -152,7 +170,7 @@ module _ (s : List ℕ) (w : Covered s) (d : Derivation (tokens s)) (n : List �
     unfolding normal-derivation
     own-normal = normal-derived n normal-covered normal-derivation ∙ normal-again
 
-by-derivation : {s : List ℕ} {a : Answer} (t : Tables) → Answers s a → a ≡ accepted t → length (normal-text s) ≤ 65535 → ReadsBack s t
+by-derivation : {s : List ℕ} {a : Answer} (t : Tables) → Answers s a → a ≡ accepted t → length (normal-text s) ≤ 65535 → ReadsBack s t (normal-text s)
 by-derivation t (too-long k) e h = absurd (let z : _≡_ {A = Bool} false true = cc in false≢true z)
 by-derivation t (not-grammar a k m q) e h = absurd (let z : _≡_ {A = Bool} false true = cc in false≢true z)
 by-derivation {s} t (meant w d) e h =
@@ -160,14 +178,38 @@ by-derivation {s} t (meant w d) e h =
     let i = normal-derived s w d in
     record {
       back = accepted-back s w d n i h t e .placed;
-      accepts = reads-back-derived s w d n i h t e;
+      accepts = subst (λ a. TheAnswer n a) (reads-back-derived s w d n i h t e) (the-answer n);
+      stated = stated-again s w d n i h t e;
       same = same-again s w d n i h t e;
       one-part = accepted-back s w d n i h t e .parts-as;
       words = row-words-again s w d n i h t e;
       ranges = ranges-again s w d n i h t e;
-      again = own-normal s w d n i h t e;
+      again = subst (λ m. TheNormalText n m) (own-normal s w d n i h t e) (the-normal-text _ (answers n) (reads-back-derived s w d n i h t e));
     }
 
 -- "an accepted text written out in full reads back to the same values": for every accepted text whose normal text is at most 65,535 bytes.
-pub reads-back : (s : List ℕ) (t : Tables) → reading s ≡ accepted t → length (normal-text s) ≤ 65535 → ReadsBack s t
+pub reads-back : (s : List ℕ) (t : Tables) → reading s ≡ accepted t → length (normal-text s) ≤ 65535 → ReadsBack s t (normal-text s)
 reads-back s t e h = by-derivation t (answers s) e h
+
+-- The same by the rules.
+pub texts-read-back : TextsReadBack
+texts-read-back s t a n w h =
+    let e = one-answer a in
+    let q : n ≡ normal-text s = w .written (w .derivation) ∙ sym (the-normal-text t (answers s) e .written (w .derivation)) in
+    subst (λ m. ReadsBack s t m) (sym q) (reads-back s t e (subst (λ (m : List ℕ). length m ≤ 65535) q h))
+
+-- What it rules out --------------------------------------------------------------------------------------------------------------------------
+
+-- Document 01's worked example, in which H is not stated.
+abbrev pub worked-text : String
+worked-text = "OIL_VERSION = \"2.5\";\nIMPLEMENTATION m { OS { BOOLEAN H = FALSE; }; TASK { UINT32 [1..0xff] STACKSIZE = 16; }; };\nCPU c { OS o; APPMODE a {}; TASK t { STACKSIZE = 0x20; }; };\n"
+
+worked-answer : Answers (bytesOf worked-text) (accepted worked-tables)
+worked-answer = edges-hold .1 .1 .1 .1 .1 .1 .1 .1 .1 .1 .0 .answer
+
+-- A tool that hands its input back does not meet it.
+pub no-copy : ReadsBack (bytesOf worked-text) worked-tables (bytesOf worked-text) → ⊥
+no-copy h =
+    let q : accepted (h .back) ≡ accepted worked-tables = sym (h .accepts .no-other (accepted worked-tables) worked-answer) in
+    let t : h .back ≡ worked-tables = cc in
+    false≢true (subst (λ (x : Tables). AllStated (x .values)) t (h .stated) .0)

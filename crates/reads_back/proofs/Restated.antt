@@ -15,7 +15,8 @@ use Rattle.meaning.specs.Syntax.{Word, absent, Statements, done, state, Object,
 use Rattle.meaning.specs.Actions.{zero-num, num-of-sort, float-of-sort, word-of, kind-of}
 use Rattle.meaning.specs.Resolving.{Value, number, truth, auto, string, float, enumerator, object, Taken, Resolved, end, resolved, all-values, how-many-values}
 use Rattle.meaning.specs.Normal.{decimal}
-use Rattle.meaning.specs.Places.{each, unplaced-word, unplaced-spec}
+use Rattle.meaning.specs.Places.{each}
+use Rattle.meaning.proofs.Unplaced.{unplaced-word, unplaced-spec}
 
 -- Words ------------------------------------------------------------------------------------------------------------------------------------
 

@@ -7,7 +7,7 @@ use Rattle.grammar.specs.Grammar.{Kind, word, CPU, matches, sg, rbrace, semicol
 use Rattle.meaning.specs.Syntax.{Word, absent, through, state, Object, File, statements-in}
 use Rattle.meaning.specs.Actions.{kind-of, Application, Block, Parts, stating, means}
 use Rattle.meaning.specs.Resolving.{Resolved, end, resolved, all-values, how-many-values}
-use Rattle.meaning.specs.Places.{unplaced-word}
+use Rattle.meaning.proofs.Unplaced.{unplaced-word}
 use Rattle.reads_back.proofs.Restated.{given, opening, closing, equal-sign, stop, restated-word, closed-words, line-words, object-words, application-words, brace-after, restated, restated-object, restated-objects, Stateable, as-number, as-string, as-float, as-auto, as-name, as-true, as-false, SaidLines, SaidObjects, Said}
 use Rattle.reads_back.proofs.WordTrees.{WordTrees, word-nil, word-leaf, word-node}
 

@@ -8,30 +8,30 @@ use native.Mathlib.Omega.{arith}
 use lib.Dec.{eqb, ltb}
 use borrow.Author.Tests.{ne-eqb}
 use Rattle.grammar.specs.Grammar.{Kind}
-use Rattle.token.specs.Find.{pick, both, either, is-there}
+use Rattle.token.specs.Find.{pick, both, either}
 use Rattle.token.specs.Words.{bytesOf, same}
 use Rattle.meaning.specs.Syntax.{Word, Definitions, Spec, Object, File}
 use Rattle.meaning.specs.Words.{alike}
 use Rattle.meaning.specs.Kinds.{same-kind, fewest, most}
 use Rattle.meaning.specs.Faults.{fault-if}
-use Rattle.meaning.specs.Scopes.{of-kind, find-object, names}
+use Rattle.meaning.specs.Scopes.{of-kind, names}
 use Rattle.meaning.specs.Defining.{scope-faults, specified, spec-faults}
 use Rattle.meaning.specs.Applying.{how-many, too-few, full, statement-faults, each-object, each-part, elsewhere, each-name}
 use Rattle.meaning.proofs.Numbering.{Counts, counts-more, object-numbers}
 use Rattle.meaning.specs.Judging.{lacks, judge, judge-object, judge-objects}
 use Rattle.meaning.specs.Resolving.{Resolved, end, resolved, resolve, object-values, all-values, how-many-values, how-many-in-all}
 use Rattle.meaning.specs.Normal.{object-lines}
-use Rattle.meaning.specs.Places.{unplaced-word}
+use Rattle.meaning.proofs.Unplaced.{unplaced-word}
 use Rattle.meaning.proofs.Rooms.{nothing-front, nothing-back, not-faulty}
 use Rattle.reads_back.proofs.Restated.{restated, restated-object, restated-objects}
 use Rattle.reads_back.proofs.SameValues.{Same, SameAll, none-same, more-same, same-lines}
 use Rattle.reads_back.proofs.RestatingScopes.{whole, Settled}
-use Rattle.reads_back.proofs.RestatingValues.{SameObjects, find-object-bytes}
+use Rattle.reads_back.proofs.RestatingValues.{SameObjects}
 use Rattle.reads_back.proofs.RestatingResolved.{restated-resolves}
 use Rattle.reads_back.proofs.RestatingJudged.{restated-lacks, restated-judged}
 use Rattle.reads_back.proofs.RestatingPlain.{AllPlain, none-plain, PlainSpecs, no-specs, more-specs}
 use Rattle.reads_back.proofs.RestatingSettled.{settle}
-use Rattle.reads_back.proofs.SameKindred.{Kindred, AllKindred, no-kindred, more-kindred, kindred-behind, kindred-many, kindred-there}
+use Rattle.reads_back.proofs.SameKindred.{Kindred, AllKindred, no-kindred, more-kindred, kindred-behind, kindred-many}
 
 -- The definitions of a kind ------------------------------------------------------------------------------------------------------------------
 

@@ -15,7 +15,7 @@ use Rattle.meaning.specs.Defining.{defined-in}
 use Rattle.meaning.specs.Judging.{taken}
 use Rattle.meaning.specs.Resolving.{Taken, Resolved, resolved, valued, take-value, entries, default-entry, resolve, resolve-under, how-many-values}
 use Rattle.meaning.specs.Normal.{written}
-use Rattle.meaning.specs.Places.{unplaced-word}
+use Rattle.meaning.proofs.Unplaced.{unplaced-word}
 use Rattle.meaning.proofs.Unders.{resolves-under}
 use Rattle.reads_back.proofs.Restated.{restated, brace-after}
 use Rattle.reads_back.proofs.SameWords.{neither, alike-bytes, bytes-alike, alike-turned, among-append, defined-append, defined-bytes, among-behind, Stated, stated-none, stated-more, stated-one}
@@ -137,6 +137,7 @@ module _ {os os′ : List Object} (same-objects : SameObjects os os′) where
   same-taken {d} {vs} {t} h =
       let v = value-kept same-objects d vs t (h .taking) in
       subst (λ x. SameTaken (take-value true os′ d vs (value-word os d vs t)) x) (sym (h .is)) (record {
+        states = refl;
         definition = refl;
         value = v;
         writes = ap (λ x. written x (value-word os d vs t)) v ∙ written-kept (valued (sort-of (t .class)) os d vs t) t;

@@ -58,6 +58,8 @@ pub data Taking (os : List Object) (d : Definition) (vs : Values) (t : Word) : T
 pub record Takes (os : List Object) (d : Definition) (vs : Values) (t : Word) (x : Taken) : Type 0 where
   pub stated : Bool
   pub is : x ≡ take-value stated os d vs t
+  -- what is not stated is the definition's own default
+  pub origin : stated ≡ false → d .default ≡ some t
   pub taking : Taking os d vs t
 
 -- Resolved values --------------------------------------------------------------------------------------------------------------------------

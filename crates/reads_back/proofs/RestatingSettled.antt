@@ -7,9 +7,9 @@ use Prim.Native.Nat.{ℕ}
 use Rattle.token.specs.Find.{pick, either}
 use Rattle.meaning.specs.Syntax.{Word, Definition, Definitions, no-more, define, Values, no-value, value, Statements, done, state, Object, is-enum}
 use Rattle.meaning.specs.Words.{choose, alike, among}
-use Rattle.meaning.specs.Scopes.{find-value, definitions-or, under, heads, names}
+use Rattle.meaning.specs.Scopes.{sort-of, find-value, definitions-or, under, heads, names}
 use Rattle.meaning.specs.Defining.{defined-in, default-faults, scope-faults, value-faults}
-use Rattle.meaning.specs.Judging.{taken, lacking, lacks, lacks-under, judge}
+use Rattle.meaning.specs.Judging.{is-no-default, taken-by, taken, lacking, lacks, lacks-under, judge}
 use Rattle.meaning.specs.Resolving.{Resolved, resolved, take-value, entries, default-entry, resolve, resolve-under}
 use Rattle.meaning.proofs.Unders.{lacks-there}
 use Rattle.reads_back.proofs.SameWords.{by-choose, among-first, among-behind, alike-bytes, bytes-alike, alike-turned, among-bytes}
@@ -42,6 +42,16 @@ under-either us vs w n t os ss p q = go (alike w t)
     go true = p
     go false = q
 
+-- The default that an attribute takes is its own.
+taken-default : (o : Option Word) {t : Word} → taken o ≡ some t → o ≡ some t
+unfolding taken taken-by
+taken-default none e = e
+taken-default (some u) {t} e = go (is-no-default (sort-of (u .class))) e
+  where
+    go : (b : Bool) → taken-by b u ≡ some t → some u ≡ some t
+    go true h = absurd (let z : _≡_ {A = Bool} false true = cc in false≢true z)
+    go false h = h
+
 -- The entries of an attribute that is stated, where the values of the definitions behind it are `rest`.
 module _ {os : List Object} {all : Definitions} {before : List Definition} {d : Definition} {vs : Values} {ds : Definitions} (f : Word → Statements → Resolved) (rest : Resolved)
     (z : Last all before (define d vs ds)) (n : defined-in (d .name) before ≡ false) (p : Plain (d .type) (d .default) vs) (inner : Inner os vs f)
@@ -58,7 +68,7 @@ module _ {os : List Object} {all : Definitions} {before : List Definition} {d : 
           let i = alike-bytes (x .name) (d .name) q in
           let y = free-statement os x inside more all d vs l p (find-this (x .name) z n i) e in
           again (again-list (d .list) (among (x .name) l) (y .again) (among-bytes (x .name) (d .name) l i ∙ h))
-          (record { stated = true; is = refl; taking = y .taking })
+          (record { stated = true; is = refl; origin = λ e. absurd (false≢true (sym e)); taking = y .taking })
           (inner (x .value) inside (y .lacks-none) (y .judged-none)) m
       go false q m = m
 
@@ -77,7 +87,7 @@ module _ {os : List Object} {all : Definitions} {before : List Definition} {d : 
       go true q k =
           let i = alike-bytes (x .name) (d .name) q in
           let y = free-statement os x inside more all d vs l p (find-this (x .name) z n i) e in
-          one-of n (record { stated = true; is = refl; taking = y .taking })
+          one-of n (record { stated = true; is = refl; origin = λ e. absurd (false≢true (sym e)); taking = y .taking })
           (inner (x .value) inside (y .lacks-none) (y .judged-none))
           (more-entries more (l ++ (x .name ∷ [])) (among-last (d .name) l (x .name) (sym i)) (free-rest os x inside more all l e))
       go false q k = k (later (alike (d .name) (x .name)) (alike-turned (x .name) (d .name) q) h)
@@ -91,7 +101,7 @@ module _ {os : List Object} {all : Definitions} {before : List Definition} {d : 
       go : (o : Option Word) → taken (d .default) ≡ o → lacking o (d .list) (λ t. lacks-under vs t) ≡ false → Settled os before (define d vs ds) (default-entry o os d vs f rest)
       go none q i = none-of n (free-list (taken (d .default)) (d .list) (λ t. lacks-under vs t) h q) q s
       go (some t) q i =
-          one-of n (record { stated = false; is = refl; taking = default-taking os d vs t p e q })
+          one-of n (record { stated = false; is = refl; origin = λ _. taken-default (d .default) q; taking = default-taking os d vs t p e q })
           (inner t done (sym (lacks-there vs t) ∙ i) refl) (no-more-of s)
 
 -- Scopes -----------------------------------------------------------------------------------------------------------------------------------

@@ -4,7 +4,8 @@ use mathlib.Core.List.{List, [], _∷_}
 use Prim.Native.Nat.{ℕ, suc, _+_}
 use Rattle.meaning.specs.Syntax.{Word, absent, Statement, Statements, state, Object, File}
 use Rattle.meaning.specs.Resolving.{Value, number, truth, auto, string, float, enumerator, object, Resolved, end, resolved, all-values, how-many-values}
-use Rattle.meaning.specs.Places.{each, if-there, unplaced-word, unplaced-spec, unplaced-statement, unplaced-statements, unplaced-object, unplaced}
+use Rattle.meaning.specs.Places.{each}
+use Rattle.meaning.proofs.Unplaced.{if-there, unplaced-word, unplaced-spec, unplaced-statement, unplaced-statements, unplaced-object, unplaced}
 use Rattle.reads_back.proofs.Restated.{given, version-string, restated-word, brace-after, restated, restated-object, restated-objects, restated-file}
 
 -- The syntax f with the objects of its normal text: what is left of the places goes away by `unplaced`.

@@ -14,7 +14,7 @@ use Rattle.meaning.specs.Scopes.{Sort, a-number, a-string, a-truth, an-auto, a-
 use Rattle.meaning.specs.Judging.{reference-faults, brace-faults, faults-as}
 use Rattle.meaning.specs.Resolving.{Value, number, truth, auto, enumerator, object, number-or, row-or, named, valued, string as string-value, float as float-value}
 use Rattle.meaning.specs.Normal.{written}
-use Rattle.meaning.specs.Places.{unplaced-word}
+use Rattle.meaning.proofs.Unplaced.{unplaced-word}
 use Rattle.reads_back.proofs.Restated.{restated-word}
 use Rattle.reads_back.proofs.WordingClasses.{is-number}
 use Rattle.reads_back.proofs.RestatingScopes.{is-reference, Taking, numbered, told, referred}

@@ -26,10 +26,10 @@ use Rattle.meaning.proofs.Rooms.{no-first, few-values, nothing-front, nothing-b
 use Rattle.meaning.proofs.Numbering.{Counts, object-numbers, numbered}
 use Rattle.meaning.proofs.Unplaced.{application-unplaced, tables-same}
 use Rattle.meaning.proofs.UnplacedFaults.{answer-unplaced}
-use Rattle.reads_back.specs.ReadsBack.{bare}
+use Rattle.reads_back.specs.ReadsBack.{bare, AllStated}
 use Rattle.reads_back.proofs.Restated.{given, restated-object, restated-objects, restated-file}
 use Rattle.reads_back.proofs.RestatingUnplaced.{kept-file, unplaced-kept}
-use Rattle.reads_back.proofs.SameValues.{SameAll, all-same-many, all-same-rows}
+use Rattle.reads_back.proofs.SameValues.{SameAll, all-same-many, all-same-rows, all-same-stated, stated-unplaced}
 use Rattle.reads_back.proofs.SameTables.{bare-unplaced, accepts-unplaced}
 use Rattle.reads_back.proofs.SameNames.{names-of, words-same, names-unplaced, objects-restated, all-same-names}
 use Rattle.reads_back.proofs.MergedAgain.{merge-names}
@@ -40,12 +40,12 @@ use Rattle.reads_back.proofs.RestatingObjects.{SettledObjects, settle-o
 -- Stages -------------------------------------------------------------------------------------------------------------------------------------
 
 -- An accepted syntax has no fault of any stage.
-record NoFaults (f : File) (t : Tables) : Type 0 where
-  definitions : definition-faults f ≡ []
-  objects : object-faults f ≡ []
-  statements : statement-stage f ≡ []
-  values : too-many (how-many-in-all (all-values f (f .objects))) ≡ []
-  tables-are : tables f (all-values f (f .objects)) ≡ t
+pub record NoFaults (f : File) (t : Tables) : Type 0 where
+  pub definitions : definition-faults f ≡ []
+  pub objects : object-faults f ≡ []
+  pub statements : statement-stage f ≡ []
+  pub values : too-many (how-many-in-all (all-values f (f .objects))) ≡ []
+  pub tables-are : tables f (all-values f (f .objects)) ≡ t
 
 passed : (fs : List Fault) (k : Unit {0} → Answer) (t : Tables) → unless (first fs) k ≡ accepted t → (fs ≡ []) × (k tt ≡ accepted t)
 unfolding unless
@@ -55,7 +55,7 @@ passed fs k t e = go (first fs) refl e
     go none q h = (no-first fs q, h)
     go (some f) q h = absurd (let z : _≡_ {A = Bool} false true = cc in false≢true z)
 
-no-faults : (f : File) (t : Tables) → answer f ≡ accepted t → NoFaults f t
+pub no-faults : (f : File) (t : Tables) → answer f ≡ accepted t → NoFaults f t
 unfolding answer
 no-faults f t e =
     let p₁ = passed (definition-faults f) _ t e in
@@ -78,7 +78,7 @@ unfolding answer
 accepts-it f a b c d =
     pass (definition-faults f) _ a ∙ pass (object-faults f) _ b ∙ pass (statement-stage f) _ c ∙ pass (too-many (how-many-in-all (all-values f (f .objects)))) _ d
 
-specs-free : (f : File) → definition-faults f ≡ [] → spec-faults [] (f .specs) ≡ []
+pub specs-free : (f : File) → definition-faults f ≡ [] → spec-faults [] (f .specs) ≡ []
 unfolding definition-faults
 specs-free f e = nothing-back (fault-if (not (same (f .version .bytes) (bytesOf "\"2.5\""))) (f .version) 6) (spec-faults [] (f .specs)) e
 
@@ -125,6 +125,10 @@ module _ (f : File) (s : SettledObjects f (f .objects)) where
   unfolding bare tables kept-file unplaced-tables counts
   tables-kept = tables-same refl refl (kindred-rows (kept-kindred f)) (all-same-rows 0 0 values-kept) (kindred-counts kinds (kept-kindred f))
 
+  stated-kept : AllStated (unplaced-tables (tables (kept-file f) (all-values (kept-file f) (kept-file f .objects))) .values)
+  unfolding unplaced-tables tables
+  stated-kept = stated-unplaced _ (all-same-stated 0 0 values-kept)
+
   names-kept : names-of (kept-file f) ≡ names-of f
   unfolding names-of kept-file
   names-kept = words-same refl refl (objects-restated f (f .objects) 0) (all-same-names values-kept)
@@ -149,6 +153,7 @@ rows-many (x ∷ xs) = ap suc (rows-many xs)
 pub record MeansSame (f : File) (t : Tables) : Type 0 where
   pub back : Tables
   pub accepts : answer (restated-file f) ≡ accepted back
+  pub stated : AllStated (back .values)
   pub same : bare back ≡ bare t
   pub one-part : each (λ (r : ObjectRow). r .parts) (back .objects) ≡ each (λ (r : ObjectRow). 1) (back .objects)
   pub names : names-of (restated-file f) ≡ names-of f
@@ -168,6 +173,7 @@ same-of f t mg c l p e =
     record {
       back = unplaced-tables (tables g rs);
       accepts = ap answer (sym (unplaced-kept f)) ∙ accepts-unplaced (tables g rs) (answer-unplaced g) a;
+      stated = stated-kept f s;
       same = bare-unplaced (tables g rs) ∙ tables-kept f s ∙ ap bare (n .tables-are);
       one-part = alone-rows (f .objects) (all-values f (f .objects)) 0;
       names = ap names-of (sym (unplaced-kept f)) ∙ names-unplaced g ∙ names-kept f s;

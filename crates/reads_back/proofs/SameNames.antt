@@ -7,8 +7,8 @@ use Prim.Native.Nat.{ℕ, _+_}
 use Rattle.meaning.specs.Syntax.{Word, Definition, Definitions, no-more, define, Values, no-value, value, Spec, Object, File, is-enum}
 use Rattle.meaning.specs.Resolving.{Value, number, truth, auto, string, float, enumerator, object, Taken, Resolved, end, resolved, object-values, all-values, how-many-values}
 use Rattle.meaning.specs.Normal.{written}
-use Rattle.meaning.specs.Places.{each, if-there, unplaced-word, unplaced-definition, unplaced-definitions, unplaced-values, unplaced-spec, unplaced-object, unplaced, unplaced-taken, unplaced-resolved}
-use Rattle.meaning.proofs.Unplaced.{all-values-unplaced}
+use Rattle.meaning.specs.Places.{each}
+use Rattle.meaning.proofs.Unplaced.{if-there, unplaced-word, unplaced-definition, unplaced-definitions, unplaced-values, unplaced-spec, unplaced-object, unplaced, unplaced-taken, unplaced-resolved, all-values-unplaced}
 use Rattle.reads_back.specs.ReadsBack.{unless-number, RowWords}
 use Rattle.reads_back.proofs.Restated.{restated-object, restated-objects}
 use Rattle.reads_back.proofs.SameValues.{SameTaken, Same, same-end, same-more, SameAll, none-same, more-same}

@@ -30,22 +30,22 @@ use Rattle.reads_back.proofs.SameNames.{option-bytes, definition-names,
 -- Parts of a text's words -----------------------------------------------------------------------------------------------------------------
 
 -- The bytes of the word t are what the text s has at its place.
-abbrev There : List ℕ → Word → Type 0
+abbrev pub There : List ℕ → Word → Type 0
 There s t = t .bytes ≡ part s (span-of t)
 
-parts : (s : List ℕ) (a b : List Word) → InText s (a ++ b) → InText s a × InText s b
+pub parts : (s : List ℕ) (a b : List Word) → InText s (a ++ b) → InText s a × InText s b
 parts s [] b h = (tt, h)
 parts s (w ∷ a) b h = let r = parts s a b (h .1) in ((h .0, r .0), r .1)
 
 -- Those of a definition, and of the definitions behind it.
-record DefinitionText (s : List ℕ) (d : Definition) (vs : Values) (ds : Definitions) : Type 0 where
-  word : There s (d .word)
-  values : InText s (value-words vs)
-  name : There s (d .name)
-  default : InText s (option-words (d .default))
-  rest : InText s (definition-words ds)
+pub record DefinitionText (s : List ℕ) (d : Definition) (vs : Values) (ds : Definitions) : Type 0 where
+  pub word : There s (d .word)
+  pub values : InText s (value-words vs)
+  pub name : There s (d .name)
+  pub default : InText s (option-words (d .default))
+  pub rest : InText s (definition-words ds)
 
-definition-text : (s : List ℕ) (d : Definition) (vs : Values) (ds : Definitions) → InText s (definition-words (define d vs ds)) → DefinitionText s d vs ds
+pub definition-text : (s : List ℕ) (d : Definition) (vs : Values) (ds : Definitions) → InText s (definition-words (define d vs ds)) → DefinitionText s d vs ds
 unfolding definition-words
 definition-text s d vs ds h =
     let w = d .name ∷ option-words (d .default) in
@@ -55,7 +55,7 @@ definition-text s d vs ds h =
     record { word = a .0 .0; values = c .0; name = c .1 .0; default = c .1 .1; rest = a .1 }
 
 -- Those of a value, of the definitions under it and of the values behind it.
-list-text : (s : List ℕ) (w : Word) (e : ℕ) (us : Definitions) (vs : Values) → InText s (value-words (value w e us vs))
+pub list-text : (s : List ℕ) (w : Word) (e : ℕ) (us : Definitions) (vs : Values) → InText s (value-words (value w e us vs))
     → There s w × InText s (definition-words us) × InText s (value-words vs)
 unfolding value-words
 list-text s w e us vs h = let p = parts s (definition-words us) (value-words vs) (h .1) in (h .0, p .0, p .1)
@@ -141,7 +141,7 @@ objects-there s (x ∷ xs) h =
     (objects-there s xs (parts s (statement-words (x .statements)) (object-words xs) (h .1 .1) .1))
 
 -- The words of resolved values are words of the text.
-abbrev ValuesThere : List ℕ → Resolved → Type 0
+abbrev pub ValuesThere : List ℕ → Resolved → Type 0
 ValuesThere s end = Unit {0}
 ValuesThere s (resolved t us rest) = There s (t .word) × ValuesThere s us × ValuesThere s rest
 
@@ -183,7 +183,7 @@ module _ (s : List ℕ) (os : List Object) where
   mutual
     unfolding resolve
 
-    resolve-there : (ds : Definitions) (ss : Statements) → InText s (definition-words ds) → InText s (statement-words ss) → ValuesThere s (resolve ds os ss)
+    pub resolve-there : (ds : Definitions) (ss : Statements) → InText s (definition-words ds) → InText s (statement-words ss) → ValuesThere s (resolve ds os ss)
     resolve-there no-more ss h k = tt
     resolve-there (define d vs ds) ss h k =
         let p = definition-text s d vs ds h in
@@ -198,7 +198,7 @@ module _ (s : List ℕ) (os : List Object) where
         let p = list-text s w e us vs h in
         by-choose (ValuesThere s) (alike w t) _ _ (λ _. resolve-there us ss (p .1) k) (λ _. resolve-under-there vs t ss (p .2) k)
 
-kind-there : (s : List ℕ) (k : Kind) (xs : List Spec) → InText s (spec-words xs) → InText s (definition-words (of-kind k xs))
+pub kind-there : (s : List ℕ) (k : Kind) (xs : List Spec) → InText s (spec-words xs) → InText s (definition-words (of-kind k xs))
 unfolding of-kind spec-words definition-words
 kind-there s k [] h = tt
 kind-there s k (x ∷ xs) h =
@@ -237,12 +237,16 @@ among-text : (s : List ℕ) (l m : List Word) → ((w : Word) → In w l → In 
 among-text s [] m f g = tt
 among-text s (w ∷ l) m f g = (one-text s (f w (in-here refl)) g, among-text s l m (λ v h. f v (in-there h)) g)
 
+pub objects-text : (s : List ℕ) (t : Trees _⟶_ (file ▸ ∎)) → InText s (object-words (syntax s t .parts)) → InText s (object-words (syntax s t .objects))
+objects-text s t g =
+    subst (λ (os : List Object). InText s (object-words os)) (sym (syntax-merged s t)) (among-text s (object-words (merge (syntax s t .parts))) (object-words (syntax s t .parts)) (λ w i. merge-in (syntax s t .parts) i) g)
+
 -- The words of the rows of a text's syntax.
 pub names-there : (s : List ℕ) (t : Trees _⟶_ (file ▸ ∎)) → words-of s (tables (syntax s t) (all-values (syntax s t) (syntax s t .objects))) ≡ names-of (syntax s t)
 unfolding words-of tables names-of file-words
 names-there s t =
     let f = syntax s t in
     let p = parts s (f .version ∷ spec-words (f .specs)) (f .cpu ∷ object-words (f .parts)) (syntax-text s t) in
-    let o = subst (λ (os : List Object). InText s (object-words os)) (sym (syntax-merged s t)) (among-text s (object-words (merge (f .parts))) (object-words (f .parts)) (λ w i. merge-in (f .parts) i) (p .1 .1)) in
+    let o = objects-text s t (p .1 .1) in
     words-same (all-scopes-there s (f .specs) (p .0 .1)) (all-enumerators-there s (f .specs) (p .0 .1)) (objects-there s (f .objects) o)
     (all-values-there s f (f .objects) 0 0 (p .0 .1) o)

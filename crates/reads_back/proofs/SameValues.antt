@@ -1,18 +1,19 @@
 -- Resolved values that are the same but places, the stated mark and the words of numbers. Assumes nothing.
 use mathlib.Core.Path.{_≡_, refl, sym, _∙_, ap, ap₂}
 use mathlib.Core.List.{List, [], _∷_, _++_}
-use mathlib.Core.Bool.{false}
+use mathlib.Core.Bool.{true, false}
 use Prim.Native.Nat.{ℕ, suc, _+_}
 use Rattle.token.specs.Words.{bytesOf}
 use Rattle.meaning.specs.Syntax.{absent}
-use Rattle.meaning.specs.Resolving.{Taken, Resolved, end, resolved, Owner, of-object, of-value, value-row, how-many-values, value-rows, all-value-rows, how-many-in-all}
+use Rattle.meaning.specs.Resolving.{Taken, Resolved, end, resolved, Owner, of-object, of-value, ValueRow, value-row, how-many-values, value-rows, all-value-rows, how-many-in-all}
 use Rattle.meaning.specs.Normal.{written, closed, lines}
 use Rattle.meaning.specs.Places.{each, unplaced-value-row}
 use Rattle.meaning.proofs.Unplaced.{each-append}
-use Rattle.reads_back.specs.ReadsBack.{bare-value-row}
+use Rattle.reads_back.specs.ReadsBack.{bare-value-row, AllStated}
 
--- The same definition and value, written alike.
+-- The same definition and value, written alike; the first is stated.
 pub record SameTaken (t u : Taken) : Type 0 where
+  pub states : t .stated ≡ true
   pub definition : t .definition ≡ u .definition
   pub value : t .value ≡ u .value
   pub writes : written (t .value) (t .word) ≡ written (u .value) (u .word)
@@ -75,3 +76,36 @@ all-same-rows o n (more-same {a} {b} {rs} {qs} p q) =
     ∙ ap₂ _++_ (same-rows n (of-object o) p)
     (ap (λ k. each bare-value-row (all-value-rows rs (suc o) (n + k))) (same-many p) ∙ all-same-rows (suc o) (n + how-many-values b) q)
     ∙ sym (each-append bare-value-row (value-rows b n (of-object o)) (all-value-rows qs (suc o) (n + how-many-values b)))
+
+-- The first are stated -----------------------------------------------------------------------------------------------------------------------
+
+stated-append : (a b : List ValueRow) → AllStated a → AllStated b → AllStated (a ++ b)
+stated-append [] b p q = q
+stated-append (r ∷ a) b p q = (p .0, stated-append a b (p .1) q)
+
+same-stated : {a b : Resolved} (n : ℕ) (o : Owner) → Same a b → AllStated (value-rows a n o)
+unfolding value-rows value-row
+same-stated n o same-end = tt
+same-stated n o (same-more {a} {c} h p q) = (
+  h .states,
+  stated-append (value-rows a (suc n) (of-value n)) (value-rows c (suc n + how-many-values a) o) (same-stated (suc n) (of-value n) p)
+      (same-stated (suc n + how-many-values a) o q),
+)
+
+pub all-same-stated : {rs qs : List Resolved} (o n : ℕ) → SameAll rs qs → AllStated (all-value-rows rs o n)
+unfolding all-value-rows
+all-same-stated o n none-same = tt
+all-same-stated o n (more-same {a} {rs} p q) =
+    stated-append (value-rows a n (of-object o)) (all-value-rows rs (suc o) (n + how-many-values a)) (same-stated n (of-object o) p)
+    (all-same-stated (suc o) (n + how-many-values a) q)
+
+-- With places or without.
+pub stated-unplaced : (l : List ValueRow) → AllStated l → AllStated (each unplaced-value-row l)
+unfolding each unplaced-value-row
+stated-unplaced [] h = tt
+stated-unplaced (r ∷ l) h = (h .0, stated-unplaced l (h .1))
+
+pub stated-placed : (l : List ValueRow) → AllStated (each unplaced-value-row l) → AllStated l
+unfolding each unplaced-value-row
+stated-placed [] h = tt
+stated-placed (r ∷ l) h = (h .0, stated-placed l (h .1))

@@ -9,7 +9,8 @@ use lib.Dec.{ltb, eqb}
 use borrow.Author.Tests.{ltb-true, ltb-false, not-true}
 use Rattle.token.specs.Find.{pick}
 use Rattle.token.specs.Tokens.{stepAt}
-use Rattle.token.specs.Lexing.{Lexed, tokensOf}
+use Rattle.token.specs.Lexing.{Lexed}
+use Rattle.token.proofs.Sequences.{tokensOf}
 use Rattle.token.specs.declared.Cursor.{Cursor}
 use Rattle.token.specs.declared.Token.{Token as Lexeme}
 use Rattle.token.specs.declared.Sort.{Sort as TokenSort}
@@ -26,7 +27,8 @@ use Rattle.meaning.specs.Syntax.{Num, Word}
 use Rattle.meaning.specs.Actions.{num-of-sort, float-of-sort, num-of-step, float-of-step, word-of}
 use Rattle.meaning.specs.Resolving.{number}
 use Rattle.meaning.specs.Normal.{digits-in, minus, decimal}
-use Rattle.meaning.specs.Places.{each, unplaced-word}
+use Rattle.meaning.specs.Places.{each}
+use Rattle.meaning.proofs.Unplaced.{unplaced-word}
 use Rattle.reads_back.proofs.SameWords.{by-choose}
 use Rattle.reads_back.proofs.Restated.{restated-word, Alone, plain-word, AllAlone}
 

@@ -7,7 +7,8 @@ use native.Mathlib.Omega.{arith}
 use lib.ListN.{length, take, drop}
 use lib.Seq.{take-append-seam}
 use Rattle.token.specs.Tokens.{bytesBetween, stepAt}
-use Rattle.token.specs.Lexing.{tokensOf, lexFrom}
+use Rattle.token.specs.Lexing.{lexFrom}
+use Rattle.token.proofs.Sequences.{tokensOf}
 use Rattle.token.specs.declared.Cursor.{Cursor}
 use Rattle.token.specs.declared.Token.{Token as Lexeme}
 use Rattle.token.specs.declared.Sort.{Sort as TokenSort}
@@ -24,7 +25,8 @@ use Rattle.grammar.specs.Terminals.{words, classOf, tokenOf}
 use Rattle.meaning.specs.Syntax.{Word, through}
 use Rattle.meaning.specs.Actions.{num-of-step, float-of-step, word-of}
 use Rattle.meaning.specs.Normal.{part}
-use Rattle.meaning.specs.Places.{each, unplaced-word}
+use Rattle.meaning.specs.Places.{each}
+use Rattle.meaning.proofs.Unplaced.{unplaced-word}
 use Rattle.reads_back.proofs.Restated.{plain-word}
 use Rattle.reads_back.proofs.SayingAlone.{fails-at}
 use Rattle.reads_back.proofs.SayingPieces.{lexeme-word, words-moved, words-kept, Says}

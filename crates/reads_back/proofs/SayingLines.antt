@@ -19,7 +19,7 @@ use Rattle.meaning.specs.Syntax.{Word, Object, File}
 use Rattle.meaning.specs.Actions.{zero-num, num-of-sort, float-of-sort}
 use Rattle.meaning.specs.Resolving.{Value, number, truth, auto, string, float, enumerator, object, Resolved, end, resolved}
 use Rattle.meaning.specs.Normal.{written, closed, lines, object-lines, application-lines}
-use Rattle.meaning.specs.Places.{unplaced-word}
+use Rattle.meaning.proofs.Unplaced.{unplaced-word}
 use Rattle.reads_back.proofs.Restated.{given, opening, closing, equal-sign, stop, version-string, restated-word, version-words, closed-words, line-words, object-words, application-words, Alone, Named, SaidLines, SaidObjects}
 use Rattle.reads_back.proofs.RestatingUnplaced.{unplaced-restated-word}
 use Rattle.reads_back.proofs.SayingPieces.{Says, says-append, says-none, says-blank, says-alone, says-sign}

@@ -15,8 +15,8 @@ use Rattle.locality.proofs.Pieces.{Inside, mayStart, Piece, piece-append, piece
 use Rattle.grammar.specs.Terminals.{classOf}
 use Rattle.meaning.specs.Syntax.{Word}
 use Rattle.meaning.specs.Actions.{num-of-sort, float-of-sort}
-use Rattle.meaning.specs.Places.{each, unplaced-word}
-use Rattle.meaning.proofs.Unplaced.{each-append}
+use Rattle.meaning.specs.Places.{each}
+use Rattle.meaning.proofs.Unplaced.{unplaced-word, each-append}
 use Rattle.reads_back.proofs.Restated.{Alone}
 
 -- a token of the text s, as a word without its place

@@ -10,7 +10,8 @@ use lib.Seq.{take-append-seam, drop-append-seam}
 use Rattle.token.specs.Gaps.{skipN, skip}
 use Rattle.token.specs.Words.{bytesOf}
 use Rattle.token.specs.Tokens.{tokenAt, stepAt}
-use Rattle.token.specs.Lexing.{Lexed, more, ended, refused, tokensOf, lexN, lexFrom, Divides as Wholly}
+use Rattle.token.specs.Lexing.{Lexed, more, ended, refused, lexN, lexFrom, Divides as Wholly}
+use Rattle.token.proofs.Sequences.{tokensOf}
 use Rattle.token.specs.declared.Token.{Token as Lexeme}
 use Rattle.locality.proofs.Shift.{moved, movedAll}
 use Rattle.locality.proofs.Pieces.{mayFollow, Piece, tokens-after, tokens-moved, divides-after, divides-moved, leading}

@@ -9,7 +9,8 @@ use Rattle.token.specs.Find.{bit}
 use Rattle.grammar.specs.Grammar.{Rule, rule, tok, Form, _⟶_, file, version, implementation, specs, spec, definitions, definition, attribute, D, P, auto, mark, integer-range, numbers, boolean-range, float-range, enumerator, enumerators, application, objects, object, block, statements, statement, default, own, file-is, version-is, implementation-is, no-spec, a-spec, spec-is, no-definition, a-definition, an-attribute, a-reference, an-integer, a-string, a-boolean, an-enum, a-float, reference-is, no-D, a-D, no-P, a-P, no-auto, with-auto, no-mark, a-mark, no-range, a-range, a-list, no-number, a-number, no-boolean-range, no-float-range, a-boolean-range, a-float-range, enumerator-is, no-enumerator, an-enumerator, no-default, a-default, own-auto, own-none, own-number, own-string, own-true, own-false, own-name, own-float, application-is, no-object, an-object, an-object-alone, an-object-with, no-block, a-block, no-statement, a-statement, statement-is, value-number, value-string, value-float, value-auto, value-name, value-true, value-false, reference as reference-rule, value as value-rule}
 use Rattle.meaning.specs.Syntax.{Word, Span, absent, through, AttributeType, integer, string, boolean, enum, float, Bounds, no-bounds, Definitions, no-more, define, Values, no-value, Defined, Spec, Statements, done, state, definitions-in, definitions-under, is-enum, enumerators-in, enumerators-under, statements-in, value as a-value, reference as reference-to, Object}
 use Rattle.meaning.specs.Actions.{kind-of, integer-of, Implementation, Application, IntegerRange, BooleanRange, Enumerator, Block, ValueWithBlock, Stated, M, Parts, first-value, truths, defined, defining, specifying, stating, means}
-use Rattle.meaning.specs.Places.{each, if-there, unplaced-word, unplaced-bounds, unplaced-definition, unplaced-definitions, unplaced-values, unplaced-defined, unplaced-spec, unplaced-statement, unplaced-statements, unplaced-object, unplaced}
+use Rattle.meaning.specs.Places.{each}
+use Rattle.meaning.proofs.Unplaced.{if-there, unplaced-word, unplaced-bounds, unplaced-definition, unplaced-definitions, unplaced-values, unplaced-defined, unplaced-spec, unplaced-statement, unplaced-statements, unplaced-object, unplaced}
 
 -- What rules mean, unplaced ----------------------------------------------------------------------------------------------------------------
 

@@ -8,8 +8,8 @@ use lib.ListN.{length}
 use Rattle.grammar.specs.Grammar.{Token, Terminal, matches, Rule, rule, tok, Form, ∎, _⟶_, Trees, nil, leaf, node, tokens}
 use Rattle.meaning.specs.Syntax.{Word}
 use Rattle.meaning.specs.Actions.{word-of, Parts, means, meaning}
-use Rattle.meaning.specs.Places.{each, unplaced-word}
-use Rattle.meaning.proofs.Unplaced.{each-append}
+use Rattle.meaning.specs.Places.{each}
+use Rattle.meaning.proofs.Unplaced.{unplaced-word, each-append}
 use Rattle.reads_back.proofs.Restated.{plain-word}
 use Rattle.reads_back.proofs.Unplacing.{bare-parts, means-bare}
 

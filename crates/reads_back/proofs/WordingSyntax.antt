@@ -12,7 +12,8 @@ use Rattle.meaning.specs.Syntax.{Word, Definition, Definitions, no-more, define
 use Rattle.meaning.specs.Actions.{M, Enumerator, word-of, kind-of, first-value, truths, defined, defining, specifying, stating, means, meaning, syntax}
 use Rattle.meaning.specs.Scopes.{sort-of}
 use Rattle.meaning.specs.Judging.{is-no-default, taken-by, taken}
-use Rattle.meaning.specs.Places.{each, unplaced-word}
+use Rattle.meaning.specs.Places.{each}
+use Rattle.meaning.proofs.Unplaced.{unplaced-word}
 use Rattle.reads_back.proofs.Restated.{plain-word, Alone, AllAlone, Named}
 use Rattle.reads_back.proofs.WordingClasses.{in-list, ValueForm, number-form, string-form, float-form, auto-form, name-form, true-form, false-form, name-within, true-within, false-within, none-taken}
 
@@ -41,10 +42,17 @@ mutual
     list-more : {w : Word} {e : ℕ} {us : Definitions} {vs : Values} → Alone (unplaced-word w) → in-list (w .class) ≡ true → Worded us → WordedList vs
         → WordedList (value w e us vs)
 
--- The definitions of all kinds.
+-- A kind's word and its definitions.
+pub record WordedSpec (x : Spec) : Type 0 where
+  pub word-alone : Alone (unplaced-word (x .word))
+  pub word-class : matches a-kind (x .word .class) ≡ true
+  pub kind-is : kind-of (x .word .class) ≡ x .kind
+  pub definitions : Worded (x .definitions)
+
+-- So it is of all kinds.
 abbrev pub WordedSpecs : List Spec → Type 0
 WordedSpecs [] = Unit {0}
-WordedSpecs (x ∷ xs) = Worded (x .definitions) × WordedSpecs xs
+WordedSpecs (x ∷ xs) = WordedSpec x × WordedSpecs xs
 
 -- Statements at any depth: of each the value.
 pub data WordedStatements : Statements → Type 0 where
@@ -127,7 +135,7 @@ W file f = WordedFile f
 W version v = Unit {0}
 W implementation i = WordedSpecs (i .specs)
 W specs g = (n e : ℕ) → WordedSpecs (g n e)
-W spec g = (n e : ℕ) → Worded (g n e .definitions)
+W spec g = (n e : ℕ) → WordedSpec (g n e)
 W definitions g = (n e : ℕ) → Worded (g n e)
 W definition g = (n e : ℕ) → WordedDefined (g n e)
 W attribute g = (n e : ℕ) → WordedDefined (g n e)
@@ -179,7 +187,7 @@ means-worded s version-is us h = tt
 means-worded s implementation-is (leaf _ _ (leaf _ _ (leaf _ _ (node _ ss (leaf _ _ (node _ d (leaf _ _ nil))))))) h = h .1 .1 .1 .0 0 0
 means-worded s no-spec nil h = λ n e. tt
 means-worded s a-spec (node _ x (node _ xs nil)) h = λ n e. (h .0 n e, h .1 .0 _ _)
-means-worded s spec-is (leaf _ _ (leaf _ _ (node _ d r))) h = λ n e. h .1 .1 .0 n e
+means-worded s spec-is (leaf t m (leaf _ _ (node _ d r))) h = λ n e. record { word-alone = h .0; word-class = m; kind-is = refl; definitions = h .1 .1 .0 n e }
 means-worded s no-definition nil h = λ n e. worded-none
 means-worded s a-definition (node _ x (node _ xs nil)) h = λ n e. worded-more (h .0 n e .name) (h .0 n e .default) (h .0 n e .values) (h .1 .0 _ _)
 means-worded s an-attribute (node _ x nil) h = h .0

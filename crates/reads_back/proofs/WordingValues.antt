@@ -14,7 +14,8 @@ use Rattle.meaning.specs.Kinds.{same-kind}
 use Rattle.meaning.specs.Scopes.{sort-of, of-kind, names}
 use Rattle.meaning.specs.Judging.{taken}
 use Rattle.meaning.specs.Resolving.{number, valued, take-value, Resolved, end, resolved, entries, default-entry, resolve, resolve-under, object-values, all-values}
-use Rattle.meaning.specs.Places.{each, unplaced-word}
+use Rattle.meaning.specs.Places.{each}
+use Rattle.meaning.proofs.Unplaced.{unplaced-word}
 use Rattle.meaning.proofs.Numbering.{Counts, object-numbers, numbered}
 use Rattle.meaning.proofs.Standing.{counts-head, counts-tail}
 use Rattle.reads_back.proofs.Restated.{restated-word, plain-word, Alone, AllAlone, Named, Stateable, as-number, as-string, as-float, as-auto, as-name, as-true, as-false, SaidTaken, SaidLines, SaidObjects, Said}
@@ -125,7 +126,7 @@ kind-worded k [] w = worded-none
 kind-worded k (x ∷ xs) w = go (same-kind k (x .kind)) (kind-worded k xs (w .1))
   where
     go : (b : Bool) → Worded (of-kind k xs) → Worded (pick b (x .definitions) (of-kind k xs))
-    go true r = w .0
+    go true r = w .0 .definitions
     go false r = r
 
 objects-said : (decimal-alone : DecimalAlone) (f : File) (xs : List Object) (i : ℕ) → WordedSpecs (f .specs) → WordedObjects xs

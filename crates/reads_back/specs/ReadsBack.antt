@@ -1,8 +1,9 @@
 -- Demand 2, second half: normal text is accepted, gives the same values, and is its own normal text. Assumes nothing.
 use mathlib.Core.Path.{_≡_}
 use mathlib.Core.List.{List, [], _∷_}
-use mathlib.Core.Bool.{false}
-use Prim.Native.Nat.{ℕ}
+use mathlib.Core.Bool.{true, false}
+use Prim.Native.Nat.{ℕ, _≤_}
+use lib.ListN.{length}
 use Rattle.meaning.specs.Defining.{DefinitionRow, EnumeratorRow}
 use Rattle.meaning.specs.Applying.{ObjectRow}
 use Rattle.meaning.specs.Syntax.{absent}
@@ -10,7 +11,8 @@ use Rattle.meaning.specs.Resolving.{Value, number, truth, auto, string, float, 
 use Rattle.meaning.specs.Normal.{part}
 use Rattle.meaning.specs.Places.{each, unplaced-value-row, unplaced-tables}
 use Rattle.meaning.specs.Answers.{Tables, accepted}
-use Rattle.meaning.specs.Reading.{reading, normal-text}
+use Rattle.meaning.specs.Reading.{Answers}
+use Rattle.meaning.specs.Rules.{TheAnswer, TheNormalText}
 
 -- "places, lengths and the stated mark" left out.
 unfoldable pub bare-value-row : ValueRow → ValueRow
@@ -84,18 +86,30 @@ ranges-of s t = each (definition-row-range s) (t .definitions)
 
 -- The statement ---------------------------------------------------------------------------------------------------------------------------
 
--- For the text s with the tables t.
-pub record ReadsBack (s : List ℕ) (t : Tables) : Type 0 where
-  -- the normal text is accepted,
+-- "with every value stated": each row has the mark.
+abbrev pub AllStated : List ValueRow → Type 0
+AllStated [] = Unit {0}
+AllStated (r ∷ rs) = (r .stated ≡ true) × AllStated rs
+
+-- For the text s with the tables t, and the text n that is written for it: "Written out with every value stated, it reads back to the same values".
+pub record ReadsBack (s : List ℕ) (t : Tables) (n : List ℕ) : Type 0 where
+  -- the rules accept n,
   pub back : Tables
-  pub accepts : reading (normal-text s) ≡ accepted back
+  pub accepts : TheAnswer n (accepted back)
+  -- "with every value stated",
+  pub stated : AllStated (back .values)
   -- with the same definitions, enumerators, objects, resolved values and counts "but places, lengths and the stated mark", and numbers of parts,
   pub same : bare back ≡ bare t
   -- "read back, each number of parts is one",
   pub one-part : each (λ (r : ObjectRow). r .parts) (back .objects) ≡ each (λ (r : ObjectRow). 1) (back .objects)
   -- whose words have the same bytes,
-  pub words : words-of (normal-text s) back ≡ words-of s t
+  pub words : words-of n back ≡ words-of s t
   -- and whose ranges have the same bytes,
-  pub ranges : ranges-of (normal-text s) back ≡ ranges-of s t
-  -- and is its own normal text
-  pub again : normal-text (normal-text s) ≡ normal-text s
+  pub ranges : ranges-of n back ≡ ranges-of s t
+  -- and n is its own normal text
+  pub again : TheNormalText n n
+
+-- "provided the written text is at most 65,535 bytes": of every text that the rules accept, and its normal text. proofs/ReadsBack has it
+-- (`texts-read-back`).
+abbrev pub TextsReadBack : Type 0
+TextsReadBack = (s : List ℕ) (t : Tables) → Answers s (accepted t) → (n : List ℕ) → TheNormalText s n → length n ≤ 65535 → ReadsBack s t n

@@ -17,13 +17,12 @@ use Rattle.meaning.specs.Syntax.{Num, Word, span-of, AttributeType, integer, st
 use Rattle.meaning.specs.Kinds.{kind-number}
 use Rattle.meaning.specs.Actions.{num-of-step}
 use Rattle.meaning.specs.Scopes.{Sort, a-number, a-string, a-truth, an-auto, a-no-default, a-name, a-float as float-sort, sort-of, Under, find-value, find-object}
-use Rattle.meaning.specs.Resolving.{number, truth, is-true, number-or, row-or, named, valued, take-value, value-row}
-use Rattle.meaning.specs.Resolving.{string as string-value}
+use Rattle.meaning.specs.Resolving.{number, truth, is-true, number-or, row-or, named, valued, take-value, value-row, string as string-value}
 use Rattle.meaning.specs.Cells.{value-sort, value-negative, value-amount, value-cells}
 use Rattle.layout.specs.Kept.{code-of}
 use Rattle.amounts.specs.Known.{InCells}
-use Rattle.scopes.specs.Forms.{Formed, an-integer, a-string, a-boolean, an-enum, a-float, a-reference}
-use Rattle.scopes.specs.Forms as forms
+use Rattle.scopes.proofs.Forms.{Formed, an-integer, a-string, a-boolean, an-enum, a-float, a-reference}
+use Rattle.scopes.proofs.Forms as forms
 use Rattle.scopes.specs.Promises.{FindsEnumerator, FindsObject, number-found, object-found}
 use Rattle.scopes.specs.declared.Sizes.{Sizes}
 use Rattle.resolving.specs.declared.Owner.{Owner as OwnerOf}

@@ -12,8 +12,8 @@ use Rattle.meaning.specs.Scopes.{sort-of}
 use Rattle.meaning.specs.Judging.{taken}
 use Rattle.meaning.specs.Resolving.{Resolved, end, resolved, Owner, valued, named, take-value, entries, default-entry, resolve, resolve-under, value-row, all-values}
 use Rattle.meaning.specs.Cells.{value-cells}
-use Rattle.meaning.proofs.Entries.{joins}
-use Rattle.meaning.proofs.Standing.{select, standing}
+use Rattle.meaning.specs.Joining.{joins}
+use Rattle.meaning.specs.Standing.{select, standing}
 use Rattle.layout.specs.Kept.{Entry, spec-entries, code-of}
 use Rattle.blocks.specs.Blocks.{BlockAt}
 use Rattle.scopes.specs.Situations.{HasDefinition, Stands, ReadAt, ScopeAt}

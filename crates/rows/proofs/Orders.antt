@@ -15,7 +15,12 @@ use Rattle.rows.specs.declared.Fault.{Fault}
 use Rattle.rows.specs.declared.Found.{Found}
 use Rattle.rows.specs.declared.Found.the-variants.{At, Nothing}
 use Rattle.rows.specs.Search.{isFound}
-use Rattle.rows.specs.Order.{none, isFault, before, sooner, soonest, faultIf}
+use Rattle.rows.specs.Order.{none, isFault, before, sooner, faultIf}
+
+-- the one that answers of a and some more, found from the left
+unfoldable pub soonest : Fault → List Fault → Fault
+soonest a [] = a
+soonest a (f ∷ fs) = soonest (sooner a f) fs
 
 -- the cases of `before`
 module _ (a b : Fault) where

@@ -1,24 +1,39 @@
 -- The laws of lookups by key over rows.
 -- Assumes nothing.
 use Prim.Native.Nat.{ℕ, suc, _+_, _*_, _<_, _≤_, min}
-use mathlib.Core.Path.{_≡_, refl, sym, ap, ap₂, _∙_, subst}
+use mathlib.Core.Path.{_≡_, refl, sym, ap, _∙_, subst}
 use mathlib.Core.Bool.{Bool, true, false, false≢true}
-use mathlib.Core.List.{List, [], _∷_}
+use mathlib.Core.List.{List, [], _∷_, _++_}
 use native.Mathlib.Nat.{add-zero}
 use native.Mathlib.Omega.{arith}
 use native.Mathlib.Decide.{decLt}
 use lib.ListN.{length, getD}
 use lib.Dec.{eqb, ltb}
 use borrow.Author.Tests.{lt-ltb, le-ltb, ltb-true, ltb-false, eq-eqb, ne-eqb}
-use Rattle.token.specs.Find.{pick, both, either, find}
-use Rattle.token.specs.Words.{same}
-use Rattle.token.specs.Tokens.{partOf}
+use Rattle.token.specs.Find.{pick, either, find}
 use Rattle.token.proofs.Find.{find-past, find-here, find-next, find-low, find-holds, by-test, find-before}
 use Rattle.rows.specs.declared.Found.{Found}
 use Rattle.rows.specs.declared.Found.the-variants.{At, Nothing}
-use Rattle.rows.specs.Table.{first, anyOf}
-use Rattle.rows.specs.Search.{foundBelow, findFrom, hasKey, isNamed, findRow, findNamed, isFound, IsFirst, FirstOf, rowOf}
-use Rattle.rows.proofs.Starts.{cell-start, cell-column}
+use Rattle.rows.proofs.Walks.{first, anyOf}
+use Rattle.rows.specs.Search.{foundBelow, findFrom, hasKey, findRow, isFound, rowOf}
+use Rattle.rows.proofs.Starts.{cell-start}
+
+-- j is the first from i on, below n, for which t holds
+pub record IsFirst (t : ℕ → Bool) (n i j : ℕ) : Type 0 where
+  pub low : i ≤ j
+  pub high : j < n
+  pub holds : t j ≡ true
+  pub fails : (k : ℕ) → i ≤ k → k < j → t k ≡ false
+
+-- row j, of rows that are counted from i, is the first for which p holds
+pub record FirstOf {R : Type 0} (p : R → Bool) (i : ℕ) (rs : List R) (j : ℕ) : Type 0 where
+  pub front : List R
+  pub row : R
+  pub rest : List R
+  pub whole : rs ≡ front ++ (row ∷ rest)
+  pub place : j ≡ i + length front
+  pub holds : p row ≡ true
+  pub fails : anyOf p front ≡ false
 
 -- a loop at row i: what is left decides the whole
 
@@ -125,7 +140,7 @@ module _ {R : Type 0} (p : R → Bool) where
       (λ h e. here-first i r rs j h e)
       (λ h e. later-first i r rs j h (first-is (suc i) rs j e))
 
--- the two lookups
+-- the lookup by key
 
 module _ (l : List ℕ) (a b : ℕ) (e : a ≡ min (length l) b) where
   -- a cell of a row that begins at b, by a place that is no larger than the end
@@ -135,12 +150,6 @@ module _ (l : List ℕ) (a b : ℕ) (e : a ≡ min (length l) b) where
   pub key-start : (c k : ℕ) → hasKey l a c k ≡ hasKey l b c k
   unfolding hasKey
   key-start c k = ap (λ (x : ℕ). eqb x k) (start-cell c)
-
-  pub named-start : (s : List ℕ) (c k m m2 p n : ℕ) → m2 ≡ min (length l) (m + 1) → isNamed s l a c k m m2 p n ≡ isNamed s l b c k m (m + 1) p n
-  unfolding isNamed
-  named-start s c k m m2 p n d =
-      let second : getD l (a + m2) 0 ≡ getD l (b + (m + 1)) 0 = start-cell m2 ∙ ap (λ (x : ℕ). getD l (b + x) 0) d ∙ cell-column l b (m + 1) in
-      ap₂ both (key-start c k) (ap₂ (λ (x y : ℕ). same (partOf s x y) (partOf s p n)) (start-cell m) second)
 
 -- the loop of `findRow` at row i, which begins at a
 module _ (l : List ℕ) (w n c k i : ℕ) where
@@ -155,31 +164,3 @@ module _ (l : List ℕ) (w n c k i : ℕ) where
   pub row-end : n ≤ i → findRow l w n c k i ≡ Nothing
   unfolding findRow
   row-end h = find-end (λ j. hasKey l (j * w) c k) n i h
-
--- the loop of `findNamed` at row i, which begins at a
-module _ (s l : List ℕ) (w n c k m p len i : ℕ) where
-  pub named-stop : (a m2 : ℕ) → i < n → a ≡ min (length l) (i * w) → m2 ≡ min (length l) (m + 1) → isNamed s l a c k m m2 p len ≡ true
-      → findNamed s l w n c k m p len i ≡ At i
-  unfolding findNamed
-  named-stop a m2 h e d f =
-      find-stop (λ j. isNamed s l (j * w) c k m (m + 1) p len) n i h (sym (named-start l a (i * w) e s c k m m2 p len d) ∙ f)
-
-  pub named-more : (a m2 : ℕ) → i < n → a ≡ min (length l) (i * w) → m2 ≡ min (length l) (m + 1) → isNamed s l a c k m m2 p len ≡ false
-      → findNamed s l w n c k m p len i ≡ findNamed s l w n c k m p len (i + 1)
-  unfolding findNamed
-  named-more a m2 h e d f =
-      find-more (λ j. isNamed s l (j * w) c k m (m + 1) p len) n i h (sym (named-start l a (i * w) e s c k m m2 p len d) ∙ f)
-
-  pub named-end : n ≤ i → findNamed s l w n c k m p len i ≡ Nothing
-  unfolding findNamed
-  named-end h = find-end (λ j. isNamed s l (j * w) c k m (m + 1) p len) n i h
-
--- the cases of `isNamed`
-module _ (s l : List ℕ) (a c k m m2 p n : ℕ) where
-  pub named-no-key : (getD l (a + c) 0 ≡ k → ⊥) → isNamed s l a c k m m2 p n ≡ false
-  unfolding isNamed hasKey
-  named-no-key f = rw (ne-eqb (getD l (a + c) 0) k f)
-
-  pub named-key : getD l (a + c) 0 ≡ k → isNamed s l a c k m m2 p n ≡ same (partOf s (getD l (a + m) 0) (getD l (a + m2) 0)) (partOf s p n)
-  unfolding isNamed hasKey
-  named-key e = rw (eq-eqb (getD l (a + c) 0) k e)

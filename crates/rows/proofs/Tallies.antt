@@ -11,7 +11,16 @@ use lib.Seq.{set-out, getD-set-same, getD-set-other}
 use lib.Dec.{eqb, ltb}
 use borrow.Author.Tests.{eq-eqb, ne-eqb, lt-ltb, le-ltb}
 use Rattle.token.specs.Find.{pick}
-use Rattle.rows.specs.Tally.{full, oneMore, countOn, countsOf, howMany}
+use Rattle.rows.specs.Tally.{full, oneMore, countOn}
+
+-- the counts of some kinds
+unfoldable pub countsOf : List ℕ → List ℕ
+countsOf ks = countOn (replicate 13 0) ks
+
+-- how many of a list are k
+unfoldable pub howMany : ℕ → List ℕ → ℕ
+howMany k [] = 0
+howMany k (x ∷ xs) = pick (eqb x k) (howMany k xs + 1) (howMany k xs)
 
 -- the cases of `oneMore`
 module _ (cs : List ℕ) (k : ℕ) where

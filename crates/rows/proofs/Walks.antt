@@ -1,4 +1,4 @@
--- The law of a search over rows and some more.
+-- Searches over rows of any type R, and the law of one over rows and some more.
 -- Assumes nothing.
 use Prim.Native.Nat.{ℕ, suc, _+_}
 use mathlib.Core.Path.{_≡_, ap, _∙_}
@@ -8,7 +8,19 @@ use native.Mathlib.Nat.{add-zero}
 use native.Mathlib.Omega.{arith}
 use lib.ListN.{length}
 use Rattle.token.proofs.Bytes.{neither-first, neither-second}
-use Rattle.rows.specs.Table.{first, anyOf}
+use Rattle.token.specs.Find.{pick, either}
+
+module _ {R : Type 0} (p : R → Bool) where
+  -- p holds for one of some rows
+  unfoldable pub anyOf : List R → Bool
+  anyOf [] = false
+  anyOf (r ∷ rs) = let a = anyOf rs in either (p r) a
+
+module _ {R : Type 0} {A : Type 0} (p : R → Bool) (hit : ℕ → A) (none : A) where
+  -- what `hit` makes of the number of the first row for which p holds, of rows that are counted from i
+  unfoldable pub first : ℕ → List R → A
+  first i [] = none
+  first i (r ∷ rs) = let a = first (suc i) rs in pick (p r) (hit i) a
 
 -- a search over rows and some more
 module _ {R : Type 0} {A : Type 0} (p : R → Bool) (hit : ℕ → A) (none : A) where

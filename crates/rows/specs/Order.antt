@@ -2,7 +2,6 @@
 -- Assumes nothing.
 use Prim.Native.Nat.{ℕ}
 use mathlib.Core.Bool.{Bool, true, not}
-use mathlib.Core.List.{List, [], _∷_}
 use lib.Dec.{ltb, eqb}
 use Rattle.token.specs.Find.{pick, both}
 use Rattle.rows.specs.declared.Fault.{Fault}
@@ -24,11 +23,6 @@ before a b =
 
 unfoldable pub sooner : Fault → Fault → Fault
 sooner a b = pick (before b a) b a
-
--- the one that answers of a and some more, found from the left
-unfoldable pub soonest : Fault → List Fault → Fault
-soonest a [] = a
-soonest a (f ∷ fs) = soonest (sooner a f) fs
 
 unfoldable pub faultIf : Bool → ℕ → ℕ → Fault
 faultIf b n p = pick b (record { number = n; place = p }) none

@@ -1,15 +1,14 @@
 -- Lookups by key over rows. A cell past the end of the list is 0.
 -- Assumes nothing.
-use Prim.Native.Nat.{ℕ, _+_, _*_, _≤_, _<_}
-use mathlib.Core.Path.{_≡_}
+use Prim.Native.Nat.{ℕ, _+_, _*_}
 use mathlib.Core.Bool.{Bool, true, false}
-use mathlib.Core.List.{List, _∷_, _++_}
-use lib.ListN.{length, getD}
+use mathlib.Core.List.{List}
+use lib.ListN.{getD}
 use lib.Dec.{eqb, ltb}
 use Rattle.token.specs.Find.{pick, both, find}
 use Rattle.token.specs.Words.{same}
 use Rattle.token.specs.Tokens.{partOf}
-use Rattle.rows.specs.Table.{cellOf, anyOf}
+use Rattle.rows.specs.Table.{cellOf}
 use Rattle.rows.specs.declared.Found.{Found}
 use Rattle.rows.specs.declared.Found.the-variants.{At, Nothing}
 
@@ -50,20 +49,3 @@ isFound Nothing = false
 unfoldable pub rowOf : Found → ℕ
 rowOf (At i) = i
 rowOf Nothing = 0
-
--- j is the first from i on, below n, for which t holds
-pub record IsFirst (t : ℕ → Bool) (n i j : ℕ) : Type 0 where
-  pub low : i ≤ j
-  pub high : j < n
-  pub holds : t j ≡ true
-  pub fails : (k : ℕ) → i ≤ k → k < j → t k ≡ false
-
--- row j, of rows that are counted from i, is the first for which p holds
-pub record FirstOf {R : Type 0} (p : R → Bool) (i : ℕ) (rs : List R) (j : ℕ) : Type 0 where
-  pub front : List R
-  pub row : R
-  pub rest : List R
-  pub whole : rs ≡ front ++ (row ∷ rest)
-  pub place : j ≡ i + length front
-  pub holds : p row ≡ true
-  pub fails : anyOf p front ≡ false

@@ -4,6 +4,7 @@ pub mod counts;
 pub mod faults;
 pub mod finding;
 pub mod parts;
+pub mod refusals;
 
 // A refusal's number and place; number 0: no fault.
 pub struct Fault {

@@ -8,7 +8,7 @@ use native.Mathlib.Omega.{arith}
 use lib.ListN.{length, getD}
 use lib.Dec.{eqb}
 use borrow.Author.Tests.{ne-eqb}
-use Rattle.meaning.specs.Places.{if-there}
+use Rattle.meaning.proofs.Unplaced.{if-there}
 use Rattle.token.specs.Find.{pick, both}
 use Rattle.token.specs.Words.{same}
 use Rattle.token.specs.Tokens.{partOf}
@@ -16,7 +16,7 @@ use Rattle.token.proofs.Bytes.{eqb-sym}
 use Rattle.grammar.specs.Grammar.{Kind}
 use Rattle.rows.specs.declared.Found.{Found}
 use Rattle.rows.specs.declared.Found.the-variants.{At, Nothing}
-use Rattle.rows.specs.Table.{first, anyOf}
+use Rattle.rows.proofs.Walks.{first, anyOf}
 use Rattle.rows.specs.Search.{findNamed}
 use Rattle.meaning.specs.Kinds.{kind-number, same-kind}
 use Rattle.meaning.specs.Syntax.{Word, span-of, Definition, Definitions, no-more, define, Values, no-value, value, Defined, Spec, Object, File, is-enum}
@@ -31,7 +31,7 @@ use Rattle.meaning.proofs.Lookups.{InText, first-standing, row-under, finds-def
 use Rattle.layout.specs.Kept.{Entry, list-key, entries, entries-under, spec-entries, spec-choices, kept-enumerators, choice-cells}
 use Rattle.scopes.specs.Situations.{Situation, ScopeAt, no-scope, scope, Reached}
 use Rattle.scopes.specs.Given.{entry-rows}
-use Rattle.scopes.specs.Forms.{Some, Formed, an-integer, a-string, a-boolean, an-enum, a-float, a-reference}
+use Rattle.scopes.proofs.Forms.{Some, Formed, an-integer, a-string, a-boolean, an-enum, a-float, a-reference}
 use Rattle.scopes.specs.Promises.{row-found, number-found, object-found, FindsDefinition, FindsObject}
 use Rattle.scopes.proofs.Goodness.{Good, Goods, good-back, object-good}
 use Rattle.scopes.proofs.Finding.{is-row, is-choice, is-object, first-front, none-first, none-chosen, first-one, found-one, found-below, find-in-definitions, find-in-enumerators, find-in-objects}

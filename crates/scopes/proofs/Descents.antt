@@ -26,7 +26,7 @@ use Rattle.meaning.proofs.Numbering.{numbered, Counts, N, definition-numbers, n
 use Rattle.meaning.proofs.Standing.{Scope, Deep, deep-more, DeepValues, more-values, DeepSpecs, more-specs, scopes, counts-back, counts-head}
 use Rattle.layout.specs.Kept.{Entry, list-key, entries, entries-under, spec-entries, spec-choices, kind-place}
 use Rattle.scopes.specs.Situations.{Situation, HasDefinition, this-definition, later-definition, HasValue, this-value, later-value, HasSpec, this-spec, later-spec, Stands, under-kind, under-value, ScopeAt, no-scope, scope, Nth, RowOf, ReadAt}
-use Rattle.scopes.specs.Forms.{Some, Formed, AllFormed, more-formed, AllFormedUnder, more-under}
+use Rattle.scopes.proofs.Forms.{Some, Formed, AllFormed, more-formed, AllFormedUnder, more-under}
 use Rattle.scopes.specs.Promises.{place-found}
 use Rattle.scopes.proofs.Chains.{Chain, text-chain}
 use Rattle.scopes.proofs.Forming.{FormedSpecs, formed}

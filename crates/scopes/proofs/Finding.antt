@@ -14,7 +14,7 @@ use Rattle.token.specs.Words.{same}
 use Rattle.token.specs.Tokens.{partOf}
 use Rattle.token.proofs.Bytes.{neither-first, neither-second, eqb-sym}
 use Rattle.rows.specs.declared.Found.the-variants.{At, Nothing}
-use Rattle.rows.specs.Table.{first, anyOf}
+use Rattle.rows.proofs.Walks.{first, anyOf}
 use Rattle.rows.specs.Search.{findFrom, hasKey, isNamed, findNamed}
 use Rattle.rows.proofs.Searches.{find-stop, find-more, find-end, first-is}
 use Rattle.meaning.specs.Syntax.{Object, File}

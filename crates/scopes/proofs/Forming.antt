@@ -11,8 +11,8 @@ use Rattle.layout.specs.Kept.{code-of, given-number}
 use Rattle.scopes.specs.Situations.{ReadAt}
 use Rattle.scopes.specs.Items.{itemAt}
 use Rattle.scopes.specs.Ranges.{SignAt, Listed, listed-none, listed-more, RangeAt, FloatsAt, range-none, floats-none, range-two, floats-two, range-list}
-use Rattle.scopes.specs.Forms.{Truths, no-truths, both-truths, at-least-one, Formed, AllFormed, none-formed, more-formed, AllFormedUnder, none-under, more-under}
-use Rattle.scopes.specs.Forms as forms
+use Rattle.scopes.proofs.Forms.{Truths, no-truths, both-truths, at-least-one, Formed, AllFormed, none-formed, more-formed, AllFormedUnder, none-under, more-under}
+use Rattle.scopes.proofs.Forms as forms
 use Rattle.scopes.proofs.Chains.{StepTo, Chain, step-on, step-self, step-number, step-float, step-read, chain-front, chain-back}
 use Rattle.scopes.proofs.Coding.{given-is, integer-is, type-is, lsquare-at, rsquare-at, dots-at, comma-at}
 

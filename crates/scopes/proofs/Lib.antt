@@ -1,6 +1,7 @@
 pub mod Rooms
 pub mod Finding
 pub mod Chains
+pub mod Forms
 pub mod Coding
 pub mod Forming
 pub mod Goodness

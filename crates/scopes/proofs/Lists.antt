@@ -12,8 +12,7 @@ use Rattle.token.specs.Find.{pick, both}
 use Rattle.token.specs.Words.{same}
 use Rattle.token.specs.Tokens.{partOf}
 use Rattle.rows.specs.declared.Found.the-variants.{At, Nothing}
-use Rattle.rows.specs.Table.{first}
-use Rattle.rows.proofs.Walks.{first-append}
+use Rattle.rows.proofs.Walks.{first, first-append}
 use Rattle.meaning.specs.Syntax.{Word, Definition, Definitions, no-more, define, Values, no-value, value, Spec, is-enum}
 use Rattle.meaning.specs.Words.{alike}
 use Rattle.meaning.specs.Scopes.{Under, find-value}
@@ -21,14 +20,13 @@ use Rattle.meaning.proofs.Numbering.{Counts, number-if, enumerator-numbers, enu
 use Rattle.meaning.proofs.Standing.{Run, counts-back, counts-front, counts-head, counts-tail}
 use Rattle.meaning.proofs.Sites.{bound-words, option-words, definition-words, value-words, spec-words}
 use Rattle.layout.specs.Kept.{Choice, list-key, choice-if, choices, choices-of, spec-choices}
-use Rattle.layout.proofs.Lengths.{length-choice}
+use Rattle.layout.proofs.Lengths.{length-choice, length-choices, length-choices-of}
 use Rattle.scopes.specs.Situations.{NoneOf}
-use Rattle.scopes.specs.Forms.{Some, at-least-one}
+use Rattle.scopes.proofs.Forms.{Some, at-least-one}
 use Rattle.scopes.specs.Promises.{number-found}
 use Rattle.scopes.proofs.Goodness.{Goods, good-front, good-back}
 use Rattle.meaning.proofs.Runs.{run-le, cut, Out, cuts}
 use Rattle.scopes.proofs.Finding.{is-choice, none-chosen, none-first, first-one, none-one, one-append}
-use Rattle.layout.proofs.Lengths.{length-choices, length-choices-of}
 
 pub none-append : (a : List Choice) (k : ℕ) (b : List Choice) → NoneOf k a → NoneOf k b → NoneOf k (a ++ b)
 none-append [] k b f g = g

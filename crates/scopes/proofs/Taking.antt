@@ -29,7 +29,7 @@ use Rattle.layout.proofs.Codes.{kind-low, integer-low}
 use Rattle.scopes.specs.Items.{integer-coded}
 use Rattle.scopes.specs.Situations.{Situation, RowOf}
 use Rattle.scopes.specs.Ranges.{RangeAt, FloatsAt}
-use Rattle.scopes.specs.Forms.{Truths, no-truths, both-truths, Formed, an-integer, a-string, a-boolean, an-enum, a-float, a-reference}
+use Rattle.scopes.proofs.Forms.{Truths, no-truths, both-truths, Formed, an-integer, a-string, a-boolean, an-enum, a-float, a-reference}
 use Rattle.scopes.specs.Promises.{fault-of, InRange, InFloats, BoundFault, LowFault, number-found, place-found, FindsEnumerator, FindsWord, FindsTruth, TakesNumber, TakesFloat, TakesUnder, TakesWord, RangeFault}
 use Rattle.scopes.proofs.Goodness.{Good, Goods, good-back}
 use Rattle.scopes.proofs.Rooms.{definition-cell}

@@ -3,6 +3,5 @@ pub mod Situations
 pub mod Given
 pub mod Items
 pub mod Ranges
-pub mod Forms
 pub mod Promises
 pub mod Listing

@@ -5,6 +5,7 @@ use super::Num;
 use super::numbers;
 use rows::Fault;
 use rows::faults;
+use rows::refusals;
 
 // Whether a number is among those that stand from a place on, a comma before each.
 fn is_listed(text: &[u8], from: usize, n: Num) -> bool
@@ -64,7 +65,7 @@ fn list_fault(text: &[u8], code: usize, from: usize) -> Fault
         let x = numbers::item_at(text, s.next);
         if !numbers::in_type(code, x.number) {
             return Fault {
-                number: 21,
+                number: refusals::WRONG_BOUND,
                 place: x.at,
             };
         }
@@ -93,21 +94,25 @@ pub fn bound_fault(text: &[u8], code: usize, range: usize) -> Fault
         let b = numbers::item_at(text, s.next);
         if !numbers::at_most(a.number, b.number) {
             return Fault {
-                number: 21,
+                number: refusals::WRONG_BOUND,
                 place: a.at,
             };
         }
         if !numbers::in_type(code, a.number) {
             return Fault {
-                number: 21,
+                number: refusals::WRONG_BOUND,
                 place: a.at,
             };
         }
-        return faults::fault_if(!numbers::in_type(code, b.number), 21, b.at);
+        return faults::fault_if(
+            !numbers::in_type(code, b.number),
+            refusals::WRONG_BOUND,
+            b.at,
+        );
     }
     if !numbers::in_type(code, a.number) {
         return Fault {
-            number: 21,
+            number: refusals::WRONG_BOUND,
             place: a.at,
         };
     }

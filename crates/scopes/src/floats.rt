@@ -9,6 +9,7 @@ use super::Float;
 use super::numbers;
 use rows::Fault;
 use rows::faults;
+use rows::refusals;
 use token::Cursor;
 use token::Sort;
 use token::Step;
@@ -118,5 +119,5 @@ pub fn low_fault(text: &[u8], range: usize) -> Fault
     let s = numbers::item_at(text, a.next);
     let low = float_at(text, o.next);
     let high = float_at(text, s.next);
-    faults::fault_if(!at_most(low, high), 21, a.at)
+    faults::fault_if(!at_most(low, high), refusals::WRONG_BOUND, a.at)
 }

@@ -1,11 +1,9 @@
 -- A step of the token layer, and a part of a text, as plain numbers.
 -- Assumes nothing.
-use Prim.Native.Nat.{ℕ, _-_}
+use Prim.Native.Nat.{ℕ}
 use mathlib.Core.List.{List}
 use mathlib.Core.Bool.{Bool, true, false}
 use lib.ListN.{length}
-use lib.Dec.{leb}
-use Rattle.token.specs.Find.{pick, both}
 use Rattle.token.specs.Tokens.{partOf}
 use Rattle.token.specs.declared.Sort.{Sort}
 use Rattle.token.specs.declared.Sort.the-variants.{Word, Number, String, Punctuator, Float}
@@ -62,9 +60,6 @@ signOf (Found t c) = signOfSort (t .sort)
 signOf (Refused p) = false
 signOf (End n) = false
 
--- where the part of a place and a length begins, and how long it is; the empty part at the start where it does not lie inside
-unfoldable pub partPlace : List ℕ → ℕ → ℕ → ℕ
-partPlace s p n = pick (both (leb p (length s)) (leb n (length s - p))) p 0
-
+-- how long the part of a place and a length is; the empty part at the start where it does not lie inside
 unfoldable pub partLength : List ℕ → ℕ → ℕ → ℕ
 partLength s p n = length (partOf s p n)

@@ -1,7 +1,8 @@
 // What the tests in Rust ask of the proved layers, as functions that return plain numbers.
 ghost use mathlib.Core.Path.{_≡_};
 ghost use Rattle.token.specs.Tokens.{stepAt};
-ghost use Rattle.testing.specs.Steps.{numberOfSort, detailOfSort, signOfSort, sortOf, placeOf, nextOf, detailOf, signOf, partPlace, partLength};
+ghost use Rattle.testing.specs.Steps.{numberOfSort, detailOfSort, signOfSort, sortOf, placeOf, nextOf, detailOf, signOf, partLength};
+ghost use Rattle.token.specs.Tokens.{partPlace};
 use token::Cursor;
 use token::Sort;
 use token::Step;

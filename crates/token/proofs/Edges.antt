@@ -12,7 +12,8 @@ use Rattle.token.specs.Words.{bytesOf, same, codeIn, codeOf}
 use Rattle.token.specs.Numbers.{digitOf, valueAfter, atMost, digitsAfter, numeral}
 use Rattle.token.specs.Floats.{someDigits, digitsBehind, mantissaOf, powerOf, powerAt, scaleOf}
 use Rattle.token.specs.Tokens.{found, wordAt, limitOf, isNegative, wholeAt, floatBy, floatAt, numberBy, numberAt, stringAt, dotsAt, tokenOf, tokenAt, stepAt}
-use Rattle.token.specs.Lexing.{Lexed, ended, refused, lexN, lexFrom, afterAll}
+use Rattle.token.specs.Lexing.{Lexed, ended, refused, lexN, lexFrom}
+use Rattle.token.proofs.Sequences.{afterAll}
 use Rattle.token.specs.declared.Sort.the-variants.{Word, Number, String, Punctuator, Float}
 use Rattle.token.specs.declared.Token.{Token}
 

@@ -13,7 +13,7 @@ use Rattle.token.specs.Gaps.{skip}
 use Rattle.token.specs.Words.{codeOf}
 use Rattle.token.specs.Numbers.{numeral}
 use Rattle.token.specs.Floats.{mantissaOf, powerAt, scaleOf}
-use Rattle.token.specs.Tokens.{bytesBetween, found, wordAt, limitOf, isNegative, wholeAt, floatOf, floatBy, floatAt, numberBy, numberAt, stringAt, dotsAt, tokenOf, tokenAt, afterSkip, stepAt, partOf}
+use Rattle.token.specs.Tokens.{bytesBetween, found, wordAt, limitOf, isNegative, wholeAt, floatOf, floatBy, floatAt, numberBy, numberAt, stringAt, dotsAt, tokenOf, tokenAt, afterSkip, stepAt, partOf, partPlace}
 use Rattle.token.specs.declared.Sort.the-variants.{Word, Number, String, Punctuator, Float}
 use Rattle.token.specs.declared.Step.the-variants.{Refused, End}
 use Rattle.token.specs.declared.Skip.the-variants.{At, Open}
@@ -113,6 +113,18 @@ module _ (s : List ℕ) (p : ℕ) where
   pub part-past : (n : ℕ) → length s < p → partOf s p n ≡ []
   unfolding partOf
   part-past n h = rw (lt-leb p (length s) h)
+
+  pub place-inside : (n : ℕ) → p ≤ length s → n ≤ length s - p → p ≡ partPlace s p n
+  unfolding partPlace
+  place-inside n h k = rw (le-leb p (length s) h, le-leb n (length s - p) k)
+
+  pub place-long : (n : ℕ) → length s - p < n → 0 ≡ partPlace s p n
+  unfolding partPlace
+  place-long n h = rw (lt-leb n (length s - p) h, both-false (leb p (length s)))
+
+  pub place-past : (n : ℕ) → length s < p → 0 ≡ partPlace s p n
+  unfolding partPlace
+  place-past n h = rw (lt-leb p (length s) h)
 
 no-token : (c : Class) (s : List ℕ) (p : ℕ) → (classCode c ≡ 0 → ⊥) → (classCode c ≡ 1 → ⊥) → (classCode c ≡ 3 → ⊥) →
     (classCode c ≡ 4 → ⊥) → (classCode c ≡ 5 → ⊥) → (classCode c ≡ 6 → ⊥) → tokenOf c s p ≡ Refused p

@@ -6,6 +6,7 @@ pub mod Codes
 pub mod Values
 pub mod Decimals
 pub mod Lexemes
+pub mod Sequences
 pub mod Steps
 pub mod Edges
 pub mod Promises

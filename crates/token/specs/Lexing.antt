@@ -1,7 +1,7 @@
 -- All tokens of a text from a place on.
 -- Assumes nothing.
 use Prim.Native.Nat.{ℕ, zero, suc, _-_}
-use mathlib.Core.List.{List, [], _∷_}
+use mathlib.Core.List.{List}
 use lib.ListN.{length}
 use Rattle.token.specs.Tokens.{stepAt}
 use Rattle.token.specs.declared.Token.{Token}
@@ -13,17 +13,6 @@ pub data Lexed : Type 0 where
   more : Token → Lexed → Lexed
   ended : ℕ → Lexed
   refused : ℕ → Lexed
-
--- the tokens alone
-unfoldable pub tokensOf : Lexed → List Token
-tokensOf (more t l) = t ∷ tokensOf l
-tokensOf (ended n) = []
-tokensOf (refused p) = []
-
--- the tokens ts before those of a list
-unfoldable pub afterAll : List Token → Lexed → Lexed
-afterAll [] l = l
-afterAll (t ∷ ts) l = more t (afterAll ts l)
 
 -- "A text divides wholly into tokens if each byte, taken from the left by the token rules, is in a token or an ended comment or is one of
 -- the six that part tokens."

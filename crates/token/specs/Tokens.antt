@@ -116,3 +116,7 @@ stepAt s p = afterSkip s (skip s p)
 -- part at the start."
 unfoldable pub partOf : List ℕ → ℕ → ℕ → List ℕ
 partOf s p n = pick (both (leb p (length s)) (leb n (length s - p))) (take n (drop p s)) []
+
+-- Where that part begins in the lent text: at its place, or at the start.
+unfoldable pub partPlace : List ℕ → ℕ → ℕ → ℕ
+partPlace s p n = pick (both (leb p (length s)) (leb n (length s - p))) p 0

@@ -1,6 +1,7 @@
 // Tokens of OIL 2.5: a cursor by value, whose step method gives the token at it and the next cursor.
 ghost use mathlib.Core.Path.{_≡_};
-ghost use Rattle.token.specs.Tokens.{stepAt, partOf};
+ghost use Prim.Native.Nat.{_+_};
+ghost use Rattle.token.specs.Tokens.{stepAt, partOf, partPlace};
 
 mod floats;
 mod lexeme;
@@ -95,9 +96,12 @@ impl Cursor {
     }
 }
 
-// A part of the text; where it does not lie inside, the empty part at the start.
+// A part of the text itself; where it does not lie inside, the empty part at the start. A slice points to a block of memory and to a place in it:
+// the part's block is the text's, and its place is so many bytes behind the text's.
 pub fn part(text: &[u8], at: usize, len: usize) -> &[u8]
-    ensures { λ r. ⌜ now r ≡ partOf (now (text .entry)) at len ⌝ }
+    ensures bytes { λ r. ⌜ now r ≡ partOf (now (text .entry)) at len ⌝ }
+    ensures block { λ r. ⌜ r .ptr .0 ≡ text .entry .ptr .0 ⌝ }
+    ensures place { λ r. ⌜ r .ptr .1 ≡ text .entry .ptr .1 + partPlace (now (text .entry)) at len ⌝ }
 {
     if at <= text.len() {
         if len <= text.len() - at {

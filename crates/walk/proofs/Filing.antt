@@ -13,9 +13,9 @@ use Rattle.meaning.specs.Actions.{means}
 use Rattle.layout.specs.Kept.{spec-entries, spec-choices, definition-cells, choice-cells, map-cells, all-statement-rows, join}
 use Rattle.layout.proofs.Lengths.{length-map, length-objects, length-all}
 use Rattle.rows.specs.Tally.{countOn}
-use Rattle.filling.specs.Fills.{Told, Fills, Walks, front-of, behind}
+use Rattle.filling.specs.Fills.{Told, Fills, Walks}
+use Rattle.filling.proofs.Filling.{front-of, behind, plain, first, _▻_, told-as, told-rule}
 use Rattle.filling.specs.Tables.{Wrote, Table}
-use Rattle.filling.proofs.Filling.{plain, first, _▻_, told-as, told-rule}
 use Rattle.filling.proofs.Codes.{seen-place, seen-length}
 use Rattle.implementation.specs.Places.{Noted, note-all, ImplementationRows, FillAll as FillSpecs}
 use Rattle.objects.specs.Rows.{FillAll, AllRows}

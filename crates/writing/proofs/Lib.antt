@@ -12,3 +12,4 @@ pub mod Spans
 pub mod Wholes
 pub mod Outputs
 pub mod Calling
+pub mod ByRules

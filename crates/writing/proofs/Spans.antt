@@ -11,8 +11,7 @@ use Rattle.grammar.specs.Terminals.{tokenOf}
 use Rattle.meaning.specs.Syntax.{through, File}
 use Rattle.meaning.specs.Actions.{word-of, means, meaning, syntax}
 use Rattle.meaning.specs.Normal.{part}
-use Rattle.blocks.specs.Blocks.{AllIn}
-use Rattle.blocks.proofs.Files.{part-inside, words-of, file-in, in-back}
+use Rattle.blocks.proofs.Files.{AllIn, part-inside, words-of, file-in, in-back}
 use Rattle.meaning.proofs.Sites.{spec-words, object-words}
 use Rattle.scopes.specs.Situations.{Situation}
 use Rattle.scopes.proofs.Chains.{StepTo, Chain, text-chain, chain-front, chain-back}

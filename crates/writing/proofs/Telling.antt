@@ -18,8 +18,8 @@ use Rattle.meaning.specs.Cells.{definition-cells, definition-room}
 use Rattle.meaning.proofs.Rooms.{definition-width}
 use Rattle.meaning.proofs.Sites.{option-words, statement-words, object-words}
 use Rattle.layout.specs.Kept.{Entry}
-use Rattle.blocks.specs.Blocks.{AllIn, StatementsIn, none-in, more-in}
-use Rattle.blocks.proofs.Files.{in-front, in-back, objects-in, statements-in-text}
+use Rattle.blocks.specs.Blocks.{StatementsIn, none-in, more-in}
+use Rattle.blocks.proofs.Files.{AllIn, in-front, in-back, objects-in, statements-in-text}
 use Rattle.scopes.specs.Situations.{Situation, HasDefinition, this-definition, later-definition, HasValue, this-value, later-value, Stands, under-value, ScopeAt, no-scope, scope}
 use Rattle.scopes.specs.Given.{entry-rows}
 use Rattle.scopes.proofs.Answering.{spec-rows}

@@ -1,9 +1,13 @@
 // The normal text of an accepted text, written into a lent output.
 ghost use Rattle.writing.specs.Promises.{PutsApplication, WritesNormal, Measures, PutsOut};
 ghost use Rattle.writing.specs.Results.{Writes};
+ghost use Rattle.writing.specs.Rules.{WritesByRules};
+ghost use Rattle.meaning.specs.Rules.{FullRoom};
+ghost use Rattle.reading.specs.Demand.{Demand-3};
 use reading::Answer;
 use reading::Spanned;
 use rows::cells;
+use rows::refusals;
 
 mod bytes;
 mod objects;
@@ -105,7 +109,7 @@ fn put_out(
         cells::clear(o);
         cells::clear(v);
         return Written {
-            answer: Answer::Refused(20, 0),
+            answer: Answer::Refused(refusals::SHORT_OUTPUT, 0),
             length: 0,
         };
     }
@@ -138,7 +142,9 @@ pub fn write(
     values: &mut [usize],
     out: &mut [u8],
 ) -> Written
-    ensures { λ r. ⌜ Writes (now (text .entry)) (now (definitions .entry)) (now (enumerators .entry)) (now (objects .entry)) (now (values .entry)) (now (out .entry)) (now (definitions .exit)) (now (enumerators .exit)) (now (objects .exit)) (now (values .exit)) (now (out .exit)) r ⌝ }
+    ensures writes { λ r. ⌜ Writes (now (text .entry)) (now (definitions .entry)) (now (enumerators .entry)) (now (objects .entry)) (now (values .entry)) (now (out .entry)) (now (definitions .exit)) (now (enumerators .exit)) (now (objects .exit)) (now (values .exit)) (now (out .exit)) r ⌝ }
+    ensures rules { λ r. ⌜ WritesByRules (now (text .entry)) (now (definitions .entry)) (now (enumerators .entry)) (now (objects .entry)) (now (values .entry)) (now (out .entry)) (now (definitions .exit)) (now (enumerators .exit)) (now (objects .exit)) (now (values .exit)) (now (out .exit)) r ⌝ }
+    ensures demand_3 { λ r. ⌜ (FullRoom (now (definitions .entry)) (now (enumerators .entry)) (now (objects .entry)) (now (values .entry)) → Demand-3 (now (text .entry)) (r .answer)) ⌝ }
 {
     let w = reading::read_spanned(text, definitions, enumerators, objects, values);
     let r = w.reading;

@@ -1,9 +1,8 @@
 use native.Mathlib.Omega.{arith}
 use borrow.Author.Needs.{needs}
-use Rattle.definitions.proofs.Acts.{tables, typed-plain, typed-list, reference-defined, integer-defined, float-defined, string-defined, truths-none, truths-there, boolean-defined, enum-defined, parameters-none, parameters-there, enumerator-there, definition-none, definitions-on, definitions-gone, enumerators-on}
-use Rattle.definitions.specs.Rows.{then, Fill, Rows, ValueRows}
-use Rattle.filling.proofs.Filling.{going}
-use Rattle.filling.specs.Fills.{Going}
+use Rattle.definitions.proofs.Acts.{tables, typed-plain, typed-list, reference-defined, integer-defined, float-defined, string-defined, truths-none, truths-there, boolean-defined, enum-defined, parameters-none, parameters-there, enumerator-there, definition-none, definitions-on, definitions-gone, enumerators-on, then, ValueRows}
+use Rattle.definitions.specs.Rows.{Fill, Rows}
+use Rattle.filling.proofs.Filling.{going, Going}
 use Rattle.grammar.proofs.Rules.{comma-less, lsquare-taken, enumerators-item, definition-no, definitions-less, twice-less, twice-one-less, comma-one-less}
 use Rattle.grammar.proofs.Terminals.{rbrace-is, lsquare-is, rsquare-is, true-is, false-is, comma-is}
 use Rattle.grammar.proofs.Meeting.{_⊳_, went-on}

@@ -1,9 +1,8 @@
 use borrow.Author.Needs.{needs}
-use Rattle.implementation.proofs.Implementing.{all, specs-on, specs-gone}
+use Rattle.implementation.proofs.Implementing.{all, specs-on, specs-gone, beside}
 use Rattle.implementation.proofs.Noting.{noted}
-use Rattle.implementation.specs.Places.{beside, FillAll, AllRows}
-use Rattle.filling.proofs.Filling.{going}
-use Rattle.filling.specs.Fills.{Going}
+use Rattle.implementation.specs.Places.{FillAll, AllRows}
+use Rattle.filling.proofs.Filling.{going, Going}
 use Rattle.grammar.proofs.Rules.{kind-less}
 use Rattle.grammar.specs.Readers.{left}
 use Rattle.grammar.specs.Grammar.{specs}

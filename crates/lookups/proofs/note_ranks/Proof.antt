@@ -1,8 +1,7 @@
 -- `lookups::note_ranks` meets its contract.
 -- Assumes nothing.
 use native.Mathlib.Omega.{arith}
-use Rattle.lookups.proofs.Notes.{noted-none, noted-more, noted-all}
-use Rattle.lookups.specs.Ranks.{NotesRanksTo}
+use Rattle.lookups.proofs.Notes.{noted-none, noted-more, noted-all, NotesRanksTo}
 use lib.ListN.{length, length-set}
 use mathlib.Core.Path.{_≡_, refl}
 use Prim.Native.Nat.{_≤_, _-_, _*_, min}

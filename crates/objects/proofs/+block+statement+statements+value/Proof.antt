@@ -1,9 +1,8 @@
 use native.Mathlib.Omega.{arith}
 use borrow.Author.Needs.{needs}
-use Rattle.objects.proofs.Stated.{lines, statements-on, statements-gone, block-none, block-there, value-true-there, value-false-there, value-name-there, value-number-there, value-string-there, value-float-there, value-auto-there, value-none, statement-there}
-use Rattle.objects.specs.Rows.{then, Fill, StatementRows}
-use Rattle.filling.proofs.Filling.{going}
-use Rattle.filling.specs.Fills.{Going}
+use Rattle.objects.proofs.Stated.{lines, statements-on, statements-gone, block-none, block-there, value-true-there, value-false-there, value-name-there, value-number-there, value-string-there, value-float-there, value-auto-there, value-none, statement-there, then}
+use Rattle.objects.specs.Rows.{Fill, StatementRows}
+use Rattle.filling.proofs.Filling.{going, Going}
 use Rattle.grammar.proofs.Rules.{name-taken, name-less, value-no}
 use Rattle.grammar.proofs.Terminals.{rbrace-is, equals-is}
 use Rattle.grammar.proofs.Meeting.{went-on}

@@ -1,8 +1,7 @@
 use borrow.Author.Needs.{needs}
-use Rattle.objects.proofs.Applied.{all, objects-on, objects-gone}
-use Rattle.objects.specs.Rows.{beside, FillAll, AllRows}
-use Rattle.filling.proofs.Filling.{going}
-use Rattle.filling.specs.Fills.{Going}
+use Rattle.objects.proofs.Applied.{all, objects-on, objects-gone, beside}
+use Rattle.objects.specs.Rows.{FillAll, AllRows}
+use Rattle.filling.proofs.Filling.{going, Going}
 use Rattle.grammar.proofs.Rules.{kind-less}
 use Rattle.grammar.specs.Readers.{left}
 use Rattle.grammar.specs.Grammar.{objects}

@@ -1,4 +1,3 @@
-use Rattle.reading.proofs.Demand.{demand-3}
 use borrow.Author.Needs.{needs}
 use Rattle.reading.proofs.read.Statement.{statement}
 use Rattle.reading.proofs.read.Tie as tie
@@ -22,7 +21,9 @@ same-length-4 : tie.Need-same-length-4
 same-length-4 c = search needs
 
 returns : tie.Need-returns
-returns c = ((c .before .before .before .before .before .before .before .before .before .read-spanned .ensures) .reads, λ h. demand-3 h ((c .before .before .before .before .before .before .before .before .before .read-spanned .ensures) .reads))
+returns c =
+    let k = c .before .before .before .before .before .before .before .before .before .read-spanned .ensures in
+    (k .0 .reads, (k .1 .0, k .1 .1))
 
 pub read-spec : {M : Type 1} → statement M
 read-spec =

@@ -12,7 +12,7 @@ part-requires c κs = search needs
 
 returns : tie.Need-returns
 unfolding partLength
-returns c = ap length (c .part .ensures)
+returns c = ap length (c .part .ensures .0)
 
 pub kaukslini-part-length-spec : {M : Type 1} → statement M
 kaukslini-part-length-spec = tie.close (tie.spec part-requires returns)

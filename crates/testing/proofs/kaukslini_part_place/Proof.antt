@@ -1,6 +1,6 @@
 -- `testing::kaukslini_part_place` meets its contract: the tests say which case of `partPlace` holds.
 -- Assumes nothing.
-use Rattle.testing.proofs.Parts.{place-inside, place-long, place-past}
+use Rattle.token.proofs.Lexemes.{place-inside, place-long, place-past}
 use borrow.Author.Needs.{needs}
 use Rattle.testing.proofs.kaukslini_part_place.Statement.{statement}
 use Rattle.testing.proofs.kaukslini_part_place.Tie as tie

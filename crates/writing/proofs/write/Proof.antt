@@ -1,4 +1,5 @@
 use Rattle.writing.proofs.Calling.{refused-writes, definitions-long, enumerators-long, objects-long, values-long, definitions-front, enumerators-front, objects-front, values-front, lent-length, accepted-writes}
+use Rattle.writing.proofs.ByRules.{and-rules}
 use borrow.Author.Needs.{needs}
 use Rattle.writing.proofs.write.Statement.{statement}
 use Rattle.writing.proofs.write.Tie as tie
@@ -17,28 +18,28 @@ enum-told : tie.Need-enum-told
 enum-told c = search needs
 
 slice-relend-prefix-put-out : tie.Need-slice-relend-prefix-put-out
-slice-relend-prefix-put-out c = definitions-long (c .before .before .before .before .before .before .before .before .before .before .before .read-spanned .ensures) ((c .enum-told .given) .1)
+slice-relend-prefix-put-out c = definitions-long (c .before .before .before .before .before .before .before .before .before .before .before .read-spanned .ensures .0) ((c .enum-told .given) .1)
 
 slice-aggregate-put-out : tie.Need-slice-aggregate-put-out
-slice-aggregate-put-out c = definitions-front (c .before .before .before .before .before .before .before .before .before .before .before .before .read-spanned .ensures) ((c .before .enum-told .given) .1)
+slice-aggregate-put-out c = definitions-front (c .before .before .before .before .before .before .before .before .before .before .before .before .read-spanned .ensures .0) ((c .before .enum-told .given) .1)
 
 slice-relend-prefix-put-out-2 : tie.Need-slice-relend-prefix-put-out-2
-slice-relend-prefix-put-out-2 c = enumerators-long (c .before .before .before .before .before .before .before .before .before .before .before .before .read-spanned .ensures) ((c .before .enum-told .given) .1)
+slice-relend-prefix-put-out-2 c = enumerators-long (c .before .before .before .before .before .before .before .before .before .before .before .before .read-spanned .ensures .0) ((c .before .enum-told .given) .1)
 
 slice-aggregate-put-out-2 : tie.Need-slice-aggregate-put-out-2
-slice-aggregate-put-out-2 c = enumerators-front (c .before .before .before .before .before .before .before .before .before .before .before .before .before .read-spanned .ensures) ((c .before .before .enum-told .given) .1)
+slice-aggregate-put-out-2 c = enumerators-front (c .before .before .before .before .before .before .before .before .before .before .before .before .before .read-spanned .ensures .0) ((c .before .before .enum-told .given) .1)
 
 slice-relend-prefix-put-out-3 : tie.Need-slice-relend-prefix-put-out-3
-slice-relend-prefix-put-out-3 c = objects-long (c .before .before .before .before .before .before .before .before .before .before .before .before .before .read-spanned .ensures) ((c .before .before .enum-told .given) .1)
+slice-relend-prefix-put-out-3 c = objects-long (c .before .before .before .before .before .before .before .before .before .before .before .before .before .read-spanned .ensures .0) ((c .before .before .enum-told .given) .1)
 
 slice-aggregate-put-out-3 : tie.Need-slice-aggregate-put-out-3
-slice-aggregate-put-out-3 c = objects-front (c .before .before .before .before .before .before .before .before .before .before .before .before .before .before .read-spanned .ensures) ((c .before .before .before .enum-told .given) .1)
+slice-aggregate-put-out-3 c = objects-front (c .before .before .before .before .before .before .before .before .before .before .before .before .before .before .read-spanned .ensures .0) ((c .before .before .before .enum-told .given) .1)
 
 slice-relend-prefix-put-out-4 : tie.Need-slice-relend-prefix-put-out-4
-slice-relend-prefix-put-out-4 c = values-long (c .before .before .before .before .before .before .before .before .before .before .before .before .before .before .read-spanned .ensures) ((c .before .before .before .enum-told .given) .1)
+slice-relend-prefix-put-out-4 c = values-long (c .before .before .before .before .before .before .before .before .before .before .before .before .before .before .read-spanned .ensures .0) ((c .before .before .before .enum-told .given) .1)
 
 slice-aggregate-put-out-4 : tie.Need-slice-aggregate-put-out-4
-slice-aggregate-put-out-4 c = values-front (c .before .before .before .before .before .before .before .before .before .before .before .before .before .before .before .read-spanned .ensures) ((c .before .before .before .before .enum-told .given) .1)
+slice-aggregate-put-out-4 c = values-front (c .before .before .before .before .before .before .before .before .before .before .before .before .before .before .before .read-spanned .ensures .0) ((c .before .before .before .before .enum-told .given) .1)
 
 put-out-requires : tie.Need-put-out-requires
 put-out-requires c κs = search needs
@@ -56,7 +57,7 @@ same-length-4 : tie.Need-same-length-4
 same-length-4 c = search needs
 
 returns : tie.Need-returns
-returns c = refused-writes (c .before .before .before .before .before .before .before .before .before .before .before .before .read-spanned .ensures) _ _ ((c .before .answer .given) .1) _
+returns c = and-rules (refused-writes (c .before .before .before .before .before .before .before .before .before .before .before .before .read-spanned .ensures .0) _ _ ((c .before .answer .given) .1) _)
 
 same-length-5 : tie.Need-same-length-5
 same-length-5 c = lent-length 6656 ((c .before .before .before .before .before .before .before .before .before .before .before .before .before .before .before .before .before .before .before .before .before .before .before .before .before .before .before .before .before .before .before .before .before .before .before .before .before .before .args .definitions) .now) ((c .before .before .before .before .before .before .before .before .before .before .before .before .before .before .before .before .before .before .before .before .before .before .before .before .before .before .before .read-spanned .last) .1 .0) ((c .before .before .before .before .before .before .before .before .before .before .put-out .last) .1 .0) ((c .before .before .before .before .before .before .before .before .before .before .put-out .kept) .1 .0) ((c .before .before .before .before .before .before .before .before .before .before .before .before .before .before .before .before .before .before .before .before .before .before .before .before .before .before .before .read-spanned .kept) .1 .0)
@@ -74,7 +75,7 @@ same-length-9 : tie.Need-same-length-9
 same-length-9 c = search needs
 
 returns-2 : tie.Need-returns-2
-returns-2 c = accepted-writes (c .before .before .before .before .before .before .before .before .before .before .before .before .before .before .before .before .before .before .before .before .before .before .before .before .before .before .before .read-spanned .ensures) ((c .before .before .before .before .before .before .before .before .before .before .before .before .before .before .before .before .enum-told .given) .1) _ _ _ _ _ _ _ (c .before .before .before .before .before .before .before .before .before .before .put-out .ensures)
+returns-2 c = and-rules (accepted-writes (c .before .before .before .before .before .before .before .before .before .before .before .before .before .before .before .before .before .before .before .before .before .before .before .before .before .before .before .read-spanned .ensures .0) ((c .before .before .before .before .before .before .before .before .before .before .before .before .before .before .before .before .enum-told .given) .1) _ _ _ _ _ _ _ (c .before .before .before .before .before .before .before .before .before .before .put-out .ensures))
 
 pub write-spec : {M : Type 1} → statement M
 write-spec =

@@ -2,8 +2,8 @@ use native.Mathlib.Omega.{arith}
 use borrow.Author.Needs.{needs}
 use Rattle.grammar.proofs.Rules.{comma-less, lsquare-taken, P-pass, P-by, enumerator-by, enumerators-item, enumerators-again, enumerators-done, boolean-range-pass, boolean-range-by, boolean-by, enum-by, string-by, float-by, integer-by, reference-by, definition-no, definitions-again, definitions-done, definitions-less, twice-less, twice-one-less, comma-one-less}
 use Rattle.grammar.proofs.Terminals.{rbrace-is, lsquare-is, rsquare-is, true-is, false-is, comma-is}
-use Rattle.grammar.proofs.Meeting.{_⊳_, still, went-on}
-use Rattle.grammar.specs.Readers.{Still, left, sortAt}
+use Rattle.grammar.proofs.Meeting.{_⊳_, still, went-on, Still}
+use Rattle.grammar.specs.Readers.{left, sortAt}
 use Rattle.grammar.specs.Grammar.{definitions, enumerators}
 use denote.Ref.{now}
 use Prim.Native.Nat.{_+_, _*_, ℕ, _<_}

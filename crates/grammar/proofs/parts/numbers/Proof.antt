@@ -1,7 +1,7 @@
 use borrow.Author.Needs.{needs}
 use Rattle.grammar.proofs.Rules.{number-item, comma-less, numbers-again, numbers-done}
-use Rattle.grammar.proofs.Meeting.{still}
-use Rattle.grammar.specs.Readers.{Still, left}
+use Rattle.grammar.proofs.Meeting.{still, Still}
+use Rattle.grammar.specs.Readers.{left}
 use Rattle.grammar.specs.Grammar.{numbers}
 use Rattle.grammar.proofs.parts.numbers.Statement.{statement}
 use Rattle.grammar.proofs.parts.numbers.Tie as tie

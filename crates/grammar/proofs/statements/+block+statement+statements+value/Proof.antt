@@ -2,8 +2,8 @@ use native.Mathlib.Omega.{arith}
 use borrow.Author.Needs.{needs}
 use Rattle.grammar.proofs.Rules.{name-taken, name-less, block-pass, block-by, value-numbers, value-strings, value-floats, value-autos, value-trues, value-falses, value-names, value-no, statement-by, statements-again, statements-done}
 use Rattle.grammar.proofs.Terminals.{rbrace-is, equals-is}
-use Rattle.grammar.proofs.Meeting.{_⊳_, still, went-on}
-use Rattle.grammar.specs.Readers.{Still, left}
+use Rattle.grammar.proofs.Meeting.{_⊳_, still, went-on, Still}
+use Rattle.grammar.specs.Readers.{left}
 use Rattle.grammar.specs.Grammar.{statements}
 use denote.Ref.{now}
 use Prim.Native.Nat.{_+_, _*_, ℕ, _<_}

@@ -1,11 +1,6 @@
-use mathlib.Core.Path.{sym, ap}
-use Prim.Native.Nat.{_+_}
-use mathlib.Core.List.{[]}
-use lib.ListN.{getD}
-use Rattle.token.specs.Words.{known}
 use Rattle.meaning.specs.Kinds.{kind-number}
-use Rattle.kinds.specs.Kinds.{kind-of}
-use Rattle.kinds.specs.declared.Kind.{Kind}
+use Rattle.kinds.specs.Kinds.{kind-of, word-of, padded}
+use Rattle.kinds.proofs.Numbers.{told-word}
 use borrow.Author.Needs.{needs}
 use Rattle.kinds.proofs.Kind.word.Statement.{statement}
 use Rattle.kinds.proofs.Kind.word.Tie as tie
@@ -52,56 +47,56 @@ enum-told-13 : tie.Need-enum-told-13
 enum-told-13 c = search needs
 
 returns : tie.Need-returns
-unfolding kind-number kind-of
-returns c = sym (ap (λ (k : Kind). getD known (8 + kind-number (kind-of k)) []) (c .before .before .enum-told .given .1))
+unfolding kind-number kind-of word-of padded
+returns c = told-word _ _ (c .before .before .enum-told .given .1)
 
 returns-2 : tie.Need-returns-2
-unfolding kind-number kind-of
-returns-2 c = sym (ap (λ (k : Kind). getD known (8 + kind-number (kind-of k)) []) (c .before .before .enum-told2 .given .1))
+unfolding kind-number kind-of word-of padded
+returns-2 c = told-word _ _ (c .before .before .enum-told2 .given .1)
 
 returns-3 : tie.Need-returns-3
-unfolding kind-number kind-of
-returns-3 c = sym (ap (λ (k : Kind). getD known (8 + kind-number (kind-of k)) []) (c .before .before .enum-told3 .given .1))
+unfolding kind-number kind-of word-of padded
+returns-3 c = told-word _ _ (c .before .before .enum-told3 .given .1)
 
 returns-4 : tie.Need-returns-4
-unfolding kind-number kind-of
-returns-4 c = sym (ap (λ (k : Kind). getD known (8 + kind-number (kind-of k)) []) (c .before .before .enum-told4 .given .1))
+unfolding kind-number kind-of word-of padded
+returns-4 c = told-word _ _ (c .before .before .enum-told4 .given .1)
 
 returns-5 : tie.Need-returns-5
-unfolding kind-number kind-of
-returns-5 c = sym (ap (λ (k : Kind). getD known (8 + kind-number (kind-of k)) []) (c .before .before .enum-told5 .given .1))
+unfolding kind-number kind-of word-of padded
+returns-5 c = told-word _ _ (c .before .before .enum-told5 .given .1)
 
 returns-6 : tie.Need-returns-6
-unfolding kind-number kind-of
-returns-6 c = sym (ap (λ (k : Kind). getD known (8 + kind-number (kind-of k)) []) (c .before .before .enum-told6 .given .1))
+unfolding kind-number kind-of word-of padded
+returns-6 c = told-word _ _ (c .before .before .enum-told6 .given .1)
 
 returns-7 : tie.Need-returns-7
-unfolding kind-number kind-of
-returns-7 c = sym (ap (λ (k : Kind). getD known (8 + kind-number (kind-of k)) []) (c .before .before .enum-told7 .given .1))
+unfolding kind-number kind-of word-of padded
+returns-7 c = told-word _ _ (c .before .before .enum-told7 .given .1)
 
 returns-8 : tie.Need-returns-8
-unfolding kind-number kind-of
-returns-8 c = sym (ap (λ (k : Kind). getD known (8 + kind-number (kind-of k)) []) (c .before .before .enum-told8 .given .1))
+unfolding kind-number kind-of word-of padded
+returns-8 c = told-word _ _ (c .before .before .enum-told8 .given .1)
 
 returns-9 : tie.Need-returns-9
-unfolding kind-number kind-of
-returns-9 c = sym (ap (λ (k : Kind). getD known (8 + kind-number (kind-of k)) []) (c .before .before .enum-told9 .given .1))
+unfolding kind-number kind-of word-of padded
+returns-9 c = told-word _ _ (c .before .before .enum-told9 .given .1)
 
 returns-10 : tie.Need-returns-10
-unfolding kind-number kind-of
-returns-10 c = sym (ap (λ (k : Kind). getD known (8 + kind-number (kind-of k)) []) (c .before .before .enum-told10 .given .1))
+unfolding kind-number kind-of word-of padded
+returns-10 c = told-word _ _ (c .before .before .enum-told10 .given .1)
 
 returns-11 : tie.Need-returns-11
-unfolding kind-number kind-of
-returns-11 c = sym (ap (λ (k : Kind). getD known (8 + kind-number (kind-of k)) []) (c .before .before .enum-told11 .given .1))
+unfolding kind-number kind-of word-of padded
+returns-11 c = told-word _ _ (c .before .before .enum-told11 .given .1)
 
 returns-12 : tie.Need-returns-12
-unfolding kind-number kind-of
-returns-12 c = sym (ap (λ (k : Kind). getD known (8 + kind-number (kind-of k)) []) (c .before .before .enum-told12 .given .1))
+unfolding kind-number kind-of word-of padded
+returns-12 c = told-word _ _ (c .before .before .enum-told12 .given .1)
 
 returns-13 : tie.Need-returns-13
-unfolding kind-number kind-of
-returns-13 c = sym (ap (λ (k : Kind). getD known (8 + kind-number (kind-of k)) []) (c .before .before .enum-told13 .given .1))
+unfolding kind-number kind-of word-of padded
+returns-13 c = told-word _ _ (c .before .before .enum-told13 .given .1)
 
 pub word-spec : {M : Type 1} → statement M
 word-spec =

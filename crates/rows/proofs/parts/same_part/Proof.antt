@@ -20,7 +20,7 @@ same-bytes-requires : tie.Need-same-bytes-requires
 same-bytes-requires c κs = search needs
 
 returns : tie.Need-returns
-returns c = (c .same-bytes .ensures) ∙ ap₂ same (c .before .before .part .ensures) (c .before .part2 .ensures)
+returns c = (c .same-bytes .ensures) ∙ ap₂ same (c .before .before .part .ensures .0) (c .before .part2 .ensures .0)
 
 pub same-part-spec : {M : Type 1} → statement M
 same-part-spec = tie.close (tie.spec part-requires part-requires-2 same-bytes-requires returns)

@@ -17,7 +17,7 @@ same-length : tie.Need-same-length
 same-length c = search needs
 
 returns : tie.Need-returns
-returns c = wrote-as ((c .before .before .before .part .ensures)) (c .before .before .put-bytes .ensures)
+returns c = wrote-as ((c .before .before .before .part .ensures .0)) (c .before .before .put-bytes .ensures)
 
 pub put-part-spec : {M : Type 1} → statement M
 put-part-spec = tie.close (tie.spec part-requires put-bytes-requires same-length returns)

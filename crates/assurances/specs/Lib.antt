@@ -1,0 +1,6 @@
+-- What is proved of the public calls taken together, and of every accepted text. Assumes nothing.
+pub mod RoundTrip
+pub mod Own
+pub mod Names
+pub mod Ordering
+pub mod Parts
