@@ -22,6 +22,7 @@ pub fn heavy() -> Vec<Heavy> {
     all.extend(against_all());
     all.extend(in_parts());
     all.extend(against_kinds());
+    all.extend(against_summaries());
     all
 }
 
@@ -62,6 +63,12 @@ fn name(length: usize, number: usize) -> String {
     const BYTES: &[u8; 63] = b"abcdefghijklmnopqrstuvwxyzABCDEFGHIJKLMNOPQRSTUVWXYZ0123456789_";
     let last = [BYTES[number / 63], BYTES[number % 63]].map(char::from);
     "n".repeat(length - 2) + &String::from_iter(last)
+}
+
+/// A name of so many bytes; names of one length differ in the two bytes behind the first only.
+fn inner(length: usize, number: usize) -> String {
+    let last = name(2, number);
+    "n".to_string() + &last + &"n".repeat(length - 3)
 }
 
 /// Texts that fill the tables.
@@ -345,6 +352,64 @@ fn against_defaults() -> Vec<Heavy> {
             &format!("TASK{{{presets}}};"),
             &each(254, |number| format!("TASK {};", name(2, number))),
             19,
+        ),
+    ]
+}
+
+/// Names that agree in their lengths, their first and their last bytes, sought in the rows.
+fn against_summaries() -> Vec<Heavy> {
+    let definitions = |count, length, mark: &str| {
+        each(count, |number| {
+            format!("INT32 {}{mark};", inner(length, number))
+        })
+    };
+    let statements = |count, from: usize, step: usize| {
+        each(count, |number| {
+            format!("{}=1;", inner(20, from + step * number))
+        })
+    };
+    let needed = format!(
+        "TASK{{{}INT32 {}[];}};",
+        definitions(511, 20, ""),
+        inner(20, 511)
+    );
+    let late = format!(
+        "TASK t{{{}{}}};",
+        statements(1_520, 511, 0),
+        statements(511, 0, 1)
+    );
+    let lists = format!("TASK{{{}}};", definitions(512, 20, "[]"));
+    let enumerators = each(1_024, |number| format!(",{}", inner(18, number)));
+    let values = format!("x={};", inner(18, 1_023)).repeat(2_048);
+    let objects = |count, length| each(count, |number| format!("TASK {};", inner(length, number)));
+    let references = format!("x={};", inner(25, 252)).repeat(2_048);
+    vec![
+        accepted("511 needed attributes, alike at both ends", &needed, &late),
+        refused(
+            "statements of no definition, alike at both ends",
+            &lists,
+            &format!("TASK t{{{}}};", statements(2_040, 600, 1)),
+            13,
+        ),
+        accepted(
+            "an enumerator sought 2,048 times, alike at both ends",
+            &format!("TASK{{ENUM[{}]x[];}};", &enumerators[1..]),
+            &format!("TASK t{{{values}}};"),
+        ),
+        accepted(
+            "an object sought 2,048 times, alike at both ends",
+            "ISR{TASK_TYPE x[];};",
+            &format!("{}ISR i{{{references}}};", objects(253, 25)),
+        ),
+        accepted(
+            "512 long definitions, alike at both ends",
+            &format!("TASK{{{}}};", definitions(512, 120, "")),
+            "",
+        ),
+        accepted(
+            "long object names, alike at both ends",
+            "",
+            &objects(254, 250),
         ),
     ]
 }

@@ -1,10 +1,10 @@
 -- The laws of places: where one of the cells stands, where rows in order are parted, and how many stand before that.
 -- Assumes nothing.
-use Prim.Native.Nat.{ℕ, zero, suc, _+_, _-_, _*_, _<_, _≤_}
+use Prim.Native.Nat.{ℕ, zero, suc, _+_, _-_, _*_, _/_, _%_, _<_, _≤_}
 use mathlib.Core.Path.{_≡_, refl, sym, ap, subst, _∙_}
 use mathlib.Core.Bool.{Bool, true, false, false≢true}
 use mathlib.Core.List.{List, [], _∷_, map}
-use native.Mathlib.Nat.{not-suc-le-zero, le-of-suc-le-suc}
+use native.Mathlib.Nat.{not-suc-le-zero, le-of-suc-le-suc, zero-mul}
 use native.Mathlib.Omega.{arith}
 use lib.ListN.{length, getD, take, drop, length-map}
 use lib.Dec.{eqb, leb}
@@ -12,15 +12,16 @@ use borrow.Author.Tests.{eqb-true, lt-ltb, le-ltb}
 use Rattle.rows.specs.Search.{rowName}
 use Rattle.token.specs.Find.{pick, both}
 use Rattle.token.specs.Tokens.{partOf}
-use Rattle.indexes.specs.Numbers.{nameNumber}
+use Rattle.indexes.specs.Numbers.{nameNumber, turned, digits, summaryOf}
 use Rattle.token.proofs.Find.{by-test}
 use Rattle.sorting.specs.Sorted.{Rising, among-cells}
 use Rattle.sorting.proofs.Cells.{rising-places}
 use Rattle.indexes.specs.declared.Order.{Order}
+use Rattle.indexes.specs.declared.Place.{Place as Spot}
 use Rattle.indexes.specs.declared.Order.the-variants.{Less, Same, More}
-use Rattle.indexes.specs.Indexing.{rowPair, pairOf, rowCell, leastOf, RowCompared, rank, Parts, PartsAt, nameRank, Ranks}
+use Rattle.indexes.specs.Indexing.{rowPair, pairOf, rowCell, leastOf, span, cellNumber, leastAt, CellCompared, rank, Parts, PartsAt, Stopped, Ends, nameRank, Ranks}
 use Rattle.indexes.proofs.Digits.{number-positive}
-use Rattle.indexes.proofs.Comparisons.{cell-less, cell-same, cell-more}
+use Rattle.indexes.proofs.Comparisons.{cell-number}
 
 -- a place of l with the cell c
 pub record Place (l : List ℕ) (c : ℕ) : Type 0 where
@@ -66,40 +67,53 @@ module _ (s t : List ℕ) (w c k m : ℕ) (x l : List ℕ) where
   unfolding PartsAt
   parts-all r = record { inside = omega arith; less = λ i h g. absurd (omega arith); more = λ i h g. absurd (omega arith) }
 
-  module _ (low high i : ℕ) (p : PartsAt s t w c k m x l low high) (g : i < length x) where
-    at-or-past : leastOf l k ≤ rowCell s t w c m (getD x i 0) → PartsAt s t w c k m x l low i
-    unfolding PartsAt
-    at-or-past h d = record { inside = p d .inside; less = p d .less; more = λ j a b. omega (arith, rising-rows (rowCell s t w c m) x i j d a b) }
+  pub stopped-end : Stopped s t w c k m x l (length x) false
+  stopped-end = record { here = λ e. absurd (false≢true e); past = λ e h. absurd (omega arith) }
 
-    module _ (r : Order) (o : RowCompared s t w c m (getD x i 0) k l r) where
-      -- the row at i is less
-      pub parts-less : r ≡ Less → ((j : ℕ) → getD x j 0 < 18446744073709551616) → PartsAt s t w c k m x l (i + 1) high
-      unfolding PartsAt
-      parts-less e h d =
-          let below = cell-less s t w c m (getD x i 0) k l (subst (RowCompared s t w c m (getD x i 0) k l) e o) (h i) in
+  module _ (low high i : ℕ) (p : PartsAt s t w c k m x l low high) (g : i < length x) where
+    at-or-past : leastAt s l k ≤ cellNumber s t w c m (getD x i 0) → PartsAt s t w c k m x l low i
+    unfolding PartsAt
+    at-or-past h d = record { inside = p d .inside; less = p d .less; more = λ j a b. omega (arith, rising-rows (cellNumber s t w c m) x i j d a b) }
+
+    module _ (r : Order) (o : CellCompared s t w c m (getD x i 0) k l r) where
+      compared : (q : Order) → r ≡ q → CellCompared s t w c m (getD x i 0) k l q
+      compared q e = subst (CellCompared s t w c m (getD x i 0) k l) e o
+
+      -- the cell at i is less
+      pub parts-less : r ≡ Less → PartsAt s t w c k m x l (i + 1) high
+      unfolding PartsAt CellCompared
+      parts-less e d =
+          let below : cellNumber s t w c m (getD x i 0) < leastAt s l k = compared Less e in
           record {
             inside = omega arith;
-            less = λ j a b. omega (arith, rising-rows (rowCell s t w c m) x j i d (omega arith) g);
+            less = λ j a b. omega (arith, rising-rows (cellNumber s t w c m) x j i d (omega arith) g);
             more = p d .more;
           }
 
       -- it is not
       pub parts-same : r ≡ Same → PartsAt s t w c k m x l low i
-      parts-same e = at-or-past (omega (arith, cell-same s t w c m (getD x i 0) k l (subst (RowCompared s t w c m (getD x i 0) k l) e o)))
+      parts-same e = at-or-past (omega (arith, cell-number s t w c m (getD x i 0) k l (compared Same e)))
 
       pub parts-more : r ≡ More → PartsAt s t w c k m x l low i
-      parts-more e = at-or-past (omega (arith, cell-more s t w c m (getD x i 0) k l (subst (RowCompared s t w c m (getD x i 0) k l) e o)))
+      unfolding CellCompared
+      parts-more e = let above : leastAt s l k + 18446744073709551616 ≤ cellNumber s t w c m (getD x i 0) = compared More e in at-or-past (omega arith)
+
+      pub stopped-same : r ≡ Same → Stopped s t w c k m x l i true
+      stopped-same e = record { here = λ _. (g, compared Same e); past = λ f. absurd (false≢true (sym f)) }
+
+      pub stopped-more : r ≡ More → Stopped s t w c k m x l i false
+      stopped-more e = record { here = λ f. absurd (false≢true f); past = λ _ _. compared More e }
 
   -- no place is left
-  pub parts-end : (low high : ℕ) → PartsAt s t w c k m x l low high → high ≡ low → PartsAt s t w c k m x l low low
-  parts-end low high p e = subst (PartsAt s t w c k m x l low) e p
+  pub ends-at : (low high : ℕ) (same : Bool) → PartsAt s t w c k m x l low high → Stopped s t w c k m x l high same → high ≡ low → Ends s t w c k m x l (record { at = low; same = same })
+  ends-at low high same p o e = record { parts = subst (PartsAt s t w c k m x l low) e p; stopped = subst (λ (i : ℕ). Stopped s t w c k m x l i same) e o }
 
 -- the place for a name and the key 0 is the name's rank
-pub parts-ranks : (s t : List ℕ) (w c m : ℕ) (x l : List ℕ) (r : ℕ) → PartsAt s t w c 0 m x l r r → Ranks s t w c m x l r
+pub ends-ranks : (s t : List ℕ) (w c m : ℕ) (x l : List ℕ) (p : Spot) → Ends s t w c 0 m x l p → Ranks s t w c m x l (p .at)
 unfolding PartsAt Ranks nameRank
-parts-ranks s t w c m x l r p n d b = parts-rank (rowCell s t w c m) x (leastOf l 0) r (p (d .rising))
+ends-ranks s t w c m x l p h n d b = parts-rank (cellNumber s t w c m) x (leastAt s l 0) (p .at) (h .parts (d .rising))
 
--- no row stands before those with an empty name
+-- no cell stands before those with an empty name
 part-none : (s : List ℕ) (at : ℕ) → partOf s at 0 ≡ []
 unfolding partOf
 part-none s at = by (both (leb at (length s)) (leb 0 (length s - at)))
@@ -109,19 +123,26 @@ part-none s at = by (both (leb at (length s)) (leb 0 (length s - at)))
     by false = refl
 
 least-pair : (s t : List ℕ) (w c m i : ℕ) → pairOf [] 0 ≤ rowPair s t w c m i
-unfolding pairOf rowPair nameNumber
+unfolding pairOf rowPair nameNumber turned digits
 least-pair s t w c m i = omega (arith, number-positive (rowName s t w m i))
 
-least-cell : (s t : List ℕ) (w c m i : ℕ) → leastOf [] 0 ≤ rowCell s t w c m i
+least-row : (s t : List ℕ) (w c m i : ℕ) → leastOf [] 0 ≤ rowCell s t w c m i
 unfolding leastOf rowCell
-least-cell s t w c m i = by (pairOf [] 0) (rowPair s t w c m i) (least-pair s t w c m i)
+least-row s t w c m i = by (pairOf [] 0) (rowPair s t w c m i) (least-pair s t w c m i)
   where
     by : (v p : ℕ) → v ≤ p → v * 18446744073709551616 ≤ p * 18446744073709551616 + i
     by v p h = omega arith
 
+least-cell : (s t : List ℕ) (w c m v : ℕ) → leastAt s [] 0 ≤ cellNumber s t w c m v
+unfolding leastAt cellNumber summaryOf
+least-cell s t w c m v = by (v / 65536 * span s) (rowCell s t w c m (v % 65536)) (zero-mul (span s)) (least-row s t w c m (v % 65536))
+  where
+    by : (p q : ℕ) → 0 * span s ≡ 0 → leastOf [] 0 ≤ q → 0 * span s + leastOf [] 0 ≤ p + q
+    by p q z h = omega (arith, z)
+
 pub rank-none : (s t : List ℕ) (w c m : ℕ) (x : List ℕ) (at len : ℕ) → len ≡ 0 → Ranks s t w c m x (partOf s at len) 0
 unfolding Ranks nameRank
 rank-none s t w c m x at len z n d h =
-    subst (λ (l : List ℕ). 0 ≡ rank (map (rowCell s t w c m) x) (leastOf l 0)) (sym (ap (partOf s at) z ∙ part-none s at))
-    (parts-rank (rowCell s t w c m) x (leastOf [] 0) 0
+    subst (λ (l : List ℕ). 0 ≡ rank (map (cellNumber s t w c m) x) (leastAt s l 0)) (sym (ap (partOf s at) z ∙ part-none s at))
+    (parts-rank (cellNumber s t w c m) x (leastAt s [] 0) 0
     (record { inside = omega arith; less = λ i a b. absurd (omega arith); more = λ i a b. least-cell s t w c m (getD x i 0) }))

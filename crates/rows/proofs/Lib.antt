@@ -5,3 +5,4 @@ pub mod Starts
 pub mod Orders
 pub mod Searches
 pub mod Tallies
+pub mod Firsts

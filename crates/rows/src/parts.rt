@@ -1,16 +1,15 @@
 // Comparing bytes, and parts of a text.
 ghost use mathlib.Core.Path.{_≡_};
+ghost use lib.ListN.{length, getD};
 ghost use Rattle.token.specs.Words.{same};
 ghost use Rattle.token.specs.Tokens.{partOf};
 
-// Whether a and b are the same bytes.
-pub fn same_bytes(a: &[u8], b: &[u8]) -> bool
+// Whether a and b, which are as long and have the same first byte, are the same bytes.
+fn same_rest(a: &[u8], b: &[u8]) -> bool
+    requires { ⌜ (length (now a) ≡ length (now b)) × (getD (now a) 0 0 ≡ getD (now b) 0 0) ⌝ }
     ensures { λ r. ⌜ r ≡ same (now (a .entry)) (now (b .entry)) ⌝ }
 {
-    if a.len() != b.len() {
-        return false;
-    }
-    let mut i = 0;
+    let mut i = 1;
     while i < a.len() {
         if a[i] != b[i] {
             return false;
@@ -18,6 +17,22 @@ pub fn same_bytes(a: &[u8], b: &[u8]) -> bool
         i += 1;
     }
     true
+}
+
+// Whether a and b are the same bytes: the lengths are compared first, then the first bytes, then the rest.
+pub fn same_bytes(a: &[u8], b: &[u8]) -> bool
+    ensures { λ r. ⌜ r ≡ same (now (a .entry)) (now (b .entry)) ⌝ }
+{
+    if a.len() != b.len() {
+        return false;
+    }
+    if a.len() == 0 {
+        return true;
+    }
+    if a[0] != b[0] {
+        return false;
+    }
+    same_rest(a, b)
 }
 
 // Whether two parts of the text are the same bytes; a part that does not lie inside is empty.
