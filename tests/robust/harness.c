@@ -1,4 +1,4 @@
-// The calls kaukslini_read and kaukslini_write on each text of standard input, in guarded memory, and checks of what is promised of the lent
+// The calls kaukslini_read, kaukslini_write and kaukslini_heading on each text of standard input, in guarded memory, and checks of what is promised of the lent
 // memory and of the answer, whatever the text is. docs/ROBUSTNESS.md says what is checked.
 //
 //   harness [FOLDER]      the texts of standard input, as robust_texts writes them; a text that fails is saved in FOLDER
@@ -38,6 +38,8 @@ uint8_t kaukslini_write(const uint8_t *text, size_t text_length, size_t *definit
                         size_t enumerators_length, size_t *objects, size_t objects_length, size_t *values, size_t values_length,
                         uint8_t *output, size_t output_length, size_t *told, size_t told_length);
 
+uint8_t kaukslini_heading(const uint8_t *text, size_t text_length, size_t *told, size_t told_length);
+
 // ---- The rooms, as docs/TABLES.md fixes them ----
 
 enum { DEFINITIONS, ENUMERATORS, OBJECTS, VALUES, TABLES };
@@ -51,6 +53,7 @@ static const size_t WIDTHS[TABLES] = {13, 3, 8, 9};
 #define LONGEST_TEXT ((size_t)65535) // that is not refused for its length
 #define TOLD_BY_READ ((size_t)18)    // the place, four sizes, thirteen counts
 #define TOLD_BY_WRITE ((size_t)2)    // the place, the length of the normal text
+#define TOLD_BY_HEADING ((size_t)4)  // place and length of the version and of the name; or the place of the refusal
 #define MOST_TOLD ((size_t)21)
 #define USUAL_OUTPUT ((size_t)65535)
 #define PAST ((size_t)40)            // cells past the room of a longer table
@@ -392,17 +395,27 @@ enum fault {
     READS_BESIDE_A_TABLE,
     CELL_OF_AN_UNSET_ONE,
     BYTE_OF_AN_UNSET_ONE,
+    HEADING_IS_6,
+    HEADING_AT_ANOTHER_PLACE,
+    HEADING_WITH_A_QUOTE,
+    HEADING_OF_ANOTHER_NAME,
+    CELL_PAST_THE_HEADING,
+    HEADING_READS_PAST_THE_TEXT,
+    HEADING_READS_BESIDE_THE_TEXT,
 };
 
 static enum fault planted = NO_FAULT;
 
 static unsigned spoil(const struct slices *s, bool is_write, unsigned number);
+static unsigned spoil_heading(const struct slices *s, unsigned number);
 
 // What the text's first reading answered, and what was written first: all other calls must agree.
 static struct {
-    bool is_read, is_written;
+    bool is_read, is_written, is_headed;
     unsigned number;
     size_t told[TOLD_BY_READ];
+    unsigned heading_number;
+    size_t heading[TOLD_BY_HEADING];
     unsigned char *rows[TABLES]; // of their rooms
     unsigned char *written;
     size_t length, written_room;
@@ -547,6 +560,68 @@ static bool try_read(const char *name, size_t told_cells) {
     return told_holds(first.told, TOLD_BY_READ) && tables_hold(number);
 }
 
+static bool is_of_a_word(unsigned char byte) {
+    return (byte >= 'a' && byte <= 'z') || (byte >= 'A' && byte <= 'Z') || (byte >= '0' && byte <= '9') || byte == '_';
+}
+
+// What the first heading tells are a string's inside and a word, in this order; what `read` refuses with 3, 4 or 5 lies behind both.
+static bool heading_holds(size_t version, size_t length, size_t name, size_t name_length) {
+    const unsigned char *bytes = now.bytes;
+    if (version == 0 || version > now.length || length >= now.length - version)
+        return fail("the version is %zu bytes at %zu of %zu", length, version, now.length);
+    if (bytes[version - 1] != '"' || bytes[version + length] != '"' || memchr(bytes + version, '"', length) != NULL)
+        return fail("the version of %zu bytes at %zu is not the inside of a string", length, version);
+    if (name <= version + length || name > now.length || name_length == 0 || name_length >= now.length - name)
+        return fail("the name is %zu bytes at %zu of %zu", name_length, name, now.length);
+    for (size_t i = 0; i < name_length; i++)
+        if (!is_of_a_word(bytes[name + i]))
+            return fail("the name of %zu bytes at %zu is no word", name_length, name);
+    if (is_of_a_word(bytes[name - 1]) || is_of_a_word(bytes[name + name_length]))
+        return fail("the name of %zu bytes at %zu is a part of a word", name_length, name);
+    if (first.number >= 3 && first.number <= 5 && first.told[0] <= name + name_length)
+        return fail("a heading is told, and refusal %u is at %zu", first.number, first.told[0]);
+    return true;
+}
+
+static bool keep_heading(unsigned number) {
+    for (size_t i = 0; i < TOLD_BY_HEADING; i++)
+        first.heading[i] = told_at(i);
+    if (number == 0 && !heading_holds(first.heading[0], first.heading[1], first.heading[2], first.heading[3]))
+        return false;
+    if (number != 0 && (number == TABLES_TOO_SHORT || number > 5 || number != first.number || first.heading[0] != first.told[0]))
+        return fail("the heading is refused with %u at %zu, and the text with %u at %zu", number, first.heading[0], first.number, first.told[0]);
+    if (number == 0 && now.length > LONGEST_TEXT)
+        return fail("a heading of %zu bytes", now.length);
+    first.heading_number = number;
+    first.is_headed = true;
+    return true;
+}
+
+// `heading`, which is lent no tables, with so many cells for what is told.
+static bool try_heading(const char *name, size_t told_cells) {
+    now.call = name;
+    lend(&told, now.side, told_cells * CELL);
+    fill(&told);
+    struct slices s = {.text = lent(&text), .text_length = text.length, .told = (size_t *)(void *)lent(&told), .told_length = told_cells};
+    unsigned long errors = memcheck_errors();
+    shut_for_call(&text, false);
+    shut_for_call(&told, true);
+    unsigned number = kaukslini_heading(s.text, s.text_length, s.told, s.told_length);
+    if (planted != NO_FAULT)
+        number = spoil_heading(&s, number);
+    calls++;
+    size_t cells = number == 0 ? TOLD_BY_HEADING : 1;
+    if (!is_set(&told, least(told_cells, cells) * CELL))
+        return fail("memory that the call is to set is not set");
+    if (memcheck_errors() != errors)
+        return fail("valgrind reports %lu errors", memcheck_errors() - errors);
+    if (!first.is_headed && !keep_heading(number))
+        return false;
+    if (number != first.heading_number)
+        return fail("the heading's number is %u, and was %u", number, first.heading_number);
+    return told_holds(first.heading, cells);
+}
+
 static bool keep_written(void) {
     first.length = told_at(1);
     if (first.length == 0 || first.length > output->length)
@@ -635,6 +710,8 @@ static bool try_side(enum side side, bool longer) {
     fill_tables();
     if (!try_read("read", TOLD_BY_READ) || !try_read("read again, into what was left", now.index % MOST_TOLD))
         return false;
+    if (!try_heading("heading", TOLD_BY_HEADING + 1) || !try_heading("heading again", now.index % MOST_TOLD))
+        return false;
 
     unsigned number;
     size_t bytes = USUAL_OUTPUT;
@@ -669,7 +746,7 @@ static void limit_seconds(int seconds) {
 }
 
 static bool try_text(void) {
-    first.is_read = first.is_written = false;
+    first.is_read = first.is_written = first.is_headed = false;
     bool odd = now.index % 2 == 1;
     limit_seconds(most_seconds);
     bool holds = try_side(ENDS_AT_GUARD, odd) && try_side(BEGINS_AT_GUARD, !odd);
@@ -726,6 +803,8 @@ static void count_text(void) {
     hash(&texts_hash, &now.length, sizeof now.length);
     hash(&answers_hash, &first.number, sizeof first.number);
     hash(&answers_hash, first.told, sizeof first.told);
+    hash(&answers_hash, &first.heading_number, sizeof first.heading_number);
+    hash(&answers_hash, first.heading, (first.heading_number == 0 ? TOLD_BY_HEADING : 1) * CELL);
     if (first.is_written) {
         hash(&answers_hash, first.written, first.length);
         written_too_long += first.length > USUAL_OUTPUT;
@@ -999,6 +1078,54 @@ static NOT_INSTRUMENTED unsigned spoil(const struct slices *s, bool is_write, un
         if (is_write && number == 0 && has_length && cells[1] < length)
             written[0] ^= written[cells[1]] ^ written[cells[1]]; // the byte keeps its value
         break;
+    case HEADING_IS_6:
+    case HEADING_AT_ANOTHER_PLACE:
+    case HEADING_WITH_A_QUOTE:
+    case HEADING_OF_ANOTHER_NAME:
+    case CELL_PAST_THE_HEADING:
+    case HEADING_READS_PAST_THE_TEXT:
+    case HEADING_READS_BESIDE_THE_TEXT:
+        break; // of `heading`
+    }
+    return number;
+}
+
+// The same of `heading`.
+static NOT_INSTRUMENTED unsigned spoil_heading(const struct slices *s, unsigned number) {
+    volatile const uint8_t *bytes = s->text;
+    volatile size_t *cells = s->told;
+    static volatile size_t read = 0;
+    bool ends = now.side == ENDS_AT_GUARD, is_told = number == 0 && s->told_length >= TOLD_BY_HEADING;
+
+    switch (planted) {
+    case HEADING_IS_6:
+        return number == 0 ? 6 : number;
+    case HEADING_AT_ANOTHER_PLACE:
+        if (number == 3 && s->told_length > 0)
+            cells[0] = 1;
+        break;
+    case HEADING_WITH_A_QUOTE:
+        if (is_told)
+            cells[1] += 1;
+        break;
+    case HEADING_OF_ANOTHER_NAME:
+        if (is_told)
+            cells[2] += 1;
+        break;
+    case CELL_PAST_THE_HEADING:
+        if (is_told && s->told_length > TOLD_BY_HEADING)
+            cells[TOLD_BY_HEADING] ^= 1;
+        break;
+    case HEADING_READS_PAST_THE_TEXT:
+        if (ends)
+            read += bytes[s->text_length];
+        break;
+    case HEADING_READS_BESIDE_THE_TEXT:
+        if (!ends)
+            read += bytes[s->text_length];
+        break;
+    default:
+        break;
     }
     return number;
 }
@@ -1051,6 +1178,13 @@ static const struct {
     [READS_BESIDE_A_TABLE] = {"a cell behind a table is read", "valgrind reports 1 errors", true},
     [CELL_OF_AN_UNSET_ONE] = {"a cell is made of one that was not set", "memory that the call is to set is not set", true},
     [BYTE_OF_AN_UNSET_ONE] = {"a written byte is made of one that was not set", "memory that the call is to set is not set", true},
+    [HEADING_IS_6] = {"a heading is refused with 6", "the heading is refused with 6 at 15, and the text with 0 at 0", false},
+    [HEADING_AT_ANOTHER_PLACE] = {"a heading is refused at another place", "the heading is refused with 3 at 1, and the text with 3 at 0", false},
+    [HEADING_WITH_A_QUOTE] = {"a version has its closing quote", "the version of 4 bytes at 15 is not the inside of a string", false},
+    [HEADING_OF_ANOTHER_NAME] = {"a name is told a byte later", "the name of 1 bytes at 37 is no word", false},
+    [CELL_PAST_THE_HEADING] = {"a cell past a heading is changed", "a cell past what is told is changed", false},
+    [HEADING_READS_PAST_THE_TEXT] = {"a heading reads past the text", "an access past the lent memory: text", false},
+    [HEADING_READS_BESIDE_THE_TEXT] = {"a heading reads a byte behind the text", "valgrind reports 1 errors", true},
 };
 
 enum { FAULT_COUNT = sizeof FAULTS / sizeof *FAULTS };

@@ -8,6 +8,7 @@ pub mod configuration;
 pub mod corpus;
 pub mod floats;
 pub mod grammar;
+pub mod heading;
 pub mod heavy;
 pub mod limits;
 pub mod meaning;

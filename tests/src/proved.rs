@@ -10,6 +10,7 @@ pub fn is_linked(layer: &str) -> bool {
         "grammar" => cfg!(proved_grammar),
         "reading" => cfg!(proved_reading),
         "writing" => cfg!(proved_writing),
+        "heading" => cfg!(proved_heading),
         _ => panic!("no layer {layer}"),
     };
     let mut asked = env!("KAUKSLINI_LAYERS_ASKED").split(',');
@@ -231,5 +232,23 @@ pub mod writing {
                 told.len(),
             )
         }
+    }
+}
+
+#[cfg(proved_heading)]
+pub mod heading {
+    extern "C" {
+        fn kaukslini_heading(
+            text: *const u8,
+            text_length: usize,
+            told: *mut usize,
+            told_length: usize,
+        ) -> u8;
+    }
+
+    /// The number of the refusal of a text's heading, 0 where there is none; told in `told` are
+    /// the refusal's place, or place and length of the version string and of the name.
+    pub fn heading(text: &[u8], told: &mut [usize]) -> u8 {
+        unsafe { kaukslini_heading(text.as_ptr(), text.len(), told.as_mut_ptr(), told.len()) }
     }
 }

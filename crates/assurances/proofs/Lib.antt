@@ -8,3 +8,4 @@ pub mod Clashes
 pub mod Ordering
 pub mod Parts
 pub mod Apart
+pub mod Headings

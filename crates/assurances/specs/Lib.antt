@@ -4,3 +4,4 @@ pub mod Own
 pub mod Names
 pub mod Ordering
 pub mod Parts
+pub mod Headings

@@ -167,12 +167,12 @@ pub data Run (s : List ℕ) (q : ℕ) : ℕ → List Token → Type 0 where
   stay : (p : ℕ) → p ≡ q → Run s q p []
   go : (p : ℕ) (t : Token) (c : Cursor) (ts : List Token) → stepAt s p ≡ Found t c → Run s q (c .at) ts → Run s q p (t ∷ ts)
 
-run-lex : (s : List ℕ) (q p : ℕ) (ts : List Token) → Run s q p ts → lexFrom s p ≡ afterAll ts (lexFrom s q)
+pub run-lex : (s : List ℕ) (q p : ℕ) (ts : List Token) → Run s q p ts → lexFrom s p ≡ afterAll ts (lexFrom s q)
 unfolding afterAll
 run-lex s q p ts (stay _ e) = ap (lexFrom s) e
 run-lex s q p ts (go _ t c us e r) = lex-found s p t c e ∙ ap (more t) (run-lex s q (c .at) us r)
 
-run-low : (s : List ℕ) (q p : ℕ) (ts : List Token) → Run s q p ts → p ≤ q
+pub run-low : (s : List ℕ) (q p : ℕ) (ts : List Token) → Run s q p ts → p ≤ q
 run-low s q p ts (stay _ e) = omega arith
 run-low s q p ts (go _ t c us e r) = let o = found-fits s p t c e in let l = run-low s q (c .at) us r in omega arith
 
@@ -225,7 +225,7 @@ dot-two s p t c e h =
     (sym (plain-step s p (ap (λ (n : ℕ). parting (classOf n)) e)) ∙ h)
 
 -- the tokens of a text up to a place stay if another text goes on there
-run-other : (a b z : List ℕ) (p : ℕ) (ts : List Token) → Run (a ++ z) (length a) p ts → LastEnds b ts → Run (a ++ b) (length a) p ts
+pub run-other : (a b z : List ℕ) (p : ℕ) (ts : List Token) → Run (a ++ z) (length a) p ts → LastEnds b ts → Run (a ++ b) (length a) p ts
 run-other a b z p [] (stay _ e) h = stay p e
 run-other a b z p (t ∷ []) (go _ _ c _ e r) h =
     go p t c []

@@ -1,18 +1,20 @@
 //! Goes through a text once, for counting instructions: `bench WHAT TEXT`. Or, by the proved
 //! call and by the reference, side by side: reads the heavy texts, `bench heavy`; or goes with
-//! them from text to normal text, `bench normal`.
+//! them from text to normal text, `bench normal`; or tells the headings of texts that go on behind
+//! theirs, `bench heading`.
 
 use std::process::{exit, Command};
 use std::time::{Duration, Instant};
-use tests::heavy::heavy;
+use tests::heavy::{heavy, Heavy};
 use tests::meaning::read;
 use tests::normal::normal;
 use tests::token::{step, Step};
 
 const USE: &str = "bench WHAT TEXT, WHAT one of tokens-proved, tokens-reference, stage-proved,
 stage-reference, read-proved, read-reference, normal-proved, normal-reference,
-program-reference, and TEXT a file or the name of a heavy text; or bench heavy [PART] or bench
-normal [PART], for the heavy texts whose names have this part";
+program-reference, heading-proved, heading-reference, and TEXT a file or the name of a heavy text;
+or bench heavy [PART], bench normal [PART] or bench heading [PART], for the texts whose names have
+this part";
 
 fn main() {
     let arguments: Vec<String> = std::env::args().collect();
@@ -21,6 +23,8 @@ fn main() {
         [_, what, part] if what == "heavy" => return side_by_side(&READ, part),
         [_, what] if what == "normal" => return side_by_side(&NORMAL, ""),
         [_, what, part] if what == "normal" => return side_by_side(&NORMAL, part),
+        [_, what] if what == "heading" => return side_by_side(&HEADING, ""),
+        [_, what, part] if what == "heading" => return side_by_side(&HEADING, part),
         [_, what, text] => (what.as_str(), text_of(text)),
         _ => {
             eprintln!("{USE}");
@@ -40,6 +44,9 @@ fn main() {
         "normal-reference" => println!("{}", normal_reference(&text).written),
         #[cfg(proved_writing)]
         "normal-proved" => println!("{}", normal_proved(&text).written),
+        "heading-reference" => println!("{}", heading_reference(&text).number),
+        #[cfg(proved_heading)]
+        "heading-proved" => println!("{}", heading_proved(&text).number),
         "program-reference" => println!("{}", tests::normal::program(&text).len()),
         _ => {
             eprintln!("{what}: not known, or the proved library is not linked");
@@ -50,7 +57,8 @@ fn main() {
 
 /// The heavy text of this name, or the file.
 fn text_of(name: &str) -> Vec<u8> {
-    if let Some(heavy) = heavy().into_iter().find(|heavy| heavy.name == name) {
+    let mut known = heavy().into_iter().chain(tests::heading::heavy());
+    if let Some(heavy) = known.find(|heavy| heavy.name == name) {
         return heavy.text;
     }
     std::fs::read(name).unwrap_or_else(|fault| {
@@ -110,22 +118,53 @@ impl Answer {
 /// What is done by the proved call and by the reference, and the names under which callgrind
 /// counts them.
 struct Job {
+    texts: fn() -> Vec<Heavy>,
     what: [&'static str; 2],
     functions: [&'static str; 2],
     run: [fn(&[u8]) -> Answer; 2],
 }
 
 const READ: Job = Job {
+    texts: heavy,
     what: ["read-proved", "read-reference"],
     functions: ["kaukslini_read", "tests::meaning::read*"],
     run: [read_proved, read_reference],
 };
 
 const NORMAL: Job = Job {
+    texts: heavy,
     what: ["normal-proved", "normal-reference"],
     functions: ["kaukslini_write", "tests::normal::normal*"],
     run: [normal_proved, normal_reference],
 };
+
+const HEADING: Job = Job {
+    texts: tests::heading::heavy,
+    what: ["heading-proved", "heading-reference"],
+    functions: ["kaukslini_heading", "tests::heading::heading*"],
+    run: [heading_proved, heading_reference],
+};
+
+fn heading_reference(text: &[u8]) -> Answer {
+    Answer {
+        number: tests::heading::heading(text).map_or_else(|refusal| refusal.number, |_| 0),
+        written: 0,
+    }
+}
+
+#[cfg(proved_heading)]
+fn heading_proved(text: &[u8]) -> Answer {
+    Answer {
+        number: tests::proved::heading::heading(text, &mut [0; 4]),
+        written: 0,
+    }
+}
+
+#[cfg(not(proved_heading))]
+fn heading_proved(_: &[u8]) -> Answer {
+    eprintln!("the proved library is not linked");
+    exit(2);
+}
 
 fn read_reference(text: &[u8]) -> Answer {
     Answer {
@@ -186,14 +225,15 @@ fn normal_proved(_: &[u8]) -> Answer {
     exit(2);
 }
 
-/// Does the job with the heavy texts by both; the least time of some runs, and the instructions
+/// Does the job with its texts by both; the least time of some runs, and the instructions
 /// of one.
 fn side_by_side(job: &Job, part: &str) {
     println!(
         "| Text | Bytes | Answer | Proved: ms | instructions | Reference: ms | instructions | Ratio |"
     );
     println!("|---|---|---|---|---|---|---|---|");
-    for heavy in heavy().iter().filter(|heavy| heavy.name.contains(part)) {
+    let texts = (job.texts)();
+    for heavy in texts.iter().filter(|heavy| heavy.name.contains(part)) {
         let mut times = [Duration::MAX; 2];
         let start = Instant::now();
         while start.elapsed() < Duration::from_millis(200) {

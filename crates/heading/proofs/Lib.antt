@@ -1,0 +1,9 @@
+pub mod Looks
+pub mod Runs
+pub mod Fronts
+pub mod Places
+pub mod Told
+pub mod Quotes
+pub mod Computing
+pub mod Promises
+pub mod Examples
