@@ -1,4 +1,4 @@
-// The calls kaukslini_read, kaukslini_write and kaukslini_heading on each text of standard input, in guarded memory, and checks of what is promised of the lent
+// The calls kaukslini_read, kaukslini_write, kaukslini_heading, kaukslini_check_masks and kaukslini_plan_masks on each text of standard input, in guarded memory, and checks of what is promised of the lent
 // memory and of the answer, whatever the text is. docs/ROBUSTNESS.md says what is checked.
 //
 //   harness [FOLDER]      the texts of standard input, as robust_texts writes them; a text that fails is saved in FOLDER
@@ -40,6 +40,10 @@ uint8_t kaukslini_write(const uint8_t *text, size_t text_length, size_t *definit
 
 uint8_t kaukslini_heading(const uint8_t *text, size_t text_length, size_t *told, size_t told_length);
 
+uint8_t kaukslini_check_masks(const uint8_t *text, size_t text_length, const uint64_t *masks, size_t masks_length, size_t *told, size_t told_length);
+
+uint8_t kaukslini_plan_masks(const uint8_t *text, size_t text_length, uint64_t *masks, size_t masks_length, size_t *told, size_t told_length);
+
 // ---- The rooms, as docs/TABLES.md fixes them ----
 
 enum { DEFINITIONS, ENUMERATORS, OBJECTS, VALUES, TABLES };
@@ -54,6 +58,8 @@ static const size_t WIDTHS[TABLES] = {13, 3, 8, 9};
 #define TOLD_BY_READ ((size_t)18)    // the place, four sizes, thirteen counts
 #define TOLD_BY_WRITE ((size_t)2)    // the place, the length of the normal text
 #define TOLD_BY_HEADING ((size_t)4)  // place and length of the version and of the name; or the place of the refusal
+#define TOLD_OF_MASKS ((size_t)2)    // number and place of the refusal; or the event or the number of events, and 0
+#define COUNT_OF_EVENTS ((size_t)12) // the cell of what `read` tells
 #define MOST_TOLD ((size_t)21)
 #define USUAL_OUTPUT ((size_t)65535)
 #define PAST ((size_t)40)            // cells past the room of a longer table
@@ -94,7 +100,7 @@ enum side { ENDS_AT_GUARD, BEGINS_AT_GUARD };
 // How much memory beside the lent part is a canary: all of it but for a long output, and for the text, which is read-only.
 #define BESIDE ((size_t)1 << 16)
 
-static struct region text, tables[TABLES], usual_output, long_output, told;
+static struct region text, tables[TABLES], usual_output, long_output, told, masks;
 static struct region *output = &usual_output;
 
 #define NOISE ((size_t)1 << 18)
@@ -148,6 +154,7 @@ static void make_regions(void) {
     usual_output = new_region("output", OUTPUT_SIZE);
     long_output = new_region("output", LONG_OUTPUT_SIZE);
     told = new_region("told", pages(MOST_TOLD * CELL));
+    masks = new_region("masks", pages((ROWS[OBJECTS] + PAST) * sizeof(uint64_t)));
 }
 
 static size_t least(size_t a, size_t b) {
@@ -299,7 +306,7 @@ static void trapped(int signal, siginfo_t *info, void *context) {
         _exit(1);
     }
     const unsigned char *at = info->si_addr;
-    struct region *all[] = {&text, &tables[0], &tables[1], &tables[2], &tables[3], &usual_output, &long_output, &told};
+    struct region *all[] = {&text, &tables[0], &tables[1], &tables[2], &tables[3], &usual_output, &long_output, &told, &masks};
     for (size_t i = 0; i < sizeof all / sizeof *all; i++) {
         const unsigned char *start = all[i]->views[all[i]->view], *end = start + all[i]->size;
         if (at >= start - GUARD && at < start)
@@ -402,12 +409,16 @@ enum fault {
     CELL_PAST_THE_HEADING,
     HEADING_READS_PAST_THE_TEXT,
     HEADING_READS_BESIDE_THE_TEXT,
+    MASK_PAST_THE_EVENTS,
+    MASK_OF_THREE_BITS,
+    OTHER_COUNT_OF_MASKS,
 };
 
 static enum fault planted = NO_FAULT;
 
 static unsigned spoil(const struct slices *s, bool is_write, unsigned number);
 static unsigned spoil_heading(const struct slices *s, unsigned number);
+static unsigned spoil_masks(uint64_t *list, size_t entries, size_t *cells, unsigned answer);
 
 // What the text's first reading answered, and what was written first: all other calls must agree.
 static struct {
@@ -622,6 +633,82 @@ static bool try_heading(const char *name, size_t told_cells) {
     return told_holds(first.heading, cells);
 }
 
+// What the two calls on masks answer.
+enum { MASKS_REFUSED, NOT_PLANNABLE, WRONG_LENGTH, EVENT_NAMED, MASKS_DONE };
+
+// The checker or the planner on the lent list, which is noise before a plan.
+static bool call_masks(bool is_plan, size_t entries, unsigned *answer) {
+    lend(&told, now.side, (TOLD_OF_MASKS + 1) * CELL);
+    fill(&told);
+    lend(&masks, now.side, entries * sizeof(uint64_t));
+    if (is_plan)
+        fill(&masks);
+    uint64_t *list = (uint64_t *)(void *)lent(&masks);
+    size_t *cells = (size_t *)(void *)lent(&told);
+    unsigned long errors = memcheck_errors();
+    shut_for_call(&text, false);
+    shut_for_call(&masks, is_plan);
+    shut_for_call(&told, true);
+    *answer = is_plan ? kaukslini_plan_masks(lent(&text), text.length, list, entries, cells, TOLD_OF_MASKS + 1)
+                      : kaukslini_check_masks(lent(&text), text.length, list, entries, cells, TOLD_OF_MASKS + 1);
+    if (planted != NO_FAULT && is_plan)
+        *answer = spoil_masks(list, entries, cells, *answer);
+    calls++;
+    size_t planned = is_plan && *answer == MASKS_DONE ? least(first.told[COUNT_OF_EVENTS], entries) : 0;
+    if (!is_set(&told, TOLD_OF_MASKS * CELL) || !is_set(&masks, planned * sizeof(uint64_t)))
+        return fail("memory that the call is to set is not set");
+    if (memcheck_errors() != errors)
+        return fail("valgrind reports %lu errors", memcheck_errors() - errors);
+    if (is_plan && !is_noise_from(&masks, planned * sizeof(uint64_t)))
+        return fail("a mask past the plan is changed");
+    return is_noise_beside(&masks) || fail("memory beside the lent masks is changed");
+}
+
+// What is told with an answer of the two calls, for so many events.
+static bool masks_told(unsigned answer, size_t events) {
+    size_t expected[TOLD_OF_MASKS] = {0, 0};
+    if ((answer == MASKS_REFUSED) != (first.number != 0))
+        return fail("the masks' answer is %u, and the text's number %u", answer, first.number);
+    if (answer == MASKS_REFUSED) {
+        expected[0] = first.number;
+        expected[1] = first.told[0];
+    }
+    if (answer == MASKS_DONE)
+        expected[0] = told_at(0) == 0 ? 0 : events; // the checker tells nothing
+    if (answer == EVENT_NAMED) {
+        expected[0] = told_at(0);
+        if (expected[0] >= events)
+            return fail("event %zu is named, of %zu", expected[0], events);
+    }
+    return told_holds(expected, TOLD_OF_MASKS);
+}
+
+static bool try_masks_of(const char *name, bool is_plan, size_t entries, size_t events, unsigned *answer) {
+    now.call = name;
+    return call_masks(is_plan, entries, answer) && masks_told(*answer, events);
+}
+
+// The planner with a list that is longer, shorter and as long as the events, and the checker on what was planned.
+static bool try_masks(void) {
+    size_t events = first.number == 0 ? first.told[COUNT_OF_EVENTS] : 0;
+    unsigned planned, answer;
+    if (!try_masks_of("plan, a longer list", true, events + 1 + now.index % 2, events, &planned))
+        return false;
+    if (planned == WRONG_LENGTH)
+        return fail("a longer list is refused");
+    if (planned == MASKS_REFUSED || planned == NOT_PLANNABLE)
+        return try_masks_of("check", false, events, events, &answer) && (answer == planned || fail("the checker answers %u for %u", answer, planned));
+    if (events > 0 && (!try_masks_of("plan, a shorter list", true, events - 1, events, &answer) || answer != WRONG_LENGTH))
+        return fail("a shorter list is taken");
+    if (!try_masks_of("plan", true, events, events, &answer) || answer != planned)
+        return fail("the planner answers %u for %u", answer, planned);
+    if (planned == MASKS_DONE && (!try_masks_of("check the plan", false, events, events, &answer) || answer != MASKS_DONE))
+        return fail("the plan is not accepted");
+    if (!try_masks_of("check, a longer list", false, events + 1, events, &answer) || answer != WRONG_LENGTH)
+        return fail("a longer list is checked");
+    return true;
+}
+
 static bool keep_written(void) {
     first.length = told_at(1);
     if (first.length == 0 || first.length > output->length)
@@ -711,6 +798,8 @@ static bool try_side(enum side side, bool longer) {
     if (!try_read("read", TOLD_BY_READ) || !try_read("read again, into what was left", now.index % MOST_TOLD))
         return false;
     if (!try_heading("heading", TOLD_BY_HEADING + 1) || !try_heading("heading again", now.index % MOST_TOLD))
+        return false;
+    if (!try_masks())
         return false;
 
     unsigned number;
@@ -1086,6 +1175,10 @@ static NOT_INSTRUMENTED unsigned spoil(const struct slices *s, bool is_write, un
     case HEADING_READS_PAST_THE_TEXT:
     case HEADING_READS_BESIDE_THE_TEXT:
         break; // of `heading`
+    case MASK_PAST_THE_EVENTS:
+    case MASK_OF_THREE_BITS:
+    case OTHER_COUNT_OF_MASKS:
+        break; // of the masks
     }
     return number;
 }
@@ -1128,6 +1221,20 @@ static NOT_INSTRUMENTED unsigned spoil_heading(const struct slices *s, unsigned 
         break;
     }
     return number;
+}
+
+// The same of the planner.
+static NOT_INSTRUMENTED unsigned spoil_masks(uint64_t *list, size_t entries, size_t *cells, unsigned answer) {
+    size_t events = first.told[COUNT_OF_EVENTS];
+    if (answer != MASKS_DONE || events == 0)
+        return answer;
+    if (planted == MASK_PAST_THE_EVENTS && entries > events)
+        list[events] ^= 1;
+    if (planted == MASK_OF_THREE_BITS && entries == events)
+        list[0] ^= 6;
+    if (planted == OTHER_COUNT_OF_MASKS)
+        cells[0] += 1;
+    return answer;
 }
 
 // Each fault, a part of what is to be reported, and whether it takes valgrind to see it.
@@ -1185,6 +1292,9 @@ static const struct {
     [CELL_PAST_THE_HEADING] = {"a cell past a heading is changed", "a cell past what is told is changed", false},
     [HEADING_READS_PAST_THE_TEXT] = {"a heading reads past the text", "an access past the lent memory: text", false},
     [HEADING_READS_BESIDE_THE_TEXT] = {"a heading reads a byte behind the text", "valgrind reports 1 errors", true},
+    [MASK_PAST_THE_EVENTS] = {"a mask past the events is changed", "a mask past the plan is changed", false},
+    [MASK_OF_THREE_BITS] = {"a planned mask has three bits", "the plan is not accepted", false},
+    [OTHER_COUNT_OF_MASKS] = {"a plan of another number of masks is told", "told cell 0 is 3 for 2", false},
 };
 
 enum { FAULT_COUNT = sizeof FAULTS / sizeof *FAULTS };
@@ -1192,6 +1302,10 @@ enum { FAULT_COUNT = sizeof FAULTS / sizeof *FAULTS };
 static const char WORKED[] = "OIL_VERSION = \"2.5\";\n"
                              "IMPLEMENTATION m { OS { BOOLEAN H = FALSE; }; TASK { UINT32 [1..0xff] STACKSIZE = 16; }; };\n"
                              "CPU c { OS o; APPMODE a {}; TASK t { STACKSIZE = 0x20; }; };\n";
+
+static const char EVENTS[] = "OIL_VERSION = \"2.5\";\n"
+                             "IMPLEMENTATION m { EVENT { UINT64 WITH_AUTO MASK = AUTO; }; TASK { EVENT_TYPE EVENT[]; }; };\n"
+                             "CPU c { OS o; APPMODE a; EVENT e; EVENT f; TASK t { EVENT = e; EVENT = f; }; };\n";
 
 static bool try_known(const char *bytes, unsigned number) {
     static char sort[] = "self-test";
@@ -1221,7 +1335,7 @@ static bool try_planted(enum fault fault, char *report, size_t room_of_report) {
         most_seconds = 2;
         bool hold = true;
         for (int times = 0; times < 2 && hold; times++)
-            hold = try_known(WORKED, 0) && try_known("#", 3);
+            hold = try_known(WORKED, 0) && try_known("#", 3) && try_known(EVENTS, 0);
         _exit(hold ? 0 : 1);
     }
     close(ends[1]);

@@ -11,6 +11,7 @@ pub mod grammar;
 pub mod heading;
 pub mod heavy;
 pub mod limits;
+pub mod masks;
 pub mod meaning;
 pub mod names;
 pub mod normal;

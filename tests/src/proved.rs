@@ -11,6 +11,7 @@ pub fn is_linked(layer: &str) -> bool {
         "reading" => cfg!(proved_reading),
         "writing" => cfg!(proved_writing),
         "heading" => cfg!(proved_heading),
+        "masks" => cfg!(proved_masks),
         _ => panic!("no layer {layer}"),
     };
     let mut asked = env!("KAUKSLINI_LAYERS_ASKED").split(',');
@@ -250,5 +251,107 @@ pub mod heading {
     /// the refusal's place, or place and length of the version string and of the name.
     pub fn heading(text: &[u8], told: &mut [usize]) -> u8 {
         unsafe { kaukslini_heading(text.as_ptr(), text.len(), told.as_mut_ptr(), told.len()) }
+    }
+}
+
+#[cfg(proved_masks)]
+pub mod masks {
+    use crate::masks::{Checked, Planned};
+    use crate::meaning::Refusal;
+
+    extern "C" {
+        fn kaukslini_check_masks(
+            text: *const u8,
+            text_length: usize,
+            masks: *const u64,
+            masks_length: usize,
+            told: *mut usize,
+            told_length: usize,
+        ) -> u8;
+        fn kaukslini_plan_masks(
+            text: *const u8,
+            text_length: usize,
+            masks: *mut u64,
+            masks_length: usize,
+            told: *mut usize,
+            told_length: usize,
+        ) -> u8;
+    }
+
+    /// Noise before a call: what is not told stays.
+    const NOISE: usize = 0x7777;
+
+    fn refusal(told: [usize; 3]) -> Refusal {
+        assert_eq!(told[2], NOISE);
+        Refusal {
+            number: u8::try_from(told[0]).expect("a refusal's number"),
+            place: told[1],
+        }
+    }
+
+    /// The event or count told first; nothing else is told.
+    fn first(told: [usize; 3]) -> usize {
+        assert_eq!(told[1..], [0, NOISE]);
+        told[0]
+    }
+
+    fn nothing(told: [usize; 3]) {
+        assert_eq!(told, [0, 0, NOISE]);
+    }
+
+    /// What the proved checker answers.
+    pub fn check_masks(text: &[u8], masks: &[u64]) -> Checked {
+        let mut told = [NOISE; 3];
+        let answer = unsafe {
+            kaukslini_check_masks(
+                text.as_ptr(),
+                text.len(),
+                masks.as_ptr(),
+                masks.len(),
+                told.as_mut_ptr(),
+                told.len(),
+            )
+        };
+        match answer {
+            0 => Checked::Refused(refusal(told)),
+            3 => Checked::Breaks(first(told)),
+            _ => {
+                nothing(told);
+                match answer {
+                    1 => Checked::NotPlannable,
+                    2 => Checked::WrongLength,
+                    4 => Checked::Accepted,
+                    _ => panic!("no answer {answer}"),
+                }
+            }
+        }
+    }
+
+    /// What the proved planner answers; the list is lent to it.
+    pub fn plan_masks(text: &[u8], masks: &mut [u64]) -> Planned {
+        let mut told = [NOISE; 3];
+        let answer = unsafe {
+            kaukslini_plan_masks(
+                text.as_ptr(),
+                text.len(),
+                masks.as_mut_ptr(),
+                masks.len(),
+                told.as_mut_ptr(),
+                told.len(),
+            )
+        };
+        match answer {
+            0 => Planned::Refused(refusal(told)),
+            3 => Planned::Full(first(told)),
+            4 => Planned::Made(first(told)),
+            _ => {
+                nothing(told);
+                match answer {
+                    1 => Planned::NotPlannable,
+                    2 => Planned::WrongLength,
+                    _ => panic!("no answer {answer}"),
+                }
+            }
+        }
     }
 }

@@ -3,5 +3,5 @@ pub mod RoundTrip
 pub mod Own
 pub mod Names
 pub mod Ordering
-pub mod Parts
 pub mod Headings
+pub mod Parts

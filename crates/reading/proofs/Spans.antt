@@ -17,6 +17,7 @@ use Rattle.reading.specs.declared.Decision.{Decision}
 use Rattle.reading.specs.declared.Reading.{Reading}
 use Rattle.reading.specs.declared.Spanned.{Spanned}
 use Rattle.reading.proofs.Arriving.{reading-is}
+use Rattle.reading.proofs.Settling.{places}
 
 is-accepted : Answer → Bool
 is-accepted Accepted = true
@@ -52,7 +53,7 @@ settled-refused s d e o v x r n p f h u =
 -- What passed has the spans that the walk found.
 pub settled-spanned : (s : List ℕ) → length s ≤ 65535 → (y : Rooms) (m n : List ℕ) (x : Decision) → Decides s blank y (replicate 2570 0) (replicate 14343 0) m n x → isFault (x .fault) ≡ false
     → (d e o v : List ℕ) (r : Reading) → Filled s d e o v r → r .answer ≡ Accepted
-    → FilledSpanned s d e o v (record { reading = r; «implementation_at» = x .walked .«implementation_at»; «implementation_len» = x .walked .«implementation_len»; «cpu_at» = x .walked .«cpu_at»; «cpu_len» = x .walked .«cpu_len» })
+    → FilledSpanned s d e o v (record { reading = r; «implementation_at» = x .walked .«implementation_at»; «implementation_len» = x .walked .«implementation_len»; «cpu_at» = x .walked .«cpu_at»; «cpu_len» = x .walked .«cpu_len»; places = x .walked .places })
 settled-spanned s h y m n x t i d e o v r f a =
     let p = t .decided h refl refl refl .passes (is-none (x .fault) i) in
     let k = p .kept in
@@ -65,6 +66,7 @@ settled-spanned s h y m n x t i d e o v r f a =
         answered = reading-is s (p .file) (k .situation) (p .covered);
         implementation = k .implementation;
         cpu = k .cpu;
+        places = places k;
       };
       no-spans = λ n q b. not-refused _ n q a b;
     }

@@ -12,6 +12,7 @@ use Rattle.meaning.specs.Reading.{reading}
 use Rattle.meaning.specs.Calls.{Rooms, enough, call}
 use Rattle.meaning.specs.Cells.{rooms-after}
 use Rattle.scopes.specs.Situations.{Situation}
+use Rattle.scopes.specs.Given.{Places}
 use Rattle.reading.specs.declared.Answer.the-variants.{Accepted, Refused}
 use Rattle.reading.specs.declared.Reading.{Reading}
 use Rattle.reading.specs.declared.Spanned.{Spanned}
@@ -47,7 +48,8 @@ pub record Reads (s d e o v d′ e′ o′ v′ : List ℕ) (r : Reading) : Type
   pub objects : o′ ≡ tableAfter (enough (roomsOf d e o v)) (rooms-after (reading s) .objects) 2048 o
   pub values : v′ ≡ tableAfter (enough (roomsOf d e o v)) (rooms-after (reading s) .values) 18432 v
 
--- The text s is the file, by which it is answered, and these are the spans of its implementation and its CPU's name.
+-- The text s is the file, by which it is answered, and these are the spans of its implementation and its CPU's name, and the places of its kinds'
+-- words.
 pub record SpansOf (s : List ℕ) (r : Spanned) : Type 0 where
   pub file : File
   pub situation : Situation s file
@@ -55,11 +57,13 @@ pub record SpansOf (s : List ℕ) (r : Spanned) : Type 0 where
   pub answered : reading s ≡ answer file
   pub implementation : (file .implementation .place ≡ r .«implementation_at») × (file .implementation .length ≡ r .«implementation_len»)
   pub cpu : (file .cpu .place ≡ r .«cpu_at») × (file .cpu .length ≡ r .«cpu_len»)
+  pub places : Places file (r .places)
 
 -- There are no spans.
 pub record NoSpans (r : Spanned) : Type 0 where
   pub implementation : (r .«implementation_at» ≡ 0) × (r .«implementation_len» ≡ 0)
   pub cpu : (r .«cpu_at» ≡ 0) × (r .«cpu_len» ≡ 0)
+  pub places : r .places ≡ replicate 13 0
 
 -- THE CONTRACT of `read_spanned`: that of `read`, and where the text is accepted the spans are its own; where it is refused there are none.
 pub record ReadsSpanned (s d e o v d′ e′ o′ v′ : List ℕ) (r : Spanned) : Type 0 where

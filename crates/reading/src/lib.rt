@@ -33,13 +33,15 @@ pub struct Reading {
     pub counts: [usize; 13],
 }
 
-// A reading, with place and length of the implementation and of the CPU's name; all 0 where it is refused.
+// A reading, with place and length of the implementation and of the CPU's name, and the place of each kind's word in the implementation (0: none);
+// all 0 where it is refused.
 pub struct Spanned {
     pub reading: Reading,
     pub implementation_at: usize,
     pub implementation_len: usize,
     pub cpu_at: usize,
     pub cpu_len: usize,
+    pub places: [usize; 13],
 }
 
 // The fault by which the text is refused, or one of number 0, with what was kept of the text.
@@ -66,12 +68,14 @@ fn refused(number: u8, place: usize) -> Spanned
     ensures { λ r. ⌜ Unspanned number place r ⌝ }
 {
     let r = refusal(number, place);
+    let places = [0; 13];
     Spanned {
         reading: r,
         implementation_at: 0,
         implementation_len: 0,
         cpu_at: 0,
         cpu_len: 0,
+        places: places,
     }
 }
 
@@ -297,17 +301,22 @@ fn fill(
     let answer = reading.answer;
     match answer {
         Answer::Refused(number, place) => refused(number, place),
-        Answer::Accepted => Spanned {
-            reading: reading,
-            implementation_at: w.implementation_at,
-            implementation_len: w.implementation_len,
-            cpu_at: w.cpu_at,
-            cpu_len: w.cpu_len,
-        },
+        Answer::Accepted => {
+            let places = w.places;
+            Spanned {
+                reading: reading,
+                implementation_at: w.implementation_at,
+                implementation_len: w.implementation_len,
+                cpu_at: w.cpu_at,
+                cpu_len: w.cpu_len,
+                places: places,
+            }
+        }
     }
 }
 
-// Reads a text into four lent tables, and tells where the implementation and the CPU's name stand: what the writer of normal text asks.
+// Reads a text into four lent tables, and tells where the implementation, the CPU's name and the kinds' words stand: what the writer of normal
+// text and the questions over an accepted text ask.
 // Refusal 1 where one of the tables is shorter than its room: nothing is touched then.
 pub fn read_spanned(
     text: &[u8],

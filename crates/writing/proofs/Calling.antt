@@ -5,8 +5,8 @@ use mathlib.Core.Bool.{Bool, true, false}
 use mathlib.Core.Option.{Option, none, some}
 use Prim.Native.Nat.{ℕ, _+_, _≤_, _<_}
 use native.Mathlib.Omega.{arith}
-use lib.ListN.{length, take, drop, replicate, length-append, take-append-drop}
-use lib.Seq.{take-at, drop-at, length-take-le}
+use lib.ListN.{length, take, drop, replicate, length-append, length-drop, take-append-drop}
+use lib.Seq.{take-at, drop-at, take-all, length-take-le}
 use borrow.Author.Tests.{lt-ltb, le-ltb}
 use Rattle.meaning.specs.Syntax.{File}
 use Rattle.meaning.specs.Words.{choose}
@@ -25,6 +25,9 @@ use Rattle.reading.specs.Results.{readingOf, roomsOf, tableAfter, ReadsSpanned}
 use Rattle.reading.specs.declared.Answer.the-variants.{Accepted, Refused}
 use Rattle.reading.specs.declared.Reading.{Reading}
 use Rattle.reading.specs.declared.Spanned.{Spanned}
+use Rattle.meaning.specs.Rules.{FullRoom}
+use Rattle.reading.specs.Decisions.{RoomSizes}
+use Rattle.reading.proofs.ByRules.{full-enough}
 use Rattle.reading.proofs.Lending.{call-enough}
 use Rattle.reading.proofs.Settling.{blank-room}
 use Rattle.writing.specs.Promises.{Given, PutOut, fits, too-long, PutsOut}
@@ -33,16 +36,16 @@ use Rattle.writing.specs.declared.Written.{Written}
 
 -- Answers ----------------------------------------------------------------------------------------------------------------------------------
 
-record IsAccepted (a : Meant) : Type 0 where
-  rows : Tables
-  is : a ≡ accepted rows
+pub record IsAccepted (a : Meant) : Type 0 where
+  pub rows : Tables
+  pub is : a ≡ accepted rows
 
-is-accepted : (a : Meant) → readingOf a .answer ≡ Accepted → IsAccepted a
+pub is-accepted : (a : Meant) → readingOf a .answer ≡ Accepted → IsAccepted a
 unfolding readingOf
 is-accepted (accepted t) e = record { rows = t; is = refl }
 is-accepted (refused n p) e = absurd (let z : _≡_ {A = ℕ} 0 1 = cc in omega arith)
 
-is-refused : (a : Meant) (n p : ℕ) → readingOf a .answer ≡ Refused n p → a ≡ refused n p
+pub is-refused : (a : Meant) (n p : ℕ) → readingOf a .answer ≡ Refused n p → a ≡ refused n p
 unfolding readingOf
 is-refused (accepted t) n p e = absurd (let z : _≡_ {A = ℕ} 0 1 = cc in omega arith)
 is-refused (refused m q) n p e = let x : m ≡ n = cc in let y : q ≡ p = cc in ap₂ refused x y
@@ -54,7 +57,7 @@ past none k t e = e
 past (some f) k t e = absurd (let z : _≡_ {A = ℕ} 0 1 = cc in omega arith)
 
 -- The rows of an accepted file are its own.
-own-rows : (f : File) (t : Tables) → answer f ≡ accepted t → tables f (all-values f (f .objects)) ≡ t
+pub own-rows : (f : File) (t : Tables) → answer f ≡ accepted t → tables f (all-values f (f .objects)) ≡ t
 unfolding answer
 own-rows f t e = let q = past _ _ t (past _ _ t (past _ _ t (past _ _ t e))) in cc
 
@@ -82,7 +85,7 @@ asked-long m w t h = rw (lt-ltb m (length w) h)
 
 -- A table whose room was read: its room, and what is past it.
 module _ (n : ℕ) (room l l₁ : List ℕ) (e : l₁ ≡ room ++ drop n l) (h : length room ≡ n) where
-  room-is : take n l₁ ≡ room
+  pub room-is : take n l₁ ≡ room
   room-is = ap (take n) e ∙ take-at room (drop n l) n h
 
   past-is : drop n l₁ ≡ drop n l
@@ -93,6 +96,13 @@ module _ (n : ℕ) (room l l₁ : List ℕ) (e : l₁ ≡ room ++ drop n l) (h :
 
   cleared : {R : Type 0} (f : R → List ℕ) (l₂ : List ℕ) → l₂ ≡ replicate (length (take n l₁)) 0 → l₂ ++ drop n l₁ ≡ room-cells n f [] ++ drop n l
   cleared f l₂ q = ap₂ _++_ (blank-room n f l₂ (q ∙ ap (λ (i : ℕ). replicate i 0) (ap length room-is ∙ h))) past-is
+
+-- A table that is no longer than its room is that room.
+pub room-whole : (n : ℕ) (room l l₁ : List ℕ) → l₁ ≡ room ++ drop n l → length room ≡ n → length l ≡ n → l₁ ≡ room
+room-whole n room l l₁ e h k =
+    let z = ap length e ∙ length-append room (drop n l) in
+    let y = length-drop n l in
+    sym (take-all n l₁ (omega (arith, z, y, h, k))) ∙ room-is n room l l₁ e h
 
 -- A table whose room was lent has its length.
 pub lent-length : (n : ℕ) (l l₁ l₂ : List ℕ) → length l₂ ≡ length (take n l₁) → length l₁ ≡ length l → length (l₂ ++ drop n l₁) ≡ length l
@@ -121,40 +131,45 @@ module _ {s d e o v d₁ e₁ o₁ v₁ : List ℕ} {w : Spanned} (h : ReadsSpan
         output = ap (outputAfter (normal-text s) l) (sym z);
       }
 
+  -- Where the tables are long enough, it is refused so by the rules.
+  pub refused-reading : FullRoom d e o v → (n p : ℕ) → w .reading .answer ≡ Refused n p → reading s ≡ refused n p
+  refused-reading k n p i =
+      sym (call-enough s d e o v (full-enough k)) ∙ is-refused _ n p (sym (ap (λ (x : Reading). x .answer) (h .reads .result)) ∙ i)
+
   -- An accepted text -----------------------------------------------------------------------------------------------------------------------
 
   module _ (i : w .reading .answer ≡ Accepted) where
-    abbrev file : File
+    abbrev pub file : File
     file = h .spans i .file
 
-    abbrev own : Tables
+    abbrev pub own : Tables
     own = tables (h .spans i .file) (all-values (h .spans i .file) (h .spans i .file .objects))
 
-    called : IsAccepted (call (roomsOf d e o v) none s)
+    pub called : IsAccepted (call (roomsOf d e o v) none s)
     called = is-accepted _ (sym (ap (λ (x : Reading). x .answer) (h .reads .result)) ∙ i)
 
-    all-enough : enough (roomsOf d e o v) ≡ true
+    pub all-enough : enough (roomsOf d e o v) ≡ true
     unfolding call
     all-enough = enough-by (enough (roomsOf d e o v)) (output-asked none (normal-text s) (reading s)) (called .rows) (called .is)
 
-    reads-own : reading s ≡ accepted own
+    pub reads-own : reading s ≡ accepted own
     reads-own =
         let a = sym (call-enough s d e o v all-enough) ∙ called .is in
         a ∙ ap accepted (sym (own-rows file (called .rows) (sym (h .spans i .answered) ∙ a)))
 
-    own-fits : Fits own
+    pub own-fits : Fits own
     own-fits =
         let t = h .spans i .situation in
         accepted-fits s (t .derivation .tree) own (sym (ap answer (t .syntax-of)) ∙ sym (h .spans i .answered) ∙ reads-own)
 
-    abbrev definitions-room : List ℕ
+    abbrev pub definitions-room : List ℕ
     definitions-room = definition-room (all-definition-rows (file .specs))
 
-    definitions-are : d₁ ≡ definitions-room ++ drop 6656 d
+    pub definitions-are : d₁ ≡ definitions-room ++ drop 6656 d
     unfolding tableAfter rooms-after tables
     definitions-are = h .reads .definitions ∙ ap₂ (λ (b : Bool) (a : Meant). tableAfter b (rooms-after a .definitions) 6656 d) all-enough reads-own
 
-    definitions-wide : length definitions-room ≡ 6656
+    pub definitions-wide : length definitions-room ≡ 6656
     unfolding tables
     definitions-wide = rooms-full own own-fits .0
 
@@ -164,14 +179,14 @@ module _ {s d e o v d₁ e₁ o₁ v₁ : List ℕ} {w : Spanned} (h : ReadsSpan
     pub definitions-front : 6656 ≡ length (take 6656 d₁)
     definitions-front = sym (length-take-le 6656 d₁ definitions-long)
 
-    abbrev enumerators-room : List ℕ
+    abbrev pub enumerators-room : List ℕ
     enumerators-room = enumerator-room (all-enumerator-rows (file .specs))
 
-    enumerators-are : e₁ ≡ enumerators-room ++ drop 3072 e
+    pub enumerators-are : e₁ ≡ enumerators-room ++ drop 3072 e
     unfolding tableAfter rooms-after tables
     enumerators-are = h .reads .enumerators ∙ ap₂ (λ (b : Bool) (a : Meant). tableAfter b (rooms-after a .enumerators) 3072 e) all-enough reads-own
 
-    enumerators-wide : length enumerators-room ≡ 3072
+    pub enumerators-wide : length enumerators-room ≡ 3072
     unfolding tables
     enumerators-wide = rooms-full own own-fits .1
 
@@ -181,14 +196,14 @@ module _ {s d e o v d₁ e₁ o₁ v₁ : List ℕ} {w : Spanned} (h : ReadsSpan
     pub enumerators-front : 3072 ≡ length (take 3072 e₁)
     enumerators-front = sym (length-take-le 3072 e₁ enumerators-long)
 
-    abbrev objects-room : List ℕ
+    abbrev pub objects-room : List ℕ
     objects-room = object-room (object-rows (file .objects))
 
-    objects-are : o₁ ≡ objects-room ++ drop 2048 o
+    pub objects-are : o₁ ≡ objects-room ++ drop 2048 o
     unfolding tableAfter rooms-after tables
     objects-are = h .reads .objects ∙ ap₂ (λ (b : Bool) (a : Meant). tableAfter b (rooms-after a .objects) 2048 o) all-enough reads-own
 
-    objects-wide : length objects-room ≡ 2048
+    pub objects-wide : length objects-room ≡ 2048
     unfolding tables
     objects-wide = rooms-full own own-fits .2
 
@@ -198,14 +213,14 @@ module _ {s d e o v d₁ e₁ o₁ v₁ : List ℕ} {w : Spanned} (h : ReadsSpan
     pub objects-front : 2048 ≡ length (take 2048 o₁)
     objects-front = sym (length-take-le 2048 o₁ objects-long)
 
-    abbrev values-room : List ℕ
+    abbrev pub values-room : List ℕ
     values-room = value-room (all-value-rows (all-values file (file .objects)) 0 0)
 
-    values-are : v₁ ≡ values-room ++ drop 18432 v
+    pub values-are : v₁ ≡ values-room ++ drop 18432 v
     unfolding tableAfter rooms-after tables
     values-are = h .reads .values ∙ ap₂ (λ (b : Bool) (a : Meant). tableAfter b (rooms-after a .values) 18432 v) all-enough reads-own
 
-    values-wide : length values-room ≡ 18432
+    pub values-wide : length values-room ≡ 18432
     unfolding tables
     values-wide = rooms-full own own-fits .3
 
@@ -215,7 +230,7 @@ module _ {s d e o v d₁ e₁ o₁ v₁ : List ℕ} {w : Spanned} (h : ReadsSpan
     pub values-front : 18432 ≡ length (take 18432 v₁)
     values-front = sym (length-take-le 18432 v₁ values-long)
 
-    given : Given s (take 6656 d₁) (take 2048 o₁) (take 18432 v₁) w file
+    pub given : Given s (take 6656 d₁) (take 2048 o₁) (take 18432 v₁) w file
     unfolding readingOf tables
     given =
         let a = h .spans i in
@@ -237,7 +252,35 @@ module _ {s d e o v d₁ e₁ o₁ v₁ : List ℕ} {w : Spanned} (h : ReadsSpan
           };
         }
 
-    text-is : normal s file ≡ normal-text s
+    -- Tables that are no longer than their rooms hold the rows whole.
+    pub given-whole : RoomSizes d e o v → Given s d₁ o₁ v₁ w file
+    given-whole k =
+        let g = given in
+        record {
+          tables = record {
+            situation = g .tables .situation;
+            definitions = room-whole 6656 definitions-room d d₁ definitions-are definitions-wide (k .definitions);
+            objects = room-whole 2048 objects-room o o₁ objects-are objects-wide (k .objects);
+            values = room-whole 18432 values-room v v₁ values-are values-wide (k .values);
+            many-objects = g .tables .many-objects;
+            many-values = g .tables .many-values;
+          };
+          spans = g .spans;
+        }
+
+    pub enumerators-whole : RoomSizes d e o v → e₁ ≡ enumerators-room
+    enumerators-whole k = room-whole 3072 enumerators-room e e₁ enumerators-are enumerators-wide (k .enumerators)
+
+    -- How many rows of definitions and of enumerators there are.
+    pub many-definitions : w .reading .definitions ≡ length (all-definition-rows (file .specs))
+    unfolding readingOf tables
+    many-definitions = ap (λ (x : Reading). x .definitions) (h .reads .result ∙ ap readingOf (call-enough s d e o v all-enough ∙ reads-own))
+
+    pub many-enumerators : w .reading .enumerators ≡ length (all-enumerator-rows (file .specs))
+    unfolding readingOf tables
+    many-enumerators = ap (λ (x : Reading). x .enumerators) (h .reads .result ∙ ap readingOf (call-enough s d e o v all-enough ∙ reads-own))
+
+    pub text-is : normal s file ≡ normal-text s
     text-is = let a = h .spans i in ap (normal s) (a .situation .syntax-of) ∙ sym (normal-derived s (a .covered) (a .situation .derivation))
 
     asked-is : (l : List ℕ) → asked s d e o v l ≡ output-asked (some (length l)) (normal-text s) (accepted own)

@@ -1,0 +1,20 @@
+-- Event masks. Assumes nothing.
+pub mod Examples
+pub mod Reflections
+pub mod Powers
+pub mod Checking
+pub mod Planning
+pub mod Texts
+pub mod Looping
+pub mod Rules
+pub mod Refers
+pub mod Referring
+pub mod Markings
+pub mod Storing
+pub mod Masking
+pub mod Linking
+pub mod Scenes
+pub mod Plannables
+pub mod Calls
+pub mod ByRules
+pub mod Accepting
