@@ -1,10 +1,11 @@
-//! The texts of the corpus and their expected answers; corpus/README.md says where they stand.
+//! The corpus: cases, each a question about a text and the answer that was worked out for it.
+//! corpus/README.md says in which form they stand there.
 
 use std::fs;
 use std::path::{Path, PathBuf};
 
-/// The requests of document 02 that have landed.
-pub const LANDED: &[u8] = &[1, 2, 4, 5];
+/// The list of the texts of document 01; each other one is of a request of document 02.
+pub const DOCUMENT_01: &str = "document-01";
 
 /// A text of the corpus and what the program writes for it.
 pub struct Sample {
@@ -23,12 +24,99 @@ impl Sample {
     }
 }
 
-fn folder() -> PathBuf {
+/// A text of a case.
+#[derive(Debug, PartialEq)]
+pub struct Text {
+    /// The name by which another text of the case may include it.
+    pub name: Option<String>,
+    /// Its file, as the list has it.
+    pub file: String,
+}
+
+impl Text {
+    fn new(word: &str) -> Text {
+        let (name, file) = match word.split_once('=') {
+            Some((name, file)) => (Some(name.into()), file),
+            None => (None, word),
+        };
+        Text {
+            name,
+            file: file.into(),
+        }
+    }
+
+    pub fn path(&self) -> PathBuf {
+        folder().join(&self.file)
+    }
+
+    pub fn bytes(&self) -> Vec<u8> {
+        read(self.path())
+    }
+}
+
+/// A case, as its list has it.
+#[derive(Debug, PartialEq)]
+pub struct Case {
+    /// Its list and its name there; of a text of document 01 the name alone.
+    pub name: String,
+    /// The question, with what it is asked for.
+    pub ask: String,
+    pub texts: Vec<Text>,
+    /// The first answer, then one for each request that changes it: a line, or the file that
+    /// holds it.
+    pub answers: Vec<String>,
+}
+
+impl Case {
+    /// The text of a case that has one.
+    pub fn text(&self) -> Vec<u8> {
+        match &self.texts[..] {
+            [text] => text.bytes(),
+            texts => panic!("{}: {} texts", self.name, texts.len()),
+        }
+    }
+
+    /// The first and the second text of a case that has two.
+    pub fn pair(&self) -> [&Text; 2] {
+        match &self.texts[..] {
+            [first, second] => [first, second],
+            texts => panic!("{}: {} texts", self.name, texts.len()),
+        }
+    }
+
+    /// What comes out, byte for byte: the last answer.
+    pub fn answer(&self) -> Vec<u8> {
+        let answer = self.answers.last().expect("an answer");
+        match answer_file(answer) {
+            Some(file) => read(folder().join(file)),
+            None => format!("{answer}\n").into_bytes(),
+        }
+    }
+
+    fn sample(self) -> Sample {
+        Sample {
+            text: self.text(),
+            expected: self.answer(),
+            name: self.name,
+        }
+    }
+}
+
+/// The file that a list names for an answer; none where the answer is a line of the list.
+pub fn answer_file(answer: &str) -> Option<&str> {
+    answer.starts_with("answers/").then_some(answer)
+}
+
+pub fn folder() -> PathBuf {
     Path::new(env!("CARGO_MANIFEST_DIR")).join("corpus")
 }
 
+fn read(path: PathBuf) -> Vec<u8> {
+    fs::read(&path).unwrap_or_else(|fault| panic!("{}: {fault}", path.display()))
+}
+
 /// The names in a folder, in their order; there is at least one.
-fn names(folder: &Path) -> Vec<String> {
+pub fn names(folder: &Path) -> Vec<String> {
     let entries = fs::read_dir(folder)
         .unwrap_or_else(|fault| panic!("the corpus is not there: {}: {fault}", folder.display()));
     let mut names: Vec<String> = entries
@@ -40,70 +128,146 @@ fn names(folder: &Path) -> Vec<String> {
     names
 }
 
-fn read(path: PathBuf) -> Vec<u8> {
-    fs::read(&path).unwrap_or_else(|fault| panic!("{}: {fault}", path.display()))
+/// The names of the lists, in their order.
+pub fn lists() -> Vec<String> {
+    let files = names(&folder().join("cases"));
+    let name = |file: &String| file.strip_suffix(".txt").expect("a list").to_string();
+    files.iter().map(name).collect()
 }
 
-/// The answer after the last landed request that changes it, where `after` names the file of a
-/// request's answer, else the first answer.
-fn answer(after: impl Fn(&str) -> PathBuf, first: PathBuf) -> Vec<u8> {
-    let files = LANDED
-        .iter()
-        .map(|number| after(&format!("after-q{number:02}")));
-    let file = files.rev().find(|file| file.exists());
-    read(file.unwrap_or(first))
+/// The cases of a list, in its order.
+pub fn list(name: &str) -> Vec<Case> {
+    let file = folder().join("cases").join(format!("{name}.txt"));
+    let lines = String::from_utf8(read(file)).expect("a list in ASCII");
+    listed(name, &lines)
 }
 
-/// The texts of document 01 in the order of their names.
-pub fn samples() -> Vec<Sample> {
-    let expected = folder().join("expected");
-    let texts = Path::new(env!("CARGO_MANIFEST_DIR")).join("../crates/vectors/data");
-    let answers = names(&expected);
-    let answers = answers.iter().filter_map(|name| name.strip_suffix(".out"));
-    let samples: Vec<Sample> = answers
-        .map(|name| {
-            let (number, _) = name.split_once('-').expect("a number and a topic");
-            let file = format!("{name}.out");
-            Sample {
-                text: read(texts.join(format!("{number}.oil"))),
-                expected: answer(
-                    |after| expected.join(after).join(&file),
-                    expected.join(&file),
-                ),
-                name: name.to_string(),
-            }
-        })
-        .collect();
-    assert_eq!(
-        samples.len(),
-        names(&texts).len(),
-        "an answer for each text"
-    );
-    samples
-}
-
-/// The cases of the landed requests in their order; all ask for normal text.
-pub fn cases() -> Vec<Sample> {
-    let mut cases = Vec::new();
-    for number in LANDED {
-        let request = format!("q{number:02}");
-        let folder = folder().join(&request);
-        for case in names(&folder) {
-            let folder = folder.join(&case);
-            assert_eq!(read(folder.join("ask")), b"normal\n", "{request}/{case}");
-            cases.push(Sample {
-                name: format!("{request}/{case}"),
-                text: read(folder.join("main.oil")),
-                expected: answer(|after| folder.join(after), folder.join("answer")),
-            });
+fn listed(list: &str, lines: &str) -> Vec<Case> {
+    let mut cases: Vec<Case> = Vec::new();
+    let mut after = String::new();
+    for line in lines.lines() {
+        let fields: Vec<&str> = line.splitn(3, '\t').collect();
+        let [case, ask, rest] = fields[..] else {
+            panic!("{list}: a line of too few fields: {line}");
+        };
+        let name = match list {
+            DOCUMENT_01 => case.to_string(),
+            request => format!("{request}/{case}"),
+        };
+        if ask.starts_with("after-q") {
+            let case = cases.last_mut().filter(|case| case.name == name);
+            let case = case.unwrap_or_else(|| panic!("{name}: {ask} is not below its case"));
+            assert!(*after < *ask, "{name}: {ask} below {after}");
+            case.answers.push(rest.into());
+            after = ask.into();
+            continue;
         }
+        let (texts, answer) = rest
+            .split_once('\t')
+            .unwrap_or_else(|| panic!("{name}: no answer"));
+        let is_behind = cases.last().is_none_or(|last| last.name < name);
+        assert!(is_behind, "{name}: out of order");
+        cases.push(Case {
+            name,
+            ask: ask.into(),
+            texts: texts.split(' ').map(Text::new).collect(),
+            answers: vec![answer.into()],
+        });
+        after.clear();
     }
     cases
 }
 
-/// The texts of document 01 and the cases of the landed requests.
+/// The cases of the requests, in their order, whose question begins with a word.
+pub fn asking(word: &str) -> Vec<Case> {
+    let lists = lists().into_iter().filter(|list| list != DOCUMENT_01);
+    lists
+        .flat_map(|name| list(&name))
+        .filter(|case| case.ask.split(' ').next() == Some(word))
+        .collect()
+}
+
+/// The texts of document 01 in the order of their names.
+pub fn samples() -> Vec<Sample> {
+    let cases = list(DOCUMENT_01).into_iter();
+    cases.map(Case::sample).collect()
+}
+
+/// The cases of the requests that ask for normal text, in their order.
+pub fn cases() -> Vec<Sample> {
+    let cases = asking("normal").into_iter();
+    cases.map(Case::sample).collect()
+}
+
+/// The texts of document 01 and the cases of the requests that ask for normal text.
 pub fn all() -> Vec<Sample> {
     let mut all = samples();
     all.extend(cases());
     all
+}
+
+#[cfg(test)]
+mod tests {
+    use super::*;
+
+    fn text(name: Option<&str>, file: &str) -> Text {
+        Text {
+            name: name.map(String::from),
+            file: file.into(),
+        }
+    }
+
+    #[test]
+    fn forms_of_lines() {
+        let lines = "\
+001\tnormal\ttexts/a.oil\trefused\t4\t0
+001\tafter-q02\tanswers/a.out
+001\tafter-q10\trefused\t4\t0\t0
+002\tcompare\ttexts/a.oil texts/b.oil\ttotal\t0
+003\tnormal\ttexts/a.oil b=texts/b.oil c.oil=texts/a.oil\tanswers/b.out
+004\tvalue OS o s room 3\ttexts/a.oil\tvalue\t
+";
+        let case = |name: &str, ask: &str, texts, answers: &[&str]| Case {
+            name: format!("q02/{name}"),
+            ask: ask.into(),
+            texts,
+            answers: answers.iter().map(|answer| answer.to_string()).collect(),
+        };
+        let a = || text(None, "texts/a.oil");
+        let b = || text(None, "texts/b.oil");
+        let answers = ["refused\t4\t0", "answers/a.out", "refused\t4\t0\t0"];
+        let included = vec![
+            a(),
+            text(Some("b"), "texts/b.oil"),
+            text(Some("c.oil"), "texts/a.oil"),
+        ];
+        let cases = listed("q02", lines);
+        assert_eq!(
+            cases,
+            [
+                case("001", "normal", vec![a()], &answers),
+                case("002", "compare", vec![a(), b()], &["total\t0"]),
+                case("003", "normal", included, &["answers/b.out"]),
+                case("004", "value OS o s room 3", vec![a()], &["value\t"]),
+            ]
+        );
+        assert_eq!(cases[1].pair(), [&a(), &b()]);
+        assert_eq!(cases[3].answer(), b"value\t\n");
+    }
+
+    #[test]
+    #[should_panic(expected = "q02/002: after-q04 is not below its case")]
+    fn a_later_answer_without_its_case() {
+        listed(
+            "q02",
+            "001\tnormal\ttexts/a.oil\ttotal\n002\tafter-q04\ttotal\n",
+        );
+    }
+
+    #[test]
+    #[should_panic(expected = "q02/001: out of order")]
+    fn a_case_twice() {
+        let line = "001\tnormal\ttexts/a.oil\trefused\t4\t0\n";
+        listed("q02", &line.repeat(2));
+    }
 }

@@ -3,7 +3,7 @@
 
 use std::fs;
 use std::os::unix::ffi::OsStrExt;
-use std::path::{Path, PathBuf};
+use std::path::Path;
 use std::process::{Command, Stdio};
 use tests::heading::{self, heading, Heading};
 use tests::meaning::Refusal;
@@ -87,16 +87,6 @@ fn agree(name: &str, text: &[u8], reference: &Result<Heading, Refusal>) {
     }
 }
 
-/// The folder of the cases of Q-7.
-fn cases() -> Vec<PathBuf> {
-    let folder = Path::new(env!("CARGO_MANIFEST_DIR")).join("corpus/q07");
-    let entries = fs::read_dir(&folder).expect("the cases of Q-7");
-    let mut cases: Vec<PathBuf> = entries.map(|entry| entry.expect("a case").path()).collect();
-    cases.sort();
-    assert_eq!(cases.len(), 59);
-    cases
-}
-
 /// The answer of a case: `heading`, the version in hex and the name; or the refused line.
 fn case_answer(text: &[u8], answer: &Result<Heading, Refusal>) -> Vec<u8> {
     match answer {
@@ -117,13 +107,12 @@ fn case_answer(text: &[u8], answer: &Result<Heading, Refusal>) -> Vec<u8> {
 #[test]
 fn cases_of_the_corpus() {
     let mut comparison = Comparison::new();
-    for case in cases() {
-        let name = case.display().to_string();
-        assert_eq!(fs::read(case.join("ask")).expect("ask"), b"heading\n");
-        let text = fs::read(case.join("main.oil")).expect("a text");
-        let answer = comparison.ask(&name, &text);
-        let expected = fs::read(case.join("answer")).expect("an answer");
-        assert_eq!(case_answer(&text, &answer), expected, "{name}");
+    let cases = corpus::asking("heading");
+    assert_eq!(cases.len(), 59);
+    for case in cases {
+        let text = case.text();
+        let answer = comparison.ask(&case.name, &text);
+        assert_eq!(case_answer(&text, &answer), case.answer(), "{}", case.name);
     }
     comparison.report("cases of Q-7");
     let mut comparison = Comparison::new();
@@ -246,23 +235,26 @@ fn written(folder: &Path, arguments: &[&[u8]], input: Option<&Path>) -> Vec<u8> 
 
 #[test]
 fn program_on_the_cases() {
-    let cases = cases();
-    let names: Vec<String> = cases
+    let cases = corpus::asking("heading");
+    let folder = corpus::folder();
+    let names: Vec<&[u8]> = cases
         .iter()
-        .map(|case| format!("{}/main.oil", case.file_name().unwrap().to_str().unwrap()))
+        .map(|case| case.texts[0].file.as_bytes())
         .collect();
     let mut lines = Vec::new();
     for (case, name) in cases.iter().zip(&names) {
-        let text = fs::read(case.join("main.oil")).expect("a text");
-        let expected = fs::read(case.join("answer")).expect("an answer");
-        assert_eq!(case_answer(&text, &heading(&text)), expected, "{name}");
-        lines.extend(heading::line(name.as_bytes(), &text));
-        let alone = written(case, &[], Some(&case.join("main.oil")));
-        assert_eq!(alone, heading::line(b"-", &text), "{name}");
+        let text = case.text();
+        assert_eq!(
+            case_answer(&text, &heading(&text)),
+            case.answer(),
+            "{}",
+            case.name
+        );
+        lines.extend(heading::line(name, &text));
+        let alone = written(&folder, &[], Some(&case.texts[0].path()));
+        assert_eq!(alone, heading::line(b"-", &text), "{}", case.name);
     }
-    let arguments: Vec<&[u8]> = names.iter().map(|name| name.as_bytes()).collect();
-    let folder = cases[0].parent().expect("the cases' folder");
-    assert_eq!(written(folder, &arguments, None), lines);
+    assert_eq!(written(&folder, &names, None), lines);
 }
 
 /// README.md's line, and what it says of it.

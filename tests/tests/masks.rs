@@ -5,6 +5,7 @@ use std::fs;
 use std::io::Write;
 use std::path::Path;
 use std::process::{Command, Stdio};
+use tests::corpus;
 use tests::masks::{self, any_mix, damaged, lists, Checked, Mix, Planned};
 use tests::meaning::Refusal;
 use tests::random::Random;
@@ -187,40 +188,50 @@ fn sixty_four_bits() {
     }
 }
 
-/// The cases q06 of the corpus, whose answers two implementations gave.
+/// The cases of Q-6 in the corpus, by the reference and, where they are linked, the proved calls.
 #[test]
 fn corpus_cases() {
-    if !is_linked() {
-        return;
+    let cases = corpus::asking("masks-check");
+    assert_eq!(cases.len(), 110);
+    for case in cases {
+        let (text, answer) = (case.text(), case.answer());
+        let list = listed(case.ask.strip_prefix("masks-check").expect("a list"));
+        let reference = check_line(masks::check(&text, &list));
+        assert_eq!(reference.as_bytes(), answer, "{}", case.name);
+        if is_linked() {
+            let found = check_line(check_masks(&text, &list));
+            assert_eq!(found.as_bytes(), answer, "{}", case.name);
+        }
     }
-    let folder = Path::new(env!("CARGO_MANIFEST_DIR")).join("corpus/q06");
-    let mut count = 0;
-    for case in fs::read_dir(&folder).expect("the cases of Q-6") {
-        let case = case.expect("a case").path();
-        let file = |name: &str| fs::read(case.join(name)).unwrap_or_default();
-        let words = |name: &str| String::from_utf8(file(name)).expect("a line of words");
-        let (text, ask, answer) = (file("main.oil"), words("ask"), words("answer"));
-        let found = match ask.trim().strip_prefix("masks-plan ") {
-            Some(length) => plan_line(&text, length.parse().expect("a length")),
-            None => check_line(&text, &words("masks")),
-        };
-        assert_eq!(found, answer, "{}", case.display());
-        count += 1;
+    let cases = corpus::asking("masks-plan");
+    assert_eq!(cases.len(), 99);
+    for case in cases {
+        let (text, answer) = (case.text(), case.answer());
+        let length = case.ask.strip_prefix("masks-plan ").expect("a length");
+        let noise = vec![0x5a5a; length.parse().expect("a length")];
+        let reference = plan_line(masks::plan(&text, &noise), &noise);
+        assert_eq!(reference.as_bytes(), answer, "{}", case.name);
+        if is_linked() {
+            let found = plan_line(planned(&mut Random::new(2), &text, &noise), &noise);
+            assert_eq!(found.as_bytes(), answer, "{}", case.name);
+        }
     }
-    assert_eq!(count, 209);
+}
+
+fn listed(masks: &str) -> Vec<u64> {
+    let number = |word: &str| match word.strip_prefix("0x") {
+        Some(digits) => u64::from_str_radix(digits, 16).expect("a mask"),
+        None => word.parse().expect("a mask"),
+    };
+    masks.split_whitespace().map(number).collect()
 }
 
 fn refused(refusal: Refusal) -> String {
     format!("refused\t{}\t{}\n", refusal.number, refusal.place)
 }
 
-fn check_line(text: &[u8], list: &str) -> String {
-    let number = |word: &str| match word.strip_prefix("0x") {
-        Some(digits) => u64::from_str_radix(digits, 16).expect("a mask"),
-        None => word.parse().expect("a mask"),
-    };
-    let list: Vec<u64> = list.split_whitespace().map(number).collect();
-    match check_masks(text, &list) {
+fn check_line(answer: Checked) -> String {
+    match answer {
         Checked::Refused(refusal) => refused(refusal),
         Checked::NotPlannable => "not plannable\n".into(),
         Checked::WrongLength => "wrong length\n".into(),
@@ -229,9 +240,7 @@ fn check_line(text: &[u8], list: &str) -> String {
     }
 }
 
-fn plan_line(text: &[u8], length: usize) -> String {
-    let noise = vec![0x5a5a; length];
-    let (answer, list) = planned(&mut Random::new(2), text, &noise);
+fn plan_line((answer, list): (Planned, Vec<u64>), noise: &[u64]) -> String {
     match answer {
         Planned::Refused(refusal) => refused(refusal),
         Planned::NotPlannable => "not plannable\n".into(),
