@@ -1,10 +1,10 @@
 // The ranges of integer attributes, read from the text.
+ghost use mathlib.Core.Path.{_≡_};
 ghost use Rattle.scopes.specs.Items.{num, integer-coded};
 ghost use Rattle.scopes.specs.Promises.{IsListed, InRange, ListFault, BoundFault};
 use super::Num;
 use super::numbers;
 use rows::Fault;
-use rows::faults;
 use rows::refusals;
 
 // Whether a number is among those that stand from a place on, a comma before each.
@@ -49,6 +49,16 @@ pub fn in_range(text: &[u8], range: usize, n: Num) -> bool
     is_listed(text, a.next, n)
 }
 
+// The fault of a bound, a listed number or a low, at its place.
+pub fn wrong_bound(at: usize) -> Fault
+    ensures { λ r. ⌜ r ≡ record { number = 21; place = at } ⌝ }
+{
+    Fault {
+        number: refusals::WRONG_BOUND,
+        place: at,
+    }
+}
+
 // 21 at the first number outside the type of those that stand from a place on, a comma before each.
 fn list_fault(text: &[u8], code: usize, from: usize) -> Fault
     ensures { λ r. ⌜ ListFault (now (text .entry)) (integer-coded code) from r ⌝ }
@@ -64,10 +74,7 @@ fn list_fault(text: &[u8], code: usize, from: usize) -> Fault
         }
         let x = numbers::item_at(text, s.next);
         if !numbers::in_type(code, x.number) {
-            return Fault {
-                number: refusals::WRONG_BOUND,
-                place: x.at,
-            };
+            return wrong_bound(x.at);
         }
         at = x.next;
     }
@@ -93,28 +100,21 @@ pub fn bound_fault(text: &[u8], code: usize, range: usize) -> Fault
     if s.sign == 46 {
         let b = numbers::item_at(text, s.next);
         if !numbers::at_most(a.number, b.number) {
-            return Fault {
-                number: refusals::WRONG_BOUND,
-                place: a.at,
-            };
+            return wrong_bound(a.at);
         }
         if !numbers::in_type(code, a.number) {
-            return Fault {
-                number: refusals::WRONG_BOUND,
-                place: a.at,
-            };
+            return wrong_bound(a.at);
         }
-        return faults::fault_if(
-            !numbers::in_type(code, b.number),
-            refusals::WRONG_BOUND,
-            b.at,
-        );
+        if !numbers::in_type(code, b.number) {
+            return wrong_bound(b.at);
+        }
+        return Fault {
+            number: 0,
+            place: 0,
+        };
     }
     if !numbers::in_type(code, a.number) {
-        return Fault {
-            number: refusals::WRONG_BOUND,
-            place: a.at,
-        };
+        return wrong_bound(a.at);
     }
     list_fault(text, code, a.next)
 }

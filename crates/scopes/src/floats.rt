@@ -6,10 +6,9 @@ ghost use Rattle.meaning.specs.Words.{at-most};
 ghost use Rattle.scopes.specs.Items.{real};
 ghost use Rattle.scopes.specs.Promises.{InFloats, LowFault};
 use super::Float;
+use super::bounds;
 use super::numbers;
 use rows::Fault;
-use rows::faults;
-use rows::refusals;
 use token::Cursor;
 use token::Sort;
 use token::Step;
@@ -119,5 +118,11 @@ pub fn low_fault(text: &[u8], range: usize) -> Fault
     let s = numbers::item_at(text, a.next);
     let low = float_at(text, o.next);
     let high = float_at(text, s.next);
-    faults::fault_if(!at_most(low, high), refusals::WRONG_BOUND, a.at)
+    if !at_most(low, high) {
+        return bounds::wrong_bound(a.at);
+    }
+    Fault {
+        number: 0,
+        place: 0,
+    }
 }

@@ -1,3 +1,4 @@
+use mathlib.Core.Path.{_∙_}
 use native.Mathlib.Omega.{arith}
 use borrow.Author.Needs.{needs}
 use lib.ListN.{length}
@@ -9,6 +10,7 @@ use Rattle.scopes.proofs.bounds.list_fault.Statement.{statement}
 use Rattle.scopes.proofs.bounds.list_fault.Tie as tie
 use Rattle.scopes.proofs.bounds.list_fault.Reads as reads
 use Rattle.scopes.proofs.bounds.list_fault.Lts as lts
+use Rattle.scopes.proofs.bounds.wrong_bound.Reads as wrong-bound-reads
 use Rattle.scopes.proofs.numbers.in_type.Reads as in-type-reads
 use Rattle.scopes.proofs.numbers.item_at.Reads as item-at-reads
 
@@ -33,8 +35,11 @@ item-at-requires-2 c κs = search needs
 in-type-requires : tie.Need-in-type-requires Inv-loop μ-loop
 in-type-requires c κs = search needs
 
+wrong-bound-requires : tie.Need-wrong-bound-requires Inv-loop μ-loop
+wrong-bound-requires c κs = search needs
+
 returns-2 : tie.Need-returns-2 Inv-loop μ-loop
-returns-2 c = out-hit _ _ _ _ (c .before .before .before .before .before .before .before .loop .inv) _ _ (c .before .before .before .before .before .item-at .ensures) (c .before .before .before .if1 .left) (c .before .before .item-at2 .ensures) _ (c .before .in-type .ensures) (not-true _ (c .if2 .taken))
+returns-2 c = λ ws l. (c .wrong-bound .ensures) ∙ out-hit _ _ _ _ (c .before .before .before .before .before .before .before .before .loop .inv) _ _ (c .before .before .before .before .before .before .item-at .ensures) (c .before .before .before .before .if1 .left) (c .before .before .before .item-at2 .ensures) _ (c .before .before .in-type .ensures) (not-true _ (c .before .if2 .taken)) ws l
 
 loop-less : tie.Need-loop-less Inv-loop μ-loop
 loop-less c = omega (arith, turn-on _ _ _ _ (c .before .before .before .before .before .item-at .ensures) (c .before .before .before .if1 .left) (c .before .before .item-at2 .ensures), (c .before .before .before .before .before .before .loop-test .taken))
@@ -56,6 +61,7 @@ list-fault-spec =
     returns
     item-at-requires-2
     in-type-requires
+    wrong-bound-requires
     returns-2
     loop-less
     loop-again

@@ -1,10 +1,12 @@
+use mathlib.Core.Path.{sym, _∙_}
+use Rattle.rows.proofs.Orders.{fault-if-true, fault-if-false}
 use Rattle.scopes.proofs.Floating.{low-zero, low-is}
 use borrow.Author.Needs.{needs}
 use Rattle.scopes.proofs.floats.low_fault.Statement.{statement}
 use Rattle.scopes.proofs.floats.low_fault.Tie as tie
 use Rattle.scopes.proofs.floats.low_fault.Reads as reads
 use Rattle.scopes.proofs.floats.low_fault.Lts as lts
-use Rattle.rows.proofs.faults.fault_if.Reads as fault-if-reads
+use Rattle.scopes.proofs.bounds.wrong_bound.Reads as wrong-bound-reads
 use Rattle.scopes.proofs.floats.at_most.Reads as at-most-reads
 use Rattle.scopes.proofs.floats.float_at.Reads as float-at-reads
 use Rattle.scopes.proofs.numbers.item_at.Reads as item-at-reads
@@ -30,11 +32,14 @@ float-at-requires-2 c κs = search needs
 at-most-requires : tie.Need-at-most-requires
 at-most-requires c κs = search needs
 
-fault-if-requires : tie.Need-fault-if-requires
-fault-if-requires c κs = search needs
+wrong-bound-requires : tie.Need-wrong-bound-requires
+wrong-bound-requires c κs = search needs
 
 returns-2 : tie.Need-returns-2
-returns-2 c = low-is _ _ (c .before .before .before .before .before .before .before .if1 .left) _ _ _ (c .before .before .before .before .before .before .item-at .ensures) (c .before .before .before .before .before .item-at2 .ensures) (c .before .before .before .before .item-at3 .ensures) _ _ (c .before .before .before .float-at .ensures) (c .before .before .float-at2 .ensures) _ _ (c .before .at-most .ensures) (c .fault-if .ensures)
+returns-2 c = low-is _ _ (c .before .before .before .before .before .before .before .before .if1 .left) _ _ _ (c .before .before .before .before .before .before .before .item-at .ensures) (c .before .before .before .before .before .before .item-at2 .ensures) (c .before .before .before .before .before .item-at3 .ensures) _ _ (c .before .before .before .before .float-at .ensures) (c .before .before .before .float-at2 .ensures) _ _ (c .before .before .at-most .ensures) ((c .wrong-bound .ensures) ∙ sym (fault-if-true _ _ _ (c .before .if2 .taken)))
+
+returns-3 : tie.Need-returns-3
+returns-3 c = low-is _ _ (c .before .before .before .before .before .before .before .if1 .left) _ _ _ (c .before .before .before .before .before .before .item-at .ensures) (c .before .before .before .before .before .item-at2 .ensures) (c .before .before .before .before .item-at3 .ensures) _ _ (c .before .before .before .float-at .ensures) (c .before .before .float-at2 .ensures) _ _ (c .before .at-most .ensures) (sym (fault-if-false _ _ _ (c .if2 .left)))
 
 pub low-fault-spec : {M : Type 1} → statement M
 low-fault-spec =
@@ -47,5 +52,6 @@ low-fault-spec =
     float-at-requires
     float-at-requires-2
     at-most-requires
-    fault-if-requires
-    returns-2)
+    wrong-bound-requires
+    returns-2
+    returns-3)
