@@ -37,7 +37,7 @@ use Rattle.scopes.specs.Situations.{Situation}
 use Rattle.scopes.specs.Promises.{fault-of}
 use Rattle.walk.specs.Whole.{Rooms, Few, Whole}
 use Rattle.walk.specs.declared.Walked.{Walked}
-use Rattle.reading.specs.Decisions.{grammarFault, KeptParts, orElse, stageFault, Decided, blank, Staged}
+use Rattle.reading.specs.Decisions.{grammarFault, Merged, KeptParts, orElse, stageFault, Decided, blank, Staged}
 use Rattle.reading.specs.declared.Decision.{Decision}
 use Rattle.meaning.proofs.Numbered.{NumberedOne, of-definitions, of-objects, of-stage, of-first}
 
@@ -115,7 +115,7 @@ arrived s y w h l z =
     let m₃ = m .3 in
     let k₀ = k .definitions in
     let k₁ = k .enumerators in
-    let k₂ = k .objects in
+    let k₂ = k .parts in
     let k₃ = k .statements in
     record {
       file = syntax s (t .trees);
@@ -123,11 +123,11 @@ arrived s y w h l z =
         situation = record { derivation = record { tree = t .trees; leaves = sym (v .1) }; syntax-of = refl };
         in-definitions = k .definition-rows m₀;
         in-enumerators = k .enumerator-rows m₁;
-        in-objects = k .object-table m₂ m₃;
+        in-parts = k .part-table m₂ m₃;
         in-statements = k .statement-table m₃;
         definitions = omega arith;
         enumerators = omega arith;
-        objects = omega arith;
+        parts = omega arith;
         statements = omega arith;
         version = k .version;
         implementation = k .implementation;
@@ -175,7 +175,7 @@ stages-refuse none (some x) c k r e n = ap (λ (q : Fault). refused (q .number) 
 stages-refuse (some x) b c k r e n = ap (λ (q : Fault). refused (q .number) (q .place)) (sym e)
 
 -- What the fault of these stages decides.
-pub decided : (s : List ℕ) (y y′ : Rooms) (w : Walked) (d : Decision) (t : Arrived s y w) → Staged s y′ (t .file) d → Decided s y′ d
+pub decided : (s : List ℕ) (y : Rooms) (y′ : Merged) (w : Walked) (d : Decision) (t : Arrived s y w) → Staged s y′ (t .file) d → Decided s y′ d
 unfolding stageFault answer
 decided s y y′ w d t g =
     let f = t .file in

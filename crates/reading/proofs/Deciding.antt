@@ -31,7 +31,7 @@ use Rattle.judging.specs.Promises.{JudgesAll}
 use Rattle.scopes.specs.declared.Sizes.{Sizes}
 use Rattle.walk.specs.Whole.{Rooms, Whole}
 use Rattle.walk.specs.declared.Walked.{Walked}
-use Rattle.reading.specs.Decisions.{grammarFault, Kept, KeptParts, with-objects, orElse, stageFault, Staged, Stages, Decides}
+use Rattle.reading.specs.Decisions.{grammarFault, Kept, KeptParts, orElse, stageFault, Staged, Stages, Decides}
 use Rattle.reading.specs.declared.Decision.{Decision}
 use Rattle.meaning.proofs.Numbered.{of-definitions, of-objects, of-first}
 use Rattle.reading.proofs.Arriving.{refused-early, arrived, answers-first, answers-next, decided}
@@ -39,22 +39,22 @@ use Rattle.reading.proofs.Settling.{Fitting, fitting, given, places}
 
 -- The rows of the objects are kept.
 module _ {s : List ℕ} {y : Rooms} {w : Walked} {f : File} (k : KeptParts s y w f) (p : first (definition-faults f) ≡ none) (q : first (object-faults f) ≡ none) where
-  kept-merged : (x o t o′ t′ : List ℕ) (l r n : ℕ) (cs : List ℕ) → l ≡ min (w .objects) 513 → FirstRows 0 s (y .objects) l x → Merges (y .objects) (y .statements) x (w .objects) o t o′ t′ r
+  kept-merged : (x o t o′ t′ : List ℕ) (l r n : ℕ) (cs : List ℕ) (c : Fault) → l ≡ min (w .parts) 513 → FirstRows 0 s (y .parts) l x → Merges (y .parts) (y .statements) x (w .parts) o t o′ t′ r
       → o ≡ replicate 2570 0 → t ≡ replicate 14343 0 → (length (f .parts) ≤ 513 → n ≡ length (f .objects)) → (length (f .parts) ≤ 513 → cs ≡ counts (f .objects))
-      → Kept s (record { definitions = y .definitions; enumerators = y .enumerators; objects = o′; statements = t′ }) (with-objects w n cs) f
+      → Kept s (record { definitions = y .definitions; enumerators = y .enumerators; objects = o′; statements = t′ }) (record { fault = c; walked = w; objects = n; counts = cs }) f
   unfolding kept-objects kept-statements kept
-  kept-merged x o t o′ t′ l r n cs e h m eo et en ec =
+  kept-merged x o t o′ t′ l r n cs v e h m eo et en ec =
       let F = fitting s f (k .situation) p q in
       let F₁ = F .parts in
       let F₂ = F .part-statements in
-      let ko = k .objects in
+      let ko = k .parts in
       let fewer : length (f .parts) ≤ 513 = omega arith in
-      let P : Parted s (y .objects) (y .statements) x (w .objects) f = record {
+      let P : Parted s (y .parts) (y .statements) x (w .parts) f = record {
         situation = k .situation;
-        in-parts = k .in-objects;
+        in-parts = k .in-parts;
         in-statements = k .in-statements;
         parts = ko;
-        firsts = λ j i. cells-of 0 s (y .objects) x l (w .objects) e h j (omega arith);
+        firsts = λ j i. cells-of 0 s (y .parts) x l (w .parts) e h j (omega arith);
         parts-fit = omega arith;
         statements-fit = F₂;
       } in
@@ -83,15 +83,15 @@ module _ (s : List ℕ) (y : Rooms) (w : Walked) (a : Fault)
   stage-one : (f : File) → KeptParts s y w f → a ≡ fault-of (first (definition-faults f))
   stage-one f k = p f (k .situation) (k .in-definitions) (k .in-enumerators) (k .definitions) (k .enumerators) (sym (k .version .0)) (sym (k .version .1)) (k .again)
 
-  pub by-first : (o t o′ t′ : List ℕ) → isFault a ≡ true → Stages s y o t o′ t′ w (record { fault = a; walked = w })
+  pub by-first : (o t o′ t′ : List ℕ) (n : ℕ) (cs : List ℕ) → isFault a ≡ true → Stages s y o t o′ t′ w (record { fault = a; walked = w; objects = n; counts = cs })
   unfolding stageFault
-  by-first o t o′ t′ h f k eo et = record { fault = answers-first _ (first (definition-faults f)) a (stage-one f k) (is-one a h); kept = λ n. absurd (is-one a h n) }
+  by-first o t o′ t′ n cs h f k eo et = record { fault = answers-first _ (first (definition-faults f)) a (stage-one f k) (is-one a h); kept = λ n. absurd (is-one a h n) }
 
-  module _ (h : isFault a ≡ false) (x : List ℕ) (l : ℕ) (e : l ≡ min (w .objects) 513) (F : FirstRows 0 s (y .objects) l x) (b : Checked)
-      (q : ObjectFaults s (y .objects) (y .statements) x (w .objects) (w .statements) (w .counts) (w .«cpu_at») b) where
+  module _ (h : isFault a ≡ false) (x : List ℕ) (l : ℕ) (e : l ≡ min (w .parts) 513) (F : FirstRows 0 s (y .parts) l x) (b : Checked)
+      (q : ObjectFaults s (y .parts) (y .statements) x (w .parts) (w .statements) (w .counts) (w .«cpu_at») b) where
     checked : (f : File) → KeptParts s y w f → Checks f b
     checked f k =
-        q f (k .situation) (k .in-objects) (k .in-statements) (k .objects) (k .statements) (k .counted) (sym (k .cpu .0)) (cells-of 0 s (y .objects) x l (w .objects) e F)
+        q f (k .situation) (k .in-parts) (k .in-statements) (k .parts) (k .statements) (k .counted) (sym (k .cpu .0)) (cells-of 0 s (y .parts) x l (w .parts) e F)
 
     stage-two : (f : File) → KeptParts s y w f → b .fault ≡ fault-of (first (object-faults f))
     stage-two f k = checked f k .fault
@@ -99,34 +99,34 @@ module _ (s : List ℕ) (y : Rooms) (w : Walked) (a : Fault)
     after-first : (f : File) → KeptParts s y w f → (o : Option Refusal) → fault-of o ≡ fault-of (orElse (first (definition-faults f)) o)
     after-first f k o = answers-next o (first (definition-faults f)) a (of-first (definition-faults f) (of-definitions f)) (stage-one f k) (is-none a h)
 
-    pub by-second : (o t o′ t′ : List ℕ) → isFault (b .fault) ≡ true → Stages s y o t o′ t′ w (record { fault = b .fault; walked = w })
+    pub by-second : (o t o′ t′ : List ℕ) (n : ℕ) (cs : List ℕ) → isFault (b .fault) ≡ true → Stages s y o t o′ t′ w (record { fault = b .fault; walked = w; objects = n; counts = cs })
     unfolding stageFault
-    by-second o t o′ t′ i f k eo et = record {
+    by-second o t o′ t′ n cs i f k eo et = record {
       fault = answers-first _ (first (object-faults f)) (b .fault) (stage-two f k) (is-one (b .fault) i) ∙ after-first f k _;
       kept = λ n. absurd (is-one (b .fault) i n);
     }
 
-    pub by-third : isFault (b .fault) ≡ false → (o t o′ t′ : List ℕ) (r : ℕ) → Merges (y .objects) (y .statements) x (w .objects) o t o′ t′ r → (m : Walked) → m ≡ with-objects w (b .objects) (b .counts)
+    pub by-third : isFault (b .fault) ≡ false → (o t o′ t′ : List ℕ) (r : ℕ) → Merges (y .parts) (y .statements) x (w .parts) o t o′ t′ r
         → (z : Sizes) (c : Fault) → z .definitions ≡ w .definitions → z .enumerators ≡ w .enumerators → z .objects ≡ b .objects
-        → JudgesAll s (y .definitions) (y .enumerators) o′ t′ z (w .places) c → Stages s y o t o′ t′ w (record { fault = c; walked = m })
+        → JudgesAll s (y .definitions) (y .enumerators) o′ t′ z (w .places) c → Stages s y o t o′ t′ w (record { fault = c; walked = w; objects = b .objects; counts = b .counts })
     unfolding stageFault
-    by-third i o t o′ t′ r M m em z c d e₁ e₂ j f k eo et =
+    by-third i o t o′ t′ r M z c d e₁ e₂ j f k eo et =
         let n₁ = none-there (first (definition-faults f)) (of-first (definition-faults f) (of-definitions f)) (ap (λ (q : Fault). q .number) (sym (stage-one f k)) ∙ is-none a h) in
         let n₂ = none-there (first (object-faults f)) (of-first (object-faults f) (of-objects f)) (ap (λ (q : Fault). q .number) (sym (stage-two f k)) ∙ is-none (b .fault) i) in
         let C = checked f k in
-        let K = kept-merged k n₁ n₂ x o t o′ t′ l r (b .objects) (b .counts) e F M eo et (C .objects) (C .counted) in
+        let K = kept-merged k n₁ n₂ x o t o′ t′ l r (b .objects) (b .counts) c e F M eo et (C .objects) (C .counted) in
         record {
           fault = j f (given K n₁ n₂ z d e₁ e₂) (places K)
               ∙ answers-next _ (first (object-faults f)) (b .fault) (of-first (object-faults f) (of-objects f)) (stage-two f k) (is-none (b .fault) i)
               ∙ after-first f k _;
-          kept = λ n. subst (λ (v : Walked). Kept s (record { definitions = y .definitions; enumerators = y .enumerators; objects = o′; statements = t′ }) v f) (sym em) K;
+          kept = λ n. K;
         }
 
 -- The decision -----------------------------------------------------------------------------------------------------------------------------
 
-pub decides-early : (s : List ℕ) (x y : Rooms) (o t o′ t′ : List ℕ) (w : Walked) (g : Fault) → Whole s x y w → g ≡ grammarFault (answerOf (w .look)) → isFault g ≡ true
-    → Decides s x y o t o′ t′ (record { fault = g; walked = w })
-decides-early s x y o t o′ t′ w g h e i =
+pub decides-early : (s : List ℕ) (x y : Rooms) (o t o′ t′ : List ℕ) (w : Walked) (g : Fault) (n : ℕ) (cs : List ℕ) → Whole s x y w → g ≡ grammarFault (answerOf (w .look)) → isFault g ≡ true
+    → Decides s x y o t o′ t′ (record { fault = g; walked = w; objects = n; counts = cs })
+decides-early s x y o t o′ t′ w g m cs h e i =
     record {
       sizes = h .sizes;
       decided = λ l b eo et. record { refused-by = λ n. refused-early s x y w h l g e n; passes = λ n. absurd (is-one g i n) };

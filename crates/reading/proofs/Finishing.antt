@@ -16,9 +16,8 @@ use Rattle.scopes.specs.declared.Sizes.{Sizes}
 use Rattle.copying.specs.Promises.{CopiesDefinitions, CopiesEnumerators, CopiesObjects}
 use Rattle.copying.proofs.Rooms.{cleared-zeros}
 use Rattle.walk.specs.Whole.{Rooms}
-use Rattle.walk.specs.declared.Walked.{Walked}
 use Rattle.reading.specs.Results.{readingOf}
-use Rattle.reading.specs.Decisions.{Passed, Decides, blank, RoomSizes, BlankRooms, Settles, Filled}
+use Rattle.reading.specs.Decisions.{Merged, Passed, Decides, blank, RoomSizes, BlankRooms, Settles, Filled}
 use Rattle.reading.specs.declared.Decision.{Decision}
 use Rattle.rows.specs.Order.{isFault}
 use Rattle.meaning.proofs.Found.{reading-long}
@@ -26,15 +25,15 @@ use Rattle.reading.specs.declared.Answer.the-variants.{Accepted}
 use Rattle.reading.specs.declared.Reading.{Reading}
 use Rattle.reading.proofs.Settling.{fitting, given, places, refused-fills, too-many-values, accepted-fills}
 
-pub wrote : (s : List ℕ) (y : Rooms) (w : Walked) (z : Sizes) (p : Passed s y w) → z .definitions ≡ w .definitions → z .enumerators ≡ w .enumerators → z .objects ≡ w .objects
-    → (v v′ : List ℕ) (n : ℕ) → ResolvesAll s (y .definitions) (y .enumerators) (y .objects) (y .statements) v z (w .places) v′ n → v ≡ replicate 18432 0
+pub wrote : (s : List ℕ) (y : Merged) (w : Decision) (z : Sizes) (p : Passed s y w) → z .definitions ≡ w .walked .definitions → z .enumerators ≡ w .walked .enumerators → z .objects ≡ w .objects
+    → (v v′ : List ℕ) (n : ℕ) → ResolvesAll s (y .definitions) (y .enumerators) (y .objects) (y .statements) v z (w .walked .places) v′ n → v ≡ replicate 18432 0
     → WroteAll v (all-values (p .file) (p .file .objects)) v′ n
 wrote s y w z p a b c v v′ n r e =
     r (p .file) (given (p .kept) (p .no-definition-fault) (p .no-object-fault) z a b c) (places (p .kept)) (ap length e ∙ length-replicate {A = ℕ} 18432 0)
 
-module _ (s : List ℕ) (y : Rooms) (w : Walked) (z : Sizes) (a : z .definitions ≡ w .definitions) (b : z .enumerators ≡ w .enumerators)
+module _ (s : List ℕ) (y : Merged) (w : Decision) (z : Sizes) (a : z .definitions ≡ w .walked .definitions) (b : z .enumerators ≡ w .walked .enumerators)
     (c : z .objects ≡ w .objects) (d e o v v₁ : List ℕ) (n : ℕ)
-    (x : ResolvesAll s (y .definitions) (y .enumerators) (y .objects) (y .statements) v z (w .places) v₁ n) where
+    (x : ResolvesAll s (y .definitions) (y .enumerators) (y .objects) (y .statements) v z (w .walked .places) v₁ n) where
   pub settles-too-many : (v₂ : List ℕ) (r : Reading) → 2048 < n → v₂ ≡ replicate (length v₁) 0 → r ≡ readingOf (refused 19 0) → Settles s y w d e o v d e o v₂ r
   settles-too-many v₂ r h q t p k =
       let u = wrote s y w z p a b c v v₁ n x (k .values) in
@@ -42,9 +41,9 @@ module _ (s : List ℕ) (y : Rooms) (w : Walked) (z : Sizes) (a : z .definitions
       let l : length v₁ ≡ 18432 = ap length (u .table) ∙ length-sets v 0 (cells value-cells (all-value-rows (all-values (p .file) (p .file .objects)) 0 0)) ∙ ap length (k .values) ∙ length-replicate {A = ℕ} 18432 0 in
       refused-fills s 19 0 d e o v₂ r (too-many-values s y w p (omega arith)) t (k .definitions) (k .enumerators) (k .objects) (q ∙ ap (λ (i : ℕ). replicate i 0) l)
 
-  pub settles-accepted : (d₂ e₂ o₂ : List ℕ) → n ≤ 2048 → CopiesDefinitions (y .definitions) (w .definitions) d d₂
-      → CopiesEnumerators (y .definitions) (w .definitions) (y .enumerators) (w .enumerators) e e₂ → CopiesObjects (y .objects) (w .objects) o o₂
-      → Settles s y w d e o v d₂ e₂ o₂ v₁ (record { answer = Accepted; definitions = w .definitions; enumerators = w .enumerators; objects = w .objects; values = n; counts = w .counts })
+  pub settles-accepted : (d₂ e₂ o₂ : List ℕ) → n ≤ 2048 → CopiesDefinitions (y .definitions) (w .walked .definitions) d d₂
+      → CopiesEnumerators (y .definitions) (w .walked .definitions) (y .enumerators) (w .walked .enumerators) e e₂ → CopiesObjects (y .objects) (w .objects) o o₂
+      → Settles s y w d e o v d₂ e₂ o₂ v₁ (record { answer = Accepted; definitions = w .walked .definitions; enumerators = w .walked .enumerators; objects = w .objects; values = n; counts = w .counts })
   settles-accepted d₂ e₂ o₂ h i j l p k =
       let u = wrote s y w z p a b c v v₁ n x (k .values) in
       let g = p .kept in
@@ -82,5 +81,5 @@ module _ (s d₀ e₀ o₀ v₀ d e o v : List ℕ) (z : RoomSizes d₀ e₀ o�
         refused-fills s (x .fault .number) (x .fault .place) d e o v r (t .decided h refl refl refl .refused-by (is-one (x .fault) i)) q (blanks .definitions) (blanks .enumerators)
         (blanks .objects) (blanks .values)
 
-    pub fill-settled : (d′ e′ o′ v′ : List ℕ) (r : Reading) → isFault (x .fault) ≡ false → Settles s (record { definitions = y .definitions; enumerators = y .enumerators; objects = m; statements = n }) (x .walked) d e o v d′ e′ o′ v′ r → Filled s d′ e′ o′ v′ r
+    pub fill-settled : (d′ e′ o′ v′ : List ℕ) (r : Reading) → isFault (x .fault) ≡ false → Settles s (record { definitions = y .definitions; enumerators = y .enumerators; objects = m; statements = n }) x d e o v d′ e′ o′ v′ r → Filled s d′ e′ o′ v′ r
     fill-settled d′ e′ o′ v′ r i k = k (t .decided h refl refl refl .passes (is-none (x .fault) i)) blanks

@@ -29,11 +29,10 @@ use Rattle.scopes.specs.Given.{Given, Places}
 use Rattle.scopes.specs.declared.Sizes.{Sizes}
 use Rattle.copying.proofs.Rooms.{cleared-zeros, room-of}
 use Rattle.meaning.specs.Reading.{reading}
-use Rattle.walk.specs.Whole.{Rooms}
-use Rattle.walk.specs.declared.Walked.{Walked}
 use Rattle.walk.proofs.Placing.{each-place}
 use Rattle.reading.specs.Results.{readingOf}
-use Rattle.reading.specs.Decisions.{Kept, Passed, Filled}
+use Rattle.reading.specs.Decisions.{Merged, Kept, Passed, Filled}
+use Rattle.reading.specs.declared.Decision.{Decision}
 use Rattle.reading.specs.declared.Answer.the-variants.{Accepted}
 use Rattle.reading.specs.declared.Reading.{Reading}
 use Rattle.reading.proofs.Arriving.{reading-is}
@@ -112,8 +111,8 @@ fitting s f t a b =
     (fitting-by s f t (subst (λ g. first (definition-faults g) ≡ none) (t .syntax-of) a) (subst (λ g. first (object-faults g) ≡ none) (t .syntax-of) b))
 
 -- All rows are kept, and there is room for them.
-module _ {s : List ℕ} {y : Rooms} {w : Walked} {f : File} (k : Kept s y w f) (p : first (definition-faults f) ≡ none) (q : first (object-faults f) ≡ none) where
-  pub given : (z : Sizes) → z .definitions ≡ w .definitions → z .enumerators ≡ w .enumerators → z .objects ≡ w .objects
+module _ {s : List ℕ} {y : Merged} {w : Decision} {f : File} (k : Kept s y w f) (p : first (definition-faults f) ≡ none) (q : first (object-faults f) ≡ none) where
+  pub given : (z : Sizes) → z .definitions ≡ w .walked .definitions → z .enumerators ≡ w .walked .enumerators → z .objects ≡ w .objects
       → Given s (y .definitions) (y .enumerators) (y .objects) (y .statements) z f
   given z a b c =
       let t = fitting s f (k .situation) p q in
@@ -141,7 +140,7 @@ module _ {s : List ℕ} {y : Rooms} {w : Walked} {f : File} (k : Kept s y w f) (
       }
 
 -- The places of the kinds, as the stages take them.
-pub places : {s : List ℕ} {y : Rooms} {w : Walked} {f : File} → Kept s y w f → Places f (w .places)
+pub places : {s : List ℕ} {y : Merged} {w : Decision} {f : File} → Kept s y w f → Places f (w .walked .places)
 places {f = f} h = record {
   place = λ k.
       let b = kind-low k in
@@ -171,7 +170,7 @@ refused-fills s n p d e o v r q h d₀ e₀ o₀ v₀ =
 
 -- Refusal 19, and an accepted text -----------------------------------------------------------------------------------------------------------
 
-module _ (s : List ℕ) (y : Rooms) (w : Walked) (p : Passed s y w) where
+module _ (s : List ℕ) (y : Merged) (w : Decision) (p : Passed s y w) where
   file : File
   file = p .file
 
@@ -200,12 +199,12 @@ accepted-is : (a b c n : ℕ) (k : List ℕ) (t : Tables) → a ≡ length (t .d
 unfolding readingOf
 accepted-is a b c n k t p q r h e = rw (p, q, r, h, e)
 
-module _ (s : List ℕ) (y : Rooms) (w : Walked) (p : Passed s y w) where
+module _ (s : List ℕ) (y : Merged) (w : Decision) (p : Passed s y w) where
   -- The rooms of an accepted text.
   pub accepted-fills : (n : ℕ) (d e o v v₀ : List ℕ) → n ≡ min 2049 (how-many-in-all (all-values (p .file) (p .file .objects))) → n ≤ 2048 → v₀ ≡ replicate 18432 0
       → v ≡ sets v₀ 0 (cells value-cells (all-value-rows (all-values (p .file) (p .file .objects)) 0 0))
       → d ≡ definition-room (all-definition-rows (p .file .specs)) → e ≡ enumerator-room (all-enumerator-rows (p .file .specs)) → o ≡ object-room (object-rows (p .file .objects))
-      → Filled s d e o v (record { answer = Accepted; definitions = w .definitions; enumerators = w .enumerators; objects = w .objects; values = n; counts = w .counts })
+      → Filled s d e o v (record { answer = Accepted; definitions = w .walked .definitions; enumerators = w .walked .enumerators; objects = w .objects; values = n; counts = w .counts })
   unfolding rooms-after value-room tables
   accepted-fills n d e o v v₀ c h b vs ds es os =
       let f = p .file in
@@ -223,7 +222,7 @@ module _ (s : List ℕ) (y : Rooms) (w : Walked) (p : Passed s y w) where
       let j₁ = enumerators-as-many (f .specs) in
       let j₂ = objects-as-many (f .objects) in
       record {
-        result = accepted-is (w .definitions) (w .enumerators) (w .objects) n (w .counts) (tables f rs) (omega arith) (omega arith) (omega arith) l (k .counted) ∙ ap readingOf (sym q);
+        result = accepted-is (w .walked .definitions) (w .walked .enumerators) (w .objects) n (w .counts) (tables f rs) (omega arith) (omega arith) (omega arith) l (k .counted) ∙ ap readingOf (sym q);
         definitions = ds ∙ ap (λ a. rooms-after a .definitions) (sym q);
         enumerators = es ∙ ap (λ a. rooms-after a .enumerators) (sym q);
         objects = os ∙ ap (λ a. rooms-after a .objects) (sym q);

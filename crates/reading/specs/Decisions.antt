@@ -31,22 +31,29 @@ use Rattle.reading.specs.declared.Spanned.{Spanned}
 unfoldable pub grammarFault : GrammarAnswer → Fault
 grammarFault a = record { number = numberOf a; place = placeOf a }
 
+-- The four tables of the merged file: definitions, enumerators, objects, statements.
+pub record Merged : Type 0 where
+  pub definitions : List ℕ
+  pub enumerators : List ℕ
+  pub objects : List ℕ
+  pub statements : List ℕ
+
 -- The text s is f, and its rows are in the tables y, as w says.
-pub record Kept (s : List ℕ) (y : Rooms) (w : Walked) (f : File) : Type 0 where
+pub record Kept (s : List ℕ) (y : Merged) (w : Decision) (f : File) : Type 0 where
   pub situation : Situation s f
   pub in-definitions : y .definitions ≡ kept-definitions f
   pub in-enumerators : y .enumerators ≡ kept-enumerators f
   pub in-objects : y .objects ≡ kept-objects f
   pub in-statements : y .statements ≡ kept-statements f
-  pub definitions : w .definitions ≡ length (spec-entries (f .specs))
-  pub enumerators : w .enumerators ≡ length (spec-choices (f .specs))
+  pub definitions : w .walked .definitions ≡ length (spec-entries (f .specs))
+  pub enumerators : w .walked .enumerators ≡ length (spec-choices (f .specs))
   pub objects : w .objects ≡ length (f .objects)
-  pub statements : w .statements ≡ statement-count (f .objects)
-  pub version : Stands (f .version) (w .«version_at») (w .«version_len»)
-  pub implementation : (f .implementation .place ≡ w .«implementation_at») × (f .implementation .length ≡ w .«implementation_len»)
-  pub cpu : Stands (f .cpu) (w .«cpu_at») (w .«cpu_len»)
-  pub places : w .places ≡ kind-places (f .specs)
-  pub again : w .again ≡ again-place [] (f .specs)
+  pub statements : w .walked .statements ≡ statement-count (f .objects)
+  pub version : Stands (f .version) (w .walked .«version_at») (w .walked .«version_len»)
+  pub implementation : (f .implementation .place ≡ w .walked .«implementation_at») × (f .implementation .length ≡ w .walked .«implementation_len»)
+  pub cpu : Stands (f .cpu) (w .walked .«cpu_at») (w .walked .«cpu_len»)
+  pub places : w .walked .places ≡ kind-places (f .specs)
+  pub again : w .walked .again ≡ again-place [] (f .specs)
   pub counted : w .counts ≡ counts (f .objects)
 
 -- The same of the parts: of them and of their statements are the rows, and as many w counts.
@@ -54,11 +61,11 @@ pub record KeptParts (s : List ℕ) (y : Rooms) (w : Walked) (f : File) : Type 0
   pub situation : Situation s f
   pub in-definitions : y .definitions ≡ kept-definitions f
   pub in-enumerators : y .enumerators ≡ kept-enumerators f
-  pub in-objects : y .objects ≡ kept-parts f
+  pub in-parts : y .parts ≡ kept-parts f
   pub in-statements : y .statements ≡ kept-part-statements f
   pub definitions : w .definitions ≡ length (spec-entries (f .specs))
   pub enumerators : w .enumerators ≡ length (spec-choices (f .specs))
-  pub objects : w .objects ≡ length (f .parts)
+  pub parts : w .parts ≡ length (f .parts)
   pub statements : w .statements ≡ statement-count (f .parts)
   pub version : Stands (f .version) (w .«version_at») (w .«version_len»)
   pub implementation : (f .implementation .place ≡ w .«implementation_at») × (f .implementation .length ≡ w .«implementation_len»)
@@ -66,25 +73,6 @@ pub record KeptParts (s : List ℕ) (y : Rooms) (w : Walked) (f : File) : Type 0
   pub places : w .places ≡ kind-places (f .specs)
   pub again : w .again ≡ again-place [] (f .specs)
   pub counted : w .counts ≡ counts (f .parts)
-
--- What w tells, with n objects, cs of each kind.
-abbrev pub with-objects : Walked → ℕ → List ℕ → Walked
-with-objects w n cs = record {
-  look = w .look;
-  «version_at» = w .«version_at»;
-  «version_len» = w .«version_len»;
-  «implementation_at» = w .«implementation_at»;
-  «implementation_len» = w .«implementation_len»;
-  «cpu_at» = w .«cpu_at»;
-  «cpu_len» = w .«cpu_len»;
-  definitions = w .definitions;
-  enumerators = w .enumerators;
-  objects = n;
-  statements = w .statements;
-  places = w .places;
-  again = w .again;
-  counts = cs;
-}
 
 -- The first of two faults that there is.
 unfoldable pub orElse : Option Refusal → Option Refusal → Option Refusal
@@ -96,9 +84,9 @@ unfoldable pub stageFault : File → Option Refusal
 stageFault f = orElse (first (definition-faults f)) (orElse (first (object-faults f)) (first (statement-stage f)))
 
 -- The stages have decided; where none has a fault the rows of the objects are in the tables y.
-pub record Staged (s : List ℕ) (y : Rooms) (f : File) (r : Decision) : Type 0 where
+pub record Staged (s : List ℕ) (y : Merged) (f : File) (r : Decision) : Type 0 where
   pub fault : r .fault ≡ fault-of (stageFault f)
-  pub kept : r .fault .number ≡ 0 → Kept s y (r .walked) f
+  pub kept : r .fault .number ≡ 0 → Kept s y r f
 
 -- With the rows of parts in the tables y, and blank tables o and t for those of the objects and their statements.
 abbrev pub Stages : (s : List ℕ) → Rooms → (o t o′ t′ : List ℕ) → Walked → Decision → Type 0
@@ -107,7 +95,7 @@ Stages s y o t o′ t′ w r =
     → Staged s (record { definitions = y .definitions; enumerators = y .enumerators; objects = o′; statements = t′ }) f r
 
 -- No stage up to 18 has a fault.
-pub record Passed (s : List ℕ) (y : Rooms) (w : Walked) : Type 0 where
+pub record Passed (s : List ℕ) (y : Merged) (w : Decision) : Type 0 where
   pub file : File
   pub kept : Kept s y w file
   pub covered : Covered s
@@ -115,13 +103,13 @@ pub record Passed (s : List ℕ) (y : Rooms) (w : Walked) : Type 0 where
   pub no-object-fault : first (object-faults file) ≡ none
   pub no-statement-fault : first (statement-stage file) ≡ none
 
-pub record Decided (s : List ℕ) (y : Rooms) (r : Decision) : Type 0 where
+pub record Decided (s : List ℕ) (y : Merged) (r : Decision) : Type 0 where
   pub refused-by : (r .fault .number ≡ 0 → ⊥) → reading s ≡ refused (r .fault .number) (r .fault .place)
-  pub passes : r .fault .number ≡ 0 → Passed s y (r .walked)
+  pub passes : r .fault .number ≡ 0 → Passed s y r
 
 -- Blank tables for the rows that the walk keeps.
 abbrev pub blank : Rooms
-blank = record { definitions = replicate 9747 0; enumerators = replicate 3075 0; objects = replicate 5130 0; statements = replicate 14343 0 }
+blank = record { definitions = replicate 9747 0; enumerators = replicate 3075 0; parts = replicate 5130 0; statements = replicate 14343 0 }
 
 pub record Decides (s : List ℕ) (x y : Rooms) (o t o′ t′ : List ℕ) (r : Decision) : Type 0 where
   pub sizes : SameSizes x y
@@ -154,7 +142,7 @@ pub record BlankRooms (d e o v : List ℕ) : Type 0 where
   pub objects : o ≡ replicate 2048 0
   pub values : v ≡ replicate 18432 0
 
-abbrev pub Settles : (s : List ℕ) → Rooms → Walked → (d e o v d′ e′ o′ v′ : List ℕ) → Reading → Type 0
+abbrev pub Settles : (s : List ℕ) → Merged → Decision → (d e o v d′ e′ o′ v′ : List ℕ) → Reading → Type 0
 Settles s y w d e o v d′ e′ o′ v′ r = Passed s y w → BlankRooms d e o v → Filled s d′ e′ o′ v′ r
 
 -- The lent parts are the rooms.

@@ -7,7 +7,7 @@ ghost use Rattle.grammar.specs.Readers.{answerOf};
 ghost use Rattle.reading.specs.Results.{readingOf, Reads, ReadsSpanned};
 ghost use Rattle.reading.specs.Rules.{ReadsByRules};
 ghost use Rattle.reading.specs.Demand.{Demand-3};
-ghost use Rattle.reading.specs.Decisions.{grammarFault, with-objects, Stages, Decides, Settles, RoomSizes, Unspanned, FilledSpanned};
+ghost use Rattle.reading.specs.Decisions.{grammarFault, Stages, Decides, Settles, RoomSizes, Unspanned, FilledSpanned};
 use grammar::Answer as Grammar;
 use grammar::Look;
 use rows::Fault;
@@ -44,10 +44,13 @@ pub struct Spanned {
     pub places: [usize; 13],
 }
 
-// The fault by which the text is refused, or one of number 0, with what was kept of the text.
+// The fault by which the text is refused, or one of number 0, with what the walk tells; where there is none, how many objects there are, and how
+// many of each kind.
 pub struct Decision {
     pub fault: Fault,
     pub walked: Walked,
+    pub objects: usize,
+    pub counts: [usize; 13],
 }
 
 fn refusal(number: u8, place: usize) -> Reading
@@ -103,30 +106,6 @@ fn grammar_fault(look: Look) -> Fault
     }
 }
 
-// What a walk tells, with so many objects.
-fn with_objects(w: Walked, objects: usize, counts: [usize; 13]) -> Walked
-    ensures { λ r. ⌜ r ≡ with-objects w objects counts ⌝ }
-{
-    let look = w.look;
-    let places = w.places;
-    Walked {
-        look: look,
-        version_at: w.version_at,
-        version_len: w.version_len,
-        implementation_at: w.implementation_at,
-        implementation_len: w.implementation_len,
-        cpu_at: w.cpu_at,
-        cpu_len: w.cpu_len,
-        definitions: w.definitions,
-        enumerators: w.enumerators,
-        objects: objects,
-        statements: w.statements,
-        places: places,
-        again: w.again,
-        counts: counts,
-    }
-}
-
 // The stages from 6 to 18: from the rows p and q of parts and their statements come the rows o and s of the objects.
 fn stages(
     text: &[u8],
@@ -138,8 +117,9 @@ fn stages(
     s: &mut [usize],
     w: Walked,
 ) -> Decision
-    ensures { λ r. ⌜ Stages (now (text .entry)) (record { definitions = now (d .entry); enumerators = now (e .entry); objects = now (p .entry); statements = now (q .entry) }) (now (o .entry)) (now (s .entry)) (now (o .exit)) (now (s .exit)) w r ⌝ }
+    ensures { λ r. ⌜ Stages (now (text .entry)) (record { definitions = now (d .entry); enumerators = now (e .entry); parts = now (p .entry); statements = now (q .entry) }) (now (o .entry)) (now (s .entry)) (now (o .exit)) (now (s .exit)) w r ⌝ }
 {
+    let none = [0; 13];
     let a = defining_checks::definition_faults(
         text,
         d,
@@ -154,9 +134,11 @@ fn stages(
         return Decision {
             fault: a,
             walked: w,
+            objects: 0,
+            counts: none,
         };
     }
-    let n = cells::least_of(w.objects, 513);
+    let n = cells::least_of(w.parts, 513);
     let x = merging::firsts(text, p, 0, n);
     let of_parts = w.counts;
     let b = checks::objects::object_faults(
@@ -164,7 +146,7 @@ fn stages(
         p,
         q,
         &x,
-        w.objects,
+        w.parts,
         w.statements,
         of_parts,
         w.cpu_at,
@@ -174,11 +156,12 @@ fn stages(
         return Decision {
             fault: own,
             walked: w,
+            objects: 0,
+            counts: none,
         };
     }
-    merging::objects::merge(p, q, &x, w.objects, o, s);
+    merging::objects::merge(p, q, &x, w.parts, o, s);
     let of_kinds = b.counts;
-    let m = with_objects(w, b.objects, of_kinds);
     let places = w.places;
     let z = Sizes {
         definitions: w.definitions,
@@ -188,7 +171,9 @@ fn stages(
     let f = judging::judge_all(text, d, e, o, s, z, places);
     Decision {
         fault: f,
-        walked: m,
+        walked: w,
+        objects: b.objects,
+        counts: of_kinds,
     }
 }
 
@@ -202,8 +187,9 @@ fn decide(
     o: &mut [usize],
     s: &mut [usize],
 ) -> Decision
-    ensures { λ r. ⌜ Decides (now (text .entry)) (record { definitions = now (d .entry); enumerators = now (e .entry); objects = now (p .entry); statements = now (q .entry) }) (record { definitions = now (d .exit); enumerators = now (e .exit); objects = now (p .exit); statements = now (q .exit) }) (now (o .entry)) (now (s .entry)) (now (o .exit)) (now (s .exit)) r ⌝ }
+    ensures { λ r. ⌜ Decides (now (text .entry)) (record { definitions = now (d .entry); enumerators = now (e .entry); parts = now (p .entry); statements = now (q .entry) }) (record { definitions = now (d .exit); enumerators = now (e .exit); parts = now (p .exit); statements = now (q .exit) }) (now (o .entry)) (now (s .entry)) (now (o .exit)) (now (s .exit)) r ⌝ }
 {
+    let none = [0; 13];
     let w = walk::walk(text, d, e, p, q);
     let look = w.look;
     let g = grammar_fault(look);
@@ -211,6 +197,8 @@ fn decide(
         return Decision {
             fault: g,
             walked: w,
+            objects: 0,
+            counts: none,
         };
     }
     stages(text, d, e, p, q, o, s, w)
@@ -223,19 +211,20 @@ fn settle(
     e: &[usize],
     o: &[usize],
     s: &[usize],
-    w: Walked,
+    decision: Decision,
     definitions: &mut [usize],
     enumerators: &mut [usize],
     objects: &mut [usize],
     values: &mut [usize],
 ) -> Reading
-    ensures { λ r. ⌜ Settles (now (text .entry)) (record { definitions = now (d .entry); enumerators = now (e .entry); objects = now (o .entry); statements = now (s .entry) }) w (now (definitions .entry)) (now (enumerators .entry)) (now (objects .entry)) (now (values .entry)) (now (definitions .exit)) (now (enumerators .exit)) (now (objects .exit)) (now (values .exit)) r ⌝ }
+    ensures { λ r. ⌜ Settles (now (text .entry)) (record { definitions = now (d .entry); enumerators = now (e .entry); objects = now (o .entry); statements = now (s .entry) }) decision (now (definitions .entry)) (now (enumerators .entry)) (now (objects .entry)) (now (values .entry)) (now (definitions .exit)) (now (enumerators .exit)) (now (objects .exit)) (now (values .exit)) r ⌝ }
 {
+    let w = decision.walked;
     let places = w.places;
     let z = Sizes {
         definitions: w.definitions,
         enumerators: w.enumerators,
-        objects: w.objects,
+        objects: decision.objects,
     };
     let n = resolving::entering::resolve_all(text, d, e, o, s, values, z, places);
     if 2048 < n {
@@ -244,13 +233,13 @@ fn settle(
     }
     copying::copy_definitions(d, w.definitions, definitions);
     copying::copy_enumerators(d, w.definitions, e, w.enumerators, enumerators);
-    copying::copy_objects(o, w.objects, objects);
-    let of_kinds = w.counts;
+    copying::copy_objects(o, decision.objects, objects);
+    let of_kinds = decision.counts;
     Reading {
         answer: Answer::Accepted,
         definitions: w.definitions,
         enumerators: w.enumerators,
-        objects: w.objects,
+        objects: decision.objects,
         values: n,
         counts: of_kinds,
     }
@@ -292,7 +281,7 @@ fn fill(
         &e,
         &o,
         &s,
-        w,
+        r,
         definitions,
         enumerators,
         objects,

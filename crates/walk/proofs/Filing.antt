@@ -18,7 +18,7 @@ use Rattle.filling.proofs.Filling.{front-of, behind, plain, first, _▻_, told-
 use Rattle.filling.specs.Tables.{Wrote, Table}
 use Rattle.filling.proofs.Codes.{seen-place, seen-length}
 use Rattle.implementation.specs.Places.{Noted, note-all, ImplementationRows, FillAll as FillSpecs}
-use Rattle.objects.specs.Rows.{FillAll, AllRows}
+use Rattle.object_parts.specs.Rows.{FillAll, AllRows}
 use Rattle.walk.specs.declared.Walked.{Walked}
 use Rattle.walk.specs.Whole.{Rooms, Stands, Tells, Few, Whole, ApplicationRows}
 use Rattle.grammar.specs.Machine.{Stream}
@@ -78,7 +78,7 @@ module _ {s : List ℕ} {a : Look} {x y : Rooms} {r : Walked} where
       (record { marks = replicate 13 0; places = replicate 13 0; again = 0; found = 0 }, ((x .definitions, 0), (x .enumerators, 0)))
       (record { marks = marks; places = r .places; again = r .again; found = found }, ((y .definitions, r .definitions), (y .enumerators, r .enumerators)))
       → Walks FillAll 1 (application ▸ ∎) (λ w m. ApplicationRows (r .«cpu_at») (r .«cpu_len») w (m .0)) s c (r .look)
-      (replicate 13 0, ((x .objects, 0), (x .statements, 0))) (r .counts, ((y .objects, r .objects), (y .statements, r .statements)))
+      (replicate 13 0, ((x .parts, 0), (x .statements, 0))) (r .counts, ((y .parts, r .parts), (y .statements, r .statements)))
       → Whole s x y r
   unfolding means front-of behind ImplementationRows ApplicationRows
   file-there {b} e v i p =
@@ -90,7 +90,7 @@ module _ {s : List ℕ} {a : Look} {x y : Rooms} {r : Walked} where
         sizes = record {
           definitions = i .does .1 .0 .size;
           enumerators = i .does .1 .1 .size;
-          objects = p .does .1 .size;
+          parts = p .does .1 .size;
           statements = p .does .1 .lines .1 .size;
         };
         told = λ k.
@@ -115,12 +115,12 @@ module _ {s : List ℕ} {a : Look} {x y : Rooms} {r : Walked} where
               cpu = pa .0;
               definitions = count-is ds (i .does .1 .0) (im .1) ∙ ap (min 65536) ld;
               enumerators = count-is es (i .does .1 .1) (im .2) ∙ ap (min 65536) le;
-              objects = omega (arith, p .does .1 .count, lo, ko);
+              parts = omega (arith, p .does .1 .count, lo, ko);
               statements = count-is (all-statement-rows os 0) (p .does .1 .lines .1) (pa .3) ∙ ap (min 65536) ls;
               definition-rows = λ h. table-is ds (i .does .1 .0) (im .1) (omega (arith, h, ld));
               enumerator-rows = λ h. table-is es (i .does .1 .1) (im .2) (omega (arith, h, le));
-              object-table = λ h h′.
-                  p .does .1 .table (omega (arith, h, lo, ko)) (omega (arith, h′, ls, ks)) ∙ ap (λ (l : List (List ℕ)). sets (x .objects) 0 (join l)) (sym (pa .2));
+              part-table = λ h h′.
+                  p .does .1 .table (omega (arith, h, lo, ko)) (omega (arith, h′, ls, ks)) ∙ ap (λ (l : List (List ℕ)). sets (x .parts) 0 (join l)) (sym (pa .2));
               statement-table = λ h. table-is (all-statement-rows os 0) (p .does .1 .lines .1) (pa .3) (omega (arith, h, ls));
               places = ap (λ (n : Noted). n .places) (i .does .0) ∙ ap (λ (h : List (ℕ × ℕ)). note-all none-noted h .places) (sym (im .0)) ∙ all-places xs;
               again = ap (λ (n : Noted). n .again) (i .does .0) ∙ ap (λ (h : List (ℕ × ℕ)). note-all none-noted h .again) (sym (im .0)) ∙ first-again xs;

@@ -1,4 +1,4 @@
--- The objects of each kind, counted one by one. Assumes nothing.
+-- The parts of each kind, counted one by one. Assumes nothing.
 use mathlib.Core.Path.{_≡_, refl, _∙_, ap}
 use mathlib.Core.List.{List, [], _∷_}
 use mathlib.Core.Bool.{Bool, true, false}
@@ -15,7 +15,7 @@ use Rattle.meaning.specs.Kinds.{kind-number, same-kind}
 use Rattle.meaning.specs.Applying.{how-many, counts-of, counts}
 use Rattle.rows.specs.Tally.{oneMore, countOn}
 use Rattle.rows.proofs.Tallies.{countsOf, howMany, length-one-more, counts-of as cells-of}
-use Rattle.objects.specs.Rows.{numbers}
+use Rattle.object_parts.specs.Rows.{numbers}
 
 alike : (k : Kind) (os : List Object) → howMany (kind-number k) (numbers os) ≡ how-many k os
 unfolding howMany numbers how-many same-kind bit

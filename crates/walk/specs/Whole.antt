@@ -13,14 +13,14 @@ use Rattle.meaning.specs.Actions.{Application}
 use Rattle.layout.specs.Kept.{spec-entries, spec-choices, definition-cells, choice-cells, map-cells, object-rows, all-statement-rows, statement-count, kind-place, again-place, join}
 use Rattle.filling.specs.Fills.{Told}
 use Rattle.definitions.specs.Parts.{Spanned}
-use Rattle.objects.specs.Rows.{All, numbers}
+use Rattle.object_parts.specs.Rows.{All, numbers}
 use Rattle.walk.specs.declared.Walked.{Walked}
 
--- The four tables: definitions, enumerators, objects, statements.
+-- The four tables: definitions, enumerators, parts, statements.
 pub record Rooms : Type 0 where
   pub definitions : List ℕ
   pub enumerators : List ℕ
-  pub objects : List ℕ
+  pub parts : List ℕ
   pub statements : List ℕ
 
 -- A word's place and length.
@@ -41,13 +41,13 @@ pub record Tells (f : File) (x y : Rooms) (r : Walked) : Type 0 where
   pub cpu : Stands (f .cpu) (r .«cpu_at») (r .«cpu_len»)
   pub definitions : r .definitions ≡ min 65536 (length (spec-entries (f .specs)))
   pub enumerators : r .enumerators ≡ min 65536 (length (spec-choices (f .specs)))
-  pub objects : r .objects ≡ min 65536 (length (f .parts))
+  pub parts : r .parts ≡ min 65536 (length (f .parts))
   pub statements : r .statements ≡ min 65536 (statement-count (f .parts))
   pub definition-rows : length (spec-entries (f .specs)) ≤ 65536
       → y .definitions ≡ sets (x .definitions) 0 (join (map-cells definition-cells (spec-entries (f .specs))))
   pub enumerator-rows : length (spec-choices (f .specs)) ≤ 65536
       → y .enumerators ≡ sets (x .enumerators) 0 (join (map-cells choice-cells (spec-choices (f .specs))))
-  pub object-table : length (f .parts) ≤ 65536 → statement-count (f .parts) ≤ 65536 → y .objects ≡ sets (x .objects) 0 (join (object-rows (f .parts) 0))
+  pub part-table : length (f .parts) ≤ 65536 → statement-count (f .parts) ≤ 65536 → y .parts ≡ sets (x .parts) 0 (join (object-rows (f .parts) 0))
   pub statement-table : statement-count (f .parts) ≤ 65536 → y .statements ≡ sets (x .statements) 0 (join (all-statement-rows (f .parts) 0))
   pub places : r .places ≡ kind-places (f .specs)
   pub again : r .again ≡ again-place [] (f .specs)
@@ -64,7 +64,7 @@ Few s f =
 pub record SameSizes (x y : Rooms) : Type 0 where
   pub definitions : length (y .definitions) ≡ length (x .definitions)
   pub enumerators : length (y .enumerators) ≡ length (x .enumerators)
-  pub objects : length (y .objects) ≡ length (x .objects)
+  pub parts : length (y .parts) ≡ length (x .parts)
   pub statements : length (y .statements) ≡ length (x .statements)
 
 pub record Whole (s : List ℕ) (x y : Rooms) (r : Walked) : Type 0 where

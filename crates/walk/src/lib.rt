@@ -3,7 +3,7 @@ ghost use mathlib.Core.Path.{_≡_};
 ghost use lib.ListN.{replicate};
 ghost use Rattle.grammar.specs.Grammar.{_▸_, ∎, version, application};
 ghost use Rattle.filling.specs.Fills.{Fills, Walks};
-ghost use Rattle.objects.specs.Rows.{FillAll};
+ghost use Rattle.object_parts.specs.Rows.{FillAll};
 ghost use Rattle.walk.specs.Whole.{Stands, ApplicationRows, Whole};
 use grammar::Look;
 use grammar::lookahead;
@@ -16,7 +16,7 @@ use grammar::parts;
 
 // What a walk tells beside the tables: the look behind the file, spans of the version, the implementation and the CPU's name, the numbers of
 // rows, the place of each kind's word in the implementation (0: none), that of the first kind's word that comes a second time (0: none), and
-// the objects of each kind.
+// the parts of each kind.
 pub struct Walked {
     pub look: Look,
     pub version_at: usize,
@@ -27,7 +27,7 @@ pub struct Walked {
     pub cpu_len: usize,
     pub definitions: usize,
     pub enumerators: usize,
-    pub objects: usize,
+    pub parts: usize,
     pub statements: usize,
     pub places: [usize; 13],
     pub again: usize,
@@ -41,12 +41,12 @@ pub struct Versioned {
     pub len: usize,
 }
 
-// The look behind the application, with the CPU's name, the numbers of rows and the objects of each kind.
+// The look behind the application, with the CPU's name, the numbers of rows and the parts of each kind.
 pub struct Applied {
     pub look: Look,
     pub at: usize,
     pub len: usize,
-    pub objects: usize,
+    pub parts: usize,
     pub statements: usize,
     pub counts: [usize; 13],
 }
@@ -66,13 +66,13 @@ fn version(text: &[u8], a: Look) -> Versioned
     }
 }
 
-fn application(text: &[u8], o: &mut [usize], s: &mut [usize], a: Look) -> Applied
-    ensures { λ r. ⌜ Walks FillAll 1 (application ▸ ∎) (λ w m. ApplicationRows (r .at) (r .len) w (m .0)) (now (text .entry)) a (r .look) (replicate 13 0, ((now (o .entry), 0), (now (s .entry), 0))) (r .counts, ((now (o .exit), r .objects), (now (s .exit), r .statements))) ⌝ }
+fn application(text: &[u8], p: &mut [usize], s: &mut [usize], a: Look) -> Applied
+    ensures { λ r. ⌜ Walks FillAll 1 (application ▸ ∎) (λ w m. ApplicationRows (r .at) (r .len) w (m .0)) (now (text .entry)) a (r .look) (replicate 13 0, ((now (p .entry), 0), (now (s .entry), 0))) (r .counts, ((now (p .exit), r .parts), (now (s .exit), r .statements))) ⌝ }
 {
     let b = lookahead::expect(text, a, CPU);
     let c = lookahead::expect_name(text, b);
     let d = lookahead::expect(text, c, LBRACE);
-    let x = objects::objects(text, o, s, d);
+    let x = object_parts::parts(text, p, s, d);
     let f = parts::close(text, x.look);
     let len = filling::length(b);
     let counts = x.counts;
@@ -80,7 +80,7 @@ fn application(text: &[u8], o: &mut [usize], s: &mut [usize], a: Look) -> Applie
         look: f,
         at: b.at,
         len: len,
-        objects: x.objects,
+        parts: x.parts,
         statements: x.statements,
         counts: counts,
     }
@@ -91,30 +91,30 @@ pub fn walk(
     text: &[u8],
     d: &mut [usize],
     e: &mut [usize],
-    o: &mut [usize],
+    p: &mut [usize],
     s: &mut [usize],
 ) -> Walked
-    ensures { λ r. ⌜ Whole (now (text .entry)) (record { definitions = now (d .entry); enumerators = now (e .entry); objects = now (o .entry); statements = now (s .entry) }) (record { definitions = now (d .exit); enumerators = now (e .exit); objects = now (o .exit); statements = now (s .exit) }) r ⌝ }
+    ensures { λ r. ⌜ Whole (now (text .entry)) (record { definitions = now (d .entry); enumerators = now (e .entry); parts = now (p .entry); statements = now (s .entry) }) (record { definitions = now (d .exit); enumerators = now (e .exit); parts = now (p .exit); statements = now (s .exit) }) r ⌝ }
 {
     let a = lookahead::look_at(text, 0, 0);
     let v = version(text, a);
     let i = implementation::implementation(text, d, e, v.look);
-    let p = application(text, o, s, i.look);
-    let look = p.look;
+    let y = application(text, p, s, i.look);
+    let look = y.look;
     let places = i.places;
-    let counts = p.counts;
+    let counts = y.counts;
     Walked {
         look: look,
         version_at: v.at,
         version_len: v.len,
         implementation_at: i.at,
         implementation_len: i.len,
-        cpu_at: p.at,
-        cpu_len: p.len,
+        cpu_at: y.at,
+        cpu_len: y.len,
         definitions: i.definitions,
         enumerators: i.enumerators,
-        objects: p.objects,
-        statements: p.statements,
+        parts: y.parts,
+        statements: y.statements,
         places: places,
         again: i.again,
         counts: counts,

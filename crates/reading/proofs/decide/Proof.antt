@@ -33,7 +33,7 @@ same-length-4 : tie.Need-same-length-4
 same-length-4 c = search needs
 
 returns : tie.Need-returns
-returns c = decides-early _ _ _ _ _ _ _ _ _ (c .before .before .before .before .before .before .before .before .before .before .before .before .walk .ensures) (c .before .before .grammar-fault .ensures) (sym (c .before .is-fault .ensures) ∙ (c .if1 .taken))
+returns c = decides-early _ _ _ _ _ _ _ _ _ _ _ (c .before .before .before .before .before .before .before .before .before .before .before .before .walk .ensures) (c .before .before .grammar-fault .ensures) (sym (c .before .is-fault .ensures) ∙ (c .if1 .taken))
 
 stages-requires : tie.Need-stages-requires
 stages-requires c κs = search needs
@@ -45,7 +45,7 @@ same-length-6 : tie.Need-same-length-6
 same-length-6 c = (c .before .before .before .before .before .before .before .before .before .before .before .before .before .before .before .before .before .before .before .before .before .before .before .walk .ensures) .sizes .enumerators
 
 same-length-7 : tie.Need-same-length-7
-same-length-7 c = search needs
+same-length-7 c = (c .before .before .before .before .before .before .before .before .before .before .before .before .before .before .before .before .before .before .before .before .before .before .before .walk .ensures) .sizes .parts
 
 same-length-8 : tie.Need-same-length-8
 same-length-8 c = search needs

@@ -10,7 +10,6 @@ use Rattle.defining_checks.proofs.definition_faults.Reads as definition-faults-
 use Rattle.judging.proofs.judge_all.Reads as judge-all-reads
 use Rattle.merging.proofs.firsts.Reads as firsts-reads
 use Rattle.merging.proofs.objects.merge.Reads as merge-reads
-use Rattle.reading.proofs.with_objects.Reads as with-objects-reads
 use Rattle.rows.proofs.cells.least_of.Reads as least-of-reads
 use Rattle.rows.proofs.faults.is_fault.Reads as is-fault-reads
 
@@ -21,7 +20,7 @@ is-fault-requires : tie.Need-is-fault-requires
 is-fault-requires c κs = search needs
 
 returns : tie.Need-returns
-returns c = by-first _ _ _ _ (c .before .before .definition-faults .ensures) _ _ _ _ (sym (c .before .is-fault .ensures) ∙ (c .if1 .taken))
+returns c = by-first _ _ _ _ (c .before .before .definition-faults .ensures) _ _ _ _ _ _ (sym (c .before .is-fault .ensures) ∙ (c .if1 .taken))
 
 least-of-requires : tie.Need-least-of-requires
 least-of-requires c κs = search needs
@@ -39,16 +38,13 @@ is-fault-requires-2 : tie.Need-is-fault-requires-2
 is-fault-requires-2 c κs = search needs
 
 returns-2 : tie.Need-returns-2
-returns-2 c = by-second _ _ _ _ (c .before .before .before .before .before .before .before .before .before .before .definition-faults .ensures) (sym (c .before .before .before .before .before .before .before .before .before .is-fault .ensures) ∙ (c .before .before .before .before .before .before .before .before .if1 .left)) _ _ (c .before .before .before .before .before .before .before .least-of .ensures) (c .before .before .before .before .before .before .firsts .ensures) _ (c .before .before .before .object-faults .ensures) _ _ _ _ (sym (c .before .is-fault2 .ensures) ∙ (c .if2 .taken))
+returns-2 c = by-second _ _ _ _ (c .before .before .before .before .before .before .before .before .before .before .definition-faults .ensures) (sym (c .before .before .before .before .before .before .before .before .before .is-fault .ensures) ∙ (c .before .before .before .before .before .before .before .before .if1 .left)) _ _ (c .before .before .before .before .before .before .before .least-of .ensures) (c .before .before .before .before .before .before .firsts .ensures) _ (c .before .before .before .object-faults .ensures) _ _ _ _ _ _ (sym (c .before .is-fault2 .ensures) ∙ (c .if2 .taken))
 
 slice-aggregate-merge : tie.Need-slice-aggregate-merge
 slice-aggregate-merge c = search needs
 
 merge-requires : tie.Need-merge-requires
 merge-requires c κs = search needs
-
-with-objects-requires : tie.Need-with-objects-requires
-with-objects-requires c κs = search needs
 
 judge-all-requires : tie.Need-judge-all-requires
 judge-all-requires c κs = search needs
@@ -60,7 +56,7 @@ same-length-2 : tie.Need-same-length-2
 same-length-2 c = search needs
 
 returns-3 : tie.Need-returns-3
-returns-3 c = by-third _ _ _ _ (c .before .before .before .before .before .before .before .before .before .before .before .before .before .before .before .before .before .before .before .before .before .before .before .before .definition-faults .ensures) (sym (c .before .before .before .before .before .before .before .before .before .before .before .before .before .before .before .before .before .before .before .before .before .before .before .is-fault .ensures) ∙ (c .before .before .before .before .before .before .before .before .before .before .before .before .before .before .before .before .before .before .before .before .before .before .if1 .left)) _ _ (c .before .before .before .before .before .before .before .before .before .before .before .before .before .before .before .before .before .before .before .before .before .least-of .ensures) (c .before .before .before .before .before .before .before .before .before .before .before .before .before .before .before .before .before .before .before .before .firsts .ensures) _ (c .before .before .before .before .before .before .before .before .before .before .before .before .before .before .before .before .before .object-faults .ensures) (sym (c .before .before .before .before .before .before .before .before .before .before .before .before .before .before .before .is-fault2 .ensures) ∙ (c .before .before .before .before .before .before .before .before .before .before .before .before .before .before .if2 .left)) _ _ _ _ _ (c .before .before .before .before .before .before .before .before .before .before .merge .ensures) _ (c .before .before .before .before .with-objects .ensures) _ _ refl refl refl (c .judge-all .ensures)
+returns-3 c = by-third _ _ _ _ (c .before .before .before .before .before .before .before .before .before .before .before .before .before .before .before .before .before .before .before .before .before .before .before .definition-faults .ensures) (sym (c .before .before .before .before .before .before .before .before .before .before .before .before .before .before .before .before .before .before .before .before .before .before .is-fault .ensures) ∙ (c .before .before .before .before .before .before .before .before .before .before .before .before .before .before .before .before .before .before .before .before .before .if1 .left)) _ _ (c .before .before .before .before .before .before .before .before .before .before .before .before .before .before .before .before .before .before .before .before .least-of .ensures) (c .before .before .before .before .before .before .before .before .before .before .before .before .before .before .before .before .before .before .before .firsts .ensures) _ (c .before .before .before .before .before .before .before .before .before .before .before .before .before .before .before .before .object-faults .ensures) (sym (c .before .before .before .before .before .before .before .before .before .before .before .before .before .before .is-fault2 .ensures) ∙ (c .before .before .before .before .before .before .before .before .before .before .before .before .before .if2 .left)) _ _ _ _ _ (c .before .before .before .before .before .before .before .before .before .merge .ensures) _ _ refl refl refl (c .judge-all .ensures)
 
 pub stages-spec : {M : Type 1} → statement M
 stages-spec =
@@ -77,7 +73,6 @@ stages-spec =
     returns-2
     slice-aggregate-merge
     merge-requires
-    with-objects-requires
     judge-all-requires
     same-length
     same-length-2

@@ -9,7 +9,7 @@ use Rattle.filling.proofs.length.Reads as length-reads
 use Rattle.grammar.proofs.lookahead.expect.Reads as expect-reads
 use Rattle.grammar.proofs.lookahead.expect_name.Reads as expect-name-reads
 use Rattle.grammar.proofs.parts.close.Reads as close-reads
-use Rattle.objects.proofs.objects.Reads as objects-reads
+use Rattle.object_parts.proofs.parts.Reads as parts-reads
 
 expect-requires : tie.Need-expect-requires
 expect-requires c κs = search needs
@@ -20,8 +20,8 @@ expect-name-requires c κs = search needs
 expect-requires-2 : tie.Need-expect-requires-2
 expect-requires-2 c κs = search needs
 
-objects-requires : tie.Need-objects-requires
-objects-requires c κs = search needs
+parts-requires : tie.Need-parts-requires
+parts-requires c κs = search needs
 
 close-requires : tie.Need-close-requires
 close-requires c κs = search needs
@@ -36,7 +36,7 @@ same-length-2 : tie.Need-same-length-2
 same-length-2 c = search needs
 
 returns : tie.Need-returns
-returns c = application-there (cpu-is (c .before .before .before .before .before .before .before .before .before .before .before .before .expect .ensures)) (c .before .before .before .before .before .before .before .before .before .before .before .expect-name .ensures) (lbrace-is (c .before .before .before .before .before .before .before .before .before .before .expect2 .ensures)) (c .before .before .before .before .before .before .before .objects .ensures) (c .before .before .close .ensures) (c .before .length .ensures)
+returns c = application-there (cpu-is (c .before .before .before .before .before .before .before .before .before .before .before .before .expect .ensures)) (c .before .before .before .before .before .before .before .before .before .before .before .expect-name .ensures) (lbrace-is (c .before .before .before .before .before .before .before .before .before .before .expect2 .ensures)) (c .before .before .before .before .before .before .before .parts .ensures) (c .before .before .close .ensures) (c .before .length .ensures)
 
 pub application-spec : {M : Type 1} → statement M
 application-spec =
@@ -45,7 +45,7 @@ application-spec =
     expect-requires
     expect-name-requires
     expect-requires-2
-    objects-requires
+    parts-requires
     close-requires
     length-requires
     same-length

@@ -35,11 +35,11 @@ BlockRows b w m = (place-or (m .brace) ≡ b) × ((k : ℕ) → statement-rows (
 unfoldable pub ValueRows : List ℕ → Look → ℕ → Lines → ValueWithBlock → Type 0
 ValueRows s a b w m = Seen s a (m .word) × (place-or (m .block .brace) ≡ b) × ((k : ℕ) → statement-rows (m .block .inside k) k ≡ w k)
 
--- Rows of objects, before which k statements stand, with the rows of their statements.
+-- Rows of parts, before which k statements stand, with the rows of their statements.
 abbrev pub Put : Type 0
 Put = Lines × Lines
 
--- The tables of objects and of statements have been filled. Rows of objects hold numbers of statements: nothing is said of their cells where
+-- The tables of parts and of statements have been filled. Rows of parts hold numbers of statements: nothing is said of their cells where
 -- either table has more than 65,536 rows.
 pub record FillBoth (x : Table × Table) (w : Put) (y : Table × Table) : Type 0 where
   pub wide : (k : ℕ) → Wide 10 (w .0 k)
@@ -57,14 +57,14 @@ All = List ℕ × Put
 abbrev pub FillAll : List ℕ × (Table × Table) → All → List ℕ × (Table × Table) → Type 0
 FillAll x w y = (y .0 ≡ countOn (x .0) (w .0)) × FillBoth (x .1) (w .1) (y .1)
 
--- The numbers of the kinds of objects.
+-- The numbers of the kinds of parts.
 unfoldable pub numbers : List Object → List ℕ
 numbers [] = []
 numbers (x ∷ xs) = kind-number (x .kind) ∷ numbers xs
 
--- The rows are those of an object whose kind's word is seen at a, and those of objects.
-unfoldable pub ObjectRows : Look → Put → (ℕ → ℕ → Object) → Type 0
-ObjectRows a w m =
+-- The rows are those of a part whose kind's word is seen at a, and those of parts.
+unfoldable pub PartRows : Look → Put → (ℕ → ℕ → Object) → Type 0
+PartRows a w m =
     (n k : ℕ) → (kind-number (m n k .kind) ≡ a .code - 9) × ((object-cells (m n k) k ∷ []) ≡ w .0 k) × (statement-rows (m n k .statements) k ≡ w .1 k)
 
 unfoldable pub AllRows : All → (ℕ → ℕ → List Object) → Type 0

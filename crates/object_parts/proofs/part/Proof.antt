@@ -1,10 +1,10 @@
-use Rattle.objects.proofs.Applied.{object-alone, object-with}
+use Rattle.object_parts.proofs.Applied.{part-alone, part-with}
 use Rattle.grammar.proofs.Terminals.{rbrace-is}
 use borrow.Author.Needs.{needs}
-use Rattle.objects.proofs.object.Statement.{statement}
-use Rattle.objects.proofs.object.Tie as tie
-use Rattle.objects.proofs.object.Reads as reads
-use Rattle.objects.proofs.object.Lts as lts
+use Rattle.object_parts.proofs.part.Statement.{statement}
+use Rattle.object_parts.proofs.part.Tie as tie
+use Rattle.object_parts.proofs.part.Reads as reads
+use Rattle.object_parts.proofs.part.Lts as lts
 use Rattle.filling.proofs.length.Reads as length-reads
 use Rattle.filling.proofs.next.Reads as next-reads
 use Rattle.filling.proofs.put_row.Reads as put-row-reads
@@ -15,7 +15,7 @@ use Rattle.grammar.proofs.lookahead.expect_kind.Reads as expect-kind-reads
 use Rattle.grammar.proofs.lookahead.expect_name.Reads as expect-name-reads
 use Rattle.grammar.proofs.parts.finish.Reads as finish-reads
 use Rattle.filling.proofs.kind_number.Reads as kind-number-reads
-use Rattle.objects.proofs.statements.Reads as statements-reads
+use Rattle.object_parts.proofs.statements.Reads as statements-reads
 
 kind-number-requires : tie.Need-kind-number-requires
 kind-number-requires c κs = search needs
@@ -48,7 +48,7 @@ same-length : tie.Need-same-length
 same-length c = search needs
 
 returns : tie.Need-returns
-returns c = object-alone (c .before .before .before .before .before .before .before .before .before .before .before .before .before .kind-number .ensures) (c .before .before .before .before .before .before .before .before .before .before .before .before .expect-kind .ensures) (c .before .before .before .before .before .before .before .before .before .before .before .expect-name .ensures) (c .before .before .before .before .before .before .before .before .before .before .length .ensures) (c .before .before .before .before .before .before .before .before .before .length2 .ensures) (c .before .before .before .before .before .before .before .before .next .ensures) (c .before .before .before .before .before .before .if1 .taken) (c .before .before .before .put-row .ensures) (c .finish .ensures)
+returns c = part-alone (c .before .before .before .before .before .before .before .before .before .before .before .before .before .kind-number .ensures) (c .before .before .before .before .before .before .before .before .before .before .before .before .expect-kind .ensures) (c .before .before .before .before .before .before .before .before .before .before .before .expect-name .ensures) (c .before .before .before .before .before .before .before .before .before .before .length .ensures) (c .before .before .before .before .before .before .before .before .before .length2 .ensures) (c .before .before .before .before .before .before .before .before .next .ensures) (c .before .before .before .before .before .before .if1 .taken) (c .before .before .before .put-row .ensures) (c .finish .ensures)
 
 advance-requires : tie.Need-advance-requires
 advance-requires c κs = search needs
@@ -78,10 +78,10 @@ same-length-3 : tie.Need-same-length-3
 same-length-3 c = search needs
 
 returns-2 : tie.Need-returns-2
-returns-2 c = object-with (c .before .before .before .before .before .before .before .before .before .before .before .before .before .before .before .before .before .before .before .before .before .kind-number .ensures) (c .before .before .before .before .before .before .before .before .before .before .before .before .before .before .before .before .before .before .before .before .expect-kind .ensures) (c .before .before .before .before .before .before .before .before .before .before .before .before .before .before .before .before .before .before .before .expect-name .ensures) (c .before .before .before .before .before .before .before .before .before .before .before .before .before .before .before .before .before .before .length .ensures) (c .before .before .before .before .before .before .before .before .before .before .before .before .before .before .before .before .before .length2 .ensures) (c .before .before .before .before .before .before .before .before .before .before .before .before .before .before .before .before .next .ensures) (c .before .before .before .before .before .before .before .before .before .before .before .before .before .before .if1 .left) (c .before .before .before .before .before .before .before .before .before .before .before .before .before .advance .ensures) (c .before .before .before .before .before .before .before .before .before .before .before .statements .ensures) (c .before .before .before .before .before .before .before .through .ensures) (c .before .before .before .before .put-row2 .ensures) (rbrace-is (c .before .expect .ensures)) (c .finish2 .ensures)
+returns-2 c = part-with (c .before .before .before .before .before .before .before .before .before .before .before .before .before .before .before .before .before .before .before .before .before .kind-number .ensures) (c .before .before .before .before .before .before .before .before .before .before .before .before .before .before .before .before .before .before .before .before .expect-kind .ensures) (c .before .before .before .before .before .before .before .before .before .before .before .before .before .before .before .before .before .before .before .expect-name .ensures) (c .before .before .before .before .before .before .before .before .before .before .before .before .before .before .before .before .before .before .length .ensures) (c .before .before .before .before .before .before .before .before .before .before .before .before .before .before .before .before .before .length2 .ensures) (c .before .before .before .before .before .before .before .before .before .before .before .before .before .before .before .before .next .ensures) (c .before .before .before .before .before .before .before .before .before .before .before .before .before .before .if1 .left) (c .before .before .before .before .before .before .before .before .before .before .before .before .before .advance .ensures) (c .before .before .before .before .before .before .before .before .before .before .before .statements .ensures) (c .before .before .before .before .before .before .before .through .ensures) (c .before .before .before .before .put-row2 .ensures) (rbrace-is (c .before .expect .ensures)) (c .finish2 .ensures)
 
-pub object-spec : {M : Type 1} → statement M
-object-spec =
+pub part-spec : {M : Type 1} → statement M
+part-spec =
     tie.close
     (tie.spec
     kind-number-requires

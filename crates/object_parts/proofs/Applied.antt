@@ -1,4 +1,4 @@
--- One law for each way in which a reader of objects answers. Assumes nothing.
+-- One law for each way in which a reader of parts answers. Assumes nothing.
 use mathlib.Core.Path.{_≡_, refl, sym, _∙_, ap, ap₂, subst, fun-ext}
 use mathlib.Core.List.{List, [], _∷_, _++_, append-assoc, append-nil}
 use mathlib.Core.Bool.{true, false}
@@ -24,8 +24,8 @@ use Rattle.filling.specs.Fills.{Walks}
 use Rattle.filling.proofs.Filling.{Going, Effects, front-of, behind, plain, first, matched, _▻_, told-as, told-rule, going-on, gone, both as side-by-side}
 use Rattle.filling.proofs.Tables.{wide-one, wide-then, rows-append, _⸬_}
 use Rattle.filling.proofs.Codes.{seen-place, seen-length, kind-seen}
-use Rattle.objects.specs.Rows.{Lines, Fill, StatementRows, Put, FillBoth, All, FillAll, numbers, ObjectRows, AllRows}
-use Rattle.objects.proofs.Stated.{then, none-yet, lines}
+use Rattle.object_parts.specs.Rows.{Lines, Fill, StatementRows, Put, FillBoth, All, FillAll, numbers, PartRows, AllRows}
+use Rattle.object_parts.proofs.Stated.{then, none-yet, lines}
 
 abbrev pub also : Put → Put → Put
 also a b = ((λ k. a .0 k ++ b .0 (k + length (a .1 k))), then (a .1) (b .1))
@@ -107,11 +107,11 @@ counting =
 pub all : Effects All (List ℕ × (Table × Table)) beside ([], no-put) FillAll
 all = side-by-side counting puts
 
--- One object.
-put-object : {l l′ : List ℕ} {n n′ : ℕ} {t u : Table} (w : Lines) (r : ℕ → List ℕ) (c : List ℕ) → ((k : ℕ) → length (r k) ≡ 10) → Fill t w u
+-- One part.
+put-part : {l l′ : List ℕ} {n n′ : ℕ} {t u : Table} (w : Lines) (r : ℕ → List ℕ) (c : List ℕ) → ((k : ℕ) → length (r k) ≡ 10) → Fill t w u
     → l′ ≡ sets l (n * 10) c → (t .1 + length (w (t .1)) ≤ 65536 → c ≡ r (t .1)) → n′ ≡ n + min 1 (65536 - n) → FillBoth ((l, n), t) ((λ k. r k ∷ []), w) ((l′, n′), u)
 unfolding join
-put-object {l} {n} {t} w r c h f p i q =
+put-part {l} {n} {t} w r c h f p i q =
     record {
       wide = λ k. wide-one 10 (r k) (h k);
       same = λ k k′. refl;
@@ -122,21 +122,21 @@ put-object {l} {n} {t} w r c h f p i q =
     }
 
 module _ {s : List ℕ} {a b c : Look} {l l′ : List ℕ} {n n′ : ℕ} where
-  pub object-alone : {e k v w m : ℕ} {t : List ℕ} {r : Look} → k ≡ a .code - 9 → Meets 1 (kind · ∎) s a b → Meets 1 (name · ∎) s b c → v ≡ a .next - a .at → w ≡ b .next - b .at
+  pub part-alone : {e k v w m : ℕ} {t : List ℕ} {r : Look} → k ≡ a .code - 9 → Meets 1 (kind · ∎) s a b → Meets 1 (name · ∎) s b c → v ≡ a .next - a .at → w ≡ b .next - b .at
       → n′ ≡ n + min 1 (65536 - n) → (c .code ≡ 45 → ⊥) → l′ ≡ sets l (n * 10) (k ∷ a .at ∷ v ∷ b .at ∷ w ∷ 0 ∷ 0 ∷ 1 ∷ m ∷ m ∷ []) → Meets e (D ▸ sg semicolon · ∎) s c r
-      → Walks FillBoth 1 (object ▸ ∎) (λ w m. ObjectRows a w (m .0)) s a r ((l, n), (t, m)) ((l′, n′), (t, m))
-  unfolding means absent front-of behind ObjectRows object-cells statement-rows statements-in
-  object-alone {k} {v} {w} {m} {t} g x y p q i h o d =
+      → Walks FillBoth 1 (object ▸ ∎) (λ w m. PartRows a w (m .0)) s a r ((l, n), (t, m)) ((l′, n′), (t, m))
+  unfolding means absent front-of behind PartRows object-cells statement-rows statements-in
+  part-alone {k} {v} {w} {m} {t} g x y p q i h o d =
       let f = matched kind x ▻ first name y ▻ plain (D ▸ sg semicolon · ∎) d in
       let row : ℕ → List ℕ = λ j. k ∷ a .at ∷ v ∷ b .at ∷ w ∷ 0 ∷ 0 ∷ 1 ∷ j ∷ j ∷ [] in
       let z : Put = ((λ j. row j ∷ []), none-yet) in
       record {
         what = z;
-        does = put-object none-yet row (row m) (λ j. refl) (lines .does-none (t, m)) o (λ _. refl) i;
+        does = put-part none-yet row (row m) (λ j. refl) (lines .does-none (t, m)) o (λ _. refl) i;
         fills = record {
           meets = object-by (x ⊳ y ⊳ block-pass h ⊳ d);
           told = λ u.
-              told-rule (λ m. ObjectRows a z m) an-object-alone
+              told-rule (λ m. PartRows a z m) an-object-alone
               (told-as (f .told u) (λ m q′ j j′.
               let kd = kind-seen (q′ .0 .0) (q′ .0 .1) in (
                 kd,
@@ -149,25 +149,25 @@ module _ {s : List ℕ} {a b c : Look} {l l′ : List ℕ} {n n′ : ℕ} where
       }
 
 module _ {s : List ℕ} {a b c g : Look} {l l′ : List ℕ} {n n′ : ℕ} where
-  pub object-with : {e e′ k v w m m′ extent : ℕ} {t t′ : List ℕ} {d r f : Look} → k ≡ a .code - 9 → Meets 1 (kind · ∎) s a b → Meets 1 (name · ∎) s b c → v ≡ a .next - a .at
+  pub part-with : {e e′ k v w m m′ extent : ℕ} {t t′ : List ℕ} {d r f : Look} → k ≡ a .code - 9 → Meets 1 (kind · ∎) s a b → Meets 1 (name · ∎) s b c → v ≡ a .next - a .at
       → w ≡ b .next - b .at → n′ ≡ n + min 1 (65536 - n) → c .code ≡ 45 → d ≡ advanced s c
       → Walks Fill 0 (statements ▸ ∎) (λ w m. StatementRows w (m .0)) s d g (t, m) (t′, m′) → extent ≡ (g .at + (g .next - g .at)) - c .at
       → l′ ≡ sets l (n * 10) (k ∷ a .at ∷ v ∷ b .at ∷ w ∷ c .at ∷ extent ∷ 1 ∷ m ∷ m′ ∷ []) → Meets e (sg rbrace · ∎) s g f → Meets e′ (D ▸ sg semicolon · ∎) s f r
-      → Walks FillBoth 1 (object ▸ ∎) (λ w m. ObjectRows a w (m .0)) s a r ((l, n), (t, m)) ((l′, n′), (t′, m′))
-  unfolding means through front-of behind ObjectRows StatementRows object-cells matches classAt
-  object-with {k} {v} {w} {m} {m′} {extent} gk x y p q i h o ss ex wr cl d =
+      → Walks FillBoth 1 (object ▸ ∎) (λ w m. PartRows a w (m .0)) s a r ((l, n), (t, m)) ((l′, n′), (t′, m′))
+  unfolding means through front-of behind PartRows StatementRows object-cells matches classAt
+  part-with {k} {v} {w} {m} {m′} {extent} gk x y p q i h o ss ex wr cl d =
       let br = take (sg lbrace) {s = s} {a = c} (at-code (matches (sg lbrace)) 45 tt h) o in
       let f = matched kind x ▻ first name y ▻ first (sg lbrace) br ▻ ss .fills ▻ first (sg rbrace) cl ▻ plain (D ▸ sg semicolon · ∎) d in
       let row : ℕ → List ℕ = λ j. k ∷ a .at ∷ v ∷ b .at ∷ w ∷ c .at ∷ extent ∷ 1 ∷ j ∷ (j + length (ss .what j)) ∷ [] in
       let z : Put = ((λ j. row j ∷ []), ss .what) in
       record {
         what = z;
-        does = put-object (ss .what) row (k ∷ a .at ∷ v ∷ b .at ∷ w ∷ c .at ∷ extent ∷ 1 ∷ m ∷ m′ ∷ []) (λ j. refl) (ss .does) wr
+        does = put-part (ss .what) row (k ∷ a .at ∷ v ∷ b .at ∷ w ∷ c .at ∷ extent ∷ 1 ∷ m ∷ m′ ∷ []) (λ j. refl) (ss .does) wr
             (λ u. let e : m′ ≡ m + length (ss .what m) = omega (arith, ss .does .1 .count, u) in ap (λ (j : ℕ). k ∷ a .at ∷ v ∷ b .at ∷ w ∷ c .at ∷ extent ∷ 1 ∷ m ∷ j ∷ []) e) i;
         fills = record {
           meets = object-by (x ⊳ y ⊳ block-by h o (ss .fills .meets ⊳ cl) ⊳ d);
           told = λ u.
-              told-rule (λ m. ObjectRows a z m) an-object-with
+              told-rule (λ m. PartRows a z m) an-object-with
               (told-as (f .told u) (λ m q′ j j′.
               let kd = kind-seen (q′ .0 .0) (q′ .0 .1) in
               let last = q′ .1 .1 .1 .1 .0 in
@@ -186,13 +186,13 @@ module _ {s : List ℕ} {a b c g : Look} {l l′ : List ℕ} {n n′ : ℕ} wher
         };
       }
 
--- Objects --------------------------------------------------------------------------------------------------------------------------------
+-- Parts ----------------------------------------------------------------------------------------------------------------------------------
 
 module _ {s : List ℕ} {a : Look} {cs cs₁ cs₂ : List ℕ} {x y z : Table × Table} where
-  pub objects-on : {k : ℕ} {o r : Look} → Going beside FillAll objects AllRows s o a (cs, x) (cs₁, y) → matches kind (classAt (a .code)) ≡ true → k ≡ a .code - 9
-      → cs₂ ≡ oneMore cs₁ k → Walks FillBoth 1 (object ▸ ∎) (λ w m. ObjectRows a w (m .0)) s a r y z → Going beside FillAll objects AllRows s o r (cs, x) (cs₂, z)
-  unfolding means front-of behind ObjectRows AllRows numbers object-rows all-statement-rows countOn
-  objects-on {k} g h p q w =
+  pub parts-on : {k : ℕ} {o r : Look} → Going beside FillAll objects AllRows s o a (cs, x) (cs₁, y) → matches kind (classAt (a .code)) ≡ true → k ≡ a .code - 9
+      → cs₂ ≡ oneMore cs₁ k → Walks FillBoth 1 (object ▸ ∎) (λ w m. PartRows a w (m .0)) s a r y z → Going beside FillAll objects AllRows s o r (cs, x) (cs₂, z)
+  unfolding means front-of behind PartRows AllRows numbers object-rows all-statement-rows countOn
+  parts-on {k} g h p q w =
       going-on all AllRows (object ▸ ∎) an-object {w = (k ∷ [], w .what)} g (objects-again (g .still) h (w .fills .meets)) (q, w .does) (w .fills)
       (λ m more u v i j.
       let o = m .0 i j in
@@ -206,7 +206,7 @@ module _ {s : List ℕ} {a : Look} {cs cs₁ cs₂ : List ℕ} {x y z : Table ×
       ))
 
 module _ {s : List ℕ} {a : Look} {x y : List ℕ × (Table × Table)} where
-  pub objects-gone : {o : Look} → Going beside FillAll objects AllRows s o a x y → matches kind (classAt (a .code)) ≡ false
+  pub parts-gone : {o : Look} → Going beside FillAll objects AllRows s o a x y → matches kind (classAt (a .code)) ≡ false
       → Walks FillAll 0 (objects ▸ ∎) (λ w m. AllRows w (m .0)) s o a x y
   unfolding means AllRows numbers object-rows all-statement-rows
-  objects-gone g h = gone all AllRows no-object (λ i j. (refl, refl, refl)) g (objects-done (g .still) h)
+  parts-gone g h = gone all AllRows no-object (λ i j. (refl, refl, refl)) g (objects-done (g .still) h)

@@ -23,8 +23,8 @@ use Rattle.filling.specs.Fills.{Walks}
 use Rattle.filling.proofs.Filling.{Going, Effects, front-of, behind, plain, first, _▻_, told-as, told-rule, told-none, refused, going-on, gone}
 use Rattle.filling.proofs.Tables.{wrote-none, wrote-on, wide-one, wide-then, _⸬_}
 use Rattle.filling.proofs.Codes.{seen-code, seen-place, seen-length}
-use Rattle.objects.specs.Rows.{Lines, Fill, StatementRows, StatedRows, BlockRows, ValueRows}
-use Rattle.objects.proofs.Stores.{wrote-around}
+use Rattle.object_parts.specs.Rows.{Lines, Fill, StatementRows, StatedRows, BlockRows, ValueRows}
+use Rattle.object_parts.proofs.Stores.{wrote-around}
 
 abbrev pub then : Lines → Lines → Lines
 then a b = λ k. a k ++ b (k + length (a k))

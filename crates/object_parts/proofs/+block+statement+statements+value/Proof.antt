@@ -1,7 +1,7 @@
 use native.Mathlib.Omega.{arith}
 use borrow.Author.Needs.{needs}
-use Rattle.objects.proofs.Stated.{lines, statements-on, statements-gone, block-none, block-there, value-true-there, value-false-there, value-name-there, value-number-there, value-string-there, value-float-there, value-auto-there, value-none, statement-there, then}
-use Rattle.objects.specs.Rows.{Fill, StatementRows}
+use Rattle.object_parts.proofs.Stated.{lines, statements-on, statements-gone, block-none, block-there, value-true-there, value-false-there, value-name-there, value-number-there, value-string-there, value-float-there, value-auto-there, value-none, statement-there, then}
+use Rattle.object_parts.specs.Rows.{Fill, StatementRows}
 use Rattle.filling.proofs.Filling.{going, Going}
 use Rattle.grammar.proofs.Rules.{name-taken, name-less, value-no}
 use Rattle.grammar.proofs.Terminals.{rbrace-is, equals-is}
@@ -13,18 +13,18 @@ use Prim.Native.Nat.{_+_, _*_, ℕ, _<_}
 use mathlib.Core.Path.{sym, _∙_}
 use borrow.Fn.Kinds.{In}
 use borrow.Fn.PlainCycle.{Measures, is, falls, and}
-use Rattle.objects.proofs.block.Reads as block
-use Rattle.objects.proofs.block.Kinds as block-kinds
-use Rattle.objects.proofs.+block+statement+statements+value.Lts-block as block-lts
-use Rattle.objects.proofs.statement.Reads as statement′
-use Rattle.objects.proofs.statement.Kinds as statement-kinds
-use Rattle.objects.proofs.+block+statement+statements+value.Lts-statement as statement-lts
-use Rattle.objects.proofs.statements.Reads as statements
-use Rattle.objects.proofs.statements.Kinds as statements-kinds
-use Rattle.objects.proofs.+block+statement+statements+value.Lts-statements as statements-lts
-use Rattle.objects.proofs.value.Reads as value
-use Rattle.objects.proofs.value.Kinds as value-kinds
-use Rattle.objects.proofs.+block+statement+statements+value.Lts-value as value-lts
+use Rattle.object_parts.proofs.block.Reads as block
+use Rattle.object_parts.proofs.block.Kinds as block-kinds
+use Rattle.object_parts.proofs.+block+statement+statements+value.Lts-block as block-lts
+use Rattle.object_parts.proofs.statement.Reads as statement′
+use Rattle.object_parts.proofs.statement.Kinds as statement-kinds
+use Rattle.object_parts.proofs.+block+statement+statements+value.Lts-statement as statement-lts
+use Rattle.object_parts.proofs.statements.Reads as statements
+use Rattle.object_parts.proofs.statements.Kinds as statements-kinds
+use Rattle.object_parts.proofs.+block+statement+statements+value.Lts-statements as statements-lts
+use Rattle.object_parts.proofs.value.Reads as value
+use Rattle.object_parts.proofs.value.Kinds as value-kinds
+use Rattle.object_parts.proofs.+block+statement+statements+value.Lts-value as value-lts
 use Rattle.filling.proofs.length.Reads as length-reads
 use Rattle.filling.proofs.next.Reads as next-reads
 use Rattle.filling.proofs.put_row.Reads as put-row-reads
@@ -34,8 +34,8 @@ use Rattle.grammar.proofs.lookahead.expect_name.Reads as expect-name-reads
 use Rattle.grammar.proofs.lookahead.is_name.Reads as is-name-reads
 use Rattle.grammar.proofs.lookahead.refuse.Reads as refuse-reads
 use Rattle.grammar.proofs.parts.finish.Reads as finish-reads
-use Rattle.objects.proofs.+block+statement+statements+value.{statement}
-use Rattle.objects.proofs.+block+statement+statements+value.Tie.{close}
+use Rattle.object_parts.proofs.+block+statement+statements+value.{statement}
+use Rattle.object_parts.proofs.+block+statement+statements+value.Tie.{close}
 
 abbrev μ-block : Measures 2 block-kinds.ps ℕ
 μ-block κs a = 4 * left (now (a .0)) (a .1 .1 .0)

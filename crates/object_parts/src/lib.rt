@@ -3,7 +3,7 @@ ghost use mathlib.Core.Path.{_≡_};
 ghost use lib.ListN.{replicate};
 ghost use Rattle.grammar.specs.Grammar.{_▸_, ∎, block, value, statement, statements, object, objects};
 ghost use Rattle.filling.specs.Fills.{Walks};
-ghost use Rattle.objects.specs.Rows.{Fill, StatementRows, StatedRows, BlockRows, ValueRows, FillBoth, FillAll, ObjectRows, AllRows};
+ghost use Rattle.object_parts.specs.Rows.{Fill, StatementRows, StatedRows, BlockRows, ValueRows, FillBoth, FillAll, PartRows, AllRows};
 use grammar::Look;
 use grammar::lookahead;
 use grammar::lookahead::AUTO;
@@ -30,17 +30,17 @@ pub struct Braced {
     pub brace: usize,
 }
 
-// A look, and how many objects and statements have been counted before it.
+// A look, and how many parts and statements have been counted before it.
 pub struct Passed {
     pub look: Look,
-    pub objects: usize,
+    pub parts: usize,
     pub statements: usize,
 }
 
-// With the objects of each kind.
+// With the parts of each kind.
 pub struct Counted {
     pub look: Look,
-    pub objects: usize,
+    pub parts: usize,
     pub statements: usize,
     pub counts: [usize; 13],
 }
@@ -158,8 +158,8 @@ pub fn statements(text: &[u8], s: &mut [usize], from: Look, m: usize) -> Spot
     }
 }
 
-pub fn object(text: &[u8], o: &mut [usize], s: &mut [usize], a: Look, n: usize, m: usize) -> Passed
-    ensures { λ r. ⌜ Walks FillBoth 1 (object ▸ ∎) (λ w x. ObjectRows a w (x .0)) (now (text .entry)) a (r .look) ((now (o .entry), n), (now (s .entry), m)) ((now (o .exit), r .objects), (now (s .exit), r .statements)) ⌝ }
+pub fn part(text: &[u8], p: &mut [usize], s: &mut [usize], a: Look, n: usize, m: usize) -> Passed
+    ensures { λ r. ⌜ Walks FillBoth 1 (object ▸ ∎) (λ w x. PartRows a w (x .0)) (now (text .entry)) a (r .look) ((now (p .entry), n), (now (s .entry), m)) ((now (p .exit), r .parts), (now (s .exit), r .statements)) ⌝ }
 {
     let kind = filling::kind_number(a.code);
     let b = lookahead::expect_kind(text, a);
@@ -169,11 +169,11 @@ pub fn object(text: &[u8], o: &mut [usize], s: &mut [usize], a: Look, n: usize, 
     let k = filling::next(n);
     if c.code != LBRACE {
         let cells = [kind, a.at, size, b.at, len, 0, 0, 1, m, m];
-        filling::put_row(o, 10, n, &cells);
+        filling::put_row(p, 10, n, &cells);
         let d = parts::finish(text, c);
         return Passed {
             look: d,
-            objects: k,
+            parts: k,
             statements: m,
         };
     }
@@ -193,18 +193,18 @@ pub fn object(text: &[u8], o: &mut [usize], s: &mut [usize], a: Look, n: usize, 
         m,
         e.statements,
     ];
-    filling::put_row(o, 10, n, &cells);
+    filling::put_row(p, 10, n, &cells);
     let f = lookahead::expect(text, last, RBRACE);
     let g = parts::finish(text, f);
     Passed {
         look: g,
-        objects: k,
+        parts: k,
         statements: e.statements,
     }
 }
 
-pub fn objects(text: &[u8], o: &mut [usize], s: &mut [usize], from: Look) -> Counted
-    ensures { λ r. ⌜ Walks FillAll 0 (objects ▸ ∎) (λ w x. AllRows w (x .0)) (now (text .entry)) from (r .look) (replicate 13 0, ((now (o .entry), 0), (now (s .entry), 0))) (r .counts, ((now (o .exit), r .objects), (now (s .exit), r .statements))) ⌝ }
+pub fn parts(text: &[u8], p: &mut [usize], s: &mut [usize], from: Look) -> Counted
+    ensures { λ r. ⌜ Walks FillAll 0 (objects ▸ ∎) (λ w x. AllRows w (x .0)) (now (text .entry)) from (r .look) (replicate 13 0, ((now (p .entry), 0), (now (s .entry), 0))) (r .counts, ((now (p .exit), r .parts), (now (s .exit), r .statements))) ⌝ }
 {
     let mut a = from;
     let mut n = 0;
@@ -214,14 +214,14 @@ pub fn objects(text: &[u8], o: &mut [usize], s: &mut [usize], from: Look) -> Cou
         let kind = filling::kind_number(a.code);
         let more = rows::counts::one_more(counts, kind);
         counts = more;
-        let y = object(text, o, s, a, n, m);
+        let y = part(text, p, s, a, n, m);
         a = y.look;
-        n = y.objects;
+        n = y.parts;
         m = y.statements;
     }
     Counted {
         look: a,
-        objects: n,
+        parts: n,
         statements: m,
         counts: counts,
     }
