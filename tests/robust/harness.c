@@ -1,5 +1,5 @@
-// The calls kaukslini_read, kaukslini_write, kaukslini_heading, kaukslini_check_masks and kaukslini_plan_masks on each text of standard input, in guarded memory, and checks of what is promised of the lent
-// memory and of the answer, whatever the text is. docs/ROBUSTNESS.md says what is checked.
+// The calls kaukslini_read, kaukslini_write, kaukslini_heading, kaukslini_check_masks, kaukslini_plan_masks and kaukslini_compare on each text of
+// standard input, in guarded memory, and checks of what is promised of the lent memory and of the answer, whatever the text is. docs/ROBUSTNESS.md says what is checked.
 //
 //   harness [FOLDER]      the texts of standard input, as robust_texts writes them; a text that fails is saved in FOLDER
 //   harness --self-test   faults are planted around the calls; each must be reported
@@ -44,6 +44,18 @@ uint8_t kaukslini_check_masks(const uint8_t *text, size_t text_length, const uin
 
 uint8_t kaukslini_plan_masks(const uint8_t *text, size_t text_length, uint64_t *masks, size_t masks_length, size_t *told, size_t told_length);
 
+// A difference by rows, each one more than the row or 0; which text is refused, with number and place, and the number of differences.
+struct difference {
+    size_t first_object, second_object, first_value, second_value;
+};
+
+struct compared {
+    size_t which, number, place, total;
+};
+
+struct compared kaukslini_compare(const uint8_t *first, size_t first_length, const uint8_t *second, size_t second_length, struct difference *list,
+                                  size_t list_length);
+
 // ---- The rooms, as docs/TABLES.md fixes them ----
 
 enum { DEFINITIONS, ENUMERATORS, OBJECTS, VALUES, TABLES };
@@ -61,6 +73,8 @@ static const size_t WIDTHS[TABLES] = {13, 3, 8, 9};
 #define TOLD_OF_MASKS ((size_t)2)    // number and place of the refusal; or the event or the number of events, and 0
 #define COUNT_OF_EVENTS ((size_t)12) // the cell of what `read` tells
 #define MOST_TOLD ((size_t)21)
+#define MOST_RECORDS ((size_t)64)    // that are listed
+#define MOST_ENTRIES ((size_t)101)   // of a lent list
 #define USUAL_OUTPUT ((size_t)65535)
 #define PAST ((size_t)40)            // cells past the room of a longer table
 
@@ -100,7 +114,7 @@ enum side { ENDS_AT_GUARD, BEGINS_AT_GUARD };
 // How much memory beside the lent part is a canary: all of it but for a long output, and for the text, which is read-only.
 #define BESIDE ((size_t)1 << 16)
 
-static struct region text, tables[TABLES], usual_output, long_output, told, masks;
+static struct region text, tables[TABLES], usual_output, long_output, told, masks, second, list;
 static struct region *output = &usual_output;
 
 #define NOISE ((size_t)1 << 18)
@@ -155,6 +169,9 @@ static void make_regions(void) {
     long_output = new_region("output", LONG_OUTPUT_SIZE);
     told = new_region("told", pages(MOST_TOLD * CELL));
     masks = new_region("masks", pages((ROWS[OBJECTS] + PAST) * sizeof(uint64_t)));
+    second = new_region("second text", TEXT_SIZE);
+    second.view = READ_ONLY;
+    list = new_region("list", pages(MOST_ENTRIES * sizeof(struct difference)));
 }
 
 static size_t least(size_t a, size_t b) {
@@ -306,7 +323,7 @@ static void trapped(int signal, siginfo_t *info, void *context) {
         _exit(1);
     }
     const unsigned char *at = info->si_addr;
-    struct region *all[] = {&text, &tables[0], &tables[1], &tables[2], &tables[3], &usual_output, &long_output, &told, &masks};
+    struct region *all[] = {&text, &tables[0], &tables[1], &tables[2], &tables[3], &usual_output, &long_output, &told, &masks, &second, &list};
     for (size_t i = 0; i < sizeof all / sizeof *all; i++) {
         const unsigned char *start = all[i]->views[all[i]->view], *end = start + all[i]->size;
         if (at >= start - GUARD && at < start)
@@ -412,6 +429,19 @@ enum fault {
     MASK_PAST_THE_EVENTS,
     MASK_OF_THREE_BITS,
     OTHER_COUNT_OF_MASKS,
+    RECORD_PAST_THOSE_USED,
+    RECORD_ON_A_REFUSAL,
+    RECORD_OF_NO_ROW,
+    RECORD_IS_ANOTHER,
+    ONE_WITH_NORMAL_TEXT,
+    OTHER_TOTAL_SWAPPED,
+    OTHER_TEXT_REFUSED,
+    BESIDE_THE_LIST,
+    PAST_THE_LIST,
+    READS_PAST_THE_SECOND,
+    WRITES_THE_SECOND,
+    READS_BESIDE_THE_SECOND,
+    DECIDES_BY_A_RECORD,
 };
 
 static enum fault planted = NO_FAULT;
@@ -419,6 +449,7 @@ static enum fault planted = NO_FAULT;
 static unsigned spoil(const struct slices *s, bool is_write, unsigned number);
 static unsigned spoil_heading(const struct slices *s, unsigned number);
 static unsigned spoil_masks(uint64_t *list, size_t entries, size_t *cells, unsigned answer);
+static void spoil_compare(const uint8_t *other, size_t length, bool is_swapped, struct difference *records, size_t entries, struct compared *answer);
 
 // What the text's first reading answered, and what was written first: all other calls must agree.
 static struct {
@@ -709,6 +740,154 @@ static bool try_masks(void) {
     return true;
 }
 
+// What is known of a text with which others are compared.
+struct known {
+    unsigned number;
+    size_t place, objects, values;
+};
+
+// An earlier text; before the first one an empty one.
+static struct {
+    struct known known;
+    unsigned char bytes[TEXT_SIZE];
+    size_t length;
+} earlier = {.known = {.number = 4}};
+
+static struct known known_first(void) {
+    return (struct known){first.number, first.told[0], first.told[1 + OBJECTS], first.told[1 + VALUES]};
+}
+
+static bool record_holds(const struct difference *record, const struct known *one, const struct known *other) {
+    bool both = record->first_object != 0 && record->second_object != 0;
+    bool some = both ? record->first_value != 0 || record->second_value != 0 : record->first_object != 0 || record->second_object != 0;
+    bool within = record->first_object <= one->objects && record->first_value <= one->values && record->second_object <= other->objects &&
+                  record->second_value <= other->values;
+    bool alone = both || (record->first_value == 0 && record->second_value == 0);
+    return (some && within && alone) || fail("a record of rows that are not there: %zu, %zu, %zu, %zu", record->first_object,
+                                             record->second_object, record->first_value, record->second_value);
+}
+
+// The text compared with another one, or that one with the text, on a list of so many records.
+static bool call_compare(const unsigned char *bytes, size_t length, bool is_swapped, size_t entries, struct compared *answer) {
+    lend(&second, now.side, length);
+    memcpy(second.own + second.start, bytes, length);
+    lend(&list, now.side, entries * sizeof(struct difference));
+    fill(&list);
+    struct difference *records = (struct difference *)(void *)lent(&list);
+    unsigned long errors = memcheck_errors();
+    shut_for_call(&text, false);
+    shut_for_call(&second, false);
+    shut_for_call(&list, true);
+    *answer = is_swapped ? kaukslini_compare(lent(&second), length, lent(&text), text.length, records, entries)
+                         : kaukslini_compare(lent(&text), text.length, lent(&second), length, records, entries);
+    if (planted != NO_FAULT)
+        spoil_compare(lent(&second), length, is_swapped, records, entries, answer);
+    calls++;
+    size_t used = answer->which == 0 ? least(least(answer->total, MOST_RECORDS), entries) * sizeof(struct difference) : 0;
+    if (!is_set(&list, used))
+        return fail("memory that the call is to set is not set");
+    if (memcheck_errors() != errors)
+        return fail("valgrind reports %lu errors", memcheck_errors() - errors);
+    if (!is_noise_from(&list, used))
+        return fail("a record past those used is changed");
+    return is_noise_beside(&list) || fail("memory beside the lent list is changed");
+}
+
+// The refusal of the first text that has one, and its total is 0; else the records are of rows that are there.
+static bool compared_holds(const struct compared *answer, const struct known *one, const struct known *other, size_t entries) {
+    size_t which = one->number != 0 ? 1 : other->number != 0 ? 2 : 0;
+    const struct known *refused = which == 1 ? one : other;
+    if (answer->which != which)
+        return fail("text %zu is said to be refused, and it is %zu", answer->which, which);
+    if (which != 0 && (answer->number != refused->number || answer->place != refused->place || answer->total != 0))
+        return fail("text %zu: refusal %zu at %zu, total %zu", which, answer->number, answer->place, answer->total);
+    if (which == 0 && (answer->number != 0 || answer->place != 0))
+        return fail("no text is refused, with %zu at %zu", answer->number, answer->place);
+    const struct difference *records = (const struct difference *)(const void *)here(&list);
+    for (size_t i = 0; i < least(least(answer->total, MOST_RECORDS), entries); i++)
+        if (!record_holds(&records[i], one, other))
+            return false;
+    return true;
+}
+
+static bool try_compare_of(const char *name, const unsigned char *bytes, size_t length, const struct known *other, bool is_swapped, size_t entries,
+                           struct compared *answer) {
+    struct known own = known_first();
+    now.call = name;
+    return call_compare(bytes, length, is_swapped, entries, answer) &&
+           compared_holds(answer, is_swapped ? other : &own, is_swapped ? &own : other, entries);
+}
+
+// The same again on a list of another length: the answer is the same, and so are the records that both lists have.
+static bool try_compare_again(const unsigned char *bytes, size_t length, const struct compared *answer, size_t entries) {
+    static struct difference kept[MOST_ENTRIES];
+    struct compared again;
+    size_t had = list.length / sizeof *kept;
+    memcpy(kept, here(&list), had * sizeof *kept);
+    now.call = "compare again, another list";
+    if (!call_compare(bytes, length, false, entries, &again))
+        return false;
+    if (memcmp(answer, &again, sizeof again) != 0)
+        return fail("the second answer is another");
+    size_t used = answer->which == 0 ? least(least(answer->total, MOST_RECORDS), least(had, entries)) : 0;
+    return memcmp(kept, here(&list), used * sizeof *kept) == 0 || fail("a record is another the second time");
+}
+
+// With a copy of which one byte is another.
+static bool try_changed(void) {
+    static unsigned char changed[TEXT_SIZE];
+    struct compared answer;
+    memcpy(changed, now.bytes, now.length);
+    uint64_t any = noise[now.index % (NOISE / sizeof(uint64_t))];
+    if (now.length > 0)
+        changed[any % now.length] = (unsigned char)"{}[];:=,TFAe1 \"/.5x"[(any >> 32) % 20];
+    now.call = "compare with a changed copy";
+    if (!call_compare(changed, now.length, false, MOST_ENTRIES, &answer))
+        return false;
+    if (answer.which > 2 || (answer.which == 1) != (first.number != 0) || answer.number > LAST_NUMBER || answer.place > now.length)
+        return fail("text %zu is refused with %zu at %zu", answer.which, answer.number, answer.place);
+    return try_compare_again(changed, now.length, &answer, now.index % MOST_ENTRIES);
+}
+
+// The text with itself, with an earlier one in both orders, and with a changed copy.
+static bool try_compare(void) {
+    struct compared answer, swapped;
+    struct known own = known_first();
+    size_t entries = (7 * now.index + 64) % MOST_ENTRIES;
+    if (!try_compare_of("compare with itself", now.bytes, now.length, &own, false, now.index % MOST_ENTRIES, &answer))
+        return false;
+    if (answer.total != 0)
+        return fail("%zu differences of a text with itself", answer.total);
+    if (!try_compare_of("compare with an earlier text", earlier.bytes, earlier.length, &earlier.known, false, entries, &answer) ||
+        !try_compare_again(earlier.bytes, earlier.length, &answer, MOST_ENTRIES - entries))
+        return false;
+    if (!try_compare_of("compare, swapped", earlier.bytes, earlier.length, &earlier.known, true, (3 * now.index + 65) % MOST_ENTRIES, &swapped))
+        return false;
+    if (answer.total != swapped.total)
+        return fail("%zu differences, and %zu the other way", answer.total, swapped.total);
+    return try_changed();
+}
+
+// An accepted text with its own normal text.
+static bool try_compare_normal(void) {
+    struct compared answer;
+    struct known own = known_first();
+    if (first.length > LONGEST_TEXT)
+        return true;
+    if (!try_compare_of("compare with its normal text", first.written, first.length, &own, false, now.index % MOST_ENTRIES, &answer))
+        return false;
+    return answer.total == 0 || fail("%zu differences of a text with its normal text", answer.total);
+}
+
+// Accepted texts are kept, and now and then a refused one.
+static void keep_earlier(void) {
+    if (first.number != 0 && now.index % 8 != 2)
+        return;
+    earlier.known = known_first();
+    earlier.length = now.length;
+    memcpy(earlier.bytes, now.bytes, now.length);
+}
+
 static bool keep_written(void) {
     first.length = told_at(1);
     if (first.length == 0 || first.length > output->length)
@@ -799,7 +978,7 @@ static bool try_side(enum side side, bool longer) {
         return false;
     if (!try_heading("heading", TOLD_BY_HEADING + 1) || !try_heading("heading again", now.index % MOST_TOLD))
         return false;
-    if (!try_masks())
+    if (!try_masks() || !try_compare())
         return false;
 
     unsigned number;
@@ -821,6 +1000,8 @@ static bool try_side(enum side side, bool longer) {
             return false;
         if (!try_write("write, an output one byte too short", first.length - 1, now.index % 3, &number))
             return false;
+        if (!try_compare_normal())
+            return false;
     }
     return try_write("write, an empty output", 0, TOLD_BY_WRITE, &number);
 }
@@ -840,6 +1021,8 @@ static bool try_text(void) {
     limit_seconds(most_seconds);
     bool holds = try_side(ENDS_AT_GUARD, odd) && try_side(BEGINS_AT_GUARD, !odd);
     limit_seconds(0);
+    if (holds)
+        keep_earlier();
     return holds;
 }
 
@@ -1179,6 +1362,20 @@ static NOT_INSTRUMENTED unsigned spoil(const struct slices *s, bool is_write, un
     case MASK_OF_THREE_BITS:
     case OTHER_COUNT_OF_MASKS:
         break; // of the masks
+    case RECORD_PAST_THOSE_USED:
+    case RECORD_ON_A_REFUSAL:
+    case RECORD_OF_NO_ROW:
+    case RECORD_IS_ANOTHER:
+    case ONE_WITH_NORMAL_TEXT:
+    case OTHER_TOTAL_SWAPPED:
+    case OTHER_TEXT_REFUSED:
+    case BESIDE_THE_LIST:
+    case PAST_THE_LIST:
+    case READS_PAST_THE_SECOND:
+    case WRITES_THE_SECOND:
+    case READS_BESIDE_THE_SECOND:
+    case DECIDES_BY_A_RECORD:
+        break; // of `compare`
     }
     return number;
 }
@@ -1235,6 +1432,73 @@ static NOT_INSTRUMENTED unsigned spoil_masks(uint64_t *list, size_t entries, siz
     if (planted == OTHER_COUNT_OF_MASKS)
         cells[0] += 1;
     return answer;
+}
+
+// The same of `compare`.
+static NOT_INSTRUMENTED void spoil_compare(const uint8_t *other, size_t length, bool is_swapped, struct difference *records, size_t entries,
+                                           struct compared *answer) {
+    volatile const uint8_t *bytes = other;
+    volatile struct difference *listed = records;
+    static volatile size_t read = 0, times = 0;
+    bool ends = now.side == ENDS_AT_GUARD, is_refused = answer->which != 0;
+    size_t used = is_refused ? 0 : least(least(answer->total, MOST_RECORDS), entries);
+
+    switch (planted) {
+    case RECORD_PAST_THOSE_USED:
+        if (!is_refused && entries > used)
+            listed[used].second_value ^= 1;
+        break;
+    case RECORD_ON_A_REFUSAL:
+        if (is_refused && entries > 0)
+            listed[0].first_object ^= 1;
+        break;
+    case RECORD_OF_NO_ROW:
+        if (used > 0)
+            listed[used - 1].first_object = 4;
+        break;
+    case RECORD_IS_ANOTHER:
+        if (used > 0 && strstr(now.call, "again") != NULL)
+            listed[0].first_object ^= 3;
+        break;
+    case ONE_WITH_NORMAL_TEXT:
+    case OTHER_TOTAL_SWAPPED:
+        if (planted == ONE_WITH_NORMAL_TEXT ? strstr(now.call, "normal") == NULL : !is_swapped || answer->total == 0)
+            break;
+        answer->total++;
+        if (entries > used)
+            listed[used].first_object = listed[used].second_object = listed[used].first_value = listed[used].second_value = 1;
+        break;
+    case OTHER_TEXT_REFUSED:
+        if (answer->which == 2)
+            answer->which = 1;
+        break;
+    case BESIDE_THE_LIST:
+        if (!ends && entries < 50)
+            listed[entries + 1].first_value ^= 1;
+        break;
+    case PAST_THE_LIST:
+        if (ends)
+            listed[entries].first_object = 0;
+        break;
+    case READS_PAST_THE_SECOND:
+        if (ends)
+            read += bytes[length];
+        break;
+    case WRITES_THE_SECOND:
+        if (length > 0)
+            *(volatile uint8_t *)(uintptr_t)other = 'O';
+        break;
+    case READS_BESIDE_THE_SECOND:
+        if (!ends)
+            read += bytes[length];
+        break;
+    case DECIDES_BY_A_RECORD:
+        if (entries > used && listed[used].first_object == 7)
+            times++;
+        break;
+    default:
+        break;
+    }
 }
 
 // Each fault, a part of what is to be reported, and whether it takes valgrind to see it.
@@ -1295,6 +1559,19 @@ static const struct {
     [MASK_PAST_THE_EVENTS] = {"a mask past the events is changed", "a mask past the plan is changed", false},
     [MASK_OF_THREE_BITS] = {"a planned mask has three bits", "the plan is not accepted", false},
     [OTHER_COUNT_OF_MASKS] = {"a plan of another number of masks is told", "told cell 0 is 3 for 2", false},
+    [RECORD_PAST_THOSE_USED] = {"a record past those used is changed", "a record past those used is changed", false},
+    [RECORD_ON_A_REFUSAL] = {"a refusal changes a record", "a record past those used is changed", false},
+    [RECORD_OF_NO_ROW] = {"a record tells an object that is not there", "a record of rows that are not there", false},
+    [RECORD_IS_ANOTHER] = {"a record is another the second time", "a record is another the second time", false},
+    [ONE_WITH_NORMAL_TEXT] = {"a text differs from its normal text", "1 differences of a text with its normal text", false},
+    [OTHER_TOTAL_SWAPPED] = {"the total is another the other way", "the other way", false},
+    [OTHER_TEXT_REFUSED] = {"the other text is said to be refused", "text 1 is said to be refused, and it is 2", false},
+    [BESIDE_THE_LIST] = {"a record past the list is changed", "memory beside the lent list is changed", false},
+    [PAST_THE_LIST] = {"a record is stored past the list", "an access past the lent memory: list", false},
+    [READS_PAST_THE_SECOND] = {"the byte past the second text is read", "an access past the lent memory: second text", false},
+    [WRITES_THE_SECOND] = {"the second text is written", "a write to read-only memory: second text", false},
+    [READS_BESIDE_THE_SECOND] = {"a byte past the second text is read", "valgrind reports 1 errors", true},
+    [DECIDES_BY_A_RECORD] = {"a record that was not set decides", "valgrind reports 1 errors", true},
 };
 
 enum { FAULT_COUNT = sizeof FAULTS / sizeof *FAULTS };

@@ -4,6 +4,7 @@
 pub mod amount;
 pub mod answered;
 pub mod comparing;
+pub mod comparing_releases;
 pub mod configuration;
 pub mod corpus;
 pub mod floats;
@@ -19,6 +20,7 @@ pub mod parts;
 pub mod proved;
 pub mod random;
 pub mod ranges;
+pub mod release_texts;
 pub mod robust;
 pub mod sorts;
 pub mod tables;

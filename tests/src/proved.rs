@@ -12,6 +12,7 @@ pub fn is_linked(layer: &str) -> bool {
         "writing" => cfg!(proved_writing),
         "heading" => cfg!(proved_heading),
         "masks" => cfg!(proved_masks),
+        "releases" => cfg!(proved_releases),
         _ => panic!("no layer {layer}"),
     };
     let mut asked = env!("KAUKSLINI_LAYERS_ASKED").split(',');
@@ -352,6 +353,37 @@ pub mod masks {
                     _ => panic!("no answer {answer}"),
                 }
             }
+        }
+    }
+}
+
+#[cfg(proved_releases)]
+pub mod releases {
+    use crate::comparing_releases::{Answer, Record};
+
+    extern "C" {
+        fn kaukslini_compare(
+            first: *const u8,
+            first_length: usize,
+            second: *const u8,
+            second_length: usize,
+            list: *mut Record,
+            list_length: usize,
+        ) -> Answer;
+    }
+
+    /// What the proved call answers for two texts; the list is lent to it.
+    pub fn compare(texts: [&[u8]; 2], list: &mut [Record]) -> Answer {
+        let [first, second] = texts;
+        unsafe {
+            kaukslini_compare(
+                first.as_ptr(),
+                first.len(),
+                second.as_ptr(),
+                second.len(),
+                list.as_mut_ptr(),
+                list.len(),
+            )
         }
     }
 }

@@ -14,6 +14,7 @@ const CASES: &[(&str, usize)] = &[
     ("q05", 182),
     ("q06", 209),
     ("q07", 59),
+    ("q08", 84),
 ];
 
 /// The texts of document 01, from corpus/, where the program `vectors` finds them.

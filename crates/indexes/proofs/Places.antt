@@ -71,7 +71,7 @@ module _ (s t : List ℕ) (w c k m : ℕ) (x l : List ℕ) where
   stopped-end = record { here = λ e. absurd (false≢true e); past = λ e h. absurd (omega arith) }
 
   module _ (low high i : ℕ) (p : PartsAt s t w c k m x l low high) (g : i < length x) where
-    at-or-past : leastAt s l k ≤ cellNumber s t w c m (getD x i 0) → PartsAt s t w c k m x l low i
+    at-or-past : leastAt l k ≤ cellNumber s t w c m (getD x i 0) → PartsAt s t w c k m x l low i
     unfolding PartsAt
     at-or-past h d = record { inside = p d .inside; less = p d .less; more = λ j a b. omega (arith, rising-rows (cellNumber s t w c m) x i j d a b) }
 
@@ -83,7 +83,7 @@ module _ (s t : List ℕ) (w c k m : ℕ) (x l : List ℕ) where
       pub parts-less : r ≡ Less → PartsAt s t w c k m x l (i + 1) high
       unfolding PartsAt CellCompared
       parts-less e d =
-          let below : cellNumber s t w c m (getD x i 0) < leastAt s l k = compared Less e in
+          let below : cellNumber s t w c m (getD x i 0) < leastAt l k = compared Less e in
           record {
             inside = omega arith;
             less = λ j a b. omega (arith, rising-rows (cellNumber s t w c m) x j i d (omega arith) g);
@@ -96,7 +96,7 @@ module _ (s t : List ℕ) (w c k m : ℕ) (x l : List ℕ) where
 
       pub parts-more : r ≡ More → PartsAt s t w c k m x l low i
       unfolding CellCompared
-      parts-more e = let above : leastAt s l k + 18446744073709551616 ≤ cellNumber s t w c m (getD x i 0) = compared More e in at-or-past (omega arith)
+      parts-more e = let above : leastAt l k + 18446744073709551616 ≤ cellNumber s t w c m (getD x i 0) = compared More e in at-or-past (omega arith)
 
       pub stopped-same : r ≡ Same → Stopped s t w c k m x l i true
       stopped-same e = record { here = λ _. (g, compared Same e); past = λ f. absurd (false≢true (sym f)) }
@@ -111,7 +111,7 @@ module _ (s t : List ℕ) (w c k m : ℕ) (x l : List ℕ) where
 -- the place for a name and the key 0 is the name's rank
 pub ends-ranks : (s t : List ℕ) (w c m : ℕ) (x l : List ℕ) (p : Spot) → Ends s t w c 0 m x l p → Ranks s t w c m x l (p .at)
 unfolding PartsAt Ranks nameRank
-ends-ranks s t w c m x l p h n d b = parts-rank (cellNumber s t w c m) x (leastAt s l 0) (p .at) (h .parts (d .rising))
+ends-ranks s t w c m x l p h n d b = parts-rank (cellNumber s t w c m) x (leastAt l 0) (p .at) (h .parts (d .rising))
 
 -- no cell stands before those with an empty name
 part-none : (s : List ℕ) (at : ℕ) → partOf s at 0 ≡ []
@@ -133,16 +133,16 @@ least-row s t w c m i = by (pairOf [] 0) (rowPair s t w c m i) (least-pair s t w
     by : (v p : ℕ) → v ≤ p → v * 18446744073709551616 ≤ p * 18446744073709551616 + i
     by v p h = omega arith
 
-least-cell : (s t : List ℕ) (w c m v : ℕ) → leastAt s [] 0 ≤ cellNumber s t w c m v
+least-cell : (s t : List ℕ) (w c m v : ℕ) → leastAt [] 0 ≤ cellNumber s t w c m v
 unfolding leastAt cellNumber summaryOf
-least-cell s t w c m v = by (v / 65536 * span s) (rowCell s t w c m (v % 65536)) (zero-mul (span s)) (least-row s t w c m (v % 65536))
+least-cell s t w c m v = by (v / 65536 * span) (rowCell s t w c m (v % 65536)) (zero-mul (span)) (least-row s t w c m (v % 65536))
   where
-    by : (p q : ℕ) → 0 * span s ≡ 0 → leastOf [] 0 ≤ q → 0 * span s + leastOf [] 0 ≤ p + q
+    by : (p q : ℕ) → 0 * span ≡ 0 → leastOf [] 0 ≤ q → 0 * span + leastOf [] 0 ≤ p + q
     by p q z h = omega (arith, z)
 
 pub rank-none : (s t : List ℕ) (w c m : ℕ) (x : List ℕ) (at len : ℕ) → len ≡ 0 → Ranks s t w c m x (partOf s at len) 0
 unfolding Ranks nameRank
 rank-none s t w c m x at len z n d h =
-    subst (λ (l : List ℕ). 0 ≡ rank (map (cellNumber s t w c m) x) (leastAt s l 0)) (sym (ap (partOf s at) z ∙ part-none s at))
-    (parts-rank (cellNumber s t w c m) x (leastAt s [] 0) 0
+    subst (λ (l : List ℕ). 0 ≡ rank (map (cellNumber s t w c m) x) (leastAt l 0)) (sym (ap (partOf s at) z ∙ part-none s at))
+    (parts-rank (cellNumber s t w c m) x (leastAt [] 0) 0
     (record { inside = omega arith; less = λ i a b. absurd (omega arith); more = λ i a b. least-cell s t w c m (getD x i 0) }))

@@ -1,7 +1,7 @@
 -- From the equations of the two calls to the rules themselves. Assumes nothing.
 use mathlib.Core.Path.{_≡_, refl, sym, _∙_, ap, subst}
 use mathlib.Core.List.{List}
-use mathlib.Core.Bool.{Bool, true, false, false≢true}
+use mathlib.Core.Bool.{Bool, true, false}
 use mathlib.Core.Option.{Option, none, some}
 use Prim.Native.Nat.{ℕ, _≤_}
 use native.Mathlib.Omega.{arith}
@@ -10,15 +10,14 @@ use lib.Dec.{eqb, ltb}
 use borrow.Author.Tests.{eqb-true, eqb-false, ltb-true, ltb-false, le-ltb}
 use Rattle.grammar.specs.Grammar.{Derivation}
 use Rattle.grammar.specs.Terminals.{tokens}
-use Rattle.grammar.specs.Demand.{Covered}
 use Rattle.meaning.specs.Syntax.{File}
 use Rattle.meaning.specs.Words.{choose}
 use Rattle.meaning.specs.Actions.{syntax}
 use Rattle.meaning.specs.Answers.{Answer, Tables, accepted, refused, answer}
-use Rattle.meaning.specs.Reading.{Parsed, parsed, not-parsed, parse, answer-of, reading, Answers, too-long, not-grammar, meant}
-use Rattle.meaning.specs.Rules.{TheAnswer}
+use Rattle.meaning.specs.Reading.{Parsed, parsed, not-parsed, parse, answer-of, reading, Answers}
 use Rattle.meaning.proofs.Found.{parse-derived}
-use Rattle.meaning.proofs.Whole.{the-answer, one-answer}
+use Rattle.meaning.proofs.Whole.{one-answer}
+use Rattle.reading.proofs.Derived.{derived, the-refusal, the-accepted, derivation-of, own-file}
 use Rattle.masks.specs.Masks.{breaking, Plan, planned, full, plan}
 use Rattle.masks.specs.Events.{plannable, masks-of, tasks-of}
 use Rattle.masks.specs.Results.{named-first, check-file, check-answered, check-parsed, check, Made, left, made, plan-file, plan-answered, plan-parsed, plan-text, PlansText}
@@ -69,48 +68,18 @@ module _ (f : File) (l : List ℕ) where
 
 -- A text -----------------------------------------------------------------------------------------------------------------------------------
 
--- An accepted text has a derivation.
-record Derived (s : List ℕ) : Type 0 where
-  covered : Covered s
-  derivation : Derivation (tokens s)
-
-derived : {s : List ℕ} {a : Answer} (t : Tables) → Answers s a → a ≡ accepted t → Derived s
-derived t (too-long h) e = absurd (let z : _≡_ {A = Bool} false true = cc in false≢true z)
-derived t (not-grammar a h n k) e = absurd (let z : _≡_ {A = Bool} false true = cc in false≢true z)
-derived t (meant w d) e = record { covered = w; derivation = d }
-
-same-file : {f g : File} → _≡_ {A = Parsed} (parsed f) (parsed g) → f ≡ g
-same-file e = cc
-
 module _ (s : List ℕ) where
-  the-refusal : (n q : ℕ) → reading s ≡ refused n q → TheAnswer s (refused n q)
-  the-refusal n q e = subst (TheAnswer s) e (the-answer s)
-
-  module _ (f : File) (e : parse s ≡ parsed f) (t : Tables) (h : answer f ≡ accepted t) where
-    reads : reading s ≡ accepted t
-    unfolding reading answer-of
-    reads = ap answer-of e ∙ h
-
-    the-accepted : TheAnswer s (accepted t)
-    the-accepted = subst (TheAnswer s) reads (the-answer s)
-
-    derivation-of : Derived s
-    derivation-of = derived t (the-accepted .given) refl
-
-    own-file : (d : Derivation (tokens s)) → f ≡ syntax s (d .tree)
-    own-file d = same-file (sym e ∙ parse-derived s (derivation-of .covered) d)
-
   module _ (l : List ℕ) where
     check-answer : (f : File) → parse s ≡ parsed f → (a : Answer) → answer f ≡ a → ChecksByRules s l (check-answered a f l)
     unfolding check-answered reading answer-of
-    check-answer f e (refused n q) h = rules.ChecksByRules.refuses n q (the-refusal n q (ap answer-of e ∙ h)) refl
+    check-answer f e (refused n q) h = rules.ChecksByRules.refuses n q (the-refusal s n q (ap answer-of e ∙ h)) refl
     check-answer f e (accepted t) h =
-        rules.ChecksByRules.judges t (the-accepted f e t h) (derivation-of f e t h .derivation) (λ d. subst (λ (g : File). Verdict g l (check-file f l)) (own-file f e t h d) (verdict f l))
+        rules.ChecksByRules.judges t (the-accepted s f e t h) (derivation-of s f e t h .derivation) (λ d. subst (λ (g : File). Verdict g l (check-file f l)) (own-file s f e t h d) (verdict f l))
 
     check-parse : (x : Parsed) → parse s ≡ x → ChecksByRules s l (check-parsed x l)
     unfolding check-parsed reading answer-of
     check-parse (parsed f) e = check-answer f e (answer f) refl
-    check-parse (not-parsed n q) e = rules.ChecksByRules.refuses n q (the-refusal n q (ap answer-of e)) refl
+    check-parse (not-parsed n q) e = rules.ChecksByRules.refuses n q (the-refusal s n q (ap answer-of e)) refl
 
     check-by-rules : ChecksByRules s l (check s l)
     unfolding check
@@ -121,15 +90,15 @@ module _ (s : List ℕ) where
 
     plan-answer : (f : File) → parse s ≡ parsed f → (a : Answer) → answer f ≡ a → ByRules (plan-answered a f l)
     unfolding plan-answered left reading answer-of
-    plan-answer f e (refused n q) h = rules.PlansByRules.refuses n q (the-refusal n q (ap answer-of e ∙ h)) refl refl
+    plan-answer f e (refused n q) h = rules.PlansByRules.refuses n q (the-refusal s n q (ap answer-of e ∙ h)) refl refl
     plan-answer f e (accepted t) h =
-        rules.PlansByRules.judges t (the-accepted f e t h) (derivation-of f e t h .derivation)
-        (λ d. subst (λ (g : File). Outcome g l (plan-file f l .list) (plan-file f l .result)) (own-file f e t h d) (outcome f l))
+        rules.PlansByRules.judges t (the-accepted s f e t h) (derivation-of s f e t h .derivation)
+        (λ d. subst (λ (g : File). Outcome g l (plan-file f l .list) (plan-file f l .result)) (own-file s f e t h d) (outcome f l))
 
     plan-parse : (x : Parsed) → parse s ≡ x → ByRules (plan-parsed x l)
     unfolding plan-parsed left reading answer-of
     plan-parse (parsed f) e = plan-answer f e (answer f) refl
-    plan-parse (not-parsed n q) e = rules.PlansByRules.refuses n q (the-refusal n q (ap answer-of e)) refl refl
+    plan-parse (not-parsed n q) e = rules.PlansByRules.refuses n q (the-refusal s n q (ap answer-of e)) refl refl
 
     plan-by-rules : ByRules (plan-text s l)
     unfolding plan-text

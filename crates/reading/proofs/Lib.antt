@@ -7,3 +7,4 @@ pub mod Lending
 pub mod Spans
 pub mod Demand
 pub mod ByRules
+pub mod Derived

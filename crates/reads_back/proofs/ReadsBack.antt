@@ -18,14 +18,14 @@ use Rattle.meaning.specs.Applying.{ObjectRow}
 use Rattle.meaning.specs.Edges.{worked-tables}
 use Rattle.meaning.proofs.Edges.{edges-hold}
 use Rattle.meaning.specs.Answers.{Tables, Answer, accepted, tables, answer}
-use Rattle.meaning.specs.Reading.{Answers, too-long, not-grammar, meant, reading, normal-text}
-use Rattle.meaning.proofs.Found.{reading-derived, normal-derived}
+use Rattle.meaning.specs.Reading.{Answers, too-long, not-grammar, meant, parsed, parse, reading, normal-text}
+use Rattle.meaning.proofs.Found.{parse-derived, reading-derived, normal-derived}
 use Rattle.meaning.specs.Rules.{TheAnswer, TheNormalText}
 use Rattle.meaning.proofs.Whole.{answers, one-answer, the-answer, the-normal-text}
-use Rattle.meaning.proofs.Unplaced.{each-append, application-unplaced}
+use Rattle.meaning.proofs.Unplaced.{unplaced, each-append, application-unplaced}
 use Rattle.meaning.proofs.UnplacedFaults.{SameAnswer, both-accept, both-refuse, answer-unplaced}
 use Rattle.reads_back.specs.ReadsBack.{bare, words-of, ranges-of, AllStated, ReadsBack, TextsReadBack}
-use Rattle.reads_back.proofs.Restated.{plain-word, version-words, application-words, Said, ShallowWords}
+use Rattle.reads_back.proofs.Restated.{restated-file, plain-word, version-words, application-words, Said, ShallowWords}
 use Rattle.reads_back.proofs.SayingAlone.{tokens-alone, number-alone}
 use Rattle.reads_back.proofs.SayingOffsets.{Copied}
 use Rattle.reads_back.proofs.SayingTokens.{NormalTokens, normal-tokens}
@@ -169,6 +169,20 @@ module _ (s : List ℕ) (w : Covered s) (d : Derivation (tokens s)) (n : List �
     own-normal : normal-text n ≡ n
     unfolding normal-derivation
     own-normal = normal-derived n normal-covered normal-derivation ∙ normal-again
+
+-- The syntax of a normal text.
+pub record NormalFile (n : List ℕ) (f : File) : Type 0 where
+  pub file : File
+  pub parses : parse n ≡ parsed file
+  pub restates : unplaced file ≡ restated-file f
+
+pub normal-file : (s : List ℕ) → Covered s → (d : Derivation (tokens s)) (n : List ℕ) → n ≡ normal s (syntax s (d .tree)) → length n ≤ 65535 → NormalFile n (syntax s (d .tree))
+unfolding normal-derivation
+normal-file s w d n e h = record {
+  file = syntax n (normal-tree s w d n e h .tree);
+  parses = parse-derived n (normal-covered s w d n e h) (normal-derivation s w d n e h);
+  restates = normal-tree s w d n e h .syntax-is;
+}
 
 by-derivation : {s : List ℕ} {a : Answer} (t : Tables) → Answers s a → a ≡ accepted t → length (normal-text s) ≤ 65535 → ReadsBack s t (normal-text s)
 by-derivation t (too-long k) e h = absurd (let z : _≡_ {A = Bool} false true = cc in false≢true z)

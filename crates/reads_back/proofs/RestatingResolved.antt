@@ -13,13 +13,13 @@ use Rattle.meaning.specs.Words.{choose, alike, among}
 use Rattle.meaning.specs.Scopes.{sort-of, under, names}
 use Rattle.meaning.specs.Defining.{defined-in}
 use Rattle.meaning.specs.Judging.{taken}
-use Rattle.meaning.specs.Resolving.{Taken, Resolved, resolved, valued, take-value, entries, default-entry, resolve, resolve-under, how-many-values}
+use Rattle.meaning.specs.Resolving.{Value, number, truth, auto, string, float, enumerator, object, Taken, Resolved, resolved, valued, take-value, entries, default-entry, resolve, resolve-under, how-many-values}
 use Rattle.meaning.specs.Normal.{written}
 use Rattle.meaning.proofs.Unplaced.{unplaced-word}
 use Rattle.meaning.proofs.Unders.{resolves-under}
-use Rattle.reads_back.proofs.Restated.{restated, brace-after}
+use Rattle.reads_back.proofs.Restated.{restated-word, restated, brace-after}
 use Rattle.reads_back.proofs.SameWords.{neither, alike-bytes, bytes-alike, alike-turned, among-append, defined-append, defined-bytes, among-behind, Stated, stated-none, stated-more, stated-one}
-use Rattle.reads_back.proofs.SameValues.{SameTaken, Same, same-end, same-more}
+use Rattle.reads_back.proofs.SameValues.{float-in, SameTaken, Same, same-end, same-more}
 use Rattle.reads_back.proofs.RestatingScopes.{Takes, Settled, settled, none-of, one-of, More, again, no-more-of}
 use Rattle.reads_back.proofs.RestatingValues.{SameObjects, value-word, written-kept, under-kept, value-kept}
 
@@ -131,6 +131,17 @@ one-then : (front : Statements) (x : Statement) (inside rest : Statements) → t
 unfolding one-more then
 one-then front x inside rest = sym (then-assoc front (state x inside done) rest)
 
+-- A float that is written keeps its amount.
+float-kept : (v : Value) (t : Word) → float-in v (restated-word v t) ≡ float-in v t
+unfolding float-in restated-word unplaced-word
+float-kept (number n) t = refl
+float-kept (truth b) t = refl
+float-kept auto t = refl
+float-kept string t = refl
+float-kept float t = refl
+float-kept (enumerator e) t = refl
+float-kept (object o) t = refl
+
 module _ {os os′ : List Object} (same-objects : SameObjects os os′) where
   same-taken : {d : Definition} {vs : Values} {t : Word} {x : Taken} → Takes os d vs t x → SameTaken (take-value true os′ d vs (value-word os d vs t)) x
   unfolding take-value value-word
@@ -141,6 +152,7 @@ module _ {os os′ : List Object} (same-objects : SameObjects os os′) where
         definition = refl;
         value = v;
         writes = ap (λ x. written x (value-word os d vs t)) v ∙ written-kept (valued (sort-of (t .class)) os d vs t) t;
+        floats = ap (λ x. float-in x (value-word os d vs t)) v ∙ float-kept (valued (sort-of (t .class)) os d vs t) t;
       })
 
   -- The entry that the statement of a value gives.

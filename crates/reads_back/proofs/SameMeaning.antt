@@ -157,6 +157,7 @@ pub record MeansSame (f : File) (t : Tables) : Type 0 where
   pub same : bare back ≡ bare t
   pub one-part : each (λ (r : ObjectRow). r .parts) (back .objects) ≡ each (λ (r : ObjectRow). 1) (back .objects)
   pub names : names-of (restated-file f) ≡ names-of f
+  pub values : SameAll (all-values (kept-file f) (kept-file f .objects)) (all-values f (f .objects))
   pub lines : application-lines (restated-file f) (all-values (restated-file f) (restated-file f .objects)) ≡ application-lines f (all-values f (f .objects))
 
 -- An accepted syntax with plain definitions.
@@ -177,6 +178,7 @@ same-of f t mg c l p e =
       same = bare-unplaced (tables g rs) ∙ tables-kept f s ∙ ap bare (n .tables-are);
       one-part = alone-rows (f .objects) (all-values f (f .objects)) 0;
       names = ap names-of (sym (unplaced-kept f)) ∙ names-unplaced g ∙ names-kept f s;
+      values = values-kept f s;
       lines = ap (λ z. application-lines z (all-values z (z .objects))) (sym (unplaced-kept f)) ∙ application-unplaced g ∙ lines-kept f s;
     }
 

@@ -4,19 +4,31 @@ use mathlib.Core.List.{List, [], _∷_, _++_}
 use mathlib.Core.Bool.{true, false}
 use Prim.Native.Nat.{ℕ, suc, _+_}
 use Rattle.token.specs.Words.{bytesOf}
-use Rattle.meaning.specs.Syntax.{absent}
-use Rattle.meaning.specs.Resolving.{Taken, Resolved, end, resolved, Owner, of-object, of-value, ValueRow, value-row, how-many-values, value-rows, all-value-rows, how-many-in-all}
+use Rattle.meaning.specs.Syntax.{Num, Word, absent}
+use Rattle.meaning.specs.Actions.{zero-num}
+use Rattle.meaning.specs.Resolving.{Value, number, truth, auto, string, float, enumerator, object, Taken, Resolved, end, resolved, Owner, of-object, of-value, ValueRow, value-row, how-many-values, value-rows, all-value-rows, how-many-in-all}
 use Rattle.meaning.specs.Normal.{written, closed, lines}
 use Rattle.meaning.specs.Places.{each, unplaced-value-row}
 use Rattle.meaning.proofs.Unplaced.{each-append}
 use Rattle.reads_back.specs.ReadsBack.{bare-value-row, AllStated}
 
--- The same definition and value, written alike; the first is stated.
+-- The float by which a value counts: that of its word, where it is a float.
+unfoldable pub float-in : Value → Word → Num
+float-in (number n) t = zero-num
+float-in (truth b) t = zero-num
+float-in auto t = zero-num
+float-in string t = zero-num
+float-in float t = t .float
+float-in (enumerator e) t = zero-num
+float-in (object o) t = zero-num
+
+-- The same definition and value, written alike, a float of the same amount; the first is stated.
 pub record SameTaken (t u : Taken) : Type 0 where
   pub states : t .stated ≡ true
   pub definition : t .definition ≡ u .definition
   pub value : t .value ≡ u .value
   pub writes : written (t .value) (t .word) ≡ written (u .value) (u .word)
+  pub floats : float-in (t .value) (t .word) ≡ float-in (u .value) (u .word)
 
 -- The same values in the same order, with the same under them.
 pub data Same : Resolved → Resolved → Type 0 where

@@ -7,6 +7,7 @@ use token::Cursor;
 use token::Sort;
 use token::Step;
 
+mod compares;
 mod events;
 mod heads;
 mod reads;

@@ -1,0 +1,3 @@
+-- The theorems. Assumes nothing.
+pub mod Accepted
+pub mod Normals

@@ -1,0 +1,1 @@
+// Theorems on two releases compared; no code.
