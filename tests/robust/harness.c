@@ -1,5 +1,6 @@
-// The calls kaukslini_read, kaukslini_write, kaukslini_heading, kaukslini_check_masks, kaukslini_plan_masks and kaukslini_compare on each text of
-// standard input, in guarded memory, and checks of what is promised of the lent memory and of the answer, whatever the text is. docs/ROBUSTNESS.md says what is checked.
+// The calls kaukslini_read, kaukslini_write, kaukslini_heading, kaukslini_check_masks, kaukslini_plan_masks, kaukslini_compare and
+// kaukslini_check_standard on each text of standard input, in guarded memory, and checks of what is promised of the lent memory and of the
+// answer, whatever the text is. docs/ROBUSTNESS.md says what is checked.
 //
 //   harness [FOLDER]      the texts of standard input, as robust_texts writes them; a text that fails is saved in FOLDER
 //   harness --self-test   faults are planted around the calls; each must be reported
@@ -55,6 +56,7 @@ struct compared {
 
 struct compared kaukslini_compare(const uint8_t *first, size_t first_length, const uint8_t *second, size_t second_length, struct difference *list,
                                   size_t list_length);
+uint8_t kaukslini_check_standard(const uint8_t *text, size_t text_length, size_t *told, size_t told_length);
 
 // ---- The rooms, as docs/TABLES.md fixes them ----
 
@@ -442,6 +444,8 @@ enum fault {
     WRITES_THE_SECOND,
     READS_BESIDE_THE_SECOND,
     DECIDES_BY_A_RECORD,
+    ATTRIBUTE_36,
+    WRONG_AND_NO_NUMBER,
 };
 
 static enum fault planted = NO_FAULT;
@@ -450,6 +454,7 @@ static unsigned spoil(const struct slices *s, bool is_write, unsigned number);
 static unsigned spoil_heading(const struct slices *s, unsigned number);
 static unsigned spoil_masks(uint64_t *list, size_t entries, size_t *cells, unsigned answer);
 static void spoil_compare(const uint8_t *other, size_t length, bool is_swapped, struct difference *records, size_t entries, struct compared *answer);
+static unsigned spoil_standard(size_t *cells, unsigned answer);
 
 // What the text's first reading answered, and what was written first: all other calls must agree.
 static struct {
@@ -888,6 +893,50 @@ static void keep_earlier(void) {
     memcpy(earlier.bytes, now.bytes, now.length);
 }
 
+// What `check_standard` answers.
+enum { STANDARD_REFUSED, NOTHING_WRONG, SOMETHING_WRONG, TOLD_OF_STANDARD = 3, STANDARD_ATTRIBUTES = 36 };
+
+// The question of the standard attributes, whose first answer is kept.
+static bool try_standard(const char *name, unsigned *answer, size_t *kept) {
+    now.call = name;
+    lend(&told, now.side, (TOLD_OF_STANDARD + 1) * CELL);
+    fill(&told);
+    size_t *cells = (size_t *)(void *)lent(&told);
+    unsigned long errors = memcheck_errors();
+    shut_for_call(&text, false);
+    shut_for_call(&told, true);
+    unsigned found = kaukslini_check_standard(lent(&text), text.length, cells, TOLD_OF_STANDARD + 1);
+    if (planted != NO_FAULT)
+        found = spoil_standard(cells, found);
+    calls++;
+    if (!is_set(&told, TOLD_OF_STANDARD * CELL))
+        return fail("memory that the call is to set is not set");
+    if (memcheck_errors() != errors)
+        return fail("valgrind reports %lu errors", memcheck_errors() - errors);
+    if ((found == STANDARD_REFUSED) != (first.number != 0))
+        return fail("the standard's answer is %u, and the text's number %u", found, first.number);
+    if (*answer == SOMETHING_WRONG + 1) {
+        *answer = found;
+        for (size_t i = 0; i < TOLD_OF_STANDARD; i++)
+            kept[i] = told_at(i);
+    }
+    if (found != *answer)
+        return fail("the standard's answer is %u, and was %u", found, *answer);
+    if (found == STANDARD_REFUSED && (kept[0] != first.number || kept[1] != first.told[0] || kept[2] != 0))
+        return fail("the standard tells %zu at %zu, and the text is refused with %u at %zu", kept[0], kept[1], first.number, first.told[0]);
+    if (found == NOTHING_WRONG && (kept[0] != 0 || kept[1] != 0 || kept[2] != 0))
+        return fail("nothing is wrong, and %zu at %zu is told", kept[0], kept[1]);
+    if (found == SOMETHING_WRONG && ((kept[0] != 25 && kept[0] != 26) || kept[1] == 0 || kept[1] >= now.length || kept[2] >= STANDARD_ATTRIBUTES))
+        return fail("%zu at %zu of %zu is told for attribute %zu", kept[0], kept[1], now.length, kept[2]);
+    return told_holds(kept, TOLD_OF_STANDARD);
+}
+
+static bool try_standards(void) {
+    unsigned answer = SOMETHING_WRONG + 1;
+    size_t kept[TOLD_OF_STANDARD];
+    return try_standard("standard", &answer, kept) && try_standard("standard again", &answer, kept);
+}
+
 static bool keep_written(void) {
     first.length = told_at(1);
     if (first.length == 0 || first.length > output->length)
@@ -978,7 +1027,7 @@ static bool try_side(enum side side, bool longer) {
         return false;
     if (!try_heading("heading", TOLD_BY_HEADING + 1) || !try_heading("heading again", now.index % MOST_TOLD))
         return false;
-    if (!try_masks() || !try_compare())
+    if (!try_masks() || !try_compare() || !try_standards())
         return false;
 
     unsigned number;
@@ -1376,6 +1425,9 @@ static NOT_INSTRUMENTED unsigned spoil(const struct slices *s, bool is_write, un
     case READS_BESIDE_THE_SECOND:
     case DECIDES_BY_A_RECORD:
         break; // of `compare`
+    case ATTRIBUTE_36:
+    case WRONG_AND_NO_NUMBER:
+        break; // of the standard
     }
     return number;
 }
@@ -1501,6 +1553,17 @@ static NOT_INSTRUMENTED void spoil_compare(const uint8_t *other, size_t length, 
     }
 }
 
+// The same of `check_standard`.
+static NOT_INSTRUMENTED unsigned spoil_standard(size_t *cells, unsigned answer) {
+    if (answer != SOMETHING_WRONG)
+        return answer;
+    if (planted == ATTRIBUTE_36)
+        cells[2] = STANDARD_ATTRIBUTES;
+    if (planted == WRONG_AND_NO_NUMBER)
+        cells[0] = 24;
+    return answer;
+}
+
 // Each fault, a part of what is to be reported, and whether it takes valgrind to see it.
 static const struct {
     const char *name, *reported;
@@ -1572,6 +1635,8 @@ static const struct {
     [WRITES_THE_SECOND] = {"the second text is written", "a write to read-only memory: second text", false},
     [READS_BESIDE_THE_SECOND] = {"a byte past the second text is read", "valgrind reports 1 errors", true},
     [DECIDES_BY_A_RECORD] = {"a record that was not set decides", "valgrind reports 1 errors", true},
+    [ATTRIBUTE_36] = {"attribute 36 is told", "is told for attribute 36", false},
+    [WRONG_AND_NO_NUMBER] = {"24 is told for a standard attribute", "24 at", false},
 };
 
 enum { FAULT_COUNT = sizeof FAULTS / sizeof *FAULTS };

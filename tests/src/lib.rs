@@ -23,6 +23,7 @@ pub mod ranges;
 pub mod release_texts;
 pub mod robust;
 pub mod sorts;
+pub mod standard;
 pub mod tables;
 pub mod tempting;
 pub mod texts;

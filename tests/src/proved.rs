@@ -13,6 +13,7 @@ pub fn is_linked(layer: &str) -> bool {
         "heading" => cfg!(proved_heading),
         "masks" => cfg!(proved_masks),
         "releases" => cfg!(proved_releases),
+        "standard" => cfg!(proved_standard),
         _ => panic!("no layer {layer}"),
     };
     let mut asked = env!("KAUKSLINI_LAYERS_ASKED").split(',');
@@ -384,6 +385,53 @@ pub mod releases {
                 list.as_mut_ptr(),
                 list.len(),
             )
+        }
+    }
+}
+
+#[cfg(proved_standard)]
+pub mod standard {
+    use crate::meaning::Refusal;
+    use crate::standard::{Checked, Finding};
+
+    extern "C" {
+        fn kaukslini_check_standard(
+            text: *const u8,
+            text_length: usize,
+            told: *mut usize,
+            told_length: usize,
+        ) -> u8;
+    }
+
+    /// Noise before a call: what is not told stays.
+    const NOISE: usize = 0x7777;
+
+    /// What the proved call answers.
+    pub fn check_standard(text: &[u8]) -> Checked {
+        let mut told = [NOISE; 4];
+        let answer = unsafe {
+            kaukslini_check_standard(text.as_ptr(), text.len(), told.as_mut_ptr(), told.len())
+        };
+        assert_eq!(told[3], NOISE);
+        let number = u8::try_from(told[0]).expect("a number");
+        match answer {
+            0 => {
+                assert_eq!(told[2], 0);
+                Checked::Refused(Refusal {
+                    number,
+                    place: told[1],
+                })
+            }
+            1 => {
+                assert_eq!(told[..3], [0, 0, 0]);
+                Checked::NothingWrong
+            }
+            2 => Checked::Wrong(Finding {
+                place: told[1],
+                number,
+                attribute: told[2],
+            }),
+            _ => panic!("no answer {answer}"),
         }
     }
 }

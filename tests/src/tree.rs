@@ -45,6 +45,7 @@ pub struct File {
     pub version: Part,
     /// From the word IMPLEMENTATION through its semicolon.
     pub implementation: Part,
+    pub implementation_name: Part,
     pub specs: Vec<Spec>,
     pub cpu_name: Part,
     pub objects: Vec<Object>,
@@ -190,7 +191,7 @@ impl Reader {
         let version = self.part();
         self.end();
         let first = self.part();
-        self.skip(1);
+        let implementation_name = self.part();
         let (specs, _) = self.braces(Self::spec);
         let implementation = first.through(self.end());
         self.skip(1);
@@ -199,6 +200,7 @@ impl Reader {
         File {
             version,
             implementation,
+            implementation_name,
             specs,
             cpu_name,
             objects,

@@ -15,6 +15,7 @@ const CASES: &[(&str, usize)] = &[
     ("q06", 209),
     ("q07", 59),
     ("q08", 84),
+    ("q09", 127),
 ];
 
 /// The texts of document 01, from corpus/, where the program `vectors` finds them.

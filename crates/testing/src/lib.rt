@@ -12,6 +12,7 @@ mod events;
 mod heads;
 mod reads;
 mod stage;
+mod standards;
 mod writes;
 
 // The number of a token's sort.

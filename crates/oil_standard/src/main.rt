@@ -1,0 +1,99 @@
+// Holds the implementation of the text on standard input to the standard attributes of 000, section 5.2, and writes `nothing wrong`, or what is
+// wrong: line, column, 25 or 26, the path of the attribute by its names, and what that means. A text that is not accepted takes `refused`, the
+// refusal's number and its place, parted by tabs.
+use libc::STDIN_FILENO;
+use libc::STDOUT_FILENO;
+use rows::cells;
+use standard::Checked;
+use standard::constants;
+
+fn write(bytes: &[u8]) {
+    io::write_all(STDOUT_FILENO, bytes);
+}
+
+fn write_number(n: usize) {
+    io::print_decimal(STDOUT_FILENO, n as u64);
+}
+
+fn write_refusal(number: u8, place: usize) {
+    write(b"refused\t");
+    write_number(number as usize);
+    write(b"\t");
+    write_number(place);
+    write(b"\n");
+}
+
+// The word of a kind that has standard attributes, by its number.
+fn write_kind(number: usize) {
+    match number {
+        0 => write(b"OS"),
+        2 => write(b"TASK"),
+        3 => write(b"ISR"),
+        4 => write(b"COUNTER"),
+        5 => write(b"ALARM"),
+        6 => write(b"RESOURCE"),
+        _ => write(b"EVENT"),
+    }
+}
+
+// The word of the standard's text whose place and length stand in two cells of the row of an attribute.
+fn write_word(attribute: usize, column: usize, column2: usize) {
+    let section = constants::section_text();
+    let rows = constants::section_rows();
+    let at = cells::cell_of(&rows, 14, attribute, column);
+    let length = cells::cell_of(&rows, 14, attribute, column2);
+    write(token::part(&section, at, length));
+}
+
+// The path of a standard attribute, as ALARM.ACTION=SETEVENT.EVENT.
+fn write_path(attribute: usize) {
+    let rows = constants::section_rows();
+    write_kind(cells::cell_of(&rows, 14, attribute, 0));
+    if cells::cell_of(&rows, 14, attribute, 8) != 0 {
+        write(b".");
+        write_word(attribute, 7, 8);
+        write(b"=");
+        write_word(attribute, 9, 10);
+    }
+    write(b".");
+    write_word(attribute, 1, 2);
+}
+
+fn write_meaning(number: u8) {
+    if number == 25 {
+        write(b": the standard attribute is not defined in the scope of this word\n");
+        return;
+    }
+    write(
+        b": the attribute differs from the standard in type, list mark, values, WITH_AUTO or default\n",
+    );
+}
+
+fn write_wrong(text: &[u8], number: u8, place: usize, attribute: usize) {
+    let mut lines = [0; 160];
+    let told = explaining::explain(text, place, &mut lines);
+    write(b"line ");
+    write_number(told.line);
+    write(b", column ");
+    write_number(told.column);
+    write(b": ");
+    write_number(number as usize);
+    write(b", ");
+    write_path(attribute);
+    write_meaning(number);
+}
+
+fn write_answer(text: &[u8], answer: Checked) {
+    match answer {
+        Checked::Refused(number, place) => write_refusal(number, place),
+        Checked::NothingWrong => write(b"nothing wrong\n"),
+        Checked::Wrong(number, place, attribute) => write_wrong(text, number, place, attribute),
+    }
+}
+
+fn main() {
+    let mut buffer = io::large_buffer();
+    let n = io::read_full(STDIN_FILENO, &mut buffer);
+    let answer = standard::check_standard(&buffer[..n]);
+    write_answer(&buffer[..n], answer);
+}

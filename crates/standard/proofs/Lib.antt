@@ -1,0 +1,26 @@
+-- Examples and theorems of the standard attributes. Assumes nothing.
+pub mod Everything
+pub mod Sections
+pub mod Examples
+pub mod Members
+pub mod Ways
+pub mod Theorem
+pub mod Named
+pub mod Valued
+pub mod Stepping
+pub mod Numbers
+pub mod Agreeing
+pub mod Shaped
+pub mod Spanning
+pub mod Choosing
+pub mod Defaulting
+pub mod Owning
+pub mod Widening
+pub mod Differing
+pub mod Sound
+pub mod Telling
+pub mod Heading
+pub mod ByRules
+pub mod Accepting
+pub mod Ranged
+pub mod Sooner
