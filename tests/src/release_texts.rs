@@ -507,6 +507,17 @@ fn heavy_objects() -> Vec<Heavy> {
             ],
         ),
         heavy_pair(
+            "15 objects in the other order, 130 values each",
+            &format!(
+                "TASK{{{}}};",
+                each(130, |number| format!("UINT32 d{number}=1;"))
+            ),
+            [
+                each(15, |number| task(format!("t{number}"))),
+                each(15, |number| task(format!("t{}", 14 - number))),
+            ],
+        ),
+        heavy_pair(
             "254 objects each, none in both",
             &specs,
             [

@@ -1,11 +1,10 @@
 -- The laws of what is copied out of the tables. Assumes nothing.
 use mathlib.Core.Path.{_≡_, refl, sym, _∙_, ap, ap₂, subst}
 use mathlib.Core.List.{List, [], _∷_}
-use mathlib.Core.Bool.{Bool, true, false}
-use Prim.Native.Nat.{ℕ, zero, suc, _+_, _-_, _*_, _<_, _≤_, min}
+use mathlib.Core.Bool.{Bool}
+use Prim.Native.Nat.{ℕ, suc, _+_, _-_, _*_, _<_, _≤_, min}
 use native.Mathlib.Omega.{arith}
 use native.Mathlib.Decide.{ℕ-discrete}
-use lib.Dec.{eqb}
 use lib.ListN.{length, getD, set, drop, replicate, length-set, length-replicate, getD-replicate, drop-of-length-le}
 use lib.Seq.{getD-set-same, getD-set-other, set-out, drop-cons}
 use borrow.Author.Tests.{eq-eqb, ne-eqb}
@@ -15,7 +14,7 @@ use Rattle.rows.specs.Table.{cellOf}
 use Rattle.rows.specs.Search.{rowName}
 use Rattle.comparing.specs.Naming.{name-number}
 use Rattle.comparing.specs.Partners.{place-from}
-use Rattle.comparing.specs.Columns.{Holds, name-of, owner-cell, owner-from, name-from, step-cell, step-of-row, back-number, put-back, Backs}
+use Rattle.comparing.specs.Columns.{Holds, name-of, owner-cell, owner-from, name-cell, name-from, step-cell, step-of-row, back-number, put-back, Backs}
 
 -- Cells that hold what f gives -------------------------------------------------------------------------------------------------------------
 
@@ -65,9 +64,9 @@ pub owner-is : (v : List ℕ) (r i a : ℕ) → a ≡ owner-cell v r (r + i) →
 unfolding owner-from
 owner-is v r i a e = e
 
-pub name-is : (v h : List ℕ) (r i j a : ℕ) → j ≡ cellOf v 9 (r + i) 0 → a ≡ getD h j 0 → a ≡ name-from v h r i
-unfolding name-from
-name-is v h r i j a e f = f ∙ ap (λ (k : ℕ). getD h k 0) e
+pub name-is : (v h : List ℕ) (r i j a b : ℕ) → j ≡ cellOf v 9 (r + i) 0 → a ≡ getD h j 0 → b ≡ min a 1048576 → b ≡ name-from v h r i
+unfolding name-from name-cell
+name-is v h r i j a b e f g = g ∙ ap (λ (k : ℕ). min k 1048576) (f ∙ ap (λ (k : ℕ). getD h k 0) e)
 
 pub step-found : (d v : List ℕ) (i name p j k m a b : ℕ) → j ≡ cellOf v 9 i 0 → k ≡ cellOf d 13 j 6 → m ≡ min k 1 → a ≡ min name 1048576 → b ≡ min p 65536
     → (a * 2 + m) * 2048 + b ≡ step-cell d v i name p

@@ -26,6 +26,7 @@ pub mod Seconds
 pub mod Countings
 pub mod Laid
 pub mod Reckoning
+pub mod Sought
 pub mod Owned
 pub mod Alikes
 pub mod Paths

@@ -1,16 +1,21 @@
 -- The columns of an object's rows and the records of a pair, as the code makes them. Assumes nothing.
-use mathlib.Core.Path.{_≡_, refl, sym, _∙_, ap, ap₂, subst}
-use mathlib.Core.List.{List, [], _∷_, _++_}
-use Prim.Native.Nat.{ℕ, zero, suc, _+_, _<_, _≤_}
+use mathlib.Core.Path.{_≡_, sym, _∙_, ap, ap₂, subst}
+use mathlib.Core.List.{List, []}
+use mathlib.Core.Bool.{Bool, true, false}
+use Prim.Native.Nat.{ℕ, suc, _+_, _-_, _*_, _<_, _≤_, min}
+use lib.Dec.{eqb}
+use Rattle.token.specs.Find.{pick}
+use Rattle.rows.specs.Table.{cellOf}
+use Rattle.comparing.specs.Ordering.{Bounded, Orderable}
 use native.Mathlib.Omega.{arith}
-use lib.ListN.{length, getD, drop}
-use Rattle.comparing.specs.Partners.{positions, partners, place-from}
+use lib.ListN.{length, getD}
+use Rattle.comparing.specs.Partners.{positions, partners}
 use Rattle.comparing.specs.declared.Difference.{Difference}
 use Rattle.comparing.specs.declared.Found.{Found}
 use Rattle.comparing.specs.Gathered.{ToldAlso, first-records, second-records, pair-partners, pair-records}
-use Rattle.comparing.specs.Columns.{Holds, owner-cell, owner-from, name-from, step-of-row, cells-of, owners-of, name-cell, names-of, places-of, steps-of-rows, back-number, back-cell, backs-of, Backs, Columned, Roomy, Coupled, Partnering}
+use Rattle.comparing.specs.Columns.{Holds, owner-cell, owner-from, name-from, step-cell, step-of-row, cells-of, owners-of, name-cell, names-of, places-of, steps-of-rows, back-cell, backs-of, Backs, Columned, Roomy, Coupled, Partnering}
 use Rattle.comparing.proofs.Pairing.{also-then}
-use Rattle.comparing.proofs.Rowed.{cells-are}
+use Rattle.comparing.proofs.Rowed.{cells-are, cells-at, cells-length}
 
 nought : (j : ℕ) → j ≡ 0 + j
 nought j = omega arith
@@ -20,7 +25,7 @@ unfolding owners-of owner-from
 owners-held v r n os a l = cells-are (owner-cell v r) r os (λ j g. a .cell j g) ∙ ap (cells-of (owner-cell v r) r) l
 
 names-held : (v h : List ℕ) (r n : ℕ) (ns : List ℕ) → Holds (name-from v h r) (length ns) ns → length ns ≡ n → ns ≡ names-of v h r n
-unfolding names-of name-from name-cell
+unfolding names-of name-from
 names-held v h r n ns a l = cells-are (name-cell v h) r ns (λ j g. a .cell j g) ∙ ap (cells-of (name-cell v h) r) l
 
 pub columned : (d v h : List ℕ) (r n : ℕ) (os ns ps ss : List ℕ) → Holds (owner-from v r) (length os) os → Holds (name-from v h r) (length ns) ns → ps ≡ positions [] [] [] os ns
@@ -61,18 +66,71 @@ paired s d v h s2 d2 v2 h2 os ss os2 ss2 r n m r2 n2 x y f q a b e t =
     let p2 = b .steps in
     subst (λ (z : List Difference). ToldAlso f z q) (λ i. pair-records s d v s2 d2 v2 (partners (o i) (p i) [] (o2 i) (p2 i)) r (e i) r2 x y) t
 
+-- Bounds ------------------------------------------------------------------------------------------------------------------------------------
+
+owner-most : (v : List ℕ) (r i : ℕ) → owner-cell v r i < 131072
+unfolding owner-cell
+owner-most v r i = by (eqb (cellOf v 9 i 1) 0) (min (cellOf v 9 i 2) 65536 - r) (omega arith)
+  where
+    by : (b : Bool) (m : ℕ) → m ≤ 65536 → pick b 0 (suc m) < 131072
+    by true m h = omega arith
+    by false m h = omega (arith, h)
+
+name-most : (v h : List ℕ) (i : ℕ) → name-cell v h i < 8589934592
+unfolding name-cell
+name-most v h i = omega arith
+
+step-most : (d v names places : List ℕ) (r i : ℕ) → step-of-row d v names places r i < 8589934592
+unfolding step-of-row step-cell
+step-most d v names places r i = by (min (getD names i 0) 1048576) (min (cellOf d 13 (cellOf v 9 (r + i) 0) 6) 1) (min (getD places i 0) 65536) (omega arith) (omega arith) (omega arith)
+  where
+    by : (a b c : ℕ) → a ≤ 1048576 → b ≤ 1 → c ≤ 65536 → (a * 2 + b) * 2048 + c < 8589934592
+    by a b c h g k = omega (arith, h, g, k)
+
+pub bounded-names : (v h : List ℕ) (r : ℕ) (os ns : List ℕ) → Holds (owner-from v r) (length os) os → Holds (name-from v h r) (length ns) ns → length ns ≡ length os → length os ≤ 2048 → Bounded os ns
+unfolding owner-from name-from
+bounded-names v h r os ns a b e f =
+    record {
+      long = e;
+      few = f;
+      first = λ i l. subst (λ (m : ℕ). m < 131072) (sym (a .cell i l)) (owner-most v r (r + i));
+      second = λ i l. subst (λ (m : ℕ). m < 8589934592) (sym (b .cell i (omega (arith, e, l)))) (name-most v h (r + i));
+    }
+
+pub bounded-steps : (d v h : List ℕ) (r n : ℕ) (os ss : List ℕ) → Columned d v h r n os ss → n ≤ 2048 → Bounded os ss
+unfolding owners-of steps-of-rows
+bounded-steps d v h r n os ss c f =
+    let o = ap length (c .owners) ∙ cells-length (owner-cell v r) r n in
+    let s = ap length (c .steps) ∙ cells-length (step-of-row d v (names-of v h r n) (places-of v h r n) r) 0 n in
+    record {
+      long = s ∙ sym o;
+      few = omega (arith, o, f);
+      first = λ i l.
+          subst (λ (m : ℕ). m < 131072) (sym (ap (λ (k : List ℕ). getD k i 0) (c .owners) ∙ cells-at (owner-cell v r) r n i (omega (arith, o, l)))) (owner-most v r (r + i));
+      second = λ i l.
+          subst (λ (m : ℕ). m < 8589934592)
+          (sym (ap (λ (k : List ℕ). getD k i 0) (c .steps) ∙ cells-at (step-of-row d v (names-of v h r n) (places-of v h r n) r) 0 n i (omega (arith, o, l))))
+          (step-most d v (names-of v h r n) (places-of v h r n) r (0 + i));
+    }
+
 -- Room for the columns -----------------------------------------------------------------------------------------------------------------------
 
 pub roomy-of : (r : ℕ) (a e b c : List ℕ) → Coupled r a e → length a ≡ length b → length a ≡ length c → Roomy r a b c e
-roomy-of r a e b c h p q = let f = h .few in let o = h .owners in record { few = omega (arith, f, o); names = sym p; places = sym q; steps = h .steps }
+roomy-of r a e b c h p q = record { few = h .few; owners = h .owners; names = sym p; places = sym q; steps = h .steps }
 
-pub coupling : (r r2 : ℕ) (a e a2 e2 ps back : List ℕ) → Coupled r a e → Coupled r2 a2 e2 → length a2 ≡ length ps → length a ≡ length back → Partnering r r2 a e a2 e2 ps back
-coupling r r2 a e a2 e2 ps back h k p q =
+pub orderable-of : (n : ℕ) (x room : List ℕ) → n ≡ length x → n ≤ 2 * length room + 1 → Orderable n x room
+orderable-of n x room e h = record { cells = sym e; beside = h }
+
+pub orderable-kept : (n m : ℕ) (x room : List ℕ) → Orderable n x room → m ≡ n → Orderable m x room
+orderable-kept n m x room h e = subst (λ (k : ℕ). Orderable k x room) (sym e) h
+
+pub coupling : (r r2 : ℕ) (a e a2 e2 ps back : List ℕ) → Coupled r a e → Coupled r2 a2 e2 → Bounded a e → length a2 ≡ length ps → length a ≡ length back → Partnering r r2 a e a2 e2 ps back
+coupling r r2 a e a2 e2 ps back h k b p q =
     let f = h .few in
     let o = h .owners in
     let f2 = k .few in
     let o2 = k .owners in
-    record { steps = h .steps; steps2 = k .steps; partners = sym p; first = omega (arith, f, o, q); second = omega (arith, f2, o2, p) }
+    record { steps = h .steps; steps2 = k .steps; bounded = b; partners = sym p; first = omega (arith, f, o, q); second = omega (arith, f2, o2, p) }
 
 pub coupled-kept : (r : ℕ) (a e b c : List ℕ) → Coupled r a e → length b ≡ length a → length c ≡ length e → Coupled r b c
 coupled-kept r a e b c h p q = let o = h .owners in let l = h .steps in record { few = h .few; owners = omega (arith, o, p); steps = omega (arith, l, p, q) }

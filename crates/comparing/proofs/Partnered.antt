@@ -3,14 +3,15 @@ use mathlib.Core.Path.{_≡_, refl, sym, _∙_, ap, ap₂, subst}
 use mathlib.Core.List.{List, [], _∷_, _++_}
 use mathlib.Core.Bool.{Bool, true, false, false≢true}
 use mathlib.Core.Logic.{_⊎_, inl, inr}
-use Prim.Native.Nat.{ℕ, zero, suc, _+_, _-_, _<_, _≤_}
+use Prim.Native.Nat.{ℕ, zero, suc, _+_, _<_, _≤_}
 use native.Mathlib.Omega.{arith}
 use native.Mathlib.Nat.{not-suc-le-zero, le-of-suc-le-suc}
 use lib.Dec.{eqb}
-use lib.ListN.{length, getD, take, drop}
-use lib.Seq.{getD-take, take-append-seam, getD-append-seam, take-take, length-take-le}
+use lib.ListN.{length, getD, take}
+use lib.Seq.{getD-take, take-append-seam, getD-append-seam, take-take}
 use borrow.Author.Tests.{eq-eqb, eqb-true}
 use Rattle.token.specs.Find.{pick, both}
+use Rattle.token.proofs.Bytes.{not-true}
 use Rattle.comparing.specs.Contents.{Step, Path, same-step, same-path}
 use Rattle.comparing.specs.Partners.{step-from, under, partner-of, partners}
 use Rattle.comparing.proofs.Alikes.{both-true, both-of, path-flip, path-third}
@@ -53,6 +54,12 @@ pub record Has (os ss : List ℕ) (o t j : ℕ) : Type 0 where
   pub inside : j < length os
   pub owner : getD os j 0 ≡ o
   pub step : getD ss j 0 ≡ t
+
+-- A row without them.
+pub not-has : (os ss : List ℕ) (o t j : ℕ) → j < length os → (Has os ss o t j → ⊥) → both (eqb (getD os j 0) o) (eqb (getD ss j 0) t) ≡ false
+not-has os ss o t j h n =
+    not-true (both (eqb (getD os j 0) o) (eqb (getD ss j 0) t))
+    (λ e. let b = both-true (eqb (getD os j 0) o) (eqb (getD ss j 0) t) e in n (record { inside = h; owner = eqb-true (getD os j 0) o (b .0); step = eqb-true (getD ss j 0) t (b .1) }))
 
 -- What was found, counted from i.
 pub record Hit (i : ℕ) (os ss : List ℕ) (o t v : ℕ) : Type 0 where

@@ -2,19 +2,28 @@
 use mathlib.Core.Path.{_≡_, refl, sym, _∙_, ap, ap₂, subst}
 use mathlib.Core.List.{List, [], _∷_, _++_}
 use mathlib.Core.Bool.{Bool, true, false}
-use Prim.Native.Nat.{ℕ, zero, suc, _+_, _-_, _<_, _≤_}
+use Prim.Native.Nat.{ℕ, zero, suc, _+_, _<_, _≤_}
 use native.Mathlib.Omega.{arith}
 use native.Mathlib.Numerals.{add-one}
-use native.Mathlib.Nat.{not-suc-le-zero, le-of-suc-le-suc}
+use native.Mathlib.Nat.{not-suc-le-zero}
 use lib.Dec.{eqb}
 use lib.ListN.{length, getD, take, drop, set, length-set, length-append, drop-of-length-le}
-use lib.Seq.{drop-cons, take-suc, take-all, take-suc-set, length-take-le, getD-take, getD-append-seam}
+use lib.Seq.{drop-cons, take-suc, take-all, take-suc-set, length-take-le, getD-append-seam}
 use Rattle.token.specs.Find.{pick, both}
-use Rattle.comparing.specs.Partners.{last-position, positions, Small, Ready}
-use mathlib.Core.Logic.{_⊎_, ⊎-elim}
-use borrow.Author.Tests.{ne-eqb}
+use Rattle.comparing.specs.Partners.{last-position, positions, Small}
+use Rattle.comparing.proofs.Alikes.{both-of}
+use Rattle.comparing.proofs.Partnered.{Has, not-has}
+use native.Mathlib.Decide.{ℕ-discrete}
+use mathlib.Core.Logic.{⊎-elim}
+use borrow.Author.Tests.{eq-eqb, ne-eqb}
 use Rattle.comparing.proofs.Positioned.{last-snoc}
 use Rattle.comparing.proofs.Rooting.{below-or, getD-left}
+
+-- Rows with these owners and names, of which the first have these positions.
+pub record Ready (os ns ps : List ℕ) : Type 0 where
+  pub names : length ns ≡ length os
+  pub inside : length ps ≤ length os
+  pub small : Small ps
 
 module _ (os ns ps : List ℕ) (o a : ℕ) where
   -- What the first i rows give.
@@ -28,26 +37,38 @@ module _ (os ns ps : List ℕ) (o a : ℕ) where
       ∙ last-snoc (take i os) (take i ns) (take i ps) (getD os i 0) (getD ns i 0) (getD ps i 0) o a
       (length-take-le i ns (omega (arith, g)) ∙ sym (length-take-le i os (omega (arith, h)))) (length-take-le i ps (omega (arith, l)) ∙ sym (length-take-le i os (omega (arith, h))))
 
-  pub front-stop : (i : ℕ) → 0 < i → i ≤ length ps → Ready os ns ps → both (eqb (getD os (i - 1) 0) o) (eqb (getD ns (i - 1) 0) a) ≡ true → front i ≡ getD ps (i - 1) 0 + 1
-  front-stop i h g r e =
-      let z : suc (i - 1) ≡ i = omega (arith, h) in
-      let x = r .names in
-      let y = r .inside in
-      ap front (sym z) ∙ opened (i - 1) (omega (arith, h, g, y)) (omega (arith, h, g, y, x)) (omega (arith, h, g))
-      ∙ ap (λ (c : Bool). pick c (suc (getD ps (i - 1) 0)) (front (i - 1))) e ∙ sym (add-one (getD ps (i - 1) 0))
-
-  pub front-more : (i : ℕ) → 0 < i → i ≤ length ps → Ready os ns ps → both (eqb (getD os (i - 1) 0) o) (eqb (getD ns (i - 1) 0) a) ≡ false → front i ≡ front (i - 1)
-  front-more i h g r e =
-      let z : suc (i - 1) ≡ i = omega (arith, h) in
-      let x = r .names in
-      let y = r .inside in
-      ap front (sym z) ∙ opened (i - 1) (omega (arith, h, g, y)) (omega (arith, h, g, y, x)) (omega (arith, h, g))
-      ∙ ap (λ (c : Bool). pick c (suc (getD ps (i - 1) 0)) (front (i - 1))) e
-
   pub front-none : (i : ℕ) → i ≤ 0 → front i ≡ 0
   unfolding front last-position
   front-none zero h = refl
   front-none (suc i) h = absurd (not-suc-le-zero h)
+
+  test-has : (j : ℕ) → Has os ns o a j → both (eqb (getD os j 0) o) (eqb (getD ns j 0) a) ≡ true
+  test-has j h = both-of (eqb (getD os j 0) o) (eqb (getD ns j 0) a) (eq-eqb (getD os j 0) o (h .owner)) (eq-eqb (getD ns j 0) a (h .step))
+
+  -- One row more.
+  front-suc : (i : ℕ) → suc i ≤ length ps → Ready os ns ps → front (suc i) ≡ pick (both (eqb (getD os i 0) o) (eqb (getD ns i 0) a)) (suc (getD ps i 0)) (front i)
+  front-suc i h r = let x = r .names in let y = r .inside in opened i (omega (arith, h, y)) (omega (arith, h, y, x)) (omega (arith, h))
+
+  inside-os : (i : ℕ) → suc i ≤ length ps → Ready os ns ps → i < length os
+  inside-os i h r = let y = r .inside in omega (arith, h, y)
+
+  pub front-empty : (i : ℕ) → i ≤ length ps → Ready os ns ps → ((j : ℕ) → j < i → Has os ns o a j → ⊥) → front i ≡ 0
+  front-empty zero h r f = front-none 0 (omega arith)
+  front-empty (suc i) h r f =
+      front-suc i h r
+      ∙ ap (λ (c : Bool). pick c (suc (getD ps i 0)) (front i)) (not-has os ns o a i (inside-os i h r) (f i (omega arith)))
+      ∙ front-empty i (omega (arith, h)) r (λ j l q. f j (omega (arith, l)) q)
+
+  pub front-last : (i j : ℕ) → i ≤ length ps → Ready os ns ps → j < i → Has os ns o a j → ((m : ℕ) → j < m → m < i → Has os ns o a m → ⊥) → front i ≡ suc (getD ps j 0)
+  front-last zero j h r l q f = absurd (not-suc-le-zero l)
+  front-last (suc i) j h r l q f = by (ℕ-discrete i j) (λ z. front-last i j (omega (arith, h)) r z q (λ m u v w. f m u (omega (arith, v)) w))
+    where
+      by : Dec (i ≡ j) → (j < i → front i ≡ suc (getD ps j 0)) → front (suc i) ≡ suc (getD ps j 0)
+      by (yes e) k =
+          front-suc i h r ∙ ap (λ (c : Bool). pick c (suc (getD ps i 0)) (front i)) (test-has i (subst (Has os ns o a) (sym e) q)) ∙ ap (λ (u : ℕ). suc (getD ps u 0)) e
+      by (no n) k =
+          let z : j < i = omega (arith, n, l) in
+          front-suc i h r ∙ ap (λ (c : Bool). pick c (suc (getD ps i 0)) (front i)) (not-has os ns o a i (inside-os i h r) (f i z (omega arith))) ∙ k z
 
   pub front-all : front (length ps) ≡ last-position (take (length ps) os) (take (length ps) ns) ps o a
   unfolding front
@@ -92,12 +113,19 @@ pub record Reckon (os ns out : List ℕ) (i : ℕ) : Type 0 where
 pub reckon-start : (os ns out : List ℕ) → length ns ≡ length os → length out ≡ length os → Reckon os ns out 0
 reckon-start os ns out a b = record { names = a; room = b; inside = omega arith; small = λ i h. absurd (not-suc-le-zero h); left = refl }
 
-pub reckon-ready : (os ns out : List ℕ) (i : ℕ) → Reckon os ns out i → Ready os ns (take i out)
-reckon-ready os ns out i r =
+pub reckon-few : (os ns out : List ℕ) (i : ℕ) → Reckon os ns out i → length os ≤ 2048 → Small (take i out) × (length (take i out) ≤ 2048)
+reckon-few os ns out i r h =
     let a = r .room in
     let b = r .inside in
     let l = length-take-le i out (omega (arith, a, b)) in
-    record { names = r .names; inside = omega (arith, l, b); small = r .small }
+    (r .small, omega (arith, l, b, h))
+
+pub reckon-inside : (os ns out : List ℕ) (i : ℕ) → Reckon os ns out i → length (take i out) ≤ length os
+reckon-inside os ns out i r =
+    let a = r .room in
+    let b = r .inside in
+    let l = length-take-le i out (omega (arith, a, b)) in
+    omega (arith, l, b)
 
 pub reckon-next : (os ns out : List ℕ) (i p : ℕ) → Reckon os ns out i → i < length out
     → p ≡ last-position (take (length (take i out)) os) (take (length (take i out)) ns) (take i out) (getD os i 0) (getD ns i 0) → Reckon os ns (set out i p) (i + 1)

@@ -1,11 +1,10 @@
 -- What is copied out of the tables is what the matching is asked of, where an object's values stand in them. Assumes nothing.
-use mathlib.Core.Path.{_≡_, refl, sym, _∙_, ap, ap₂, subst}
+use mathlib.Core.Path.{_≡_, refl, sym, _∙_, ap, ap₂}
 use mathlib.Core.List.{List, [], _∷_, _++_}
 use mathlib.Core.Bool.{Bool, true, false}
 use Prim.Native.Nat.{ℕ, zero, suc, _+_, _-_, _*_, _<_, _≤_, min}
 use native.Mathlib.Omega.{arith}
 use native.Mathlib.Nat.{not-suc-le-zero, le-of-suc-le-suc}
-use lib.Dec.{eqb}
 use lib.ListN.{length, getD}
 use lib.Seq.{ext-getD}
 use borrow.Author.Tests.{eq-eqb, ne-eqb}
@@ -17,13 +16,12 @@ use Rattle.meaning.specs.Resolving.{Taken, Resolved, end, resolved, Owner, of-o
 use Rattle.meaning.specs.Cells.{owner-sort, owner-row}
 use Rattle.comparing.specs.Contents.{Step, step-to}
 use Rattle.comparing.specs.Partners.{positions}
-use Rattle.comparing.proofs.Steps.{owner-numbers, name-numbers, steps-of, positions-in, step-number, step-numbers, AllNames, names-end, names-more, Numbering}
-use Rattle.comparing.specs.Naming.{name-number}
-use Rattle.comparing.specs.Columns.{Holds, name-of, owner-cell, step-cell, step-of-row, cells-of, owners-of, name-cell, names-of, places-of, steps-of-rows}
+use Rattle.comparing.proofs.Steps.{owner-numbers, name-numbers, steps-of, positions-in, step-number, step-numbers, AllNames, Numbering}
+use Rattle.comparing.specs.Columns.{owner-cell, step-cell, step-of-row, cells-of, owners-of, name-cell, names-of, places-of, steps-of-rows}
 use Rattle.comparing.specs.Standing.{RowIs, TreeAt, no-rows, some-rows}
 use Rattle.comparing.proofs.Owned.{owner-number}
 use Rattle.comparing.proofs.Rooting.{steps-length}
-use Rattle.comparing.proofs.Codings.{Fit, AllFit, all-fit, fit-at, number-at, numbers-length}
+use Rattle.comparing.proofs.Codings.{all-fit, fit-at, number-at, numbers-length}
 use Rattle.comparing.proofs.Positioned.{object-positions}
 
 -- Lists of cells ---------------------------------------------------------------------------------------------------------------------------
@@ -102,10 +100,13 @@ module _ (s d v : List ℕ) (many : ℕ) where
   owners-are x n k a = let e : n ≡ n + 0 = omega arith in tree-owners n 0 x n (of-object k) e a
 
   -- THE NAMES, where h has the numbers of the definitions' names by c.
-  module _ (c : List ℕ → ℕ) (h : List ℕ) (g : (i : ℕ) → i < many → getD h i 0 ≡ c (rowName s d 13 2 i)) where
+  module _ (c : List ℕ → ℕ) (h : List ℕ) (g : (i : ℕ) → i < many → getD h i 0 ≡ c (rowName s d 13 2 i)) (low : (l : List ℕ) → c l ≤ 1048576) where
     name-read : (i : ℕ) (o : Owner) (t : Taken) → RowIs s d v many i o t → name-cell v h i ≡ c (t .definition .name .bytes)
     unfolding name-cell
-    name-read i o t r = ap (λ (j : ℕ). getD h j 0) (r .definition) ∙ g (t .definition .row) (r .known) ∙ ap c (r .name)
+    name-read i o t r =
+        let few = low (t .definition .name .bytes) in
+        let least : min (c (t .definition .name .bytes)) 1048576 ≡ c (t .definition .name .bytes) = omega (arith, few) in
+        ap (λ (k : ℕ). min k 1048576) (ap (λ (j : ℕ). getD h j 0) (r .definition) ∙ g (t .definition .row) (r .known) ∙ ap c (r .name)) ∙ least
 
     pub names-are : (x : Resolved) (n : ℕ) (o : Owner) → TreeAt s d v many n o x → names-of v h n (how-many-values x) ≡ name-numbers (λ w. c (w .bytes)) x
     unfolding names-of
@@ -177,7 +178,7 @@ module _ (s d v : List ℕ) (many : ℕ) (N : Word → Type 0) (c : List ℕ →
       inside i l = let e = cells-length (step-of-row d v (names-of v h n (how-many-values x)) (places-of v h n (how-many-values x)) n) 0 (how-many-values x) in omega (arith, e, l)
 
       places : places-of v h n (how-many-values x) ≡ positions-in (steps-of x [])
-      places = ap₂ (λ (y u : List ℕ). positions [] [] [] y u) (owners-are s d v many x n k a) (names-are s d v many c h g x n (of-object k) a) ∙ object-positions N cw num x w
+      places = ap₂ (λ (y u : List ℕ). positions [] [] [] y u) (owners-are s d v many x n k a) (names-are s d v many c h g low x n (of-object k) a) ∙ object-positions N cw num x w
 
       at : (i : ℕ) → i < how-many-values x → getD (steps-of-rows d v h n (how-many-values x)) i 0 ≡ getD (step-numbers cw (steps-of x [])) i 0
       at i l =
@@ -187,7 +188,7 @@ module _ (s d v : List ℕ) (many : ℕ) (N : Word → Type 0) (c : List ℕ →
           let pos = fit .position in
           let high = low (st .name .bytes) in
           let name : getD (names-of v h n (how-many-values x)) i 0 ≡ cw (st .name) =
-          ap (λ (y : List ℕ). getD y i 0) (names-are s d v many c h g x n (of-object k) a ∙ sym (names-numbers cw x) ∙ sym (steps-numbers (λ y. cw (y .name)) (λ t. cw (t .definition .name)) (λ t b. refl) x []))
+          ap (λ (y : List ℕ). getD y i 0) (names-are s d v many c h g low x n (of-object k) a ∙ sym (names-numbers cw x) ∙ sym (steps-numbers (λ y. cw (y .name)) (λ t. cw (t .definition .name)) (λ t b. refl) x []))
           ∙ step-cells-at (λ y. cw (y .name)) (steps-of x []) z i long in
           let place : getD (places-of v h n (how-many-values x)) i 0 ≡ st .position =
           ap (λ (y : List ℕ). getD y i 0) (places ∙ positions-cells (steps-of x [])) ∙ step-cells-at (λ y. y .position) (steps-of x []) z i long in

@@ -1,6 +1,6 @@
 -- What is copied out of the tables for the matching, row by row. Assumes nothing.
 use mathlib.Core.Path.{_≡_}
-use mathlib.Core.List.{List, [], _∷_, _++_}
+use mathlib.Core.List.{List, [], _∷_}
 use Prim.Native.Nat.{ℕ, zero, suc, _+_, _-_, _*_, _<_, _≤_, min}
 use lib.Dec.{eqb}
 use lib.ListN.{length, getD, set, drop}
@@ -9,6 +9,7 @@ use Rattle.rows.specs.Table.{cellOf}
 use Rattle.rows.specs.Search.{rowName}
 use Rattle.comparing.specs.Naming.{name-number}
 use Rattle.comparing.specs.Partners.{place-from, positions}
+use Rattle.comparing.specs.Ordering.{Bounded}
 
 -- Each of the first n cells of h is what f gives of its place.
 pub record Holds (f : ℕ → ℕ) (n : ℕ) (h : List ℕ) : Type 0 where
@@ -25,9 +26,12 @@ owner-cell v r i = pick (eqb (cellOf v 9 i 1) 0) 0 (suc (min (cellOf v 9 i 2) 65
 unfoldable pub owner-from : List ℕ → (r i : ℕ) → ℕ
 owner-from v r i = owner-cell v r (r + i)
 
--- The number of the name of row r + i, where h has those of the definitions.
+-- The number of the name of row i, where h has those of the definitions.
+unfoldable pub name-cell : (v h : List ℕ) → ℕ → ℕ
+name-cell v h i = min (getD h (cellOf v 9 i 0) 0) 1048576
+
 unfoldable pub name-from : (v h : List ℕ) → (r i : ℕ) → ℕ
-name-from v h r i = getD h (cellOf v 9 (r + i) 0) 0
+name-from v h r i = name-cell v h (r + i)
 
 -- The step of row i with this name and this position.
 unfoldable pub step-cell : (d v : List ℕ) → (i name p : ℕ) → ℕ
@@ -57,9 +61,6 @@ cells-of f i (suc n) = f i ∷ cells-of f (suc i) n
 unfoldable pub owners-of : List ℕ → (r n : ℕ) → List ℕ
 owners-of v r n = cells-of (owner-cell v r) r n
 
-unfoldable pub name-cell : (v h : List ℕ) → ℕ → ℕ
-name-cell v h i = getD h (cellOf v 9 i 0) 0
-
 unfoldable pub names-of : (v h : List ℕ) → (r n : ℕ) → List ℕ
 names-of v h r n = cells-of (name-cell v h) r n
 
@@ -81,9 +82,10 @@ pub record Columned (d v h : List ℕ) (r n : ℕ) (os ss : List ℕ) : Type 0 w
   pub owners : os ≡ owners-of v r n
   pub steps : ss ≡ steps-of-rows d v h r n
 
--- There are at most 65,536 rows to the end of n rows from row r on, and the rooms b, c and e are as long as a.
+-- At most 2,048 rows from row r on, and the rooms b, c and e are as long as a.
 pub record Roomy (r : ℕ) (a b c e : List ℕ) : Type 0 where
-  pub few : r + length a ≤ 65536
+  pub few : r ≤ 2048
+  pub owners : length a ≤ 2048
   pub names : length b ≡ length a
   pub places : length c ≡ length a
   pub steps : length e ≡ length a
@@ -98,6 +100,7 @@ pub record Coupled (r : ℕ) (a e : List ℕ) : Type 0 where
 pub record Partnering (r r2 : ℕ) (a e a2 e2 ps back : List ℕ) : Type 0 where
   pub steps : length e ≡ length a
   pub steps2 : length e2 ≡ length a2
+  pub bounded : Bounded a e
   pub partners : length ps ≡ length a2
   pub first : r + length back ≤ 65536
   pub second : r2 + length ps ≤ 65536

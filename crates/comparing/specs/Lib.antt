@@ -9,6 +9,7 @@ pub mod Gathered
 pub mod Keys
 pub mod Standing
 pub mod Naming
+pub mod Ordering
 pub mod Columns
 pub mod Objecting
 pub mod Partners

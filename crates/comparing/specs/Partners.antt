@@ -1,9 +1,7 @@
 -- Which rows of two objects' values match, by numbers: for each row its owner, 0 for the object and else one more than the owner's row, and the
 -- number of its step. Rows are counted from the object's first. Assumes nothing.
-use mathlib.Core.Path.{_≡_}
 use mathlib.Core.List.{List, [], _∷_, _++_}
-use mathlib.Core.Bool.{Bool, true, false}
-use Prim.Native.Nat.{ℕ, zero, suc, _+_, _*_, _<_, _≤_}
+use Prim.Native.Nat.{ℕ, zero, suc, _<_, _≤_}
 use lib.Dec.{eqb}
 use lib.ListN.{length, getD}
 use Rattle.token.specs.Find.{pick, both}
@@ -52,9 +50,3 @@ positions os ns ps (x ∷ xs) (y ∷ ys) = positions (os ++ (x ∷ [])) (ns ++ (
 -- Each number is at most its place: so are positions.
 abbrev pub Small : List ℕ → Type 0
 Small l = (i : ℕ) → i < length l → getD l i 0 ≤ i
-
--- Rows with these owners and names, of which the first have these positions.
-pub record Ready (os ns ps : List ℕ) : Type 0 where
-  pub names : length ns ≡ length os
-  pub inside : length ps ≤ length os
-  pub small : Small ps

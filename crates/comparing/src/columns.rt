@@ -2,53 +2,10 @@
 ghost use mathlib.Core.Path.{_≡_};
 ghost use Prim.Native.Nat.{_+_, _≤_};
 ghost use lib.ListN.{length};
-ghost use Rattle.comparing.specs.Naming.{Index};
-ghost use Rattle.comparing.specs.Columns.{Holds, name-of, owner-cell, owner-from, name-from, step-cell, step-of-row, put-back, Backs, Columned, Roomy, Coupled};
-use super::names;
+ghost use Rattle.comparing.specs.Ordering.{Orderable};
+ghost use Rattle.comparing.specs.Columns.{Holds, owner-cell, owner-from, name-from, step-cell, step-of-row, put-back, Backs, Columned, Roomy, Coupled};
 use super::positions;
 use rows::cells;
-
-// The number of the name of definition i of a text with the definitions t.
-fn name_of(
-    first: &[u8],
-    d: &[usize],
-    x: &[usize],
-    second: &[u8],
-    d2: &[usize],
-    x2: &[usize],
-    text: &[u8],
-    t: &[usize],
-    i: usize,
-) -> usize
-    requires { ⌜ Index (now first) (now d) (now x) × Index (now second) (now d2) (now x2) ⌝ }
-    ensures { λ r. ⌜ r ≡ name-of (now (first .entry)) (now (d .entry)) (now (x .entry)) (now (second .entry)) (now (d2 .entry)) (now (x2 .entry)) (now (text .entry)) (now (t .entry)) i ⌝ }
-{
-    let p = cells::cell_of(t, 13, i, 2);
-    let n = cells::cell_of(t, 13, i, 3);
-    names::name_number(first, d, x, second, d2, x2, token::part(text, p, n))
-}
-
-// Makes h the numbers of the names of the first definitions, as many as h has cells.
-pub fn number_names(
-    first: &[u8],
-    d: &[usize],
-    x: &[usize],
-    second: &[u8],
-    d2: &[usize],
-    x2: &[usize],
-    text: &[u8],
-    t: &[usize],
-    h: &mut [usize],
-)
-    requires { ⌜ Index (now first) (now d) (now x) × Index (now second) (now d2) (now x2) ⌝ }
-    ensures { λ _. ⌜ Holds (name-of (now (first .entry)) (now (d .entry)) (now (x .entry)) (now (second .entry)) (now (d2 .entry)) (now (x2 .entry)) (now (text .entry)) (now (t .entry))) (length (now (h .exit))) (now (h .exit)) ⌝ }
-{
-    let mut i = 0;
-    while i < h.len() {
-        h[i] = name_of(first, d, x, second, d2, x2, text, t, i);
-        i += 1;
-    }
-}
 
 // The owner of row i, where the object's first row is r.
 fn owner_at(v: &[usize], r: usize, i: usize) -> usize
@@ -65,7 +22,7 @@ fn owner_at(v: &[usize], r: usize, i: usize) -> usize
 }
 
 // The owners of the rows from row r on.
-pub fn copy_owners(v: &[usize], r: usize, out: &mut [usize])
+fn copy_owners(v: &[usize], r: usize, out: &mut [usize])
     requires { ⌜ r + length (now out) ≤ 65536 ⌝ }
     ensures { λ _. ⌜ Holds (owner-from (now (v .entry)) r) (length (now (out .exit))) (now (out .exit)) ⌝ }
 {
@@ -77,14 +34,14 @@ pub fn copy_owners(v: &[usize], r: usize, out: &mut [usize])
 }
 
 // The numbers of their names, where h has those of the definitions.
-pub fn copy_names(v: &[usize], h: &[usize], r: usize, out: &mut [usize])
+fn copy_names(v: &[usize], h: &[usize], r: usize, out: &mut [usize])
     requires { ⌜ r + length (now out) ≤ 65536 ⌝ }
     ensures { λ _. ⌜ Holds (name-from (now (v .entry)) (now (h .entry)) r) (length (now (out .exit))) (now (out .exit)) ⌝ }
 {
     let mut i = 0;
     while i < out.len() {
         let j = cells::cell_of(v, 9, r + i, 0);
-        out[i] = cells::get(h, j);
+        out[i] = cells::least_of(cells::get(h, j), 1048576);
         i += 1;
     }
 }
@@ -101,7 +58,7 @@ fn step_at(d: &[usize], v: &[usize], i: usize, name: usize, p: usize) -> usize
 }
 
 // The steps of the rows from row r on, with these names and positions.
-pub fn make_steps(
+fn make_steps(
     d: &[usize],
     v: &[usize],
     names: &[usize],
@@ -157,18 +114,51 @@ fn object_columns(
     names: &mut [usize],
     places: &mut [usize],
     steps: &mut [usize],
+    x: &mut [usize],
+    room: &mut [usize],
 )
-    requires { ⌜ Roomy r (now owners) (now names) (now places) (now steps) ⌝ }
+    requires { ⌜ Roomy r (now owners) (now names) (now places) (now steps) × Orderable (length (now owners)) (now x) (now room) ⌝ }
     ensures { λ _. ⌜ Columned (now (d .entry)) (now (v .entry)) (now (h .entry)) r (length (now (owners .entry))) (now (owners .exit)) (now (steps .exit)) ⌝ }
 {
     copy_owners(v, r, owners);
     copy_names(v, h, r, names);
-    positions::find_positions(owners, names, places);
+    positions::find_positions(owners, names, x, room, places);
     make_steps(d, v, names, places, r, steps);
 }
 
-// The same, with room for the names and positions of at most 2,048 rows.
-pub fn columns_of(
+// The same, with room for the names and positions of at most 128 rows.
+fn few_columns(
+    d: &[usize],
+    v: &[usize],
+    h: &[usize],
+    r: usize,
+    owners: &mut [usize],
+    steps: &mut [usize],
+)
+    requires { ⌜ Coupled r (now owners) (now steps) × (length (now owners) ≤ 128) ⌝ }
+    ensures { λ _. ⌜ Columned (now (d .entry)) (now (v .entry)) (now (h .entry)) r (length (now (owners .entry))) (now (owners .exit)) (now (steps .exit)) ⌝ }
+{
+    let n = owners.len();
+    let mut names = [0; 128];
+    let mut places = [0; 128];
+    let mut x = [0; 128];
+    let mut room = [0; 64];
+    object_columns(
+        d,
+        v,
+        h,
+        r,
+        owners,
+        &mut names[..n],
+        &mut places[..n],
+        steps,
+        &mut x[..n],
+        &mut room,
+    );
+}
+
+// The same, of at most 2,048 rows.
+fn many_columns(
     d: &[usize],
     v: &[usize],
     h: &[usize],
@@ -182,5 +172,37 @@ pub fn columns_of(
     let n = owners.len();
     let mut names = [0; 2048];
     let mut places = [0; 2048];
-    object_columns(d, v, h, r, owners, &mut names[..n], &mut places[..n], steps);
+    let mut x = [0; 2048];
+    let mut room = [0; 1024];
+    object_columns(
+        d,
+        v,
+        h,
+        r,
+        owners,
+        &mut names[..n],
+        &mut places[..n],
+        steps,
+        &mut x[..n],
+        &mut room,
+    );
+}
+
+// The same, with no more room than the rows need.
+pub fn columns_of(
+    d: &[usize],
+    v: &[usize],
+    h: &[usize],
+    r: usize,
+    owners: &mut [usize],
+    steps: &mut [usize],
+)
+    requires { ⌜ Coupled r (now owners) (now steps) ⌝ }
+    ensures { λ _. ⌜ Columned (now (d .entry)) (now (v .entry)) (now (h .entry)) r (length (now (owners .entry))) (now (owners .exit)) (now (steps .exit)) ⌝ }
+{
+    if owners.len() <= 128 {
+        few_columns(d, v, h, r, owners, steps);
+        return;
+    }
+    many_columns(d, v, h, r, owners, steps);
 }

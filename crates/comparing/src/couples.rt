@@ -5,9 +5,11 @@ ghost use Prim.Native.Nat.{_+_, _≤_};
 ghost use lib.ListN.{length};
 ghost use Rattle.comparing.specs.Partners.{partners};
 ghost use Rattle.comparing.specs.Gathered.{ToldAlso, pair-partners, pair-records};
+ghost use Rattle.comparing.specs.Ordering.{Bounded, Orderable};
 ghost use Rattle.comparing.specs.Columns.{Coupled, Partnering};
 use super::Found;
 use super::columns;
+use super::ordering;
 use super::pairs;
 use super::partners;
 
@@ -63,19 +65,122 @@ fn couple(
     r2: usize,
     owners2: &[usize],
     steps2: &[usize],
+    cells: &mut [usize],
+    room: &mut [usize],
     ps: &mut [usize],
     back: &mut [usize],
     x: usize,
     y: usize,
 ) -> Found
-    requires { ⌜ Partnering r r2 (now owners) (now steps) (now owners2) (now steps2) (now ps) (now back) ⌝ }
+    requires { ⌜ Partnering r r2 (now owners) (now steps) (now owners2) (now steps2) (now ps) (now back) × Orderable (length (now owners)) (now cells) (now room) ⌝ }
     ensures { λ q. ⌜ ToldAlso found (pair-records (now (first .entry)) (now (d .entry)) (now (v .entry)) (now (second .entry)) (now (d2 .entry)) (now (v2 .entry)) (partners (now (owners .entry)) (now (steps .entry)) [] (now (owners2 .entry)) (now (steps2 .entry))) r (length (now (back .entry))) r2 x y) q ⌝ }
 {
-    partners::find_partners(owners, steps, owners2, steps2, ps);
+    ordering::order(owners, steps, cells, room);
+    partners::find_partners(cells, owners2, steps2, ps);
     gather(found, first, d, v, r, second, d2, v2, r2, ps, back, x, y)
 }
 
-// The records of a pair, with room for the partners of at most 2,048 rows each.
+// The records of a pair, with room for the partners of at most 128 rows each.
+fn couple_few(
+    found: Found,
+    first: &[u8],
+    d: &[usize],
+    v: &[usize],
+    r: usize,
+    owners: &[usize],
+    steps: &[usize],
+    second: &[u8],
+    d2: &[usize],
+    v2: &[usize],
+    r2: usize,
+    owners2: &[usize],
+    steps2: &[usize],
+    x: usize,
+    y: usize,
+) -> Found
+    requires { ⌜ (Coupled r (now owners) (now steps) × Coupled r2 (now owners2) (now steps2)) × Bounded (now owners) (now steps) × ((length (now owners) ≤ 128) × (length (now owners2) ≤ 128)) ⌝ }
+    ensures { λ q. ⌜ ToldAlso found (pair-records (now (first .entry)) (now (d .entry)) (now (v .entry)) (now (second .entry)) (now (d2 .entry)) (now (v2 .entry)) (partners (now (owners .entry)) (now (steps .entry)) [] (now (owners2 .entry)) (now (steps2 .entry))) r (length (now (owners .entry))) r2 x y) q ⌝ }
+{
+    let n = owners.len();
+    let n2 = owners2.len();
+    let mut cells = [0; 128];
+    let mut room = [0; 64];
+    let mut ps = [0; 128];
+    let mut back = [0; 128];
+    couple(
+        found,
+        first,
+        d,
+        v,
+        r,
+        owners,
+        steps,
+        second,
+        d2,
+        v2,
+        r2,
+        owners2,
+        steps2,
+        &mut cells[..n],
+        &mut room,
+        &mut ps[..n2],
+        &mut back[..n],
+        x,
+        y,
+    )
+}
+
+// The same, of at most 2,048 rows each.
+fn couple_many(
+    found: Found,
+    first: &[u8],
+    d: &[usize],
+    v: &[usize],
+    r: usize,
+    owners: &[usize],
+    steps: &[usize],
+    second: &[u8],
+    d2: &[usize],
+    v2: &[usize],
+    r2: usize,
+    owners2: &[usize],
+    steps2: &[usize],
+    x: usize,
+    y: usize,
+) -> Found
+    requires { ⌜ (Coupled r (now owners) (now steps) × Coupled r2 (now owners2) (now steps2)) × Bounded (now owners) (now steps) ⌝ }
+    ensures { λ q. ⌜ ToldAlso found (pair-records (now (first .entry)) (now (d .entry)) (now (v .entry)) (now (second .entry)) (now (d2 .entry)) (now (v2 .entry)) (partners (now (owners .entry)) (now (steps .entry)) [] (now (owners2 .entry)) (now (steps2 .entry))) r (length (now (owners .entry))) r2 x y) q ⌝ }
+{
+    let n = owners.len();
+    let n2 = owners2.len();
+    let mut cells = [0; 2048];
+    let mut room = [0; 1024];
+    let mut ps = [0; 2048];
+    let mut back = [0; 2048];
+    couple(
+        found,
+        first,
+        d,
+        v,
+        r,
+        owners,
+        steps,
+        second,
+        d2,
+        v2,
+        r2,
+        owners2,
+        steps2,
+        &mut cells[..n],
+        &mut room,
+        &mut ps[..n2],
+        &mut back[..n],
+        x,
+        y,
+    )
+}
+
+// The same, with no more room than the rows need.
 fn couple_of(
     found: Found,
     first: &[u8],
@@ -93,14 +198,48 @@ fn couple_of(
     x: usize,
     y: usize,
 ) -> Found
-    requires { ⌜ Coupled r (now owners) (now steps) × Coupled r2 (now owners2) (now steps2) ⌝ }
+    requires { ⌜ (Coupled r (now owners) (now steps) × Coupled r2 (now owners2) (now steps2)) × Bounded (now owners) (now steps) ⌝ }
     ensures { λ q. ⌜ ToldAlso found (pair-records (now (first .entry)) (now (d .entry)) (now (v .entry)) (now (second .entry)) (now (d2 .entry)) (now (v2 .entry)) (partners (now (owners .entry)) (now (steps .entry)) [] (now (owners2 .entry)) (now (steps2 .entry))) r (length (now (owners .entry))) r2 x y) q ⌝ }
 {
-    let n = owners.len();
-    let n2 = owners2.len();
-    let mut ps = [0; 2048];
-    let mut back = [0; 2048];
-    couple(
+    if 128 < owners.len() {
+        return couple_many(
+            found,
+            first,
+            d,
+            v,
+            r,
+            owners,
+            steps,
+            second,
+            d2,
+            v2,
+            r2,
+            owners2,
+            steps2,
+            x,
+            y,
+        );
+    }
+    if 128 < owners2.len() {
+        return couple_many(
+            found,
+            first,
+            d,
+            v,
+            r,
+            owners,
+            steps,
+            second,
+            d2,
+            v2,
+            r2,
+            owners2,
+            steps2,
+            x,
+            y,
+        );
+    }
+    couple_few(
         found,
         first,
         d,
@@ -114,8 +253,6 @@ fn couple_of(
         r2,
         owners2,
         steps2,
-        &mut ps[..n2],
-        &mut back[..n],
         x,
         y,
     )
@@ -166,8 +303,54 @@ fn pair(
     )
 }
 
-// The records of the pair of the object with the n rows from row r of the first text on and that with the n2 rows from row r2 of the second on.
-pub fn pair_of(
+// The records of the pair of the object with the n rows from row r of the first text on and that with the n2 rows from row r2 of the second on. At most 128 rows each.
+fn pair_few(
+    found: Found,
+    first: &[u8],
+    d: &[usize],
+    v: &[usize],
+    h: &[usize],
+    r: usize,
+    n: usize,
+    second: &[u8],
+    d2: &[usize],
+    v2: &[usize],
+    h2: &[usize],
+    r2: usize,
+    n2: usize,
+    x: usize,
+    y: usize,
+) -> Found
+    requires { ⌜ ((n ≤ 128) × (n2 ≤ 128)) × ((r ≤ 2048) × (r2 ≤ 2048)) ⌝ }
+    ensures { λ q. ⌜ ToldAlso found (pair-records (now (first .entry)) (now (d .entry)) (now (v .entry)) (now (second .entry)) (now (d2 .entry)) (now (v2 .entry)) (pair-partners (now (d .entry)) (now (v .entry)) (now (h .entry)) r n (now (d2 .entry)) (now (v2 .entry)) (now (h2 .entry)) r2 n2) r n r2 x y) q ⌝ }
+{
+    let mut owners = [0; 128];
+    let mut steps = [0; 128];
+    let mut owners2 = [0; 128];
+    let mut steps2 = [0; 128];
+    pair(
+        found,
+        first,
+        d,
+        v,
+        h,
+        r,
+        &mut owners[..n],
+        &mut steps[..n],
+        second,
+        d2,
+        v2,
+        h2,
+        r2,
+        &mut owners2[..n2],
+        &mut steps2[..n2],
+        x,
+        y,
+    )
+}
+
+// The same, of at most 2,048 rows each.
+fn pair_many(
     found: Found,
     first: &[u8],
     d: &[usize],
@@ -207,6 +390,84 @@ pub fn pair_of(
         r2,
         &mut owners2[..n2],
         &mut steps2[..n2],
+        x,
+        y,
+    )
+}
+
+// The same, with no more room than the rows need.
+pub fn pair_of(
+    found: Found,
+    first: &[u8],
+    d: &[usize],
+    v: &[usize],
+    h: &[usize],
+    r: usize,
+    n: usize,
+    second: &[u8],
+    d2: &[usize],
+    v2: &[usize],
+    h2: &[usize],
+    r2: usize,
+    n2: usize,
+    x: usize,
+    y: usize,
+) -> Found
+    requires { ⌜ ((n ≤ 2048) × (n2 ≤ 2048)) × ((r ≤ 2048) × (r2 ≤ 2048)) ⌝ }
+    ensures { λ q. ⌜ ToldAlso found (pair-records (now (first .entry)) (now (d .entry)) (now (v .entry)) (now (second .entry)) (now (d2 .entry)) (now (v2 .entry)) (pair-partners (now (d .entry)) (now (v .entry)) (now (h .entry)) r n (now (d2 .entry)) (now (v2 .entry)) (now (h2 .entry)) r2 n2) r n r2 x y) q ⌝ }
+{
+    if 128 < n {
+        return pair_many(
+            found,
+            first,
+            d,
+            v,
+            h,
+            r,
+            n,
+            second,
+            d2,
+            v2,
+            h2,
+            r2,
+            n2,
+            x,
+            y,
+        );
+    }
+    if 128 < n2 {
+        return pair_many(
+            found,
+            first,
+            d,
+            v,
+            h,
+            r,
+            n,
+            second,
+            d2,
+            v2,
+            h2,
+            r2,
+            n2,
+            x,
+            y,
+        );
+    }
+    pair_few(
+        found,
+        first,
+        d,
+        v,
+        h,
+        r,
+        n,
+        second,
+        d2,
+        v2,
+        h2,
+        r2,
+        n2,
         x,
         y,
     )

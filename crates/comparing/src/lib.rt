@@ -5,15 +5,16 @@ ghost use lib.ListN.{length, set, getD, take};
 ghost use Rattle.comparing.specs.Lists.{overwrite};
 ghost use Rattle.comparing.specs.Records.{no-record};
 
-pub mod columns;
+mod columns;
 pub mod couples;
 pub mod gathering;
 pub mod matches_of;
 pub mod names;
-pub mod pairs;
-pub mod partners;
-pub mod positions;
-pub mod values;
+mod ordering;
+mod pairs;
+mod partners;
+mod positions;
+mod values;
 
 // A difference, by rows: each is one more than the row, or 0 where that text has none.
 #[repr(C)]
@@ -41,7 +42,7 @@ pub struct Found {
 }
 
 // Stores one record at its place in the lent list.
-pub fn put_difference(list: &mut [Difference], at: usize, d: Difference)
+fn put_difference(list: &mut [Difference], at: usize, d: Difference)
     requires { ⌜ at < length (now list) ⌝ }
     ensures { λ _. ⌜ now (list .exit) ≡ set (now (list .entry)) at d ⌝ }
 {

@@ -1,73 +1,49 @@
 // Which values of two objects match, by numbers: for each row its owner, 0 for the object and else one more than the owner's row, and the number
 // of its step. Rows are counted from the object's first.
 ghost use mathlib.Core.Path.{_≡_};
-ghost use mathlib.Core.List.{[]};
 ghost use lib.ListN.{length};
-ghost use lib.Dec.{eqb};
-ghost use Rattle.token.specs.Find.{both};
-ghost use Rattle.comparing.specs.Partners.{step-from, partner-of, partners};
+ghost use Rattle.comparing.specs.Ordering.{FindsStep, FindsPartner, FindsPartners};
+use super::ordering;
 use rows::cells;
 
-// Whether a row with the owner a and the step b has this owner and this step.
-pub fn is_step(a: usize, b: usize, owner: usize, step: usize) -> bool
-    ensures { λ r. ⌜ r ≡ both (eqb a owner) (eqb b step) ⌝ }
+// One more than the first row with this owner and this step, or 0, among the rows whose cells are x.
+fn find_step(x: &[usize], owner: usize, step: usize) -> usize
+    ensures { λ r. ⌜ FindsStep (now (x .entry)) owner step r ⌝ }
 {
-    if a != owner {
-        return false;
+    let k = ordering::key_of(owner, step);
+    let p = ordering::first_place(x, k * 2048);
+    if x.len() <= p {
+        return 0;
     }
-    b == step
-}
-
-// One more than the first row with this owner and this step, or 0.
-fn find_step(owners: &[usize], steps: &[usize], owner: usize, step: usize) -> usize
-    requires { ⌜ length (now steps) ≡ length (now owners) ⌝ }
-    ensures { λ r. ⌜ r ≡ step-from 0 (now (owners .entry)) (now (steps .entry)) owner step ⌝ }
-{
-    let mut i = 0;
-    while i < owners.len() {
-        if is_step(owners[i], steps[i], owner, step) {
-            return i + 1;
-        }
-        i += 1;
+    let c = x[p];
+    if c / 2048 != k {
+        return 0;
     }
-    0
+    c % 2048 + 1
 }
 
 // The partner of a row with this owner and this step, where the rows before it have these partners.
-fn partner_of(
-    owners: &[usize],
-    steps: &[usize],
-    before: &[usize],
-    owner: usize,
-    step: usize,
-) -> usize
-    requires { ⌜ length (now steps) ≡ length (now owners) ⌝ }
-    ensures { λ r. ⌜ r ≡ partner-of (now (owners .entry)) (now (steps .entry)) (now (before .entry)) owner step ⌝ }
+fn partner_of(x: &[usize], before: &[usize], owner: usize, step: usize) -> usize
+    ensures { λ r. ⌜ FindsPartner (now (x .entry)) (now (before .entry)) owner step r ⌝ }
 {
     if owner == 0 {
-        return find_step(owners, steps, 0, step);
+        return find_step(x, 0, step);
     }
     let p = cells::get(before, owner - 1);
     if p == 0 {
         return 0;
     }
-    find_step(owners, steps, p, step)
+    find_step(x, p, step)
 }
 
-// The partners of all rows of the second object.
-pub fn find_partners(
-    owners: &[usize],
-    steps: &[usize],
-    owners2: &[usize],
-    steps2: &[usize],
-    out: &mut [usize],
-)
-    requires { ⌜ (length (now steps) ≡ length (now owners)) × ((length (now steps2) ≡ length (now owners2)) × (length (now out) ≡ length (now owners2))) ⌝ }
-    ensures { λ _. ⌜ now (out .exit) ≡ partners (now (owners .entry)) (now (steps .entry)) [] (now (owners2 .entry)) (now (steps2 .entry)) ⌝ }
+// The partners of all rows of the second object; x has the cells of the first's.
+pub fn find_partners(x: &[usize], owners2: &[usize], steps2: &[usize], out: &mut [usize])
+    requires { ⌜ (length (now steps2) ≡ length (now owners2)) × (length (now out) ≡ length (now owners2)) ⌝ }
+    ensures { λ _. ⌜ FindsPartners (now (x .entry)) (now (owners2 .entry)) (now (steps2 .entry)) (now (out .exit)) ⌝ }
 {
     let mut i = 0;
     while i < out.len() {
-        let p = partner_of(owners, steps, &out[..i], owners2[i], steps2[i]);
+        let p = partner_of(x, &out[..i], owners2[i], steps2[i]);
         out[i] = p;
         i += 1;
     }

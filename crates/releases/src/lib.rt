@@ -9,8 +9,8 @@ ghost use Rattle.releases.specs.Promises.{Fitting, Prepares, NamedTold, 
 use comparing::Compared;
 use comparing::Difference;
 use comparing::Found;
-use comparing::columns;
 use comparing::gathering;
+use comparing::names;
 use reading::Answer;
 use rows::cells;
 
@@ -60,8 +60,8 @@ fn compare_named(
     requires { ⌜ (Index (now first) (now d) (now x) × Index (now second) (now d2) (now x2)) × ((length (now h) ≡ length (now x)) × (length (now h2) ≡ length (now x2))) ⌝ }
     ensures { λ q. ⌜ NamedTold (now (first .entry)) (now (d .entry)) (now (o .entry)) (now (v .entry)) (now (x .entry)) (now (y .entry)) (now (st .entry)) m (now (second .entry)) (now (d2 .entry)) (now (o2 .entry)) (now (v2 .entry)) (now (x2 .entry)) (now (y2 .entry)) (now (st2 .entry)) m2 q ⌝ }
 {
-    columns::number_names(first, d, x, second, d2, x2, first, d, h);
-    columns::number_names(first, d, x, second, d2, x2, second, d2, h2);
+    names::number_names(first, d, x, second, d2, x2, first, d, h);
+    names::number_names(first, d, x, second, d2, x2, second, d2, h2);
     matching::both_objects(
         gathering::nothing(),
         first,

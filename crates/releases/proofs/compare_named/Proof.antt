@@ -5,7 +5,7 @@ use Rattle.releases.proofs.compare_named.Statement.{statement}
 use Rattle.releases.proofs.compare_named.Tie as tie
 use Rattle.releases.proofs.compare_named.Reads as reads
 use Rattle.releases.proofs.compare_named.Lts as lts
-use Rattle.comparing.proofs.columns.number_names.Reads as number-names-reads
+use Rattle.comparing.proofs.names.number_names.Reads as number-names-reads
 use Rattle.comparing.proofs.gathering.nothing.Reads as nothing-reads
 use Rattle.releases.proofs.matching.both_objects.Reads as both-objects-reads
 

@@ -1,26 +1,11 @@
-use Rattle.comparing.proofs.Lined.{roomy-of}
-use Rattle.indexes.proofs.Throughs.{room-long}
+-- `comparing::columns::columns_of` meets its contract.
+-- Assumes nothing.
 use borrow.Author.Needs.{needs}
 use Rattle.comparing.proofs.columns.columns_of.Statement.{statement}
 use Rattle.comparing.proofs.columns.columns_of.Tie as tie
-use Rattle.comparing.proofs.columns.columns_of.Reads as reads
-use Rattle.comparing.proofs.columns.columns_of.Lts as lts
-use Rattle.comparing.proofs.columns.object_columns.Reads as object-columns-reads
 
-array-borrow-prefix-names : tie.Need-array-borrow-prefix-names
-array-borrow-prefix-names c = search needs
-
-slice-aggregate-object-columns : tie.Need-slice-aggregate-object-columns
-slice-aggregate-object-columns c = room-long _ _ ((c .before .before .before .before .before .before .before .pre .owners))
-
-array-borrow-prefix-places : tie.Need-array-borrow-prefix-places
-array-borrow-prefix-places c = search needs
-
-slice-aggregate-object-columns-2 : tie.Need-slice-aggregate-object-columns-2
-slice-aggregate-object-columns-2 c = room-long _ _ ((c .before .before .before .before .before .before .before .before .pre .owners))
-
-object-columns-requires : tie.Need-object-columns-requires
-object-columns-requires c κs = roomy-of _ _ _ _ _ (c .before .before .before .before .before .before .before .before .before .pre) (room-long _ _ ((c .before .before .before .before .before .before .before .before .before .pre .owners))) (room-long _ _ ((c .before .before .before .before .before .before .before .before .before .pre .owners)))
+few-columns-requires : tie.Need-few-columns-requires
+few-columns-requires c κs = ((c .before .before .before .before .before .before .before .before .pre), (c .before .before .if1 .taken))
 
 same-length : tie.Need-same-length
 same-length c = search needs
@@ -29,17 +14,29 @@ same-length-2 : tie.Need-same-length-2
 same-length-2 c = search needs
 
 returns : tie.Need-returns
-returns c = search needs
+returns c = (c .before .before .before .before .few-columns .ensures)
+
+many-columns-requires : tie.Need-many-columns-requires
+many-columns-requires c κs = (c .before .before .before .before .before .before .before .before .pre)
+
+same-length-3 : tie.Need-same-length-3
+same-length-3 c = search needs
+
+same-length-4 : tie.Need-same-length-4
+same-length-4 c = search needs
+
+returns-2 : tie.Need-returns-2
+returns-2 c = (c .before .before .before .before .many-columns .ensures)
 
 pub columns-of-spec : {M : Type 1} → statement M
 columns-of-spec =
     tie.close
     (tie.spec
-    array-borrow-prefix-names
-    slice-aggregate-object-columns
-    array-borrow-prefix-places
-    slice-aggregate-object-columns-2
-    object-columns-requires
+    few-columns-requires
     same-length
     same-length-2
-    returns)
+    returns
+    many-columns-requires
+    same-length-3
+    same-length-4
+    returns-2)

@@ -1,15 +1,13 @@
-use native.Mathlib.Omega.{arith}
-use Prim.Native.Nat.{_≤_, _+_, _-_}
+-- `comparing::columns::copy_names` meets its contract.
+-- Assumes nothing.
 use mathlib.Core.Path.{_≡_, refl}
+use Prim.Native.Nat.{_≤_, _+_, _-_}
 use lib.ListN.{length, length-set}
 use Rattle.comparing.specs.Columns.{Holds, name-from}
 use Rattle.comparing.proofs.Columned.{holds-none, holds-more, holds-all, name-is}
+use native.Mathlib.Omega.{arith}
 use Rattle.comparing.proofs.columns.copy_names.Statement.{statement}
 use Rattle.comparing.proofs.columns.copy_names.Tie as tie
-use Rattle.comparing.proofs.columns.copy_names.Reads as reads
-use Rattle.comparing.proofs.columns.copy_names.Lts as lts
-use Rattle.rows.proofs.cells.cell_of.Reads as cell-of-reads
-use Rattle.rows.proofs.cells.get.Reads as get-reads
 
 abbrev Inv-loop : tie.InvT-loop
 Inv-loop v h r out₀ i₀ out i = (i ≤ length out) × (length out ≡ length out₀) × (r + length out₀ ≤ 65536) × Holds (name-from v h r) i out
@@ -29,6 +27,9 @@ cell-of-requires c κs = tt
 get-requires : tie.Need-get-requires Inv-loop μ-loop
 get-requires c κs = tt
 
+least-of-requires : tie.Need-least-of-requires Inv-loop μ-loop
+least-of-requires c κs = tt
+
 mul-out : tie.Need-mul-out Inv-loop μ-loop
 mul-out c = omega arith
 
@@ -42,13 +43,13 @@ loop-less : tie.Need-loop-less Inv-loop μ-loop
 loop-less c = omega arith
 
 loop-again : tie.Need-loop-again Inv-loop μ-loop
-loop-again c = (simp length-set (omega arith), simp length-set ((c .before .before .before .loop .inv .1)), (c .before .before .before .loop .inv .2), holds-more _ _ _ _ ((c .before .before .before .loop .inv .3)) (omega arith) (name-is _ _ _ _ _ _ (c .before .cell-of .ensures) (c .get .ensures)))
+loop-again c = (simp length-set (omega arith), simp length-set (c .before .before .before .before .loop .inv .1), (c .before .before .before .before .loop .inv .2), holds-more _ _ _ _ (c .before .before .before .before .loop .inv .3) (omega arith) (name-is _ _ _ _ _ _ _ (c .before .before .cell-of .ensures) (c .before .get .ensures) (c .least-of .ensures)))
 
 same-length : tie.Need-same-length Inv-loop μ-loop
 same-length c = (c .before .loop .inv .1)
 
 returns : tie.Need-returns Inv-loop μ-loop
-returns c = holds-all _ _ _ ((c .before .loop .inv .3)) (omega arith)
+returns c = holds-all _ _ _ (c .before .loop .inv .3) (omega arith)
 
 pub copy-names-spec : {M : Type 1} → statement M
 copy-names-spec =
@@ -60,6 +61,7 @@ copy-names-spec =
     add-cell-of
     cell-of-requires
     get-requires
+    least-of-requires
     mul-out
     slice-write-out
     add-i

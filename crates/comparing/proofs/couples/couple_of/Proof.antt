@@ -1,37 +1,33 @@
-use Rattle.comparing.proofs.Lined.{coupling, coupled-long}
-use Rattle.indexes.proofs.Throughs.{room-long}
-use borrow.Author.Needs.{needs}
+-- `comparing::couples::couple_of` meets its contract.
+-- Assumes nothing.
 use Rattle.comparing.proofs.couples.couple_of.Statement.{statement}
 use Rattle.comparing.proofs.couples.couple_of.Tie as tie
-use Rattle.comparing.proofs.couples.couple_of.Reads as reads
-use Rattle.comparing.proofs.couples.couple_of.Lts as lts
-use Rattle.comparing.proofs.couples.couple.Reads as couple-reads
 
-array-borrow-prefix-ps : tie.Need-array-borrow-prefix-ps
-array-borrow-prefix-ps c = search needs
-
-slice-aggregate-couple : tie.Need-slice-aggregate-couple
-slice-aggregate-couple c = room-long _ _ ((c .before .before .before .before .before .before .before .before .before .before .before .pre .1 .owners))
-
-array-borrow-prefix-back : tie.Need-array-borrow-prefix-back
-array-borrow-prefix-back c = search needs
-
-slice-aggregate-couple-2 : tie.Need-slice-aggregate-couple-2
-slice-aggregate-couple-2 c = room-long _ _ ((c .before .before .before .before .before .before .before .before .before .before .before .before .pre .0 .owners))
-
-couple-requires : tie.Need-couple-requires
-couple-requires c κs = coupling _ _ _ _ _ _ _ _ ((c .before .before .before .before .before .before .before .before .before .before .before .before .pre .0)) ((c .before .before .before .before .before .before .before .before .before .before .before .before .pre .1)) (room-long _ _ ((c .before .before .before .before .before .before .before .before .before .before .before .before .pre .1 .owners))) (room-long _ _ ((c .before .before .before .before .before .before .before .before .before .before .before .before .pre .0 .owners)))
+couple-many-requires : tie.Need-couple-many-requires
+couple-many-requires c κs = (c .before .before .before .before .before .before .before .before .before .before .before .pre)
 
 returns : tie.Need-returns
-returns c = coupled-long _ _ _ _ _ _ _ _ _ _ _ _ _ _ _ (room-long _ _ ((c .before .before .before .before .before .before .before .before .before .before .before .before .before .before .before .pre .0 .owners))) (c .before .before .couple .ensures)
+returns c = (c .couple-many .ensures)
+
+couple-many-requires-2 : tie.Need-couple-many-requires-2
+couple-many-requires-2 c κs = (c .before .before .before .before .before .before .before .before .before .before .before .before .pre)
+
+returns-2 : tie.Need-returns-2
+returns-2 c = (c .couple-many2 .ensures)
+
+couple-few-requires : tie.Need-couple-few-requires
+couple-few-requires c κs = ((c .before .before .before .before .before .before .before .before .before .before .before .before .pre .0), (c .before .before .before .before .before .before .before .before .before .before .before .before .pre .1), ((c .before .if1 .left), (c .if2 .left)))
+
+returns-3 : tie.Need-returns-3
+returns-3 c = (c .couple-few .ensures)
 
 pub couple-of-spec : {M : Type 1} → statement M
 couple-of-spec =
     tie.close
     (tie.spec
-    array-borrow-prefix-ps
-    slice-aggregate-couple
-    array-borrow-prefix-back
-    slice-aggregate-couple-2
-    couple-requires
-    returns)
+    couple-many-requires
+    returns
+    couple-many-requires-2
+    returns-2
+    couple-few-requires
+    returns-3)

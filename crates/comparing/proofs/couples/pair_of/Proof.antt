@@ -1,53 +1,33 @@
-use Rattle.comparing.proofs.Lined.{coupled-room, paired-long}
-use Rattle.indexes.proofs.Throughs.{room-long}
-use borrow.Author.Needs.{needs}
+-- `comparing::couples::pair_of` meets its contract.
+-- Assumes nothing.
 use Rattle.comparing.proofs.couples.pair_of.Statement.{statement}
 use Rattle.comparing.proofs.couples.pair_of.Tie as tie
-use Rattle.comparing.proofs.couples.pair_of.Reads as reads
-use Rattle.comparing.proofs.couples.pair_of.Lts as lts
-use Rattle.comparing.proofs.couples.pair.Reads as pair-reads
 
-array-borrow-prefix-owners : tie.Need-array-borrow-prefix-owners
-array-borrow-prefix-owners c = search needs
-
-slice-aggregate-pair : tie.Need-slice-aggregate-pair
-slice-aggregate-pair c = room-long _ _ ((c .before .before .before .before .before .before .before .before .before .pre .0 .0))
-
-array-borrow-prefix-steps : tie.Need-array-borrow-prefix-steps
-array-borrow-prefix-steps c = search needs
-
-slice-aggregate-pair-2 : tie.Need-slice-aggregate-pair-2
-slice-aggregate-pair-2 c = room-long _ _ ((c .before .before .before .before .before .before .before .before .before .before .pre .0 .0))
-
-array-borrow-prefix-owners2 : tie.Need-array-borrow-prefix-owners2
-array-borrow-prefix-owners2 c = search needs
-
-slice-aggregate-pair-3 : tie.Need-slice-aggregate-pair-3
-slice-aggregate-pair-3 c = room-long _ _ ((c .before .before .before .before .before .before .before .before .before .before .before .pre .0 .1))
-
-array-borrow-prefix-steps2 : tie.Need-array-borrow-prefix-steps2
-array-borrow-prefix-steps2 c = search needs
-
-slice-aggregate-pair-4 : tie.Need-slice-aggregate-pair-4
-slice-aggregate-pair-4 c = room-long _ _ ((c .before .before .before .before .before .before .before .before .before .before .before .before .pre .0 .1))
-
-pair-requires : tie.Need-pair-requires
-pair-requires c κs = (coupled-room _ _ _ _ ((c .before .before .before .before .before .before .before .before .before .before .before .before .pre .1 .0)) ((c .before .before .before .before .before .before .before .before .before .before .before .before .pre .0 .0)) (room-long _ _ ((c .before .before .before .before .before .before .before .before .before .before .before .before .pre .0 .0))) (room-long _ _ ((c .before .before .before .before .before .before .before .before .before .before .before .before .pre .0 .0))), coupled-room _ _ _ _ ((c .before .before .before .before .before .before .before .before .before .before .before .before .pre .1 .1)) ((c .before .before .before .before .before .before .before .before .before .before .before .before .pre .0 .1)) (room-long _ _ ((c .before .before .before .before .before .before .before .before .before .before .before .before .pre .0 .1))) (room-long _ _ ((c .before .before .before .before .before .before .before .before .before .before .before .before .pre .0 .1))))
+pair-many-requires : tie.Need-pair-many-requires
+pair-many-requires c κs = (c .before .before .before .before .before .before .before .before .before .pre)
 
 returns : tie.Need-returns
-returns c = paired-long _ _ _ _ _ _ _ _ _ _ _ _ _ _ _ _ _ _ (room-long _ _ ((c .before .before .before .before .before .before .before .before .before .before .before .before .before .before .before .before .before .pre .0 .0))) (room-long _ _ ((c .before .before .before .before .before .before .before .before .before .before .before .before .before .before .before .before .before .pre .0 .1))) (c .before .before .before .before .pair .ensures)
+returns c = (c .pair-many .ensures)
+
+pair-many-requires-2 : tie.Need-pair-many-requires-2
+pair-many-requires-2 c κs = (c .before .before .before .before .before .before .before .before .before .before .pre)
+
+returns-2 : tie.Need-returns-2
+returns-2 c = (c .pair-many2 .ensures)
+
+pair-few-requires : tie.Need-pair-few-requires
+pair-few-requires c κs = (((c .before .if1 .left), (c .if2 .left)), (c .before .before .before .before .before .before .before .before .before .before .pre .1))
+
+returns-3 : tie.Need-returns-3
+returns-3 c = (c .pair-few .ensures)
 
 pub pair-of-spec : {M : Type 1} → statement M
 pair-of-spec =
     tie.close
     (tie.spec
-    array-borrow-prefix-owners
-    slice-aggregate-pair
-    array-borrow-prefix-steps
-    slice-aggregate-pair-2
-    array-borrow-prefix-owners2
-    slice-aggregate-pair-3
-    array-borrow-prefix-steps2
-    slice-aggregate-pair-4
-    pair-requires
-    returns)
+    pair-many-requires
+    returns
+    pair-many-requires-2
+    returns-2
+    pair-few-requires
+    returns-3)

@@ -4,11 +4,11 @@ use mathlib.Core.Path.{_≡_, refl}
 use lib.ListN.{length, length-set}
 use Rattle.comparing.specs.Columns.{Holds, name-of}
 use Rattle.comparing.proofs.Columned.{holds-none, holds-more, holds-all}
-use Rattle.comparing.proofs.columns.number_names.Statement.{statement}
-use Rattle.comparing.proofs.columns.number_names.Tie as tie
-use Rattle.comparing.proofs.columns.number_names.Reads as reads
-use Rattle.comparing.proofs.columns.number_names.Lts as lts
-use Rattle.comparing.proofs.columns.name_of.Reads as name-of-reads
+use Rattle.comparing.proofs.names.number_names.Statement.{statement}
+use Rattle.comparing.proofs.names.number_names.Tie as tie
+use Rattle.comparing.proofs.names.number_names.Reads as reads
+use Rattle.comparing.proofs.names.number_names.Lts as lts
+use Rattle.comparing.proofs.names.name_of.Reads as name-of-reads
 
 abbrev Inv-loop : tie.InvT-loop
 Inv-loop first d x second d2 x2 text t h₀ i₀ h i = (i ≤ length h) × (length h ≡ length h₀) × Holds (name-of first d x second d2 x2 text t) i h

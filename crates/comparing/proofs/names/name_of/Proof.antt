@@ -1,9 +1,9 @@
 use Rattle.comparing.proofs.Columned.{name-found}
 use borrow.Author.Needs.{needs}
-use Rattle.comparing.proofs.columns.name_of.Statement.{statement}
-use Rattle.comparing.proofs.columns.name_of.Tie as tie
-use Rattle.comparing.proofs.columns.name_of.Reads as reads
-use Rattle.comparing.proofs.columns.name_of.Lts as lts
+use Rattle.comparing.proofs.names.name_of.Statement.{statement}
+use Rattle.comparing.proofs.names.name_of.Tie as tie
+use Rattle.comparing.proofs.names.name_of.Reads as reads
+use Rattle.comparing.proofs.names.name_of.Lts as lts
 use Rattle.comparing.proofs.names.name_number.Reads as name-number-reads
 use Rattle.rows.proofs.cells.cell_of.Reads as cell-of-reads
 use Rattle.token.proofs.part.Reads as part-reads
