@@ -13,10 +13,10 @@ use Rattle.grammar.specs.Stage.{numberOf}
 use Rattle.grammar.specs.Readers.{answerOf}
 use Rattle.meaning.specs.Syntax.{File}
 use Rattle.meaning.specs.Kinds.{kind-number}
-use Rattle.meaning.specs.Faults.{first, Fault as Refusal}
+use Rattle.meaning.specs.Faults.{first}
 use Rattle.meaning.specs.Defining.{definition-faults}
 use Rattle.meaning.specs.Applying.{object-faults}
-use Rattle.meaning.specs.Answers.{Answer, Tables, accepted, refused, unless, answer}
+use Rattle.meaning.specs.Answers.{Answer, Tables, accepted, refused, answer}
 use Rattle.meaning.specs.Reading.{Parsed, parsed, not-parsed, parse, answer-of, reading}
 use Rattle.meaning.specs.Rules.{FullRoom, TheAnswer}
 use Rattle.meaning.proofs.Found.{parse-derived}
@@ -48,6 +48,7 @@ use Rattle.standard.proofs.Sound.{rows-are}
 use Rattle.standard.proofs.Telling.{foremost-number}
 use Rattle.reading.proofs.Derived.{derived}
 use Rattle.standard.proofs.ByRules.{checked-is}
+use Rattle.standard.proofs.Ranged.{unless-none}
 
 -- The text's own answer ------------------------------------------------------------------------------------------------------------------------
 
@@ -111,11 +112,6 @@ verdict-told none h = sym (tells-nothing (record { number = 0; place = 0; attrib
 verdict-told (some x) h = sym (tells-wrong (record { number = x .number; place = x .place; attribute = x .attribute }) (λ e. let p = h x refl in omega (arith, p, e)))
 
 -- An accepted text -------------------------------------------------------------------------------------------------------------------------------
-
-pub unless-none : (o : Option Refusal) (k : Unit {0} → Answer) (t : Tables) → unless o k ≡ accepted t → (o ≡ none) × (k tt ≡ accepted t)
-unfolding unless
-unless-none none k t e = (refl, e)
-unless-none (some x) k t e = absurd (let z : _≡_ {A = Bool} false true = cc in false≢true z)
 
 fits : (s : List ℕ) (y : Rooms) (w : Walked) (a : Arrived s y w) (t : Tables) → answer (a .file) ≡ accepted t → Fitting (a .file)
 unfolding answer

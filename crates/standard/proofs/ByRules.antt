@@ -26,18 +26,19 @@ use Rattle.standard.specs.declared.Checked.the-variants as c
 use Rattle.standard.proofs.Members.{Has, here, later, has-left, has-right, has-none, split-by, first-or}
 use Rattle.standard.proofs.Ways.{reached, due}
 use Rattle.standard.proofs.Agreeing.{agrees}
-use Rattle.standard.proofs.Theorem.{nothing-told, least-told, le-of}
+use Rattle.standard.proofs.Theorem.{AllFair, nothing-told, least-told, le-of}
+use Rattle.standard.proofs.Fairness.{all-fair}
 
 -- What is on the list is wrong, and what is wrong is on the list ---------------------------------------------------------------------------------
 
-module _ (f : File) where
+module _ (f : File) (fair : AllFair standard f) where
   wrong-found : (x : Defined) (u : Scope) → Asks standard f x u → (o : Option Defined) → find-definition (u .definitions) (x .definition .name) ≡ o → {y : Finding} → Has y (found (u .word) x o) → Wrong f y
   unfolding found finding-if
   wrong-found x u a none e {y} m = first-or m (λ q. subst (Wrong f) q (absent a e)) (λ n. absurd (has-none n refl))
   wrong-found x u a (some d) e {y} m = by (differs x d) refl m
     where
       by : (b : Bool) → differs x d ≡ b → Has y (finding-if b (d .definition .name .place) 26 (x .definition .row)) → Wrong f y
-      by true q n = first-or n (λ p. subst (Wrong f) p (different a e (λ z. false≢true (sym (agrees x d .1 z) ∙ q)))) (λ o. absurd (has-none o refl))
+      by true q n = first-or n (λ p. subst (Wrong f) p (different a e (λ z. false≢true (sym (agrees x d (fair x d u a e) .1 z) ∙ q)))) (λ o. absurd (has-none o refl))
       by false q n = absurd (has-none n refl)
 
   wrong-scope : (a : Asked) → Has a (asked standard) → (o : Option Scope) → along (scope-of f (a .kind)) (a .path) ≡ o → {y : Finding} → Has y (in-scope (a .wanted) o) → Wrong f y
@@ -81,14 +82,14 @@ module _ (f : File) where
     where
       by : (b : Bool) → differs x d ≡ b → Has (record { place = d .definition .name .place; number = 26; attribute = x .definition .row }) (finding-if b (d .definition .name .place) 26 (x .definition .row))
       by true q = here
-      by false q = absurd (n (agrees x d .0 q))
+      by false q = absurd (n (agrees x d (fair x d u a e) .0 q))
 
   verdict : Verdict f (told (foremost (findings standard f)))
   unfolding told
   verdict = by (foremost (findings standard f)) refl
     where
       by : (o : Option Finding) → foremost (findings standard f) ≡ o → Verdict f (told o)
-      by none e = rules.Verdict.nothing-wrong (nothing-told standard f .0 e)
+      by none e = rules.Verdict.nothing-wrong (nothing-told standard f fair .0 e)
       by (some x) e =
           let l = least-told (findings standard f) x e in
           rules.Verdict.wrong x (listed-wrong (l .is-one)) (λ y w. le-of x y (l .least y (wrong-listed w)))
@@ -100,7 +101,7 @@ module _ (s : List ℕ) where
   unfolding checked-as reading answer-of
   check-answer f e (refused n q) h = rules.ChecksByRules.refuses n q (the-refusal s n q (ap answer-of e ∙ h)) refl
   check-answer f e (accepted t) h =
-      rules.ChecksByRules.judges t (the-accepted s f e t h) (derivation-of s f e t h .derivation) (λ d. subst (λ (g : File). Verdict g (told (foremost (findings standard f)))) (own-file s f e t h d) (verdict f))
+      rules.ChecksByRules.judges t (the-accepted s f e t h) (derivation-of s f e t h .derivation) (λ d. subst (λ (g : File). Verdict g (told (foremost (findings standard f)))) (own-file s f e t h d) (verdict f (all-fair t (record { derivation = derivation-of s f e t h .derivation; syntax-of = own-file s f e t h (derivation-of s f e t h .derivation) }) h)))
 
   check-parse : (x : Parsed) → parse s ≡ x → ChecksByRules s (checked-by standard x)
   unfolding checked-by reading answer-of
@@ -139,7 +140,8 @@ pub nothing-exactly : NothingExactly
 unfolding told
 nothing-exactly s t a d =
     let f = syntax s (d .tree) in
-    let q = checked-is s f t (parse-is s t a d) (answer-is s t a d) in (
-      (λ e. nothing-told standard f .0 (told-nothing (foremost (findings standard f)) (sym q ∙ e))),
-      (λ k. q ∙ ap told (nothing-told standard f .1 k)),
+    let q = checked-is s f t (parse-is s t a d) (answer-is s t a d) in
+    let r = all-fair t (record { derivation = d; syntax-of = refl }) (answer-is s t a d) in (
+      (λ e. nothing-told standard f r .0 (told-nothing (foremost (findings standard f)) (sym q ∙ e))),
+      (λ k. q ∙ ap told (nothing-told standard f r .1 k)),
     )

@@ -2,6 +2,7 @@
 use mathlib.Core.Path.{_≡_, refl, sym, _∙_, ap, ap₂}
 use mathlib.Core.List.{List}
 use mathlib.Core.Bool.{Bool, true, false, not, false≢true}
+use mathlib.Core.Logic.{_↔_}
 use mathlib.Core.Option.{Option, none, some}
 use Prim.Native.Nat.{ℕ, _+_, _*_, _≤_, _<_}
 use native.Mathlib.Omega.{arith}
@@ -24,10 +25,10 @@ use Rattle.scopes.specs.Situations.{Situation, HasValue, this-value, later-valu
 use Rattle.scopes.specs.Promises.{number-found}
 use Rattle.scopes.proofs.Descents.{nth-in, entry-facts, found-value, value-word}
 use Rattle.standard.specs.Asking.{words-in}
-use Rattle.standard.specs.Conforming.{WordsExactly}
 use Rattle.standard.specs.Naming.{isChoice, findChoice}
 use Rattle.standard.specs.Choices.{findWord, isWord, isExtra, findExtra, hasExtra}
-use Rattle.standard.proofs.Valued.{choice-finds, value-bytes, both-second}
+use Rattle.standard.proofs.Valued.{choice-finds, value-bytes}
+use Rattle.standard.proofs.Truths.{both-left, both-right, is-false, is-true}
 
 -- The loops of the code ----------------------------------------------------------------------------------------------------------------------
 
@@ -107,7 +108,7 @@ words-all ws no-value h = refl
 words-all ws (value w n us vs) h = ap₂ both (h (record { word = w; number = n; definitions = us }) this-value) (words-all ws vs (λ v i. h v (later-value i)))
 
 -- The test of words holds exactly where each is there.
-pub words-exactly : WordsExactly
+pub words-exactly : (ws vs : Values) → (words-in ws vs ≡ true) ↔ ((v : Under) → HasValue vs v → is-there (find-value ws (v .word)) ≡ true)
 words-exactly ws vs = ((λ e v h. by (is-there (find-value ws (v .word))) refl e h), (λ h. words-all ws vs h))
   where
     by : (b : Bool) {v : Under} → is-there (find-value ws (v .word)) ≡ b → words-in ws vs ≡ true → HasValue vs v → is-there (find-value ws (v .word)) ≡ true
@@ -115,18 +116,6 @@ words-exactly ws vs = ((λ e v h. by (is-there (find-value ws (v .word))) refl e
     by false q e h = absurd (false≢true (sym (words-not ws vs h q) ∙ e))
 
 -- Rows and lists ------------------------------------------------------------------------------------------------------------------------------
-
-both-first : (a b : Bool) → both a b ≡ true → a ≡ true
-both-first true b h = refl
-both-first false b h = h
-
-not-is : (a : Bool) → not a ≡ true → a ≡ false
-not-is true h = sym h
-not-is false h = refl
-
-not-not : (a : Bool) → not a ≡ false → a ≡ true
-not-not true h = refl
-not-not false h = sym h
 
 there-found : (o : Option Under) → is-there o ≡ true → {R : Type 0} → ((v : Under) → o ≡ some v → R) → R
 unfolding is-there
@@ -156,19 +145,19 @@ module _ {s d e : List ℕ} {f : File} {x : Defined} {j m : ℕ} (st : Situation
 
   choice-key : (i at len : ℕ) → isChoice s e (getD d (j * 19 + 14) 0) i (partOf s at len) ≡ true → hasKey e (i * 3) 0 (getD d (j * 19 + 14) 0) ≡ true
   unfolding isChoice
-  choice-key i at len h = both-first (hasKey e (i * 3) 0 (getD d (j * 19 + 14) 0)) (same (partOf s (getD e (i * 3 + 1) 0) (getD e (i * 3 + 2) 0)) (partOf s at len)) h
+  choice-key i at len h = both-left (hasKey e (i * 3) 0 (getD d (j * 19 + 14) 0)) (same (partOf s (getD e (i * 3 + 1) 0) (getD e (i * 3 + 2) 0)) (partOf s at len)) h
 
   choice-part : (i at len : ℕ) → isChoice s e (getD d (j * 19 + 14) 0) i (partOf s at len) ≡ true → partOf s (getD e (i * 3 + 1) 0) (getD e (i * 3 + 2) 0) ≡ partOf s at len
   unfolding isChoice
   choice-part i at len h =
-      same-equal _ _ (both-second (hasKey e (i * 3) 0 (getD d (j * 19 + 14) 0)) (same (partOf s (getD e (i * 3 + 1) 0) (getD e (i * 3 + 2) 0)) (partOf s at len)) h)
+      same-equal _ _ (both-right (hasKey e (i * 3) 0 (getD d (j * 19 + 14) 0)) (same (partOf s (getD e (i * 3 + 1) 0) (getD e (i * 3 + 2) 0)) (partOf s at len)) h)
 
   module _ (g ws : List ℕ) (a z : ℕ) (W : Values) (hw : (t : Word) → isWord g ws a z (t .bytes) ≡ is-there (find-value W t)) where
     extra-not : (i : ℕ) → hasKey e (i * 3) 0 (getD d (j * 19 + 14) 0) ≡ true → isExtra s e g ws a z (getD d (j * 19 + 14) 0) i ≡ false
         → isWord g ws a z (partOf s (getD e (i * 3 + 1) 0) (getD e (i * 3 + 2) 0)) ≡ true
     unfolding isExtra
     extra-not i k h =
-        not-not (isWord g ws a z (partOf s (getD e (i * 3 + 1) 0) (getD e (i * 3 + 2) 0)))
+        is-true (isWord g ws a z (partOf s (getD e (i * 3 + 1) 0) (getD e (i * 3 + 2) 0)))
         (sym (ap (λ c. both c (not (isWord g ws a z (partOf s (getD e (i * 3 + 1) 0) (getD e (i * 3 + 2) 0))))) k) ∙ h)
 
     -- A row that is extra is a value whose word is not there.
@@ -190,11 +179,11 @@ module _ {s d e : List ℕ} {f : File} {x : Defined} {j m : ℕ} (st : Situation
         }
 
         k₁ : hasKey e (i * 3) 0 (getD d (j * 19 + 14) 0) ≡ true
-        k₁ = both-first (hasKey e (i * 3) 0 (getD d (j * 19 + 14) 0)) (not (isWord g ws a z (partOf s (getD e (i * 3 + 1) 0) (getD e (i * 3 + 2) 0)))) k
+        k₁ = both-left (hasKey e (i * 3) 0 (getD d (j * 19 + 14) 0)) (not (isWord g ws a z (partOf s (getD e (i * 3 + 1) 0) (getD e (i * 3 + 2) 0)))) k
 
         k₂ : isWord g ws a z (partOf s (getD e (i * 3 + 1) 0) (getD e (i * 3 + 2) 0)) ≡ false
-        k₂ = not-is (isWord g ws a z (partOf s (getD e (i * 3 + 1) 0) (getD e (i * 3 + 2) 0)))
-            (both-second (hasKey e (i * 3) 0 (getD d (j * 19 + 14) 0)) (not (isWord g ws a z (partOf s (getD e (i * 3 + 1) 0) (getD e (i * 3 + 2) 0)))) k)
+        k₂ = is-false (isWord g ws a z (partOf s (getD e (i * 3 + 1) 0) (getD e (i * 3 + 2) 0)))
+            (both-right (hasKey e (i * 3) 0 (getD d (j * 19 + 14) 0)) (not (isWord g ws a z (partOf s (getD e (i * 3 + 1) 0) (getD e (i * 3 + 2) 0)))) k)
 
         by : (o : Option Under) → find-value (x .values) t ≡ o → words-in W (x .values) ≡ false
         by none q = absurd (false≢true (sym (choice-none (getD e (i * 3 + 1) 0) (getD e (i * 3 + 2) 0) t refl q i h)

@@ -2,6 +2,8 @@
 pub mod Everything
 pub mod Sections
 pub mod Examples
+pub mod Truths
+pub mod Types
 pub mod Members
 pub mod Ways
 pub mod Theorem
@@ -20,6 +22,7 @@ pub mod Differing
 pub mod Sound
 pub mod Telling
 pub mod Heading
+pub mod Fairness
 pub mod ByRules
 pub mod Accepting
 pub mod Ranged

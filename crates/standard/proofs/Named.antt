@@ -7,7 +7,7 @@ use Prim.Native.Nat.{ℕ, suc, _+_, _*_, _≤_, _<_}
 use native.Mathlib.Omega.{arith}
 use lib.ListN.{length, getD}
 use lib.Dec.{eqb}
-use borrow.Author.Tests.{ne-eqb, eqb-false}
+use borrow.Author.Tests.{eq-eqb, ne-eqb}
 use Rattle.token.specs.Find.{pick, both}
 use Rattle.token.specs.Words.{same}
 use Rattle.token.specs.Tokens.{partOf}
@@ -48,14 +48,7 @@ other-key s d key i b h = rw (ne-eqb (getD d (i * 19 + 0) 0) key h)
 pub its-key : (s d : List ℕ) (key i : ℕ) (b : List ℕ) (p n : ℕ) → getD d (i * 19 + 0) 0 ≡ key → p ≡ getD d (i * 19 + 2) 0 → n ≡ getD d (i * 19 + 3) 0
     → same (partOf s p n) b ≡ isAttribute s d key i b
 unfolding isAttribute hasKey
-its-key s d key i b p n h e g = rw (h, e, g, eqb-same key)
-  where
-    eqb-same : (k : ℕ) → eqb k k ≡ true
-    eqb-same k = by (eqb k k) refl
-      where
-        by : (c : Bool) → eqb k k ≡ c → c ≡ true
-        by true e = refl
-        by false e = absurd (eqb-false k k e refl)
+its-key s d key i b p n h e g = rw (h, e, g, eq-eqb key key refl)
 
 pub attribute-stop : (s d : List ℕ) (n key : ℕ) (b : List ℕ) (i : ℕ) → i < n → isAttribute s d key i b ≡ true → findAttribute s d n key b i ≡ At i
 unfolding findAttribute

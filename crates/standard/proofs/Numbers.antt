@@ -13,6 +13,7 @@ use Rattle.meaning.specs.Syntax.{Num, Word, Bounds, no-bounds, from-to, one-of}
 use Rattle.meaning.specs.Words.{at-most, equal, in-type, in-bounds, among-numbers, least-of, greatest-of, signed, width}
 use Rattle.standard.specs.Asking.{less-by-one, next, followed, spans, all-in, within}
 use Rattle.standard.specs.Conforming.{Proper}
+use Rattle.standard.proofs.Truths.{both-left, both-right}
 
 -- Ranges -------------------------------------------------------------------------------------------------------------------------------------
 
@@ -97,20 +98,12 @@ le-same true m false n h i = absurd i
 le-same false m true n h i = absurd h
 le-same false m false n h i = let e : m ≡ n = omega arith in ap (num false) e
 
-both-one : (a b : Bool) → both a b ≡ true → a ≡ true
-both-one true b h = refl
-both-one false b h = absurd (false≢true h)
-
-both-two : (a b : Bool) → both a b ≡ true → b ≡ true
-both-two true b h = h
-both-two false b h = absurd (false≢true h)
-
 pub equal-same : (a b : Num) → equal a b ≡ true → a ≡ b
 unfolding equal
 equal-same a b h =
     le-same (a .negative) (a .amount) (b .negative) (b .amount)
-    (le-of (a .negative) (a .amount) (b .negative) (b .amount) (both-one (at-most a b) (at-most b a) h))
-    (le-of (b .negative) (b .amount) (a .negative) (a .amount) (both-two (at-most a b) (at-most b a) h))
+    (le-of (a .negative) (a .amount) (b .negative) (b .amount) (both-left (at-most a b) (at-most b a) h))
+    (le-of (b .negative) (b .amount) (a .negative) (a .amount) (both-right (at-most a b) (at-most b a) h))
 
 -- Listed numbers -------------------------------------------------------------------------------------------------------------------------------
 
@@ -127,10 +120,10 @@ among-all P n (t ∷ ts) h f = by (equal n (t .number)) refl h (λ k. among-all 
 all-listed : (b : Bounds) (n : Num) (ts : List Word) → all-in b ts ≡ true → among-numbers n ts ≡ true → in-bounds n b ≡ true
 unfolding all-in among-numbers
 all-listed b n [] h g = absurd (false≢true g)
-all-listed b n (t ∷ ts) h g = by (equal n (t .number)) refl g (all-listed b n ts (both-two (in-bounds (t .number) b) (all-in b ts) h))
+all-listed b n (t ∷ ts) h g = by (equal n (t .number)) refl g (all-listed b n ts (both-right (in-bounds (t .number) b) (all-in b ts) h))
   where
     by : (c : Bool) → equal n (t .number) ≡ c → either c (among-numbers n ts) ≡ true → (among-numbers n ts ≡ true → in-bounds n b ≡ true) → in-bounds n b ≡ true
-    by true e k ih = ap (λ m. in-bounds m b) (equal-same n (t .number) e) ∙ both-one (in-bounds (t .number) b) (all-in b ts) h
+    by true e k ih = ap (λ m. in-bounds m b) (equal-same n (t .number) e) ∙ both-left (in-bounds (t .number) b) (all-in b ts) h
     by false e k ih = ih k
 
 -- A number among some that is not below low and is below high is followed by one of all.
@@ -140,7 +133,7 @@ unfolding followed among-numbers
 followed-by low high n all [] h g i j = absurd (false≢true g)
 followed-by low high n all (t ∷ ts) h g i j =
     by (equal n (t .number)) refl g
-    (λ k. followed-by low high n all ts (both-two (either (not (both (at-most low (t .number)) (not (at-most high (t .number))))) (among-numbers (next (t .number)) all)) (followed low high all ts) h) k i j)
+    (λ k. followed-by low high n all ts (both-right (either (not (both (at-most low (t .number)) (not (at-most high (t .number))))) (among-numbers (next (t .number)) all)) (followed low high all ts) h) k i j)
   where
     test : (a b c : Bool) → either (not (both a (not b))) c ≡ true → a ≡ true → b ≡ false → c ≡ true
     test true false c e u v = e
@@ -152,7 +145,7 @@ followed-by low high n all (t ∷ ts) h g i j =
         let q : n ≡ t .number = equal-same n (t .number) e in
         ap (λ m. among-numbers (next m) all) q
         ∙ test (at-most low (t .number)) (at-most high (t .number)) (among-numbers (next (t .number)) all)
-        (both-one (either (not (both (at-most low (t .number)) (not (at-most high (t .number))))) (among-numbers (next (t .number)) all)) (followed low high all ts) h)
+        (both-left (either (not (both (at-most low (t .number)) (not (at-most high (t .number))))) (among-numbers (next (t .number)) all)) (followed low high all ts) h)
         (sym (ap (at-most low) q) ∙ i) (sym (ap (at-most high) q) ∙ j)
     by false e k ih = ih k
 
@@ -258,12 +251,12 @@ pub spans-all : (b : Bounds) (low high n : Num) → spans b low high ≡ true �
 unfolding spans in-bounds
 spans-all no-bounds low high n s h g i j = refl
 spans-all (from-to a z) low high n s h g i j =
-    both-is (at-most-trans (a .number) low n (both-one (at-most (a .number) low) (at-most high (z .number)) s) i)
-    (at-most-trans n high (z .number) j (both-two (at-most (a .number) low) (at-most high (z .number)) s))
+    both-is (at-most-trans (a .number) low n (both-left (at-most (a .number) low) (at-most high (z .number)) s) i)
+    (at-most-trans n high (z .number) j (both-right (at-most (a .number) low) (at-most high (z .number)) s))
 spans-all (one-of ts) low high n s h g i j =
     let u = reach (low .negative) (low .amount) (n .negative) (n .amount) h g (le-of (low .negative) (low .amount) (n .negative) (n .amount) i) in
     subst (λ m. among-numbers m ts ≡ true) (u .is)
-    (climb low high ts h (both-one (among-numbers low ts) (followed low high ts ts) s) (both-two (among-numbers low ts) (followed low high ts ts) s) (u .steps) (ap (λ m. at-most m high) (u .is) ∙ j))
+    (climb low high ts h (both-left (among-numbers low ts) (followed low high ts ts) s) (both-right (among-numbers low ts) (followed low high ts ts) s) (u .steps) (ap (λ m. at-most m high) (u .is) ∙ j))
 
 least-proper : (i : Integer) → Proper (least-of (signed i) (width i))
 unfolding least-of signed width
@@ -283,9 +276,9 @@ unfolding within in-type in-bounds
 within-all i b no-bounds p h n g t k =
     let lo = least-of (signed i) (width i) in
     let hi = greatest-of (signed i) (width i) in
-    spans-all b lo hi n h (least-proper i) g (both-one (at-most lo n) (at-most n hi) t) (both-two (at-most lo n) (at-most n hi) t)
+    spans-all b lo hi n h (least-proper i) g (both-left (at-most lo n) (at-most n hi) t) (both-right (at-most lo n) (at-most n hi) t)
 within-all i b (from-to lo hi) p h n g t k =
-    spans-all b (lo .number) (hi .number) n h p g (both-one (at-most (lo .number) n) (at-most n (hi .number)) k) (both-two (at-most (lo .number) n) (at-most n (hi .number)) k)
+    spans-all b (lo .number) (hi .number) n h p g (both-left (at-most (lo .number) n) (at-most n (hi .number)) k) (both-right (at-most (lo .number) n) (at-most n (hi .number)) k)
 within-all i b (one-of ts) p h n g t k = all-listed b n ts h k
 
 -- And back -------------------------------------------------------------------------------------------------------------------------------------
@@ -343,7 +336,7 @@ filled-spans no-bounds low high p h g l f = refl
 filled-spans (from-to a z) low high p h g l f =
     let self = of-le (low .negative) (low .amount) (low .negative) (low .amount) (le-refl (low .negative) (low .amount)) in
     let self₂ = of-le (high .negative) (high .amount) (high .negative) (high .amount) (le-refl (high .negative) (high .amount)) in
-    both-is (both-one (at-most (a .number) low) (at-most low (z .number)) (f low h self l)) (both-two (at-most (a .number) high) (at-most high (z .number)) (f high g l self₂))
+    both-is (both-left (at-most (a .number) low) (at-most low (z .number)) (f low h self l)) (both-right (at-most (a .number) high) (at-most high (z .number)) (f high g l self₂))
 filled-spans (one-of ts) low high p h g l f =
     let self = of-le (low .negative) (low .amount) (low .negative) (low .amount) (le-refl (low .negative) (low .amount)) in
     both-is (f low h self l) (filled-followed ts ts low high p g f)
@@ -390,8 +383,8 @@ all-within i b (from-to lo hi) p q f =
     let gg = greatest-of (signed i) (width i) in
     filled-spans b (lo .number) (hi .number) p (q .0) (q .1) (q .4) (λ n h g k.
     f n h
-    (both-is (at-most-trans ll (lo .number) n (both-one (at-most ll (lo .number)) (at-most (lo .number) gg) (q .2)) g)
-    (at-most-trans n (hi .number) gg k (both-two (at-most ll (hi .number)) (at-most (hi .number) gg) (q .3))))
+    (both-is (at-most-trans ll (lo .number) n (both-left (at-most ll (lo .number)) (at-most (lo .number) gg) (q .2)) g)
+    (at-most-trans n (hi .number) gg k (both-right (at-most ll (hi .number)) (at-most (hi .number) gg) (q .3))))
     (both-is g k))
 all-within i b (one-of ts) p q f = all-in-from i b ts q f
 

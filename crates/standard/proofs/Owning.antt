@@ -22,11 +22,11 @@ use Rattle.standard.specs.declared.Known.{Known}
 use Rattle.standard.specs.declared.Owner.{Owner}
 
 -- The spec of a kind, by the place of its word.
-data KindCase (k : Kind) (xs : List Spec) : Type 0 where
+pub data KindCase (k : Kind) (xs : List Spec) : Type 0 where
   no-kind : find-spec k xs ≡ none → kind-place (kind-number k) xs ≡ 0 → KindCase k xs
   a-kind : (x : Spec) → find-spec k xs ≡ some x → HasSpec xs x → kind-place (kind-number k) xs ≡ x .word .place → KindCase k xs
 
-kind-case : (k : Kind) (xs : List Spec) → KindCase k xs
+pub kind-case : (k : Kind) (xs : List Spec) → KindCase k xs
 unfolding find-spec kind-place same-kind
 kind-case k [] = no-kind refl refl
 kind-case k (x ∷ xs) = by (eqb (kind-number k) (kind-number (x .kind))) refl (kind-case k xs)

@@ -1,7 +1,8 @@
--- The ranges of an accepted text have no fault, so the test of bounds is that of the sets of numbers. Assumes nothing.
+-- The ranges of an accepted text have no fault, is-true the test of bounds is that of the sets of numbers. Assumes nothing.
 use mathlib.Core.Path.{_≡_, refl, sym, _∙_, ap, subst}
 use mathlib.Core.List.{List, [], _∷_, _++_}
 use mathlib.Core.Bool.{Bool, true, false, not, false≢true}
+use mathlib.Core.Option.{Option, none, some}
 use Prim.Native.Nat.{ℕ}
 use Rattle.token.specs.Tokens.{stepAt}
 use Rattle.token.specs.Words.{same, bytesOf}
@@ -16,22 +17,19 @@ use Rattle.grammar.specs.Grammar.{Integer}
 use Rattle.meaning.specs.Syntax.{Word, AttributeType, integer, Bounds, no-bounds, from-to, one-of, Definition, Definitions, Values, Defined, Spec, File, is-enum}
 use Rattle.meaning.specs.Words.{at-most, in-type}
 use Rattle.meaning.specs.Actions.{num-of-sort, num-of-step, zero-num}
-use Rattle.meaning.specs.Faults.{fault-if, first}
+use Rattle.meaning.specs.Faults.{Fault, fault-if, first}
 use Rattle.meaning.specs.Scopes.{heads}
 use Rattle.meaning.specs.Defining.{outside, bound-faults, range-faults, default-faults, name-faults, word-faults, scope-faults, value-faults, specified, spec-faults, definition-faults}
-use Rattle.meaning.specs.Answers.{Tables, accepted, answer}
+use Rattle.meaning.specs.Answers.{Answer, Tables, accepted, unless, answer}
 use Rattle.meaning.proofs.Rooms.{not-faulty, no-first}
 use Rattle.meaning.proofs.Sites.{bound-words, option-words, definition-words, value-words}
 use Rattle.scopes.specs.Situations.{Situation, HasDefinition, this-definition, later-definition, HasValue, this-value, later-value, HasSpec, this-spec, later-spec, Stands, under-kind, under-value}
 use Rattle.scopes.proofs.Goodness.{Good, Goods, good-front, good-back}
 use Rattle.scopes.proofs.Descents.{scope-facts}
 use Rattle.standard.specs.Conforming.{Proper}
-use Rattle.standard.specs.Rules.{NumbersExactly}
 use Rattle.standard.proofs.Members.{none-left, none-right}
-use Rattle.standard.proofs.Numbers.{AllOf, Faultless, within-exactly}
-use Rattle.standard.proofs.Sound.{listed-proper}
-use Rattle.standard.proofs.ByRules.{answer-is}
-use Rattle.standard.proofs.Accepting.{unless-none}
+use Rattle.standard.proofs.Numbers.{AllOf, Faultless}
+use Rattle.standard.proofs.Truths.{is-true}
 
 -- Numbers of a text --------------------------------------------------------------------------------------------------------------------------
 
@@ -58,16 +56,12 @@ word-proper {s} {w} g = subst Proper (sym (g .read .number)) (step-proper s (w .
 
 -- A range without a fault ----------------------------------------------------------------------------------------------------------------------
 
-so : (b : Bool) → not b ≡ false → b ≡ true
-so true h = refl
-so false h = sym h
-
 all-of : (s : List ℕ) (i : Integer) (ts : List Word) → Goods s ts → outside i ts ≡ [] → AllOf i ts
 unfolding outside
 all-of s i [] g e = tt
 all-of s i (t ∷ ts) g e = (
   word-proper (g .0),
-  so (in-type i (t .number)) (not-faulty (not (in-type i (t .number))) t 21 (none-left (fault-if (not (in-type i (t .number))) t 21) (outside i ts) e)),
+  is-true (in-type i (t .number)) (not-faulty (not (in-type i (t .number))) t 21 (none-left (fault-if (not (in-type i (t .number))) t 21) (outside i ts) e)),
   all-of s i ts (g .1) (none-right (fault-if (not (in-type i (t .number))) t 21) (outside i ts) e),
 )
 
@@ -77,7 +71,7 @@ faultless s i no-bounds g e = tt
 faultless s i (from-to a b) g e =
     let l = not-faulty (not (at-most (a .number) (b .number))) a 21 (none-left (fault-if (not (at-most (a .number) (b .number))) a 21) (outside i (a ∷ (b ∷ []))) e) in
     let o = all-of s i (a ∷ (b ∷ [])) g (none-right (fault-if (not (at-most (a .number) (b .number))) a 21) (outside i (a ∷ (b ∷ []))) e) in
-    (o .0, o .2 .0, o .1, o .2 .1, so (at-most (a .number) (b .number)) l)
+    (o .0, o .2 .0, o .1, o .2 .1, is-true (at-most (a .number) (b .number)) l)
 faultless s i (one-of ts) g e = all-of s i ts g e
 
 -- The definitions of a text without a fault -----------------------------------------------------------------------------------------------------
@@ -151,19 +145,19 @@ bounds-good s (later-definition {d} {vs} {ds} h) g =
     let r = value-words vs ++ (d .name ∷ option-words (d .default)) in
     bounds-good s h (good-back s (bound-words (d .bounds) ++ r) (definition-words ds) (g .1))
 
+pub unless-none : (o : Option Fault) (k : Unit {0} → Answer) (t : Tables) → unless o k ≡ accepted t → (o ≡ none) × (k tt ≡ accepted t)
+unfolding unless
+unless-none none k t e = (refl, e)
+unless-none (some x) k t e = absurd (let z : _≡_ {A = Bool} false true = cc in false≢true z)
+
 file-clean : (f : File) (t : Tables) → answer f ≡ accepted t → spec-faults [] (f .specs) ≡ []
 unfolding answer definition-faults
 file-clean f t e = none-right (fault-if (not (same (f .version .bytes) (bytesOf "\"2.5\""))) (f .version) 6) (spec-faults [] (f .specs)) (no-first (definition-faults f) (unless-none (first (definition-faults f)) _ t e .0))
 
-range-is : {s : List ℕ} {f : File} {u : Word} {ds : Definitions} {x : Defined} (t : Tables) → Situation s f → answer f ≡ accepted t → Stands (f .specs) u ds → HasDefinition ds x
+pub range-is : {s : List ℕ} {f : File} {u : Word} {ds : Definitions} {x : Defined} (t : Tables) → Situation s f → answer f ≡ accepted t → Stands (f .specs) u ds → HasDefinition ds x
     → (k : Integer) → x .definition .type ≡ integer k → Faultless k (x .definition .bounds)
 unfolding range-faults
 range-is {s} {f} {x = x} t st e p h k q =
     let c = stands-clean (file-clean f t e) p in
     faultless s k (x .definition .bounds) (bounds-good s h (scope-facts st p .facts .good))
     (sym (ap (λ (y : AttributeType). range-faults y (x .definition .bounds)) q) ∙ range-clean (c .others) (c .before) h (c .clean))
-
-pub numbers-exactly : NumbersExactly
-numbers-exactly s t a d i y n u ds x p h k e q =
-    within-exactly k (y .wanted .definition .bounds) (x .definition .bounds) (listed-proper i y n)
-    (range-is t (record { derivation = d; syntax-of = refl }) (answer-is s t a d) p h k q)

@@ -6,7 +6,7 @@ use Prim.Native.Nat.{ℕ, _+_, _*_, _<_}
 use native.Mathlib.Omega.{arith}
 use lib.ListN.{getD}
 use lib.Dec.{eqb}
-use borrow.Author.Tests.{ne-eqb, eqb-false}
+use borrow.Author.Tests.{eq-eqb, ne-eqb}
 use Rattle.token.specs.Find.{bit, both, either}
 use Rattle.meaning.specs.Syntax.{Definition, Values, Defined, File}
 use Rattle.meaning.specs.Cells.{type-code}
@@ -72,13 +72,6 @@ shape-differs d j c l a r z s f x w k e row h hc hl ha =
     (ap₂ (λ m n. both (eqb m 1) (eqb n 0)) (auto-cell f d j x e row h) ha ∙ bits-only (w .definition .auto) (x .definition .auto))
 
 -- The answers of the code.
-eqb-same : (k : ℕ) → eqb k k ≡ true
-eqb-same k = by (eqb k k) refl
-  where
-    by : (c : Bool) → eqb k k ≡ c → c ≡ true
-    by true e = refl
-    by false e = absurd (eqb-false k k e refl)
-
 module _ (d : List ℕ) (j c l a y : ℕ) (e : y ≡ getD d (j * 19 + 12) 0) where
   pub other-type : (y ≡ c → ⊥) → true ≡ shapeDiffers d j c l a
   unfolding shapeDiffers
@@ -87,17 +80,17 @@ module _ (d : List ℕ) (j c l a y : ℕ) (e : y ≡ getD d (j * 19 + 12) 0) whe
   module _ (h : y ≡ c) (y₂ : ℕ) (e₂ : y₂ ≡ getD d (j * 19 + 6) 0) where
     pub other-mark : (y₂ ≡ l → ⊥) → true ≡ shapeDiffers d j c l a
     unfolding shapeDiffers
-    other-mark k = rw (sym e, h, eqb-same c, sym e₂, ne-eqb l y₂ (λ g. k (sym g)))
+    other-mark k = rw (sym e, h, eq-eqb c c refl, sym e₂, ne-eqb l y₂ (λ g. k (sym g)))
 
     module _ (k : y₂ ≡ l) (y₃ : ℕ) (e₃ : y₃ ≡ getD d (j * 19 + 7) 0) where
       pub no-auto : (y₃ ≡ 1 → ⊥) → false ≡ shapeDiffers d j c l a
       unfolding shapeDiffers
-      no-auto g = rw (sym e, h, eqb-same c, sym e₂, k, eqb-same l, sym e₃, ne-eqb y₃ 1 g)
+      no-auto g = rw (sym e, h, eq-eqb c c refl, sym e₂, k, eq-eqb l l refl, sym e₃, ne-eqb y₃ 1 g)
 
       pub auto-new : y₃ ≡ 1 → a ≡ 0 → true ≡ shapeDiffers d j c l a
       unfolding shapeDiffers
-      auto-new g i = rw (sym e, h, eqb-same c, sym e₂, k, eqb-same l, sym e₃, g, i)
+      auto-new g i = rw (sym e, h, eq-eqb c c refl, sym e₂, k, eq-eqb l l refl, sym e₃, g, i)
 
       pub auto-too : y₃ ≡ 1 → (a ≡ 0 → ⊥) → false ≡ shapeDiffers d j c l a
       unfolding shapeDiffers
-      auto-too g i = rw (sym e, h, eqb-same c, sym e₂, k, eqb-same l, sym e₃, g, ne-eqb a 0 i)
+      auto-too g i = rw (sym e, h, eq-eqb c c refl, sym e₂, k, eq-eqb l l refl, sym e₃, g, ne-eqb a 0 i)

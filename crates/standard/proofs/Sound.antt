@@ -31,6 +31,7 @@ use Rattle.standard.proofs.Everything.{rules}
 use Rattle.standard.proofs.Sections.{is-standard, written}
 use Rattle.standard.specs.Conforming.{Proper}
 use Rattle.standard.proofs.Numbers.{equal-same, AllProper, ListedProper}
+use Rattle.standard.proofs.Truths.{both-left, both-right, is-false}
 
 -- The check of a row -----------------------------------------------------------------------------------------------------------------------------
 
@@ -123,27 +124,15 @@ asked-many = sym (counts (asked standard)) ∙ ap (λ (gs : List Spec). how-many
 
 -- What the check tells -----------------------------------------------------------------------------------------------------------------------------
 
-left : (a b : Bool) → both a b ≡ true → a ≡ true
-left true b h = refl
-left false b h = h
-
-right : (a b : Bool) → both a b ≡ true → b ≡ true
-right true b h = h
-right false b h = absurd (false≢true h)
-
-is-not : (a : Bool) → not a ≡ true → a ≡ false
-is-not true h = sym h
-is-not false h = refl
-
 sound-at : (l : List Asked) (n : ℕ) (front : List Asked) (a : Asked) (rest : List Asked) → l ≡ front ++ (a ∷ rest) → all-sound n l ≡ true → row-sound (n + length front) a ≡ true
 unfolding all-sound
 sound-at l n [] a rest e h =
     let z : n + 0 ≡ n = omega arith in
-    ap (λ (k : ℕ). row-sound k a) z ∙ left (row-sound n a) (all-sound (suc n) rest) (ap (all-sound n) (sym e) ∙ h)
+    ap (λ (k : ℕ). row-sound k a) z ∙ both-left (row-sound n a) (all-sound (suc n) rest) (ap (all-sound n) (sym e) ∙ h)
 sound-at l n (b ∷ front) a rest e h =
     let z : n + suc (length front) ≡ suc n + length front = omega arith in
     ap (λ (k : ℕ). row-sound k a) z
-    ∙ sound-at (front ++ (a ∷ rest)) (suc n) front a rest refl (right (row-sound n b) (all-sound (suc n) (front ++ (a ∷ rest))) (ap (all-sound n) (sym e) ∙ h))
+    ∙ sound-at (front ++ (a ∷ rest)) (suc n) front a rest refl (both-right (row-sound n b) (all-sound (suc n) (front ++ (a ∷ rest))) (ap (all-sound n) (sym e) ∙ h))
 
 -- Words ----------------------------------------------------------------------------------------------------------------------------------------------
 
@@ -179,7 +168,7 @@ unfolding same-words
 same-lists [] [] h = refl
 same-lists [] (y ∷ b) h = absurd (false≢true h)
 same-lists (x ∷ a) [] h = absurd (false≢true h)
-same-lists (x ∷ a) (y ∷ b) h = ap₂ (λ (z : List ℕ) (l : List (List ℕ)). z ∷ l) (same-equal x y (left (same x y) (same-words a b) h)) (same-lists a b (right (same x y) (same-words a b) h))
+same-lists (x ∷ a) (y ∷ b) h = ap₂ (λ (z : List ℕ) (l : List (List ℕ)). z ∷ l) (same-equal x y (both-left (same x y) (same-words a b) h)) (same-lists a b (both-right (same x y) (same-words a b) h))
 
 words-long : (n a : ℕ) → length (words-from n a) ≡ n
 unfolding words-from
@@ -274,7 +263,7 @@ unfolding one-two
 one-two-is [] h f = absurd (false≢true h)
 one-two-is (t ∷ []) h f = absurd (false≢true h)
 one-two-is (t ∷ (u ∷ [])) h f =
-    f t u refl (equal-same (t .number) one (left (equal (t .number) one) (equal (u .number) two) h)) (equal-same (u .number) two (right (equal (t .number) one) (equal (u .number) two) h))
+    f t u refl (equal-same (t .number) one (both-left (equal (t .number) one) (equal (u .number) two) h)) (equal-same (u .number) two (both-right (equal (t .number) one) (equal (u .number) two) h))
 one-two-is (t ∷ (u ∷ (v ∷ vs))) h f = absurd (false≢true h)
 
 wider-all : (d : Definition) (ts : List Word) (t u : Word) (y : AttributeType) → d .type ≡ y → d .bounds ≡ one-of ts → ts ≡ t ∷ (u ∷ []) → t .number ≡ one → u .number ≡ two
@@ -285,7 +274,7 @@ wider-all d ts t u (integer i) p q r e h k = record {
   type = p;
   within-is = λ c.
       ap (λ (b : Bounds). within i b c) (q ∙ ap one-of r)
-      ∙ restricted t u e h i (sym (ap (λ (l : List Word). within i (one-of l) no-bounds) r) ∙ is-not (within i (one-of ts) no-bounds) k) c;
+      ∙ restricted t u e h i (sym (ap (λ (l : List Word). within i (one-of l) no-bounds) r) ∙ is-false (within i (one-of ts) no-bounds) k) c;
 }
 wider-all d ts t u string p q r e h k = absurd (false≢true k)
 wider-all d ts t u boolean p q r e h k = absurd (false≢true k)
@@ -301,13 +290,13 @@ bounded c d h = by (d .bounds) refl h
     by no-bounds e h = record { free = λ z k b. ap (λ (y : Bounds). within k y b) e ∙ free-within k b; restricted-to = λ z. absurd (z (eqb-true c 0 h)) }
     by (from-to a b) e h = absurd (false≢true h)
     by (one-of ts) e h =
-        let n = is-not (eqb c 0) (left (not (eqb c 0)) (both (one-two ts) (all-wider (d .type) (one-of ts))) h) in
-        let r = right (not (eqb c 0)) (both (one-two ts) (all-wider (d .type) (one-of ts))) h in
+        let n = is-false (eqb c 0) (both-left (not (eqb c 0)) (both (one-two ts) (all-wider (d .type) (one-of ts))) h) in
+        let r = both-right (not (eqb c 0)) (both (one-two ts) (all-wider (d .type) (one-of ts))) h in
         record {
           free = λ z. absurd (eqb-false c 0 n z);
           restricted-to = λ z.
-              one-two-is ts (left (one-two ts) (all-wider (d .type) (one-of ts)) r)
-              (λ t u p q o. wider-all d ts t u (d .type) refl e p q o (right (one-two ts) (all-wider (d .type) (one-of ts)) r));
+              one-two-is ts (both-left (one-two ts) (all-wider (d .type) (one-of ts)) r)
+              (λ t u p q o. wider-all d ts t u (d .type) refl e p q o (both-right (one-two ts) (all-wider (d .type) (one-of ts)) r));
         }
 
 path-is : (i : ℕ) (ps : List Step) → path-sound i ps ≡ true → PathIs section rows-written i ps
@@ -317,8 +306,8 @@ path-is i (p ∷ []) h =
     let n = not (eqb (cell i 8) 0) in
     let a = same (p .attribute .bytes) (part-of (cell i 7) (cell i 8)) in
     let b = same (p .value .bytes) (part-of (cell i 9) (cell i 10)) in
-    let r = right n (both a b) h in
-    one-step (λ z. eqb-false (cell i 8) 0 (is-not (eqb (cell i 8) 0) (left n (both a b) h)) z) (same-equal _ _ (left a b r)) (same-equal _ _ (right a b r))
+    let r = both-right n (both a b) h in
+    one-step (λ z. eqb-false (cell i 8) 0 (is-false (eqb (cell i 8) 0) (both-left n (both a b) h)) z) (same-equal _ _ (both-left a b r)) (same-equal _ _ (both-right a b r))
 path-is i (p ∷ (q ∷ ps)) h = absurd (false≢true h)
 
 -- One by one.
@@ -379,6 +368,6 @@ listed-proper i a n =
     by c y no-bounds h = tt
     by c y (from-to p q) h = tt
     by c y (one-of ts) h =
-        let r = right (not (eqb c 0)) (both (one-two ts) (all-wider y (one-of ts))) h in
-        one-two-is ts (left (one-two ts) (all-wider y (one-of ts)) r)
+        let r = both-right (not (eqb c 0)) (both (one-two ts) (all-wider y (one-of ts))) h in
+        one-two-is ts (both-left (one-two ts) (all-wider y (one-of ts)) r)
         (λ t u e p q. subst AllProper (sym e) (proper t 1 p, (proper u 2 q, tt)))

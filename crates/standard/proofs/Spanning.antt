@@ -13,14 +13,7 @@ use Rattle.scopes.specs.Ranges.{NumberAt, SignAt, Listed, listed-none, listed-m
 use Rattle.scopes.proofs.Ranging.{listed-start, listed-end}
 use Rattle.standard.specs.Spans.{one, two, one-or-two, all-one-or-two, within-one-two, AllListed, WithinOneTwo}
 use Rattle.standard.proofs.Numbers.{equal-self}
-
-not-so : (b : Bool) → not b ≡ true → b ≡ false
-not-so true h = sym h
-not-so false h = refl
-
-so : (b : Bool) → not b ≡ false → b ≡ true
-so true h = refl
-so false h = sym h
+use Rattle.standard.proofs.Truths.{is-false, is-true}
 
 -- The answers of is_one_or_two.
 pub is-one : (n : Num) (b : Bool) → b ≡ equal n one → b ≡ true → true ≡ one-or-two n
@@ -78,7 +71,7 @@ module _ (s : List ℕ) (from : ℕ) where
         where
           by : {us : List Word} → Listed s at us → false ≡ all-one-or-two us
           by (listed-none z) = absurd (z (ap (λ (i : Item). i .sign) (sym e) ∙ h))
-          by (listed-more {ws = rest} z v r) = sym (ap (λ c. both c (all-one-or-two rest)) (number-is z v .0 ∙ not-so b t))
+          by (listed-more {ws = rest} z v r) = sym (ap (λ c. both c (all-one-or-two rest)) (number-is z v .0 ∙ is-false b t))
 
       pub all-on : not b ≡ false → Holding s from (y .next)
       unfolding all-one-or-two
@@ -87,7 +80,7 @@ module _ (s : List ℕ) (from : ℕ) where
           by : {us : List Word} → Listed s at us → all-one-or-two ws ≡ all-one-or-two us → Left s (y .next) ws
           by (listed-none z) o = absurd (z (ap (λ (i : Item). i .sign) (sym e) ∙ h))
           by (listed-more {ws = rest} z v r) o =
-              record { left = rest; listed = subst (λ c. Listed s c rest) (sym (number-is z v .1)) r; whole = o ∙ ap (λ c. both c (all-one-or-two rest)) (number-is z v .0 ∙ so b t) }
+              record { left = rest; listed = subst (λ c. Listed s c rest) (sym (number-is z v .1)) r; whole = o ∙ ap (λ c. both c (all-one-or-two rest)) (number-is z v .0 ∙ is-true b t) }
 
 -- Ranges --------------------------------------------------------------------------------------------------------------------------------------
 
@@ -126,14 +119,14 @@ module _ (s : List ℕ) (p : ℕ) where
 
     -- The answers of within_one_two: the high number is past 2; or the low one decides,
     pub high-past : (y : Item) (c : Bool) → z .sign ≡ 46 → y ≡ itemAt s (z .next) → c ≡ at-most (num (y .number)) two → not c ≡ true → WithinOneTwo s p false
-    high-past y c t v q u b d = sym (two-is y t v b d ∙ ap (both (one-or-two (num (a .number)))) (sym q ∙ not-so c u) ∙ none (one-or-two (num (a .number))))
+    high-past y c t v q u b d = sym (two-is y t v b d ∙ ap (both (one-or-two (num (a .number)))) (sym q ∙ is-false c u) ∙ none (one-or-two (num (a .number))))
       where
         none : (x : Bool) → both x false ≡ false
         none true = refl
         none false = refl
 
     pub low-decides : (y : Item) (c r : Bool) → z .sign ≡ 46 → y ≡ itemAt s (z .next) → c ≡ at-most (num (y .number)) two → not c ≡ false → r ≡ one-or-two (num (a .number)) → WithinOneTwo s p r
-    low-decides y c r t v q u w b d = w ∙ sym (two-is y t v b d ∙ ap (both (one-or-two (num (a .number)))) (sym q ∙ so c u) ∙ all (one-or-two (num (a .number))))
+    low-decides y c r t v q u w b d = w ∙ sym (two-is y t v b d ∙ ap (both (one-or-two (num (a .number)))) (sym q ∙ is-true c u) ∙ all (one-or-two (num (a .number))))
       where
         all : (x : Bool) → both x true ≡ x
         all true = refl
@@ -152,7 +145,7 @@ module _ (s : List ℕ) (p : ℕ) where
             absurd (t (ap (λ (i : Item). i .sign) j ∙ w .sign))
         by b (range-list {q = q₁} {r} {ws = ws} n x m w l) =
             let i : a ≡ itemAt s q₁ = g ∙ ap (itemAt s) (ap (λ (i : Item). i .next) e ∙ x .next) in
-            sym (ap (λ n. both (one-or-two n) (all-one-or-two ws)) (sym (ap (λ (i : Item). num (i .number)) i ∙ m .number)) ∙ ap (λ x. both x (all-one-or-two ws)) (sym q ∙ not-so c u))
+            sym (ap (λ n. both (one-or-two n) (all-one-or-two ws)) (sym (ap (λ (i : Item). num (i .number)) i ∙ m .number)) ∙ ap (λ x. both x (all-one-or-two ws)) (sym q ∙ is-false c u))
 
     pub rest-decides : (c r : Bool) → (z .sign ≡ 46 → ⊥) → c ≡ one-or-two (num (a .number)) → not c ≡ false → AllListed s (a .next) r → WithinOneTwo s p r
-    rest-decides c r t q u w b d = sym (many-are t r w b d ∙ ap (λ x. both x r) (sym q ∙ so c u))
+    rest-decides c r t q u w b d = sym (many-are t r w b d ∙ ap (λ x. both x r) (sym q ∙ is-true c u))

@@ -15,7 +15,7 @@ use Rattle.meaning.specs.Scopes.{find-definition}
 use Rattle.standard.specs.Asking.{Asked, asked, Scope, scope-of, along, differs, Finding, finding-if, found, in-scope, finding, findings-of, findings, not-behind, earlier, foremost}
 use Rattle.standard.specs.Conforming.{Asks, Conforms, NotBehind, left-of, smaller, not-after}
 use Rattle.standard.proofs.Members.{Has, here, later, no-cons, none-left, none-right, none-both}
-use Rattle.standard.proofs.Agreeing.{agrees}
+use Rattle.standard.proofs.Agreeing.{Fair, agrees}
 use Rattle.standard.proofs.Ways.{reached, due}
 
 -- Nothing is told ----------------------------------------------------------------------------------------------------------------------------
@@ -70,36 +70,40 @@ reached-empty : (gs : List Spec) (f : File) {x : Defined} {u : Scope} → findin
 unfolding findings finding
 reached-empty gs f {x} {u} e a = let r = reached a in sym (ap (in-scope x) (r .leads)) ∙ each-empty f (asked gs) e (r .listed)
 
-conforming : (gs : List Spec) (f : File) → findings gs f ≡ [] → Conforms gs f
-conforming gs f e = record {
+-- All that is compared is fair.
+abbrev pub AllFair : List Spec → File → Type 0
+AllFair gs f = (x d : Defined) (u : Scope) → Asks gs f x u → find-definition (u .definitions) (x .definition .name) ≡ some d → Fair x d
+
+conforming : (gs : List Spec) (f : File) → AllFair gs f → findings gs f ≡ [] → Conforms gs f
+conforming gs f q e = record {
   there = λ x u a h. found-absent u x (reached-empty gs f e a) h;
-  same = λ x d u a h. agrees x d .0 (found-same u x d (reached-empty gs f e a) h);
+  same = λ x d u a h. agrees x d (q x d u a h) .0 (found-same u x d (reached-empty gs f e a) h);
 }
 
-well-found : (gs : List Spec) (f : File) → Conforms gs f → (u : Scope) (x : Defined) → Asks gs f x u → (o : Option Defined) → find-definition (u .definitions) (x .definition .name) ≡ o
+well-found : (gs : List Spec) (f : File) → AllFair gs f → Conforms gs f → (u : Scope) (x : Defined) → Asks gs f x u → (o : Option Defined) → find-definition (u .definitions) (x .definition .name) ≡ o
     → found (u .word) x o ≡ []
 unfolding found
-well-found gs f c u x a none e = absurd (c .there x u a e)
-well-found gs f c u x a (some d) e = empty-if (differs x d) (d .definition .name .place) 26 (x .definition .row) (agrees x d .1 (c .same x d u a e))
+well-found gs f q c u x a none e = absurd (c .there x u a e)
+well-found gs f q c u x a (some d) e = empty-if (differs x d) (d .definition .name .place) 26 (x .definition .row) (agrees x d (q x d u a e) .1 (c .same x d u a e))
 
-asked-well : (gs : List Spec) (f : File) → Conforms gs f → (a : Asked) → Has a (asked gs) → (o : Option Scope) → along (scope-of f (a .kind)) (a .path) ≡ o → in-scope (a .wanted) o ≡ []
+asked-well : (gs : List Spec) (f : File) → AllFair gs f → Conforms gs f → (a : Asked) → Has a (asked gs) → (o : Option Scope) → along (scope-of f (a .kind)) (a .path) ≡ o → in-scope (a .wanted) o ≡ []
 unfolding in-scope
-asked-well gs f c a h none e = refl
-asked-well gs f c a h (some u) e =
-    well-found gs f c u (a .wanted) (due gs f a h u e) (find-definition (u .definitions) (a .wanted .definition .name)) refl
+asked-well gs f q c a h none e = refl
+asked-well gs f q c a h (some u) e =
+    well-found gs f q c u (a .wanted) (due gs f a h u e) (find-definition (u .definitions) (a .wanted .definition .name)) refl
 
-nothing-wrong : (gs : List Spec) (f : File) → Conforms gs f → findings gs f ≡ []
+nothing-wrong : (gs : List Spec) (f : File) → AllFair gs f → Conforms gs f → findings gs f ≡ []
 unfolding findings finding
-nothing-wrong gs f c = all-empty f (asked gs) (λ a h. asked-well gs f c a h (along (scope-of f (a .kind)) (a .path)) refl)
+nothing-wrong gs f q c = all-empty f (asked gs) (λ a h. asked-well gs f q c a h (along (scope-of f (a .kind)) (a .path)) refl)
 
 none-foremost : (l : List Finding) → l ≡ [] → foremost l ≡ none
 unfolding foremost
 none-foremost l e = ap foremost e
 
-pub nothing-told : (gs : List Spec) (f : File) → (foremost (findings gs f) ≡ none) ↔ Conforms gs f
-nothing-told gs f = (
-  (λ e. conforming gs f (nothing-found (findings gs f) e)),
-  (λ c. none-foremost (findings gs f) (nothing-wrong gs f c)),
+pub nothing-told : (gs : List Spec) (f : File) → AllFair gs f → (foremost (findings gs f) ≡ none) ↔ Conforms gs f
+nothing-told gs f q = (
+  (λ e. conforming gs f q (nothing-found (findings gs f) e)),
+  (λ c. none-foremost (findings gs f) (nothing-wrong gs f q c)),
 )
 
 -- What is told is the least --------------------------------------------------------------------------------------------------------------------

@@ -1,14 +1,14 @@
 -- What a lookup of a value word by bytes finds is what the list has. Assumes nothing.
 use mathlib.Core.Path.{_≡_, refl, sym, _∙_, ap}
 use mathlib.Core.List.{List}
-use mathlib.Core.Bool.{Bool, true, false, false≢true}
+use mathlib.Core.Bool.{Bool, true, false}
 use mathlib.Core.Option.{Option, none, some}
 use Prim.Native.Nat.{ℕ, _+_, _*_, _≤_, _<_}
 use lib.ListN.{length, getD}
 use lib.Dec.{eqb}
-use borrow.Author.Tests.{ne-eqb, eqb-true, eqb-false}
+use borrow.Author.Tests.{eq-eqb, ne-eqb, eqb-true, eqb-false}
 use Rattle.grammar.proofs.Uniqueness.{none≢some}
-use Rattle.token.specs.Find.{pick, both}
+use Rattle.token.specs.Find.{pick}
 use Rattle.token.specs.Words.{same}
 use Rattle.token.specs.Tokens.{partOf}
 use Rattle.token.proofs.Codes.{same-equal}
@@ -23,6 +23,7 @@ use Rattle.scopes.specs.Promises.{place-found, FindsWord, FindsTruth, FindsEnum
 use Rattle.scopes.proofs.Descents.{nth-in, entry-facts, found-value, value-word}
 use Rattle.scopes.proofs.Taking.{truth-one, truth-two, truth-none, finds-enumerator, word-truth, word-nothing, word-none, word-some}
 use Rattle.standard.specs.Naming.{isChoice, findChoice, truthNamed, FindsValue}
+use Rattle.standard.proofs.Truths.{both-right}
 
 unfoldable pub choiceWord : List ℕ → Found → ℕ
 choiceWord e (At i) = getD e (i * 3 + 1) 0
@@ -95,16 +96,12 @@ truth-somewhere s d j b =
     by false true h g = part-at _ _ (sym (same-equal _ _ g))
     by false false h g = nowhere refl
 
-pub both-second : (a b : Bool) → both a b ≡ true → b ≡ true
-both-second true b h = h
-both-second false b h = absurd (false≢true h)
-
 choice-part : (s e : List ℕ) (key i : ℕ) (b : List ℕ) {n : ℕ} → isChoice s e key i b ≡ true → Somewhere s b n
 unfolding isChoice
 choice-part s e key i b h =
     let p = getD e (i * 3 + 1) 0 in
     let n = getD e (i * 3 + 2) 0 in
-    part-at p n (sym (same-equal (partOf s p n) b (both-second (hasKey e (i * 3) 0 key) (same (partOf s p n) b) h)))
+    part-at p n (sym (same-equal (partOf s p n) b (both-right (hasKey e (i * 3) 0 key) (same (partOf s p n) b) h)))
 
 choice-somewhere : (s e : List ℕ) (m key : ℕ) (b : List ℕ) → Somewhere s b (choiceWord e (findChoice s e m key b 0))
 unfolding findChoice choiceWord
@@ -154,13 +151,6 @@ finds-value s d e m j b r z f x t st hd he row l rch q = by (find-value (x .valu
 
 -- The tests of the code ----------------------------------------------------------------------------------------------------------------------
 
-eqb-same : (k : ℕ) → eqb k k ≡ true
-eqb-same k = by (eqb k k) refl
-  where
-    by : (c : Bool) → eqb k k ≡ c → c ≡ true
-    by true e = refl
-    by false e = absurd (eqb-false k k e refl)
-
 pub other-list : (s e : List ℕ) (key i : ℕ) (b : List ℕ) → (getD e (i * 3 + 0) 0 ≡ key → ⊥) → isChoice s e key i b ≡ false
 unfolding isChoice hasKey
 other-list s e key i b h = rw (ne-eqb (getD e (i * 3 + 0) 0) key h)
@@ -168,7 +158,7 @@ other-list s e key i b h = rw (ne-eqb (getD e (i * 3 + 0) 0) key h)
 pub its-list : (s e : List ℕ) (key i : ℕ) (b : List ℕ) (p n : ℕ) → getD e (i * 3 + 0) 0 ≡ key → p ≡ getD e (i * 3 + 1) 0 → n ≡ getD e (i * 3 + 2) 0
     → same (partOf s p n) b ≡ isChoice s e key i b
 unfolding isChoice hasKey
-its-list s e key i b p n h k g = rw (h, k, g, eqb-same key)
+its-list s e key i b p n h k g = rw (h, k, g, eq-eqb key key refl)
 
 pub choice-stop : (s e : List ℕ) (n key : ℕ) (b : List ℕ) (i : ℕ) → i < n → isChoice s e key i b ≡ true → findChoice s e n key b i ≡ At i
 unfolding findChoice

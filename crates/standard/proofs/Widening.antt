@@ -25,6 +25,7 @@ use Rattle.standard.specs.Choices.{hasExtra}
 use Rattle.standard.specs.Spans.{WithinOneTwo}
 use Rattle.standard.specs.Findings.{Wider}
 use Rattle.standard.proofs.Choosing.{extra-is}
+use Rattle.standard.proofs.Types.{enum-coded, boolean-coded}
 
 -- Types by their codes -------------------------------------------------------------------------------------------------------------------------
 
@@ -34,24 +35,6 @@ integer-bounds UINT32 = (omega arith, omega arith)
 integer-bounds INT32 = (omega arith, omega arith)
 integer-bounds UINT64 = (omega arith, omega arith)
 integer-bounds INT64 = (omega arith, omega arith)
-
-enum-coded : (t : AttributeType) → type-code t ≡ 41 → t ≡ enum
-unfolding type-code
-enum-coded (integer i) e = absurd (let b = integer-bounds i in omega (arith, e, b))
-enum-coded string e = absurd (omega (arith, e))
-enum-coded boolean e = absurd (omega (arith, e))
-enum-coded enum e = refl
-enum-coded float e = absurd (omega (arith, e))
-enum-coded (reference k) e = absurd (let b = kind-low k in omega (arith, e, b))
-
-boolean-coded : (t : AttributeType) → type-code t ≡ 40 → t ≡ boolean
-unfolding type-code
-boolean-coded (integer i) e = absurd (let b = integer-bounds i in omega (arith, e, b))
-boolean-coded string e = absurd (omega (arith, e))
-boolean-coded boolean e = refl
-boolean-coded enum e = absurd (omega (arith, e))
-boolean-coded float e = absurd (omega (arith, e))
-boolean-coded (reference k) e = absurd (let b = kind-low k in omega (arith, e, b))
 
 ranged : {s : List ℕ} {d : Definition} {vs : Values} → Formed s d vs → (n : ℕ) → type-code (d .type) ≡ n → 35 ≤ n → n ≤ 38 → RangeAt s (d .range .place) (d .bounds)
 unfolding type-code

@@ -130,7 +130,8 @@ unfoldable pub has-list : Values → Bool
 has-list no-value = false
 has-list (value t e us vs) = true
 
--- "values .. wider than the standard's", of an attribute of the same type; "a BOOLEAN without its list differs".
+-- "values .. wider than the standard's", of an attribute of the same type; "a BOOLEAN without its list differs". Strings and references have nothing
+-- to compare, and section 5.2 has no FLOAT.
 unfoldable pub wider : AttributeType → Bounds → Values → Bounds → Values → Bool
 wider (integer i) b ws c vs = not (within i b c)
 wider string b ws c vs = false

@@ -6,21 +6,18 @@ use mathlib.Core.List.{List}
 use mathlib.Core.Option.{none, some}
 use mathlib.Core.Logic.{_↔_}
 use Prim.Native.Nat.{ℕ}
-use mathlib.Core.Bool.{true}
-use Rattle.grammar.specs.Grammar.{Derivation, Integer}
+use Rattle.grammar.specs.Grammar.{Derivation}
 use Rattle.grammar.specs.Terminals.{tokens}
-use Rattle.meaning.specs.Syntax.{Num, Word, integer, Definitions, Defined, File}
-use Rattle.meaning.specs.Words.{in-type, in-bounds}
+use Rattle.meaning.specs.Syntax.{Defined, File}
 use Rattle.meaning.specs.Actions.{syntax}
 use Rattle.meaning.specs.Answers.{Tables, accepted, refused}
 use Rattle.meaning.specs.Reading.{Answers}
 use Rattle.meaning.specs.Rules.{TheAnswer}
 use Rattle.meaning.specs.Scopes.{find-definition}
-use Rattle.standard.specs.Asking.{Asked, asked, Scope, within, Finding}
+use Rattle.standard.specs.Asking.{Scope, Finding}
 use Rattle.standard.specs.Section.{standard}
 use Rattle.standard.specs.Checking.{checked}
-use Rattle.standard.specs.Conforming.{Asks, Agrees, Conforms, NotBehind, Proper}
-use Rattle.scopes.specs.Situations.{HasDefinition, Stands, Nth}
+use Rattle.standard.specs.Conforming.{Asks, Agrees, Conforms, NotBehind}
 use Rattle.standard.specs.declared.Checked.{Checked}
 use Rattle.standard.specs.declared.Checked.the-variants as c
 
@@ -50,12 +47,3 @@ pub data ChecksByRules (s : List ℕ) (r : Checked) : Type 0 where
 -- proofs/ByRules has `nothing-exactly`.
 abbrev pub NothingExactly : Type 0
 NothingExactly = (s : List ℕ) (t : Tables) → Answers s (accepted t) → (d : Derivation (tokens s)) → (checked s ≡ c.NothingWrong) ↔ Conforms standard (syntax s (d .tree))
-
--- "values no wider than the standard's", of integers: the numbers of the type that the text's attribute x takes are among those that the standard's
--- attribute a takes. Of every accepted text, by any derivation. proofs/Ranged has `numbers-exactly`.
-abbrev pub NumbersExactly : Type 0
-NumbersExactly = (s : List ℕ) (t : Tables) → Answers s (accepted t) → (d : Derivation (tokens s)) → (i : ℕ) (a : Asked) → Nth (asked standard) i a
-    → (u : Word) (ds : Definitions) (x : Defined) → Stands (syntax s (d .tree) .specs) u ds → HasDefinition ds x
-    → (k : Integer) → a .wanted .definition .type ≡ integer k → x .definition .type ≡ integer k
-    → (within k (a .wanted .definition .bounds) (x .definition .bounds) ≡ true)
-    ↔ ((n : Num) → Proper n → in-type k n ≡ true → in-bounds n (x .definition .bounds) ≡ true → in-bounds n (a .wanted .definition .bounds) ≡ true)
