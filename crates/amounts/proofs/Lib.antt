@@ -3,5 +3,6 @@ pub mod Keyings
 pub mod Listings
 pub mod Frames
 pub mod Rowwise
+pub mod Rises
 pub mod Answers
 pub mod Remembering

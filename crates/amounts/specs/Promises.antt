@@ -27,6 +27,10 @@ pub record Keyed (s : List ℕ) (sign : Bool) (m : Num) (from : ℕ) (l l′ : L
   pub tells : (r ≡ 0 → ⊥) → (ws : List Word) → Listed s from ws → (n : Num) → has-key sign n ≡ true
       → among-cells (key n) (take r l′) ≡ either (equal n m) (among-numbers n ws)
 
+-- Where r says so, the cells are in rising order.
+abbrev pub Rises : List ℕ → Bool → Type 0
+Rises l r = r ≡ true → Rising l
+
 -- And they are in rising order.
 pub record KeyedRising (s : List ℕ) (sign : Bool) (m : Num) (from : ℕ) (l l′ : List ℕ) (r : ℕ) : Type 0 where
   pub keyed : Keyed s sign m from l l′ r

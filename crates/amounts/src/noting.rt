@@ -6,7 +6,7 @@ ghost use lib.ListN.{length};
 ghost use lib.Seq.{sets};
 ghost use Rattle.token.specs.Find.{bit};
 ghost use Rattle.scopes.specs.Items.{num};
-ghost use Rattle.amounts.specs.Promises.{KeyedBehind, Keyed, KeyedRising, NotesRow, NotesFloats, Notes};
+ghost use Rattle.amounts.specs.Promises.{KeyedBehind, Keyed, Rises, KeyedRising, NotesRow, NotesFloats, Notes};
 use super::keys;
 use rows::cells;
 use scopes::Num;
@@ -54,6 +54,22 @@ fn put_keys(text: &[u8], sign: bool, first: Num, from: usize, l: &mut [usize]) -
     put_rest(text, sign, from, 1, l)
 }
 
+// Whether no cell is less than the one before it.
+fn rises(l: &[usize]) -> bool
+    ensures { λ r. ⌜ Rises (now (l .entry)) r ⌝ }
+{
+    let mut last = 0;
+    let mut i = 0;
+    while i < l.len() {
+        if l[i] < last {
+            return false;
+        }
+        last = l[i];
+        i += 1;
+    }
+    true
+}
+
 // The same, in rising order; `spare` is room for half of them.
 fn put_sorted(
     text: &[u8],
@@ -66,6 +82,9 @@ fn put_sorted(
     ensures { λ r. ⌜ KeyedRising (now (text .entry)) sign (num first) from (now (l .entry)) (now (l .exit)) r ⌝ }
 {
     let n = put_keys(text, sign, first, from, l);
+    if rises(&l[..n]) {
+        return n;
+    }
     if spare.len() < n / 2 {
         return 0;
     }
@@ -153,10 +172,11 @@ fn note_floats(text: &[u8], d: &[usize], j: usize, t: &mut [usize])
     cells::put_cells(t, 512 + j * 5, &row);
 }
 
-// The row of the definition of row j, if it has a range; gives where the lists end.
+// The row of the definition of row j, if it has a range and is wanted; gives where the lists end.
 fn note_range(
     text: &[u8],
     d: &[usize],
+    wanted: &[usize],
     j: usize,
     t: &mut [usize],
     spare: &mut [usize],
@@ -164,6 +184,9 @@ fn note_range(
 ) -> usize
     ensures { λ r. ⌜ NotesRow (now (text .entry)) (now (d .entry)) (now (t .entry)) used (now (t .exit)) r ⌝ }
 {
+    if cells::get(wanted, j) == 0 {
+        return used;
+    }
     if cells::cell_of(d, 19, j, 12) == 42 {
         note_floats(text, d, j, t);
         return used;
@@ -171,8 +194,15 @@ fn note_range(
     note_row(text, d, j, t, spare, used)
 }
 
-// The rows of the first n definitions, in a table that was 0 before.
-pub fn note_ranges(text: &[u8], d: &[usize], n: usize, t: &mut [usize], spare: &mut [usize])
+// The rows of those of the first n definitions that are wanted, in a table that was 0 before.
+pub fn note_ranges(
+    text: &[u8],
+    d: &[usize],
+    wanted: &[usize],
+    n: usize,
+    t: &mut [usize],
+    spare: &mut [usize],
+)
     ensures { λ _. ⌜ Notes (now (text .entry)) (now (d .entry)) (now (t .entry)) (now (t .exit)) ⌝ }
 {
     let mut used = 3072;
@@ -181,7 +211,7 @@ pub fn note_ranges(text: &[u8], d: &[usize], n: usize, t: &mut [usize], spare: &
         if 512 <= j {
             return;
         }
-        used = note_range(text, d, j, t, spare, used);
+        used = note_range(text, d, wanted, j, t, spare, used);
         j += 1;
     }
 }

@@ -1,5 +1,5 @@
 pub mod Standings
-pub mod Naming
 pub mod Lacking
 pub mod Judgements
 pub mod Finding
+pub mod Readying

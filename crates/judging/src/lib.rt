@@ -1,12 +1,13 @@
 // The faults 13 to 16 and 18: the statements of a text, judged over the rows kept while it was read.
 ghost use mathlib.Core.Path.{_≡_};
 ghost use Prim.Native.Nat.{_<_};
-ghost use Rattle.rows.specs.Table.{part};
 ghost use Rattle.lookups.specs.Ranks.{Firsts};
 ghost use Rattle.lookups.specs.Owners.{Owners};
-ghost use Rattle.judging.specs.Names.{Ranks, Ready};
+ghost use Rattle.judging.specs.Names.{Ready, MarksReady, Blank};
+ghost use Rattle.lookups.specs.Names.{Ranks, Names, statement-ranks, owner-words};
 ghost use Rattle.judging.specs.Promises.{LackFault, Judges, JudgesOne, JudgesBlock, JudgesObject, JudgesObjects, JudgesAll};
 use blocks::after;
+use lookups::names;
 use rows::Fault;
 use rows::Found;
 use rows::cells;
@@ -15,8 +16,8 @@ use rows::refusals;
 use scopes::Sizes;
 
 mod marking;
-mod names;
 mod values;
+mod wanting;
 
 // 16 at the owner's word, where the block lacks an attribute of the scope of the word at key; 0 is no word's place. Here and below `first` has the
 // first row of each rank in the block, or no cell.
@@ -33,7 +34,7 @@ fn lack_fault(
     end: usize,
     owner: usize,
 ) -> Fault
-    requires { ⌜ Ranks (now text) (now d) (now st) (now names) × Firsts (now st) (part (now names) 1792 2049) from end (now first) × Owners (now d) (now missing) (part (now names) 4353 512) ⌝ }
+    requires { ⌜ Ranks (now text) (now d) (now st) (now names) × Firsts (now st) (statement-ranks (now names)) from end (now first) × Owners (now d) (now missing) (owner-words (now names)) ⌝ }
     ensures { λ r. ⌜ LackFault (now (text .entry)) (now (d .entry)) (now (st .entry)) (now (missing .entry)) z key from end owner r ⌝ }
 {
     if key == 0 {
@@ -82,7 +83,7 @@ fn judge(
     from: usize,
     end: usize,
 ) -> Fault
-    requires { ⌜ Ready (now text) (now d) (now e) (now o) (now st) z (now names) (now known) × Firsts (now st) (part (now names) 1792 2049) from end (now first) ⌝ }
+    requires { ⌜ Ready (now text) (now d) (now e) (now o) (now st) z (now names) (now known) × Firsts (now st) (statement-ranks (now names)) from end (now first) ⌝ }
     ensures { λ r. ⌜ Judges (now (text .entry)) (now (d .entry)) (now (e .entry)) (now (o .entry)) (now (st .entry)) (now (known .entry)) z key from end r ⌝ }
 {
     let mut best = Fault {
@@ -131,7 +132,7 @@ fn judge_one(
     next: usize,
     end: usize,
 ) -> Fault
-    requires { ⌜ (k < next) × Ready (now text) (now d) (now e) (now o) (now st) z (now names) (now known) × Firsts (now st) (part (now names) 1792 2049) from end (now first) ⌝ }
+    requires { ⌜ (k < next) × Ready (now text) (now d) (now e) (now o) (now st) z (now names) (now known) × Firsts (now st) (statement-ranks (now names)) from end (now first) ⌝ }
     ensures { λ r. ⌜ JudgesOne (now (text .entry)) (now (d .entry)) (now (e .entry)) (now (o .entry)) (now (st .entry)) (now (known .entry)) z key from k next end r ⌝ }
 {
     let name = cells::cell_of(st, 7, k, 0);
@@ -200,6 +201,12 @@ fn judge_block(
             owner,
         );
     }
+    if z.definitions < 64 {
+        let first = names::few_firsts(st, names, from, end);
+        let a = lack_fault(text, d, st, names, &first, known, z, key, from, end, owner);
+        let b = judge(text, d, e, o, st, names, &first, known, z, key, from, end);
+        return faults::sooner(a, b);
+    }
     let first = names::firsts(st, names, from, end);
     let a = lack_fault(text, d, st, names, &first, known, z, key, from, end, owner);
     let b = judge(text, d, e, o, st, names, &first, known, z, key, from, end);
@@ -258,17 +265,112 @@ fn judge_objects(
     best
 }
 
-// The fault by which the stage of 13 to 16 and 18 answers; `places` are those of the thirteen kinds' words.
+// The faults of all objects, where `missing` has the marks of the rows; `wanted` says which ranges are noted, and `known` and `spare` are room for them.
+fn judge_ranged(
+    text: &[u8],
+    d: &[usize],
+    e: &[usize],
+    o: &[usize],
+    st: &[usize],
+    names: &[usize],
+    missing: &[usize],
+    wanted: &[usize],
+    known: &mut [usize],
+    spare: &mut [usize],
+    z: Sizes,
+    places: &[usize],
+) -> Fault
+    requires { ⌜ MarksReady (now text) (now d) (now e) (now o) (now st) z (now names) (now missing) × Blank (now known) ⌝ }
+    ensures { λ r. ⌜ JudgesObjects (now (text .entry)) (now (d .entry)) (now (e .entry)) (now (o .entry)) (now (st .entry)) (now (missing .entry)) z (now (places .entry)) r ⌝ }
+{
+    amounts::noting::note_ranges(text, d, wanted, z.definitions, known, spare);
+    cells::put_cells(known, 0, missing);
+    judge_objects(text, d, e, o, st, names, known, z, places)
+}
+
+// The same with room for few numbers in lists.
+fn judge_few(
+    text: &[u8],
+    d: &[usize],
+    e: &[usize],
+    o: &[usize],
+    st: &[usize],
+    names: &[usize],
+    missing: &[usize],
+    wanted: &[usize],
+    z: Sizes,
+    places: &[usize],
+) -> Fault
+    requires { ⌜ MarksReady (now text) (now d) (now e) (now o) (now st) z (now names) (now missing) ⌝ }
+    ensures { λ r. ⌜ JudgesObjects (now (text .entry)) (now (d .entry)) (now (e .entry)) (now (o .entry)) (now (st .entry)) (now (missing .entry)) z (now (places .entry)) r ⌝ }
+{
+    let mut known = [0; 4096];
+    let mut spare = [0; 512];
+    judge_ranged(
+        text,
+        d,
+        e,
+        o,
+        st,
+        names,
+        missing,
+        wanted,
+        &mut known,
+        &mut spare,
+        z,
+        places,
+    )
+}
+
+// The same with room for as many as a text can have.
+fn judge_many(
+    text: &[u8],
+    d: &[usize],
+    e: &[usize],
+    o: &[usize],
+    st: &[usize],
+    names: &[usize],
+    missing: &[usize],
+    wanted: &[usize],
+    z: Sizes,
+    places: &[usize],
+) -> Fault
+    requires { ⌜ MarksReady (now text) (now d) (now e) (now o) (now st) z (now names) (now missing) ⌝ }
+    ensures { λ r. ⌜ JudgesObjects (now (text .entry)) (now (d .entry)) (now (e .entry)) (now (o .entry)) (now (st .entry)) (now (missing .entry)) z (now (places .entry)) r ⌝ }
+{
+    let mut known = [0; 35840];
+    let mut spare = [0; 16384];
+    judge_ranged(
+        text,
+        d,
+        e,
+        o,
+        st,
+        names,
+        missing,
+        wanted,
+        &mut known,
+        &mut spare,
+        z,
+        places,
+    )
+}
+
+// The fault by which the stage of 13 to 16 and 18 answers; `places` are those of the thirteen kinds' words. The words under which something must be
+// stated are put into the table of names.
 pub fn judge_all(
     text: &[u8],
     d: &[usize],
     e: &[usize],
     o: &[usize],
     st: &[usize],
+    names: &mut [usize],
     z: Sizes,
     places: [usize; 13],
 ) -> Fault
-    ensures { λ r. ⌜ JudgesAll (now (text .entry)) (now (d .entry)) (now (e .entry)) (now (o .entry)) (now (st .entry)) z places r ⌝ }
+    requires { ⌜ Names (now text) (now d) (now e) (now o) (now st) z (now names) ⌝ }
+    ensures judges { λ r. ⌜ JudgesAll (now (text .entry)) (now (d .entry)) (now (e .entry)) (now (o .entry)) (now (st .entry)) z places r ⌝ }
+    ensures keeps { λ r. ⌜ Names (now (text .entry)) (now (d .entry)) (now (e .entry)) (now (o .entry)) (now (st .entry)) z (now (names .exit)) ⌝ }
 {
     if 512 < z.definitions {
         return Fault {
@@ -288,13 +390,12 @@ pub fn judge_all(
             place: 0,
         };
     }
-    let mut names = names::note(text, d, e, o, st, z);
-    let missing = marking::marks(text, d, e, st, &names, z);
+    let missing = marking::marks(text, d, e, st, names, z);
     let owners = lookups::owners::owners(d, &missing);
-    cells::put_cells(&mut names, 4353, &owners);
-    let mut known = [0; 35840];
-    let mut spare = [0; 16384];
-    amounts::noting::note_ranges(text, d, z.definitions, &mut known, &mut spare);
-    cells::put_cells(&mut known, 0, &missing);
-    judge_objects(text, d, e, o, st, &names, &known, z, &places)
+    cells::put_cells(names, 4353, &owners);
+    let wanted = wanting::wanted(st, names);
+    if wanting::listed(d, &wanted) < 1024 {
+        return judge_few(text, d, e, o, st, names, &missing, &wanted, z, &places);
+    }
+    judge_many(text, d, e, o, st, names, &missing, &wanted, z, &places)
 }

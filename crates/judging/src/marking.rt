@@ -4,12 +4,11 @@ ghost use Prim.Native.Nat.{_+_, _*_};
 ghost use lib.Dec.{eqb};
 ghost use lib.ListN.{getD};
 ghost use Rattle.token.specs.Find.{bit};
-ghost use Rattle.rows.specs.Table.{part};
 ghost use Rattle.rows.specs.Search.{findRow};
 ghost use Rattle.lookups.specs.Ranks.{Firsts};
-ghost use Rattle.judging.specs.Names.{IndexAt, Ranks};
+ghost use Rattle.lookups.specs.Names.{IndexAt, Ranks, statement-ranks};
 ghost use Rattle.judging.specs.Promises.{LacksRow, Lacks, Needs, Marks};
-use super::names;
+use lookups::names;
 use rows::Found;
 use rows::cells;
 use rows::finding;
@@ -28,7 +27,7 @@ fn lacks_row(
     from: usize,
     end: usize,
 ) -> bool
-    requires { ⌜ Ranks (now text) (now d) (now st) (now names) × Firsts (now st) (part (now names) 1792 2049) from end (now first) ⌝ }
+    requires { ⌜ Ranks (now text) (now d) (now st) (now names) × Firsts (now st) (statement-ranks (now names)) from end (now first) ⌝ }
     ensures { λ r. ⌜ LacksRow (now (text .entry)) (now (d .entry)) (now (st .entry)) (now (missing .entry)) i from end r ⌝ }
 {
     if cells::get(missing, i) == 0 {
@@ -75,7 +74,7 @@ pub fn lacks(
     from: usize,
     end: usize,
 ) -> bool
-    requires { ⌜ Ranks (now text) (now d) (now st) (now names) × Firsts (now st) (part (now names) 1792 2049) from end (now first) ⌝ }
+    requires { ⌜ Ranks (now text) (now d) (now st) (now names) × Firsts (now st) (statement-ranks (now names)) from end (now first) ⌝ }
     ensures { λ r. ⌜ Lacks (now (text .entry)) (now (d .entry)) (now (st .entry)) (now (missing .entry)) n key from end r ⌝ }
 {
     let mut i = 0;

@@ -2,14 +2,13 @@
 ghost use mathlib.Core.Path.{_≡_};
 ghost use Prim.Native.Nat.{_+_, _*_};
 ghost use lib.ListN.{getD};
-ghost use Rattle.rows.specs.Table.{part};
 ghost use Rattle.lookups.specs.Ranks.{Firsts};
 ghost use Rattle.amounts.specs.Known.{Known};
 ghost use Rattle.scopes.specs.Promises.{FindsWord};
-ghost use Rattle.judging.specs.Names.{IndexAt, Ranks, Named};
+ghost use Rattle.lookups.specs.Names.{IndexAt, Ranks, Named, statement-ranks};
 ghost use Rattle.judging.specs.Promises.{name-code, ReferenceFault, ValueFault, Again, OwnFault};
-use super::names;
 use amounts::asking::takes;
+use lookups::names;
 use rows::Fault;
 use rows::Found;
 use rows::cells;
@@ -124,7 +123,7 @@ fn again(
     end: usize,
     j: usize,
 ) -> bool
-    requires { ⌜ Ranks (now text) (now d) (now st) (now names) × Firsts (now st) (part (now names) 1792 2049) from end (now first) ⌝ }
+    requires { ⌜ Ranks (now text) (now d) (now st) (now names) × Firsts (now st) (statement-ranks (now names)) from end (now first) ⌝ }
     ensures { λ r. ⌜ Again (now (text .entry)) (now (d .entry)) (now (e .entry)) (now (o .entry)) (now (st .entry)) z from k end j r ⌝ }
 {
     if cells::cell_of(d, 19, j, 6) != 0 {
@@ -150,7 +149,7 @@ pub fn own_fault(
     j: usize,
     under: usize,
 ) -> Fault
-    requires { ⌜ Known (now text) (now d) (now known) × Named (now text) (now d) (now e) (now o) (now st) z (now names) × Firsts (now st) (part (now names) 1792 2049) from end (now first) × FindsWord (now text) (now d) (now e) (z .enumerators) j (getD (now st) (k * 7 + 2) 0) (getD (now st) (k * 7 + 3) 0) under ⌝ }
+    requires { ⌜ Known (now text) (now d) (now known) × Named (now text) (now d) (now e) (now o) (now st) z (now names) × Firsts (now st) (statement-ranks (now names)) from end (now first) × FindsWord (now text) (now d) (now e) (z .enumerators) j (getD (now st) (k * 7 + 2) 0) (getD (now st) (k * 7 + 3) 0) under ⌝ }
     ensures { λ r. ⌜ OwnFault (now (text .entry)) (now (d .entry)) (now (e .entry)) (now (o .entry)) (now (st .entry)) z from k end j r ⌝ }
 {
     let name = cells::cell_of(st, 7, k, 0);

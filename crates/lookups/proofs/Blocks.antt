@@ -55,7 +55,7 @@ module _ (s st : List ℕ) (k e at len : ℕ) where
   unfolding rowName
   finds-after r h q n ss t b p = let l = looking-more k e at len k (looking-start s st k e at len) h q ss t b p in n (l .left) t (l .block) p ∙ l .same-found
 
-  finds-end : e ≤ k → FindsStated s st k e at len Nothing
+  pub finds-end : e ≤ k → FindsStated s st k e at len Nothing
   finds-end h = looking-end k e at len k (looking-start s st k e at len) h
 
 -- rows of another rank are passed

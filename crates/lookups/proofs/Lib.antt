@@ -4,3 +4,5 @@ pub mod Rows
 pub mod Standings
 pub mod Attributes
 pub mod Owning
+pub mod Linking
+pub mod Naming

@@ -1,3 +1,5 @@
 pub mod Ranks
+pub mod Links
 pub mod Answers
 pub mod Owners
+pub mod Names

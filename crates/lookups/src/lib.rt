@@ -1,11 +1,15 @@
 // Names looked up in the kept rows through indexes and noted ranks: each answer is the one that comparing all bytes gives.
 ghost use mathlib.Core.Path.{_≡_};
-ghost use Prim.Native.Nat.{_+_, _*_, min};
+ghost use mathlib.Core.List.{List};
+ghost use Prim.Native.Nat.{ℕ, _+_, _*_, min};
 ghost use lib.ListN.{getD};
 ghost use Rattle.blocks.specs.Blocks.{FindsStated};
 ghost use Rattle.lookups.specs.Ranks.{NotesRanks, NextRow, Skips, start-of, first-noted, Firsts, FirstsTo, MayState, StatedRanked, RowStated, IsRowStated};
+ghost use Rattle.lookups.specs.Links.{Begins, StatedAfter};
 ghost use Rattle.lookups.specs.Answers.{DefinitionIndexed, ObjectIndexed, EnumeratorIndexed, WordIndexed};
 
+pub mod links;
+pub mod names;
 pub mod owners;
 
 use rows::Found;
@@ -183,6 +187,18 @@ pub fn firsts(st: &[usize], h: &[usize], from: usize, end: usize) -> [usize; 513
     first
 }
 
+// The same for the ranks below 64.
+pub fn few_firsts(st: &[usize], h: &[usize], from: usize, end: usize) -> [usize; 64]
+    ensures { λ r. ⌜ Firsts (now (st .entry)) (now (h .entry)) from end r ⌝ }
+{
+    let mut first = [end; 64];
+    let k = note_firsts(st, h, &mut first, from, end);
+    if k != end {
+        return [from; 64];
+    }
+    first
+}
+
 // Where the search for a name of a rank begins, in a block that begins at row `from`.
 fn start(first: &[usize], from: usize, rank: usize) -> usize
     ensures { λ r. ⌜ r ≡ start-of (now (first .entry)) from rank ⌝ }
@@ -278,6 +294,60 @@ pub fn row_stated(
     }
     let rank = ranks[i];
     let k = skip(st, h, start(first, from, rank), end, rank);
+    if end <= k {
+        return Found::Nothing;
+    }
+    let second = cells::place_after(t.len(), name, 1);
+    let start = cells::row_start(t.len(), width, i);
+    let at = cells::cell(t, start, name);
+    let len = cells::cell(t, start, second);
+    stated(text, st, h, k, end, at, len, rank)
+}
+
+// Where the search for a name of a rank begins, in a block that ends before row `end`, from row `from` on: this is the row after the statement of row
+// `last`, if something is noted in `next` for that.
+fn begin(h: &[usize], next: &[usize], last: usize, from: usize, end: usize, rank: usize) -> usize
+    ensures { λ r. ⌜ ((st : List ℕ) → Begins st (now (h .entry)) (now (next .entry)) last from end rank r) ⌝ }
+{
+    let row = cells::get(next, last);
+    if row == 0 {
+        return from;
+    }
+    if h.len() <= last {
+        return from;
+    }
+    if h[last] != rank {
+        return from;
+    }
+    if h.len() < end {
+        return from;
+    }
+    least(row, end)
+}
+
+// The first statement from row `from` on, in a block that ends before row `end`, that has the name of row i of a table: the one noted in `next` as that
+// after the statement of row `last`, if something is noted for it.
+pub fn stated_after(
+    text: &[u8],
+    t: &[usize],
+    width: usize,
+    name: usize,
+    ranks: &[usize],
+    i: usize,
+    st: &[usize],
+    h: &[usize],
+    next: &[usize],
+    last: usize,
+    from: usize,
+    end: usize,
+) -> Found
+    ensures { λ r. ⌜ StatedAfter (now (text .entry)) (now (t .entry)) width name (now (ranks .entry)) i (now (st .entry)) (now (h .entry)) (now (next .entry)) last from end r ⌝ }
+{
+    if ranks.len() <= i {
+        return searched(text, t, width, name, i, st, from, end);
+    }
+    let rank = ranks[i];
+    let k = skip(st, h, begin(h, next, last, from, end, rank), end, rank);
     if end <= k {
         return Found::Nothing;
     }

@@ -1,12 +1,12 @@
 -- The stages from 6 to 18 of a text whose rows are kept, one after the other. Assumes nothing.
-use mathlib.Core.Path.{_≡_, refl, sym, _∙_, ap, subst}
-use mathlib.Core.List.{List, [], _∷_}
+use mathlib.Core.Path.{_≡_, sym, _∙_, ap, subst}
+use mathlib.Core.List.{List}
 use mathlib.Core.Bool.{true, false}
 use mathlib.Core.Option.{Option, none}
-use Prim.Native.Nat.{ℕ, zero, suc, _+_, _≤_, _<_, min}
+use Prim.Native.Nat.{ℕ, _≤_, min}
 use native.Mathlib.Omega.{arith}
-use lib.ListN.{length, getD, set, replicate, length-set, length-replicate}
-use lib.Seq.{sets, getD-set-same, getD-set-other}
+use lib.ListN.{length, replicate}
+use lib.Seq.{sets}
 use Rattle.scopes.proofs.Firsts.{none-there}
 use Rattle.rows.proofs.Orders.{is-one, is-none}
 use Rattle.grammar.specs.Stage.{numberOf}
@@ -31,11 +31,11 @@ use Rattle.judging.specs.Promises.{JudgesAll}
 use Rattle.scopes.specs.declared.Sizes.{Sizes}
 use Rattle.walk.specs.Whole.{Rooms, Whole}
 use Rattle.walk.specs.declared.Walked.{Walked}
-use Rattle.reading.specs.Decisions.{grammarFault, Kept, KeptParts, orElse, stageFault, Staged, Stages, Decides}
+use Rattle.reading.specs.Decisions.{grammarFault, Kept, KeptParts, orElse, stageFault, Stages, Decides}
 use Rattle.reading.specs.declared.Decision.{Decision}
 use Rattle.meaning.proofs.Numbered.{of-definitions, of-objects, of-first}
 use Rattle.reading.proofs.Arriving.{refused-early, arrived, answers-first, answers-next, decided}
-use Rattle.reading.proofs.Settling.{Fitting, fitting, given, places}
+use Rattle.reading.proofs.Settling.{fitting, given, places}
 
 -- The rows of the objects are kept.
 module _ {s : List ℕ} {y : Rooms} {w : Walked} {f : File} (k : KeptParts s y w f) (p : first (definition-faults f) ≡ none) (q : first (object-faults f) ≡ none) where
@@ -121,6 +121,10 @@ module _ (s : List ℕ) (y : Rooms) (w : Walked) (a : Fault)
               ∙ after-first f k _;
           kept = λ n. K;
         }
+
+-- Where a fault answers nothing is said of the table of names.
+pub names-never : (c : Fault) {X : Type 0} → isFault c ≡ true → c .number ≡ 0 → X
+names-never c h n = absurd (is-one c h n)
 
 -- The decision -----------------------------------------------------------------------------------------------------------------------------
 

@@ -19,6 +19,8 @@ use Rattle.meaning.specs.Cells.{rooms-after}
 use Rattle.layout.specs.Kept.{spec-entries, spec-choices, statement-count, kept-definitions, kept-enumerators, kept-objects, kept-statements, kept-parts, kept-part-statements, again-place}
 use Rattle.scopes.specs.Situations.{Situation}
 use Rattle.scopes.specs.Promises.{fault-of}
+use Rattle.scopes.specs.declared.Sizes.{Sizes}
+use Rattle.lookups.specs.Names.{Names}
 use Rattle.walk.specs.Whole.{Rooms, Stands, kind-places, SameSizes}
 use Rattle.walk.specs.declared.Walked.{Walked}
 use Rattle.reading.specs.Results.{readingOf, SpansOf, NoSpans}
@@ -73,6 +75,14 @@ pub record KeptParts (s : List ℕ) (y : Rooms) (w : Walked) (f : File) : Type 0
   pub places : w .places ≡ kind-places (f .specs)
   pub again : w .again ≡ again-place [] (f .specs)
   pub counted : w .counts ≡ counts (f .parts)
+
+-- How many rows of each table there are.
+abbrev pub sizes-of : Decision → Sizes
+sizes-of r = record { definitions = r .walked .definitions; enumerators = r .walked .enumerators; objects = r .objects }
+
+-- Where r has no fault, x is the table of the names of the rows in y.
+abbrev pub NamesOf : (s : List ℕ) → Merged → Decision → List ℕ → Type 0
+NamesOf s y r x = r .fault .number ≡ 0 → Names s (y .definitions) (y .enumerators) (y .objects) (y .statements) (sizes-of r) x
 
 -- The first of two faults that there is.
 unfoldable pub orElse : Option Refusal → Option Refusal → Option Refusal

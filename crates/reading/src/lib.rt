@@ -4,10 +4,11 @@ ghost use lib.ListN.{length};
 ghost use Rattle.meaning.specs.Answers.{refused};
 ghost use Rattle.meaning.specs.Rules.{FullRoom};
 ghost use Rattle.grammar.specs.Readers.{answerOf};
+ghost use Rattle.lookups.specs.Names.{Names};
 ghost use Rattle.reading.specs.Results.{readingOf, Reads, ReadsSpanned};
 ghost use Rattle.reading.specs.Rules.{ReadsByRules};
 ghost use Rattle.reading.specs.Demand.{Demand-3};
-ghost use Rattle.reading.specs.Decisions.{grammarFault, Stages, Decides, Settles, RoomSizes, Unspanned, FilledSpanned};
+ghost use Rattle.reading.specs.Decisions.{grammarFault, sizes-of, NamesOf, Stages, Decides, Settles, RoomSizes, Unspanned, FilledSpanned};
 use grammar::Answer as Grammar;
 use grammar::Look;
 use rows::Fault;
@@ -106,7 +107,7 @@ fn grammar_fault(look: Look) -> Fault
     }
 }
 
-// The stages from 6 to 18: from the rows p and q of parts and their statements come the rows o and s of the objects.
+// The stages from 6 to 18: from the rows p and q of parts and their statements come the rows o and s of the objects, and the table of names.
 fn stages(
     text: &[u8],
     d: &[usize],
@@ -115,9 +116,12 @@ fn stages(
     q: &[usize],
     o: &mut [usize],
     s: &mut [usize],
+    names: &mut [usize],
     w: Walked,
 ) -> Decision
-    ensures { λ r. ⌜ Stages (now (text .entry)) (record { definitions = now (d .entry); enumerators = now (e .entry); parts = now (p .entry); statements = now (q .entry) }) (now (o .entry)) (now (s .entry)) (now (o .exit)) (now (s .exit)) w r ⌝ }
+    requires { ⌜ length (now names) ≡ 6916 ⌝ }
+    ensures stages { λ r. ⌜ Stages (now (text .entry)) (record { definitions = now (d .entry); enumerators = now (e .entry); parts = now (p .entry); statements = now (q .entry) }) (now (o .entry)) (now (s .entry)) (now (o .exit)) (now (s .exit)) w r ⌝ }
+    ensures names { λ r. ⌜ NamesOf (now (text .entry)) (record { definitions = now (d .entry); enumerators = now (e .entry); objects = now (o .exit); statements = now (s .exit) }) r (now (names .exit)) ⌝ }
 {
     let none = [0; 13];
     let a = defining_checks::definition_faults(
@@ -168,7 +172,8 @@ fn stages(
         enumerators: w.enumerators,
         objects: b.objects,
     };
-    let f = judging::judge_all(text, d, e, o, s, z, places);
+    lookups::names::note(text, d, e, o, s, z, w.statements, names);
+    let f = judging::judge_all(text, d, e, o, s, names, z, places);
     Decision {
         fault: f,
         walked: w,
@@ -186,8 +191,11 @@ fn decide(
     q: &mut [usize],
     o: &mut [usize],
     s: &mut [usize],
+    names: &mut [usize],
 ) -> Decision
-    ensures { λ r. ⌜ Decides (now (text .entry)) (record { definitions = now (d .entry); enumerators = now (e .entry); parts = now (p .entry); statements = now (q .entry) }) (record { definitions = now (d .exit); enumerators = now (e .exit); parts = now (p .exit); statements = now (q .exit) }) (now (o .entry)) (now (s .entry)) (now (o .exit)) (now (s .exit)) r ⌝ }
+    requires { ⌜ length (now names) ≡ 6916 ⌝ }
+    ensures decides { λ r. ⌜ Decides (now (text .entry)) (record { definitions = now (d .entry); enumerators = now (e .entry); parts = now (p .entry); statements = now (q .entry) }) (record { definitions = now (d .exit); enumerators = now (e .exit); parts = now (p .exit); statements = now (q .exit) }) (now (o .entry)) (now (s .entry)) (now (o .exit)) (now (s .exit)) r ⌝ }
+    ensures names { λ r. ⌜ NamesOf (now (text .entry)) (record { definitions = now (d .exit); enumerators = now (e .exit); objects = now (o .exit); statements = now (s .exit) }) r (now (names .exit)) ⌝ }
 {
     let none = [0; 13];
     let w = walk::walk(text, d, e, p, q);
@@ -201,7 +209,7 @@ fn decide(
             counts: none,
         };
     }
-    stages(text, d, e, p, q, o, s, w)
+    stages(text, d, e, p, q, o, s, names, w)
 }
 
 // The values, refusal 19, and the rows of the lent tables.
@@ -211,12 +219,14 @@ fn settle(
     e: &[usize],
     o: &[usize],
     s: &[usize],
+    names: &[usize],
     decision: Decision,
     definitions: &mut [usize],
     enumerators: &mut [usize],
     objects: &mut [usize],
     values: &mut [usize],
 ) -> Reading
+    requires { ⌜ Names (now text) (now d) (now e) (now o) (now s) (sizes-of decision) (now names) ⌝ }
     ensures { λ r. ⌜ Settles (now (text .entry)) (record { definitions = now (d .entry); enumerators = now (e .entry); objects = now (o .entry); statements = now (s .entry) }) decision (now (definitions .entry)) (now (enumerators .entry)) (now (objects .entry)) (now (values .entry)) (now (definitions .exit)) (now (enumerators .exit)) (now (objects .exit)) (now (values .exit)) r ⌝ }
 {
     let w = decision.walked;
@@ -226,7 +236,7 @@ fn settle(
         enumerators: w.enumerators,
         objects: decision.objects,
     };
-    let n = resolving::entering::resolve_all(text, d, e, o, s, values, z, places);
+    let n = resolving::entering::resolve_all(text, d, e, o, s, names, values, z, places);
     if 2048 < n {
         cells::clear(values);
         return refusal(refusals::MANY_VALUES, 0);
@@ -269,7 +279,17 @@ fn fill(
     let mut q = [0; 14343];
     let mut o = [0; 2570];
     let mut s = [0; 14343];
-    let r = decide(text, &mut d, &mut e, &mut p, &mut q, &mut o, &mut s);
+    let mut names = [0; 6916];
+    let r = decide(
+        text,
+        &mut d,
+        &mut e,
+        &mut p,
+        &mut q,
+        &mut o,
+        &mut s,
+        &mut names,
+    );
     let f = r.fault;
     if faults::is_fault(f) {
         return refused(f.number, f.place);
@@ -281,6 +301,7 @@ fn fill(
         &e,
         &o,
         &s,
+        &names,
         r,
         definitions,
         enumerators,

@@ -8,21 +8,24 @@ use native.Mathlib.Decide.{ℕ-discrete, decLe}
 use lib.ListN.{length, getD, set, replicate, length-replicate}
 use lib.Seq.{length-sets, getD-set-same, getD-set-other}
 use Rattle.rows.specs.Search.{rowName}
+use Rattle.rows.specs.Table.{part}
+use Rattle.rows.proofs.Starts.{cell-past}
 use Rattle.rows.specs.declared.Found.{Found}
 use Rattle.meaning.specs.Syntax.{done, state, statements-in}
 use Rattle.meaning.specs.Words.{among}
 use Rattle.meaning.specs.Scopes.{names}
 use Rattle.meaning.specs.Resolving.{resolve}
 use Rattle.sorting.specs.Sorted.{among-cells, Tells}
-use Rattle.indexes.specs.Indexing.{Indexed, Makes, nameRank}
-use Rattle.lookups.specs.Ranks.{NotesRanks, Firsts, RowStated, MayState}
-use Rattle.amounts.specs.Known.{KnownDefaults}
+use Rattle.indexes.specs.Indexing.{Indexed}
+use Rattle.lookups.specs.Names.{statement-ranks, definition-ranks, next-rows}
+use Rattle.lookups.specs.Links.{Linked, Follows, StatedAfter}
+use Rattle.lookups.specs.Ranks.{Ranked, Firsts, RowStated, MayState}
 use Rattle.layout.specs.Kept.{spec-entries, definition-cells, map-cells, join, kept, kept-definitions}
 use Rattle.blocks.specs.Blocks.{row-after, FindsStated, IsStated}
 use Rattle.blocks.proofs.Ranges.{after-later, is-stated}
 use Rattle.scopes.specs.declared.Sizes.{Sizes}
 use Rattle.resolving.specs.declared.Owner.{Owner as OwnerOf}
-use Rattle.resolving.specs.Noted.{NotesTo, NamesRanked, Rooms, Taken, NotesTaken, DefaultOwners, IsQuiet, Noted, Bare, no-default, not-taken, Quiet, elsewhere, silent, Defaults, Stirs, Elsewhere, NextUnder, Passes, NextRow}
+use Rattle.resolving.specs.Noted.{NotesTo, NamesRanked, Lent, Taken, NotesTaken, DefaultOwners, IsQuiet, Noted, Bare, no-default, not-taken, Quiet, elsewhere, silent, Defaults, Stirs, Elsewhere, NextUnder, Passes, NextRow}
 use Rattle.resolving.specs.Promises.{ResolvesDefault, ResolvesRow, Resolves, ResolvesAll}
 use Rattle.resolving.proofs.Turns.{row-other, row-default, Goes, goes-start, goes-more, goes-end}
 use Rattle.resolving.proofs.Namings.{words-noted}
@@ -36,6 +39,15 @@ module _ {s d st rs rd : List ℕ} (h : NamesRanked s d st rs rd) (j m e : ℕ) 
       → FindsStated s st m e (getD d (j * 19 + 2) 0) (getD d (j * 19 + 3) 0) r
   unfolding RowStated
   finds-ranked F r o f = f (h .rank) (h .definitions) (h .statements) o
+
+-- The next statement that has the name of row j, where row a is the one after that of row k.
+module _ {s d st rs rd nx : List ℕ} (h : NamesRanked s d st rs rd) (l : Linked st rs nx) {j k a e : ℕ} where
+  pub finds-after : {r : Found} → Follows st nx k a e → StatedAfter s d 19 2 rd j st rs nx k a e r → FindsStated s st a e (getD d (j * 19 + 2) 0) (getD d (j * 19 + 3) 0) r
+  finds-after o f = f .finds (h .rank) (h .definitions) (h .statements) l o
+
+-- Past the table nothing is noted.
+pub follows-none : (st nx : List ℕ) (a e : ℕ) → Follows st nx (length nx) a e
+follows-none st nx a e = let z = cell-past nx (length nx) (omega arith) in record { inside = λ q. absurd (q z); after = λ q. absurd (q z) }
 
 -- The row after a statement comes later.
 pub after-grows : (st : List ℕ) (i e next : ℕ) → next ≡ row-after st i e → i < e → i < next
@@ -164,36 +176,30 @@ module _ {s d e o st v : List ℕ} {z : Sizes} {limit key from till : ℕ} {w : 
 
 -- What is noted ----------------------------------------------------------------------------------------------------------------------------
 
-pub noted-all : {s d e o st : List ℕ} {z : Sizes} {known words xd₀ xe₀ xo₀ spare₀ rs rd us : List ℕ} (xd : List ℕ) {xe xo : List ℕ} {l n m k₀ k k₂ : ℕ} → KnownDefaults s d known × DefaultOwners d us × Rooms d z xd₀ xe₀ xo₀ spare₀
-    → l ≡ length xd₀ → k₀ ≡ length spare₀ → Makes s d 19 l 0 2 k₀ xd → n ≡ length xe₀ → k ≡ length spare₀ → Makes s e 3 n 0 1 k xe → m ≡ length xo₀ → k₂ ≡ length spare₀ → Makes s o 10 m 0 3 k₂ xo
-    → NotesTo s d e xe (length words) words → NotesRanks s d xd st 7 0 rs → NotesRanks s d xd d 19 2 rd → Noted s d e o st z known words xe xo rs rd us
-unfolding Makes NotesRanks
-noted-all {s} {d} {e} {o} {st} {z} {known} {words} {xd₀} {xe₀} {xo₀} {spare₀} {rs} {rd} {us} xd {xe} {xo} {l} {n} {m} {k₀} {k} {k₂} h d₁ d₂ ix a₁ a₂ ie b₁ b₂ io w p q =
-    let R = h .2 in
-    let l₀ = R .definitions in
-    let f₀ = R .definitions-fit in
-    let l₁ = R .enumerators in
-    let l₂ = R .objects in
-    let f₁ = R .enumerators-fit in
-    let f₂ = R .objects-fit in
-    let sp = R .spare-room in
-    let few : l ≤ 65536 = omega arith in
-    let r = ix (omega arith) in
-    let u : n ≡ z .enumerators = omega arith in
-    let t : m ≡ z .objects = omega arith in
-    let x : Indexed s e 3 (z .enumerators) 0 1 xe = subst (λ i. Indexed s e 3 i 0 1 xe) u (ie (omega arith)) in
-    let y : Indexed s o 10 (z .objects) 0 3 xo = subst (λ i. Indexed s o 10 i 0 3 xo) t (io (omega arith)) in
+pub noted-all : {s d e o st : List ℕ} {z : Sizes} {x known words xe xo rs nx rd us : List ℕ} → Lent s d e o st z x known us → xe ≡ part x 512 (z .enumerators)
+    → xo ≡ part x 1536 (z .objects) → rs ≡ statement-ranks x → nx ≡ next-rows x → rd ≡ definition-ranks x → NotesTo s d e xe (length words) words → Noted s d e o st z known words xe xo rs nx rd us
+noted-all {s} {d} {e} {o} {st} {z} {x} {known} {words} {xe} {xo} {rs} {nx} {rd} {us} h a b p l q w =
+    let n = h .named in
+    let r = n .ranks in
+    let fe = h .few .enumerators in
+    let y : Indexed s e 3 (z .enumerators) 0 1 xe = subst (λ l. Indexed s e 3 (z .enumerators) 0 1 l) (sym a) (n .enumerators .index) in
     record {
-      defaults = h .0;
+      defaults = h .defaults;
       indexes = record {
-        defaults = words-noted (z .enumerators) words x (omega arith) w;
-        enumerators = x;
-        objects = y;
-        enumerators-fit = f₁;
-        objects-fit = f₂;
+        defaults = words-noted (z .enumerators) words y (omega arith) w;
+        enumerators = y;
+        objects = subst (λ l. Indexed s o 10 (z .objects) 0 3 l) (sym b) (n .objects .index);
+        enumerators-fit = fe;
+        objects-fit = h .few .objects;
       };
-      ranks = record { rank = nameRank s d 19 0 2 xd; statements = p l r few; definitions = q l r few; room = R .room };
-      owners = h .1;
+      ranks = record {
+        rank = r .rank;
+        statements = subst (λ l. Ranked (r .rank) s st 7 0 l) (sym p) (r .statements);
+        definitions = subst (λ l. Ranked (r .rank) s d 19 2 l) (sym q) (r .definitions);
+        room = h .room;
+      };
+      links = subst (λ u. Linked st u nx) (sym p) (subst (λ u. Linked st (statement-ranks x) u) (sym l) (n .links));
+      owners = h .owners;
     }
 
 kept-long : (n : ℕ) (rs : List (List ℕ)) → length (kept n rs) ≡ n

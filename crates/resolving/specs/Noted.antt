@@ -7,7 +7,9 @@ use lib.ListN.{length, getD}
 use Rattle.rows.specs.declared.Found.{Found}
 use Rattle.rows.specs.declared.Found.the-variants.{At}
 use Rattle.indexes.specs.Indexing.{Indexed}
+use Rattle.lookups.specs.Names.{FewRows, Named}
 use Rattle.lookups.specs.Ranks.{Ranked}
+use Rattle.lookups.specs.Links.{Linked}
 use Rattle.lookups.specs.Owners.{Owners}
 use Rattle.sorting.specs.Sorted.{Tells}
 use Rattle.amounts.specs.Known.{KnownDefaults}
@@ -40,17 +42,6 @@ pub record NamesRanked (s d st rs rd : List ℕ) : Type 0 where
   pub definitions : Ranked rank s d 19 2 rd
   pub room : length d ≡ 9747
 
--- The indexes have a cell for each row, and there is room for sorting them.
-pub record Rooms (d : List ℕ) (z : Sizes) (xd xe xo spare : List ℕ) : Type 0 where
-  pub room : length d ≡ 9747
-  pub definitions : length xd ≡ z .definitions
-  pub enumerators : length xe ≡ z .enumerators
-  pub objects : length xo ≡ z .objects
-  pub definitions-fit : z .definitions ≤ 512
-  pub enumerators-fit : z .enumerators ≤ 1024
-  pub objects-fit : z .objects ≤ 256
-  pub spare-room : length spare ≡ 512
-
 -- Row j has no default that is taken.
 pub data Bare (d : List ℕ) (j : ℕ) : Type 0 where
   no-default : getD d (j * 19 + 11) 0 ≡ 0 → Bare d j
@@ -71,10 +62,19 @@ pub record DefaultOwners (d us : List ℕ) : Type 0 where
   pub owners : Owners d marks us
 
 -- All that is noted.
-pub record Noted (s d e o st : List ℕ) (z : Sizes) (known words xe xo rs rd us : List ℕ) : Type 0 where
+pub record Noted (s d e o st : List ℕ) (z : Sizes) (known words xe xo rs nx rd us : List ℕ) : Type 0 where
   pub defaults : KnownDefaults s d known
   pub indexes : Indexes s d e o z words xe xo
   pub ranks : NamesRanked s d st rs rd
+  pub links : Linked st rs nx
+  pub owners : DefaultOwners d us
+
+-- What is lent: the names, and what is known of the defaults; the table of definitions has 513 rows.
+pub record Lent (s d e o st : List ℕ) (z : Sizes) (names known us : List ℕ) : Type 0 where
+  pub room : length d ≡ 9747
+  pub few : FewRows z
+  pub named : Named s d e o st z names
+  pub defaults : KnownDefaults s d known
   pub owners : DefaultOwners d us
 
 -- What the functions promise ---------------------------------------------------------------------------------------------------------------

@@ -1,12 +1,14 @@
 // Resolved values, each followed by what is under it. Each function gives the number of the row behind those that it puts.
-ghost use Rattle.amounts.specs.Known.{KnownDefaults};
+ghost use Prim.Native.Nat.{_≤_, _<_};
+ghost use Rattle.lookups.specs.Names.{Names};
 ghost use Rattle.lookups.specs.Ranks.{Firsts};
-ghost use Rattle.resolving.specs.Noted.{DefaultOwners, Noted, Rooms};
+ghost use Rattle.resolving.specs.Noted.{Noted, Lent};
 ghost use Rattle.resolving.specs.Promises.{Enters, EntersStated, ResolvesStated, ResolvesDefault, ResolvesUnder, Resolves, ResolvesAll};
 use super::Owner;
 use super::scanning;
 use super::values;
 use super::words;
+use lookups::names;
 use rows::Found;
 use rows::cells;
 use scopes::Sizes;
@@ -24,6 +26,7 @@ fn enter(
     xe: &[usize],
     xo: &[usize],
     rs: &[usize],
+    nx: &[usize],
     rd: &[usize],
     owners: &[usize],
     v: &mut [usize],
@@ -38,7 +41,7 @@ fn enter(
     w: Owner,
     n: usize,
 ) -> usize
-    requires { ⌜ Noted (now text) (now d) (now e) (now o) (now st) z (now known) (now noted) (now xe) (now xo) (now rs) (now rd) (now owners) ⌝ }
+    requires { ⌜ Noted (now text) (now d) (now e) (now o) (now st) z (now known) (now noted) (now xe) (now xo) (now rs) (now nx) (now rd) (now owners) ⌝ }
     ensures { λ r. ⌜ Enters (now (text .entry)) (now (d .entry)) (now (e .entry)) (now (o .entry)) (now (st .entry)) (now (v .entry)) z j stated at len code from end w n (now (v .exit)) r ⌝ }
 {
     if 2048 < n {
@@ -75,6 +78,7 @@ fn enter(
         xe,
         xo,
         rs,
+        nx,
         rd,
         owners,
         v,
@@ -101,6 +105,7 @@ fn enter_stated(
     xe: &[usize],
     xo: &[usize],
     rs: &[usize],
+    nx: &[usize],
     rd: &[usize],
     owners: &[usize],
     v: &mut [usize],
@@ -112,7 +117,7 @@ fn enter_stated(
     w: Owner,
     n: usize,
 ) -> usize
-    requires { ⌜ Noted (now text) (now d) (now e) (now o) (now st) z (now known) (now noted) (now xe) (now xo) (now rs) (now rd) (now owners) ⌝ }
+    requires { ⌜ Noted (now text) (now d) (now e) (now o) (now st) z (now known) (now noted) (now xe) (now xo) (now rs) (now nx) (now rd) (now owners) ⌝ }
     ensures { λ r. ⌜ EntersStated (now (text .entry)) (now (d .entry)) (now (e .entry)) (now (o .entry)) (now (st .entry)) (now (v .entry)) z j k inner next w n (now (v .exit)) r ⌝ }
 {
     let at = cells::cell_of(st, 7, k, 2);
@@ -129,6 +134,7 @@ fn enter_stated(
         xe,
         xo,
         rs,
+        nx,
         rd,
         owners,
         v,
@@ -145,7 +151,7 @@ fn enter_stated(
     )
 }
 
-// The values that a block states of the attribute of row j, in the order of the text.
+// The values that a block states of the attribute of row j, in the order of the text; nx has the next statement of each one's rank.
 fn resolve_stated(
     text: &[u8],
     d: &[usize],
@@ -157,6 +163,7 @@ fn resolve_stated(
     xe: &[usize],
     xo: &[usize],
     rs: &[usize],
+    nx: &[usize],
     rd: &[usize],
     owners: &[usize],
     v: &mut [usize],
@@ -167,13 +174,14 @@ fn resolve_stated(
     w: Owner,
     n: usize,
 ) -> usize
-    requires { ⌜ Noted (now text) (now d) (now e) (now o) (now st) z (now known) (now noted) (now xe) (now xo) (now rs) (now rd) (now owners) ⌝ }
+    requires { ⌜ Noted (now text) (now d) (now e) (now o) (now st) z (now known) (now noted) (now xe) (now xo) (now rs) (now nx) (now rd) (now owners) ⌝ }
     ensures { λ r. ⌜ ResolvesStated (now (text .entry)) (now (d .entry)) (now (e .entry)) (now (o .entry)) (now (st .entry)) (now (v .entry)) z j from end w n (now (v .exit)) r ⌝ }
 {
     let mut m = n;
+    let mut last = nx.len();
     let mut k = from;
     while k < end {
-        let Found::At(i) = lookups::row_stated(text, d, 19, 2, rd, j, st, rs, &rs[..0], k, end)
+        let Found::At(i) = lookups::stated_after(text, d, 19, 2, rd, j, st, rs, nx, last, k, end)
         else {
             return m;
         };
@@ -195,6 +203,7 @@ fn resolve_stated(
             xe,
             xo,
             rs,
+            nx,
             rd,
             owners,
             v,
@@ -206,6 +215,7 @@ fn resolve_stated(
             w,
             m,
         );
+        last = i;
         k = next;
     }
     m
@@ -223,6 +233,7 @@ fn resolve_default(
     xe: &[usize],
     xo: &[usize],
     rs: &[usize],
+    nx: &[usize],
     rd: &[usize],
     owners: &[usize],
     v: &mut [usize],
@@ -231,7 +242,7 @@ fn resolve_default(
     w: Owner,
     n: usize,
 ) -> usize
-    requires { ⌜ Noted (now text) (now d) (now e) (now o) (now st) z (now known) (now noted) (now xe) (now xo) (now rs) (now rd) (now owners) ⌝ }
+    requires { ⌜ Noted (now text) (now d) (now e) (now o) (now st) z (now known) (now noted) (now xe) (now xo) (now rs) (now nx) (now rd) (now owners) ⌝ }
     ensures { λ r. ⌜ ResolvesDefault (now (text .entry)) (now (d .entry)) (now (e .entry)) (now (o .entry)) (now (st .entry)) (now (v .entry)) z j w n (now (v .exit)) r ⌝ }
 {
     let len = cells::cell_of(d, 19, j, 11);
@@ -254,6 +265,7 @@ fn resolve_default(
         xe,
         xo,
         rs,
+        nx,
         rd,
         owners,
         v,
@@ -282,6 +294,7 @@ fn resolve_row(
     xe: &[usize],
     xo: &[usize],
     rs: &[usize],
+    nx: &[usize],
     rd: &[usize],
     owners: &[usize],
     first: &[usize],
@@ -294,7 +307,7 @@ fn resolve_row(
     w: Owner,
     n: usize,
 ) -> usize
-    requires { ⌜ Noted (now text) (now d) (now e) (now o) (now st) z (now known) (now noted) (now xe) (now xo) (now rs) (now rd) (now owners) × Firsts (now st) (now rs) from end (now first) ⌝ }
+    requires { ⌜ Noted (now text) (now d) (now e) (now o) (now st) z (now known) (now noted) (now xe) (now xo) (now rs) (now nx) (now rd) (now owners) × Firsts (now st) (now rs) from end (now first) ⌝ }
     ensures { λ r. ⌜ ResolvesUnder (now (text .entry)) (now (d .entry)) (now (e .entry)) (now (o .entry)) (now (st .entry)) (now (v .entry)) z j key from end w n (now (v .exit)) r ⌝ }
 {
     let Found::At(k) = lookups::row_stated(text, d, 19, 2, rd, j, st, rs, first, from, end) else {
@@ -309,6 +322,7 @@ fn resolve_row(
             xe,
             xo,
             rs,
+            nx,
             rd,
             owners,
             v,
@@ -329,6 +343,7 @@ fn resolve_row(
         xe,
         xo,
         rs,
+        nx,
         rd,
         owners,
         v,
@@ -341,7 +356,68 @@ fn resolve_row(
     )
 }
 
-// The values of the scope of the word at key, in the order of its definitions, whose rows are below a limit; the place 0 has no scope.
+// The values of the scope of the word at key, in the order of its definitions, whose rows are below a limit; `first` has the first row of each rank in
+// the block.
+fn resolve_scope(
+    text: &[u8],
+    d: &[usize],
+    e: &[usize],
+    o: &[usize],
+    st: &[usize],
+    known: &[usize],
+    noted: &[usize],
+    xe: &[usize],
+    xo: &[usize],
+    rs: &[usize],
+    nx: &[usize],
+    rd: &[usize],
+    owners: &[usize],
+    first: &[usize],
+    v: &mut [usize],
+    z: Sizes,
+    limit: usize,
+    key: usize,
+    from: usize,
+    end: usize,
+    w: Owner,
+    n: usize,
+) -> usize
+    requires { ⌜ (0 < key) × ((limit ≤ 512) × (Noted (now text) (now d) (now e) (now o) (now st) z (now known) (now noted) (now xe) (now xo) (now rs) (now nx) (now rd) (now owners) × Firsts (now st) (now rs) from end (now first))) ⌝ }
+    ensures { λ r. ⌜ Resolves (now (text .entry)) (now (d .entry)) (now (e .entry)) (now (o .entry)) (now (st .entry)) (now (v .entry)) z limit key from end w n (now (v .exit)) r ⌝ }
+{
+    let mut m = n;
+    let mut j = scanning::next_row(text, d, st, rs, rd, first, limit, key, from, end, 0);
+    while j < limit {
+        m = resolve_row(
+            text,
+            d,
+            e,
+            o,
+            st,
+            known,
+            noted,
+            xe,
+            xo,
+            rs,
+            nx,
+            rd,
+            owners,
+            first,
+            v,
+            z,
+            j,
+            key,
+            from,
+            end,
+            w,
+            m,
+        );
+        j = scanning::next_row(text, d, st, rs, rd, first, limit, key, from, end, j + 1);
+    }
+    m
+}
+
+// The same; the place 0 has no scope.
 pub fn resolve(
     text: &[u8],
     d: &[usize],
@@ -353,6 +429,7 @@ pub fn resolve(
     xe: &[usize],
     xo: &[usize],
     rs: &[usize],
+    nx: &[usize],
     rd: &[usize],
     owners: &[usize],
     v: &mut [usize],
@@ -364,7 +441,7 @@ pub fn resolve(
     w: Owner,
     n: usize,
 ) -> usize
-    requires { ⌜ Noted (now text) (now d) (now e) (now o) (now st) z (now known) (now noted) (now xe) (now xo) (now rs) (now rd) (now owners) ⌝ }
+    requires { ⌜ Noted (now text) (now d) (now e) (now o) (now st) z (now known) (now noted) (now xe) (now xo) (now rs) (now nx) (now rd) (now owners) ⌝ }
     ensures { λ r. ⌜ Resolves (now (text .entry)) (now (d .entry)) (now (e .entry)) (now (o .entry)) (now (st .entry)) (now (v .entry)) z limit key from end w n (now (v .exit)) r ⌝ }
 {
     if key == 0 {
@@ -379,11 +456,8 @@ pub fn resolve(
     if scanning::is_quiet(owners, key, from, end) {
         return n;
     }
-    let first = lookups::firsts(st, rs, from, end);
-    let mut m = n;
-    let mut j = scanning::next_row(text, d, st, rs, rd, &first, limit, key, from, end, 0);
-    while j < limit {
-        m = resolve_row(
+    if end <= from {
+        return resolve_scope(
             text,
             d,
             e,
@@ -394,21 +468,72 @@ pub fn resolve(
             xe,
             xo,
             rs,
+            nx,
+            rd,
+            owners,
+            &rs[..0],
+            v,
+            z,
+            limit,
+            key,
+            from,
+            end,
+            w,
+            n,
+        );
+    }
+    if z.definitions < 64 {
+        let first = lookups::few_firsts(st, rs, from, end);
+        return resolve_scope(
+            text,
+            d,
+            e,
+            o,
+            st,
+            known,
+            noted,
+            xe,
+            xo,
+            rs,
+            nx,
             rd,
             owners,
             &first,
             v,
             z,
-            j,
+            limit,
             key,
             from,
             end,
             w,
-            m,
+            n,
         );
-        j = scanning::next_row(text, d, st, rs, rd, &first, limit, key, from, end, j + 1);
     }
-    m
+    let first = lookups::firsts(st, rs, from, end);
+    resolve_scope(
+        text,
+        d,
+        e,
+        o,
+        st,
+        known,
+        noted,
+        xe,
+        xo,
+        rs,
+        nx,
+        rd,
+        owners,
+        &first,
+        v,
+        z,
+        limit,
+        key,
+        from,
+        end,
+        w,
+        n,
+    )
 }
 
 // The values of all objects, object by object; gives how many there are, or 2049 where there are more than 2048.
@@ -423,13 +548,14 @@ fn resolve_objects(
     xe: &[usize],
     xo: &[usize],
     rs: &[usize],
+    nx: &[usize],
     rd: &[usize],
     owners: &[usize],
     v: &mut [usize],
     z: Sizes,
     places: [usize; 13],
 ) -> usize
-    requires { ⌜ Noted (now text) (now d) (now e) (now o) (now st) z (now known) (now noted) (now xe) (now xo) (now rs) (now rd) (now owners) ⌝ }
+    requires { ⌜ Noted (now text) (now d) (now e) (now o) (now st) z (now known) (now noted) (now xe) (now xo) (now rs) (now nx) (now rd) (now owners) ⌝ }
     ensures { λ r. ⌜ ResolvesAll (now (text .entry)) (now (d .entry)) (now (e .entry)) (now (o .entry)) (now (st .entry)) (now (v .entry)) z places (now (v .exit)) r ⌝ }
 {
     let mut n = 0;
@@ -453,6 +579,7 @@ fn resolve_objects(
             xe,
             xo,
             rs,
+            nx,
             rd,
             owners,
             v,
@@ -469,35 +596,30 @@ fn resolve_objects(
     n
 }
 
-// The same; the names are indexed and ranked before, in lent slices.
+// The same; the enumerators that defaults are are looked up before.
 fn resolve_noted(
     text: &[u8],
     d: &[usize],
     e: &[usize],
     o: &[usize],
     st: &[usize],
+    names: &[usize],
     known: &[usize],
     noted: &mut [usize],
-    xd: &mut [usize],
-    xe: &mut [usize],
-    xo: &mut [usize],
-    rs: &mut [usize],
-    rd: &mut [usize],
     owners: &[usize],
-    spare: &mut [usize],
     v: &mut [usize],
     z: Sizes,
     places: [usize; 13],
 ) -> usize
-    requires { ⌜ KnownDefaults (now text) (now d) (now known) × DefaultOwners (now d) (now owners) × Rooms (now d) z (now xd) (now xe) (now xo) (now spare) ⌝ }
+    requires { ⌜ Lent (now text) (now d) (now e) (now o) (now st) z (now names) (now known) (now owners) ⌝ }
     ensures { λ r. ⌜ ResolvesAll (now (text .entry)) (now (d .entry)) (now (e .entry)) (now (o .entry)) (now (st .entry)) (now (v .entry)) z places (now (v .exit)) r ⌝ }
 {
-    indexes::index(text, d, 19, 0, 2, xd, spare);
-    indexes::index(text, e, 3, 0, 1, xe, spare);
-    indexes::index(text, o, 10, 0, 3, xo, spare);
+    let xe = names::enumerators(names, z.enumerators);
     words::note_words(text, d, e, xe, noted);
-    lookups::note_ranks(text, d, xd, st, 7, 0, rs);
-    lookups::note_ranks(text, d, xd, d, 19, 2, rd);
+    let xo = names::objects(names, z.objects);
+    let rs = names::statement_ranks(names);
+    let nx = names::next_rows(names);
+    let rd = names::definition_ranks(names);
     resolve_objects(
         text,
         d,
@@ -509,6 +631,7 @@ fn resolve_noted(
         xe,
         xo,
         rs,
+        nx,
         rd,
         owners,
         v,
@@ -524,10 +647,12 @@ pub fn resolve_all(
     e: &[usize],
     o: &[usize],
     st: &[usize],
+    names: &[usize],
     v: &mut [usize],
     z: Sizes,
     places: [usize; 13],
 ) -> usize
+    requires { ⌜ Names (now text) (now d) (now e) (now o) (now st) z (now names) ⌝ }
     ensures { λ r. ⌜ ResolvesAll (now (text .entry)) (now (d .entry)) (now (e .entry)) (now (o .entry)) (now (st .entry)) (now (v .entry)) z places (now (v .exit)) r ⌝ }
 {
     if d.len() != 9747 {
@@ -545,12 +670,6 @@ pub fn resolve_all(
     let mut known = [0; 1536];
     amounts::defaults::note_defaults(text, d, z.definitions, &mut known);
     let mut noted = [0; 512];
-    let mut xd = [0; 512];
-    let mut xe = [0; 1024];
-    let mut xo = [0; 256];
-    let mut rs = [0; 2048];
-    let mut rd = [0; 512];
-    let mut spare = [0; 512];
     let owners = scanning::default_owners(d);
     resolve_noted(
         text,
@@ -558,15 +677,10 @@ pub fn resolve_all(
         e,
         o,
         st,
+        names,
         &known,
-        &mut noted,
-        &mut xd[..z.definitions],
-        &mut xe[..z.enumerators],
-        &mut xo[..z.objects],
-        &mut rs,
-        &mut rd,
+        &mut noted[..z.definitions],
         &owners,
-        &mut spare,
         v,
         z,
         places,

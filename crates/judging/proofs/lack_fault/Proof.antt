@@ -11,7 +11,7 @@ use Rattle.judging.proofs.lack_fault.Tie as tie
 use Rattle.judging.proofs.lack_fault.Reads as reads
 use Rattle.judging.proofs.lack_fault.Lts as lts
 use Rattle.judging.proofs.marking.lacks.Reads as lacks-reads
-use Rattle.judging.proofs.names.is_owner.Reads as is-owner-reads
+use Rattle.lookups.proofs.names.is_owner.Reads as is-owner-reads
 use Rattle.rows.proofs.faults.fault_if.Reads as fault-if-reads
 
 returns : tie.Need-returns

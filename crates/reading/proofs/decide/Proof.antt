@@ -1,7 +1,6 @@
-use Rattle.reading.proofs.Deciding.{decides-early, decides-late}
-use native.Mathlib.Omega.{arith}
-use mathlib.Core.Path.{refl, sym, _∙_}
 use borrow.Author.Needs.{needs}
+use mathlib.Core.Path.{sym, _∙_}
+use Rattle.reading.proofs.Deciding.{decides-early, decides-late, names-never}
 use Rattle.reading.proofs.decide.Statement.{statement}
 use Rattle.reading.proofs.decide.Tie as tie
 use Rattle.reading.proofs.decide.Reads as reads
@@ -33,22 +32,22 @@ same-length-4 : tie.Need-same-length-4
 same-length-4 c = search needs
 
 returns : tie.Need-returns
-returns c = decides-early _ _ _ _ _ _ _ _ _ _ _ (c .before .before .before .before .before .before .before .before .before .before .before .before .walk .ensures) (c .before .before .grammar-fault .ensures) (sym (c .before .is-fault .ensures) ∙ (c .if1 .taken))
+returns c = (decides-early _ _ _ _ _ _ _ _ _ _ _ (c .before .before .before .before .before .before .before .before .before .before .before .before .walk .ensures) (c .before .before .grammar-fault .ensures) (sym (c .before .is-fault .ensures) ∙ (c .if1 .taken)), names-never _ (sym (c .before .is-fault .ensures) ∙ (c .if1 .taken)))
 
 stages-requires : tie.Need-stages-requires
-stages-requires c κs = search needs
+stages-requires c κs = (c .before .before .before .before .before .before .before .before .before .before .before .before .before .before .before .before .before .before .before .before .before .before .before .before .before .before .before .before .before .before .before .before .pre)
 
 same-length-5 : tie.Need-same-length-5
-same-length-5 c = (c .before .before .before .before .before .before .before .before .before .before .before .before .before .before .before .before .before .before .before .before .before .before .before .walk .ensures) .sizes .definitions
+same-length-5 c = (c .before .before .before .before .before .before .before .before .before .before .before .before .before .before .before .before .before .before .before .before .before .before .before .before .before .before .walk .ensures) .sizes .definitions
 
 same-length-6 : tie.Need-same-length-6
-same-length-6 c = (c .before .before .before .before .before .before .before .before .before .before .before .before .before .before .before .before .before .before .before .before .before .before .before .walk .ensures) .sizes .enumerators
+same-length-6 c = (c .before .before .before .before .before .before .before .before .before .before .before .before .before .before .before .before .before .before .before .before .before .before .before .before .before .before .walk .ensures) .sizes .enumerators
 
 same-length-7 : tie.Need-same-length-7
-same-length-7 c = (c .before .before .before .before .before .before .before .before .before .before .before .before .before .before .before .before .before .before .before .before .before .before .before .walk .ensures) .sizes .parts
+same-length-7 c = (c .before .before .before .before .before .before .before .before .before .before .before .before .before .before .before .before .before .before .before .before .before .before .before .before .before .before .walk .ensures) .sizes .parts
 
 same-length-8 : tie.Need-same-length-8
-same-length-8 c = search needs
+same-length-8 c = (c .before .before .before .before .before .before .before .before .before .before .before .before .before .before .before .before .before .before .before .before .before .before .before .before .before .before .walk .ensures) .sizes .statements
 
 same-length-9 : tie.Need-same-length-9
 same-length-9 c = search needs
@@ -56,8 +55,11 @@ same-length-9 c = search needs
 same-length-10 : tie.Need-same-length-10
 same-length-10 c = search needs
 
+same-length-11 : tie.Need-same-length-11
+same-length-11 c = search needs
+
 returns-2 : tie.Need-returns-2
-returns-2 c = decides-late _ _ _ _ _ _ _ _ _ _ (c .before .before .before .before .before .before .before .before .before .before .before .before .before .before .before .before .before .before .before .before .before .before .before .walk .ensures) (c .before .before .before .before .before .before .before .before .before .before .before .before .before .grammar-fault .ensures) (sym (c .before .before .before .before .before .before .before .before .before .before .before .before .is-fault .ensures) ∙ (c .before .before .before .before .before .before .before .before .before .before .before .if1 .left)) (c .before .before .before .before .stages .ensures)
+returns-2 c = (decides-late _ _ _ _ _ _ _ _ _ _ (c .before .before .before .before .before .before .before .before .before .before .before .before .before .before .before .before .before .before .before .before .before .before .before .before .before .before .walk .ensures) (c .before .before .before .before .before .before .before .before .before .before .before .before .before .before .before .before .grammar-fault .ensures) (sym (c .before .before .before .before .before .before .before .before .before .before .before .before .before .before .before .is-fault .ensures) ∙ (c .before .before .before .before .before .before .before .before .before .before .before .before .before .before .if1 .left)) ((c .before .before .before .before .before .before .stages .ensures) .0), (c .before .before .before .before .before .before .stages .ensures) .1)
 
 pub decide-spec : {M : Type 1} → statement M
 decide-spec =
@@ -78,4 +80,5 @@ decide-spec =
     same-length-8
     same-length-9
     same-length-10
+    same-length-11
     returns-2)

@@ -1,6 +1,6 @@
-use Rattle.reading.proofs.Finishing.{settles-too-many, settles-accepted}
-use mathlib.Core.Path.{refl}
 use borrow.Author.Needs.{needs}
+use mathlib.Core.Path.{refl}
+use Rattle.reading.proofs.Finishing.{settles-too-many, settles-accepted}
 use Rattle.reading.proofs.settle.Statement.{statement}
 use Rattle.reading.proofs.settle.Tie as tie
 use Rattle.reading.proofs.settle.Reads as reads
@@ -13,7 +13,7 @@ use Rattle.resolving.proofs.entering.resolve_all.Reads as resolve-all-reads
 use Rattle.rows.proofs.cells.clear.Reads as clear-reads
 
 resolve-all-requires : tie.Need-resolve-all-requires
-resolve-all-requires c κs = search needs
+resolve-all-requires c κs = (c .before .before .before .before .before .before .before .before .before .before .before .before .before .pre)
 
 clear-requires : tie.Need-clear-requires
 clear-requires c κs = search needs

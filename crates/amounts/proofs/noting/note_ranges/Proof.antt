@@ -12,10 +12,10 @@ use Rattle.amounts.proofs.noting.note_ranges.Lts as lts
 use Rattle.amounts.proofs.noting.note_range.Reads as note-range-reads
 
 abbrev Inv-loop : tie.InvT-loop
-Inv-loop text d n t₀ spare₀ used₀ j₀ t spare used j = Rows text d t₀ t used × (length spare ≡ length spare₀)
+Inv-loop text d wanted n t₀ spare₀ used₀ j₀ t spare used j = Rows text d t₀ t used × (length spare ≡ length spare₀)
 
 abbrev μ-loop : tie.MeasureT-loop
-μ-loop text d n t₀ spare₀ used₀ j₀ t spare used j = n - j
+μ-loop text d wanted n t₀ spare₀ used₀ j₀ t spare used j = n - j
 
 loop-holds : tie.Need-loop-holds Inv-loop μ-loop
 loop-holds c = (rows-start _ _ _, refl)

@@ -5,7 +5,7 @@ use Rattle.judging.proofs.marking.lacks_row.Statement.{statement}
 use Rattle.judging.proofs.marking.lacks_row.Tie as tie
 use Rattle.judging.proofs.marking.lacks_row.Reads as reads
 use Rattle.judging.proofs.marking.lacks_row.Lts as lts
-use Rattle.judging.proofs.names.is_stated.Reads as is-stated-reads
+use Rattle.lookups.proofs.names.is_stated.Reads as is-stated-reads
 use Rattle.rows.proofs.cells.get.Reads as get-reads
 
 get-requires : tie.Need-get-requires

@@ -13,7 +13,7 @@ use Rattle.judging.proofs.marking.needs.Reads as reads
 use Rattle.judging.proofs.marking.needs.Lts as lts
 use Rattle.judging.proofs.marking.lacks.Reads as lacks-reads
 use Rattle.judging.proofs.marking.single.Reads as single-reads
-use Rattle.judging.proofs.names.word_under.Reads as word-under-reads
+use Rattle.lookups.proofs.names.word_under.Reads as word-under-reads
 use Rattle.rows.proofs.cells.cell_of.Reads as cell-of-reads
 
 cell-of-requires : tie.Need-cell-of-requires

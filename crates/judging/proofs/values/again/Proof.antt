@@ -6,7 +6,7 @@ use Rattle.judging.proofs.values.again.Statement.{statement}
 use Rattle.judging.proofs.values.again.Tie as tie
 use Rattle.judging.proofs.values.again.Reads as reads
 use Rattle.judging.proofs.values.again.Lts as lts
-use Rattle.judging.proofs.names.is_before.Reads as is-before-reads
+use Rattle.lookups.proofs.names.is_before.Reads as is-before-reads
 use Rattle.rows.proofs.cells.cell_of.Reads as cell-of-reads
 
 cell-of-requires : tie.Need-cell-of-requires

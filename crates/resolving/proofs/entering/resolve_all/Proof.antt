@@ -1,9 +1,9 @@
-use mathlib.Core.Path.{sym}
-use lib.Seq.{length-take-le}
-use Rattle.resolving.proofs.Passing.{not-sized}
-use mathlib.Core.Path.{refl}
+use Rattle.lookups.specs.Names.{FewRows}
 use native.Mathlib.Omega.{arith}
 use borrow.Author.Needs.{needs}
+use Rattle.resolving.proofs.Passing.{not-sized}
+use lib.Seq.{length-take-le}
+use mathlib.Core.Path.{refl, sym}
 use Rattle.resolving.proofs.entering.resolve_all.Statement.{statement}
 use Rattle.resolving.proofs.entering.resolve_all.Tie as tie
 use Rattle.resolving.proofs.entering.resolve_all.Reads as reads
@@ -13,7 +13,7 @@ use Rattle.resolving.proofs.entering.resolve_noted.Reads as resolve-not
 use Rattle.resolving.proofs.scanning.default_owners.Reads as default-owners-reads
 
 returns : tie.Need-returns
-returns c = not-sized (λ a y b e. ((c .if1) .taken) a)
+returns c = not-sized (λ a y b e. (c .if1 .taken) a)
 
 returns-2 : tie.Need-returns-2
 returns-2 c = not-sized (λ a y b e. omega arith)
@@ -31,52 +31,28 @@ note-defaults-requires : tie.Need-note-defaults-requires
 note-defaults-requires c κs = search needs
 
 default-owners-requires : tie.Need-default-owners-requires
-default-owners-requires c κs = tt
+default-owners-requires c κs = search needs
 
 slice-aggregate-resolve-noted : tie.Need-slice-aggregate-resolve-noted
 slice-aggregate-resolve-noted c = search needs
 
-slice-aggregate-resolve-noted-2 : tie.Need-slice-aggregate-resolve-noted-2
-slice-aggregate-resolve-noted-2 c = search needs
+array-borrow-prefix-noted : tie.Need-array-borrow-prefix-noted
+array-borrow-prefix-noted c = search needs
 
-array-borrow-prefix-xd : tie.Need-array-borrow-prefix-xd
-array-borrow-prefix-xd c = search needs
+slice-aggregate-resolve-noted-2 : tie.Need-slice-aggregate-resolve-noted-2
+slice-aggregate-resolve-noted-2 c = sym (length-take-le _ _ (omega (arith, (c .before .before .before .before .before .before .before .before .before .before .if2 .left))))
 
 slice-aggregate-resolve-noted-3 : tie.Need-slice-aggregate-resolve-noted-3
-slice-aggregate-resolve-noted-3 c = sym (length-take-le _ _ (omega arith))
-
-array-borrow-prefix-xe : tie.Need-array-borrow-prefix-xe
-array-borrow-prefix-xe c = search needs
-
-slice-aggregate-resolve-noted-4 : tie.Need-slice-aggregate-resolve-noted-4
-slice-aggregate-resolve-noted-4 c = sym (length-take-le _ _ (omega arith))
-
-array-borrow-prefix-xo : tie.Need-array-borrow-prefix-xo
-array-borrow-prefix-xo c = search needs
-
-slice-aggregate-resolve-noted-5 : tie.Need-slice-aggregate-resolve-noted-5
-slice-aggregate-resolve-noted-5 c = sym (length-take-le _ _ (omega arith))
-
-slice-aggregate-resolve-noted-6 : tie.Need-slice-aggregate-resolve-noted-6
-slice-aggregate-resolve-noted-6 c = search needs
-
-slice-aggregate-resolve-noted-7 : tie.Need-slice-aggregate-resolve-noted-7
-slice-aggregate-resolve-noted-7 c = search needs
-
-slice-aggregate-resolve-noted-8 : tie.Need-slice-aggregate-resolve-noted-8
-slice-aggregate-resolve-noted-8 c = search needs
-
-slice-aggregate-resolve-noted-9 : tie.Need-slice-aggregate-resolve-noted-9
-slice-aggregate-resolve-noted-9 c = search needs
+slice-aggregate-resolve-noted-3 c = search needs
 
 resolve-noted-requires : tie.Need-resolve-noted-requires
-resolve-noted-requires c κs = (((c .before .before .before .before .before .before .before .before .before .before .before .before .note-defaults) .ensures) refl, (c .before .before .before .before .before .before .before .before .before .before .default-owners .ensures), record { room = ((c .before .before .before .before .before .before .before .before .before .before .before .before .before .before .before .before .before .before .before .before .if1) .left); definitions = length-take-le _ _ (omega arith); enumerators = length-take-le _ _ (omega arith); objects = length-take-le _ _ (omega arith); definitions-fit = omega arith; enumerators-fit = omega arith; objects-fit = omega arith; spare-room = refl })
+resolve-noted-requires c κs = let F : FewRows (c .before .before .before .before .before .before .before .before .before .before .before .before .before .before .before .before .before .before .before .before .before .before .args .z) = record { definitions = omega (arith, (c .before .before .before .before .before .before .before .before .before .before .before .before .if2 .left)); enumerators = omega (arith, (c .before .before .before .before .before .before .before .before .before .before .if3 .left)); objects = omega (arith, (c .before .before .before .before .before .before .before .before .if4 .left)) } in record { room = (c .before .before .before .before .before .before .before .before .before .before .before .before .before .before .if1 .left); few = F; named = (c .before .before .before .before .before .before .before .before .before .before .before .before .before .before .before .before .before .before .before .before .before .before .pre) .named F; defaults = (c .before .before .before .before .before .before .note-defaults .ensures) refl; owners = (c .before .before .before .before .default-owners .ensures) }
 
 same-length : tie.Need-same-length
 same-length c = search needs
 
 returns-5 : tie.Need-returns-5
-returns-5 c = ((c .before .before .before .before .before .before .before .before .before .resolve-noted) .ensures)
+returns-5 c = (c .before .before .before .resolve-noted .ensures)
 
 pub resolve-all-spec : {M : Type 1} → statement M
 resolve-all-spec =
@@ -90,17 +66,9 @@ resolve-all-spec =
     note-defaults-requires
     default-owners-requires
     slice-aggregate-resolve-noted
+    array-borrow-prefix-noted
     slice-aggregate-resolve-noted-2
-    array-borrow-prefix-xd
     slice-aggregate-resolve-noted-3
-    array-borrow-prefix-xe
-    slice-aggregate-resolve-noted-4
-    array-borrow-prefix-xo
-    slice-aggregate-resolve-noted-5
-    slice-aggregate-resolve-noted-6
-    slice-aggregate-resolve-noted-7
-    slice-aggregate-resolve-noted-8
-    slice-aggregate-resolve-noted-9
     resolve-noted-requires
     same-length
     returns-5)

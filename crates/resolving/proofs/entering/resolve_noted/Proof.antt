@@ -1,81 +1,58 @@
-use Rattle.resolving.proofs.Passing.{noted-all}
-use native.Mathlib.Omega.{arith}
-use mathlib.Core.Path.{_∙_}
 use borrow.Author.Needs.{needs}
+use Rattle.resolving.proofs.Passing.{noted-all}
 use Rattle.resolving.proofs.entering.resolve_noted.Statement.{statement}
 use Rattle.resolving.proofs.entering.resolve_noted.Tie as tie
 use Rattle.resolving.proofs.entering.resolve_noted.Reads as reads
 use Rattle.resolving.proofs.entering.resolve_noted.Lts as lts
-use Rattle.indexes.proofs.index.Reads as index-reads
-use Rattle.lookups.proofs.note_ranks.Reads as note-ranks-reads
+use Rattle.lookups.proofs.names.definition_ranks.Reads as definition-ranks-reads
+use Rattle.lookups.proofs.names.enumerators.Reads as enumerators-reads
+use Rattle.lookups.proofs.names.next_rows.Reads as next-rows-reads
+use Rattle.lookups.proofs.names.objects.Reads as objects-reads
+use Rattle.lookups.proofs.names.statement_ranks.Reads as statement-ranks-reads
 use Rattle.resolving.proofs.entering.resolve_objects.Reads as resolve-objects-reads
 use Rattle.resolving.proofs.words.note_words.Reads as note-words-reads
 
-index-requires : tie.Need-index-requires
-index-requires c κs = tt
-
-index-requires-2 : tie.Need-index-requires-2
-index-requires-2 c κs = tt
-
-index-requires-3 : tie.Need-index-requires-3
-index-requires-3 c κs = tt
+enumerators-requires : tie.Need-enumerators-requires
+enumerators-requires c κs = search needs
 
 note-words-requires : tie.Need-note-words-requires
-note-words-requires c κs = tt
+note-words-requires c κs = search needs
 
-note-ranks-requires : tie.Need-note-ranks-requires
-note-ranks-requires c κs = tt
+objects-requires : tie.Need-objects-requires
+objects-requires c κs = search needs
 
-note-ranks-requires-2 : tie.Need-note-ranks-requires-2
-note-ranks-requires-2 c κs = tt
+statement-ranks-requires : tie.Need-statement-ranks-requires
+statement-ranks-requires c κs = search needs
+
+next-rows-requires : tie.Need-next-rows-requires
+next-rows-requires c κs = search needs
+
+definition-ranks-requires : tie.Need-definition-ranks-requires
+definition-ranks-requires c κs = search needs
 
 resolve-objects-requires : tie.Need-resolve-objects-requires
-resolve-objects-requires c κs = noted-all _ ((c .before .before .before .before .before .before .before .before .before .before .before .before .before .before .before .before .before .before .before .before .before .before .before .before .before .before .before .before .before .before .before .before .before .before .before .before .before .before .before .before .before .before .before .before .before .before .before .before .before .before .before .before .before .before .before .before .before .pre)) (omega arith) (omega arith) ((c .before .before .before .before .before .before .before .before .before .before .before .before .before .before .before .before .before .before .before .before .before .before .before .before .before .before .before .before .before .before .before .before .before .before .before .before .before .before .before .index) .ensures) (omega arith) (((c .before .before .before .before .before .before .before .before .before .before .before .before .before .before .before .before .before .before .before .before .before .before .before .before .before .before .before .before .before .before .before .before .before .before .before .before .before .before .before .index) .kept) .1 .1 .1 .1 .1 .1 .0) ((c .before .before .before .before .before .before .before .before .before .before .before .before .before .before .before .before .before .before .before .before .before .before .before .before .before .before .before .before .before .before .before .before .index2) .ensures) (omega arith) (((c .before .before .before .before .before .before .before .before .before .before .before .before .before .before .before .before .before .before .before .before .before .before .before .before .before .before .before .before .before .before .before .before .index2) .kept) .1 .1 .1 .1 .1 .1 .0 ∙ ((c .before .before .before .before .before .before .before .before .before .before .before .before .before .before .before .before .before .before .before .before .before .before .before .before .before .before .before .before .before .before .before .before .before .before .before .before .before .before .before .index) .kept) .1 .1 .1 .1 .1 .1 .0) ((c .before .before .before .before .before .before .before .before .before .before .before .before .before .before .before .before .before .before .before .before .before .before .before .before .before .index3) .ensures) ((c .before .before .before .before .before .before .before .before .before .before .before .before .before .before .before .before .before .before .note-words) .ensures) ((c .before .before .before .before .before .before .before .before .before .before .before .before .before .note-ranks) .ensures) ((c .before .before .before .before .before .before .before .before .note-ranks2) .ensures)
+resolve-objects-requires c κs = noted-all (c .before .before .before .before .before .before .before .before .before .before .before .before .before .before .before .before .before .before .before .before .before .pre) (c .before .before .before .before .before .before .before .before .before .before .enumerators .ensures) (c .before .before .before .before .before .objects .ensures) (c .before .before .before .before .statement-ranks .ensures) (c .before .before .before .next-rows .ensures) (c .before .before .definition-ranks .ensures) (c .before .before .before .before .before .before .before .before .note-words .ensures)
 
 same-length : tie.Need-same-length
 same-length c = search needs
 
 same-length-2 : tie.Need-same-length-2
-same-length-2 c = ((c .before .before .before .before .before .before .before .before .before .before .before .before .before .before .before .before .before .before .before .before .before .before .before .before .before .before .before .before .before .before .before .before .before .before .before .before .before .before .before .before .before .before .index) .kept) .1 .1 .1 .1 .1 .0
-
-same-length-3 : tie.Need-same-length-3
-same-length-3 c = ((c .before .before .before .before .before .before .before .before .before .before .before .before .before .before .before .before .before .before .before .before .before .before .before .before .before .before .before .before .before .before .before .before .before .before .before .index2) .kept) .1 .1 .1 .1 .1 .0
-
-same-length-4 : tie.Need-same-length-4
-same-length-4 c = ((c .before .before .before .before .before .before .before .before .before .before .before .before .before .before .before .before .before .before .before .before .before .before .before .before .before .before .before .before .index3) .kept) .1 .1 .1 .1 .1 .0
-
-same-length-5 : tie.Need-same-length-5
-same-length-5 c = search needs
-
-same-length-6 : tie.Need-same-length-6
-same-length-6 c = search needs
-
-same-length-7 : tie.Need-same-length-7
-same-length-7 c = ((c .before .before .before .before .before .before .before .before .before .before .before .before .before .before .before .before .before .before .before .before .before .before .before .before .before .before .before .before .index3) .kept) .1 .1 .1 .1 .1 .1 .0 ∙ (((c .before .before .before .before .before .before .before .before .before .before .before .before .before .before .before .before .before .before .before .before .before .before .before .before .before .before .before .before .before .before .before .before .before .before .before .index2) .kept) .1 .1 .1 .1 .1 .1 .0 ∙ ((c .before .before .before .before .before .before .before .before .before .before .before .before .before .before .before .before .before .before .before .before .before .before .before .before .before .before .before .before .before .before .before .before .before .before .before .before .before .before .before .before .before .before .index) .kept) .1 .1 .1 .1 .1 .1 .0)
-
-same-length-8 : tie.Need-same-length-8
-same-length-8 c = search needs
+same-length-2 c = search needs
 
 returns : tie.Need-returns
-returns c = ((c .before .before .resolve-objects) .ensures)
+returns c = (c .before .before .resolve-objects .ensures)
 
 pub resolve-noted-spec : {M : Type 1} → statement M
 resolve-noted-spec =
     tie.close
     (tie.spec
-    index-requires
-    index-requires-2
-    index-requires-3
+    enumerators-requires
     note-words-requires
-    note-ranks-requires
-    note-ranks-requires-2
+    objects-requires
+    statement-ranks-requires
+    next-rows-requires
+    definition-ranks-requires
     resolve-objects-requires
     same-length
     same-length-2
-    same-length-3
-    same-length-4
-    same-length-5
-    same-length-6
-    same-length-7
-    same-length-8
     returns)

@@ -14,10 +14,10 @@ use Rattle.resolving.proofs.entering.resolve.Reads as resolve-reads
 use Rattle.rows.proofs.cells.cell_of.Reads as cell-of-reads
 
 abbrev Inv-loop : tie.InvT-loop
-Inv-loop text d e o st known noted xe xo rs rd owners v₀ z places n₀ i₀ v n i = (length v ≡ length v₀) × Does text d e o st v₀ z places v n i
+Inv-loop text d e o st known noted xe xo rs nx rd owners v₀ z places n₀ i₀ v n i = (length v ≡ length v₀) × Does text d e o st v₀ z places v n i
 
 abbrev μ-loop : tie.MeasureT-loop
-μ-loop text d e o st known noted xe xo rs rd owners v₀ z places n₀ i₀ v n i = z .objects - i
+μ-loop text d e o st known noted xe xo rs nx rd owners v₀ z places n₀ i₀ v n i = z .objects - i
 
 loop-holds : tie.Need-loop-holds Inv-loop μ-loop
 loop-holds c = (refl, does-start)
@@ -44,7 +44,7 @@ cell-of-requires-3 : tie.Need-cell-of-requires-3 Inv-loop μ-loop
 cell-of-requires-3 c κs = tt
 
 resolve-requires : tie.Need-resolve-requires Inv-loop μ-loop
-resolve-requires c κs = ((c .before .before .before .before .before .before .before .before .before .before .before .before .before .before .before .before .before .before .before .before .before .pre))
+resolve-requires c κs = ((c .before .before .before .before .before .before .before .before .before .before .before .before .before .before .before .before .before .before .before .before .before .before .pre))
 
 add-i : tie.Need-add-i Inv-loop μ-loop
 add-i c = omega arith
