@@ -8,7 +8,7 @@ use std::env;
 use std::path::{Path, PathBuf};
 
 /// The layers that the proved library has today.
-const LAYERS: &str = "token,grammar,reading,writing,heading,masks,releases,standard";
+const LAYERS: &str = "token,grammar,reading,writing,heading,masks,releases,standard,including";
 
 fn main() {
     println!("cargo:rerun-if-env-changed=KAUKSLINI_STATICLIB");

@@ -1,6 +1,6 @@
-// The calls kaukslini_read, kaukslini_write, kaukslini_heading, kaukslini_check_masks, kaukslini_plan_masks, kaukslini_compare and
-// kaukslini_check_standard on each text of standard input, in guarded memory, and checks of what is promised of the lent memory and of the
-// answer, whatever the text is. docs/ROBUSTNESS.md says what is checked.
+// The calls kaukslini_read, kaukslini_write, kaukslini_heading, kaukslini_check_masks, kaukslini_plan_masks, kaukslini_compare,
+// kaukslini_check_standard, kaukslini_expand, kaukslini_read_texts and kaukslini_write_texts on each text of standard input, in guarded memory,
+// and checks of what is promised of the lent memory and of the answer, whatever the text is. docs/ROBUSTNESS.md says what is checked.
 //
 //   harness [FOLDER]      the texts of standard input, as robust_texts writes them; a text that fails is saved in FOLDER
 //   harness --self-test   faults are planted around the calls; each must be reported
@@ -58,6 +58,25 @@ struct compared kaukslini_compare(const uint8_t *first, size_t first_length, con
                                   size_t list_length);
 uint8_t kaukslini_check_standard(const uint8_t *text, size_t text_length, size_t *told, size_t told_length);
 
+size_t kaukslini_expand(const uint8_t *buffer, size_t buffer_length, const size_t *lengths, size_t lengths_length, uint8_t *expanded,
+                        size_t expanded_length, size_t *origins, size_t origins_length, size_t *told, size_t told_length);
+
+uint8_t kaukslini_read_texts(const uint8_t *buffer, size_t buffer_length, const size_t *lengths, size_t lengths_length, uint8_t *expanded,
+                             size_t expanded_length, size_t *origins, size_t origins_length, size_t *definitions, size_t definitions_length,
+                             size_t *enumerators, size_t enumerators_length, size_t *objects, size_t objects_length, size_t *values,
+                             size_t values_length, size_t *told, size_t told_length);
+
+// What is told of a writing over lent texts.
+struct set_written {
+    size_t number, place, length;
+};
+
+struct set_written kaukslini_write_texts(const uint8_t *buffer, size_t buffer_length, const size_t *lengths, size_t lengths_length,
+                                         uint8_t *expanded, size_t expanded_length, size_t *origins, size_t origins_length,
+                                         size_t *definitions, size_t definitions_length, size_t *enumerators, size_t enumerators_length,
+                                         size_t *objects, size_t objects_length, size_t *values, size_t values_length, uint8_t *output,
+                                         size_t output_length);
+
 // ---- The rooms, as docs/TABLES.md fixes them ----
 
 enum { DEFINITIONS, ENUMERATORS, OBJECTS, VALUES, TABLES };
@@ -79,6 +98,9 @@ static const size_t WIDTHS[TABLES] = {13, 3, 8, 9};
 #define MOST_ENTRIES ((size_t)101)   // of a lent list
 #define USUAL_OUTPUT ((size_t)65535)
 #define PAST ((size_t)40)            // cells past the room of a longer table
+#define TOLD_BY_EXPAND ((size_t)2)   // the place of the fault, the length of the expanded text
+#define MOST_LENGTHS ((size_t)18)    // told for lent texts
+#define TEXT_STEP ((size_t)65536)    // a place is the text's number times this, and the byte
 
 enum { LAST_NUMBER = 24, TABLES_TOO_SHORT = 1, TEXT_TOO_LONG = 2, OUTPUT_TOO_SHORT = 20 };
 
@@ -116,7 +138,7 @@ enum side { ENDS_AT_GUARD, BEGINS_AT_GUARD };
 // How much memory beside the lent part is a canary: all of it but for a long output, and for the text, which is read-only.
 #define BESIDE ((size_t)1 << 16)
 
-static struct region text, tables[TABLES], usual_output, long_output, told, masks, second, list;
+static struct region text, tables[TABLES], usual_output, long_output, told, masks, second, list, buffer, lengths, expanded, origins;
 static struct region *output = &usual_output;
 
 #define NOISE ((size_t)1 << 18)
@@ -174,6 +196,12 @@ static void make_regions(void) {
     second = new_region("second text", TEXT_SIZE);
     second.view = READ_ONLY;
     list = new_region("list", pages(MOST_ENTRIES * sizeof(struct difference)));
+    buffer = new_region("buffer", 2 * TEXT_SIZE);
+    buffer.view = READ_ONLY;
+    lengths = new_region("lengths", pages(MOST_LENGTHS * CELL));
+    lengths.view = READ_ONLY;
+    expanded = new_region("expanded text", pages(LONGEST_TEXT + PAST));
+    origins = new_region("origins", pages((LONGEST_TEXT + PAST) * CELL));
 }
 
 static size_t least(size_t a, size_t b) {
@@ -325,7 +353,8 @@ static void trapped(int signal, siginfo_t *info, void *context) {
         _exit(1);
     }
     const unsigned char *at = info->si_addr;
-    struct region *all[] = {&text, &tables[0], &tables[1], &tables[2], &tables[3], &usual_output, &long_output, &told, &masks, &second, &list};
+    struct region *all[] = {&text, &tables[0], &tables[1], &tables[2], &tables[3], &usual_output, &long_output,
+                            &told, &masks, &second, &list, &buffer, &lengths, &expanded, &origins};
     for (size_t i = 0; i < sizeof all / sizeof *all; i++) {
         const unsigned char *start = all[i]->views[all[i]->view], *end = start + all[i]->size;
         if (at >= start - GUARD && at < start)
@@ -446,6 +475,21 @@ enum fault {
     DECIDES_BY_A_RECORD,
     ATTRIBUTE_36,
     WRONG_AND_NO_NUMBER,
+    BYTE_PAST_THE_EXPANDED,
+    BYTE_OF_THE_EXPANDED,
+    ORIGIN_ONE_OFF,
+    ORIGIN_PAST_THE_ROOM,
+    PLACE_OF_THE_EXPANDED,
+    ROW_OF_THE_EXPANDED,
+    NUMBER_3_FOR_A_HASH,
+    THIRTY_EXPANDS,
+    SHORT_ORIGINS_TAKEN,
+    SHORT_EXPANDED_WRITTEN,
+    READS_PAST_THE_BUFFER,
+    WRITES_THE_LENGTHS,
+    OTHER_LENGTH_OF_TEXTS,
+    READS_BESIDE_THE_BUFFER,
+    DECIDES_BY_AN_ORIGIN,
 };
 
 static enum fault planted = NO_FAULT;
@@ -455,6 +499,7 @@ static unsigned spoil_heading(const struct slices *s, unsigned number);
 static unsigned spoil_masks(uint64_t *list, size_t entries, size_t *cells, unsigned answer);
 static void spoil_compare(const uint8_t *other, size_t length, bool is_swapped, struct difference *records, size_t entries, struct compared *answer);
 static unsigned spoil_standard(size_t *cells, unsigned answer);
+static unsigned spoil_texts(bool is_write, size_t *place, unsigned number);
 
 // What the text's first reading answered, and what was written first: all other calls must agree.
 static struct {
@@ -1009,6 +1054,302 @@ static bool try_short_tables(bool longer) {
     return true;
 }
 
+// ---- Lent texts ----
+
+// How a text is lent: alone, or as the one that the main text includes.
+enum lending { ALONE, INCLUDED };
+
+static const char INCLUDING[] = "#include <a>\n";
+
+#define INCLUDING_LENGTH (sizeof INCLUDING - 1)
+
+// What the lent texts are expected to give.
+static struct {
+    size_t text;           // the number of the text that is tried
+    size_t main;           // how long the main text is
+    bool is_thirty;        // refused by 30, before the expansion where it is told wrong
+    bool is_told;          // told as it has to be
+    unsigned number;       // that `read` answers; 29 for each of 27 to 29
+    size_t told[TOLD_BY_READ];
+    unsigned char *rows[TABLES];
+} expected;
+
+static void lend_texts(enum lending how) {
+    size_t told_lengths[] = {0, INCLUDING_LENGTH, 1, now.length};
+    size_t front = how == ALONE ? 0 : INCLUDING_LENGTH + 1, count = how == ALONE ? 2 : 4;
+    if (how == ALONE)
+        told_lengths[1] = now.length;
+    lend(&buffer, now.side, front + now.length);
+    memcpy(here(&buffer), INCLUDING, how == ALONE ? 0 : INCLUDING_LENGTH);
+    if (how == INCLUDED)
+        here(&buffer)[INCLUDING_LENGTH] = 'a';
+    memcpy(here(&buffer) + front, now.bytes, now.length);
+    lend(&lengths, now.side, count * CELL);
+    memcpy(here(&lengths), told_lengths, count * CELL);
+    expected.text = how == ALONE ? 0 : 1;
+    expected.main = how == ALONE ? now.length : INCLUDING_LENGTH;
+    expected.is_told = now.length <= LONGEST_TEXT;
+    expected.is_thirty = now.length + (how == ALONE ? 0 : 1) > LONGEST_TEXT;
+}
+
+// Where a place of the text is in the lent texts; its end is the main text's.
+static size_t placed(size_t place) {
+    return place < now.length ? expected.text * TEXT_STEP + place : expected.main;
+}
+
+// The columns of a table that hold places, each with a length after it.
+static const size_t PLACES[TABLES][6] = {{5, 0, 2, 4, 8, 10}, {1, 1}, {3, 1, 3, 5}, {1, 7}};
+
+static void expect_rows(int t) {
+    memcpy(expected.rows[t], first.rows[t], first.told[1 + t] * WIDTHS[t] * CELL);
+    size_t *cells = (size_t *)(void *)expected.rows[t];
+    for (size_t row = 0; row < first.told[1 + t]; row++)
+        for (size_t i = 1; i <= PLACES[t][0]; i++) {
+            size_t cell = row * WIDTHS[t] + PLACES[t][i];
+            if (cells[cell + 1] != 0)
+                cells[cell] = placed(cells[cell]);
+        }
+}
+
+// What `read` answers to the lent texts, by what it answered to the text.
+static void expect_answer(void) {
+    memset(expected.told, 0, sizeof expected.told);
+    for (int t = 0; t < TABLES; t++)
+        memset(expected.rows[t], 0, room(t));
+    expected.number = expected.is_thirty ? 30 : first.number;
+    if (expected.is_thirty)
+        return;
+    size_t place = first.told[0];
+    if (first.number == 0) {
+        memcpy(expected.told, first.told, sizeof expected.told);
+        for (int t = 0; t < TABLES; t++)
+            expect_rows(t);
+        return;
+    }
+    if (first.number == 3 && now.bytes[place] == '#')
+        expected.number = 29;
+    expected.told[0] = first.number == 19 ? 0 : placed(place);
+}
+
+static void fill_texts(size_t bytes, size_t cells) {
+    lend(&expanded, now.side, bytes);
+    fill(&expanded);
+    lend(&origins, now.side, cells * CELL);
+    fill(&origins);
+}
+
+static void shut_texts(void) {
+    shut_for_call(&buffer, false);
+    shut_for_call(&lengths, false);
+    shut_for_call(&expanded, true);
+    shut_for_call(&origins, true);
+}
+
+// The expanded text and its origins, so far as they are lent: so many bytes of the text, then an LF where the text includes no fault.
+static bool expanded_holds(size_t length) {
+    size_t own = least(length, now.length);
+    const unsigned char *bytes = here(&expanded);
+    const size_t *cells = (const size_t *)(const void *)here(&origins);
+    size_t stored = least(length, expanded.length), noted = least(length, origins.length / CELL);
+    if (memcmp(bytes, now.bytes, least(own, stored)) != 0 || (stored > own && bytes[own] != '\n'))
+        return fail("the expanded text is another");
+    if (!is_noise_from(&expanded, stored) || !is_noise_beside(&expanded))
+        return fail("a byte past the %zu expanded ones is changed", stored);
+    for (size_t i = 0; i < noted; i++)
+        if (cells[i] != (i < own ? expected.text * TEXT_STEP + i : 0))
+            return fail("origin %zu is %zu", i, cells[i]);
+    return (is_noise_from(&origins, noted * CELL) && is_noise_beside(&origins)) || fail("an origin past the %zu ones is changed", noted);
+}
+
+static bool is_number_of(unsigned number) {
+    bool is_it = expected.number == 29 ? number >= 27 && number <= 29 : number == expected.number;
+    return is_it || fail("the number of the lent texts is %u for %u", number, expected.number);
+}
+
+// How long the expanded text is: with an LF after an included text, unless this has a fault.
+static size_t expanded_length;
+
+static bool try_expand(const char *name, size_t bytes, size_t cells) {
+    now.call = name;
+    fill_texts(bytes, cells);
+    lend(&told, now.side, (TOLD_BY_EXPAND + 1) * CELL);
+    fill(&told);
+    unsigned long errors = memcheck_errors();
+    shut_texts();
+    shut_for_call(&told, true);
+    size_t number = kaukslini_expand(lent(&buffer), buffer.length, (size_t *)(void *)lent(&lengths), lengths.length / CELL, lent(&expanded),
+                                     expanded.length, (size_t *)(void *)lent(&origins), origins.length / CELL, (size_t *)(void *)lent(&told),
+                                     TOLD_BY_EXPAND + 1);
+    calls++;
+    if (!is_set(&told, TOLD_BY_EXPAND * CELL))
+        return fail("memory that the call is to set is not set");
+    if (memcheck_errors() != errors)
+        return fail("valgrind reports %lu errors", memcheck_errors() - errors);
+    bool is_fault = number == 3 || (number >= 27 && number <= 29), is_included = expected.text == 1;
+    if (expected.is_thirty ? number != 30 : number != 0 && !is_fault)
+        return fail("the expansion's number is %zu", number);
+    expanded_length = expected.is_thirty ? 0 : now.length + (is_included && number == 0 ? 1 : 0);
+    size_t answer[TOLD_BY_EXPAND] = {is_fault ? told_at(0) : expanded_length, expanded_length};
+    if (is_fault && answer[0] >= now.length)
+        return fail("the fault is at %zu of %zu", answer[0], now.length);
+    if (!told_holds(answer, TOLD_BY_EXPAND))
+        return false;
+    return expanded_holds(!expected.is_told ? 0 : expected.is_thirty ? LONGEST_TEXT : expanded_length);
+}
+
+static bool set_tables_hold(bool is_answered) {
+    for (int t = 0; t < TABLES; t++) {
+        if (memcmp(here(&tables[t]), is_answered ? expected.rows[t] : zeros, room(t)) != 0)
+            return fail("%s: the rows of the lent texts are others", NAMES[t]);
+        if (!is_noise_from(&tables[t], room(t)) || !is_noise_beside(&tables[t]))
+            return fail("%s: memory past the room is changed", NAMES[t]);
+    }
+    return true;
+}
+
+// The arguments that both calls have.
+#define SET_SLICES                                                                                                                          \
+    lent(&buffer), buffer.length, (size_t *)(void *)lent(&lengths), lengths.length / CELL, lent(&expanded), expanded.length,                \
+        (size_t *)(void *)lent(&origins), origins.length / CELL, (size_t *)(void *)lent(&tables[0]), tables[0].length / CELL,               \
+        (size_t *)(void *)lent(&tables[1]), tables[1].length / CELL, (size_t *)(void *)lent(&tables[2]), tables[2].length / CELL,           \
+        (size_t *)(void *)lent(&tables[3]), tables[3].length / CELL
+
+// `read` over lent texts, or `write` with an output of so many bytes; the number, the place and the length.
+static bool call_texts(bool is_write, struct set_written *answer) {
+    lend(&told, now.side, TOLD_BY_READ * CELL);
+    fill(&told);
+    unsigned long errors = memcheck_errors();
+    shut_texts();
+    for (int t = 0; t < TABLES; t++)
+        shut_for_call(&tables[t], true);
+    shut_for_call(&told, true);
+    if (is_write)
+        shut_for_call(output, true);
+    if (is_write) {
+        *answer = kaukslini_write_texts(SET_SLICES, lent(output), output->length);
+    } else {
+        answer->number = kaukslini_read_texts(SET_SLICES, (size_t *)(void *)lent(&told), told.length / CELL);
+        answer->place = told_at(0);
+        answer->length = 0;
+    }
+    if (planted != NO_FAULT) {
+        answer->number = spoil_texts(is_write, &answer->place, (unsigned)answer->number);
+        if (planted == OTHER_LENGTH_OF_TEXTS && is_write)
+            answer->length++;
+    }
+    calls++;
+    bool are_set = is_write || is_set(&told, TOLD_BY_READ * CELL);
+    for (int t = 0; t < TABLES && answer->number != TABLES_TOO_SHORT; t++)
+        are_set = is_set(&tables[t], room(t)) && are_set;
+    if (!are_set)
+        return fail("memory that the call is to set is not set");
+    if (memcheck_errors() != errors)
+        return fail("valgrind reports %lu errors", memcheck_errors() - errors);
+    return true;
+}
+
+static bool try_read_texts(const char *name) {
+    struct set_written answer;
+    now.call = name;
+    fill_texts(LONGEST_TEXT + now.index % 2 * PAST, LONGEST_TEXT + now.index % 3 * PAST / 2);
+    fill_tables();
+    if (!call_texts(false, &answer) || !is_number_of((unsigned)answer.number))
+        return false;
+    if (answer.place != expected.told[0])
+        return fail("the place in the lent texts is %zu for %zu", answer.place, expected.told[0]);
+    if (!told_holds(expected.told, TOLD_BY_READ) || !set_tables_hold(true))
+        return false;
+    return expanded_holds(!expected.is_told ? 0 : expected.is_thirty ? LONGEST_TEXT : expanded_length);
+}
+
+static bool try_write_texts(const char *name, size_t bytes) {
+    struct set_written answer;
+    now.call = name;
+    output = bytes <= OUTPUT_SIZE ? &usual_output : &long_output;
+    lend(output, now.side, bytes);
+    fill(output);
+    fill_texts(LONGEST_TEXT, LONGEST_TEXT);
+    fill_tables();
+    if (!call_texts(true, &answer))
+        return false;
+    bool is_short = expected.number == 0 && bytes < first.length;
+    size_t written = expected.number == 0 && !is_short ? first.length : 0;
+    if (is_short ? answer.number != OUTPUT_TOO_SHORT : !is_number_of((unsigned)answer.number))
+        return fail("the number of the lent texts is %zu, with %zu bytes of output", answer.number, bytes);
+    if (answer.place != (is_short ? 0 : expected.told[0]) || answer.length != written)
+        return fail("the lent texts are written at %zu with %zu bytes for %zu", answer.place, answer.length, written);
+    if (memcmp(here(output), first.written, written) != 0)
+        return fail("a byte of the lent texts' normal text is another");
+    return output_holds(written) && set_tables_hold(written > 0);
+}
+
+// Short memory for the expanded text or the origins is refused by 1, and read-only memory shows that nothing is touched.
+static bool try_short_texts(void) {
+    struct set_written answer;
+    now.call = "lent texts, short memory";
+    output = &usual_output;
+    lend(output, now.side, USUAL_OUTPUT);
+    fill(output);
+    lend_for(READ_ONLY);
+    expanded.view = origins.view = READ_ONLY;
+    bool holds = true;
+    for (int choice = 0; choice < 4 && holds; choice++) {
+        fill_texts(LONGEST_TEXT - (choice / 2 == 0 ? 1 : 0), LONGEST_TEXT - (choice / 2 == 0 ? 0 : 1));
+        holds = call_texts(choice % 2 == 1, &answer);
+        if (holds && (answer.number != TABLES_TOO_SHORT || answer.place != 0))
+            holds = fail("the number is %zu for 1, %zu bytes and %zu origins", answer.number, expanded.length, origins.length / CELL);
+    }
+    lend_for(WRITABLE);
+    expanded.view = origins.view = WRITABLE;
+    return holds;
+}
+
+// Told lengths that overrun the buffer, that are odd, too many or none.
+static bool try_told_wrong(void) {
+    const size_t far[] = {buffer.length + 1, SIZE_MAX, SIZE_MAX / 2, SIZE_MAX - 65535};
+    size_t *cells = (size_t *)(void *)here(&lengths), count = lengths.length / CELL;
+    size_t wrong[MOST_LENGTHS] = {0};
+    memcpy(wrong, cells, count * CELL);
+    switch (now.index % 4) {
+    case 0:
+        wrong[now.index / 4 % count] = far[now.index / 32 % 4];
+        break;
+    case 1:
+        count += 1;
+        break;
+    case 2:
+        count = MOST_LENGTHS;
+        break;
+    default:
+        count = 0;
+    }
+    lend(&lengths, now.side, count * CELL);
+    memcpy(here(&lengths), wrong, count * CELL);
+    expected.is_told = false;
+    expected.is_thirty = true;
+    expect_answer();
+    return try_expand("expand, told wrong", LONGEST_TEXT, LONGEST_TEXT) && try_read_texts("read over texts, told wrong");
+}
+
+static bool try_texts_as(enum lending how) {
+    lend_texts(how);
+    expect_answer();
+    if (!try_expand("expand", LONGEST_TEXT + PAST, LONGEST_TEXT) || !try_read_texts("read over texts"))
+        return false;
+    if (!try_expand("expand, short memory", now.index % 300, LONGEST_TEXT - now.index % 300))
+        return false;
+    size_t room_of_output = expected.number == 0 ? first.length : now.index % 400;
+    if (!try_write_texts("write over texts", room_of_output))
+        return false;
+    if (expected.number == 0 && !try_write_texts("write over texts, an output one byte too short", first.length - 1))
+        return false;
+    return try_short_texts() && try_told_wrong();
+}
+
+static bool try_texts(void) {
+    return try_texts_as(ALONE) && try_texts_as(INCLUDED);
+}
+
 // All calls on a text with lent memory that ends, or begins, at the guards.
 static bool try_side(enum side side, bool longer) {
     now.side = side;
@@ -1052,7 +1393,7 @@ static bool try_side(enum side side, bool longer) {
         if (!try_compare_normal())
             return false;
     }
-    return try_write("write, an empty output", 0, TOLD_BY_WRITE, &number);
+    return try_write("write, an empty output", 0, TOLD_BY_WRITE, &number) && try_texts();
 }
 
 // The calls on one text end within so many seconds of the processor's time.
@@ -1428,6 +1769,22 @@ static NOT_INSTRUMENTED unsigned spoil(const struct slices *s, bool is_write, un
     case ATTRIBUTE_36:
     case WRONG_AND_NO_NUMBER:
         break; // of the standard
+    case BYTE_PAST_THE_EXPANDED:
+    case BYTE_OF_THE_EXPANDED:
+    case ORIGIN_ONE_OFF:
+    case ORIGIN_PAST_THE_ROOM:
+    case PLACE_OF_THE_EXPANDED:
+    case ROW_OF_THE_EXPANDED:
+    case NUMBER_3_FOR_A_HASH:
+    case THIRTY_EXPANDS:
+    case SHORT_ORIGINS_TAKEN:
+    case SHORT_EXPANDED_WRITTEN:
+    case READS_PAST_THE_BUFFER:
+    case WRITES_THE_LENGTHS:
+    case OTHER_LENGTH_OF_TEXTS:
+    case READS_BESIDE_THE_BUFFER:
+    case DECIDES_BY_AN_ORIGIN:
+        break; // of lent texts
     }
     return number;
 }
@@ -1564,6 +1921,73 @@ static NOT_INSTRUMENTED unsigned spoil_standard(size_t *cells, unsigned answer) 
     return answer;
 }
 
+// The same of `read` and `write` over lent texts.
+static NOT_INSTRUMENTED unsigned spoil_texts(bool is_write, size_t *place, unsigned number) {
+    volatile uint8_t *bytes = lent(&expanded);
+    volatile size_t *cells = (size_t *)(void *)lent(&origins), *objects = (size_t *)(void *)lent(&tables[OBJECTS]);
+    volatile const uint8_t *in_buffer = lent(&buffer);
+    static volatile size_t times = 0;
+    bool ends = now.side == ENDS_AT_GUARD, is_taken = number != TABLES_TOO_SHORT, is_expanded = is_taken && expected.is_told;
+    bool is_read = !is_write, is_included = expected.text == 1;
+
+    switch (planted) {
+    case BYTE_PAST_THE_EXPANDED:
+        if (is_read && is_expanded)
+            bytes[expanded_length] ^= 1;
+        break;
+    case BYTE_OF_THE_EXPANDED:
+        if (is_read && is_expanded)
+            bytes[0] ^= 1;
+        break;
+    case ORIGIN_ONE_OFF:
+        if (is_read && is_expanded && is_included && expanded_length > now.length)
+            cells[now.length]++;
+        break;
+    case ORIGIN_PAST_THE_ROOM:
+        if (is_read && is_taken && origins.length > LONGEST_TEXT * CELL)
+            cells[LONGEST_TEXT] ^= 1;
+        break;
+    case PLACE_OF_THE_EXPANDED:
+        if (number != 0 && is_taken && is_included && *place >= TEXT_STEP)
+            *place -= TEXT_STEP;
+        break;
+    case ROW_OF_THE_EXPANDED:
+        if (is_read && number == 0 && is_included)
+            objects[1] -= TEXT_STEP;
+        break;
+    case NUMBER_3_FOR_A_HASH:
+        return number == 29 ? 3 : number;
+    case THIRTY_EXPANDS:
+        if (is_read && number == 30 && !expected.is_told)
+            bytes[0] ^= 1;
+        break;
+    case SHORT_ORIGINS_TAKEN:
+        return origins.length < LONGEST_TEXT * CELL ? 30 : number;
+    case SHORT_EXPANDED_WRITTEN:
+        if (!is_taken)
+            bytes[0] = 0;
+        break;
+    case READS_PAST_THE_BUFFER:
+        if (ends)
+            times += in_buffer[buffer.length];
+        break;
+    case WRITES_THE_LENGTHS:
+        *(volatile size_t *)(void *)lent(&lengths) = 1;
+        break;
+    case READS_BESIDE_THE_BUFFER:
+        if (!ends)
+            times += in_buffer[buffer.length];
+        break;
+    case DECIDES_BY_AN_ORIGIN:
+        if (is_read && is_expanded && cells[expanded_length] == 7)
+            times++;
+        break;
+    default:
+        break;
+    }
+    return number;
+}
+
 // Each fault, a part of what is to be reported, and whether it takes valgrind to see it.
 static const struct {
     const char *name, *reported;
@@ -1637,6 +2061,21 @@ static const struct {
     [DECIDES_BY_A_RECORD] = {"a record that was not set decides", "valgrind reports 1 errors", true},
     [ATTRIBUTE_36] = {"attribute 36 is told", "is told for attribute 36", false},
     [WRONG_AND_NO_NUMBER] = {"24 is told for a standard attribute", "24 at", false},
+    [BYTE_PAST_THE_EXPANDED] = {"a byte past the expanded text is changed", "expanded ones is changed", false},
+    [BYTE_OF_THE_EXPANDED] = {"a byte of the expanded text is another", "the expanded text is another", false},
+    [ORIGIN_ONE_OFF] = {"an origin is one off", "origin 174 is 1", false},
+    [ORIGIN_PAST_THE_ROOM] = {"an origin past the room is changed", "an origin past the", false},
+    [PLACE_OF_THE_EXPANDED] = {"a refusal's place is that of the expanded text", "the place in the lent texts is 0 for 65536", false},
+    [ROW_OF_THE_EXPANDED] = {"a row's place is that of the expanded text", "objects: the rows of the lent texts are others", false},
+    [NUMBER_3_FOR_A_HASH] = {"3 is told for a `#`", "the number of the lent texts is 3 for 29", false},
+    [THIRTY_EXPANDS] = {"texts that are told wrong are expanded", "a byte past the 0 expanded ones is changed", false},
+    [SHORT_ORIGINS_TAKEN] = {"too few origins are taken", "the number is 30 for 1, 65535 bytes and 65534 origins", false},
+    [SHORT_EXPANDED_WRITTEN] = {"refusal 1 changes the expanded text", "a write to read-only memory: expanded text", false},
+    [READS_PAST_THE_BUFFER] = {"the byte past the buffer is read", "an access past the lent memory: buffer", false},
+    [WRITES_THE_LENGTHS] = {"a told length is written", "a write to read-only memory: lengths", false},
+    [OTHER_LENGTH_OF_TEXTS] = {"another length of the normal text is told", "bytes for", false},
+    [READS_BESIDE_THE_BUFFER] = {"a byte after the buffer is read", "valgrind reports 1 errors", true},
+    [DECIDES_BY_AN_ORIGIN] = {"an origin that was not set decides", "valgrind reports 1 errors", true},
 };
 
 enum { FAULT_COUNT = sizeof FAULTS / sizeof *FAULTS };
@@ -1674,7 +2113,11 @@ static bool try_planted(enum fault fault, char *report, size_t room_of_report) {
     if (child == 0) {
         dup2(ends[1], STDERR_FILENO);
         planted = fault;
+#ifdef MEMCHECK
+        most_seconds = 60;
+#else
         most_seconds = 2;
+#endif
         bool hold = true;
         for (int times = 0; times < 2 && hold; times++)
             hold = try_known(WORKED, 0) && try_known("#", 3) && try_known(EVENTS, 0);
@@ -1728,7 +2171,8 @@ int main(int count, char **arguments) {
     catch_traps();
     for (int t = 0; t < TABLES; t++) {
         first.rows[t] = malloc(room(t));
-        if (first.rows[t] == NULL)
+        expected.rows[t] = malloc(room(t));
+        if (first.rows[t] == NULL || expected.rows[t] == NULL)
             stop("malloc");
     }
     first.written_room = USUAL_OUTPUT;

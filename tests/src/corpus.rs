@@ -7,11 +7,17 @@ use std::path::{Path, PathBuf};
 /// The list of the texts of document 01; each other one is of a request of document 02.
 pub const DOCUMENT_01: &str = "document-01";
 
-/// A text of the corpus and what the program writes for it.
+/// The request from whose landing on a place is a text's number and a byte.
+const INCLUDES: &str = "q10";
+
+/// A text of the corpus and what is written for it.
 pub struct Sample {
     pub name: String,
     pub text: Vec<u8>,
+    /// By the calls that take one text, without includes: a refused line has number and place.
     pub expected: Vec<u8>,
+    /// By the program, which reads it as the main text.
+    pub by_program: Vec<u8>,
 }
 
 impl Sample {
@@ -62,9 +68,26 @@ pub struct Case {
     /// The question, with what it is asked for.
     pub ask: String,
     pub texts: Vec<Text>,
-    /// The first answer, then one for each request that changes it: a line, or the file that
-    /// holds it.
-    pub answers: Vec<String>,
+    /// The first answer, then one for each request that changes it.
+    pub answers: Vec<Answer>,
+}
+
+/// An answer of a case.
+#[derive(Debug, PartialEq)]
+pub struct Answer {
+    /// The request from whose landing on it holds; of the first answer the case's own list.
+    pub since: String,
+    /// A line, or the file that holds it.
+    pub form: String,
+}
+
+impl Answer {
+    fn bytes(&self) -> Vec<u8> {
+        match answer_file(&self.form) {
+            Some(file) => read(folder().join(file)),
+            None => format!("{}\n", self.form).into_bytes(),
+        }
+    }
 }
 
 impl Case {
@@ -86,19 +109,24 @@ impl Case {
 
     /// What comes out, byte for byte: the last answer.
     pub fn answer(&self) -> Vec<u8> {
-        let answer = self.answers.last().expect("an answer");
-        match answer_file(answer) {
-            Some(file) => read(folder().join(file)),
-            None => format!("{answer}\n").into_bytes(),
-        }
+        self.answers.last().expect("an answer").bytes()
     }
 
-    fn sample(self) -> Sample {
-        Sample {
+    /// What comes out of the calls that take one text, without includes; nothing for a case
+    /// about includes.
+    pub fn plain_answer(&self) -> Option<Vec<u8>> {
+        let mut answers = self.answers.iter().rev();
+        let answer = answers.find(|answer| *answer.since < *INCLUDES)?;
+        Some(answer.bytes())
+    }
+
+    fn sample(self) -> Option<Sample> {
+        Some(Sample {
+            expected: self.plain_answer()?,
+            by_program: self.answer(),
             text: self.text(),
-            expected: self.answer(),
             name: self.name,
-        }
+        })
     }
 }
 
@@ -158,7 +186,10 @@ fn listed(list: &str, lines: &str) -> Vec<Case> {
             let case = cases.last_mut().filter(|case| case.name == name);
             let case = case.unwrap_or_else(|| panic!("{name}: {ask} is not below its case"));
             assert!(*after < *ask, "{name}: {ask} below {after}");
-            case.answers.push(rest.into());
+            case.answers.push(Answer {
+                since: ask["after-".len()..].into(),
+                form: rest.into(),
+            });
             after = ask.into();
             continue;
         }
@@ -171,7 +202,10 @@ fn listed(list: &str, lines: &str) -> Vec<Case> {
             name,
             ask: ask.into(),
             texts: texts.split(' ').map(Text::new).collect(),
-            answers: vec![answer.into()],
+            answers: vec![Answer {
+                since: list.into(),
+                form: answer.into(),
+            }],
         });
         after.clear();
     }
@@ -190,16 +224,16 @@ pub fn asking(word: &str) -> Vec<Case> {
 /// The texts of document 01 in the order of their names.
 pub fn samples() -> Vec<Sample> {
     let cases = list(DOCUMENT_01).into_iter();
-    cases.map(Case::sample).collect()
+    cases.filter_map(Case::sample).collect()
 }
 
-/// The cases of the requests that ask for normal text, in their order.
+/// The cases of the requests that ask for the normal text of one text, in their order.
 pub fn cases() -> Vec<Sample> {
     let cases = asking("normal").into_iter();
-    cases.map(Case::sample).collect()
+    cases.filter_map(Case::sample).collect()
 }
 
-/// The texts of document 01 and the cases of the requests that ask for normal text.
+/// The texts of document 01 and the cases of the requests that ask for normal text of one text.
 pub fn all() -> Vec<Sample> {
     let mut all = samples();
     all.extend(cases());
@@ -221,21 +255,29 @@ mod tests {
     fn forms_of_lines() {
         let lines = "\
 001\tnormal\ttexts/a.oil\trefused\t4\t0
-001\tafter-q02\tanswers/a.out
+001\tafter-q04\trefused\t6\t1
 001\tafter-q10\trefused\t4\t0\t0
 002\tcompare\ttexts/a.oil texts/b.oil\ttotal\t0
 003\tnormal\ttexts/a.oil b=texts/b.oil c.oil=texts/a.oil\tanswers/b.out
 004\tvalue OS o s room 3\ttexts/a.oil\tvalue\t
 ";
-        let case = |name: &str, ask: &str, texts, answers: &[&str]| Case {
+        let answer = |(since, form): &(&str, &str)| Answer {
+            since: since.to_string(),
+            form: form.to_string(),
+        };
+        let case = |name: &str, ask: &str, texts, answers: &[(&str, &str)]| Case {
             name: format!("q02/{name}"),
             ask: ask.into(),
             texts,
-            answers: answers.iter().map(|answer| answer.to_string()).collect(),
+            answers: answers.iter().map(answer).collect(),
         };
         let a = || text(None, "texts/a.oil");
         let b = || text(None, "texts/b.oil");
-        let answers = ["refused\t4\t0", "answers/a.out", "refused\t4\t0\t0"];
+        let answers = [
+            ("q02", "refused\t4\t0"),
+            ("q04", "refused\t6\t1"),
+            ("q10", "refused\t4\t0\t0"),
+        ];
         let included = vec![
             a(),
             text(Some("b"), "texts/b.oil"),
@@ -246,13 +288,22 @@ mod tests {
             cases,
             [
                 case("001", "normal", vec![a()], &answers),
-                case("002", "compare", vec![a(), b()], &["total\t0"]),
-                case("003", "normal", included, &["answers/b.out"]),
-                case("004", "value OS o s room 3", vec![a()], &["value\t"]),
+                case("002", "compare", vec![a(), b()], &[("q02", "total\t0")]),
+                case("003", "normal", included, &[("q02", "answers/b.out")]),
+                case(
+                    "004",
+                    "value OS o s room 3",
+                    vec![a()],
+                    &[("q02", "value\t")]
+                ),
             ]
         );
         assert_eq!(cases[1].pair(), [&a(), &b()]);
+        assert_eq!(cases[0].answer(), b"refused\t4\t0\t0\n");
+        assert_eq!(cases[0].plain_answer().unwrap(), b"refused\t6\t1\n");
         assert_eq!(cases[3].answer(), b"value\t\n");
+        let includes = listed("q10", "001\tnormal\ttexts/a.oil\trefused\t4\t0\t0\n");
+        assert_eq!(includes[0].plain_answer(), None);
     }
 
     #[test]

@@ -3,6 +3,7 @@
 
 use crate::grammar::{stage, Stage};
 use crate::heavy::Heavy;
+use crate::including;
 use crate::meaning::Refusal;
 use crate::random::Random;
 use crate::texts::{self, Shape};
@@ -92,21 +93,20 @@ impl Tokens<'_> {
     }
 }
 
-/// The line that the program `oil_heading` writes for a text under a name.
+/// The line that the program `oil_heading` writes for a text under a name, where no file can be
+/// opened that it includes.
 pub fn line(name: &[u8], text: &[u8]) -> Vec<u8> {
     let mut line = shown(name);
-    match heading(text) {
-        Ok(Heading { version, name }) => {
-            for part in [version, name] {
-                line.push(b'\t');
-                line.extend(shown(&text[part]));
-            }
+    line.push(b'\t');
+    match including::heading(&including::alone(text)) {
+        Ok([version, name]) => {
+            line.extend(shown(&version.bytes));
+            line.push(b'\t');
+            line.extend(shown(&name.bytes));
+            line.push(b'\n');
         }
-        Err(Refusal { number, place }) => {
-            line.extend(format!("\trefused\t{number}\t{place}").bytes())
-        }
+        Err(refused) => line.extend(refused.line().bytes()),
     }
-    line.push(b'\n');
     line
 }
 

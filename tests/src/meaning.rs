@@ -25,7 +25,7 @@ pub struct Refusal {
 }
 
 /// What an accepted text gives.
-#[derive(Debug, PartialEq, Eq)]
+#[derive(Clone, Debug, PartialEq, Eq)]
 pub struct Reading {
     pub definitions: Vec<DefinitionRow>,
     pub enumerators: Vec<EnumeratorRow>,

@@ -14,6 +14,8 @@ pub fn is_linked(layer: &str) -> bool {
         "masks" => cfg!(proved_masks),
         "releases" => cfg!(proved_releases),
         "standard" => cfg!(proved_standard),
+        "including" => cfg!(proved_including),
+        "questions" => cfg!(proved_questions),
         _ => panic!("no layer {layer}"),
     };
     let mut asked = env!("KAUKSLINI_LAYERS_ASKED").split(',');
@@ -432,6 +434,355 @@ pub mod standard {
                 attribute: told[2],
             }),
             _ => panic!("no answer {answer}"),
+        }
+    }
+}
+
+#[cfg(not(proved_including))]
+pub mod including {
+    use crate::including::{Buffer, Told};
+
+    pub fn expand(_: &Buffer, _: &mut [u8], _: &mut [usize], _: &mut [usize]) -> usize {
+        unreachable!("only asked where it is linked")
+    }
+
+    pub fn read(
+        _: &Buffer,
+        _: &mut [u8],
+        _: &mut [usize],
+        _: [&mut [usize]; 4],
+        _: &mut [usize],
+    ) -> u8 {
+        unreachable!("only asked where it is linked")
+    }
+
+    pub fn write(
+        _: &Buffer,
+        _: &mut [u8],
+        _: &mut [usize],
+        _: [&mut [usize]; 4],
+        _: &mut [u8],
+    ) -> Told {
+        unreachable!("only asked where it is linked")
+    }
+}
+
+#[cfg(proved_including)]
+pub mod including {
+    use crate::including::{Buffer, Told};
+
+    extern "C" {
+        fn kaukslini_expand(
+            buffer: *const u8,
+            buffer_length: usize,
+            lengths: *const usize,
+            lengths_length: usize,
+            expanded: *mut u8,
+            expanded_length: usize,
+            origins: *mut usize,
+            origins_length: usize,
+            told: *mut usize,
+            told_length: usize,
+        ) -> usize;
+        fn kaukslini_read_texts(
+            buffer: *const u8,
+            buffer_length: usize,
+            lengths: *const usize,
+            lengths_length: usize,
+            expanded: *mut u8,
+            expanded_length: usize,
+            origins: *mut usize,
+            origins_length: usize,
+            definitions: *mut usize,
+            definitions_length: usize,
+            enumerators: *mut usize,
+            enumerators_length: usize,
+            objects: *mut usize,
+            objects_length: usize,
+            values: *mut usize,
+            values_length: usize,
+            told: *mut usize,
+            told_length: usize,
+        ) -> u8;
+        fn kaukslini_write_texts(
+            buffer: *const u8,
+            buffer_length: usize,
+            lengths: *const usize,
+            lengths_length: usize,
+            expanded: *mut u8,
+            expanded_length: usize,
+            origins: *mut usize,
+            origins_length: usize,
+            definitions: *mut usize,
+            definitions_length: usize,
+            enumerators: *mut usize,
+            enumerators_length: usize,
+            objects: *mut usize,
+            objects_length: usize,
+            values: *mut usize,
+            values_length: usize,
+            output: *mut u8,
+            output_length: usize,
+        ) -> Told;
+    }
+
+    /// Expands lent texts into lent memory, with the origins of the bytes. The number of the first
+    /// fault, 0 where there is none, or 30; told in `told` are its place and how long the expanded
+    /// text is.
+    pub fn expand(
+        buffer: &Buffer,
+        expanded: &mut [u8],
+        origins: &mut [usize],
+        told: &mut [usize],
+    ) -> usize {
+        unsafe {
+            kaukslini_expand(
+                buffer.bytes.as_ptr(),
+                buffer.bytes.len(),
+                buffer.lengths.as_ptr(),
+                buffer.lengths.len(),
+                expanded.as_mut_ptr(),
+                expanded.len(),
+                origins.as_mut_ptr(),
+                origins.len(),
+                told.as_mut_ptr(),
+                told.len(),
+            )
+        }
+    }
+
+    /// Reads lent texts into lent tables, as `reading::read` does one text.
+    pub fn read(
+        buffer: &Buffer,
+        expanded: &mut [u8],
+        origins: &mut [usize],
+        tables: [&mut [usize]; 4],
+        told: &mut [usize],
+    ) -> u8 {
+        let [definitions, enumerators, objects, values] = tables;
+        unsafe {
+            kaukslini_read_texts(
+                buffer.bytes.as_ptr(),
+                buffer.bytes.len(),
+                buffer.lengths.as_ptr(),
+                buffer.lengths.len(),
+                expanded.as_mut_ptr(),
+                expanded.len(),
+                origins.as_mut_ptr(),
+                origins.len(),
+                definitions.as_mut_ptr(),
+                definitions.len(),
+                enumerators.as_mut_ptr(),
+                enumerators.len(),
+                objects.as_mut_ptr(),
+                objects.len(),
+                values.as_mut_ptr(),
+                values.len(),
+                told.as_mut_ptr(),
+                told.len(),
+            )
+        }
+    }
+
+    /// Writes the normal text of lent texts, as `writing::write` does that of one text.
+    pub fn write(
+        buffer: &Buffer,
+        expanded: &mut [u8],
+        origins: &mut [usize],
+        tables: [&mut [usize]; 4],
+        output: &mut [u8],
+    ) -> Told {
+        let [definitions, enumerators, objects, values] = tables;
+        unsafe {
+            kaukslini_write_texts(
+                buffer.bytes.as_ptr(),
+                buffer.bytes.len(),
+                buffer.lengths.as_ptr(),
+                buffer.lengths.len(),
+                expanded.as_mut_ptr(),
+                expanded.len(),
+                origins.as_mut_ptr(),
+                origins.len(),
+                definitions.as_mut_ptr(),
+                definitions.len(),
+                enumerators.as_mut_ptr(),
+                enumerators.len(),
+                objects.as_mut_ptr(),
+                objects.len(),
+                values.as_mut_ptr(),
+                values.len(),
+                output.as_mut_ptr(),
+                output.len(),
+            )
+        }
+    }
+}
+
+#[cfg(not(proved_questions))]
+pub mod questions {
+    use crate::including::Buffer;
+
+    pub fn heading(_: &Buffer, _: [&mut [usize]; 2], _: &mut [u8]) -> u8 {
+        unreachable!("only asked where it is linked")
+    }
+
+    pub fn check_masks(_: &Buffer, _: [&mut [usize]; 2], _: &mut [u8], _: &[u64]) -> u8 {
+        unreachable!("only asked where it is linked")
+    }
+
+    pub fn plan_masks(_: &Buffer, _: [&mut [usize]; 2], _: &mut [u8], _: &mut [u64]) -> u8 {
+        unreachable!("only asked where it is linked")
+    }
+
+    pub fn check_standard(_: &Buffer, _: [&mut [usize]; 2], _: &mut [u8]) -> u8 {
+        unreachable!("only asked where it is linked")
+    }
+}
+
+/// The questions over lent texts. Each is lent memory for the origins and for what is told, in this
+/// order, and for the expanded text; what is told is that of the same question about one text.
+#[cfg(proved_questions)]
+pub mod questions {
+    use crate::including::Buffer;
+
+    extern "C" {
+        fn kaukslini_heading_texts(
+            buffer: *const u8,
+            buffer_length: usize,
+            lengths: *const usize,
+            lengths_length: usize,
+            expanded: *mut u8,
+            expanded_length: usize,
+            origins: *mut usize,
+            origins_length: usize,
+            told: *mut usize,
+            told_length: usize,
+        ) -> u8;
+        fn kaukslini_check_masks_texts(
+            buffer: *const u8,
+            buffer_length: usize,
+            lengths: *const usize,
+            lengths_length: usize,
+            expanded: *mut u8,
+            expanded_length: usize,
+            origins: *mut usize,
+            origins_length: usize,
+            masks: *const u64,
+            masks_length: usize,
+            told: *mut usize,
+            told_length: usize,
+        ) -> u8;
+        fn kaukslini_plan_masks_texts(
+            buffer: *const u8,
+            buffer_length: usize,
+            lengths: *const usize,
+            lengths_length: usize,
+            expanded: *mut u8,
+            expanded_length: usize,
+            origins: *mut usize,
+            origins_length: usize,
+            masks: *mut u64,
+            masks_length: usize,
+            told: *mut usize,
+            told_length: usize,
+        ) -> u8;
+        fn kaukslini_check_standard_texts(
+            buffer: *const u8,
+            buffer_length: usize,
+            lengths: *const usize,
+            lengths_length: usize,
+            expanded: *mut u8,
+            expanded_length: usize,
+            origins: *mut usize,
+            origins_length: usize,
+            told: *mut usize,
+            told_length: usize,
+        ) -> u8;
+    }
+
+    pub fn heading(buffer: &Buffer, cells: [&mut [usize]; 2], expanded: &mut [u8]) -> u8 {
+        let [origins, told] = cells;
+        unsafe {
+            kaukslini_heading_texts(
+                buffer.bytes.as_ptr(),
+                buffer.bytes.len(),
+                buffer.lengths.as_ptr(),
+                buffer.lengths.len(),
+                expanded.as_mut_ptr(),
+                expanded.len(),
+                origins.as_mut_ptr(),
+                origins.len(),
+                told.as_mut_ptr(),
+                told.len(),
+            )
+        }
+    }
+
+    pub fn check_masks(
+        buffer: &Buffer,
+        cells: [&mut [usize]; 2],
+        expanded: &mut [u8],
+        masks: &[u64],
+    ) -> u8 {
+        let [origins, told] = cells;
+        unsafe {
+            kaukslini_check_masks_texts(
+                buffer.bytes.as_ptr(),
+                buffer.bytes.len(),
+                buffer.lengths.as_ptr(),
+                buffer.lengths.len(),
+                expanded.as_mut_ptr(),
+                expanded.len(),
+                origins.as_mut_ptr(),
+                origins.len(),
+                masks.as_ptr(),
+                masks.len(),
+                told.as_mut_ptr(),
+                told.len(),
+            )
+        }
+    }
+
+    pub fn plan_masks(
+        buffer: &Buffer,
+        cells: [&mut [usize]; 2],
+        expanded: &mut [u8],
+        masks: &mut [u64],
+    ) -> u8 {
+        let [origins, told] = cells;
+        unsafe {
+            kaukslini_plan_masks_texts(
+                buffer.bytes.as_ptr(),
+                buffer.bytes.len(),
+                buffer.lengths.as_ptr(),
+                buffer.lengths.len(),
+                expanded.as_mut_ptr(),
+                expanded.len(),
+                origins.as_mut_ptr(),
+                origins.len(),
+                masks.as_mut_ptr(),
+                masks.len(),
+                told.as_mut_ptr(),
+                told.len(),
+            )
+        }
+    }
+
+    pub fn check_standard(buffer: &Buffer, cells: [&mut [usize]; 2], expanded: &mut [u8]) -> u8 {
+        let [origins, told] = cells;
+        unsafe {
+            kaukslini_check_standard_texts(
+                buffer.bytes.as_ptr(),
+                buffer.bytes.len(),
+                buffer.lengths.as_ptr(),
+                buffer.lengths.len(),
+                expanded.as_mut_ptr(),
+                expanded.len(),
+                origins.as_mut_ptr(),
+                origins.len(),
+                told.as_mut_ptr(),
+                told.len(),
+            )
         }
     }
 }

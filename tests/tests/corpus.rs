@@ -16,6 +16,7 @@ const CASES: &[(&str, usize)] = &[
     ("q07", 59),
     ("q08", 84),
     ("q09", 127),
+    ("q10", 273),
 ];
 
 /// The texts of document 01, from corpus/, where the program `vectors` finds them.
@@ -79,7 +80,10 @@ fn each_file_is_named() {
     );
     for case in all_cases() {
         named.extend(case.texts.into_iter().map(|text| text.file));
-        let files = case.answers.iter().filter_map(|answer| answer_file(answer));
+        let files = case
+            .answers
+            .iter()
+            .filter_map(|answer| answer_file(&answer.form));
         named.extend(files.map(String::from));
     }
     let mut there = files("");
@@ -128,7 +132,8 @@ fn each_case_is_asked() {
         .map(|word| corpus::asking(word).len())
         .sum();
     assert_eq!(taken + base.len(), questions.values().sum());
-    assert_eq!(corpus::all().len(), questions["normal"]);
+    let includes = corpus::list("q10").len();
+    assert_eq!(corpus::all().len() + includes, questions["normal"]);
     println!("cases of each question: {questions:?}");
 }
 

@@ -1,23 +1,24 @@
 //! The examples of docs/REFUSALS.md against the reference and, where they are linked, the proved
-//! calls `read` and `write`. What docs/STATEMENTS.md and docs/READING.md name is there.
+//! calls `read` and `write` over lent texts. What docs/STATEMENTS.md and docs/READING.md name is
+//! there.
 
 use std::collections::{HashMap, HashSet};
 use std::fs;
 use std::path::{Path, PathBuf};
-use tests::comparing::{answer_within, Lent};
-use tests::meaning::{self, Refusal};
-use tests::normal::normal_within;
+use tests::comparing_texts::{Answers, Memory, EXACT};
+use tests::including::{normal_within, Buffer, Lent, Place, Refused, START};
 use tests::proved;
-use tests::tables::{self, ROOMS};
+use tests::tables::ROOMS;
 
-/// An example of the document: a text, what is lent, and the answer that stands below it.
+/// An example of the document: a text with those that it may include, what is lent, and the answer
+/// that stands below it.
 struct Example {
     /// The number of the line on which it begins.
     line: usize,
-    text: Vec<u8>,
+    texts: Vec<Lent>,
     lent: [usize; 4],
     output: usize,
-    answer: Option<Refusal>,
+    answer: Option<Refused>,
     /// What stands at the place, where the document says so.
     at: Option<At>,
 }
@@ -36,9 +37,11 @@ fn document(file: &str) -> String {
     fs::read_to_string(path(file)).unwrap_or_else(|fault| panic!("{file}: {fault}"))
 }
 
-/// The examples, each from its line "```oil" through the line with its answer.
+/// The examples, each from its line "```oil" through the line with its answer; a text marked as a
+/// file has none, and goes to the next example.
 fn examples(document: &str) -> Vec<Example> {
     let mut examples = Vec::new();
+    let mut files = Vec::new();
     let mut lines = document.lines().enumerate();
     while let Some((index, line)) = lines.next() {
         let Some(marks) = line.strip_prefix("```oil") else {
@@ -51,17 +54,27 @@ fn examples(document: &str) -> Vec<Example> {
                 line => text.push(line),
             }
         }
+        let mut example = example(index + 1, marks, &text);
+        if !example.texts[0].name.is_empty() {
+            files.extend(example.texts);
+            continue;
+        }
+        example.texts.append(&mut files);
         let mut below = lines.by_ref().map(|(_, line)| line);
         let answer = below.find(|line| !line.is_empty()).expect("an answer");
-        examples.push(example(index + 1, marks, &text, answer));
+        (example.answer, example.at) = answered(answer, example.line);
+        examples.push(example);
     }
+    assert!(files.is_empty(), "a file without its example");
     examples
 }
 
-fn example(line: usize, marks: &str, text: &[&str], answer: &str) -> Example {
+/// An example without its answer.
+fn example(line: usize, marks: &str, text: &[&str]) -> Example {
     let mut lent = ROOMS;
     let mut output = 65_535;
     let mut is_repeated = false;
+    let mut name = "";
     let mut marks = marks.split_whitespace();
     while let Some(mark) = marks.next() {
         let mut cells = || number(marks.next().expect("how many cells or bytes"), line);
@@ -69,6 +82,7 @@ fn example(line: usize, marks: &str, text: &[&str], answer: &str) -> Example {
             "repeated" => is_repeated = true,
             "lent" => lent = [cells(), cells(), cells(), cells()],
             "output" => output = cells(),
+            "file" => name = marks.next().expect("a name"),
             _ => panic!("line {line}: the mark {mark}"),
         }
     }
@@ -76,14 +90,13 @@ fn example(line: usize, marks: &str, text: &[&str], answer: &str) -> Example {
         true => text.iter().flat_map(|line| repeated(line)).collect(),
         false => text.iter().map(|line| line.to_string()).collect(),
     };
-    let (answer, at) = answered(answer, line);
     Example {
         line,
-        text: lines.join("\n").into_bytes(),
+        texts: vec![Lent::new(name, lines.join("\n"))],
         lent,
         output,
-        answer,
-        at,
+        answer: None,
+        at: None,
     }
 }
 
@@ -106,79 +119,81 @@ fn repeated(line: &str) -> Vec<String> {
     }
 }
 
-/// `accepted`, or `refused N at P`, or the same and behind a colon what stands there.
-fn answered(answer: &str, line: usize) -> (Option<Refusal>, Option<At>) {
+/// `accepted`, or `refused N at B`, or `refused N at B of text T`, or the same and after a colon
+/// what stands there.
+fn answered(answer: &str, line: usize) -> (Option<Refused>, Option<At>) {
     if answer == "accepted" {
         return (None, None);
     }
-    let (refusal, at) = match answer.split_once(": ") {
-        Some((refusal, "the end of the text")) => (refusal, Some(At::End)),
-        Some((refusal, at)) => (refusal, Some(At::Word(at.trim_matches('`').to_string()))),
+    let (refused, at) = match answer.split_once(": ") {
+        Some((refused, "the end of the text")) => (refused, Some(At::End)),
+        Some((refused, at)) => (refused, Some(At::Word(at.trim_matches('`').to_string()))),
         None => (answer, None),
     };
-    let refusal = refusal.strip_prefix("refused ").and_then(|refusal| {
-        let (number, place) = refusal.split_once(" at ")?;
-        Some(Refusal {
+    let refused = refused.strip_prefix("refused ").and_then(|refused| {
+        let (number, place) = refused.split_once(" at ")?;
+        let (byte, text) = place.split_once(" of text ").unwrap_or((place, "0"));
+        Some(Refused {
             number: number.parse().ok()?,
-            place: place.parse().ok()?,
+            place: Place {
+                text: text.parse().ok()?,
+                byte: byte.parse().ok()?,
+            },
         })
     });
-    let refusal = refusal.unwrap_or_else(|| panic!("line {line}: the answer {answer}"));
-    (Some(refusal), at)
+    let refused = refused.unwrap_or_else(|| panic!("line {line}: the answer {answer}"));
+    (Some(refused), at)
 }
 
 /// The reference's answer: refusal 1 by the lent tables, else that of normal text.
-fn reference(example: &Example) -> Option<Refusal> {
+fn reference(example: &Example) -> Option<Refused> {
     let mut rooms = example.lent.iter().zip(ROOMS);
     if rooms.any(|(lent, room)| *lent < room) {
-        return Some(Refusal {
+        return Some(Refused {
             number: 1,
-            place: 0,
+            place: START,
         });
     }
-    normal_within(&example.text, example.output).err()
+    normal_within(&example.texts, example.output).err()
 }
 
 /// What the proved calls do otherwise than the reference, of what they answer and of the memory
 /// that they are lent. Refusal 20 is of `write`: `read` asks for no output.
-fn calls_agree(lent: &mut Lent, example: &Example) -> Result<(), String> {
-    let (text, lengths) = (&example.text, example.lent);
-    let read = answer_within(lengths, &meaning::read(text));
-    lent.read(text, lengths, &read)?;
-    match (reference(example), normal_within(text, example.output)) {
-        (None, Ok(written)) => lent.write(text, lengths, example.output, &read, &written),
-        (Some(Refusal { number, place }), _) => {
-            let refused = tables::refused(number, place);
-            lent.write(text, lengths, example.output, &refused, b"")
-        }
-        (None, Err(refusal)) => Err(format!("{refusal:?}")),
-    }
+fn calls_agree(memory: &mut Memory, example: &Example) -> Result<(), String> {
+    let buffer = Buffer::of(&example.texts);
+    let answers = Answers::new(&buffer);
+    let mut rooms = EXACT;
+    rooms.tables = example.lent;
+    memory.read(&buffer, &rooms, &answers)?;
+    let normal = answers.normal();
+    memory.write(&buffer, &rooms, example.output, &answers, normal.as_deref())
 }
 
 #[test]
 fn refusals() {
     let examples = examples(&document("docs/REFUSALS.md"));
-    let is_linked = proved::is_linked("writing");
-    let mut lent = Lent::default();
+    let is_linked = proved::is_linked("including");
+    let mut memory = Memory::default();
     for example in &examples {
         let (line, answer) = (example.line, example.answer);
         assert_eq!(reference(example), answer, "line {line}");
-        if let (Some(refusal), Some(at)) = (answer, &example.at) {
-            let behind = &example.text[refusal.place..];
+        if let (Some(refused), Some(at)) = (answer, &example.at) {
+            let Place { text, byte } = refused.place;
+            let behind = &example.texts[text].text[byte..];
             match at {
                 At::Word(word) => assert!(behind.starts_with(word.as_bytes()), "line {line}"),
                 At::End => assert!(behind.is_empty(), "line {line}"),
             }
         }
         if is_linked {
-            assert_eq!(calls_agree(&mut lent, example), Ok(()), "line {line}");
+            assert_eq!(calls_agree(&mut memory, example), Ok(()), "line {line}");
         }
     }
-    // 10 and 12 are no longer given.
-    for number in (1..=24).filter(|number| ![10, 12].contains(number)) {
+    // 2, 10 and 12 are no longer given, and 25 and 26 not by these calls.
+    for number in (1..=30).filter(|number| ![2, 10, 12, 25, 26].contains(number)) {
         let mut answers = examples.iter().filter_map(|example| example.answer);
         assert!(
-            answers.any(|refusal| refusal.number == number),
+            answers.any(|refused| refused.number == number),
             "an example of {number}"
         );
     }

@@ -4,7 +4,7 @@
 use std::io::Write;
 use std::path::Path;
 use std::process::{Command, Stdio};
-use tests::meaning::{read, Refusal};
+use tests::including::{self, Refused};
 use tests::random::Random;
 use tests::sorts::PLANTED;
 use tests::{answered, corpus, texts};
@@ -26,10 +26,10 @@ fn written(text: &[u8]) -> Vec<u8> {
     output.stdout
 }
 
-/// What the refusals mean, from 1 on; nothing where a number is retired.
-const MEANINGS: [&str; 24] = [
+/// What the refusals mean, from 1 on; nothing where a number is not given.
+const MEANINGS: [&str; 30] = [
     "the lent tables are too short",
-    "the text is longer than 65,535 bytes",
+    "",
     "no token begins here, or a string or comment that begins here is not ended",
     "the grammar does not admit this token here, or the text ends too early",
     "this brace is the seventeenth open one; at most sixteen may be open",
@@ -52,6 +52,12 @@ const MEANINGS: [&str; 24] = [
     "a default outside type, range or list",
     "AUTO as a default without WITH_AUTO",
     "the name is used before by an object of another kind",
+    "",
+    "",
+    "the text is included while it is still open",
+    "the file is not there, cannot be opened, or would be the ninth text",
+    "a `#` that is not that of an include line",
+    "more than 65,535 bytes in one text or after expansion",
 ];
 
 /// The last word before a place, WITH_AUTO aside: before a bound that of its type.
@@ -130,17 +136,23 @@ fn picture(line: &[u8], column: usize) -> Vec<u8> {
     [over, under].join(&b'\n')
 }
 
-/// What the program is to write for a text.
+/// The refusal of a text where no file can be opened.
+fn refusal(text: &[u8]) -> Option<Refused> {
+    including::read(&including::alone(text)).err()
+}
+
+/// What the program is to write for a text where no file can be opened.
 fn expected(text: &[u8]) -> Vec<u8> {
-    let Err(Refusal { number, place }) = read(text) else {
+    let Some(Refused { number, place }) = refusal(text) else {
         return b"accepted\n".to_vec();
     };
+    let place = place.byte;
     let meaning = match number {
         21 => bound_meaning(text, place),
         _ => MEANINGS[usize::from(number) - 1],
     };
     let refusal = format!("refusal {number}: {meaning}\n");
-    if [1, 2, 19, 20].contains(&number) {
+    if [1, 19, 20, 30].contains(&number) {
         return refusal.into_bytes();
     }
     // The line of the place is that of the last LF before it; all lines but the last may
@@ -157,7 +169,7 @@ fn expected(text: &[u8]) -> Vec<u8> {
         line = line.strip_suffix(b"\r").unwrap_or(line);
     }
     let (row, column) = (number_of_line + 1, place - start + 1);
-    let mut whole = format!("line {row}, column {column}: {refusal}").into_bytes();
+    let mut whole = format!("-: line {row}, column {column}: {refusal}").into_bytes();
     whole.extend(picture(line, place - start));
     whole.push(b'\n');
     whole
@@ -173,7 +185,7 @@ fn compare(text: &[u8], name: &str) -> u8 {
         String::from_utf8_lossy(&text[..text.len().min(2000)])
     );
     assert_eq!(found, wanted, "{name}");
-    read(text).err().map_or(0, |refusal| refusal.number)
+    refusal(text).map_or(0, |refused| refused.number)
 }
 
 #[test]
@@ -182,6 +194,8 @@ fn explains_the_corpus() {
     for sample in corpus::all() {
         numbers[usize::from(compare(&sample.text, &sample.name))] += 1;
     }
+    compare(b"#include <>", "the main text includes itself");
+    numbers[27] += 1;
     // Refusal 1 needs other tables, and 20 an output.
     for number in 0..numbers.len() {
         let is_given = number == 0 || !MEANINGS[number - 1].is_empty();
@@ -195,7 +209,7 @@ fn explains_the_corpus() {
 fn shows_known_places() {
     let mut known: Vec<(Vec<u8>, String)> = Vec::new();
     let mut add = |text: &[u8], place: &str, lines: &str| {
-        known.push((text.to_vec(), format!("{place}: |{lines}\n")))
+        known.push((text.to_vec(), format!("-: {place}: |{lines}\n")))
     };
     add(b"", "line 1, column 1", "\n^");
     add(

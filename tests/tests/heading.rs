@@ -112,7 +112,8 @@ fn cases_of_the_corpus() {
     for case in cases {
         let text = case.text();
         let answer = comparison.ask(&case.name, &text);
-        assert_eq!(case_answer(&text, &answer), case.answer(), "{}", case.name);
+        let found = case_answer(&text, &answer);
+        assert_eq!(Some(found), case.plain_answer(), "{}", case.name);
     }
     comparison.report("cases of Q-7");
     let mut comparison = Comparison::new();
@@ -244,12 +245,8 @@ fn program_on_the_cases() {
     let mut lines = Vec::new();
     for (case, name) in cases.iter().zip(&names) {
         let text = case.text();
-        assert_eq!(
-            case_answer(&text, &heading(&text)),
-            case.answer(),
-            "{}",
-            case.name
-        );
+        let found = case_answer(&text, &heading(&text));
+        assert_eq!(Some(found), case.plain_answer(), "{}", case.name);
         lines.extend(heading::line(name, &text));
         let alone = written(&folder, &[], Some(&case.texts[0].path()));
         assert_eq!(alone, heading::line(b"-", &text), "{}", case.name);
@@ -300,7 +297,7 @@ fn program_on_any_names() {
     let mut lines = heading::line(name, &text);
     lines.extend(b"none\tcannot be opened\nfolder\tcannot be read\n\tcannot be opened\n");
     lines.extend(heading::line(other, &text));
-    lines.extend(b"empty\trefused\t4\t0\nlong\trefused\t2\t0\n");
+    lines.extend(b"empty\trefused\t4\t0\t0\nlong\trefused\t30\t0\t0\n");
     let found = written(&folder, &arguments, None);
     assert_eq!(
         found.escape_ascii().to_string(),

@@ -6,6 +6,7 @@ use std::io::Write;
 use std::path::Path;
 use std::process::{Command, Stdio};
 use tests::corpus;
+use tests::including;
 use tests::masks::{self, any_mix, damaged, lists, Checked, Mix, Planned};
 use tests::meaning::Refusal;
 use tests::random::Random;
@@ -194,7 +195,8 @@ fn corpus_cases() {
     let cases = corpus::asking("masks-check");
     assert_eq!(cases.len(), 110);
     for case in cases {
-        let (text, answer) = (case.text(), case.answer());
+        let text = case.text();
+        let answer = case.plain_answer().expect("the answer to one text");
         let list = listed(case.ask.strip_prefix("masks-check").expect("a list"));
         let reference = check_line(masks::check(&text, &list));
         assert_eq!(reference.as_bytes(), answer, "{}", case.name);
@@ -206,7 +208,8 @@ fn corpus_cases() {
     let cases = corpus::asking("masks-plan");
     assert_eq!(cases.len(), 99);
     for case in cases {
-        let (text, answer) = (case.text(), case.answer());
+        let text = case.text();
+        let answer = case.plain_answer().expect("the answer to one text");
         let length = case.ask.strip_prefix("masks-plan ").expect("a length");
         let noise = vec![0x5a5a; length.parse().expect("a length")];
         let reference = plan_line(masks::plan(&text, &noise), &noise);
@@ -283,9 +286,13 @@ fn written(text: &[u8], list: Option<&str>) -> String {
     String::from_utf8(output.stdout).expect("lines of words")
 }
 
-/// The lines that the program writes by the reference's plan.
+/// The lines that the program writes by the reference's plan, where no file can be opened that the
+/// text includes.
 fn plan_lines(text: &[u8]) -> String {
-    let (answer, list) = masks::plan(text, &[0; 256]);
+    let (answer, list) = match including::plan_masks(&including::alone(text), &[0; 256]) {
+        Ok(planned) => planned,
+        Err(refused) => return refused.line(),
+    };
     let names = |reading: &tests::meaning::Reading| -> Vec<String> {
         let objects = reading
             .objects
@@ -296,7 +303,7 @@ fn plan_lines(text: &[u8]) -> String {
     };
     let accepted = || tests::meaning::read(text).expect("an accepted text");
     match answer {
-        Planned::Refused(refusal) => refused(refusal),
+        Planned::Refused(refusal) => panic!("{refusal:?}"),
         Planned::NotPlannable => {
             "not plannable: EVENT itself has no single UINT64 attribute MASK\n".into()
         }
@@ -335,7 +342,7 @@ fn program_plans() {
         let text = masks::text(&mut random, &mix);
         assert_eq!(written(&text, None), plan_lines(&text));
     }
-    assert_eq!(written(b"", None), "refused\t4\t0\n");
+    assert_eq!(written(b"", None), "refused\t4\t0\t0\n");
 }
 
 #[test]
@@ -374,7 +381,7 @@ fn program_checks() {
     ] {
         assert_eq!(written(&example, Some(list)), answer, "{list}");
     }
-    assert_eq!(written(b"}", Some("1")), "refused\t4\t0\n");
+    assert_eq!(written(b"}", Some("1")), "refused\t4\t0\t0\n");
     let many = "1 ".repeat(300);
     let answer = "wrong length: the list has not one mask for each event\n";
     assert_eq!(written(&example, Some(&many)), answer);

@@ -4,10 +4,11 @@ use std::io::Write;
 use std::path::Path;
 use std::process::{Command, Stdio};
 use tests::configuration::configuration;
+use tests::including::{self, alone};
 use tests::normal::normal;
 use tests::random::Random;
 use tests::token::{step, Sort, Step};
-use tests::{answered, corpus, limits, normal, tempting, texts};
+use tests::{answered, corpus, limits, tempting, texts};
 
 /// What a program writes for a text on standard input.
 fn written(program: &str, text: &[u8]) -> Vec<u8> {
@@ -98,21 +99,22 @@ fn oil(name: &str, text: &[u8], expected: &[u8]) {
     );
 }
 
-/// The same with what the reference's program writes.
+/// The same with what the reference's program writes where no file can be opened.
 #[track_caller]
 fn oil_as_reference(name: &str, text: &[u8]) {
-    oil(name, text, &normal::program(text));
+    oil(name, text, &including::program(&alone(text)));
 }
 
-fn refused(number: u8, place: usize) -> Vec<u8> {
-    format!("refused\t{number}\t{place}\n").into_bytes()
+/// The refused line of a place of the main text.
+fn refused(number: u8, byte: usize) -> Vec<u8> {
+    format!("refused\t{number}\t0\t{byte}\n").into_bytes()
 }
 
 #[test]
 fn oil_on_the_corpus() {
     let samples = corpus::all();
     for sample in &samples {
-        oil(&sample.name, &sample.text, &sample.expected);
+        oil(&sample.name, &sample.text, &sample.by_program);
     }
     println!("oil: {} texts of the corpus", samples.len());
 }
@@ -124,11 +126,11 @@ fn oil_on_long_texts() {
         let short = answered::accepted(3).text;
         for (text, pad) in [(accepted, b'\n'), (short, b' '), (Vec::new(), b'#')] {
             let answer = match text.is_empty() {
-                true => refused(3, 0),
+                true => refused(29, 0),
                 false => normal(&text).expect("an accepted text"),
             };
             let answer = match length > 65_535 {
-                true => refused(2, 0),
+                true => refused(30, 0),
                 false => answer,
             };
             let mut text = text;
@@ -222,7 +224,7 @@ fn oil_on_the_edges() {
         ("", 4, 0),
         ("}", 4, 0),
         ("007", 3, 0),
-        ("#", 3, 0),
+        ("#", 29, 0),
         ("/* x", 3, 0),
         ("OIL_VERSION = 2;", 4, 14),
         ("OIL_VERSION = \"2.5\"", 4, 19),

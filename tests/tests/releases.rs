@@ -7,6 +7,7 @@ use std::path::{Path, PathBuf};
 use std::process::{Command, Output};
 use tests::comparing_releases::{compare, lend, report, Answer, Compared, Record};
 use tests::corpus::{asking, Case};
+use tests::including;
 use tests::masks::damaged;
 use tests::normal::normal;
 use tests::random::Random;
@@ -536,7 +537,8 @@ fn texts(case: &Case) -> [Vec<u8>; 2] {
 fn corpus_by_the_reference() {
     for case in cases() {
         let [first, second] = texts(&case);
-        assert_eq!(report([&first, &second]), case.answer(), "{}", case.name);
+        let found = report([&first, &second]);
+        assert_eq!(Some(found), case.plain_answer(), "{}", case.name);
     }
 }
 
@@ -577,9 +579,9 @@ fn files_that_are_not_there() {
     let none = folder("no such file");
     let some = folder("../examples/release1.oil");
     for (files, lines, named) in [
-        ([&none, &some], "refused\t1\t4\t0\n", 1),
-        ([&some, &none], "refused\t2\t4\t0\n", 1),
-        ([&none, &none], "refused\t1\t4\t0\n", 2),
+        ([&none, &some], "refused\t1\t4\t0\t0\n", 1),
+        ([&some, &none], "refused\t2\t4\t0\t0\n", 1),
+        ([&none, &none], "refused\t1\t4\t0\t0\n", 2),
     ] {
         let output = run([files[0], files[1]]);
         assert_eq!(String::from_utf8_lossy(&output.stdout), lines);
@@ -590,6 +592,12 @@ fn files_that_are_not_there() {
             "{told}"
         );
     }
+}
+
+/// What the program is to write for two texts where no file can be opened that they include.
+fn told(texts: [&[u8]; 2]) -> Vec<u8> {
+    let [first, second] = texts.map(including::alone);
+    including::report([&first, &second])
 }
 
 /// What the program writes, byte for byte.
@@ -605,19 +613,19 @@ fn program_lines() {
             _ => pair(seed),
         };
         let texts = [&first[..], &second[..]];
-        assert_eq!(files.written(texts), report(texts), "pair {seed}");
+        assert_eq!(files.written(texts), told(texts), "pair {seed}");
         differ += usize::from(compare(texts).is_ok_and(|found| !found.is_empty()));
     }
     assert!(differ > 800, "{differ} pairs with differences");
     for heavy in heavy() {
         let texts = [&heavy.texts[0][..], &heavy.texts[1][..]];
-        assert_eq!(files.written(texts), report(texts), "{}", heavy.name);
+        assert_eq!(files.written(texts), told(texts), "{}", heavy.name);
     }
     // One byte too long: of a longer file no more is read.
     for length in [65_535, 65_536, 70_000] {
         let long = vec![b' '; length];
         for texts in [[&long[..], b""], [b"", &long[..]]] {
-            assert_eq!(files.written(texts), report(texts), "{length}");
+            assert_eq!(files.written(texts), told(texts), "{length}");
         }
     }
 }

@@ -6,6 +6,7 @@ use std::io::Write;
 use std::path::{Path, PathBuf};
 use std::process::{Command, Stdio};
 use tests::corpus::asking;
+use tests::including;
 use tests::masks::damaged;
 use tests::random::Random;
 use tests::standard::{self, check, full_text, paths, Checked, Finding, STANDARD};
@@ -135,7 +136,8 @@ fn corpus_cases() {
     let cases = asking("standard");
     assert_eq!(cases.len(), 127);
     for case in cases {
-        let answer = String::from_utf8(case.answer()).expect("a line of words");
+        let answer = case.plain_answer().expect("the answer to one text");
+        let answer = String::from_utf8(answer).expect("a line of words");
         let text = case.text();
         assert_eq!(line(check(&text)), answer, "{}", case.name);
         if is_linked() {
@@ -207,7 +209,8 @@ fn written(text: &[u8]) -> String {
     String::from_utf8(output.stdout).expect("lines of words")
 }
 
-/// The line that the program writes by the reference's answer.
+/// The line that the program writes by the reference's answer, where no file can be opened that the
+/// text includes.
 fn told(text: &[u8]) -> String {
     let position = |place: usize| {
         let front = &text[..place];
@@ -216,17 +219,17 @@ fn told(text: &[u8]) -> String {
         let column = place - start.map_or(0, |start| start + 1) + 1;
         format!("line {}, column {column}", lines + 1)
     };
-    match check(text) {
-        Checked::Refused(refusal) => format!("refused\t{}\t{}\n", refusal.number, refusal.place),
-        Checked::NothingWrong => "nothing wrong\n".into(),
-        Checked::Wrong(finding) => {
+    match including::check_standard(&including::alone(text)) {
+        Err(refused) => refused.line(),
+        Ok(None) => "nothing wrong\n".into(),
+        Ok(Some(finding)) => {
             let what = match finding.number {
                 25 => "the standard attribute is not defined in the scope of this word",
                 _ => "the attribute differs from the standard in type, list mark, values, WITH_AUTO or default",
             };
             let path = &paths()[finding.attribute];
-            let position = position(finding.place);
-            format!("{position}: {}, {path}: {what}\n", finding.number)
+            let position = position(finding.place.byte);
+            format!("-: {position}: {}, {path}: {what}\n", finding.number)
         }
     }
 }
@@ -235,7 +238,7 @@ fn told(text: &[u8]) -> String {
 #[test]
 fn program_tells() {
     let example = fs::read(folder().join("../examples/supplier.oil")).expect("the example");
-    let answer = "line 36, column 7: 25, ALARM.ACTION=SETEVENT.EVENT: the standard attribute is not defined in the scope of this word\n";
+    let answer = "-: line 36, column 7: 25, ALARM.ACTION=SETEVENT.EVENT: the standard attribute is not defined in the scope of this word\n";
     assert_eq!(told(&example), answer);
     assert_eq!(written(&example), answer);
     let mut random = Random::new(90);
@@ -248,6 +251,6 @@ fn program_tells() {
             String::from_utf8_lossy(&text)
         );
     }
-    assert_eq!(written(b""), "refused\t4\t0\n");
-    assert_eq!(written(&[b' '; 70_000]), "refused\t2\t0\n");
+    assert_eq!(written(b""), "refused\t4\t0\t0\n");
+    assert_eq!(written(&[b' '; 70_000]), "refused\t30\t0\t0\n");
 }

@@ -9,3 +9,5 @@ pub mod Ordering
 pub mod Parts
 pub mod Apart
 pub mod Headings
+pub mod TextsBack
+pub mod LentEdges

@@ -5,3 +5,5 @@ pub mod Names
 pub mod Ordering
 pub mod Headings
 pub mod Parts
+pub mod TextsBack
+pub mod LentEdges

@@ -1,8 +1,8 @@
 // The lines that tell how two releases differ, one for each record: who has it, kind, name, path, and the value of each side, separated by tabs.
 ghost use Prim.Native.Nat.{_≤_};
-use super::write;
-use super::write_number;
 use comparing::Difference;
+use console::write;
+use console::write_number;
 use rows::cells;
 use rows::parts;
 
@@ -13,22 +13,11 @@ fn write_cells(text: &[u8], t: &[usize], width: usize, row: usize, column: usize
     write(token::part(text, at, len));
 }
 
-// The digit of a number below 16, in hex.
-fn hex_digit(n: u8) -> u8 {
-    let d = n % 16;
-    if d < 10 {
-        return 48 + d;
-    }
-    87 + d
-}
-
 // The bytes in lower-case hex.
 fn write_hex(bytes: &[u8]) {
     let mut i = 0;
     while i < bytes.len() {
-        let b = bytes[i];
-        let pair = [hex_digit(b / 16), hex_digit(b)];
-        write(&pair);
+        console::write_hex(bytes[i]);
         i += 1;
     }
 }

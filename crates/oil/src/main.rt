@@ -1,41 +1,28 @@
-// Reads a text from standard input and writes its normal text, or one line: `refused`, tab, number, tab, place. With two file names it compares
-// the two texts: a line for each difference, at most 64, and the total.
+// Reads a text from standard input, and the files that it includes, and writes its normal text, or one line: `refused`, tab, number, tab, text, tab,
+// byte. With two file names it compares the two texts, each with the files that it includes: a line for each difference, at most 64, and the total.
 ghost use Rattle.io.specs.Counts.{Counts};
 use comparing::Compared;
 use comparing::Found;
+use console::write;
+use console::write_number;
 use libc::STDIN_FILENO;
-use libc::STDOUT_FILENO;
 use reading::Answer;
 
 mod lines;
 
-fn write(bytes: &[u8]) {
-    io::write_all(STDOUT_FILENO, bytes);
-}
-
-fn write_number(n: usize) {
-    io::print_decimal(STDOUT_FILENO, n as u64);
-}
-
-fn write_refusal(number: u8, place: usize) {
-    write(b"refused\t");
-    write_number(number as usize);
-    write(b"\t");
-    write_number(place);
-    write(b"\n");
-}
-
-// The buffer is one byte longer than a text may be: of a longer input so much is read that it is refused as too long.
-fn write_normal() {
-    let mut buffer = io::large_buffer();
-    let n = io::read_full(STDIN_FILENO, &mut buffer);
+// The normal text of lent texts.
+fn write_normal(buffer: &[u8], lengths: &[usize], origins: &mut [usize]) {
+    let mut expanded = [0; 65535];
     let mut definitions = [0; 6656];
     let mut enumerators = [0; 3072];
     let mut objects = [0; 2048];
     let mut values = [0; 18432];
     let mut output = [0; 65535];
-    let written = writing::write(
-        &buffer[..n],
+    let written = writing_texts::write(
+        buffer,
+        lengths,
+        &mut expanded,
+        origins,
         &mut definitions,
         &mut enumerators,
         &mut objects,
@@ -46,34 +33,31 @@ fn write_normal() {
     let answer = written.answer;
     match answer {
         Answer::Accepted => write(token::part(&output, 0, length)),
-        Answer::Refused(number, place) => write_refusal(number, place),
+        Answer::Refused(number, place) => console::write_refusal(number, place),
     }
 }
 
-// The text of the file that argument i names, into a buffer one byte longer than a text may be; its length. A file that it cannot open is empty.
-fn read_named(i: usize, buffer: &mut [u8]) -> usize
-    ensures { λ r. ⌜ Counts r (now (buffer .exit)) ⌝ }
+// Gathers the texts of the file that argument i names, as `gathering::gather` does. A file that it cannot open is empty.
+fn gather_named(i: usize, buffer: &mut [u8], lengths: &mut [usize]) -> usize
+    ensures { λ r. ⌜ Counts r (now (lengths .exit)) ⌝ }
 {
     let mut name = io::buffer();
     let n = os::arg(i, &mut name);
     let fd = os::open_read(&name[..n]);
     if fd < 0 {
         os::fail(&name[..n]);
-        return 0;
     }
-    let got = io::read_full(fd, buffer);
+    let mut origins = [0; 131070];
+    let told = gathering::gather(fd, buffer, lengths, &mut origins);
     libc::close(fd);
-    got
+    told
 }
 
 fn write_stopped(c: Compared) {
     write(b"refused\t");
     write_number(c.which);
     write(b"\t");
-    write_number(c.number);
-    write(b"\t");
-    write_number(c.place);
-    write(b"\n");
+    console::write_answer(c.number, c.place);
 }
 
 // The line of record k, if there is one.
@@ -121,7 +105,8 @@ fn write_found(
     write(b"\n");
 }
 
-fn compare_texts(first: &[u8], second: &[u8]) {
+// The records of two accepted texts, which are expanded, with the rows that they name.
+fn write_records(first: &[u8], second: &[u8], found: Found) {
     let mut d = [0; 6656];
     let mut e = [0; 3072];
     let mut o = [0; 2048];
@@ -130,37 +115,49 @@ fn compare_texts(first: &[u8], second: &[u8]) {
     let mut e2 = [0; 3072];
     let mut o2 = [0; 2048];
     let mut v2 = [0; 18432];
-    let found = releases::listed_into(
+    reading::read(first, &mut d, &mut e, &mut o, &mut v);
+    reading::read(second, &mut d2, &mut e2, &mut o2, &mut v2);
+    write_found(first, &d, &o, &v, second, &d2, &o2, &v2, found);
+}
+
+// Compares lent texts. The expanded texts are those whose rows the records name.
+fn compare_expanded(first: &[u8], lengths: &[usize], second: &[u8], lengths2: &[usize]) {
+    let mut origins = [0; 65535];
+    let mut origins2 = [0; 65535];
+    let mut expanded = [0; 65535];
+    let mut expanded2 = [0; 65535];
+    let n = sources::expand(first, lengths, &mut expanded, &mut origins).length;
+    let n2 = sources::expand(second, lengths2, &mut expanded2, &mut origins2).length;
+    let found = releases_texts::listed(
         first,
+        lengths,
         second,
-        &mut d,
-        &mut e,
-        &mut o,
-        &mut v,
-        &mut d2,
-        &mut e2,
-        &mut o2,
-        &mut v2,
+        lengths2,
+        &mut expanded,
+        &mut origins,
+        &mut expanded2,
+        &mut origins2,
     );
     let c = found.compared;
     if c.which != 0 {
         write_stopped(c);
         return;
     }
-    write_found(first, &d, &o, &v, second, &d2, &o2, &v2, found);
-}
-
-// The text of the second file, compared with the first.
-fn compare_with(first: &[u8]) {
-    let mut second = io::large_buffer();
-    let n = read_named(2, &mut second);
-    compare_texts(first, &second[..n]);
+    write_records(
+        token::part(&expanded, 0, n),
+        token::part(&expanded2, 0, n2),
+        found,
+    );
 }
 
 fn compare_files() {
-    let mut first = io::large_buffer();
-    let n = read_named(1, &mut first);
-    compare_with(&first[..n]);
+    let mut first = [0; 557048];
+    let mut lengths = [0; 16];
+    let told = gather_named(1, &mut first, &mut lengths);
+    let mut second = [0; 557048];
+    let mut lengths2 = [0; 16];
+    let told2 = gather_named(2, &mut second, &mut lengths2);
+    compare_expanded(&first, &lengths[..told], &second, &lengths2[..told2]);
 }
 
 fn main() {
@@ -168,5 +165,9 @@ fn main() {
         compare_files();
         return;
     }
-    write_normal();
+    let mut buffer = [0; 557048];
+    let mut lengths = [0; 16];
+    let mut origins = [0; 131070];
+    let told = gathering::gather(STDIN_FILENO, &mut buffer, &mut lengths, &mut origins);
+    write_normal(&buffer, &lengths[..told], &mut origins);
 }

@@ -1,22 +1,15 @@
-// Reads the text on standard input and writes `accepted`, or why it is refused: line, column, number and meaning of the refusal, the line of
-// its place, and a mark under the place. Refusals that have no place in the text take the first of these lines alone, without line and column.
+// Reads the text on standard input, and the files that it includes, and writes `accepted`, or why it is refused: file (`-` for the text on standard
+// input), line, column, number and meaning of the refusal, the line of its place, and a mark under the place. Refusals that have no place in the
+// texts take the first of these lines alone, without file, line and column.
+use console::write;
+use console::write_number;
 use libc::STDIN_FILENO;
-use libc::STDOUT_FILENO;
 use reading::Answer;
-
-fn write(bytes: &[u8]) {
-    io::write_all(STDOUT_FILENO, bytes);
-}
-
-fn write_number(n: usize) {
-    io::print_decimal(STDOUT_FILENO, n as u64);
-}
 
 // What a refusal from 1 to 9 means.
 fn write_early(number: u8) {
     match number {
         1 => write(b"the lent tables are too short"),
-        2 => write(b"the text is longer than 65,535 bytes"),
         3 => write(b"no token begins here, or a string or comment that begins here is not ended"),
         4 => write(b"the grammar does not admit this token here, or the text ends too early"),
         5 => write(b"this brace is the seventeenth open one; at most sixteen may be open"),
@@ -33,8 +26,8 @@ fn write_early(number: u8) {
     }
 }
 
-// What refusal 21 means at a place: which of its two faults it is.
-fn write_bound(text: &[u8], place: usize) {
+// What refusal 21 means at a place of the expanded text: which of its two faults it is.
+fn write_bound_at(text: &[u8], place: usize) {
     if explaining::bounds::outside_type(text, place) {
         write(b"the bound or listed number lies outside its type");
         return;
@@ -42,8 +35,46 @@ fn write_bound(text: &[u8], place: usize) {
     write(b"the low bound is above the high one");
 }
 
-// What a refusal means at a place; 10 and 12 are no longer given.
-fn write_meaning(text: &[u8], number: u8, place: usize) {
+// The same; the reading of the expanded text has its place there.
+fn write_bound_of(text: &[u8]) {
+    let mut definitions = [0; 6656];
+    let mut enumerators = [0; 3072];
+    let mut objects = [0; 2048];
+    let mut values = [0; 18432];
+    let r = reading::read(
+        text,
+        &mut definitions,
+        &mut enumerators,
+        &mut objects,
+        &mut values,
+    );
+    let answer = r.answer;
+    match answer {
+        Answer::Accepted => {}
+        Answer::Refused(_, place) => write_bound_at(text, place),
+    }
+}
+
+// The same for the lent texts.
+fn write_bound(buffer: &[u8], lengths: &[usize]) {
+    let mut expanded = [0; 65535];
+    let mut origins = [0; 65535];
+    let e = sources::expand(buffer, lengths, &mut expanded, &mut origins);
+    write_bound_of(token::part(&expanded, 0, e.length));
+}
+
+// What a refusal from 27 on means.
+fn write_including(number: u8) {
+    match number {
+        27 => write(b"the text is included while it is still open"),
+        28 => write(b"the file is not there, cannot be opened, or would be the ninth text"),
+        29 => write(b"a `#` that is not that of an include line"),
+        _ => write(b"more than 65,535 bytes in one text or after expansion"),
+    }
+}
+
+// What a refusal means; 2, 10 and 12 are no longer given.
+fn write_meaning(buffer: &[u8], lengths: &[usize], number: u8) {
     match number {
         11 => write(b"more than 256 objects, more than 512 parts, or more than 2,048 statements"),
         13 => write(b"the name is not defined in its scope"),
@@ -58,58 +89,66 @@ fn write_meaning(text: &[u8], number: u8, place: usize) {
         18 => write(b"the reference names no object of its kind"),
         19 => write(b"more than 2,048 resolved values"),
         20 => write(b"the written text is longer than the output's room"),
-        21 => write_bound(text, place),
+        21 => write_bound(buffer, lengths),
         22 => write(b"a default outside type, range or list"),
         23 => write(b"AUTO as a default without WITH_AUTO"),
         24 => write(b"the name is used before by an object of another kind"),
+        27 | 28 | 29 | 30 => write_including(number),
         _ => write_early(number),
     }
 }
 
-fn write_refusal(text: &[u8], number: u8, place: usize) {
+fn write_refusal(buffer: &[u8], lengths: &[usize], number: u8) {
     write(b"refusal ");
     write_number(number as usize);
     write(b": ");
-    write_meaning(text, number, place);
+    write_meaning(buffer, lengths, number);
     write(b"\n");
 }
 
-fn write_placed(text: &[u8], number: u8, place: usize) {
+fn write_placed(buffer: &[u8], lengths: &[usize], number: u8, place: usize) {
     let mut lines = [0; 160];
-    let told = explaining::explain(text, place, &mut lines);
-    write(b"line ");
-    write_number(told.line);
-    write(b", column ");
-    write_number(told.column);
-    write(b": ");
-    write_refusal(text, number, place);
-    write(token::part(&lines, 0, told.len));
+    let n = showing::write_position(buffer, lengths, place, &mut lines);
+    write_refusal(buffer, lengths, number);
+    write(token::part(&lines, 0, n));
 }
 
-fn write_answer(text: &[u8], answer: Answer) {
+fn write_answer(buffer: &[u8], lengths: &[usize], answer: Answer) {
     match answer {
         Answer::Accepted => write(b"accepted\n"),
         Answer::Refused(number, place) => match number {
-            1 | 2 | 19 | 20 => write_refusal(text, number, place),
-            _ => write_placed(text, number, place),
+            1 | 19 | 20 | 30 => write_refusal(buffer, lengths, number),
+            _ => write_placed(buffer, lengths, number, place),
         },
     }
 }
 
-fn main() {
-    let mut buffer = io::large_buffer();
-    let n = io::read_full(STDIN_FILENO, &mut buffer);
+// The answer to lent texts.
+fn answer_of(buffer: &[u8], lengths: &[usize], origins: &mut [usize]) -> Answer {
+    let mut expanded = [0; 65535];
     let mut definitions = [0; 6656];
     let mut enumerators = [0; 3072];
     let mut objects = [0; 2048];
     let mut values = [0; 18432];
-    let r = reading::read(
-        &buffer[..n],
+    let r = reading_texts::read(
+        buffer,
+        lengths,
+        &mut expanded,
+        origins,
         &mut definitions,
         &mut enumerators,
         &mut objects,
         &mut values,
     );
     let answer = r.answer;
-    write_answer(&buffer[..n], answer);
+    answer
+}
+
+fn main() {
+    let mut buffer = [0; 557048];
+    let mut lengths = [0; 16];
+    let mut origins = [0; 131070];
+    let told = gathering::gather(STDIN_FILENO, &mut buffer, &mut lengths, &mut origins);
+    let answer = answer_of(&buffer, &lengths[..told], &mut origins);
+    write_answer(&buffer, &lengths[..told], answer);
 }

@@ -1,5 +1,7 @@
-// Hands out the event masks of the text on standard input: a line for each event, `given` or `auto`, its name, and its mask in decimal and in hex,
-// parted by tabs. With the name of a file of masks it checks these: `accepted`, or an event's name and what is wrong with its mask.
+// Hands out the event masks of the text on standard input, with the files that it includes: a line for each event, `given` or `auto`, its name, and its
+// mask in decimal and in hex, separated by tabs. With the name of a file of masks it checks these: `accepted`, or an event's name and what is wrong
+// with its mask.
+use console::write;
 use libc::STDIN_FILENO;
 use libc::STDOUT_FILENO;
 use masks::Checked;
@@ -16,18 +18,6 @@ struct Entry {
     sort: u8,
     mask: u64,
     next: usize,
-}
-
-fn write(bytes: &[u8]) {
-    io::write_all(STDOUT_FILENO, bytes);
-}
-
-fn write_refusal(number: u8, place: usize) {
-    write(b"refused\t");
-    io::print_decimal(STDOUT_FILENO, number as u64);
-    write(b"\t");
-    io::print_decimal(STDOUT_FILENO, place as u64);
-    write(b"\n");
 }
 
 fn write_not_plannable() {
@@ -153,10 +143,14 @@ fn write_full(text: &[u8], event: usize) {
 }
 
 // The list has room for as many masks as there can be events.
-fn plan(text: &[u8]) {
+fn plan(buffer: &[u8], lengths: &[usize], origins: &mut [usize]) {
+    let mut expanded = [0; 65535];
+    let e = sources::expand(buffer, lengths, &mut expanded, origins);
     let mut list = [0u64; 256];
-    match masks::plan_masks(text, &mut list) {
-        Planned::Refused(number, place) => write_refusal(number, place),
+    let planned = masks_texts::plan_masks(buffer, lengths, &mut expanded, origins, &mut list);
+    let text = token::part(&expanded, 0, e.length);
+    match planned {
+        Planned::Refused(number, place) => console::write_refusal(number, place),
         Planned::NotPlannable => write_not_plannable(),
         Planned::WrongLength => write(b"wrong length\n"),
         Planned::Full(event) => write_full(text, event),
@@ -229,9 +223,13 @@ fn read_list(bytes: &[u8], list: &mut [u64]) -> usize {
     count
 }
 
-fn check_list(text: &[u8], masks: &[u64]) {
-    match masks::check_masks(text, masks) {
-        Checked::Refused(number, place) => write_refusal(number, place),
+fn check_list(buffer: &[u8], lengths: &[usize], origins: &mut [usize], masks: &[u64]) {
+    let mut expanded = [0; 65535];
+    let e = sources::expand(buffer, lengths, &mut expanded, origins);
+    let checked = masks_texts::check_masks(buffer, lengths, &mut expanded, origins, masks);
+    let text = token::part(&expanded, 0, e.length);
+    match checked {
+        Checked::Refused(number, place) => console::write_refusal(number, place),
         Checked::NotPlannable => write_not_plannable(),
         Checked::WrongLength => write(b"wrong length: the list has not one mask for each event\n"),
         Checked::Breaks(event) => write_breaking(text, event, mask_of(masks, event)),
@@ -240,42 +238,49 @@ fn check_list(text: &[u8], masks: &[u64]) {
 }
 
 // Checks so many masks of a list; where there are not so many, something else stands in it.
-fn check_front(text: &[u8], list: &[u64], count: usize) {
+fn check_front(
+    buffer: &[u8],
+    lengths: &[usize],
+    origins: &mut [usize],
+    list: &[u64],
+    count: usize,
+) {
     if list.len() < count {
         write(b"the list has something that is no mask\n");
         return;
     }
-    check_list(text, &list[..count]);
+    check_list(buffer, lengths, origins, &list[..count]);
 }
 
 // The masks of a file that is open.
-fn check_file(text: &[u8], fd: i32) {
-    let mut buffer = io::large_buffer();
-    let n = io::read_full(fd, &mut buffer);
+fn check_file(buffer: &[u8], lengths: &[usize], origins: &mut [usize], fd: i32) {
+    let mut file = io::large_buffer();
+    let n = io::read_full(fd, &mut file);
     libc::close(fd);
     let mut list = [0u64; 257];
-    let count = read_list(&buffer[..n], &mut list);
-    check_front(text, &list, count);
+    let count = read_list(&file[..n], &mut list);
+    check_front(buffer, lengths, origins, &list, count);
 }
 
-fn check(text: &[u8], name: &[u8]) {
+fn check(buffer: &[u8], lengths: &[usize], origins: &mut [usize], name: &[u8]) {
     let fd = os::open_read(name);
     if fd < 0 {
         write(b"the list cannot be opened\n");
         return;
     }
-    check_file(text, fd);
+    check_file(buffer, lengths, origins, fd);
 }
 
-// The buffer is one byte longer than a text may be: of a longer input so much is read that it is refused as too long.
 fn main() {
-    let mut buffer = io::large_buffer();
-    let n = io::read_full(STDIN_FILENO, &mut buffer);
+    let mut buffer = [0; 557048];
+    let mut lengths = [0; 16];
+    let mut origins = [0; 131070];
+    let told = gathering::gather(STDIN_FILENO, &mut buffer, &mut lengths, &mut origins);
     if os::arg_count() < 2 {
-        plan(&buffer[..n]);
+        plan(&buffer, &lengths[..told], &mut origins);
         return;
     }
     let mut name = io::buffer();
     let k = os::arg(1, &mut name);
-    check(&buffer[..n], &name[..k]);
+    check(&buffer, &lengths[..told], &mut origins, &name[..k]);
 }

@@ -1,27 +1,12 @@
-// Holds the implementation of the text on standard input to the standard attributes of 000, section 5.2, and writes `nothing wrong`, or what is
-// wrong: line, column, 25 or 26, the path of the attribute by its names, and what that means. A text that is not accepted takes `refused`, the
-// refusal's number and its place, parted by tabs.
+// Holds the implementation of the text on standard input, with the files that it includes, to the standard attributes of 000, section 5.2, and writes
+// `nothing wrong`, or what is wrong: file (`-` for the text on standard input), line, column, 25 or 26, the path of the attribute by its names, and
+// what that means. A text that is not accepted takes `refused`, the refusal's number, and text and byte of its place, separated by tabs.
+use console::write;
+use console::write_number;
 use libc::STDIN_FILENO;
-use libc::STDOUT_FILENO;
 use rows::cells;
 use standard::Checked;
 use standard::constants;
-
-fn write(bytes: &[u8]) {
-    io::write_all(STDOUT_FILENO, bytes);
-}
-
-fn write_number(n: usize) {
-    io::print_decimal(STDOUT_FILENO, n as u64);
-}
-
-fn write_refusal(number: u8, place: usize) {
-    write(b"refused\t");
-    write_number(number as usize);
-    write(b"\t");
-    write_number(place);
-    write(b"\n");
-}
 
 // The word of a kind that has standard attributes, by its number.
 fn write_kind(number: usize) {
@@ -69,31 +54,36 @@ fn write_meaning(number: u8) {
     );
 }
 
-fn write_wrong(text: &[u8], number: u8, place: usize, attribute: usize) {
+fn write_wrong(buffer: &[u8], lengths: &[usize], number: u8, place: usize, attribute: usize) {
     let mut lines = [0; 160];
-    let told = explaining::explain(text, place, &mut lines);
-    write(b"line ");
-    write_number(told.line);
-    write(b", column ");
-    write_number(told.column);
-    write(b": ");
+    showing::write_position(buffer, lengths, place, &mut lines);
     write_number(number as usize);
     write(b", ");
     write_path(attribute);
     write_meaning(number);
 }
 
-fn write_answer(text: &[u8], answer: Checked) {
+fn write_answer(buffer: &[u8], lengths: &[usize], answer: Checked) {
     match answer {
-        Checked::Refused(number, place) => write_refusal(number, place),
+        Checked::Refused(number, place) => console::write_refusal(number, place),
         Checked::NothingWrong => write(b"nothing wrong\n"),
-        Checked::Wrong(number, place, attribute) => write_wrong(text, number, place, attribute),
+        Checked::Wrong(number, place, attribute) => {
+            write_wrong(buffer, lengths, number, place, attribute)
+        }
     }
 }
 
+// The answer to lent texts.
+fn answer_of(buffer: &[u8], lengths: &[usize], origins: &mut [usize]) -> Checked {
+    let mut expanded = [0; 65535];
+    standard_texts::check_standard(buffer, lengths, &mut expanded, origins)
+}
+
 fn main() {
-    let mut buffer = io::large_buffer();
-    let n = io::read_full(STDIN_FILENO, &mut buffer);
-    let answer = standard::check_standard(&buffer[..n]);
-    write_answer(&buffer[..n], answer);
+    let mut buffer = [0; 557048];
+    let mut lengths = [0; 16];
+    let mut origins = [0; 131070];
+    let told = gathering::gather(STDIN_FILENO, &mut buffer, &mut lengths, &mut origins);
+    let answer = answer_of(&buffer, &lengths[..told], &mut origins);
+    write_answer(&buffer, &lengths[..told], answer);
 }

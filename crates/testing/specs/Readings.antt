@@ -3,7 +3,6 @@ use mathlib.Core.Path.{_≡_}
 use mathlib.Core.List.{List, [], _∷_}
 use Prim.Native.Nat.{ℕ}
 use lib.Seq.{sets}
-use Rattle.reading.specs.Results.{Reads}
 use Rattle.reading.specs.declared.Answer.{Answer}
 use Rattle.reading.specs.declared.Answer.the-variants.{Accepted, Refused}
 use Rattle.reading.specs.declared.Reading.{Reading}
@@ -19,9 +18,13 @@ placeOf (Refused n p) = p
 abbrev pub sizes : Reading → List ℕ
 sizes r = r .definitions ∷ r .enumerators ∷ r .objects ∷ r .values ∷ []
 
--- The answer is that of `read`; the cells w become w′, by the sizes, the counts and the place.
-pub record ReadsTold (s d e o v w d′ e′ o′ v′ w′ : List ℕ) (n : ℕ) : Type 0 where
+-- What is told of a reading: its number; the cells w become w′, by the sizes, the counts and the place.
+pub record ReadingTold (r : Reading) (w w′ : List ℕ) (n : ℕ) : Type 0 where
+  pub number : n ≡ numberOf (r .answer)
+  pub cells : w′ ≡ sets (sets (sets w 1 (sizes r)) 5 (r .counts)) 0 (placeOf (r .answer) ∷ [])
+
+-- The same of a reading of which P is promised.
+pub record ReadsTold (P : Reading → Type 0) (w w′ : List ℕ) (n : ℕ) : Type 0 where
   pub answer : Reading
-  pub reads : Reads s d e o v d′ e′ o′ v′ answer
-  pub number : n ≡ numberOf (answer .answer)
-  pub told : w′ ≡ sets (sets (sets w 1 (sizes answer)) 5 (answer .counts)) 0 (placeOf (answer .answer) ∷ [])
+  pub reads : P answer
+  pub told : ReadingTold answer w w′ n

@@ -1,5 +1,7 @@
 // Event masks, checked and handed out.
 ghost use mathlib.Core.Path.{_≡_};
+ghost use Rattle.masks_texts.specs.Masks.{ChecksTexts, PlansTexts};
+ghost use Rattle.testing.specs.SetQuestions.{ChecksSet, PlansSet};
 ghost use Rattle.testing.specs.Masks.{checkedCase, plannedCase, ChecksTold, PlansTold};
 use masks::Checked;
 use masks::Planned;
@@ -94,6 +96,48 @@ pub extern "C" fn kaukslini_plan_masks(text: &[u8], masks: &mut [u64], told: &mu
     ensures { λ r. ⌜ PlansTold (now (text .entry)) (now (masks .entry)) (now (told .entry)) (now (masks .exit)) (now (told .exit)) r ⌝ }
 {
     let c = planned_case(masks::plan_masks(text, masks));
+    let numbers = [c.first, c.second];
+    cells::put_cells(told, 0, &numbers);
+    c.number
+}
+
+// The checker's answer to lent texts.
+#[no_mangle]
+pub extern "C" fn kaukslini_check_masks_texts(
+    buffer: &[u8],
+    lengths: &[usize],
+    expanded: &mut [u8],
+    origins: &mut [usize],
+    masks: &[u64],
+    told: &mut [usize],
+) -> u8
+    ensures { λ r. ⌜ ChecksSet
+        (ChecksTexts (now (buffer .entry)) (now (lengths .entry)) (now (expanded .entry)) (now (origins .entry))
+        (now (expanded .exit)) (now (origins .exit)) (now (masks .entry)))
+        (now (told .entry)) (now (told .exit)) r ⌝ }
+{
+    let c = checked_case(masks_texts::check_masks(buffer, lengths, expanded, origins, masks));
+    let numbers = [c.first, c.second];
+    cells::put_cells(told, 0, &numbers);
+    c.number
+}
+
+// The planner's.
+#[no_mangle]
+pub extern "C" fn kaukslini_plan_masks_texts(
+    buffer: &[u8],
+    lengths: &[usize],
+    expanded: &mut [u8],
+    origins: &mut [usize],
+    masks: &mut [u64],
+    told: &mut [usize],
+) -> u8
+    ensures { λ r. ⌜ PlansSet
+        (PlansTexts (now (buffer .entry)) (now (lengths .entry)) (now (expanded .entry)) (now (origins .entry))
+        (now (expanded .exit)) (now (origins .exit)) (now (masks .entry)) (now (masks .exit)))
+        (now (told .entry)) (now (told .exit)) r ⌝ }
+{
+    let c = planned_case(masks_texts::plan_masks(buffer, lengths, expanded, origins, masks));
     let numbers = [c.first, c.second];
     cells::put_cells(told, 0, &numbers);
     c.number

@@ -11,6 +11,7 @@ mod compares;
 mod events;
 mod heads;
 mod reads;
+mod sets;
 mod stage;
 mod standards;
 mod writes;

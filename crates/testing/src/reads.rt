@@ -1,4 +1,5 @@
 // The reading.
+ghost use Rattle.reading.specs.Results.{Reads};
 ghost use Rattle.testing.specs.Readings.{ReadsTold};
 use reading::Answer;
 use rows::cells;
@@ -14,7 +15,11 @@ pub extern "C" fn kaukslini_read(
     values: &mut [usize],
     told: &mut [usize],
 ) -> u8
-    ensures { λ r. ⌜ ReadsTold (now (text .entry)) (now (definitions .entry)) (now (enumerators .entry)) (now (objects .entry)) (now (values .entry)) (now (told .entry)) (now (definitions .exit)) (now (enumerators .exit)) (now (objects .exit)) (now (values .exit)) (now (told .exit)) r ⌝ }
+    ensures { λ r. ⌜ ReadsTold
+        (Reads (now (text .entry))
+        (now (definitions .entry)) (now (enumerators .entry)) (now (objects .entry)) (now (values .entry))
+        (now (definitions .exit)) (now (enumerators .exit)) (now (objects .exit)) (now (values .exit)))
+        (now (told .entry)) (now (told .exit)) r ⌝ }
 {
     let r = reading::read(text, definitions, enumerators, objects, values);
     let sizes = [r.definitions, r.enumerators, r.objects, r.values];

@@ -1,5 +1,7 @@
 // The question of the standard attributes.
 ghost use mathlib.Core.Path.{_≡_};
+ghost use Rattle.standard_texts.specs.Checking.{ChecksTexts};
+ghost use Rattle.testing.specs.SetQuestions.{StandardSet};
 ghost use Rattle.testing.specs.Standards.{toldCase, StandardTold};
 use rows::cells;
 use standard::Checked;
@@ -43,6 +45,26 @@ pub extern "C" fn kaukslini_check_standard(text: &[u8], told: &mut [usize]) -> u
     ensures { λ r. ⌜ StandardTold (now (text .entry)) (now (told .entry)) (now (told .exit)) r ⌝ }
 {
     let c = told_case(standard::check_standard(text));
+    let numbers = [c.first, c.second, c.third];
+    cells::put_cells(told, 0, &numbers);
+    c.number
+}
+
+// The answer to lent texts.
+#[no_mangle]
+pub extern "C" fn kaukslini_check_standard_texts(
+    buffer: &[u8],
+    lengths: &[usize],
+    expanded: &mut [u8],
+    origins: &mut [usize],
+    told: &mut [usize],
+) -> u8
+    ensures { λ r. ⌜ StandardSet
+        (ChecksTexts (now (buffer .entry)) (now (lengths .entry)) (now (expanded .entry)) (now (origins .entry))
+        (now (expanded .exit)) (now (origins .exit)))
+        (now (told .entry)) (now (told .exit)) r ⌝ }
+{
+    let c = told_case(standard_texts::check_standard(buffer, lengths, expanded, origins));
     let numbers = [c.first, c.second, c.third];
     cells::put_cells(told, 0, &numbers);
     c.number

@@ -1,4 +1,5 @@
 // The writing of normal text.
+ghost use Rattle.writing.specs.Results.{Writes};
 ghost use Rattle.testing.specs.Writings.{WritesTold};
 use reading::Answer;
 use rows::cells;
@@ -15,7 +16,11 @@ pub extern "C" fn kaukslini_write(
     output: &mut [u8],
     told: &mut [usize],
 ) -> u8
-    ensures { λ r. ⌜ WritesTold (now (text .entry)) (now (definitions .entry)) (now (enumerators .entry)) (now (objects .entry)) (now (values .entry)) (now (output .entry)) (now (told .entry)) (now (definitions .exit)) (now (enumerators .exit)) (now (objects .exit)) (now (values .exit)) (now (output .exit)) (now (told .exit)) r ⌝ }
+    ensures { λ r. ⌜ WritesTold
+        (Writes (now (text .entry))
+        (now (definitions .entry)) (now (enumerators .entry)) (now (objects .entry)) (now (values .entry)) (now (output .entry))
+        (now (definitions .exit)) (now (enumerators .exit)) (now (objects .exit)) (now (values .exit)) (now (output .exit)))
+        (now (told .entry)) (now (told .exit)) r ⌝ }
 {
     let r = writing::write(text, definitions, enumerators, objects, values, output);
     let length = [r.length];

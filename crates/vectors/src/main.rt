@@ -1,16 +1,9 @@
 // The texts of the corpus, data/NNN.oil, each with a line: its number, and `accepted` with length and checksum of its normal text, or `refused`
-// with number and place, parted by tabs.
+// with number, and text and byte of its place, separated by tabs.
 ghost use Prim.Native.Nat.{_<_};
-use libc::STDOUT_FILENO;
+use console::write;
+use console::write_number;
 use reading::Answer;
-
-fn write(bytes: &[u8]) {
-    io::write_all(STDOUT_FILENO, bytes);
-}
-
-fn write_number(n: usize) {
-    io::print_decimal(STDOUT_FILENO, n as u64);
-}
 
 // The checksum of the bytes so far, and one byte more.
 fn onward(sum: usize, byte: u8) -> usize
@@ -40,21 +33,22 @@ fn write_accepted(normal: &[u8]) {
 }
 
 fn write_refused(number: u8, place: usize) {
-    write(b"\trefused\t");
-    write_number(number as usize);
     write(b"\t");
-    write_number(place);
-    write(b"\n");
+    console::write_refusal(number, place);
 }
 
-fn write_answer(text: &[u8]) {
+fn write_answer(buffer: &[u8], lengths: &[usize], origins: &mut [usize]) {
+    let mut expanded = [0; 65535];
     let mut definitions = [0; 6656];
     let mut enumerators = [0; 3072];
     let mut objects = [0; 2048];
     let mut values = [0; 18432];
     let mut output = [0; 65535];
-    let written = writing::write(
-        text,
+    let written = writing_texts::write(
+        buffer,
+        lengths,
+        &mut expanded,
+        origins,
         &mut definitions,
         &mut enumerators,
         &mut objects,
@@ -74,11 +68,13 @@ fn digit(n: usize) -> u8 {
 }
 
 fn write_file(fd: i32, number: usize) {
-    let mut buffer = io::large_buffer();
-    let n = io::read_full(fd, &mut buffer);
+    let mut buffer = [0; 557048];
+    let mut lengths = [0; 16];
+    let mut origins = [0; 131070];
+    let told = gathering::gather(fd, &mut buffer, &mut lengths, &mut origins);
     libc::close(fd);
     write_number(number);
-    write_answer(&buffer[..n]);
+    write_answer(&buffer, &lengths[..told], &mut origins);
 }
 
 // The text of a number, where there is one.

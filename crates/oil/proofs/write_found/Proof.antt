@@ -4,8 +4,8 @@ use Rattle.oil.proofs.write_found.Statement.{statement}
 use Rattle.oil.proofs.write_found.Tie as tie
 use Rattle.oil.proofs.write_found.Reads as reads
 use Rattle.oil.proofs.write_found.Lts as lts
-use Rattle.oil.proofs.write.Reads as write-reads
-use Rattle.oil.proofs.write_number.Reads as write-number-reads
+use Rattle.console.proofs.write.Reads as write-reads
+use Rattle.console.proofs.write_number.Reads as write-number-reads
 use Rattle.oil.proofs.write_record.Reads as write-record-reads
 
 abbrev Inv-loop : tie.InvT-loop

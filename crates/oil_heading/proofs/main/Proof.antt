@@ -5,7 +5,7 @@ use Rattle.oil_heading.proofs.main.Statement.{statement}
 use Rattle.oil_heading.proofs.main.Tie as tie
 use Rattle.oil_heading.proofs.main.Reads as reads
 use Rattle.oil_heading.proofs.main.Lts as lts
-use Rattle.oil_heading.proofs.write.Reads as write-reads
+use Rattle.console.proofs.write.Reads as write-reads
 use Rattle.oil_heading.proofs.write_argument.Reads as write-argument-reads
 use Rattle.oil_heading.proofs.write_text.Reads as write-text-reads
 use Rattle.os.proofs.arg_count.Reads as arg-count-reads

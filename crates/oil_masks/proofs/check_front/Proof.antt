@@ -7,7 +7,7 @@ use Rattle.oil_masks.proofs.check_front.Tie as tie
 use Rattle.oil_masks.proofs.check_front.Reads as reads
 use Rattle.oil_masks.proofs.check_front.Lts as lts
 use Rattle.oil_masks.proofs.check_list.Reads as check-list-reads
-use Rattle.oil_masks.proofs.write.Reads as write-reads
+use Rattle.console.proofs.write.Reads as write-reads
 
 slice-aggregate-write : tie.Need-slice-aggregate-write
 slice-aggregate-write c = search needs
@@ -19,10 +19,13 @@ returns : tie.Need-returns
 returns c = search needs
 
 slice-aggregate-check-list : tie.Need-slice-aggregate-check-list
-slice-aggregate-check-list c = sym (length-take-le ((c .before .before .before .before .args .count)) ((c .before .before .before .before .args .list .now)) (omega arith))
+slice-aggregate-check-list c = sym (length-take-le _ _ (omega arith))
 
 check-list-requires : tie.Need-check-list-requires
 check-list-requires c κs = search needs
+
+same-length : tie.Need-same-length
+same-length c = search needs
 
 returns-2 : tie.Need-returns-2
 returns-2 c = search needs
@@ -36,4 +39,5 @@ check-front-spec =
     returns
     slice-aggregate-check-list
     check-list-requires
+    same-length
     returns-2)

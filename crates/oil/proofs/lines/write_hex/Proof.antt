@@ -5,8 +5,7 @@ use Rattle.oil.proofs.lines.write_hex.Statement.{statement}
 use Rattle.oil.proofs.lines.write_hex.Tie as tie
 use Rattle.oil.proofs.lines.write_hex.Reads as reads
 use Rattle.oil.proofs.lines.write_hex.Lts as lts
-use Rattle.oil.proofs.lines.hex_digit.Reads as hex-digit-reads
-use Rattle.oil.proofs.write.Reads as write-reads
+use Rattle.console.proofs.write_hex.Reads as write-hex-reads
 
 abbrev Inv-loop : tie.InvT-loop
 Inv-loop bytes i₀ i = i ≤ length bytes
@@ -17,20 +16,11 @@ abbrev μ-loop : tie.MeasureT-loop
 loop-holds : tie.Need-loop-holds Inv-loop μ-loop
 loop-holds c = omega arith
 
-shared-slice-read-b : tie.Need-shared-slice-read-b Inv-loop μ-loop
-shared-slice-read-b c = omega arith
+shared-slice-read-write-hex : tie.Need-shared-slice-read-write-hex Inv-loop μ-loop
+shared-slice-read-write-hex c = omega arith
 
-hex-digit-requires : tie.Need-hex-digit-requires Inv-loop μ-loop
-hex-digit-requires c κs = omega arith
-
-hex-digit-requires-2 : tie.Need-hex-digit-requires-2 Inv-loop μ-loop
-hex-digit-requires-2 c κs = omega arith
-
-slice-aggregate-write : tie.Need-slice-aggregate-write Inv-loop μ-loop
-slice-aggregate-write c = omega arith
-
-write-requires : tie.Need-write-requires Inv-loop μ-loop
-write-requires c κs = omega arith
+write-hex-requires : tie.Need-write-hex-requires Inv-loop μ-loop
+write-hex-requires c κs = omega arith
 
 add-i : tie.Need-add-i Inv-loop μ-loop
 add-i c = omega arith
@@ -51,11 +41,8 @@ write-hex-spec =
     Inv-loop
     μ-loop
     loop-holds
-    shared-slice-read-b
-    hex-digit-requires
-    hex-digit-requires-2
-    slice-aggregate-write
-    write-requires
+    shared-slice-read-write-hex
+    write-hex-requires
     add-i
     loop-less
     loop-again

@@ -1,0 +1,3 @@
+-- Places of the lent texts in answers, tables and refusals. Assumes nothing.
+pub mod Placed
+pub mod Columns

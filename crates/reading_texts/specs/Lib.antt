@@ -1,0 +1,3 @@
+-- What reading lent texts promises. Assumes nothing.
+pub mod Reads
+pub mod Filling

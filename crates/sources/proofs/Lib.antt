@@ -1,0 +1,11 @@
+pub mod Singles
+pub mod Tellings
+pub mod Asides
+pub mod Namings
+pub mod Stops
+pub mod Numberings
+pub mod Events
+pub mod Notings
+pub mod Pieces
+pub mod Fillings
+pub mod Wholes

@@ -1,0 +1,2 @@
+-- The answer to lent texts. Assumes nothing.
+pub mod Answering

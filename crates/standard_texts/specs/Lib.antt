@@ -1,0 +1,2 @@
+-- Q-9 of document 02 over lent texts. Assumes nothing.
+pub mod Checking

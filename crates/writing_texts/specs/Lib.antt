@@ -1,0 +1,2 @@
+-- What writing the normal text of lent texts promises. Assumes nothing.
+pub mod Writes
