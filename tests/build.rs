@@ -8,7 +8,8 @@ use std::env;
 use std::path::{Path, PathBuf};
 
 /// The layers that the proved library has today.
-const LAYERS: &str = "token,grammar,reading,writing,heading,masks,releases,standard,including";
+const LAYERS: &str =
+    "token,grammar,reading,writing,heading,masks,releases,standard,including,questions,expecting";
 
 fn main() {
     println!("cargo:rerun-if-env-changed=KAUKSLINI_STATICLIB");

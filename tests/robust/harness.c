@@ -1,6 +1,6 @@
 // The calls kaukslini_read, kaukslini_write, kaukslini_heading, kaukslini_check_masks, kaukslini_plan_masks, kaukslini_compare,
-// kaukslini_check_standard, kaukslini_expand, kaukslini_read_texts and kaukslini_write_texts on each text of standard input, in guarded memory,
-// and checks of what is promised of the lent memory and of the answer, whatever the text is. docs/ROBUSTNESS.md says what is checked.
+// kaukslini_check_standard, kaukslini_expected, kaukslini_expand, kaukslini_read_texts and kaukslini_write_texts on each text of standard input,
+// in guarded memory, and checks of what is promised of the lent memory and of the answer, whatever the text is. docs/ROBUSTNESS.md says what is checked.
 //
 //   harness [FOLDER]      the texts of standard input, as robust_texts writes them; a text that fails is saved in FOLDER
 //   harness --self-test   faults are planted around the calls; each must be reported
@@ -57,6 +57,8 @@ struct compared {
 struct compared kaukslini_compare(const uint8_t *first, size_t first_length, const uint8_t *second, size_t second_length, struct difference *list,
                                   size_t list_length);
 uint8_t kaukslini_check_standard(const uint8_t *text, size_t text_length, size_t *told, size_t told_length);
+
+bool kaukslini_expected(const uint8_t *text, size_t text_length, size_t place, size_t flag);
 
 size_t kaukslini_expand(const uint8_t *buffer, size_t buffer_length, const size_t *lengths, size_t lengths_length, uint8_t *expanded,
                         size_t expanded_length, size_t *origins, size_t origins_length, size_t *told, size_t told_length);
@@ -475,6 +477,7 @@ enum fault {
     DECIDES_BY_A_RECORD,
     ATTRIBUTE_36,
     WRONG_AND_NO_NUMBER,
+    EXPECTED_WITHOUT_4,
     BYTE_PAST_THE_EXPANDED,
     BYTE_OF_THE_EXPANDED,
     ORIGIN_ONE_OFF,
@@ -982,6 +985,24 @@ static bool try_standards(void) {
     return try_standard("standard", &answer, kept) && try_standard("standard again", &answer, kept);
 }
 
+enum { EXPECTED_FLAGS = 29 };
+
+// One flag of `expected`, another one from text to text, at the place that `read` told: set only at a refusal 4, and the same the second time.
+static bool try_expected(void) {
+    now.call = "expected";
+    size_t flag = now.index % (EXPECTED_FLAGS + 1), place = first.told[0];
+    unsigned long errors = memcheck_errors();
+    shut_for_call(&text, false);
+    bool is_expected = kaukslini_expected(lent(&text), text.length, place, flag) || planted == EXPECTED_WITHOUT_4;
+    bool is_again = kaukslini_expected(lent(&text), text.length, place, flag) || planted == EXPECTED_WITHOUT_4;
+    calls += 2;
+    if (memcheck_errors() != errors)
+        return fail("valgrind reports %lu errors", memcheck_errors() - errors);
+    if (is_expected && (first.number != 4 || flag == EXPECTED_FLAGS))
+        return fail("flag %zu is set at %zu, and the text's number is %u", flag, place, first.number);
+    return is_expected == is_again || fail("flag %zu at %zu is another the second time", flag, place);
+}
+
 static bool keep_written(void) {
     first.length = told_at(1);
     if (first.length == 0 || first.length > output->length)
@@ -1368,7 +1389,7 @@ static bool try_side(enum side side, bool longer) {
         return false;
     if (!try_heading("heading", TOLD_BY_HEADING + 1) || !try_heading("heading again", now.index % MOST_TOLD))
         return false;
-    if (!try_masks() || !try_compare() || !try_standards())
+    if (!try_masks() || !try_compare() || !try_standards() || !try_expected())
         return false;
 
     unsigned number;
@@ -1769,6 +1790,8 @@ static NOT_INSTRUMENTED unsigned spoil(const struct slices *s, bool is_write, un
     case ATTRIBUTE_36:
     case WRONG_AND_NO_NUMBER:
         break; // of the standard
+    case EXPECTED_WITHOUT_4:
+        break; // of `expected`
     case BYTE_PAST_THE_EXPANDED:
     case BYTE_OF_THE_EXPANDED:
     case ORIGIN_ONE_OFF:
@@ -2061,6 +2084,7 @@ static const struct {
     [DECIDES_BY_A_RECORD] = {"a record that was not set decides", "valgrind reports 1 errors", true},
     [ATTRIBUTE_36] = {"attribute 36 is told", "is told for attribute 36", false},
     [WRONG_AND_NO_NUMBER] = {"24 is told for a standard attribute", "24 at", false},
+    [EXPECTED_WITHOUT_4] = {"a flag is set without a refusal 4", "is set at 0, and the text's number is 0", false},
     [BYTE_PAST_THE_EXPANDED] = {"a byte past the expanded text is changed", "expanded ones is changed", false},
     [BYTE_OF_THE_EXPANDED] = {"a byte of the expanded text is another", "the expanded text is another", false},
     [ORIGIN_ONE_OFF] = {"an origin is one off", "origin 174 is 1", false},

@@ -168,6 +168,61 @@ impl Hopes {
     }
 }
 
+impl Hopes {
+    /// The tokens that may come next, and whether the text may end.
+    fn coming(&mut self) -> (Vec<Symbol>, bool) {
+        let mut waiting = self.alive.clone();
+        let mut tokens = Vec::new();
+        let mut end = false;
+        while let Some(stack) = waiting.pop() {
+            if stack == EMPTY {
+                end = true;
+                continue;
+            }
+            match self.stacks[stack] {
+                (Symbol::Rule(rule), below) => {
+                    for form in &self.grammar.forms[rule] {
+                        waiting.push(self.put(form, below));
+                    }
+                }
+                (token, _) if !tokens.contains(&token) => tokens.push(token),
+                _ => (),
+            }
+        }
+        (tokens, end)
+    }
+}
+
+/// What may stand where a text is refused with 4.
+#[derive(Clone, Debug, PartialEq, Eq)]
+pub struct Expected {
+    pub place: usize,
+    pub tokens: Vec<Symbol>,
+    pub end: bool,
+}
+
+/// Of a text that is refused with 4: each token with which some derivation goes on after the
+/// tokens before the place, and whether one ends there.
+pub fn expected(text: &[u8]) -> Option<Expected> {
+    if text.len() > 65_535 {
+        return None;
+    }
+    let Stage::Refused { number: 4, place } = stage(text) else {
+        return None;
+    };
+    let mut hopes = Hopes::new();
+    let mut from = 0;
+    while let Step::Token(token, next) = step(text, from) {
+        if token.place >= place {
+            break;
+        }
+        hopes.read(Some(token.sort));
+        from = next;
+    }
+    let (tokens, end) = hopes.coming();
+    Some(Expected { place, tokens, end })
+}
+
 /// What the stage of refusals 3 to 5 says of a text.
 #[derive(Clone, Copy, Debug, PartialEq, Eq)]
 pub enum Stage {

@@ -8,6 +8,7 @@ pub mod comparing_releases;
 pub mod comparing_texts;
 pub mod configuration;
 pub mod corpus;
+pub mod expecting;
 pub mod floats;
 pub mod grammar;
 pub mod heading;

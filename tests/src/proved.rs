@@ -16,6 +16,7 @@ pub fn is_linked(layer: &str) -> bool {
         "standard" => cfg!(proved_standard),
         "including" => cfg!(proved_including),
         "questions" => cfg!(proved_questions),
+        "expecting" => cfg!(proved_expecting),
         _ => panic!("no layer {layer}"),
     };
     let mut asked = env!("KAUKSLINI_LAYERS_ASKED").split(',');
@@ -784,5 +785,17 @@ pub mod questions {
                 told.len(),
             )
         }
+    }
+}
+
+#[cfg(proved_expecting)]
+pub mod expecting {
+    extern "C" {
+        fn kaukslini_expected(text: *const u8, length: usize, place: usize, flag: usize) -> bool;
+    }
+
+    /// Whether a flag is set at a place of a text.
+    pub fn expected(text: &[u8], place: usize, flag: usize) -> bool {
+        unsafe { kaukslini_expected(text.as_ptr(), text.len(), place, flag) }
     }
 }

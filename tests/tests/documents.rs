@@ -6,7 +6,8 @@ use std::collections::{HashMap, HashSet};
 use std::fs;
 use std::path::{Path, PathBuf};
 use tests::comparing_texts::{Answers, Memory, EXACT};
-use tests::including::{normal_within, Buffer, Lent, Place, Refused, START};
+use tests::expecting;
+use tests::including::{join, normal_within, Buffer, Lent, Place, Refused, START};
 use tests::proved;
 use tests::tables::ROOMS;
 
@@ -21,6 +22,8 @@ struct Example {
     answer: Option<Refused>,
     /// What stands at the place, where the document says so.
     at: Option<At>,
+    /// What the grammar admits at the place of a refusal 4.
+    expected: Option<String>,
 }
 
 enum At {
@@ -37,8 +40,8 @@ fn document(file: &str) -> String {
     fs::read_to_string(path(file)).unwrap_or_else(|fault| panic!("{file}: {fault}"))
 }
 
-/// The examples, each from its line "```oil" through the line with its answer; a text marked as a
-/// file has none, and goes to the next example.
+/// The examples, each from its line "```oil" through the line with its answer, and after a refusal 4
+/// the line with what is expected; a text marked as a file has none, and goes to the next example.
 fn examples(document: &str) -> Vec<Example> {
     let mut examples = Vec::new();
     let mut files = Vec::new();
@@ -63,6 +66,9 @@ fn examples(document: &str) -> Vec<Example> {
         let mut below = lines.by_ref().map(|(_, line)| line);
         let answer = below.find(|line| !line.is_empty()).expect("an answer");
         (example.answer, example.at) = answered(answer, example.line);
+        let mut further = lines.clone().map(|(_, line)| line);
+        let next = further.find(|line| !line.is_empty()).unwrap_or("");
+        example.expected = next.starts_with("expected ").then(|| next.to_string());
         examples.push(example);
     }
     assert!(files.is_empty(), "a file without its example");
@@ -97,6 +103,7 @@ fn example(line: usize, marks: &str, text: &[&str]) -> Example {
         output,
         answer: None,
         at: None,
+        expected: None,
     }
 }
 
@@ -157,6 +164,12 @@ fn reference(example: &Example) -> Option<Refused> {
     normal_within(&example.texts, example.output).err()
 }
 
+/// What the reference expects in the expanded text, where the answer is 4.
+fn expected(example: &Example) -> Option<String> {
+    example.answer.filter(|refused| refused.number == 4)?;
+    expecting::told(&join(&example.texts).ok()?.text)
+}
+
 /// What the proved calls do otherwise than the reference, of what they answer and of the memory
 /// that they are lent. Refusal 20 is of `write`: `read` asks for no output.
 fn calls_agree(memory: &mut Memory, example: &Example) -> Result<(), String> {
@@ -185,6 +198,7 @@ fn refusals() {
                 At::End => assert!(behind.is_empty(), "line {line}"),
             }
         }
+        assert_eq!(expected(example), example.expected, "line {line}");
         if is_linked {
             assert_eq!(calls_agree(&mut memory, example), Ok(()), "line {line}");
         }

@@ -31,7 +31,7 @@ const MEANINGS: [&str; 30] = [
     "the lent tables are too short",
     "",
     "no token begins here, or a string or comment that begins here is not ended",
-    "the grammar does not admit this token here, or the text ends too early",
+    "what was found and what is expected",
     "this brace is the seventeenth open one; at most sixteen may be open",
     "the version string is not 2.5",
     "more than 512 definitions, or more than 1,024 enumerators, TRUE and FALSE not counted",
@@ -103,6 +103,38 @@ fn bound_meaning(text: &[u8], place: usize) -> &'static str {
     "the low bound is above the high one"
 }
 
+/// The most bytes of a token that are said to be found.
+const FOUND: usize = 40;
+
+/// What stands at a place: the token, or the text's end.
+fn found(text: &[u8], place: usize) -> String {
+    use tests::token::{part, step, Sort, Step};
+    let Step::Token(token, _) = step(text, place) else {
+        return "the text ends here".to_string();
+    };
+    let bytes = String::from_utf8_lossy(part(text, token.place, token.length));
+    let bytes = match token.length {
+        0..=FOUND => format!("`{bytes}`"),
+        _ => format!("`{}...`", &bytes[..FOUND]),
+    };
+    let reserved = ["TRUE", "FALSE", "AUTO", "NO_DEFAULT", "WITH_AUTO"];
+    let is_reserved = reserved.iter().any(|word| bytes == format!("`{word}`"));
+    match token.sort {
+        Sort::Word(_) if is_reserved => format!("found the reserved word {bytes}"),
+        Sort::Word(_) => format!("found the word {bytes}"),
+        Sort::Number { .. } => format!("found the number {bytes}"),
+        Sort::Float { .. } => format!("found the float {bytes}"),
+        Sort::Quoted => "found a string".to_string(),
+        Sort::Punctuator(_) => format!("found {bytes}"),
+    }
+}
+
+/// What refusal 4 means at a place: what was found, and what is expected.
+fn unexpected(text: &[u8], place: usize) -> String {
+    let told = tests::expecting::told(text).expect("a text that is refused with 4");
+    format!("{}; {told}", found(text, place))
+}
+
 /// The most bytes of a line that are shown, and those before the place where more follow.
 const SHOWN: usize = 72;
 const BEFORE: usize = 36;
@@ -148,8 +180,9 @@ fn expected(text: &[u8]) -> Vec<u8> {
     };
     let place = place.byte;
     let meaning = match number {
-        21 => bound_meaning(text, place),
-        _ => MEANINGS[usize::from(number) - 1],
+        4 => unexpected(text, place),
+        21 => bound_meaning(text, place).to_string(),
+        _ => MEANINGS[usize::from(number) - 1].to_string(),
     };
     let refusal = format!("refusal {number}: {meaning}\n");
     if [1, 19, 20, 30].contains(&number) {
@@ -242,6 +275,60 @@ fn shows_known_places() {
         assert!(first.starts_with(place), "{first}");
         assert_eq!(rest, lines);
         assert_eq!(found.as_bytes(), expected(&text));
+    }
+}
+
+/// What refusal 4 says, by hand: each sort of token, a long one, and the text's end.
+#[test]
+fn says_what_was_found() {
+    let front = "OIL_VERSION=\"2.5\";IMPLEMENTATION m{};CPU c{";
+    let long = "a".repeat(41);
+    let cases = [
+        (
+            String::new(),
+            "the text ends here; expected OIL_VERSION".to_string(),
+        ),
+        (
+            "OIL_VERSION = 2.5;".to_string(),
+            "found the float `2.5`; expected a string".to_string(),
+        ),
+        (
+            "OIL_VERSION = -25;".to_string(),
+            "found the number `-25`; expected a string".to_string(),
+        ),
+        (
+            "IMPLEMENTATION m".to_string(),
+            "found the word `IMPLEMENTATION`; expected OIL_VERSION".to_string(),
+        ),
+        (
+            "OIL_VERSION \"2.5\"".to_string(),
+            "found a string; expected `=`".to_string(),
+        ),
+        (
+            format!("{front}TASK AUTO;"),
+            "found the reserved word `AUTO`; expected a name".to_string(),
+        ),
+        (
+            format!("{front}TASK t {long};"),
+            format!(
+                "found the word `{}...`; expected `{{`, `;` or `:`",
+                &long[..40]
+            ),
+        ),
+        (
+            format!("{front}TASK t..;"),
+            "found `..`; expected `{`, `;` or `:`".to_string(),
+        ),
+        (
+            format!("{front}}};}}"),
+            "found `}`; expected the end of the text".to_string(),
+        ),
+    ];
+    for (text, says) in cases {
+        let found = String::from_utf8(written(text.as_bytes())).expect("printable bytes");
+        let first = found.lines().next().expect("a first line");
+        assert!(first.ends_with(&format!(": refusal 4: {says}")), "{first}");
+        assert_eq!(found.as_bytes(), expected(text.as_bytes()));
     }
 }
 

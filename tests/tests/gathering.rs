@@ -12,7 +12,7 @@ use tests::heading::shown;
 use tests::including::{self, gather, Lent, LONGEST};
 use tests::lent_texts::{self, divided_text};
 use tests::random::Random;
-use tests::{masks, release_texts, standard};
+use tests::{expecting, masks, release_texts, standard};
 
 /// A folder of files, removed at the end.
 struct Folder {
@@ -344,7 +344,23 @@ fn position(texts: &[Lent], place: including::Place) -> String {
     format!("{name}: line {line}, column {}", place.byte - start + 1)
 }
 
-/// `oil_explain` names the file and shows its line.
+/// Whether a refusal 4 is told; if so, its line ends in what is expected in the expanded text.
+fn tells_the_expected(texts: &[Lent], lines: &[u8]) -> bool {
+    let joined = including::join(texts).ok();
+    let Some(told) = joined.and_then(|joined| expecting::told(&joined.text)) else {
+        return false;
+    };
+    let first = lines.split(|byte| *byte == b'\n').next().expect("a line");
+    let end = format!("; {told}");
+    assert!(
+        first.ends_with(end.as_bytes()),
+        "{}{end}",
+        first.escape_ascii()
+    );
+    true
+}
+
+/// `oil_explain` names the file and shows its line, and says what is expected at a refusal 4.
 #[test]
 fn explains_a_file() {
     let folder = Folder::new("explain");
@@ -374,7 +390,22 @@ fn explains_a_file() {
             set.name,
             lines.escape_ascii()
         );
+        tells_the_expected(&texts, &lines);
     }
+    let lent = [
+        Lent::new("", "#include \"front\"\nCPU c { };\n"),
+        Lent::new("front", "OIL_VERSION = \"2.5\"\nIMPLEMENTATION i { };"),
+    ];
+    folder.clear();
+    folder.put(&lent[1..]);
+    let texts = folder.gathered(&lent[0].text);
+    let lines = folder.run("oil_explain", &[], &lent[0].text);
+    assert!(
+        lines.starts_with(b"front: line 2, column 1: refusal 4: "),
+        "{}",
+        lines.escape_ascii()
+    );
+    assert!(tells_the_expected(&texts, &lines));
 }
 
 /// README.md's example of includes, and what it says of it.

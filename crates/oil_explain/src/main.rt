@@ -6,12 +6,13 @@ use console::write_number;
 use libc::STDIN_FILENO;
 use reading::Answer;
 
-// What a refusal from 1 to 9 means.
+mod expected;
+
+// What a refusal from 1 to 9, but for 4, means.
 fn write_early(number: u8) {
     match number {
         1 => write(b"the lent tables are too short"),
         3 => write(b"no token begins here, or a string or comment that begins here is not ended"),
-        4 => write(b"the grammar does not admit this token here, or the text ends too early"),
         5 => write(b"this brace is the seventeenth open one; at most sixteen may be open"),
         6 => write(b"the version string is not 2.5"),
         7 => write(
@@ -27,7 +28,7 @@ fn write_early(number: u8) {
 }
 
 // What refusal 21 means at a place of the expanded text: which of its two faults it is.
-fn write_bound_at(text: &[u8], place: usize) {
+fn write_bound(text: &[u8], place: usize) {
     if explaining::bounds::outside_type(text, place) {
         write(b"the bound or listed number lies outside its type");
         return;
@@ -35,8 +36,17 @@ fn write_bound_at(text: &[u8], place: usize) {
     write(b"the low bound is above the high one");
 }
 
+// What refusal 4 or 21 means at a place of the expanded text.
+fn write_cause(text: &[u8], number: u8, place: usize) {
+    if number == 4 {
+        expected::write_unexpected(text, place);
+        return;
+    }
+    write_bound(text, place);
+}
+
 // The same; the reading of the expanded text has its place there.
-fn write_bound_of(text: &[u8]) {
+fn write_cause_in(text: &[u8]) {
     let mut definitions = [0; 6656];
     let mut enumerators = [0; 3072];
     let mut objects = [0; 2048];
@@ -51,16 +61,16 @@ fn write_bound_of(text: &[u8]) {
     let answer = r.answer;
     match answer {
         Answer::Accepted => {}
-        Answer::Refused(_, place) => write_bound_at(text, place),
+        Answer::Refused(number, place) => write_cause(text, number, place),
     }
 }
 
 // The same for the lent texts.
-fn write_bound(buffer: &[u8], lengths: &[usize]) {
+fn write_cause_of(buffer: &[u8], lengths: &[usize]) {
     let mut expanded = [0; 65535];
     let mut origins = [0; 65535];
     let e = sources::expand(buffer, lengths, &mut expanded, &mut origins);
-    write_bound_of(token::part(&expanded, 0, e.length));
+    write_cause_in(token::part(&expanded, 0, e.length));
 }
 
 // What a refusal from 27 on means.
@@ -89,7 +99,7 @@ fn write_meaning(buffer: &[u8], lengths: &[usize], number: u8) {
         18 => write(b"the reference names no object of its kind"),
         19 => write(b"more than 2,048 resolved values"),
         20 => write(b"the written text is longer than the output's room"),
-        21 => write_bound(buffer, lengths),
+        4 | 21 => write_cause_of(buffer, lengths),
         22 => write(b"a default outside type, range or list"),
         23 => write(b"AUTO as a default without WITH_AUTO"),
         24 => write(b"the name is used before by an object of another kind"),

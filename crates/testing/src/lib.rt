@@ -9,6 +9,7 @@ use token::Step;
 
 mod compares;
 mod events;
+mod expects;
 mod heads;
 mod reads;
 mod sets;
