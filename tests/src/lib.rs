@@ -3,6 +3,7 @@
 
 pub mod amount;
 pub mod answered;
+pub mod channels;
 pub mod comparing;
 pub mod comparing_releases;
 pub mod comparing_texts;

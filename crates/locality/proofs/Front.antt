@@ -119,7 +119,8 @@ not-both true true e = absurd (false≢true e)
 not-both true false e = (refl, refl)
 not-both false b e = absurd (false≢true e)
 
-close-low : (s : List ℕ) (p : ℕ) → p ≤ findClose s p
+-- the end of a comment is not before the place it is looked for from
+pub close-low : (s : List ℕ) (p : ℕ) → p ≤ findClose s p
 unfolding findClose
 close-low s p = find-low (λ i. pairAt s i 42 47) (length s) p
 
@@ -127,13 +128,14 @@ close-low s p = find-low (λ i. pairAt s i 42 47) (length s) p
 
 -- u has the bytes of s from z up to e, which lies inside both; what is skipped ends before e
 module _ (s u : List ℕ) (z e : ℕ) (es : e ≤ length s) (eu : e ≤ length u) (same : Same s u z e) where
-  pair-front : (r a b : ℕ) → z ≤ r → r + 1 < e → pairAt u r a b ≡ pairAt s r a b
+  -- pairs of bytes, classes of bytes, ends of comments and whole gaps are the same in both
+  pub pair-front : (r a b : ℕ) → z ≤ r → r + 1 < e → pairAt u r a b ≡ pairAt s r a b
   pair-front r a b h k = pair-same s u r a b (omega arith) (omega arith) (same r h (omega arith)) (same (r + 1) (omega arith) k)
 
-  class-front : (r : ℕ) → z ≤ r → r < e → classOf (byte u r) ≡ classOf (byte s r)
+  pub class-front : (r : ℕ) → z ≤ r → r < e → classOf (byte u r) ≡ classOf (byte s r)
   class-front r h k = ap classOf (same r h k)
 
-  line-front : (r : ℕ) → z ≤ r → pairAt s r 47 47 ≡ true → findByte 10 s (r + 2) < e → findByte 10 u (r + 2) ≡ findByte 10 s (r + 2)
+  pub line-front : (r : ℕ) → z ≤ r → pairAt s r 47 47 ≡ true → findByte 10 s (r + 2) < e → findByte 10 u (r + 2) ≡ findByte 10 s (r + 2)
   unfolding findByte
   line-front r h t k =
       let i = pair-inside s r 47 47 t in
@@ -144,7 +146,7 @@ module _ (s u : List ℕ) (z e : ℕ) (es : e ≤ length s) (eu : e ≤ length u
       (λ i l n. ap (λ (b : ℕ). eqb b 10) (same i (omega arith) (omega arith)) ∙ find-before feed (length s) (r + 2) i l n)
       (λ l. ap (λ (b : ℕ). eqb b 10) (same q (omega arith) (omega arith)) ∙ find-holds feed (length s) (r + 2) (omega arith) (omega arith))
 
-  close-front : (r : ℕ) → z ≤ r → r + 2 ≤ length s → findClose s (r + 2) < length s → findClose s (r + 2) + 1 < e →
+  pub close-front : (r : ℕ) → z ≤ r → r + 2 ≤ length s → findClose s (r + 2) < length s → findClose s (r + 2) + 1 < e →
       findClose u (r + 2) ≡ findClose s (r + 2)
   unfolding findClose
   close-front r h i l k =
@@ -155,7 +157,7 @@ module _ (s u : List ℕ) (z e : ℕ) (es : e ≤ length s) (eu : e ≤ length u
       (λ i a n. pair-front i 42 47 (omega arith) (omega arith) ∙ find-before t (length s) (r + 2) i a n)
       (λ _. pair-front c 42 47 (omega arith) (omega arith) ∙ find-holds t (length s) (r + 2) i l)
 
-  gap-front : (r q : ℕ) → z ≤ r → q < e → Gap s r q → Gap u r q
+  pub gap-front : (r q : ℕ) → z ≤ r → q < e → Gap s r q → Gap u r q
   gap-front r q h k (a-blank c n) = a-blank (class-front r h (omega arith) ∙ c) n
   gap-front r q h k (a-line c t n) =
       let low = byte-low s (r + 2) 10 in
@@ -450,7 +452,8 @@ token-front s u p t c e k f h =
     ∙ iu ∙ ap (λ (x : ℕ). tokenOf (classOf x) u p) b
     ∙ subst (Kept s u p (tokenOf (classOf (byte s p)) u p)) (sym is ∙ e) (class-kept s u p (omega arith) (classOf (byte s p))) (omega arith) k f h
 
-by-bare : (s : List ℕ) (m : ℕ) (t : Token) (c : Cursor) → Bare s m → stepAt s m ≡ Found t c → tokenAt s m ≡ Found t c
+-- a token that is found where neither a blank nor a comment stands begins there
+pub by-bare : (s : List ℕ) (m : ℕ) (t : Token) (c : Cursor) → Bare s m → stepAt s m ≡ Found t c → tokenAt s m ≡ Found t c
 by-bare s m t c (plain f) e = sym (plain-step s m f) ∙ e
 by-bare s m t c (lone f g h) e = sym (lone-step s m f g h) ∙ e
 by-bare s m t c (unended f g h k) e = absurd (let r = unended-step s m f g h k in let y : _≡_ {A = ℕ} 0 1 = cc in omega arith)

@@ -7,4 +7,5 @@ pub mod Front
 pub mod Join
 pub mod Decimals
 pub mod Pieces
+pub mod Between
 pub mod Slices

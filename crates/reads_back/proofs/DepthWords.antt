@@ -48,7 +48,8 @@ low-back (w ∷ l) m a b a′ b′ e h =
     let y = bit (matches (sg rbrace) (w .class)) in
     low-back l m (x + a) (y + b) a′ b′ (omega arith) (h .1)
 
-low-append : (l m : List Word) (a b a′ b′ : ℕ) → (word-opens l + a) + b′ ≤ a′ + (word-closes l + b) → Low a b l → Low a′ b′ m → Low a b (l ++ m)
+-- Of both.
+pub low-append : (l m : List Word) (a b a′ b′ : ℕ) → (word-opens l + a) + b′ ≤ a′ + (word-closes l + b) → Low a b l → Low a′ b′ m → Low a b (l ++ m)
 unfolding word-opens word-closes
 low-append [] m a b a′ b′ e h k = low-shift m a′ b′ a b (omega arith) k
 low-append (w ∷ l) m a b a′ b′ e h k =
@@ -65,7 +66,8 @@ low-end (w ∷ l) a b h =
     let r = low-end l (x + a) (y + b) (h .1) in
     omega arith
 
-low-shallow : (l : List Word) → Low 0 0 l → ShallowWords l
+-- From the first word on.
+pub low-shallow : (l : List Word) → Low 0 0 l → ShallowWords l
 low-shallow l h l₁ l₂ e = let r = low-end l₁ 0 0 (low-front l₁ l₂ 0 0 (subst (λ m. Low 0 0 m) e h)) in omega arith
 
 -- Tokens as words ---------------------------------------------------------------------------------------------------------------------------

@@ -55,6 +55,7 @@ passed fs k t e = go (first fs) refl e
     go none q h = (no-first fs q, h)
     go (some f) q h = absurd (let z : _≡_ {A = Bool} false true = cc in false≢true z)
 
+-- It has none where it is accepted,
 pub no-faults : (f : File) (t : Tables) → answer f ≡ accepted t → NoFaults f t
 unfolding answer
 no-faults f t e =
@@ -72,12 +73,14 @@ pass : (fs : List Fault) (k : Unit {0} → Answer) → fs ≡ [] → unless (fir
 unfolding unless first
 pass fs k e = ap (λ l. unless (first l) k) e
 
-accepts-it : (f : File) → definition-faults f ≡ [] → object-faults f ≡ [] → statement-stage f ≡ [] → too-many (how-many-in-all (all-values f (f .objects))) ≡ []
+-- and it is accepted where it has none.
+pub accepts-it : (f : File) → definition-faults f ≡ [] → object-faults f ≡ [] → statement-stage f ≡ [] → too-many (how-many-in-all (all-values f (f .objects))) ≡ []
     → answer f ≡ accepted (tables f (all-values f (f .objects)))
 unfolding answer
 accepts-it f a b c d =
     pass (definition-faults f) _ a ∙ pass (object-faults f) _ b ∙ pass (statement-stage f) _ c ∙ pass (too-many (how-many-in-all (all-values f (f .objects)))) _ d
 
+-- Its definitions have none.
 pub specs-free : (f : File) → definition-faults f ≡ [] → spec-faults [] (f .specs) ≡ []
 unfolding definition-faults
 specs-free f e = nothing-back (fault-if (not (same (f .version .bytes) (bytesOf "\"2.5\""))) (f .version) 6) (spec-faults [] (f .specs)) e

@@ -33,6 +33,7 @@ use Rattle.reads_back.proofs.SameNames.{option-bytes, definition-names,
 abbrev pub There : List ℕ → Word → Type 0
 There s t = t .bytes ≡ part s (span-of t)
 
+-- Words of two lists are those of each.
 pub parts : (s : List ℕ) (a b : List Word) → InText s (a ++ b) → InText s a × InText s b
 parts s [] b h = (tt, h)
 parts s (w ∷ a) b h = let r = parts s a b (h .1) in ((h .0, r .0), r .1)
@@ -183,6 +184,7 @@ module _ (s : List ℕ) (os : List Object) where
   mutual
     unfolding resolve
 
+    -- The words of what a scope resolves to.
     pub resolve-there : (ds : Definitions) (ss : Statements) → InText s (definition-words ds) → InText s (statement-words ss) → ValuesThere s (resolve ds os ss)
     resolve-there no-more ss h k = tt
     resolve-there (define d vs ds) ss h k =
@@ -198,6 +200,7 @@ module _ (s : List ℕ) (os : List Object) where
         let p = list-text s w e us vs h in
         by-choose (ValuesThere s) (alike w t) _ _ (λ _. resolve-there us ss (p .1) k) (λ _. resolve-under-there vs t ss (p .2) k)
 
+-- The definitions of a kind are definitions of the text.
 pub kind-there : (s : List ℕ) (k : Kind) (xs : List Spec) → InText s (spec-words xs) → InText s (definition-words (of-kind k xs))
 unfolding of-kind spec-words definition-words
 kind-there s k [] h = tt

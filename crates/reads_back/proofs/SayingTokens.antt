@@ -46,7 +46,8 @@ pub record NormalTokens (s n : List ℕ) (im : List Token) (f : File) (rs : List
   -- its tokens with it, at one offset
   pub at-offset : Copied s n im middle
 
-tokens-are : (l : Lexed) → tokensIn l ≡ map tokenOf (tokensOf l)
+-- the tokens of a text, of its lexemes
+pub tokens-are : (l : Lexed) → tokensIn l ≡ map tokenOf (tokensOf l)
 unfolding tokensIn tokensOf
 tokens-are (more t l) = ap (λ (x : List Token). tokenOf t ∷ x) (tokens-are l)
 tokens-are (ended n) = refl
@@ -55,13 +56,15 @@ tokens-are (refused p) = refl
 -- ---- a piece and what goes on after it
 
 module _ {a : List ℕ} {ts : List Lexeme} (x : Piece false a ts) (b : List ℕ) where
-  piece-tokens : tokensOf (lexFrom (a ++ b) 0) ≡ ts ++ map (moved (length a)) (tokensOf (lexFrom b 0))
+  -- its tokens, and then those of what goes on
+  pub piece-tokens : tokensOf (lexFrom (a ++ b) 0) ≡ ts ++ map (moved (length a)) (tokensOf (lexFrom b 0))
   unfolding mayFollow
   piece-tokens =
       ap tokensOf (x .joined b refl) ∙ tokens-after ts (movedAll (length a) (lexFrom b 0))
       ∙ ap (λ (us : List Lexeme). ts ++ us) (tokens-moved (length a) (lexFrom b 0))
 
-  piece-divides : Divides b → Divides (a ++ b)
+  -- both divide wholly if what goes on does
+  pub piece-divides : Divides b → Divides (a ++ b)
   unfolding mayFollow
   piece-divides d = subst Wholly (sym (x .joined b refl)) (divides-after ts (movedAll (length a) (lexFrom b 0)) (divides-moved (length a) (lexFrom b 0) d))
 
@@ -70,7 +73,8 @@ unfolding lexFrom lexN stepAt skip skipN tokenAt
 empty = refl
 
 module _ {a : List ℕ} {ts : List Lexeme} (x : Piece false a ts) where
-  all-tokens : tokensOf (lexFrom a 0) ≡ ts
+  -- where nothing goes on, its tokens are all
+  pub all-tokens : tokensOf (lexFrom a 0) ≡ ts
   unfolding tokensOf
   all-tokens =
       ap (λ (u : List ℕ). tokensOf (lexFrom u 0)) (sym (append-nil a)) ∙ piece-tokens x []
