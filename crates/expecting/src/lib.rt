@@ -21,7 +21,7 @@ pub const END: usize = 28;
 fn is_refused(text: &[u8], place: usize) -> bool
     ensures { λ r. ⌜ (r ≡ true) ↔ Answers (now (text .entry)) (NotAdmitted place) ⌝ }
 {
-    match grammar::stage(text) {
+    match walk::stage(text) {
         Answer::Passes => false,
         Answer::NoToken(_) => false,
         Answer::NotAdmitted(p) => p == place,
@@ -33,7 +33,7 @@ fn is_refused(text: &[u8], place: usize) -> bool
 fn passes(text: &[u8]) -> bool
     ensures { λ r. ⌜ (r ≡ true) ↔ Answers (now (text .entry)) Passes ⌝ }
 {
-    match grammar::stage(text) {
+    match walk::stage(text) {
         Answer::Passes => true,
         Answer::NoToken(_) => false,
         Answer::NotAdmitted(_) => false,
@@ -45,7 +45,7 @@ fn passes(text: &[u8]) -> bool
 fn admitted(text: &[u8], place: usize) -> bool
     ensures { λ r. ⌜ AdmitsLast (now (text .entry)) place r ⌝ }
 {
-    match grammar::stage(text) {
+    match walk::stage(text) {
         Answer::Passes => true,
         Answer::NoToken(_) => false,
         Answer::NotAdmitted(p) => p != place,

@@ -8,7 +8,7 @@ use grammar::Answer;
 pub extern "C" fn kaukslini_stage_number(text: &[u8]) -> u8
     ensures { λ r. ⌜ Numbered (now (text .entry)) r ⌝ }
 {
-    match grammar::stage(text) {
+    match walk::stage(text) {
         Answer::Passes => 0,
         Answer::NoToken(_) => 3,
         Answer::NotAdmitted(_) => 4,
@@ -21,7 +21,7 @@ pub extern "C" fn kaukslini_stage_number(text: &[u8]) -> u8
 pub extern "C" fn kaukslini_stage_place(text: &[u8]) -> usize
     ensures { λ r. ⌜ Placed (now (text .entry)) r ⌝ }
 {
-    match grammar::stage(text) {
+    match walk::stage(text) {
         Answer::Passes => 0,
         Answer::NoToken(p) => p,
         Answer::NotAdmitted(p) => p,

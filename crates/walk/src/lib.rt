@@ -2,9 +2,12 @@
 ghost use mathlib.Core.Path.{_≡_};
 ghost use lib.ListN.{replicate};
 ghost use Rattle.grammar.specs.Grammar.{_▸_, ∎, version, application};
+ghost use Rattle.grammar.specs.Stage.{Answers};
+ghost use Rattle.grammar.specs.Demand.{Demand-3};
 ghost use Rattle.filling.specs.Fills.{Fills, Walks};
 ghost use Rattle.object_parts.specs.Rows.{FillAll};
 ghost use Rattle.walk.specs.Whole.{Stands, ApplicationRows, Whole};
+use grammar::Answer;
 use grammar::Look;
 use grammar::lookahead;
 use grammar::lookahead::CPU;
@@ -119,4 +122,17 @@ pub fn walk(
         again: i.again,
         counts: counts,
     }
+}
+
+// The grammar stage: refusals 3 to 5, for any bytes. It is the walk, whose rows are not kept.
+pub fn stage(text: &[u8]) -> Answer
+    ensures answers { λ r. ⌜ Answers (now (text .entry)) r ⌝ }
+    ensures demand_3 { λ r. ⌜ Demand-3 (now (text .entry)) r ⌝ }
+{
+    let mut d = [0; 1];
+    let mut e = [0; 1];
+    let mut p = [0; 1];
+    let mut s = [0; 1];
+    let w = walk(text, &mut d, &mut e, &mut p, &mut s);
+    grammar::answer_of(w.look)
 }

@@ -7,7 +7,7 @@ use Rattle.expecting.proofs.is_refused.Statement.{statement}
 use Rattle.expecting.proofs.is_refused.Tie as tie
 use Rattle.expecting.proofs.is_refused.Reads as reads
 use Rattle.expecting.proofs.is_refused.Lts as lts
-use Rattle.grammar.proofs.stage.Reads as stage-reads
+use Rattle.walk.proofs.stage.Reads as stage-reads
 
 stage-requires : tie.Need-stage-requires
 stage-requires c κs = search needs

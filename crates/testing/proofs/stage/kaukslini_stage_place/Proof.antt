@@ -5,7 +5,7 @@ use Rattle.testing.proofs.stage.kaukslini_stage_place.Statement.{statem
 use Rattle.testing.proofs.stage.kaukslini_stage_place.Tie as tie
 use Rattle.testing.proofs.stage.kaukslini_stage_place.Reads as reads
 use Rattle.testing.proofs.stage.kaukslini_stage_place.Lts as lts
-use Rattle.grammar.proofs.stage.Reads as stage-reads
+use Rattle.walk.proofs.stage.Reads as stage-reads
 
 stage-requires : tie.Need-stage-requires
 stage-requires c κs = search needs
