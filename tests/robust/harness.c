@@ -1,6 +1,7 @@
-// The calls kaukslini_read, kaukslini_write, kaukslini_heading, kaukslini_check_masks, kaukslini_plan_masks, kaukslini_compare,
-// kaukslini_check_standard, kaukslini_expected, kaukslini_expand, kaukslini_read_texts and kaukslini_write_texts on each text of standard input,
-// in guarded memory, and checks of what is promised of the lent memory and of the answer, whatever the text is. docs/ROBUSTNESS.md says what is checked.
+// The calls kaukslini_read, kaukslini_write, kaukslini_heading_cells, kaukslini_check_masks, kaukslini_plan_masks, kaukslini_compare,
+// kaukslini_check_standard, kaukslini_expected, kaukslini_expand, kaukslini_read_texts, kaukslini_write_texts and those of kaukslini.h on each
+// text of standard input, in guarded memory, and checks of what is promised of the lent memory and of the answer, whatever the text is.
+// docs/ROBUSTNESS.md says what is checked.
 //
 //   harness [FOLDER]      the texts of standard input, as robust_texts writes them; a text that fails is saved in FOLDER
 //   harness --self-test   faults are planted around the calls; each must be reported
@@ -8,6 +9,7 @@
 // Compiled with -DMEMCHECK it is to be run under valgrind, without it with -fsanitize=address,undefined.
 
 #define _GNU_SOURCE
+#include "../../include/kaukslini.h"
 #include <errno.h>
 #include <inttypes.h>
 #include <signal.h>
@@ -39,7 +41,7 @@ uint8_t kaukslini_write(const uint8_t *text, size_t text_length, size_t *definit
                         size_t enumerators_length, size_t *objects, size_t objects_length, size_t *values, size_t values_length,
                         uint8_t *output, size_t output_length, size_t *told, size_t told_length);
 
-uint8_t kaukslini_heading(const uint8_t *text, size_t text_length, size_t *told, size_t told_length);
+uint8_t kaukslini_heading_cells(const uint8_t *text, size_t text_length, size_t *told, size_t told_length);
 
 uint8_t kaukslini_check_masks(const uint8_t *text, size_t text_length, const uint64_t *masks, size_t masks_length, size_t *told, size_t told_length);
 
@@ -493,6 +495,13 @@ enum fault {
     OTHER_LENGTH_OF_TEXTS,
     READS_BESIDE_THE_BUFFER,
     DECIDES_BY_AN_ORIGIN,
+    VALUE_ON_REFUSAL_20,
+    VALUE_NOT_FOUND,
+    VALUE_PAST_THE_COPIED,
+    VALUE_READS_PAST_THE_PATH,
+    NORMAL_TEXT_WITH_A_PLACE,
+    HEADING_WITH_A_LONGER_NAME,
+    EXPLAINS_PAST_THE_LINES,
 };
 
 static enum fault planted = NO_FAULT;
@@ -503,6 +512,7 @@ static unsigned spoil_masks(uint64_t *list, size_t entries, size_t *cells, unsig
 static void spoil_compare(const uint8_t *other, size_t length, bool is_swapped, struct difference *records, size_t entries, struct compared *answer);
 static unsigned spoil_standard(size_t *cells, unsigned answer);
 static unsigned spoil_texts(bool is_write, size_t *place, unsigned number);
+static void spoil_alone(unsigned char *bytes, size_t length, struct kaukslini_answer *answer);
 
 // What the text's first reading answered, and what was written first: all other calls must agree.
 static struct {
@@ -701,7 +711,7 @@ static bool try_heading(const char *name, size_t told_cells) {
     unsigned long errors = memcheck_errors();
     shut_for_call(&text, false);
     shut_for_call(&told, true);
-    unsigned number = kaukslini_heading(s.text, s.text_length, s.told, s.told_length);
+    unsigned number = kaukslini_heading_cells(s.text, s.text_length, s.told, s.told_length);
     if (planted != NO_FAULT)
         number = spoil_heading(&s, number);
     calls++;
@@ -1001,6 +1011,190 @@ static bool try_expected(void) {
     if (is_expected && (first.number != 4 || flag == EXPECTED_FLAGS))
         return fail("flag %zu is set at %zu, and the text's number is %u", flag, place, first.number);
     return is_expected == is_again || fail("flag %zu at %zu is another the second time", flag, place);
+}
+
+// ---- The calls of kaukslini.h ----
+
+// Whether a refusal is that of the first reading: 30 for 2, and one of 27 to 29 for 3 at a `#`.
+static bool is_refused_alone(const struct kaukslini_answer *answer) {
+    if (first.number == TEXT_TOO_LONG)
+        return answer->number == KAUKSLINI_LONG_TEXT && answer->place == 0;
+    if (answer->place != first.told[0])
+        return false;
+    if (first.number == KAUKSLINI_NO_TOKEN && now.bytes[answer->place] == '#')
+        return answer->number >= KAUKSLINI_OPEN_TEXT && answer->number <= KAUKSLINI_NO_INCLUDE;
+    return answer->number == first.number;
+}
+
+// A part of the text.
+struct piece {
+    size_t place, length;
+};
+
+static size_t cell_at(int table, size_t row, size_t column) {
+    size_t cell;
+    memcpy(&cell, first.rows[table] + (row * WIDTHS[table] + column) * CELL, CELL);
+    return cell;
+}
+
+static struct piece piece_at(int table, size_t row, size_t column) {
+    struct piece piece = {cell_at(table, row, column), cell_at(table, row, column + 1)};
+    return piece;
+}
+
+// The path of a value's row, each list's name with its entry; the row of its object.
+static size_t path_of(size_t row, unsigned char *path, size_t *length) {
+    size_t owner = cell_at(VALUES, row, 2), definition = cell_at(VALUES, row, 0), entry = 0;
+    if (cell_at(VALUES, row, 1) == 1) {
+        owner = path_of(owner, path, length);
+        path[(*length)++] = '.';
+    }
+    struct piece name = piece_at(DEFINITIONS, definition, 2);
+    memcpy(path + *length, now.bytes + name.place, name.length);
+    *length += name.length;
+    for (size_t i = 0; i < row; i++)
+        entry += cell_at(VALUES, i, 0) == definition && cell_at(VALUES, i, 1) == cell_at(VALUES, row, 1) && cell_at(VALUES, i, 2) == cell_at(VALUES, row, 2);
+    if (cell_at(DEFINITIONS, definition, 6) == 1)
+        *length += (size_t)sprintf((char *)path + *length, "[%zu]", entry);
+    return owner;
+}
+
+// A value asked for with an output of so many bytes.
+static bool call_value(const char *name, struct piece kind, struct piece object, size_t bytes, struct kaukslini_answer *answer) {
+    now.call = name;
+    output = &usual_output;
+    lend(output, now.side, bytes);
+    fill(output);
+    unsigned long errors = memcheck_errors();
+    shut_for_call(&text, false);
+    shut_for_call(&second, false);
+    shut_for_call(output, true);
+    *answer = kaukslini_value(lent(&text), text.length, lent(&text) + kind.place, kind.length, lent(&text) + object.place, object.length, lent(&second),
+                              second.length, lent(output), bytes);
+    if (planted != NO_FAULT)
+        spoil_alone(lent(output), bytes, answer);
+    calls++;
+    if (answer->length > bytes)
+        return fail("a value of %zu bytes is copied into %zu", answer->length, bytes);
+    if (!is_set(output, answer->length))
+        return fail("memory that the call is to set is not set");
+    if (memcheck_errors() != errors)
+        return fail("valgrind reports %lu errors", memcheck_errors() - errors);
+    if (answer->number != KAUKSLINI_DONE && answer->length != 0)
+        return fail("%zu bytes are told with the number %zu", answer->length, answer->number);
+    return output_holds(answer->length);
+}
+
+// The same, and whether the number is this one.
+static bool try_value(const char *name, struct piece kind, struct piece object, size_t bytes, size_t number, struct kaukslini_answer *answer) {
+    if (!call_value(name, kind, object, bytes, answer))
+        return false;
+    return answer->number == number || fail("the value's number is %zu for %zu", answer->number, number);
+}
+
+// A value of an accepted text by its path, with outputs that are long enough, just so and too short; and what is not there. Of a refused
+// text its refusal.
+static bool try_values(void) {
+    static unsigned char path[1 << 17];
+    const struct piece none = {0, 0};
+    struct kaukslini_answer answer;
+    size_t length = 0;
+    lend(&second, now.side, 0);
+    if (!call_value("value, no question", none, none, USUAL_OUTPUT, &answer))
+        return false;
+    if (first.number != 0)
+        return is_refused_alone(&answer) || fail("the value is refused with %zu at %zu, and the text with %u at %zu", answer.number, answer.place, first.number, first.told[0]);
+    if (answer.number != KAUKSLINI_NOT_FOUND)
+        return fail("the value's number is %zu for no question", answer.number);
+    size_t values = first.told[4];
+    if (values == 0)
+        return true;
+    size_t row = now.index % values, object = path_of(row, path, &length);
+    lend(&second, now.side, length);
+    memcpy(second.own + second.start, path, length);
+    struct piece kind = piece_at(OBJECTS, object, 1), name = piece_at(OBJECTS, object, 3), word = piece_at(VALUES, row, 7);
+    if (!try_value("value", kind, name, USUAL_OUTPUT, KAUKSLINI_DONE, &answer))
+        return false;
+    if (answer.length == 0)
+        return fail("an empty value is copied");
+    if (cell_at(VALUES, row, 3) != 0 && (answer.length != word.length || memcmp(here(output), now.bytes + word.place, word.length) != 0))
+        return fail("the value of row %zu is not its word", row);
+    size_t copied = answer.length;
+    return try_value("value, an output of the exact length", kind, name, copied, KAUKSLINI_DONE, &answer) &&
+           try_value("value, an output one byte too short", kind, name, copied - 1, KAUKSLINI_SHORT_OUTPUT, &answer) &&
+           try_value("value, of no kind", none, name, USUAL_OUTPUT, KAUKSLINI_NOT_FOUND, &answer);
+}
+
+// The normal text by the call of kaukslini.h, where `write` wrote it or the text was refused.
+static bool try_normal_text(void) {
+    now.call = "normal text";
+    size_t bytes = first.number == 0 ? first.length : 64;
+    output = bytes <= OUTPUT_SIZE ? &usual_output : &long_output;
+    lend(output, now.side, bytes);
+    fill(output);
+    unsigned long errors = memcheck_errors();
+    shut_for_call(&text, false);
+    shut_for_call(output, true);
+    struct kaukslini_answer answer = kaukslini_normal_text(lent(&text), text.length, lent(output), bytes);
+    if (planted == NORMAL_TEXT_WITH_A_PLACE)
+        answer.place++;
+    calls++;
+    if (memcheck_errors() != errors)
+        return fail("valgrind reports %lu errors", memcheck_errors() - errors);
+    if (first.number != 0) {
+        if (!is_refused_alone(&answer) || answer.length != 0)
+            return fail("the normal text is refused with %zu at %zu, and the text with %u at %zu", answer.number, answer.place, first.number, first.told[0]);
+        return output_holds(0);
+    }
+    if (answer.number != KAUKSLINI_DONE || answer.place != 0 || answer.length != bytes || memcmp(here(output), first.written, bytes) != 0)
+        return fail("the normal text is not what was written: %zu at %zu, %zu bytes", answer.number, answer.place, answer.length);
+    return output_holds(bytes);
+}
+
+// The heading by the call of kaukslini.h: as it was told before.
+static bool try_heading_alone(void) {
+    now.call = "heading of the text alone";
+    unsigned long errors = memcheck_errors();
+    shut_for_call(&text, false);
+    struct kaukslini_version_and_name found = kaukslini_heading(lent(&text), text.length);
+    if (planted == HEADING_WITH_A_LONGER_NAME)
+        found.name_length++;
+    calls++;
+    if (memcheck_errors() != errors)
+        return fail("valgrind reports %lu errors", memcheck_errors() - errors);
+    struct kaukslini_answer answer = {found.number, found.place, 0};
+    size_t parts[TOLD_BY_HEADING] = {found.version, found.version_length, found.name, found.name_length};
+    if (first.heading_number == 0)
+        return (found.number == KAUKSLINI_DONE && found.place == 0 && memcmp(parts, first.heading, sizeof parts) == 0) ||
+               fail("the heading of the text alone is not that of the text");
+    if (parts[0] != 0 || parts[1] != 0 || parts[2] != 0 || parts[3] != 0)
+        return fail("a refused heading is told");
+    return is_refused_alone(&answer) ||
+           fail("the heading is refused with %zu at %zu, and the text with %u at %zu", answer.number, answer.place, first.number, first.told[0]);
+}
+
+// A place explained, of the refusal or of any other, with an output that may be too short.
+static bool try_explain(void) {
+    now.call = "explain";
+    size_t bytes = KAUKSLINI_PICTURE + 1 - now.index % (KAUKSLINI_PICTURE + 2), place = first.number == 0 ? now.index : first.told[0];
+    output = &usual_output;
+    lend(output, now.side, bytes);
+    fill(output);
+    unsigned long errors = memcheck_errors();
+    shut_for_call(&text, false);
+    shut_for_call(output, true);
+    struct kaukslini_position found = kaukslini_explain(lent(&text), text.length, place, lent(output), bytes);
+    size_t set = least(found.length, bytes);
+    if (planted == EXPLAINS_PAST_THE_LINES && set < bytes)
+        lent(output)[set] ^= 1;
+    calls++;
+    if (!is_set(output, set))
+        return fail("memory that the call is to set is not set");
+    if (memcheck_errors() != errors)
+        return fail("valgrind reports %lu errors", memcheck_errors() - errors);
+    if (found.line == 0 || found.column == 0 || found.line + found.column > least(place, text.length) + 2 || found.length < 3 || found.length > KAUKSLINI_PICTURE)
+        return fail("place %zu is said to be in line %zu, column %zu, in %zu bytes", place, found.line, found.column, found.length);
+    return output_holds(set);
 }
 
 static bool keep_written(void) {
@@ -1389,7 +1583,7 @@ static bool try_side(enum side side, bool longer) {
         return false;
     if (!try_heading("heading", TOLD_BY_HEADING + 1) || !try_heading("heading again", now.index % MOST_TOLD))
         return false;
-    if (!try_masks() || !try_compare() || !try_standards() || !try_expected())
+    if (!try_masks() || !try_compare() || !try_standards() || !try_expected() || !try_values() || !try_heading_alone() || !try_explain())
         return false;
 
     unsigned number;
@@ -1414,7 +1608,7 @@ static bool try_side(enum side side, bool longer) {
         if (!try_compare_normal())
             return false;
     }
-    return try_write("write, an empty output", 0, TOLD_BY_WRITE, &number) && try_texts();
+    return try_write("write, an empty output", 0, TOLD_BY_WRITE, &number) && try_normal_text() && try_texts();
 }
 
 // The calls on one text end within so many seconds of the processor's time.
@@ -1808,6 +2002,14 @@ static NOT_INSTRUMENTED unsigned spoil(const struct slices *s, bool is_write, un
     case READS_BESIDE_THE_BUFFER:
     case DECIDES_BY_AN_ORIGIN:
         break; // of lent texts
+    case VALUE_ON_REFUSAL_20:
+    case VALUE_NOT_FOUND:
+    case VALUE_PAST_THE_COPIED:
+    case VALUE_READS_PAST_THE_PATH:
+    case NORMAL_TEXT_WITH_A_PLACE:
+    case HEADING_WITH_A_LONGER_NAME:
+    case EXPLAINS_PAST_THE_LINES:
+        break; // of the calls of kaukslini.h
     }
     return number;
 }
@@ -2011,6 +2213,35 @@ static NOT_INSTRUMENTED unsigned spoil_texts(bool is_write, size_t *place, unsig
     return number;
 }
 
+// The same of `kaukslini_value`.
+static NOT_INSTRUMENTED void spoil_alone(unsigned char *bytes, size_t length, struct kaukslini_answer *answer) {
+    static volatile size_t read = 0;
+    volatile const unsigned char *path = lent(&second);
+
+    switch (planted) {
+    case VALUE_ON_REFUSAL_20:
+        if (answer->number == KAUKSLINI_SHORT_OUTPUT && length > 0)
+            bytes[0] ^= 1;
+        break;
+    case VALUE_NOT_FOUND:
+        if (answer->number == KAUKSLINI_DONE) {
+            answer->number = KAUKSLINI_NOT_FOUND;
+            answer->length = 0;
+        }
+        break;
+    case VALUE_PAST_THE_COPIED:
+        if (answer->number == KAUKSLINI_DONE && answer->length < length)
+            bytes[answer->length] ^= 1;
+        break;
+    case VALUE_READS_PAST_THE_PATH:
+        if (now.side == ENDS_AT_GUARD)
+            read += path[second.length];
+        break;
+    default:
+        break;
+    }
+}
+
 // Each fault, a part of what is to be reported, and whether it takes valgrind to see it.
 static const struct {
     const char *name, *reported;
@@ -2100,6 +2331,13 @@ static const struct {
     [OTHER_LENGTH_OF_TEXTS] = {"another length of the normal text is told", "bytes for", false},
     [READS_BESIDE_THE_BUFFER] = {"a byte after the buffer is read", "valgrind reports 1 errors", true},
     [DECIDES_BY_AN_ORIGIN] = {"an origin that was not set decides", "valgrind reports 1 errors", true},
+    [VALUE_ON_REFUSAL_20] = {"refusal 20 of a value changes the output", "past the 0 written ones is changed", false},
+    [VALUE_NOT_FOUND] = {"a value that is there is not found", "past the 0 written ones is changed", false},
+    [VALUE_PAST_THE_COPIED] = {"a byte past a value is changed", "written ones is changed", false},
+    [VALUE_READS_PAST_THE_PATH] = {"the byte past the path is read", "an access past the lent memory: second text", false},
+    [NORMAL_TEXT_WITH_A_PLACE] = {"normal text is told a place", "the normal text is not what was written", false},
+    [HEADING_WITH_A_LONGER_NAME] = {"a longer name is told by kaukslini_heading", "the heading of the text alone is not that of the text", false},
+    [EXPLAINS_PAST_THE_LINES] = {"a byte past the two lines is changed", "written ones is changed", false},
 };
 
 enum { FAULT_COUNT = sizeof FAULTS / sizeof *FAULTS };

@@ -14,6 +14,7 @@ pub fn is_linked(layer: &str) -> bool {
         "masks" => cfg!(proved_masks),
         "releases" => cfg!(proved_releases),
         "standard" => cfg!(proved_standard),
+        "exporting" => cfg!(proved_exporting),
         "including" => cfg!(proved_including),
         "questions" => cfg!(proved_questions),
         "expecting" => cfg!(proved_expecting),
@@ -244,7 +245,7 @@ pub mod writing {
 #[cfg(proved_heading)]
 pub mod heading {
     extern "C" {
-        fn kaukslini_heading(
+        fn kaukslini_heading_cells(
             text: *const u8,
             text_length: usize,
             told: *mut usize,
@@ -255,7 +256,7 @@ pub mod heading {
     /// The number of the refusal of a text's heading, 0 where there is none; told in `told` are
     /// the refusal's place, or place and length of the version string and of the name.
     pub fn heading(text: &[u8], told: &mut [usize]) -> u8 {
-        unsafe { kaukslini_heading(text.as_ptr(), text.len(), told.as_mut_ptr(), told.len()) }
+        unsafe { kaukslini_heading_cells(text.as_ptr(), text.len(), told.as_mut_ptr(), told.len()) }
     }
 }
 
@@ -797,5 +798,85 @@ pub mod expecting {
     /// Whether a flag is set at a place of a text.
     pub fn expected(text: &[u8], place: usize, flag: usize) -> bool {
         unsafe { kaukslini_expected(text.as_ptr(), text.len(), place, flag) }
+    }
+}
+
+/// The calls of include/kaukslini.h.
+#[cfg(proved_exporting)]
+pub mod exporting {
+    use crate::exporting::{Answer, Heading, Position};
+    use crate::values::Question;
+
+    extern "C" {
+        fn kaukslini_normal_text(
+            text: *const u8,
+            text_length: usize,
+            output: *mut u8,
+            output_length: usize,
+        ) -> Answer;
+        fn kaukslini_value(
+            text: *const u8,
+            text_length: usize,
+            kind: *const u8,
+            kind_length: usize,
+            name: *const u8,
+            name_length: usize,
+            path: *const u8,
+            path_length: usize,
+            output: *mut u8,
+            output_length: usize,
+        ) -> Answer;
+        fn kaukslini_heading(text: *const u8, text_length: usize) -> Heading;
+        fn kaukslini_explain(
+            text: *const u8,
+            text_length: usize,
+            place: usize,
+            output: *mut u8,
+            output_length: usize,
+        ) -> Position;
+    }
+
+    /// The version string and the implementation's name of a text.
+    pub fn heading(text: &[u8]) -> Heading {
+        unsafe { kaukslini_heading(text.as_ptr(), text.len()) }
+    }
+
+    /// Line and column of a place; the output is lent to the call.
+    pub fn explain(text: &[u8], place: usize, output: &mut [u8]) -> Position {
+        unsafe {
+            kaukslini_explain(
+                text.as_ptr(),
+                text.len(),
+                place,
+                output.as_mut_ptr(),
+                output.len(),
+            )
+        }
+    }
+
+    /// The normal text of a text; the output is lent to the call.
+    pub fn normal_text(text: &[u8], output: &mut [u8]) -> Answer {
+        unsafe {
+            kaukslini_normal_text(text.as_ptr(), text.len(), output.as_mut_ptr(), output.len())
+        }
+    }
+
+    /// The value of one attribute; the output is lent to the call.
+    pub fn value(text: &[u8], question: &Question, output: &mut [u8]) -> Answer {
+        let Question { kind, name, path } = question;
+        unsafe {
+            kaukslini_value(
+                text.as_ptr(),
+                text.len(),
+                kind.as_ptr(),
+                kind.len(),
+                name.as_ptr(),
+                name.len(),
+                path.as_ptr(),
+                path.len(),
+                output.as_mut_ptr(),
+                output.len(),
+            )
+        }
     }
 }

@@ -17,6 +17,7 @@ const CASES: &[(&str, usize)] = &[
     ("q08", 84),
     ("q09", 127),
     ("q10", 273),
+    ("q13", 92),
 ];
 
 /// The texts of document 01, from corpus/, where the program `vectors` finds them.

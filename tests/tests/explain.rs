@@ -1,9 +1,10 @@
 //! The program `oil_explain` against an implementation of its own: the answer is the
-//! reference's, the line, the column and the mark are worked out here.
+//! reference's, and so are the line, the column and the mark.
 
 use std::io::Write;
 use std::path::Path;
 use std::process::{Command, Stdio};
+use tests::explaining::explained;
 use tests::including::{self, Refused};
 use tests::random::Random;
 use tests::sorts::PLANTED;
@@ -135,39 +136,6 @@ fn unexpected(text: &[u8], place: usize) -> String {
     format!("{}; {told}", found(text, place))
 }
 
-/// The most bytes of a line that are shown, and those before the place where more follow.
-const SHOWN: usize = 72;
-const BEFORE: usize = 36;
-
-/// The two lines that show a column, counted from 0, of a line.
-fn picture(line: &[u8], column: usize) -> Vec<u8> {
-    let mut over = Vec::new();
-    let mut under = Vec::new();
-    let first = column
-        .saturating_sub(BEFORE)
-        .min(line.len().saturating_sub(SHOWN));
-    let last = line.len().min(first + SHOWN);
-    if first > 0 {
-        over.extend(b"...");
-        under.extend(b"   ");
-    }
-    for (at, &byte) in line.iter().enumerate().take(last).skip(first) {
-        let shown = match byte {
-            b'\t' | b' '..=b'~' => byte,
-            _ => b'?',
-        };
-        over.push(shown);
-        if at < column {
-            under.push(if byte == b'\t' { b'\t' } else { b' ' });
-        }
-    }
-    if last < line.len() {
-        over.extend(b"...");
-    }
-    under.push(b'^');
-    [over, under].join(&b'\n')
-}
-
 /// The refusal of a text where no file can be opened.
 fn refusal(text: &[u8]) -> Option<Refused> {
     including::read(&including::alone(text)).err()
@@ -188,24 +156,9 @@ fn expected(text: &[u8]) -> Vec<u8> {
     if [1, 19, 20, 30].contains(&number) {
         return refusal.into_bytes();
     }
-    // The line of the place is that of the last LF before it; all lines but the last may
-    // end in CR, which belongs to the line's end.
-    let lines: Vec<&[u8]> = text.split(|&byte| byte == b'\n').collect();
-    let mut start = 0;
-    let mut number_of_line = 0;
-    while place > start + lines[number_of_line].len() {
-        start += lines[number_of_line].len() + 1;
-        number_of_line += 1;
-    }
-    let mut line = lines[number_of_line];
-    if number_of_line + 1 < lines.len() {
-        line = line.strip_suffix(b"\r").unwrap_or(line);
-    }
-    let (row, column) = (number_of_line + 1, place - start + 1);
-    let mut whole = format!("-: line {row}, column {column}: {refusal}").into_bytes();
-    whole.extend(picture(line, place - start));
-    whole.push(b'\n');
-    whole
+    let shown = explained(text, place);
+    let front = format!("-: line {}, column {}: ", shown.line, shown.column);
+    [front.as_bytes(), refusal.as_bytes(), &shown.picture].concat()
 }
 
 /// Holds the program to `expected`; gives the refusal's number, or 0.

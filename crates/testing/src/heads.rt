@@ -8,7 +8,7 @@ use rows::cells;
 // The version string and the implementation's name of a text. The number of the refusal, 0 where there is none; place and length of both, or the
 // refusal's place, are told in cells.
 #[no_mangle]
-pub extern "C" fn kaukslini_heading(text: &[u8], told: &mut [usize]) -> u8
+pub extern "C" fn kaukslini_heading_cells(text: &[u8], told: &mut [usize]) -> u8
     ensures { λ r. ⌜ HeadsTold (now (text .entry)) (now (told .entry)) (now (told .exit)) r ⌝ }
 {
     match heading::heading(text) {

@@ -121,13 +121,13 @@ laid-under {s} {d} {v} {n} {k} {o} {t} {us} {rest} a =
 
 -- The first row ----------------------------------------------------------------------------------------------------------------------------
 
-flag-one : (b : Bool) → eqb (bit b) 1 ≡ b
+pub flag-one : (b : Bool) → eqb (bit b) 1 ≡ b
 unfolding bit
 flag-one true = refl
 flag-one false = refl
 
 -- A value by its cells.
-shown : (s : List ℕ) (x : Value) (t : Word) → WordIn s t
+pub shown : (s : List ℕ) (x : Value) (t : Word) → WordIn s t
     → pick (eqb (value-sort x) 0) (decimal (record { negative = eqb (bit (value-negative x)) 1; amount = value-amount x })) (partOf s (t .place) (t .length)) ≡ written x t
 unfolding value-sort value-negative value-amount written
 shown s (number n) t h = ap (λ (b : Bool). decimal (record { negative = b; amount = n .amount })) (flag-one (n .negative))

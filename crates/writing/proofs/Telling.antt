@@ -6,6 +6,8 @@ use mathlib.Core.Option.{Option, none, some}
 use Prim.Native.Nat.{ℕ, suc, _+_, _*_}
 use native.Mathlib.Omega.{arith}
 use lib.ListN.{length}
+use Rattle.token.specs.Find.{bit}
+use Rattle.rows.specs.Table.{cellOf}
 use Rattle.rows.specs.Search.{rowName}
 use Rattle.token.specs.Tokens.{partOf}
 use Rattle.meaning.specs.Syntax.{Word, span-of, Definition, Definitions, no-more, define, Values, no-value, value, Defined, Statements, done, state, Object, File}
@@ -39,11 +41,16 @@ nth-row {d} {n} k (y ∷ front) x rest a =
     subst (λ (i : ℕ). From 13 definition-cells d n i (definition-row (x .under) (x .definition) ∷ entry-rows rest)) e
     (nth-row (k + 1) front x rest (from-append 13 definition-cells definition-width (_ ∷ []) (entry-rows (front ++ (x ∷ rest))) refl a))
 
+-- The name and the list mark of a definition are in the row of its number.
+record Shown (s d : List ℕ) (x : Definition) : Type 0 where
+  name : rowName s d 13 2 (x .row) ≡ x .name .bytes
+  list : cellOf d 13 (x .row) 6 ≡ bit (x .list)
+
 module _ {s d : List ℕ} {f : File} (t : Situation s f) (h : d ≡ definition-room (all-definition-rows (f .specs))) where
-  -- The name of a definition of a scope.
-  name-told : {u : Word} {ds : Definitions} {x : Defined} → Stands (f .specs) u ds → HasDefinition ds x → rowName s d 13 2 (x .definition .row) ≡ x .definition .name .bytes
+  -- The name and the list mark of a definition of a scope.
+  definition-told : {u : Word} {ds : Definitions} {x : Defined} → Stands (f .specs) u ds → HasDefinition ds x → Shown s d (x .definition)
   unfolding rowName definition-room definition-cells definition-row span-of
-  name-told {u} {ds} {x} p q =
+  definition-told {u} {ds} {x} p q =
       let r = row-of-definition t p q in
       let rows = all-definition-rows (f .specs) in
       let w = words-definition q (file-stands t p .1) .1 .0 in
@@ -53,13 +60,16 @@ module _ {s d : List ℕ} {f : File} (t : Situation s f) (h : d ≡ definition-r
       let m = r .nth .place in
       let e : 0 + length (r .nth .front) ≡ x .definition .row = omega (arith, m) in
       let g = subst (λ (i : ℕ). From 13 definition-cells d (length rows) i (definition-row (r .under) (x .definition) ∷ entry-rows (r .nth .rest))) e c in
-      ap₂ (partOf s) (from-cell 13 definition-cells definition-width (definition-row (r .under) (x .definition)) (entry-rows (r .nth .rest)) 2 (omega arith) g)
-      (from-cell 13 definition-cells definition-width (definition-row (r .under) (x .definition)) (entry-rows (r .nth .rest)) 3 (omega arith) g)
-      ∙ sym (w .bytes)
+      record {
+        name = ap₂ (partOf s) (from-cell 13 definition-cells definition-width (definition-row (r .under) (x .definition)) (entry-rows (r .nth .rest)) 2 (omega arith) g)
+            (from-cell 13 definition-cells definition-width (definition-row (r .under) (x .definition)) (entry-rows (r .nth .rest)) 3 (omega arith) g)
+            ∙ sym (w .bytes);
+        list = from-cell 13 definition-cells definition-width (definition-row (r .under) (x .definition)) (entry-rows (r .nth .rest)) 6 (omega arith) g;
+      }
 
 -- Entries ----------------------------------------------------------------------------------------------------------------------------------
 
-module _ {s d : List ℕ} (os : List Object) (x : Definition) (vs : Values) (e : rowName s d 13 2 (x .row) ≡ x .name .bytes) (inner : Word → Statements → Resolved)
+module _ {s d : List ℕ} (os : List Object) (x : Definition) (vs : Values) (e : Shown s d x) (inner : Word → Statements → Resolved)
     (i : (t : Word) (us : Statements) → StatementsIn s us → AllTold s d (inner t us)) {rest : Resolved} (r : AllTold s d rest) where
   entries-told : (ss : Statements) → StatementsIn s ss → AllTold s d (entries ss os x vs inner rest)
   unfolding entries choose take-value
@@ -68,7 +78,7 @@ module _ {s d : List ℕ} (os : List Object) (x : Definition) (vs : Values) (e :
     where
       go : (c : Bool) → AllTold s d (entries more os x vs inner rest)
           → AllTold s d (choose c (λ _. resolved (take-value true os x vs (y .value)) (inner (y .value) inside) (entries more os x vs inner rest)) (λ _. entries more os x vs inner rest))
-      go true a = more-told (record { name = e; word = w }) (i (y .value) inside j) a
+      go true a = more-told (record { name = e .name; list = e .list; word = w }) (i (y .value) inside j) a
       go false a = a
 
   default-told : (o : Option Word) → AllIn s (option-words o) → AllTold s d (default-entry (taken o) os x vs inner rest)
@@ -78,7 +88,7 @@ module _ {s d : List ℕ} (os : List Object) (x : Definition) (vs : Values) (e :
     where
       go : (b : Bool) → AllTold s d (default-entry (taken-by b t) os x vs inner rest)
       go true = r
-      go false = more-told (record { name = e; word = h .0 }) (i t done none-in) r
+      go false = more-told (record { name = e .name; list = e .list; word = h .0 }) (i t done none-in) r
 
 -- Scopes -----------------------------------------------------------------------------------------------------------------------------------
 
@@ -91,7 +101,7 @@ module _ {s d : List ℕ} {f : File} (t : Situation s f) (h : d ≡ definition-r
     resolve-told no-more p i ss w = end-told
     resolve-told (define x vs ds) p i ss w =
         let q = i (record { definition = x; values = vs }) this-definition in
-        let e = name-told t h p q in
+        let e = definition-told t h p q in
         let rest = resolve-told ds p (λ y k. i y (later-definition k)) ss w in
         let inner : (z : Word) (us : Statements) → StatementsIn s us → AllTold s d (resolve-under vs os z us) = λ z us k. under-told vs p q (λ y j. j) z us k in
         either-told (among (x .name) (names ss))

@@ -4,6 +4,8 @@ use mathlib.Core.Path.{_≡_}
 use mathlib.Core.List.{List, [], _∷_, _++_}
 use Prim.Native.Nat.{ℕ, suc, _+_, _*_, _≤_, _<_, min}
 use lib.ListN.{length, drop, replicate}
+use Rattle.token.specs.Find.{bit}
+use Rattle.rows.specs.Table.{cellOf}
 use Rattle.rows.specs.Search.{rowName}
 use Rattle.meaning.specs.Syntax.{Object, File}
 use Rattle.meaning.specs.Defining.{all-definition-rows}
@@ -33,6 +35,7 @@ pub record From {R : Type 0} (w : ℕ) (f : R → List ℕ) (t : List ℕ) (n k 
 -- A value's definition is in its row of the table d, and the value's word is in the text.
 pub record Told (s d : List ℕ) (t : Taken) : Type 0 where
   pub name : rowName s d 13 2 (t .definition .row) ≡ t .definition .name .bytes
+  pub list : cellOf d 13 (t .definition .row) 6 ≡ bit (t .definition .list)
   pub word : WordIn s (t .word)
 
 -- So it is for all of these values.

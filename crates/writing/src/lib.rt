@@ -9,9 +9,9 @@ use reading::Spanned;
 use rows::cells;
 use rows::refusals;
 
-mod bytes;
+pub mod bytes;
 mod objects;
-mod values;
+pub mod values;
 
 // The row after those that were written, and the place after their lines.
 struct Spot {

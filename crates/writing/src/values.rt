@@ -19,7 +19,7 @@ fn put_name(text: &[u8], d: &[usize], j: usize, out: &mut [u8], at: usize) -> us
 }
 
 // The value of row k: a number in decimal, any other as its word stands.
-fn put_value(text: &[u8], v: &[usize], k: usize, out: &mut [u8], at: usize) -> usize
+pub fn put_value(text: &[u8], v: &[usize], k: usize, out: &mut [u8], at: usize) -> usize
     ensures { λ r. ⌜ Wrote (now (out .entry)) at (value-at (now (text .entry)) (now (v .entry)) k) (now (out .exit)) r ⌝ }
 {
     if cells::cell_of(v, 9, k, 3) == 0 {

@@ -141,7 +141,7 @@ const NORMAL: Job = Job {
 const HEADING: Job = Job {
     texts: tests::heading::heavy,
     what: ["heading-proved", "heading-reference"],
-    functions: ["kaukslini_heading", "tests::heading::heading*"],
+    functions: ["kaukslini_heading_cells", "tests::heading::heading*"],
     run: [heading_proved, heading_reference],
 };
 

@@ -1,9 +1,9 @@
 use Rattle.testing.proofs.TellingHeads.{tells-heading, tells-no-heading}
 use borrow.Author.Needs.{needs}
-use Rattle.testing.proofs.heads.kaukslini_heading.Statement.{statement}
-use Rattle.testing.proofs.heads.kaukslini_heading.Tie as tie
-use Rattle.testing.proofs.heads.kaukslini_heading.Reads as reads
-use Rattle.testing.proofs.heads.kaukslini_heading.Lts as lts
+use Rattle.testing.proofs.heads.kaukslini_heading_cells.Statement.{statement}
+use Rattle.testing.proofs.heads.kaukslini_heading_cells.Tie as tie
+use Rattle.testing.proofs.heads.kaukslini_heading_cells.Reads as reads
+use Rattle.testing.proofs.heads.kaukslini_heading_cells.Lts as lts
 use Rattle.heading.proofs.heading.Reads as heading-reads
 use Rattle.rows.proofs.cells.put_cells.Reads as put-cells-reads
 
@@ -40,8 +40,8 @@ same-length-2 c = search needs
 returns-2 : tie.Need-returns-2
 returns-2 c = tells-no-heading (c .before .before .before .before .before .before .before .before .heading .ensures .0) (c .before .before .before .before .before .before .n .given .1) (c .before .before .put-cells2 .ensures)
 
-pub kaukslini-heading-spec : {M : Type 1} → statement M
-kaukslini-heading-spec =
+pub kaukslini-heading-cells-spec : {M : Type 1} → statement M
+kaukslini-heading-cells-spec =
     tie.close
     (tie.spec
     heading-requires
