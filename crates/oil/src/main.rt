@@ -105,8 +105,12 @@ fn write_found(
     write(b"\n");
 }
 
-// The records of two accepted texts, which are expanded, with the rows that they name.
-fn write_records(first: &[u8], second: &[u8], found: Found) {
+// Compares lent texts. The lines are written from the expanded texts and the tables that they were read into.
+fn compare_texts(first: &[u8], lengths: &[usize], second: &[u8], lengths2: &[usize]) {
+    let mut expanded = [0; 65535];
+    let mut origins = [0; 65535];
+    let mut expanded2 = [0; 65535];
+    let mut origins2 = [0; 65535];
     let mut d = [0; 6656];
     let mut e = [0; 3072];
     let mut o = [0; 2048];
@@ -115,20 +119,7 @@ fn write_records(first: &[u8], second: &[u8], found: Found) {
     let mut e2 = [0; 3072];
     let mut o2 = [0; 2048];
     let mut v2 = [0; 18432];
-    reading::read(first, &mut d, &mut e, &mut o, &mut v);
-    reading::read(second, &mut d2, &mut e2, &mut o2, &mut v2);
-    write_found(first, &d, &o, &v, second, &d2, &o2, &v2, found);
-}
-
-// Compares lent texts. The expanded texts are those whose rows the records name.
-fn compare_expanded(first: &[u8], lengths: &[usize], second: &[u8], lengths2: &[usize]) {
-    let mut origins = [0; 65535];
-    let mut origins2 = [0; 65535];
-    let mut expanded = [0; 65535];
-    let mut expanded2 = [0; 65535];
-    let n = sources::expand(first, lengths, &mut expanded, &mut origins).length;
-    let n2 = sources::expand(second, lengths2, &mut expanded2, &mut origins2).length;
-    let found = releases_texts::listed(
+    let found = releases_texts::listed_into(
         first,
         lengths,
         second,
@@ -137,15 +128,29 @@ fn compare_expanded(first: &[u8], lengths: &[usize], second: &[u8], lengths2: &[
         &mut origins,
         &mut expanded2,
         &mut origins2,
+        &mut d,
+        &mut e,
+        &mut o,
+        &mut v,
+        &mut d2,
+        &mut e2,
+        &mut o2,
+        &mut v2,
     );
     let c = found.compared;
     if c.which != 0 {
         write_stopped(c);
         return;
     }
-    write_records(
-        token::part(&expanded, 0, n),
-        token::part(&expanded2, 0, n2),
+    write_found(
+        &expanded,
+        &d,
+        &o,
+        &v,
+        &expanded2,
+        &d2,
+        &o2,
+        &v2,
         found,
     );
 }
@@ -157,7 +162,7 @@ fn compare_files() {
     let mut second = [0; 557048];
     let mut lengths2 = [0; 16];
     let told2 = gather_named(2, &mut second, &mut lengths2);
-    compare_expanded(&first, &lengths[..told], &second, &lengths2[..told2]);
+    compare_texts(&first, &lengths[..told], &second, &lengths2[..told2]);
 }
 
 fn main() {

@@ -3,6 +3,7 @@
 ghost use mathlib.Core.Path.{_≡_};
 ghost use lib.Dec.{eqb};
 ghost use Rattle.token.specs.Find.{pick};
+ghost use Rattle.reading.specs.Decisions.{RoomSizes};
 ghost use Rattle.releases.specs.Promises.{Stopped};
 ghost use Rattle.releases_texts.specs.Comparing.{side-in, With, ListsExpanded, AnswersText, FirstOr, ListsTexts};
 use comparing::Compared;
@@ -71,7 +72,7 @@ fn stopped(which: usize, number: u8, place: usize) -> Found
     }
 }
 
-// The differences of two expanded texts, or a refusal with its place in the lent texts.
+// The differences of two expanded texts, which are read into tables of full room, or a refusal with its place in the lent texts.
 fn listed_expanded(
     first: &[u8],
     origins: &[usize],
@@ -79,16 +80,25 @@ fn listed_expanded(
     second: &[u8],
     second_origins: &[usize],
     e2: Expanded,
+    d: &mut [usize],
+    c: &mut [usize],
+    o: &mut [usize],
+    v: &mut [usize],
+    d2: &mut [usize],
+    c2: &mut [usize],
+    o2: &mut [usize],
+    v2: &mut [usize],
 ) -> Found
+    requires { ⌜ RoomSizes (now d) (now c) (now o) (now v) × RoomSizes (now d2) (now c2) (now o2) (now v2) ⌝ }
     ensures { λ r. ⌜ ListsExpanded (now (first .entry)) (now (origins .entry)) e (now (second .entry)) (now («second_origins» .entry)) e2 r ⌝ }
 {
-    let found = releases::listed(first, second);
-    let c = found.compared;
-    if c.which == 1 {
-        return with(found, side(origins, e, c));
+    let found = releases::listed_into(first, second, d, c, o, v, d2, c2, o2, v2);
+    let told = found.compared;
+    if told.which == 1 {
+        return with(found, side(origins, e, told));
     }
-    if c.which == 2 {
-        return with(found, side(second_origins, e2, c));
+    if told.which == 2 {
+        return with(found, side(second_origins, e2, told));
     }
     found
 }
@@ -125,6 +135,57 @@ fn first_or(text: &[u8], origins: &[usize], e: Expanded, number: u8) -> Found
     }
 }
 
+// The differences of two releases, each of them lent texts, as `listed` tells them; each side's expanded text is read into the side's tables, which
+// have full room.
+pub fn listed_into(
+    first: &[u8],
+    first_lengths: &[usize],
+    second: &[u8],
+    second_lengths: &[usize],
+    expanded: &mut [u8],
+    origins: &mut [usize],
+    second_expanded: &mut [u8],
+    second_origins: &mut [usize],
+    d: &mut [usize],
+    c: &mut [usize],
+    o: &mut [usize],
+    v: &mut [usize],
+    d2: &mut [usize],
+    c2: &mut [usize],
+    o2: &mut [usize],
+    v2: &mut [usize],
+) -> Found
+    requires { ⌜ RoomSizes (now d) (now c) (now o) (now v) × RoomSizes (now d2) (now c2) (now o2) (now v2) ⌝ }
+    ensures { λ r. ⌜ ListsTexts (now (first .entry)) (now («first_lengths» .entry)) (now (expanded .entry)) (now (origins .entry))
+        (now (expanded .exit)) (now (origins .exit)) (now (second .entry)) (now («second_lengths» .entry))
+        (now («second_expanded» .entry)) (now («second_origins» .entry)) (now («second_expanded» .exit)) (now («second_origins» .exit)) r ⌝ }
+{
+    let one = lent_texts::expand(first, first_lengths, expanded, origins);
+    let two = lent_texts::expand(second, second_lengths, second_expanded, second_origins);
+    match one {
+        Lent::Stopped(number) => stopped(1, number, 0),
+        Lent::Text(e) => match two {
+            Lent::Stopped(number) => first_or(&expanded[..e.length], origins, e, number),
+            Lent::Text(e2) => listed_expanded(
+                &expanded[..e.length],
+                origins,
+                e,
+                &second_expanded[..e2.length],
+                second_origins,
+                e2,
+                d,
+                c,
+                o,
+                v,
+                d2,
+                c2,
+                o2,
+                v2,
+            ),
+        },
+    }
+}
+
 // The differences of two releases, each of them lent texts, by value: the first 64, and how many there are. Rows are those of the expanded texts. If
 // a side is refused, the answer says which, with number and place. In a side's buffer stand a name, its text, the next name and so on, the main text
 // first; its lengths are in that order. The expanded texts and the origins of their bytes are lent too, 65,535 of each; where one is shorter, that
@@ -143,20 +204,30 @@ pub fn listed(
         (now (expanded .exit)) (now (origins .exit)) (now (second .entry)) (now («second_lengths» .entry))
         (now («second_expanded» .entry)) (now («second_origins» .entry)) (now («second_expanded» .exit)) (now («second_origins» .exit)) r ⌝ }
 {
-    let one = lent_texts::expand(first, first_lengths, expanded, origins);
-    let two = lent_texts::expand(second, second_lengths, second_expanded, second_origins);
-    match one {
-        Lent::Stopped(number) => stopped(1, number, 0),
-        Lent::Text(e) => match two {
-            Lent::Stopped(number) => first_or(&expanded[..e.length], origins, e, number),
-            Lent::Text(e2) => listed_expanded(
-                &expanded[..e.length],
-                origins,
-                e,
-                &second_expanded[..e2.length],
-                second_origins,
-                e2,
-            ),
-        },
-    }
+    let mut d = [0; 6656];
+    let mut c = [0; 3072];
+    let mut o = [0; 2048];
+    let mut v = [0; 18432];
+    let mut d2 = [0; 6656];
+    let mut c2 = [0; 3072];
+    let mut o2 = [0; 2048];
+    let mut v2 = [0; 18432];
+    listed_into(
+        first,
+        first_lengths,
+        second,
+        second_lengths,
+        expanded,
+        origins,
+        second_expanded,
+        second_origins,
+        &mut d,
+        &mut c,
+        &mut o,
+        &mut v,
+        &mut d2,
+        &mut c2,
+        &mut o2,
+        &mut v2,
+    )
 }
