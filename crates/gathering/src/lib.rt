@@ -77,6 +77,9 @@ fn copy_name(text: &[u8], hash: usize, name: &mut [u8]) -> usize
 fn missing_name(buffer: &[u8], lengths: &[usize], origins: &mut [usize], name: &mut [u8]) -> usize
     ensures { λ r. ⌜ Counts r (now (name .exit)) ⌝ }
 {
+    if sources::is_plain(buffer, lengths) {
+        return 0;
+    }
     let mut expanded = [0; 1];
     let e = sources::expand_gathering(buffer, lengths, &mut expanded, origins);
     if e.number != 28 {
@@ -171,6 +174,32 @@ pub fn gather(fd: i32, buffer: &mut [u8], lengths: &mut [usize], origins: &mut [
         return 0;
     }
     let n = read_text(fd, buffer, 0);
+    lengths[0] = 0;
+    lengths[1] = n;
+    add_all(buffer, lengths, n, origins)
+}
+
+// Gathers the same for a main text that is read already, of which at most 65,536 bytes are taken.
+pub fn gather_text(
+    text: &[u8],
+    buffer: &mut [u8],
+    lengths: &mut [usize],
+    origins: &mut [usize],
+) -> usize
+    ensures counts { λ r. ⌜ Counts r (now (lengths .exit)) ⌝ }
+    ensures gathered { λ r. ⌜ (Rooms (now (buffer .entry)) (now (lengths .entry)) (now (origins .entry)) → Gathered (now (buffer .exit)) (now (lengths .exit)) r) ⌝ }
+{
+    if buffer.len() < ROOM {
+        return 0;
+    }
+    if lengths.len() < 16 {
+        return 0;
+    }
+    if origins.len() < 131070 {
+        return 0;
+    }
+    let n = cells::least_of(text.len(), 65536);
+    store(buffer, 0, &text[..n]);
     lengths[0] = 0;
     lengths[1] = n;
     add_all(buffer, lengths, n, origins)

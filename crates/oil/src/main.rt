@@ -7,11 +7,39 @@ use console::write;
 use console::write_number;
 use libc::STDIN_FILENO;
 use reading::Answer;
+use writing::Written;
 
 mod lines;
 
+fn write_written(output: &[u8], written: Written) {
+    let length = written.length;
+    let answer = written.answer;
+    match answer {
+        Answer::Accepted => write(token::part(output, 0, length)),
+        Answer::Refused(number, place) => console::write_refusal(number, place),
+    }
+}
+
+// The normal text of a text without a `#`, which is answered by itself as with what it includes (crates/sources_reading: PlainRead).
+fn write_plain(text: &[u8]) {
+    let mut definitions = [0; 6656];
+    let mut enumerators = [0; 3072];
+    let mut objects = [0; 2048];
+    let mut values = [0; 18432];
+    let mut output = [0; 65535];
+    let written = writing::write(
+        text,
+        &mut definitions,
+        &mut enumerators,
+        &mut objects,
+        &mut values,
+        &mut output,
+    );
+    write_written(&output, written);
+}
+
 // The normal text of lent texts.
-fn write_normal(buffer: &[u8], lengths: &[usize], origins: &mut [usize]) {
+fn write_expanded(buffer: &[u8], lengths: &[usize], origins: &mut [usize]) {
     let mut expanded = [0; 65535];
     let mut definitions = [0; 6656];
     let mut enumerators = [0; 3072];
@@ -29,12 +57,25 @@ fn write_normal(buffer: &[u8], lengths: &[usize], origins: &mut [usize]) {
         &mut values,
         &mut output,
     );
-    let length = written.length;
-    let answer = written.answer;
-    match answer {
-        Answer::Accepted => write(token::part(&output, 0, length)),
-        Answer::Refused(number, place) => console::write_refusal(number, place),
+    write_written(&output, written);
+}
+
+// The normal text of a text with the files that it includes.
+fn write_gathered(text: &[u8]) {
+    let mut buffer = [0; 557048];
+    let mut lengths = [0; 16];
+    let mut origins = [0; 131070];
+    let told = gathering::gather_text(text, &mut buffer, &mut lengths, &mut origins);
+    write_expanded(&buffer, &lengths[..told], &mut origins);
+}
+
+fn write_normal(text: &[u8]) {
+    let alone = [0, text.len()];
+    if sources::is_plain(text, &alone) {
+        write_plain(text);
+        return;
     }
+    write_gathered(text);
 }
 
 // Gathers the texts of the file that argument i names, as `gathering::gather` does. A file that it cannot open is empty.
@@ -142,17 +183,7 @@ fn compare_texts(first: &[u8], lengths: &[usize], second: &[u8], lengths2: &[usi
         write_stopped(c);
         return;
     }
-    write_found(
-        &expanded,
-        &d,
-        &o,
-        &v,
-        &expanded2,
-        &d2,
-        &o2,
-        &v2,
-        found,
-    );
+    write_found(&expanded, &d, &o, &v, &expanded2, &d2, &o2, &v2, found);
 }
 
 fn compare_files() {
@@ -170,9 +201,7 @@ fn main() {
         compare_files();
         return;
     }
-    let mut buffer = [0; 557048];
-    let mut lengths = [0; 16];
-    let mut origins = [0; 131070];
-    let told = gathering::gather(STDIN_FILENO, &mut buffer, &mut lengths, &mut origins);
-    write_normal(&buffer, &lengths[..told], &mut origins);
+    let mut text = io::large_buffer();
+    let n = io::read_full(STDIN_FILENO, &mut text);
+    write_normal(&text[..n]);
 }

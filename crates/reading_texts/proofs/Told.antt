@@ -1,6 +1,7 @@
 -- The answers of the functions. Assumes nothing.
 use Prim.Native.Nat.{ℕ, _≤_, _<_}
 use mathlib.Core.List.{List, _++_, append-nil}
+use mathlib.Core.Logic.{_⊎_, inl, inr}
 use mathlib.Core.Path.{_≡_, refl, sym, _∙_, ap, ap₂, subst, fun-ext}
 use native.Mathlib.Omega.{arith}
 use lib.ListN.{length, getD, take, drop, drop-of-length-le, replicate}
@@ -20,11 +21,12 @@ use Rattle.reading.specs.declared.Answer.{Answer as AnswerTold}
 use Rattle.reading.specs.declared.Answer.the-variants.{Accepted, Refused}
 use Rattle.reading.specs.declared.Reading.{Reading}
 use Rattle.sources.specs.Expanding.{expanded, expansionOf}
-use Rattle.sources.specs.Promises.{Expands}
+use Rattle.sources.specs.Promises.{ExpandsToRead}
 use Rattle.sources.specs.declared.Expansion.{Expansion}
+use Rattle.sources.proofs.Plains.{Exactly, exactly}
 use Rattle.sources_reading.specs.Answering.{Answers, too-long as texts-too-long, renumbered}
 use Rattle.sources_reading.proofs.Answered.{answers, one-answer}
-use Rattle.sources_reading.proofs.Renumbered.{is-renumbered, plain-answer}
+use Rattle.sources_reading.proofs.Renumbered.{is-renumbered, plain-answer, plain-number}
 use Rattle.placing.specs.Placed.{placeIn, placed-definition-row, placed-enumerator-row, placed-object-row, placed-value-row, placed-tables, is-at-start, placed-answer}
 use Rattle.placing.specs.Columns.{RowsFit, PlacesTables}
 use Rattle.placing.proofs.Rowwise.{length-each}
@@ -145,12 +147,22 @@ thirty-rooms z p q i j =
       values = j ∙ ap (λ (i : ℕ). replicate i 0) (z .values) ∙ cleared-zeros 18432;
     }
 
-module _ (b l x g x′ g′ : List ℕ) (e : Expansion) (u : Expands 65535 b l x g x′ g′ e) where
+module _ (b l x g x′ g′ : List ℕ) (e : Expansion) (u : ExpandsToRead b l x g x′ g′ e) where
+  own : Exactly b l x g x′ g′ e
+  own = exactly u
+
   -- 30
+  thirty-own : e .number ≡ 30 → expansionOf b l .number ≡ 30
+  thirty-own n = by (own .number)
+    where
+      by : (e .number ≡ expansionOf b l .number) ⊎ ((e .number ≡ 3) × (expansionOf b l .number ≡ 0)) → expansionOf b l .number ≡ 30
+      by (inl i) = sym i ∙ n
+      by (inr i) = let z = i .0 in absurd (omega arith)
+
   pub thirty-answer : e .number ≡ 30 → TheAnswer b l (refused 30 0)
   unfolding placed-answer is-at-start
   thirty-answer n =
-      let h : Answers b l (refused 30 0) = texts-too-long (sym (ap (λ (y : Expansion). y .number) (u .result)) ∙ n) in
+      let h : Answers b l (refused 30 0) = texts-too-long (thirty-own n) in
       record { in-expanded = refused 30 0; given = h; no-other = λ y k. sym (one-answer k) ∙ one-answer h; placed = refl }
 
   pub thirty-fills : (d e₁ o v d′ e′ o′ v′ : List ℕ) (r : Reading) → e .number ≡ 30 → RoomSizes d e₁ o v → d′ ≡ replicate (length d) 0 → e′ ≡ replicate (length e₁) 0 →
@@ -159,40 +171,62 @@ module _ (b l x g x′ g′ : List ℕ) (e : Expansion) (u : Expands 65535 b l x
       record { answer = refused 30 0; rules = thirty-answer n; result = w; rooms = thirty-rooms z p q i j; bytes = u .bytes; origins = u .origins }
 
   module _ (hx : 65535 ≤ length x) (hg : 65535 ≤ length g) (not : e .number ≡ 30 → ⊥) where
-    k : Kept b l x′ g′ e
-    k = kept b l x g x′ g′ e u hx hg not
+    not-own : expansionOf b l .number ≡ 30 → ⊥
+    not-own n = by (own .number)
+      where
+        by : (e .number ≡ expansionOf b l .number) ⊎ ((e .number ≡ 3) × (expansionOf b l .number ≡ 0)) → ⊥
+        by (inl i) = not (i ∙ n)
+        by (inr i) = let z = i .1 in absurd (omega arith)
+
+    k : Kept b l x′ g′ (expansionOf b l)
+    k = kept b l x g x′ g′ (expansionOf b l) (own .expands) hx hg not-own
 
     -- the text that is read is the expanded text
     pub room-inside : e .length ≤ length x′
-    room-inside = k .inside
+    room-inside = subst (λ (n : ℕ). n ≤ length x′) (sym (own .size)) (k .inside)
 
     pub two-told : 1 < length l
     two-told = k .two
 
     pub small-number : e .number ≤ 29
-    small-number = k .small
+    small-number = by (own .number)
+      where
+        by : (e .number ≡ expansionOf b l .number) ⊎ ((e .number ≡ 3) × (expansionOf b l .number ≡ 0)) → e .number ≤ 29
+        by (inl i) = subst (λ (n : ℕ). n ≤ 29) (sym i) (k .small)
+        by (inr i) = let z = i .0 in omega arith
 
-    places : placeIn g′ (e .length) (getD l 1 0) ≡ placeOf b l
-    places = fun-ext (k .place)
+    pub text-is : take (e .length) x′ ≡ expanded b l .bytes
+    text-is = ap (λ (n : ℕ). take n x′) (own .size) ∙ k .bytes
 
-    size : length (take (e .length) x′) ≡ e .length
-    size = ap length (k .bytes) ∙ sym (k .size)
+    places : placeIn g′ (length (take (e .length) x′)) (getD l 1 0) ≡ placeOf b l
+    places = ap (λ (n : ℕ). placeIn g′ n (getD l 1 0)) (ap length text-is ∙ sym (k .size)) ∙ fun-ext (k .place)
+
+    -- its answer
+    is-reading : (a : Answer) → TheTextsAnswer (take (e .length) x′) a → reading (expanded b l .bytes) ≡ a
+    is-reading a t =
+        let s = expanded b l .bytes in
+        let t′ : TheTextsAnswer s a = subst (λ (y : List ℕ). TheTextsAnswer y a) text-is t in
+        t′ .no-other (reading s) (text-answers s)
 
     the-answer : (a : Answer) → TheTextsAnswer (take (e .length) x′) a → Answers b l (renumbered (expanded b l .number) a)
-    the-answer a t =
-        let s = expanded b l .bytes in
-        let n : expansionOf b l .number ≡ 30 → ⊥ = λ z. not (ap (λ (y : Expansion). y .number) (u .result) ∙ z) in
-        let t′ : TheTextsAnswer s a = subst (λ (y : List ℕ). TheTextsAnswer y a) (k .bytes) t in
-        let q : reading s ≡ a = t′ .no-other (reading s) (text-answers s) in
-        subst (Answers b l) (is-renumbered b l n ∙ ap (renumbered (expanded b l .number)) q) (answers b l)
+    the-answer a t = subst (Answers b l) (is-renumbered b l not-own ∙ ap (renumbered (expanded b l .number)) (is-reading a t)) (answers b l)
 
-    -- with its places
-    pub texts-placed : (n : ℕ) (a : Answer) → n ≡ e .number →
+    -- with the number of its fault
+    same-number : (a : Answer) → TheTextsAnswer (take (e .length) x′) a → renumbered (e .number) a ≡ renumbered (expanded b l .number) a
+    same-number a t = by (own .number)
+      where
+        by : (e .number ≡ expansionOf b l .number) ⊎ ((e .number ≡ 3) × (expansionOf b l .number ≡ 0)) → renumbered (e .number) a ≡ renumbered (expanded b l .number) a
+        by (inl i) = ap (λ (n : ℕ). renumbered n a) (i ∙ k .number)
+        by (inr i) =
+            ap (λ (n : ℕ). renumbered n a) (i .0)
+            ∙ subst (λ (c : Answer). renumbered 3 c ≡ renumbered (expanded b l .number) c) (is-reading a t) (plain-number b l not-own (inl (sym (k .number) ∙ i .1)))
+
+    -- and with its places
+    pub texts-placed : (n : ℕ) (a : Answer) → n ≡ e .number → TheTextsAnswer (take (e .length) x′) a →
         placed-answer (placeIn g′ (length (take (e .length) x′)) (getD l 1 0)) (renumbered n a) ≡ placed-answer (placeOf b l) (renumbered (expanded b l .number) a)
-    texts-placed n a i =
-        ap (λ (y : ℕ). placed-answer (placeIn g′ y (getD l 1 0)) (renumbered n a)) size
-        ∙ ap (λ (f : ℕ → ℕ). placed-answer f (renumbered n a)) places
-        ∙ ap (λ (y : ℕ). placed-answer (placeOf b l) (renumbered y a)) (i ∙ k .number)
+    texts-placed n a i t =
+        ap (λ (f : ℕ → ℕ). placed-answer f (renumbered n a)) places
+        ∙ ap (placed-answer (placeOf b l)) (ap (λ (y : ℕ). renumbered y a) i ∙ same-number a t)
 
     pub texts-answer : (a : Answer) → TheTextsAnswer (take (e .length) x′) a → TheAnswer b l (placed-answer (placeOf b l) (renumbered (expanded b l .number) a))
     texts-answer a t =
@@ -202,7 +236,7 @@ module _ (b l x g x′ g′ : List ℕ) (e : Expansion) (u : Expands 65535 b l x
     pub read-fills : {d′ e′ o′ v′ : List ℕ} {r : Reading} (n : ℕ) → n ≡ e .number → ReadsExpanded (take (e .length) x′) g′ (getD l 1 0) n d′ e′ o′ v′ r →
         FillsTexts b l x g x′ g′ d′ e′ o′ v′ r
     read-fills {d′} {e′} {o′} {v′} {r} n i w =
-        let z = texts-placed n (w .answer) i in
+        let z = texts-placed n (w .answer) i (w .rules) in
         record {
           answer = placed-answer (placeOf b l) (renumbered (expanded b l .number) (w .answer));
           rules = texts-answer (w .answer) (w .rules);

@@ -9,3 +9,4 @@ pub mod Notings
 pub mod Pieces
 pub mod Fillings
 pub mod Wholes
+pub mod Plains

@@ -4,4 +4,5 @@ pub mod Texts
 pub mod Numbering
 pub mod Notes
 pub mod Expanding
+pub mod Plain
 pub mod Promises

@@ -12,6 +12,7 @@ use Rattle.token.specs.Tokens.{bytesBetween}
 use Rattle.sources.specs.Texts.{toldWell}
 use Rattle.sources.specs.Expanding.{Piece, upFrom, origin, tooLong, fillOf, expanded, expansionWithin}
 use Rattle.sources.specs.Notes.{Noted, AllNoted}
+use Rattle.sources.specs.Plain.{expansionToRead}
 use Rattle.sources.specs.declared.Line.{Line}
 use Rattle.sources.specs.declared.Frame.{Frame}
 use Rattle.sources.specs.declared.Spot.{Spot}
@@ -96,3 +97,9 @@ pub record Expands (max : ℕ) (b l o g o′ g′ : List ℕ) (r : Expansion) : 
   pub result : r ≡ expansionWithin max b l
   pub bytes : o′ ≡ filled (toldWell b l) max o (expanded b l .bytes)
   pub origins : g′ ≡ filled (toldWell b l) max g (expanded b l .origins)
+
+-- The same for a reader.
+pub record ExpandsToRead (b l o g o′ g′ : List ℕ) (r : Expansion) : Type 0 where
+  pub result : r ≡ expansionToRead b l
+  pub bytes : o′ ≡ filled (toldWell b l) 65535 o (expanded b l .bytes)
+  pub origins : g′ ≡ filled (toldWell b l) 65535 g (expanded b l .origins)

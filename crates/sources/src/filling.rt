@@ -2,7 +2,7 @@
 ghost use mathlib.Core.Path.{_≡_};
 ghost use mathlib.Core.Bool.{true};
 ghost use mathlib.Core.List.{[], _∷_};
-ghost use Prim.Native.Nat.{_+_, _≤_, _<_};
+ghost use Prim.Native.Nat.{_+_, _-_, _≤_, _<_, min};
 ghost use lib.ListN.{length, set};
 ghost use lib.Seq.{sets};
 ghost use Rattle.sources.specs.Notes.{Noted};
@@ -15,19 +15,28 @@ use super::Next;
 use super::Spot;
 use super::noting;
 
+// How many of n fit into a room from a place on.
+fn fitting(n: usize, at: usize, room: usize) -> usize
+    ensures { λ r. ⌜ r ≡ min n (room - at) ⌝ }
+{
+    if room <= at {
+        return 0;
+    }
+    if room - at < n {
+        return room - at;
+    }
+    n
+}
+
 // Stores the bytes from a place on, so far as the output reaches.
 fn store(out: &mut [u8], at: usize, bytes: &[u8])
     ensures { λ _. ⌜ now (out .exit) ≡ sets (now (out .entry)) at (now (bytes .entry)) ⌝ }
 {
+    let n = fitting(bytes.len(), at, out.len());
     let mut i = 0;
-    let mut j = at;
-    while i < bytes.len() {
-        if out.len() <= j {
-            return;
-        }
-        out[j] = bytes[i];
+    while i < n {
+        out[at + i] = bytes[i];
         i += 1;
-        j += 1;
     }
 }
 
@@ -36,20 +45,16 @@ fn count_up(cells: &mut [usize], at: usize, first: usize, n: usize)
     requires { ⌜ first + n < 18446744073709551616 ⌝ }
     ensures { λ _. ⌜ now (cells .exit) ≡ sets (now (cells .entry)) at (upFrom first n) ⌝ }
 {
+    let m = fitting(n, at, cells.len());
     let mut i = 0;
-    let mut j = at;
-    while i < n {
-        if cells.len() <= j {
-            return;
-        }
-        cells[j] = first + i;
+    while i < m {
+        cells[at + i] = first + i;
         i += 1;
-        j += 1;
     }
 }
 
 // The bytes of a text from a place to another, with their origins; gives the place after.
-fn put(
+pub fn put(
     text: &[u8],
     from: usize,
     to: usize,

@@ -4,7 +4,9 @@ ghost use Prim.Native.Nat.{_+_, _≤_};
 ghost use Rattle.token.specs.Tokens.{partOf, partPlace};
 ghost use Rattle.sources.specs.Lines.{nameAt};
 ghost use Rattle.sources.specs.Numbering.{textBytes, textStart};
-ghost use Rattle.sources.specs.Promises.{Expands};
+ghost use mathlib.Core.Bool.{true};
+ghost use Rattle.sources.specs.Plain.{isPlain};
+ghost use Rattle.sources.specs.Promises.{Expands, ExpandsToRead};
 use rows::cells;
 
 mod filling;
@@ -169,6 +171,62 @@ pub fn expand_gathering(
         (now (out .exit)) (now (origins .exit)) r ⌝ }
 {
     expand_within(buffer, lengths, 589823, out, origins)
+}
+
+// Whether texts are lent as they have to be, and the main text has no `#`: it includes nothing then.
+pub fn is_plain(buffer: &[u8], lengths: &[usize]) -> bool
+    ensures { λ r. ⌜ r ≡ isPlain (now (buffer .entry)) (now (lengths .entry)) ⌝ }
+{
+    if told::told_well(buffer, lengths) {
+        let from = lengths[0];
+        let to = from + lengths[1];
+        return !scan::holds(&buffer[from..to], b'#');
+    }
+    false
+}
+
+// The main text, where it includes nothing.
+fn copy_main(buffer: &[u8], lengths: &[usize], out: &mut [u8], origins: &mut [usize]) -> Expansion
+    requires { ⌜ isPlain (now buffer) (now lengths) ≡ true ⌝ }
+    ensures { λ r. ⌜ ExpandsToRead (now (buffer .entry)) (now (lengths .entry)) (now (out .entry)) (now (origins .entry))
+        (now (out .exit)) (now (origins .exit)) r ⌝ }
+{
+    let from = lengths[0];
+    let size = lengths[1];
+    let to = from + size;
+    let room = cells::least_of(65535, out.len());
+    let marks = cells::least_of(65535, origins.len());
+    let end = filling::put(
+        &buffer[from..to],
+        0,
+        size,
+        0,
+        &mut out[..room],
+        &mut origins[..marks],
+        0,
+    );
+    Expansion {
+        number: 3,
+        place: 0,
+        length: end,
+    }
+}
+
+// As `expand`, for a reader, who meets a refusal 3 by itself: where the main text has no `#`, no token is looked at, and the number is 3, the only
+// one that there can be.
+pub fn expand_to_read(
+    buffer: &[u8],
+    lengths: &[usize],
+    out: &mut [u8],
+    origins: &mut [usize],
+) -> Expansion
+    ensures { λ r. ⌜ ExpandsToRead (now (buffer .entry)) (now (lengths .entry)) (now (out .entry)) (now (origins .entry))
+        (now (out .exit)) (now (origins .exit)) r ⌝ }
+{
+    if is_plain(buffer, lengths) {
+        return copy_main(buffer, lengths, out, origins);
+    }
+    expand(buffer, lengths, out, origins)
 }
 
 // The file's name on the include line of the `#` at a place of a text.

@@ -4,7 +4,9 @@ ghost use Prim.Native.Nat.{_≤_};
 ghost use lib.ListN.{length};
 ghost use Rattle.token.specs.Bytes.{findByte, pairAt, findClose};
 ghost use Rattle.token.specs.Words.{same};
+ghost use Rattle.token.specs.Find.{either};
 ghost use Rattle.sources.specs.Lines.{lineStart};
+ghost use Rattle.sources.specs.Plain.{holds};
 
 // The first place of b at or after from, or the length.
 pub fn find_byte(text: &[u8], from: usize, b: u8) -> usize
@@ -18,6 +20,29 @@ pub fn find_byte(text: &[u8], from: usize, b: u8) -> usize
         i += 1;
     }
     i
+}
+
+// Whether one of two is so.
+fn either(a: bool, b: bool) -> bool
+    ensures { λ r. ⌜ r ≡ either a b ⌝ }
+{
+    if a {
+        return true;
+    }
+    b
+}
+
+// Whether the byte b stands in a text. The loop has one end only, so that many bytes are looked at in one step.
+pub fn holds(text: &[u8], b: u8) -> bool
+    ensures { λ r. ⌜ r ≡ holds b (now (text .entry)) ⌝ }
+{
+    let mut seen = false;
+    let mut i = 0;
+    while i < text.len() {
+        seen = either(seen, text[i] == b);
+        i += 1;
+    }
+    seen
 }
 
 // Whether the bytes a and b stand at a place.

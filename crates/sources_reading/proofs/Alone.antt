@@ -45,7 +45,7 @@ stops s d = by (outcome s 0)
     by (at-end last n r e g) = g
     by (at-bad last q r e g) = absurd (subst Wholly (lex-bad s last q e) (run-wholly s last 0 r d))
 
-told-alone : (s : List ℕ) → length s ≤ 65535 → toldWell s (alone s) ≡ true
+pub told-alone : (s : List ℕ) → length s ≤ 65535 → toldWell s (alone s) ≡ true
 unfolding toldWell fitting
 told-alone s h =
     rw (le-leb 0 (length s - 0) (omega arith), le-leb (length s) (length s - (0 + 0)) (omega arith), le-leb (length s) 65535 h)
@@ -56,7 +56,7 @@ main-alone s =
     let e : 0 + length s - 0 ≡ length s = omega arith in
     ap (λ (n : ℕ). take n s) e ∙ take-all (length s) s (omega arith)
 
-whole-alone : (s : List ℕ) → bytesBetween s 0 (length s) ≡ s
+pub whole-alone : (s : List ℕ) → bytesBetween s 0 (length s) ≡ s
 whole-alone s =
     let e : length s - 0 ≡ length s = omega arith in
     ap (λ (n : ℕ). take n s) e ∙ take-all (length s) s (omega arith)

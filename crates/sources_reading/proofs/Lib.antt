@@ -2,3 +2,4 @@
 pub mod Answered
 pub mod Alone
 pub mod Renumbered
+pub mod Unaffected

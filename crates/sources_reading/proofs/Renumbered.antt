@@ -86,3 +86,8 @@ plain-answer b l n h =
     is-given b l n ∙ ap (λ (m : ℕ). answer-of (numbered m (parse (text b l)))) z
     ∙ ap answer-of (numbered-none (text b l) (w .short) (to-wholly (expanded b l .number) (expanded b l .place) (lexFrom (text b l) 0) (lexed b l (w .told)) z)))
     (λ z. is-renumbered b l n ∙ ap (λ (m : ℕ). renumbered m (reading (text b l))) z ∙ renumbered-three (reading (text b l))) h
+
+-- and 3 may stand for the number of its fault
+pub plain-number : (b l : List ℕ) → (expansionOf b l .number ≡ 30 → ⊥) → (expanded b l .number ≡ 0) ⊎ (expanded b l .number ≡ 3) →
+    renumbered 3 (reading (text b l)) ≡ renumbered (expanded b l .number) (reading (text b l))
+plain-number b l n h = renumbered-three (reading (text b l)) ∙ sym (plain-answer b l n h) ∙ is-renumbered b l n

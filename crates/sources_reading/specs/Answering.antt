@@ -3,7 +3,7 @@
 use mathlib.Core.Path.{_≡_}
 use mathlib.Core.Bool.{Bool, true, false}
 use mathlib.Core.List.{List, [], _∷_, _++_}
-use Prim.Native.Nat.{ℕ, _+_}
+use Prim.Native.Nat.{ℕ, _+_, _≤_}
 use lib.ListN.{length}
 use lib.Dec.{eqb}
 use Rattle.token.specs.Find.{pick}
@@ -12,8 +12,9 @@ use Rattle.grammar.specs.Terminals.{tokens}
 use Rattle.grammar.specs.Stage.{opens, closes, Shallow}
 use Rattle.meaning.specs.Actions.{syntax}
 use Rattle.meaning.specs.Answers.{Answer, accepted, refused, answer}
-use Rattle.meaning.specs.Reading.{Parsed, parsed, not-parsed, parse, answer-of}
-use Rattle.sources.specs.Expanding.{expanded, expansionOf}
+use Rattle.meaning.specs.Reading.{Parsed, parsed, not-parsed, parse, answer-of, reading}
+use Rattle.sources.specs.Expanding.{upFrom, expanded, expansionOf}
+use Rattle.sources.specs.Plain.{holds}
 
 -- the expanded text, through the end of the text that has the first fault of 3 and 27 to 29
 abbrev pub text : List ℕ → List ℕ → List ℕ
@@ -76,3 +77,13 @@ LentTextsAnswered = (b l : List ℕ) → AnsweredOnce b l
 unfoldable pub renumbered : ℕ → Answer → Answer
 renumbered n (accepted t) = accepted t
 renumbered n (refused m p) = refused (pick (eqb m 3) n m) p
+
+-- THE STATEMENT: where no `#` stands in a text, the answer to it, lent alone, is that of document 01's reader, with the same places: each byte is
+-- its own origin. proofs/Unaffected has it (`plain-read`).
+pub record ReadAsBefore (s : List ℕ) : Type 0 where
+  pub bytes : text s (alone s) ≡ s
+  pub origins : expanded s (alone s) .origins ≡ upFrom 0 (length s)
+  pub answer : sources-answer s (alone s) ≡ reading s
+
+abbrev pub PlainRead : Type 0
+PlainRead = (s : List ℕ) → length s ≤ 65535 → holds 35 s ≡ false → ReadAsBefore s

@@ -16,7 +16,7 @@ use Rattle.reading.specs.declared.Answer.the-variants.{Accepted, Refused}
 use Rattle.writing.specs.Rules.{WritesByRules, short-tables as short, refuses as rules-refuse, longer as rules-longer, writes as rules-write}
 use Rattle.writing.specs.declared.Written.{Written}
 use Rattle.sources.specs.Expanding.{expanded}
-use Rattle.sources.specs.Promises.{Expands}
+use Rattle.sources.specs.Promises.{ExpandsToRead}
 use Rattle.sources.specs.declared.Expansion.{Expansion}
 use Rattle.sources_reading.specs.Answering.{renumbered}
 use Rattle.placing.specs.Placed.{placeIn, placed-tables, is-at-start, placed-answer}
@@ -24,8 +24,7 @@ use Rattle.placing.specs.Columns.{PlacesTables}
 use Rattle.lent_texts.specs.Answered.{placeOf, TheAnswer}
 use Rattle.reading_texts.specs.Reads.{FullRooms, Plain, placed-told, DemandTexts}
 use Rattle.reading_texts.specs.Filling.{RoomSizes, Hold}
-use Rattle.lent_texts.proofs.Kept.{kept}
-use Rattle.reading_texts.proofs.Told.{full-room, nothing-past, rows-fit, thirty-answer, thirty-rooms, texts-answer, texts-placed, answer-demand}
+use Rattle.reading_texts.proofs.Told.{full-room, nothing-past, rows-fit, thirty-answer, thirty-rooms, text-is, texts-answer, texts-placed, answer-demand}
 use Rattle.writing_texts.specs.Writes.{Written-by, refuses, longer, writes, WritesExpanded, FillsOutput, WritesTexts, short-tables, by-rules}
 
 held : {c : RoomCells} {d e v w d′ e′ v′ w′ : List ℕ} → RoomSizes d e v w → InRooms c d e v w d′ e′ v′ w′ → Hold c d′ e′ v′ w′
@@ -101,7 +100,7 @@ module _ (s g : List ℕ) (m n : ℕ) where
 
 -- ---- lent texts
 
-module _ (b l x g x′ g′ : List ℕ) (e : Expansion) (u : Expands 65535 b l x g x′ g′ e) where
+module _ (b l x g x′ g′ : List ℕ) (e : Expansion) (u : ExpandsToRead b l x g x′ g′ e) where
   pub thirty-writes : (d e₁ v w o d′ e′ v′ w′ : List ℕ) (r : Written) → e .number ≡ 30 → RoomSizes d e₁ v w → d′ ≡ replicate (length d) 0 → e′ ≡ replicate (length e₁) 0 →
       v′ ≡ replicate (length v) 0 → w′ ≡ replicate (length w) 0 → r ≡ record { answer = Refused 30 0; length = 0 } → FillsOutput b l x g o x′ g′ d′ e′ v′ w′ o r
   thirty-writes d e₁ v w o d′ e′ v′ w′ r n z p q i j y =
@@ -118,11 +117,11 @@ module _ (b l x g x′ g′ : List ℕ) (e : Expansion) (u : Expands 65535 b l x
         FillsOutput b l x g o x′ g′ d′ e′ v′ w′ o′ r
     write-fills {o} {d′} {e′} {v′} {w′} {o′} {r} n i y =
         let a = y .answer in
-        let z = texts-placed b l x g x′ g′ e u hx hg not n a i in
+        let z = texts-placed b l x g x′ g′ e u hx hg not n a i (y .rules) in
         record {
           answer = placed-answer (placeOf b l) (renumbered (expanded b l .number) a);
           rules = texts-answer b l x g x′ g′ e u hx hg not a (y .rules);
-          outcome = subst (λ (s : List ℕ). Written-by s (placed-answer (placeOf b l) (renumbered (expanded b l .number) a)) o d′ e′ v′ w′ o′ r) (kept b l x g x′ g′ e u hx hg not .bytes)
+          outcome = subst (λ (s : List ℕ). Written-by s (placed-answer (placeOf b l) (renumbered (expanded b l .number) a)) o d′ e′ v′ w′ o′ r) (text-is b l x g x′ g′ e u hx hg not)
               (subst (λ (c : Answer). Written-by (take (e .length) x′) c o d′ e′ v′ w′ o′ r) z (y .outcome));
           bytes = u .bytes;
           origins = u .origins;

@@ -10,10 +10,10 @@ use Rattle.reading_texts.proofs.fill.Lts as lts
 use Rattle.reading_texts.proofs.read_expanded.Reads as read-expanded-reads
 use Rattle.reading_texts.proofs.refusal.Reads as refusal-reads
 use Rattle.rows.proofs.cells.clear.Reads as clear-reads
-use Rattle.sources.proofs.expand.Reads as expand-reads
+use Rattle.sources.proofs.expand_to_read.Reads as expand-to-read-reads
 
-expand-requires : tie.Need-expand-requires
-expand-requires c κs = search needs
+expand-to-read-requires : tie.Need-expand-to-read-requires
+expand-to-read-requires c κs = search needs
 
 clear-requires : tie.Need-clear-requires
 clear-requires c κs = search needs
@@ -49,19 +49,19 @@ same-length-6 : tie.Need-same-length-6
 same-length-6 c = search needs
 
 returns : tie.Need-returns
-returns c = thirty-fills _ _ _ _ _ _ _ (c .before .before .before .before .before .before .before .before .before .before .before .before .before .before .before .before .before .before .before .before .before .before .before .expand .ensures) _ _ _ _ _ _ _ _ _ (c .before .before .before .before .before .before .before .before .before .before .before .before .before .before .before .before .before .if1 .taken) (c .before .before .before .before .before .before .before .before .before .before .before .before .before .before .before .before .before .before .before .before .before .before .before .before .before .before .before .before .before .before .before .before .before .before .pre .1 .1) (c .before .before .before .before .before .before .before .before .before .before .before .before .before .before .before .clear .ensures) (c .before .before .before .before .before .before .before .before .before .before .before .clear2 .ensures) (c .before .before .before .before .before .before .before .clear3 .ensures) (c .before .before .before .clear4 .ensures) (c .refusal .ensures)
+returns c = thirty-fills _ _ _ _ _ _ _ (c .before .before .before .before .before .before .before .before .before .before .before .before .before .before .before .before .before .before .before .before .before .before .before .expand-to-read .ensures) _ _ _ _ _ _ _ _ _ (c .before .before .before .before .before .before .before .before .before .before .before .before .before .before .before .before .before .if1 .taken) (c .before .before .before .before .before .before .before .before .before .before .before .before .before .before .before .before .before .before .before .before .before .before .before .before .before .before .before .before .before .before .before .before .before .before .pre .1 .1) (c .before .before .before .before .before .before .before .before .before .before .before .before .before .before .before .clear .ensures) (c .before .before .before .before .before .before .before .before .before .before .before .clear2 .ensures) (c .before .before .before .before .before .before .before .clear3 .ensures) (c .before .before .before .clear4 .ensures) (c .refusal .ensures)
 
 shared-slice-read-main : tie.Need-shared-slice-read-main
-shared-slice-read-main c = let h = two-told _ _ _ _ _ _ _ (c .before .before .before .before .before .before .before .expand .ensures) (c .before .before .before .before .before .before .before .before .before .before .before .before .before .before .before .before .before .before .pre .0) (c .before .before .before .before .before .before .before .before .before .before .before .before .before .before .before .before .before .before .pre .1 .0) (c .before .if1 .left) in omega arith
+shared-slice-read-main c = let h = two-told _ _ _ _ _ _ _ (c .before .before .before .before .before .before .before .expand-to-read .ensures) (c .before .before .before .before .before .before .before .before .before .before .before .before .before .before .before .before .before .before .pre .0) (c .before .before .before .before .before .before .before .before .before .before .before .before .before .before .before .before .before .before .pre .1 .0) (c .before .if1 .left) in omega arith
 
 slice-reshare-prefix-read-expanded : tie.Need-slice-reshare-prefix-read-expanded
-slice-reshare-prefix-read-expanded c = room-inside _ _ _ _ _ _ _ (c .before .before .before .before .before .before .before .expand .ensures) (c .before .before .before .before .before .before .before .before .before .before .before .before .before .before .before .before .before .before .pre .0) (c .before .before .before .before .before .before .before .before .before .before .before .before .before .before .before .before .before .before .pre .1 .0) (c .before .if1 .left)
+slice-reshare-prefix-read-expanded c = room-inside _ _ _ _ _ _ _ (c .before .before .before .before .before .before .before .expand-to-read .ensures) (c .before .before .before .before .before .before .before .before .before .before .before .before .before .before .before .before .before .before .pre .0) (c .before .before .before .before .before .before .before .before .before .before .before .before .before .before .before .before .before .before .pre .1 .0) (c .before .if1 .left)
 
 slice-aggregate-read-expanded : tie.Need-slice-aggregate-read-expanded
-slice-aggregate-read-expanded c = sym (length-take-le _ _ (room-inside _ _ _ _ _ _ _ (c .before .before .before .before .before .before .before .before .expand .ensures) (c .before .before .before .before .before .before .before .before .before .before .before .before .before .before .before .before .before .before .before .pre .0) (c .before .before .before .before .before .before .before .before .before .before .before .before .before .before .before .before .before .before .before .pre .1 .0) (c .before .before .if1 .left)))
+slice-aggregate-read-expanded c = sym (length-take-le _ _ (room-inside _ _ _ _ _ _ _ (c .before .before .before .before .before .before .before .before .expand-to-read .ensures) (c .before .before .before .before .before .before .before .before .before .before .before .before .before .before .before .before .before .before .before .pre .0) (c .before .before .before .before .before .before .before .before .before .before .before .before .before .before .before .before .before .before .before .pre .1 .0) (c .before .before .if1 .left)))
 
 cast-read-expanded : tie.Need-cast-read-expanded
-cast-read-expanded c = let h = small-number _ _ _ _ _ _ _ (c .before .before .before .before .before .before .before .before .before .before .expand .ensures) (c .before .before .before .before .before .before .before .before .before .before .before .before .before .before .before .before .before .before .before .before .before .pre .0) (c .before .before .before .before .before .before .before .before .before .before .before .before .before .before .before .before .before .before .before .before .before .pre .1 .0) (c .before .before .before .before .if1 .left) in omega arith
+cast-read-expanded c = let h = small-number _ _ _ _ _ _ _ (c .before .before .before .before .before .before .before .before .before .before .expand-to-read .ensures) (c .before .before .before .before .before .before .before .before .before .before .before .before .before .before .before .before .before .before .before .before .before .pre .0) (c .before .before .before .before .before .before .before .before .before .before .before .before .before .before .before .before .before .before .before .before .before .pre .1 .0) (c .before .before .before .before .if1 .left) in omega arith
 
 read-expanded-requires : tie.Need-read-expanded-requires
 read-expanded-requires c κs = search needs
@@ -85,13 +85,13 @@ same-length-12 : tie.Need-same-length-12
 same-length-12 c = search needs
 
 returns-2 : tie.Need-returns-2
-returns-2 c = read-fills _ _ _ _ _ _ _ (c .before .before .before .before .before .before .before .before .before .before .before .before .before .before .before .before .before .before .before .before .before .before .before .expand .ensures) (c .before .before .before .before .before .before .before .before .before .before .before .before .before .before .before .before .before .before .before .before .before .before .before .before .before .before .before .before .before .before .before .before .before .before .pre .0) (c .before .before .before .before .before .before .before .before .before .before .before .before .before .before .before .before .before .before .before .before .before .before .before .before .before .before .before .before .before .before .before .before .before .before .pre .1 .0) (c .before .before .before .before .before .before .before .before .before .before .before .before .before .before .before .before .before .if1 .left) _ refl (c .before .before .before .before .before .before .before .before .read-expanded .ensures)
+returns-2 c = read-fills _ _ _ _ _ _ _ (c .before .before .before .before .before .before .before .before .before .before .before .before .before .before .before .before .before .before .before .before .before .before .before .expand-to-read .ensures) (c .before .before .before .before .before .before .before .before .before .before .before .before .before .before .before .before .before .before .before .before .before .before .before .before .before .before .before .before .before .before .before .before .before .before .pre .0) (c .before .before .before .before .before .before .before .before .before .before .before .before .before .before .before .before .before .before .before .before .before .before .before .before .before .before .before .before .before .before .before .before .before .before .pre .1 .0) (c .before .before .before .before .before .before .before .before .before .before .before .before .before .before .before .before .before .if1 .left) _ refl (c .before .before .before .before .before .before .before .before .read-expanded .ensures)
 
 pub fill-spec : {M : Type 1} → statement M
 fill-spec =
     tie.close
     (tie.spec
-    expand-requires
+    expand-to-read-requires
     clear-requires
     clear-requires-2
     clear-requires-3
