@@ -1,5 +1,6 @@
 -- The laws of the tables of numbers. Assumes nothing.
 pub mod Keyings
+pub mod Commas
 pub mod Listings
 pub mod Frames
 pub mod Rowwise

@@ -1,7 +1,7 @@
 -- What is made before the statements are judged. Assumes nothing.
 use Prim.Native.Nat.{ℕ, _≤_}
 use native.Mathlib.Omega.{arith}
-use mathlib.Core.Path.{_≡_, sym, ap, subst}
+use mathlib.Core.Path.{_≡_, sym, _∙_, ap, subst}
 use mathlib.Core.List.{List}
 use lib.ListN.{length, replicate, length-replicate}
 use lib.Seq.{sets}
@@ -9,7 +9,7 @@ use Rattle.amounts.specs.Known.{Known}
 use Rattle.lookups.specs.Names.{FewRows, Names, owner-words}
 use Rattle.lookups.specs.Owners.{Owners}
 use Rattle.lookups.proofs.Naming.{names-kept, words-put}
-use Rattle.judging.specs.Names.{Ready, MarksReady, Blank}
+use Rattle.judging.specs.Names.{Ready, MarksReady, Blank, SameRoom, StaysBlank}
 use Rattle.judging.specs.Promises.{JudgesObjects, JudgesAll, Marks}
 use Rattle.judging.proofs.Lacking.{table-known, table-marked, table-owners}
 use Rattle.amounts.specs.Promises.{Notes}
@@ -39,6 +39,13 @@ module _ (s d e o st : List ℕ) (z : Sizes) (x ms k₀ k k₁ : List ℕ) (r : 
 
 pub blank-of : (n : ℕ) → 3072 ≤ n → Blank (replicate n 0)
 blank-of n h = let l = length-replicate {A = ℕ} n 0 in record { room = omega (arith, l, h); blank = ap (λ (i : ℕ). replicate i 0) (sym l) }
+
+-- Room that is cleared is blank, as it was.
+pub cleared-blank : (x y z : List ℕ) → SameRoom x y → z ≡ replicate (length y) 0 → z ≡ replicate (length x) 0
+cleared-blank x y z l e = e ∙ ap (λ (i : ℕ). replicate i 0) (l .size)
+
+pub blank-again : (x y : List ℕ) → y ≡ replicate (length x) 0 → StaysBlank x y
+blank-again x y e n b = e ∙ ap (λ (i : ℕ). replicate i 0) (ap length b ∙ length-replicate {A = ℕ} n 0)
 
 -- All objects are judged by the marks.
 pub judged-all : (s d e o st : List ℕ) (z : Sizes) (ps ms : List ℕ) (a : Fault) → Marks s d e st z ms → JudgesObjects s d e o st ms z ps a → JudgesAll s d e o st z ps a

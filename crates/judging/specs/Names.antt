@@ -25,3 +25,11 @@ pub record MarksReady (s d e o st : List ℕ) (z : Sizes) (x ms : List ℕ) : Ty
 pub record Blank (k : List ℕ) : Type 0 where
   pub room : 3072 ≤ length k
   pub blank : k ≡ replicate (length k) 0
+
+-- The room has as many cells as before.
+pub record SameRoom (x y : List ℕ) : Type 0 where
+  pub size : length y ≡ length x
+
+-- What was blank is blank.
+abbrev pub StaysBlank : List ℕ → List ℕ → Type 0
+StaysBlank x y = (n : ℕ) → x ≡ replicate n 0 → y ≡ replicate n 0

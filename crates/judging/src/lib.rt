@@ -1,9 +1,10 @@
 // The faults 13 to 16 and 18: the statements of a text, judged over the rows kept while it was read.
 ghost use mathlib.Core.Path.{_≡_};
 ghost use Prim.Native.Nat.{_<_};
+ghost use lib.ListN.{length, replicate};
 ghost use Rattle.lookups.specs.Ranks.{Firsts};
 ghost use Rattle.lookups.specs.Owners.{Owners};
-ghost use Rattle.judging.specs.Names.{Ready, MarksReady, Blank};
+ghost use Rattle.judging.specs.Names.{Ready, MarksReady, Blank, SameRoom, StaysBlank};
 ghost use Rattle.lookups.specs.Names.{Ranks, Names, statement-ranks, owner-words};
 ghost use Rattle.judging.specs.Promises.{LackFault, Judges, JudgesOne, JudgesBlock, JudgesObject, JudgesObjects, JudgesAll};
 use blocks::after;
@@ -281,7 +282,8 @@ fn judge_ranged(
     places: &[usize],
 ) -> Fault
     requires { ⌜ MarksReady (now text) (now d) (now e) (now o) (now st) z (now names) (now missing) × Blank (now known) ⌝ }
-    ensures { λ r. ⌜ JudgesObjects (now (text .entry)) (now (d .entry)) (now (e .entry)) (now (o .entry)) (now (st .entry)) (now (missing .entry)) z (now (places .entry)) r ⌝ }
+    ensures judges { λ r. ⌜ JudgesObjects (now (text .entry)) (now (d .entry)) (now (e .entry)) (now (o .entry)) (now (st .entry)) (now (missing .entry)) z (now (places .entry)) r ⌝ }
+    ensures lends { λ r. ⌜ SameRoom (now (spare .entry)) (now (spare .exit)) ⌝ }
 {
     amounts::noting::note_ranges(text, d, wanted, z.definitions, known, spare);
     cells::put_cells(known, 0, missing);
@@ -322,7 +324,7 @@ fn judge_few(
     )
 }
 
-// The same with room for as many as a text can have.
+// The same with room for as many as a text can have; `lent` is blank room for sorting them, and blank again in the end.
 fn judge_many(
     text: &[u8],
     d: &[usize],
@@ -332,15 +334,16 @@ fn judge_many(
     names: &[usize],
     missing: &[usize],
     wanted: &[usize],
+    lent: &mut [usize],
     z: Sizes,
     places: &[usize],
 ) -> Fault
     requires { ⌜ MarksReady (now text) (now d) (now e) (now o) (now st) z (now names) (now missing) ⌝ }
-    ensures { λ r. ⌜ JudgesObjects (now (text .entry)) (now (d .entry)) (now (e .entry)) (now (o .entry)) (now (st .entry)) (now (missing .entry)) z (now (places .entry)) r ⌝ }
+    ensures judges { λ r. ⌜ JudgesObjects (now (text .entry)) (now (d .entry)) (now (e .entry)) (now (o .entry)) (now (st .entry)) (now (missing .entry)) z (now (places .entry)) r ⌝ }
+    ensures blank { λ r. ⌜ now (lent .exit) ≡ replicate (length (now (lent .entry))) 0 ⌝ }
 {
     let mut known = [0; 35840];
-    let mut spare = [0; 16384];
-    judge_ranged(
+    let f = judge_ranged(
         text,
         d,
         e,
@@ -350,14 +353,16 @@ fn judge_many(
         missing,
         wanted,
         &mut known,
-        &mut spare,
+        lent,
         z,
         places,
-    )
+    );
+    cells::clear(lent);
+    f
 }
 
 // The fault by which the stage of 13 to 16 and 18 answers; `places` are those of the thirteen kinds' words. The words under which something must be
-// stated are put into the table of names.
+// stated are put into the table of names. Blank room that is lent is blank again in the end.
 pub fn judge_all(
     text: &[u8],
     d: &[usize],
@@ -365,12 +370,14 @@ pub fn judge_all(
     o: &[usize],
     st: &[usize],
     names: &mut [usize],
+    lent: &mut [usize],
     z: Sizes,
     places: [usize; 13],
 ) -> Fault
     requires { ⌜ Names (now text) (now d) (now e) (now o) (now st) z (now names) ⌝ }
     ensures judges { λ r. ⌜ JudgesAll (now (text .entry)) (now (d .entry)) (now (e .entry)) (now (o .entry)) (now (st .entry)) z places r ⌝ }
     ensures keeps { λ r. ⌜ Names (now (text .entry)) (now (d .entry)) (now (e .entry)) (now (o .entry)) (now (st .entry)) z (now (names .exit)) ⌝ }
+    ensures lends { λ r. ⌜ StaysBlank (now (lent .entry)) (now (lent .exit)) ⌝ }
 {
     if 512 < z.definitions {
         return Fault {
@@ -397,5 +404,17 @@ pub fn judge_all(
     if wanting::listed(d, &wanted) < 1024 {
         return judge_few(text, d, e, o, st, names, &missing, &wanted, z, &places);
     }
-    judge_many(text, d, e, o, st, names, &missing, &wanted, z, &places)
+    judge_many(
+        text,
+        d,
+        e,
+        o,
+        st,
+        names,
+        &missing,
+        &wanted,
+        lent,
+        z,
+        &places,
+    )
 }

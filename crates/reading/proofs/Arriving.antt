@@ -28,7 +28,6 @@ use Rattle.meaning.specs.Actions.{syntax}
 use Rattle.meaning.specs.Faults.{first, Fault as Refusal}
 use Rattle.meaning.specs.Defining.{definition-faults}
 use Rattle.meaning.specs.Applying.{object-faults}
-use Rattle.meaning.specs.Judging.{statement-stage}
 use Rattle.meaning.specs.Answers.{Answer as Meant, refused, unless, answer}
 use Rattle.meaning.specs.Reading.{not-grammar, meant, reading}
 use Rattle.meaning.proofs.Whole.{one-answer}
@@ -39,7 +38,7 @@ use Rattle.walk.specs.Whole.{Rooms, Few, Whole}
 use Rattle.walk.specs.declared.Walked.{Walked}
 use Rattle.reading.specs.Decisions.{grammarFault, Merged, KeptParts, orElse, stageFault, Decided, blank, Staged}
 use Rattle.reading.specs.declared.Decision.{Decision}
-use Rattle.meaning.proofs.Numbered.{NumberedOne, of-definitions, of-objects, of-stage, of-first}
+use Rattle.meaning.proofs.Numbered.{NumberedOne, of-definitions, of-objects, of-first}
 
 -- The grammar stage ------------------------------------------------------------------------------------------------------------------------
 
@@ -143,7 +142,7 @@ arrived s y w h l z =
 pub reading-is : (s : List ℕ) (f : File) → Situation s f → Covered s → reading s ≡ answer f
 reading-is s f t c = one-answer (meant c (t .derivation)) ∙ ap answer (sym (t .syntax-of))
 
--- The stages from 6 to 18 ----------------------------------------------------------------------------------------------------------------------
+-- The stages of 6 to 12 and of 17 ----------------------------------------------------------------------------------------------------------------------
 
 module _ (b : Option Refusal) where
   -- A stage with a fault answers,
@@ -158,21 +157,23 @@ module _ (b : Option Refusal) where
   answers-next none r h e n = refl
   answers-next (some x) r h e n = absurd (let m : r .number ≡ x .number = ap (λ (q : Fault). q .number) e in omega arith)
 
-all-none : (a b c : Option Refusal) → NumberedOne a → NumberedOne b → NumberedOne c → fault-of (orElse a (orElse b c)) .number ≡ 0
-    → (a ≡ none) × ((b ≡ none) × (c ≡ none))
+all-none : (a b : Option Refusal) → NumberedOne a → NumberedOne b → fault-of (orElse a b) .number ≡ 0 → (a ≡ none) × (b ≡ none)
 unfolding fault-of orElse
-all-none none none none p q r e = (refl, (refl, refl))
-all-none none none (some x) p q r e = absurd (omega arith)
-all-none none (some x) c p q r e = absurd (omega arith)
-all-none (some x) b c p q r e = absurd (omega arith)
+all-none none none p q e = (refl, refl)
+all-none none (some x) p q e = absurd (omega arith)
+all-none (some x) b p q e = absurd (omega arith)
 
-stages-refuse : (a b c : Option Refusal) (k : Unit {0} → Meant) (r : Fault) → r ≡ fault-of (orElse a (orElse b c)) → (r .number ≡ 0 → ⊥)
-    → unless a (λ _. unless b (λ _. unless c k)) ≡ refused (r .number) (r .place)
+-- A stage with a fault refuses.
+pub stage-refuses : (a : Option Refusal) (k : Unit {0} → Meant) (r : Fault) → r ≡ fault-of a → (r .number ≡ 0 → ⊥) → unless a k ≡ refused (r .number) (r .place)
+unfolding fault-of unless
+stage-refuses none k r e n = absurd (n (ap (λ (q : Fault). q .number) e))
+stage-refuses (some x) k r e n = ap (λ (q : Fault). refused (q .number) (q .place)) (sym e)
+
+stages-refuse : (a b : Option Refusal) (k : Unit {0} → Meant) (r : Fault) → r ≡ fault-of (orElse a b) → (r .number ≡ 0 → ⊥)
+    → unless a (λ _. unless b k) ≡ refused (r .number) (r .place)
 unfolding fault-of orElse unless
-stages-refuse none none none k r e n = absurd (n (ap (λ (q : Fault). q .number) e))
-stages-refuse none none (some x) k r e n = ap (λ (q : Fault). refused (q .number) (q .place)) (sym e)
-stages-refuse none (some x) c k r e n = ap (λ (q : Fault). refused (q .number) (q .place)) (sym e)
-stages-refuse (some x) b c k r e n = ap (λ (q : Fault). refused (q .number) (q .place)) (sym e)
+stages-refuse none b k r e n = stage-refuses b k r e n
+stages-refuse (some x) b k r e n = ap (λ (q : Fault). refused (q .number) (q .place)) (sym e)
 
 -- What the fault of these stages decides.
 pub decided : (s : List ℕ) (y : Rooms) (y′ : Merged) (w : Walked) (d : Decision) (t : Arrived s y w) → Staged s y′ (t .file) d → Decided s y′ d
@@ -183,16 +184,15 @@ decided s y y′ w d t g =
     record {
       refused-by = λ n.
           reading-is s f (t .kept .situation) (t .covered)
-          ∙ stages-refuse (first (definition-faults f)) (first (object-faults f)) (first (statement-stage f)) _ (d .fault) e n;
+          ∙ stages-refuse (first (definition-faults f)) (first (object-faults f)) _ (d .fault) e n;
       passes = λ n.
-          let z = all-none (first (definition-faults f)) (first (object-faults f)) (first (statement-stage f)) (of-first (definition-faults f) (of-definitions f))
-          (of-first (object-faults f) (of-objects f)) (of-first (statement-stage f) (of-stage f)) (sym (ap (λ (q : Fault). q .number) e) ∙ n) in
+          let z = all-none (first (definition-faults f)) (first (object-faults f)) (of-first (definition-faults f) (of-definitions f))
+          (of-first (object-faults f) (of-objects f)) (sym (ap (λ (q : Fault). q .number) e) ∙ n) in
           record {
             file = f;
             kept = g .kept n;
             covered = t .covered;
             no-definition-fault = z .0;
-            no-object-fault = z .1 .0;
-            no-statement-fault = z .1 .1;
+            no-object-fault = z .1;
           };
     }

@@ -1,4 +1,4 @@
--- The stages from 6 to 18 of a text whose rows are kept, one after the other. Assumes nothing.
+-- The stages of 6 to 12 and of 17 of a text whose rows are kept, one after the other. Assumes nothing.
 use mathlib.Core.Path.{_≡_, sym, _∙_, ap, subst}
 use mathlib.Core.List.{List}
 use mathlib.Core.Bool.{true, false}
@@ -27,15 +27,17 @@ use Rattle.merging.specs.Promises.{Parted, Merges}
 use Rattle.merging.proofs.Storing.{cells-of}
 use Rattle.merging.proofs.Laying.{merge-count}
 use Rattle.defining_checks.specs.Promises.{DefinitionFaults}
-use Rattle.judging.specs.Promises.{JudgesAll}
-use Rattle.scopes.specs.declared.Sizes.{Sizes}
 use Rattle.walk.specs.Whole.{Rooms, Whole}
 use Rattle.walk.specs.declared.Walked.{Walked}
 use Rattle.reading.specs.Decisions.{grammarFault, Kept, KeptParts, orElse, stageFault, Stages, Decides}
 use Rattle.reading.specs.declared.Decision.{Decision}
 use Rattle.meaning.proofs.Numbered.{of-definitions, of-objects, of-first}
 use Rattle.reading.proofs.Arriving.{refused-early, arrived, answers-first, answers-next, decided}
-use Rattle.reading.proofs.Settling.{fitting, given, places}
+use Rattle.reading.proofs.Settling.{fitting}
+
+rooms-of : (d e p q a b c g : List ℕ) → d ≡ a → e ≡ b → p ≡ c → q ≡ g
+    → _≡_ {A = Rooms} (record { definitions = d; enumerators = e; parts = p; statements = q }) (record { definitions = a; enumerators = b; parts = c; statements = g })
+rooms-of d e p q a b c g h i j k = rw (h, i, j, k)
 
 -- The rows of the objects are kept.
 module _ {s : List ℕ} {y : Rooms} {w : Walked} {f : File} (k : KeptParts s y w f) (p : first (definition-faults f) ≡ none) (q : first (object-faults f) ≡ none) where
@@ -85,7 +87,8 @@ module _ (s : List ℕ) (y : Rooms) (w : Walked) (a : Fault)
 
   pub by-first : (o t o′ t′ : List ℕ) (n : ℕ) (cs : List ℕ) → isFault a ≡ true → Stages s y o t o′ t′ w (record { fault = a; walked = w; objects = n; counts = cs })
   unfolding stageFault
-  by-first o t o′ t′ n cs h f k eo et = record { fault = answers-first _ (first (definition-faults f)) a (stage-one f k) (is-one a h); kept = λ n. absurd (is-one a h n) }
+  by-first o t o′ t′ n cs h f k eo et =
+      record { fault = answers-first (first (object-faults f)) (first (definition-faults f)) a (stage-one f k) (is-one a h); kept = λ n. absurd (is-one a h n) }
 
   module _ (h : isFault a ≡ false) (x : List ℕ) (l : ℕ) (e : l ≡ min (w .parts) 513) (F : FirstRows 0 s (y .parts) l x) (b : Checked)
       (q : ObjectFaults s (y .parts) (y .statements) x (w .parts) (w .statements) (w .counts) (w .«cpu_at») b) where
@@ -99,51 +102,46 @@ module _ (s : List ℕ) (y : Rooms) (w : Walked) (a : Fault)
     after-first : (f : File) → KeptParts s y w f → (o : Option Refusal) → fault-of o ≡ fault-of (orElse (first (definition-faults f)) o)
     after-first f k o = answers-next o (first (definition-faults f)) a (of-first (definition-faults f) (of-definitions f)) (stage-one f k) (is-none a h)
 
-    pub by-second : (o t o′ t′ : List ℕ) (n : ℕ) (cs : List ℕ) → isFault (b .fault) ≡ true → Stages s y o t o′ t′ w (record { fault = b .fault; walked = w; objects = n; counts = cs })
+    both-stages : (f : File) → KeptParts s y w f → b .fault ≡ fault-of (stageFault f)
     unfolding stageFault
-    by-second o t o′ t′ n cs i f k eo et = record {
-      fault = answers-first _ (first (object-faults f)) (b .fault) (stage-two f k) (is-one (b .fault) i) ∙ after-first f k _;
-      kept = λ n. absurd (is-one (b .fault) i n);
-    }
+    both-stages f k = stage-two f k ∙ after-first f k (first (object-faults f))
+
+    pub by-second : (o t o′ t′ : List ℕ) (n : ℕ) (cs : List ℕ) → isFault (b .fault) ≡ true → Stages s y o t o′ t′ w (record { fault = b .fault; walked = w; objects = n; counts = cs })
+    by-second o t o′ t′ n cs i f k eo et = record { fault = both-stages f k; kept = λ n. absurd (is-one (b .fault) i n) }
 
     pub by-third : isFault (b .fault) ≡ false → (o t o′ t′ : List ℕ) (r : ℕ) → Merges (y .parts) (y .statements) x (w .parts) o t o′ t′ r
-        → (z : Sizes) (c : Fault) → z .definitions ≡ w .definitions → z .enumerators ≡ w .enumerators → z .objects ≡ b .objects
-        → JudgesAll s (y .definitions) (y .enumerators) o′ t′ z (w .places) c → Stages s y o t o′ t′ w (record { fault = c; walked = w; objects = b .objects; counts = b .counts })
-    unfolding stageFault
-    by-third i o t o′ t′ r M z c d e₁ e₂ j f k eo et =
+        → Stages s y o t o′ t′ w (record { fault = b .fault; walked = w; objects = b .objects; counts = b .counts })
+    by-third i o t o′ t′ r M f k eo et =
         let n₁ = none-there (first (definition-faults f)) (of-first (definition-faults f) (of-definitions f)) (ap (λ (q : Fault). q .number) (sym (stage-one f k)) ∙ is-none a h) in
         let n₂ = none-there (first (object-faults f)) (of-first (object-faults f) (of-objects f)) (ap (λ (q : Fault). q .number) (sym (stage-two f k)) ∙ is-none (b .fault) i) in
         let C = checked f k in
-        let K = kept-merged k n₁ n₂ x o t o′ t′ l r (b .objects) (b .counts) c e F M eo et (C .objects) (C .counted) in
         record {
-          fault = j f (given K n₁ n₂ z d e₁ e₂) (places K)
-              ∙ answers-next _ (first (object-faults f)) (b .fault) (of-first (object-faults f) (of-objects f)) (stage-two f k) (is-none (b .fault) i)
-              ∙ after-first f k _;
-          kept = λ n. K;
+          fault = both-stages f k;
+          kept = λ n. kept-merged k n₁ n₂ x o t o′ t′ l r (b .objects) (b .counts) (b .fault) e F M eo et (C .objects) (C .counted);
         }
-
--- Where a fault answers nothing is said of the table of names.
-pub names-never : (c : Fault) {X : Type 0} → isFault c ≡ true → c .number ≡ 0 → X
-names-never c h n = absurd (is-one c h n)
 
 -- The decision -----------------------------------------------------------------------------------------------------------------------------
 
-pub decides-early : (s : List ℕ) (x y : Rooms) (o t o′ t′ : List ℕ) (w : Walked) (g : Fault) (n : ℕ) (cs : List ℕ) → Whole s x y w → g ≡ grammarFault (answerOf (w .look)) → isFault g ≡ true
-    → Decides s x y o t o′ t′ (record { fault = g; walked = w; objects = n; counts = cs })
-decides-early s x y o t o′ t′ w g m cs h e i =
-    record {
-      sizes = h .sizes;
-      decided = λ l b eo et. record { refused-by = λ n. refused-early s x y w h l g e n; passes = λ n. absurd (is-one g i n) };
-    }
+module _ (s d e o t : List ℕ) (x y : Rooms) (o′ t′ : List ℕ) (w : Walked) (g : Fault) (hd : x .definitions ≡ d) (he : x .enumerators ≡ e) (h : Whole s x y w)
+    (i : g ≡ grammarFault (answerOf (w .look))) where
+  pub decides-early : (n : ℕ) (cs : List ℕ) → isFault g ≡ true
+      → Decides s d e o t (record { definitions = y .definitions; enumerators = y .enumerators; objects = o′; statements = t′ }) (record { fault = g; walked = w; objects = n; counts = cs })
+  decides-early m cs j =
+      record {
+        definitions-size = h .sizes .definitions ∙ ap length hd;
+        enumerators-size = h .sizes .enumerators ∙ ap length he;
+        decided = λ l bd be eo et. record { refused-by = λ n. refused-early s x y w h l g i n; passes = λ n. absurd (is-one g j n) };
+      }
 
-pub decides-late : (s : List ℕ) (x y : Rooms) (o t o′ t′ : List ℕ) (w : Walked) (g : Fault) (r : Decision) → Whole s x y w → g ≡ grammarFault (answerOf (w .look)) → isFault g ≡ false
-    → Stages s y o t o′ t′ w r → Decides s x y o t o′ t′ r
-unfolding grammarFault
-decides-late s x y o t o′ t′ w g r h e i k =
-    record {
-      sizes = h .sizes;
-      decided = λ l b eo et.
-          let z : numberOf (answerOf (w .look)) ≡ 0 = sym (ap (λ (q : Fault). q .number) e) ∙ is-none g i in
-          let v = arrived s y w (subst (λ q. Whole s q y w) b h) l z in
-          decided s y (record { definitions = y .definitions; enumerators = y .enumerators; objects = o′; statements = t′ }) w r v (k (v .file) (v .kept) eo et);
-    }
+  pub decides-late : x .parts ≡ replicate 5130 0 → x .statements ≡ replicate 14343 0 → (r : Decision) → isFault g ≡ false → Stages s y o t o′ t′ w r
+      → Decides s d e o t (record { definitions = y .definitions; enumerators = y .enumerators; objects = o′; statements = t′ }) r
+  unfolding grammarFault
+  decides-late hp hq r j k =
+      record {
+        definitions-size = h .sizes .definitions ∙ ap length hd;
+        enumerators-size = h .sizes .enumerators ∙ ap length he;
+        decided = λ l bd be eo et.
+            let z : numberOf (answerOf (w .look)) ≡ 0 = sym (ap (λ (q : Fault). q .number) i) ∙ is-none g j in
+            let v = arrived s y w (subst (λ q. Whole s q y w) (rooms-of _ _ _ _ _ _ _ _ (hd ∙ bd) (he ∙ be) hp hq) h) l z in
+            decided s y (record { definitions = y .definitions; enumerators = y .enumerators; objects = o′; statements = t′ }) w r v (k (v .file) (v .kept) eo et);
+      }

@@ -1,4 +1,4 @@
--- Where no stage up to 18 has a fault: what the rows written come to. Assumes nothing.
+-- Where no stage up to 12 and 17 has a fault: what the statements and the rows written come to. Assumes nothing.
 use mathlib.Core.Path.{_≡_, refl, sym, _∙_, ap, subst}
 use mathlib.Core.List.{List, [], _∷_}
 use mathlib.Core.Option.{none}
@@ -14,6 +14,11 @@ use Rattle.meaning.specs.Kinds.{kind-number}
 use Rattle.meaning.specs.Faults.{first, sooner}
 use Rattle.meaning.specs.Defining.{definition-rows, all-definition-rows, enumerator-rows, all-enumerator-rows, definition-faults}
 use Rattle.meaning.specs.Applying.{object-rows, counts, object-faults}
+use Rattle.meaning.specs.Judging.{statement-stage}
+use Rattle.meaning.proofs.Numbered.{of-stage, of-first}
+use Rattle.rows.specs.declared.Fault.{Fault}
+use Rattle.scopes.specs.Promises.{fault-of}
+use Rattle.scopes.proofs.Firsts.{none-there}
 use Rattle.meaning.specs.Resolving.{Resolved, all-values, all-value-rows, how-many-in-all, too-many}
 use Rattle.meaning.specs.Answers.{Tables, accepted, refused, unless, tables, answer}
 use Rattle.meaning.specs.Cells.{cells, zeros, room-cells, definition-room, enumerator-room, object-room, value-room, rooms-after, definition-cells, enumerator-cells, object-cells, value-cells}
@@ -35,7 +40,7 @@ use Rattle.reading.specs.Decisions.{Merged, Kept, Passed, Filled}
 use Rattle.reading.specs.declared.Decision.{Decision}
 use Rattle.reading.specs.declared.Answer.the-variants.{Accepted}
 use Rattle.reading.specs.declared.Reading.{Reading}
-use Rattle.reading.proofs.Arriving.{reading-is}
+use Rattle.reading.proofs.Arriving.{reading-is, stage-refuses}
 use Rattle.meaning.proofs.Merges.{syntax-merged}
 use Rattle.merging.proofs.Laying.{merge-count}
 
@@ -168,38 +173,50 @@ refused-fills s n p d e o v r q h d₀ e₀ o₀ v₀ =
       values = blank-room 18432 value-cells v v₀ ∙ ap (λ a. rooms-after a .values) (sym q);
     }
 
--- Refusal 19, and an accepted text -----------------------------------------------------------------------------------------------------------
+-- The statements -----------------------------------------------------------------------------------------------------------------------------
 
 module _ (s : List ℕ) (y : Merged) (w : Decision) (p : Passed s y w) where
-  file : File
-  file = p .file
-
-  values : List Resolved
-  values = all-values (p .file) (p .file .objects)
-
-  settled : answer (p .file) ≡ unless (first (too-many (how-many-in-all (all-values (p .file) (p .file .objects))))) (λ _. accepted (tables (p .file) (all-values (p .file) (p .file .objects))))
+  settled : answer (p .file)
+      ≡ unless (first (statement-stage (p .file))) (λ _. unless (first (too-many (how-many-in-all (all-values (p .file) (p .file .objects))))) (λ _. accepted (tables (p .file) (all-values (p .file) (p .file .objects)))))
   unfolding answer unless
-  settled = rw (p .no-definition-fault, p .no-object-fault, p .no-statement-fault)
+  settled = rw (p .no-definition-fault, p .no-object-fault)
 
-  pub too-many-values : 2048 < how-many-in-all (all-values (p .file) (p .file .objects)) → reading s ≡ refused 19 0
-  unfolding too-many choose first sooner unless
-  too-many-values h =
-      reading-is s (p .file) (p .kept .situation) (p .covered) ∙ settled
-      ∙ rw (lt-ltb 2048 (how-many-in-all (all-values (p .file) (p .file .objects))) h)
+  -- A fault of theirs refuses the text,
+  pub statement-refused : (c : Fault) → c ≡ fault-of (first (statement-stage (p .file))) → (c .number ≡ 0 → ⊥) → reading s ≡ refused (c .number) (c .place)
+  statement-refused c e n =
+      reading-is s (p .file) (p .kept .situation) (p .covered) ∙ settled ∙ stage-refuses (first (statement-stage (p .file))) _ c e n
 
-  pub few-values : how-many-in-all (all-values (p .file) (p .file .objects)) ≤ 2048
-      → reading s ≡ accepted (tables (p .file) (all-values (p .file) (p .file .objects)))
-  unfolding too-many choose first unless
-  few-values h =
-      reading-is s (p .file) (p .kept .situation) (p .covered) ∙ settled
-      ∙ rw (le-ltb 2048 (how-many-in-all (all-values (p .file) (p .file .objects))) h)
+  -- and where there is none,
+  pub no-statement-fault : (c : Fault) → c ≡ fault-of (first (statement-stage (p .file))) → c .number ≡ 0 → first (statement-stage (p .file)) ≡ none
+  no-statement-fault c e n =
+      none-there (first (statement-stage (p .file))) (of-first (statement-stage (p .file)) (of-stage (p .file))) (ap (λ (q : Fault). q .number) (sym e) ∙ n)
+
+  -- refusal 19, and an accepted text.
+  module _ (none-stated : first (statement-stage (p .file)) ≡ none) where
+    passed : answer (p .file)
+        ≡ unless (first (too-many (how-many-in-all (all-values (p .file) (p .file .objects))))) (λ _. accepted (tables (p .file) (all-values (p .file) (p .file .objects))))
+    unfolding unless
+    passed = settled ∙ rw none-stated
+
+    pub too-many-values : 2048 < how-many-in-all (all-values (p .file) (p .file .objects)) → reading s ≡ refused 19 0
+    unfolding too-many choose first sooner unless
+    too-many-values h =
+        reading-is s (p .file) (p .kept .situation) (p .covered) ∙ passed
+        ∙ rw (lt-ltb 2048 (how-many-in-all (all-values (p .file) (p .file .objects))) h)
+
+    pub few-values : how-many-in-all (all-values (p .file) (p .file .objects)) ≤ 2048
+        → reading s ≡ accepted (tables (p .file) (all-values (p .file) (p .file .objects)))
+    unfolding too-many choose first unless
+    few-values h =
+        reading-is s (p .file) (p .kept .situation) (p .covered) ∙ passed
+        ∙ rw (le-ltb 2048 (how-many-in-all (all-values (p .file) (p .file .objects))) h)
 
 accepted-is : (a b c n : ℕ) (k : List ℕ) (t : Tables) → a ≡ length (t .definitions) → b ≡ length (t .enumerators) → c ≡ length (t .objects) → n ≡ length (t .values) → k ≡ t .counts
     → record { answer = Accepted; definitions = a; enumerators = b; objects = c; values = n; counts = k } ≡ readingOf (accepted t)
 unfolding readingOf
 accepted-is a b c n k t p q r h e = rw (p, q, r, h, e)
 
-module _ (s : List ℕ) (y : Merged) (w : Decision) (p : Passed s y w) where
+module _ (s : List ℕ) (y : Merged) (w : Decision) (p : Passed s y w) (none-stated : first (statement-stage (p .file)) ≡ none) where
   -- The rooms of an accepted text.
   pub accepted-fills : (n : ℕ) (d e o v v₀ : List ℕ) → n ≡ min 2049 (how-many-in-all (all-values (p .file) (p .file .objects))) → n ≤ 2048 → v₀ ≡ replicate 18432 0
       → v ≡ sets v₀ 0 (cells value-cells (all-value-rows (all-values (p .file) (p .file .objects)) 0 0))
@@ -211,7 +228,7 @@ module _ (s : List ℕ) (y : Merged) (w : Decision) (p : Passed s y w) where
       let rs = all-values f (f .objects) in
       let rows = all-value-rows rs 0 0 in
       let few : how-many-in-all rs ≤ 2048 = omega arith in
-      let q = few-values s y w p few in
+      let q = few-values s y w p none-stated few in
       let k = p .kept in
       let l : n ≡ length rows = let i = value-rows-length rs 0 0 in omega arith in
       let m = cells-length 9 value-cells value-width rows in

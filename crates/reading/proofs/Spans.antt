@@ -7,10 +7,9 @@ use lib.ListN.{length, replicate}
 use Rattle.rows.proofs.Orders.{is-none}
 use Rattle.meaning.specs.Answers.{Answer as Meant, accepted, refused}
 use Rattle.meaning.specs.Reading.{reading}
-use Rattle.walk.specs.Whole.{Rooms}
 use Rattle.rows.specs.Order.{isFault}
 use Rattle.reading.specs.Results.{readingOf, SpansOf, NoSpans}
-use Rattle.reading.specs.Decisions.{blank, Decides, Filled, Unspanned, FilledSpanned}
+use Rattle.reading.specs.Decisions.{Merged, Decides, Filled, Unspanned, FilledSpanned}
 use Rattle.reading.specs.declared.Answer.{Answer}
 use Rattle.reading.specs.declared.Answer.the-variants.{Accepted, Refused}
 use Rattle.reading.specs.declared.Decision.{Decision}
@@ -51,11 +50,11 @@ settled-refused s d e o v x r n p f h u =
     (record { result = u .reading ∙ sym q; definitions = f .definitions; enumerators = f .enumerators; objects = f .objects; values = f .values })
 
 -- What passed has the spans that the walk found.
-pub settled-spanned : (s : List ℕ) → length s ≤ 65535 → (y : Rooms) (m n : List ℕ) (x : Decision) → Decides s blank y (replicate 2570 0) (replicate 14343 0) m n x → isFault (x .fault) ≡ false
+pub settled-spanned : (s : List ℕ) → length s ≤ 65535 → (y : Merged) (x : Decision) → Decides s (replicate 9747 0) (replicate 3075 0) (replicate 2570 0) (replicate 14343 0) y x → isFault (x .fault) ≡ false
     → (d e o v : List ℕ) (r : Reading) → Filled s d e o v r → r .answer ≡ Accepted
     → FilledSpanned s d e o v (record { reading = r; «implementation_at» = x .walked .«implementation_at»; «implementation_len» = x .walked .«implementation_len»; «cpu_at» = x .walked .«cpu_at»; «cpu_len» = x .walked .«cpu_len»; places = x .walked .places })
-settled-spanned s h y m n x t i d e o v r f a =
-    let p = t .decided h refl refl refl .passes (is-none (x .fault) i) in
+settled-spanned s h y x t i d e o v r f a =
+    let p = t .decided h refl refl refl refl .passes (is-none (x .fault) i) in
     let k = p .kept in
     record {
       filled = f;

@@ -20,8 +20,7 @@ use Rattle.layout.specs.Kept.{spec-entries, spec-choices, statement-count, kept
 use Rattle.scopes.specs.Situations.{Situation}
 use Rattle.scopes.specs.Promises.{fault-of}
 use Rattle.scopes.specs.declared.Sizes.{Sizes}
-use Rattle.lookups.specs.Names.{Names}
-use Rattle.walk.specs.Whole.{Rooms, Stands, kind-places, SameSizes}
+use Rattle.walk.specs.Whole.{Rooms, Stands, kind-places}
 use Rattle.walk.specs.declared.Walked.{Walked}
 use Rattle.reading.specs.Results.{readingOf, SpansOf, NoSpans}
 use Rattle.reading.specs.declared.Answer.the-variants.{Accepted, Refused}
@@ -80,18 +79,14 @@ pub record KeptParts (s : List ℕ) (y : Rooms) (w : Walked) (f : File) : Type 0
 abbrev pub sizes-of : Decision → Sizes
 sizes-of r = record { definitions = r .walked .definitions; enumerators = r .walked .enumerators; objects = r .objects }
 
--- Where r has no fault, x is the table of the names of the rows in y.
-abbrev pub NamesOf : (s : List ℕ) → Merged → Decision → List ℕ → Type 0
-NamesOf s y r x = r .fault .number ≡ 0 → Names s (y .definitions) (y .enumerators) (y .objects) (y .statements) (sizes-of r) x
-
 -- The first of two faults that there is.
 unfoldable pub orElse : Option Refusal → Option Refusal → Option Refusal
 orElse none o = o
 orElse (some x) o = some x
 
--- The fault by which the stages from 6 to 18 answer.
+-- The fault by which the stages of 6 to 12 and of 17 answer.
 unfoldable pub stageFault : File → Option Refusal
-stageFault f = orElse (first (definition-faults f)) (orElse (first (object-faults f)) (first (statement-stage f)))
+stageFault f = orElse (first (definition-faults f)) (first (object-faults f))
 
 -- The stages have decided; where none has a fault the rows of the objects are in the tables y.
 pub record Staged (s : List ℕ) (y : Merged) (f : File) (r : Decision) : Type 0 where
@@ -104,14 +99,13 @@ Stages s y o t o′ t′ w r =
     (f : File) → KeptParts s y w f → o ≡ replicate 2570 0 → t ≡ replicate 14343 0
     → Staged s (record { definitions = y .definitions; enumerators = y .enumerators; objects = o′; statements = t′ }) f r
 
--- No stage up to 18 has a fault.
+-- No stage up to 12 and 17 has a fault.
 pub record Passed (s : List ℕ) (y : Merged) (w : Decision) : Type 0 where
   pub file : File
   pub kept : Kept s y w file
   pub covered : Covered s
   pub no-definition-fault : first (definition-faults file) ≡ none
   pub no-object-fault : first (object-faults file) ≡ none
-  pub no-statement-fault : first (statement-stage file) ≡ none
 
 pub record Decided (s : List ℕ) (y : Merged) (r : Decision) : Type 0 where
   pub refused-by : (r .fault .number ≡ 0 → ⊥) → reading s ≡ refused (r .fault .number) (r .fault .place)
@@ -121,10 +115,10 @@ pub record Decided (s : List ℕ) (y : Merged) (r : Decision) : Type 0 where
 abbrev pub blank : Rooms
 blank = record { definitions = replicate 9747 0; enumerators = replicate 3075 0; parts = replicate 5130 0; statements = replicate 14343 0 }
 
-pub record Decides (s : List ℕ) (x y : Rooms) (o t o′ t′ : List ℕ) (r : Decision) : Type 0 where
-  pub sizes : SameSizes x y
-  pub decided : length s ≤ 65535 → x ≡ blank → o ≡ replicate 2570 0 → t ≡ replicate 14343 0
-      → Decided s (record { definitions = y .definitions; enumerators = y .enumerators; objects = o′; statements = t′ }) r
+pub record Decides (s d e o t : List ℕ) (y : Merged) (r : Decision) : Type 0 where
+  pub definitions-size : length (y .definitions) ≡ length d
+  pub enumerators-size : length (y .enumerators) ≡ length e
+  pub decided : length s ≤ 65535 → d ≡ replicate 9747 0 → e ≡ replicate 3075 0 → o ≡ replicate 2570 0 → t ≡ replicate 14343 0 → Decided s y r
 
 -- The rooms of the lent tables, and the answer, are those of the text s.
 pub record Filled (s d′ e′ o′ v′ : List ℕ) (r : Reading) : Type 0 where
@@ -152,8 +146,13 @@ pub record BlankRooms (d e o v : List ℕ) : Type 0 where
   pub objects : o ≡ replicate 2048 0
   pub values : v ≡ replicate 18432 0
 
+-- Where the statements have no fault,
 abbrev pub Settles : (s : List ℕ) → Merged → Decision → (d e o v d′ e′ o′ v′ : List ℕ) → Reading → Type 0
-Settles s y w d e o v d′ e′ o′ v′ r = Passed s y w → BlankRooms d e o v → Filled s d′ e′ o′ v′ r
+Settles s y w d e o v d′ e′ o′ v′ r = (p : Passed s y w) → first (statement-stage (p .file)) ≡ none → BlankRooms d e o v → Filled s d′ e′ o′ v′ r
+
+-- and whether they have one or not.
+abbrev pub Concludes : (s : List ℕ) → Merged → Decision → (d e o v d′ e′ o′ v′ : List ℕ) → Reading → Type 0
+Concludes s y w d e o v d′ e′ o′ v′ r = Passed s y w → BlankRooms d e o v → Filled s d′ e′ o′ v′ r
 
 -- The lent parts are the rooms.
 pub record RoomSizes (d e o v : List ℕ) : Type 0 where

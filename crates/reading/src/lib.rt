@@ -1,6 +1,5 @@
 // Reading a text into four lent tables.
 ghost use mathlib.Core.Path.{_≡_};
-ghost use lib.ListN.{length};
 ghost use Rattle.meaning.specs.Answers.{refused};
 ghost use Rattle.meaning.specs.Rules.{FullRoom};
 ghost use Rattle.grammar.specs.Readers.{answerOf};
@@ -8,7 +7,7 @@ ghost use Rattle.lookups.specs.Names.{Names};
 ghost use Rattle.reading.specs.Results.{readingOf, Reads, ReadsSpanned};
 ghost use Rattle.reading.specs.Rules.{ReadsByRules};
 ghost use Rattle.reading.specs.Demand.{Demand-3};
-ghost use Rattle.reading.specs.Decisions.{grammarFault, sizes-of, NamesOf, Stages, Decides, Settles, RoomSizes, Unspanned, FilledSpanned};
+ghost use Rattle.reading.specs.Decisions.{grammarFault, sizes-of, Stages, Decides, Settles, Concludes, RoomSizes, Unspanned, FilledSpanned};
 use grammar::Answer as Grammar;
 use grammar::Look;
 use rows::Fault;
@@ -45,8 +44,8 @@ pub struct Spanned {
     pub places: [usize; 13],
 }
 
-// The fault by which the text is refused, or one of number 0, with what the walk tells; where there is none, how many objects there are, and how
-// many of each kind.
+// The fault up to 12 and 17 by which the text is refused, or one of number 0, with what the walk tells; where there is none, how many objects there are,
+// and how many of each kind.
 pub struct Decision {
     pub fault: Fault,
     pub walked: Walked,
@@ -107,7 +106,7 @@ fn grammar_fault(look: Look) -> Fault
     }
 }
 
-// The stages from 6 to 18: from the rows p and q of parts and their statements come the rows o and s of the objects, and the table of names.
+// The stages of 6 to 12 and of 17: from the rows p and q of parts and their statements come the rows o and s of the objects.
 fn stages(
     text: &[u8],
     d: &[usize],
@@ -116,12 +115,9 @@ fn stages(
     q: &[usize],
     o: &mut [usize],
     s: &mut [usize],
-    names: &mut [usize],
     w: Walked,
 ) -> Decision
-    requires { ⌜ length (now names) ≡ 6916 ⌝ }
-    ensures stages { λ r. ⌜ Stages (now (text .entry)) (record { definitions = now (d .entry); enumerators = now (e .entry); parts = now (p .entry); statements = now (q .entry) }) (now (o .entry)) (now (s .entry)) (now (o .exit)) (now (s .exit)) w r ⌝ }
-    ensures names { λ r. ⌜ NamesOf (now (text .entry)) (record { definitions = now (d .entry); enumerators = now (e .entry); objects = now (o .exit); statements = now (s .exit) }) r (now (names .exit)) ⌝ }
+    ensures { λ r. ⌜ Stages (now (text .entry)) (record { definitions = now (d .entry); enumerators = now (e .entry); parts = now (p .entry); statements = now (q .entry) }) (now (o .entry)) (now (s .entry)) (now (o .exit)) (now (s .exit)) w r ⌝ }
 {
     let none = [0; 13];
     let a = defining_checks::definition_faults(
@@ -166,39 +162,28 @@ fn stages(
     }
     merging::objects::merge(p, q, &x, w.parts, o, s);
     let of_kinds = b.counts;
-    let places = w.places;
-    let z = Sizes {
-        definitions: w.definitions,
-        enumerators: w.enumerators,
-        objects: b.objects,
-    };
-    lookups::names::note(text, d, e, o, s, z, w.statements, names);
-    let f = judging::judge_all(text, d, e, o, s, names, z, places);
     Decision {
-        fault: f,
+        fault: own,
         walked: w,
         objects: b.objects,
         counts: of_kinds,
     }
 }
 
-// The walk of the text and the faults up to 18.
+// The walk of the text and the faults up to 12 and 17. The rows of parts and their statements are given back with its frame, before statements are judged.
 fn decide(
     text: &[u8],
     d: &mut [usize],
     e: &mut [usize],
-    p: &mut [usize],
-    q: &mut [usize],
     o: &mut [usize],
     s: &mut [usize],
-    names: &mut [usize],
 ) -> Decision
-    requires { ⌜ length (now names) ≡ 6916 ⌝ }
-    ensures decides { λ r. ⌜ Decides (now (text .entry)) (record { definitions = now (d .entry); enumerators = now (e .entry); parts = now (p .entry); statements = now (q .entry) }) (record { definitions = now (d .exit); enumerators = now (e .exit); parts = now (p .exit); statements = now (q .exit) }) (now (o .entry)) (now (s .entry)) (now (o .exit)) (now (s .exit)) r ⌝ }
-    ensures names { λ r. ⌜ NamesOf (now (text .entry)) (record { definitions = now (d .exit); enumerators = now (e .exit); objects = now (o .exit); statements = now (s .exit) }) r (now (names .exit)) ⌝ }
+    ensures { λ r. ⌜ Decides (now (text .entry)) (now (d .entry)) (now (e .entry)) (now (o .entry)) (now (s .entry)) (record { definitions = now (d .exit); enumerators = now (e .exit); objects = now (o .exit); statements = now (s .exit) }) r ⌝ }
 {
     let none = [0; 13];
-    let w = walk::walk(text, d, e, p, q);
+    let mut p = [0; 5130];
+    let mut q = [0; 14343];
+    let w = walk::walk(text, d, e, &mut p, &mut q);
     let look = w.look;
     let g = grammar_fault(look);
     if faults::is_fault(g) {
@@ -209,7 +194,7 @@ fn decide(
             counts: none,
         };
     }
-    stages(text, d, e, p, q, o, s, names, w)
+    stages(text, d, e, &p, &q, o, s, w)
 }
 
 // The values, refusal 19, and the rows of the lent tables.
@@ -255,6 +240,49 @@ fn settle(
     }
 }
 
+// The table of names, the faults of 13 to 16 and 18, for which the room for values is lent, and the rest.
+fn conclude(
+    text: &[u8],
+    d: &[usize],
+    e: &[usize],
+    o: &[usize],
+    s: &[usize],
+    decision: Decision,
+    definitions: &mut [usize],
+    enumerators: &mut [usize],
+    objects: &mut [usize],
+    values: &mut [usize],
+) -> Reading
+    ensures { λ r. ⌜ Concludes (now (text .entry)) (record { definitions = now (d .entry); enumerators = now (e .entry); objects = now (o .entry); statements = now (s .entry) }) decision (now (definitions .entry)) (now (enumerators .entry)) (now (objects .entry)) (now (values .entry)) (now (definitions .exit)) (now (enumerators .exit)) (now (objects .exit)) (now (values .exit)) r ⌝ }
+{
+    let w = decision.walked;
+    let places = w.places;
+    let z = Sizes {
+        definitions: w.definitions,
+        enumerators: w.enumerators,
+        objects: decision.objects,
+    };
+    let mut names = [0; 6916];
+    lookups::names::note(text, d, e, o, s, z, w.statements, &mut names);
+    let f = judging::judge_all(text, d, e, o, s, &mut names, values, z, places);
+    if faults::is_fault(f) {
+        return refusal(f.number, f.place);
+    }
+    settle(
+        text,
+        d,
+        e,
+        o,
+        s,
+        &names,
+        decision,
+        definitions,
+        enumerators,
+        objects,
+        values,
+    )
+}
+
 // The text is read into rooms of the stated sizes.
 fn fill(
     text: &[u8],
@@ -275,33 +303,20 @@ fn fill(
     }
     let mut d = [0; 9747];
     let mut e = [0; 3075];
-    let mut p = [0; 5130];
-    let mut q = [0; 14343];
     let mut o = [0; 2570];
     let mut s = [0; 14343];
-    let mut names = [0; 6916];
-    let r = decide(
-        text,
-        &mut d,
-        &mut e,
-        &mut p,
-        &mut q,
-        &mut o,
-        &mut s,
-        &mut names,
-    );
+    let r = decide(text, &mut d, &mut e, &mut o, &mut s);
     let f = r.fault;
     if faults::is_fault(f) {
         return refused(f.number, f.place);
     }
     let w = r.walked;
-    let reading = settle(
+    let reading = conclude(
         text,
         &d,
         &e,
         &o,
         &s,
-        &names,
         r,
         definitions,
         enumerators,

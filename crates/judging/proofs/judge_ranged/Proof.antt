@@ -24,7 +24,7 @@ same-length-2 : tie.Need-same-length-2
 same-length-2 c = search needs
 
 returns : tie.Need-returns
-returns c = judges-marked _ _ _ _ _ _ _ _ _ _ _ ((c .before .before .before .before .before .before .before .before .before .before .before .before .before .before .before .before .before .before .before .before .before .before .before .before .pre) .0) ((c .before .before .before .before .before .before .before .before .before .before .before .before .before .before .before .before .before .before .before .before .before .before .before .before .pre) .1) (c .before .before .before .before .before .before .before .before .before .before .note-ranges .ensures) (c .before .before .before .before .put-cells .ensures) _ _ (c .judge-objects .ensures)
+returns c = (judges-marked _ _ _ _ _ _ _ _ _ _ _ ((c .before .before .before .before .before .before .before .before .before .before .before .before .before .before .before .before .before .before .before .before .before .before .before .before .pre) .0) ((c .before .before .before .before .before .before .before .before .before .before .before .before .before .before .before .before .before .before .before .before .before .before .before .before .pre) .1) (c .before .before .before .before .before .before .before .before .before .before .note-ranges .ensures) (c .before .before .before .before .put-cells .ensures) _ _ (c .judge-objects .ensures), record { size = same-length-2 c })
 
 pub judge-ranged-spec : {M : Type 1} → statement M
 judge-ranged-spec =

@@ -1,18 +1,16 @@
+use Rattle.reading.proofs.Deciding.{by-first, by-second, by-third}
+use mathlib.Core.Path.{sym, _∙_}
 use borrow.Author.Needs.{needs}
-use mathlib.Core.Path.{refl, sym, _∙_}
-use Rattle.reading.proofs.Deciding.{by-first, by-second, by-third, names-never}
 use Rattle.reading.proofs.stages.Statement.{statement}
 use Rattle.reading.proofs.stages.Tie as tie
 use Rattle.reading.proofs.stages.Reads as reads
 use Rattle.reading.proofs.stages.Lts as lts
 use Rattle.checks.proofs.objects.object_faults.Reads as object-faults-reads
 use Rattle.defining_checks.proofs.definition_faults.Reads as definition-faults-reads
-use Rattle.judging.proofs.judge_all.Reads as judge-all-reads
 use Rattle.merging.proofs.firsts.Reads as firsts-reads
 use Rattle.merging.proofs.objects.merge.Reads as merge-reads
 use Rattle.rows.proofs.cells.least_of.Reads as least-of-reads
 use Rattle.rows.proofs.faults.is_fault.Reads as is-fault-reads
-use Rattle.lookups.proofs.names.note.Reads as note-reads
 
 definition-faults-requires : tie.Need-definition-faults-requires
 definition-faults-requires c κs = search needs
@@ -21,7 +19,7 @@ is-fault-requires : tie.Need-is-fault-requires
 is-fault-requires c κs = search needs
 
 returns : tie.Need-returns
-returns c = (by-first _ _ _ _ (c .before .before .definition-faults .ensures) _ _ _ _ _ _ (sym (c .before .is-fault .ensures) ∙ (c .if1 .taken)), names-never _ (sym (c .before .is-fault .ensures) ∙ (c .if1 .taken)))
+returns c = by-first _ _ _ _ (c .before .before .definition-faults .ensures) _ _ _ _ _ _ (sym (c .before .is-fault .ensures) ∙ (c .if1 .taken))
 
 least-of-requires : tie.Need-least-of-requires
 least-of-requires c κs = search needs
@@ -39,7 +37,7 @@ is-fault-requires-2 : tie.Need-is-fault-requires-2
 is-fault-requires-2 c κs = search needs
 
 returns-2 : tie.Need-returns-2
-returns-2 c = (by-second _ _ _ _ (c .before .before .before .before .before .before .before .before .before .before .definition-faults .ensures) (sym (c .before .before .before .before .before .before .before .before .before .is-fault .ensures) ∙ (c .before .before .before .before .before .before .before .before .if1 .left)) _ _ (c .before .before .before .before .before .before .before .least-of .ensures) (c .before .before .before .before .before .before .firsts .ensures) _ (c .before .before .before .object-faults .ensures) _ _ _ _ _ _ (sym (c .before .is-fault2 .ensures) ∙ (c .if2 .taken)), names-never _ (sym (c .before .is-fault2 .ensures) ∙ (c .if2 .taken)))
+returns-2 c = by-second _ _ _ _ (c .before .before .before .before .before .before .before .before .before .before .definition-faults .ensures) (sym (c .before .before .before .before .before .before .before .before .before .is-fault .ensures) ∙ (c .before .before .before .before .before .before .before .before .if1 .left)) _ _ (c .before .before .before .before .before .before .before .least-of .ensures) (c .before .before .before .before .before .before .firsts .ensures) _ (c .before .before .before .object-faults .ensures) _ _ _ _ _ _ (sym (c .before .is-fault2 .ensures) ∙ (c .if2 .taken))
 
 slice-aggregate-merge : tie.Need-slice-aggregate-merge
 slice-aggregate-merge c = search needs
@@ -47,23 +45,14 @@ slice-aggregate-merge c = search needs
 merge-requires : tie.Need-merge-requires
 merge-requires c κs = search needs
 
-note-requires : tie.Need-note-requires
-note-requires c κs = (c .before .before .before .before .before .before .before .before .before .before .before .before .before .before .before .before .before .before .before .before .before .before .before .before .before .before .before .before .before .before .before .before .pre)
-
-judge-all-requires : tie.Need-judge-all-requires
-judge-all-requires c κs = (c .before .before .before .before .before .note .ensures)
-
 same-length : tie.Need-same-length
 same-length c = search needs
 
 same-length-2 : tie.Need-same-length-2
 same-length-2 c = search needs
 
-same-length-3 : tie.Need-same-length-3
-same-length-3 c = search needs
-
 returns-3 : tie.Need-returns-3
-returns-3 c = (by-third _ _ _ _ (c .before .before .before .before .before .before .before .before .before .before .before .before .before .before .before .before .before .before .before .before .before .before .before .before .before .before .before .before .before .before .before .before .definition-faults .ensures) (sym (c .before .before .before .before .before .before .before .before .before .before .before .before .before .before .before .before .before .before .before .before .before .before .before .before .before .before .before .before .before .before .before .is-fault .ensures) ∙ (c .before .before .before .before .before .before .before .before .before .before .before .before .before .before .before .before .before .before .before .before .before .before .before .before .before .before .before .before .before .before .if1 .left)) _ _ (c .before .before .before .before .before .before .before .before .before .before .before .before .before .before .before .before .before .before .before .before .before .before .before .before .before .before .before .before .before .least-of .ensures) (c .before .before .before .before .before .before .before .before .before .before .before .before .before .before .before .before .before .before .before .before .before .before .before .before .before .before .before .before .firsts .ensures) _ (c .before .before .before .before .before .before .before .before .before .before .before .before .before .before .before .before .before .before .before .before .before .before .before .before .before .object-faults .ensures) (sym (c .before .before .before .before .before .before .before .before .before .before .before .before .before .before .before .before .before .before .before .before .before .before .before .is-fault2 .ensures) ∙ (c .before .before .before .before .before .before .before .before .before .before .before .before .before .before .before .before .before .before .before .before .before .before .if2 .left)) _ _ _ _ _ (c .before .before .before .before .before .before .before .before .before .before .before .before .before .before .before .before .before .before .merge .ensures) _ _ refl refl refl ((c .before .before .judge-all .ensures) .0), λ n. (c .before .before .judge-all .ensures) .1)
+returns-3 c = by-third _ _ _ _ (c .before .before .before .before .before .before .before .before .before .before .before .before .before .before .before .before .before .before .before .definition-faults .ensures) (sym (c .before .before .before .before .before .before .before .before .before .before .before .before .before .before .before .before .before .before .is-fault .ensures) ∙ (c .before .before .before .before .before .before .before .before .before .before .before .before .before .before .before .before .before .if1 .left)) _ _ (c .before .before .before .before .before .before .before .before .before .before .before .before .before .before .before .before .least-of .ensures) (c .before .before .before .before .before .before .before .before .before .before .before .before .before .before .before .firsts .ensures) _ (c .before .before .before .before .before .before .before .before .before .before .before .before .object-faults .ensures) (sym (c .before .before .before .before .before .before .before .before .before .before .is-fault2 .ensures) ∙ (c .before .before .before .before .before .before .before .before .before .if2 .left)) _ _ _ _ _ (c .before .before .before .before .before .merge .ensures)
 
 pub stages-spec : {M : Type 1} → statement M
 stages-spec =
@@ -80,9 +69,6 @@ stages-spec =
     returns-2
     slice-aggregate-merge
     merge-requires
-    note-requires
-    judge-all-requires
     same-length
     same-length-2
-    same-length-3
     returns-3)

@@ -12,6 +12,7 @@ use Rattle.amounts.proofs.noting.put_rest.Reads as reads
 use Rattle.amounts.proofs.noting.put_rest.Lts as lts
 use Rattle.amounts.proofs.keys.has_key.Reads as has-key-reads
 use Rattle.amounts.proofs.keys.key.Reads as key-reads
+use Rattle.amounts.proofs.noting.comma_at.Reads as comma-at-reads
 use Rattle.scopes.proofs.numbers.item_at.Reads as item-at-reads
 
 abbrev Inv-loop : tie.InvT-loop
@@ -23,17 +24,17 @@ abbrev μ-loop : tie.MeasureT-loop
 loop-holds : tie.Need-loop-holds Inv-loop μ-loop
 loop-holds c = start _ _ _ _ _ (c .before .before .pre)
 
-item-at-requires : tie.Need-item-at-requires Inv-loop μ-loop
-item-at-requires c κs = tt
+comma-at-requires : tie.Need-comma-at-requires Inv-loop μ-loop
+comma-at-requires c κs = tt
 
 same-length : tie.Need-same-length Inv-loop μ-loop
 same-length c = (c .before .before .before .before .loop .inv) .size
 
 returns : tie.Need-returns Inv-loop μ-loop
-returns c = stop _ _ _ _ _ _ _ _ (c .before .before .before .before .loop .inv) _ (c .before .before .item-at .ensures) (c .if1 .taken)
+returns c = stop _ _ _ _ _ _ _ _ (c .before .before .before .before .loop .inv) _ (c .before .before .comma-at .ensures) (c .if1 .taken)
 
-item-at-requires-2 : tie.Need-item-at-requires-2 Inv-loop μ-loop
-item-at-requires-2 c κs = tt
+item-at-requires : tie.Need-item-at-requires Inv-loop μ-loop
+item-at-requires c κs = tt
 
 has-key-requires : tie.Need-has-key-requires Inv-loop μ-loop
 has-key-requires c κs = tt
@@ -63,10 +64,10 @@ add-i : tie.Need-add-i Inv-loop μ-loop
 add-i c = omega arith
 
 loop-less : tie.Need-loop-less Inv-loop μ-loop
-loop-less c = omega (arith, turn-on _ _ _ _ (c .before .before .before .before .before .before .before .item-at .ensures) (c .before .before .before .before .before .if1 .left) (c .before .before .before .before .item-at2 .ensures), (c .before .before .before .before .before .before .before .before .loop-test .taken))
+loop-less c = omega (arith, turn-on _ _ _ _ (c .before .before .before .before .before .before .before .comma-at .ensures) (c .before .before .before .before .before .if1 .left) (c .before .before .before .before .item-at .ensures), (c .before .before .before .before .before .before .before .before .loop-test .taken))
 
 loop-again : tie.Need-loop-again Inv-loop μ-loop
-loop-again c = more _ _ _ _ _ _ _ _ (c .before .before .before .before .before .before .before .before .before .loop .inv) _ _ (c .before .before .before .before .before .before .before .item-at .ensures) (c .before .before .before .before .before .if1 .left) (c .before .before .before .before .item-at2 .ensures) _ (c .before .before .before .has-key .ensures) (not-false _ (c .before .before .if2 .left)) (c .before .if3 .left) _ (c .key .ensures)
+loop-again c = more _ _ _ _ _ _ _ _ (c .before .before .before .before .before .before .before .before .before .loop .inv) _ _ (c .before .before .before .before .before .before .before .comma-at .ensures) (c .before .before .before .before .before .if1 .left) (c .before .before .before .before .item-at .ensures) _ (c .before .before .before .has-key .ensures) (not-false _ (c .before .before .if2 .left)) (c .before .if3 .left) _ (c .key .ensures)
 
 same-length-4 : tie.Need-same-length-4 Inv-loop μ-loop
 same-length-4 c = (c .before .loop .inv) .size
@@ -81,10 +82,10 @@ put-rest-spec =
     Inv-loop
     μ-loop
     loop-holds
-    item-at-requires
+    comma-at-requires
     same-length
     returns
-    item-at-requires-2
+    item-at-requires
     has-key-requires
     same-length-2
     returns-2
