@@ -16,7 +16,19 @@ use Rattle.channels.proofs.Exchange.{part-is}
 use Rattle.channels.proofs.Places.{Range, object-range, begins-behind}
 use Rattle.channels.proofs.Many.{two-parts}
 use Rattle.channels_texts.specs.Lent.{Replaced, no-more, here}
-use Rattle.channels_texts.specs.Unchanged.{PartsAt}
+
+-- At the place j of the text s, by its derivation d, x m y stand, where x and y are two neighbouring parts of different objects.
+pub record PartsAt (s : List ℕ) (d : Derivation (tokens s)) (j : ℕ) (x m y : List ℕ) : Type 0 where
+  pub before : List ObjectTree
+  pub one : ObjectTree
+  pub other : ObjectTree
+  pub after : List ObjectTree
+  pub objects-are : object-trees (d .tree) ≡ before ++ (one ∷ other ∷ after)
+  pub different : key-in s one ≡ key-in s other → ⊥
+  pub one-begins : first-place (leaves-of one) ≡ j
+  pub one-ends : last-end (leaves-of one) ≡ j + length x
+  pub other-begins : first-place (leaves-of other) ≡ j + (length x + length m)
+  pub other-ends : last-end (leaves-of other) ≡ j + (length x + (length m + length y))
 
 -- Lists ----------------------------------------------------------------------------------------------------------------------------------------
 

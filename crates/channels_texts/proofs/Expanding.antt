@@ -63,7 +63,7 @@ module _ {o : ℕ} {v w : List ℕ} where
 
 -- Origins --------------------------------------------------------------------------------------------------------------------------------------
 
-up-long : (A n : ℕ) → length (upFrom A n) ≡ n
+pub up-long : (A n : ℕ) → length (upFrom A n) ≡ n
 unfolding upFrom
 up-long A zero = refl
 up-long A (suc n) = ap suc (up-long (suc A) n)
@@ -75,17 +75,40 @@ up-at A (suc n) zero h = let z : A ≡ A + 0 = omega arith in z
 up-at A (suc n) (suc q) h = up-at (suc A) n q (omega arith) ∙ (let z : suc A + q ≡ A + suc q = omega arith in z)
 
 -- The origins O begin with those of text j from p up to e.
-abbrev Begins : List ℕ → (j p e : ℕ) → Type 0
+abbrev pub Begins : List ℕ → (j p e : ℕ) → Type 0
 Begins O j p e = (q : ℕ) → p + q < e → getD O q 0 ≡ origin j (p + q)
 
-begins-up : (R : List ℕ) (j p e : ℕ) → Begins (upFrom (origin j p) (e - p) ++ R) j p e
+pub begins-up : (R : List ℕ) (j p e : ℕ) → Begins (upFrom (origin j p) (e - p) ++ R) j p e
 unfolding origin
 begins-up R j p e q h =
     let n = up-long (origin j p) (e - p) in
     List·getD-append (upFrom (origin j p) (e - p)) R 0 q (omega arith) ∙ up-at (origin j p) (e - p) q (omega arith) ∙ (let z : (j * 65536 + p) + q ≡ j * 65536 + (p + q) = omega arith in z)
 
-begins-own : (j p e : ℕ) → Begins (upFrom (origin j p) (e - p)) j p e
+pub begins-own : (j p e : ℕ) → Begins (upFrom (origin j p) (e - p)) j p e
 begins-own j p e q h = sym (ap (λ (O : List ℕ). getD O q 0) (append-nil (upFrom (origin j p) (e - p)))) ∙ begins-up [] j p e q h
+
+-- The include lines -----------------------------------------------------------------------------------------------------------------------------
+
+-- Those of S from p on up to the place `from`.
+pub data Leads (S : List ℕ) (from : ℕ) : ℕ → Type 0 where
+  reached : (p : ℕ) → p ≡ from → Leads S from p
+  leads : (p : ℕ) (j : Line) → stopAt S p ≡ AtLine j → j .after ≤ from → Leads S from (j .after) → Leads S from p
+
+goes-inside : (S : List ℕ) {p : ℕ} → GoesOn S p → p ≤ length S
+goes-inside S at-start = omega arith
+goes-inside S (after-line p j g e) = subst (λ (q : Stop). StopOk S p q) e (stop-ok S p (goes-inside S g)) .last
+
+leads-back : (S : List ℕ) (from : ℕ) {p : ℕ} → GoesOn S p → p ≤ from → Leads S from p → Leads S from 0
+leads-back S from at-start h r = r
+leads-back S from (after-line p j g e) h r =
+    let f = subst (λ (q : Stop). StopOk S p q) e (stop-ok S p (goes-inside S g)) in
+    let f₁ = f .first in
+    let f₂ = f .hash in
+    let f₃ = f .after in
+    leads-back S from g (omega arith) (leads p j e h r)
+
+pub leads-first : (S : List ℕ) (from : ℕ) → GoesOn S from → Leads S from 0
+leads-first S from g = leads-back S from g (omega arith) (reached from refl)
 
 module _ (P a x m y c Q l : List ℕ) (n : ℕ) where
   abbrev S : List ℕ
@@ -110,19 +133,19 @@ module _ (P a x m y c Q l : List ℕ) (n : ℕ) where
   abbrev z : ℕ
   z = length a + (length x + (length m + length y))
 
-  by-v : S ≡ a ++ (v ++ c)
+  pub by-v : S ≡ a ++ (v ++ c)
   by-v = ap (a ++_) (sym (append-assoc x (m ++ y) c ∙ ap (x ++_) (append-assoc m y c)))
 
   by-w : T ≡ a ++ (w ++ c)
   by-w = ap (a ++_) (sym (append-assoc y (m ++ x) c ∙ ap (y ++_) (append-assoc m x c)))
 
-  v-long : length v ≡ length x + (length m + length y)
+  pub v-long : length v ≡ length x + (length m + length y)
   v-long = length-append x (m ++ y) ∙ ap (length x +_) (length-append m y)
 
   w-long : length w ≡ length x + (length m + length y)
   w-long = let i = length-append y (m ++ x) in let j = length-append m x in omega arith
 
-  S-long : length S ≡ z + length c
+  pub S-long : length S ≡ z + length c
   S-long = let i = v-long in let j = length-append v c in ap length by-v ∙ length-append a (v ++ c) ∙ (let q : length a + length (v ++ c) ≡ z + length c = omega arith in q)
 
   T-long : length T ≡ z + length c
@@ -146,7 +169,7 @@ module _ (P a x m y c Q l : List ℕ) (n : ℕ) where
 
   -- Bytes from before the objects to after them.
   module _ (p e : ℕ) (low : p ≤ length a) (high : z ≤ e) (inside : e ≤ length S) where
-    parts-of : (u t : List ℕ) → t ≡ a ++ (u ++ c) → length u ≡ length x + (length m + length y) → length t ≡ length S
+    pub parts-of : (u t : List ℕ) → t ≡ a ++ (u ++ c) → length u ≡ length x + (length m + length y) → length t ≡ length S
         → bytesBetween t p e ≡ bytesBetween a p (length a) ++ (u ++ bytesBetween t z e)
     parts-of u t h i j =
         let A = length a in
@@ -174,43 +197,22 @@ module _ (P a x m y c Q l : List ℕ) (n : ℕ) where
     same : Alike a x m y c from
     same = alike a x m y c i
 
-    x-some : 0 < length x
+    pub x-some : 0 < length x
     x-some = some x (i .one-semicolon)
       where
         some : (t : List ℕ) → byte t (length t - 1) ≡ 59 → 0 < length t
         some [] e = absurd (let q : _≡_ {A = ℕ} 0 59 = e in omega arith)
         some (j ∷ t) e = omega arith
 
-    -- The include lines from p on up to the objects.
-    data Leads : ℕ → Type 0 where
-      reached : (p : ℕ) → p ≡ from → Leads p
-      leads : (p : ℕ) (j : Line) → stopAt S p ≡ AtLine j → j .after ≤ from → Leads (j .after) → Leads p
-
-    goes-inside : {p : ℕ} → GoesOn S p → p ≤ length S
-    goes-inside at-start = omega arith
-    goes-inside (after-line p j g e) = subst (λ (q : Stop). StopOk S p q) e (stop-ok S p (goes-inside g)) .last
-
-    leads-back : {p : ℕ} → GoesOn S p → p ≤ from → Leads p → Leads 0
-    leads-back at-start h r = r
-    leads-back (after-line p j g e) h r =
-        let f = subst (λ (q : Stop). StopOk S p q) e (stop-ok S p (goes-inside g)) in
-        let f₁ = f .first in
-        let f₂ = f .hash in
-        let f₃ = f .after in
-        leads-back g (omega arith) (leads p j e h r)
-
-    leads-first : Leads 0
-    leads-first = leads-back (i .goes-on) (omega arith) (reached from refl)
-
     -- A text of the expansion, and what stands in its stead.
     data Text (j : ℕ) (s u : List ℕ) (p : ℕ) : Type 0 where
       other : u ≡ s → Text j s u p
-      before : j ≡ n → s ≡ S → u ≡ T → Leads p → Text j s u p
+      before : j ≡ n → s ≡ S → u ≡ T → Leads S from p → Text j s u p
       behind : s ≡ S → u ≡ T → z ≤ p → Text j s u p
 
     text-of : (j f e : ℕ) → Region P S T Q as-long n j f e → Text j (bytesBetween b f e) (bytesBetween k f e) 0
     text-of j f e (is-own d g h) =
-        before d (ap₂ (bytesBetween b) g h ∙ own-text P S T Q as-long) (ap₂ (bytesBetween k) g h ∙ own-other P S T Q as-long) leads-first
+        before d (ap₂ (bytesBetween b) g h ∙ own-text P S T Q as-long) (ap₂ (bytesBetween k) g h ∙ own-other P S T Q as-long) (leads-first S from (i .goes-on))
     text-of j f e (is-below g h) = other (below-same P S T Q as-long f e g h)
     text-of j f e (is-above g) = other (above-same P S T Q as-long f e g)
 
@@ -258,7 +260,7 @@ module _ (P a x m y c Q l : List ℕ) (n : ℕ) where
           long = part-same p (j .start) (omega arith) (omega arith);
         }
 
-    start-high : (o : List ℕ) (p q : ℕ) (j : Include) → q ≤ length S → stopAt S p ≡ stopAt S q → eventAt b l S o p ≡ Includes j → (q ≤ j .start) × (j .start ≤ length S)
+    pub start-high : (o : List ℕ) (p q : ℕ) (j : Include) → q ≤ length S → stopAt S p ≡ stopAt S q → eventAt b l S o p ≡ Includes j → (q ≤ j .start) × (j .start ≤ length S)
     unfolding eventAt
     start-high o p q j g d f =
         let r = from-line b l S o (stopAt S p) j f in
@@ -270,10 +272,10 @@ module _ (P a x m y c Q l : List ℕ) (n : ℕ) where
         let s₁ = r .start in
         (omega arith, omega arith)
 
-    z-inside : z ≤ length S
+    pub z-inside : z ≤ length S
     z-inside = let h = S-long in omega arith
 
-    next-own : (d : ℕ) (o : List ℕ) (p : ℕ) (j : Include) → d ≡ n → Leads p → p ≤ length S → eventAt b l S o p ≡ Includes j → Next d o S T p j
+    next-own : (d : ℕ) (o : List ℕ) (p : ℕ) (j : Include) → d ≡ n → Leads S from p → p ≤ length S → eventAt b l S o p ≡ Includes j → Next d o S T p j
     unfolding eventAt
     next-own d₀ o p j own (reached _ e) h f =
         let lo = i .low in
@@ -300,7 +302,7 @@ module _ (P a x m y c Q l : List ℕ) (n : ℕ) where
         let bytes : bytesBetween S p (j .start) ≡ bytesBetween T p (j .start) = between-same a (x ++ (m ++ (y ++ c))) (y ++ (m ++ (x ++ c))) p (j .start) (omega arith) (omega arith) in
         record {
           event = both-lines o p j t e e′ (between-same a (x ++ (m ++ (y ++ c))) (y ++ (m ++ (x ++ c))) (t .from) (t .to) (own .name) (own .inside)) f;
-          text = before own′ refl refl (subst Leads (sym s₂) r);
+          text = before own′ refl refl (subst (Leads S from) (sym s₂) r);
           replaced = λ O c′. subst (Replaced (origin n (length a)) v w O (bytesBetween S p (j .start))) bytes (no-more O (bytesBetween S p (j .start)));
           long = ap length (sym bytes);
         }
@@ -336,7 +338,7 @@ module _ (P a x m y c Q l : List ℕ) (n : ℕ) where
           long = sym (ap (λ (n′ : ℕ). length (bytesBetween T p n′)) as-long) ∙ part-same p (length S) h (omega arith);
         }
 
-    last-own : (d : ℕ) (o : List ℕ) (p q r : ℕ) → d ≡ n → Leads p → p ≤ length S → q ≡ 0 → eventAt b l S o p ≡ Stops q r → Last d o S T p q r
+    last-own : (d : ℕ) (o : List ℕ) (p q r : ℕ) → d ≡ n → Leads S from p → p ≤ length S → q ≡ 0 → eventAt b l S o p ≡ Stops q r → Last d o S T p q r
     unfolding eventAt
     last-own d₀ o p q r own (reached _ e) h g f =
         let lo = i .low in

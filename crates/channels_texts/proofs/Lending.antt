@@ -45,10 +45,10 @@ no-hit h = absurd (let z : _≡_ {A = ℕ} 0 1 = cc in omega arith)
 hit-number : {n f e m g h : ℕ} → Present n f e ≡ Present m g h → n ≡ m
 hit-number e = cc
 
-hit-from : {n f e m g h : ℕ} → Present n f e ≡ Present m g h → f ≡ g
+pub hit-from : {n f e m g h : ℕ} → Present n f e ≡ Present m g h → f ≡ g
 hit-from e = cc
 
-hit-to : {n f e m g h : ℕ} → Present n f e ≡ Present m g h → e ≡ h
+pub hit-to : {n f e m g h : ℕ} → Present n f e ≡ Present m g h → e ≡ h
 hit-to e = cc
 
 module _ (P S T Q : List ℕ) (as-long : length S ≡ length T) where

@@ -4,4 +4,7 @@ pub mod Passing
 pub mod Lending
 pub mod Expanding
 pub mod Everywhere
+pub mod Standing
+pub mod Beginnings
+pub mod Neighbouring
 pub mod Statements

@@ -37,7 +37,7 @@ use Rattle.channels_texts.proofs.Stopping.{run-stop, stop-later}
 -- Tokens ---------------------------------------------------------------------------------------------------------------------------------------
 
 -- Where the last of some tokens ends, whatever stands before.
-abbrev LastAt : List Lexeme → ℕ → Type 0
+abbrev pub LastAt : List Lexeme → ℕ → Type 0
 LastAt ts e = (q : ℕ) → lastEnd q ts ≡ e
 
 last-append : (ts us : List Lexeme) (e : ℕ) → LastAt us e → LastAt (ts ++ us) e
@@ -45,7 +45,7 @@ unfolding lastEnd
 last-append [] us e h q = h q
 last-append (t ∷ ts) us e h q = last-append ts us e h (t .at + t .len)
 
-last-later : (d : ℕ) (ts : List Lexeme) (e : ℕ) → LastAt ts e → LastAt (map (moved d) ts) (d + e)
+pub last-later : (d : ℕ) (ts : List Lexeme) (e : ℕ) → LastAt ts e → LastAt (map (moved d) ts) (d + e)
 unfolding lastEnd moved
 last-later d [] e h q = absurd (let x = h 0 in let y = h 1 in omega arith)
 last-later d (t ∷ ts) e h q = ap (λ (i : ℕ). lastEnd i (map (moved d) ts)) (add-assoc d (t .at) (t .len)) ∙ last-moved d (t .at + t .len) ts ∙ ap (d +_) (h 0)
@@ -54,11 +54,12 @@ last-some : (ts : List Lexeme) (t : Lexeme) (us : List Lexeme) (e : ℕ) → ts 
 unfolding lastEnd
 last-some ts t us e w h q = ap (lastEnd q) w ∙ sym (ap (lastEnd 0) w) ∙ h
 
--- The tokens of x, which end where it ends.
-pub record Cut (x : List ℕ) : Type 0 where
+-- The tokens of x, which end where it ends, and are X where X begins.
+pub record Cut (x : List ℕ) (X : List Token) : Type 0 where
   pub tokens : List Lexeme
   pub piece : Piece false x tokens
   pub last : LastAt tokens (length x)
+  pub are : map tokenOf (map (moved (first-place X)) tokens) ≡ X
 
 ending-unmoved : (p : ℕ) (ts : List Lexeme) → Ending (map tokenOf (map (moved p) ts)) → Ending (map tokenOf ts)
 unfolding tokenOf moved
@@ -71,7 +72,7 @@ map-first p [] u us w e h = absurd (let z : _≡_ {A = ℕ} 0 1 = cc in omega ar
 map-first p (t ∷ ts) u us w e h = last-some (t ∷ ts) t ts e refl h
 
 -- An object of the text d.
-pub cut-object : (d : List ℕ) (A X B : List Token) → tokens d ≡ A ++ (X ++ B) → Ends X → (x : List ℕ) → bytesBetween d (first-place X) (last-end X) ≡ x → Cut x
+pub cut-object : (d : List ℕ) (A X B : List Token) → tokens d ≡ A ++ (X ++ B) → Ends X → (x : List ℕ) → bytesBetween d (first-place X) (last-end X) ≡ x → Cut x X
 unfolding first-place
 cut-object d A X B e o x w =
     let j = lexemes-split d A (X ++ B) e in
@@ -95,6 +96,7 @@ cut-object d A X B e o x w =
       tokens = y .tokens;
       piece = piece-run false x (drop (y .end) d) (y .tokens) r (λ b _. ending-last (y .tokens) c b);
       last = map-first (f .head .at) (y .tokens) (f .head) (f .rest) (y .moved-are ∙ f .whole) (length x) (run-last (x ++ drop (y .end) d) (length x) 0 (y .tokens) r);
+      are = ap (λ (i : ℕ). map tokenOf (map (moved i) (y .tokens))) p ∙ ap (map tokenOf) (y .moved-are) ∙ k .front-is;
     }
 
 -- Past two objects -----------------------------------------------------------------------------------------------------------------------------
@@ -119,7 +121,7 @@ pass-one h n c ts x l =
     run-stop u (r .end) (length h) (run-passes u (r .end) (length h) (map (moved (length h)) ts) (r .run)) ∙ ap (stopAt u) q
 
 -- The object p, the gap m and the object q, after a.
-pass-two : (h a p m q c : List ℕ) (ts : List Lexeme) → Piece false a ts → Cut p → Piece false m [] → Cut q
+pass-two : (h a p m q c : List ℕ) (ts : List Lexeme) {X Y : List Token} → Piece false a ts → Cut p X → Piece false m [] → Cut q Y
     → stopAt (h ++ ((a ++ (p ++ (m ++ q))) ++ c)) (length h) ≡ stopAt (h ++ ((a ++ (p ++ (m ++ q))) ++ c)) (length h + length (a ++ (p ++ (m ++ q))))
 unfolding mayStart
 pass-two h a p m q c ts pa cp pm cq =
@@ -152,9 +154,9 @@ line-open g (b ∷ y) e =
     subst (λ (i : ℕ). lineStart (g ++ (b ∷ y)) i < i) (sym z) (line-goes-on (g ++ (b ∷ y)) (length g + length y) k)
 
 -- What stands before the token t.
-record Front (a : List ℕ) : Type 0 where
-  tokens : List Lexeme
-  piece : Piece false a tokens
+pub record Front (a : List ℕ) : Type 0 where
+  pub tokens : List Lexeme
+  pub piece : Piece false a tokens
 
 front-piece : (a z : List ℕ) (A : List Token) (t : Token) (R : List Token) → tokens (a ++ z) ≡ A ++ (t ∷ R) → t .place ≡ length a
     → ((ts : List Lexeme) → map tokenOf ts ≡ A → (b : List ℕ) → LastEnds b ts) → Front a
@@ -182,16 +184,16 @@ module _ (h a x m y c : List ℕ) (A X Y R : List Token) (w : tokens (a ++ (x ++
   abbrev d : List ℕ
   d = a ++ (x ++ (m ++ (y ++ c)))
 
-  before-x : Front a
+  pub before-x : Front a
   unfolding first-place
   before-x =
       front-piece a (x ++ (m ++ (y ++ c))) A (ox .first) ((ox .mid ++ (ox .final ∷ [])) ++ (Y ++ R)) (w ∙ ap (λ l. A ++ (l ++ (Y ++ R))) (ox .leaves))
       (sym (ap first-place (ox .leaves)) ∙ begins) closed
 
-  cut-x : Cut x
+  pub cut-x : Cut x X
   cut-x = cut-object d A X (Y ++ R) w ox x (part-is a x (m ++ (y ++ c)) (first-place X) (last-end X) begins ended)
 
-  cut-y : Cut y
+  pub cut-y : Cut y Y
   cut-y =
       let p = a ++ (x ++ m) in
       let l : length p ≡ length a + (length x + length m) = length-append a (x ++ m) ∙ ap (length a +_) (length-append x m) in
@@ -200,7 +202,7 @@ module _ (h a x m y c : List ℕ) (A X Y R : List Token) (w : tokens (a ++ (x ++
       (ap (λ z. bytesBetween z (first-place Y) (last-end Y)) e
       ∙ part-is p y c (first-place Y) (last-end Y) (begins′ ∙ sym l) (let j = ended′ in let k : last-end Y ≡ length p + length y = omega arith in k))
 
-  between : Piece false m []
+  pub between : Piece false m []
   unfolding first-place
   between =
       let l = length-append a x in
@@ -276,31 +278,74 @@ closing A f (t ∷ []) e b = sign-ends (tokenOf t) (f [] (tokenOf t) (sym e)) (t
 closing A f (t ∷ u ∷ ts) e b =
     closing (map tokenOf (u ∷ ts)) (λ l v g. f (tokenOf t ∷ l) v (sym e ∙ ap (tokenOf t ∷_) g)) (u ∷ ts) refl b
 
+-- The text from where it goes on, with the places of x and y in it.
+pub record Own (a x m y c : List ℕ) (i : InText a x m y c) : Type 0 where
+  pub tokens-are : tokens (drop (i .from) a ++ (x ++ (m ++ (y ++ c)))) ≡ i .before ++ (leaves-of (i .one) ++ (leaves-of (i .other) ++ i .rest))
+  pub text-is : drop (i .from) (a ++ (x ++ (m ++ (y ++ c)))) ≡ drop (i .from) a ++ (x ++ (m ++ (y ++ c)))
+  pub begins : first-place (leaves-of (i .one)) ≡ length (drop (i .from) a)
+  pub ended : last-end (leaves-of (i .one)) ≡ length (drop (i .from) a) + length x
+  pub begins′ : first-place (leaves-of (i .other)) ≡ length (drop (i .from) a) + (length x + length m)
+  pub ended′ : last-end (leaves-of (i .other)) ≡ length (drop (i .from) a) + (length x + (length m + length y))
+
+pub own : (a x m y c : List ℕ) (i : InText a x m y c) → Own a x m y c i
+own a x m y c i =
+    let f = i .from in
+    let lo = i .low in
+    let j = length-drop f a in
+    let b₁ = i .one-begins in
+    let b₂ = i .one-ends in
+    let b₃ = i .other-begins in
+    let b₄ = i .other-ends in
+    let t = drop-append-le f a (x ++ (m ++ (y ++ c))) lo in
+    record { tokens-are = ap tokens (sym t) ∙ i .by-tokens; text-is = t; begins = omega arith; ended = omega arith; begins′ = omega arith; ended′ = omega arith }
+
+-- Its pieces.
+pub record Pieces (a x m y c : List ℕ) (i : InText a x m y c) : Type 0 where
+  pub front : Front (drop (i .from) a)
+  pub one : Cut x (leaves-of (i .one))
+  pub between-both : Piece false m []
+  pub other : Cut y (leaves-of (i .other))
+
+pub pieces : (a x m y c : List ℕ) (i : InText a x m y c) → Pieces a x m y c i
+pieces a x m y c i =
+    let k = drop (i .from) a in
+    let o = own a x m y c i in
+    let X = leaves-of (i .one) in
+    let Y = leaves-of (i .other) in
+    let ox = object-ends (i .one) in
+    let oy = object-ends (i .other) in
+    let cl = closing (i .before) (i .after-sign) in
+    let sx = i .one-semicolon in
+    let sy = i .other-semicolon in
+    record {
+      front = before-x [] k x m y c (i .before) X Y (i .rest) (o .tokens-are) ox oy cl (o .begins) (o .ended) (o .begins′) (o .ended′) sx sy;
+      one = cut-x [] k x m y c (i .before) X Y (i .rest) (o .tokens-are) ox oy cl (o .begins) (o .ended) (o .begins′) (o .ended′) sx sy;
+      between-both = between [] k x m y c (i .before) X Y (i .rest) (o .tokens-are) ox oy cl (o .begins) (o .ended) (o .begins′) (o .ended′) sx sy;
+      other = cut-y [] k x m y c (i .before) X Y (i .rest) (o .tokens-are) ox oy cl (o .begins) (o .ended) (o .begins′) (o .ended′) sx sy;
+    }
+
 pub alike : (a x m y c : List ℕ) (i : InText a x m y c) → Alike a x m y c (i .from)
 alike a x m y c i =
     let f = i .from in
     let h = take f a in
     let k = drop f a in
-    let lo = i .low in
-    let n : length h ≡ f = length-take-le f a lo in
+    let n : length h ≡ f = length-take-le f a (i .low) in
     let j = length-drop f a in
+    let lo = i .low in
     let w : a ≡ h ++ k = sym (take-append-drop f a) in
-    let b₁ = i .one-begins in
-    let b₂ = i .one-ends in
-    let b₃ = i .other-begins in
-    let b₄ = i .other-ends in
+    let o = own a x m y c i in
     let X = leaves-of (i .one) in
     let Y = leaves-of (i .other) in
     let text : (p q : List ℕ) → h ++ ((k ++ (p ++ (m ++ q))) ++ c) ≡ a ++ (p ++ (m ++ (q ++ c))) = λ p q.
     ap (h ++_) (sym (four k p m q c)) ∙ sym (append-assoc h k (p ++ (m ++ (q ++ c)))) ∙ ap (_++ (p ++ (m ++ (q ++ c)))) (sym w) in
-    let T : tokens (k ++ (x ++ (m ++ (y ++ c)))) ≡ i .before ++ (X ++ (Y ++ i .rest)) = ap tokens (sym (drop-append-le f a (x ++ (m ++ (y ++ c))) lo)) ∙ i .by-tokens in
+    let T = o .tokens-are in
     let ox = object-ends (i .one) in
     let oy = object-ends (i .other) in
     let cl = closing (i .before) (i .after-sign) in
-    let e₁ : first-place X ≡ length k = omega arith in
-    let e₂ : last-end X ≡ length k + length x = omega arith in
-    let e₃ : first-place Y ≡ length k + (length x + length m) = omega arith in
-    let e₄ : last-end Y ≡ length k + (length x + (length m + length y)) = omega arith in
+    let e₁ = o .begins in
+    let e₂ = o .ended in
+    let e₃ = o .begins′ in
+    let e₄ = o .ended′ in
     let sx = i .one-semicolon in
     let sy = i .other-semicolon in
     let p₁ = length-append k (x ++ (m ++ y)) in

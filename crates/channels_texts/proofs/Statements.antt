@@ -25,6 +25,7 @@ use Rattle.channels_texts.specs.Unchanged.{LentExchange, LentIsolation}
 use Rattle.channels_texts.proofs.Lending.{told-same}
 use Rattle.channels_texts.proofs.Expanding.{expansion-exchanged}
 use Rattle.channels_texts.proofs.Everywhere.{exchanges-everywhere}
+use Rattle.channels_texts.proofs.Neighbouring.{everywhere}
 
 -- Accepted texts have no fault of the expansion.
 record Plain (b l : List ℕ) : Type 0 where
@@ -93,7 +94,7 @@ longs P a x m y c Q =
 
 -- The first statement,
 pub lent-exchange : LentExchange
-lent-exchange P a x m y c Q l k t h is i all =
+lent-exchange P a x m y c Q l k t h is i two =
     let b = P ++ ((a ++ (x ++ (m ++ (y ++ c)))) ++ Q) in
     let b′ = P ++ ((a ++ (y ++ (m ++ (x ++ c)))) ++ Q) in
     let p = by-answer t h refl in
@@ -102,7 +103,7 @@ lent-exchange P a x m y c Q l k t h is i all =
     let r = read-so b l t h in
     let d = accepted-derivation (text b l) t r in
     let u = exchange-many (text b l) t (plain-so b l t h) d (text b′ l)
-    (exchanges-everywhere (text b l) d _ x m y (some x (i .one-semicolon)) (expanded b l .origins) (all d) (text b′ l) (e .replaced)) in
+    (exchanges-everywhere (text b l) d _ x m y (some x (i .one-semicolon)) (expanded b l .origins) (everywhere P a x m y c Q l k told is i two (p .whole) d) (text b′ l) (e .replaced)) in
     let read : reading (text b′ l) ≡ accepted (u .tables) = one-plain (u .accepts .given) in
     let short : expansionOf b′ l .number ≡ 30 → ⊥ = λ z. p .short (sym (same-number b b′ l (told-same b b′ l (longs P a x m y c Q)) (e .long) (e .rest) (e .number ∙ sym (p .whole))) ∙ z) in
     let answer : sources-answer b′ l ≡ accepted (u .tables) = plain-answer b′ l short (inl (e .number)) ∙ read in

@@ -15,7 +15,7 @@ use Rattle.sources.specs.Expanding.{origin, expanded}
 use Rattle.sources.specs.declared.Line.{Line}
 use Rattle.sources.specs.declared.Stop.the-variants.{Line as AtLine}
 use Rattle.sources.specs.declared.Hit.the-variants.{Present}
-use Rattle.channels.specs.Neighbours.{ObjectTree, first-place, last-end}
+use Rattle.channels.specs.Neighbours.{ObjectTree, first-place, last-end, key-in}
 
 -- The file -------------------------------------------------------------------------------------------------------------------------------------
 
@@ -42,6 +42,10 @@ pub record InText (a x m y c : List ℕ) : Type 0 where
   pub other-ends : from + last-end (leaves-of other) ≡ length a + (length x + (length m + length y))
   pub one-semicolon : byte x (length x - 1) ≡ 59
   pub other-semicolon : byte y (length y - 1) ≡ 59
+
+-- They are parts of different objects: of another kind, or of another name.
+abbrev pub OfTwo : (a x m y c : List ℕ) → InText a x m y c → Type 0
+OfTwo a x m y c i = key-in (drop (i .from) (a ++ (x ++ (m ++ (y ++ c))))) (i .one) ≡ key-in (drop (i .from) (a ++ (x ++ (m ++ (y ++ c))))) (i .other) → ⊥
 
 -- The buffer -----------------------------------------------------------------------------------------------------------------------------------
 
