@@ -34,7 +34,7 @@ use Rattle.lent_texts.specs.declared.Refusal.{Refusal}
 use Rattle.lent_texts.specs.declared.Lent.{Lent}
 use Rattle.lent_texts.specs.declared.Lent.the-variants.{Stopped, Text}
 use Rattle.lent_texts.proofs.Told.{refused-is, AtOnce, by-1, by-30, at-once, There, there, answered-refused, answered-accepted}
-use Rattle.releases_texts.specs.Comparing.{SideAnswer, short-rooms, by-rules, SideMemory, untouched, is-filled, SidesCompared, first-refused, second-refused, both-accepted, put, ListsTexts, side-in, told-in, ComparesExpanded, ListsExpanded, With, AnswersText, FirstOr, of-first, of-second}
+use Rattle.releases_texts.specs.Comparing.{SideAnswer, short-rooms, by-rules, SideMemory, untouched, is-filled, SidesCompared, first-refused, second-refused, both-accepted, put, ListsTexts, ComparesTexts, side-in, told-in, ComparesExpanded, ListsExpanded, With, AnswersText, FirstOr, of-first, of-second}
 
 -- ---- `side` and `compare_expanded`
 
@@ -195,3 +195,8 @@ module _ {b l x g x′ g′ c m y h y′ h′ : List ℕ} {o o₂ : Lent} (u : E
       ListsTexts b l x g x′ g′ c m y h y′ h′ q
   both-there {e} {f} {q} z z₂ w =
       record { first = memory u; second = memory u₂; rules = λ ds. both-by q ds (there e u z) (there f u₂ z₂) (w ds) }
+
+-- what was found, put into a list
+pub compares-texts : {b l x g x′ g′ c m y h y′ h′ : List ℕ} {q : Found} (ds : List Difference) → ListsTexts b l x g x′ g′ c m y h y′ h′ q →
+    ComparesTexts b l x g x′ g′ c m y h y′ h′ ds (put q ds) (q .compared)
+compares-texts ds w = record { first = w .first; second = w .second; rules = w .rules ds }

@@ -56,6 +56,12 @@ pub record ListsTexts (b l x g x′ g′ c m y h y′ h′ : List ℕ) (q : Foun
   pub second : SideMemory c m y h y′ h′
   pub rules : (ds : List Difference) → SidesCompared b l x g c m y h ds (put q ds) (q .compared)
 
+-- The lent list is ds, and ds′ afterwards; r is what is returned.
+pub record ComparesTexts (b l x g x′ g′ c m y h y′ h′ : List ℕ) (ds ds′ : List Difference) (r : Result) : Type 0 where
+  pub first : SideMemory b l x g x′ g′
+  pub second : SideMemory c m y h y′ h′
+  pub rules : SidesCompared b l x g c m y h ds ds′ r
+
 -- The inner functions --------------------------------------------------------------------------------------------------------------------------
 
 -- The refusal q of an expanded text e with the origins g, as that of the lent texts.

@@ -5,7 +5,7 @@ ghost use lib.Dec.{eqb};
 ghost use Rattle.token.specs.Find.{pick};
 ghost use Rattle.reading.specs.Decisions.{RoomSizes};
 ghost use Rattle.releases.specs.Promises.{Stopped};
-ghost use Rattle.releases_texts.specs.Comparing.{side-in, With, ListsExpanded, AnswersText, FirstOr, ListsTexts};
+ghost use Rattle.releases_texts.specs.Comparing.{side-in, With, ListsExpanded, AnswersText, FirstOr, ListsTexts, ComparesTexts};
 use comparing::Compared;
 use comparing::Difference;
 use comparing::Found;
@@ -230,4 +230,36 @@ pub fn listed(
         &mut o2,
         &mut v2,
     )
+}
+
+// Compares two releases, each of them lent texts: the records of their differences go into the lent list, as many as it holds, at most 64, and the
+// true total is told. If a side is refused, the answer says which, with number and place, and the list stays.
+pub fn compare(
+    first: &[u8],
+    first_lengths: &[usize],
+    second: &[u8],
+    second_lengths: &[usize],
+    expanded: &mut [u8],
+    origins: &mut [usize],
+    second_expanded: &mut [u8],
+    second_origins: &mut [usize],
+    list: &mut [Difference],
+) -> Compared
+    ensures { λ r. ⌜ ComparesTexts (now (first .entry)) (now («first_lengths» .entry)) (now (expanded .entry)) (now (origins .entry))
+        (now (expanded .exit)) (now (origins .exit)) (now (second .entry)) (now («second_lengths» .entry))
+        (now («second_expanded» .entry)) (now («second_origins» .entry)) (now («second_expanded» .exit)) (now («second_origins» .exit))
+        (now (list .entry)) (now (list .exit)) r ⌝ }
+{
+    let found = listed(
+        first,
+        first_lengths,
+        second,
+        second_lengths,
+        expanded,
+        origins,
+        second_expanded,
+        second_origins,
+    );
+    comparing::put_all(list, found);
+    found.compared
 }
