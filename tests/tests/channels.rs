@@ -1,8 +1,12 @@
 //! No channel depends on its neighbours (document 02, Q-12): on generated texts, by the proved call
-//! `read` and by the reference. What holds of every text is proved (crates/channels).
+//! `read` and by the reference, over one text and over lent texts. What holds of every text is
+//! proved (crates/channels, crates/channels_texts).
 
 use tests::answered;
-use tests::channels::{channels, exchanged, parts, replaced, Channels, Item, Key};
+use tests::channels::{channels, exchanged, lent, lent_channels, pairs, parts, replaced};
+use tests::channels::{Channels, Item, Key, Part};
+use tests::comparing_texts::{Answers, EXACT};
+use tests::including::{Buffer, Lent, LONGEST};
 use tests::meaning;
 use tests::parts::parted;
 use tests::random::Random;
@@ -10,6 +14,9 @@ use tests::release_texts::pair;
 use tests::tables::{self, Answer, ROOMS, TOLD};
 
 const SEEDS: u64 = 1600;
+
+/// For each of which up to six sets of lent texts are made.
+const LENT_SEEDS: u64 = 200;
 
 #[cfg(proved_reading)]
 fn called(text: &[u8]) -> Answer {
@@ -97,7 +104,7 @@ fn braces_isolated() {
             if !random.once_in(often) {
                 continue;
             }
-            let other = replaced(&mut random, &text, part, &all);
+            let other = replaced(&mut random, &text, part, &all.iter().collect::<Vec<_>>());
             let Some(after) = shown(&other) else { continue };
             assert!(
                 others(&before, &part.key) == others(&after, &part.key),
@@ -111,6 +118,134 @@ fn braces_isolated() {
     }
     eprintln!("{compared} texts compared, in {differing} the object itself differs");
     assert!(compared > 15_000 && differing > 3_000);
+}
+
+/// The answer for lent texts: that of the proved call where it is linked.
+fn read_lent(texts: &[Lent]) -> Answer {
+    let buffer = Buffer::of(texts);
+    if !tests::proved::is_linked("including") {
+        return Answers::new(&buffer).reading(&EXACT);
+    }
+    let mut cells = ROOMS.map(|length| vec![0; length]);
+    let mut told = [0; TOLD];
+    let (mut expanded, mut origins) = (vec![0; LONGEST], vec![0; LONGEST]);
+    let number = tests::proved::including::read(
+        &buffer,
+        &mut expanded,
+        &mut origins,
+        cells.each_mut().map(Vec::as_mut_slice),
+        &mut told,
+    );
+    for (index, table) in cells.iter_mut().enumerate() {
+        table.truncate(told[index + 1] * tests::tables::WIDTHS[index]);
+    }
+    Answer {
+        number,
+        told,
+        rows: cells,
+    }
+}
+
+fn shown_lent(texts: &[Lent]) -> Option<Channels> {
+    let answer = read_lent(texts);
+    (answer.number == 0).then(|| lent_channels(texts, &answer))
+}
+
+/// Sets of lent texts that are accepted, with their channels.
+fn sets(seed: u64) -> Vec<(Vec<Lent>, Channels)> {
+    let mut random = Random::new(seed);
+    let mut sets = Vec::new();
+    for text in texts(seed) {
+        if shown(&text).is_none() || parts(&text).is_empty() {
+            continue;
+        }
+        for _ in 0..2 {
+            let texts = lent(&mut random, &text);
+            if let Some(channels) = shown_lent(&texts) {
+                sets.push((texts, channels));
+            }
+        }
+    }
+    sets
+}
+
+/// The texts with another one in the stead of one of them.
+fn with(texts: &[Lent], number: usize, text: Vec<u8>) -> Vec<Lent> {
+    let mut texts = texts.to_vec();
+    texts[number].text = text;
+    texts
+}
+
+/// Exchange in one of the lent texts, which may be included several times or not at all.
+#[test]
+fn neighbours_exchanged_in_lent_texts() {
+    let mut exchanges = [0; 3];
+    for (texts, before) in (0..LENT_SEEDS).flat_map(sets) {
+        let (twos, _) = pairs(&texts);
+        let mut random = Random::new(texts[0].text.len() as u64);
+        let often = twos.len() / 12 + 1;
+        for two in twos
+            .iter()
+            .filter(|two| two.times > 1 || random.once_in(often))
+        {
+            let other = exchanged(&texts[two.text].text, &two.one, &two.other);
+            let other = with(&texts, two.text, other);
+            assert!(
+                shown_lent(&other).as_ref() == Some(&before),
+                "{texts:?}\nbecame {other:?}"
+            );
+            exchanges[two.times.min(2)] += 1;
+        }
+        // A text that no line names.
+        let none = texts.len() - 1;
+        let two: Vec<&[u8]> = texts[none]
+            .text
+            .split_inclusive(|byte| *byte == b';')
+            .collect();
+        if let [one, two, rest @ ..] = &two[..] {
+            let other = with(&texts, none, [&[*two, *one][..], rest].concat().concat());
+            assert!(
+                shown_lent(&other).as_ref() == Some(&before),
+                "{texts:?}\nbecame {other:?}"
+            );
+            exchanges[0] += 1;
+        }
+    }
+    let [none, once, more] = exchanges;
+    eprintln!("{once} exchanges in texts included once, {more} in several places, {none} in none");
+    assert!(once > 2_000 && more > 1_000 && none > 300);
+}
+
+/// Isolation: something else between the braces of a part of a text that is included once.
+#[test]
+fn braces_isolated_in_lent_texts() {
+    let mut compared = 0;
+    let mut differing = 0;
+    for (texts, before) in (0..LENT_SEEDS).flat_map(sets) {
+        let (_, ones) = pairs(&texts);
+        let mut random = Random::new(texts[0].text.len() as u64);
+        let often = ones.len() / 12 + 1;
+        for (number, part, times) in &ones {
+            if part.inside.is_none() || *times > 1 || !random.once_in(often) {
+                continue;
+            }
+            let here = ones.iter().filter(|(text, ..)| text == number);
+            let here: Vec<&Part> = here.map(|(_, part, _)| part).collect();
+            let other = replaced(&mut random, &texts[*number].text, part, &here);
+            let other = with(&texts, *number, other);
+            let Some(after) = shown_lent(&other) else {
+                continue;
+            };
+            assert!(
+                others(&before, &part.key) == others(&after, &part.key),
+                "{texts:?}\nbecame {other:?}"
+            );
+            compared += 1;
+            differing += usize::from(after.get(&part.key) != before.get(&part.key));
+        }
+    }
+    eprintln!("{compared} sets of texts compared, in {differing} the object itself differs");
+    assert!(compared > 1_000 && differing > 200);
 }
 
 /// All channels but one.
