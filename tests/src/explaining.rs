@@ -1,5 +1,7 @@
 //! Line and column of a place of a text, and the two lines that show it to a person.
 
+use crate::token::{step, Step};
+
 /// The most bytes of a line that are shown, and those before the place where more follow.
 const SHOWN: usize = 72;
 const BEFORE: usize = 36;
@@ -9,12 +11,20 @@ const BEFORE: usize = 36;
 pub struct Explained {
     pub line: usize,
     pub column: usize,
-    pub picture: Vec<u8>,
+    pub picture: [Vec<u8>; 2],
 }
 
-/// The two lines that show a column, counted from 0. Of the bytes of the line so many are shown;
-/// the mark may stand behind them.
-fn picture(line: &[u8], length: usize, column: usize) -> Vec<u8> {
+/// How many bytes are marked at a place: those of the token that begins there, else one.
+fn marked(text: &[u8], place: usize) -> usize {
+    match step(text, place) {
+        Step::Token(token, _) if token.place == place => token.length,
+        _ => 1,
+    }
+}
+
+/// The two lines that show a column, counted from 0, with so many bytes marked. Of the bytes of the
+/// line so many are shown; the mark may stand behind them.
+fn picture(line: &[u8], length: usize, column: usize, marked: usize) -> [Vec<u8>; 2] {
     let mut over = Vec::new();
     let mut under = Vec::new();
     let first = column
@@ -34,10 +44,24 @@ fn picture(line: &[u8], length: usize, column: usize) -> Vec<u8> {
     for &byte in &line[first..column] {
         under.push(if byte == b'\t' { b'\t' } else { b' ' });
     }
+    under.push(b'^');
+    for &byte in line[..last].iter().take(column + marked).skip(column + 1) {
+        under.push(if byte == b'\t' { b'\t' } else { b'~' });
+    }
     if last < length {
         over.extend(b"...");
     }
-    [&over[..], b"\n", &under, b"^\n"].concat()
+    over.push(b'\n');
+    under.push(b'\n');
+    [over, under]
+}
+
+/// The column, counted from 0, behind some bytes of a line: in characters where they are UTF-8.
+fn column_of(front: &[u8]) -> usize {
+    match std::str::from_utf8(front) {
+        Ok(front) => front.chars().count(),
+        Err(_) => front.len(),
+    }
 }
 
 /// What is told of a place; one past the text is its end.
@@ -60,7 +84,7 @@ pub fn explained(text: &[u8], place: usize) -> Explained {
     let column = place - start;
     Explained {
         line: above + 1,
-        column: column + 1,
-        picture: picture(line, length, column),
+        column: column_of(&text[start..place]) + 1,
+        picture: picture(line, length, column, marked(text, place)),
     }
 }

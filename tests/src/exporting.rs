@@ -94,14 +94,15 @@ pub struct Position {
 /// What `kaukslini_explain` gives.
 pub fn explain(text: &[u8], place: usize, output: &[u8]) -> (Position, Vec<u8>) {
     let shown = explained(text, place);
+    let picture = shown.picture.concat();
     let mut after = output.to_vec();
-    for (cell, &byte) in after.iter_mut().zip(&shown.picture) {
+    for (cell, &byte) in after.iter_mut().zip(&picture) {
         *cell = byte;
     }
     let position = Position {
         line: shown.line,
         column: shown.column,
-        length: shown.picture.len(),
+        length: picture.len(),
     };
     (position, after)
 }

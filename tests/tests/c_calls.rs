@@ -314,7 +314,7 @@ fn the_editor() {
                 let shown = explained(&case.text(), fields[3].parse().expect("a byte"));
                 let front = format!("line {}, column {}", shown.line, shown.column);
                 let front = format!("{front}: refusal {}\n", fields[1]);
-                [front.as_bytes(), &shown.picture].concat()
+                [front.as_bytes(), &shown.picture.concat()].concat()
             }
         };
         assert_eq!(written, expected, "{}: {said}", case.name);

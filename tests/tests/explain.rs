@@ -8,7 +8,7 @@ use tests::explaining::explained;
 use tests::including::{self, Refused};
 use tests::random::Random;
 use tests::sorts::PLANTED;
-use tests::{answered, corpus, texts};
+use tests::{answered, corpus, texts, tree};
 
 /// What the program writes for a text on standard input.
 fn written(text: &[u8]) -> Vec<u8> {
@@ -147,18 +147,70 @@ fn expected(text: &[u8]) -> Vec<u8> {
         return b"accepted\n".to_vec();
     };
     let place = place.byte;
+    let first = match number {
+        8 | 24 => first_of(text, number, place),
+        _ => None,
+    };
     let meaning = match number {
         4 => unexpected(text, place),
         21 => bound_meaning(text, place).to_string(),
         _ => MEANINGS[usize::from(number) - 1].to_string(),
     };
     let refusal = format!("refusal {number}: {meaning}\n");
+    let page = format!("see docs/REFUSALS.md, {number}\n");
     if [1, 19, 20, 30].contains(&number) {
-        return refusal.into_bytes();
+        return [refusal, page].concat().into_bytes();
     }
+    let mut whole = shown(text, place, &refusal);
+    if let Some(first) = first {
+        whole.extend(shown(text, first, "it stands first here\n"));
+    }
+    whole.extend(page.bytes());
+    whole
+}
+
+/// A place with its position and what is said of it, and the two lines that show it, each behind a
+/// gutter.
+fn shown(text: &[u8], place: usize, said: &str) -> Vec<u8> {
     let shown = explained(text, place);
-    let front = format!("-: line {}, column {}: ", shown.line, shown.column);
-    [front.as_bytes(), refusal.as_bytes(), &shown.picture].concat()
+    let [over, under] = &shown.picture;
+    let (line, column) = (shown.line, shown.column);
+    let front = format!("-:{line}:{column}: {said}{line:5} | ");
+    [front.as_bytes(), over, b"      | ", under].concat()
+}
+
+/// Where it stands first what a refusal of 8 or 24 is given for: an attribute in its scope, the
+/// name of an object.
+fn first_of(text: &[u8], number: u8, place: usize) -> Option<usize> {
+    let file = tree::file(text);
+    let scopes: Vec<Vec<tree::Part>> = match number {
+        8 => {
+            let mut scopes = Vec::new();
+            for spec in &file.specs {
+                names_of(&spec.definitions, &mut scopes);
+            }
+            scopes
+        }
+        _ => vec![file.objects.iter().map(|object| object.name).collect()],
+    };
+    let scope = scopes
+        .iter()
+        .find(|names| names.iter().any(|name| name.place == place))?;
+    let own = scope.iter().find(|name| name.place == place)?.of(text);
+    let first = scope.iter().find(|name| name.of(text) == own)?;
+    (first.place != place).then_some(first.place)
+}
+
+/// The names of each scope.
+fn names_of(definitions: &[tree::Definition], scopes: &mut Vec<Vec<tree::Part>>) {
+    scopes.push(definitions.iter().map(|one| one.name).collect());
+    for definition in definitions {
+        if let tree::Range::Choices(choices) = &definition.range {
+            for choice in choices {
+                names_of(&choice.definitions, scopes);
+            }
+        }
+    }
 }
 
 /// Holds the program to `expected`; gives the refusal's number, or 0.
@@ -193,41 +245,66 @@ fn explains_the_corpus() {
 /// The two lines as they are written out, by hand.
 #[test]
 fn shows_known_places() {
-    let mut known: Vec<(Vec<u8>, String)> = Vec::new();
-    let mut add = |text: &[u8], place: &str, lines: &str| {
-        known.push((text.to_vec(), format!("-: {place}: |{lines}\n")))
-    };
-    add(b"", "line 1, column 1", "\n^");
-    add(
-        b"OIL_VERSION",
-        "line 1, column 12",
-        "OIL_VERSION\n           ^",
-    );
-    add(b"OIL_VERSION\n", "line 2, column 1", "\n^");
-    add(b"OIL_VERSION\r\n", "line 2, column 1", "\n^");
-    add(
-        b"OIL_VERSION\r",
-        "line 1, column 13",
-        "OIL_VERSION?\n            ^",
-    );
-    add(b"\r\n\t=\t}\r\n", "line 2, column 2", "\t=\t}\n\t^");
-    add(
-        b"OIL_VERSION\t=\t}\r\n;",
-        "line 1, column 15",
-        "OIL_VERSION\t=\t}\n           \t \t^",
-    );
-    add(
-        b"/*\x1b[2J\xff*/ #\x7f",
-        "line 1, column 11",
-        "/*?[2J?*/ #?\n          ^",
-    );
-    for (text, whole) in known {
-        let (place, lines) = whole.split_once('|').expect("a place and its lines");
-        let found = String::from_utf8(written(&text)).expect("printable bytes");
+    let known: [(&[u8], &str, &str); 12] = [
+        (b"", "1:1", "    1 | \n      | ^"),
+        (
+            b"OIL_VERSION",
+            "1:12",
+            "    1 | OIL_VERSION\n      |            ^",
+        ),
+        (b"OIL_VERSION\n", "2:1", "    2 | \n      | ^"),
+        (b"OIL_VERSION\r\n", "2:1", "    2 | \n      | ^"),
+        (
+            b"OIL_VERSION\r",
+            "1:13",
+            "    1 | OIL_VERSION?\n      |             ^",
+        ),
+        (b"\r\n\t=\t}\r\n", "2:2", "    2 | \t=\t}\n      | \t^"),
+        (
+            b"OIL_VERSION\t=\t}\r\n;",
+            "1:15",
+            "    1 | OIL_VERSION\t=\t}\n      |            \t \t^",
+        ),
+        (
+            b"/*\x1b[2J\xff*/ #\x7f",
+            "1:11",
+            "    1 | /*?[2J?*/ #?\n      |           ^",
+        ),
+        // The whole token is marked, a string to the end of its line.
+        (
+            b"OIL_VERSION = 2.50;",
+            "1:15",
+            "    1 | OIL_VERSION = 2.50;\n      |               ^~~~",
+        ),
+        (
+            b"\n\"a\tb\nc\" = 2.5;",
+            "2:1",
+            "    2 | \"a\tb\n      | ^~\t~",
+        ),
+        // Columns are characters where the bytes before the place are UTF-8, else bytes.
+        (
+            b"/* \xc3\xbc \xe2\x82\xac \xf0\x9f\x98\x80 */ IMPLEMENTATION",
+            "1:13",
+            "    1 | /* ?? ??? ???? */ IMPLEMENTATION\n      |                   ^~~~~~~~~~~~~~",
+        ),
+        (
+            b"/* \xfc \xe2\x82\xac */ IMPLEMENTATION",
+            "1:13",
+            "    1 | /* ? ??? */ IMPLEMENTATION\n      |             ^~~~~~~~~~~~~~",
+        ),
+    ];
+    for (text, place, lines) in known {
+        let found = String::from_utf8(written(text)).expect("printable bytes");
         let (first, rest) = found.split_once('\n').expect("a first line");
-        assert!(first.starts_with(place), "{first}");
-        assert_eq!(rest, lines);
-        assert_eq!(found.as_bytes(), expected(&text));
+        assert!(
+            first.starts_with(&format!("-:{place}: refusal ")),
+            "{first}"
+        );
+        let (number, _) = first["-:".len() + place.len() + ": refusal ".len()..]
+            .split_once(':')
+            .expect("a number");
+        assert_eq!(rest, format!("{lines}\nsee docs/REFUSALS.md, {number}\n"));
+        assert_eq!(found.as_bytes(), expected(text));
     }
 }
 
@@ -285,6 +362,67 @@ fn says_what_was_found() {
     }
 }
 
+/// What docs/REFUSALS.md shows of the program: each block that begins with a place of the text on
+/// standard input and ends with where to read on is what it writes for the next example.
+#[test]
+fn writes_as_documented() {
+    let path = Path::new(env!("CARGO_MANIFEST_DIR")).join("../docs/REFUSALS.md");
+    let document = std::fs::read_to_string(path).expect("the document");
+    let mut blocks = 0;
+    let mut rest = document.as_str();
+    while let Some(at) = rest.find("\n    -:") {
+        rest = &rest[at + 1..];
+        let block: String = rest
+            .lines()
+            .map_while(|line| line.strip_prefix("    "))
+            .map(|line| format!("{line}\n"))
+            .collect();
+        let (_, behind) = rest.split_once("\n```oil\n").expect("an example");
+        let (text, _) = behind.split_once("\n```\n").expect("its end");
+        let found = String::from_utf8(written(text.as_bytes())).expect("printable bytes");
+        match block.contains("\nsee docs/REFUSALS.md, ") {
+            true => assert_eq!(found, block),
+            false => assert!(found.starts_with(&block), "{found}"),
+        }
+        blocks += 1;
+        rest = behind;
+    }
+    assert_eq!(blocks, 2);
+}
+
+/// The second place, by hand: an attribute of a kind's scope and of a value's, the first of three
+/// parts, names in several lines; a kind and an enumerator have none.
+#[test]
+fn shows_the_first_one() {
+    let front = "OIL_VERSION = \"2.5\";\nIMPLEMENTATION m {\n";
+    let back = "};\nCPU c { OS o; APPMODE a; };";
+    let object = "OIL_VERSION = \"2.5\";\nIMPLEMENTATION m {};\nCPU c { OS o; APPMODE a;\n";
+    let cases = [
+        (
+            format!("{front}TASK {{ UINT32 A;\n UINT32 B; INT32 A; }};\n{back}"),
+            Some("-:3:15: it stands first here\n    3 | TASK { UINT32 A;\n      |               ^\n"),
+        ),
+        (
+            format!("{front}TASK {{ UINT32 AB; ENUM [ X {{ UINT32 AB;\n STRING AB; }} ] E; }};\n{back}"),
+            Some("-:3:37: it stands first here\n    3 | TASK { UINT32 AB; ENUM [ X { UINT32 AB;\n      |                                     ^~\n"),
+        ),
+        (format!("{front}TASK {{ }}; TASK {{ }};\n{back}"), None),
+        (format!("{front}TASK {{ ENUM [ X, X ] E; }};\n{back}"), None),
+        (
+            format!("{object}TASK tick; TASK\ntick; EVENT tick; }};"),
+            Some("-:4:6: it stands first here\n    4 | TASK tick; TASK\n      |      ^~~~\n"),
+        ),
+    ];
+    for (text, second) in cases {
+        let found = String::from_utf8(written(text.as_bytes())).expect("printable bytes");
+        match second {
+            Some(second) => assert!(found.contains(second), "{found}"),
+            None => assert!(!found.contains("first here"), "{found}"),
+        }
+        assert_eq!(found.as_bytes(), expected(text.as_bytes()));
+    }
+}
+
 /// A place in a line of each length about the window's, with few and many bytes before it.
 #[test]
 fn cuts_long_lines() {
@@ -293,10 +431,16 @@ fn cuts_long_lines() {
             for end in ["", "\n", "\r\n", "\r"] {
                 let mut text = b"OIL_VERSION\n".to_vec();
                 text.extend(b" \t  ".iter().cycle().take(before));
+                let front = text.len();
                 text.push(b'#');
                 text.extend(b"ab \t\x80".iter().cycle().take(behind));
                 text.extend(end.bytes());
                 compare(&text, &format!("{before} before, {behind} behind"));
+                // A string, which the grammar does not admit here, is marked to its end.
+                text[front..front + 1 + behind].fill(b'a');
+                text[front] = b'"';
+                text[front + behind] = b'"';
+                compare(&text, &format!("{before} before, {behind} in a string"));
             }
         }
     }

@@ -341,7 +341,7 @@ fn position(texts: &[Lent], place: including::Place) -> String {
         .iter()
         .rposition(|byte| *byte == b'\n')
         .map_or(0, |lf| lf + 1);
-    format!("{name}: line {line}, column {}", place.byte - start + 1)
+    format!("{name}:{line}:{}", place.byte - start + 1)
 }
 
 /// Whether a refusal 4 is told; if so, its line ends in what is expected in the expanded text.
@@ -401,7 +401,7 @@ fn explains_a_file() {
     let texts = folder.gathered(&lent[0].text);
     let lines = folder.run("oil_explain", &[], &lent[0].text);
     assert!(
-        lines.starts_with(b"front: line 2, column 1: refusal 4: "),
+        lines.starts_with(b"front:2:1: refusal 4: "),
         "{}",
         lines.escape_ascii()
     );

@@ -217,7 +217,7 @@ fn told(text: &[u8]) -> String {
         let lines = front.iter().filter(|byte| **byte == b'\n').count();
         let start = front.iter().rposition(|byte| *byte == b'\n');
         let column = place - start.map_or(0, |start| start + 1) + 1;
-        format!("line {}, column {column}", lines + 1)
+        format!("{}:{column}", lines + 1)
     };
     match including::check_standard(&including::alone(text)) {
         Err(refused) => refused.line(),
@@ -229,7 +229,7 @@ fn told(text: &[u8]) -> String {
             };
             let path = &paths()[finding.attribute];
             let position = position(finding.place.byte);
-            format!("-: {position}: {}, {path}: {what}\n", finding.number)
+            format!("-:{position}: {}, {path}: {what}\n", finding.number)
         }
     }
 }
@@ -238,7 +238,7 @@ fn told(text: &[u8]) -> String {
 #[test]
 fn program_tells() {
     let example = fs::read(folder().join("../examples/supplier.oil")).expect("the example");
-    let answer = "-: line 36, column 7: 25, ALARM.ACTION=SETEVENT.EVENT: the standard attribute is not defined in the scope of this word\n";
+    let answer = "-:36:7: 25, ALARM.ACTION=SETEVENT.EVENT: the standard attribute is not defined in the scope of this word\n";
     assert_eq!(told(&example), answer);
     assert_eq!(written(&example), answer);
     let mut random = Random::new(90);

@@ -8,7 +8,9 @@ use borrow.Author.Tests.{eq-eqb, ne-eqb, le-leb, lt-leb, eqb-true, leb-true}
 use lib.Dec.{eqb, leb}
 use Rattle.token.specs.Find.{both}
 use Rattle.token.proofs.Find.{by-test}
-use Rattle.explaining.specs.Pictures.{shownByte, blankByte, drawn}
+use Rattle.explaining.specs.declared.Ink.{Ink}
+use Rattle.explaining.specs.declared.Ink.the-variants.{Shown, Before, Marked}
+use Rattle.explaining.specs.Pictures.{shownByte, underByte, drawn}
 
 module _ (b : ℕ) where
   pub shown-tab : b ≡ 9 → 9 ≡ shownByte b
@@ -27,21 +29,25 @@ module _ (b : ℕ) where
   unfolding shownByte
   shown-plain n l h = rw (ne-eqb b 9 n, le-leb 32 b l, le-leb b 126 h)
 
-  pub blank-tab : b ≡ 9 → b ≡ blankByte b
-  unfolding blankByte
-  blank-tab e = e ∙ rw (eq-eqb b 9 e)
+  pub under-tab : (k : ℕ) → b ≡ 9 → b ≡ underByte k b
+  unfolding underByte
+  under-tab k e = e ∙ rw (eq-eqb b 9 e)
 
-  pub blank-other : (b ≡ 9 → ⊥) → 32 ≡ blankByte b
-  unfolding blankByte
-  blank-other n = rw (ne-eqb b 9 n)
+  pub under-other : (k : ℕ) → (b ≡ 9 → ⊥) → k ≡ underByte k b
+  unfolding underByte
+  under-other k n = rw (ne-eqb b 9 n)
 
-  pub drawn-blank : (m : Bool) → m ≡ true → blankByte b ≡ drawn m b
+  pub drawn-shown : (i : Ink) → i ≡ Shown → shownByte b ≡ drawn i b
   unfolding drawn
-  drawn-blank m e = rw e
+  drawn-shown i e = rw e
 
-  pub drawn-shown : (m : Bool) → m ≡ false → shownByte b ≡ drawn m b
+  pub drawn-before : (i : Ink) → i ≡ Before → underByte 32 b ≡ drawn i b
   unfolding drawn
-  drawn-shown m e = rw e
+  drawn-before i e = rw e
+
+  pub drawn-marked : (i : Ink) → i ≡ Marked → underByte 126 b ≡ drawn i b
+  unfolding drawn
+  drawn-marked i e = rw e
 
   -- a tab stands under a tab, and only there
   pub tab-shown : shownByte b ≡ 9 → b ≡ 9
@@ -51,9 +57,9 @@ module _ (b : ℕ) where
       (λ t _. eqb-true b 9 t)
       (λ _. by-test (λ (k : ℕ). k ≡ 9 → b ≡ 9) (both (leb 32 b) (leb b 126)) b 63 (λ _ e. e) (λ _ e. absurd (omega arith)))
 
-  pub tab-blank : blankByte b ≡ 9 → b ≡ 9
-  unfolding blankByte
-  tab-blank = by-test (λ (k : ℕ). k ≡ 9 → b ≡ 9) (eqb b 9) 9 32 (λ t _. eqb-true b 9 t) (λ _ e. absurd (omega arith))
+  pub tab-under : (c : ℕ) → (c ≡ 9 → ⊥) → underByte c b ≡ 9 → b ≡ 9
+  unfolding underByte
+  tab-under c n = by-test (λ (k : ℕ). k ≡ 9 → b ≡ 9) (eqb b 9) 9 c (λ t _. eqb-true b 9 t) (λ _ e. absurd (n e))
 
 -- what is shown is a tab or printable
 pub printable : (b : ℕ) → (shownByte b ≡ 9 → ⊥) → (32 ≤ shownByte b) × (shownByte b ≤ 126)

@@ -1,3 +1,4 @@
+pub mod Letters
 pub mod Counting
 pub mod Starts
 pub mod Ends

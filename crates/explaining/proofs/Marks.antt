@@ -13,9 +13,9 @@ use Rattle.token.specs.Tokens.{bytesBetween}
 use Rattle.token.specs.Find.{byte}
 use Rattle.token.proofs.Find.{by-test}
 use Rattle.explaining.specs.declared.View.{View}
-use Rattle.explaining.specs.Places.{lineEnd, crBefore, shownEnd}
+use Rattle.explaining.specs.Places.{lineEnd, crBefore, shownEnd, tokenEnd}
 use Rattle.explaining.specs.Windows.{Fits, viewIn, viewOf, ViewsAreWindows}
-use Rattle.explaining.specs.Pictures.{dots, lineBytes, markBytes, shownLine, markLine, picture}
+use Rattle.explaining.specs.Pictures.{dots, lineBytes, markBytes, marked, shownLine, markLine, picture}
 use Rattle.explaining.proofs.Starts.{start-low}
 use Rattle.explaining.proofs.Ends.{end-low, end-at, cr-inside}
 use Rattle.explaining.proofs.Frames.{window-is, view-fits}
@@ -77,10 +77,15 @@ pub view-is-window : ViewsAreWindows
 unfolding viewOf viewIn
 view-is-window s p h n = window-is _ _ p (start-low s p) (place-shown s p h n)
 
--- both lines fit 160 bytes
-pub picture-short : (s : List ℕ) (p : ℕ) → p ≤ length s → length (picture s p) ≤ 160
+marked-most : (v : View) (e : ℕ) → marked v e ≤ v .to - (v .at + 1)
+unfolding marked
+marked-most v e = omega arith
+
+-- both lines fit 157 bytes
+pub picture-short : (s : List ℕ) (p : ℕ) → p ≤ length s → length (picture s p) ≤ 157
 unfolding picture
 picture-short s p h =
     let v = viewOf s p in
     let f = view-fits s p h in
-    omega (arith, length-append (shownLine s v) (markLine s v), line-short s v f, mark-long s v f, f .front, f .near)
+    let e = tokenEnd s p in
+    omega (arith, length-append (shownLine s v) (markLine s v e), line-short s v f, mark-long s v f e, marked-most v e, f .front, f .near, f .most)

@@ -9,9 +9,17 @@ use native.Mathlib.Omega.{arith}
 use borrow.Author.Tests.{eq-eqb, ne-eqb, eqb-true, eqb-false}
 use native.Mathlib.Decide.{decLt}
 use lib.Dec.{eqb}
+use lib.ListN.{length, drop, length-drop}
+use lib.Seq.{length-take-le}
 use Rattle.token.specs.Find.{byte}
+use Rattle.token.specs.Tokens.{bytesBetween, stepAt}
+use Rattle.token.specs.declared.Token.{Token}
+use Rattle.token.specs.declared.Cursor.{Cursor}
+use Rattle.token.specs.declared.Step.the-variants.{Found, Refused, End}
 use Rattle.token.proofs.Find.{by-test}
-use Rattle.explaining.specs.Places.{lineStart, columnOf}
+use Rattle.explaining.specs.Characters.{characters}
+use Rattle.explaining.specs.Places.{lineStart, columnOf, endFrom, tokenEnd}
+use Rattle.explaining.proofs.Letters.{characters-most}
 
 before : (q : ℕ) → suc q - 1 ≡ q
 before q = omega arith
@@ -63,6 +71,27 @@ module _ (s : List ℕ) where
           let e : i ≡ q = omega arith in
           λ k. eqb-false (byte s q) 10 f (ap (byte s) (sym e) ∙ k)
 
-pub column-is : (s : List ℕ) (p a : ℕ) → a ≡ lineStart s p → p - a + 1 ≡ columnOf s p
+pub column-is : (s : List ℕ) (p a n : ℕ) → a ≡ lineStart s p → n ≡ characters (bytesBetween s a p) → n + 1 ≡ columnOf s p
 unfolding columnOf
-column-is s p a e = rw e
+column-is s p a n e f = ap (_+ 1) (f ∙ ap (λ (k : ℕ). characters (bytesBetween s k p)) e)
+
+pub column-most : (s : List ℕ) (p a : ℕ) → p ≤ length s → characters (bytesBetween s a p) ≤ length s
+column-most s p a h = omega (arith, characters-most (bytesBetween s a p), length-take-le (p - a) (drop a s) (omega (arith, length-drop a s)))
+
+-- the token at a place
+module _ (s : List ℕ) (p : ℕ) where
+  pub token-here : (t : Token) (c : Cursor) → stepAt s p ≡ Found t c → t .at ≡ p → c .at ≡ tokenEnd s p
+  unfolding tokenEnd endFrom
+  token-here t c e h = rw (e, eq-eqb (t .at) p h)
+
+  pub token-later : (t : Token) (c : Cursor) → stepAt s p ≡ Found t c → (t .at ≡ p → ⊥) → p + 1 ≡ tokenEnd s p
+  unfolding tokenEnd endFrom
+  token-later t c e h = rw (e, ne-eqb (t .at) p h)
+
+  pub token-bad : (q : ℕ) → stepAt s p ≡ Refused q → p + 1 ≡ tokenEnd s p
+  unfolding tokenEnd endFrom
+  token-bad q e = rw e
+
+  pub token-none : (n : ℕ) → stepAt s p ≡ End n → p + 1 ≡ tokenEnd s p
+  unfolding tokenEnd endFrom
+  token-none n e = rw e

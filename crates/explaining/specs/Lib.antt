@@ -1,3 +1,4 @@
+pub mod Characters
 pub mod Places
 pub mod Windows
 pub mod Pictures

@@ -1,4 +1,4 @@
--- Lines of a text, and the line and the column of a place, counted from 1. A line ends at LF or at the text's end; a place may be the text's
+-- Lines of a text, and the line and the column of a place, counted from 1, and where the token at a place ends. A line ends at LF or at the text's end; a place may be the text's
 -- length. Assumes nothing.
 use Prim.Native.Nat.{ℕ, zero, suc, _+_, _-_, _≤_, _<_, min}
 use mathlib.Core.Path.{_≡_}
@@ -9,6 +9,10 @@ use lib.ListN.{length, take}
 use lib.Dec.{ltb, eqb}
 use Rattle.token.specs.Find.{pick, both, byte}
 use Rattle.token.specs.Bytes.{findByte}
+use Rattle.token.specs.Tokens.{bytesBetween, stepAt}
+use Rattle.token.specs.declared.Step.{Step}
+use Rattle.token.specs.declared.Step.the-variants.{Found, Refused, End}
+use Rattle.explaining.specs.Characters.{characters}
 
 -- the place itself, or the text's length where it is past it
 unfoldable pub within : List ℕ → ℕ → ℕ
@@ -32,9 +36,18 @@ unfoldable pub lineStart : List ℕ → ℕ → ℕ
 lineStart s zero = 0
 lineStart s (suc p) = let r = lineStart s p in pick (eqb (byte s p) 10) (suc p) r
 
--- the column of a place
+-- the column of a place: one more than the characters before it in its line
 unfoldable pub columnOf : List ℕ → ℕ → ℕ
-columnOf s p = p - lineStart s p + 1
+columnOf s p = characters (bytesBetween s (lineStart s p) p) + 1
+
+-- where the token found by a step from p ends, if it begins at p; else one byte behind p
+unfoldable pub endFrom : ℕ → Step → ℕ
+endFrom p (Found t c) = pick (eqb (t .at) p) (c .at) (p + 1)
+endFrom p (Refused q) = p + 1
+endFrom p (End n) = p + 1
+
+unfoldable pub tokenEnd : List ℕ → ℕ → ℕ
+tokenEnd s p = endFrom p (stepAt s p)
 
 -- where the line of a place ends: at the first LF at or after it, or at the text's length
 unfoldable pub lineEnd : List ℕ → ℕ → ℕ

@@ -1,7 +1,8 @@
-// A place of a text, told to a person: its line and column, and its line with a mark under it.
+// A place of a text, told to a person: its line and column, and its line with a mark under the token there.
 ghost use Rattle.explaining.specs.Pictures.{Explains};
 
 pub mod bounds;
+mod characters;
 mod drawing;
 mod lines;
 mod window;
@@ -15,10 +16,19 @@ pub struct View {
     pub behind: usize,
 }
 
-// Line and column of a place, counted from 1 in bytes, and the length of the two lines that show it.
+// How a byte is drawn: as it is shown, before the mark, or behind the mark's first sign.
+pub enum Ink {
+    Shown,
+    Before,
+    Marked,
+}
+
+// Line and column of a place, counted from 1, the column in characters where what stands before it is UTF-8, else in bytes; the length of the line
+// shown, and of the two lines that show the place.
 pub struct Explained {
     pub line: usize,
     pub column: usize,
+    pub shown: usize,
     pub len: usize,
 }
 
@@ -29,12 +39,14 @@ pub fn explain(text: &[u8], place: usize, out: &mut [u8]) -> Explained
     let at = lines::inside(text, place);
     let line = lines::line_of(text, at);
     let column = lines::column_of(text, at);
+    let end = lines::token_end(text, at);
     let view = window::view_of(text, at);
     let shown = drawing::draw_line(text, view, out);
-    let len = drawing::draw_mark(text, view, out, shown);
+    let len = drawing::draw_mark(text, view, end, out, shown);
     Explained {
         line: line,
         column: column,
+        shown: shown,
         len: len,
     }
 }

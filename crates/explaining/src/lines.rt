@@ -2,7 +2,10 @@
 ghost use Prim.Native.Nat.{_≤_};
 ghost use mathlib.Core.Path.{_≡_};
 ghost use lib.ListN.{length};
-ghost use Rattle.explaining.specs.Places.{within, feedOf, lineFeeds, lineOf, lineStart, columnOf, lineEnd, crBefore, shownEnd};
+ghost use Rattle.explaining.specs.Places.{within, feedOf, lineFeeds, lineOf, lineStart, columnOf, tokenEnd, lineEnd, crBefore, shownEnd};
+use crate::characters;
+use token::Cursor;
+use token::Step;
 
 // The place, or the text's length where it is past it.
 pub fn inside(text: &[u8], place: usize) -> usize
@@ -67,7 +70,26 @@ pub fn column_of(text: &[u8], at: usize) -> usize
     ensures { λ r. ⌜ r ≡ columnOf (now (text .entry)) at ⌝ }
 {
     let start = line_start(text, at);
-    at - start + 1
+    let count = characters::characters(&text[start..at]);
+    count + 1
+}
+
+// Where the token ends that begins at a place; one byte behind it where none does.
+pub fn token_end(text: &[u8], at: usize) -> usize
+    requires { ⌜ at ≤ length (now text) ⌝ }
+    ensures { λ r. ⌜ r ≡ tokenEnd (now (text .entry)) at ⌝ }
+{
+    let cursor = Cursor { at: at };
+    match cursor.step(text) {
+        Step::Found(t, c) => {
+            if t.at == at {
+                return c.at;
+            }
+            at + 1
+        }
+        Step::Refused(_) => at + 1,
+        Step::End(_) => at + 1,
+    }
 }
 
 // Where the line of a place ends.

@@ -7,7 +7,7 @@ use crate::View;
 use crate::lines;
 
 // The first number less the second; 0 where the second is the larger.
-fn less(a: usize, b: usize) -> usize
+pub fn less(a: usize, b: usize) -> usize
     ensures { λ r. ⌜ r ≡ a - b ⌝ }
 {
     if a < b {

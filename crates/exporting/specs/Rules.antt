@@ -66,7 +66,9 @@ pub record HeadingByRules (s : List ℕ) (r : Heading) : Type 0 where
   pub heads : TextsHead s (alone s) answer
   pub told : r ≡ heading answer
 
--- Line and column of the place p, and the two lines that show it, as `explaining` gives them; 157 bytes are enough for these.
+-- Line and column of the place p, and the two lines that show it, as `explaining` gives them; 157 bytes are enough for these, and the first has as
+-- many as `first` says.
 pub record ExplainsByRules (s : List ℕ) (p : ℕ) (l l′ : List ℕ) (r : Position) : Type 0 where
-  pub explains : Explains s p l l′ (record { line = r .line; column = r .column; len = r .length })
+  pub first : ℕ
+  pub explains : Explains s p l l′ (record { line = r .line; column = r .column; shown = first; len = r .length })
   pub short : r .length ≤ 157

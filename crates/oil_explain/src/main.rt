@@ -1,10 +1,12 @@
 // Reads the text on standard input, and the files that it includes, and writes `accepted`, or why it is refused: file (`-` for the text on standard
-// input), line, column, number and meaning of the refusal, the line of its place, and a mark under the place. Refusals that have no place in the
-// texts take the first of these lines alone, without file, line and column.
+// input), line, column, number and meaning of the refusal, the line of its place, and a mark under the token there; the same of a second place where
+// there is one; and where to read on. Refusals that have no place in the texts take the first and the last of these lines alone, without file, line and
+// column.
 use console::write;
 use console::write_number;
 use libc::STDIN_FILENO;
 use reading::Answer;
+use rows::cells;
 
 mod expected;
 
@@ -118,17 +120,87 @@ fn write_refusal(buffer: &[u8], lengths: &[usize], number: u8) {
 
 fn write_placed(buffer: &[u8], lengths: &[usize], number: u8, place: usize) {
     let mut lines = [0; 160];
-    let n = showing::write_position(buffer, lengths, place, &mut lines);
+    let told = showing::write_position(buffer, lengths, place, &mut lines);
     write_refusal(buffer, lengths, number);
-    write(token::part(&lines, 0, n));
+    showing::write_lines(told, &lines);
+}
+
+// Where it stands first what a refusal of 8 or 24 is given for: an attribute of its scope, an object's name; 0 where there is no such place.
+fn first_of(text: &[u8]) -> usize {
+    let mut definitions = [0; 6656];
+    let mut enumerators = [0; 3072];
+    let mut objects = [0; 2048];
+    let mut values = [0; 18432];
+    let r = reading::read(
+        text,
+        &mut definitions,
+        &mut enumerators,
+        &mut objects,
+        &mut values,
+    );
+    let answer = r.answer;
+    match answer {
+        Answer::Accepted => 0,
+        Answer::Refused(number, place) => match number {
+            8 => causes::first_defined(text, place),
+            24 => causes::first_named(text, place),
+            _ => 0,
+        },
+    }
+}
+
+// The same as a place of the lent texts.
+fn second_place(buffer: &[u8], lengths: &[usize]) -> usize {
+    let mut expanded = [0; 65535];
+    let mut origins = [0; 65535];
+    let e = sources::expand(buffer, lengths, &mut expanded, &mut origins);
+    let first = first_of(token::part(&expanded, 0, e.length));
+    if first == 0 {
+        return 0;
+    }
+    cells::get(&origins, first)
+}
+
+fn write_second(buffer: &[u8], lengths: &[usize], place: usize) {
+    let mut lines = [0; 160];
+    let told = showing::write_position(buffer, lengths, place, &mut lines);
+    write(b"it stands first here\n");
+    showing::write_lines(told, &lines);
+}
+
+// A refusal of 8 or 24, with its second place.
+fn write_twice(buffer: &[u8], lengths: &[usize], number: u8, place: usize) {
+    write_placed(buffer, lengths, number, place);
+    let second = second_place(buffer, lengths);
+    if second == 0 {
+        return;
+    }
+    write_second(buffer, lengths, second);
+}
+
+// Where to read on.
+fn write_section(number: u8) {
+    write(b"see docs/REFUSALS.md, ");
+    write_number(number as usize);
+    write(b"\n");
 }
 
 fn write_answer(buffer: &[u8], lengths: &[usize], answer: Answer) {
     match answer {
         Answer::Accepted => write(b"accepted\n"),
         Answer::Refused(number, place) => match number {
-            1 | 19 | 20 | 30 => write_refusal(buffer, lengths, number),
-            _ => write_placed(buffer, lengths, number, place),
+            1 | 19 | 20 | 30 => {
+                write_refusal(buffer, lengths, number);
+                write_section(number);
+            }
+            8 | 24 => {
+                write_twice(buffer, lengths, number, place);
+                write_section(number);
+            }
+            _ => {
+                write_placed(buffer, lengths, number, place);
+                write_section(number);
+            }
         },
     }
 }
