@@ -9,7 +9,7 @@ use std::path::{Path, PathBuf};
 
 /// The layers that the proved library has today.
 const LAYERS: &str =
-    "token,grammar,reading,writing,heading,masks,releases,standard,including,questions,expecting,exporting";
+    "token,grammar,reading,writing,heading,masks,releases,standard,including,questions,expecting,exporting,mending";
 
 /// The layer that has a library of its own, for programs in C.
 const EXPORTING: &str = "exporting";

@@ -6,6 +6,7 @@ use crate::including::{self, Buffer, Expanded, Joined, Lent, Refused, Told};
 use crate::including::{LONGEST, START, TOO_MUCH};
 use crate::masks::{Checked, Planned};
 use crate::meaning::{Reading, Refusal};
+use crate::mending::mend_within;
 use crate::normal;
 use crate::proved;
 use crate::random::Random;
@@ -187,10 +188,14 @@ pub struct Memory {
     tables: [Noisy<usize>; 4],
     told: Noisy<usize>,
     output: Noisy<u8>,
+    lines: Noisy<u8>,
 }
 
 /// As much output as is ever lent.
 const OUTPUT: usize = 300_000;
+
+/// As much for the lines of what is dropped: more than 2,048 of them take.
+const LINES: usize = 65_536;
 
 impl Default for Memory {
     fn default() -> Memory {
@@ -202,6 +207,7 @@ impl Default for Memory {
         Memory {
             expanded: Noisy::new("expanded byte", MORE.expanded, || random.byte()),
             output: Noisy::new("output byte", OUTPUT, || random.byte()),
+            lines: Noisy::new("byte of a line", LINES, || random.byte()),
             origins,
             tables,
             told,
@@ -380,6 +386,34 @@ impl Memory {
         let found = proved::questions::check_standard(buffer, memory, self.expanded.lend(lent[0]));
         is_number(usize::from(found), case)?;
         self.answered(lent, answers, &cells)
+    }
+
+    /// Mends the texts with outputs of these lengths; what differs from the answer.
+    pub fn mend(
+        &mut self,
+        buffer: &Buffer,
+        lent: [usize; 2],
+        answers: &Answers,
+        outputs: [usize; 2],
+    ) -> Result<(), String> {
+        let answer = answers.question(lent, |texts| mend_within(texts, outputs));
+        let memory = [self.origins.lend(lent[1]), self.told.lend(TOLD)];
+        let bytes = [
+            self.expanded.lend(lent[0]),
+            self.output.lend(outputs[0]),
+            self.lines.lend(outputs[1]),
+        ];
+        let found = proved::mending::mend(buffer, memory, bytes);
+        let (number, told, mended) = match answer {
+            Err(Refused { number, place }) => (number, [place.cell(), 0, 0], None),
+            Ok(mended) => (0, [0, mended.text.len(), mended.lines.len()], Some(mended)),
+        };
+        is_number(usize::from(found), usize::from(number))?;
+        let (text, lines) =
+            mended.map_or_else(Default::default, |mended| (mended.text, mended.lines));
+        self.output.holds(&text)?;
+        self.lines.holds(&lines)?;
+        self.answered(lent, answers, &told)
     }
 
     /// What is told of a question, and what the memory for the expanded text holds.

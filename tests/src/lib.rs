@@ -21,6 +21,7 @@ pub mod lent_texts;
 pub mod limits;
 pub mod masks;
 pub mod meaning;
+pub mod mending;
 pub mod names;
 pub mod normal;
 pub mod parts;

@@ -102,8 +102,8 @@ pub enum Resolved {
 /// A fault's place and number: the least is the leftmost, then the one of smaller number.
 type Fault = (usize, u8);
 
-/// Reads a text: stages 2 to 19, in their order.
-pub fn read(text: &[u8]) -> Result<Reading, Refusal> {
+/// The tree of a text that passes the stages of 2 and of 3 to 5.
+fn parsed(text: &[u8]) -> Result<File, Refusal> {
     if text.len() > LONGEST_TEXT {
         return Err(Refusal {
             number: 2,
@@ -113,7 +113,12 @@ pub fn read(text: &[u8]) -> Result<Reading, Refusal> {
     if let Stage::Refused { number, place } = stage(text) {
         return Err(Refusal { number, place });
     }
-    let file = tree::file(text);
+    Ok(tree::file(text))
+}
+
+/// Reads a text: stages 2 to 19, in their order.
+pub fn read(text: &[u8]) -> Result<Reading, Refusal> {
+    let file = parsed(text)?;
     let meaning = Meaning::new(text, &file);
     least(meaning.definition_faults())?;
     least(meaning.object_faults())?;
@@ -126,6 +131,30 @@ pub fn read(text: &[u8]) -> Result<Reading, Refusal> {
         });
     }
     Ok(meaning.reading(values))
+}
+
+/// A statement that is dropped where a text is mended: from its name through its semicolon, and
+/// the number of its fault, 13 or 14.
+#[derive(Clone, Copy, Debug, PartialEq, Eq)]
+pub struct Drop {
+    pub part: Part,
+    pub number: u8,
+}
+
+/// Q-11: "Given a text that passes all stages before 13 (another gives its refusal), drop each
+/// statement at fault by 13 or 14, from its name through its semicolon"; in text order.
+pub fn drops(text: &[u8]) -> Result<Vec<Drop>, Refusal> {
+    let file = parsed(text)?;
+    let meaning = Meaning::new(text, &file);
+    least(meaning.definition_faults())?;
+    least(meaning.object_faults())?;
+    let mut drops = Vec::new();
+    for object in &meaning.objects {
+        let scope = meaning.scope_of(object.first);
+        meaning.block_drops(scope, &object.statements, &mut drops);
+    }
+    drops.sort_by_key(|drop| drop.part.place);
+    Ok(drops)
 }
 
 /// "by the leftmost place, then the smaller number"
@@ -539,6 +568,37 @@ impl<'t> Meaning<'t> {
                 _ if definition.is_list => (),
                 _ => faults.push((owner.place, 16)),
             }
+        }
+    }
+
+    /// The drops among statements that belong to a scope. "A statement at fault by 13, 14, 15 or 18
+    /// adds no fault from its braces".
+    fn block_drops(
+        &self,
+        scope: &'t [Definition],
+        statements: &[&Statement],
+        drops: &mut Vec<Drop>,
+    ) {
+        let mut stated = HashSet::new();
+        for statement in statements {
+            let is_again = !stated.insert(self.word(statement.name));
+            let mut of_scope = scope.iter();
+            let definition = of_scope.find(|of_scope| self.is_named(statement, of_scope));
+            let number = match definition {
+                None => 13,
+                Some(definition) if is_again && !definition.is_list => 14,
+                Some(definition) => {
+                    if self.value_fault(definition, statement).is_none() {
+                        let inside: Vec<&Statement> = statement.statements.iter().collect();
+                        self.block_drops(self.under(definition, &statement.value), &inside, drops);
+                    }
+                    continue;
+                }
+            };
+            drops.push(Drop {
+                part: statement.whole,
+                number,
+            });
         }
     }
 

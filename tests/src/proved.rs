@@ -18,6 +18,7 @@ pub fn is_linked(layer: &str) -> bool {
         "including" => cfg!(proved_including),
         "questions" => cfg!(proved_questions),
         "expecting" => cfg!(proved_expecting),
+        "mending" => cfg!(proved_mending),
         _ => panic!("no layer {layer}"),
     };
     let mut asked = env!("KAUKSLINI_LAYERS_ASKED").split(',');
@@ -876,6 +877,65 @@ pub mod exporting {
                 path.len(),
                 output.as_mut_ptr(),
                 output.len(),
+            )
+        }
+    }
+}
+
+#[cfg(not(proved_mending))]
+pub mod mending {
+    use crate::including::Buffer;
+
+    pub fn mend(_: &Buffer, _: [&mut [usize]; 2], _: [&mut [u8]; 3]) -> u8 {
+        unreachable!("only asked where it is linked")
+    }
+}
+
+#[cfg(proved_mending)]
+pub mod mending {
+    use crate::including::Buffer;
+
+    extern "C" {
+        fn kaukslini_mend_texts(
+            buffer: *const u8,
+            buffer_length: usize,
+            lengths: *const usize,
+            lengths_length: usize,
+            expanded: *mut u8,
+            expanded_length: usize,
+            origins: *mut usize,
+            origins_length: usize,
+            text: *mut u8,
+            text_length: usize,
+            lines: *mut u8,
+            lines_length: usize,
+            told: *mut usize,
+            told_length: usize,
+        ) -> u8;
+    }
+
+    /// Mends lent texts: memory for the origins and for what is told; for the expanded text, the
+    /// mended text and the lines. Gives the number of the refusal, 0 where there is none; told are
+    /// its place, and the lengths of the mended text and of the lines.
+    pub fn mend(buffer: &Buffer, cells: [&mut [usize]; 2], bytes: [&mut [u8]; 3]) -> u8 {
+        let [origins, told] = cells;
+        let [expanded, text, lines] = bytes;
+        unsafe {
+            kaukslini_mend_texts(
+                buffer.bytes.as_ptr(),
+                buffer.bytes.len(),
+                buffer.lengths.as_ptr(),
+                buffer.lengths.len(),
+                expanded.as_mut_ptr(),
+                expanded.len(),
+                origins.as_mut_ptr(),
+                origins.len(),
+                text.as_mut_ptr(),
+                text.len(),
+                lines.as_mut_ptr(),
+                lines.len(),
+                told.as_mut_ptr(),
+                told.len(),
             )
         }
     }

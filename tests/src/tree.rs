@@ -114,6 +114,8 @@ pub struct Object {
 }
 
 pub struct Statement {
+    /// From its name through its semicolon.
+    pub whole: Part,
     pub name: Part,
     pub value: Value,
     /// The place of the `{` after the value.
@@ -340,8 +342,9 @@ impl Reader {
             Some(_) => self.braces(Self::statement).0,
             None => Vec::new(),
         };
-        self.end();
+        let whole = name.through(self.end());
         Statement {
+            whole,
             name,
             value,
             brace,

@@ -183,6 +183,14 @@ module _ {s d e o st : List ℕ} {z : Sizes} {k j : ℕ} {f : File} {x : Stateme
   type-formed : Formed s (y .definition) (y .values)
   type-formed = formed (a .given .tables) (a .attribute)
 
+  -- The scope of the word that the value is, of the values of its attribute.
+  pub value-scope : (at len u : ℕ) → at ≡ getD st (k * 7 + 2) 0 → len ≡ getD st (k * 7 + 3) 0 → FindsWord s d e (z .enumerators) j at len u → ScopeAt f u (under (y .values) (x .value))
+  value-scope at len u pa pl w =
+      let T = a .given .tables in
+      let is = w f y (x .value) (T .situation) (T .in-definitions) (T .in-enumerators) (row .row-of) (row .low) (reached T (y .values))
+      (read-at (first-value (a .block)) (pa ∙ value-place) (pl ∙ value-size) .bytes) in
+      subst (λ q. ScopeAt f q (under (y .values) (x .value))) (sym is) (scope-under (x .value) (T .situation) (row .row-of))
+
   -- No type's word has a code below 22.
   pub value-none : (c : ℕ) → c ≡ getD d (j * 19 + 12) 0 → c < 22 → ⊥
   value-none c e h = go (e ∙ row .type-code) type-formed
@@ -325,27 +333,27 @@ module _ (s d st ms : List ℕ) (z : Sizes) (key m n owner : ℕ) where
 
 -- One statement ----------------------------------------------------------------------------------------------------------------------------
 
-row-nothing : (o : Option Defined) → Nothing ≡ row-found o → o ≡ none
+pub row-nothing : (o : Option Defined) → Nothing ≡ row-found o → o ≡ none
 unfolding row-found
 row-nothing none h = refl
 row-nothing (some y) h = absurd (false≢true (ap isFound h))
 
-record FoundAs (o : Option Defined) (j : ℕ) : Type 0 where
-  defined : Defined
-  is : o ≡ some defined
-  row : defined .definition .row ≡ j
+pub record FoundAs (o : Option Defined) (j : ℕ) : Type 0 where
+  pub defined : Defined
+  pub is : o ≡ some defined
+  pub row : defined .definition .row ≡ j
 
-row-found-as : (o : Option Defined) (j : ℕ) → At j ≡ row-found o → FoundAs o j
+pub row-found-as : (o : Option Defined) (j : ℕ) → At j ≡ row-found o → FoundAs o j
 unfolding row-found rowOf
 row-found-as none j h = absurd (false≢true (sym (ap isFound h)))
 row-found-as (some y) j h = record { defined = y; is = refl; row = sym (ap rowOf h) }
 
 -- The word that a found definition stands under.
-record Standing-under (f : File) (ds : Definitions) : Type 0 where
-  word-of : Word
-  stands : Stands (f .specs) word-of ds
+pub record Standing-under (f : File) (ds : Definitions) : Type 0 where
+  pub word-of : Word
+  pub stands : Stands (f .specs) word-of ds
 
-stands-of : {f : File} {key : ℕ} {ds : Definitions} {y : Defined} → ScopeAt f key ds → HasDefinition ds y → Standing-under f ds
+pub stands-of : {f : File} {key : ℕ} {ds : Definitions} {y : Defined} → ScopeAt f key ds → HasDefinition ds y → Standing-under f ds
 stands-of (scope {u} g t) h = record { word-of = u; stands = t }
 
 inside-fault : (l : List Refusal) (x : Statement) (us : Definitions) (ns : List Word) (k : Definitions → List Refusal) → isFault (fault-of (first l)) ≡ true → and-inside l x us ns k ≡ l
@@ -353,42 +361,43 @@ unfolding and-inside first fault-of isFault
 inside-fault [] x us ns k h = absurd (false≢true h)
 inside-fault (f ∷ fs) x us ns k h = refl
 
+-- The block from the statement on.
+pub own-at : {s st : List ℕ} {m k v : ℕ} (before : Statements) {x : Statement} {inside rest : Statements} → BlockAt s st m v (then before (state x inside rest)) → k ≡ m + statements-in before
+    → BlockAt s st k v (state x inside rest)
+own-at {s} {st} {m} {k} {v} before {x} {inside} {rest} b q = subst (λ u. BlockAt s st u v (state x inside rest)) (sym q) (back-at before (state x inside rest) b)
+
+-- The definition of the statement's name.
+pub looked-up : {s d e o st : List ℕ} {z : Sizes} {key k name size after : ℕ} {f : File} {ds : Definitions} {x : Statement} {inside rest : Statements} (r : Found)
+    → name ≡ getD st (k * 7 + 0) 0 → size ≡ getD st (k * 7 + 1) 0 → Given s d e o st z f → ScopeAt f key ds → BlockAt s st k after (state x inside rest)
+    → FindsDefinition s d (z .definitions) key name size r → r ≡ row-found (find-definition ds (x .name))
+unfolding statement-cells
+looked-up {s} {f = f} {ds = ds} {x = x} r pn ps c w b g =
+    let l = c .tables .definitions-fit in
+    g f ds (x .name) (c .tables .situation) (c .tables .in-definitions) (c .tables .definitions) (omega arith) w
+    (first-name b .bytes ∙ sym (ap₂ (partOf s) (pn ∙ first-cell b 0 (omega arith)) (ps ∙ first-cell b 1 (omega arith))))
+
+unfoldable pub stated-as : {s d e o st : List ℕ} {z : Sizes} {key k after : ℕ} {f : File} {ds : Definitions} {x : Statement} {inside rest : Statements} (j : ℕ) (y : Defined)
+    → Given s d e o st z f → ScopeAt f key ds → BlockAt s st k after (state x inside rest) → find-definition ds (x .name) ≡ some y → y .definition .row ≡ j → StatedAs s d e o st z k j f x y
+stated-as {after = after} {ds = ds} {x = x} {inside = inside} {rest = rest} j y c w b h r =
+    let t = found-definition ds (x .name) h in
+    let u = stands-of w t in
+    record { given = c; inside = inside; rest = rest; after = after; block = b; attribute = record { under = u .word-of; scope = ds; stands = u .stands; has = t; row = r } }
+
 module _ (s d e o st ms : List ℕ) (z : Sizes) (key m k n v name size : ℕ) (pn : name ≡ getD st (k * 7 + 0) 0) (ps : size ≡ getD st (k * 7 + 1) 0) where
-  -- The block from the statement on.
-  own-at : (before : Statements) {x : Statement} {inside rest : Statements} → BlockAt s st m v (then before (state x inside rest)) → k ≡ m + statements-in before
-      → BlockAt s st k v (state x inside rest)
-  own-at before {x} {inside} {rest} b q = subst (λ u. BlockAt s st u v (state x inside rest)) (sym q) (back-at before (state x inside rest) b)
-
-  -- The definition of the statement's name.
-  looked-up : {f : File} {ds : Definitions} {x : Statement} {inside rest : Statements} {after : ℕ} (r : Found) → Scoped s d e o st ms z key f ds → BlockAt s st k after (state x inside rest)
-      → FindsDefinition s d (z .definitions) key name size r → r ≡ row-found (find-definition ds (x .name))
-  unfolding statement-cells
-  looked-up {f} {ds} {x} r c b g =
-      let l = c .given .tables .definitions-fit in
-      g f ds (x .name) (c .given .tables .situation) (c .given .tables .in-definitions) (c .given .tables .definitions) (omega arith) (c .scope)
-      (first-name b .bytes ∙ sym (ap₂ (partOf s) (pn ∙ first-cell b 0 (omega arith)) (ps ∙ first-cell b 1 (omega arith))))
-
   pub one-undefined : FindsDefinition s d (z .definitions) key name size Nothing → JudgesOne s d e o st ms z key m k n v (record { number = 13; place = name })
   unfolding judged faultIf statement-cells
   one-undefined g f ds before x inside rest c b p q =
       let a = own-at before b p in
-      let h = row-nothing (find-definition ds (x .name)) (looked-up Nothing c a g) in
+      let h = row-nothing (find-definition ds (x .name)) (looked-up Nothing pn ps (c .given) (c .scope) a g) in
       fault-at true (x .name) 13 name (sym (pn ∙ first-cell a 0 (omega arith)))
       ∙ ap (λ t. fault-of (first (judged t (f .objects) x (names before) (names inside) (λ us. judge inside (f .objects) us [])))) (sym h)
-
-  stated-as : {f : File} {ds : Definitions} {x : Statement} {inside rest : Statements} {after : ℕ} (j : ℕ) (y : Defined) → Scoped s d e o st ms z key f ds
-      → BlockAt s st k after (state x inside rest) → find-definition ds (x .name) ≡ some y → y .definition .row ≡ j → StatedAs s d e o st z k j f x y
-  stated-as {f} {ds} {x} {inside} {rest} {after} j y c b h r =
-      let t = found-definition ds (x .name) h in
-      let u = stands-of (c .scope) t in
-      record { given = c .given; inside = inside; rest = rest; after = after; block = b; attribute = record { under = u .word-of; scope = ds; stands = u .stands; has = t; row = r } }
 
   pub one-fault : (j : ℕ) (g : Fault) → FindsDefinition s d (z .definitions) key name size (At j) → OwnFault s d e o st z m k v j g → isFault g ≡ true → JudgesOne s d e o st ms z key m k n v g
   unfolding judged stated-as
   one-fault j g p w h f ds before x inside rest c b t q =
       let a = own-at before b t in
-      let y = row-found-as (find-definition ds (x .name)) j (looked-up (At j) c a p) in
-      let i = w f x (y .defined) before (stated-as j (y .defined) c a (y .is) (y .row)) b t in
+      let y = row-found-as (find-definition ds (x .name)) j (looked-up (At j) pn ps (c .given) (c .scope) a p) in
+      let i = w f x (y .defined) before (stated-as j (y .defined) (c .given) (c .scope) a (y .is) (y .row)) b t in
       i
       ∙ ap (λ l. fault-of (first l)) (sym (inside-fault (own-faults (f .objects) x (y .defined) (names before)) x (under (y .defined .values) (x .value)) (names inside) (λ us. judge inside (f .objects) us [])
       (ap isFault (sym i) ∙ h)))
@@ -400,18 +409,14 @@ module _ (s d e o st ms : List ℕ) (z : Sizes) (key m k n v name size : ℕ) (p
   unfolding judged and-inside statement-cells stated-as
   one-inside j at len key′ g r p w h pa pl u l f ds before x inside rest c b i₀ q =
       let a = own-at before b i₀ in
-      let y = row-found-as (find-definition ds (x .name)) j (looked-up (At j) c a p) in
+      let y = row-found-as (find-definition ds (x .name)) j (looked-up (At j) pn ps (c .given) (c .scope) a p) in
       let t = y .defined in
-      let sa = stated-as j t c a (y .is) (y .row) in
+      let sa = stated-as j t (c .given) (c .scope) a (y .is) (y .row) in
       let i = w f x t before sa b i₀ in
       let L = own-faults (f .objects) x t (names before) in
       let none-own = no-first L (none-there (first L) (of-first L (of-own (f .objects) x t (names before))) (ap (λ (u : Fault). u .number) (sym i) ∙ is-none g h)) in
-      let T = c .given .tables in
-      let R = known T (sa .attribute) in
       let pa′ = pa ∙ first-cell a 2 (omega arith) in
-      let key-is = u f t (x .value) (T .situation) (T .in-definitions) (T .in-enumerators) (R .row-of) (R .low) (reached T (t .values))
-      (read-at (first-value a) pa′ (pl ∙ first-cell a 3 (omega arith)) .bytes) in
-      let sc : ScopeAt f key′ (under (t .values) (x .value)) = subst (λ u. ScopeAt f u (under (t .values) (x .value))) (sym key-is) (scope-under (x .value) (T .situation) (R .row-of)) in
+      let sc = value-scope sa at len key′ pa pl u in
       let k₁ : suc k ≡ k + 1 = omega arith in
       let bi : BlockAt s st (k + 1) n inside = subst (λ u. BlockAt s st u n inside) k₁ (subst (λ u. BlockAt s st (suc k) u inside) (sym q) (inside-at a)) in
       l f (under (t .values) (x .value)) inside (x .value) (record { given = c .given; marked = c .marked; scope = sc }) bi (sym pa′)

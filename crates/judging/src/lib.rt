@@ -17,8 +17,8 @@ use rows::refusals;
 use scopes::Sizes;
 
 mod marking;
-mod values;
-mod wanting;
+pub mod values;
+pub mod wanting;
 
 // 16 at the owner's word, where the block lacks an attribute of the scope of the word at key; 0 is no word's place. Here and below `first` has the
 // first row of each rank in the block, or no cell.

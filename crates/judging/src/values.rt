@@ -68,7 +68,7 @@ fn reference_fault(
 }
 
 // 15 and 18 of the statement of row k, whose attribute has the row j.
-fn value_fault(
+pub fn value_fault(
     text: &[u8],
     d: &[usize],
     e: &[usize],
@@ -109,7 +109,7 @@ fn value_fault(
 
 // Whether the attribute of row j is single and stated before the statement of row k, in the block from `from` to `end`; here and below `first`
 // has the first row of each rank in the block.
-fn again(
+pub fn again(
     text: &[u8],
     d: &[usize],
     e: &[usize],

@@ -18,7 +18,7 @@ pub fn place_in(origins: &[usize], size: usize, main: usize, place: usize) -> us
 }
 
 // Whether the table of refusals places it at 0.
-fn is_at_start(number: usize) -> bool
+pub fn is_at_start(number: usize) -> bool
     ensures { λ r. ⌜ r ≡ is-at-start number ⌝ }
 {
     if number == 1 {

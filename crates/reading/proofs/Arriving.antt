@@ -11,7 +11,7 @@ use borrow.Author.Tests.{le-ltb, eqb-true}
 use Rattle.token.specs.Lexing.{lexFrom}
 use Rattle.token.proofs.Find.{by-test}
 use Rattle.token.proofs.Promises.{lex-ends}
-use Rattle.grammar.specs.Grammar.{file, tokens as tokens-of}
+use Rattle.grammar.specs.Grammar.{file, tokens as tokens-of, Derivation}
 use Rattle.grammar.specs.Terminals.{tokens}
 use Rattle.grammar.specs.Machine.{ended, prepend}
 use Rattle.grammar.specs.Stage.{numberOf, Divides, Shallow, Answers as StageAnswers, passes, no-token, not-admitted, ends-early, too-deep}
@@ -22,6 +22,7 @@ use Rattle.grammar.specs.declared.Answer.{Answer as GrammarAnswer}
 use Rattle.grammar.specs.declared.Answer.the-variants.{Passes, NoToken, NotAdmitted, TooDeep}
 use Rattle.grammar.proofs.Meeting.{rest-look}
 use Rattle.grammar.proofs.Answering.{ended-is, stage-answers}
+use Rattle.grammar.proofs.Decided.{decided as one-stage}
 use Rattle.rows.specs.declared.Fault.{Fault}
 use Rattle.meaning.specs.Syntax.{File}
 use Rattle.meaning.specs.Actions.{syntax}
@@ -29,7 +30,8 @@ use Rattle.meaning.specs.Faults.{first, Fault as Refusal}
 use Rattle.meaning.specs.Defining.{definition-faults}
 use Rattle.meaning.specs.Applying.{object-faults}
 use Rattle.meaning.specs.Answers.{Answer as Meant, refused, unless, answer}
-use Rattle.meaning.specs.Reading.{not-grammar, meant, reading}
+use Rattle.meaning.specs.Reading.{Parsed, parsed, parse, not-grammar, meant, reading}
+use Rattle.meaning.proofs.Found.{parse-derived}
 use Rattle.meaning.proofs.Whole.{one-answer}
 use Rattle.layout.specs.Kept.{kept, kept-definitions, kept-enumerators, kept-parts, kept-part-statements}
 use Rattle.scopes.specs.Situations.{Situation}
@@ -88,6 +90,13 @@ module _ (s : List ℕ) (x y : Rooms) (w : Walked) (h : Whole s x y w) where
       let m : numberOf a ≡ g .number = ap (λ (q : Fault). q .number) (sym e) in
       one-answer (not-grammar a l (λ q. n (sym m ∙ ap numberOf q)) grammar-answers) ∙ ap (λ (q : Fault). refused (q .number) (q .place)) (sym e)
 
+  -- Then it does not pass that stage.
+  pub stopped-early : (g : Fault) → g ≡ grammarFault (answerOf (w .look)) → (g .number ≡ 0 → ⊥) → Covered s → Derivation (tokens s) → ⊥
+  unfolding grammarFault numberOf
+  stopped-early g e n c d =
+      let q : answerOf (w .look) ≡ Passes = one-stage grammar-answers (passes (c .divides) (c .shallow) d) in
+      n (ap (λ (z : Fault). z .number) e ∙ ap numberOf q)
+
 -- The text has the syntax f, and its rows are kept.
 pub record Arrived (s : List ℕ) (y : Rooms) (w : Walked) : Type 0 where
   pub file : File
@@ -142,6 +151,13 @@ arrived s y w h l z =
 pub reading-is : (s : List ℕ) (f : File) → Situation s f → Covered s → reading s ≡ answer f
 reading-is s f t c = one-answer (meant c (t .derivation)) ∙ ap answer (sym (t .syntax-of))
 
+-- Any two derivations of it have the same syntax.
+same-file : {f g : File} → _≡_ {A = Parsed} (parsed f) (parsed g) → f ≡ g
+same-file e = cc
+
+same-syntax : (s : List ℕ) → Covered s → (d e : Derivation (tokens s)) → syntax s (d .tree) ≡ syntax s (e .tree)
+same-syntax s c d e = same-file (sym (parse-derived s c d) ∙ parse-derived s c e)
+
 -- The stages of 6 to 12 and of 17 ----------------------------------------------------------------------------------------------------------------------
 
 module _ (b : Option Refusal) where
@@ -175,6 +191,11 @@ unfolding fault-of orElse unless
 stages-refuse none b k r e n = stage-refuses b k r e n
 stages-refuse (some x) b k r e n = ap (λ (q : Fault). refused (q .number) (q .place)) (sym e)
 
+-- Where there is no fault the number is 0.
+none-zero : (a : Option Refusal) → a ≡ none → fault-of a .number ≡ 0
+unfolding fault-of
+none-zero a e = ap (λ (q : Option Refusal). fault-of q .number) e
+
 -- What the fault of these stages decides.
 pub decided : (s : List ℕ) (y : Rooms) (y′ : Merged) (w : Walked) (d : Decision) (t : Arrived s y w) → Staged s y′ (t .file) d → Decided s y′ d
 unfolding stageFault answer
@@ -185,6 +206,9 @@ decided s y y′ w d t g =
       refused-by = λ n.
           reading-is s f (t .kept .situation) (t .covered)
           ∙ stages-refuse (first (definition-faults f)) (first (object-faults f)) _ (d .fault) e n;
+      stopped = λ n c v h.
+          let i : syntax s (v .tree) ≡ f = same-syntax s c v (t .kept .situation .derivation) ∙ sym (t .kept .situation .syntax-of) in
+          n (ap (λ (q : Fault). q .number) e ∙ none-zero (stageFault f) (ap stageFault (sym i) ∙ h));
       passes = λ n.
           let z = all-none (first (definition-faults f)) (first (object-faults f)) (of-first (definition-faults f) (of-definitions f))
           (of-first (object-faults f) (of-objects f)) (sym (ap (λ (q : Fault). q .number) e) ∙ n) in

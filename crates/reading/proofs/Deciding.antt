@@ -32,7 +32,7 @@ use Rattle.walk.specs.declared.Walked.{Walked}
 use Rattle.reading.specs.Decisions.{grammarFault, Kept, KeptParts, orElse, stageFault, Stages, Decides}
 use Rattle.reading.specs.declared.Decision.{Decision}
 use Rattle.meaning.proofs.Numbered.{of-definitions, of-objects, of-first}
-use Rattle.reading.proofs.Arriving.{refused-early, arrived, answers-first, answers-next, decided}
+use Rattle.reading.proofs.Arriving.{refused-early, stopped-early, arrived, answers-first, answers-next, decided}
 use Rattle.reading.proofs.Settling.{fitting}
 
 rooms-of : (d e p q a b c g : List ℕ) → d ≡ a → e ≡ b → p ≡ c → q ≡ g
@@ -130,7 +130,7 @@ module _ (s d e o t : List ℕ) (x y : Rooms) (o′ t′ : List ℕ) (w : Walked
       record {
         definitions-size = h .sizes .definitions ∙ ap length hd;
         enumerators-size = h .sizes .enumerators ∙ ap length he;
-        decided = λ l bd be eo et. record { refused-by = λ n. refused-early s x y w h l g i n; passes = λ n. absurd (is-one g j n) };
+        decided = λ l bd be eo et. record { refused-by = λ n. refused-early s x y w h l g i n; stopped = λ n c v _. stopped-early s x y w h g i n c v; passes = λ n. absurd (is-one g j n) };
       }
 
   pub decides-late : x .parts ≡ replicate 5130 0 → x .statements ≡ replicate 14343 0 → (r : Decision) → isFault g ≡ false → Stages s y o t o′ t′ w r

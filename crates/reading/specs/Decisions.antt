@@ -6,9 +6,12 @@ use Prim.Native.Nat.{ℕ, _≤_}
 use lib.ListN.{length, replicate}
 use Rattle.grammar.specs.Stage.{numberOf, placeOf}
 use Rattle.grammar.specs.Demand.{Covered}
+use Rattle.grammar.specs.Grammar.{Derivation}
+use Rattle.grammar.specs.Terminals.{tokens}
 use Rattle.grammar.specs.declared.Answer.{Answer as GrammarAnswer}
 use Rattle.rows.specs.declared.Fault.{Fault}
 use Rattle.meaning.specs.Syntax.{File}
+use Rattle.meaning.specs.Actions.{syntax}
 use Rattle.meaning.specs.Faults.{first, Fault as Refusal}
 use Rattle.meaning.specs.Defining.{definition-faults}
 use Rattle.meaning.specs.Applying.{object-faults, counts}
@@ -107,8 +110,10 @@ pub record Passed (s : List ℕ) (y : Merged) (w : Decision) : Type 0 where
   pub no-definition-fault : first (definition-faults file) ≡ none
   pub no-object-fault : first (object-faults file) ≡ none
 
+-- What is decided: a refusal, and then the text does not pass these stages, or that it passes them.
 pub record Decided (s : List ℕ) (y : Merged) (r : Decision) : Type 0 where
   pub refused-by : (r .fault .number ≡ 0 → ⊥) → reading s ≡ refused (r .fault .number) (r .fault .place)
+  pub stopped : (r .fault .number ≡ 0 → ⊥) → Covered s → (d : Derivation (tokens s)) → stageFault (syntax s (d .tree)) ≡ none → ⊥
   pub passes : r .fault .number ≡ 0 → Passed s y r
 
 -- Blank tables for the rows that the walk keeps.

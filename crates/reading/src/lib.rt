@@ -171,7 +171,7 @@ fn stages(
 }
 
 // The walk of the text and the faults up to 12 and 17. The rows of parts and their statements are given back with its frame, before statements are judged.
-fn decide(
+pub fn decide(
     text: &[u8],
     d: &mut [usize],
     e: &mut [usize],

@@ -11,6 +11,7 @@ mod compares;
 mod events;
 mod expects;
 mod heads;
+mod mends;
 mod reads;
 mod sets;
 mod stage;

@@ -1,0 +1,3 @@
+-- Which statements are dropped where a text is mended. Assumes nothing.
+pub mod Drops
+pub mod Promises
