@@ -91,7 +91,8 @@ struct kaukslini_version_and_name {
 /* Version and name, told from the front of a text, through the brace after the name: what stands behind it may be at fault. */
 struct kaukslini_version_and_name kaukslini_heading(const uint8_t *text, size_t text_length);
 
-/* Line and column of a place, both counted from 1, the column in bytes; the length of the two lines that show it. */
+/* Line and column of a place, both counted from 1, the column in characters where the bytes before the place in its line are UTF-8,
+ * and else in bytes; the length of the two lines that show it. */
 struct kaukslini_position {
     size_t line;
     size_t column;
@@ -99,7 +100,7 @@ struct kaukslini_position {
 };
 
 /* Line and column of a place of a text, such as that of a refusal; and to the front of the output two lines for people, as far as
- * it reaches: what stands around the place, and a mark under it. Each ends in LF; what is not printable is shown as `?`. The text
+ * it reaches: what stands around the place, and a mark under the token there. Each ends in LF; what is not printable is shown as `?`. The text
  * may be of any length; a place past it is its end. */
 struct kaukslini_position kaukslini_explain(const uint8_t *text, size_t text_length, size_t place, uint8_t *output,
                                             size_t output_length);

@@ -29,7 +29,8 @@ pub struct Heading {
     pub name_length: usize,
 }
 
-// Line and column of a place, counted from 1 in bytes, and the length of the two lines that show it.
+// Line and column of a place, counted from 1, the column in characters where what stands before it is UTF-8, else in bytes; and the length of the two
+// lines that show it.
 #[repr(C)]
 pub struct Position {
     pub line: usize,
