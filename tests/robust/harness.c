@@ -1,6 +1,6 @@
 // The calls kaukslini_read, kaukslini_write, kaukslini_heading_cells, kaukslini_check_masks, kaukslini_plan_masks, kaukslini_compare,
-// kaukslini_check_standard, kaukslini_expected, kaukslini_expand, kaukslini_read_texts, kaukslini_write_texts and those of kaukslini.h on each
-// text of standard input, in guarded memory, and checks of what is promised of the lent memory and of the answer, whatever the text is.
+// kaukslini_check_standard, kaukslini_expected, kaukslini_expand, kaukslini_read_texts, kaukslini_write_texts, kaukslini_mend_texts and those
+// of kaukslini.h on each text of standard input, in guarded memory, and checks of what is promised of the lent memory and of the answer, whatever the text is.
 // docs/ROBUSTNESS.md says what is checked.
 //
 //   harness [FOLDER]      the texts of standard input, as robust_texts writes them; a text that fails is saved in FOLDER
@@ -75,6 +75,10 @@ struct set_written {
     size_t number, place, length;
 };
 
+uint8_t kaukslini_mend_texts(const uint8_t *buffer, size_t buffer_length, const size_t *lengths, size_t lengths_length, uint8_t *expanded,
+                             size_t expanded_length, size_t *origins, size_t origins_length, uint8_t *output, size_t output_length,
+                             uint8_t *lines, size_t lines_length, size_t *told, size_t told_length);
+
 struct set_written kaukslini_write_texts(const uint8_t *buffer, size_t buffer_length, const size_t *lengths, size_t lengths_length,
                                          uint8_t *expanded, size_t expanded_length, size_t *origins, size_t origins_length,
                                          size_t *definitions, size_t definitions_length, size_t *enumerators, size_t enumerators_length,
@@ -102,6 +106,7 @@ static const size_t WIDTHS[TABLES] = {13, 3, 8, 9};
 #define MOST_ENTRIES ((size_t)101)   // of a lent list
 #define USUAL_OUTPUT ((size_t)65535)
 #define PAST ((size_t)40)            // cells past the room of a longer table
+#define TOLD_BY_MEND ((size_t)3)     // the place of the refusal, the lengths of the mended text and of the lines
 #define TOLD_BY_EXPAND ((size_t)2)   // the place of the fault, the length of the expanded text
 #define MOST_LENGTHS ((size_t)18)    // told for lent texts
 #define TEXT_STEP ((size_t)65536)    // a place is the text's number times this, and the byte
@@ -142,7 +147,7 @@ enum side { ENDS_AT_GUARD, BEGINS_AT_GUARD };
 // How much memory beside the lent part is a canary: all of it but for a long output, and for the text, which is read-only.
 #define BESIDE ((size_t)1 << 16)
 
-static struct region text, tables[TABLES], usual_output, long_output, told, masks, second, list, buffer, lengths, expanded, origins;
+static struct region text, tables[TABLES], usual_output, long_output, told, masks, second, list, buffer, lengths, expanded, origins, lines;
 static struct region *output = &usual_output;
 
 #define NOISE ((size_t)1 << 18)
@@ -195,6 +200,7 @@ static void make_regions(void) {
         tables[t] = new_region(NAMES[t], pages(room(t) + PAST * CELL));
     usual_output = new_region("output", OUTPUT_SIZE);
     long_output = new_region("output", LONG_OUTPUT_SIZE);
+    lines = new_region("lines", OUTPUT_SIZE);
     told = new_region("told", pages(MOST_TOLD * CELL));
     masks = new_region("masks", pages((ROWS[OBJECTS] + PAST) * sizeof(uint64_t)));
     second = new_region("second text", TEXT_SIZE);
@@ -358,7 +364,7 @@ static void trapped(int signal, siginfo_t *info, void *context) {
     }
     const unsigned char *at = info->si_addr;
     struct region *all[] = {&text, &tables[0], &tables[1], &tables[2], &tables[3], &usual_output, &long_output,
-                            &told, &masks, &second, &list, &buffer, &lengths, &expanded, &origins};
+                            &told, &masks, &second, &list, &buffer, &lengths, &expanded, &origins, &lines};
     for (size_t i = 0; i < sizeof all / sizeof *all; i++) {
         const unsigned char *start = all[i]->views[all[i]->view], *end = start + all[i]->size;
         if (at >= start - GUARD && at < start)
@@ -502,12 +508,17 @@ enum fault {
     NORMAL_TEXT_WITH_A_PLACE,
     HEADING_WITH_A_LONGER_NAME,
     EXPLAINS_PAST_THE_LINES,
+    MENDED_BYTE_IS_ANOTHER,
+    LINE_ON_A_REFUSAL,
+    MENDED_LENGTH_IS_ANOTHER,
+    MEND_PAST_THE_MENDED,
 };
 
 static enum fault planted = NO_FAULT;
 
 static unsigned spoil(const struct slices *s, bool is_write, unsigned number);
 static unsigned spoil_heading(const struct slices *s, unsigned number);
+static void spoil_mend(unsigned number);
 static unsigned spoil_masks(uint64_t *list, size_t entries, size_t *cells, unsigned answer);
 static void spoil_compare(const uint8_t *other, size_t length, bool is_swapped, struct difference *records, size_t entries, struct compared *answer);
 static unsigned spoil_standard(size_t *cells, unsigned answer);
@@ -1498,6 +1509,59 @@ static bool try_write_texts(const char *name, size_t bytes) {
     return output_holds(written) && set_tables_hold(written > 0);
 }
 
+// Whether a refusal comes from a stage before 13, or is one that no drop cures: then it is that of the mended text too.
+static bool is_not_mended(unsigned number) {
+    return number != 13 && number != 14;
+}
+
+// `mend` over lent texts, with outputs of so many bytes for the mended text and for the lines.
+static bool try_mend(const char *name, size_t bytes, size_t bytes_of_lines) {
+    now.call = name;
+    output = &usual_output;
+    lend(output, now.side, bytes);
+    fill(output);
+    lend(&lines, now.side, bytes_of_lines);
+    fill(&lines);
+    lend(&told, now.side, TOLD_BY_MEND * CELL);
+    fill(&told);
+    fill_texts(LONGEST_TEXT, LONGEST_TEXT);
+    unsigned long errors = memcheck_errors();
+    shut_texts();
+    shut_for_call(output, true);
+    shut_for_call(&lines, true);
+    shut_for_call(&told, true);
+    unsigned number = kaukslini_mend_texts(lent(&buffer), buffer.length, (size_t *)(void *)lent(&lengths), lengths.length / CELL, lent(&expanded),
+                                           expanded.length, (size_t *)(void *)lent(&origins), origins.length / CELL, lent(output),
+                                           output->length, lent(&lines), lines.length, (size_t *)(void *)lent(&told), TOLD_BY_MEND);
+    if (planted != NO_FAULT)
+        spoil_mend(number);
+    calls++;
+    if (!is_set(&told, TOLD_BY_MEND * CELL))
+        return fail("memory that the call is to set is not set");
+    if (memcheck_errors() != errors)
+        return fail("valgrind reports %lu errors", memcheck_errors() - errors);
+    size_t place = told_at(0), mended = told_at(1), lined = told_at(2);
+    if (number != 0 ? mended != 0 || lined != 0 : place != 0 || mended > bytes || lined > bytes_of_lines)
+        return fail("number %u at %zu, and %zu and %zu bytes are told", number, place, mended, lined);
+    if (expected.number == 0 && bytes < expanded_length) {
+        if (number != OUTPUT_TOO_SHORT || place != 0)
+            return fail("the number is %u for 20, with %zu bytes of output", number, bytes);
+    } else if (expected.number == 0) {
+        if (number != 0 || mended != expanded_length || lined != 0 || memcmp(here(output), here(&expanded), mended) != 0)
+            return fail("an accepted text is mended to another: %u, %zu and %zu bytes", number, mended, lined);
+    } else if (is_not_mended(expected.number)) {
+        if (!is_number_of(number))
+            return false;
+        if (place != expected.told[0])
+            return fail("mending is refused with %u at %zu for %zu", number, place, expected.told[0]);
+    } else if (number == 0 ? mended >= expanded_length || lined == 0 : number != 15 && number != 16 && number < 18) {
+        return fail("a text with a fault of %u is mended: %u, %zu and %zu bytes", expected.number, number, mended, lined);
+    }
+    if (!is_noise_from(&lines, lined) || !is_noise_beside(&lines))
+        return fail("a byte past the %zu bytes of lines is changed", lined);
+    return output_holds(mended);
+}
+
 // Short memory for the expanded text or the origins is refused by 1, and read-only memory shows that nothing is touched.
 static bool try_short_texts(void) {
     struct set_written answer;
@@ -1557,6 +1621,10 @@ static bool try_texts_as(enum lending how) {
     if (!try_write_texts("write over texts", room_of_output))
         return false;
     if (expected.number == 0 && !try_write_texts("write over texts, an output one byte too short", first.length - 1))
+        return false;
+    if (!try_mend("mend", LONGEST_TEXT, OUTPUT_SIZE))
+        return false;
+    if (expected.number == 0 && !try_mend("mend, an output one byte too short", expanded_length - 1, 0))
         return false;
     return try_short_texts() && try_told_wrong();
 }
@@ -2009,6 +2077,10 @@ static NOT_INSTRUMENTED unsigned spoil(const struct slices *s, bool is_write, un
     case NORMAL_TEXT_WITH_A_PLACE:
     case HEADING_WITH_A_LONGER_NAME:
     case EXPLAINS_PAST_THE_LINES:
+    case MENDED_BYTE_IS_ANOTHER:
+    case LINE_ON_A_REFUSAL:
+    case MENDED_LENGTH_IS_ANOTHER:
+    case MEND_PAST_THE_MENDED:
         break; // of the calls of kaukslini.h
     }
     return number;
@@ -2242,6 +2314,32 @@ static NOT_INSTRUMENTED void spoil_alone(unsigned char *bytes, size_t length, st
     }
 }
 
+// The same of `kaukslini_mend_texts`.
+static NOT_INSTRUMENTED void spoil_mend(unsigned number) {
+    size_t *cells = (size_t *)(void *)lent(&told);
+
+    switch (planted) {
+    case MENDED_BYTE_IS_ANOTHER:
+        if (number == 0)
+            lent(output)[0] ^= 1;
+        break;
+    case LINE_ON_A_REFUSAL:
+        if (number != 0 && lines.length > 0)
+            lent(&lines)[0] ^= 1;
+        break;
+    case MENDED_LENGTH_IS_ANOTHER:
+        if (number == 0)
+            cells[1]--;
+        break;
+    case MEND_PAST_THE_MENDED:
+        if (number == 0 && cells[1] < output->length)
+            lent(output)[cells[1]] ^= 1;
+        break;
+    default:
+        break;
+    }
+}
+
 // Each fault, a part of what is to be reported, and whether it takes valgrind to see it.
 static const struct {
     const char *name, *reported;
@@ -2338,6 +2436,10 @@ static const struct {
     [NORMAL_TEXT_WITH_A_PLACE] = {"normal text is told a place", "the normal text is not what was written", false},
     [HEADING_WITH_A_LONGER_NAME] = {"a longer name is told by kaukslini_heading", "the heading of the text alone is not that of the text", false},
     [EXPLAINS_PAST_THE_LINES] = {"a byte past the two lines is changed", "written ones is changed", false},
+    [MENDED_BYTE_IS_ANOTHER] = {"a byte of an accepted text is mended", "an accepted text is mended to another", false},
+    [LINE_ON_A_REFUSAL] = {"a refusal changes the lines", "a byte past the 0 bytes of lines is changed", false},
+    [MENDED_LENGTH_IS_ANOTHER] = {"another length of the mended text is told", "an accepted text is mended to another", false},
+    [MEND_PAST_THE_MENDED] = {"a byte past the mended text is changed", "written ones is changed", false},
 };
 
 enum { FAULT_COUNT = sizeof FAULTS / sizeof *FAULTS };
