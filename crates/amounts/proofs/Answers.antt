@@ -28,31 +28,31 @@ module _ (s d t : List ℕ) (k : Known s d t) (j : ℕ) (l : j < 512) (n : Num) 
   told : (b : Bounds) → RangeAt s (get_or d (j * 19 + 8) 0) b → Told (signed_code (get_or d (j * 19 + 12) 0)) b (part t (512 + j * 5) 5) t k.used
   told b x = k.noted.told j l b x
 
-  known-cell : (c x : ℕ) → c < 5 → x ≡ get_or t (512 + j * 5 + c) 0 → get_or (part t (512 + j * 5) 5) c 0 ≡ x
-  known-cell c x h e = cell_of_lem t (512 + j * 5) 5 c h ∙ sym e
+  known_cell : (c x : ℕ) → c < 5 → x ≡ get_or t (512 + j * 5 + c) 0 → get_or (part t (512 + j * 5) 5) c 0 ≡ x
+  known_cell c x h e = cell_of_lem t (512 + j * 5) 5 c h ∙ sym e
 
   module _ (x a b : ℕ) (x-is : x ≡ get_or t (512 + j * 5 + 0) 0) (a-is : a ≡ get_or t (512 + j * 5 + 1) 0) (b-is : b ≡ get_or t (512 + j * 5 + 2) 0) where
     pub below : x ≡ 1 → (c : Bool) → c ≡ num_at_most (num_in a b) n → c ≡ false → InRangeOf s d j n false
     below e c q h v r =
         sym (ap (λ y. both y (num_at_most n (num_in (get_or (part t (512 + j * 5) 5) 3 0) (get_or (part t (512 + j * 5) 5) 4 0))))
-        (ap₂ (λ u w. num_at_most (num_in u w) n) (known-cell 1 a (omega arith) a-is) (known-cell 2 b (omega arith) b-is) ∙ sym q ∙ h))
-        ∙ (told v r).two (known-cell 0 x (omega arith) x-is ∙ e) n
+        (ap₂ (λ u w. num_at_most (num_in u w) n) (known_cell 1 a (omega arith) a-is) (known_cell 2 b (omega arith) b-is) ∙ sym q ∙ h))
+        ∙ (told v r).two (known_cell 0 x (omega arith) x-is ∙ e) n
 
-    pub not-below : x ≡ 1 → (c : Bool) → c ≡ num_at_most (num_in a b) n → c ≡ true → (f g : ℕ) → f ≡ get_or t (512 + j * 5 + 3) 0 → g ≡ get_or t (512 + j * 5 + 4) 0
+    pub not_below : x ≡ 1 → (c : Bool) → c ≡ num_at_most (num_in a b) n → c ≡ true → (f g : ℕ) → f ≡ get_or t (512 + j * 5 + 3) 0 → g ≡ get_or t (512 + j * 5 + 4) 0
         → (r : Bool) → r ≡ num_at_most n (num_in f g) → InRangeOf s d j n r
-    not-below e c q h f g f-is g-is r i v w =
+    not_below e c q h f g f-is g-is r i v w =
         i
-        ∙ ap₂ (λ u y. num_at_most n (num_in u y)) (sym (known-cell 3 f (omega arith) f-is)) (sym (known-cell 4 g (omega arith) g-is))
+        ∙ ap₂ (λ u y. num_at_most n (num_in u y)) (sym (known_cell 3 f (omega arith) f-is)) (sym (known_cell 4 g (omega arith) g-is))
         ∙ sym (ap (λ y. both y (num_at_most n (num_in (get_or (part t (512 + j * 5) 5) 3 0) (get_or (part t (512 + j * 5) 5) 4 0))))
-        (ap₂ (λ u w. num_at_most (num_in u w) n) (known-cell 1 a (omega arith) a-is) (known-cell 2 b (omega arith) b-is) ∙ sym q ∙ h))
-        ∙ (told v w).two (known-cell 0 x (omega arith) x-is ∙ e) n
+        (ap₂ (λ u w. num_at_most (num_in u w) n) (known_cell 1 a (omega arith) a-is) (known_cell 2 b (omega arith) b-is) ∙ sym q ∙ h))
+        ∙ (told v w).two (known_cell 0 x (omega arith) x-is ∙ e) n
 
-    pub by-list : x ≡ 2 → (c : ℕ) → c ≡ get_or d (j * 19 + 12) 0 → (g : Bool) → g ≡ signed_code c → (h : Bool) → h ≡ num_has_key g n → h ≡ true
+    pub by_list : x ≡ 2 → (c : ℕ) → c ≡ get_or d (j * 19 + 12) 0 → (g : Bool) → g ≡ signed_code c → (h : Bool) → h ≡ num_has_key g n → h ≡ true
         → (m : ℕ) → m ≡ key n → (r : Bool) → Tells (take (b - a) (drop a t)) m r → InRangeOf s d j n r
     unfolding Tells
-    by-list e c c-is g g-is h h-is y m m-is r f v w =
-        let o = (told v w).list (known-cell 0 x (omega arith) x-is ∙ e) in
-        let q = subst (Listing (signed_code (get_or d (j * 19 + 12) 0)) v) (ap₂ (λ i u. part t i (u - i)) (known-cell 1 a (omega arith) a-is) (known-cell 2 b (omega arith) b-is)) o in
+    by_list e c c-is g g-is h h-is y m m-is r f v w =
+        let o = (told v w).list (known_cell 0 x (omega arith) x-is ∙ e) in
+        let q = subst (Listing (signed_code (get_or d (j * 19 + 12) 0)) v) (ap₂ (λ i u. part t i (u - i)) (known_cell 1 a (omega arith) a-is) (known_cell 2 b (omega arith) b-is)) o in
         f q.rising
         ∙ ap (λ i. among_cells i (take (b - a) (drop a t))) m-is
         ∙ q.tells n (ap (λ i. num_has_key i n) (ap signed_code (sym c-is) ∙ sym g-is) ∙ sym h-is ∙ y)
@@ -61,18 +61,18 @@ module _ (s d t : List ℕ) (k : Known s d t) (j : ℕ) (l : j < 512) (n : Num) 
     module _ (e : x ≡ 3) (y : Num) (y-is : y ≡ float_in a b) (c : Bool) (q : c ≡ num_at_most y n) where
       low_float : num_at_most (float_in (get_or (part t (512 + j * 5) 5) 1 0) (get_or (part t (512 + j * 5) 5) 2 0)) n ≡ c
       low_float =
-          ap₂ (λ u w. num_at_most (float_in u w) n) (known-cell 1 a (omega arith) a-is) (known-cell 2 b (omega arith) b-is)
+          ap₂ (λ u w. num_at_most (float_in u w) n) (known_cell 1 a (omega arith) a-is) (known_cell 2 b (omega arith) b-is)
           ∙ ap (λ m. num_at_most m n) (sym y-is) ∙ sym q
 
       pub float_below : c ≡ false → InFloatsOf s d j n false
       float_below h v r =
           sym (ap (λ y. both y (num_at_most n (float_in (get_or (part t (512 + j * 5) 5) 3 0) (get_or (part t (512 + j * 5) 5) 4 0)))) (low_float ∙ h))
-          ∙ k.noted.floats j l v r (known-cell 0 x (omega arith) x-is ∙ e) n
+          ∙ k.noted.floats j l v r (known_cell 0 x (omega arith) x-is ∙ e) n
 
       pub float-not-below : c ≡ true → (f g : ℕ) → f ≡ get_or t (512 + j * 5 + 3) 0 → g ≡ get_or t (512 + j * 5 + 4) 0 → (z : Num) → z ≡ float_in f g
           → (r : Bool) → r ≡ num_at_most n z → InFloatsOf s d j n r
       float-not-below h f g f-is g-is z z-is r i v w =
           i ∙ ap (num_at_most n) z-is
-          ∙ ap₂ (λ u y. num_at_most n (float_in u y)) (sym (known-cell 3 f (omega arith) f-is)) (sym (known-cell 4 g (omega arith) g-is))
+          ∙ ap₂ (λ u y. num_at_most n (float_in u y)) (sym (known_cell 3 f (omega arith) f-is)) (sym (known_cell 4 g (omega arith) g-is))
           ∙ sym (ap (λ y. both y (num_at_most n (float_in (get_or (part t (512 + j * 5) 5) 3 0) (get_or (part t (512 + j * 5) 5) 4 0)))) (low_float ∙ h))
-          ∙ k.noted.floats j l v w (known-cell 0 x (omega arith) x-is ∙ e) n
+          ∙ k.noted.floats j l v w (known_cell 0 x (omega arith) x-is ∙ e) n

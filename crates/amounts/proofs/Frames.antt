@@ -72,9 +72,9 @@ module _ (s d t : List ℕ) (u u' j : ℕ) (c : List ℕ) (k : Noted s d t u) (h
       let o = k.room in
       ap (part (sets t (512 + j * 5) c) (512 + j * 5)) (sym w) ∙ part_sets_same t (512 + j * 5) c (omega (arith, h, w, m, i, o))
 
-  pub noted-put : ((b : Bounds) → RangeAt s (get_or d (j * 19 + 8) 0) b → Told (signed_code (get_or d (j * 19 + 12) 0)) b c (sets t (512 + j * 5) c) u')
+  pub noted_put : ((b : Bounds) → RangeAt s (get_or d (j * 19 + 8) 0) b → Told (signed_code (get_or d (j * 19 + 12) 0)) b c (sets t (512 + j * 5) c) u')
       → ((b : Bounds) → FloatsAt s (get_or d (j * 19 + 8) 0) b → ToldFloats b c) → Noted s d (sets t (512 + j * 5) c) u'
-  noted-put f g =
+  noted_put f g =
       let o = k.room in
       let z = length-sets t (512 + j * 5) c in
       record {

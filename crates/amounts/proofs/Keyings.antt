@@ -21,16 +21,16 @@ both_true false q e = absurd (false≢true e)
 two_tests : (u v x y : ℕ) → (u ≡ v → x ≡ y) → (x ≡ y → u ≡ v) → eqb u v ≡ both (leb x y) (leb y x)
 two_tests u v x y f g = by (eqb u v) refl
   where
-    with-least : (h : x ≡ y → ⊥) (c : Bool) → leb x y ≡ c → false ≡ both c (leb y x)
-    with-least h true e = let a = leb-true x y e in sym (lt-leb y x (lt a h))
+    with_least : (h : x ≡ y → ⊥) (c : Bool) → leb x y ≡ c → false ≡ both c (leb y x)
+    with_least h true e = let a = leb-true x y e in sym (lt-leb y x (lt a h))
       where
         lt : x ≤ y → (x ≡ y → ⊥) → x < y
         lt a h = omega arith
-    with-least h false e = refl
+    with_least h false e = refl
 
     by : (c : Bool) → eqb u v ≡ c → c ≡ both (leb x y) (leb y x)
     by true e = let h = f (eqb-true u v e) in sym (ap₂ both (le-leb x y (omega arith)) (le-leb y x (omega arith)))
-    by false e = with-least (λ h. eqb-false u v e (g h)) (leb x y) refl
+    by false e = with_least (λ h. eqb-false u v e (g h)) (leb x y) refl
 
 -- Cells ------------------------------------------------------------------------------------------------------------------------------------
 
@@ -72,17 +72,17 @@ keys_equal g n m p q = keys_of g n.negative m.negative n.amount m.amount p q
 -- Floats ------------------------------------------------------------------------------------------------------------------------------------
 
 module _ (b : Bool) (m k : ℕ) (h : k < 256) where
-  scale-cell : (c s : ℕ) (v : Bool) → c % 2 ≡ s → not (eqb s 0) ≡ v → c / 2 ≡ k → b ≡ v → float_in m c ≡ record { negative = b; amount = m * 10 ^ k }
+  scale_cell : (c s : ℕ) (v : Bool) → c % 2 ≡ s → not (eqb s 0) ≡ v → c / 2 ≡ k → b ≡ v → float_in m c ≡ record { negative = b; amount = m * 10 ^ k }
   unfolding float_in
-  scale-cell c s v x y z e =
+  scale_cell c s v x y z e =
       let w : k % 256 ≡ k = omega (arith, h) in
       ap₂ (λ u n. record { negative = u; amount = m * 10 ^ n }) (ap (λ n. not (eqb n 0)) x ∙ y ∙ sym e) (ap (λ n. n % 256) z ∙ w)
 
-  pub scale-negative : b ≡ true → float_in m (k * 2 + 1) ≡ record { negative = b; amount = m * 10 ^ k }
-  scale-negative e = scale-cell (k * 2 + 1) 1 true (omega arith) refl (omega arith) e
+  pub scale_negative : b ≡ true → float_in m (k * 2 + 1) ≡ record { negative = b; amount = m * 10 ^ k }
+  scale_negative e = scale_cell (k * 2 + 1) 1 true (omega arith) refl (omega arith) e
 
-  pub scale-other : b ≡ false → float_in m (k * 2) ≡ record { negative = b; amount = m * 10 ^ k }
-  scale-other e = scale-cell (k * 2) 0 false (omega arith) refl (omega arith) e
+  pub scale_other : b ≡ false → float_in m (k * 2) ≡ record { negative = b; amount = m * 10 ^ k }
+  scale_other e = scale_cell (k * 2) 0 false (omega arith) refl (omega arith) e
 
 -- What the functions cite --------------------------------------------------------------------------------------------------------------------
 
@@ -99,22 +99,22 @@ unfolding num_has_key
 key_unsigned g n e = ap (λ h. num_has_key h n) (sym e)
 
 module _ (g : Bool) (n : Num) (e : g ≡ true) where
-  pub key-signed : (b : Bool) → n.negative ≡ b → pick b (both (leb 1 n.amount) (leb n.amount 9223372036854775808)) (ltb n.amount 9223372036854775808) ≡ num_has_key g n
+  pub key_signed : (b : Bool) → n.negative ≡ b → pick b (both (leb 1 n.amount) (leb n.amount 9223372036854775808)) (ltb n.amount 9223372036854775808) ≡ num_has_key g n
   unfolding num_has_key
-  key-signed b h =
+  key_signed b h =
       sym (ap (λ q. num_has_key q n) e ∙ ap (λ q. pick q (both (leb 1 n.amount) (leb n.amount 9223372036854775808)) (ltb n.amount 9223372036854775808)) h)
 
   pub key_low : n.negative ≡ true → 1 ≤ n.amount → leb n.amount 9223372036854775808 ≡ num_has_key g n
-  key_low h k = sym (ap (λ b. both b (leb n.amount 9223372036854775808)) (le-leb 1 n.amount k)) ∙ key-signed true h
+  key_low h k = sym (ap (λ b. both b (leb n.amount 9223372036854775808)) (le-leb 1 n.amount k)) ∙ key_signed true h
 
-  pub key-zero : n.negative ≡ true → n.amount < 1 → false ≡ num_has_key g n
-  key-zero h k = sym (ap (λ b. both b (leb n.amount 9223372036854775808)) (lt-leb 1 n.amount k)) ∙ key-signed true h
+  pub key_zero : n.negative ≡ true → n.amount < 1 → false ≡ num_has_key g n
+  key_zero h k = sym (ap (λ b. both b (leb n.amount 9223372036854775808)) (lt-leb 1 n.amount k)) ∙ key_signed true h
 
 module _ (n : Num) where
-  pub key-negative : (a : ℕ) → n.negative ≡ true → a ≡ 18446744073709551615 - (n.amount - 1) → a ≡ key n
+  pub key_negative : (a : ℕ) → n.negative ≡ true → a ≡ 18446744073709551615 - (n.amount - 1) → a ≡ key n
   unfolding key
-  key-negative a h e = e ∙ sym (ap (λ b. pick b (18446744073709551615 - (n.amount - 1)) n.amount) h)
+  key_negative a h e = e ∙ sym (ap (λ b. pick b (18446744073709551615 - (n.amount - 1)) n.amount) h)
 
-  pub key-other : n.negative ≡ false → n.amount ≡ key n
+  pub key_other : n.negative ≡ false → n.amount ≡ key n
   unfolding key
-  key-other h = sym (ap (λ b. pick b (18446744073709551615 - (n.amount - 1)) n.amount) h)
+  key_other h = sym (ap (λ b. pick b (18446744073709551615 - (n.amount - 1)) n.amount) h)

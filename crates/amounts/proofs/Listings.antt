@@ -15,8 +15,8 @@ use Rattle.meaning.specs.Syntax.{Num, Word}
 use Rattle.meaning.specs.Words.{equal, among_numbers}
 use Rattle.scopes.specs.declared.Item.{Item}
 use Rattle.scopes.specs.Items.{num, item_at}
-use Rattle.scopes.specs.Ranges.{Listed, listed-none, listed_more}
-use Rattle.scopes.proofs.Ranging.{listed_start, listed-stop, listed-end}
+use Rattle.scopes.specs.Ranges.{Listed, listed_none, listed_more}
+use Rattle.scopes.proofs.Ranging.{listed_start, listed_stop, listed_end}
 use Rattle.amounts.specs.Keys.{num_has_key, key}
 use Rattle.amounts.specs.Promises.{KeyedBehind, Keyed}
 use Rattle.amounts.proofs.Keyings.{keys_equal}
@@ -37,13 +37,13 @@ abbrev pub Putting : List ℕ → Bool → (from at : ℕ) → (first cells : Li
 Putting s g from at first cells = (ws : List Word) → Listed s from ws → Left s g at ws first cells
 
 module _ (s : List ℕ) (g : Bool) (from : ℕ) (first : List ℕ) where
-  pub put-start : Putting s g from from first first
-  put-start ws l = record { left = ws; listed = l; whole = λ n h. refl }
+  pub put_start : Putting s g from from first first
+  put_start ws l = record { left = ws; listed = l; whole = λ n h. refl }
 
   module _ (at : ℕ) (cells : List ℕ) (k : Putting s g from at first cells) where
-    all-put : ((n : Num) (ws : List Word) → Listed s at ws → false ≡ among_numbers n ws) → (ws : List Word) → Listed s from ws → (n : Num) → num_has_key g n ≡ true
+    all_put : ((n : Num) (ws : List Word) → Listed s at ws → false ≡ among_numbers n ws) → (ws : List Word) → Listed s from ws → (n : Num) → num_has_key g n ≡ true
         → among_cells (key n) cells ≡ either (among_cells (key n) first) (among_numbers n ws)
-    all-put z ws l n h =
+    all_put z ws l n h =
         let r = k ws l in
         sym (r.whole n h ∙ ap (either (among_cells (key n) cells)) (sym (z n r.left r.listed)) ∙ either_false (among_cells (key n) cells))
 
@@ -54,7 +54,7 @@ module _ (s : List ℕ) (g : Bool) (from : ℕ) (first : List ℕ) where
         where
           by : {us : List Word} → Listed s at us → ((n : Num) → num_has_key g n ≡ true → either (among_cells (key n) first) (among_numbers n ws) ≡ either (among_cells (key n) cells) (among_numbers n us))
               → Left s g y.next ws first (cells ++ (key (num y.number) ∷ []))
-          by (listed-none z) o = absurd (z (ap (λ (i : Item). i.sign) (sym e) ∙ h))
+          by (listed_none z) o = absurd (z (ap (λ (i : Item). i.sign) (sym e) ∙ h))
           by (listed_more {q = q} {r} {w} {ws = rest} z a b) o =
               let m : q ≡ x.next = sym z.next ∙ ap (λ (i : Item). i.next) (sym e) in
               let u : y ≡ item_at s q = v ∙ ap (item_at s) (sym m) in
@@ -80,7 +80,7 @@ pub record Put (s : List ℕ) (g : Bool) (from count : ℕ) (l₀ : List ℕ) (a
 
 module _ (s : List ℕ) (g : Bool) (from count : ℕ) (l₀ : List ℕ) where
   pub start : count ≤ length l₀ → Put s g from count l₀ from count l₀
-  start h = record { size = refl; inside = h; putting = put-start s g from (take count l₀) }
+  start h = record { size = refl; inside = h; putting = put_start s g from (take count l₀) }
 
   module _ (at i : ℕ) (l : List ℕ) (k : Put s g from count l₀ at i l) where
     pub stop : (x : Item) → x ≡ item_at s at → (x.sign ≡ 44 → ⊥) → KeyedBehind s g from count l₀ l i
@@ -88,7 +88,7 @@ module _ (s : List ℕ) (g : Bool) (from count : ℕ) (l₀ : List ℕ) where
         record {
           size = k.size;
           inside = k.inside;
-          tells = λ z. all-put s g from (take count l₀) at (take i l) k.putting (λ n. listed-stop s n at at (listed_start s n at) x e h);
+          tells = λ z. all_put s g from (take count l₀) at (take i l) k.putting (λ n. listed_stop s n at at (listed_start s n at) x e h);
         }
 
     pub end : length s ≤ at → KeyedBehind s g from count l₀ l i
@@ -96,7 +96,7 @@ module _ (s : List ℕ) (g : Bool) (from count : ℕ) (l₀ : List ℕ) where
         record {
           size = k.size;
           inside = k.inside;
-          tells = λ z. all-put s g from (take count l₀) at (take i l) k.putting (λ n. listed-end s n at at (listed_start s n at) h);
+          tells = λ z. all_put s g from (take count l₀) at (take i l) k.putting (λ n. listed_end s n at at (listed_start s n at) h);
         }
 
     pub fails : KeyedBehind s g from count l₀ l 0
@@ -118,12 +118,12 @@ module _ (s : List ℕ) (g : Bool) (from count : ℕ) (l₀ : List ℕ) where
 -- The first number -------------------------------------------------------------------------------------------------------------------------
 
 module _ (s : List ℕ) (g : Bool) (m : Num) (from : ℕ) (l : List ℕ) where
-  pub none-put : Keyed s g m from l l 0
-  none-put = record { size = refl; inside = omega arith; tells = λ z. absurd (z refl) }
+  pub none_put : Keyed s g m from l l 0
+  none_put = record { size = refl; inside = omega arith; tells = λ z. absurd (z refl) }
 
-  pub first-put : (b : Bool) → b ≡ num_has_key g m → b ≡ true → 0 < length l → (a : ℕ) → a ≡ key m → (l' : List ℕ) (r : ℕ) → KeyedBehind s g from 1 (set l 0 a) l' r → Keyed s g m from l l' r
+  pub first_put : (b : Bool) → b ≡ num_has_key g m → b ≡ true → 0 < length l → (a : ℕ) → a ≡ key m → (l' : List ℕ) (r : ℕ) → KeyedBehind s g from 1 (set l 0 a) l' r → Keyed s g m from l l' r
   unfolding among_cells
-  first-put b q p o a e l' r k =
+  first_put b q p o a e l' r k =
       let z = length-set l 0 a in
       let i = k.size in
       let j = k.inside in

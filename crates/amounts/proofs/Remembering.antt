@@ -24,8 +24,8 @@ in_cells n m c e h = record { negative = h ∙ ap (λ (x : Num). bit x.negative)
 
 -- A row is put.
 module _ (s d t : List ℕ) (j : ℕ) (h : j < 512) (n : Number-of) (p : ℕ) (e : p ≡ get_or d (j * 19 + 10) 0) (m : num n ≡ num_of_step (step_at s p)) (c : ℕ) (g : c ≡ bit n.negative) where
-  pub default-put : (t' : List ℕ) → t' ≡ sets t (j * 3) (1 ∷ c ∷ n.amount ∷ []) → NotesDefault s d t t'
-  default-put t' q =
+  pub default_put : (t' : List ℕ) → t' ≡ sets t (j * 3) (1 ∷ c ∷ n.amount ∷ []) → NotesDefault s d t t'
+  default_put t' q =
       let z = length-sets t (j * 3) (1 ∷ c ∷ n.amount ∷ []) in
       record {
         size = ap length q ∙ z;

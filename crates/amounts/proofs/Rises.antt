@@ -19,9 +19,9 @@ module _ (l : List ℕ) where
   unfolding Left Rising
   left_start h = h
 
-  pub left-more : (i n : ℕ) → i < length l → n ≤ get_or l i 0 → Left l i n → Left l (i + 1) (get_or l i 0)
+  pub left_more : (i n : ℕ) → i < length l → n ≤ get_or l i 0 → Left l i n → Left l (i + 1) (get_or l i 0)
   unfolding Left Rising-from
-  left-more i n h g k r =
+  left_more i n h g k r =
       let e : i + 1 ≡ suc i = omega arith in
       k (subst (λ (x : List ℕ). Rising-from n x) (sym (drop-cons l i 0 h)) (g, subst (λ (j : ℕ). Rising-from (get_or l i 0) (drop j l)) e r))
 

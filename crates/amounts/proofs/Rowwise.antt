@@ -16,13 +16,13 @@ use Rattle.meaning.specs.Actions.{float_of_step}
 use Rattle.meaning.specs.Words.{num_at_most, equal, among_numbers, in_bounds, in_float_bounds}
 use Rattle.scopes.specs.declared.Item.{Item}
 use Rattle.scopes.specs.Items.{num, item_at}
-use Rattle.scopes.specs.Ranges.{Listed, RangeAt, range_none, range-two, range-list, FloatsAt}
+use Rattle.scopes.specs.Ranges.{Listed, RangeAt, range_none, range_two, range_list, FloatsAt}
 use Rattle.scopes.proofs.Ranging.{in_two, below_two}
-use Rattle.scopes.proofs.Floating.{floats-in, floats-below}
+use Rattle.scopes.proofs.Floating.{floats_in, floats_below}
 use Rattle.amounts.specs.Keys.{signed_code, key, Listing}
 use Rattle.amounts.specs.Known.{num_in, float_in, Noted}
 use Rattle.amounts.specs.Promises.{Keyed, KeyedRising, NotesRow, NotesFloats, Notes}
-use Rattle.amounts.proofs.Frames.{noted_behind, noted-put, noted_blank}
+use Rattle.amounts.proofs.Frames.{noted_behind, noted_put, noted_blank}
 
 -- Sorted cells -------------------------------------------------------------------------------------------------------------------------------
 
@@ -30,8 +30,8 @@ module _ (s : List ℕ) (g : Bool) (m : Num) (from : ℕ) (l l' : List ℕ) (n :
   pub no_room : KeyedRising s g m from l l' 0
   no_room = record { keyed = record { size = k.size; inside = omega arith; tells = λ z. absurd (z refl) }; rising = λ z. absurd (z refl) }
 
-  pub in-rise : (room : ℕ) (q : List ℕ) → n / 2 ≤ room → Sorted (take n l') room q → KeyedRising s g m from l (q ++ drop n l') n
-  in-rise room q h o =
+  pub in_rise : (room : ℕ) (q : List ℕ) → n / 2 ≤ room → Sorted (take n l') room q → KeyedRising s g m from l (q ++ drop n l') n
+  in_rise room q h o =
       let a = k.size in
       let b = k.inside in
       let w = length-take-le n l' (omega arith) in
@@ -75,8 +75,8 @@ record Words (s : List ℕ) (m : Num) (from : ℕ) (b : Bounds) : Type 0 where
   tells : (n : Num) → either (equal n m) (among_numbers n words) ≡ in_bounds n b
 
 module _ (s d : List ℕ) (j p : ℕ) (h : p ≡ get_or d (j * 19 + 8) 0) where
-  range-here : (b : Bounds) → RangeAt s (get_or d (j * 19 + 8) 0) b → RangeAt s p b
-  range-here b x = subst (λ i. RangeAt s i b) (sym h) x
+  range_here : (b : Bounds) → RangeAt s (get_or d (j * 19 + 8) 0) b → RangeAt s p b
+  range_here b x = subst (λ i. RangeAt s i b) (sym h) x
 
   module _ (f : p ≡ 0 → ⊥) (o a z : Item) (e : o ≡ item_at s p) (v : a ≡ item_at s o.next) (w : z ≡ item_at s a.next) where
     between : (y : Item) (n : Num) (b : Bounds) → z.sign ≡ 46 → y ≡ item_at s z.next → RangeAt s p b → both (num_at_most (num a.number) n) (num_at_most n (num y.number)) ≡ in_bounds n b
@@ -89,11 +89,11 @@ module _ (s d : List ℕ) (j p : ℕ) (h : p ≡ get_or d (j * 19 + 8) 0) where
     words_of : (b : Bounds) → (z.sign ≡ 46 → ⊥) → RangeAt s p b → Words s (num a.number) a.next b
     unfolding in_bounds among_numbers
     words_of b t (range_none i) = absurd (f i)
-    words_of b t (range-two {q = q} {r} n x m c u) =
+    words_of b t (range_two {q = q} {r} n x m c u) =
         let i : a ≡ item_at s q = v ∙ ap (item_at s) (ap (λ (i : Item). i.next) e ∙ x.next) in
         let k : z ≡ item_at s r = w ∙ ap (item_at s) (ap (λ (i : Item). i.next) i ∙ m.next) in
         absurd (t (ap (λ (i : Item). i.sign) k ∙ c.sign))
-    words_of b t (range-list {q = q} {r} {ws = ws} n x m c l) =
+    words_of b t (range_list {q = q} {r} {ws = ws} n x m c l) =
         let i : a ≡ item_at s q = v ∙ ap (item_at s) (ap (λ (i : Item). i.next) e ∙ x.next) in
         let k : a.next ≡ r = ap (λ (i : Item). i.next) i ∙ m.next in
         let u = ap (λ (i : Item). num i.number) i ∙ m.number in
@@ -110,11 +110,11 @@ module _ (s d : List ℕ) (j p : ℕ) (h : p ≡ get_or d (j * 19 + 8) 0) where
           let cs : List ℕ = 1 ∷ bit a.number.negative ∷ a.number.amount ∷ bit y.number.negative ∷ y.number.amount ∷ [] in
           record {
             size = ap length q ∙ length-sets t (512 + j * 5) cs;
-            keeps = λ k. subst (λ c. Noted s d c used) (sym q) (noted-put s d t used used j cs k l refl (omega arith) k.inside (λ b x.
+            keeps = λ k. subst (λ c. Noted s d c used) (sym q) (noted_put s d t used used j cs k l refl (omega arith) k.inside (λ b x.
                 record {
                   two = λ g n.
                       ap₂ (λ c r. both (num_at_most c n) (num_at_most n r)) (num_of_cells a.number.negative a.number.amount) (num_of_cells y.number.negative y.number.amount)
-                      ∙ between y n b i u (range-here b x);
+                      ∙ between y n b i u (range_here b x);
                   within = λ g. absurd (omega (arith, g));
                   list = λ g. absurd (omega (arith, g));
                 }) (λ b x g. absurd (omega (arith, g))));
@@ -129,8 +129,8 @@ module _ (s d : List ℕ) (j p : ℕ) (h : p ≡ get_or d (j * 19 + 8) 0) where
             let u = tail_size t used in
             omega (arith, x, y, r, u, le)
 
-        pub end-inside : used + n ≤ length t
-        end-inside = let r = k.keyed.inside in let u = tail_size t used in omega (arith, r, u, le)
+        pub end_inside : used + n ≤ length t
+        end_inside = let r = k.keyed.inside in let u = tail_size t used in omega (arith, r, u, le)
 
         pub row_none : NotesRow s d t used (take used t ++ (q ++ drop (length t - used) (drop used t))) used
         row_none =
@@ -147,12 +147,12 @@ module _ (s d : List ℕ) (j p : ℕ) (h : p ≡ get_or d (j * 19 + 8) 0) where
         row_list y end r t' x' =
             let cs : List ℕ = 2 ∷ used ∷ end ∷ 0 ∷ 0 ∷ [] in
             let x : t' ≡ sets (take used t ++ q) (512 + j * 5) cs = x' ∙ ap (λ c. sets c (512 + j * 5) cs) (tail_put t q used) in
-            let le' : end ≤ length (take used t ++ q) = omega (arith, size-behind, end-inside, r) in
+            let le' : end ≤ length (take used t ++ q) = omega (arith, size-behind, end_inside, r) in
             record {
               size = ap length x ∙ length-sets (take used t ++ q) (512 + j * 5) cs ∙ size-behind;
               keeps = λ m.
                   let o = m.room in
-                  subst (λ c. Noted s d c end) (sym x) (noted-put s d (take used t ++ q) used end j cs (noted_behind s d t q used m) l refl (omega (arith, r)) le' (λ b f'.
+                  subst (λ c. Noted s d c end) (sym x) (noted_put s d (take used t ++ q) used end j cs (noted_behind s d t q used m) l refl (omega (arith, r)) le' (λ b f'.
                   let cells : part (sets (take used t ++ q) (512 + j * 5) cs) used (end - used) ≡ take n q =
                   let a : end - used ≡ n = omega (arith, r) in
                   part_sets_after (take used t ++ q) (512 + j * 5) cs used (end - used) (omega (arith, l, o))
@@ -162,7 +162,7 @@ module _ (s d : List ℕ) (j p : ℕ) (h : p ≡ get_or d (j * 19 + 8) 0) where
                   record {
                     two = λ e. absurd (omega (arith, e));
                     within = λ e. (o, omega (arith, r), omega arith);
-                    list = λ e. subst (Listing (signed_code (get_or d (j * 19 + 12) 0)) b) (sym cells) (listing b y (range-here b f'));
+                    list = λ e. subst (Listing (signed_code (get_or d (j * 19 + 12) 0)) b) (sym cells) (listing b y (range_here b f'));
                   }) (λ b f' e. absurd (omega (arith, e))));
             }
 
@@ -170,24 +170,24 @@ module _ (s d : List ℕ) (j p : ℕ) (h : p ≡ get_or d (j * 19 + 8) 0) where
 
 module _ (s d : List ℕ) (j p : ℕ) (h : p ≡ get_or d (j * 19 + 8) 0) (f : p ≡ 0 → ⊥) (o a z : Item) (e : o ≡ item_at s p) (v : a ≡ item_at s o.next)
     (w : z ≡ item_at s a.next) (x y : Num) (u : x ≡ float_of_step (step_at s o.next)) (r : y ≡ float_of_step (step_at s z.next)) where
-  floats-between : (n : Num) (b : Bounds) → FloatsAt s p b → both (num_at_most x n) (num_at_most n y) ≡ in_float_bounds n b
-  floats-between n b k = by (num_at_most x n) refl
+  floats_between : (n : Num) (b : Bounds) → FloatsAt s p b → both (num_at_most x n) (num_at_most n y) ≡ in_float_bounds n b
+  floats_between n b k = by (num_at_most x n) refl
     where
       by : (c : Bool) → num_at_most x n ≡ c → both c (num_at_most n y) ≡ in_float_bounds n b
-      by true q = floats-in s p f o a z e v w x y u r n true (num_at_most n y) (sym q) refl refl b k
-      by false q = floats-below s p f o a z e v w x y u r n false (sym q) refl b k
+      by true q = floats_in s p f o a z e v w x y u r n true (num_at_most n y) (sym q) refl refl b k
+      by false q = floats_below s p f o a z e v w x y u r n false (sym q) refl b k
 
-  pub row-floats : (t : List ℕ) → j < 512 → (m c m' c' : ℕ) → float_in m c ≡ x → float_in m' c' ≡ y → (t' : List ℕ)
+  pub row_floats : (t : List ℕ) → j < 512 → (m c m' c' : ℕ) → float_in m c ≡ x → float_in m' c' ≡ y → (t' : List ℕ)
       → t' ≡ sets t (512 + j * 5) (3 ∷ m ∷ c ∷ m' ∷ c' ∷ []) → NotesFloats s d t t'
-  row-floats t l m c m' c' i i' t' q used =
+  row_floats t l m c m' c' i i' t' q used =
       let cs : List ℕ = 3 ∷ m ∷ c ∷ m' ∷ c' ∷ [] in
       record {
         size = ap length q ∙ length-sets t (512 + j * 5) cs;
-        keeps = λ k. subst (λ c. Noted s d c used) (sym q) (noted-put s d t used used j cs k l refl (omega arith) k.inside
+        keeps = λ k. subst (λ c. Noted s d c used) (sym q) (noted_put s d t used used j cs k l refl (omega arith) k.inside
             (λ b g. record { two = λ n. absurd (omega (arith, n)); within = λ n. absurd (omega (arith, n)); list = λ n. absurd (omega (arith, n)) })
             (λ b g k n.
             ap₂ (λ c r. both (num_at_most c n) (num_at_most n r)) i i'
-            ∙ floats-between n b (subst (λ i. FloatsAt s i b) (sym h) g)));
+            ∙ floats_between n b (subst (λ i. FloatsAt s i b) (sym h) g)));
       }
 
 -- Rows ----------------------------------------------------------------------------------------------------------------------------------------

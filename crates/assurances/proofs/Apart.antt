@@ -21,7 +21,7 @@ use Rattle.meaning.specs.Merging.{used}
 use Rattle.meaning.specs.Applying.{ObjectRow, object_rows, too_few, each_object, each_part, elsewhere, each_name, object_faults}
 use Rattle.meaning.specs.Normal.{part}
 use Rattle.meaning.specs.Answers.{Tables, Answer, accepted, tables, answer}
-use Rattle.meaning.specs.Reading.{Answers, too_long, not-grammar, meant}
+use Rattle.meaning.specs.Reading.{Answers, too_long, not_grammar, meant}
 use Rattle.meaning.proofs.Rooms.{nothing_front, nothing_back, not_faulty}
 use Rattle.meaning.proofs.Merges.{syntax_merged}
 use Rattle.meaning.proofs.Sites.{spec_words, statement_words, object_words, file_words}
@@ -70,7 +70,7 @@ is_elsewhere {xs = y ∷ ys} z (behind r) p q = go (both (not (same_kind z.kind 
 
 -- Merging leaves no object with the kind and name of one before it, and 24 none with the name of one of another kind.
 record Free (before : List Object) (x : Object) (xs : List Object) : Type 0 where
-  not-elsewhere : elsewhere x before ≡ false
+  not_elsewhere : elsewhere x before ≡ false
   rest : each_name (before ++ (x ∷ [])) xs ≡ []
 
 free : (before : List Object) (x : Object) (xs : List Object) → each_name before (x ∷ xs) ≡ [] → Free before x xs
@@ -78,7 +78,7 @@ unfolding each_name
 free before x xs e =
     let a = faults_if (elsewhere x before) x.name 24 in
     let r = each_name (before ++ (x ∷ [])) xs in
-    record { not-elsewhere = not_faulty (elsewhere x before) x.name 24 (nothing_front a r e); rest = nothing_back a r e }
+    record { not_elsewhere = not_faulty (elsewhere x before) x.name 24 (nothing_front a r e); rest = nothing_back a r e }
 
 -- An object before, and one behind.
 two_parts : {xs : List Object} {j : ℕ} {y : Object} → Row xs j y → {before : List Object} {i : ℕ} {x : Object} → Row before i x → AllNew before xs → each_name before xs ≡ []
@@ -145,7 +145,7 @@ rows_apart s d t e i j x y a b q =
 by_derivation : {s : List ℕ} {a : Answer} (t : Tables) → Answers s a → a ≡ accepted t → (i j : ℕ) (x y : ObjectRow) → Row t.objects i x → Row t.objects j y
     → part s x.name ≡ part s y.name → i ≡ j
 by_derivation t (too_long k) e = absurd (let z : ◌≡◌ {A = Bool} false true = cc in false≢true z)
-by_derivation t (not-grammar a k m q) e = absurd (let z : ◌≡◌ {A = Bool} false true = cc in false≢true z)
+by_derivation t (not_grammar a k m q) e = absurd (let z : ◌≡◌ {A = Bool} false true = cc in false≢true z)
 by_derivation {s} t (meant w d) e = rows_apart s d t e
 
 -- No two objects have one name.

@@ -6,8 +6,8 @@ use mathlib.Core.Option.{Option, none, some}
 use Prim.Native.Nat.{ℕ, ◌<◌}
 use native.Mathlib.Omega.{arith}
 use lib.Dec.{ltb}
-use Rattle.grammar.specs.Stage.{number_of, place_of, Answers as StageAnswers, passes, no_token, not-admitted, ends-early, too-deep}
-use Rattle.grammar.specs.Demand.{Place, at-token, at_end}
+use Rattle.grammar.specs.Stage.{number_of, place_of, Answers as StageAnswers, passes, no_token, not_admitted, ends_early, too_deep}
+use Rattle.grammar.specs.Demand.{Place, at_token, at_end}
 use Rattle.grammar.specs.declared.Answer.{Answer as GrammarAnswer}
 use Rattle.grammar.specs.declared.Answer.TheVariants.{Passes}
 use Rattle.meaning.specs.Syntax.{File}
@@ -18,7 +18,7 @@ use Rattle.meaning.specs.Applying.{object_faults}
 use Rattle.meaning.specs.Judging.{statement_stage}
 use Rattle.meaning.specs.Resolving.{all_values, how_many_in_all, too_many}
 use Rattle.meaning.specs.Answers.{Answer, accepted, refused, unless, answer}
-use Rattle.meaning.specs.Reading.{Answers, too_long, not-grammar, meant, reading}
+use Rattle.meaning.specs.Reading.{Answers, too_long, not_grammar, meant, reading}
 use Rattle.meaning.proofs.Numbered.{Numbered, no_fault, a_fault, NumberedOne, of_definitions, of_objects, of_stage, of_first}
 use Rattle.meaning.proofs.Whole.{the_answer}
 use Rattle.assurances.specs.Own.{HopeEndsThere, EveryTextAnswered}
@@ -37,11 +37,11 @@ high_unless (some f) next h k = h
 
 of_many : (n : ℕ) → Numbered (too_many n)
 unfolding too_many choose
-of_many n = by-choice (ltb 2048 n)
+of_many n = by_choice (ltb 2048 n)
   where
-    by-choice : (b : Bool) → Numbered (choose b (λ _. record { place = 0; number = 19 } ∷ []) (λ _. []))
-    by-choice true = a_fault {f = record { place = 0; number = 19 }} (omega arith) no_fault
-    by-choice false = no_fault
+    by_choice : (b : Bool) → Numbered (choose b (λ _. record { place = 0; number = 19 } ∷ []) (λ _. []))
+    by_choice true = a_fault {f = record { place = 0; number = 19 }} (omega arith) no_fault
+    by_choice false = no_fault
 
 answer_high : (f : File) → High (answer f)
 unfolding answer
@@ -55,13 +55,13 @@ stage_place : {s : List ℕ} {a : GrammarAnswer} → StageAnswers s a → (a ≡
 unfolding number_of place_of
 stage_place (passes v h d) m e = absurd (m refl)
 stage_place (no_token p v h b) m e = absurd (omega arith)
-stage_place (not-admitted l t r q h b n) m e = at-token t (record { before = l; after = r; whole = q; viable = b; not_viable = n })
-stage_place (ends-early v h b n) m e = at_end b
-stage_place (too-deep l t r q h b k o) m e = absurd (omega arith)
+stage_place (not_admitted l t r q h b n) m e = at_token t (record { before = l; after = r; whole = q; viable = b; not_viable = n })
+stage_place (ends_early v h b n) m e = at_end b
+stage_place (too_deep l t r q h b k o) m e = absurd (omega arith)
 
 ends_there : {s : List ℕ} {a : Answer} (p : ℕ) → Answers s a → a ≡ refused 4 p → Place s p
 ends_there p (too_long k) e = absurd (let z : ◌≡◌ {A = ℕ} 2 4 = cc in omega arith)
-ends_there {s} p (not-grammar a k m q) e =
+ends_there {s} p (not_grammar a k m q) e =
     let n : number_of a ≡ 4 = cc in
     let l : place_of a ≡ p = cc in
     subst (Place s) l (stage_place q m n)

@@ -10,17 +10,17 @@ use Rattle.meaning.specs.Syntax.{Word, span_of, Definitions, no_more, define, Va
 use Rattle.meaning.specs.Words.{choose}
 use Rattle.meaning.specs.Actions.{syntax}
 use Rattle.meaning.specs.Merging.{used, merged, merge_from, merge}
-use Rattle.meaning.specs.Defining.{DefinitionRow, EnumeratorRow, definition_row, definition-rows, definition-rows-under, enumerator_row, enumerator-rows, enumerator-rows-of, all_definition_rows, all_enumerator_rows}
+use Rattle.meaning.specs.Defining.{DefinitionRow, EnumeratorRow, definition_row, definition_rows, definition_rows_under, enumerator_row, enumerator_rows, enumerator_rows_of, all_definition_rows, all_enumerator_rows}
 use Rattle.meaning.specs.Applying.{ObjectRow, object_rows}
 use Rattle.meaning.specs.Resolving.{all_values}
 use Rattle.meaning.specs.Answers.{Tables, Answer, accepted, tables}
-use Rattle.meaning.specs.Reading.{Answers, too_long, not-grammar, meant}
+use Rattle.meaning.specs.Reading.{Answers, too_long, not_grammar, meant}
 use Rattle.meaning.proofs.Settled.{text_ordered}
 use Rattle.meaning.proofs.Merges.{syntax_merged}
 use Rattle.meaning.proofs.Order.{Ordered, ordered_sub}
 use Rattle.meaning.proofs.Runs.{Run, run_le, cut, cuts, ends}
 use Rattle.meaning.proofs.Leaves.{words_leaves, leaves_in_order}
-use Rattle.meaning.proofs.Sites.{option_words, definition-words, value-words, spec_words, statement_words, object_words, file_words}
+use Rattle.meaning.proofs.Sites.{option_words, definition_words, value_words, spec_words, statement_words, object_words, file_words}
 use Rattle.reads_back.proofs.SameMeaning.{accepted_tables}
 use Rattle.assurances.specs.Own.{Row, here, behind}
 use Rattle.assurances.specs.Ordering.{InNameOrder, NamesRise}
@@ -58,33 +58,33 @@ abbrev object_place : ObjectRow → ℕ
 object_place r = r.name.place
 
 mutual
-  unfolding definition-rows definition_row span_of definition-words value-words
+  unfolding definition_rows definition_row span_of definition_words value_words
 
-  climb-rows : (ds : Definitions) (u : Word) (lo hi : ℕ) → Run lo (definition-words ds) hi → Climb definition_place lo (definition-rows ds u) hi
-  climb-rows no_more u lo hi r = climbed r
-  climb-rows (define d vs ds) u lo hi r =
+  climb_rows : (ds : Definitions) (u : Word) (lo hi : ℕ) → Run lo (definition_words ds) hi → Climb definition_place lo (definition_rows ds u) hi
+  climb_rows no_more u lo hi r = climbed r
+  climb_rows (define d vs ds) u lo hi r =
       let k = cuts d vs ds lo hi r in
       let n = run_le (option_words d.default) k.named.1 in
-      climb_append (climb_lower k.low (climb-under vs k.a k.b k.values))
-      (climb k.named.0 (climb_lower n (climb-rows ds u k.c hi k.rest)))
+      climb_append (climb_lower k.low (climb_under vs k.a k.b k.values))
+      (climb k.named.0 (climb_lower n (climb_rows ds u k.c hi k.rest)))
 
-  climb-under : (vs : Values) (lo hi : ℕ) → Run lo (value-words vs) hi → Climb definition_place lo (definition-rows-under vs) hi
-  climb-under no_value lo hi r = climbed r
-  climb-under (value w e us vs) lo hi r =
+  climb_under : (vs : Values) (lo hi : ℕ) → Run lo (value_words vs) hi → Climb definition_place lo (definition_rows_under vs) hi
+  climb_under no_value lo hi r = climbed r
+  climb_under (value w e us vs) lo hi r =
       let i = r.0 in
-      let k = cut (definition-words us) (value-words vs) (suc w.place) hi r.1 in
+      let k = cut (definition_words us) (value_words vs) (suc w.place) hi r.1 in
       let h : lo ≤ suc w.place = omega arith in
-      climb_append (climb_lower h (climb-rows us w (suc w.place) k.mid k.front))
-      (climb-under vs k.mid hi k.back)
+      climb_append (climb_lower h (climb_rows us w (suc w.place) k.mid k.front))
+      (climb_under vs k.mid hi k.back)
 
 climb_specs : (xs : List Spec) (lo hi : ℕ) → Run lo (spec_words xs) hi → Climb definition_place lo (all_definition_rows xs) hi
 unfolding all_definition_rows spec_words
 climb_specs [] lo hi r = climbed r
 climb_specs (x ∷ xs) lo hi r =
     let i = r.0 in
-    let k = cut (definition-words x.definitions) (spec_words xs) (suc x.word.place) hi r.1 in
+    let k = cut (definition_words x.definitions) (spec_words xs) (suc x.word.place) hi r.1 in
     let h : lo ≤ suc x.word.place = omega arith in
-    climb_append (climb_lower h (climb-rows x.definitions x.word (suc x.word.place) k.mid k.front))
+    climb_append (climb_lower h (climb_rows x.definitions x.word (suc x.word.place) k.mid k.front))
     (climb_specs xs k.mid hi k.back)
 
 climb_one : (b : Bool) (a : ℕ) (w : Word) (lo : ℕ) → lo ≤ w.place → Climb enumerator_place lo (enumerator_row b a w) (suc w.place)
@@ -93,30 +93,30 @@ climb_one true a w lo h = let j : suc w.place ≤ suc w.place = omega arith in c
 climb_one false a w lo h = let j : lo ≤ suc w.place = omega arith in climbed j
 
 mutual
-  unfolding enumerator-rows definition-words value-words
+  unfolding enumerator_rows definition_words value_words
 
-  climb-lists : (ds : Definitions) (lo hi : ℕ) → Run lo (definition-words ds) hi → Climb enumerator_place lo (enumerator-rows ds) hi
-  climb-lists no_more lo hi r = climbed r
-  climb-lists (define d vs ds) lo hi r =
+  climb_lists : (ds : Definitions) (lo hi : ℕ) → Run lo (definition_words ds) hi → Climb enumerator_place lo (enumerator_rows ds) hi
+  climb_lists no_more lo hi r = climbed r
+  climb_lists (define d vs ds) lo hi r =
       let k = cuts d vs ds lo hi r in
-      climb_append (climb_lower k.low (climb-list vs (is_enum d.type) d.row k.a k.b k.values))
-      (climb_lower k.next (climb-lists ds k.c hi k.rest))
+      climb_append (climb_lower k.low (climb_list vs (is_enum d.type) d.row k.a k.b k.values))
+      (climb_lower k.next (climb_lists ds k.c hi k.rest))
 
-  climb-list : (vs : Values) (b : Bool) (a lo hi : ℕ) → Run lo (value-words vs) hi → Climb enumerator_place lo (enumerator-rows-of vs b a) hi
-  climb-list no_value b a lo hi r = climbed r
-  climb-list (value w e us vs) b a lo hi r =
-      let k = cut (definition-words us) (value-words vs) (suc w.place) hi r.1 in
-      climb_append (climb_one b a w lo r.0) (climb_append (climb-lists us (suc w.place) k.mid k.front)
-      (climb-list vs b a k.mid hi k.back))
+  climb_list : (vs : Values) (b : Bool) (a lo hi : ℕ) → Run lo (value_words vs) hi → Climb enumerator_place lo (enumerator_rows_of vs b a) hi
+  climb_list no_value b a lo hi r = climbed r
+  climb_list (value w e us vs) b a lo hi r =
+      let k = cut (definition_words us) (value_words vs) (suc w.place) hi r.1 in
+      climb_append (climb_one b a w lo r.0) (climb_append (climb_lists us (suc w.place) k.mid k.front)
+      (climb_list vs b a k.mid hi k.back))
 
 climb_all_lists : (xs : List Spec) (lo hi : ℕ) → Run lo (spec_words xs) hi → Climb enumerator_place lo (all_enumerator_rows xs) hi
 unfolding all_enumerator_rows spec_words
 climb_all_lists [] lo hi r = climbed r
 climb_all_lists (x ∷ xs) lo hi r =
     let i = r.0 in
-    let k = cut (definition-words x.definitions) (spec_words xs) (suc x.word.place) hi r.1 in
+    let k = cut (definition_words x.definitions) (spec_words xs) (suc x.word.place) hi r.1 in
     let h : lo ≤ suc x.word.place = omega arith in
-    climb_append (climb_lower h (climb-lists x.definitions (suc x.word.place) k.mid k.front))
+    climb_append (climb_lower h (climb_lists x.definitions (suc x.word.place) k.mid k.front))
     (climb_all_lists xs k.mid hi k.back)
 
 -- An object's name is that of its first part.
@@ -159,7 +159,7 @@ in_order s d =
 
 by_derivation : {s : List ℕ} {a : Answer} (t : Tables) → Answers s a → a ≡ accepted t → InNameOrder t
 by_derivation t (too_long k) e = absurd (let z : ◌≡◌ {A = Bool} false true = cc in false≢true z)
-by_derivation t (not-grammar a k m q) e = absurd (let z : ◌≡◌ {A = Bool} false true = cc in false≢true z)
+by_derivation t (not_grammar a k m q) e = absurd (let z : ◌≡◌ {A = Bool} false true = cc in false≢true z)
 by_derivation {s} t (meant w d) e = subst (λ y. InNameOrder y) (accepted_tables (syntax s d.tree) t e) (in_order s d)
 
 -- Rows are numbered in the order of names.

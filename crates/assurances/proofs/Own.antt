@@ -20,42 +20,42 @@ use Rattle.meaning.specs.Kinds.{kinds, kind_number, same_kind}
 use Rattle.meaning.specs.Actions.{kind_of, float_of_step, syntax}
 use Rattle.meaning.specs.Places.{each}
 use Rattle.meaning.specs.Scopes.{Sort, a_number, a_string, a_truth, an_auto, a_no_default, a_name, a_float, sort_of, sort_of_word, Under, find_value, definitions_or, under, of_kind, find_object, fits_number, fits_float, fits_as, fits}
-use Rattle.meaning.specs.Defining.{DefinitionRow, EnumeratorRow, definition_row, enumerator_row, enumerator-rows, enumerator-rows-of, all_definition_rows, all_enumerator_rows, definition_faults}
+use Rattle.meaning.specs.Defining.{DefinitionRow, EnumeratorRow, definition_row, enumerator_row, enumerator_rows, enumerator_rows_of, all_definition_rows, all_enumerator_rows, definition_faults}
 use Rattle.meaning.specs.Applying.{ObjectRow, object_rows}
 use Rattle.meaning.specs.Judging.{statement_stage}
 use Rattle.meaning.specs.Resolving.{Value, number, truth, auto, enumerator, object, Taken, number_or, row_or, is_true, named, valued, take_value, Resolved, end, resolved, object_values, all_values, Owner, of_object, of_value, ValueRow, value_row, how_many_values, value_rows, all_value_rows, string as string-value, float as float_value}
 use Rattle.meaning.specs.Normal.{part}
 use Rattle.meaning.specs.Answers.{Tables, Answer, accepted, tables, answer}
-use Rattle.meaning.specs.Reading.{Answers, too_long, not-grammar, meant}
+use Rattle.meaning.specs.Reading.{Answers, too_long, not_grammar, meant}
 use Rattle.meaning.specs.Standing.{Standing, standing_if, select, standing}
-use Rattle.meaning.proofs.Numbering.{Counts, number_if, enumerator-numbers, enumerator-numbers-of, spec_enumerator_numbers, object_numbers, length-enumerators, length-enumerators-of, numbered}
-use Rattle.meaning.proofs.Standing.{Scope, Deep, deep_more, DeepValues, more-values, DeepSpecs, more_specs, scopes, counts_back, counts_front, counts_head, counts_tail}
-use Rattle.meaning.proofs.Choices.{length-rows, length-rows-of}
+use Rattle.meaning.proofs.Numbering.{Counts, number_if, enumerator_numbers, enumerator_numbers_of, spec_enumerator_numbers, object_numbers, length_enumerators, length_enumerators_of, numbered}
+use Rattle.meaning.proofs.Standing.{Scope, Deep, deep_more, DeepValues, more_values, DeepSpecs, more_specs, scopes, counts_back, counts_front, counts_head, counts_tail}
+use Rattle.meaning.proofs.Choices.{length_rows, length_rows_of}
 use Rattle.meaning.proofs.Entries.{length_values}
 use Rattle.meaning.proofs.Settled.{text_ordered}
 use Rattle.meaning.proofs.Order.{Ordered, drop, sub_front, sub_all, ordered_sub}
 use Rattle.meaning.proofs.Runs.{Run, run_le, cut, cuts, ends}
 use Rattle.meaning.proofs.Leaves.{words_leaves, leaves_in_order}
-use Rattle.meaning.proofs.Sites.{bound_words, definition-words, value-words, spec_words, statement_words, object_words, file_words}
+use Rattle.meaning.proofs.Sites.{bound_words, definition_words, value_words, spec_words, statement_words, object_words, file_words}
 use Rattle.meaning.proofs.Lookups.{InText, syntax_text}
 use Rattle.meaning.proofs.Unplaced.{unplaced_word}
-use Rattle.reads_back.proofs.Restated.{plain_word, Alone, AllAlone, restated_word, Stateable, as-name, as-true, as-false, SaidLines, SaidObjects}
+use Rattle.reads_back.proofs.Restated.{plain_word, Alone, AllAlone, restated_word, Stateable, as_name, as_true, as_false, SaidLines, SaidObjects}
 use Rattle.reads_back.proofs.SameWords.{alike_bytes}
-use Rattle.reads_back.proofs.SameNamesText.{There, parts, definition_text, list_text, ValuesThere, resolve-there, kind_there, objects_text}
+use Rattle.reads_back.proofs.SameNamesText.{There, parts, definition_text, list_text, ValuesThere, resolve_there, kind_there, objects_text}
 use Rattle.reads_back.proofs.SameMeaning.{no_faults, specs_free}
 use Rattle.reads_back.proofs.SayingAlone.{tokens_alone, number_alone}
 use Rattle.reads_back.proofs.WordingClasses.{is_number}
 use Rattle.reads_back.proofs.WordingSyntax.{WordedSpecs, worded}
 use Rattle.reads_back.proofs.WordingValues.{said}
 use Rattle.reads_back.proofs.RestatingPlain.{syntax_plain}
-use Rattle.reads_back.proofs.RestatingObjects.{SettledObjects, no-objects, more-objects, settle_objects}
+use Rattle.reads_back.proofs.RestatingObjects.{SettledObjects, no_objects, more_objects, settle_objects}
 use Rattle.reads_back.proofs.RestatingScopes.{is_reference, Taking, numbered as taken-number, told, referred, Takes, Settled, settled, none_of, one_of, More, again, no_more_of, nothing_there}
 use Rattle.scopes.specs.Ranges.{RangeAt, FloatsAt}
 use Rattle.scopes.proofs.Chains.{Chain, text_chain}
 use Rattle.scopes.proofs.Forms.{Formed, an_integer, a_string as a-string-formed, a_boolean as a-boolean-formed, an_enum as an-enum-formed, a_float as a-float-formed, a_reference as a-reference-formed, AllFormed, more_formed, AllFormedUnder, more_under}
 use Rattle.scopes.proofs.Forming.{FormedSpecs, formed}
 use Rattle.assurances.proofs.KindWords.{kind_bytes, alone_float}
-use Rattle.assurances.specs.Own.{Row, here, behind, ReferenceKind, OwnWord, own-enumerator, own-truth, UnderOwnValue, ObjectsOwn, NumberOwn, FloatOwn, ReferencesOwn, DefaultsOwn, BranchesOwn, AnObject, ReferencesResolved, OwnersOwn, NumbersOwn, FloatsOwn}
+use Rattle.assurances.specs.Own.{Row, here, behind, ReferenceKind, OwnWord, own_enumerator, own_truth, UnderOwnValue, ObjectsOwn, NumberOwn, FloatOwn, ReferencesOwn, DefaultsOwn, BranchesOwn, AnObject, ReferencesResolved, OwnersOwn, NumbersOwn, FloatsOwn}
 
 -- Rows of a table ------------------------------------------------------------------------------------------------------------------------------
 
@@ -111,12 +111,12 @@ scope_rows R u ds e = subst (λ l. All (IsRow R) l) e (select_rows R [] R u.plac
 
 mutual
   data Listed (E : List EnumeratorRow) : Definitions → Type 0 where
-    no-lists : Listed E no_more
-    more-lists : {d : Definition} {vs : Values} {ds : Definitions} → ListedIn E (is_enum d.type) d.row vs → Listed E ds → Listed E (define d vs ds)
+    no_lists : Listed E no_more
+    more_lists : {d : Definition} {vs : Values} {ds : Definitions} → ListedIn E (is_enum d.type) d.row vs → Listed E ds → Listed E (define d vs ds)
 
   data ListedIn (E : List EnumeratorRow) : Bool → ℕ → Values → Type 0 where
     no_entry : {b : Bool} {a : ℕ} → ListedIn E b a no_value
-    more-entries : {b : Bool} {a e : ℕ} {w : Word} {us : Definitions} {vs : Values}
+    more_entries : {b : Bool} {a e : ℕ} {w : Word} {us : Definitions} {vs : Values}
         → (b ≡ true → Row E e (record { attribute = a; name = span_of w })) → Listed E us → ListedIn E b a vs → ListedIn E b a (value w e us vs)
 
 length_first : (b : Bool) (a : ℕ) (w : Word) (n : ℕ) → length (enumerator_row b a w) ≡ length (number_if b n)
@@ -131,59 +131,59 @@ first_row true a w n E A B e c h = row_in E A B _ n e (counts_head c)
 first_row false a w n E A B e c h = absurd (false≢true h)
 
 mutual
-  unfolding enumerator-rows enumerator-numbers
+  unfolding enumerator_rows enumerator_numbers
 
-  listed : (ds : Definitions) (E A B : List EnumeratorRow) → E ≡ A ++ (enumerator-rows ds ++ B) → Counts (length A) (enumerator-numbers ds) → Listed E ds
-  listed no_more E A B e c = no-lists
+  listed : (ds : Definitions) (E A B : List EnumeratorRow) → E ≡ A ++ (enumerator_rows ds ++ B) → Counts (length A) (enumerator_numbers ds) → Listed E ds
+  listed no_more E A B e c = no_lists
   listed (define d vs ds) E A B e c =
-      let x = enumerator-rows-of vs (is_enum d.type) d.row in
-      let y = enumerator-rows ds in
-      let n = enumerator-numbers-of vs (is_enum d.type) in
-      let l₁ = length-rows-of vs (is_enum d.type) d.row in
-      let l₂ = length-enumerators-of vs (is_enum d.type) in
+      let x = enumerator_rows_of vs (is_enum d.type) d.row in
+      let y = enumerator_rows ds in
+      let n = enumerator_numbers_of vs (is_enum d.type) in
+      let l₁ = length_rows_of vs (is_enum d.type) d.row in
+      let l₂ = length_enumerators_of vs (is_enum d.type) in
       let l₃ = length-append A x in
       let e₁ : E ≡ A ++ (x ++ (y ++ B)) = e ∙ ap (λ l. A ++ l) (append_assoc x y B) in
       let e₂ : E ≡ (A ++ x) ++ (y ++ B) = e₁ ∙ sym (append_assoc A x (y ++ B)) in
-      more-lists (listed_in vs (is_enum d.type) d.row E A (y ++ B) e₁ (counts_front n (enumerator-numbers ds) c))
+      more_lists (listed_in vs (is_enum d.type) d.row E A (y ++ B) e₁ (counts_front n (enumerator_numbers ds) c))
       (listed ds E (A ++ x) B e₂ (counts_back n {m = length (A ++ x)} c (omega arith)))
 
-  listed_in : (vs : Values) (b : Bool) (a : ℕ) (E A B : List EnumeratorRow) → E ≡ A ++ (enumerator-rows-of vs b a ++ B) → Counts (length A) (enumerator-numbers-of vs b)
+  listed_in : (vs : Values) (b : Bool) (a : ℕ) (E A B : List EnumeratorRow) → E ≡ A ++ (enumerator_rows_of vs b a ++ B) → Counts (length A) (enumerator_numbers_of vs b)
       → ListedIn E b a vs
   listed_in no_value b a E A B e c = no_entry
   listed_in (value w n us vs) b a E A B e c =
       let i = enumerator_row b a w in
-      let x = enumerator-rows us in
-      let y = enumerator-rows-of vs b a in
+      let x = enumerator_rows us in
+      let y = enumerator_rows_of vs b a in
       let k = number_if b n in
-      let m = enumerator-numbers us in
-      let o = enumerator-numbers-of vs b in
+      let m = enumerator_numbers us in
+      let o = enumerator_numbers_of vs b in
       let l₀ = length_first b a w n in
-      let l₁ = length-rows us in
-      let l₂ = length-enumerators us in
+      let l₁ = length_rows us in
+      let l₂ = length_enumerators us in
       let l₃ = length-append A i in
       let l₄ = length-append (A ++ i) x in
       let e₁ : E ≡ A ++ (i ++ ((x ++ y) ++ B)) = e ∙ ap (λ l. A ++ l) (append_assoc i (x ++ y) B) in
       let e₂ : E ≡ (A ++ i) ++ (x ++ (y ++ B)) = e₁ ∙ sym (append_assoc A i ((x ++ y) ++ B)) ∙ ap (λ l. (A ++ i) ++ l) (append_assoc x y B) in
       let e₃ : E ≡ ((A ++ i) ++ x) ++ (y ++ B) = e₂ ∙ sym (append_assoc (A ++ i) x (y ++ B)) in
       let c₁ = counts_back k {m = length (A ++ i)} c (omega arith) in
-      more-entries (first_row b a w n E A ((x ++ y) ++ B) e₁ (counts_front k (m ++ o) c))
+      more_entries (first_row b a w n E A ((x ++ y) ++ B) e₁ (counts_front k (m ++ o) c))
       (listed us E (A ++ i) (y ++ B) e₂ (counts_front m o c₁))
       (listed_in vs b a E ((A ++ i) ++ x) B e₃ (counts_back m {m = length ((A ++ i) ++ x)} c₁ (omega arith)))
 
 data AllListed (E : List EnumeratorRow) : List Spec → Type 0 where
-  none-listed : AllListed E []
-  more-listed : {x : Spec} {xs : List Spec} → Listed E x.definitions → AllListed E xs → AllListed E (x ∷ xs)
+  none_listed : AllListed E []
+  more_listed : {x : Spec} {xs : List Spec} → Listed E x.definitions → AllListed E xs → AllListed E (x ∷ xs)
 
 listed_specs : (xs : List Spec) (E A : List EnumeratorRow) → E ≡ A ++ all_enumerator_rows xs → Counts (length A) (spec_enumerator_numbers xs) → AllListed E xs
 unfolding all_enumerator_rows spec_enumerator_numbers
-listed_specs [] E A e c = none-listed
+listed_specs [] E A e c = none_listed
 listed_specs (x ∷ xs) E A e c =
-    let y = enumerator-rows x.definitions in
-    let n = enumerator-numbers x.definitions in
-    let l₁ = length-rows x.definitions in
-    let l₂ = length-enumerators x.definitions in
+    let y = enumerator_rows x.definitions in
+    let n = enumerator_numbers x.definitions in
+    let l₁ = length_rows x.definitions in
+    let l₂ = length_enumerators x.definitions in
     let l₃ = length-append A y in
-    more-listed (listed x.definitions E A (all_enumerator_rows xs) e (counts_front n (spec_enumerator_numbers xs) c))
+    more_listed (listed x.definitions E A (all_enumerator_rows xs) e (counts_front n (spec_enumerator_numbers xs) c))
     (listed_specs xs E (A ++ y) (e ∙ sym (append_assoc A y (all_enumerator_rows xs))) (counts_back n {m = length (A ++ y)} c (omega arith)))
 
 -- What is known of a scope -----------------------------------------------------------------------------------------------------------------------
@@ -191,40 +191,40 @@ listed_specs (x ∷ xs) E A e c =
 mutual
   -- The definitions of a scope under the word u, by their rows,
   data Facts (s : List ℕ) (R : List DefinitionRow) (E : List EnumeratorRow) : Word → Definitions → Type 0 where
-    no-facts : {u : Word} → Facts s R E u no_more
-    more-facts : {u : Word} {d : Definition} {vs : Values} {ds : Definitions} → Row R d.row (definition_row u d) → Formed s d vs → ListFacts s R E d vs → Facts s R E u ds
+    no_facts : {u : Word} → Facts s R E u no_more
+    more_facts : {u : Word} {d : Definition} {vs : Values} {ds : Definitions} → Row R d.row (definition_row u d) → Formed s d vs → ListFacts s R E d vs → Facts s R E u ds
         → Facts s R E u (define d vs ds)
 
   -- and the values of the definition d's list.
   data ListFacts (s : List ℕ) (R : List DefinitionRow) (E : List EnumeratorRow) : Definition → Values → Type 0 where
-    no-list-facts : {d : Definition} → ListFacts s R E d no_value
-    more-list-facts : {d : Definition} {w : Word} {e : ℕ} {us : Definitions} {vs : Values} → There s w → (is_enum d.type ≡ true → Row E e (record { attribute = d.row; name = span_of w }))
+    no_list_facts : {d : Definition} → ListFacts s R E d no_value
+    more_list_facts : {d : Definition} {w : Word} {e : ℕ} {us : Definitions} {vs : Values} → There s w → (is_enum d.type ≡ true → Row E e (record { attribute = d.row; name = span_of w }))
         → (d.word.place < w.place) × (w.place < d.name.place) → Facts s R E w us → ListFacts s R E d vs → ListFacts s R E d (value w e us vs)
 
 mutual
-  unfolding standing value-words
+  unfolding standing value_words
 
-  facts-of : (s : List ℕ) (R : List DefinitionRow) (E : List EnumeratorRow) (u : Word) (ds : Definitions) → All (IsRow R) (standing u ds) → Deep R ds → Listed E ds → AllFormed s ds
-      → InText s (definition-words ds) → (lo hi : ℕ) → Run lo (definition-words ds) hi → Facts s R E u ds
-  facts-of s R E u no_more a d l g h lo hi r = no-facts
-  facts-of s R E u (define d vs ds) (one_more a as') (deep_more v p) (more-lists l ls) (more_formed g _ gv gs) h lo hi r =
+  facts_of : (s : List ℕ) (R : List DefinitionRow) (E : List EnumeratorRow) (u : Word) (ds : Definitions) → All (IsRow R) (standing u ds) → Deep R ds → Listed E ds → AllFormed s ds
+      → InText s (definition_words ds) → (lo hi : ℕ) → Run lo (definition_words ds) hi → Facts s R E u ds
+  facts_of s R E u no_more a d l g h lo hi r = no_facts
+  facts_of s R E u (define d vs ds) (one_more a as') (deep_more v p) (more_lists l ls) (more_formed g _ gv gs) h lo hi r =
       let k = definition_text s d vs ds h in
       let c = cuts d vs ds lo hi r in
-      more-facts a g (list-facts s R E d vs v l gv k.values c.a c.b (run_le (bound_words d.bounds) c.bounds) c.named.0 c.values)
-      (facts-of s R E u ds as' p ls gs k.rest c.c hi c.rest)
+      more_facts a g (list_facts s R E d vs v l gv k.values c.a c.b (run_le (bound_words d.bounds) c.bounds) c.named.0 c.values)
+      (facts_of s R E u ds as' p ls gs k.rest c.c hi c.rest)
 
-  list-facts : (s : List ℕ) (R : List DefinitionRow) (E : List EnumeratorRow) (d : Definition) (vs : Values) → DeepValues R vs → ListedIn E (is_enum d.type) d.row vs → AllFormedUnder s vs
-      → InText s (value-words vs) → (lo hi : ℕ) → suc d.word.place ≤ lo → hi ≤ d.name.place → Run lo (value-words vs) hi → ListFacts s R E d vs
-  list-facts s R E d no_value v l g h lo hi i j r = no-list-facts
-  list-facts s R E d (value w e us vs) (more-values c p q) (more-entries x l ls) (more_under gu gs) h lo hi i j r =
+  list_facts : (s : List ℕ) (R : List DefinitionRow) (E : List EnumeratorRow) (d : Definition) (vs : Values) → DeepValues R vs → ListedIn E (is_enum d.type) d.row vs → AllFormedUnder s vs
+      → InText s (value_words vs) → (lo hi : ℕ) → suc d.word.place ≤ lo → hi ≤ d.name.place → Run lo (value_words vs) hi → ListFacts s R E d vs
+  list_facts s R E d no_value v l g h lo hi i j r = no_list_facts
+  list_facts s R E d (value w e us vs) (more_values c p q) (more_entries x l ls) (more_under gu gs) h lo hi i j r =
       let k = list_text s w e us vs h in
-      let m = cut (definition-words us) (value-words vs) (suc w.place) hi r.1 in
+      let m = cut (definition_words us) (value_words vs) (suc w.place) hi r.1 in
       let n₁ = r.0 in
-      let n₂ = run_le (definition-words us) m.front in
-      let n₃ = run_le (value-words vs) m.back in
-      more-list-facts {d = d} k.0 x (omega arith, omega arith)
-      (facts-of s R E w us (scope_rows R w us c) p l gu k.1 (suc w.place) m.mid m.front)
-      (list-facts s R E d vs q ls gs k.2 m.mid hi (omega arith) j m.back)
+      let n₂ = run_le (definition_words us) m.front in
+      let n₃ = run_le (value_words vs) m.back in
+      more_list_facts {d = d} k.0 x (omega arith, omega arith)
+      (facts_of s R E w us (scope_rows R w us c) p l gu k.1 (suc w.place) m.mid m.front)
+      (list_facts s R E d vs q ls gs k.2 m.mid hi (omega arith) j m.back)
 
 -- The value that a word finds in a list.
 record ValueFacts (s : List ℕ) (R : List DefinitionRow) (E : List EnumeratorRow) (d : Definition) (t : Word) (x : Under) : Type 0 where
@@ -238,7 +238,7 @@ found_value : (s : List ℕ) (R : List DefinitionRow) (E : List EnumeratorRow) (
     → ValueFacts s R E d t x
 unfolding find_value
 found_value s R E d no_value t x f e = absurd (let z : ◌≡◌ {A = Bool} false true = cc in false≢true z)
-found_value s R E d (value w n us vs) t x (more-list-facts h r i g l) e = go (alike w t) refl (found_value s R E d vs t x l) e
+found_value s R E d (value w n us vs) t x (more_list_facts h r i g l) e = go (alike w t) refl (found_value s R E d vs t x l) e
   where
     go : (b : Bool) → alike w t ≡ b → (find_value vs t ≡ some x → ValueFacts s R E d t x) → pick b (some (record { word = w; number = n; definitions = us })) (find_value vs t) ≡ some x → ValueFacts s R E d t x
     go true q k j =
@@ -277,16 +277,16 @@ record KindFacts (s : List ℕ) (R : List DefinitionRow) (E : List EnumeratorRow
   facts : Facts s R E word ds
 
 module _ (s : List ℕ) (R : List DefinitionRow) (E : List EnumeratorRow) (w : Word) (there : There s w) (alone : Alone (unplaced_word w)) (kind : matches a-kind-token w.class ≡ true) where
-  kind-facts : (xs : List Spec) → DeepSpecs R xs → AllListed E xs → FormedSpecs s xs → WordedSpecs xs → InText s (spec_words xs) → (lo hi : ℕ) → Run lo (spec_words xs) hi
+  kind_facts : (xs : List Spec) → DeepSpecs R xs → AllListed E xs → FormedSpecs s xs → WordedSpecs xs → InText s (spec_words xs) → (lo hi : ℕ) → Run lo (spec_words xs) hi
       → KindFacts s R E w (of_kind (kind_of w.class) xs)
   unfolding of_kind spec_words unplaced_word
-  kind-facts [] p l g v h lo hi r = record { word = w; same = refl; facts = no-facts }
-  kind-facts (x ∷ xs) (more_specs c p q) (more-listed l ls) g v h lo hi r =
-      let a = parts s (definition-words x.definitions) (spec_words xs) h.1 in
-      let m = cut (definition-words x.definitions) (spec_words xs) (suc x.word.place) hi r.1 in
+  kind_facts [] p l g v h lo hi r = record { word = w; same = refl; facts = no_facts }
+  kind_facts (x ∷ xs) (more_specs c p q) (more_listed l ls) g v h lo hi r =
+      let a = parts s (definition_words x.definitions) (spec_words xs) h.1 in
+      let m = cut (definition_words x.definitions) (spec_words xs) (suc x.word.place) hi r.1 in
       go (same_kind (kind_of w.class) x.kind) refl
-      (facts-of s R E x.word x.definitions (scope_rows R x.word x.definitions c) p l g.0 a.0 (suc x.word.place) m.mid m.front)
-      (kind-facts xs q ls g.1 v.1 a.1 m.mid hi m.back)
+      (facts_of s R E x.word x.definitions (scope_rows R x.word x.definitions c) p l g.0 a.0 (suc x.word.place) m.mid m.front)
+      (kind_facts xs q ls g.1 v.1 a.1 m.mid hi m.back)
     where
       go : (b : Bool) → same_kind (kind_of w.class) x.kind ≡ b → Facts s R E x.word x.definitions → KindFacts s R E w (of_kind (kind_of w.class) xs)
           → KindFacts s R E w (pick b x.definitions (of_kind (kind_of w.class) xs))
@@ -356,9 +356,9 @@ class_opens P h c p = go (P c) p (every_class (λ d. either (not (P d)) (opens (
 
 stateable_opens : {c : Class} {x : Taken} {us r : Resolved} → Stateable c (resolved x us r) → opens (sort_of c) ≡ true
 unfolding opens sort_of sort_of_word matches
-stateable_opens {c} (as-name h) = class_opens (matches a-name-token) (λ k i. refl) c h
-stateable_opens {c} (as-true h) = class_opens (matches (the TRUE)) (λ k i. refl) c h
-stateable_opens {c} (as-false h) = class_opens (matches (the FALSE)) (λ k i. refl) c h
+stateable_opens {c} (as_name h) = class_opens (matches a-name-token) (λ k i. refl) c h
+stateable_opens {c} (as_true h) = class_opens (matches (the TRUE)) (λ k i. refl) c h
+stateable_opens {c} (as_false h) = class_opens (matches (the FALSE)) (λ k i. refl) c h
 
 -- The class of the word that is written for a value is the value's own, unless it is a number.
 word_opens : (v : Value) (w : Word) → opens (sort_of (restated_word v w).class) ≡ true → opens (sort_of w.class) ≡ true
@@ -376,12 +376,12 @@ word_opens (object o) w h = h
 -- What is known of the value that a scope under the word u belongs to.
 record Above (s : List ℕ) (t : Tables) (u : Word) (n : ℕ) : Type 0 where
   above : ValueRow
-  its-above : Row t.values n above
+  its_above : Row t.values n above
   same_word : part s (span_of u) ≡ part s above.word
-  own-word : OwnWord t above (span_of u)
-  above-definition : DefinitionRow
-  its-above-definition : Row t.definitions above.definition above-definition
-  inside : (above-definition.type.place < u.place) × (u.place < above-definition.name.place)
+  own_word : OwnWord t above (span_of u)
+  above_definition : DefinitionRow
+  its_above_definition : Row t.definitions above.definition above_definition
+  inside : (above_definition.type.place < u.place) × (u.place < above_definition.name.place)
 
 -- What is known of the object that a scope under the word u belongs to.
 record Owning (s : List ℕ) (t : Tables) (u : Word) (o : ℕ) : Type 0 where
@@ -398,12 +398,12 @@ pub record OwnRow (s : List ℕ) (t : Tables) (r : ValueRow) : Type 0 where
   pub definition : DefinitionRow
   pub its_definition : Row t.definitions r.definition definition
   pub referring : (o : ℕ) → r.value ≡ object o → ReferenceKind s t r o
-  pub referred-to : (k : Kind) → definition.typed ≡ reference k → AnObject r
+  pub referred_to : (k : Kind) → definition.typed ≡ reference k → AnObject r
   pub default : r.stated ≡ false → r.word ≡ definition.default
   pub under_value : (n : ℕ) → r.owner ≡ of_value n → UnderOwnValue s t r n
-  pub of-its-object : (o : ℕ) → r.owner ≡ of_object o → ObjectsOwn s t r o
+  pub of_its_object : (o : ℕ) → r.owner ≡ of_object o → ObjectsOwn s t r o
   pub in_range : (n : Num) → r.value ≡ number n → NumberOwn s t r n
-  pub in-float-range : r.value ≡ float_value → FloatOwn s t r
+  pub in_float_range : r.value ≡ float_value → FloatOwn s t r
 
 named_no_object : (y : AttributeType) (os : List Object) (vs : Values) (w : Word) (i : ℕ) → is_reference y ≡ false → named y os vs w ≡ object i → ⊥
 unfolding named is_reference
@@ -498,12 +498,12 @@ float_fits a_name os d vs w f e = absurd (named_no_float d.type os vs w e)
 record Fitting (y : AttributeType) (b : Bounds) (n : Num) : Type 0 where
   type : Integer
   is : y ≡ integer type
-  in-its-type : in_type type n ≡ true
-  in-its-range : in_bounds n b ≡ true
+  in_its_type : in_type type n ≡ true
+  in_its_range : in_bounds n b ≡ true
 
 fitting : (y : AttributeType) (b : Bounds) (n : Num) → fits_number y b n ≡ true → Fitting y b n
 unfolding fits_number
-fitting (integer i) b n e = record { type = i; is = refl; in-its-type = both_true (in_type i n) (in_bounds n b) e; in-its-range = both_second (in_type i n) (in_bounds n b) e }
+fitting (integer i) b n e = record { type = i; is = refl; in_its_type = both_true (in_type i n) (in_bounds n b) e; in_its_range = both_second (in_type i n) (in_bounds n b) e }
 fitting string b n e = absurd (false≢true e)
 fitting boolean b n e = absurd (false≢true e)
 fitting enum b n e = absurd (false≢true e)
@@ -547,11 +547,11 @@ float_range_at s d vs (a-reference-formed k q c r) e = absurd (false≢true (ap 
 module _ (s : List ℕ) (t : Tables) (os : List Object)
     (objects : (k : Kind) (w : Word) (x : Object) → find_object k os w ≡ some x → ObjectFacts s t.objects k w x) where
   -- A float, in its range.
-  float-ranged : (u : Word) (d : Definition) (vs : Values) (w : Word) (b : Bool) (o : Owner) → Row t.definitions d.row (definition_row u d) → Formed s d vs → Taking os d vs w → There s w
+  float_ranged : (u : Word) (d : Definition) (vs : Values) (w : Word) (b : Bool) (o : Owner) → Row t.definitions d.row (definition_row u d) → Formed s d vs → Taking os d vs w → There s w
       → Alone (restated_word (valued (sort_of w.class) os d vs w) w) → valued (sort_of w.class) os d vs w ≡ float_value → FloatOwn s t (value_row (take_value b os d vs w) o)
   unfolding take_value value_row definition_row valued fits restated_word unplaced_word is_number
-  float-ranged u d vs w b o r g (taken-number q m f v) h a e = absurd (let x : number w.number ≡ float_value = ap (λ y. valued y os d vs w) (sym q) ∙ e in let z : ◌≡◌ {A = Bool} false true = cc in false≢true z)
-  float-ranged u d vs w b o r g (told q m f) h a e =
+  float_ranged u d vs w b o r g (taken-number q m f v) h a e = absurd (let x : number w.number ≡ float_value = ap (λ y. valued y os d vs w) (sym q) ∙ e in let z : ◌≡◌ {A = Bool} false true = cc in false≢true z)
+  float_ranged u d vs w b o r g (told q m f) h a e =
       let k = float_fits (sort_of w.class) os d vs w f e in
       let c : Alone (restated_word float_value w) = subst (λ v. Alone (restated_word v w)) e a in
       let i : w.float ≡ float_of_step (step_at (part s (span_of w)) 0) = alone_float (restated_word float_value w) c ∙ ap (λ l. float_of_step (step_at l 0)) h in
@@ -560,10 +560,10 @@ module _ (s : List ℕ) (t : Tables) (os : List Object)
         its_definition = r;
         typed = k.0;
         bounds = d.bounds;
-        its-range = float_range_at s d vs g k.0;
-        in-its-range = subst (λ n. in_float_bounds n d.bounds ≡ true) i k.1;
+        its_range = float_range_at s d vs g k.0;
+        in_its_range = subst (λ n. in_float_bounds n d.bounds ≡ true) i k.1;
       }
-  float-ranged u d vs w b o r g (referred {k} q v z p) h a e = absurd (named_no_float d.type os vs w (ap (λ y. valued y os d vs w) (sym z) ∙ e))
+  float_ranged u d vs w b o r g (referred {k} q v z p) h a e = absurd (named_no_float d.type os vs w (ap (λ y. valued y os d vs w) (sym z) ∙ e))
 
   -- A number, in its type and its range.
   ranged : (u : Word) (d : Definition) (vs : Values) (w : Word) (b : Bool) (o : Owner) → Row t.definitions d.row (definition_row u d) → Formed s d vs → Taking os d vs w
@@ -578,10 +578,10 @@ module _ (s : List ℕ) (t : Tables) (os : List Object)
         its_definition = r;
         type = k.type;
         typed = k.is;
-        in-its-type = k.in-its-type;
+        in_its_type = k.in-its-type;
         bounds = d.bounds;
-        its-range = integer_range_at s d vs k.type g k.is;
-        in-its-range = k.in-its-range;
+        its_range = integer_range_at s d vs k.type g k.is;
+        in_its_range = k.in-its-range;
       }
   ranged u d vs w b o r g (told q m f) n e = absurd (no_number_of (sort_of w.class) os d vs w n q e)
   ranged u d vs w b o r g (referred {k} q v z p) n e =
@@ -611,12 +611,12 @@ module _ (s : List ℕ) (t : Tables) (os : List Object)
             same_name = sym f.there ∙ f.same ∙ h;
           }
 
-  resolved-object : (u : Word) (d : Definition) (vs : Values) (w : Word) (b : Bool) (o : Owner) (k : Kind) → Taking os d vs w → d.type ≡ reference k
+  resolved_object : (u : Word) (d : Definition) (vs : Values) (w : Word) (b : Bool) (o : Owner) (k : Kind) → Taking os d vs w → d.type ≡ reference k
       → AnObject (value_row (take_value b os d vs w) o)
   unfolding take_value value_row
-  resolved-object u d vs w b o k (taken-number q n f v) e = absurd (not_a_reference d.type k n e)
-  resolved-object u d vs w b o k (told q n f) e = absurd (not_a_reference d.type k n e)
-  resolved-object u d vs w b o k (referred {k = j} q v z p) e = record { row = row_or (find_object j os w); is = reference_value os d vs w j q z }
+  resolved_object u d vs w b o k (taken-number q n f v) e = absurd (not_a_reference d.type k n e)
+  resolved_object u d vs w b o k (told q n f) e = absurd (not_a_reference d.type k n e)
+  resolved_object u d vs w b o k (referred {k = j} q v z p) e = record { row = row_or (find_object j os w); is = reference_value os d vs w j q z }
 
   own_row : (u : Word) (d : Definition) (vs : Values) (w : Word) (x : Taken) (o : Owner) → Row t.definitions d.row (definition_row u d) → Formed s d vs → Takes os d vs w x → There s x.word
       → Alone (restated_word x.value x.word) → OwnerFacts s t u o → OwnRow s t (value_row x o)
@@ -629,40 +629,40 @@ module _ (s : List ℕ) (t : Tables) (os : List Object)
         definition = definition_row u d;
         its_definition = r;
         referring = refer u d vs w k.stated o r k.taking h;
-        referred-to = λ j e. resolved-object u d vs w k.stated o j k.taking e;
+        referred_to = λ j e. resolved_object u d vs w k.stated o j k.taking e;
         default = λ e. sym (ap span_or (k.origin e));
         under_value = λ n e.
             let a = subst (λ y. OwnerFacts s t u y) e f in
-            record { definition = definition_row u d; its_definition = r; above = a.above; its-above = a.its-above; same_word = a.same_word; own-word = a.own-word; above-definition = a.above-definition; its-above-definition = a.its-above-definition; inside = a.inside };
-        of-its-object = λ n e.
+            record { definition = definition_row u d; its_definition = r; above = a.above; its_above = a.its-above; same_word = a.same_word; own_word = a.own-word; above_definition = a.above-definition; its_above_definition = a.its-above-definition; inside = a.inside };
+        of_its_object = λ n e.
             let a = subst (λ y. OwnerFacts s t u y) e f in
             record { definition = definition_row u d; its_definition = r; owner = a.owner; its_owner = a.its-owner; same_kind_word = a.same-kind-word };
         in_range = ranged u d vs w k.stated o r m k.taking;
-        in-float-range = float-ranged u d vs w k.stated o r m k.taking h g;
+        in_float_range = float_ranged u d vs w k.stated o r m k.taking h g;
       }
 
   -- The word under which the definitions stand that a value opens: it is that of the value, in the list of the value's own attribute.
-  own-word-of : (d : Definition) (vs : Values) (w : Word) (b : Bool) (o : Owner) (v : Under) → Taking os d vs w → find_value vs w ≡ some v
+  own_word_of : (d : Definition) (vs : Values) (w : Word) (b : Bool) (o : Owner) (v : Under) → Taking os d vs w → find_value vs w ≡ some v
       → (is_enum d.type ≡ true → Row t.enumerators v.number (record { attribute = d.row; name = span_of v.word })) → opens (sort_of w.class) ≡ true
       → OwnWord t (value_row (take_value b os d vs w) o) (span_of v.word)
   unfolding take_value value_row find_value valued fits fits_as opens number_or
-  own-word-of d vs w b o v (taken-number q n f e) i r h = absurd (let z : none ≡ some v = ap (λ l. find_value l w) (sym e) ∙ i in let y : ◌≡◌ {A = Bool} false true = cc in false≢true y)
-  own-word-of d vs w b o v (referred q e z p) i r h = absurd (let z : none ≡ some v = ap (λ l. find_value l w) (sym e) ∙ i in let y : ◌≡◌ {A = Bool} false true = cc in false≢true y)
-  own-word-of d vs w b o v (told q n f) i r h = go (sort_of w.class) refl h f
+  own_word_of d vs w b o v (taken-number q n f e) i r h = absurd (let z : none ≡ some v = ap (λ l. find_value l w) (sym e) ∙ i in let y : ◌≡◌ {A = Bool} false true = cc in false≢true y)
+  own_word_of d vs w b o v (referred q e z p) i r h = absurd (let z : none ≡ some v = ap (λ l. find_value l w) (sym e) ∙ i in let y : ◌≡◌ {A = Bool} false true = cc in false≢true y)
+  own_word_of d vs w b o v (told q n f) i r h = go (sort_of w.class) refl h f
     where
       go : (x : Sort) → sort_of w.class ≡ x → opens x ≡ true → fits_as x d vs w ≡ true → OwnWord t (value_row (take_value b os d vs w) o) (span_of v.word)
       go a_number e y g = absurd (false≢true y)
       go a_string e y g = absurd (false≢true y)
-      go a_truth e y g = own-truth (is_true w.class) (ap (λ z. valued z os d vs w) e)
+      go a_truth e y g = own_truth (is_true w.class) (ap (λ z. valued z os d vs w) e)
       go an_auto e y g = absurd (false≢true y)
       go a_no_default e y g = absurd (false≢true y)
       go a_float e y g = absurd (false≢true y)
       go a_name e y g =
           let m : is_enum d.type ≡ true = both_true (is_enum d.type) (is_there (find_value vs w)) g in
-          own-enumerator v.number (ap (λ z. valued z os d vs w) e ∙ named_enum d.type os vs w m ∙ ap (λ z. enumerator (number_or z)) i) (r m)
+          own_enumerator v.number (ap (λ z. valued z os d vs w) e ∙ named_enum d.type os vs w m ∙ ap (λ z. enumerator (number_or z)) i) (r m)
 
-  nothing-under : {y : Taken} {us r : Resolved} → Settled os [] no_more (resolved y us r) → ⊥
-  nothing-under {y} {us} {r} m = let e : resolved y us r ≡ end = nothing_there refl m in let z : ◌≡◌ {A = Bool} false true = cc in false≢true z
+  nothing_under : {y : Taken} {us r : Resolved} → Settled os [] no_more (resolved y us r) → ⊥
+  nothing_under {y} {us} {r} m = let e : resolved y us r ≡ end = nothing_there refl m in let z : ◌≡◌ {A = Bool} false true = cc in false≢true z
 
   -- The rows of a scope's values -------------------------------------------------------------------------------------------------------------------
 
@@ -682,11 +682,11 @@ module _ (s : List ℕ) (t : Tables) (os : List Object)
         let i : There s w = subst (λ q. There s q) (ap (λ (q : Taken). q.word) k.is) h in
         record {
           above = value_row x o;
-          its-above = r;
+          its_above = r;
           same_word = sym f.there ∙ f.same ∙ i ∙ ap (λ (q : Taken). part s (span_of q.word)) (sym k.is);
-          own-word = subst (λ q. OwnWord t (value_row q o) (span_of v.word)) (sym k.is) (own-word-of d vs w b o v k.taking e f.row z);
-          above-definition = definition_row u d;
-          its-above-definition = subst (λ (q : Taken). Row t.definitions (value_row q o).definition (definition_row u d)) (sym k.is) a;
+          own_word = subst (λ q. OwnWord t (value_row q o) (span_of v.word)) (sym k.is) (own_word_of d vs w b o v k.taking e f.row z);
+          above_definition = definition_row u d;
+          its_above_definition = subst (λ (q : Taken). Row t.definitions (value_row q o).definition (definition_row u d)) (sym k.is) a;
           inside = f.inside;
         }
 
@@ -696,29 +696,29 @@ module _ (s : List ℕ) (t : Tables) (os : List Object)
       (u : Word) → Facts s t.definitions t.enumerators u ds → ValuesThere s us → SaidLines us → OwnerFacts s t u (of_value n)
       → (A B : List ValueRow) → t.values ≡ A ++ (value_rows us (suc n) (of_value n) ++ B) → suc n ≡ length A → Own (value_rows us (suc n) (of_value n))
 
-  own-under : (u : Word) (d : Definition) (vs : Values) (w : Word) (x : Taken) (us : Resolved) (n : ℕ) (o : Owner) (A B : List ValueRow) (v : Option Under) → find_value vs w ≡ v
+  own_under : (u : Word) (d : Definition) (vs : Values) (w : Word) (x : Taken) (us : Resolved) (n : ℕ) (o : Owner) (A B : List ValueRow) (v : Option Under) → find_value vs w ≡ v
       → Takes os d vs w x → Settled os [] (definitions_or (find_value vs w)) us → Under-rows (definitions_or (find_value vs w)) us n
       → Row t.definitions d.row (definition_row u d) → ListFacts s t.definitions t.enumerators d vs → There s x.word
       → ValuesThere s us → Stateable (restated_word x.value x.word).class us → SaidLines us → Row t.values n (value_row x o)
       → t.values ≡ A ++ (value_rows us (suc n) (of_value n) ++ B) → suc n ≡ length A → Own (value_rows us (suc n) (of_value n))
   unfolding value_rows definitions_or
-  own-under u d vs w x end n o A B v i k m rec a b h h' g g' p e l = none_left
-  own-under u d vs w x (resolved y us r) n o A B none i k m rec a b h h' g g' p e l =
-      absurd (nothing-under (subst (λ z. Settled os [] (definitions_or z) (resolved y us r)) i m))
-  own-under u d vs w x (resolved y us r) n o A B (some v) i k m rec a b h h' g g' p e l =
+  own_under u d vs w x end n o A B v i k m rec a b h h' g g' p e l = none_left
+  own_under u d vs w x (resolved y us r) n o A B none i k m rec a b h h' g g' p e l =
+      absurd (nothing_under (subst (λ z. Settled os [] (definitions_or z) (resolved y us r)) i m))
+  own_under u d vs w x (resolved y us r) n o A B (some v) i k m rec a b h h' g g' p e l =
       let f = found_value s t.definitions t.enumerators d vs w v b i in
       rec v.word (subst (λ z. Facts s t.definitions t.enumerators v.word (definitions_or z)) (sym i) f.facts) h' g'
       (above_of u d vs w x o n k h p a v us r y i f g) A B e l
 
   -- The rows of an entry, of what is under it, and of what is behind it.
-  own-entry : (u : Word) (d : Definition) (vs : Values) (w : Word) (x : Taken) (us r : Resolved) (n : ℕ) (o : Owner) (A B : List ValueRow)
+  own_entry : (u : Word) (d : Definition) (vs : Values) (w : Word) (x : Taken) (us r : Resolved) (n : ℕ) (o : Owner) (A B : List ValueRow)
       → Takes os d vs w x → Settled os [] (under vs w) us → Under-rows (under vs w) us n
       → Row t.definitions d.row (definition_row u d) → Formed s d vs → ListFacts s t.definitions t.enumerators d vs
       → ValuesThere s (resolved x us r) → SaidLines (resolved x us r) → OwnerFacts s t u o
       → ((C : List ValueRow) → t.values ≡ C ++ (value_rows r (suc n + how_many_values us) o ++ B) → suc n + how_many_values us ≡ length C → Own (value_rows r (suc n + how_many_values us) o))
       → t.values ≡ A ++ (value_rows (resolved x us r) n o ++ B) → n ≡ length A → Own (value_rows (resolved x us r) n o)
   unfolding value_rows under
-  own-entry u d vs w x us r n o A B k m rec a c b h g q rest e l =
+  own_entry u d vs w x us r n o A B k m rec a c b h g q rest e l =
       let row = value_row x o in
       let us-rows = value_rows us (suc n) (of_value n) in
       let j = suc n + how_many_values us in
@@ -733,7 +733,7 @@ module _ (s : List ℕ) (t : Tables) (os : List Object)
       let i₁ : suc n ≡ length (A ++ (row ∷ [])) = omega arith in
       let i₂ : j ≡ length ((A ++ (row ∷ [])) ++ us-rows) = omega arith in
       one_more (own_row u d vs w x o a c k h.0 g.0.alone q)
-      (all_append (own-under u d vs w x us n o (A ++ (row ∷ [])) (r-rows ++ B) (find_value vs w) refl k m rec a b h.0 h.1 g.0.form g.1 p e₂ i₁)
+      (all_append (own_under u d vs w x us n o (A ++ (row ∷ [])) (r-rows ++ B) (find_value vs w) refl k m rec a b h.0 h.1 g.0.form g.1 p e₂ i₁)
       (rest ((A ++ (row ∷ [])) ++ us-rows) e₃ i₂))
 
   mutual
@@ -743,19 +743,19 @@ module _ (s : List ℕ) (t : Tables) (os : List Object)
         → Facts s t.definitions t.enumerators u ds → ValuesThere s r → SaidLines r → OwnerFacts s t u o
         → (A B : List ValueRow) → t.values ≡ A ++ (value_rows r n o ++ B) → n ≡ length A → Own (value_rows r n o)
     own_rows settled u n o f h g q A B e l = none_left
-    own_rows (none_of _ _ _ m) u n o (more-facts a f b c) h g q A B e l = own_rows m u n o c h g q A B e l
-    own_rows (one_of {d} {vs} {x} {t = w} {us} {r} _ k m y) u n o (more-facts a f b c) h g q A B e l =
-        own-entry u d vs w x us r n o A B k m (λ u' f' h' g' q' A' B' e' l'. own_rows m u' (suc n) (of_value n) f' h' g' q' A' B' e' l') a f b h g q
-        (λ C e' l'. own-more y u (suc n + how_many_values us) o a f b c h.2 g.2 q C B e' l') e l
+    own_rows (none_of _ _ _ m) u n o (more_facts a f b c) h g q A B e l = own_rows m u n o c h g q A B e l
+    own_rows (one_of {d} {vs} {x} {t = w} {us} {r} _ k m y) u n o (more_facts a f b c) h g q A B e l =
+        own_entry u d vs w x us r n o A B k m (λ u' f' h' g' q' A' B' e' l'. own_rows m u' (suc n) (of_value n) f' h' g' q' A' B' e' l') a f b h g q
+        (λ C e' l'. own_more y u (suc n + how_many_values us) o a f b c h.2 g.2 q C B e' l') e l
 
-    own-more : {before : List Definition} {d : Definition} {vs : Values} {ds : Definitions} {r : Resolved} → More os before d vs ds r → (u : Word) (n : ℕ) (o : Owner)
+    own_more : {before : List Definition} {d : Definition} {vs : Values} {ds : Definitions} {r : Resolved} → More os before d vs ds r → (u : Word) (n : ℕ) (o : Owner)
         → Row t.definitions d.row (definition_row u d) → Formed s d vs → ListFacts s t.definitions t.enumerators d vs → Facts s t.definitions t.enumerators u ds
         → ValuesThere s r → SaidLines r → OwnerFacts s t u o
         → (A B : List ValueRow) → t.values ≡ A ++ (value_rows r n o ++ B) → n ≡ length A → Own (value_rows r n o)
-    own-more (again {d} {vs} {x} {t = w} {us} {r} _ k m y) u n o a f b c h g q A B e l =
-        own-entry u d vs w x us r n o A B k m (λ u' f' h' g' q' A' B' e' l'. own_rows m u' (suc n) (of_value n) f' h' g' q' A' B' e' l') a f b h g q
-        (λ C e' l'. own-more y u (suc n + how_many_values us) o a f b c h.2 g.2 q C B e' l') e l
-    own-more (no_more_of m) u n o a f b c h g q A B e l = own_rows m u n o c h g q A B e l
+    own_more (again {d} {vs} {x} {t = w} {us} {r} _ k m y) u n o a f b c h g q A B e l =
+        own_entry u d vs w x us r n o A B k m (λ u' f' h' g' q' A' B' e' l'. own_rows m u' (suc n) (of_value n) f' h' g' q' A' B' e' l') a f b h g q
+        (λ C e' l'. own_more y u (suc n + how_many_values us) o a f b c h.2 g.2 q C B e' l') e l
+    own_more (no_more_of m) u n o a f b c h g q A B e l = own_rows m u n o c h g q A B e l
 
 -- Every row of a text --------------------------------------------------------------------------------------------------------------------------------
 
@@ -763,12 +763,12 @@ module _ (s : List ℕ) (t : Tables) (f : File)
     (objects : (k : Kind) (w : Word) (x : Object) → find_object k f.objects w ≡ some x → ObjectFacts s t.objects k w x)
     (kinds-of : (w : Word) → There s w → Alone (unplaced_word w) → matches a-kind-token w.class ≡ true → KindFacts s t.definitions t.enumerators w (of_kind (kind_of w.class) f.specs))
     (specs-there : InText s (spec_words f.specs)) where
-  own-objects : {xs : List Object} → SettledObjects f xs → (i o n : ℕ) (A : List ValueRow) (C : List ObjectRow) → InText s (object_words xs) → SaidObjects xs (all_values f xs) i
+  own_objects : {xs : List Object} → SettledObjects f xs → (i o n : ℕ) (A : List ValueRow) (C : List ObjectRow) → InText s (object_words xs) → SaidObjects xs (all_values f xs) i
       → t.objects ≡ C ++ object_rows xs → o ≡ length C → t.values ≡ A ++ all_value_rows (all_values f xs) o n → n ≡ length A
       → All (OwnRow s t) (all_value_rows (all_values f xs) o n)
   unfolding all_value_rows all_values object_values object_words object_rows
-  own-objects no-objects i o n A C h g e' l' e l = none_left
-  own-objects (more-objects {x} {xs} m p) i o n A C h g e' l' e l =
+  own_objects no_objects i o n A C h g e' l' e l = none_left
+  own_objects (more_objects {x} {xs} m p) i o n A C h g e' l' e l =
       let r = object_values f x in
       let k = subst (λ (y : Kind). KindFacts s t.definitions t.enumerators x.word (of_kind y f.specs)) g.0.kind-is (kinds-of x.word h.0 g.0.word-alone g.0.word-class) in
       let owns : Owning s t k.word o = record { owner = row_of x; its_owner = row_in t.objects C (object_rows xs) (row_of x) o e' l'; same_kind_word = k.same } in
@@ -783,8 +783,8 @@ module _ (s : List ℕ) (t : Tables) (f : File)
       let i₁ : j ≡ length (A ++ rows) = omega arith in
       all_append
       (own_rows s t f.objects objects m k.word n (of_object o) k.facts
-      (resolve-there s f.objects (of_kind x.kind f.specs) x.statements (kind_there s x.kind f.specs specs-there) a.0) g.0.lines owns A rest e l)
-      (own-objects p (suc i) (suc o) j (A ++ rows) (C ++ (row_of x ∷ [])) a.1 g.1 (e' ∙ sym (append_assoc C (row_of x ∷ []) (object_rows xs))) i₀ (e ∙ sym (append_assoc A rows rest)) i₁)
+      (resolve_there s f.objects (of_kind x.kind f.specs) x.statements (kind_there s x.kind f.specs specs-there) a.0) g.0.lines owns A rest e l)
+      (own_objects p (suc i) (suc o) j (A ++ rows) (C ++ (row_of x ∷ [])) a.1 g.1 (e' ∙ sym (append_assoc C (row_of x ∷ []) (object_rows xs))) i₀ (e ∙ sym (append_assoc A rows rest)) i₁)
 
 own_table : (s : List ℕ) (d : Derivation (tokens s)) → definition_faults (syntax s d.tree) ≡ [] → statement_stage (syntax s d.tree) ≡ []
     → All (OwnRow s (tables (syntax s d.tree) (all_values (syntax s d.tree) (syntax s d.tree).objects))) (all_value_rows (all_values (syntax s d.tree) (syntax s d.tree).objects) 0 0)
@@ -799,9 +799,9 @@ own_table s d a b =
     let n = numbered s d.tree in
     let y = ordered_sub (words_leaves s d.tree) 0 (leaves_in_order s d.tree o) in
     let z = ends (spec_words f.specs) 0 (ordered_sub (drop {t = f.version} (sub_front (sub_all (spec_words f.specs)) (f.cpu ∷ object_words f.parts))) 0 y) in
-    own-objects s (tables f (all_values f f.objects)) f
+    own_objects s (tables f (all_values f f.objects)) f
     (λ k v x e. found_object s k f.objects v x (object_rows f.objects) [] refl n.1.0 os-text e)
-    (λ v there alone kind. kind-facts s (all_definition_rows f.specs) (all_enumerator_rows f.specs) v there alone kind f.specs (scopes s d.tree o)
+    (λ v there alone kind. kind_facts s (all_definition_rows f.specs) (all_enumerator_rows f.specs) v there alone kind f.specs (scopes s d.tree o)
     (listed_specs f.specs (all_enumerator_rows f.specs) [] refl n.0.1) (formed s d.tree c) x.specs w.0.1 0 z.hi z.run)
     w.0.1 (settle_objects f f.objects (specs_free f a) (syntax_plain s d.tree) b) 0 0 0 [] [] os-text
     (said s d (tokens_alone s) number_alone).objects refl refl refl refl
@@ -814,7 +814,7 @@ every_row s d t e =
 
 by_derivation : {s : List ℕ} {a : Answer} (t : Tables) → Answers s a → a ≡ accepted t → All (OwnRow s t) t.values
 by_derivation t (too_long k) e = absurd (let z : ◌≡◌ {A = Bool} false true = cc in false≢true z)
-by_derivation t (not-grammar a k m q) e = absurd (let z : ◌≡◌ {A = Bool} false true = cc in false≢true z)
+by_derivation t (not_grammar a k m q) e = absurd (let z : ◌≡◌ {A = Bool} false true = cc in false≢true z)
 by_derivation {s} t (meant w d) e = every_row s d t e
 
 -- A resolved reference leads to an object of the reference's kind whose name has the value word's bytes.

@@ -9,7 +9,7 @@ use Rattle.meaning.specs.Syntax.{File}
 use Rattle.meaning.specs.Actions.{syntax}
 use Rattle.meaning.specs.Resolving.{Resolved, end, resolved, Owner, of_object, of_value, ValueRow, value_row, how_many_values, value_rows, all_values, all_value_rows}
 use Rattle.meaning.specs.Answers.{Tables, Answer, accepted, tables, answer}
-use Rattle.meaning.specs.Reading.{Answers, too_long, not-grammar, meant}
+use Rattle.meaning.specs.Reading.{Answers, too_long, not_grammar, meant}
 use Rattle.meaning.proofs.Entries.{length_values}
 use Rattle.reads_back.proofs.SameMeaning.{no_faults}
 use Rattle.assurances.specs.Own.{Row, here, behind, OwnersBefore}
@@ -62,7 +62,7 @@ every_behind f t e = subst (λ (y : Tables). AllBehind 0 y.values) (no_faults f 
 
 by_derivation : {s : List ℕ} {a : Answer} (t : Tables) → Answers s a → a ≡ accepted t → AllBehind 0 t.values
 by_derivation t (too_long k) e = absurd (let z : ◌≡◌ {A = Bool} false true = cc in false≢true z)
-by_derivation t (not-grammar a k m q) e = absurd (let z : ◌≡◌ {A = Bool} false true = cc in false≢true z)
+by_derivation t (not_grammar a k m q) e = absurd (let z : ◌≡◌ {A = Bool} false true = cc in false≢true z)
 by_derivation {s} t (meant w d) e = every_behind (syntax s d.tree) t e
 
 pub owner_before : OwnersBefore

@@ -6,7 +6,7 @@ use Prim.Native.Nat.{ℕ, suc, ◌+◌}
 use native.Mathlib.Omega.{arith}
 use Rattle.token.specs.Find.{pick, either, bit}
 use Rattle.token.proofs.Bytes.{neither_first, neither_second}
-use Rattle.grammar.specs.Grammar.{Form, file, objects, object, ◌▸◌, ∎, ◌⟶◌, Trees, nil, leaf, node, file-is, application-is, no_object, an_object, an-object-alone, an-object-with}
+use Rattle.grammar.specs.Grammar.{Form, file, objects, object, ◌▸◌, ∎, ◌⟶◌, Trees, nil, leaf, node, file_is, application_is, no_object, an_object, an_object_alone, an_object_with}
 use Rattle.meaning.specs.Syntax.{span_of, Statements, done, Object, File, statements_in}
 use Rattle.meaning.specs.Words.{choose}
 use Rattle.meaning.specs.Places.{each}
@@ -15,7 +15,7 @@ use Rattle.meaning.specs.Actions.{means, meaning, syntax}
 use Rattle.meaning.specs.Applying.{ObjectRow, object_rows}
 use Rattle.meaning.specs.Resolving.{all_values}
 use Rattle.meaning.specs.Answers.{Tables, Answer, accepted, tables}
-use Rattle.meaning.specs.Reading.{Answers, too_long, not-grammar, meant}
+use Rattle.meaning.specs.Reading.{Answers, too_long, not_grammar, meant}
 use Rattle.meaning.proofs.Numbering.{Counts, object_numbers, merged_numbers}
 use Rattle.meaning.proofs.Standing.{counts_head, counts_tail}
 use Rattle.meaning.proofs.Merges.{then_done, Alike, same_alike, alike_object, same_itself, same_swap, used_more, used_none, used_behind, used_alike, syntax_merged}
@@ -60,10 +60,10 @@ choose_each h true a b = refl
 choose_each h false a b = refl
 
 module _ {A : Type 0} (e : A) (op : A → A → A) (unit : (a : A) → op a e ≡ a) where
-  gather-alike : (f : Object → A) (z x : Object) (l : List Object) → Alike z x → gather e op f z l ≡ gather e op f x l
+  gather_alike : (f : Object → A) (z x : Object) (l : List Object) → Alike z x → gather e op f z l ≡ gather e op f x l
   unfolding gather
-  gather-alike f z x [] a = refl
-  gather-alike f z x (y ∷ l) a = ap₂ (λ (b : Bool) (r : A). pick b (op (f y) r) r) (alike_object z x y a) (gather-alike f z x l a)
+  gather_alike f z x [] a = refl
+  gather_alike f z x (y ∷ l) a = ap₂ (λ (b : Bool) (r : A). pick b (op (f y) r) r) (alike_object z x y a) (gather_alike f z x l a)
 
   -- Whether the part was used before (u), has the kind and name in question (b), and these were used before (v) and with it (w).
   by_cases : (u b v w : Bool) (x c d r₀ r₁ : A) → w ≡ either v b → (b ≡ true → v ≡ u) → (b ≡ true → d ≡ c) → r₀ ≡ pick w e c → r₁ ≡ pick w e c
@@ -78,29 +78,29 @@ module _ {A : Type 0} (e : A) (op : A → A → A) (unit : (a : A) → op a e �
   by_cases false false false w x c d r₀ r₁ q h k p₀ p₁ = p₁ ∙ ap (λ (t : Bool). pick t e c) q
 
   module _ (f g : Object → A) (all_of : (x : Object) (n : ℕ) (l : List Object) → g (merged x n l) ≡ op (f x) (gather e op f x l)) where
-    gather-object : (z x : Object) (n : ℕ) (xs os : List Object)
+    gather_object : (z x : Object) (n : ℕ) (xs os : List Object)
         → gather e op g z (merged x n xs ∷ os) ≡ pick (same_object z x) (op (op (f x) (gather e op f x xs)) (gather e op g z os)) (gather e op g z os)
     unfolding gather
-    gather-object z x n xs os = ap₂ (λ (b : Bool) (a : A). pick b (op a (gather e op g z os)) (gather e op g z os)) (merged_name z x n xs) (all_of x n xs)
+    gather_object z x n xs os = ap₂ (λ (b : Bool) (a : A). pick b (op a (gather e op g z os)) (gather e op g z os)) (merged_name z x n xs) (all_of x n xs)
 
-    gather-from : (z : Object) (before xs : List Object) (n : ℕ) → gather e op g z (merge_from before xs n) ≡ pick (used z before) e (gather e op f z xs)
+    gather_from : (z : Object) (before xs : List Object) (n : ℕ) → gather e op g z (merge_from before xs n) ≡ pick (used z before) e (gather e op f z xs)
     unfolding merge_from gather
-    gather-from z before [] n = go (used z before)
+    gather_from z before [] n = go (used z before)
       where
         go : (b : Bool) → e ≡ pick b e e
         go true = refl
         go false = refl
-    gather-from z before (x ∷ xs) n =
+    gather_from z before (x ∷ xs) n =
         let l = before ++ (x ∷ []) in
         choose_each (gather e op g z) (used x before) (merge_from l xs n) (merged x n xs ∷ merge_from l xs (suc n))
-        ∙ ap (pick (used x before) (gather e op g z (merge_from l xs n))) (gather-object z x n xs (merge_from l xs (suc n)))
+        ∙ ap (pick (used x before) (gather e op g z (merge_from l xs n))) (gather_object z x n xs (merge_from l xs (suc n)))
         ∙ by_cases (used x before) (same_object z x) (used z before) (used z l) (f x) (gather e op f z xs) (gather e op f x xs)
         (gather e op g z (merge_from l xs n)) (gather e op g z (merge_from l xs (suc n))) (used_behind z x before)
-        (λ h. used_alike z x before (same_alike z x h)) (λ h. sym (gather-alike f z x xs (same_alike z x h))) (gather-from z l xs n) (gather-from z l xs (suc n))
+        (λ h. used_alike z x before (same_alike z x h)) (λ h. sym (gather_alike f z x xs (same_alike z x h))) (gather_from z l xs n) (gather_from z l xs (suc n))
 
-    gather-merge : (z : Object) (xs : List Object) → gather e op g z (merge xs) ≡ gather e op f z xs
+    gather_merge : (z : Object) (xs : List Object) → gather e op g z (merge xs) ≡ gather e op f z xs
     unfolding merge
-    gather-merge z xs = gather-from z [] xs 0 ∙ ap (λ (b : Bool). pick b e (gather e op f z xs)) (used_none z)
+    gather_merge z xs = gather_from z [] xs 0 ∙ ap (λ (b : Bool). pick b e (gather e op f z xs)) (used_none z)
 
   -- Where no two have one kind and name, what is gathered of one is its own.
   gather_none : (g : Object → A) (z : Object) (l : List Object) → ((j : ℕ) (y : Object) → Row l j y → same_object z y ≡ false) → gather e op g z l ≡ e
@@ -109,13 +109,13 @@ module _ {A : Type 0} (e : A) (op : A → A → A) (unit : (a : A) → op a e �
   gather_none g z (y ∷ l) h =
       ap (λ (b : Bool). pick b (op (g y) (gather e op g z l)) (gather e op g z l)) (h 0 y here) ∙ gather_none g z l (λ j x r. h (suc j) x (behind r))
 
-  gather-own : (g : Object → A) (l : List Object) (n : ℕ) (z : Object) → Distinct l → Row l n z → gather e op g z l ≡ g z
+  gather_own : (g : Object → A) (l : List Object) (n : ℕ) (z : Object) → Distinct l → Row l n z → gather e op g z l ≡ g z
   unfolding gather
-  gather-own g _ _ z d (here {rs}) =
+  gather_own g _ _ z d (here {rs}) =
       ap₂ (λ (b : Bool) (r : A). pick b (op (g z) r) r) (same_itself z) (gather_none g z rs (λ j y r. d 0 (suc j) z y (omega arith) here (behind r))) ∙ unit (g z)
-  gather-own g _ _ z d (behind {q} {rs} {n} r) =
+  gather_own g _ _ z d (behind {q} {rs} {n} r) =
       ap (λ (b : Bool). pick b (op (g q) (gather e op g z rs)) (gather e op g z rs)) (same_swap z q ∙ d 0 (suc n) q z (omega arith) here (behind r))
-      ∙ gather-own g rs n z (λ i j x y h a b. d (suc i) (suc j) x y (omega arith) (behind a) (behind b)) r
+      ∙ gather_own g rs n z (λ i j x y h a b. d (suc i) (suc j) x y (omega arith) (behind a) (behind b)) r
 
 -- Statements and numbers of parts ------------------------------------------------------------------------------------------------------------------
 
@@ -132,10 +132,10 @@ no_part_more n = omega arith
 
 keeps_statements : (xs : List Object) (z : Object) → continued z (merge xs) ≡ continued z xs
 keeps_statements xs z =
-    continued_gather z (merge xs) ∙ gather-merge done then then_done (λ x. x.statements) (λ x. x.statements) statements_of z xs ∙ sym (continued_gather z xs)
+    continued_gather z (merge xs) ∙ gather_merge done then then_done (λ x. x.statements) (λ x. x.statements) statements_of z xs ∙ sym (continued_gather z xs)
 
 keeps_numbers : (xs : List Object) (z : Object) → parts_in z (merge xs) ≡ further z xs
-keeps_numbers xs z = parts_gather z (merge xs) ∙ gather-merge 0 ◌+◌ no_part_more (λ x. 1) (λ x. x.parts) number_of z xs ∙ sym (further_gather z xs)
+keeps_numbers xs z = parts_gather z (merge xs) ∙ gather_merge 0 ◌+◌ no_part_more (λ x. 1) (λ x. x.parts) number_of z xs ∙ sym (further_gather z xs)
 
 -- Kinds and names ------------------------------------------------------------------------------------------------------------------------------------
 
@@ -170,12 +170,12 @@ numbered_single n (x ∷ l) h = (at_first (h 0 x here).its-row, (h 0 x here).one
     at_first e = omega arith
 
     at_next : (y : Object) (i : ℕ) → OnePart y (n + suc i) → OnePart y (suc n + i)
-    at_next y i h = record { its-row = let e = h.its-row in omega arith; one = h.one }
+    at_next y i h = record { its_row = let e = h.its-row in omega arith; one = h.one }
 
 single_numbered : (n : ℕ) (l : List Object) (i : ℕ) (x : Object) → Single n l → Row l i x → OnePart x (n + i)
-single_numbered n _ _ x h here = record { its-row = let e = h.0 in omega arith; one = h.1 }
+single_numbered n _ _ x h here = record { its_row = let e = h.0 in omega arith; one = h.1 }
 single_numbered n _ _ x h (behind {rs} {n = i} r) =
-    let k = single_numbered (suc n) rs i x h.2 r in record { its-row = let e = k.its-row in omega arith; one = k.one }
+    let k = single_numbered (suc n) rs i x h.2 r in record { its_row = let e = k.its-row in omega arith; one = k.one }
 
 counts_row : (m : ℕ) (l : List Object) (n : ℕ) (x : Object) → Counts m (object_numbers l) → Row l n x → x.row ≡ m + n
 unfolding object_numbers
@@ -208,26 +208,26 @@ parts_merge xs = record {
   numbers = keeps_numbers xs;
   distinct = apart;
   made = λ n x r. record {
-    its-row = let e = counts_row 0 (merge xs) n x (merged_numbers xs) r in omega arith;
-    number = sym (gather-own 0 ◌+◌ no_part_more (λ y. y.parts) (merge xs) n x apart r) ∙ sym (parts_gather x (merge xs)) ∙ keeps_numbers xs x;
-    own_statements = sym (gather-own done then then_done (λ y. y.statements) (merge xs) n x apart r) ∙ sym (continued_gather x (merge xs)) ∙ keeps_statements xs x;
+    its_row = let e = counts_row 0 (merge xs) n x (merged_numbers xs) r in omega arith;
+    number = sym (gather_own 0 ◌+◌ no_part_more (λ y. y.parts) (merge xs) n x apart r) ∙ sym (parts_gather x (merge xs)) ∙ keeps_numbers xs x;
+    own_statements = sym (gather_own done then then_done (λ y. y.statements) (merge xs) n x apart r) ∙ sym (continued_gather x (merge xs)) ∙ keeps_statements xs x;
   };
   first_parts = first_heads xs;
-  whole = λ d h. merge_same xs (distinct_new [] xs (λ j y r. used_none y) d) (numbered_single 0 xs (λ i x r. from-0 i x (h i x r)));
+  whole = λ d h. merge_same xs (distinct_new [] xs (λ j y r. used_none y) d) (numbered_single 0 xs (λ i x r. from_0 i x (h i x r)));
 }
   where
     apart : Distinct (merge xs)
     apart = new_distinct [] (merge xs) (merge_new xs)
 
-    from-0 : (i : ℕ) (x : Object) → OnePart x i → OnePart x (0 + i)
-    from-0 i x h = record { its-row = let e = h.its-row in omega arith; one = h.one }
+    from_0 : (i : ℕ) (x : Object) → OnePart x i → OnePart x (0 + i)
+    from_0 i x h = record { its_row = let e = h.its-row in omega arith; one = h.one }
 
 -- Texts -------------------------------------------------------------------------------------------------------------------------------------------------
 
 object_single : {g : Form} (s : List ℕ) (p : object ⟶ g) (us : Trees ◌⟶◌ g) (n k : ℕ) → OnePart (means p (meaning s us) n k) n
 unfolding means meaning
-object_single s an-object-alone (leaf _ _ (leaf _ _ r)) n k = record { its-row = refl; one = refl }
-object_single s an-object-with (leaf _ _ (leaf _ _ (leaf _ _ (node _ ss r)))) n k = record { its-row = refl; one = refl }
+object_single s an_object_alone (leaf _ _ (leaf _ _ r)) n k = record { its_row = refl; one = refl }
+object_single s an_object_with (leaf _ _ (leaf _ _ (leaf _ _ (node _ ss r)))) n k = record { its_row = refl; one = refl }
 
 objects_single : {g : Form} (s : List ℕ) (p : objects ⟶ g) (us : Trees ◌⟶◌ g) (n k : ℕ) → Single n (means p (meaning s us) n k)
 unfolding means meaning
@@ -237,19 +237,19 @@ objects_single s an_object (node p x (node q xs nil)) n k =
 
 parts_single : (s : List ℕ) (t : Trees ◌⟶◌ (file ▸ ∎)) → Single 0 (syntax s t).parts
 unfolding syntax means meaning
-parts_single s (node file-is (node _ v (node _ i (node application-is (leaf _ _ (leaf _ _ (leaf _ _ (node q os r)))) nil))) nil) = objects_single s q os 0 0
+parts_single s (node file_is (node _ v (node _ i (node application_is (leaf _ _ (leaf _ _ (leaf _ _ (node q os r)))) nil))) nil) = objects_single s q os 0 0
 
 pub text_in_parts : TextInParts
 text_in_parts s t = record {
   numbered = numbered;
   in_parts = in_parts;
-  no-repeats = λ d. in_parts.whole d numbered;
+  no_repeats = λ d. in_parts.whole d numbered;
 }
   where
     numbered : Numbered (syntax s t).parts
     numbered n x r =
         let o = single_numbered 0 (syntax s t).parts n x (parts_single s t) r in
-        record { its-row = let e = o.its-row in omega arith; one = o.one }
+        record { its_row = let e = o.its-row in omega arith; one = o.one }
 
     in_parts : InParts (syntax s t).parts (syntax s t).objects
     in_parts = subst (InParts (syntax s t).parts) (sym (syntax_merged s t)) (parts_merge (syntax s t).parts)
@@ -310,7 +310,7 @@ rows_are f = refl
 
 by_derivation : {s : List ℕ} {a : Answer} (t : Tables) → Answers s a → a ≡ accepted t → PartRows s t
 by_derivation t (too_long k) e = absurd (let z : ◌≡◌ {A = Bool} false true = cc in false≢true z)
-by_derivation t (not-grammar a k m q) e = absurd (let z : ◌≡◌ {A = Bool} false true = cc in false≢true z)
+by_derivation t (not_grammar a k m q) e = absurd (let z : ◌≡◌ {A = Bool} false true = cc in false≢true z)
 by_derivation {s} t (meant w d) e =
     let f = syntax s d.tree in
     record {

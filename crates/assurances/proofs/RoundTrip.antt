@@ -11,10 +11,10 @@ use Rattle.meaning.specs.Cells.{rooms_after}
 use Rattle.meaning.specs.Rules.{TheAnswer, FullRoom, InRooms}
 use Rattle.meaning.proofs.Whole.{answers, one_answer, the_normal_text}
 use Rattle.reading.specs.Results.{reading_of}
-use Rattle.reading.specs.Rules.{ReadsByRules, short-tables, by-rules}
+use Rattle.reading.specs.Rules.{ReadsByRules, short_tables, by_rules}
 use Rattle.reading.specs.declared.Answer.TheVariants.{Accepted, Refused}
 use Rattle.reading.specs.declared.Reading.{Reading}
-use Rattle.writing.specs.Rules.{WritesByRules, refuses, longer, writes, short-tables as no_room}
+use Rattle.writing.specs.Rules.{WritesByRules, refuses, longer, writes, short_tables as no_room}
 use Rattle.writing.specs.declared.Written.{Written}
 use Rattle.reads_back.specs.ReadsBack.{ReadsBack}
 use Rattle.reads_back.proofs.ReadsBack.{reads_back}
@@ -56,8 +56,8 @@ record Read (b : Tables) (d e o v d' e' o' v' : List ℕ) (r : Reading) : Type 0
 
 read_back : {n d e o v d' e' o' v' : List ℕ} {r : Reading} (b : Tables) → TheAnswer n (accepted b) → FullRoom d e o v → ReadsByRules n d e o v d' e' o' v' r
     → Read b d e o v d' e' o' v' r
-read_back b a f (short-tables g q u) = absurd (g f)
-read_back {d} {e} {o} {v} {d'} {e'} {o'} {v'} b a f (by-rules g x y q u) =
+read_back b a f (short_tables g q u) = absurd (g f)
+read_back {d} {e} {o} {v} {d'} {e'} {o'} {v'} b a f (by_rules g x y q u) =
     let i : x ≡ accepted b = a.no_other x y.given in
     record { rooms = subst (λ z. InRooms (rooms_after z) d e o v d' e' o' v') i u; result = q ∙ ap reading_of i }
 
@@ -69,13 +69,13 @@ reads_back_called c e h b f =
     let j = read_back g.back g.accepts f b.contract in
     record {
       rows = k.rows;
-      left-by-write = k.rooms;
+      left_by_write = k.rooms;
       back = g.back;
-      left-by-read = j.rooms;
+      left_by_read = j.rooms;
       accepts = j.result;
       stated = g.stated;
       same = g.same;
-      one-part = g.one-part;
+      one_part = g.one-part;
       words = g.words;
       ranges = g.ranges;
     }

@@ -11,7 +11,7 @@ use Rattle.token.specs.Find.{pick}
 use Rattle.grammar.specs.Stage.{Divides}
 use Rattle.meaning.specs.Answers.{Tables, Answer, accepted, refused}
 use Rattle.meaning.specs.Cells.{rooms_after}
-use Rattle.meaning.specs.Reading.{Answers as TextAnswers, too_long as text-too-long, not-grammar, meant, reading}
+use Rattle.meaning.specs.Reading.{Answers as TextAnswers, too_long as text-too-long, not_grammar, meant, reading}
 use Rattle.meaning.specs.Rules.{TheNormalText, InRooms}
 use Rattle.meaning.proofs.Whole.{answers as text-answers, one_answer as text-one-answer}
 use Rattle.reading.specs.Results.{reading_of}
@@ -27,9 +27,9 @@ use Rattle.sources_reading.proofs.Renumbered.{is_renumbered}
 use Rattle.sources_reading.proofs.Alone.{alone_bytes, alone_origins, alone_answer}
 use Rattle.placing.specs.Placed.{place_in, placed_tables, placed_answer}
 use Rattle.lent_texts.specs.Answered.{place_of, TheAnswer}
-use Rattle.reading_texts.specs.Reads.{FullRooms, ReadsTexts, short-tables, by-rules}
+use Rattle.reading_texts.specs.Reads.{FullRooms, ReadsTexts, short_tables, by_rules}
 use Rattle.reading_texts.specs.Filling.{Hold}
-use Rattle.writing_texts.specs.Writes.{Written-by, refuses, longer, writes, WritesTexts, FillsOutput, short-tables as no_room, by-rules as by-texts}
+use Rattle.writing_texts.specs.Writes.{Written-by, refuses, longer, writes, WritesTexts, FillsOutput, short_tables as no_room, by_rules as by-texts}
 use Rattle.assurances.specs.TextsBack.{ReadsBackAlone, LentTextsReadBack, written, TextsReadBackCalled}
 
 not_accepted : {n p : ℕ} {t : Tables} → refused n p ≡ accepted t → ⊥
@@ -53,7 +53,7 @@ expanded_accepted b l t a =
 
 divides : {s : List ℕ} {a : Answer} (t : Tables) → TextAnswers s a → a ≡ accepted t → Divides s
 divides t (text-too-long h) e = absurd (not_accepted e)
-divides t (not-grammar a h n k) e = absurd (not_accepted e)
+divides t (not_grammar a h n k) e = absurd (not_accepted e)
 divides t (meant w d) e = w.divides
 
 up_get : (a n i : ℕ) → i < n → get_or (up_from a n) i 0 ≡ a + i
@@ -78,7 +78,7 @@ module _ (n : List ℕ) (h : length n ≤ 65535) (d : Divides n) where
   unfolding placed_answer
   answered t e =
       let g : Answers n (alone n) (accepted t) = subst (Answers n (alone n)) (alone_answer n h d ∙ e) (answers n (alone n)) in
-      record { in-expanded = accepted t; given = g; no_other = λ y k. sym (one_answer k) ∙ one_answer g; placed = refl }
+      record { in_expanded = accepted t; given = g; no_other = λ y k. sym (one_answer k) ∙ one_answer g; placed = refl }
 
 pub lent_texts_read_back : LentTextsReadBack
 lent_texts_read_back b l t a n w h =
@@ -86,7 +86,7 @@ lent_texts_read_back b l t a n w h =
     let r : ReadsBack s t n = texts_read_back s t (subst (TextAnswers s) (expanded_accepted b l t a) (text-answers s)) n w h in
     let e : reading n ≡ accepted r.back = text-one-answer r.accepts.given in
     let d : Divides n = divides r.back (text-answers n) e in
-    record { no-includes = alone_bytes n h d; as-one-text = r; accepts = answered n h d r.back e; own-places = own n h d }
+    record { no_includes = alone_bytes n h d; as_one_text = r; accepts = answered n h d r.back e; own_places = own n h d }
 
 -- The calls -----------------------------------------------------------------------------------------------------------------------------------
 
@@ -157,8 +157,8 @@ record Read (t : Tables) (d e o v d' e' o' v' : List ℕ) (r : Reading) : Type 0
 
 read_alone : {b l x g d e o v x' g' d' e' o' v' : List ℕ} {r : Reading} (t : Tables) → TheAnswer b l (accepted t) → FullRooms x g d e o v →
     ReadsTexts b l x g d e o v x' g' d' e' o' v' r → Read t d e o v d' e' o' v' r
-read_alone t a f (short-tables n _ _ _ _) = absurd (n f)
-read_alone {b} {l} {d = d} {e = e} {o = o} {v = v} {d' = d'} {e' = e'} {o' = o'} {v' = v'} t a f (by-rules _ y u q i _ _) =
+read_alone t a f (short_tables n _ _ _ _) = absurd (n f)
+read_alone {b} {l} {d = d} {e = e} {o = o} {v = v} {d' = d'} {e' = e'} {o' = o'} {v' = v'} t a f (by_rules _ y u q i _ _) =
     let z : y ≡ accepted t = u.placed ∙ ap (placed_answer (place_of b l)) (a.no_other u.in-expanded u.given) ∙ sym a.placed in
     record { rooms = subst (λ (c : Answer). InRooms (rooms_after c) d e o v d' e' o' v') z i; result = q ∙ ap reading_of z }
 
@@ -168,4 +168,4 @@ texts_read_back_called c e h r f =
     let j : length (written c) ≤ 65535 = subst (λ (m : ℕ). m ≤ 65535) (sym k.long) h in
     let g = lent_texts_read_back c.b c.l k.rows k.answer (written c) k.text j in
     let y = read_alone (placed_tables (place_of (written c) (alone (written c))) g.as-one-text.back) g.accepts f r.contract in
-    record { rows = k.rows; answer = k.answer; left-by-write = k.rooms; back = g; accepts = y.result; left-by-read = y.rooms }
+    record { rows = k.rows; answer = k.answer; left_by_write = k.rooms; back = g; accepts = y.result; left_by_read = y.rooms }

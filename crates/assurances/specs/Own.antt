@@ -96,8 +96,8 @@ pub record DefaultOwn (t : Tables) (r : ValueRow) : Type 0 where
 -- The word u is that of the value v in the list of v's own attribute: v's enumerator, whose row has v's attribute; or TRUE or FALSE, which have no
 -- rows.
 pub data OwnWord (t : Tables) (v : ValueRow) (u : Span) : Type 0 where
-  own-enumerator : (e : ℕ) → v.value ≡ enumerator e → Row t.enumerators e (record { attribute = v.definition; name = u }) → OwnWord t v u
-  own-truth : (b : Bool) → v.value ≡ truth b → OwnWord t v u
+  own_enumerator : (e : ℕ) → v.value ≡ enumerator e → Row t.enumerators e (record { attribute = v.definition; name = u }) → OwnWord t v u
+  own_truth : (b : Bool) → v.value ≡ truth b → OwnWord t v u
 
 -- The value r is under the value of row n: r's definition stands under that value's own word. "statements in braces after a value belong to the
 -- definitions under that value"; "A value taken by default opens its scope too".
@@ -105,15 +105,15 @@ pub record UnderOwnValue (s : List ℕ) (t : Tables) (r : ValueRow) (n : ℕ) : 
   pub definition : DefinitionRow
   pub its_definition : Row t.definitions r.definition definition
   pub above : ValueRow
-  pub its-above : Row t.values n above
+  pub its_above : Row t.values n above
   -- the word that r's definition stands under has the bytes of that value's word,
   pub same_word : part s definition.under ≡ part s above.word
   -- is that value in its attribute's list,
-  pub own-word : OwnWord t above definition.under
+  pub own_word : OwnWord t above definition.under
   -- and stands inside the attribute's own definition: after its type and before its name
-  pub above-definition : DefinitionRow
-  pub its-above-definition : Row t.definitions above.definition above-definition
-  pub inside : (above-definition.type.place < definition.under.place) × (definition.under.place < above-definition.name.place)
+  pub above_definition : DefinitionRow
+  pub its_above_definition : Row t.definitions above.definition above_definition
+  pub inside : (above_definition.type.place < definition.under.place) × (definition.under.place < above_definition.name.place)
 
 -- The value r is the number n: its definition is of an integer type that has n, and n lies in the range that stands in the text at the definition's
 -- range (`RangeAt`: no range, `[` low `..` high `]`, or the numbers of a list). "Integer bounds are the type's and the range's, both ends included."
@@ -122,10 +122,10 @@ pub record NumberOwn (s : List ℕ) (t : Tables) (r : ValueRow) (n : Num) : Type
   pub its_definition : Row t.definitions r.definition definition
   pub type : Integer
   pub typed : definition.typed ≡ integer type
-  pub in-its-type : in_type type n ≡ true
+  pub in_its_type : in_type type n ≡ true
   pub bounds : Bounds
-  pub its-range : RangeAt s definition.range.place bounds
-  pub in-its-range : in_bounds n bounds ≡ true
+  pub its_range : RangeAt s definition.range.place bounds
+  pub in_its_range : in_bounds n bounds ≡ true
 
 -- The value r is a float, which is its value word: its definition is a FLOAT, and the amount that the word's bytes tell lies in the range that stands in
 -- the text at the definition's range (`FloatsAt`: no range, or `[` low `..` high `]`). "Comparison is exact".
@@ -134,8 +134,8 @@ pub record FloatOwn (s : List ℕ) (t : Tables) (r : ValueRow) : Type 0 where
   pub its_definition : Row t.definitions r.definition definition
   pub typed : definition.typed ≡ float_type
   pub bounds : Bounds
-  pub its-range : FloatsAt s definition.range.place bounds
-  pub in-its-range : in_float_bounds (float_of_step (step_at (part s r.word) 0)) bounds ≡ true
+  pub its_range : FloatsAt s definition.range.place bounds
+  pub in_its_range : in_float_bounds (float_of_step (step_at (part s r.word) 0)) bounds ≡ true
 
 -- Of every row r of the resolved values of an accepted text: a value that was not stated has its word in its own definition's default (proofs/Own,
 -- `default_own`);

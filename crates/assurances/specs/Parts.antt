@@ -22,7 +22,7 @@ Distinct l = (i j : ℕ) (x y : Object) → i < j → Row l i x → Row l j y �
 
 -- Each bears its number in the list and is one part, as all parts of a text do.
 pub record OnePart (x : Object) (n : ℕ) : Type 0 where
-  pub its-row : x.row ≡ n
+  pub its_row : x.row ≡ n
   pub one : x.parts ≡ 1
 
 abbrev pub Numbered : List Object → Type 0
@@ -50,7 +50,7 @@ head x = record { kind = x.kind; word = x.word; name = x.name; block = x.block }
 
 -- The object x of row n is made of all parts of its kind and name, and of nothing else.
 pub record MadeOf (parts : List Object) (x : Object) (n : ℕ) : Type 0 where
-  pub its-row : x.row ≡ n
+  pub its_row : x.row ≡ n
   -- its number of parts is that of the parts of its kind and name,
   pub number : x.parts ≡ further x parts
   -- and its statements are theirs. "List entries keep text order across parts."
@@ -81,7 +81,7 @@ pub record TextParts (s : List ℕ) (t : Trees ◌⟶◌ (file ▸ ∎)) : Type 
   pub numbered : Numbered (syntax s t).parts
   pub in_parts : InParts (syntax s t).parts (syntax s t).objects
   -- A text without repeated kinds and names has its parts as objects.
-  pub no-repeats : Distinct (syntax s t).parts → (syntax s t).objects ≡ (syntax s t).parts
+  pub no_repeats : Distinct (syntax s t).parts → (syntax s t).objects ≡ (syntax s t).parts
 
 abbrev pub TextInParts : Type 0
 TextInParts = (s : List ℕ) (t : Trees ◌⟶◌ (file ▸ ∎)) → TextParts s t

@@ -51,9 +51,9 @@ pub record ReadCall (text : List ℕ) : Type 0 where
 pub record SameValues (c : WriteCall) (b : ReadCall (written c)) : Type 0 where
   -- The rows that `write` left in its tables, and those that `read` left in its own.
   pub rows : Tables
-  pub left-by-write : InRooms (rooms_after (accepted rows)) c.d c.e c.o c.v c.d' c.e' c.o' c.v'
+  pub left_by_write : InRooms (rooms_after (accepted rows)) c.d c.e c.o c.v c.d' c.e' c.o' c.v'
   pub back : Tables
-  pub left-by-read : InRooms (rooms_after (accepted back)) b.d b.e b.o b.v b.d' b.e' b.o' b.v'
+  pub left_by_read : InRooms (rooms_after (accepted back)) b.d b.e b.o b.v b.d' b.e' b.o' b.v'
   -- `read` accepts, with so many rows of each table and so many objects of each kind.
   pub accepts : b.result ≡ reading_of (accepted back)
   -- "with every value stated"
@@ -61,7 +61,7 @@ pub record SameValues (c : WriteCall) (b : ReadCall (written c)) : Type 0 where
   -- The same rows "but places, lengths and the stated mark", and numbers of parts, with the same bytes at their words and ranges.
   pub same : bare back ≡ bare rows
   -- "read back, each number of parts is one"
-  pub one-part : each (λ (r : ObjectRow). r.parts) back.objects ≡ each (λ (r : ObjectRow). 1) back.objects
+  pub one_part : each (λ (r : ObjectRow). r.parts) back.objects ≡ each (λ (r : ObjectRow). 1) back.objects
   pub words : words_of (written c) back ≡ words_of c.text rows
   pub ranges : ranges_of (written c) back ≡ ranges_of c.text rows
 

@@ -18,13 +18,13 @@ use Rattle.writing_texts.specs.Writes.{WritesTexts}
 -- The text n, written for the text s with the tables t, lent alone with an empty name.
 pub record ReadsBackAlone (s : List ℕ) (t : Tables) (n : List ℕ) : Type 0 where
   -- n has no include line: it expands to itself,
-  pub no-includes : (expanded n (alone n)).bytes ≡ n
+  pub no_includes : (expanded n (alone n)).bytes ≡ n
   -- as one text it is accepted with the same values, every one stated, and is its own normal text,
-  pub as-one-text : ReadsBack s t n
+  pub as_one_text : ReadsBack s t n
   -- lent alone it is answered by the same tables,
-  pub accepts : TheAnswer n (alone n) (accepted (placed_tables (place_of n (alone n)) as-one-text.back))
+  pub accepts : TheAnswer n (alone n) (accepted (placed_tables (place_of n (alone n)) as_one_text.back))
   -- and their places are its own: those of text 0.
-  pub own-places : (p : ℕ) → p < length n → place_of n (alone n) p ≡ p
+  pub own_places : (p : ℕ) → p < length n → place_of n (alone n) p ≡ p
 
 -- Of all lent texts that the rules accept, and their normal text: proofs/TextsBack has it (`lent_texts_read_back`).
 abbrev pub LentTextsReadBack : Type 0
@@ -81,13 +81,13 @@ pub record SameValuesAlone (c : WriteTextsCall) (r : ReadAloneCall (written c)) 
   pub rows : Tables
   pub answer : Answers c.b c.l (accepted rows)
   -- `write` left its rows, with places in the lent texts
-  pub left-by-write : InRooms (rooms_after (accepted (placed_tables (place_of c.b c.l) rows)))
+  pub left_by_write : InRooms (rooms_after (accepted (placed_tables (place_of c.b c.l) rows)))
       c.d c.e c.o c.v c.d' c.e' c.o' c.v'
   -- what was written reads back alone
   pub back : ReadsBackAlone (expanded c.b c.l).bytes rows (written c)
   -- and `read` told so, and left the rows
   pub accepts : r.result ≡ reading_of (accepted (placed_tables (place_of (written c) (alone (written c))) back.as-one-text.back))
-  pub left-by-read : InRooms (rooms_after (accepted (placed_tables (place_of (written c) (alone (written c))) back.as-one-text.back)))
+  pub left_by_read : InRooms (rooms_after (accepted (placed_tables (place_of (written c) (alone (written c))) back.as-one-text.back)))
       r.d r.e r.o r.v r.d' r.e' r.o' r.v'
 
 -- The statement: `texts_read_back_called` in proofs/TextsBack.

@@ -12,7 +12,7 @@ use Rattle.meaning.specs.Words.{choose}
 use Rattle.meaning.specs.Resolving.{Taken}
 use Rattle.meaning.specs.Answers.{Answer, accepted, refused, answer}
 use Rattle.meaning.specs.Reading.{Parsed, parsed, not_parsed, parse, answer_of_parsed, reading}
-use Rattle.reading.proofs.Derived.{the-refusal, the-accepted, derivation-of, own-file}
+use Rattle.reading.proofs.Derived.{the_refusal, the_accepted, derivation_of, own_file}
 use Rattle.attribute_values.specs.Values.{value_of}
 use Rattle.attribute_values.specs.Results.{Outcome, untouched, text_of, copied, told, value_answered, value_parsed, value_text, ValuesText}
 use Rattle.attribute_values.specs.Rules.{Answered, not_found, too_short, copies, ValuesByRules, refuses, answers}
@@ -40,23 +40,23 @@ module _ (kind name path l : List ℕ) where
 
     by_answer : (f : File) → parse s ≡ parsed f → (a : Answer) → answer f ≡ a → ByRules (value_answered a f kind name path l)
     unfolding value_answered untouched reading answer_of_parsed
-    by_answer f e (refused n p) h = refuses n p (the-refusal s n p (ap answer_of_parsed e ∙ h)) refl refl
+    by_answer f e (refused n p) h = refuses n p (the_refusal s n p (ap answer_of_parsed e ∙ h)) refl refl
     by_answer f e (accepted t) h =
         let o = told (value_of f kind name path) l in
-        answers t (the-accepted s f e t h) (derivation-of s f e t h).derivation
-        (λ d. subst (λ (g : File). Answered g kind name path l o.output o.result) (own-file s f e t h d) (by_value f (value_of f kind name path) refl))
+        answers t (the_accepted s f e t h) (derivation_of s f e t h).derivation
+        (λ d. subst (λ (g : File). Answered g kind name path l o.output o.result) (own_file s f e t h d) (by_value f (value_of f kind name path) refl))
 
     by_parse : (x : Parsed) → parse s ≡ x → ByRules (value_parsed x kind name path l)
     unfolding value_parsed untouched reading answer_of_parsed
     by_parse (parsed f) e = by_answer f e (answer f) refl
-    by_parse (not_parsed n p) e = refuses n p (the-refusal s n p (ap answer_of_parsed e)) refl refl
+    by_parse (not_parsed n p) e = refuses n p (the_refusal s n p (ap answer_of_parsed e)) refl refl
 
-    by-rules : ByRules (value_text s kind name path l)
+    by_rules : ByRules (value_text s kind name path l)
     unfolding value_text
-    by-rules = by_parse (parse s) refl
+    by_rules = by_parse (parse s) refl
 
 -- The clauses of `value`: from the first, the second.
 pub values_rules : {s kind name path l l' : List ℕ} {r : Valued} → ValuesText s kind name path l l' r → ValuesText s kind name path l l' r × ValuesByRules s kind name path l l' r
 values_rules {s} {kind} {name} {path} {l} {l'} {r} k =
     let o = value_text s kind name path l in
-    (k, subst (ValuesByRules s kind name path l l') (sym k.result) (subst (λ (x : List ℕ). ValuesByRules s kind name path l x o.result) (sym k.output) (by-rules kind name path l s)))
+    (k, subst (ValuesByRules s kind name path l l') (sym k.result) (subst (λ (x : List ℕ). ValuesByRules s kind name path l x o.result) (sym k.output) (by_rules kind name path l s)))

@@ -57,13 +57,13 @@ copy_all {m} {m'} {w} {l} {l'} {n} {r} u b h x =
 
 -- By what was found.
 module _ (s v l : List ℕ) where
-  pub copy-nothing : (f : Found) → f ≡ Nothing → Leaves (told_at s v f l) l NotFound
+  pub copy_nothing : (f : Found) → f ≡ Nothing → Leaves (told_at s v f l) l NotFound
   unfolding told_at untouched
-  copy-nothing f e = record { result = sym (ap (λ (g : Found). (told_at s v g l).result) e); output = sym (ap (λ (g : Found). (told_at s v g l).output) e) }
+  copy_nothing f e = record { result = sym (ap (λ (g : Found). (told_at s v g l).result) e); output = sym (ap (λ (g : Found). (told_at s v g l).output) e) }
 
-  pub copy-found : (f : Found) (k : ℕ) → f ≡ At k → {l' : List ℕ} {r : Valued} → Leaves (copied (value_at s v k) l) l' r → Leaves (told_at s v f l) l' r
+  pub copy_found : (f : Found) (k : ℕ) → f ≡ At k → {l' : List ℕ} {r : Valued} → Leaves (copied (value_at s v k) l) l' r → Leaves (told_at s v f l) l' r
   unfolding told_at
-  copy-found f k e x = record { result = x.result ∙ sym (ap (λ (g : Found). (told_at s v g l).result) e); output = x.output ∙ sym (ap (λ (g : Found). (told_at s v g l).output) e) }
+  copy_found f k e x = record { result = x.result ∙ sym (ap (λ (g : Found). (told_at s v g l).result) e); output = x.output ∙ sym (ap (λ (g : Found). (told_at s v g l).output) e) }
 
 -- The row, by the object.
 module _ (s d o v : List ℕ) (m e : ℕ) (kind name path : List ℕ) (f : Found) (h : f ≡ find_from (called_at s o kind name) m 0) where

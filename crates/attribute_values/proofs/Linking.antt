@@ -15,7 +15,7 @@ use Rattle.rows.specs.Table.{cell_of}
 use Rattle.rows.specs.Search.{row_name, find_from}
 use Rattle.rows.specs.declared.Found.{Found}
 use Rattle.rows.specs.declared.Found.TheVariants.{At, Nothing}
-use Rattle.rows.proofs.Searches.{find-stop, find_more, find-end}
+use Rattle.rows.proofs.Searches.{find_stop, find_more, find_end}
 use Rattle.meaning.specs.Syntax.{Object, File, span_of}
 use Rattle.meaning.specs.Words.{choose}
 use Rattle.meaning.specs.Applying.{ObjectRow, object_rows}
@@ -25,26 +25,26 @@ use Rattle.meaning.proofs.Rooms.{object_width, value_width}
 use Rattle.meaning.proofs.Entries.{length_values}
 use Rattle.blocks.specs.Blocks.{WordIn}
 use Rattle.writing.specs.Lines.{value_at}
-use Rattle.writing.specs.Promises.{From, Told, AllTold, more-told, Pairs, a_pair, Tables}
-use Rattle.writing.proofs.Froms.{from_cell, from-append, from_room}
-use Rattle.writing.proofs.Telling.{file-pairs}
+use Rattle.writing.specs.Promises.{From, Told, AllTold, more_told, Pairs, a_pair, Tables}
+use Rattle.writing.proofs.Froms.{from_cell, from_append, from_room}
+use Rattle.writing.proofs.Telling.{file_pairs}
 use Rattle.writing.proofs.Layings.{flag_one, shown}
 use Rattle.attribute_values.specs.Paths.{steps, name_of, mark_of, picks}
 use Rattle.attribute_values.specs.Values.{onward, leads_to, by_steps, is_called, value_among, value_of}
 use Rattle.attribute_values.specs.Results.{text_of, copied, told}
 use Rattle.attribute_values.specs.Rows.{called_at, owned_at, named_at, picked_at, seek, entry_at, onward_at, by_steps_at, within, row_of, told_at}
 use Rattle.attribute_values.proofs.Stepping.{lost}
-use Rattle.attribute_values.proofs.Seeking.{seek-here, seek-other, seek-pass}
-use Rattle.attribute_values.proofs.Others.{has, has_own, object_not, not_object, other_value, other_object, Outside, outside_append, outside_narrow, outside_value, values_outside, objects_outside, pass-over, nothing_left}
+use Rattle.attribute_values.proofs.Seeking.{seek_here, seek_other, seek_pass}
+use Rattle.attribute_values.proofs.Others.{has, has_own, object_not, not_object, other_value, other_object, Outside, outside_append, outside_narrow, outside_value, values_outside, objects_outside, pass_over, nothing_left}
 
 -- What was found in the rows is what the syntax has: nothing, or a row whose value is written as that value is.
 pub data Agrees (s v : List ℕ) : Option Taken → Found → Type 0 where
-  both-nothing : Agrees s v none Nothing
+  both_nothing : Agrees s v none Nothing
   both_found : {t : Taken} {k : ℕ} → value_at s v k ≡ text_of t → Agrees s v (some t) (At k)
 
 pub agrees_told : {s v : List ℕ} {x : Option Taken} {f : Found} (l : List ℕ) → Agrees s v x f → told_at s v f l ≡ told x l
 unfolding told_at told
-agrees_told l both-nothing = refl
+agrees_told l both_nothing = refl
 agrees_told l (both_found e) = ap (λ (w : List ℕ). copied w l) e
 
 -- What a value's row holds -----------------------------------------------------------------------------------------------------------------
@@ -53,9 +53,9 @@ module _ {s d v : List ℕ} {e k : ℕ} (o : Owner) {t : Taken} {xs : List Value
   cell : (c : ℕ) → c < 9 → cell_of v 9 k c ≡ get_or (value_cells (value_row t o)) c 0
   cell c p = from_cell 9 value_cells value_width (value_row t o) xs c p h
 
-  pub row-text : value_at s v k ≡ text_of t
+  pub row_text : value_at s v k ≡ text_of t
   unfolding value_at row_name value_cells value_row span_of text_of
-  row-text = rw (cell 3 (omega arith), cell 4 (omega arith), cell 5 (omega arith), cell 7 (omega arith), cell 8 (omega arith)) (shown s t.value t.word a.word)
+  row_text = rw (cell 3 (omega arith), cell 4 (omega arith), cell 5 (omega arith), cell 7 (omega arith), cell 8 (omega arith)) (shown s t.value t.word a.word)
 
   pub row_named : (name : List ℕ) → named_at s d v (owner_sort o) (owner_row o) name k ≡ same t.definition.name.bytes name
   unfolding named_at owned_at value_cells value_row has
@@ -64,9 +64,9 @@ module _ {s d v : List ℕ} {e k : ℕ} (o : Owner) {t : Taken} {xs : List Value
       (ap₂ (λ (i j : ℕ). both (eqb i (owner_sort o)) (eqb j (owner_row o))) (cell 1 (omega arith)) (cell 2 (omega arith)) ∙ has_own o)
       (ap (λ (j : ℕ). row_name s d 13 2 j) (cell 0 (omega arith)) ∙ a.name)
 
-  pub row-picked : (mark : List ℕ) (n : ℕ) → picked_at d v mark k n ≡ picks t.definition.list mark n
+  pub row_picked : (mark : List ℕ) (n : ℕ) → picked_at d v mark k n ≡ picks t.definition.list mark n
   unfolding picked_at value_cells value_row
-  row-picked mark n =
+  row_picked mark n =
       ap (λ (b : Bool). picks b mark n)
       (ap (λ (j : ℕ). eqb (cell_of d 13 j 6) 1) (cell 0 (omega arith)) ∙ ap (λ (j : ℕ). eqb j 1) a.list ∙ flag_one t.definition.list)
 
@@ -109,38 +109,38 @@ module _ (s d v : List ℕ) (e : ℕ) where
   Down b bs n k o x = Agrees s v (leads_to b bs n x) (down b bs n k o)
 
   -- Where the search finds nothing.
-  down-nothing : (b : List ℕ) (bs : List (List ℕ)) (n k : ℕ) (o : Owner) (rest : List ValueRow) {low high : ℕ} → From 9 value_cells v e k rest
+  down_nothing : (b : List ℕ) (bs : List (List ℕ)) (n k : ℕ) (o : Owner) (rest : List ValueRow) {low high : ℕ} → From 9 value_cells v e k rest
       → Outside low high (owner_sort o) (owner_row o) rest → Nothing ≡ down b bs n k o
   unfolding down
-  down-nothing b bs n k o rest h a =
+  down_nothing b bs n k o rest h a =
       lost bs (λ j. by_steps_at s d v e bs (suc j) 1 j)
       ∙ ap (λ (f : Found). onward_at bs f (λ j. by_steps_at s d v e bs (suc j) 1 j))
       (sym (nothing_left s d v e (owner_sort o) (owner_row o) (name_of b) (picked_at d v (mark_of b)) rest n h a))
 
   -- From one search to another.
-  down-as : (b : List ℕ) (bs : List (List ℕ)) (n k m j : ℕ) (o : Owner)
+  down_as : (b : List ℕ) (bs : List (List ℕ)) (n k m j : ℕ) (o : Owner)
       → seek (named_at s d v (owner_sort o) (owner_row o) (name_of b)) (picked_at d v (mark_of b)) (e - k) k n
       ≡ seek (named_at s d v (owner_sort o) (owner_row o) (name_of b)) (picked_at d v (mark_of b)) (e - j) j m → down b bs n k o ≡ down b bs m j o
   unfolding down
-  down-as b bs n k m j o q = ap (λ (f : Found). onward_at bs f (λ i. by_steps_at s d v e bs (suc i) 1 i)) q
+  down_as b bs n k m j o q = ap (λ (f : Found). onward_at bs f (λ i. by_steps_at s d v e bs (suc i) 1 i)) q
 
-  down-at : (b : List ℕ) (bs : List (List ℕ)) (n k i : ℕ) (o : Owner)
+  down_at : (b : List ℕ) (bs : List (List ℕ)) (n k i : ℕ) (o : Owner)
       → seek (named_at s d v (owner_sort o) (owner_row o) (name_of b)) (picked_at d v (mark_of b)) (e - k) k n ≡ At i
       → down b bs n k o ≡ onward_at bs (At i) (λ j. by_steps_at s d v e bs (suc j) 1 j)
   unfolding down
-  down-at b bs n k i o q = ap (λ (f : Found). onward_at bs f (λ j. by_steps_at s d v e bs (suc j) 1 j)) q
+  down_at b bs n k i o q = ap (λ (f : Found). onward_at bs f (λ j. by_steps_at s d v e bs (suc j) 1 j)) q
 
   -- The steps under row k.
-  under-row : (c : List ℕ) (cs : List (List ℕ)) (k : ℕ) → by_steps_at s d v e (c ∷ cs) (suc k) 1 k ≡ down c cs 0 (suc k) (of_value k)
+  under_row : (c : List ℕ) (cs : List (List ℕ)) (k : ℕ) → by_steps_at s d v e (c ∷ cs) (suc k) 1 k ≡ down c cs 0 (suc k) (of_value k)
   unfolding by_steps_at entry_at down owner_sort owner_row
-  under-row c cs k = refl
+  under_row c cs k = refl
 
   -- A value that its step picks: the path ends there, or goes on under it.
   picked : (bs : List (List ℕ)) (k : ℕ) (t : Taken) (us : Resolved) → value_at s v k ≡ text_of t → ((c : List ℕ) (cs : List (List ℕ)) → Down c cs 0 (suc k) (of_value k) us)
       → Agrees s v (onward bs t (λ c cs. leads_to c cs 0 us)) (onward_at bs (At k) (λ j. by_steps_at s d v e bs (suc j) 1 j))
   unfolding onward onward_at
   picked [] k t us a inner = both_found a
-  picked (c ∷ cs) k t us a inner = subst (Agrees s v (leads_to c cs 0 us)) (sym (under-row c cs k)) (inner c cs)
+  picked (c ∷ cs) k t us a inner = subst (Agrees s v (leads_to c cs 0 us)) (sym (under_row c cs k)) (inner c cs)
 
   module _ (b : List ℕ) (bs : List (List ℕ)) (n k : ℕ) (o : Owner) (t : Taken) (us more : Resolved) (rest : List ValueRow) where
     abbrev after : ℕ
@@ -162,8 +162,8 @@ module _ (s d v : List ℕ) (e : ℕ) where
           let z : suc k ≡ k + 1 = sym (add-one k) in
           let l : length (value_rows us (suc k) (of_value k)) ≡ how_many_values us = length_values us (suc k) (of_value k) in
           let p : From 9 value_cells v e (suc k) (value_rows us (suc k) (of_value k) ++ (value_rows more after o ++ rest)) =
-          from-append 9 value_cells value_width (value_row t o ∷ []) (value_rows us (suc k) (of_value k) ++ (value_rows more after o ++ rest)) z h in
-          pass-over s d v e (owner_sort o) (owner_row o) (name_of b) marked (value_rows us (suc k) (of_value k)) (value_rows more after o ++ rest) m p others
+          from_append 9 value_cells value_width (value_row t o ∷ []) (value_rows us (suc k) (of_value k) ++ (value_rows more after o ++ rest)) z h in
+          pass_over s d v e (owner_sort o) (owner_row o) (name_of b) marked (value_rows us (suc k) (of_value k)) (value_rows more after o ++ rest) m p others
           ∙ ap (λ (i : ℕ). seek named marked (e - (suc k + i)) (suc k + i) m) l
         where
           others : Outside 0 0 (owner_sort o) (owner_row o) (value_rows us (suc k) (of_value k))
@@ -174,20 +174,20 @@ module _ (s d v : List ℕ) (e : ℕ) where
 
       one_value : ((i : ℕ) → Down b bs i after o more) → ((c : List ℕ) (cs : List (List ℕ)) → Down c cs 0 (suc k) (of_value k) us) → Down b bs n k o (resolved t us more)
       unfolding leads_to choose
-      one_value next inner = by (same t.definition.name.bytes (name_of b)) (picks t.definition.list (mark_of b) n) (row_named o h a (name_of b)) (row-picked o h a (mark_of b) n)
+      one_value next inner = by (same t.definition.name.bytes (name_of b)) (picks t.definition.list (mark_of b) n) (row_named o h a (name_of b)) (row_picked o h a (mark_of b) n)
         where
           by : (x y : Bool) → named k ≡ x → marked k n ≡ y
               → Agrees s v (choose x (λ _. choose y (λ _. onward bs t (λ c cs. leads_to c cs 0 us)) (λ _. leads_to b bs (suc n) more)) (λ _. leads_to b bs n more)) (down b bs n k o)
-          by true true p q = subst (Agrees s v (onward bs t (λ c cs. leads_to c cs 0 us))) (sym (down-at b bs n k k o (seek-here named marked e k n inside p q))) (picked bs k t us (row-text o h a) inner)
-          by true false p q = subst (Agrees s v (leads_to b bs (suc n) more)) (sym (down-as b bs n k (suc n) after o (seek-other named marked e k n inside p q ∙ over (suc n)))) (next (suc n))
-          by false y p q = subst (Agrees s v (leads_to b bs n more)) (sym (down-as b bs n k n after o (seek-pass named marked e k n inside p ∙ over n))) (next n)
+          by true true p q = subst (Agrees s v (onward bs t (λ c cs. leads_to c cs 0 us))) (sym (down_at b bs n k k o (seek_here named marked e k n inside p q))) (picked bs k t us (row_text o h a) inner)
+          by true false p q = subst (Agrees s v (leads_to b bs (suc n) more)) (sym (down_as b bs n k (suc n) after o (seek_other named marked e k n inside p q ∙ over (suc n)))) (next (suc n))
+          by false y p q = subst (Agrees s v (leads_to b bs n more)) (sym (down_as b bs n k n after o (seek_pass named marked e k n inside p ∙ over n))) (next n)
 
   -- The values of an owner, from row k on, and behind them rows that neither it nor any of them owns.
   pub tree : (x : Resolved) (b : List ℕ) (bs : List (List ℕ)) (n k : ℕ) (o : Owner) (rest : List ValueRow) → From 9 value_cells v e k (value_rows x k o ++ rest) → AllTold s d x → Earlier k o
       → Outside k (k + how_many_values x) (owner_sort o) (owner_row o) rest → Down b bs n k o x
   unfolding leads_to value_rows how_many_values
-  tree end b bs n k o rest h a w c = subst (Agrees s v none) (down-nothing b bs n k o rest h c) both-nothing
-  tree (resolved t us more) b bs n k o rest h (more-told a u m) w c =
+  tree end b bs n k o rest h a w c = subst (Agrees s v none) (down_nothing b bs n k o rest h c) both_nothing
+  tree (resolved t us more) b bs n k o rest h (more_told a u m) w c =
       one_value b bs n k o t us more rest rows a w
       (λ i. tree more b bs i (suc k + how_many_values us) o rest behind m (earlier_later (omega arith) w) (outside_narrow (omega arith) (omega arith) c))
       (λ x xs. tree us x xs 0 (suc k) (of_value k) (value_rows more (suc k + how_many_values us) o ++ rest) under u (value_earlier k) apart)
@@ -198,13 +198,13 @@ module _ (s d v : List ℕ) (e : ℕ) where
           (ap (λ (l : List ValueRow). value_row t o ∷ l) (append_assoc (value_rows us (suc k) (of_value k)) (value_rows more (suc k + how_many_values us) o) rest)) h
 
       under : From 9 value_cells v e (suc k) (value_rows us (suc k) (of_value k) ++ (value_rows more (suc k + how_many_values us) o ++ rest))
-      under = let z : suc k ≡ k + 1 = sym (add-one k) in from-append 9 value_cells value_width (value_row t o ∷ []) (value_rows us (suc k) (of_value k) ++ (value_rows more (suc k + how_many_values us) o ++ rest)) z rows
+      under = let z : suc k ≡ k + 1 = sym (add-one k) in from_append 9 value_cells value_width (value_row t o ∷ []) (value_rows us (suc k) (of_value k) ++ (value_rows more (suc k + how_many_values us) o ++ rest)) z rows
 
       behind : From 9 value_cells v e (suc k + how_many_values us) (value_rows more (suc k + how_many_values us) o ++ rest)
       behind =
           let l = length_values us (suc k) (of_value k) in
           let z : suc k + how_many_values us ≡ suc k + length (value_rows us (suc k) (of_value k)) = ap (λ (i : ℕ). suc k + i) (sym l) in
-          from-append 9 value_cells value_width (value_rows us (suc k) (of_value k)) (value_rows more (suc k + how_many_values us) o ++ rest) z under
+          from_append 9 value_cells value_width (value_rows us (suc k) (of_value k)) (value_rows more (suc k + how_many_values us) o ++ rest) z under
 
       apart : Outside (suc k) (suc k + how_many_values us) (owner_sort (of_value k)) (owner_row (of_value k)) (value_rows more (suc k + how_many_values us) o ++ rest)
       apart = apart_from k us more o rest w c
@@ -226,8 +226,8 @@ module _ (s d o v : List ℕ) (m e : ℕ) (f : File) (kind name path : List ℕ)
   called = called_at s o kind name
 
   -- The row that the path leads to from the object of row i.
-  abbrev from-object : ℕ → Found
-  from-object i = by_steps_at s d v e (steps path) 0 0 i
+  abbrev from_object : ℕ → Found
+  from_object i = by_steps_at s d v e (steps path) 0 0 i
 
   -- The path's first step finds from row k on what it finds from the first row on.
   abbrev Passed : (i k : ℕ) → Type 0
@@ -240,7 +240,7 @@ module _ (s d o v : List ℕ) (m e : ℕ) (f : File) (kind name path : List ℕ)
   one_object : (ps : List (List ℕ)) (i k : ℕ) (y : Resolved) (ys : List Resolved) → From 9 value_cells v e k (all_value_rows (y ∷ ys) i k) → AllTold s d y
       → ((b : List ℕ) → entry_at s d v e 0 0 i b ≡ entry_at s d v e k 0 i b) → Agrees s v (by_steps ps y) (by_steps_at s d v e ps 0 0 i)
   unfolding by_steps by_steps_at all_value_rows owner_sort owner_row
-  one_object [] i k y ys h a q = both-nothing
+  one_object [] i k y ys h a q = both_nothing
   one_object (b ∷ bs) i k y ys h a q =
       subst (Agrees s v (leads_to b bs 0 y)) (sym (started i k b bs (q b)))
       (tree s d v e y b bs 0 k (of_object i) (all_value_rows ys (suc i) (k + how_many_values y)) h a (object_earlier i k) (objects_outside k (k + how_many_values y) i ys (suc i) (k + how_many_values y) (omega arith) (omega arith)))
@@ -248,12 +248,12 @@ module _ (s d o v : List ℕ) (m e : ℕ) (f : File) (kind name path : List ℕ)
   abbrev Rows : (i k : ℕ) → List Object → Type 0
   Rows i k xs = From 9 value_cells v e k (all_value_rows (all_values f xs) i k)
 
-  pass-object : (i k : ℕ) (y : Resolved) (ys : List Resolved) → From 9 value_cells v e k (all_value_rows (y ∷ ys) i k) → Passed i k → Passed (suc i) (k + how_many_values y)
+  pass_object : (i k : ℕ) (y : Resolved) (ys : List Resolved) → From 9 value_cells v e k (all_value_rows (y ∷ ys) i k) → Passed i k → Passed (suc i) (k + how_many_values y)
   unfolding all_value_rows entry_at
-  pass-object i k y ys h q row g b =
+  pass_object i k y ys h q row g b =
       let l = length_values y k (of_object i) in
       q row (omega (arith, g)) b
-      ∙ pass-over s d v e 0 row (name_of b) (picked_at d v (mark_of b)) (value_rows y k (of_object i)) (all_value_rows ys (suc i) (k + how_many_values y)) 0 h
+      ∙ pass_over s d v e 0 row (name_of b) (picked_at d v (mark_of b)) (value_rows y k (of_object i)) (all_value_rows ys (suc i) (k + how_many_values y)) 0 h
       (values_outside 0 0 0 row y k (of_object i) (omega arith) (other_object row i (λ (z : i ≡ row). omega (arith, z, g))) (λ m p r. absurd (omega (arith, r))) (λ m p. object_not row m))
       ∙ ap (λ (j : ℕ). seek (named_at s d v 0 row (name_of b)) (picked_at d v (mark_of b)) (e - (k + j)) (k + j) 0) l
 
@@ -262,40 +262,40 @@ module _ (s d o v : List ℕ) (m e : ℕ) (f : File) (kind name path : List ℕ)
   next_rows i k y ys h =
       let l = length_values y k (of_object i) in
       let z : k + how_many_values y ≡ k + length (value_rows y k (of_object i)) = ap (λ (j : ℕ). k + j) (sym l) in
-      from-append 9 value_cells value_width (value_rows y k (of_object i)) (all_value_rows ys (suc i) (k + how_many_values y)) z h
+      from_append 9 value_cells value_width (value_rows y k (of_object i)) (all_value_rows ys (suc i) (k + how_many_values y)) z h
 
   next_objects : (i : ℕ) (x : Object) (xs : List Object) → From 8 object_cells o m i (object_rows (x ∷ xs)) → From 8 object_cells o m (suc i) (object_rows xs)
   unfolding object_rows
   next_objects i x xs h =
       let z : suc i ≡ i + 1 = sym (add-one i) in
-      from-append 8 object_cells object_width (record { kind = x.kind; word = span_of x.word; name = span_of x.name; block = x.block; parts = x.parts } ∷ []) (object_rows xs) z h
+      from_append 8 object_cells object_width (record { kind = x.kind; word = span_of x.word; name = span_of x.name; block = x.block; parts = x.parts } ∷ []) (object_rows xs) z h
 
-  no-objects : (i : ℕ) → From 8 object_cells o m i (object_rows []) → m ≤ i
+  no_objects : (i : ℕ) → From 8 object_cells o m i (object_rows []) → m ≤ i
   unfolding object_rows
-  no-objects i h = let c = h.count in omega (arith, c)
+  no_objects i h = let c = h.count in omega (arith, c)
 
   an_object : (i : ℕ) (x : Object) (xs : List Object) → From 8 object_cells o m i (object_rows (x ∷ xs)) → i < m
   unfolding object_rows
   an_object i x xs h = let c = h.count in omega (arith, c)
 
   objects : (xs : List Object) (i k : ℕ) → From 8 object_cells o m i (object_rows xs) → Rows i k xs → Pairs s d xs (all_values f xs) → Passed i k
-      → Agrees s v (value_among f kind name path xs) (within (find_from called m i) from-object)
+      → Agrees s v (value_among f kind name path xs) (within (find_from called m i) from_object)
   unfolding value_among all_values within choose
-  objects [] i k h r p q = subst (λ (x : Found). Agrees s v none (within x from-object)) (sym (find-end called m i (no-objects i h))) both-nothing
+  objects [] i k h r p q = subst (λ (x : Found). Agrees s v none (within x from_object)) (sym (find_end called m i (no_objects i h))) both_nothing
   objects (x ∷ xs) i k h r (a_pair w u t p) q =
       by (is_called kind name x) (row_called kind name x xs h w u)
-      (objects xs (suc i) (k + how_many_values (object_values f x)) (next_objects i x xs h) (next_rows i k (object_values f x) (all_values f xs) r) p (pass-object i k (object_values f x) (all_values f xs) r q))
+      (objects xs (suc i) (k + how_many_values (object_values f x)) (next_objects i x xs h) (next_rows i k (object_values f x) (all_values f xs) r) p (pass_object i k (object_values f x) (all_values f xs) r q))
     where
       inside : i < m
       inside = an_object i x xs h
 
-      by : (b : Bool) → called i ≡ b → Agrees s v (value_among f kind name path xs) (within (find_from called m (suc i)) from-object)
-          → Agrees s v (choose b (λ _. by_steps (steps path) (object_values f x)) (λ _. value_among f kind name path xs)) (within (find_from called m i) from-object)
+      by : (b : Bool) → called i ≡ b → Agrees s v (value_among f kind name path xs) (within (find_from called m (suc i)) from_object)
+          → Agrees s v (choose b (λ _. by_steps (steps path) (object_values f x)) (λ _. value_among f kind name path xs)) (within (find_from called m i) from_object)
       by true c j =
-          subst (λ (z : Found). Agrees s v (by_steps (steps path) (object_values f x)) (within z from-object)) (sym (find-stop called m i inside c))
+          subst (λ (z : Found). Agrees s v (by_steps (steps path) (object_values f x)) (within z from_object)) (sym (find_stop called m i inside c))
           (one_object (steps path) i k (object_values f x) (all_values f xs) r t (λ b. q i (omega arith) b))
       by false c j =
-          subst (λ (z : Found). Agrees s v (value_among f kind name path xs) (within z from-object))
+          subst (λ (z : Found). Agrees s v (value_among f kind name path xs) (within z from_object))
           (sym (find_more called m i inside c ∙ ap (find_from called m) (add-one i))) j
 
 -- The row that is found in the tables of a text is that of its value.
@@ -305,5 +305,5 @@ row_is {s} {d} {o} {v} {m} {e} {f} t kind name path =
     objects s d o v m e f kind name path f.objects 0 0
     (from_room 8 object_cells (256 * 8) (object_rows f.objects) o m t.objects t.many-objects)
     (from_room 9 value_cells (2048 * 9) (all_value_rows (all_values f f.objects) 0 0) v e t.values t.many-values)
-    (file-pairs t.situation t.definitions)
+    (file_pairs t.situation t.definitions)
     (λ row h b. refl)

@@ -17,9 +17,9 @@ use Rattle.meaning.specs.Resolving.{Resolved, end, resolved, Owner, of_object, o
 use Rattle.meaning.specs.Cells.{owner_sort, owner_row, value_cells}
 use Rattle.meaning.proofs.Rooms.{value_width}
 use Rattle.writing.specs.Promises.{From}
-use Rattle.writing.proofs.Froms.{from_cell, from-append}
+use Rattle.writing.proofs.Froms.{from_cell, from_append}
 use Rattle.attribute_values.specs.Rows.{owned_at, named_at, seek}
-use Rattle.attribute_values.proofs.Seeking.{seek-pass, seek-end}
+use Rattle.attribute_values.proofs.Seeking.{seek_pass, seek_end}
 
 -- Whether w is the owner of this sort and row.
 unfoldable pub has : (sort row : ℕ) → Owner → Bool
@@ -95,27 +95,27 @@ module _ (s d v : List ℕ) (e sort row : ℕ) (name : List ℕ) (picked : ℕ �
   unfolding owned_at has value_cells
   owner_is {k} r rs h = ap₂ (λ (i j : ℕ). both (eqb i sort) (eqb j row)) (from_cell 9 value_cells value_width r rs 1 (omega arith) h) (from_cell 9 value_cells value_width r rs 2 (omega arith) h)
 
-  named-not : {k : ℕ} (r : ValueRow) (rs : List ValueRow) → From 9 value_cells v e k (r ∷ rs) → has sort row r.owner ≡ false → named k ≡ false
+  named_not : {k : ℕ} (r : ValueRow) (rs : List ValueRow) → From 9 value_cells v e k (r ∷ rs) → has sort row r.owner ≡ false → named k ≡ false
   unfolding named_at
-  named-not {k} r rs h q = ap (λ (b : Bool). both b (same (row_name s d 13 2 (cell_of v 9 k 0)) name)) (owner_is r rs h ∙ q)
+  named_not {k} r rs h q = ap (λ (b : Bool). both b (same (row_name s d 13 2 (cell_of v 9 k 0)) name)) (owner_is r rs h ∙ q)
 
-  pub pass-over : {low high k : ℕ} (xs ys : List ValueRow) (n : ℕ) → From 9 value_cells v e k (xs ++ ys) → Outside low high sort row xs
+  pub pass_over : {low high k : ℕ} (xs ys : List ValueRow) (n : ℕ) → From 9 value_cells v e k (xs ++ ys) → Outside low high sort row xs
       → seek named picked (e - k) k n ≡ seek named picked (e - (k + length xs)) (k + length xs) n
-  pass-over {k = k} [] ys n h none_left = let z : k ≡ k + 0 = omega arith in ap (λ (i : ℕ). seek named picked (e - i) i n) z
-  pass-over {k = k} (r ∷ xs) ys n h (one_more p q a) =
+  pass_over {k = k} [] ys n h none_left = let z : k ≡ k + 0 = omega arith in ap (λ (i : ℕ). seek named picked (e - i) i n) z
+  pass_over {k = k} (r ∷ xs) ys n h (one_more p q a) =
       let c = h.count in
       let i : k < e = omega (arith, c) in
       let y : suc k ≡ k + 1 = sym (add-one k) in
       let z : suc k + length xs ≡ k + suc (length xs) = omega arith in
-      seek-pass named picked e k n i (named-not r (xs ++ ys) h p)
-      ∙ pass-over xs ys n (from-append 9 value_cells value_width (r ∷ []) (xs ++ ys) y h) a
+      seek_pass named picked e k n i (named_not r (xs ++ ys) h p)
+      ∙ pass_over xs ys n (from_append 9 value_cells value_width (r ∷ []) (xs ++ ys) y h) a
       ∙ ap (λ (j : ℕ). seek named picked (e - j) j n) z
 
   -- Where nothing else is left, nothing is found.
   pub nothing_left : {low high k : ℕ} (xs : List ValueRow) (n : ℕ) → From 9 value_cells v e k xs → Outside low high sort row xs → seek named picked (e - k) k n ≡ Nothing
-  nothing_left {k = k} [] n h a = let c = h.count in let z : e ≤ k = omega (arith, c) in seek-end named picked e k n z
+  nothing_left {k = k} [] n h a = let c = h.count in let z : e ≤ k = omega (arith, c) in seek_end named picked e k n z
   nothing_left {k = k} (r ∷ xs) n h (one_more p q a) =
       let c = h.count in
       let i : k < e = omega (arith, c) in
       let y : suc k ≡ k + 1 = sym (add-one k) in
-      seek-pass named picked e k n i (named-not r xs h p) ∙ nothing_left xs n (from-append 9 value_cells value_width (r ∷ []) xs y h) a
+      seek_pass named picked e k n i (named_not r xs h p) ∙ nothing_left xs n (from_append 9 value_cells value_width (r ∷ []) xs y h) a

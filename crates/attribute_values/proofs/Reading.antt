@@ -45,9 +45,9 @@ module _ (s d v : List ℕ) (sort row : ℕ) (name : List ℕ) (k x : ℕ) (e : 
   abbrev rest : Bool
   rest = same (row_name s d 13 2 (cell_of v 9 k 0)) name
 
-  pub other-sort : (x ≡ sort → ⊥) → false ≡ named_at s d v sort row name k
+  pub other_sort : (x ≡ sort → ⊥) → false ≡ named_at s d v sort row name k
   unfolding named_at owned_at
-  other-sort z = ap (λ (b : Bool). both (both b (eqb (cell_of v 9 k 2) row)) rest) (sym (ne_eqb (cell_of v 9 k 1) sort (λ q. z (e ∙ q))))
+  other_sort z = ap (λ (b : Bool). both (both b (eqb (cell_of v 9 k 2) row)) rest) (sym (ne_eqb (cell_of v 9 k 1) sort (λ q. z (e ∙ q))))
 
   pub other_row : (y : ℕ) → x ≡ sort → y ≡ cell_of v 9 k 2 → (y ≡ row → ⊥) → false ≡ named_at s d v sort row name k
   unfolding named_at owned_at
@@ -68,10 +68,10 @@ module _ (list : Bool) where
   picks_first [] n h = refl
   picks_first (b ∷ bs) n h = absurd (omega (arith, h))
 
-  pub picks-entry : (mark : List ℕ) (n : ℕ) → (length mark ≡ 0 → ⊥) → both list (same mark (entry_mark n)) ≡ picks list mark n
+  pub picks_entry : (mark : List ℕ) (n : ℕ) → (length mark ≡ 0 → ⊥) → both list (same mark (entry_mark n)) ≡ picks list mark n
   unfolding picks
-  picks-entry [] n h = absurd (h refl)
-  picks-entry (b ∷ bs) n h = refl
+  picks_entry [] n h = absurd (h refl)
+  picks_entry (b ∷ bs) n h = refl
 
 module _ (d v mark : List ℕ) (k n : ℕ) where
   abbrev listed : Bool
@@ -82,16 +82,16 @@ module _ (d v mark : List ℕ) (k n : ℕ) where
   unmarked h = picks_first listed mark n h
 
   module _ (h : length mark ≡ 0 → ⊥) (j x : ℕ) (e : j ≡ cell_of v 9 k 0) (f : x ≡ get_or d (j * 13 + 6) 0) where
-    cell-is : x ≡ cell_of d 13 (cell_of v 9 k 0) 6
-    cell-is = f ∙ ap (λ (i : ℕ). cell_of d 13 i 6) e
+    cell_is : x ≡ cell_of d 13 (cell_of v 9 k 0) 6
+    cell_is = f ∙ ap (λ (i : ℕ). cell_of d 13 i 6) e
 
-    pub of-single : (x ≡ 1 → ⊥) → false ≡ picked_at d v mark k n
+    pub of_single : (x ≡ 1 → ⊥) → false ≡ picked_at d v mark k n
     unfolding picked_at
-    of-single z = ap (λ (b : Bool). both b (same mark (entry_mark n))) (sym (ne_eqb (cell_of d 13 (cell_of v 9 k 0) 6) 1 (λ q. z (cell-is ∙ q)))) ∙ picks-entry listed mark n h
+    of_single z = ap (λ (b : Bool). both b (same mark (entry_mark n))) (sym (ne_eqb (cell_of d 13 (cell_of v 9 k 0) 6) 1 (λ q. z (cell_is ∙ q)))) ∙ picks_entry listed mark n h
 
-    pub of-list : x ≡ 1 → (r : Bool) → r ≡ same mark (entry_mark n) → r ≡ picked_at d v mark k n
+    pub of_list : x ≡ 1 → (r : Bool) → r ≡ same mark (entry_mark n) → r ≡ picked_at d v mark k n
     unfolding picked_at
-    of-list z r q = q ∙ ap (λ (b : Bool). both b (same mark (entry_mark n))) (sym (eq-eqb (cell_of d 13 (cell_of v 9 k 0) 6) 1 (sym cell-is ∙ z))) ∙ picks-entry listed mark n h
+    of_list z r q = q ∙ ap (λ (b : Bool). both b (same mark (entry_mark n))) (sym (eq-eqb (cell_of d 13 (cell_of v 9 k 0) 6) 1 (sym cell_is ∙ z))) ∙ picks_entry listed mark n h
 
 -- At most k digits.
 digits_few : (k n : ℕ) → length (digits_in k n) ≤ k

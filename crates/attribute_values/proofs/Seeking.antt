@@ -22,36 +22,36 @@ module _ (named : ℕ → Bool) (picked : ℕ → ℕ → Bool) where
   unfolding seek
   opened e k n x y h a b = let z : e - k ≡ suc (e - suc k) = omega (arith, h) in ap (λ (c : ℕ). seek named picked c k n) z ∙ ap₂ (λ (i j : Bool). by_tests i j e k n) a b
 
-  pub seek-here : (e k n : ℕ) → k < e → named k ≡ true → picked k n ≡ true → seek named picked (e - k) k n ≡ At k
+  pub seek_here : (e k n : ℕ) → k < e → named k ≡ true → picked k n ≡ true → seek named picked (e - k) k n ≡ At k
   unfolding choose
-  seek-here e k n h a b = opened e k n true true h a b
+  seek_here e k n h a b = opened e k n true true h a b
 
-  pub seek-other : (e k n : ℕ) → k < e → named k ≡ true → picked k n ≡ false → seek named picked (e - k) k n ≡ seek named picked (e - suc k) (suc k) (suc n)
+  pub seek_other : (e k n : ℕ) → k < e → named k ≡ true → picked k n ≡ false → seek named picked (e - k) k n ≡ seek named picked (e - suc k) (suc k) (suc n)
   unfolding choose
-  seek-other e k n h a b = opened e k n true false h a b
+  seek_other e k n h a b = opened e k n true false h a b
 
-  pub seek-pass : (e k n : ℕ) → k < e → named k ≡ false → seek named picked (e - k) k n ≡ seek named picked (e - suc k) (suc k) n
+  pub seek_pass : (e k n : ℕ) → k < e → named k ≡ false → seek named picked (e - k) k n ≡ seek named picked (e - suc k) (suc k) n
   unfolding choose
-  seek-pass e k n h a = opened e k n false (picked k n) h a refl
+  seek_pass e k n h a = opened e k n false (picked k n) h a refl
 
-  pub seek-end : (e k n : ℕ) → e ≤ k → seek named picked (e - k) k n ≡ Nothing
+  pub seek_end : (e k n : ℕ) → e ≤ k → seek named picked (e - k) k n ≡ Nothing
   unfolding seek
-  seek-end e k n h = let z : e - k ≡ 0 = omega (arith, h) in ap (λ (c : ℕ). seek named picked c k n) z
+  seek_end e k n h = let z : e - k ≡ 0 = omega (arith, h) in ap (λ (c : ℕ). seek named picked c k n) z
 
   -- The loop at row k: the answer is r.
   module _ (e k n : ℕ) (r : Found) (i : seek named picked (e - k) k n ≡ r) where
-    pub loop-stop : k < e → named k ≡ true → picked k n ≡ true → At k ≡ r
-    loop-stop h a b = sym (seek-here e k n h a b) ∙ i
+    pub loop_stop : k < e → named k ≡ true → picked k n ≡ true → At k ≡ r
+    loop_stop h a b = sym (seek_here e k n h a b) ∙ i
 
-    pub loop-other : k < e → named k ≡ true → picked k n ≡ false → seek named picked (e - (k + 1)) (k + 1) (n + 1) ≡ r
-    loop-other h a b =
-        ap₂ (λ (x y : ℕ). seek named picked (e - x) x y) (add-one k) (add-one n) ∙ sym (seek-other e k n h a b) ∙ i
+    pub loop_other : k < e → named k ≡ true → picked k n ≡ false → seek named picked (e - (k + 1)) (k + 1) (n + 1) ≡ r
+    loop_other h a b =
+        ap₂ (λ (x y : ℕ). seek named picked (e - x) x y) (add-one k) (add-one n) ∙ sym (seek_other e k n h a b) ∙ i
 
-    pub loop-pass : k < e → named k ≡ false → seek named picked (e - (k + 1)) (k + 1) n ≡ r
-    loop-pass h a = ap (λ (x : ℕ). seek named picked (e - x) x n) (add-one k) ∙ sym (seek-pass e k n h a) ∙ i
+    pub loop_pass : k < e → named k ≡ false → seek named picked (e - (k + 1)) (k + 1) n ≡ r
+    loop_pass h a = ap (λ (x : ℕ). seek named picked (e - x) x n) (add-one k) ∙ sym (seek_pass e k n h a) ∙ i
 
-    pub loop-done : e ≤ k → Nothing ≡ r
-    loop-done h = sym (seek-end e k n h) ∙ i
+    pub loop_done : e ≤ k → Nothing ≡ r
+    loop_done h = sym (seek_end e k n h) ∙ i
 
   -- A row that is found lies before the end.
   below : (c k n j : ℕ) → At j ≡ seek named picked c k n → j < k + c
@@ -70,4 +70,4 @@ module _ (named : ℕ → Bool) (picked : ℕ → ℕ → Bool) where
     where
       by : Dec (k < e) → j < e
       by (yes h) = let z = below (e - k) k n j q in omega (arith, z, h)
-      by (no h) = let g : e ≤ k = omega (arith, h) in absurd (not_nothing j (q ∙ seek-end e k n g))
+      by (no h) = let g : e ≤ k = omega (arith, h) in absurd (not_nothing j (q ∙ seek_end e k n g))

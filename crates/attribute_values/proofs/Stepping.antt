@@ -10,7 +10,7 @@ use lib.Seq.{drop-cons, take_all}
 use lib.Dec.{eqb, ltb}
 use borrow.Author.Tests.{lt-ltb, le-ltb}
 use Rattle.token.specs.Bytes.{find_byte}
-use Rattle.token.proofs.Find.{find_past, find_here, find-next, find-low, find-high}
+use Rattle.token.proofs.Find.{find_past, find_here, find_next, find_low, find_high}
 use Rattle.rows.specs.declared.Found.{Found}
 use Rattle.rows.specs.declared.Found.TheVariants.{At, Nothing}
 use Rattle.meaning.specs.Words.{choose}
@@ -30,20 +30,20 @@ cases false = no refl
 -- The place where a byte is found.
 pub found_low : (b : ℕ) (p : List ℕ) (a : ℕ) → a ≤ find_byte b p a
 unfolding find_byte
-found_low b p a = find-low (λ i. eqb (get_or p i 0) b) (length p) a
+found_low b p a = find_low (λ i. eqb (get_or p i 0) b) (length p) a
 
 pub found_high : (b : ℕ) (p : List ℕ) (a : ℕ) → a ≤ length p → find_byte b p a ≤ length p
 unfolding find_byte
-found_high b p a h = find-high (λ i. eqb (get_or p i 0) b) (length p) a h
+found_high b p a h = find_high (λ i. eqb (get_or p i 0) b) (length p) a h
 
 module _ (p : List ℕ) where
   -- The steps behind the place of a dot; none behind the end.
   unfoldable pub later : ℕ → List (List ℕ)
   later e = choose (ltb e (length p)) (λ _. steps (drop (e + 1) p)) (λ _. [])
 
-  pub later-end : (e : ℕ) → length p ≤ e → later e ≡ []
+  pub later_end : (e : ℕ) → length p ≤ e → later e ≡ []
   unfolding later choose
-  later-end e h = ap (λ (b : Bool). choose b (λ _. steps (drop (e + 1) p)) (λ _. [])) (le-ltb e (length p) h)
+  later_end e h = ap (λ (b : Bool). choose b (λ _. steps (drop (e + 1) p)) (λ _. [])) (le-ltb e (length p) h)
 
   pub later_more : (e : ℕ) → e < length p → later e ≡ steps (drop (e + 1) p)
   unfolding later choose
@@ -56,29 +56,29 @@ module _ (p : List ℕ) where
   none_taken : (a e : ℕ) (l : List ℕ) → e ≡ a → take (e - a) l ≡ []
   none_taken a e l h = let z : e - a ≡ 0 = omega (arith, h) in ap (λ (n : ℕ). take n l) z
 
-  place-past : (a : ℕ) → length p ≤ a → find_byte 46 p a ≡ a
+  place_past : (a : ℕ) → length p ≤ a → find_byte 46 p a ≡ a
   unfolding find_byte
-  place-past a g = find_past (λ i. eqb (get_or p i 0) 46) (length p) a g
+  place_past a g = find_past (λ i. eqb (get_or p i 0) 46) (length p) a g
 
   place_here : (a : ℕ) → a < length p → eqb (get_or p a 0) 46 ≡ true → find_byte 46 p a ≡ a
   unfolding find_byte
   place_here a g q = find_here (λ i. eqb (get_or p i 0) 46) (length p) a g q
 
-  place-next : (a : ℕ) → a < length p → eqb (get_or p a 0) 46 ≡ false → find_byte 46 p a ≡ find_byte 46 p (a + 1)
+  place_next : (a : ℕ) → a < length p → eqb (get_or p a 0) 46 ≡ false → find_byte 46 p a ≡ find_byte 46 p (a + 1)
   unfolding find_byte
-  place-next a g q = find-next (λ i. eqb (get_or p i 0) 46) (length p) a g q
+  place_next a g q = find_next (λ i. eqb (get_or p i 0) 46) (length p) a g q
 
-  steps-past : (a : ℕ) → length p ≤ a → steps (drop a p) ≡ [] ∷ []
+  steps_past : (a : ℕ) → length p ≤ a → steps (drop a p) ≡ [] ∷ []
   unfolding steps
-  steps-past a g = ap steps (drop_of_length-le p g)
+  steps_past a g = ap steps (drop_of_length-le p g)
 
-  steps-dot : (a : ℕ) → a < length p → eqb (get_or p a 0) 46 ≡ true → steps (drop a p) ≡ [] ∷ steps (drop (a + 1) p)
+  steps_dot : (a : ℕ) → a < length p → eqb (get_or p a 0) 46 ≡ true → steps (drop a p) ≡ [] ∷ steps (drop (a + 1) p)
   unfolding choose
-  steps-dot a g q = opened a g ∙ ap (λ (b : Bool). choose b (λ _. [] ∷ steps (drop (a + 1) p)) (λ _. in_front (get_or p a 0) (steps (drop (a + 1) p)))) q
+  steps_dot a g q = opened a g ∙ ap (λ (b : Bool). choose b (λ _. [] ∷ steps (drop (a + 1) p)) (λ _. in_front (get_or p a 0) (steps (drop (a + 1) p)))) q
 
-  steps-byte : (a : ℕ) → a < length p → eqb (get_or p a 0) 46 ≡ false → steps (drop a p) ≡ in_front (get_or p a 0) (steps (drop (a + 1) p))
+  steps_byte : (a : ℕ) → a < length p → eqb (get_or p a 0) 46 ≡ false → steps (drop a p) ≡ in_front (get_or p a 0) (steps (drop (a + 1) p))
   unfolding choose
-  steps-byte a g q = opened a g ∙ ap (λ (b : Bool). choose b (λ _. [] ∷ steps (drop (a + 1) p)) (λ _. in_front (get_or p a 0) (steps (drop (a + 1) p)))) q
+  steps_byte a g q = opened a g ∙ ap (λ (b : Bool). choose b (λ _. [] ∷ steps (drop (a + 1) p)) (λ _. in_front (get_or p a 0) (steps (drop (a + 1) p)))) q
 
   one_more : (a e : ℕ) → a < length p → a + 1 ≤ e → get_or p a 0 ∷ take (e - (a + 1)) (drop (a + 1) p) ≡ take (e - a) (drop a p)
   one_more a e g h =
@@ -86,16 +86,16 @@ module _ (p : List ℕ) where
       let y : suc a ≡ a + 1 = sym (add-one a) in
       sym (ap₂ (λ (n : ℕ) (l : List ℕ). take n l) z (drop-cons p a 0 g ∙ ap (λ (i : ℕ). get_or p a 0 ∷ drop i p) y))
 
-  in-front-of : (b : ℕ) (x : List ℕ) (xs ys : List (List ℕ)) → ys ≡ x ∷ xs → in_front b ys ≡ (b ∷ x) ∷ xs
+  in_front_of : (b : ℕ) (x : List ℕ) (xs ys : List (List ℕ)) → ys ≡ x ∷ xs → in_front b ys ≡ (b ∷ x) ∷ xs
   unfolding in_front
-  in-front-of b x xs ys e = ap (in_front b) e
+  in_front_of b x xs ys e = ap (in_front b) e
 
   -- The first step from the place a on, and those behind it.
   from_place : (c a : ℕ) → a + c ≡ length p → steps (drop a p) ≡ take (find_byte 46 p a - a) (drop a p) ∷ later (find_byte 46 p a)
   from_place zero a h =
       let g : length p ≤ a = omega (arith, h) in
-      let e = place-past a g in
-      steps-past a g ∙ sym (ap₂ (λ (x : List ℕ) (y : List (List ℕ)). x ∷ y) (none_taken a (find_byte 46 p a) (drop a p) e) (ap later e ∙ later-end a g))
+      let e = place_past a g in
+      steps_past a g ∙ sym (ap₂ (λ (x : List ℕ) (y : List (List ℕ)). x ∷ y) (none_taken a (find_byte 46 p a) (drop a p) e) (ap later e ∙ later_end a g))
   from_place (suc c) a h = by (cases (eqb (get_or p a 0) 46)) (from_place c (a + 1) again)
     where
       inside : a < length p
@@ -108,15 +108,15 @@ module _ (p : List ℕ) where
           → steps (drop a p) ≡ take (find_byte 46 p a - a) (drop a p) ∷ later (find_byte 46 p a)
       by (yes q) i =
           let e = place_here a inside q in
-          steps-dot a inside q ∙ sym (ap₂ (λ (x : List ℕ) (y : List (List ℕ)). x ∷ y) (none_taken a (find_byte 46 p a) (drop a p) e) (ap later e ∙ later_more a inside))
+          steps_dot a inside q ∙ sym (ap₂ (λ (x : List ℕ) (y : List (List ℕ)). x ∷ y) (none_taken a (find_byte 46 p a) (drop a p) e) (ap later e ∙ later_more a inside))
       by (no q) i =
-          let e = place-next a inside q in
+          let e = place_next a inside q in
           let l = found_low 46 p (a + 1) in
-          steps-byte a inside q ∙ in-front-of (get_or p a 0) _ _ (steps (drop (a + 1) p)) i
+          steps_byte a inside q ∙ in_front_of (get_or p a 0) _ _ (steps (drop (a + 1) p)) i
           ∙ ap₂ (λ (x : List ℕ) (y : List (List ℕ)). x ∷ y) (one_more a (find_byte 46 p (a + 1)) inside l ∙ ap (λ (n : ℕ). take (n - a) (drop a p)) (sym e)) (ap later (sym e))
 
-  pub steps-from : (a : ℕ) → a ≤ length p → steps (drop a p) ≡ take (find_byte 46 p a - a) (drop a p) ∷ later (find_byte 46 p a)
-  steps-from a h = let z : a + (length p - a) ≡ length p = omega (arith, h) in from_place (length p - a) a z
+  pub steps_from : (a : ℕ) → a ≤ length p → steps (drop a p) ≡ take (find_byte 46 p a - a) (drop a p) ∷ later (find_byte 46 p a)
+  steps_from a h = let z : a + (length p - a) ≡ length p = omega (arith, h) in from_place (length p - a) a z
 
 pub lost : (x : List (List ℕ)) (g : ℕ → Found) → Nothing ≡ onward_at x Nothing g
 unfolding onward_at
@@ -148,10 +148,10 @@ module _ (s d v : List ℕ) (e : ℕ) (p : List ℕ) (at k sort row : ℕ) (h : 
   abbrev step : List ℕ
   step = take (find_byte 46 p at - at) (drop at p)
 
-  opened-at : by_steps_at s d v e (steps (drop at p)) k sort row
+  opened_at : by_steps_at s d v e (steps (drop at p)) k sort row
       ≡ onward_at (later p (find_byte 46 p at)) (entry_at s d v e k sort row step) (λ j. by_steps_at s d v e (later p (find_byte 46 p at)) (suc j) 1 j)
   unfolding by_steps_at
-  opened-at = ap (λ (x : List (List ℕ)). by_steps_at s d v e x k sort row) (steps-from p at h)
+  opened_at = ap (λ (x : List (List ℕ)). by_steps_at s d v e x k sort row) (steps_from p at h)
 
   module _ (q : ℕ) (f : q ≡ find_byte 46 p at) (r : Found) (i : by_steps_at s d v e (steps (drop at p)) k sort row ≡ r) where
     abbrev stepped : List ℕ
@@ -161,16 +161,16 @@ module _ (s d v : List ℕ) (e : ℕ) (p : List ℕ) (at k sort row : ℕ) (h : 
     reached x z =
         ap (λ (y : Found). onward_at (later p q) y (λ j. by_steps_at s d v e (later p q) (suc j) 1 j)) z
         ∙ ap (λ (n : ℕ). onward_at (later p n) (entry_at s d v e k sort row (take (n - at) (drop at p))) (λ j. by_steps_at s d v e (later p n) (suc j) 1 j)) f
-        ∙ sym opened-at ∙ i
+        ∙ sym opened_at ∙ i
 
-    pub path-lost : Nothing ≡ entry_at s d v e k sort row stepped → Nothing ≡ r
-    path-lost z = lost (later p q) (λ j. by_steps_at s d v e (later p q) (suc j) 1 j) ∙ reached Nothing z
+    pub path_lost : Nothing ≡ entry_at s d v e k sort row stepped → Nothing ≡ r
+    path_lost z = lost (later p q) (λ j. by_steps_at s d v e (later p q) (suc j) 1 j) ∙ reached Nothing z
 
-    pub path-end : (j : ℕ) → At j ≡ entry_at s d v e k sort row stepped → length p ≤ q → At j ≡ r
-    path-end j z g = ended j (later p q) (λ i. by_steps_at s d v e (later p q) (suc i) 1 i) (later-end p q g) ∙ reached (At j) z
+    pub path_end : (j : ℕ) → At j ≡ entry_at s d v e k sort row stepped → length p ≤ q → At j ≡ r
+    path_end j z g = ended j (later p q) (λ i. by_steps_at s d v e (later p q) (suc i) 1 i) (later_end p q g) ∙ reached (At j) z
 
-    pub path-on : (j : ℕ) → At j ≡ entry_at s d v e k sort row stepped → q < length p → by_steps_at s d v e (steps (drop (q + 1) p)) (j + 1) 1 j ≡ r
-    path-on j z g = gone j ∙ reached (At j) z
+    pub path_on : (j : ℕ) → At j ≡ entry_at s d v e k sort row stepped → q < length p → by_steps_at s d v e (steps (drop (q + 1) p)) (j + 1) 1 j ≡ r
+    path_on j z g = gone j ∙ reached (At j) z
       where
         gone : (j : ℕ) → by_steps_at s d v e (steps (drop (q + 1) p)) (j + 1) 1 j ≡ onward_at (later p q) (At j) (λ i. by_steps_at s d v e (later p q) (suc i) 1 i)
         gone j =
@@ -191,6 +191,6 @@ module _ (s d v : List ℕ) (e k sort row : ℕ) (b : List ℕ) where
       ∙ ap (λ (x : List ℕ). seek (named_at s d v sort row (take q b)) (picked_at d v x) (e - k) k 0) (take_all (length b - q) (drop q b) h)
       ∙ ap (λ (n : ℕ). seek (named_at s d v sort row (take n b)) (picked_at d v (drop n b)) (e - k) k 0) f
 
-  pub entry-below : (j : ℕ) → At j ≡ entry_at s d v e k sort row b → j < e
+  pub entry_below : (j : ℕ) → At j ≡ entry_at s d v e k sort row b → j < e
   unfolding entry_at
-  entry-below j q = found_before (named_at s d v sort row (name_of b)) (picked_at d v (mark_of b)) e k 0 j q
+  entry_below j q = found_before (named_at s d v sort row (name_of b)) (picked_at d v (mark_of b)) e k 0 j q

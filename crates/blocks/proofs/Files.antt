@@ -20,11 +20,11 @@ use Rattle.meaning.proofs.Order.{Ordered, InOrder, Sub, sub_nil, keep, ordered_s
 use Rattle.meaning.proofs.Leaves.{words, leaves_words, words_leaves, leaves_in_order}
 use Rattle.meaning.proofs.Settled.{text_ordered}
 use Rattle.meaning.specs.Merging.{merge}
-use Rattle.meaning.proofs.Merges.{In, in-here, in-there, merge_in, syntax_merged}
+use Rattle.meaning.proofs.Merges.{In, in_here, in_there, merge_in, syntax_merged}
 use Rattle.meaning.proofs.Sites.{option_words, spec_words, statement_words, object_words, file_words}
 use Rattle.layout.specs.Kept.{statement_cells, statement_rows, object_cells, object_rows, all_statement_rows, statement_count, kept_objects, kept_statements, Wide}
 use Rattle.layout.proofs.Lengths.{wide_append, length_all, object_wide, length_objects}
-use Rattle.blocks.specs.Blocks.{Holds, WordIn, BraceIn, no_brace, a-brace, StatementsIn, none_in, more-in, BlockAt}
+use Rattle.blocks.specs.Blocks.{Holds, WordIn, BraceIn, no_brace, a_brace, StatementsIn, none_in, more_in, BlockAt}
 use Rattle.blocks.proofs.Holding.{cell_held}
 
 -- All words of a list stand in the text.
@@ -124,12 +124,12 @@ parts_in s f h = (in_back s (spec_words f.specs) (f.cpu ∷ object_words f.parts
 
 -- The words of the objects are words of their parts.
 one_in : (s : List ℕ) {w : Word} {l : List Word} → In w l → AllIn s l → WordIn s w
-one_in s (in-here e) g = subst (WordIn s) e g.0
-one_in s (in-there h) g = one_in s h g.1
+one_in s (in_here e) g = subst (WordIn s) e g.0
+one_in s (in_there h) g = one_in s h g.1
 
 among_in : (s : List ℕ) (l m : List Word) → ((w : Word) → In w l → In w m) → AllIn s m → AllIn s l
 among_in s [] m f g = tt
-among_in s (w ∷ l) m f g = (one_in s (f w (in-here refl)) g, among_in s l m (λ v h. f v (in-there h)) g)
+among_in s (w ∷ l) m f g = (one_in s (f w (in_here refl)) g, among_in s l m (λ v h. f v (in_there h)) g)
 
 pub objects_in : (s : List ℕ) (d : Derivation (tokens-of s)) → AllIn s (object_words (syntax s d.tree).objects)
 objects_in s d =
@@ -140,7 +140,7 @@ objects_in s d =
 brace_in : (s : List ℕ) (o : Option Word) → AllIn s (option_words o) → BraceIn s o
 unfolding option_words
 brace_in s none h = no_brace
-brace_in s (some t) h = a-brace h.0
+brace_in s (some t) h = a_brace h.0
 
 pub statements_in_text : (s : List ℕ) (ss : Statements) → AllIn s (statement_words ss) → StatementsIn s ss
 unfolding statement_words
@@ -149,7 +149,7 @@ statements_in_text s (state x inside rest) h =
     let b = option_words x.brace in
     let i = statement_words inside in
     let k = in_front s (b ++ i) (statement_words rest) h.1.1 in
-    more-in h.0 h.1.0 (brace_in s x.brace (in_front s b i k)) (statements_in_text s inside (in_back s b i k))
+    more_in h.0 h.1.0 (brace_in s x.brace (in_front s b i k)) (statements_in_text s inside (in_back s b i k))
     (statements_in_text s rest (in_back s (b ++ i) (statement_words rest) h.1.1))
 
 -- Objects ----------------------------------------------------------------------------------------------------------------------------------
@@ -230,9 +230,9 @@ module _ (s : List ℕ) (f : File) (front : List Object) (x : Object) (rest : Li
       ∙ ap (λ m. get_or (object_cells x m) c 0) z
 
   -- The block of its statements.
-  pub object-block : (st : List ℕ) → st ≡ kept_statements f → statement_count f.objects ≤ 2049 → AllIn s (object_words f.objects)
+  pub object_block : (st : List ℕ) → st ≡ kept_statements f → statement_count f.objects ≤ 2049 → AllIn s (object_words f.objects)
       → BlockAt s st (statement_count front) (statement_count front + statements_in x.statements) x.statements
-  object-block st p h w =
+  object_block st p h w =
       let l = length_all front 0 in
       let z : 0 + statement_count front ≡ statement_count front = omega arith in
       record {

@@ -20,7 +20,7 @@ use Rattle.layout.proofs.Lengths.{length_statements}
 use Rattle.rows.specs.declared.Found.{Found}
 use Rattle.rows.specs.declared.Found.TheVariants.{At, Nothing}
 use Rattle.rows.specs.Search.{is_found, row_of}
-use Rattle.blocks.specs.Blocks.{WordIn, BraceIn, StatementsIn, none_in, more-in, Block, BlockAt, row_after, first_stated, FindsStated, IsStated, IsBefore}
+use Rattle.blocks.specs.Blocks.{WordIn, BraceIn, StatementsIn, none_in, more_in, Block, BlockAt, row_after, first_stated, FindsStated, IsStated, IsBefore}
 use Rattle.blocks.proofs.Holding.{cell_held}
 
 -- Rows -------------------------------------------------------------------------------------------------------------------------------------
@@ -46,9 +46,9 @@ module _ {rs : List (List ℕ)} {m : ℕ} {x : Statement} {inside rest : Stateme
         place = omega arith;
       }
 
-  pub block-rest : Block rs (suc m + statements_in inside) rest
+  pub block_rest : Block rs (suc m + statements_in inside) rest
   unfolding statement_rows
-  block-rest =
+  block_rest =
       let r = statement_cells x (suc m + statements_in inside) in
       let i = statement_rows inside (suc m) in
       let t = statement_rows rest (suc m + statements_in inside) in
@@ -72,29 +72,29 @@ module _ {s st : List ℕ} {m e : ℕ} {x : Statement} {inside rest : Statements
       ∙ cell_held b.block.front _ (statement_cells x (suc m + statements_in inside)) c b.holds (block_row b.block) k
 
   words_of : StatementsIn s (state x inside rest) → StatementsIn s inside × StatementsIn s rest
-  words_of (more-in n v p i r) = (i, r)
+  words_of (more_in n v p i r) = (i, r)
 
   name_of : StatementsIn s (state x inside rest) → WordIn s x.name
-  name_of (more-in n v p i r) = n
+  name_of (more_in n v p i r) = n
 
-  pub first-name : WordIn s x.name
-  first-name = name_of b.words
+  pub first_name : WordIn s x.name
+  first_name = name_of b.words
 
   value_in : StatementsIn s (state x inside rest) → WordIn s x.value
-  value_in (more-in n v p i r) = v
+  value_in (more_in n v p i r) = v
 
   pub first_value : WordIn s x.value
   first_value = value_in b.words
 
   brace_in : StatementsIn s (state x inside rest) → BraceIn s x.brace
-  brace_in (more-in n v p i r) = p
+  brace_in (more_in n v p i r) = p
 
-  pub first-brace : BraceIn s x.brace
-  first-brace = brace_in b.words
+  pub first_brace : BraceIn s x.brace
+  first_brace = brace_in b.words
 
-  pub first-after : row_after st m e ≡ suc m + statements_in inside
+  pub first_after : row_after st m e ≡ suc m + statements_in inside
   unfolding row_after statements_in statement_cells
-  first-after =
+  first_after =
       let v = suc m + statements_in inside in
       let c : get_or st (m * 7 + 6) 0 ≡ v = first_cell 6 (omega arith) in
       let h = b.after in
@@ -111,7 +111,7 @@ module _ {s st : List ℕ} {m e : ℕ} {x : Statement} {inside rest : Statements
   unfolding statements_in
   rest_at =
       let h = b.after in
-      record { rows = b.rows; holds = b.holds; block = block-rest b.block; words = (words_of b.words).1; after = omega arith }
+      record { rows = b.rows; holds = b.holds; block = block_rest b.block; words = (words_of b.words).1; after = omega arith }
 
 -- Two parts of a block.
 pub in_then : (a b : Statements) → statements_in (then a b) ≡ statements_in a + statements_in b
@@ -136,7 +136,7 @@ rows_then (state x inside rest) b m =
 words_then : {s : List ℕ} (a b : Statements) → StatementsIn s (then a b) → StatementsIn s a × StatementsIn s b
 unfolding then
 words_then done b w = (none_in, w)
-words_then (state x inside rest) b (more-in n v p i r) = let k = words_then rest b r in (more-in n v p i k.0, k.1)
+words_then (state x inside rest) b (more_in n v p i r) = let k = words_then rest b r in (more_in n v p i k.0, k.1)
 
 module _ {s st : List ℕ} {m e : ℕ} (a b : Statements) (h : BlockAt s st m e (then a b)) where
   pub front_at : BlockAt s st m (m + statements_in a) a
@@ -197,9 +197,9 @@ after_inside st k e = go (ltb k (get_or st (k * 7 + 6) 0)) (leb (get_or st (k * 
 
 -- The cases of the row after.
 module _ (st : List ℕ) (k e v : ℕ) (c : v ≡ get_or st (k * 7 + 6) 0) where
-  pub after-back : v ≤ k → e ≡ row_after st k e
+  pub after_back : v ≤ k → e ≡ row_after st k e
   unfolding row_after
-  after-back h = sym (ap (λ n. pick (both (ltb k n) (leb n e)) n e) (sym c) ∙ ap (λ t. pick (both t (leb v e)) v e) (le-ltb k v h))
+  after_back h = sym (ap (λ n. pick (both (ltb k n) (leb n e)) n e) (sym c) ∙ ap (λ t. pick (both t (leb v e)) v e) (le-ltb k v h))
 
   pub after_past : e < v → e ≡ row_after st k e
   unfolding row_after
@@ -219,50 +219,50 @@ module _ (st : List ℕ) (k e v : ℕ) (c : v ≡ get_or st (k * 7 + 6) 0) where
 pub record Left (s st : List ℕ) (k e : ℕ) (ss : Statements) (m : ℕ) (t : Word) : Type 0 where
   pub left : Statements
   pub block : BlockAt s st k e left
-  pub same-found : first_stated left k t ≡ first_stated ss m t
+  pub same_found : first_stated left k t ≡ first_stated ss m t
 
 abbrev pub Looking : (s st : List ℕ) → (m e at len k : ℕ) → Type 0
 Looking s st m e at len k = (ss : Statements) (t : Word) → BlockAt s st m e ss → t.bytes ≡ part_of s at len → Left s st k e ss m t
 
 pub looking_start : (s st : List ℕ) (m e at len : ℕ) → Looking s st m e at len m
-looking_start s st m e at len ss t b h = record { left = ss; block = b; same-found = refl }
+looking_start s st m e at len ss t b h = record { left = ss; block = b; same_found = refl }
 
 module _ {s st : List ℕ} (m e at len k : ℕ) (i : Looking s st m e at len k) where
   -- The name of the first statement left is that at its cells.
-  name-test : {x : Statement} {inside rest : Statements} (t : Word) → BlockAt s st k e (state x inside rest) → t.bytes ≡ part_of s at len
+  name_test : {x : Statement} {inside rest : Statements} (t : Word) → BlockAt s st k e (state x inside rest) → t.bytes ≡ part_of s at len
       → same (part_of s at len) (part_of s (get_or st (k * 7 + 0) 0) (get_or st (k * 7 + 1) 0)) ≡ alike t x.name
   unfolding alike statement_cells
-  name-test {x} t b h =
+  name_test {x} t b h =
       ap₂ (λ p n. same (part_of s at len) (part_of s p n)) (first_cell b 0 (omega arith)) (first_cell b 1 (omega arith))
-      ∙ ap₂ same (sym h) (sym (first-name b).bytes)
+      ∙ ap₂ same (sym h) (sym (first_name b).bytes)
 
-  pub looking-stop : k < e → same (part_of s at len) (part_of s (get_or st (k * 7 + 0) 0) (get_or st (k * 7 + 1) 0)) ≡ true → FindsStated s st m e at len (At k)
+  pub looking_stop : k < e → same (part_of s at len) (part_of s (get_or st (k * 7 + 0) 0) (get_or st (k * 7 + 1) 0)) ≡ true → FindsStated s st m e at len (At k)
   unfolding first_stated statements_in
-  looking-stop h q ss t b p = go (i ss t b p).left (i ss t b p).block (i ss t b p).same-found
+  looking_stop h q ss t b p = go (i ss t b p).left (i ss t b p).block (i ss t b p).same-found
     where
       go : (l : Statements) → BlockAt s st k e l → first_stated l k t ≡ first_stated ss m t → At k ≡ first_stated ss m t
       go done c f = let z = c.after in absurd (omega arith)
       go (state x inside rest) c f =
-          sym (ap (λ a. pick a (At k) (first_stated rest (suc k + statements_in inside) t)) (sym (name-test t c p) ∙ q)) ∙ f
+          sym (ap (λ a. pick a (At k) (first_stated rest (suc k + statements_in inside) t)) (sym (name_test t c p) ∙ q)) ∙ f
 
-  pub looking-more : k < e → same (part_of s at len) (part_of s (get_or st (k * 7 + 0) 0) (get_or st (k * 7 + 1) 0)) ≡ false
+  pub looking_more : k < e → same (part_of s at len) (part_of s (get_or st (k * 7 + 0) 0) (get_or st (k * 7 + 1) 0)) ≡ false
       → Looking s st m e at len (row_after st k e)
   unfolding first_stated statements_in
-  looking-more h q ss t b p = go (i ss t b p).left (i ss t b p).block (i ss t b p).same-found
+  looking_more h q ss t b p = go (i ss t b p).left (i ss t b p).block (i ss t b p).same-found
     where
       go : (l : Statements) → BlockAt s st k e l → first_stated l k t ≡ first_stated ss m t → Left s st (row_after st k e) e ss m t
       go done c f = let z = c.after in absurd (omega arith)
       go (state x inside rest) c f =
-          subst (λ n. Left s st n e ss m t) (sym (first-after c))
+          subst (λ n. Left s st n e ss m t) (sym (first_after c))
           (record {
             left = rest;
             block = rest_at c;
-            same-found = sym (ap (λ a. pick a (At k) (first_stated rest (suc k + statements_in inside) t)) (sym (name-test t c p) ∙ q)) ∙ f;
+            same_found = sym (ap (λ a. pick a (At k) (first_stated rest (suc k + statements_in inside) t)) (sym (name_test t c p) ∙ q)) ∙ f;
           })
 
-  pub looking-end : e ≤ k → FindsStated s st m e at len Nothing
+  pub looking_end : e ≤ k → FindsStated s st m e at len Nothing
   unfolding first_stated statements_in
-  looking-end h ss t b p = go (i ss t b p).left (i ss t b p).block (i ss t b p).same-found
+  looking_end h ss t b p = go (i ss t b p).left (i ss t b p).block (i ss t b p).same-found
     where
       go : (l : Statements) → BlockAt s st k e l → first_stated l k t ≡ first_stated ss m t → Nothing ≡ first_stated ss m t
       go done c f = f
@@ -311,29 +311,29 @@ first_inside (state x inside rest) m i t h = go (alike t x.name) (first_inside r
 
 -- The first statement of a block that has the name of its statement of row k.
 module _ {s st : List ℕ} (m k e : ℕ) {r : Found} (f : FindsStated s st m e (get_or st (k * 7 + 0) 0) (get_or st (k * 7 + 1) 0) r) where
-  first-own : (a : Statements) (x : Statement) (inside rest : Statements) → BlockAt s st m e (then a (state x inside rest)) → k ≡ m + statements_in a
+  first_own : (a : Statements) (x : Statement) (inside rest : Statements) → BlockAt s st m e (then a (state x inside rest)) → k ≡ m + statements_in a
       → r ≡ pick (among x.name (names a)) (first_stated a m x.name) (At k)
   unfolding first_stated statement_cells alike
-  first-own a x inside rest b q =
+  first_own a x inside rest b q =
       let c : BlockAt s st k e (state x inside rest) = subst (λ u. BlockAt s st u e (state x inside rest)) (sym q) (back_at a (state x inside rest) b) in
       let n = x.name in
-      let own = (first-name c).bytes ∙ sym (ap₂ (part_of s) (first_cell c 0 (omega arith)) (first_cell c 1 (omega arith))) in
+      let own = (first_name c).bytes ∙ sym (ap₂ (part_of s) (first_cell c 0 (omega arith)) (first_cell c 1 (omega arith))) in
       let here = ap (λ z. pick z (At (m + statements_in a)) (first_stated rest (suc (m + statements_in a) + statements_in inside) n)) (same_self n.bytes) ∙ ap At (sym q) in
       f (then a (state x inside rest)) n b own
       ∙ first_then a (state x inside rest) m n
       ∙ ap (pick (among n (names a)) (first_stated a m n)) here
 
 module _ {s st : List ℕ} (m k e : ℕ) where
-  pub before-first : (i : ℕ) → FindsStated s st m e (get_or st (k * 7 + 0) 0) (get_or st (k * 7 + 1) 0) (At i) → IsBefore s st m k e (not (eqb i k))
+  pub before_first : (i : ℕ) → FindsStated s st m e (get_or st (k * 7 + 0) 0) (get_or st (k * 7 + 1) 0) (At i) → IsBefore s st m k e (not (eqb i k))
   unfolding row_of
-  before-first i f a x inside rest b q = go (among x.name (names a)) (first-own m k e f a x inside rest b q)
+  before_first i f a x inside rest b q = go (among x.name (names a)) (first_own m k e f a x inside rest b q)
     where
       go : (c : Bool) → At i ≡ pick c (first_stated a m x.name) (At k) → not (eqb i k) ≡ c
       go true h = let l = first_inside a m i x.name h in ap not (ne_eqb i k (λ z. omega arith))
       go false h = ap not (eq-eqb i k (ap row_of h))
 
-  pub before-none : FindsStated s st m e (get_or st (k * 7 + 0) 0) (get_or st (k * 7 + 1) 0) Nothing → IsBefore s st m k e false
-  before-none f a x inside rest b q = go (among x.name (names a)) (stated_among a m x.name) (first-own m k e f a x inside rest b q)
+  pub before_none : FindsStated s st m e (get_or st (k * 7 + 0) 0) (get_or st (k * 7 + 1) 0) Nothing → IsBefore s st m k e false
+  before_none f a x inside rest b q = go (among x.name (names a)) (stated_among a m x.name) (first_own m k e f a x inside rest b q)
     where
       go : (c : Bool) → is_found (first_stated a m x.name) ≡ c → Nothing ≡ pick c (first_stated a m x.name) (At k) → false ≡ c
       go true g h = absurd (false≢true (ap is_found h ∙ g))

@@ -34,12 +34,12 @@ pub record WordIn (s : List ℕ) (t : Word) : Type 0 where
 -- So is the `{` after a value where there is one,
 pub data BraceIn (s : List ℕ) : Option Word → Type 0 where
   no_brace : BraceIn s none
-  a-brace : {t : Word} → WordIn s t → BraceIn s (some t)
+  a_brace : {t : Word} → WordIn s t → BraceIn s (some t)
 
 -- and the words of statements.
 pub data StatementsIn (s : List ℕ) : Statements → Type 0 where
   none_in : StatementsIn s done
-  more-in : {x : Statement} {inside rest : Statements} → WordIn s x.name → WordIn s x.value → BraceIn s x.brace
+  more_in : {x : Statement} {inside rest : Statements} → WordIn s x.name → WordIn s x.value → BraceIn s x.brace
       → StatementsIn s inside → StatementsIn s rest → StatementsIn s (state x inside rest)
 
 -- Blocks -----------------------------------------------------------------------------------------------------------------------------------

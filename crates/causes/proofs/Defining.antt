@@ -14,14 +14,14 @@ use Rattle.rows.specs.declared.Found.{Found}
 use Rattle.rows.specs.declared.Found.TheVariants.{At, Nothing}
 use Rattle.rows.proofs.Walks.{first, any_of}
 use Rattle.rows.specs.Search.{find_row, find_named, find_from, has_key}
-use Rattle.rows.proofs.Searches.{first_is, first-nothing}
+use Rattle.rows.proofs.Searches.{first_is, first_nothing}
 use Rattle.meaning.specs.Syntax.{File}
 use Rattle.meaning.specs.Words.{alike}
 use Rattle.layout.specs.Kept.{Entry, spec_entries, kept_definitions, definition_cells}
 use Rattle.scopes.specs.Situations.{Situation, Nth}
 use Rattle.scopes.proofs.Goodness.{Good}
 use Rattle.scopes.proofs.Rooms.{definition_cell}
-use Rattle.scopes.proofs.Finding.{is_row, find_in_definitions, seek-all, nth_front, below_front}
+use Rattle.scopes.proofs.Finding.{is_row, find_in_definitions, seek_all, nth_front, below_front}
 use Rattle.scopes.proofs.Descents.{In, here, there, nth_in, entry_facts}
 use Rattle.defining_checks.specs.Listing.{keep_if, under_of}
 use Rattle.causes.specs.Firsts.{name_at, like_row, first_like}
@@ -76,13 +76,13 @@ module _ (s : List ℕ) (x : Entry) (g : Good s x.definition.name) where
       ∙ ap (λ (c : Bool). pick c y.definition.name.place (first_defined x.definition.name (under_of x.under.place l))) v
   passed y l false b e u v = ap (λ (c : Bool). first_defined x.definition.name (keep_if c y.definition ++ under_of x.under.place l)) u
 
-  none-defined : first_defined x.definition.name (under_of x.under.place []) ≡ 0
+  none_defined : first_defined x.definition.name (under_of x.under.place []) ≡ 0
   unfolding first_defined under_of
-  none-defined = refl
+  none_defined = refl
 
   lacks : (l : List Entry) → ((y : Entry) → In y l → Good s y.definition.name) → any_of test l ≡ false → first_defined x.definition.name (under_of x.under.place l) ≡ 0
   unfolding any_of
-  lacks [] h e = none-defined
+  lacks [] h e = none_defined
   lacks (y ∷ l) h e =
       passed y l (eqb y.under.place x.under.place) (alike y.definition.name x.definition.name) (sym (test_is y (h y (here refl))) ∙ neither_first (test y) (any_of test l) e) refl refl
       ∙ lacks l (λ z m. h z (there m)) (neither_second (test y) (any_of test l) e)
@@ -112,7 +112,7 @@ module _ (s d : List ℕ) (f : File) (K : Situation s f) (e : d ≡ kept_definit
   unfolding find_row has_key defined_at
   row_at front rest n place w k h =
       ap (λ (m : ℕ). find_from (λ j. has_key d (j * 19) 2 place) m 0) k
-      ∙ seek-all (defined_at place) (λ j. has_key d (j * 19) 2 place) front (λ a x b g.
+      ∙ seek_all (defined_at place) (λ j. has_key d (j * 19) 2 place) front (λ a x b g.
       let l = below_front front a x b g in
       ap (λ (i : ℕ). eqb i place) (cells_in (length a) x (nth_front rest w a x b g) (omega arith)).1)
 
@@ -134,9 +134,9 @@ module _ (s d : List ℕ) (f : File) (K : Situation s f) (e : d ≡ kept_definit
         ap₂ (λ (k n : ℕ). find_named s d 19 j 0 k 2 x.definition.name.place n 0) c.0 c.2
         ∙ find_in_definitions f s d front (x ∷ rest) j x.under.place x.definition.name.place x.definition.name.length e w refl (omega arith)
 
-    by-search : (u : Found) → first (test s x good) At Nothing 0 front ≡ u → name_at d 19 2 u ≡ first_defined x.definition.name (under_of x.under.place front)
+    by_search : (u : Found) → first (test s x good) At Nothing 0 front ≡ u → name_at d 19 2 u ≡ first_defined x.definition.name (under_of x.under.place front)
     unfolding name_at
-    by-search (At i) q =
+    by_search (At i) q =
         let o = first_is (test s x good) 0 front i q in
         let pl = o.place in
         let a : length front ≡ length (o.front ++ (o.row ∷ o.rest)) = ap (λ (v : List Entry). length v) o.whole in
@@ -150,11 +150,11 @@ module _ (s d : List ℕ) (f : File) (K : Situation s f) (e : d ≡ kept_definit
         (cells_in i o.row n (omega (arith, pl, a, b))).1
         ∙ sym (ap (λ (l : List Entry). first_defined x.definition.name (under_of x.under.place l)) o.whole
         ∙ finds s x good o.front o.row o.rest (λ y m. goods y (subst (In y) (sym o.whole) m)) o.fails o.holds)
-    by-search Nothing q = sym (lacks s x good front goods (first-nothing (test s x good) 0 front q))
+    by_search Nothing q = sym (lacks s x good front goods (first_nothing (test s x good) 0 front q))
 
-    like-name : name_at d 19 2 (find_named s d 19 (length front) 0 (get_or d (length front * 19 + 0) 0) 2 x.definition.name.place (get_or d (length front * 19 + 3) 0) 0)
+    like_name : name_at d 19 2 (find_named s d 19 (length front) 0 (get_or d (length front * 19 + 0) 0) 2 x.definition.name.place (get_or d (length front * 19 + 3) 0) 0)
         ≡ first_defined x.definition.name (under_of x.under.place front)
-    like-name = ap (name_at d 19 2) found ∙ by-search (first (test s x good) At Nothing 0 front) refl
+    like_name = ap (name_at d 19 2) found ∙ by_search (first (test s x good) At Nothing 0 front) refl
 
   module _ (n place : ℕ) (m : n ≡ min (length (spec_entries f.specs)) 513) where
     by_row : (u : Found) → first (defined_at place) At Nothing 0 (take 513 (spec_entries f.specs)) ≡ u
@@ -172,14 +172,14 @@ module _ (s d : List ℕ) (f : File) (K : Situation s f) (e : d ≡ kept_definit
         sym (take-append-drop 513 (spec_entries f.specs)) ∙ ap (λ (y : List Entry). y ++ drop 513 (spec_entries f.specs)) o.whole
         ∙ append_assoc o.front (o.row ∷ o.rest) (drop 513 (spec_entries f.specs)) in
         ap₂ (λ (k l : ℕ). name_at d 19 2 (find_named s d 19 k 0 (get_or d (k * 19 + 0) 0) 2 l (get_or d (k * 19 + 3) 0) 0)) i v
-        ∙ like-name o.front o.row (o.rest ++ drop 513 (spec_entries f.specs)) w (omega (arith, a, b, t))
+        ∙ like_name o.front o.row (o.rest ++ drop 513 (spec_entries f.specs)) w (omega (arith, a, b, t))
         ∙ sym (ap (defined_first place []) o.whole ∙ first_at place [] o.front o.row o.rest o.fails o.holds)
-    by_row Nothing q = sym (first_none place [] (take 513 (spec_entries f.specs)) (first-nothing (defined_at place) 0 (take 513 (spec_entries f.specs)) q))
+    by_row Nothing q = sym (first_none place [] (take 513 (spec_entries f.specs)) (first_nothing (defined_at place) 0 (take 513 (spec_entries f.specs)) q))
 
     -- What the code finds is the place of the first definition of the scope with the name of the one at the place.
-    pub cause-is : first_like s d 19 n 0 2 place ≡ defined_first place [] (take 513 (spec_entries f.specs))
+    pub cause_is : first_like s d 19 n 0 2 place ≡ defined_first place [] (take 513 (spec_entries f.specs))
     unfolding first_like
-    cause-is =
+    cause_is =
         let t = length-take 513 (spec_entries f.specs) in
         ap (like_row s d 19 0 2 place)
         (row_at (take 513 (spec_entries f.specs)) (drop 513 (spec_entries f.specs)) n place (sym (take-append-drop 513 (spec_entries f.specs))) (omega (arith, m, t)) (omega (arith, m)))

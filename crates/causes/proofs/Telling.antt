@@ -16,12 +16,12 @@ use Rattle.meaning.proofs.Found.{parse_derived}
 use Rattle.walk.specs.Whole.{Rooms, Whole}
 use Rattle.walk.specs.declared.Walked.{Walked}
 use Rattle.reading.specs.Decisions.{grammar_fault}
-use Rattle.reading.proofs.Arriving.{blank, Arrived, refused-early, arrived}
+use Rattle.reading.proofs.Arriving.{blank, Arrived, refused_early, arrived}
 use Rattle.causes.specs.Firsts.{first_like}
 use Rattle.layout.specs.Kept.{spec_entries}
 use Rattle.causes.specs.Causes.{named_first, TellsNamed, defined_first, TellsDefined}
-use Rattle.causes.proofs.Naming.{cause-is}
-use Rattle.causes.proofs.Defining.{cause-is as definition_is}
+use Rattle.causes.proofs.Naming.{cause_is}
+use Rattle.causes.proofs.Defining.{cause_is as definition_is}
 
 low_number : (a : GrammarAnswer) → number_of a ≤ 5
 unfolding number_of
@@ -45,13 +45,13 @@ module _ (s : List ℕ) (y : Rooms) (w : Walked) (h : Whole s blank y w) (l : le
       by : Dec (number_of (answer_of w.look) ≡ 0) → number_of (answer_of w.look) ≡ 0
       by (yes z) = z
       by (no z) =
-          let g = refused-early s blank y w h l (grammar_fault (answer_of w.look)) refl z in
+          let g = refused_early s blank y w h l (grammar_fault (answer_of w.look)) refl z in
           let m = same_number _ _ _ _ (sym g ∙ e) in
           absurd (omega (arith, low_number (answer_of w.look), m))
 
   -- and its syntax is that of the rows.
-  file-is : (a : Arrived s y w) (f : File) → parse s ≡ parsed f → f ≡ a.file
-  file-is a f e =
+  file_is : (a : Arrived s y w) (f : File) → parse s ≡ parsed f → f ≡ a.file
+  file_is a f e =
       let k = a.kept.situation in
       same_file f a.file (sym e ∙ parse_derived s a.covered k.derivation ∙ ap parsed (sym k.syntax-of))
 
@@ -62,8 +62,8 @@ tells_named s y w h n p r m e l q f k =
     let c : length y.parts ≡ length (replicate {A = ℕ} 5130 0) = h.sizes.parts in
     let d = length-replicate {A = ℕ} 5130 0 in
     e
-    ∙ cause-is s y.parts a.file a.kept.situation a.kept.in_parts (omega (arith, c, d)) n p (m ∙ ap (λ (i : ℕ). min i 513) b)
-    ∙ ap (λ (g : File). named_first p [] (take 513 g.parts)) (sym (file-is s y w h l a f k))
+    ∙ cause_is s y.parts a.file a.kept.situation a.kept.in_parts (omega (arith, c, d)) n p (m ∙ ap (λ (i : ℕ). min i 513) b)
+    ∙ ap (λ (g : File). named_first p [] (take 513 g.parts)) (sym (file_is s y w h l a f k))
 
 pub tells_defined : (s : List ℕ) (y : Rooms) (w : Walked) → Whole s blank y w → (n p r : ℕ) → n ≡ min w.definitions 513 → r ≡ first_like s y.definitions 19 n 0 2 p
     → TellsDefined s p r
@@ -72,4 +72,4 @@ tells_defined s y w h n p r m e l q f k =
     let b = a.kept.definitions in
     e
     ∙ definition_is s y.definitions a.file a.kept.situation a.kept.in_definitions n p (m ∙ ap (λ (i : ℕ). min i 513) b)
-    ∙ ap (λ (g : File). defined_first p [] (take 513 (spec_entries g.specs))) (sym (file-is s y w h l a f k))
+    ∙ ap (λ (g : File). defined_first p [] (take 513 (spec_entries g.specs))) (sym (file_is s y w h l a f k))

@@ -21,7 +21,7 @@ use Rattle.meaning.specs.Resolving.{Resolved, end, resolved, resolve, object_val
 use Rattle.meaning.proofs.Rooms.{nothing_front, nothing_back, not_faulty}
 use Rattle.meaning.proofs.Numbering.{Counts, counts_none, counts_more, statement_numbers, all_statement_numbers, length_statements}
 use Rattle.channels.specs.Channels.{View, nothing, item}
-use Rattle.channels.proofs.Ideals.{unnumbered_statement, unnumbered, names_unnumbered, ideal, resolve-ideal}
+use Rattle.channels.proofs.Ideals.{unnumbered_statement, unnumbered, names_unnumbered, ideal, resolve_ideal}
 use Rattle.channels.proofs.Twins.{Twin, Twins, no_twins, more_twins, Swapped, swapped, behind, Agree}
 
 -- 11 -----------------------------------------------------------------------------------------------------------------------------------------
@@ -95,15 +95,15 @@ agree_few (k ∷ ks) cpu e = ap₂ ◌++◌ (ap (λ n. faults_if (ltb n (fewest 
 
 -- A statement is judged by the objects that are there, and not by its number.
 module _ {os qs : List Object} (e : Agree os qs) where
-  reference-same : (k : Kind) (o : Sort) (t : Word) → reference_faults os k o t ≡ reference_faults qs k o t
+  reference_same : (k : Kind) (o : Sort) (t : Word) → reference_faults os k o t ≡ reference_faults qs k o t
   unfolding reference_faults
-  reference-same k a_number t = refl
-  reference-same k a_string t = refl
-  reference-same k a_truth t = refl
-  reference-same k an_auto t = refl
-  reference-same k a_no_default t = refl
-  reference-same k a_float t = refl
-  reference-same k a_name t = ap (λ b. faults_if (not b) t 18) (e.there k t)
+  reference_same k a_number t = refl
+  reference_same k a_string t = refl
+  reference_same k a_truth t = refl
+  reference_same k an_auto t = refl
+  reference_same k a_no_default t = refl
+  reference_same k a_float t = refl
+  reference_same k a_name t = ap (λ b. faults_if (not b) t 18) (e.there k t)
 
   as_same : (y : AttributeType) (x : Statement) (d : Defined) → faults_as y os x d ≡ faults_as y qs (unnumbered_statement x) d
   unfolding faults_as unnumbered_statement
@@ -112,7 +112,7 @@ module _ {os qs : List Object} (e : Agree os qs) where
   as_same boolean x d = refl
   as_same enum x d = refl
   as_same float x d = refl
-  as_same (reference k) x d = ap (◌++ brace_faults x.brace) (reference-same k (sort_of x.value.class) x.value)
+  as_same (reference k) x d = ap (◌++ brace_faults x.brace) (reference_same k (sort_of x.value.class) x.value)
 
   own_same : (x : Statement) (d : Defined) (l : List Word) → own_faults os x d l ≡ own_faults qs (unnumbered_statement x) d l
   unfolding own_faults unnumbered_statement
@@ -124,30 +124,30 @@ module _ {os qs : List Object} (e : Agree os qs) where
   inside_same [] x us ns f g h = ap (faults_if (lacks us ns) x.value 16 ++◌) h
   inside_same (a ∷ fs) x us ns f g h = refl
 
-  judged-same : (o : Option Defined) (x : Statement) (l ns ms : List Word) (f g : Definitions → List Fault) → ns ≡ ms → ((us : Definitions) → f us ≡ g us)
+  judged_same : (o : Option Defined) (x : Statement) (l ns ms : List Word) (f g : Definitions → List Fault) → ns ≡ ms → ((us : Definitions) → f us ≡ g us)
       → judged o os x l ns f ≡ judged o qs (unnumbered_statement x) l ms g
   unfolding judged unnumbered_statement
-  judged-same none x l ns ms f g p h = refl
-  judged-same (some d) x l ns ms f g p h =
+  judged_same none x l ns ms f g p h = refl
+  judged_same (some d) x l ns ms f g p h =
       ap₂ (λ fs m. and_inside fs x (under d.values x.value) m f) (own_same x d l) p
       ∙ inside_same (own_faults qs (unnumbered_statement x) d l) x (under d.values x.value) ms f g (h (under d.values x.value))
 
-  judge-same : (ss : Statements) (ds : Definitions) (l : List Word) → judge ss os ds l ≡ judge (unnumbered ss) qs ds l
+  judge_same : (ss : Statements) (ds : Definitions) (l : List Word) → judge ss os ds l ≡ judge (unnumbered ss) qs ds l
   unfolding judge unnumbered unnumbered_statement
-  judge-same done ds l = refl
-  judge-same (state x inside rest) ds l =
+  judge_same done ds l = refl
+  judge_same (state x inside rest) ds l =
       ap₂ ◌++◌
-      (judged-same (find_definition ds x.name) x l (names inside) (names (unnumbered inside)) (λ us. judge inside os us []) (λ us. judge (unnumbered inside) qs us [])
-      (sym (names_unnumbered inside)) (λ us. judge-same inside us []))
-      (judge-same rest ds (l ++ (x.name ∷ [])))
+      (judged_same (find_definition ds x.name) x l (names inside) (names (unnumbered inside)) (λ us. judge inside os us []) (λ us. judge (unnumbered inside) qs us [])
+      (sym (names_unnumbered inside)) (λ us. judge_same inside us []))
+      (judge_same rest ds (l ++ (x.name ∷ [])))
 
 agree_same : {xs : List Object} → Agree xs xs
 agree_same = record { many = λ k. refl; there = λ k t. refl }
 
 -- Twins are judged alike.
 module _ {os qs : List Object} (e : Agree os qs) where
-  twin-judged : (ss us : Statements) (ds : Definitions) → unnumbered ss ≡ unnumbered us → judge ss os ds [] ≡ judge us qs ds []
-  twin-judged ss us ds h = judge-same e ss ds [] ∙ ap (λ z. judge z qs ds []) h ∙ sym (judge-same agree_same us ds [])
+  twin_judged : (ss us : Statements) (ds : Definitions) → unnumbered ss ≡ unnumbered us → judge ss os ds [] ≡ judge us qs ds []
+  twin_judged ss us ds h = judge_same e ss ds [] ∙ ap (λ z. judge z qs ds []) h ∙ sym (judge_same agree_same us ds [])
 
 twin_names : (ss us : Statements) → unnumbered ss ≡ unnumbered us → names ss ≡ names us
 twin_names ss us h = sym (names_unnumbered ss) ∙ ap names h ∙ names_unnumbered us
@@ -157,38 +157,38 @@ unfolding faults_if
 none_if b c t u n e h = ap (λ z. faults_if z u n) (sym e ∙ not_faulty b t n h)
 
 module _ (f g : File) (same-specs : f.specs ≡ g.specs) (e : Agree f.objects g.objects) where
-  object-judged : {x y : Object} (ds ds' : Definitions) → Twin x y → ds ≡ ds' → judge_object f x ds ≡ [] → judge_object g y ds' ≡ []
+  object_judged : {x y : Object} (ds ds' : Definitions) → Twin x y → ds ≡ ds' → judge_object f x ds ≡ [] → judge_object g y ds' ≡ []
   unfolding judge_object
-  object-judged {x} {y} ds ds' h q j =
+  object_judged {x} {y} ds ds' h q j =
       let a = faults_if (lacks ds (names x.statements)) x.name 16 in
       let b = judge x.statements f.objects ds [] in
       ap₂ ◌++◌
       (none_if _ _ x.name y.name 16 (ap₂ lacks q (twin_names x.statements y.statements h.statements)) (nothing_front a b j))
-      (sym (twin-judged e x.statements y.statements ds' h.statements) ∙ ap (λ z. judge x.statements f.objects z []) (sym q) ∙ nothing_back a b j)
+      (sym (twin_judged e x.statements y.statements ds' h.statements) ∙ ap (λ z. judge x.statements f.objects z []) (sym q) ∙ nothing_back a b j)
 
-  scope-same : {x y : Object} → Twin x y → of_kind x.kind f.specs ≡ of_kind y.kind g.specs
-  scope-same h = ap₂ of_kind h.kind same-specs
+  scope_same : {x y : Object} → Twin x y → of_kind x.kind f.specs ≡ of_kind y.kind g.specs
+  scope_same h = ap₂ of_kind h.kind same-specs
 
-  pub twins-judged : {xs ys : List Object} → Twins xs ys → judge_objects f xs ≡ [] → judge_objects g ys ≡ []
+  pub twins_judged : {xs ys : List Object} → Twins xs ys → judge_objects f xs ≡ [] → judge_objects g ys ≡ []
   unfolding judge_objects
-  twins-judged no_twins j = refl
-  twins-judged (more_twins {x} {y} {xs} {ys} h p) j =
+  twins_judged no_twins j = refl
+  twins_judged (more_twins {x} {y} {xs} {ys} h p) j =
       let a = judge_object f x (of_kind x.kind f.specs) in
       let b = judge_objects f xs in
-      ap₂ ◌++◌ (object-judged _ _ h (scope-same h) (nothing_front a b j)) (twins-judged p (nothing_back a b j))
+      ap₂ ◌++◌ (object_judged _ _ h (scope_same h) (nothing_front a b j)) (twins_judged p (nothing_back a b j))
 
-  pub swapped-judged : {xs ys : List Object} → Swapped xs ys → judge_objects f xs ≡ [] → judge_objects g ys ≡ []
+  pub swapped_judged : {xs ys : List Object} → Swapped xs ys → judge_objects f xs ≡ [] → judge_objects g ys ≡ []
   unfolding judge_objects
-  swapped-judged (swapped {x} {y} {x'} {y'} {xs} {ys} h i p) j =
+  swapped_judged (swapped {x} {y} {x'} {y'} {xs} {ys} h i p) j =
       let a = judge_object f x (of_kind x.kind f.specs) in
       let b = judge_object f y (of_kind y.kind f.specs) in
       let c = judge_objects f xs in
-      ap₂ ◌++◌ (object-judged _ _ i (scope-same i) (nothing_front b c (nothing_back a (b ++ c) j)))
-      (ap₂ ◌++◌ (object-judged _ _ h (scope-same h) (nothing_front a (b ++ c) j)) (twins-judged p (nothing_back b c (nothing_back a (b ++ c) j))))
-  swapped-judged (behind {x} {y} {xs} {ys} h p) j =
+      ap₂ ◌++◌ (object_judged _ _ i (scope_same i) (nothing_front b c (nothing_back a (b ++ c) j)))
+      (ap₂ ◌++◌ (object_judged _ _ h (scope_same h) (nothing_front a (b ++ c) j)) (twins_judged p (nothing_back b c (nothing_back a (b ++ c) j))))
+  swapped_judged (behind {x} {y} {xs} {ys} h p) j =
       let a = judge_object f x (of_kind x.kind f.specs) in
       let b = judge_objects f xs in
-      ap₂ ◌++◌ (object-judged _ _ h (scope-same h) (nothing_front a b j)) (swapped-judged p (nothing_back a b j))
+      ap₂ ◌++◌ (object_judged _ _ h (scope_same h) (nothing_front a b j)) (swapped_judged p (nothing_back a b j))
 
 -- 19 -----------------------------------------------------------------------------------------------------------------------------------------
 
@@ -203,22 +203,22 @@ items_many (resolved t us rest) = ap₂ (λ a b. suc (a + b)) (items_many us) (i
 
 module _ (f g : File) (same-specs : f.specs ≡ g.specs) where
   -- Twins show the same alone.
-  pub twin-ideal : {x y : Object} → Twin x y → ideal (object_values f x) ≡ ideal (object_values g y)
+  pub twin_ideal : {x y : Object} → Twin x y → ideal (object_values f x) ≡ ideal (object_values g y)
   unfolding object_values
-  twin-ideal {x} {y} h =
-      resolve-ideal (of_kind x.kind f.specs) f.objects x.statements
+  twin_ideal {x} {y} h =
+      resolve_ideal (of_kind x.kind f.specs) f.objects x.statements
       ∙ ap₂ (λ ds ss. ideal (resolve ds [] ss)) (ap₂ of_kind h.kind same-specs) h.statements
-      ∙ sym (resolve-ideal (of_kind y.kind g.specs) g.objects y.statements)
+      ∙ sym (resolve_ideal (of_kind y.kind g.specs) g.objects y.statements)
 
-  twin-values : {x y : Object} → Twin x y → how_many_values (object_values f x) ≡ how_many_values (object_values g y)
-  twin-values {x} {y} h = sym (items_many (object_values f x)) ∙ ap how_many_items (twin-ideal h) ∙ items_many (object_values g y)
+  twin_values : {x y : Object} → Twin x y → how_many_values (object_values f x) ≡ how_many_values (object_values g y)
+  twin_values {x} {y} h = sym (items_many (object_values f x)) ∙ ap how_many_items (twin_ideal h) ∙ items_many (object_values g y)
 
-  pub twins-values : {xs ys : List Object} → Twins xs ys → how_many_in_all (all_values f xs) ≡ how_many_in_all (all_values g ys)
+  pub twins_values : {xs ys : List Object} → Twins xs ys → how_many_in_all (all_values f xs) ≡ how_many_in_all (all_values g ys)
   unfolding all_values how_many_in_all
-  twins-values no_twins = refl
-  twins-values (more_twins h p) = ap₂ ◌+◌ (twin-values h) (twins-values p)
+  twins_values no_twins = refl
+  twins_values (more_twins h p) = ap₂ ◌+◌ (twin_values h) (twins_values p)
 
-  pub swapped-values : {xs ys : List Object} → Swapped xs ys → how_many_in_all (all_values f xs) ≡ how_many_in_all (all_values g ys)
+  pub swapped_values : {xs ys : List Object} → Swapped xs ys → how_many_in_all (all_values f xs) ≡ how_many_in_all (all_values g ys)
   unfolding all_values how_many_in_all
-  swapped-values (swapped h i p) = let a = twin-values h in let b = twin-values i in let c = twins-values p in omega arith
-  swapped-values (behind h p) = ap₂ ◌+◌ (twin-values h) (swapped-values p)
+  swapped_values (swapped h i p) = let a = twin_values h in let b = twin_values i in let c = twins_values p in omega arith
+  swapped_values (behind h p) = ap₂ ◌+◌ (twin_values h) (swapped_values p)

@@ -20,7 +20,7 @@ use Rattle.meaning.proofs.Found.{reading_derived}
 use Rattle.meaning.proofs.Unplaced.{each_append}
 use Rattle.reads_back.proofs.Restated.{plain_word, word_opens, word_closes}
 use Rattle.reads_back.proofs.SayingPieces.{Says, says_append}
-use Rattle.reads_back.proofs.SayingTokens.{piece-divides}
+use Rattle.reads_back.proofs.SayingTokens.{piece_divides}
 use Rattle.reads_back.proofs.DepthWords.{Low, low_front, low_back, low_append, low_shallow, shallow_by_words, tokens_low}
 use Rattle.channels.specs.Neighbours.{first_place, end_of_last, Neighbours}
 use Rattle.channels.proofs.Computed.{ReadsUnchanged}
@@ -88,23 +88,23 @@ module _ (a x m y b : List ℕ) (t : Tables) (accepts : reading (a ++ (x ++ (m +
   covered : Covered s
   covered = accepted_covered s t accepts
 
-  one-ends : Ends X
-  one-ends = object_ends n.one
+  one_ends : Ends X
+  one_ends = object_ends n.one
 
-  other-ends : Ends Y
-  other-ends = object_ends n.other
+  other_ends : Ends Y
+  other_ends = object_ends n.other
 
-  says-a : Says false a (W A)
+  says_a : Says false a (W A)
   unfolding first_place
-  says-a =
-      let e = one-ends in
+  says_a =
+      let e = one_ends in
       front_says a (x ++ (m ++ (y ++ b))) A e.first ((e.mid ++ (e.final ∷ [])) ++ (Y ++ B)) (whole ∙ ap (λ l. A ++ (l ++ (Y ++ B))) e.leaves)
       (sym (ap first_place e.leaves) ∙ n.one-begins) (before_ending n.derivation.tree n.before)
 
-  says-x : Says false x (W X)
-  says-x =
+  says_x : Says false x (W X)
+  says_x =
       subst (λ z. Says false z (W X)) (part_is a x (m ++ (y ++ b)) (first_place X) (end_of_last X) n.one-begins n.one-ends)
-      (object_says s A X (Y ++ B) whole one-ends)
+      (object_says s A X (Y ++ B) whole one_ends)
 
   says_y : Says false y (W Y)
   says_y =
@@ -116,13 +116,13 @@ module _ (a x m y b : List ℕ) (t : Tables) (accepts : reading (a ++ (x ++ (m +
       let k : end_of_last Y ≡ length p + length y = omega arith in
       subst (λ z. Says false z (W Y))
       (ap (λ z. bytes_between z (first_place Y) (end_of_last Y)) e ∙ part_is p y b (first_place Y) (end_of_last Y) (i ∙ sym l) k)
-      (object_says s (A ++ X) Y B (whole ∙ sym (append_assoc A X (Y ++ B))) other-ends)
+      (object_says s (A ++ X) Y B (whole ∙ sym (append_assoc A X (Y ++ B))) other_ends)
 
-  says-m : Says false m []
+  says_m : Says false m []
   unfolding first_place
-  says-m =
-      let e = one-ends in
-      let f = other-ends in
+  says_m =
+      let e = one_ends in
+      let f = other_ends in
       let l = length-append a x in
       let i = n.one-ends in
       let j = n.other-begins in
@@ -136,39 +136,39 @@ module _ (a x m y b : List ℕ) (t : Tables) (accepts : reading (a ++ (x ++ (m +
       (omega arith) (omega arith)
 
   -- The text as it was, up to the second object, and as it is now.
-  says-old : Says false (a ++ (x ++ (m ++ y))) (W A ++ (W X ++ W Y))
+  says_old : Says false (a ++ (x ++ (m ++ y))) (W A ++ (W X ++ W Y))
   unfolding may_start
-  says-old = says_append refl says-a (says_append refl says-x (says_append refl says-m says_y))
+  says_old = says_append refl says_a (says_append refl says_x (says_append refl says_m says_y))
 
-  says-new : Says false (a ++ (y ++ (m ++ x))) (W A ++ (W Y ++ W X))
+  says_new : Says false (a ++ (y ++ (m ++ x))) (W A ++ (W Y ++ W X))
   unfolding may_start
-  says-new = says_append refl says-a (says_append refl says_y (says_append refl says-m says-x))
+  says_new = says_append refl says_a (says_append refl says_y (says_append refl says_m says_x))
 
-  old-words : W (tokens s) ≡ W A ++ (W X ++ (W Y ++ words_in b))
-  old-words =
-      text_words s ∙ ap words_in (four a x m y b) ∙ piece_words says-old b ∙ append_assoc (W A) (W X ++ W Y) (words_in b) ∙ ap (W A ++◌) (append_assoc (W X) (W Y) (words_in b))
+  old_words : W (tokens s) ≡ W A ++ (W X ++ (W Y ++ words_in b))
+  old_words =
+      text_words s ∙ ap words_in (four a x m y b) ∙ piece_words says_old b ∙ append_assoc (W A) (W X ++ W Y) (words_in b) ∙ ap (W A ++◌) (append_assoc (W X) (W Y) (words_in b))
 
-  new-words : each (plain_word u) (tokens u) ≡ W A ++ (W Y ++ (W X ++ words_in b))
-  new-words =
-      text_words u ∙ ap words_in (four a y m x b) ∙ piece_words says-new b ∙ append_assoc (W A) (W Y ++ W X) (words_in b) ∙ ap (W A ++◌) (append_assoc (W Y) (W X) (words_in b))
+  new_words : each (plain_word u) (tokens u) ≡ W A ++ (W Y ++ (W X ++ words_in b))
+  new_words =
+      text_words u ∙ ap words_in (four a y m x b) ∙ piece_words says_new b ∙ append_assoc (W A) (W Y ++ W X) (words_in b) ∙ ap (W A ++◌) (append_assoc (W Y) (W X) (words_in b))
 
-  spread-words : (P Q : List Token) → W (A ++ (P ++ (Q ++ B))) ≡ W A ++ (W P ++ (W Q ++ W B))
-  spread-words P Q =
+  spread_words : (P Q : List Token) → W (A ++ (P ++ (Q ++ B))) ≡ W A ++ (W P ++ (W Q ++ W B))
+  spread_words P Q =
       each_append (plain_word s) A (P ++ (Q ++ B)) ∙ ap (W A ++◌) (each_append (plain_word s) P (Q ++ B) ∙ ap (W P ++◌) (each_append (plain_word s) Q B))
 
-  rest-words : W B ≡ words_in b
-  rest-words =
+  rest_words : W B ≡ words_in b
+  rest_words =
       cancel (W Y) (W B) (words_in b) (cancel (W X) (W Y ++ W B) (W Y ++ words_in b) (cancel (W A) (W X ++ (W Y ++ W B)) (W X ++ (W Y ++ words_in b))
-      (sym (spread-words X Y) ∙ ap W (sym whole) ∙ old-words)))
+      (sym (spread_words X Y) ∙ ap W (sym whole) ∙ old_words)))
 
   -- The tokens of the text now have the words of the tree with its objects exchanged.
-  exchanged-words : each (plain_word u) (tokens u) ≡ W (Leaves-of (with_objects n.derivation.tree (n.before ++ (n.other ∷ n.one ∷ n.after))))
-  exchanged-words =
-      new-words ∙ ap (λ z. W A ++ (W Y ++ (W X ++ z))) (sym rest-words) ∙ sym (spread-words Y X)
+  exchanged_words : each (plain_word u) (tokens u) ≡ W (Leaves-of (with_objects n.derivation.tree (n.before ++ (n.other ∷ n.one ∷ n.after))))
+  exchanged_words =
+      new_words ∙ ap (λ z. W A ++ (W Y ++ (W X ++ z))) (sym rest_words) ∙ sym (spread_words Y X)
       ∙ ap W (sym (spread n.derivation.tree n.before n.after n.other n.one))
 
   divides : Divides u
-  divides = subst Divides (sym (four a y m x b)) (piece-divides says-new.piece b (rest_divides says-old b (subst Divides (four a x m y b) covered.divides)))
+  divides = subst Divides (sym (four a y m x b)) (piece_divides says_new.piece b (rest_divides says_old b (subst Divides (four a x m y b) covered.divides)))
 
   short : length u ≤ 65535
   short =
@@ -185,9 +185,9 @@ module _ (a x m y b : List ℕ) (t : Tables) (accepts : reading (a ++ (x ++ (m +
 
   shallow : Shallow (tokens u)
   shallow =
-      shallow_by_words u (tokens u) (low_shallow _ (subst (λ l. Low 0 0 l) (sym new-words)
+      shallow_by_words u (tokens u) (low_shallow _ (subst (λ l. Low 0 0 l) (sym new_words)
       (low_swap (W A) (W X) (W Y) (words_in b) (object_balanced s n.one) (object_balanced s n.other)
-      (subst (λ l. Low 0 0 l) old-words (tokens_low s (tokens s) covered.shallow)))))
+      (subst (λ l. Low 0 0 l) old_words (tokens_low s (tokens s) covered.shallow)))))
 
   -- It is accepted, with the same channels.
   pub unchanged : ReadsUnchanged s u
@@ -195,7 +195,7 @@ module _ (a x m y b : List ℕ) (t : Tables) (accepts : reading (a ++ (x ++ (m +
       let d = n.derivation in
       let k = exchanged s d.tree n.before n.after n.one n.other t n.objects-are n.different (sym (reading_derived s covered d) ∙ accepts) in
       let c = carried s u (with_objects d.tree (n.before ++ (n.other ∷ n.one ∷ n.after))) k.tables
-      (record { short = short; divides = divides; shallow = shallow }) exchanged-words k.accepts in
+      (record { short = short; divides = divides; shallow = shallow }) exchanged_words k.accepts in
       record {
         tables = c.tables;
         accepts = c.accepts;

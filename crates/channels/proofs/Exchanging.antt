@@ -22,7 +22,7 @@ use Rattle.channels.specs.Neighbours.{ObjectTree, object_trees, key_in}
 use Rattle.channels.proofs.Alone.{channel_is_alone}
 use Rattle.channels.proofs.Merging.{PartsSwapped}
 use Rattle.channels.proofs.ObjectTrees.{from_swapped, with_objects, with_own, with_same, with_meaning}
-use Rattle.channels.proofs.PartsAccepting.{definitions_kept, objects_kept, statements-kept, values-kept, channels-kept}
+use Rattle.channels.proofs.PartsAccepting.{definitions_kept, objects_kept, statements_kept, values_kept, channels_kept}
 
 -- The syntax of a tree ------------------------------------------------------------------------------------------------------------------------
 
@@ -68,10 +68,10 @@ exchanged s t a b x y r e z h =
     let d = numbered s u in
     let ok = accepts_it g (definitions_kept f g p q v w n.definitions)
     (objects_kept f g p q v w n.objects (omega arith) i.1 i.2 d.1.0 d.1.1.0 d.1.1.1)
-    (statements-kept f g p q v w n.statements) (values-kept f g p q v w n.values) in
+    (statements_kept f g p q v w n.statements) (values_kept f g p q v w n.values) in
     record {
       tables = tables g (all_values g g.objects);
       accepts = ok;
       same = λ k l.
-          channel_is_alone g _ (syntax_plain s u) d.1.0 ok k l ∙ channels-kept f g p q v w k l ∙ sym (channel_is_alone f r (syntax_plain s t) c.1.0 h k l);
+          channel_is_alone g _ (syntax_plain s u) d.1.0 ok k l ∙ channels_kept f g p q v w k l ∙ sym (channel_is_alone f r (syntax_plain s t) c.1.0 h k l);
     }

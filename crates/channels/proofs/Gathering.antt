@@ -31,14 +31,14 @@ module _ (k : Kind) (t : Word) (x : Object) (e : is_it k t x ≡ true) where
   pub name_is : x.name.bytes ≡ t.bytes
   name_is = alike_bytes x.name t (both_second (same_kind k x.kind) (alike x.name t) e)
 
-  pub used-is : (a : List Object) → used x a ≡ is_there (find_object k a t)
+  pub used_is : (a : List Object) → used x a ≡ is_there (find_object k a t)
   unfolding used
-  used-is a = there_bytes x.kind k x.name t a kind_is name_is
+  used_is a = there_bytes x.kind k x.name t a kind_is name_is
 
-  continued-is : (xs : List Object) → continued x xs ≡ gathered k t xs
+  continued_is : (xs : List Object) → continued x xs ≡ gathered k t xs
   unfolding continued gathered same_object
-  continued-is [] = refl
-  continued-is (y ∷ xs) = ap₂ (λ b r. pick b (then y.statements r) r) (is_it_bytes x.kind k x.name t y kind_is name_is) (continued-is xs)
+  continued_is [] = refl
+  continued_is (y ∷ xs) = ap₂ (λ b r. pick b (then y.statements r) r) (is_it_bytes x.kind k x.name t y kind_is name_is) (continued_is xs)
 
 merged_is_it : (k : Kind) (t : Word) (x : Object) (n : ℕ) (xs : List Object) → is_it k t (merged x n xs) ≡ is_it k t x
 unfolding merged
@@ -67,7 +67,7 @@ merge_gone k t a (x ∷ xs) n h =
     go (used x a) refl (λ i. merge_gone k t (a ++ (x ∷ [])) xs i (there_behind k t a x ∙ either_left (is_there (find_object k a t)) (is_it k t x) h))
   where
     other : (b : Bool) → is_it k t x ≡ b → used x a ≡ false → is_it k t x ≡ false
-    other true q u = absurd (false≢true (sym (sym (used-is k t x q a) ∙ u) ∙ h))
+    other true q u = absurd (false≢true (sym (sym (used_is k t x q a) ∙ u) ∙ h))
     other false q u = q
 
     go : (b : Bool) → used x a ≡ b → ((i : ℕ) → find_object k (merge_from (a ++ (x ∷ [])) xs i) t ≡ none) → find_object k (merge_from a (x ∷ xs) n) t ≡ none
@@ -93,11 +93,11 @@ merge_finds k t a (x ∷ xs) n h =
     Goal : List Object → Bool → Type 0
     Goal l b = if_there S (find_object k l t) ≡ pick (is_there (pick b (some x) (find_object k xs t))) (some (pick b (then x.statements (gathered k t xs)) (gathered k t xs))) none
 
-    by-used : (c : Bool) → used x a ≡ c → is_it k t x ≡ false
+    by_used : (c : Bool) → used x a ≡ c → is_it k t x ≡ false
         → ((i : ℕ) → if_there S (find_object k (merge_from (a ++ (x ∷ [])) xs i) t) ≡ pick (is_there (find_object k xs t)) (some (gathered k t xs)) none)
         → Goal (merge_from a (x ∷ xs) n) false
-    by-used true u q f = ap (λ l. if_there S (find_object k l t)) (merge_skip a x xs n u) ∙ f n
-    by-used false u q f =
+    by_used true u q f = ap (λ l. if_there S (find_object k l t)) (merge_skip a x xs n u) ∙ f n
+    by_used false u q f =
         ap (λ l. if_there S (find_object k l t)) (merge_new a x xs n u)
         ∙ ap (if_there S) (find_more k t (merged x n xs) (merge_from (a ++ (x ∷ [])) xs (suc n)) (merged_is_it k t x n xs ∙ q)) ∙ f (suc n)
 
@@ -105,11 +105,11 @@ merge_finds k t a (x ∷ xs) n h =
         → (is_it k t x ≡ false → (i : ℕ) → if_there S (find_object k (merge_from (a ++ (x ∷ [])) xs i) t) ≡ pick (is_there (find_object k xs t)) (some (gathered k t xs)) none)
         → Goal (merge_from a (x ∷ xs) n) (is_it k t x)
     go true q f =
-        ap (λ l. if_there S (find_object k l t)) (merge_new a x xs n (used-is k t x q a ∙ h))
+        ap (λ l. if_there S (find_object k l t)) (merge_new a x xs n (used_is k t x q a ∙ h))
         ∙ ap (if_there S) (find_here k t (merged x n xs) (merge_from (a ++ (x ∷ [])) xs (suc n)) (merged_is_it k t x n xs ∙ q))
-        ∙ ap some (merged_statements x n xs ∙ ap (then x.statements) (continued-is k t x q xs))
+        ∙ ap some (merged_statements x n xs ∙ ap (then x.statements) (continued_is k t x q xs))
         ∙ sym (ap (λ b. pick (is_there (pick b (some x) (find_object k xs t))) (some (pick b (then x.statements (gathered k t xs)) (gathered k t xs))) none) q)
-    go false q f = subst (Goal (merge_from a (x ∷ xs) n)) (sym q) (by-used (used x a) refl q (f q))
+    go false q f = subst (Goal (merge_from a (x ∷ xs) n)) (sym q) (by_used (used x a) refl q (f q))
 
 pub merge_gathers : (k : Kind) (t : Word) (xs : List Object)
     → if_there (λ x. x.statements) (find_object k (merge xs) t) ≡ pick (is_there (find_object k xs t)) (some (gathered k t xs)) none

@@ -8,7 +8,7 @@ use Rattle.meaning.specs.Syntax.{Word, AttributeType, integer, string, boolean, 
 use Rattle.meaning.specs.Words.{choose, alike, among}
 use Rattle.meaning.specs.Scopes.{Sort, a_name, sort_of, names, a_number as number-sort, a_string as string-sort, a_truth as truth-sort, an_auto as auto-sort, a_no_default as none-sort, a_float as float-sort}
 use Rattle.meaning.specs.Judging.{taken}
-use Rattle.meaning.specs.Resolving.{Value, number, truth, auto, enumerator, object, Taken, Resolved, end, resolved, named, valued, take_value, entries, default_entry, resolve, resolve-under, string as string-value, float as float_value}
+use Rattle.meaning.specs.Resolving.{Value, number, truth, auto, enumerator, object, Taken, Resolved, end, resolved, named, valued, take_value, entries, default_entry, resolve, resolve_under, string as string-value, float as float_value}
 use Rattle.meaning.proofs.Unplaced.{unplaced_word, unplaced_definition, unplaced_taken, unplaced_resolved}
 use Rattle.channels.specs.Channels.{Key, Shown, a_number, a_truth, an_auto, a_string, a_float, an_enumerator, a_reference, Item, View, nothing, item}
 
@@ -119,22 +119,22 @@ mutual
   unfolding resolve ideal
 
   -- What the definitions ds and the statements ss show.
-  pub resolve-ideal : (ds : Definitions) (os : List Object) (ss : Statements) → ideal (resolve ds os ss) ≡ ideal (resolve ds [] (unnumbered ss))
-  resolve-ideal no_more os ss = refl
-  resolve-ideal (define d vs ds) os ss =
-      let f : Word → Statements → Resolved = λ t us. resolve-under vs os t us in
-      let g : Word → Statements → Resolved = λ t us. resolve-under vs [] t us in
+  pub resolve_ideal : (ds : Definitions) (os : List Object) (ss : Statements) → ideal (resolve ds os ss) ≡ ideal (resolve ds [] (unnumbered ss))
+  resolve_ideal no_more os ss = refl
+  resolve_ideal (define d vs ds) os ss =
+      let f : Word → Statements → Resolved = λ t us. resolve_under vs os t us in
+      let g : Word → Statements → Resolved = λ t us. resolve_under vs [] t us in
       let r = resolve ds os ss in
       let q = resolve ds [] (unnumbered ss) in
-      let e = resolve-ideal ds os ss in
+      let e = resolve_ideal ds os ss in
       choose_ideal (among d.name (names ss)) _ _ _ _
-      (entries_ideal ss os d vs f g (λ t us. under-ideal vs os t us) r q e)
-      (default_ideal (taken d.default) os d vs f g (λ t us. under-ideal vs os t us) r q e)
+      (entries_ideal ss os d vs f g (λ t us. under_ideal vs os t us) r q e)
+      (default_ideal (taken d.default) os d vs f g (λ t us. under_ideal vs os t us) r q e)
       ∙ ap (λ ns. ideal (choose (among d.name ns) (λ _. entries (unnumbered ss) [] d vs g q) (λ _. default_entry (taken d.default) [] d vs g q))) (sym (names_unnumbered ss))
 
-  under-ideal : (vs : Values) (os : List Object) (t : Word) (ss : Statements) → ideal (resolve-under vs os t ss) ≡ ideal (resolve-under vs [] t (unnumbered ss))
-  under-ideal no_value os t ss = refl
-  under-ideal (value w e us vs) os t ss = choose_ideal (alike w t) _ _ _ _ (resolve-ideal us os ss) (under-ideal vs os t ss)
+  under_ideal : (vs : Values) (os : List Object) (t : Word) (ss : Statements) → ideal (resolve_under vs os t ss) ≡ ideal (resolve_under vs [] t (unnumbered ss))
+  under_ideal no_value os t ss = refl
+  under_ideal (value w e us vs) os t ss = choose_ideal (alike w t) _ _ _ _ (resolve_ideal us os ss) (under_ideal vs os t ss)
 
 -- Nor do places -------------------------------------------------------------------------------------------------------------------------------
 

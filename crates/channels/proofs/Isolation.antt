@@ -89,8 +89,8 @@ module _ (a i b : List ℕ) (x : Inside a i b) where
       ∙ sym (append_assoc A (o.kind ∷ o.name ∷ []) (x.pair.opening ∷ (o.inner ++ (x.pair.closing ∷ R))))
       ∙ sym (append_assoc F (x.pair.opening ∷ []) (o.inner ++ (x.pair.closing ∷ R)))
 
-  emptied-whole : Leaves-of E ≡ (F ++ (x.pair.opening ∷ [])) ++ (x.pair.closing ∷ R)
-  emptied-whole =
+  emptied_whole : Leaves-of E ≡ (F ++ (x.pair.opening ∷ [])) ++ (x.pair.closing ∷ R)
+  emptied_whole =
       let o = object_of in
       let A = front_leaves T ++ all_leaves x.before in
       let B = all_leaves x.after ++ back_leaves T in
@@ -99,12 +99,12 @@ module _ (a i b : List ℕ) (x : Inside a i b) where
       ∙ sym (append_assoc F (x.pair.opening ∷ []) (x.pair.closing ∷ R))
 
   -- Their words are those of a and of b, whatever stands between.
-  pub front-words : each (plain_word s) (F ++ (x.pair.opening ∷ [])) ≡ words_in a
-  front-words =
+  pub front_words : each (plain_word s) (F ++ (x.pair.opening ∷ [])) ≡ words_in a
+  front_words =
       piece_says (until_says a (i ++ b) F x.pair.opening (object_of.inner ++ (x.pair.closing ∷ R)) whole x.opens (brace_stops x.pair.opening.class object_of.opening-is))
 
-  rest-words : each (plain_word s) (x.pair.closing ∷ R) ≡ words_in b
-  rest-words =
+  rest_words : each (plain_word s) (x.pair.closing ∷ R) ≡ words_in b
+  rest_words =
       let p = x.pair in
       let l = length-append a i in
       let c = x.closes in
@@ -112,22 +112,22 @@ module _ (a i b : List ℕ) (x : Inside a i b) where
       ∙ back_words (a ++ i) b ((F ++ (p.opening ∷ [])) ++ object_of.inner) p.closing R
       (ap tokens (append_assoc a i b) ∙ whole ∙ sym (append_assoc (F ++ (p.opening ∷ [])) object_of.inner (p.closing ∷ R))) (omega arith)
 
-  pub emptied-words : each (plain_word s) (Leaves-of E) ≡ words_in a ++ words_in b
-  emptied-words =
-      ap (each (plain_word s)) emptied-whole ∙ each_append (plain_word s) (F ++ (x.pair.opening ∷ [])) (x.pair.closing ∷ R) ∙ ap₂ ◌++◌ front-words rest-words
+  pub emptied_words : each (plain_word s) (Leaves-of E) ≡ words_in a ++ words_in b
+  emptied_words =
+      ap (each (plain_word s)) emptied_whole ∙ each_append (plain_word s) (F ++ (x.pair.opening ∷ [])) (x.pair.closing ∷ R) ∙ ap₂ ◌++◌ front_words rest_words
 
   -- The kind and the name are words of a.
-  named-words : each (plain_word s) (front_leaves T ++ all_leaves x.before) ++ (plain_word s object_of.kind ∷ plain_word s object_of.name ∷ plain_word s x.pair.opening ∷ []) ≡ words_in a
+  named_words : each (plain_word s) (front_leaves T ++ all_leaves x.before) ++ (plain_word s object_of.kind ∷ plain_word s object_of.name ∷ plain_word s x.pair.opening ∷ []) ≡ words_in a
   unfolding each
-  named-words =
+  named_words =
       let A = front_leaves T ++ all_leaves x.before in
       sym (each_append (plain_word s) A (object_of.kind ∷ object_of.name ∷ x.pair.opening ∷ []))
-      ∙ ap (each (plain_word s)) (sym (append_assoc A (object_of.kind ∷ object_of.name ∷ []) (x.pair.opening ∷ []))) ∙ front-words
+      ∙ ap (each (plain_word s)) (sym (append_assoc A (object_of.kind ∷ object_of.name ∷ []) (x.pair.opening ∷ []))) ∙ front_words
 
   -- A channel of another object shows what it shows where nothing is between the braces.
-  other-channel : (t : Tables) → reading s ≡ accepted t → (k : Kind) (n : List ℕ) → (key_in s x.this ≡ record { kind = k; name = n } → ⊥)
+  other_channel : (t : Tables) → reading s ≡ accepted t → (k : Kind) (n : List ℕ) → (key_in s x.this ≡ record { kind = k; name = n } → ⊥)
       → channel_of s k n ≡ channel_alone (unplaced (syntax s E)) k (called n)
-  other-channel t e k n h =
+  other_channel t e k n h =
       let w = accepted_covered s t e in
       let d = x.derivation in
       channel_derived s w d k n
@@ -161,8 +161,8 @@ isolated a i j b t u e f x y k n h =
     let p = object_of a j b y in
     let w = same_three (each (plain_word s) (front_leaves x.derivation.tree ++ all_leaves x.before)) (each (plain_word v) (front_leaves y.derivation.tree ++ all_leaves y.before))
     (plain_word s o.kind) (plain_word s o.name) (plain_word s x.pair.opening) (plain_word v p.kind) (plain_word v p.name) (plain_word v y.pair.opening)
-    (named-words a i b x ∙ sym (named-words a j b y)) in
+    (named_words a i b x ∙ sym (named_words a j b y)) in
     let same : key_in s x.this ≡ key_in v y.this = o.key s ∙ same_key s v o.kind p.kind o.name p.name w.0 w.1 ∙ sym (p.key v) in
-    other-channel a j b y u f k n (λ q. h (same ∙ q))
-    ∙ ap (λ z. channel_alone z k (called n)) (sym (same_syntax s v (E a i b x) (E a j b y) (emptied-words a i b x ∙ sym (emptied-words a j b y))))
-    ∙ sym (other-channel a i b x t e k n h)
+    other_channel a j b y u f k n (λ q. h (same ∙ q))
+    ∙ ap (λ z. channel_alone z k (called n)) (sym (same_syntax s v (E a i b x) (E a j b y) (emptied_words a i b x ∙ sym (emptied_words a j b y))))
+    ∙ sym (other_channel a i b x t e k n h)

@@ -171,42 +171,42 @@ module _ (a b : List Object) (x y x' y' : Object) (xs ys : List Object) (n m : �
   after : (j k : ℕ) → Twins (merge_from ((a ++ (x ∷ [])) ++ (y ∷ [])) xs j) (merge_from ((b ++ (y' ∷ [])) ++ (x' ∷ [])) ys k)
   after j k = merge_twins j k (agree_swapped agree h i) p
 
-  y-used : used y (a ++ (x ∷ [])) ≡ used y a
-  y-used = used_other a x y (turned_same x y apart)
+  y_used : used y (a ++ (x ∷ [])) ≡ used y a
+  y_used = used_other a x y (turned_same x y apart)
 
-  x-used : used x' (b ++ (y' ∷ [])) ≡ used x' b
-  x-used = used_other b y' x' apart'
+  x_used : used x' (b ++ (y' ∷ [])) ≡ used x' b
+  x_used = used_other b y' x' apart'
 
-  one-twin : (j k : ℕ) → Twin (merged x j (y ∷ xs)) (merged x' k ys)
-  one-twin j k = merged_twin j k (y ∷ xs) ys h (ap unnumbered (continued_other x y xs apart) ∙ continued_twins h p)
+  one_twin : (j k : ℕ) → Twin (merged x j (y ∷ xs)) (merged x' k ys)
+  one_twin j k = merged_twin j k (y ∷ xs) ys h (ap unnumbered (continued_other x y xs apart) ∙ continued_twins h p)
 
-  other-twin : (j k : ℕ) → Twin (merged y j xs) (merged y' k (x' ∷ ys))
-  other-twin j k = merged_twin j k xs (x' ∷ ys) i (continued_twins i p ∙ sym (ap unnumbered (continued_other y' x' ys (turned_same x' y' apart'))))
+  other_twin : (j k : ℕ) → Twin (merged y j xs) (merged y' k (x' ∷ ys))
+  other_twin j k = merged_twin j k xs (x' ∷ ys) i (continued_twins i p ∙ sym (ap unnumbered (continued_other y' x' ys (turned_same x' y' apart'))))
 
-  merge-now : (c d : Bool) → used x a ≡ c → used y a ≡ d → Rearranged (merge_from a (x ∷ y ∷ xs) n) (merge_from b (y' ∷ x' ∷ ys) m)
-  merge-now true true q r =
+  merge_now : (c d : Bool) → used x a ≡ c → used y a ≡ d → Rearranged (merge_from a (x ∷ y ∷ xs) n) (merge_from b (y' ∷ x' ∷ ys) m)
+  merge_now true true q r =
       as_before (subst₂ (λ l t. Twins l t)
-      (sym (merge_skip a x (y ∷ xs) n q ∙ merge_skip (a ++ (x ∷ [])) y xs n (y-used ∙ r)))
-      (sym (merge_skip b y' (x' ∷ ys) m (sym (used_twins agree i) ∙ r) ∙ merge_skip (b ++ (y' ∷ [])) x' ys m (x-used ∙ sym (used_twins agree h) ∙ q)))
+      (sym (merge_skip a x (y ∷ xs) n q ∙ merge_skip (a ++ (x ∷ [])) y xs n (y_used ∙ r)))
+      (sym (merge_skip b y' (x' ∷ ys) m (sym (used_twins agree i) ∙ r) ∙ merge_skip (b ++ (y' ∷ [])) x' ys m (x_used ∙ sym (used_twins agree h) ∙ q)))
       (after n m))
-  merge-now true false q r =
+  merge_now true false q r =
       as_before (subst₂ (λ l t. Twins l t)
-      (sym (merge_skip a x (y ∷ xs) n q ∙ merge_new (a ++ (x ∷ [])) y xs n (y-used ∙ r)))
-      (sym (merge_new b y' (x' ∷ ys) m (sym (used_twins agree i) ∙ r) ∙ ap (merged y' m (x' ∷ ys) ∷◌) (merge_skip (b ++ (y' ∷ [])) x' ys (suc m) (x-used ∙ sym (used_twins agree h) ∙ q))))
-      (more_twins (other-twin n m) (after (suc n) (suc m))))
-  merge-now false true q r =
+      (sym (merge_skip a x (y ∷ xs) n q ∙ merge_new (a ++ (x ∷ [])) y xs n (y_used ∙ r)))
+      (sym (merge_new b y' (x' ∷ ys) m (sym (used_twins agree i) ∙ r) ∙ ap (merged y' m (x' ∷ ys) ∷◌) (merge_skip (b ++ (y' ∷ [])) x' ys (suc m) (x_used ∙ sym (used_twins agree h) ∙ q))))
+      (more_twins (other_twin n m) (after (suc n) (suc m))))
+  merge_now false true q r =
       as_before (subst₂ (λ l t. Twins l t)
-      (sym (merge_new a x (y ∷ xs) n q ∙ ap (merged x n (y ∷ xs) ∷◌) (merge_skip (a ++ (x ∷ [])) y xs (suc n) (y-used ∙ r))))
-      (sym (merge_skip b y' (x' ∷ ys) m (sym (used_twins agree i) ∙ r) ∙ merge_new (b ++ (y' ∷ [])) x' ys m (x-used ∙ sym (used_twins agree h) ∙ q)))
-      (more_twins (one-twin n m) (after (suc n) (suc m))))
-  merge-now false false q r =
+      (sym (merge_new a x (y ∷ xs) n q ∙ ap (merged x n (y ∷ xs) ∷◌) (merge_skip (a ++ (x ∷ [])) y xs (suc n) (y_used ∙ r))))
+      (sym (merge_skip b y' (x' ∷ ys) m (sym (used_twins agree i) ∙ r) ∙ merge_new (b ++ (y' ∷ [])) x' ys m (x_used ∙ sym (used_twins agree h) ∙ q)))
+      (more_twins (one_twin n m) (after (suc n) (suc m))))
+  merge_now false false q r =
       exchanged (subst₂ (λ l t. Swapped l t)
-      (sym (merge_new a x (y ∷ xs) n q ∙ ap (merged x n (y ∷ xs) ∷◌) (merge_new (a ++ (x ∷ [])) y xs (suc n) (y-used ∙ r))))
-      (sym (merge_new b y' (x' ∷ ys) m (sym (used_twins agree i) ∙ r) ∙ ap (merged y' m (x' ∷ ys) ∷◌) (merge_new (b ++ (y' ∷ [])) x' ys (suc m) (x-used ∙ sym (used_twins agree h) ∙ q))))
-      (swapped (one-twin n (suc m)) (other-twin (suc n) m) (after (suc (suc n)) (suc (suc m)))))
+      (sym (merge_new a x (y ∷ xs) n q ∙ ap (merged x n (y ∷ xs) ∷◌) (merge_new (a ++ (x ∷ [])) y xs (suc n) (y_used ∙ r))))
+      (sym (merge_new b y' (x' ∷ ys) m (sym (used_twins agree i) ∙ r) ∙ ap (merged y' m (x' ∷ ys) ∷◌) (merge_new (b ++ (y' ∷ [])) x' ys (suc m) (x_used ∙ sym (used_twins agree h) ∙ q))))
+      (swapped (one_twin n (suc m)) (other_twin (suc n) m) (after (suc (suc n)) (suc (suc m)))))
 
 pub merge_swapped : {a b xs ys : List Object} (n m : ℕ) → Agree a b → PartsSwapped xs ys → Rearranged (merge_from a xs n) (merge_from b ys m)
-merge_swapped {a} {b} n m e (now {x} {y} {x'} {y'} {xs} {ys} q h i p) = merge-now a b x y x' y' xs ys n m e q h i p (used x a) (used y a) refl refl
+merge_swapped {a} {b} n m e (now {x} {y} {x'} {y'} {xs} {ys} q h i p) = merge_now a b x y x' y' xs ys n m e q h i p (used x a) (used y a) refl refl
 merge_swapped {a} {b} n m e (on {x} {y} {xs} {ys} h p) = go (used x a) refl (λ i j. merge_swapped i j (agree_behind e h) p)
   where
     go : (c : Bool) → used x a ≡ c → ((i j : ℕ) → Rearranged (merge_from (a ++ (x ∷ [])) xs i) (merge_from (b ++ (y ∷ [])) ys j)) → Rearranged (merge_from a (x ∷ xs) n) (merge_from b (y ∷ ys) m)

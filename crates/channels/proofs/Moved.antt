@@ -15,7 +15,7 @@ use Rattle.meaning.specs.Places.{each}
 use Rattle.meaning.specs.Answers.{Tables, Answer, accepted, answer}
 use Rattle.meaning.specs.Reading.{reading}
 use Rattle.meaning.proofs.Found.{parse_derived, reading_derived}
-use Rattle.meaning.proofs.Unplaced.{if_there as if_unplaced, unplaced_word, unplaced_definition, unplaced_statements, unplaced_object, unplaced, unplaced_taken, unplaced_resolved, kind_unplaced, object_unplaced, resolve-unplaced}
+use Rattle.meaning.proofs.Unplaced.{if_there as if_unplaced, unplaced_word, unplaced_definition, unplaced_statements, unplaced_object, unplaced, unplaced_taken, unplaced_resolved, kind_unplaced, object_unplaced, resolve_unplaced}
 use Rattle.meaning.proofs.UnplacedFaults.{SameAnswer, both_accept, both_refuse, answer_unplaced}
 use Rattle.reads_back.proofs.Restated.{plain_word}
 use Rattle.reads_back.proofs.SameTables.{accepts_unplaced}
@@ -56,7 +56,7 @@ values_unplaced : (f : File) (x : Object) → object_values (unplaced f) (unplac
 unfolding object_values unplaced unplaced_object
 values_unplaced f x =
     ap (λ ds. resolve ds (each unplaced_object f.objects) (unplaced_statements x.statements)) (kind_unplaced x.kind f.specs)
-    ∙ resolve-unplaced (of_kind x.kind f.specs) f.objects x.statements
+    ∙ resolve_unplaced (of_kind x.kind f.specs) f.objects x.statements
 
 -- The objects without places.
 pub objects_unplaced : (f : File) → (unplaced f).objects ≡ each unplaced_object f.objects
@@ -97,21 +97,21 @@ channel_derived s w d k n = ap (λ p. channel_in p k n) (parse_derived s w d)
 -- A derivation of the tokens of u with the syntax that the tree t has over s, but places.
 pub record Transplanted (s u : List ℕ) (t : Trees ◌⟶◌ (file ▸ ∎)) : Type 0 where
   pub derivation : Derivation (tokens u)
-  pub syntax-is : unplaced (syntax u derivation.tree) ≡ unplaced (syntax s t)
+  pub syntax_is : unplaced (syntax u derivation.tree) ≡ unplaced (syntax s t)
 
 pub transplanted : (s u : List ℕ) (t : Trees ◌⟶◌ (file ▸ ∎)) → each (plain_word u) (tokens u) ≡ each (plain_word s) (Leaves-of t) → Transplanted s u t
 unfolding syntax bare_parts bare_M
 transplanted s u t e =
     let p = planted (lifted s t) u (tokens u) e in
-    record { derivation = record { tree = p.tree; leaves = p.leaves }; syntax-is = ap (λ m. m.0) p.meaning-is }
+    record { derivation = record { tree = p.tree; leaves = p.leaves }; syntax_is = ap (λ m. m.0) p.meaning-is }
 
 -- Where one is accepted, so is the other.
 record Accepts (a : Answer) : Type 0 where
   placed : Tables
-  accepted-as : a ≡ accepted placed
+  accepted_as : a ≡ accepted placed
 
 placed_accepts : {a b : Answer} (t : Tables) → SameAnswer a b → b ≡ accepted t → Accepts a
-placed_accepts t (both_accept u) e = record { placed = u; accepted-as = refl }
+placed_accepts t (both_accept u) e = record { placed = u; accepted_as = refl }
 placed_accepts t (both_refuse n p m q) e = absurd (let z : ◌≡◌ {A = Bool} false true = cc in false≢true z)
 
 -- The text u with the words of the tree t, whose syntax over s is accepted, is accepted, with the channels of that syntax.

@@ -3,12 +3,12 @@ use mathlib.Core.Path.{◌≡◌, sym, ◌∙◌, ap, subst}
 use mathlib.Core.List.{List, [], ◌∷◌, ◌++◌, append_assoc, append-nil}
 use mathlib.Core.Bool.{Bool, true, false, false≢true}
 use Prim.Native.Nat.{ℕ}
-use Rattle.grammar.specs.Grammar.{Token, ◌▸◌, ∎, ◌⟶◌, Trees, nil, leaf, node, file, file-is, application-is, an-object-alone, an-object-with, Derivation, tokens as Leaves-of}
+use Rattle.grammar.specs.Grammar.{Token, ◌▸◌, ∎, ◌⟶◌, Trees, nil, leaf, node, file, file_is, application_is, an_object_alone, an_object_with, Derivation, tokens as Leaves-of}
 use Rattle.grammar.specs.Terminals.{tokens}
 use Rattle.grammar.specs.Demand.{Covered}
 use Rattle.meaning.specs.Places.{each}
 use Rattle.meaning.specs.Answers.{Tables, Answer, accepted}
-use Rattle.meaning.specs.Reading.{Answers, too_long, not-grammar, meant, reading}
+use Rattle.meaning.specs.Reading.{Answers, too_long, not_grammar, meant, reading}
 use Rattle.meaning.proofs.Whole.{answers}
 use Rattle.reads_back.proofs.Restated.{plain_word, word_opens, word_closes}
 use Rattle.reads_back.proofs.DepthTrees.{plain_leaves_are, trees_balanced}
@@ -19,16 +19,16 @@ use Rattle.channels.proofs.Saying.{brace_stops, Ending, ending_append, Ends, obj
 -- An object from its kind's word through its semicolon.
 pub object_ends : (x : ObjectTree) → Ends (Leaves-of x)
 unfolding Leaves-of
-object_ends (node an-object-alone (leaf t _ (leaf n _ (node p d (leaf c h nil)))) nil) =
-    record { first = t; mid = n ∷ Leaves-of d; final = c; leaves = append-nil (t ∷ n ∷ (Leaves-of d ++ (c ∷ []))); final-is = h }
-object_ends (node an-object-with (leaf t _ (leaf n _ (leaf o _ (node q ss (leaf r _ (node p d (leaf c h nil))))))) nil) =
+object_ends (node an_object_alone (leaf t _ (leaf n _ (node p d (leaf c h nil)))) nil) =
+    record { first = t; mid = n ∷ Leaves-of d; final = c; leaves = append-nil (t ∷ n ∷ (Leaves-of d ++ (c ∷ []))); final_is = h }
+object_ends (node an_object_with (leaf t _ (leaf n _ (leaf o _ (node q ss (leaf r _ (node p d (leaf c h nil))))))) nil) =
     record {
       first = t;
       mid = n ∷ o ∷ (Leaves-of ss ++ (r ∷ Leaves-of d));
       final = c;
       leaves = append-nil (t ∷ n ∷ o ∷ (Leaves-of ss ++ (r ∷ (Leaves-of d ++ (c ∷ [])))))
           ∙ ap (λ l. t ∷ n ∷ o ∷ l) (sym (append_assoc (Leaves-of ss) (r ∷ Leaves-of d) (c ∷ [])));
-      final-is = h;
+      final_is = h;
     }
 
 -- It closes the braces that it opens.
@@ -40,7 +40,7 @@ object_balanced s (node p us nil) =
 -- Tokens before an object end with a sign.
 front_ending : (t : Trees ◌⟶◌ (file ▸ ∎)) → Ending (front_leaves t)
 unfolding front_leaves
-front_ending (node file-is (node p v (node q i (node application-is (leaf a k (leaf b m (leaf c n os))) nil))) nil) =
+front_ending (node file_is (node p v (node q i (node application_is (leaf a k (leaf b m (leaf c n os))) nil))) nil) =
     ending_append (Leaves-of v) (Leaves-of i ++ (a ∷ b ∷ c ∷ [])) (ending_append (Leaves-of i) (a ∷ b ∷ c ∷ []) (brace_stops c.class n))
 
 objects_ending : (l : List ObjectTree) (a : List Token) → Ending a → Ending (a ++ all_leaves l)
@@ -73,7 +73,7 @@ text_spread s d a b x y e = sym d.leaves ∙ ap Leaves-of (sym (with_own d.tree)
 -- An accepted text is covered.
 by_answer : {s : List ℕ} {a : Answer} (t : Tables) → Answers s a → a ≡ accepted t → Covered s
 by_answer t (too_long k) e = absurd (let z : ◌≡◌ {A = Bool} false true = cc in false≢true z)
-by_answer t (not-grammar a k m q) e = absurd (let z : ◌≡◌ {A = Bool} false true = cc in false≢true z)
+by_answer t (not_grammar a k m q) e = absurd (let z : ◌≡◌ {A = Bool} false true = cc in false≢true z)
 by_answer t (meant w d) e = w
 
 pub accepted_covered : (s : List ℕ) (t : Tables) → reading s ≡ accepted t → Covered s
@@ -82,7 +82,7 @@ accepted_covered s t e = by_answer t (answers s) e
 -- It has a derivation.
 by_meant : {s : List ℕ} {a : Answer} (t : Tables) → Answers s a → a ≡ accepted t → Derivation (tokens s)
 by_meant t (too_long k) e = absurd (let z : ◌≡◌ {A = Bool} false true = cc in false≢true z)
-by_meant t (not-grammar a k m q) e = absurd (let z : ◌≡◌ {A = Bool} false true = cc in false≢true z)
+by_meant t (not_grammar a k m q) e = absurd (let z : ◌≡◌ {A = Bool} false true = cc in false≢true z)
 by_meant t (meant w d) e = d
 
 pub accepted_derivation : (s : List ℕ) (t : Tables) → reading s ≡ accepted t → Derivation (tokens s)

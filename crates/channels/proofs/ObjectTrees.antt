@@ -3,7 +3,7 @@ use mathlib.Core.Path.{◌≡◌, refl, sym, ◌∙◌, ap, ap₂}
 use mathlib.Core.Bool.{false}
 use mathlib.Core.List.{List, [], ◌∷◌, ◌++◌, append_assoc, append-nil}
 use Prim.Native.Nat.{ℕ, suc, ◌+◌}
-use Rattle.grammar.specs.Grammar.{Token, Form, ◌▸◌, ∎, ◌⟶◌, Trees, nil, leaf, node, file, objects, file-is, application-is, no_object, an_object, tokens as Leaves-of}
+use Rattle.grammar.specs.Grammar.{Token, Form, ◌▸◌, ∎, ◌⟶◌, Trees, nil, leaf, node, file, objects, file_is, application_is, no_object, an_object, tokens as Leaves-of}
 use Rattle.meaning.specs.Syntax.{Object, File, statements_in}
 use Rattle.meaning.specs.Actions.{means, meaning, syntax}
 use Rattle.meaning.specs.Words.{alike}
@@ -93,24 +93,24 @@ from_swapped s (z ∷ a) b x y n k m j d = on (object_kept s z n k m j) (from_sw
 
 -- The file with other objects.
 unfoldable pub with_objects : Trees ◌⟶◌ (file ▸ ∎) → List ObjectTree → Trees ◌⟶◌ (file ▸ ∎)
-with_objects (node file-is (node p v (node q i (node application-is (leaf a k (leaf b m (leaf c n os))) nil))) nil) l =
-    node file-is (node p v (node q i (node application-is (leaf a k (leaf b m (leaf c n (join_trees l (rest_trees os))))) nil))) nil
+with_objects (node file_is (node p v (node q i (node application_is (leaf a k (leaf b m (leaf c n os))) nil))) nil) l =
+    node file_is (node p v (node q i (node application_is (leaf a k (leaf b m (leaf c n (join_trees l (rest_trees os))))) nil))) nil
 
 -- The tokens before the objects, and those behind them.
 unfoldable pub front_leaves : Trees ◌⟶◌ (file ▸ ∎) → List Token
-front_leaves (node file-is (node p v (node q i (node application-is (leaf a k (leaf b m (leaf c n os))) nil))) nil) = Leaves-of v ++ (Leaves-of i ++ (a ∷ b ∷ c ∷ []))
+front_leaves (node file_is (node p v (node q i (node application_is (leaf a k (leaf b m (leaf c n os))) nil))) nil) = Leaves-of v ++ (Leaves-of i ++ (a ∷ b ∷ c ∷ []))
 
 unfoldable pub back_leaves : Trees ◌⟶◌ (file ▸ ∎) → List Token
-back_leaves (node file-is (node p v (node q i (node application-is (leaf a k (leaf b m (leaf c n os))) nil))) nil) = Leaves-of (rest_trees os)
+back_leaves (node file_is (node p v (node q i (node application_is (leaf a k (leaf b m (leaf c n os))) nil))) nil) = Leaves-of (rest_trees os)
 
 pub with_own : (t : Trees ◌⟶◌ (file ▸ ∎)) → with_objects t (object_trees t) ≡ t
 unfolding with_objects object_trees
-with_own (node file-is (node p v (node q i (node application-is (leaf a k (leaf b m (leaf c n os))) nil))) nil) =
-    ap (λ z. node file-is (node p v (node q i (node application-is (leaf a k (leaf b m (leaf c n z))) nil))) nil) (joined os)
+with_own (node file_is (node p v (node q i (node application_is (leaf a k (leaf b m (leaf c n os))) nil))) nil) =
+    ap (λ z. node file_is (node p v (node q i (node application_is (leaf a k (leaf b m (leaf c n z))) nil))) nil) (joined os)
 
 pub with_trees : (t : Trees ◌⟶◌ (file ▸ ∎)) (l : List ObjectTree) → Leaves-of (with_objects t l) ≡ front_leaves t ++ (all_leaves l ++ back_leaves t)
 unfolding with_objects front_leaves back_leaves Leaves-of
-with_trees (node file-is (node p v (node q i (node application-is (leaf a k (leaf b m (leaf c n os))) nil))) nil) l =
+with_trees (node file_is (node p v (node q i (node application_is (leaf a k (leaf b m (leaf c n os))) nil))) nil) l =
     append-nil (Leaves-of v ++ (Leaves-of i ++ ((a ∷ b ∷ c ∷ Leaves-of (join_trees l (rest_trees os))) ++ [])))
     ∙ ap (λ z. Leaves-of v ++ (Leaves-of i ++ z)) (append-nil (a ∷ b ∷ c ∷ Leaves-of (join_trees l (rest_trees os))) ∙ ap (λ z. a ∷ b ∷ c ∷ z) (join_leaves l (rest_trees os)))
     ∙ ap (Leaves-of v ++◌) (sym (append_assoc (Leaves-of i) (a ∷ b ∷ c ∷ []) (all_leaves l ++ Leaves-of (rest_trees os))))
@@ -124,8 +124,8 @@ pub record SameButObjects (f g : File) : Type 0 where
 
 pub with_same : (s : List ℕ) (t : Trees ◌⟶◌ (file ▸ ∎)) (l : List ObjectTree) → SameButObjects (syntax s t) (syntax s (with_objects t l))
 unfolding with_objects syntax meaning means
-with_same s (node file-is (node p v (node q i (node application-is (leaf a k (leaf b m (leaf c n os))) nil))) nil) l = record { version = refl; specs = refl; cpu = refl }
+with_same s (node file_is (node p v (node q i (node application_is (leaf a k (leaf b m (leaf c n os))) nil))) nil) l = record { version = refl; specs = refl; cpu = refl }
 
 pub with_meaning : (s : List ℕ) (t : Trees ◌⟶◌ (file ▸ ∎)) (l : List ObjectTree) → (syntax s (with_objects t l)).parts ≡ objects_from s l 0 0
 unfolding with_objects syntax meaning means
-with_meaning s (node file-is (node p v (node q i (node application-is (leaf a k (leaf b m (leaf c n os))) nil))) nil) l = join_meaning s l (rest_trees os) 0 0
+with_meaning s (node file_is (node p v (node q i (node application_is (leaf a k (leaf b m (leaf c n os))) nil))) nil) l = join_meaning s l (rest_trees os) 0 0

@@ -9,7 +9,7 @@ use lib.ListN.{length, length-append}
 use lib.Dec.{eqb, ltb}
 use borrow.Author.Tests.{eqb-true, lt-ltb, le-ltb}
 use Rattle.token.specs.Find.{bit, both, either, is_there}
-use Rattle.grammar.specs.Grammar.{Token, Rule, tok, rule, matches, sg, lbrace, rbrace, tokens, Form, ∎, ◌⟶◌, Trees, nil, leaf, node, file, version, implementation, specs, spec, definitions, definition, attribute, D, P, auto, mark, integer_range, numbers, boolean_range, float_range, enumerator, enumerators, application, objects, object, block, statements, statement, default, own, file-is, version_is, implementation-is, no-spec, a-spec, spec_is, no-definition, a_definition, an-attribute, a_reference, an_integer, a_string, a_boolean, an_enum, a_float, reference-is, no-D, a-D, no-P, a-P, no-auto, with-auto, no-mark, a-mark, no-range, a-range, a-list, no_number, a_number, no-boolean-range, a-boolean-range, no-float-range, a-float-range, enumerator_is, no-enumerator, an_enumerator, no_default, a-default, own-auto, own-none, own-number, own-string, own-true, own-false, own_name, own-float, application-is, no_object, an_object, an-object-alone, an-object-with, no_block, a_block, no-statement, a_statement, statement-is, value-number, value-string, value-float, value-auto, value-name, value-true, value-false, reference as reference-rule, value as value-rule}
+use Rattle.grammar.specs.Grammar.{Token, Rule, tok, rule, matches, sg, lbrace, rbrace, tokens, Form, ∎, ◌⟶◌, Trees, nil, leaf, node, file, version, implementation, specs, spec, definitions, definition, attribute, D, P, auto, mark, integer_range, numbers, boolean_range, float_range, enumerator, enumerators, application, objects, object, block, statements, statement, default, own, file_is, version_is, implementation_is, no_spec, a_spec, spec_is, no_definition, a_definition, an_attribute, a_reference, an_integer, a_string, a_boolean, an_enum, a_float, reference_is, no_D, a_D, no_P, a_P, no_auto, with_auto, no_mark, a_mark, no_range, a_range, a_list, no_number, a_number, no_boolean_range, a_boolean_range, no_float_range, a_float_range, enumerator_is, no_enumerator, an_enumerator, no_default, a_default, own_auto, own_none, own_number, own_string, own_true, own_false, own_name, own_float, application_is, no_object, an_object, an_object_alone, an_object_with, no_block, a_block, no_statement, a_statement, statement_is, value_number, value_string, value_float, value_auto, value_name, value_true, value_false, reference as reference-rule, value as value-rule}
 use Rattle.grammar.specs.Stage.{opens, closes}
 use Rattle.grammar.proofs.Braces.{terminal_code, opening, closing, agree}
 use Rattle.meaning.specs.Words.{choose}
@@ -100,9 +100,9 @@ level_token {d} {e} t m h y = record { front = go; total = let q = y.total in om
 
 -- The `}` behind such tokens is found where they end.
 module _ (U S : List Token) (c z : Token) (Q R : List Token) (u : Level 0 U) (s : Level 0 S) (p : is_close c ≡ true) (q : is_close z ≡ true) where
-  too-soon : (M N : List Token) (x : Token) (E : List Token) → Level 0 M → Level 0 N → is_close x ≡ true → N ≡ M ++ (x ∷ E) → ⊥
+  too_soon : (M N : List Token) (x : Token) (E : List Token) → Level 0 M → Level 0 N → is_close x ≡ true → N ≡ M ++ (x ∷ E) → ⊥
   unfolding opens closes bit terminal_code
-  too-soon M N x E v w h e =
+  too_soon M N x E v w h e =
       let i = w.front (M ++ (x ∷ [])) E (e ∙ sym (append_assoc M (x ∷ []) E)) in
       let j = v.total in
       let a = opens_append M (x ∷ []) in
@@ -114,14 +114,14 @@ module _ (U S : List Token) (c z : Token) (Q R : List Token) (u : Level 0 U) (s 
       open-not : (x : Token) → is_close x ≡ true → bit (is_open x) ≡ 0
       open-not x h = ap bit (agree (sg rbrace) x.class h).0
 
-  by-fronts : Fronts U (c ∷ Q) S (z ∷ R) → (U ≡ S) × (c ∷ Q ≡ z ∷ R)
-  by-fronts (longer [] e f) = (sym (e ∙ nil_right U), f)
-  by-fronts (longer (x ∷ E) e f) = let i : c ≡ x = cc in absurd (too-soon U S x E u s (ap (λ (t : Token). is_close t) (sym i) ∙ p) e)
-  by-fronts (shorter [] e f) = (e ∙ nil_right S, sym f)
-  by-fronts (shorter (x ∷ E) e f) = let i : z ≡ x = cc in absurd (too-soon S U x E s u (ap (λ (t : Token). is_close t) (sym i) ∙ q) e)
+  by_fronts : Fronts U (c ∷ Q) S (z ∷ R) → (U ≡ S) × (c ∷ Q ≡ z ∷ R)
+  by_fronts (longer [] e f) = (sym (e ∙ nil_right U), f)
+  by_fronts (longer (x ∷ E) e f) = let i : c ≡ x = cc in absurd (too_soon U S x E u s (ap (λ (t : Token). is_close t) (sym i) ∙ p) e)
+  by_fronts (shorter [] e f) = (e ∙ nil_right S, sym f)
+  by_fronts (shorter (x ∷ E) e f) = let i : z ≡ x = cc in absurd (too_soon S U x E s u (ap (λ (t : Token). is_close t) (sym i) ∙ q) e)
 
-  pub pair-match : U ++ (c ∷ Q) ≡ S ++ (z ∷ R) → (U ≡ S) × (c ∷ Q ≡ z ∷ R)
-  pair-match e = by-fronts (fronts U (c ∷ Q) S (z ∷ R) e)
+  pub pair_match : U ++ (c ∷ Q) ≡ S ++ (z ∷ R) → (U ≡ S) × (c ∷ Q ≡ z ∷ R)
+  pair_match e = by_fronts (fronts U (c ∷ Q) S (z ∷ R) e)
 
 -- Forms --------------------------------------------------------------------------------------------------------------------------------------
 
@@ -141,69 +141,69 @@ formed d (rule x ∷ f) = formed d f
 
 form_formed : {x : Rule} {g : Form} → x ⟶ g → formed 0 g ≡ true
 unfolding formed
-form_formed file-is = refl
+form_formed file_is = refl
 form_formed version_is = refl
-form_formed implementation-is = refl
-form_formed no-spec = refl
-form_formed a-spec = refl
+form_formed implementation_is = refl
+form_formed no_spec = refl
+form_formed a_spec = refl
 form_formed spec_is = refl
-form_formed no-definition = refl
+form_formed no_definition = refl
 form_formed a_definition = refl
-form_formed an-attribute = refl
+form_formed an_attribute = refl
 form_formed a_reference = refl
 form_formed an_integer = refl
 form_formed a_string = refl
 form_formed a_boolean = refl
 form_formed an_enum = refl
 form_formed a_float = refl
-form_formed reference-is = refl
-form_formed no-D = refl
-form_formed a-D = refl
-form_formed no-P = refl
-form_formed a-P = refl
-form_formed no-auto = refl
-form_formed with-auto = refl
-form_formed no-mark = refl
-form_formed a-mark = refl
-form_formed no-range = refl
-form_formed a-range = refl
-form_formed a-list = refl
+form_formed reference_is = refl
+form_formed no_D = refl
+form_formed a_D = refl
+form_formed no_P = refl
+form_formed a_P = refl
+form_formed no_auto = refl
+form_formed with_auto = refl
+form_formed no_mark = refl
+form_formed a_mark = refl
+form_formed no_range = refl
+form_formed a_range = refl
+form_formed a_list = refl
 form_formed no_number = refl
 form_formed a_number = refl
-form_formed no-boolean-range = refl
-form_formed a-boolean-range = refl
-form_formed no-float-range = refl
-form_formed a-float-range = refl
+form_formed no_boolean_range = refl
+form_formed a_boolean_range = refl
+form_formed no_float_range = refl
+form_formed a_float_range = refl
 form_formed enumerator_is = refl
-form_formed no-enumerator = refl
+form_formed no_enumerator = refl
 form_formed an_enumerator = refl
 form_formed no_default = refl
-form_formed a-default = refl
-form_formed own-auto = refl
-form_formed own-none = refl
-form_formed own-number = refl
-form_formed own-string = refl
-form_formed own-true = refl
-form_formed own-false = refl
+form_formed a_default = refl
+form_formed own_auto = refl
+form_formed own_none = refl
+form_formed own_number = refl
+form_formed own_string = refl
+form_formed own_true = refl
+form_formed own_false = refl
 form_formed own_name = refl
-form_formed own-float = refl
-form_formed application-is = refl
+form_formed own_float = refl
+form_formed application_is = refl
 form_formed no_object = refl
 form_formed an_object = refl
-form_formed an-object-alone = refl
-form_formed an-object-with = refl
+form_formed an_object_alone = refl
+form_formed an_object_with = refl
 form_formed no_block = refl
 form_formed a_block = refl
-form_formed no-statement = refl
+form_formed no_statement = refl
 form_formed a_statement = refl
-form_formed statement-is = refl
-form_formed value-number = refl
-form_formed value-string = refl
-form_formed value-float = refl
-form_formed value-auto = refl
-form_formed value-name = refl
-form_formed value-true = refl
-form_formed value-false = refl
+form_formed statement_is = refl
+form_formed value_number = refl
+form_formed value_string = refl
+form_formed value_float = refl
+form_formed value_auto = refl
+form_formed value_name = refl
+form_formed value_true = refl
+form_formed value_false = refl
 
 leaf_level : (a c : Bool) (d : ℕ) (t : Token) (m : List Token) (k : ℕ → Bool) → is_open t ≡ a → is_close t ≡ c → turn a c d k ≡ true → ((e : ℕ) → k e ≡ true → Level e m) → Level d (t ∷ m)
 unfolding turn bit
@@ -228,27 +228,27 @@ unfoldable pub nothing : (x : Rule) → Option (x ⟶ ∎)
 nothing file = none
 nothing version = none
 nothing implementation = none
-nothing specs = some no-spec
+nothing specs = some no_spec
 nothing spec = none
-nothing definitions = some no-definition
+nothing definitions = some no_definition
 nothing definition = none
 nothing attribute = none
 nothing reference-rule = none
-nothing D = some no-D
-nothing P = some no-P
-nothing auto = some no-auto
-nothing mark = some no-mark
-nothing integer_range = some no-range
+nothing D = some no_D
+nothing P = some no_P
+nothing auto = some no_auto
+nothing mark = some no_mark
+nothing integer_range = some no_range
 nothing numbers = some no_number
-nothing boolean_range = some no-boolean-range
-nothing float_range = some no-float-range
+nothing boolean_range = some no_boolean_range
+nothing float_range = some no_float_range
 nothing enumerator = none
-nothing enumerators = some no-enumerator
+nothing enumerators = some no_enumerator
 nothing application = none
 nothing objects = some no_object
 nothing object = none
 nothing block = some no_block
-nothing statements = some no-statement
+nothing statements = some no_statement
 nothing statement = none
 nothing value-rule = none
 nothing (default s) = some no_default
@@ -271,69 +271,69 @@ neat (rule x ∷ f) = neat f
 
 pub form_neat : {x : Rule} {g : Form} → x ⟶ g → neat g ≡ true
 unfolding neat is_there
-form_neat file-is = refl
+form_neat file_is = refl
 form_neat version_is = refl
-form_neat implementation-is = refl
-form_neat no-spec = refl
-form_neat a-spec = refl
+form_neat implementation_is = refl
+form_neat no_spec = refl
+form_neat a_spec = refl
 form_neat spec_is = refl
-form_neat no-definition = refl
+form_neat no_definition = refl
 form_neat a_definition = refl
-form_neat an-attribute = refl
+form_neat an_attribute = refl
 form_neat a_reference = refl
 form_neat an_integer = refl
 form_neat a_string = refl
 form_neat a_boolean = refl
 form_neat an_enum = refl
 form_neat a_float = refl
-form_neat reference-is = refl
-form_neat no-D = refl
-form_neat a-D = refl
-form_neat no-P = refl
-form_neat a-P = refl
-form_neat no-auto = refl
-form_neat with-auto = refl
-form_neat no-mark = refl
-form_neat a-mark = refl
-form_neat no-range = refl
-form_neat a-range = refl
-form_neat a-list = refl
+form_neat reference_is = refl
+form_neat no_D = refl
+form_neat a_D = refl
+form_neat no_P = refl
+form_neat a_P = refl
+form_neat no_auto = refl
+form_neat with_auto = refl
+form_neat no_mark = refl
+form_neat a_mark = refl
+form_neat no_range = refl
+form_neat a_range = refl
+form_neat a_list = refl
 form_neat no_number = refl
 form_neat a_number = refl
-form_neat no-boolean-range = refl
-form_neat a-boolean-range = refl
-form_neat no-float-range = refl
-form_neat a-float-range = refl
+form_neat no_boolean_range = refl
+form_neat a_boolean_range = refl
+form_neat no_float_range = refl
+form_neat a_float_range = refl
 form_neat enumerator_is = refl
-form_neat no-enumerator = refl
+form_neat no_enumerator = refl
 form_neat an_enumerator = refl
 form_neat no_default = refl
-form_neat a-default = refl
-form_neat own-auto = refl
-form_neat own-none = refl
-form_neat own-number = refl
-form_neat own-string = refl
-form_neat own-true = refl
-form_neat own-false = refl
+form_neat a_default = refl
+form_neat own_auto = refl
+form_neat own_none = refl
+form_neat own_number = refl
+form_neat own_string = refl
+form_neat own_true = refl
+form_neat own_false = refl
 form_neat own_name = refl
-form_neat own-float = refl
-form_neat application-is = refl
+form_neat own_float = refl
+form_neat application_is = refl
 form_neat no_object = refl
 form_neat an_object = refl
-form_neat an-object-alone = refl
-form_neat an-object-with = refl
+form_neat an_object_alone = refl
+form_neat an_object_with = refl
 form_neat no_block = refl
 form_neat a_block = refl
-form_neat no-statement = refl
+form_neat no_statement = refl
 form_neat a_statement = refl
-form_neat statement-is = refl
-form_neat value-number = refl
-form_neat value-string = refl
-form_neat value-float = refl
-form_neat value-auto = refl
-form_neat value-name = refl
-form_neat value-true = refl
-form_neat value-false = refl
+form_neat statement_is = refl
+form_neat value_number = refl
+form_neat value_string = refl
+form_neat value_float = refl
+form_neat value_auto = refl
+form_neat value_name = refl
+form_neat value_true = refl
+form_neat value_false = refl
 
 -- Clearing -----------------------------------------------------------------------------------------------------------------------------------
 
@@ -387,13 +387,13 @@ clear_tokens (node q us (node p vs ts)) S c R h e s k = absurd (false≢true h)
 clear_tokens (node {x} q us (leaf {a} t m ts)) S c R h e s k =
     let o = both_left (is_there (nothing x)) (closing a) h in
     let j : is_close t ≡ true = (agree a t.class m).1 ∙ both_right (is_there (nothing x)) (closing a) h in
-    cleared_tokens (nothing x) q us (leaf t m ts) o ∙ (pair-match (tokens us) S t c (tokens ts) R (form_level q us) s j k e).1
+    cleared_tokens (nothing x) q us (leaf t m ts) o ∙ (pair_match (tokens us) S t c (tokens ts) R (form_level q us) s j k e).1
 
 -- What an open brace is behind.
 module _ (c : Token) (k : is_close c ≡ true) (o : Token) (h : is_open o ≡ true) where
-  open-level : (F U : List Token) → Level 0 (F ++ (o ∷ U)) → opens U < closes U
+  open_level : (F U : List Token) → Level 0 (F ++ (o ∷ U)) → opens U < closes U
   unfolding opens closes bit terminal_code
-  open-level F U l =
+  open_level F U l =
       let i = l.front F (o ∷ U) refl in
       let j = l.total in
       let a = opens_append F (o ∷ U) in
@@ -403,32 +403,32 @@ module _ (c : Token) (k : is_close c ≡ true) (o : Token) (h : is_open o ≡ tr
       omega arith
 
   -- The tokens that are left.
-  pub empty-tokens : {f : Form} (ts : Trees ◌⟶◌ f) (F S R : List Token) → neat f ≡ true → tokens ts ≡ F ++ (o ∷ (S ++ (c ∷ R))) → Level 0 S
+  pub empty_tokens : {f : Form} (ts : Trees ◌⟶◌ f) (F S R : List Token) → neat f ≡ true → tokens ts ≡ F ++ (o ∷ (S ++ (c ∷ R))) → Level 0 S
       → tokens (empty_at ts (length F)) ≡ F ++ (o ∷ (c ∷ R))
   unfolding neat tokens empty_at
-  empty-tokens nil [] S R n e s = absurd (let z : ◌≡◌ {A = ℕ} 0 1 = cc in omega arith)
-  empty-tokens nil (t ∷ F) S R n e s = absurd (let z : ◌≡◌ {A = ℕ} 0 1 = cc in omega arith)
-  empty-tokens (leaf {a} {f} t m ts) [] S R n e s =
+  empty_tokens nil [] S R n e s = absurd (let z : ◌≡◌ {A = ℕ} 0 1 = cc in omega arith)
+  empty_tokens nil (t ∷ F) S R n e s = absurd (let z : ◌≡◌ {A = ℕ} 0 1 = cc in omega arith)
+  empty_tokens (leaf {a} {f} t m ts) [] S R n e s =
       let i : t ≡ o = cc in
       let j : tokens ts ≡ S ++ (c ∷ R) = cc in
       let u : opening a ≡ true = sym (agree a t.class m).0 ∙ ap (λ (x : Token). is_open x) i ∙ h in
       let v = both_left (either (not (opening a)) (followed f)) (neat f) n in
       let w : followed f ≡ true = sym (ap (λ b. either (not b) (followed f)) u) ∙ v in
       ap₂ ◌∷◌ i (clear_tokens ts S c R w j s k)
-  empty-tokens (leaf {a} {f} t m ts) (x ∷ F) S R n e s =
+  empty_tokens (leaf {a} {f} t m ts) (x ∷ F) S R n e s =
       let i : t ≡ x = cc in
       let j : tokens ts ≡ F ++ (o ∷ (S ++ (c ∷ R))) = cc in
-      ap₂ ◌∷◌ i (empty-tokens ts F S R (both_right (either (not (opening a)) (followed f)) (neat f) n) j s)
-  empty-tokens (node p us ts) F S R n e s =
-      by_part (fronts (tokens us) (tokens ts) F (o ∷ (S ++ (c ∷ R))) e) (λ G q. empty-tokens ts G S R n q s) (λ Q q. empty-tokens us F S Q (form_neat p) q s)
+      ap₂ ◌∷◌ i (empty_tokens ts F S R (both_right (either (not (opening a)) (followed f)) (neat f) n) j s)
+  empty_tokens (node p us ts) F S R n e s =
+      by_part (fronts (tokens us) (tokens ts) F (o ∷ (S ++ (c ∷ R))) e) (λ G q. empty_tokens ts G S R n q s) (λ Q q. empty_tokens us F S Q (form_neat p) q s)
     where
       inside : (U : List Token) → tokens us ≡ F ++ (o ∷ U) → Fronts U (tokens ts) S (c ∷ R)
           → ((Q : List Token) → tokens us ≡ F ++ (o ∷ (S ++ (c ∷ Q))) → tokens (empty_at us (length F)) ≡ F ++ (o ∷ (c ∷ Q)))
           → tokens (empty_at (node p us ts) (length F)) ≡ F ++ (o ∷ (c ∷ R))
       inside U a (longer d p₁ q₁) g =
-          absurd (let i = open-level F U (subst (Level 0) a (form_level p us)) in let j = s.front U d p₁ in omega arith)
+          absurd (let i = open_level F U (subst (Level 0) a (form_level p us)) in let j = s.front U d p₁ in omega arith)
       inside U a (shorter [] p₁ q₁) g =
-          absurd (let i = open-level F U (subst (Level 0) a (form_level p us)) in
+          absurd (let i = open_level F U (subst (Level 0) a (form_level p us)) in
           let j = s.total in let x = ap opens p₁ ∙ opens_append S [] in let y = ap closes p₁ ∙ closes_append S [] in let z₀ = none_in.0 in let z₁ = none_in.1 in omega arith)
       inside U a (shorter (d ∷ Q) p₁ q₁) g =
           let i : d ≡ c = cc in

@@ -22,7 +22,7 @@ use Rattle.meaning.proofs.Rooms.{nothing_front, nothing_back, not_faulty}
 use Rattle.meaning.proofs.Numbering.{Counts, counts_more, object_numbers, statement_numbers, all_statement_numbers}
 use Rattle.channels.specs.Channels.{if_there, called}
 use Rattle.channels.proofs.Twins.{Agree, agree_none, twins_agree, swapped_agree, Few, few_none, few_more, twins_few, swapped_few, Named, named_none, named_more, SameUse, use_twin, use_behind, now_named}
-use Rattle.channels.proofs.Accepting.{counts_split, few_statements, AsMany, as_many_more, twins_many, swapped_many, twin_statements, agree_few, twins-judged, swapped-judged, twins-values, swapped-values}
+use Rattle.channels.proofs.Accepting.{counts_split, few_statements, AsMany, as_many_more, twins_many, swapped_many, twin_statements, agree_few, twins_judged, swapped_judged, twins_values, swapped_values}
 use Rattle.channels.proofs.Alone.{alone, channel_alone}
 use Rattle.channels.proofs.Merging.{PartsSwapped, now, on, Rearranged, as_before, exchanged, merge_exchanged}
 use Rattle.channels.proofs.PartsAlone.{parts_exchanged}
@@ -134,25 +134,25 @@ module _ (f g : File) (same_rest : SameButObjects f g) (swap : PartsSwapped f.pa
       (each_named (parts_named (record { used = λ x. refl }) swap (named_each [] f.parts (nothing_back p n (nothing_back b (p ++ n) z)))))))
 
   -- 13 to 16 and 18.
-  pub statements-kept : statement_stage f ≡ [] → statement_stage g ≡ []
+  pub statements_kept : statement_stage f ≡ [] → statement_stage g ≡ []
   unfolding statement_stage
-  statements-kept e = go rearranged
+  statements_kept e = go rearranged
     where
       go : Rearranged f.objects g.objects → statement_stage g ≡ []
-      go (as_before r) = twins-judged f g same_rest.specs (twins_agree r) r e
-      go (exchanged r) = swapped-judged f g same_rest.specs (swapped_agree r) r e
+      go (as_before r) = twins_judged f g same_rest.specs (twins_agree r) r e
+      go (exchanged r) = swapped_judged f g same_rest.specs (swapped_agree r) r e
 
-  as-many-values : Rearranged f.objects g.objects → how_many_in_all (all_values f f.objects) ≡ how_many_in_all (all_values g g.objects)
-  as-many-values (as_before r) = twins-values f g same_rest.specs r
-  as-many-values (exchanged r) = swapped-values f g same_rest.specs r
+  as_many_values : Rearranged f.objects g.objects → how_many_in_all (all_values f f.objects) ≡ how_many_in_all (all_values g g.objects)
+  as_many_values (as_before r) = twins_values f g same_rest.specs r
+  as_many_values (exchanged r) = swapped_values f g same_rest.specs r
 
   -- 19.
-  pub values-kept : too_many (how_many_in_all (all_values f f.objects)) ≡ [] → too_many (how_many_in_all (all_values g g.objects)) ≡ []
-  values-kept e = ap too_many (sym (as-many-values rearranged)) ∙ e
+  pub values_kept : too_many (how_many_in_all (all_values f f.objects)) ≡ [] → too_many (how_many_in_all (all_values g g.objects)) ≡ []
+  values_kept e = ap too_many (sym (as_many_values rearranged)) ∙ e
 
   -- What channels show alone.
-  pub channels-kept : (k : Kind) (n : List ℕ) → channel_alone g k (called n) ≡ channel_alone f k (called n)
+  pub channels_kept : (k : Kind) (n : List ℕ) → channel_alone g k (called n) ≡ channel_alone f k (called n)
   unfolding channel_alone
-  channels-kept k n =
+  channels_kept k n =
       ap₂ (λ ss os. if_there (alone ss) (find_object k os (called n))) (sym same_rest.specs) g-merged
       ∙ sym (parts_exchanged f.specs k (called n) swap) ∙ ap (λ os. if_there (alone f.specs) (find_object k os (called n))) (sym f-merged)

@@ -130,8 +130,8 @@ parts_exchanged {ps} {qs} ss k t p = merge_alone ss k t ps ∙ parts_same ss k t
 -- The same parts, but some of the kind and name z.
 pub data PartsReplaced (z : Key) : List Object → List Object → Type 0 where
   none_left : PartsReplaced z [] []
-  a-part : {x y : Object} {xs ys : List Object} → key_of x ≡ z → key_of y ≡ z → PartsReplaced z xs ys → PartsReplaced z (x ∷ xs) (y ∷ ys)
-  as-was : {x y : Object} {xs ys : List Object} → Twin x y → PartsReplaced z xs ys → PartsReplaced z (x ∷ xs) (y ∷ ys)
+  a_part : {x y : Object} {xs ys : List Object} → key_of x ≡ z → key_of y ≡ z → PartsReplaced z xs ys → PartsReplaced z (x ∷ xs) (y ∷ ys)
+  as_was : {x y : Object} {xs ys : List Object} → Twin x y → PartsReplaced z xs ys → PartsReplaced z (x ∷ xs) (y ∷ ys)
 
 -- An object of another kind or name is not found.
 other_key : (z : Key) (k : Kind) (n : List ℕ) (x : Object) → key_of x ≡ z → (z ≡ record { kind = k; name = n } → ⊥) → is_it k (called n) x ≡ false
@@ -142,22 +142,22 @@ other_key z k n x e h =
     (alike_bytes x.name (called n) (both_second (same_kind k x.kind) (alike x.name (called n)) i))))
 
 module _ {z : Key} (k : Kind) (n : List ℕ) (h : z ≡ record { kind = k; name = n } → ⊥) where
-  gathered-replaced : {xs ys : List Object} → PartsReplaced z xs ys → unnumbered (gathered k (called n) xs) ≡ unnumbered (gathered k (called n) ys)
+  gathered_replaced : {xs ys : List Object} → PartsReplaced z xs ys → unnumbered (gathered k (called n) xs) ≡ unnumbered (gathered k (called n) ys)
   unfolding gathered
-  gathered-replaced none_left = refl
-  gathered-replaced (a-part {x} {y} {xs} {ys} p q r) =
-      ap unnumbered (gathered_other k (called n) x xs (other_key z k n x p h)) ∙ gathered-replaced r ∙ sym (ap unnumbered (gathered_other k (called n) y ys (other_key z k n y q h)))
-  gathered-replaced (as-was {xs = xs} {ys = ys} i r) = gathered_more k (called n) xs ys i (gathered-replaced r)
+  gathered_replaced none_left = refl
+  gathered_replaced (a_part {x} {y} {xs} {ys} p q r) =
+      ap unnumbered (gathered_other k (called n) x xs (other_key z k n x p h)) ∙ gathered_replaced r ∙ sym (ap unnumbered (gathered_other k (called n) y ys (other_key z k n y q h)))
+  gathered_replaced (as_was {xs = xs} {ys = ys} i r) = gathered_more k (called n) xs ys i (gathered_replaced r)
 
-  there-replaced : {xs ys : List Object} → PartsReplaced z xs ys → is_there (find_object k xs (called n)) ≡ is_there (find_object k ys (called n))
-  there-replaced none_left = refl
-  there-replaced (a-part {x} {y} {xs} {ys} p q r) =
-      there_first k (called n) x xs ∙ ap₂ either (other_key z k n x p h ∙ sym (other_key z k n y q h)) (there-replaced r) ∙ sym (there_first k (called n) y ys)
-  there-replaced (as-was {x} {y} {xs} {ys} i r) =
-      there_first k (called n) x xs ∙ ap₂ either (twin_is_it k (called n) i) (there-replaced r) ∙ sym (there_first k (called n) y ys)
+  there_replaced : {xs ys : List Object} → PartsReplaced z xs ys → is_there (find_object k xs (called n)) ≡ is_there (find_object k ys (called n))
+  there_replaced none_left = refl
+  there_replaced (a_part {x} {y} {xs} {ys} p q r) =
+      there_first k (called n) x xs ∙ ap₂ either (other_key z k n x p h ∙ sym (other_key z k n y q h)) (there_replaced r) ∙ sym (there_first k (called n) y ys)
+  there_replaced (as_was {x} {y} {xs} {ys} i r) =
+      there_first k (called n) x xs ∙ ap₂ either (twin_is_it k (called n) i) (there_replaced r) ∙ sym (there_first k (called n) y ys)
 
   -- "every other object's resolved values and references are equal in both".
-  pub parts-isolated : {ps qs : List Object} (ss : List Spec) → PartsReplaced z ps qs
+  pub parts_isolated : {ps qs : List Object} (ss : List Spec) → PartsReplaced z ps qs
       → if_there (alone ss) (find_object k (merge ps) (called n)) ≡ if_there (alone ss) (find_object k (merge qs) (called n))
-  parts-isolated {ps} {qs} ss r =
-      merge_alone ss k (called n) ps ∙ parts_same ss k (called n) ps qs (there-replaced r) (gathered-replaced r) ∙ sym (merge_alone ss k (called n) qs)
+  parts_isolated {ps} {qs} ss r =
+      merge_alone ss k (called n) ps ∙ parts_same ss k (called n) ps qs (there_replaced r) (gathered_replaced r) ∙ sym (merge_alone ss k (called n) qs)

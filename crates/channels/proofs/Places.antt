@@ -9,7 +9,7 @@ use Rattle.token.specs.Tokens.{bytes_between}
 use Rattle.token.specs.Lexing.{lex_from}
 use Rattle.token.proofs.Sequences.{tokens_of}
 use Rattle.token.proofs.Steps.{found_fits, lex_again}
-use Rattle.locality.proofs.Join.{halves, part-long}
+use Rattle.locality.proofs.Join.{halves, part_long}
 use Rattle.locality.proofs.Pieces.{run_last, first, leading}
 use Rattle.locality.proofs.Slices.{split, slice}
 use Rattle.grammar.specs.Grammar.{Token, Derivation, tokens as Leaves-of}
@@ -102,9 +102,9 @@ exchanged_unchanged s t accepts d before after one other objects_are different =
     let qr : q ≤ r = omega arith in
     let split_text = five_parts s p q r e il qr jl jh in
     let la : length (take p s) ≡ p = length-take-le p s (omega arith) in
-    let lx : length (bytes_between s p q) ≡ q - p = part-long s p q il ih in
-    let lm : length (bytes_between s q r) ≡ r - q = part-long s q r qr (omega arith) in
-    let ly : length (bytes_between s r e) ≡ e - r = part-long s r e jl jh in
+    let lx : length (bytes_between s p q) ≡ q - p = part_long s p q il ih in
+    let lm : length (bytes_between s q r) ≡ r - q = part_long s q r qr (omega arith) in
+    let ly : length (bytes_between s r e) ≡ e - r = part_long s r e jl jh in
     let begin-x : p ≡ length (take p s) = sym la in
     let end-x : q ≡ length (take p s) + length (bytes_between s p q) = omega arith in
     let begin-y : r ≡ length (take p s) + (length (bytes_between s p q) + length (bytes_between s q r)) = omega arith in
@@ -112,5 +112,5 @@ exchanged_unchanged s t accepts d before after one other objects_are different =
     subst (λ z. reading z ≡ accepted t → (d : Derivation (tokens z)) → object_trees d.tree ≡ before ++ (one ∷ other ∷ after) → (key_in z one ≡ key_in z other → ⊥)
     → ReadsUnchanged z (take p s ++ (bytes_between s r e ++ (bytes_between s q r ++ (bytes_between s p q ++ drop e s))))) (sym split_text)
     (λ h f o k. unchanged (take p s) (bytes_between s p q) (bytes_between s q r) (bytes_between s r e) (drop e s) t h
-    (record { derivation = f; before = before; one = one; other = other; after = after; objects_are = o; different = k; one-begins = begin-x; one-ends = end-x; other-begins = begin-y; other-ends = end-y }))
+    (record { derivation = f; before = before; one = one; other = other; after = after; objects_are = o; different = k; one_begins = begin-x; one_ends = end-x; other_begins = begin-y; other_ends = end-y }))
     accepts d objects_are different

@@ -30,12 +30,12 @@ use Rattle.meaning.proofs.Unplaced.{each_append}
 use Rattle.meaning.proofs.Sites.{spec_words, object_words, statement_words, file_words}
 use Rattle.reads_back.proofs.SameMeaning.{accepted_tables, no_faults, specs_free}
 use Rattle.reads_back.proofs.RestatingPlain.{syntax_plain}
-use Rattle.reads_back.proofs.RestatingObjects.{SettledObjects, no-objects, more-objects, settle_objects}
-use Rattle.reads_back.proofs.SameNamesText.{There, parts, ValuesThere, resolve-there, kind_there, objects_text}
+use Rattle.reads_back.proofs.RestatingObjects.{SettledObjects, no_objects, more_objects, settle_objects}
+use Rattle.reads_back.proofs.SameNamesText.{There, parts, ValuesThere, resolve_there, kind_there, objects_text}
 use Rattle.channels.specs.Channels.{if_there, key_of, key_at, a_string, a_float, an_enumerator, a_reference, View, nothing, item, shown, item_of, view, called, channel}
 use Rattle.channels.proofs.Computed.{channel_of}
 use Rattle.channels.specs.Rows.{RowItem, key_row, row_shown, row_item, owned, rows_of, find_row, table_channel}
-use Rattle.channels.proofs.Titles.{kind-titled, ValuesTitled, settled-titled}
+use Rattle.channels.proofs.Titles.{kind_titled, ValuesTitled, settled_titled}
 use Rattle.channels.proofs.Moved.{there_twice, channel_derived}
 use Rattle.channels.proofs.ObjectTokens.{accepted_covered, accepted_derivation}
 
@@ -45,31 +45,31 @@ items nothing = []
 items (item i us rest) = record { definition = i.definition; attribute = i.attribute; value = i.value; stated = i.stated } ∷ (items us ++ items rest)
 
 module _ (s : List ℕ) where
-  key-rows : (i : ℕ) (os : List Object) → InText s (object_words os) → key_row s i (object_rows os) ≡ key_at i os
+  key_rows : (i : ℕ) (os : List Object) → InText s (object_words os) → key_row s i (object_rows os) ≡ key_at i os
   unfolding key_row key_at key_of object_rows object_words
-  key-rows i [] h = refl
-  key-rows zero (x ∷ xs) h = ap (λ n. some (record { kind = x.kind; name = n })) (sym h.1.0)
-  key-rows (suc i) (x ∷ xs) h = key-rows i xs (parts s (statement_words x.statements) (object_words xs) h.1.1).1
+  key_rows i [] h = refl
+  key_rows zero (x ∷ xs) h = ap (λ n. some (record { kind = x.kind; name = n })) (sym h.1.0)
+  key_rows (suc i) (x ∷ xs) h = key_rows i xs (parts s (statement_words x.statements) (object_words xs) h.1.1).1
 
   module _ (R : List DefinitionRow) (os : List Object) (h : InText s (object_words os)) where
-    shown-row : (v : Value) (w : Word) → There s w → row_shown s (object_rows os) v (span_of w) ≡ shown os v w
+    shown_row : (v : Value) (w : Word) → There s w → row_shown s (object_rows os) v (span_of w) ≡ shown os v w
     unfolding row_shown shown
-    shown-row (number n) w e = refl
-    shown-row (truth b) w e = refl
-    shown-row auto w e = refl
-    shown-row string w e = ap a_string (sym e)
-    shown-row float w e = ap a_float (sym e)
-    shown-row (enumerator i) w e = ap (an_enumerator i) (sym e)
-    shown-row (object i) w e = ap a_reference (key-rows i os h)
+    shown_row (number n) w e = refl
+    shown_row (truth b) w e = refl
+    shown_row auto w e = refl
+    shown_row string w e = ap a_string (sym e)
+    shown_row float w e = ap a_float (sym e)
+    shown_row (enumerator i) w e = ap (an_enumerator i) (sym e)
+    shown_row (object i) w e = ap a_reference (key_rows i os h)
 
     -- The rows of an object show its view.
-    rows-view : (r : Resolved) (n : ℕ) (o : Owner) → ValuesThere s r → ValuesTitled s R r → each (row_item s R (object_rows os)) (value_rows r n o) ≡ items (view os r)
+    rows_view : (r : Resolved) (n : ℕ) (o : Owner) → ValuesThere s r → ValuesTitled s R r → each (row_item s R (object_rows os)) (value_rows r n o) ≡ items (view os r)
     unfolding value_rows value_row row_item items view item_of each
-    rows-view end n o v z = refl
-    rows-view (resolved t us rest) n o v z =
-        ap₂ ◌∷◌ (ap₂ (λ a x. record { definition = t.definition.row; attribute = a; value = x; stated = t.stated }) z.0 (shown-row t.value t.word v.0))
+    rows_view end n o v z = refl
+    rows_view (resolved t us rest) n o v z =
+        ap₂ ◌∷◌ (ap₂ (λ a x. record { definition = t.definition.row; attribute = a; value = x; stated = t.stated }) z.0 (shown_row t.value t.word v.0))
         (each_append (row_item s R (object_rows os)) (value_rows us (suc n) (of_value n)) (value_rows rest (suc n + how_many_values us) o)
-        ∙ ap₂ ◌++◌ (rows-view us (suc n) (of_value n) v.1 z.1) (rows-view rest (suc n + how_many_values us) o v.2 z.2))
+        ∙ ap₂ ◌++◌ (rows_view us (suc n) (of_value n) v.1 z.1) (rows_view rest (suc n + how_many_values us) o v.2 z.2))
 
 -- Which rows are an object's -------------------------------------------------------------------------------------------------------------------
 
@@ -164,31 +164,31 @@ module _ (s : List ℕ) (f : File) (texts : InText s (spec_words f.specs)) (name
   abbrev views : Object → List RowItem
   views x = items (view f.objects (object_values f x))
 
-  object-there : (x : Object) → InText s (statement_words x.statements) → ValuesThere s (object_values f x)
+  object_there : (x : Object) → InText s (statement_words x.statements) → ValuesThere s (object_values f x)
   unfolding object_values
-  object-there x h = resolve-there s f.objects (of_kind x.kind f.specs) x.statements (kind_there s x.kind f.specs texts) h
+  object_there x h = resolve_there s f.objects (of_kind x.kind f.specs) x.statements (kind_there s x.kind f.specs texts) h
 
-  head-there : (x : Object) (xs : List Object) → InText s (object_words (x ∷ xs)) → There s x.name × InText s (statement_words x.statements) × InText s (object_words xs)
+  head_there : (x : Object) (xs : List Object) → InText s (object_words (x ∷ xs)) → There s x.name × InText s (statement_words x.statements) × InText s (object_words xs)
   unfolding object_words
-  head-there x xs h = let p = parts s (statement_words x.statements) (object_words xs) h.1.1 in (h.1.0, p.0, p.1)
+  head_there x xs h = let p = parts s (statement_words x.statements) (object_words xs) h.1.1 in (h.1.0, p.0, p.1)
 
-  find-same : {xs : List Object} (p m : ℕ) → SettledObjects f xs → InText s (object_words xs)
+  find_same : {xs : List Object} (p m : ℕ) → SettledObjects f xs → InText s (object_words xs)
       → if_there (shows xs p m) (find_row s k n p (object_rows xs)) ≡ if_there views (find_object k xs (called n))
   unfolding find_row find_object object_rows all_values if_there alike called
-  find-same p m no-objects h = refl
-  find-same p m (more-objects {x} {xs} z zs) h =
-      let t = head-there x xs h in
+  find_same p m no_objects h = refl
+  find_same p m (more_objects {x} {xs} z zs) h =
+      let t = head_there x xs h in
       let r = object_values f x in
       let q = p in
       ap (λ b. if_there (shows (x ∷ xs) p m) (pick (both (same_kind k x.kind) (same b n)) (some p) (find_row s k n (suc p) (object_rows xs)))) (sym t.0)
-      ∙ go (both (same_kind k x.kind) (same x.name.bytes n)) (find-same (suc p) (m + how_many_values r) zs t.2) (object-there x t.1)
-      (settled-titled s R f.objects z (kind-titled s f.specs x.kind numbers texts))
+      ∙ go (both (same_kind k x.kind) (same x.name.bytes n)) (find_same (suc p) (m + how_many_values r) zs t.2) (object_there x t.1)
+      (settled_titled s R f.objects z (kind_titled s f.specs x.kind numbers texts))
     where
       go : (b : Bool) → if_there (shows xs (suc p) (m + how_many_values (object_values f x))) (find_row s k n (suc p) (object_rows xs)) ≡ if_there views (find_object k xs (called n))
           → ValuesThere s (object_values f x) → ValuesTitled s R (object_values f x)
           → if_there (shows (x ∷ xs) p m) (pick b (some p) (find_row s k n (suc p) (object_rows xs))) ≡ if_there views (pick b (some x) (find_object k xs (called n)))
       go true e v w =
-          ap some (ap (each (row_item s R (object_rows f.objects))) (own_rows (object_values f x) (all_values f xs) p m 0) ∙ rows-view s R f.objects names (object_values f x) m (of_object p) v w)
+          ap some (ap (each (row_item s R (object_rows f.objects))) (own_rows (object_values f x) (all_values f xs) p m 0) ∙ rows_view s R f.objects names (object_values f x) m (of_object p) v w)
       go false e v w =
           low_same s k n (shows (x ∷ xs) p m) (shows xs (suc p) (m + how_many_values (object_values f x))) (suc p) (object_rows xs)
           (λ o l. ap (each (row_item s R (object_rows f.objects))) (later_rows (object_values f x) (all_values f xs) o p m 0 (omega arith))) ∙ e
@@ -198,7 +198,7 @@ tables_show : (s : List ℕ) (f : File) → InText s (spec_words f.specs) → In
     → table_channel s (tables f (all_values f f.objects)) k n ≡ if_there items (channel f k n)
 unfolding table_channel tables channel
 tables_show s f h i c z k n =
-    find-same s f h i c k n 0 0 z i
+    find_same s f h i c k n 0 0 z i
     ∙ sym (there_twice (λ x. view f.objects (object_values f x)) items (λ x. items (view f.objects (object_values f x))) (λ x. refl) (find_object k f.objects (called n)))
 
 -- What a reading hands out shows the channels of its text.

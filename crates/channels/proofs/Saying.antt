@@ -27,9 +27,9 @@ use Rattle.meaning.specs.Places.{each}
 use Rattle.meaning.proofs.Unplaced.{each_append}
 use Rattle.reads_back.proofs.Restated.{plain_word}
 use Rattle.reads_back.proofs.SayingAlone.{fails_at}
-use Rattle.reads_back.proofs.SayingPieces.{lexeme_word, words-moved, words-kept, Says}
+use Rattle.reads_back.proofs.SayingPieces.{lexeme_word, words_moved, words_kept, Says}
 use Rattle.reads_back.proofs.SayingCopied.{run_words, last_place, copy}
-use Rattle.reads_back.proofs.SayingTokens.{tokens_are, piece-tokens, all-tokens}
+use Rattle.reads_back.proofs.SayingTokens.{tokens_are, piece_tokens, all_tokens}
 use Rattle.channels.specs.Neighbours.{first_place, end_of_last}
 
 -- Tokens that end before whatever follows ----------------------------------------------------------------------------------------------------
@@ -107,7 +107,7 @@ front_says a z A t R e i h =
     record {
       tokens = j.front;
       piece = p;
-      words = sym (words-kept a z j.front p.inside) ∙ sym (run_words s r.end 0 j.front r.run) ∙ ap (each (plain_word s)) j.front-is;
+      words = sym (words_kept a z j.front p.inside) ∙ sym (run_words s r.end 0 j.front r.run) ∙ ap (each (plain_word s)) j.front-is;
     }
 
 -- Where the last of tokens ends.
@@ -123,7 +123,7 @@ pub record Ends (X : List Token) : Type 0 where
   pub mid : List Token
   pub final : Token
   pub leaves : X ≡ first ∷ (mid ++ (final ∷ []))
-  pub final-is : matches (sg semicolon) final.class ≡ true
+  pub final_is : matches (sg semicolon) final.class ≡ true
 
 pub object_ending : {X : List Token} → Ends X → Ending X
 object_ending x =
@@ -171,8 +171,8 @@ pub piece_words : {p : List ℕ} {ws : List Word} → Says false p ws → (b : L
 unfolding words_in
 piece_words {p} x b =
     let l = tokens_of (lex_from b 0) in
-    ap (each (lexeme_word (p ++ b))) (piece-tokens x.piece b) ∙ each_append (lexeme_word (p ++ b)) x.tokens (map (moved (length p)) l)
-    ∙ ap₂ ◌++◌ (words-kept p b x.tokens x.piece.inside ∙ x.words) (words-moved p b l)
+    ap (each (lexeme_word (p ++ b))) (piece_tokens x.piece b) ∙ each_append (lexeme_word (p ++ b)) x.tokens (map (moved (length p)) l)
+    ∙ ap₂ ◌++◌ (words_kept p b x.tokens x.piece.inside ∙ x.words) (words_moved p b l)
 
 -- What goes on divides wholly if all does.
 pub rest_divides : {p : List ℕ} {ws : List Word} → Says false p ws → (b : List ℕ) → Divides (p ++ b) → Divides b
@@ -194,13 +194,13 @@ until_says a z A c R e l h =
     record {
       tokens = j.front;
       piece = p;
-      words = sym (words-kept a z j.front p.inside) ∙ sym (run_words s r.end 0 j.front r.run) ∙ ap (each (plain_word s)) j.front-is;
+      words = sym (words_kept a z j.front p.inside) ∙ sym (run_words s r.end 0 j.front r.run) ∙ ap (each (plain_word s)) j.front-is;
     }
 
 -- A piece says the words of its text.
 pub piece_says : {p : List ℕ} {ws : List Word} → Says false p ws → ws ≡ words_in p
 unfolding words_in
-piece_says {p} x = sym (ap (each (lexeme_word p)) (all-tokens x.piece) ∙ x.words)
+piece_says {p} x = sym (ap (each (lexeme_word p)) (all_tokens x.piece) ∙ x.words)
 
 -- A text that begins where the token c begins.
 pub back_words : (p b : List ℕ) (A : List Token) (c : Token) (R : List Token) → tokens (p ++ b) ≡ A ++ (c ∷ R) → c.place ≡ length p
@@ -216,4 +216,4 @@ back_words p b A c R e i =
     let l : j.back ≡ map (moved (length p)) (tokens_of (lex_from b 0)) =
     sym r.rest ∙ ap tokens_of (sym k ∙ lex_rest p b) ∙ tokens_moved (length p) (lex_from b 0) in
     let q = leading s r.end j.back [] (r.rest ∙ sym (append-nil j.back)) in
-    ap (each (plain_word s)) (sym j.back_is) ∙ run_words s q.end r.end j.back q.run ∙ ap (each (lexeme_word s)) l ∙ words-moved p b (tokens_of (lex_from b 0))
+    ap (each (plain_word s)) (sym j.back_is) ∙ run_words s q.end r.end j.back q.run ∙ ap (each (lexeme_word s)) l ∙ words_moved p b (tokens_of (lex_from b 0))

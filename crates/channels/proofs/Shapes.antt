@@ -7,7 +7,7 @@ use native.Mathlib.Omega.{arith}
 use lib.Dec.{ltb}
 use borrow.Author.Tests.{ltb-true, ltb-false}
 use lib.ListN.{length, length-append}
-use Rattle.grammar.specs.Grammar.{Token, Class, matches, Form, ◌▸◌, ∎, ◌⟶◌, Trees, nil, leaf, node, file, objects, object, no_object, an_object, an-object-alone, an-object-with, tokens as Leaves-of}
+use Rattle.grammar.specs.Grammar.{Token, Class, matches, Form, ◌▸◌, ∎, ◌⟶◌, Trees, nil, leaf, node, file, objects, object, no_object, an_object, an_object_alone, an_object_with, tokens as Leaves-of}
 use Rattle.grammar.proofs.Viable.{one_derivation}
 use Rattle.locality.proofs.Slices.{split}
 use Rattle.channels.specs.Neighbours.{ObjectTree, each_tree}
@@ -120,9 +120,9 @@ third_less (third_later i e t) = let l = third_less t in omega arith
 -- An object has at least three tokens.
 pub three_tokens : (x : ObjectTree) → 2 < length (Leaves-of x)
 unfolding Leaves-of
-three_tokens (node an-object-alone (leaf t _ (leaf n _ (node p d (leaf c h nil)))) nil) =
+three_tokens (node an_object_alone (leaf t _ (leaf n _ (node p d (leaf c h nil)))) nil) =
     let a = length-append (t ∷ n ∷ (Leaves-of d ++ (c ∷ []))) [] in let b = length-append (Leaves-of d) (c ∷ []) in omega arith
-three_tokens (node an-object-with (leaf t _ (leaf n _ (leaf o _ r))) nil) =
+three_tokens (node an_object_with (leaf t _ (leaf n _ (leaf o _ r))) nil) =
     let a = length-append (t ∷ n ∷ o ∷ Leaves-of r) [] in omega arith
 
 -- Clearing ---------------------------------------------------------------------------------------------------------------------------------
@@ -183,25 +183,25 @@ module _ {g f : Form} (p : object ⟶ g) (x : Trees ◌⟶◌ g) (xs : Trees ◌
   abbrev us : Trees ◌⟶◌ (object ▸ objects ▸ ∎)
   us = node p x xs
 
-  long-x : 2 < length (Leaves-of x)
+  long_x : 2 < length (Leaves-of x)
   unfolding Leaves-of
-  long-x = let h = three_tokens (node p x nil) in let a = length-append (Leaves-of x) [] in omega arith
+  long_x = let h = three_tokens (node p x nil) in let a = length-append (Leaves-of x) [] in omega arith
 
-  long-us : length (Leaves-of us) ≡ length (Leaves-of x) + length (Leaves-of xs)
+  long_us : length (Leaves-of us) ≡ length (Leaves-of x) + length (Leaves-of xs)
   unfolding Leaves-of
-  long-us = length-append (Leaves-of x) (Leaves-of xs)
+  long_us = length-append (Leaves-of x) (Leaves-of xs)
 
-  in-first : m < length (Leaves-of x) → Third (sizes (shape (node an_object (node p (empty_at x m) xs) r))) m → Located (node p x nil ∷ each_tree xs) m
+  in_first : m < length (Leaves-of x) → Third (sizes (shape (node an_object (node p (empty_at x m) xs) r))) m → Located (node p x nil ∷ each_tree xs) m
   unfolding sizes shape all_leaves
-  in-first h =
+  in_first h =
       by_third (λ e. record { before = []; this = node p x nil; after = each_tree xs; whole = refl; place_is = e })
       (λ i e t. absurd (let a = stays x m h in let b = size_is (empty_at x m) in omega arith))
 
-  behind-first : length (Leaves-of x) ≤ m → ((i : ℕ) → Third (sizes (shape (empty_at xs i))) i → Located (each_tree xs) i)
+  behind_first : length (Leaves-of x) ≤ m → ((i : ℕ) → Third (sizes (shape (empty_at xs i))) i → Located (each_tree xs) i)
       → Third (sizes (shape (node an_object (node p x (empty_at xs (m - length (Leaves-of x)))) r))) m → Located (node p x nil ∷ each_tree xs) m
   unfolding sizes shape Leaves-of
-  behind-first h k =
-      by_third (λ e. absurd (let a = long-x in omega arith))
+  behind_first h k =
+      by_third (λ e. absurd (let a = long_x in omega arith))
       (λ i e t.
       let a = size_is x in
       let j : m - length (Leaves-of x) ≡ i = omega arith in
@@ -212,12 +212,12 @@ module _ {g f : Form} (p : object ⟶ g) (x : Trees ◌⟶◌ g) (xs : Trees ◌
       → Third (sizes (shape (node an_object (empty_at us m) r))) m → Located (node p x nil ∷ each_tree xs) m
   in_objects h k t =
       by_less m (length (Leaves-of x))
-      (λ l. in-first l (subst (λ z. Third (sizes (shape (node an_object z r))) m) (at_inside p x xs m l) t))
-      (λ l. behind-first l k (subst (λ z. Third (sizes (shape (node an_object z r))) m) (at_behind p x xs m l) t))
+      (λ l. in_first l (subst (λ z. Third (sizes (shape (node an_object z r))) m) (at_inside p x xs m l) t))
+      (λ l. behind_first l k (subst (λ z. Third (sizes (shape (node an_object z r))) m) (at_behind p x xs m l) t))
 
-  behind-objects : length (Leaves-of us) ≤ m → (q : Trees ◌⟶◌ f) → Third (sizes (shape (node an_object us q))) m → Located (node p x nil ∷ each_tree xs) m
+  behind_objects : length (Leaves-of us) ≤ m → (q : Trees ◌⟶◌ f) → Third (sizes (shape (node an_object us q))) m → Located (node p x nil ∷ each_tree xs) m
   unfolding sizes shape
-  behind-objects h q t = absurd (let a = third_less t in let b = sum_size (shape xs) in let c = size_is x in let d = size_is xs in let e = long-us in omega arith)
+  behind_objects h q t = absurd (let a = third_less t in let b = sum_size (shape xs) in let c = size_is x in let d = size_is xs in let e = long_us in omega arith)
 
 no_third : {f : Form} (r : Trees ◌⟶◌ f) (m : ℕ) → Third (sizes (shape (empty_at (node no_object nil r) m))) m → ⊥
 unfolding sizes shape Leaves-of
@@ -230,4 +230,4 @@ find_third (node no_object nil r) m t = absurd (no_third r m t)
 find_third (node an_object (node p x xs) r) m t =
     by_less m (length (Leaves-of (node p x xs)))
     (λ l. in_objects p x xs r m l (λ i u. find_third xs i u) (subst (λ z. Third (sizes (shape z)) m) (at_inside an_object (node p x xs) r m l) t))
-    (λ l. behind-objects p x xs r m l _ (subst (λ z. Third (sizes (shape z)) m) (at_behind an_object (node p x xs) r m l) t))
+    (λ l. behind_objects p x xs r m l _ (subst (λ z. Third (sizes (shape z)) m) (at_behind an_object (node p x xs) r m l) t))

@@ -12,12 +12,12 @@ use Rattle.meaning.specs.Syntax.{Word, Definition, Definitions, no_more, define,
 use Rattle.meaning.specs.Words.{alike}
 use Rattle.meaning.specs.Kinds.{same_kind}
 use Rattle.meaning.specs.Scopes.{of_kind, find_value, definitions_or, under}
-use Rattle.meaning.specs.Defining.{DefinitionRow, definition_row, definition-rows, definition-rows-under, all_definition_rows}
+use Rattle.meaning.specs.Defining.{DefinitionRow, definition_row, definition_rows, definition_rows_under, all_definition_rows}
 use Rattle.meaning.specs.Resolving.{Taken, Resolved, end, resolved, take_value}
 use Rattle.meaning.proofs.Lookups.{InText}
-use Rattle.meaning.proofs.Numbering.{Counts, counts_more, definition-numbers, numbers-under, spec_numbers, length-definitions, length-under}
-use Rattle.meaning.proofs.Sites.{definition-words, value-words, spec_words}
-use Rattle.meaning.proofs.Standing.{length-rows, length-rows-under}
+use Rattle.meaning.proofs.Numbering.{Counts, counts_more, definition_numbers, numbers_under, spec_numbers, length_definitions, length_under}
+use Rattle.meaning.proofs.Sites.{definition_words, value_words, spec_words}
+use Rattle.meaning.proofs.Standing.{length_rows, length_rows_under}
 use Rattle.reads_back.proofs.RestatingScopes.{Takes, Settled, settled, none_of, one_of, More, again, no_more_of}
 use Rattle.reads_back.proofs.SameNamesText.{parts, definition_text, list_text}
 use Rattle.channels.specs.Rows.{name_at}
@@ -33,7 +33,7 @@ name_behind s (r ∷ A) B i (suc n) e = name_behind s A B i n (omega arith)
 -- The row of each definition has its name.
 mutual
   pub data Titled (s : List ℕ) (R : List DefinitionRow) : Definitions → Type 0 where
-    no-titles : Titled s R no_more
+    no_titles : Titled s R no_more
     titles : {d : Definition} {vs : Values} {ds : Definitions} → name_at s d.row R ≡ d.name.bytes → TitledUnder s R vs → Titled s R ds → Titled s R (define d vs ds)
 
   pub data TitledUnder (s : List ℕ) (R : List DefinitionRow) : Values → Type 0 where
@@ -47,17 +47,17 @@ at_one s A r B n e = name_behind s A (r ∷ B) 0 n (omega arith)
 module _ (s : List ℕ) where
   -- A definition, with those under it and behind it.
   rest : (A B : List DefinitionRow) (d : Definition) (vs : Values) (ds : Definitions) (u : Word) → d.name.bytes ≡ name_at s 0 (definition_row u d ∷ [])
-      → Counts (length A + length (numbers-under vs)) (d.row ∷ definition-numbers ds) → length (numbers-under vs) ≡ length (definition-rows-under vs)
-      → A ++ (definition-rows-under vs ++ ((definition_row u d ∷ definition-rows ds u) ++ B)) ≡ A ++ ((definition-rows-under vs ++ (definition_row u d ∷ definition-rows ds u)) ++ B)
-      → TitledUnder s (A ++ ((definition-rows-under vs ++ (definition_row u d ∷ definition-rows ds u)) ++ B)) vs
-      → (Counts (length (A ++ (definition-rows-under vs ++ (definition_row u d ∷ [])))) (definition-numbers ds)
-      → Titled s ((A ++ (definition-rows-under vs ++ (definition_row u d ∷ []))) ++ (definition-rows ds u ++ B)) ds)
-      → Titled s (A ++ ((definition-rows-under vs ++ (definition_row u d ∷ definition-rows ds u)) ++ B)) (define d vs ds)
+      → Counts (length A + length (numbers_under vs)) (d.row ∷ definition_numbers ds) → length (numbers_under vs) ≡ length (definition_rows_under vs)
+      → A ++ (definition_rows_under vs ++ ((definition_row u d ∷ definition_rows ds u) ++ B)) ≡ A ++ ((definition_rows_under vs ++ (definition_row u d ∷ definition_rows ds u)) ++ B)
+      → TitledUnder s (A ++ ((definition_rows_under vs ++ (definition_row u d ∷ definition_rows ds u)) ++ B)) vs
+      → (Counts (length (A ++ (definition_rows_under vs ++ (definition_row u d ∷ [])))) (definition_numbers ds)
+      → Titled s ((A ++ (definition_rows_under vs ++ (definition_row u d ∷ []))) ++ (definition_rows ds u ++ B)) ds)
+      → Titled s (A ++ ((definition_rows_under vs ++ (definition_row u d ∷ definition_rows ds u)) ++ B)) (define d vs ds)
   unfolding name_at definition_row
   rest A B d vs ds u n (counts_more e c) m z h f =
-      let U = definition-rows-under vs in
+      let U = definition_rows_under vs in
       let r = definition_row u d in
-      let D = definition-rows ds u in
+      let D = definition_rows ds u in
       let l = length-append A U in
       let k = length-append A (U ++ (r ∷ [])) in
       let j = length-append U (r ∷ []) in
@@ -65,60 +65,60 @@ module _ (s : List ℕ) where
       append_assoc A (U ++ (r ∷ [])) (D ++ B) ∙ ap (A ++◌) (append_assoc U (r ∷ []) (D ++ B)) ∙ z in
       let q : (A ++ U) ++ (r ∷ (D ++ B)) ≡ A ++ ((U ++ (r ∷ D)) ++ B) = append_assoc A U (r ∷ (D ++ B)) ∙ z in
       titles (sym (ap (name_at s d.row) q) ∙ at_one s (A ++ U) r (D ++ B) d.row (omega arith) ∙ sym n) h
-      (subst (λ R. Titled s R ds) w (f (subst (λ i. Counts i (definition-numbers ds)) (let y : suc (length A + length (numbers-under vs)) ≡ length (A ++ (U ++ (r ∷ []))) = omega arith in y) c)))
+      (subst (λ R. Titled s R ds) w (f (subst (λ i. Counts i (definition_numbers ds)) (let y : suc (length A + length (numbers_under vs)) ≡ length (A ++ (U ++ (r ∷ []))) = omega arith in y) c)))
 
   mutual
-    unfolding definition-rows definition-numbers name_at definition_row
+    unfolding definition_rows definition_numbers name_at definition_row
 
-    titled-rows : (A B : List DefinitionRow) (ds : Definitions) (u : Word) → Counts (length A) (definition-numbers ds) → InText s (definition-words ds)
-        → Titled s (A ++ (definition-rows ds u ++ B)) ds
-    titled-rows A B no_more u c h = no-titles
-    titled-rows A B (define d vs ds) u c h =
-        let U = definition-rows-under vs in
+    titled_rows : (A B : List DefinitionRow) (ds : Definitions) (u : Word) → Counts (length A) (definition_numbers ds) → InText s (definition_words ds)
+        → Titled s (A ++ (definition_rows ds u ++ B)) ds
+    titled_rows A B no_more u c h = no_titles
+    titled_rows A B (define d vs ds) u c h =
+        let U = definition_rows_under vs in
         let r = definition_row u d in
-        let D = definition-rows ds u in
+        let D = definition_rows ds u in
         let t = definition_text s d vs ds h in
-        let k = counts_split (numbers-under vs) (d.row ∷ definition-numbers ds) (length A) c in
-        let m : length (numbers-under vs) ≡ length U = length-under vs ∙ sym (length-rows-under vs) in
+        let k = counts_split (numbers_under vs) (d.row ∷ definition_numbers ds) (length A) c in
+        let m : length (numbers_under vs) ≡ length U = length_under vs ∙ sym (length_rows_under vs) in
         let z : A ++ (U ++ ((r ∷ D) ++ B)) ≡ A ++ ((U ++ (r ∷ D)) ++ B) = ap (A ++◌) (sym (append_assoc U (r ∷ D) B)) in
-        rest A B d vs ds u t.name k.1 m z (subst (λ R. TitledUnder s R vs) z (titled-under A ((r ∷ D) ++ B) vs k.0 t.values))
-        (λ l. titled-rows (A ++ (U ++ (r ∷ []))) B ds u l t.rest)
+        rest A B d vs ds u t.name k.1 m z (subst (λ R. TitledUnder s R vs) z (titled_under A ((r ∷ D) ++ B) vs k.0 t.values))
+        (λ l. titled_rows (A ++ (U ++ (r ∷ []))) B ds u l t.rest)
 
-    titled-under : (A B : List DefinitionRow) (vs : Values) → Counts (length A) (numbers-under vs) → InText s (value-words vs) → TitledUnder s (A ++ (definition-rows-under vs ++ B)) vs
-    titled-under A B no_value c h = none_under
-    titled-under A B (value w e us vs) c h =
-        let D = definition-rows us w in
-        let U = definition-rows-under vs in
+    titled_under : (A B : List DefinitionRow) (vs : Values) → Counts (length A) (numbers_under vs) → InText s (value_words vs) → TitledUnder s (A ++ (definition_rows_under vs ++ B)) vs
+    titled_under A B no_value c h = none_under
+    titled_under A B (value w e us vs) c h =
+        let D = definition_rows us w in
+        let U = definition_rows_under vs in
         let t = list_text s w e us vs h in
-        let k = counts_split (definition-numbers us) (numbers-under vs) (length A) c in
-        let m : length (definition-numbers us) ≡ length D = length-definitions us ∙ sym (length-rows us w) in
+        let k = counts_split (definition_numbers us) (numbers_under vs) (length A) c in
+        let m : length (definition_numbers us) ≡ length D = length_definitions us ∙ sym (length_rows us w) in
         let l = length-append A D in
-        more_under (subst (λ R. Titled s R us) (ap (A ++◌) (sym (append_assoc D U B))) (titled-rows A (U ++ B) us w k.0 t.1))
+        more_under (subst (λ R. Titled s R us) (ap (A ++◌) (sym (append_assoc D U B))) (titled_rows A (U ++ B) us w k.0 t.1))
         (subst (λ R. TitledUnder s R vs) (append_assoc A D (U ++ B) ∙ ap (A ++◌) (sym (append_assoc D U B)))
-        (titled-under (A ++ D) B vs (subst (λ n. Counts n (numbers-under vs)) (let z : length A + length (definition-numbers us) ≡ length (A ++ D) = omega arith in z) k.1) t.2))
+        (titled_under (A ++ D) B vs (subst (λ n. Counts n (numbers_under vs)) (let z : length A + length (definition_numbers us) ≡ length (A ++ D) = omega arith in z) k.1) t.2))
 
   -- Those of each kind.
-  specs-titled : (A : List DefinitionRow) (xs : List Spec) (k : Kind) → Counts (length A) (spec_numbers xs) → InText s (spec_words xs) → Titled s (A ++ all_definition_rows xs) (of_kind k xs)
+  specs_titled : (A : List DefinitionRow) (xs : List Spec) (k : Kind) → Counts (length A) (spec_numbers xs) → InText s (spec_words xs) → Titled s (A ++ all_definition_rows xs) (of_kind k xs)
   unfolding all_definition_rows spec_numbers spec_words of_kind
-  specs-titled A [] k c h = no-titles
-  specs-titled A (x ∷ xs) k c h =
-      let D = definition-rows x.definitions x.word in
-      let t = parts s (definition-words x.definitions) (spec_words xs) h.1 in
-      let j = counts_split (definition-numbers x.definitions) (spec_numbers xs) (length A) c in
-      let m : length (definition-numbers x.definitions) ≡ length D = length-definitions x.definitions ∙ sym (length-rows x.definitions x.word) in
+  specs_titled A [] k c h = no_titles
+  specs_titled A (x ∷ xs) k c h =
+      let D = definition_rows x.definitions x.word in
+      let t = parts s (definition_words x.definitions) (spec_words xs) h.1 in
+      let j = counts_split (definition_numbers x.definitions) (spec_numbers xs) (length A) c in
+      let m : length (definition_numbers x.definitions) ≡ length D = length_definitions x.definitions ∙ sym (length_rows x.definitions x.word) in
       let l = length-append A D in
-      go (same_kind k x.kind) (titled-rows A (all_definition_rows xs) x.definitions x.word j.0 t.0)
+      go (same_kind k x.kind) (titled_rows A (all_definition_rows xs) x.definitions x.word j.0 t.0)
       (subst (λ R. Titled s R (of_kind k xs)) (append_assoc A D (all_definition_rows xs))
-      (specs-titled (A ++ D) xs k (subst (λ n. Counts n (spec_numbers xs)) (let z : length A + length (definition-numbers x.definitions) ≡ length (A ++ D) = omega arith in z) j.1) t.1))
+      (specs_titled (A ++ D) xs k (subst (λ n. Counts n (spec_numbers xs)) (let z : length A + length (definition_numbers x.definitions) ≡ length (A ++ D) = omega arith in z) j.1) t.1))
     where
-      go : (b : Bool) → Titled s (A ++ (definition-rows x.definitions x.word ++ all_definition_rows xs)) x.definitions
-          → Titled s (A ++ (definition-rows x.definitions x.word ++ all_definition_rows xs)) (of_kind k xs)
-          → Titled s (A ++ (definition-rows x.definitions x.word ++ all_definition_rows xs)) (pick b x.definitions (of_kind k xs))
+      go : (b : Bool) → Titled s (A ++ (definition_rows x.definitions x.word ++ all_definition_rows xs)) x.definitions
+          → Titled s (A ++ (definition_rows x.definitions x.word ++ all_definition_rows xs)) (of_kind k xs)
+          → Titled s (A ++ (definition_rows x.definitions x.word ++ all_definition_rows xs)) (pick b x.definitions (of_kind k xs))
       go true p q = p
       go false p q = q
 
-  pub kind-titled : (xs : List Spec) (k : Kind) → Counts 0 (spec_numbers xs) → InText s (spec_words xs) → Titled s (all_definition_rows xs) (of_kind k xs)
-  kind-titled xs k c h = specs-titled [] xs k c h
+  pub kind_titled : (xs : List Spec) (k : Kind) → Counts 0 (spec_numbers xs) → InText s (spec_words xs) → Titled s (all_definition_rows xs) (of_kind k xs)
+  kind_titled xs k c h = specs_titled [] xs k c h
 
 -- Resolved values ------------------------------------------------------------------------------------------------------------------------------
 
@@ -128,30 +128,30 @@ ValuesTitled s R end = Unit {0}
 ValuesTitled s R (resolved t us rest) = (name_at s t.definition.row R ≡ t.definition.name.bytes) × ValuesTitled s R us × ValuesTitled s R rest
 
 module _ (s : List ℕ) (R : List DefinitionRow) (os : List Object) where
-  found-titled : (vs : Values) (t : Word) → TitledUnder s R vs → Titled s R (definitions_or (find_value vs t))
+  found_titled : (vs : Values) (t : Word) → TitledUnder s R vs → Titled s R (definitions_or (find_value vs t))
   unfolding find_value definitions_or
-  found-titled no_value t none_under = no-titles
-  found-titled (value w e us vs) t (more_under p q) = go (alike w t) (found-titled vs t q)
+  found_titled no_value t none_under = no_titles
+  found_titled (value w e us vs) t (more_under p q) = go (alike w t) (found_titled vs t q)
     where
       go : (b : Bool) → Titled s R (definitions_or (find_value vs t)) → Titled s R (definitions_or (pick b (some (record { word = w; number = e; definitions = us })) (find_value vs t)))
       go true h = p
       go false h = h
 
-  under-titled : (vs : Values) (t : Word) → TitledUnder s R vs → Titled s R (under vs t)
+  under_titled : (vs : Values) (t : Word) → TitledUnder s R vs → Titled s R (under vs t)
   unfolding under
-  under-titled vs t h = found-titled vs t h
+  under_titled vs t h = found_titled vs t h
 
-  taken-titled : {d : Definition} {vs : Values} {t : Word} {x : Taken} → Takes os d vs t x → name_at s d.row R ≡ d.name.bytes → name_at s x.definition.row R ≡ x.definition.name.bytes
+  taken_titled : {d : Definition} {vs : Values} {t : Word} {x : Taken} → Takes os d vs t x → name_at s d.row R ≡ d.name.bytes → name_at s x.definition.row R ≡ x.definition.name.bytes
   unfolding take_value
-  taken-titled h e = subst (λ (y : Taken). name_at s y.definition.row R ≡ y.definition.name.bytes) (sym h.is) e
+  taken_titled h e = subst (λ (y : Taken). name_at s y.definition.row R ≡ y.definition.name.bytes) (sym h.is) e
 
   mutual
-    pub settled-titled : {before : List Definition} {ds : Definitions} {r : Resolved} → Settled os before ds r → Titled s R ds → ValuesTitled s R r
-    settled-titled settled no-titles = tt
-    settled-titled (none_of n p q z) (titles a b c) = settled-titled z c
-    settled-titled (one_of {vs = vs} {t = t} n h z m) (titles a b c) = (taken-titled h a, settled-titled z (under-titled vs t b), more-titled m a b c)
+    pub settled_titled : {before : List Definition} {ds : Definitions} {r : Resolved} → Settled os before ds r → Titled s R ds → ValuesTitled s R r
+    settled_titled settled no_titles = tt
+    settled_titled (none_of n p q z) (titles a b c) = settled_titled z c
+    settled_titled (one_of {vs = vs} {t = t} n h z m) (titles a b c) = (taken_titled h a, settled_titled z (under_titled vs t b), more_titled m a b c)
 
-    more-titled : {before : List Definition} {d : Definition} {vs : Values} {ds : Definitions} {r : Resolved} → More os before d vs ds r → name_at s d.row R ≡ d.name.bytes → TitledUnder s R vs
+    more_titled : {before : List Definition} {d : Definition} {vs : Values} {ds : Definitions} {r : Resolved} → More os before d vs ds r → name_at s d.row R ≡ d.name.bytes → TitledUnder s R vs
         → Titled s R ds → ValuesTitled s R r
-    more-titled (again {vs = vs} {t = t} p h z m) a b c = (taken-titled h a, settled-titled z (under-titled vs t b), more-titled m a b c)
-    more-titled (no_more_of z) a b c = settled-titled z c
+    more_titled (again {vs = vs} {t = t} p h z m) a b c = (taken_titled h a, settled_titled z (under_titled vs t b), more_titled m a b c)
+    more_titled (no_more_of z) a b c = settled_titled z c

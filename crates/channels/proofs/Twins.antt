@@ -173,12 +173,12 @@ twins_few e (more_twins h p) (few_more a c) = few_more (full_twin e h ∙ a) (tw
 
 module _ (before : List Object) (x y : Object) (a : full (most x.kind) (how_many x.kind before) ≡ false)
     (c : full (most y.kind) (how_many y.kind (before ++ (x ∷ []))) ≡ false) where
-  first-full : full (most y.kind) (how_many y.kind before) ≡ false
-  first-full = let e = many_behind y.kind before x in fewer (most y.kind) (how_many y.kind (before ++ (x ∷ []))) (how_many y.kind before) (omega arith) c
+  first_full : full (most y.kind) (how_many y.kind before) ≡ false
+  first_full = let e = many_behind y.kind before x in fewer (most y.kind) (how_many y.kind (before ++ (x ∷ []))) (how_many y.kind before) (omega arith) c
 
-  second-full : full (most x.kind) (how_many x.kind (before ++ (y ∷ []))) ≡ false
+  second_full : full (most x.kind) (how_many x.kind (before ++ (y ∷ []))) ≡ false
   unfolding bit
-  second-full = ap (full (most x.kind)) (many_behind x.kind before y) ∙ go (same_kind x.kind y.kind) refl
+  second_full = ap (full (most x.kind)) (many_behind x.kind before y) ∙ go (same_kind x.kind y.kind) refl
     where
       go : (z : Bool) → same_kind x.kind y.kind ≡ z → full (most x.kind) (how_many x.kind before + bit z) ≡ false
       go true q =
@@ -192,7 +192,7 @@ module _ (before : List Object) (x y : Object) (a : full (most x.kind) (how_many
 -- So they are where two neighbours have changed places.
 pub swapped_few : {before before' xs ys : List Object} → Agree before before' → Swapped xs ys → Few before xs → Few before' ys
 swapped_few {before} e (swapped {x} {y} h i p) (few_more a (few_more c r)) =
-    few_more (full_twin e i ∙ first-full before x y a c) (few_more (full_twin (agree_behind e i) h ∙ second-full before x y a c) (twins_few (agree_swapped e h i) p r))
+    few_more (full_twin e i ∙ first_full before x y a c) (few_more (full_twin (agree_behind e i) h ∙ second_full before x y a c) (twins_few (agree_swapped e h i) p r))
 swapped_few e (behind h p) (few_more a c) = few_more (full_twin e h ∙ a) (swapped_few (agree_behind e h) p c)
 
 -- One kind and name --------------------------------------------------------------------------------------------------------------------------

@@ -116,39 +116,39 @@ plain_valued float-sort os d vs t e = refl
 plain_valued a_name os d vs t e = plain_named d.type os vs t e
 
 module _ (os : List Object) (c : Counts 0 (object_numbers os)) where
-  named-reference : (k : Kind) (vs : Values) (t : Word) → is_there (find_object k os t) ≡ true
+  named_reference : (k : Kind) (vs : Values) (t : Word) → is_there (find_object k os t) ≡ true
       → shown os (named (reference k) os vs t) t ≡ ideal_value (reference k) (named (reference k) os vs t) t
   unfolding named shown ideal_value target
-  named-reference k vs t h = ap a_reference (leads os k t c h)
+  named_reference k vs t h = ap a_reference (leads os k t c h)
 
-  valued-reference : (o : Sort) (k : Kind) (d : Definition) (vs : Values) (t : Word) → o ≡ a_name → d.type ≡ reference k → is_there (find_object k os t) ≡ true
+  valued_reference : (o : Sort) (k : Kind) (d : Definition) (vs : Values) (t : Word) → o ≡ a_name → d.type ≡ reference k → is_there (find_object k os t) ≡ true
       → shown os (valued o os d vs t) t ≡ ideal_value d.type (valued o os d vs t) t
   unfolding valued
-  valued-reference o k d vs t p q h =
+  valued_reference o k d vs t p q h =
       subst (λ o. shown os (valued o os d vs t) t ≡ ideal_value d.type (valued o os d vs t) t) (sym p)
-      (subst (λ y. shown os (named y os vs t) t ≡ ideal_value y (named y os vs t) t) (sym q) (named-reference k vs t h))
+      (subst (λ y. shown os (named y os vs t) t ≡ ideal_value y (named y os vs t) t) (sym q) (named_reference k vs t h))
 
-  taking-ideal : {d : Definition} {vs : Values} {t : Word} → Taking os d vs t
+  taking_ideal : {d : Definition} {vs : Values} {t : Word} → Taking os d vs t
       → shown os (valued (sort_of t.class) os d vs t) t ≡ ideal_value d.type (valued (sort_of t.class) os d vs t) t
-  taking-ideal {d} {vs} {t} (numbered p q r e) = plain_valued (sort_of t.class) os d vs t q
-  taking-ideal {d} {vs} {t} (told p q r) = plain_valued (sort_of t.class) os d vs t q
-  taking-ideal {d} {vs} {t} (referred {k} p q r h) = valued-reference (sort_of t.class) k d vs t r p h
+  taking_ideal {d} {vs} {t} (numbered p q r e) = plain_valued (sort_of t.class) os d vs t q
+  taking_ideal {d} {vs} {t} (told p q r) = plain_valued (sort_of t.class) os d vs t q
+  taking_ideal {d} {vs} {t} (referred {k} p q r h) = valued_reference (sort_of t.class) k d vs t r p h
 
-  takes-ideal : {d : Definition} {vs : Values} {t : Word} {x : Taken} → Takes os d vs t x → item_of os x ≡ ideal_item x
+  takes_ideal : {d : Definition} {vs : Values} {t : Word} {x : Taken} → Takes os d vs t x → item_of os x ≡ ideal_item x
   unfolding item_of ideal_item take_value
-  takes-ideal {d} {vs} {t} h =
+  takes_ideal {d} {vs} {t} h =
       subst (λ x. item_of os x ≡ ideal_item x) (sym h.is)
-      (ap (λ v. record { definition = d.row; attribute = d.name.bytes; value = v; stated = h.stated }) (taking-ideal h.taking))
+      (ap (λ v. record { definition = d.row; attribute = d.name.bytes; value = v; stated = h.stated }) (taking_ideal h.taking))
 
   mutual
     unfolding view ideal
 
     -- Settled values show what they show alone.
-    pub view-settled : {before : List Definition} {ds : Definitions} {r : Resolved} → Settled os before ds r → view os r ≡ ideal r
-    view-settled settled = refl
-    view-settled (none_of n p q s) = view-settled s
-    view-settled (one_of n h s m) = item_same (takes-ideal h) (view-settled s) (view-more m)
+    pub view_settled : {before : List Definition} {ds : Definitions} {r : Resolved} → Settled os before ds r → view os r ≡ ideal r
+    view_settled settled = refl
+    view_settled (none_of n p q s) = view_settled s
+    view_settled (one_of n h s m) = item_same (takes_ideal h) (view_settled s) (view_more m)
 
-    view-more : {before : List Definition} {d : Definition} {vs : Values} {ds : Definitions} {r : Resolved} → More os before d vs ds r → view os r ≡ ideal r
-    view-more (again p h s m) = item_same (takes-ideal h) (view-settled s) (view-more m)
-    view-more (no_more_of s) = view-settled s
+    view_more : {before : List Definition} {d : Definition} {vs : Values} {ds : Definitions} {r : Resolved} → More os before d vs ds r → view os r ≡ ideal r
+    view_more (again p h s m) = item_same (takes_ideal h) (view_settled s) (view_more m)
+    view_more (no_more_of s) = view_settled s

@@ -2,7 +2,7 @@
 use Rattle.std.specs.Prelude.{◌≡◌, List, [], ◌∷◌, ◌++◌, true, ℕ, ◌+◌, ◌≤◌, length, take, drop}
 use Rattle.std.proofs.Math.Option.{Option, none, some}
 use Rattle.token.specs.Tokens.{bytes_between}
-use Rattle.grammar.specs.Grammar.{Token, matches, sg, lbrace, rbrace, Form, ◌▸◌, ∎, ◌⟶◌, Trees, nil, leaf, node, file, objects, object, file-is, application-is, no_object, an_object, an-object-alone, an-object-with, Kind, Derivation, tokens as Leaves-of}
+use Rattle.grammar.specs.Grammar.{Token, matches, sg, lbrace, rbrace, Form, ◌▸◌, ∎, ◌⟶◌, Trees, nil, leaf, node, file, objects, object, file_is, application_is, no_object, an_object, an_object_alone, an_object_with, Kind, Derivation, tokens as Leaves-of}
 use Rattle.grammar.specs.Terminals.{tokens}
 use Rattle.grammar.specs.Stage.{opens, closes}
 use Rattle.meaning.specs.Actions.{meaning, syntax}
@@ -24,7 +24,7 @@ each_tree (node an_object (node p x xs) ts) = node p x nil ∷ each_tree xs
 
 -- The parts of a file, in text order.
 unfoldable pub object_trees : Trees ◌⟶◌ (file ▸ ∎) → List ObjectTree
-object_trees (node file-is (node _ v (node _ i (node application-is (leaf _ _ (leaf _ _ (leaf _ _ os))) nil))) nil) = each_tree os
+object_trees (node file_is (node _ v (node _ i (node application_is (leaf _ _ (leaf _ _ (leaf _ _ os))) nil))) nil) = each_tree os
 
 -- "each from kind word through semicolon": where the first of a part's tokens begins, and where the last one ends.
 unfoldable pub first_place : List Token → ℕ
@@ -42,8 +42,8 @@ pub record Pair : Type 0 where
   pub closing : Token
 
 unfoldable pub braces : ObjectTree → Option Pair
-braces (node an-object-alone us nil) = none
-braces (node an-object-with (leaf _ _ (leaf _ _ (leaf o _ (node _ ss (leaf c _ r))))) nil) = some (record { opening = o; closing = c })
+braces (node an_object_alone us nil) = none
+braces (node an_object_with (leaf _ _ (leaf _ _ (leaf o _ (node _ ss (leaf c _ r))))) nil) = some (record { opening = o; closing = c })
 
 -- Its kind and name, in the text s.
 unfoldable pub key_in : List ℕ → ObjectTree → Key
@@ -71,10 +71,10 @@ pub record Neighbours (a x m y b : List ℕ) : Type 0 where
   pub after : List ObjectTree
   pub objects_are : object_trees derivation.tree ≡ before ++ (one ∷ other ∷ after)
   pub different : key_in (a ++ (x ++ (m ++ (y ++ b)))) one ≡ key_in (a ++ (x ++ (m ++ (y ++ b)))) other → ⊥
-  pub one-begins : first_place (Leaves-of one) ≡ length a
-  pub one-ends : end_of_last (Leaves-of one) ≡ length a + length x
-  pub other-begins : first_place (Leaves-of other) ≡ length a + (length x + length m)
-  pub other-ends : end_of_last (Leaves-of other) ≡ length a + (length x + (length m + length y))
+  pub one_begins : first_place (Leaves-of one) ≡ length a
+  pub one_ends : end_of_last (Leaves-of one) ≡ length a + length x
+  pub other_begins : first_place (Leaves-of other) ≡ length a + (length x + length m)
+  pub other_ends : end_of_last (Leaves-of other) ≡ length a + (length x + (length m + length y))
 
 -- i is what stands "between the braces of one object or part" in the text a i b.
 pub record Inside (a i b : List ℕ) : Type 0 where
@@ -84,7 +84,7 @@ pub record Inside (a i b : List ℕ) : Type 0 where
   pub after : List ObjectTree
   pub objects_are : object_trees derivation.tree ≡ before ++ (this ∷ after)
   pub pair : Pair
-  pub braces-are : braces this ≡ some pair
+  pub braces_are : braces this ≡ some pair
   pub opens : pair.opening.place + pair.opening.length ≡ length a
   pub closes : pair.closing.place ≡ length a + length i
 
@@ -97,11 +97,11 @@ pub record Pairs (a i b : List ℕ) : Type 0 where
   pub closing : Token
   pub back : List Token
   pub whole : tokens (a ++ (i ++ b)) ≡ front ++ (opening ∷ (inner ++ (closing ∷ back)))
-  pub is-opening : matches (sg lbrace) opening.class ≡ true
-  pub is-closing : matches (sg rbrace) closing.class ≡ true
+  pub is_opening : matches (sg lbrace) opening.class ≡ true
+  pub is_closing : matches (sg rbrace) closing.class ≡ true
   pub opens_at : opening.place + opening.length ≡ length a
   pub closes_at : closing.place ≡ length a + length i
-  pub never-more : (l m : List Token) → inner ≡ l ++ m → closes l ≤ opens l
+  pub never_more : (l m : List Token) → inner ≡ l ++ m → closes l ≤ opens l
   pub as_many : closes inner ≡ opens inner
 
 -- "In an accepted text, exchange two neighbouring objects or parts of different ones ..: the text is accepted, every object has the same resolved values, and each
@@ -128,11 +128,11 @@ ExchangeAll = (s : List ℕ) (t : Tables) → Answers s (accepted t) → (d : De
 -- What follows the place p of the text s, where the parts l stand, with pairs of neighbouring parts of different objects exchanged.
 pub data Exchanges (s : List ℕ) : ℕ → List ObjectTree → List ℕ → Type 0 where
   -- the rest as it stands
-  rest-stands : (p : ℕ) (l : List ObjectTree) → Exchanges s p l (drop p s)
+  rest_stands : (p : ℕ) (l : List ObjectTree) → Exchanges s p l (drop p s)
   -- a part as it stands, with what stands before it
-  part-stands : (p : ℕ) (x : ObjectTree) (l : List ObjectTree) (u : List ℕ) → Exchanges s (end_of_last (Leaves-of x)) l u → Exchanges s p (x ∷ l) (bytes_between s p (end_of_last (Leaves-of x)) ++ u)
+  part_stands : (p : ℕ) (x : ObjectTree) (l : List ObjectTree) (u : List ℕ) → Exchanges s (end_of_last (Leaves-of x)) l u → Exchanges s p (x ∷ l) (bytes_between s p (end_of_last (Leaves-of x)) ++ u)
   -- two parts exchanged
-  two-exchanged : (p : ℕ) (x y : ObjectTree) (l : List ObjectTree) (u : List ℕ) → (key_in s x ≡ key_in s y → ⊥) → Exchanges s (end_of_last (Leaves-of y)) l u
+  two_exchanged : (p : ℕ) (x y : ObjectTree) (l : List ObjectTree) (u : List ℕ) → (key_in s x ≡ key_in s y → ⊥) → Exchanges s (end_of_last (Leaves-of y)) l u
       → Exchanges s p (x ∷ y ∷ l)
       (bytes_between s p (first_place (Leaves-of x))
       ++ (bytes_between s (first_place (Leaves-of y)) (end_of_last (Leaves-of y))

@@ -9,13 +9,13 @@ use lib.ListN.{length}
 use lib.Dec.{eqb, leb}
 use borrow.Author.Tests.{eqb-true}
 use Rattle.token.proofs.Bytes.{not_true}
-use Rattle.grammar.specs.Grammar.{Token, Class, Kind, Integer, Sign, Terminal, Rule, tok, rule, matches, is_name, code, sign_code, name, number, string, float, kind, type, integer, the, CPU, sg, lbrace, rbrace, semicolon, colon, Form, ◌·◌, ◌▸◌, ∎, ◌⟶◌, Trees, nil, leaf, node, file, version, implementation, specs, spec, definitions, definition, attribute, reference, D, auto, mark, integer_range, numbers, boolean_range, float_range, enumerator, enumerators, default, own, application, objects, object, block, statements, statement, value, P as P-rule, file-is, application-is, an-object-alone, an-object-with, no-D, a-D, tokens as Leaves-of}
+use Rattle.grammar.specs.Grammar.{Token, Class, Kind, Integer, Sign, Terminal, Rule, tok, rule, matches, is_name, code, sign_code, name, number, string, float, kind, type, integer, the, CPU, sg, lbrace, rbrace, semicolon, colon, Form, ◌·◌, ◌▸◌, ∎, ◌⟶◌, Trees, nil, leaf, node, file, version, implementation, specs, spec, definitions, definition, attribute, reference, D, auto, mark, integer_range, numbers, boolean_range, float_range, enumerator, enumerators, default, own, application, objects, object, block, statements, statement, value, P as P-rule, file_is, application_is, an_object_alone, an_object_with, no_D, a_D, tokens as Leaves-of}
 use Rattle.grammar.specs.Factored.{Written, written, forms, Nonterminal, paper, span}
 use Rattle.grammar.proofs.Braces.{terminal_code, agree}
 use Rattle.grammar.proofs.Choices.{all, classes, formed, both, every, every_rule, every_class, nonterminals}
 use Rattle.channels.specs.Neighbours.{ObjectTree, object_trees}
 use Rattle.channels.proofs.ObjectTrees.{rest_trees, all_leaves, front_leaves, back_leaves, with_own, with_trees}
-use Rattle.channels.proofs.Pairing.{pair-match, form_level}
+use Rattle.channels.proofs.Pairing.{pair_match, form_level}
 
 -- Terminals ------------------------------------------------------------------------------------------------------------------------------------
 
@@ -223,7 +223,7 @@ closed ts h k =
 
 record Past (F M A R : List Token) : Type 0 where
   rest : List Token
-  front-is : A ≡ F ++ rest
+  front_is : A ≡ F ++ rest
   back_is : M ≡ rest ++ R
 
 met : (F M : List Token) (u : Token) (Q : List Token) → F ++ M ≡ u ∷ Q → apart true F ≡ true → kind_at true F ≡ false → is_name u.class ≡ true → ⊥
@@ -238,7 +238,7 @@ met (g ∷ F) M u Q e p q n =
 past : (b : Bool) (F M A : List Token) (t u : Token) (Q : List Token) → apart b F ≡ true → kind_at b F ≡ false → is_kind t ≡ true → is_name u.class ≡ true
     → F ++ M ≡ A ++ (t ∷ u ∷ Q) → Past F M A (t ∷ u ∷ Q)
 unfolding apart kind_at
-past b [] M A t u Q p q k n e = record { rest = A; front-is = refl; back_is = e }
+past b [] M A t u Q p q k n e = record { rest = A; front_is = refl; back_is = e }
 past b (f ∷ F) M [] t u Q p q k n e =
     let i : f ≡ t = cc in
     let j : F ++ M ≡ u ∷ Q = cc in
@@ -249,24 +249,24 @@ past b (f ∷ F) M (x ∷ A) t u Q p q k n e =
     let i : f ≡ x = cc in
     let j : F ++ M ≡ A ++ (t ∷ u ∷ Q) = cc in
     let r = past (is_kind f) F M A t u Q (both (not (b && is_name f.class)) (apart (is_kind f) F) p).1 q k n j in
-    record { rest = r.rest; front-is = ap₂ ◌∷◌ (sym i) r.front-is; back_is = r.back_is }
+    record { rest = r.rest; front_is = ap₂ ◌∷◌ (sym i) r.front-is; back_is = r.back_is }
 
 -- An object by its first two tokens.
 record Headed (x : ObjectTree) : Type 0 where
-  kind-token : Token
-  name-token : Token
+  kind_token : Token
+  name_token : Token
   rest : List Token
-  leaves : Leaves-of x ≡ kind-token ∷ name-token ∷ rest
-  kind_is : is_kind kind-token ≡ true
-  name_is : is_name name-token.class ≡ true
-  closed_is : Closed (name-token ∷ rest)
+  leaves : Leaves-of x ≡ kind_token ∷ name_token ∷ rest
+  kind_is : is_kind kind_token ≡ true
+  name_is : is_name name_token.class ≡ true
+  closed_is : Closed (name_token ∷ rest)
 
 headed : (x : ObjectTree) → Headed x
 unfolding Leaves-of matches fine open_at way takes_name takes_kind names_code terminal_code
-headed (node an-object-alone (leaf t h (leaf n m us)) nil) =
-    record { kind-token = t; name-token = n; rest = Leaves-of us; leaves = append-nil (t ∷ n ∷ Leaves-of us); kind_is = h; name_is = m; closed_is = closed (leaf {a = name} n m us) refl (λ e. false≢true e) }
-headed (node an-object-with (leaf t h (leaf n m us)) nil) =
-    record { kind-token = t; name-token = n; rest = Leaves-of us; leaves = append-nil (t ∷ n ∷ Leaves-of us); kind_is = h; name_is = m; closed_is = closed (leaf {a = name} n m us) refl (λ e. false≢true e) }
+headed (node an_object_alone (leaf t h (leaf n m us)) nil) =
+    record { kind_token = t; name_token = n; rest = Leaves-of us; leaves = append-nil (t ∷ n ∷ Leaves-of us); kind_is = h; name_is = m; closed_is = closed (leaf {a = name} n m us) refl (λ e. false≢true e) }
+headed (node an_object_with (leaf t h (leaf n m us)) nil) =
+    record { kind_token = t; name_token = n; rest = Leaves-of us; leaves = append-nil (t ∷ n ∷ Leaves-of us); kind_is = h; name_is = m; closed_is = closed (leaf {a = name} n m us) refl (λ e. false≢true e) }
 
 -- The object that they begin, among objects that B follows.
 record Begun (os : List ObjectTree) (A R B : List Token) : Type 0 where
@@ -274,7 +274,7 @@ record Begun (os : List ObjectTree) (A R B : List Token) : Type 0 where
   this : ObjectTree
   after : List ObjectTree
   whole : os ≡ before ++ (this ∷ after)
-  rest-is : Leaves-of this ++ (all_leaves after ++ B) ≡ R
+  rest_is : Leaves-of this ++ (all_leaves after ++ B) ≡ R
 
 no_end : (a : List Token) (t : Token) (l : List Token) → [] ≡ a ++ (t ∷ l) → ⊥
 no_end [] t l e = let z : ◌≡◌ {A = ℕ} 0 1 = cc in omega arith
@@ -286,7 +286,7 @@ unfolding all_leaves
 begun [] B A t u Q c k n e =
     let r = past false B [] A t u Q c.apart-is c.last k n (append-nil B ∙ e) in absurd (no_end r.rest t (u ∷ Q) r.back_is)
 begun (o ∷ os) B [] t u Q c k n e =
-    record { before = []; this = o; after = os; whole = refl; rest-is = sym (append_assoc (Leaves-of o) (all_leaves os) B) ∙ e }
+    record { before = []; this = o; after = os; whole = refl; rest_is = sym (append_assoc (Leaves-of o) (all_leaves os) B) ∙ e }
 begun (o ∷ os) B (x ∷ A) t u Q c k n e =
     let h = headed o in
     let L = h.name-token ∷ h.rest in
@@ -295,17 +295,17 @@ begun (o ∷ os) B (x ∷ A) t u Q c k n e =
     let v : L ++ (all_leaves os ++ B) ≡ A ++ (t ∷ u ∷ Q) = cc in
     let p = past false L (all_leaves os ++ B) A t u Q h.closed_is.apart-is h.closed_is.last k n v in
     let r = begun os B p.rest t u Q c k n p.back_is in
-    record { before = o ∷ r.before; this = r.this; after = r.after; whole = ap (o ∷◌) r.whole; rest-is = r.rest-is }
+    record { before = o ∷ r.before; this = r.this; after = r.after; whole = ap (o ∷◌) r.whole; rest_is = r.rest-is }
 
 -- Of a file.
 front_closed : (t : Trees ◌⟶◌ (file ▸ ∎)) → Closed (front_leaves t)
 unfolding front_leaves Leaves-of fine open_at way takes_name takes_kind names_code terminal_code
-front_closed (node file-is (node p v (node q i (node application-is (leaf a k (leaf b m (leaf c n os))) nil))) nil) =
+front_closed (node file_is (node p v (node q i (node application_is (leaf a k (leaf b m (leaf c n os))) nil))) nil) =
     closed (node p v (node q i (leaf {a = the CPU} a k (leaf {a = name} b m (leaf {a = sg lbrace} c n nil))))) refl (λ e. false≢true e)
 
 back_closed : (t : Trees ◌⟶◌ (file ▸ ∎)) → Closed (back_leaves t)
 unfolding back_leaves fine open_at way takes_name takes_kind names_code terminal_code
-back_closed (node file-is (node p v (node q i (node application-is (leaf a k (leaf b m (leaf c n os))) nil))) nil) = closed (rest_trees os) refl (λ e. false≢true e)
+back_closed (node file_is (node p v (node q i (node application_is (leaf a k (leaf b m (leaf c n os))) nil))) nil) = closed (rest_trees os) refl (λ e. false≢true e)
 
 -- Where an object ends -----------------------------------------------------------------------------------------------------------------------------
 
@@ -325,10 +325,10 @@ End = D ▸ sg semicolon · ∎
 
 same_end : (d e : Trees ◌⟶◌ End) (P Q : List Token) → Leaves-of d ++ P ≡ Leaves-of e ++ Q → SameFront (Leaves-of d) (Leaves-of e) P Q
 unfolding Leaves-of sign_code
-same_end (node no-D nil (leaf z h nil)) (node no-D nil (leaf y k nil)) P Q w = let i : z ≡ y = cc in let j : P ≡ Q = cc in record { front = ap (◌∷ []) i; back = j }
-same_end (node no-D nil (leaf z h nil)) (node a-D (leaf y k us) ts) P Q w = let i : z ≡ y = cc in absurd (let q : ◌≡◌ {A = ℕ} 35 36 = signs_apart semicolon colon z y h k i in omega arith)
-same_end (node a-D (leaf z h us) ts) (node no-D nil (leaf y k nil)) P Q w = let i : z ≡ y = cc in absurd (let q : ◌≡◌ {A = ℕ} 36 35 = signs_apart colon semicolon z y h k i in omega arith)
-same_end (node a-D (leaf z h (leaf s m nil)) (leaf c n nil)) (node a-D (leaf y k (leaf r l nil)) (leaf b o nil)) P Q w =
+same_end (node no_D nil (leaf z h nil)) (node no_D nil (leaf y k nil)) P Q w = let i : z ≡ y = cc in let j : P ≡ Q = cc in record { front = ap (◌∷ []) i; back = j }
+same_end (node no_D nil (leaf z h nil)) (node a_D (leaf y k us) ts) P Q w = let i : z ≡ y = cc in absurd (let q : ◌≡◌ {A = ℕ} 35 36 = signs_apart semicolon colon z y h k i in omega arith)
+same_end (node a_D (leaf z h us) ts) (node no_D nil (leaf y k nil)) P Q w = let i : z ≡ y = cc in absurd (let q : ◌≡◌ {A = ℕ} 36 35 = signs_apart colon semicolon z y h k i in omega arith)
+same_end (node a_D (leaf z h (leaf s m nil)) (leaf c n nil)) (node a_D (leaf y k (leaf r l nil)) (leaf b o nil)) P Q w =
     let i₁ : z ≡ y = cc in
     let i₂ : s ≡ r = cc in
     let i₃ : c ≡ b = cc in
@@ -338,8 +338,8 @@ same_end (node a-D (leaf z h (leaf s m nil)) (leaf c n nil)) (node a-D (leaf y k
 -- What an object's name is followed by.
 not_brace : (d : Trees ◌⟶◌ End) (b : Token) (P Q : List Token) → matches (sg lbrace) b.class ≡ true → Leaves-of d ++ P ≡ b ∷ Q → ⊥
 unfolding Leaves-of sign_code
-not_brace (node no-D nil (leaf z h nil)) b P Q k w = let i : z ≡ b = cc in let q : ◌≡◌ {A = ℕ} 35 30 = signs_apart semicolon lbrace z b h k i in omega arith
-not_brace (node a-D (leaf z h us) ts) b P Q k w = let i : z ≡ b = cc in let q : ◌≡◌ {A = ℕ} 36 30 = signs_apart colon lbrace z b h k i in omega arith
+not_brace (node no_D nil (leaf z h nil)) b P Q k w = let i : z ≡ b = cc in let q : ◌≡◌ {A = ℕ} 35 30 = signs_apart semicolon lbrace z b h k i in omega arith
+not_brace (node a_D (leaf z h us) ts) b P Q k w = let i : z ≡ b = cc in let q : ◌≡◌ {A = ℕ} 36 30 = signs_apart colon lbrace z b h k i in omega arith
 
 abbrev Block : Form
 Block = statements ▸ sg rbrace · End
@@ -350,7 +350,7 @@ same_block (node p us (leaf c h d)) (node q vs (leaf b k e)) P Q w =
     let U = Leaves-of us in
     let W = Leaves-of vs in
     let v : U ++ (c ∷ (Leaves-of d ++ P)) ≡ W ++ (b ∷ (Leaves-of e ++ Q)) = sym (append_assoc U (c ∷ Leaves-of d) P) ∙ w ∙ append_assoc W (b ∷ Leaves-of e) Q in
-    let m = pair-match U W c b (Leaves-of d ++ P) (Leaves-of e ++ Q) (form_level p us) (form_level q vs) h k v in
+    let m = pair_match U W c b (Leaves-of d ++ P) (Leaves-of e ++ Q) (form_level p us) (form_level q vs) h k v in
     let x = m.1 in
     let i : c ≡ b = cc in
     let j : Leaves-of d ++ P ≡ Leaves-of e ++ Q = cc in
@@ -366,21 +366,21 @@ unstripped {a} {b} s = record { front = append-nil a ∙ s.front ∙ sym (append
 -- Two objects that begin one list of tokens have the same.
 same_object : (x y : ObjectTree) (P Q : List Token) → Leaves-of x ++ P ≡ Leaves-of y ++ Q → SameFront (Leaves-of x) (Leaves-of y) P Q
 unfolding Leaves-of
-same_object (node an-object-alone (leaf t _ (leaf n _ d)) nil) (node an-object-alone (leaf u _ (leaf m _ e)) nil) P Q w =
+same_object (node an_object_alone (leaf t _ (leaf n _ d)) nil) (node an_object_alone (leaf u _ (leaf m _ e)) nil) P Q w =
     let v : t ∷ n ∷ (Leaves-of d ++ P) ≡ u ∷ m ∷ (Leaves-of e ++ Q) = sym (stripped (t ∷ n ∷ Leaves-of d) P) ∙ w ∙ stripped (u ∷ m ∷ Leaves-of e) Q in
     let i : t ≡ u = cc in
     let j : n ≡ m = cc in
     let k : Leaves-of d ++ P ≡ Leaves-of e ++ Q = cc in
     unstripped (same_more t u i (same_more n m j (same_end d e P Q k)))
-same_object (node an-object-alone (leaf t _ (leaf n _ d)) nil) (node an-object-with (leaf u _ (leaf m _ (leaf b h e))) nil) P Q w =
+same_object (node an_object_alone (leaf t _ (leaf n _ d)) nil) (node an_object_with (leaf u _ (leaf m _ (leaf b h e))) nil) P Q w =
     let v : t ∷ n ∷ (Leaves-of d ++ P) ≡ u ∷ m ∷ b ∷ (Leaves-of e ++ Q) = sym (stripped (t ∷ n ∷ Leaves-of d) P) ∙ w ∙ stripped (u ∷ m ∷ b ∷ Leaves-of e) Q in
     let k : Leaves-of d ++ P ≡ b ∷ (Leaves-of e ++ Q) = cc in
     absurd (not_brace d b P (Leaves-of e ++ Q) h k)
-same_object (node an-object-with (leaf u _ (leaf m _ (leaf b h e))) nil) (node an-object-alone (leaf t _ (leaf n _ d)) nil) P Q w =
+same_object (node an_object_with (leaf u _ (leaf m _ (leaf b h e))) nil) (node an_object_alone (leaf t _ (leaf n _ d)) nil) P Q w =
     let v : u ∷ m ∷ b ∷ (Leaves-of e ++ P) ≡ t ∷ n ∷ (Leaves-of d ++ Q) = sym (stripped (u ∷ m ∷ b ∷ Leaves-of e) P) ∙ w ∙ stripped (t ∷ n ∷ Leaves-of d) Q in
     let k : Leaves-of d ++ Q ≡ b ∷ (Leaves-of e ++ P) = cc in
     absurd (not_brace d b Q (Leaves-of e ++ P) h k)
-same_object (node an-object-with (leaf t _ (leaf n _ (leaf a _ d))) nil) (node an-object-with (leaf u _ (leaf m _ (leaf b _ e))) nil) P Q w =
+same_object (node an_object_with (leaf t _ (leaf n _ (leaf a _ d))) nil) (node an_object_with (leaf u _ (leaf m _ (leaf b _ e))) nil) P Q w =
     let v : t ∷ n ∷ a ∷ (Leaves-of d ++ P) ≡ u ∷ m ∷ b ∷ (Leaves-of e ++ Q) = sym (stripped (t ∷ n ∷ a ∷ Leaves-of d) P) ∙ w ∙ stripped (u ∷ m ∷ b ∷ Leaves-of e) Q in
     let i : t ≡ u = cc in
     let j : n ≡ m = cc in
@@ -397,7 +397,7 @@ pub record TwoParts (os : List ObjectTree) (x y : ObjectTree) : Type 0 where
   pub other : ObjectTree
   pub after : List ObjectTree
   pub whole : os ≡ before ++ (one ∷ other ∷ after)
-  pub one-is : Leaves-of one ≡ Leaves-of x
+  pub one_is : Leaves-of one ≡ Leaves-of x
   pub other_is : Leaves-of other ≡ Leaves-of y
 
 second : (os before after : List ObjectTree) (one x y : ObjectTree) (R B : List Token) → Closed B → os ≡ before ++ (one ∷ after) → Leaves-of one ≡ Leaves-of x
@@ -410,7 +410,7 @@ second os before [] one x y R B c w e f =
     absurd (no_end r.rest h.kind-token (h.name-token ∷ (h.rest ++ R)) r.back_is)
 second os before (o ∷ after) one x y R B c w e f =
     let s = same_object o y (all_leaves after ++ B) R (sym (append_assoc (Leaves-of o) (all_leaves after) B) ∙ f) in
-    record { before = before; one = one; other = o; after = after; whole = w; one-is = e; other_is = s.front }
+    record { before = before; one = one; other = o; after = after; whole = w; one_is = e; other_is = s.front }
 
 pub two_parts_in : (t : Trees ◌⟶◌ (file ▸ ∎)) (x y : ObjectTree) (A R : List Token) → Leaves-of t ≡ A ++ (Leaves-of x ++ (Leaves-of y ++ R)) → TwoParts (object_trees t) x y
 two_parts_in t x y A R e =

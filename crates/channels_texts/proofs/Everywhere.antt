@@ -8,7 +8,7 @@ use lib.Seq.{length-take-le, drop-append_seam, drop-drop, get_or-drop}
 use Rattle.token.specs.Tokens.{bytes_between}
 use Rattle.grammar.specs.Grammar.{Token, Derivation, tokens as Leaves-of}
 use Rattle.grammar.specs.Terminals.{tokens}
-use Rattle.channels.specs.Neighbours.{ObjectTree, object_trees, first_place, end_of_last, key_in, Exchanges, rest-stands, part-stands, two-exchanged}
+use Rattle.channels.specs.Neighbours.{ObjectTree, object_trees, first_place, end_of_last, key_in, Exchanges, rest_stands, part_stands, two_exchanged}
 use Rattle.channels.proofs.ObjectTrees.{all_leaves, leaves_append, front_leaves, back_leaves, with_own, with_trees}
 use Rattle.channels.proofs.Saying.{Ends, last_end_is}
 use Rattle.channels.proofs.ObjectTokens.{object_ends}
@@ -25,25 +25,25 @@ pub record PartsAt (s : List ℕ) (d : Derivation (tokens s)) (j : ℕ) (x m y :
   pub after : List ObjectTree
   pub objects_are : object_trees d.tree ≡ before ++ (one ∷ other ∷ after)
   pub different : key_in s one ≡ key_in s other → ⊥
-  pub one-begins : first_place (Leaves-of one) ≡ j
-  pub one-ends : end_of_last (Leaves-of one) ≡ j + length x
-  pub other-begins : first_place (Leaves-of other) ≡ j + (length x + length m)
-  pub other-ends : end_of_last (Leaves-of other) ≡ j + (length x + (length m + length y))
+  pub one_begins : first_place (Leaves-of one) ≡ j
+  pub one_ends : end_of_last (Leaves-of one) ≡ j + length x
+  pub other_begins : first_place (Leaves-of other) ≡ j + (length x + length m)
+  pub other_ends : end_of_last (Leaves-of other) ≡ j + (length x + (length m + length y))
 
 -- Lists ----------------------------------------------------------------------------------------------------------------------------------------
 
 -- Where an element of a list in two parts stands.
 data Found {A : Type 0} (pre l before : List A) (x : A) (rest : List A) : Type 0 where
-  in-first : (d : List A) → pre ≡ before ++ (x ∷ d) → Found pre l before x rest
-  in-second : (mid : List A) → before ≡ pre ++ mid → l ≡ mid ++ (x ∷ rest) → Found pre l before x rest
+  in_first : (d : List A) → pre ≡ before ++ (x ∷ d) → Found pre l before x rest
+  in_second : (mid : List A) → before ≡ pre ++ mid → l ≡ mid ++ (x ∷ rest) → Found pre l before x rest
 
 found_more : {A : Type 0} {pre l before : List A} {x : A} {rest : List A} (t u : A) → t ≡ u → Found pre l before x rest → Found (t ∷ pre) l (u ∷ before) x rest
-found_more t u e (in-first d p) = in-first d (ap₂ ◌∷◌ e p)
-found_more t u e (in-second mid p q) = in-second mid (ap₂ ◌∷◌ (sym e) p) q
+found_more t u e (in_first d p) = in_first d (ap₂ ◌∷◌ e p)
+found_more t u e (in_second mid p q) = in_second mid (ap₂ ◌∷◌ (sym e) p) q
 
 found : {A : Type 0} (pre l before : List A) (x : A) (rest : List A) → pre ++ l ≡ before ++ (x ∷ rest) → Found pre l before x rest
-found [] l before x rest e = in-second before refl e
-found (t ∷ pre) l [] x rest e = in-first pre (ap (◌∷ pre) (let z : t ≡ x = cc in z))
+found [] l before x rest e = in_second before refl e
+found (t ∷ pre) l [] x rest e = in_first pre (ap (◌∷ pre) (let z : t ≡ x = cc in z))
 found (t ∷ pre) l (u ∷ before) x rest e =
     let h : t ≡ u = cc in
     let i : pre ++ l ≡ before ++ (x ∷ rest) = cc in
@@ -71,19 +71,19 @@ end_one (z ∷ l) x d p e = end_one l x d p e.1
 module _ (s : List ℕ) where
   -- The tokens A end at p or before.
   data Behind (p : ℕ) (A : List Token) : Type 0 where
-    at-start : p ≡ 0 → Behind p A
+    at_start : p ≡ 0 → Behind p A
     at_end : (B : List Token) (c : Token) → A ≡ B ++ (c ∷ []) → p ≡ c.place + c.length → Behind p A
 
   begins : {p : ℕ} {A : List Token} → Behind p A → (X R : List Token) → Ends X → tokens s ≡ A ++ (X ++ R) → p ≤ first_place X
   unfolding first_place
-  begins (at-start e) X R x w = omega arith
+  begins (at_start e) X R x w = omega arith
   begins {p} {A} (at_end B c e f) X R x w =
       let g = begins_behind s B c x.first ((x.mid ++ (x.final ∷ [])) ++ R) (w ∙ ap₂ (λ l m. l ++ (m ++ R)) e x.leaves) in
       let h : first_place X ≡ x.first.place = ap first_place x.leaves in
       omega arith
 
-  after-object : (A X : List Token) → Ends X → Behind (end_of_last X) (A ++ X)
-  after-object A X x =
+  after_object : (A X : List Token) → Ends X → Behind (end_of_last X) (A ++ X)
+  after_object A X x =
       at_end (A ++ (x.first ∷ x.mid)) x.final (ap (A ++◌) x.leaves ∙ sym (append_assoc A (x.first ∷ x.mid) (x.final ∷ []))) (ap end_of_last x.leaves ∙ last_end_is (x.first ∷ x.mid) x.final)
 
   -- Parts before the object X, from p on.
@@ -101,7 +101,7 @@ module _ (s : List ℕ) where
       let a = begins r Z (all_leaves mid ++ (X ++ R)) o e in
       let g = object_range s A Z (all_leaves mid ++ (X ++ R)) e o in
       let b = g.low in
-      let c = chain mid (after-object A Z o) X R x (e ∙ sym (append_assoc A Z (all_leaves mid ++ (X ++ R)))) in
+      let c = chain mid (after_object A Z o) X R x (e ∙ sym (append_assoc A Z (all_leaves mid ++ (X ++ R)))) in
       let d = c.low in
       record { low = omega arith; ends = (d, c.ends) }
 
@@ -113,7 +113,7 @@ module _ (s : List ℕ) where
       ++ (bytes_between s (first_place (Leaves-of y)) (end_of_last (Leaves-of y))
       ++ (bytes_between s (end_of_last (Leaves-of x)) (first_place (Leaves-of y)) ++ (bytes_between s (first_place (Leaves-of x)) (end_of_last (Leaves-of x)) ++ u))))
   unfolding all_leaves
-  steps [] {p} r x y after R u w d e = two-exchanged p x y after u d e
+  steps [] {p} r x y after R u w d e = two_exchanged p x y after u d e
   steps (z ∷ mid) {p} {A} r x y after R u w d e =
       let Z = Leaves-of z in
       let X = Leaves-of x in
@@ -124,15 +124,15 @@ module _ (s : List ℕ) where
       let a = begins r Z (all_leaves mid ++ (X ++ R)) o g₀ in
       let b = object_range s A Z (all_leaves mid ++ (X ++ R)) g₀ o in
       let b₁ = b.low in
-      let c = chain mid (after-object A Z o) X R (object_ends x) g₁ in
+      let c = chain mid (after_object A Z o) X R (object_ends x) g₁ in
       let c₁ = c.low in
       let f = object_range s ((A ++ Z) ++ all_leaves mid) X R (g₁ ∙ sym (append_assoc (A ++ Z) (all_leaves mid) (X ++ R))) (object_ends x) in
       let f₁ = f.low in
       let f₂ = f.high in
-      let i = steps mid (after-object A Z o) x y after R u g₁ d e in
+      let i = steps mid (after_object A Z o) x y after R u g₁ d e in
       subst (Exchanges s p (z ∷ (mid ++ (x ∷ y ∷ after))))
       (sym (append_assoc (bytes_between s p (end_of_last Z)) (bytes_between s (end_of_last Z) (first_place X)) rest) ∙ ap (◌++ rest) (two_parts s p (end_of_last Z) (first_place X) (omega arith) c₁ (omega arith)))
-      (part-stands p z (mid ++ (x ∷ y ∷ after)) (bytes_between s (end_of_last Z) (first_place X) ++ rest) i)
+      (part_stands p z (mid ++ (x ∷ y ∷ after)) (bytes_between s (end_of_last Z) (first_place X) ++ rest) i)
 
 -- The exchanges --------------------------------------------------------------------------------------------------------------------------------
 
@@ -151,8 +151,8 @@ module _ (s : List ℕ) (d : Derivation (tokens s)) (o : ℕ) (x m y : List ℕ)
     ended : AllEnd pre p
     inside : p ≤ length s
 
-  text-tokens : (l : List ObjectTree) → object_trees d.tree ≡ l → tokens s ≡ front_leaves d.tree ++ (all_leaves l ++ back_leaves d.tree)
-  text-tokens l e = sym d.leaves ∙ ap Leaves-of (sym (with_own d.tree)) ∙ with_trees d.tree (object_trees d.tree) ∙ ap (λ k. front_leaves d.tree ++ (all_leaves k ++ back_leaves d.tree)) e
+  text_tokens : (l : List ObjectTree) → object_trees d.tree ≡ l → tokens s ≡ front_leaves d.tree ++ (all_leaves l ++ back_leaves d.tree)
+  text_tokens l e = sym d.leaves ∙ ap Leaves-of (sym (with_own d.tree)) ∙ with_trees d.tree (object_trees d.tree) ∙ ap (λ k. front_leaves d.tree ++ (all_leaves k ++ back_leaves d.tree)) e
 
   -- The parts by their bytes.
   record Bytes (p : ℕ) (g r : List ℕ) (X Y : List Token) : Type 0 where
@@ -191,16 +191,16 @@ module _ (s : List ℕ) (d : Derivation (tokens s)) (o : ℕ) (x m y : List ℕ)
       let A = Leaves-of a in
       let C = Leaves-of b in
       let K = all_leaves k in
-      text-tokens (pre ++ (mid ++ (a ∷ b ∷ k))) e
+      text_tokens (pre ++ (mid ++ (a ∷ b ∷ k))) e
       ∙ ap (λ z. F ++ (z ++ B)) (leaves_append pre (mid ++ (a ∷ b ∷ k)) ∙ ap (all_leaves pre ++◌) (leaves_append mid (a ∷ b ∷ k)))
       ∙ ap (F ++◌) (append_assoc (all_leaves pre) (all_leaves mid ++ (A ++ (C ++ K))) B
       ∙ ap (all_leaves pre ++◌) (append_assoc (all_leaves mid) (A ++ (C ++ K)) B ∙ ap (all_leaves mid ++◌) (append_assoc A (C ++ K) B ∙ ap (A ++◌) (append_assoc C K B))))
       ∙ sym (append_assoc F (all_leaves pre) (all_leaves mid ++ (A ++ (C ++ (K ++ B)))))
 
-  leaves-of-both : (pre mid : List ObjectTree) (a b : ObjectTree)
+  leaves_of_both : (pre mid : List ObjectTree) (a b : ObjectTree)
       → ((front_leaves d.tree ++ all_leaves pre) ++ (all_leaves mid ++ Leaves-of a)) ++ Leaves-of b ≡ front_leaves d.tree ++ all_leaves (pre ++ (mid ++ (a ∷ b ∷ [])))
   unfolding all_leaves
-  leaves-of-both pre mid a b =
+  leaves_of_both pre mid a b =
       let F = front_leaves d.tree in
       let A = Leaves-of a in
       let C = Leaves-of b in
@@ -215,14 +215,14 @@ module _ (s : List ℕ) (d : Derivation (tokens s)) (o : ℕ) (x m y : List ℕ)
         ≡ (front_leaves d.tree ++ all_leaves pre) ++ (all_leaves mid ++ (Leaves-of A.one ++ (Leaves-of A.other ++ (all_leaves A.after ++ back_leaves d.tree))))
     known : Here (p + (length g + length v)) (pre ++ (mid ++ (A.one ∷ A.other ∷ []))) A.after
 
-  v-long : length v ≡ length x + (length m + length y)
-  v-long = length-append x (m ++ y) ∙ ap (length x +◌) (length-append m y)
+  v_long : length v ≡ length x + (length m + length y)
+  v_long = length-append x (m ++ y) ∙ ap (length x +◌) (length-append m y)
 
   meet : (p : ℕ) (pre l : List ObjectTree) (g : List ℕ) (A : PartsAt s d (p + length g) x m y) → Here p pre l → p + (length g + length v) ≤ length s
       → Found pre l A.before A.one (A.other ∷ A.after) → Met p pre l g A
-  meet p pre l g A k n (in-first dd e) =
+  meet p pre l g A k n (in_first dd e) =
       absurd (let a = end_one A.before A.one dd p (subst (λ z. AllEnd z p) e k.ended) in let b = A.one-ends in let c = some in omega arith)
-  meet p pre l g A k n (in-second mid e f) =
+  meet p pre l g A k n (in_second mid e f) =
       let X = Leaves-of A.one in
       let Y = Leaves-of A.other in
       let F = front_leaves d.tree in
@@ -234,10 +234,10 @@ module _ (s : List ℕ) (d : Derivation (tokens s)) (o : ℕ) (x m y : List ℕ)
       let b₂ = A.one-ends in
       let b₃ = A.other-begins in
       let b₄ = A.other-ends in
-      let vl = v-long in
+      let vl = v_long in
       let q : end_of_last Y ≡ p + (length g + length v) = omega arith in
       let behind : Behind s (p + (length g + length v)) (F ++ all_leaves (pre ++ (mid ++ (A.one ∷ A.other ∷ [])))) =
-      subst₂ (Behind s) q (leaves-of-both pre mid A.one A.other) (after-object s ((F ++ all_leaves pre) ++ (all_leaves mid ++ X)) Y (object_ends A.other)) in
+      subst₂ (Behind s) q (leaves_of_both pre mid A.one A.other) (after_object s ((F ++ all_leaves pre) ++ (all_leaves mid ++ X)) Y (object_ends A.other)) in
       record {
         mid = mid;
         parts = f;
@@ -257,7 +257,7 @@ module _ (s : List ℕ) (d : Derivation (tokens s)) (o : ℕ) (x m y : List ℕ)
       let X = Leaves-of A.one in
       let Y = Leaves-of A.other in
       let b₄ = A.other-ends in
-      let vl = v-long in
+      let vl = v_long in
       let q : p + (length g + length v) ≡ end_of_last Y = omega arith in
       let b = bytes_at p g r X Y k.inside f A.one-begins A.one-ends A.other-begins A.other-ends in
       let i = steps s M.mid k.behind A.one A.other A.after (Y ++ (all_leaves A.after ++ back_leaves d.tree)) r' M.tokens-are A.different
@@ -268,11 +268,11 @@ module _ (s : List ℕ) (d : Derivation (tokens s)) (o : ℕ) (x m y : List ℕ)
       subst₂ (λ z u. Exchanges s p z u) (sym M.parts) t i
 
   exchanges : (p : ℕ) (pre l : List ObjectTree) {O' r r' : List ℕ} → Here p pre l → O' ≡ drop p O → r ≡ drop p s → Replaced o v w O' r r' → Exchanges s p l r'
-  exchanges p pre l k e f (no_more _ r) = subst (Exchanges s p l) (sym f) (rest-stands p l)
+  exchanges p pre l k e f (no_more _ r) = subst (Exchanges s p l) (sym f) (rest_stands p l)
   exchanges p pre l k e f (here O' g r r' i q) =
       let n₁ = length-append g (v ++ r) in
       let n₂ = length-append v r in
-      let n₃ = v-long in
+      let n₃ = v_long in
       let n₄ = length-drop p s in
       let n₅ : length (g ++ (v ++ r)) ≡ length (drop p s) = ap length f in
       let n₆ = k.inside in
@@ -288,4 +288,4 @@ module _ (s : List ℕ) (d : Derivation (tokens s)) (o : ℕ) (x m y : List ℕ)
 pub exchanges_everywhere : (s : List ℕ) (d : Derivation (tokens s)) (o : ℕ) (x m y : List ℕ) → 0 < length x → (O : List ℕ)
     → ((j : ℕ) → j < length s → get_or O j 0 ≡ o → PartsAt s d j x m y) → (u : List ℕ) → Replaced o (x ++ (m ++ y)) (y ++ (m ++ x)) O s u → Exchanges s 0 (object_trees d.tree) u
 exchanges_everywhere s d o x m y some O all u r =
-    exchanges s d o x m y some O all 0 [] (object_trees d.tree) (record { whole = refl; behind = at-start refl; ended = tt; inside = omega arith }) refl refl r
+    exchanges s d o x m y some O all 0 [] (object_trees d.tree) (record { whole = refl; behind = at_start refl; ended = tt; inside = omega arith }) refl refl r

@@ -65,8 +65,8 @@ module _ (P S T Q : List ℕ) (as_long : length S ≡ length T) where
   below : (f e : ℕ) → f ≤ e → e ≤ length P → bytes_between b f e ≡ bytes_between k f e
   below f e i j = between_same P (S ++ Q) (T ++ Q) f e i j
 
-  drop-above : (R : List ℕ) (f : ℕ) → length P + length R ≤ f → drop f (P ++ (R ++ Q)) ≡ drop (f - (length P + length R)) Q
-  drop-above R f h =
+  drop_above : (R : List ℕ) (f : ℕ) → length P + length R ≤ f → drop f (P ++ (R ++ Q)) ≡ drop (f - (length P + length R)) Q
+  drop_above R f h =
       let n = length-append P R in
       let z : f ≡ length (P ++ R) + (f - (length P + length R)) = omega arith in
       ap₂ (λ (i : ℕ) (u : List ℕ). drop i u) z (sym (append_assoc P R Q)) ∙ drop-append-add (P ++ R) Q (f - (length P + length R))
@@ -74,19 +74,19 @@ module _ (P S T Q : List ℕ) (as_long : length S ≡ length T) where
   above : (f e : ℕ) → length P + length S ≤ f → bytes_between b f e ≡ bytes_between k f e
   above f e h =
       let w = as_long in
-      ap (take (e - f)) (drop-above S f h ∙ ap (λ (n : ℕ). drop (f - (length P + n)) Q) as_long ∙ sym (drop-above T f (omega arith)))
+      ap (take (e - f)) (drop_above S f h ∙ ap (λ (n : ℕ). drop (f - (length P + n)) Q) as_long ∙ sym (drop_above T f (omega arith)))
 
   -- Where text j stands: it is s itself, which is text n, or before it, or after it.
   pub data Region (n j f e : ℕ) : Type 0 where
-    is-own : j ≡ n → f ≡ length P → e ≡ length P + length S → Region n j f e
+    is_own : j ≡ n → f ≡ length P → e ≡ length P + length S → Region n j f e
     is_below : f ≤ e → e ≤ length P → Region n j f e
-    is-above : length P + length S ≤ f → Region n j f e
+    is_above : length P + length S ≤ f → Region n j f e
 
-  pub own-text : bytes_between b (length P) (length P + length S) ≡ S
-  own-text = part_is P S Q (length P) (length P + length S) refl refl
+  pub own_text : bytes_between b (length P) (length P + length S) ≡ S
+  own_text = part_is P S Q (length P) (length P + length S) refl refl
 
-  pub own-other : bytes_between k (length P) (length P + length S) ≡ T
-  own-other = part_is P T Q (length P) (length P + length S) refl (ap (length P +◌) as_long)
+  pub own_other : bytes_between k (length P) (length P + length S) ≡ T
+  own_other = part_is P T Q (length P) (length P + length S) refl (ap (length P +◌) as_long)
 
   pub below_same : (f e : ℕ) → f ≤ e → e ≤ length P → bytes_between k f e ≡ bytes_between b f e
   below_same f e i j = sym (below f e i j)
@@ -94,27 +94,27 @@ module _ (P S T Q : List ℕ) (as_long : length S ≡ length T) where
   pub above_same : (f e : ℕ) → length P + length S ≤ f → bytes_between k f e ≡ bytes_between b f e
   above_same f e h = sym (above f e h)
 
-  names-above : (l : List ℕ) (n a : ℕ) (w : List ℕ) → length P + length S ≤ a → find_from b n a l w ≡ find_from k n a l w
+  names_above : (l : List ℕ) (n a : ℕ) (w : List ℕ) → length P + length S ≤ a → find_from b n a l w ≡ find_from k n a l w
   unfolding find_from
-  names-above [] n a w h = refl
-  names-above (x ∷ []) n a w h = refl
-  names-above (x ∷ t ∷ l) n a w h =
-      ap₂ (λ (z : List ℕ) (r : Hit). pick (same z w) (Present n (a + x) (a + x + t)) r) (above a (a + x) h) (names-above l (suc n) (a + x + t) w (omega arith))
+  names_above [] n a w h = refl
+  names_above (x ∷ []) n a w h = refl
+  names_above (x ∷ t ∷ l) n a w h =
+      ap₂ (λ (z : List ℕ) (r : Hit). pick (same z w) (Present n (a + x) (a + x + t)) r) (above a (a + x) h) (names_above l (suc n) (a + x + t) w (omega arith))
 
-  texts-above : (i : ℕ) (l : List ℕ) (n a : ℕ) (w : List ℕ) (j f e : ℕ) → length P + length S ≤ a → find_from b n a l w ≡ Present j f e → Region i j f e
+  texts_above : (i : ℕ) (l : List ℕ) (n a : ℕ) (w : List ℕ) (j f e : ℕ) → length P + length S ≤ a → find_from b n a l w ≡ Present j f e → Region i j f e
   unfolding find_from
-  texts-above i [] n a w j f e h g = no_hit g
-  texts-above i (x ∷ []) n a w j f e h g = no_hit g
-  texts-above i (x ∷ t ∷ l) n a w j f e h g =
+  texts_above i [] n a w j f e h g = no_hit g
+  texts_above i (x ∷ []) n a w j f e h g = no_hit g
+  texts_above i (x ∷ t ∷ l) n a w j f e h g =
       by_test (λ (r : Hit). r ≡ Present j f e → Region i j f e) (same (bytes_between b a (a + x)) w) (Present n (a + x) (a + x + t)) (find_from b (suc n) (a + x + t) l w)
-      (λ _ u. let z = hit_from u in is-above (omega arith)) (λ _ u. texts-above i l (suc n) (a + x + t) w j f e (omega arith) u) g
+      (λ _ u. let z = hit_from u in is_above (omega arith)) (λ _ u. texts_above i l (suc n) (a + x + t) w j f e (omega arith) u) g
 
-  span-low : (l : List ℕ) (n a i f e : ℕ) → span_from n a l i ≡ Present n f e → a ≤ f
+  span_low : (l : List ℕ) (n a i f e : ℕ) → span_from n a l i ≡ Present n f e → a ≤ f
   unfolding span_from
-  span-low [] n a i f e h = no_hit h
-  span-low (x ∷ []) n a i f e h = no_hit h
-  span-low (x ∷ t ∷ l) n a zero f e h = let z = hit_from h in omega arith
-  span-low (x ∷ t ∷ l) n a (suc i) f e h = let z = span-low l n (a + x + t) i f e h in omega arith
+  span_low [] n a i f e h = no_hit h
+  span_low (x ∷ []) n a i f e h = no_hit h
+  span_low (x ∷ t ∷ l) n a zero f e h = let z = hit_from h in omega arith
+  span_low (x ∷ t ∷ l) n a (suc i) f e h = let z = span_low l n (a + x + t) i f e h in omega arith
 
   names_same : (l : List ℕ) (n m a i : ℕ) (w : List ℕ) → span_from n a l i ≡ Present n (length P) (length P + length S) → find_from b m a l w ≡ find_from k m a l w
   unfolding find_from span_from
@@ -123,65 +123,65 @@ module _ (P S T Q : List ℕ) (as_long : length S ≡ length T) where
   names_same (x ∷ t ∷ l) n m a zero w h =
       let y = hit_from h in
       let z = hit_to h in
-      ap₂ (λ (u : List ℕ) (r : Hit). pick (same u w) (Present m (a + x) (a + x + t)) r) (below a (a + x) (omega arith) (omega arith)) (names-above l (suc m) (a + x + t) w (omega arith))
+      ap₂ (λ (u : List ℕ) (r : Hit). pick (same u w) (Present m (a + x) (a + x + t)) r) (below a (a + x) (omega arith) (omega arith)) (names_above l (suc m) (a + x + t) w (omega arith))
   names_same (x ∷ t ∷ l) n m a (suc i) w h =
-      let z = span-low l n (a + x + t) i (length P) (length P + length S) h in
+      let z = span_low l n (a + x + t) i (length P) (length P + length S) h in
       ap₂ (λ (u : List ℕ) (r : Hit). pick (same u w) (Present m (a + x) (a + x + t)) r) (below a (a + x) (omega arith) (omega arith)) (names_same l n (suc m) (a + x + t) i w h)
 
-  texts-there : (l : List ℕ) (n m a i : ℕ) (w : List ℕ) (j f e : ℕ) → m + i ≡ n → span_from n a l i ≡ Present n (length P) (length P + length S) → find_from b m a l w ≡ Present j f e → Region n j f e
+  texts_there : (l : List ℕ) (n m a i : ℕ) (w : List ℕ) (j f e : ℕ) → m + i ≡ n → span_from n a l i ≡ Present n (length P) (length P + length S) → find_from b m a l w ≡ Present j f e → Region n j f e
   unfolding find_from span_from
-  texts-there [] n m a i w j f e c h g = no_hit g
-  texts-there (x ∷ []) n m a i w j f e c h g = no_hit g
-  texts-there (x ∷ t ∷ l) n m a zero w j f e c h g =
+  texts_there [] n m a i w j f e c h g = no_hit g
+  texts_there (x ∷ []) n m a i w j f e c h g = no_hit g
+  texts_there (x ∷ t ∷ l) n m a zero w j f e c h g =
       let y = hit_from h in
       let z = hit_to h in
       by_test (λ (r : Hit). r ≡ Present j f e → Region n j f e) (same (bytes_between b a (a + x)) w) (Present m (a + x) (a + x + t)) (find_from b (suc m) (a + x + t) l w)
-      (λ _ u. let d = hit_number u in is-own (omega arith) (sym (hit_from u) ∙ y) (sym (hit_to u) ∙ z)) (λ _ u. texts-above n l (suc m) (a + x + t) w j f e (omega arith) u) g
-  texts-there (x ∷ t ∷ l) n m a (suc i) w j f e c h g =
-      let z = span-low l n (a + x + t) i (length P) (length P + length S) h in
+      (λ _ u. let d = hit_number u in is_own (omega arith) (sym (hit_from u) ∙ y) (sym (hit_to u) ∙ z)) (λ _ u. texts_above n l (suc m) (a + x + t) w j f e (omega arith) u) g
+  texts_there (x ∷ t ∷ l) n m a (suc i) w j f e c h g =
+      let z = span_low l n (a + x + t) i (length P) (length P + length S) h in
       by_test (λ (r : Hit). r ≡ Present j f e → Region n j f e) (same (bytes_between b a (a + x)) w) (Present m (a + x) (a + x + t)) (find_from b (suc m) (a + x + t) l w)
-      (λ _ u. let q = hit_from u in let d = hit_to u in is_below (omega arith) (omega arith)) (λ _ u. texts-there l n (suc m) (a + x + t) i w j f e (omega arith) h u) g
+      (λ _ u. let q = hit_from u in let d = hit_to u in is_below (omega arith) (omega arith)) (λ _ u. texts_there l n (suc m) (a + x + t) i w j f e (omega arith) h u) g
 
-  main-there : (l : List ℕ) (n i : ℕ) → i ≡ n → span_from n 0 l i ≡ Present n (length P) (length P + length S) → Region n 0 (get_or l 0 0) (get_or l 0 0 + get_or l 1 0)
+  main_there : (l : List ℕ) (n i : ℕ) → i ≡ n → span_from n 0 l i ≡ Present n (length P) (length P + length S) → Region n 0 (get_or l 0 0) (get_or l 0 0 + get_or l 1 0)
   unfolding span_from
-  main-there [] n i c h = no_hit h
-  main-there (x ∷ []) n i c h = no_hit h
-  main-there (x ∷ t ∷ l) n zero c h = let y = hit_from h in let z = hit_to h in is-own c (let u : x ≡ length P = omega arith in u) (let u : x + t ≡ length P + length S = omega arith in u)
-  main-there (x ∷ t ∷ l) n (suc i) c h = let z = span-low l n (0 + x + t) i (length P) (length P + length S) h in is_below (let u : x ≤ x + t = omega arith in u) (let u : x + t ≤ length P = omega arith in u)
+  main_there [] n i c h = no_hit h
+  main_there (x ∷ []) n i c h = no_hit h
+  main_there (x ∷ t ∷ l) n zero c h = let y = hit_from h in let z = hit_to h in is_own c (let u : x ≡ length P = omega arith in u) (let u : x + t ≡ length P + length S = omega arith in u)
+  main_there (x ∷ t ∷ l) n (suc i) c h = let z = span_low l n (0 + x + t) i (length P) (length P + length S) h in is_below (let u : x ≤ x + t = omega arith in u) (let u : x + t ≤ length P = omega arith in u)
 
   module _ (l : List ℕ) (n : ℕ) (is : IsText P S l n) where
-    name-same : (w : List ℕ) → find_name b l w ≡ find_name k l w
+    name_same : (w : List ℕ) → find_name b l w ≡ find_name k l w
     unfolding find_name span_of
-    name-same w = names_same l n 0 0 n w is
+    name_same w = names_same l n 0 0 n w is
 
     -- What an include line includes.
-    pub include-same : (s u o : List ℕ) (i : Line) → bytes_between s i.from i.to ≡ bytes_between u i.from i.to → include_of b l s o i ≡ include_of k l u o i
+    pub include_same : (s u o : List ℕ) (i : Line) → bytes_between s i.from i.to ≡ bytes_between u i.from i.to → include_of b l s o i ≡ include_of k l u o i
     unfolding include_of
-    include-same s u o i e = ap (include_by o i) (name-same (bytes_between s i.from i.to) ∙ ap (find_name k l) e)
+    include_same s u o i e = ap (include_by o i) (name_same (bytes_between s i.from i.to) ∙ ap (find_name k l) e)
 
     pub event_same : (s o : List ℕ) (x : Stop) → event_by b l s o x ≡ event_by k l s o x
     event_same s o (At m q) = refl
-    event_same s o (AtLine i) = include-same s s o i refl
+    event_same s o (AtLine i) = include_same s s o i refl
 
-    include-region : (o : List ℕ) (i : Line) (h : Hit) (w : List ℕ) → find_name b l w ≡ h → (j : Include) → include_by o i h ≡ Includes j → Region n j.number j.from j.to
+    include_region : (o : List ℕ) (i : Line) (h : Hit) (w : List ℕ) → find_name b l w ≡ h → (j : Include) → include_by o i h ≡ Includes j → Region n j.number j.from j.to
     unfolding find_name span_of
-    include-region o i (Present m f e) w g j u =
+    include_region o i (Present m f e) w g j u =
         by_test (λ (x : Event). x ≡ Includes j → Region n j.number j.from j.to) (eqb (get_or o m 0) 1) (Stops 27 i.hash) _
         (λ _ v. absurd (let z : ◌≡◌ {A = ℕ} 0 1 = cc in omega arith))
         (λ _ v.
         let z : record { number = m; from = f; to = e; hash = i.hash; start = i.start; after = i.after } ≡ j = cc in
-        subst (λ (y : Include). Region n y.number y.from y.to) z (texts-there l n 0 0 n w m f e (let q : 0 + n ≡ n = omega arith in q) is g)) u
-    include-region o i Absent w g j u = absurd (let z : ◌≡◌ {A = ℕ} 0 1 = cc in omega arith)
+        subst (λ (y : Include). Region n y.number y.from y.to) z (texts_there l n 0 0 n w m f e (let q : 0 + n ≡ n = omega arith in q) is g)) u
+    include_region o i Absent w g j u = absurd (let z : ◌≡◌ {A = ℕ} 0 1 = cc in omega arith)
 
     -- Where an included text stands.
-    pub event-region : (s o : List ℕ) (x : Stop) (j : Include) → event_by b l s o x ≡ Includes j → Region n j.number j.from j.to
+    pub event_region : (s o : List ℕ) (x : Stop) (j : Include) → event_by b l s o x ≡ Includes j → Region n j.number j.from j.to
     unfolding include_of
-    event-region s o (At m q) j e = absurd (let z : ◌≡◌ {A = ℕ} 0 1 = cc in omega arith)
-    event-region s o (AtLine i) j e = include-region o i (find_name b l (bytes_between s i.from i.to)) (bytes_between s i.from i.to) refl j e
+    event_region s o (At m q) j e = absurd (let z : ◌≡◌ {A = ℕ} 0 1 = cc in omega arith)
+    event_region s o (AtLine i) j e = include_region o i (find_name b l (bytes_between s i.from i.to)) (bytes_between s i.from i.to) refl j e
 
-    pub main-region : Region n 0 (get_or l 0 0) (get_or l 0 0 + get_or l 1 0)
+    pub main_region : Region n 0 (get_or l 0 0) (get_or l 0 0 + get_or l 1 0)
     unfolding span_of
-    main-region = main-there l n n refl is
+    main_region = main_there l n n refl is
 
 -- Which line it is.
 pub record FromLine (s : List ℕ) (x : Stop) (j : Include) : Type 0 where

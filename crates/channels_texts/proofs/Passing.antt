@@ -23,7 +23,7 @@ use Rattle.locality.proofs.Between.{piece_between, piece_until}
 use Rattle.grammar.specs.Grammar.{Token, matches, sg, lbrace, semicolon, tokens as Leaves-of}
 use Rattle.grammar.specs.Terminals.{token_of, tokens}
 use Rattle.reads_back.proofs.SayingCopied.{last_place}
-use Rattle.reads_back.proofs.SayingTokens.{piece-tokens}
+use Rattle.reads_back.proofs.SayingTokens.{piece_tokens}
 use Rattle.channels.specs.Neighbours.{first_place, end_of_last}
 use Rattle.channels.proofs.Saying.{Stops, semicolon_stops, brace_stops, Ending, ending_last, lexemes_split, heading, Ends, object_ending, last_end_is}
 use Rattle.channels.proofs.ObjectTokens.{object_ends}
@@ -32,7 +32,7 @@ use Rattle.sources.specs.Lines.{line_start, stop_at}
 use Rattle.sources.proofs.Stops.{line_low}
 use Rattle.sources_laws.proofs.Ends.{Run as Passes, stay as stays, go as goes}
 use Rattle.channels_texts.specs.Lent.{InText}
-use Rattle.channels_texts.proofs.Stopping.{run_stop, stop-later}
+use Rattle.channels_texts.proofs.Stopping.{run_stop, stop_later}
 
 -- Tokens ---------------------------------------------------------------------------------------------------------------------------------------
 
@@ -115,7 +115,7 @@ pass_one h n c ts x l =
     let u = h ++ (n ++ c) in
     let us = map (moved (length n)) (tokens_of (lex_from c 0)) in
     let e : tokens_of (lex_from u (length h)) ≡ map (moved (length h)) ts ++ map (moved (length h)) us =
-    ap tokens_of (lex_rest h (n ++ c)) ∙ tokens_moved (length h) (lex_from (n ++ c) 0) ∙ ap (map (moved (length h))) (piece-tokens x c) ∙ map_append (moved (length h)) ts us in
+    ap tokens_of (lex_rest h (n ++ c)) ∙ tokens_moved (length h) (lex_from (n ++ c) 0) ∙ ap (map (moved (length h))) (piece_tokens x c) ∙ map_append (moved (length h)) ts us in
     let r = leading u (length h) (map (moved (length h)) ts) (map (moved (length h)) us) e in
     let q : r.end ≡ length h + length n = sym (run_last u r.end (length h) (map (moved (length h)) ts) r.run) ∙ last_later (length h) ts (length n) l (length h) in
     run_stop u r.end (length h) (run_passes u r.end (length h) (map (moved (length h)) ts) r.run) ∙ ap (stop_at u) q
@@ -184,17 +184,17 @@ module _ (h a x m y c : List ℕ) (A X Y R : List Token) (w : tokens (a ++ (x ++
   abbrev d : List ℕ
   d = a ++ (x ++ (m ++ (y ++ c)))
 
-  pub before-x : Front a
+  pub before_x : Front a
   unfolding first_place
-  before-x =
+  before_x =
       front_piece a (x ++ (m ++ (y ++ c))) A ox.first ((ox.mid ++ (ox.final ∷ [])) ++ (Y ++ R)) (w ∙ ap (λ l. A ++ (l ++ (Y ++ R))) ox.leaves)
       (sym (ap first_place ox.leaves) ∙ begins) closed
 
-  pub cut-x : Cut x X
-  cut-x = cut_object d A X (Y ++ R) w ox x (part_is a x (m ++ (y ++ c)) (first_place X) (end_of_last X) begins ended)
+  pub cut_x : Cut x X
+  cut_x = cut_object d A X (Y ++ R) w ox x (part_is a x (m ++ (y ++ c)) (first_place X) (end_of_last X) begins ended)
 
-  pub cut-y : Cut y Y
-  cut-y =
+  pub cut_y : Cut y Y
+  cut_y =
       let p = a ++ (x ++ m) in
       let l : length p ≡ length a + (length x + length m) = length-append a (x ++ m) ∙ ap (length a +◌) (length-append x m) in
       let e : d ≡ p ++ (y ++ c) = sym (append_assoc a (x ++ m) (y ++ c) ∙ ap (a ++◌) (append_assoc x m (y ++ c))) in
@@ -223,14 +223,14 @@ module _ (h a x m y c : List ℕ) (A X Y R : List Token) (w : tokens (a ++ (x ++
   abbrev new : List ℕ
   new = a ++ (y ++ (m ++ x))
 
-  pub old-past : stop_at (h ++ (old ++ c)) (length h) ≡ stop_at (h ++ (old ++ c)) (length h + length old)
-  old-past = pass_two h a x m y c before-x.tokens before-x.piece cut-x between cut-y
+  pub old_past : stop_at (h ++ (old ++ c)) (length h) ≡ stop_at (h ++ (old ++ c)) (length h + length old)
+  old_past = pass_two h a x m y c before_x.tokens before_x.piece cut_x between cut_y
 
-  pub new-past : stop_at (h ++ (new ++ c)) (length h) ≡ stop_at (h ++ (new ++ c)) (length h + length new)
-  new-past = pass_two h a y m x c before-x.tokens before-x.piece cut-y between cut-x
+  pub new_past : stop_at (h ++ (new ++ c)) (length h) ≡ stop_at (h ++ (new ++ c)) (length h + length new)
+  new_past = pass_two h a y m x c before_x.tokens before_x.piece cut_y between cut_x
 
-  same-long : length old ≡ length new
-  same-long =
+  same_long : length old ≡ length new
+  same_long =
       let p₁ = length-append a (x ++ (m ++ y)) in
       let p₂ = length-append x (m ++ y) in
       let p₃ = length-append m y in
@@ -244,17 +244,17 @@ module _ (h a x m y c : List ℕ) (A X Y R : List Token) (w : tokens (a ++ (x ++
       subst (λ (z : List ℕ). line_start z (length z) < length z)
       (append_assoc h (a ++ (p ++ m)) q ∙ ap (h ++◌) (append_assoc a (p ++ m) q ∙ ap (a ++◌) (append_assoc p m q))) (line_open (h ++ (a ++ (p ++ m))) q e)
 
-  pub later-alike : (p : ℕ) → stop_at (h ++ (old ++ c)) (length h + length old + p) ≡ stop_at (h ++ (new ++ c)) (length h + length old + p)
-  later-alike p =
-      let e = stop-later (h ++ old) (h ++ new) c (length-append h old ∙ ap (length h +◌) same-long ∙ sym (length-append h new)) (open_by x y sy) (open_by y x sx) p in
+  pub later_alike : (p : ℕ) → stop_at (h ++ (old ++ c)) (length h + length old + p) ≡ stop_at (h ++ (new ++ c)) (length h + length old + p)
+  later_alike p =
+      let e = stop_later (h ++ old) (h ++ new) c (length-append h old ∙ ap (length h +◌) same_long ∙ sym (length-append h new)) (open_by x y sy) (open_by y x sx) p in
       ap₂ (λ (z : List ℕ) (i : ℕ). stop_at z i) (sym (append_assoc h old c)) (ap (◌+ p) (sym (length-append h old)))
-      ∙ e ∙ ap₂ (λ (z : List ℕ) (i : ℕ). stop_at z i) (append_assoc h new c) (ap (◌+ p) (length-append h new ∙ ap (length h +◌) (sym same-long)))
+      ∙ e ∙ ap₂ (λ (z : List ℕ) (i : ℕ). stop_at z i) (append_assoc h new c) (ap (◌+ p) (length-append h new ∙ ap (length h +◌) (sym same_long)))
 
   pub through : stop_at (h ++ (old ++ c)) (length h) ≡ stop_at (h ++ (new ++ c)) (length h)
   through =
       let z : (n : ℕ) → n + 0 ≡ n = λ n. omega arith in
-      old-past ∙ ap (stop_at (h ++ (old ++ c))) (sym (z (length h + length old))) ∙ later-alike 0
-      ∙ ap (stop_at (h ++ (new ++ c))) (z (length h + length old) ∙ ap (length h +◌) same-long) ∙ sym new-past
+      old_past ∙ ap (stop_at (h ++ (old ++ c))) (sym (z (length h + length old))) ∙ later_alike 0
+      ∙ ap (stop_at (h ++ (new ++ c))) (z (length h + length old) ∙ ap (length h +◌) same_long) ∙ sym new_past
 
 -- Of a text that is lent --------------------------------------------------------------------------------------------------------------------------
 
@@ -281,7 +281,7 @@ closing A f (t ∷ u ∷ ts) e b =
 -- The text from where it goes on, with the places of x and y in it.
 pub record Own (a x m y c : List ℕ) (i : InText a x m y c) : Type 0 where
   pub tokens_are : tokens (drop i.from a ++ (x ++ (m ++ (y ++ c)))) ≡ i.before ++ (Leaves-of i.one ++ (Leaves-of i.other ++ i.rest))
-  pub text-is : drop i.from (a ++ (x ++ (m ++ (y ++ c)))) ≡ drop i.from a ++ (x ++ (m ++ (y ++ c)))
+  pub text_is : drop i.from (a ++ (x ++ (m ++ (y ++ c)))) ≡ drop i.from a ++ (x ++ (m ++ (y ++ c)))
   pub begins : first_place (Leaves-of i.one) ≡ length (drop i.from a)
   pub ended : end_of_last (Leaves-of i.one) ≡ length (drop i.from a) + length x
   pub begins' : first_place (Leaves-of i.other) ≡ length (drop i.from a) + (length x + length m)
@@ -297,13 +297,13 @@ own a x m y c i =
     let b₃ = i.other-begins in
     let b₄ = i.other-ends in
     let t = drop-append-le f a (x ++ (m ++ (y ++ c))) lo in
-    record { tokens_are = ap tokens (sym t) ∙ i.by-tokens; text-is = t; begins = omega arith; ended = omega arith; begins' = omega arith; ended' = omega arith }
+    record { tokens_are = ap tokens (sym t) ∙ i.by-tokens; text_is = t; begins = omega arith; ended = omega arith; begins' = omega arith; ended' = omega arith }
 
 -- Its pieces.
 pub record Pieces (a x m y c : List ℕ) (i : InText a x m y c) : Type 0 where
   pub front : Front (drop i.from a)
   pub one : Cut x (Leaves-of i.one)
-  pub between-both : Piece false m []
+  pub between_both : Piece false m []
   pub other : Cut y (Leaves-of i.other)
 
 pub pieces : (a x m y c : List ℕ) (i : InText a x m y c) → Pieces a x m y c i
@@ -318,10 +318,10 @@ pieces a x m y c i =
     let sx = i.one-semicolon in
     let sy = i.other-semicolon in
     record {
-      front = before-x [] k x m y c i.before X Y i.rest o.tokens-are ox oy cl o.begins o.ended o.begins' o.ended' sx sy;
-      one = cut-x [] k x m y c i.before X Y i.rest o.tokens-are ox oy cl o.begins o.ended o.begins' o.ended' sx sy;
-      between-both = between [] k x m y c i.before X Y i.rest o.tokens-are ox oy cl o.begins o.ended o.begins' o.ended' sx sy;
-      other = cut-y [] k x m y c i.before X Y i.rest o.tokens-are ox oy cl o.begins o.ended o.begins' o.ended' sx sy;
+      front = before_x [] k x m y c i.before X Y i.rest o.tokens-are ox oy cl o.begins o.ended o.begins' o.ended' sx sy;
+      one = cut_x [] k x m y c i.before X Y i.rest o.tokens-are ox oy cl o.begins o.ended o.begins' o.ended' sx sy;
+      between_both = between [] k x m y c i.before X Y i.rest o.tokens-are ox oy cl o.begins o.ended o.begins' o.ended' sx sy;
+      other = cut_y [] k x m y c i.before X Y i.rest o.tokens-are ox oy cl o.begins o.ended o.begins' o.ended' sx sy;
     }
 
 pub alike : (a x m y c : List ℕ) (i : InText a x m y c) → Alike a x m y c i.from
@@ -354,8 +354,8 @@ alike a x m y c i =
     let z : length h + length (k ++ (x ++ (m ++ y))) ≡ length a + (length x + (length m + length y)) = omega arith in
     record {
       exchanged = ap₂ (λ (u : List ℕ) (q : ℕ). stop_at u q) (sym (text x y)) (sym n) ∙ through h k x m y c i.before X Y i.rest T ox oy cl e₁ e₂ e₃ e₄ sx sy ∙ ap₂ (λ (u : List ℕ) (q : ℕ). stop_at u q) (text y x) n;
-      past = ap₂ (λ (u : List ℕ) (q : ℕ). stop_at u q) (sym (text x y)) (sym n) ∙ old-past h k x m y c i.before X Y i.rest T ox oy cl e₁ e₂ e₃ e₄ sx sy ∙ ap₂ (λ (u : List ℕ) (q : ℕ). stop_at u q) (text x y) z;
+      past = ap₂ (λ (u : List ℕ) (q : ℕ). stop_at u q) (sym (text x y)) (sym n) ∙ old_past h k x m y c i.before X Y i.rest T ox oy cl e₁ e₂ e₃ e₄ sx sy ∙ ap₂ (λ (u : List ℕ) (q : ℕ). stop_at u q) (text x y) z;
       later = λ p.
-          ap₂ (λ (u : List ℕ) (q : ℕ). stop_at u (q + p)) (sym (text x y)) (sym z) ∙ later-alike h k x m y c i.before X Y i.rest T ox oy cl e₁ e₂ e₃ e₄ sx sy p
+          ap₂ (λ (u : List ℕ) (q : ℕ). stop_at u (q + p)) (sym (text x y)) (sym z) ∙ later_alike h k x m y c i.before X Y i.rest T ox oy cl e₁ e₂ e₃ e₄ sx sy p
           ∙ ap₂ (λ (u : List ℕ) (q : ℕ). stop_at u (q + p)) (text y x) z;
     }

@@ -10,10 +10,10 @@ use Rattle.token.specs.Find.{byte}
 use Rattle.token.specs.Tokens.{bytes_between}
 use Rattle.token.specs.Lexing.{Lexed, more, ended, refused, Divides, lex_from}
 use Rattle.token.proofs.Sequences.{tokens_of}
-use Rattle.token.proofs.Steps.{step_past, lex-end}
+use Rattle.token.proofs.Steps.{step_past, lex_end}
 use Rattle.token.specs.declared.Token.{Token as Lexeme}
 use Rattle.locality.proofs.Shift.{moved}
-use Rattle.locality.proofs.Join.{part-long}
+use Rattle.locality.proofs.Join.{part_long}
 use Rattle.locality.proofs.Pieces.{may_start, may_follow, Inside, Piece, piece_append, run_inside, run_high, leading, divides_after, divides_moved}
 use Rattle.sources.specs.Lines.{stop_at}
 use Rattle.sources.specs.Texts.{told_well, event_at}
@@ -32,16 +32,16 @@ use Rattle.sources.proofs.Numberings.{span_ok}
 use Rattle.sources.proofs.Notings.{event_number, span_length}
 use Rattle.sources.proofs.Wholes.{main_span}
 use Rattle.sources_laws.specs.Lexings.{EndsAs}
-use Rattle.sources_laws.proofs.Outcomes.{Outcome, at_end, at-bad, outcome, LineSays, HashSays, hash_says, text_ends}
+use Rattle.sources_laws.proofs.Outcomes.{Outcome, at_end, at_bad, outcome, LineSays, HashSays, hash_says, text_ends}
 use Rattle.sources_laws.proofs.Fronts.{line_front, line_feed}
 use Rattle.sources_laws.proofs.Joined.{text_joined, lines_joined, feed_joined}
-use Rattle.including.specs.Expansions.{Expands, as-it-stands, with-text, with-fault}
+use Rattle.including.specs.Expansions.{Expands, as_it_stands, with_text, with_fault}
 use Rattle.including.proofs.Expanding.{expansions}
 use Rattle.channels.proofs.Exchange.{part_is}
 use Rattle.channels_texts.specs.Lent.{InText, IsText}
 use Rattle.channels_texts.proofs.Passing.{alike, Pieces, pieces}
 use Rattle.channels_texts.proofs.Lending.{hit_from, hit_to, from_line, end_only}
-use Rattle.channels_texts.proofs.Expanding.{Leads, reached, leads, leads_first, up_long, begins_own, by-v, v-long, S-long, parts-of, start-high, z-inside, x-some}
+use Rattle.channels_texts.proofs.Expanding.{Leads, reached, leads, leads_first, up_long, begins_own, by_v, v_long, S-long, parts_of, start_high, z_inside, x_some}
 
 -- Places ---------------------------------------------------------------------------------------------------------------------------------------
 
@@ -127,7 +127,7 @@ lines_piece f d h =
     }
 
 none_divides : Divides (lex_from [] 0)
-none_divides = subst Divides (sym (lex-end [] 0 0 (step_past [] 0 (omega arith)))) tt
+none_divides = subst Divides (sym (lex_end [] 0 0 (step_past [] 0 (omega arith)))) tt
 
 feed_piece : (x : List ℕ) → Divides (lex_from x 0) → Piece false (x ++ (10 ∷ [])) (tokens_of (lex_from (x ++ (10 ∷ [])) 0))
 feed_piece x d =
@@ -149,7 +149,7 @@ before_line s p i e h = by (outcome s p)
   where
     by : Outcome s p (stop_at s p) → byte s (i.start - 1) ≡ 10
     by (at_end last m r f g) = absurd (let w : AtLine i ≡ EndAt 0 (length s) = sym e ∙ g in let z : ◌≡◌ {A = ℕ} 0 1 = cc in omega arith)
-    by (at-bad last q r f g) =
+    by (at_bad last q r f g) =
         let u : LineSays s last q i = subst (HashSays s last q) (sym g ∙ e) (hash_says s last q) in
         let m = u.start in
         subst (λ (k : ℕ). byte s (k - 1) ≡ 10) (sym m) (line_feed s q (omega arith))
@@ -163,10 +163,10 @@ line_piece s p i h e =
     let u₃ = u.after in
     let u₄ = u.last in
     let f = bytes_between s p i.start in
-    let n : length f ≡ i.start - p = part-long s p i.start u₁ (omega arith) in
+    let n : length f ≡ i.start - p = part_long s p i.start u₁ (omega arith) in
     lines_piece f
     (wholly _ (lex_from f 0) (subst (λ (x : List ℕ). EndsAs 0 (length f + 0) (lex_from x 0)) (append-nil f)
-    (line_front s p i (omega arith) e [] 0 0 (subst (EndsAs 0 0) (sym (lex-end [] 0 0 (step_past [] 0 (omega arith)))) refl))))
+    (line_front s p i (omega arith) e [] 0 0 (subst (EndsAs 0 0) (sym (lex_end [] 0 0 (step_past [] 0 (omega arith)))) refl))))
     (λ k.
     let z : p + (length f - 1) ≡ i.start - 1 = omega arith in
     get_or-take (i.start - p) (drop p s) (length f - 1) 0 (omega arith) ∙ get_or-drop p s (length f - 1) 0 ∙ ap (byte s) z ∙ before_line s p i e (omega arith))
@@ -200,7 +200,7 @@ module _ (P a x m y c Q l : List ℕ) (n : ℕ) (told : told_well (P ++ ((a ++ (
 
   -- The text itself at p: the parts are to come, or they are gone.
   data Known (s : List ℕ) (p : ℕ) : Type 0 where
-    to-come : s ≡ S → Leads S i.from p → Known s p
+    to_come : s ≡ S → Leads S i.from p → Known s p
     gone : s ≡ S → z ≤ p → Known s p
 
   record Told (j : ℕ) (s : List ℕ) (p : ℕ) : Type 0 where
@@ -208,18 +208,18 @@ module _ (P a x m y c Q l : List ℕ) (n : ℕ) (told : told_well (P ++ ((a ++ (
     short : length s ≤ 65535
     inside : p ≤ length s
 
-  text-told : (j f e : ℕ) → span_of l j ≡ Present j f e → Told j (bytes_between b f e) 0
-  text-told j f e h =
+  text_told : (j f e : ℕ) → span_of l j ≡ Present j f e → Told j (bytes_between b f e) 0
+  text_told j f e h =
       record {
         known = λ d.
             let w : Present j f e ≡ Present n (length P) (length P + length S) = sym h ∙ ap (span_of l) d ∙ is in
-            to-come (ap₂ (bytes_between b) (hit_from w) (hit_to w) ∙ part_is P S Q (length P) (length P + length S) refl refl) (leads_first S i.from i.goes_on);
+            to_come (ap₂ (bytes_between b) (hit_from w) (hit_to w) ∙ part_is P S Q (length P) (length P + length S) refl refl) (leads_first S i.from i.goes_on);
         short = span_length b l j j f e told h;
         inside = omega arith;
       }
 
-  found-own : (p e q : ℕ) → p ≡ i.from → z ≤ e → e ≤ length S → p + q ≡ length a → At x m y (bytes_between S p e) q
-  found-own p e q r h k w =
+  found_own : (p e q : ℕ) → p ≡ i.from → z ≤ e → e ≤ length S → p + q ≡ length a → At x m y (bytes_between S p e) q
+  found_own p e q r h k w =
       let lo = i.low in
       let n₁ = length-drop i.from a in
       let B = bytes_between S z e in
@@ -229,21 +229,21 @@ module _ (P a x m y c Q l : List ℕ) (n : ℕ) (told : told_well (P ++ ((a ++ (
         tokens = (pieces a x m y c i).front.tokens;
         piece = (pieces a x m y c i).front.piece;
         back = B;
-        whole = parts-of P a x m y c Q l n p e (omega arith) h k (x ++ (m ++ y)) S (by-v P a x m y c Q l n) (v-long P a x m y c Q l n) refl
+        whole = parts_of P a x m y c Q l n p e (omega arith) h k (x ++ (m ++ y)) S (by_v P a x m y c Q l n) (v_long P a x m y c Q l n) refl
             ∙ ap₂ ◌++◌ f (append_assoc x (m ++ y) B ∙ ap (x ++◌) (append_assoc m y B));
         place = omega arith;
       }
 
-  past-a : length a < z
-  past-a = let h = x-some P a x m y c Q l n told is i in omega arith
+  past_a : length a < z
+  past_a = let h = x_some P a x m y c Q l n told is i in omega arith
 
   -- At the end of the text.
-  end-at : (s : List ℕ) (p k u w : ℕ) → Known s p → stop_at s p ≡ EndAt u w → p + k ≡ length a → At x m y (bytes_between s p (length s)) k
-  end-at s p k u w (to-come e (reached _ r)) f g =
-      subst (λ (t : List ℕ). At x m y (bytes_between t p (length t)) k) (sym e) (found-own p (length S) k r (z-inside P a x m y c Q l n told is i) (omega arith) g)
-  end-at s p k u w (to-come e (leads _ t d h r)) f g =
+  end_at : (s : List ℕ) (p k u w : ℕ) → Known s p → stop_at s p ≡ EndAt u w → p + k ≡ length a → At x m y (bytes_between s p (length s)) k
+  end_at s p k u w (to_come e (reached _ r)) f g =
+      subst (λ (t : List ℕ). At x m y (bytes_between t p (length t)) k) (sym e) (found_own p (length S) k r (z_inside P a x m y c Q l n told is i) (omega arith) g)
+  end_at s p k u w (to_come e (leads _ t d h r)) f g =
       absurd (let v : AtLine t ≡ EndAt u w = sym d ∙ sym (ap (λ (q : List ℕ). stop_at q p) e) ∙ f in let y : ◌≡◌ {A = ℕ} 0 1 = cc in omega arith)
-  end-at s p k u w (gone e h) f g = absurd (let v = past-a in omega arith)
+  end_at s p k u w (gone e h) f g = absurd (let v = past_a in omega arith)
 
   -- At an include line of it.
   data LineCase (s : List ℕ) (p : ℕ) (g : Include) : Type 0 where
@@ -251,44 +251,44 @@ module _ (P a x m y c Q l : List ℕ) (n : ℕ) (told : told_well (P ++ ((a ++ (
     later : s ≡ S → g.after ≤ i.from → Leads S i.from g.after → LineCase s p g
     over : s ≡ S → z ≤ p → LineCase s p g
 
-  line-case : (o s : List ℕ) (p : ℕ) (g : Include) → Known s p → event_at b l s o p ≡ Includes g → LineCase s p g
+  line_case : (o s : List ℕ) (p : ℕ) (g : Include) → Known s p → event_at b l s o p ≡ Includes g → LineCase s p g
   unfolding event_at
-  line-case o s p g (to-come e (reached _ r)) f =
+  line_case o s p g (to_come e (reached _ r)) f =
       let f' : event_at b l S o p ≡ Includes g = sym (ap (λ (t : List ℕ). event_at b l t o p) e) ∙ f in
-      let h = start-high P a x m y c Q l n told is i o p z g (z-inside P a x m y c Q l n told is i) (ap (stop_at S) r ∙ (alike a x m y c i).past) f' in
+      let h = start_high P a x m y c Q l n told is i o p z g (z_inside P a x m y c Q l n told is i) (ap (stop_at S) r ∙ (alike a x m y c i).past) f' in
       here e r h.0 h.1
-  line-case o s p g (to-come e (leads _ t d h r)) f =
+  line_case o s p g (to_come e (leads _ t d h r)) f =
       let f' : event_at b l S o p ≡ Includes g = sym (ap (λ (t : List ℕ). event_at b l t o p) e) ∙ f in
       let q = from_line b l S o (stop_at S p) g f' in
       let w : AtLine q.line ≡ AtLine t = sym q.stops ∙ d in
       let v : q.line ≡ t = cc in
       let k : g.after ≡ t.after = q.after ∙ ap (λ (u : Line). u.after) v in
       later e (subst (λ (u : ℕ). u ≤ i.from) (sym k) h) (subst (Leads S i.from) (sym k) r)
-  line-case o s p g (gone e h) f = over e h
+  line_case o s p g (gone e h) f = over e h
 
   next_known : (s : List ℕ) (p : ℕ) (g : Include) → IncludeFits b s p g → LineCase s p g → Known s g.after
   next_known s p g o (here e r h k) = gone e (let u = o.hash in let w = o.after in omega arith)
-  next_known s p g o (later e h r) = to-come e r
+  next_known s p g o (later e h r) = to_come e r
   next_known s p g o (over e h) = gone e (let t = o.first in let u = o.hash in let w = o.after in omega arith)
 
   line_at : (s : List ℕ) (p : ℕ) (g : Include) (k : ℕ) → IncludeFits b s p g → LineCase s p g → p + k < g.start → p + k ≡ length a → At x m y (bytes_between s p g.start) k
-  line_at s p g k o (here e r h j) t w = subst (λ (t : List ℕ). At x m y (bytes_between t p g.start) k) (sym e) (found-own p g.start k r h j w)
+  line_at s p g k o (here e r h j) t w = subst (λ (t : List ℕ). At x m y (bytes_between t p g.start) k) (sym e) (found_own p g.start k r h j w)
   line_at s p g k o (later e h r) t w = absurd (let lo = i.low in let u = o.hash in let v = o.after in omega arith)
-  line_at s p g k o (over e h) t w = absurd (let v = past-a in omega arith)
+  line_at s p g k o (over e h) t w = absurd (let v = past_a in omega arith)
 
-  no-hash : (s : List ℕ) (p : ℕ) (g : Include) → IncludeFits b s p g → LineCase s p g → g.hash ≡ length a → ⊥
-  no-hash s p g o (here e r h j) w = let v = past-a in let u = o.hash in omega arith
-  no-hash s p g o (later e h r) w = let lo = i.low in let v = o.after in omega arith
-  no-hash s p g o (over e h) w = let v = past-a in let t = o.first in let u = o.hash in omega arith
+  no_hash : (s : List ℕ) (p : ℕ) (g : Include) → IncludeFits b s p g → LineCase s p g → g.hash ≡ length a → ⊥
+  no_hash s p g o (here e r h j) w = let v = past_a in let u = o.hash in omega arith
+  no_hash s p g o (later e h r) w = let lo = i.low in let v = o.after in omega arith
+  no_hash s p g o (over e h) w = let v = past_a in let t = o.first in let u = o.hash in omega arith
 
   record Result (X : Expanded) : Type 0 where
     divides : Divides (lex_from X.bytes 0)
     long : length X.origins ≡ length X.bytes
     at : (q : ℕ) → q < length X.bytes → get_or X.origins q 0 ≡ origin n (length a) → At x m y X.bytes q
 
-  after-piece : {f : List ℕ} {ts : List Lexeme} (u : List ℕ) → Piece false f ts → Divides (lex_from u 0) → Divides (lex_from (f ++ u) 0)
+  after_piece : {f : List ℕ} {ts : List Lexeme} (u : List ℕ) → Piece false f ts → Divides (lex_from u 0) → Divides (lex_from (f ++ u) 0)
   unfolding may_follow
-  after-piece {f} {ts} u p d = subst Divides (sym (p.joined u refl)) (divides_after ts _ (divides_moved (length f) (lex_from u 0) d))
+  after_piece {f} {ts} u p d = subst Divides (sym (p.joined u refl)) (divides_after ts _ (divides_moved (length f) (lex_from u 0) d))
 
   ended_so : (j : ℕ) (s : List ℕ) (p q r : ℕ) → Told j s p → q ≡ 0 → stop_at s p ≡ EndAt q r → Result (stopped j s p q r)
   unfolding stopped
@@ -297,20 +297,20 @@ module _ (P a x m y c Q l : List ℕ) (n : ℕ) (told : told_well (P ++ ((a ++ (
       let sh = t.short in
       let sz = S-short in
       let sl = S-long P a x m y c Q l n in
-      let w = part-long s p (length s) in' (omega arith) in
+      let w = part_long s p (length s) in' (omega arith) in
       record {
         divides = subst (λ (u : List ℕ). Divides (lex_from u 0)) (tail_is s p)
             (wholly (r - p) (lex_from (drop p s) 0) (subst (λ (u : ℕ). EndsAs u (r - p) (lex_from (drop p s) 0)) h (text_ends s p q r in' e)));
         long = up_long (origin j p) (length s - p) ∙ sym w;
         at = λ k f g.
             let d = same_origin j (p + k) n (length a) (omega arith) (omega arith) (sym (begins_own j p (length s) k (omega arith)) ∙ g) in
-            end-at s p k q r (t.known d.0) e d.1;
+            end_at s p k q r (t.known d.0) e d.1;
       }
 
   stands : {o : List ℕ} {j : ℕ} {s : List ℕ} {p : ℕ} {X : Expanded} → Expands b l o j s p X → X.number ≡ 0 → Told j s p → Result X
   unfolding stopped onto_part onto onto_end with_rest event_at
-  stands (as-it-stands o j s p q r e) h t = ended_so j s p q r t h (end_only b l s o (stop_at s p) q r e h)
-  stands (with-text o j s p g X Y e d c₁ c₂) h t =
+  stands (as_it_stands o j s p q r e) h t = ended_so j s p q r t h (end_only b l s o (stop_at s p) q r e h)
+  stands (with_text o j s p g X Y e d c₁ c₂) h t =
       let ok : IncludeFits b s p g = subst (EventOk b s p) e (event_ok b l s o p told t.inside) in
       let k₁ = ok.first in
       let k₂ = ok.hash in
@@ -320,15 +320,15 @@ module _ (P a x m y c Q l : List ℕ) (n : ℕ) (told : told_well (P ++ ((a ++ (
       let sz = S-short in
       let sl = S-long P a x m y c Q l n in
       let q = from_line b l s o (stop_at s p) g e in
-      let R₁ = stands d c₁ (text-told g.number g.from g.to (include_span b l s o p g e)) in
-      let R₂ = stands c₂ h (record { known = λ u. next_known s p g ok (line-case o s p g (t.known u) e); short = sh; inside = k₄ }) in
+      let R₁ = stands d c₁ (text_told g.number g.from g.to (include_span b l s o p g e)) in
+      let R₂ = stands c₂ h (record { known = λ u. next_known s p g ok (line_case o s p g (t.known u) e); short = sh; inside = k₄ }) in
       let F = bytes_between s p g.start in
       let G = up_from (origin j p) (g.start - p) in
       let pf : Piece false F (tokens_of (lex_from F 0)) =
       subst (λ (u : ℕ). Piece false (bytes_between s p u) (tokens_of (lex_from (bytes_between s p u) 0))) (sym q.start) (line_piece s p q.line t.inside q.stops) in
       let px = feed_piece X.bytes R₁.divides in
       let n₁ : length G ≡ g.start - p = up_long (origin j p) (g.start - p) in
-      let n₂ : length F ≡ g.start - p = part-long s p g.start k₁ (omega arith) in
+      let n₂ : length F ≡ g.start - p = part_long s p g.start k₁ (omega arith) in
       let l₃ = length-append F (X.bytes ++ (10 ∷ Y.bytes)) in
       let l₄ = length-append X.bytes (10 ∷ Y.bytes) in
       let l₈ = length-append G (X.origins ++ (origin j g.hash ∷ Y.origins)) in
@@ -336,20 +336,20 @@ module _ (P a x m y c Q l : List ℕ) (n : ℕ) (told : told_well (P ++ ((a ++ (
       let n₃ = R₁.long in
       let n₄ = R₂.long in
       record {
-        divides = after-piece (X.bytes ++ (10 ∷ Y.bytes)) pf (subst (λ (u : List ℕ). Divides (lex_from u 0)) (append_assoc X.bytes (10 ∷ []) Y.bytes) (after-piece Y.bytes px R₂.divides));
+        divides = after_piece (X.bytes ++ (10 ∷ Y.bytes)) pf (subst (λ (u : List ℕ). Divides (lex_from u 0)) (append_assoc X.bytes (10 ∷ []) Y.bytes) (after_piece Y.bytes px R₂.divides));
         long = omega arith;
         at = joined_at x m y (origin n (length a)) F X.bytes Y.bytes (tokens_of (lex_from F 0)) (tokens_of (lex_from (X.bytes ++ (10 ∷ [])) 0)) pf px G X.origins Y.origins (origin j g.hash)
             (n₁ ∙ sym n₂) n₃
             (λ k f w.
             let u = same_origin j (p + k) n (length a) (omega arith) (omega arith)
             (sym (begins_own j p g.start k (omega arith)) ∙ w) in
-            line_at s p g k ok (line-case o s p g (t.known u.0) e) (omega arith) u.1)
+            line_at s p g k ok (line_case o s p g (t.known u.0) e) (omega arith) u.1)
             R₁.at
-            (λ w. let u = same_origin j g.hash n (length a) (omega arith) (omega arith) w in no-hash s p g ok (line-case o s p g (t.known u.0) e) u.1)
+            (λ w. let u = same_origin j g.hash n (length a) (omega arith) (omega arith) w in no_hash s p g ok (line_case o s p g (t.known u.0) e) u.1)
             R₂.at;
       }
-  stands (with-fault o j s p g X e d c₁) h t = absurd (c₁ h)
+  stands (with_fault o j s p g X e d c₁) h t = absurd (c₁ h)
 
-  pub text-stands : (expanded b l).number ≡ 0 → (q : ℕ) → q < length (expanded b l).bytes → get_or (expanded b l).origins q 0 ≡ origin n (length a) → At x m y (expanded b l).bytes q
+  pub text_stands : (expanded b l).number ≡ 0 → (q : ℕ) → q < length (expanded b l).bytes → get_or (expanded b l).origins q 0 ≡ origin n (length a) → At x m y (expanded b l).bytes q
   unfolding main_text
-  text-stands h = (stands (expansions b l told).expands h (text-told 0 (get_or l 0 0) (get_or l 0 0 + get_or l 1 0) (main_span b l told))).at
+  text_stands h = (stands (expansions b l told).expands h (text_told 0 (get_or l 0 0) (get_or l 0 0 + get_or l 1 0) (main_span b l told))).at

@@ -14,7 +14,7 @@ use Rattle.meaning.specs.Reading.{reading, Answers as PlainAnswers}
 use Rattle.meaning.proofs.Whole.{one_answer as one_plain, answers as plain-answers}
 use Rattle.sources.specs.Texts.{told_well}
 use Rattle.sources.specs.Expanding.{Piece, fill_by, fill_of, is_too_long, expanded, expansion_if, expansion_within, expansion_of}
-use Rattle.sources_reading.specs.Answering.{text, Answers, too_long, at-fault, not-admitted, ends-early, too-deep, meant, sources_answer}
+use Rattle.sources_reading.specs.Answering.{text, Answers, too_long, at_fault, not_admitted, ends_early, too_deep, meant, sources_answer}
 use Rattle.sources_reading.proofs.Answered.{within, answers, one_answer}
 use Rattle.sources_reading.proofs.Renumbered.{plain_answer}
 use Rattle.channels.specs.Neighbours.{SameChannel, Inside, Pairs, key_in}
@@ -37,10 +37,10 @@ no_answer e = absurd (false≢true e)
 
 by_answer : {b l : List ℕ} {a : Answer} (t : Tables) → Answers b l a → a ≡ accepted t → Plain b l
 by_answer t (too_long h) e = no_answer cc
-by_answer t (at-fault h i j k) e = no_answer cc
-by_answer t (not-admitted h f u r i j k q) e = no_answer cc
-by_answer t (ends-early h i j k q) e = no_answer cc
-by_answer t (too-deep h f u r i j k q z) e = no_answer cc
+by_answer t (at_fault h i j k) e = no_answer cc
+by_answer t (not_admitted h f u r i j k q) e = no_answer cc
+by_answer t (ends_early h i j k q) e = no_answer cc
+by_answer t (too_deep h f u r i j k q z) e = no_answer cc
 by_answer t (meant h i j d) e = record { short = h; whole = i }
 
 -- The expanded text of accepted texts is accepted, with the same tables.

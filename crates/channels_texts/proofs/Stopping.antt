@@ -17,13 +17,13 @@ use Rattle.token.specs.declared.Cursor.{Cursor}
 use Rattle.token.specs.declared.Token.{Token}
 use Rattle.token.specs.declared.Step.{Step}
 use Rattle.token.specs.declared.Step.TheVariants.{Found, Refused, End}
-use Rattle.token.proofs.Find.{by_test, find-low, find-high, find-holds, find-before}
+use Rattle.token.proofs.Find.{by_test, find_low, find_high, find_holds, find_before}
 use Rattle.token.proofs.Steps.{TokenOk, token_ok, found_fits, bad_fits}
 use Rattle.locality.proofs.Onward.{onward}
-use Rattle.locality.proofs.Skipping.{parting, Bare, plain, lone, unended, plain_step, lone-step, unended-step, Skips, here, on, skips_step, skips_low, stop}
+use Rattle.locality.proofs.Skipping.{parting, Bare, plain, lone, unended, plain_step, lone_step, unended_step, Skips, here, on, skips_step, skips_low, stop}
 use Rattle.locality.proofs.Shift.{moved, moved_step, step_shift}
-use Rattle.locality.proofs.Front.{Same, find-is, gap-front}
-use Rattle.locality.proofs.Join.{found-ends, rest-ends, step-longer, step-shorter}
+use Rattle.locality.proofs.Front.{Same, find_is, gap_front}
+use Rattle.locality.proofs.Join.{found_ends, rest_ends, step_longer, step_shorter}
 use Rattle.sources.specs.Lines.{line_start, named, is_end, whole_to, after_line, line_by, line_of, hash_at, stop_at}
 use Rattle.sources.specs.declared.Name.{Name}
 use Rattle.sources.specs.declared.Name.TheVariants.{Is, Not}
@@ -31,10 +31,10 @@ use Rattle.sources.specs.declared.Line.{Line}
 use Rattle.sources.specs.declared.Stop.{Stop}
 use Rattle.sources.specs.declared.Stop.TheVariants.{At, Line as AtLine}
 use Rattle.sources.proofs.Singles.{split}
-use Rattle.sources.proofs.Stops.{line_low, line-late, stop-found, stop-refused, stop-end}
+use Rattle.sources.proofs.Stops.{line_low, line_late, stop_found, stop_refused, stop_end}
 use Rattle.including.proofs.Onwards.{byte_on}
 use Rattle.sources_laws.proofs.Ends.{Run, stay, go, run_low}
-use Rattle.sources_laws.proofs.Outcomes.{Outcome, at_end, at-bad, outcome}
+use Rattle.sources_laws.proofs.Outcomes.{Outcome, at_end, at_bad, outcome}
 
 -- Lines ----------------------------------------------------------------------------------------------------------------------------------------
 
@@ -69,24 +69,24 @@ module _ (h r : List ℕ) where
   long : length h ≤ length s
   long = let n = length-append h r in omega arith
 
-  start-front : (q : ℕ) → q ≤ length h → line_start s q ≡ line_start h q
+  start_front : (q : ℕ) → q ≤ length h → line_start s q ≡ line_start h q
   unfolding line_start
-  start-front zero i = refl
-  start-front (suc q) i =
-      ap₂ (λ b l. pick (eqb b 10) (suc q) l) (get_or-append h r 0 q (omega arith)) (start-front q (omega arith))
+  start_front zero i = refl
+  start_front (suc q) i =
+      ap₂ (λ b l. pick (eqb b 10) (suc q) l) (get_or-append h r 0 q (omega arith)) (start_front q (omega arith))
 
-  feed-front : (q : ℕ) → q ≤ length h → find_byte 10 s q < length h → find_byte 10 h q ≡ find_byte 10 s q
+  feed_front : (q : ℕ) → q ≤ length h → find_byte 10 s q < length h → find_byte 10 h q ≡ find_byte 10 s q
   unfolding find_byte
-  feed-front q i l =
+  feed_front q i l =
       let t : ℕ → Bool = λ i. eqb (byte s i) 10 in
       let e = find t (length s) q in
       let n = long in
-      find-is (λ i. eqb (byte h i) 10) (length h) q e (find-low t (length s) q) (omega arith)
-      (λ j a b. ap (λ (x : ℕ). eqb x 10) (sym (get_or-append h r 0 j (omega arith))) ∙ find-before t (length s) q j a b)
-      (λ _. ap (λ (x : ℕ). eqb x 10) (sym (get_or-append h r 0 e l)) ∙ find-holds t (length s) q (omega arith) (omega arith))
+      find_is (λ i. eqb (byte h i) 10) (length h) q e (find_low t (length s) q) (omega arith)
+      (λ j a b. ap (λ (x : ℕ). eqb x 10) (sym (get_or-append h r 0 j (omega arith))) ∙ find_before t (length s) q j a b)
+      (λ _. ap (λ (x : ℕ). eqb x 10) (sym (get_or-append h r 0 e l)) ∙ find_holds t (length s) q (omega arith) (omega arith))
 
-  between-front : (a e : ℕ) → a ≤ e → e ≤ length h → bytes_between s a e ≡ bytes_between h a e
-  between-front a e i j =
+  between_front : (a e : ℕ) → a ≤ e → e ≤ length h → bytes_between s a e ≡ bytes_between h a e
+  between_front a e i j =
       let n : e - a ≤ length (drop a h) = (let z = length-drop a h in omega arith) in
       ap (take (e - a)) (drop-append-le a h r (omega arith)) ∙ take-append-le (e - a) (drop a h) r n
 
@@ -94,105 +94,105 @@ module _ (h r : List ℕ) where
   unfolding after_line
   after_front e l = let n = long in ap (λ b. pick b (e + 1) e) (lt-ltb e (length s) (omega arith))
 
-  after-own : (e : ℕ) → e < length h → after_line h e ≡ e + 1
+  after_own : (e : ℕ) → e < length h → after_line h e ≡ e + 1
   unfolding after_line
-  after-own e l = ap (λ b. pick b (e + 1) e) (lt-ltb e (length h) l)
+  after_own e l = ap (λ b. pick b (e + 1) e) (lt-ltb e (length h) l)
 
-  feed-low : (q : ℕ) → q ≤ find_byte 10 s q
+  feed_low : (q : ℕ) → q ≤ find_byte 10 s q
   unfolding find_byte
-  feed-low q = find-low (λ i. eqb (byte s i) 10) (length s) q
+  feed_low q = find_low (λ i. eqb (byte s i) 10) (length s) q
 
-  feed-high : (q : ℕ) → q ≤ length s → find_byte 10 s q ≤ length s
+  feed_high : (q : ℕ) → q ≤ length s → find_byte 10 s q ≤ length s
   unfolding find_byte
-  feed-high q i = find-high (λ i. eqb (byte s i) 10) (length s) q i
+  feed_high q i = find_high (λ i. eqb (byte s i) 10) (length s) q i
 
   -- The line of a `#` whose LF stands in h.
   line_front : (p q : ℕ) → q < length h → find_byte 10 s q < length h → line_of s p q ≡ line_of h p q
   line_front p q i l =
       let E = find_byte 10 s q in
-      let f = feed-front q (omega arith) l in
+      let f = feed_front q (omega arith) l in
       let o = line_low h q in
-      let k = feed-low q in
-      line_is s p q (line_start h q) E (start-front q (omega arith)) refl
-      ∙ line_same p q refl (take-append-le (line_start h q) h r (omega arith)) (between-front (line_start h q) E (omega arith) (omega arith)) (after_front E l ∙ sym (after-own E l))
+      let k = feed_low q in
+      line_is s p q (line_start h q) E (start_front q (omega arith)) refl
+      ∙ line_same p q refl (take-append-le (line_start h q) h r (omega arith)) (between_front (line_start h q) E (omega arith) (omega arith)) (after_front E l ∙ sym (after_own E l))
       ∙ sym (line_is h p q (line_start h q) E refl f)
 
-  feed-own : (q : ℕ) → q ≤ length h → find_byte 10 h q < length h → find_byte 10 s q ≡ find_byte 10 h q
+  feed_own : (q : ℕ) → q ≤ length h → find_byte 10 h q < length h → find_byte 10 s q ≡ find_byte 10 h q
   unfolding find_byte
-  feed-own q i l =
+  feed_own q i l =
       let t : ℕ → Bool = λ i. eqb (byte h i) 10 in
       let e = find t (length h) q in
       let n = long in
-      find-is (λ i. eqb (byte s i) 10) (length s) q e (find-low t (length h) q) (omega arith)
-      (λ j a b. ap (λ (x : ℕ). eqb x 10) (get_or-append h r 0 j (omega arith)) ∙ find-before t (length h) q j a b)
-      (λ _. ap (λ (x : ℕ). eqb x 10) (get_or-append h r 0 e l) ∙ find-holds t (length h) q i l)
+      find_is (λ i. eqb (byte s i) 10) (length s) q e (find_low t (length h) q) (omega arith)
+      (λ j a b. ap (λ (x : ℕ). eqb x 10) (get_or-append h r 0 j (omega arith)) ∙ find_before t (length h) q j a b)
+      (λ _. ap (λ (x : ℕ). eqb x 10) (get_or-append h r 0 e l) ∙ find_holds t (length h) q i l)
 
-  feed-is : (q : ℕ) → q ≤ length s → find_byte 10 s q < length s → byte s (find_byte 10 s q) ≡ 10
+  feed_is : (q : ℕ) → q ≤ length s → find_byte 10 s q < length s → byte s (find_byte 10 s q) ≡ 10
   unfolding find_byte
-  feed-is q i l = eqb-true (byte s (find (λ i. eqb (byte s i) 10) (length s) q)) 10 (find-holds (λ i. eqb (byte s i) 10) (length s) q i l)
+  feed_is q i l = eqb-true (byte s (find (λ i. eqb (byte s i) 10) (length s) q)) 10 (find_holds (λ i. eqb (byte s i) 10) (length s) q i l)
 
   -- What an include line says whose text goes on in h.
   record FrontLine (p q : ℕ) (i : Line) : Type 0 where
-    is-hash : byte s q ≡ 35
+    is_hash : byte s q ≡ 35
     inside : q + 1 < length h
     feed : find_byte 10 s q < length h
     own : line_of h p q ≡ AtLine i
 
-  after-by : (q E L : ℕ) (n : Name) (i : Line) → E ≤ length s → line_by s q L E n ≡ AtLine i → i.after ≤ length h → length h < length s → E < length h
+  after_by : (q E L : ℕ) (n : Name) (i : Line) → E ≤ length s → line_by s q L E n ≡ AtLine i → i.after ≤ length h → length h < length s → E < length h
   unfolding after_line
-  after-by q E L (Is f t) i k e a l =
+  after_by q E L (Is f t) i k e a l =
       let z : record { hash = q; start = L; from = L + f; to = L + t; after = after_line s E } ≡ i = cc in
       let y : after_line s E ≡ i.after = ap (λ (j : Line). j.after) z in
       by_test (λ (n : ℕ). n ≡ i.after → E < length h) (ltb E (length s)) (E + 1) E (λ _ w. omega arith) (λ b w. let c = ltb-false E (length s) b in omega arith) y
-  after-by q E L Not i k e a l = absurd (let z : ◌≡◌ {A = ℕ} 0 1 = cc in omega arith)
+  after_by q E L Not i k e a l = absurd (let z : ◌≡◌ {A = ℕ} 0 1 = cc in omega arith)
 
   line_feed : (p q : ℕ) (i : Line) → q ≤ length s → line_of s p q ≡ AtLine i → i.after ≤ length h → length h < length s → find_byte 10 s q < length h
   unfolding line_of
   line_feed p q i j f b c =
       by_test (λ (x : Stop). x ≡ AtLine i → find_byte 10 s q < length h) (both (leb p (line_start s q)) (whole_to (take (line_start s q) s) p))
       (line_by s q (line_start s q) (find_byte 10 s q) (named (bytes_between s (line_start s q) (find_byte 10 s q)) (q - line_start s q))) (At 29 q)
-      (λ _ g. after-by q (find_byte 10 s q) (line_start s q) (named (bytes_between s (line_start s q) (find_byte 10 s q)) (q - line_start s q)) i (feed-high q j) g b c)
+      (λ _ g. after_by q (find_byte 10 s q) (line_start s q) (named (bytes_between s (line_start s q) (find_byte 10 s q)) (q - line_start s q)) i (feed_high q j) g b c)
       (λ _ g. absurd (let z : ◌≡◌ {A = ℕ} 0 1 = cc in omega arith)) f
 
-  hash-line : (p q : ℕ) (i : Line) → hash_at s p q ≡ AtLine i → q < length s → i.after ≤ length h → length h < length s → FrontLine p q i
+  hash_line : (p q : ℕ) (i : Line) → hash_at s p q ≡ AtLine i → q < length s → i.after ≤ length h → length h < length s → FrontLine p q i
   unfolding hash_at
-  hash-line p q i e a b c =
+  hash_line p q i e a b c =
       by_test (λ (x : Stop). x ≡ AtLine i → FrontLine p q i) (eqb (byte s q) 35) (line_of s p q) (At 3 q)
       (λ t f.
       let g = line_feed p q i (omega arith) f b c in
       let w = eqb-true (byte s q) 35 t in
-      let k = feed-low q in
-      let x : find_byte 10 s q ≡ q → ⊥ = λ y. absurd (let z : byte s q ≡ 10 = ap (byte s) (sym y) ∙ feed-is q (omega arith) (omega arith) in omega arith) in
+      let k = feed_low q in
+      let x : find_byte 10 s q ≡ q → ⊥ = λ y. absurd (let z : byte s q ≡ 10 = ap (byte s) (sym y) ∙ feed_is q (omega arith) (omega arith) in omega arith) in
       let u : q < find_byte 10 s q = ⊎_elim (λ z. absurd (x (sym z))) (λ z. z) (eq-or-lt_of_le k) in
-      record { is-hash = w; inside = omega arith; feed = g; own = sym (line_front p q (omega arith) g) ∙ f })
+      record { is_hash = w; inside = omega arith; feed = g; own = sym (line_front p q (omega arith) g) ∙ f })
       (λ _ f. absurd (let z : ◌≡◌ {A = ℕ} 0 1 = cc in omega arith)) e
 
 -- Two texts that begin with h --------------------------------------------------------------------------------------------------------------------
 
 module _ (h r k : List ℕ) where
-  same-front : Same (h ++ r) (h ++ k) 0 (length h)
-  same-front i _ l = get_or-append h k 0 i l ∙ sym (get_or-append h r 0 i l)
+  same_front : Same (h ++ r) (h ++ k) 0 (length h)
+  same_front i _ l = get_or-append h k 0 i l ∙ sym (get_or-append h r 0 i l)
 
-  run-front : (q p : ℕ) → q + 1 < length h → Run (h ++ r) q p → Run (h ++ k) q p
-  run-front q p l (stay _ e) = stay p e
-  run-front q p l (go _ t c e n) =
+  run_front : (q p : ℕ) → q + 1 < length h → Run (h ++ r) q p → Run (h ++ k) q p
+  run_front q p l (stay _ e) = stay p e
+  run_front q p l (go _ t c e n) =
       let low = run_low (h ++ r) q c.at n in
       go p t c
-      (step-longer h k p t c (step-shorter h r p t c e (omega arith))
-      (rest-ends h k t.sort c.at (omega arith) (λ _. omega arith) ∙ sym (rest-ends h r t.sort c.at (omega arith) (λ _. omega arith)) ∙ found-ends (h ++ r) p t c e))
-      (run-front q c.at l n)
+      (step_longer h k p t c (step_shorter h r p t c e (omega arith))
+      (rest_ends h k t.sort c.at (omega arith) (λ _. omega arith) ∙ sym (rest_ends h r t.sort c.at (omega arith) (λ _. omega arith)) ∙ found_ends (h ++ r) p t c e))
+      (run_front q c.at l n)
 
-  skips-front : (m p : ℕ) → m < length h → Skips (h ++ r) m p → Skips (h ++ k) m p
-  skips-front m p l (here _ e) = here p e
-  skips-front m p l (on _ q g n) =
+  skips_front : (m p : ℕ) → m < length h → Skips (h ++ r) m p → Skips (h ++ k) m p
+  skips_front m p l (here _ e) = here p e
+  skips_front m p l (on _ q g n) =
       let low = skips_low (h ++ r) m q n in
-      on p q (gap-front (h ++ r) (h ++ k) 0 (length h) (long h r) (long h k) same-front p q (omega arith) (omega arith) g) (skips-front m q l n)
+      on p q (gap_front (h ++ r) (h ++ k) 0 (length h) (long h r) (long h k) same_front p q (omega arith) (omega arith) g) (skips_front m q l n)
 
 -- Where a step is refused.
 refused_at : (s : List ℕ) (m q : ℕ) → Bare s m → step_at s m ≡ Refused q → m ≡ q
 refused_at s m q (plain f) e = (subst (TokenOk s m) (sym (plain_step s m f) ∙ e) (token_ok s m)).0
-refused_at s m q (lone f g h) e = (subst (TokenOk s m) (sym (lone-step s m f g h) ∙ e) (token_ok s m)).0
-refused_at s m q (unended f g h k) e = let z : Refused m ≡ Refused q = sym (unended-step s m f g h k) ∙ e in cc
+refused_at s m q (lone f g h) e = (subst (TokenOk s m) (sym (lone_step s m f g h) ∙ e) (token_ok s m)).0
+refused_at s m q (unended f g h k) e = let z : Refused m ≡ Refused q = sym (unended_step s m f g h k) ∙ e in cc
 
 -- A `#` is refused.
 hash_refused : (s : List ℕ) (q : ℕ) → q < length s → byte s q ≡ 35 → step_at s q ≡ Refused q
@@ -204,47 +204,47 @@ hash_refused s q l e =
 -- Past tokens.
 pub run_stop : (s : List ℕ) (q p : ℕ) → Run s q p → stop_at s p ≡ stop_at s q
 run_stop s q p (stay _ e) = ap (stop_at s) e
-run_stop s q p (go _ t c e r) = stop-found s p t c e ∙ run_stop s q c.at r
+run_stop s q p (go _ t c e r) = stop_found s p t c e ∙ run_stop s q c.at r
 
 module _ (h r k : List ℕ) where
-  bad-front : (p q : ℕ) → step_at (h ++ r) p ≡ Refused q → byte (h ++ r) q ≡ 35 → q < length h → step_at (h ++ k) p ≡ Refused q
-  bad-front p q e b l =
+  bad_front : (p q : ℕ) → step_at (h ++ r) p ≡ Refused q → byte (h ++ r) q ≡ 35 → q < length h → step_at (h ++ k) p ≡ Refused q
+  bad_front p q e b l =
       let w = stop (h ++ r) p in
       let m = refused_at (h ++ r) w.place q w.bare (sym (skips_step (h ++ r) w.place p w.skipped) ∙ e) in
       let n = long h k in
-      skips_step (h ++ k) q p (skips-front h r k q p l (subst (λ (j : ℕ). Skips (h ++ r) j p) m w.skipped))
-      ∙ hash_refused (h ++ k) q (omega arith) (same-front h r k q (omega arith) l ∙ b)
+      skips_step (h ++ k) q p (skips_front h r k q p l (subst (λ (j : ℕ). Skips (h ++ r) j p) m w.skipped))
+      ∙ hash_refused (h ++ k) q (omega arith) (same_front h r k q (omega arith) l ∙ b)
 
-  hash-front : (p q : ℕ) (i : Line) → FrontLine h r p q i → hash_at (h ++ k) p q ≡ AtLine i
+  hash_front : (p q : ℕ) (i : Line) → FrontLine h r p q i → hash_at (h ++ k) p q ≡ AtLine i
   unfolding hash_at
-  hash-front p q i f =
+  hash_front p q i f =
       let l = f.inside in
-      let b : byte (h ++ k) q ≡ 35 = same-front h r k q (omega arith) (omega arith) ∙ f.is-hash in
-      let e = feed-front h r q (omega arith) f.feed in
+      let b : byte (h ++ k) q ≡ 35 = same_front h r k q (omega arith) (omega arith) ∙ f.is-hash in
+      let e = feed_front h r q (omega arith) f.feed in
       let g = f.feed in
-      let d = feed-own h k q (omega arith) (omega arith) in
+      let d = feed_own h k q (omega arith) (omega arith) in
       ap (λ (n : ℕ). pick (eqb n 35) (line_of (h ++ k) p q) (At 3 q)) b ∙ line_front h k p q (omega arith) (omega arith) ∙ f.own
 
   -- An include line of h ++ r whose text goes on in h is one of h ++ k.
-  pub stop-front : (p : ℕ) (i : Line) → stop_at (h ++ r) p ≡ AtLine i → i.after ≤ length h → 0 < length r → stop_at (h ++ k) p ≡ AtLine i
-  stop-front p i e a l = go (outcome (h ++ r) p)
+  pub stop_front : (p : ℕ) (i : Line) → stop_at (h ++ r) p ≡ AtLine i → i.after ≤ length h → 0 < length r → stop_at (h ++ k) p ≡ AtLine i
+  stop_front p i e a l = go (outcome (h ++ r) p)
     where
       go : Outcome (h ++ r) p (stop_at (h ++ r) p) → stop_at (h ++ k) p ≡ AtLine i
       go (at_end last n w f g) = absurd (let y : AtLine i ≡ At 0 (length (h ++ r)) = sym e ∙ g in let z : ◌≡◌ {A = ℕ} 0 1 = cc in omega arith)
-      go (at-bad last q w f g) =
+      go (at_bad last q w f g) =
           let o = bad_fits (h ++ r) last q f in
           let n = length-append h r in
-          let m = hash-line h r last q i (sym g ∙ e) o.1 a (omega arith) in
+          let m = hash_line h r last q i (sym g ∙ e) o.1 a (omega arith) in
           let u = m.inside in
-          run_stop (h ++ k) last p (run-front h r k last p (omega arith) w)
-          ∙ stop-refused (h ++ k) last q (bad-front last q f m.is-hash (omega arith)) ∙ hash-front last q i m
+          run_stop (h ++ k) last p (run_front h r k last p (omega arith) w)
+          ∙ stop_refused (h ++ k) last q (bad_front last q f m.is-hash (omega arith)) ∙ hash_front last q i m
 
 -- So it is one of h.
 pub stop_own : (h r : List ℕ) (p : ℕ) (i : Line) → stop_at (h ++ r) p ≡ AtLine i → i.after ≤ length h → 0 < length r → stop_at h p ≡ AtLine i
-stop_own h r p i e a l = ap (λ (x : List ℕ). stop_at x p) (sym (append-nil h)) ∙ stop-front h r [] p i e a l
+stop_own h r p i e a l = ap (λ (x : List ℕ). stop_at x p) (sym (append-nil h)) ∙ stop_front h r [] p i e a l
 
 pub between_same : (h r k : List ℕ) (a e : ℕ) → a ≤ e → e ≤ length h → bytes_between (h ++ r) a e ≡ bytes_between (h ++ k) a e
-between_same h r k a e i j = between-front h r a e i j ∙ sym (between-front h k a e i j)
+between_same h r k a e i j = between_front h r a e i j ∙ sym (between_front h k a e i j)
 
 -- The name of an include line stands on it.
 line_from : (s : List ℕ) (p q : ℕ) (i : Line) → line_of s p q ≡ AtLine i → i.start ≤ i.from
@@ -268,7 +268,7 @@ name_from s p i e = go (outcome s p)
   where
     go : Outcome s p (stop_at s p) → i.start ≤ i.from
     go (at_end last n w f g) = absurd (let y : AtLine i ≡ At 0 (length s) = sym e ∙ g in let z : ◌≡◌ {A = ℕ} 0 1 = cc in omega arith)
-    go (at-bad last q w f g) =
+    go (at_bad last q w f g) =
         by_test (λ (x : Stop). x ≡ AtLine i → i.start ≤ i.from) (eqb (byte s q) 35) (line_of s last q) (At 3 q) (λ _ h. line_from s last q i h)
         (λ _ h. absurd (let z : ◌≡◌ {A = ℕ} 0 1 = cc in omega arith)) (sym g ∙ e)
 
@@ -282,7 +282,7 @@ up n q = omega arith
 
 start_none : (g c : List ℕ) (q : ℕ) → line_start c q ≡ 0 → line_start (g ++ c) (length g + q) ≡ line_start g (length g)
 unfolding line_start
-start_none g c zero e = ap (line_start (g ++ c)) (let z : length g + 0 ≡ length g = omega arith in z) ∙ start-front g c (length g) (omega arith)
+start_none g c zero e = ap (line_start (g ++ c)) (let z : length g + 0 ≡ length g = omega arith in z) ∙ start_front g c (length g) (omega arith)
 start_none g c (suc q) e =
     ap (line_start (g ++ c)) (up (length g) q) ∙ ap (λ (b : ℕ). pick (eqb b 10) (suc (length g + q)) (line_start (g ++ c) (length g + q))) (byte_later g c q)
     ∙ go (eqb (byte c q) 10) e (λ f. start_none g c q f)
@@ -347,7 +347,7 @@ line_later g c p q l =
     (ap₂ (λ (x : List ℕ) (n : ℕ). named x n) (between_later g c L E) (let z : (G + q) - (G + L) ≡ q - L = omega arith in z)))
     ∙ sym (ap (λ b. pick b (on_line G c p q L E) (At 29 (G + q))) (lt-ltb 0 L i)))
     (λ i.
-    sym (line-late (g ++ c) (G + p) (G + q) (line_start g G) (sym (start_none g c q (let z : L ≡ 0 = omega arith in z))) (omega arith))
+    sym (line_late (g ++ c) (G + p) (G + q) (line_start g G) (sym (start_none g c q (let z : L ≡ 0 = omega arith in z))) (omega arith))
     ∙ sym (ap (λ b. pick b (on_line G c p q L E) (At 29 (G + q))) (le-ltb 0 L i)))
 
 hash_later : (g c : List ℕ) (p q : ℕ) → line_start g (length g) < length g → hash_at (g ++ c) (length g + p) (length g + q) ≡ pick (eqb (byte c q) 35) (later_line (length g) c p q) (At 3 (length g + q))
@@ -364,17 +364,17 @@ module _ (g k c : List ℕ) (same : length g ≡ length k) (low : line_start g (
   by_step p f (Found t n) e =
       let o = found_fits c p t n e in
       let l = o.long in
-      stop-found (g ++ c) (length g + p) (moved (length g) t) (record { at = length g + n.at }) (step_shift g c p ∙ ap (moved_step (length g)) e)
+      stop_found (g ++ c) (length g + p) (moved (length g) t) (record { at = length g + n.at }) (step_shift g c p ∙ ap (moved_step (length g)) e)
       ∙ f n.at (omega arith) o.inside
-      ∙ sym (stop-found (k ++ c) (length k + p) (moved (length k) t) (record { at = length k + n.at }) (step_shift k c p ∙ ap (moved_step (length k)) e))
+      ∙ sym (stop_found (k ++ c) (length k + p) (moved (length k) t) (record { at = length k + n.at }) (step_shift k c p ∙ ap (moved_step (length k)) e))
   by_step p f (Refused q) e =
-      stop-refused (g ++ c) (length g + p) (length g + q) (step_shift g c p ∙ ap (moved_step (length g)) e) ∙ hash_later g c p q low
+      stop_refused (g ++ c) (length g + p) (length g + q) (step_shift g c p ∙ ap (moved_step (length g)) e) ∙ hash_later g c p q low
       ∙ ap (λ (n : ℕ). pick (eqb (byte c q) 35) (later_line n c p q) (At 3 (n + q))) same
-      ∙ sym (stop-refused (k ++ c) (length k + p) (length k + q) (step_shift k c p ∙ ap (moved_step (length k)) e) ∙ hash_later k c p q low')
+      ∙ sym (stop_refused (k ++ c) (length k + p) (length k + q) (step_shift k c p ∙ ap (moved_step (length k)) e) ∙ hash_later k c p q low')
   by_step p f (End n) e =
-      stop-end (g ++ c) (length g + p) (length g + n) (step_shift g c p ∙ ap (moved_step (length g)) e) ∙ ap (At 0) longs
-      ∙ sym (stop-end (k ++ c) (length k + p) (length k + n) (step_shift k c p ∙ ap (moved_step (length k)) e))
+      stop_end (g ++ c) (length g + p) (length g + n) (step_shift g c p ∙ ap (moved_step (length g)) e) ∙ ap (At 0) longs
+      ∙ sym (stop_end (k ++ c) (length k + p) (length k + n) (step_shift k c p ∙ ap (moved_step (length k)) e))
 
   -- They stop alike in c.
-  pub stop-later : (p : ℕ) → stop_at (g ++ c) (length g + p) ≡ stop_at (k ++ c) (length k + p)
-  stop-later = onward (length c) (λ (p : ℕ). stop_at (g ++ c) (length g + p) ≡ stop_at (k ++ c) (length k + p)) (λ p f. by_step p f (step_at c p) refl)
+  pub stop_later : (p : ℕ) → stop_at (g ++ c) (length g + p) ≡ stop_at (k ++ c) (length k + p)
+  stop_later = onward (length c) (λ (p : ℕ). stop_at (g ++ c) (length g + p) ≡ stop_at (k ++ c) (length k + p)) (λ p f. by_step p f (step_at c p) refl)

@@ -17,7 +17,7 @@ use Rattle.channels.specs.Neighbours.{ObjectTree, first_place, end_of_last, key_
 
 -- The places at which a text goes on: its start, and the place after each of its include lines.
 pub data GoesOn (s : List ℕ) : ℕ → Type 0 where
-  at-start : GoesOn s 0
+  at_start : GoesOn s 0
   after_line : (p : ℕ) (i : Line) → GoesOn s p → stop_at s p ≡ AtLine i → GoesOn s i.after
 
 -- x and y are two objects one after the other in the text a x m y c, each from its kind word through its semicolon, by the text's own tokens: those
@@ -30,14 +30,14 @@ pub record InText (a x m y c : List ℕ) : Type 0 where
   pub one : ObjectTree
   pub other : ObjectTree
   pub rest : List Token
-  pub by-tokens : tokens (drop from (a ++ (x ++ (m ++ (y ++ c))))) ≡ before ++ (Leaves-of one ++ (Leaves-of other ++ rest))
-  pub after-sign : (l : List Token) (t : Token) → before ≡ l ++ (t ∷ []) → either (matches (sg lbrace) t.class) (matches (sg semicolon) t.class) ≡ true
-  pub one-begins : from + first_place (Leaves-of one) ≡ length a
-  pub one-ends : from + end_of_last (Leaves-of one) ≡ length a + length x
-  pub other-begins : from + first_place (Leaves-of other) ≡ length a + (length x + length m)
-  pub other-ends : from + end_of_last (Leaves-of other) ≡ length a + (length x + (length m + length y))
-  pub one-semicolon : byte x (length x - 1) ≡ 59
-  pub other-semicolon : byte y (length y - 1) ≡ 59
+  pub by_tokens : tokens (drop from (a ++ (x ++ (m ++ (y ++ c))))) ≡ before ++ (Leaves-of one ++ (Leaves-of other ++ rest))
+  pub after_sign : (l : List Token) (t : Token) → before ≡ l ++ (t ∷ []) → either (matches (sg lbrace) t.class) (matches (sg semicolon) t.class) ≡ true
+  pub one_begins : from + first_place (Leaves-of one) ≡ length a
+  pub one_ends : from + end_of_last (Leaves-of one) ≡ length a + length x
+  pub other_begins : from + first_place (Leaves-of other) ≡ length a + (length x + length m)
+  pub other_ends : from + end_of_last (Leaves-of other) ≡ length a + (length x + (length m + length y))
+  pub one_semicolon : byte x (length x - 1) ≡ 59
+  pub other_semicolon : byte y (length y - 1) ≡ 59
 
 -- They are parts of different objects: of another kind, or of another name.
 abbrev pub OfTwo : (a x m y c : List ℕ) → InText a x m y c → Type 0

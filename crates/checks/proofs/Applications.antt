@@ -38,20 +38,20 @@ use Rattle.layout.proofs.Codes.{kind_low}
 use Rattle.scopes.specs.Situations.{Situation, Nth}
 use Rattle.scopes.specs.Promises.{fault_of}
 use Rattle.scopes.proofs.Rooms.{kept_cell, row_cell_lem, nth_of}
-use Rattle.scopes.proofs.Finding.{seek-all}
+use Rattle.scopes.proofs.Finding.{seek_all}
 use Rattle.scopes.proofs.Goodness.{later_words}
 use Rattle.scopes.proofs.Descents.{whole}
 use Rattle.kinds.specs.Kinds.{kind_at, most_of}
-use Rattle.merging.proofs.Places.{row_is, new_by, old-by}
+use Rattle.merging.proofs.Places.{row_is, new_by, old_by}
 use Rattle.checks.specs.declared.objects.Checked.{Checked}
 use Rattle.checks.specs.Cells.{lacking_from, full_of, room_fault}
-use Rattle.checks.specs.Promises.{Noted, numbers, Met, ChecksParts, Titled, Unclashed, Clashes, clash, no-clash, NameFault, Checks, ObjectFaults}
+use Rattle.checks.specs.Promises.{Noted, numbers, Met, ChecksParts, Titled, Unclashed, Clashes, clash, no_clash, NameFault, Checks, ObjectFaults}
 use Rattle.scopes.proofs.Firsts.{Has, here, there, has_none, has_left, has_right, has_split, in_if, if_in, Covered, covered, covered_by, first_same, Real, real, real_none, real_append, real_if, fault_append, fault_one}
 use Rattle.merging.specs.Parts.{row_or, first_row, FirstRows}
 use Rattle.merging.proofs.Storing.{cells_of}
 use Rattle.checks.proofs.Names.{each_name_append}
 use Rattle.checks.proofs.Tallying.{alike, cell, tallied}
-use Rattle.checks.proofs.Rows.{get_at, nth-fault, fault-nth, real-nth, room-code, numbers_of, numbered, numbered-append, numbers_append as codes-append, numbered_is}
+use Rattle.checks.proofs.Rows.{get_at, nth_fault, fault_nth, real_nth, room_code, numbers_of, numbered, numbered_append, numbers_append as codes-append, numbered_is}
 
 -- Kinds ------------------------------------------------------------------------------------------------------------------------------------
 
@@ -117,7 +117,7 @@ few_code (k ∷ ks) os cpu i = by (ltb (how_many k os) (fewest k)) (few_code ks 
 lacking_is : (os : List Object) → lacking_from (counts os) 0 ≡ table.first (is_lacking os) At Nothing 0 kinds
 unfolding lacking_from counts is_lacking kind_at
 lacking_is os =
-    seek-all (is_lacking os) (λ j. ltb (get_or (counts_of kinds os) j 0) (fewest (get_or kinds j NM))) kinds
+    seek_all (is_lacking os) (λ j. ltb (get_or (counts_of kinds os) j 0) (fewest (get_or kinds j NM))) kinds
     (λ a x b e. ap₂ (λ (n : ℕ) (k : Kind). ltb n (fewest k))
     (ap (λ (l : List Kind). get_or (counts_of l os) (length a) 0) e ∙ counts_at a x b os)
     (ap (λ (l : List Kind). get_or l (length a) NM) e ∙ get_at a x b NM))
@@ -228,11 +228,11 @@ module _ {s p x : List ℕ} {n : ℕ} {f : File} (N : Noted s p x n f) {j : ℕ}
   length_more = let a = M.place in let b = length-append M.before (after.part ∷ []) in omega arith
 
   -- A further part changes nothing,
-  pub met-old : (get_or x j 0 ≡ j → ⊥) → Met f (j + 1) best k cs
-  met-old g =
+  pub met_old : (get_or x j 0 ≡ j → ⊥) → Met f (j + 1) best k cs
+  met_old g =
       let z = after.part in
       let rest = after.rest in
-      let u = old-by j (get_or x j 0) M.before z cell_of_lem g in
+      let u = old_by j (get_or x j 0) M.before z cell_of_lem g in
       let l = M.low in
       record {
         before = M.before ++ (z ∷ []);
@@ -240,7 +240,7 @@ module _ {s p x : List ℕ} {n : ℕ} {f : File} (N : Noted s p x n f) {j : ℕ}
         so_far = M.so_far;
         whole = after.parts ∙ sym (append_assoc M.before (z ∷ []) rest);
         place = length_more;
-        merged-so = ap (λ (os : List Object). M.so_far ++ os) (sym (merge_old M.before z rest k u) ∙ ap (λ (v : List Object). merge_from M.before v k) (sym after.is)) ∙ M.merged-so;
+        merged_so = ap (λ (os : List Object). M.so_far ++ os) (sym (merge_old M.before z rest k u) ∙ ap (λ (v : List Object). merge_from M.before v k) (sym after.is)) ∙ M.merged-so;
         number = M.number;
         low = omega arith;
         counted = M.counted;
@@ -248,10 +248,10 @@ module _ {s p x : List ℕ} {n : ℕ} {f : File} (N : Noted s p x n f) {j : ℕ}
       }
 
   -- and the first part of an object is one more.
-  pub met-new : {number place : ℕ} {a b c r : Code} {more : List ℕ} → get_or x j 0 ≡ j → number ≡ get_or p (j * 10 + 0) 0 → place ≡ get_or p (j * 10 + 1) 0
+  pub met_new : {number place : ℕ} {a b c r : Code} {more : List ℕ} → get_or x j 0 ≡ j → number ≡ get_or p (j * 10 + 0) 0 → place ≡ get_or p (j * 10 + 1) 0
       → a ≡ order.faultIf (eqb k 256) 11 place → b ≡ order.faultIf (full_of (most_of (most (kind_at number))) (get_or cs number 0)) 17 place → c ≡ order.sooner a b
       → r ≡ order.sooner best c → more ≡ one_more cs number → Met f (j + 1) r (k + 1) more
-  met-new {number} {place} {a} {b} {c} {r} {more} g e₁ e₂ e₃ e₄ e₅ e₆ e₇ =
+  met_new {number} {place} {a} {b} {c} {r} {more} g e₁ e₂ e₃ e₄ e₅ e₆ e₇ =
       let z = after.part in
       let rest = after.rest in
       let u = new_by j (get_or x j 0) M.before z cell_of_lem M.place g in
@@ -280,7 +280,7 @@ module _ {s p x : List ℕ} {n : ℕ} {f : File} (N : Noted s p x n f) {j : ℕ}
         so_far = os ++ (y ∷ []);
         whole = after.parts ∙ sym (append_assoc M.before (z ∷ []) rest);
         place = length_more;
-        merged-so = append_assoc os (y ∷ []) (merge_from (M.before ++ (z ∷ [])) rest (k + 1))
+        merged_so = append_assoc os (y ∷ []) (merge_from (M.before ++ (z ∷ [])) rest (k + 1))
             ∙ ap (λ (v : List Object). os ++ v) (sym (merge_new M.before z rest k u) ∙ ap (λ (v : List Object). merge_from M.before v k) (sym after.is)) ∙ M.merged-so;
         number = omega arith;
         low = omega arith;
@@ -300,7 +300,7 @@ met_start f = record {
   so_far = [];
   whole = refl;
   place = refl;
-  merged-so = refl;
+  merged_so = refl;
   number = refl;
   low = omega arith;
   counted = refl;
@@ -331,7 +331,7 @@ statements_numbered (state x inside rest) =
     ap₂ (λ (a b : List Fault). (faults_if (eqb x.number 2048) x.name 11 ++ a) ++ b) (statements_numbered inside) (statements_numbered rest)
     ∙ append_assoc (faults_if (eqb x.number 2048) x.name 11) (numbered_statements (flat_of inside)) (numbered_statements (flat_of rest))
     ∙ ap (λ (l : List Fault). faults_if (eqb x.number 2048) x.name 11 ++ l)
-    (sym (numbered-append (λ (x : Statement). x.number) (λ (x : Statement). x.name) 2048 11 (flat_of inside) (flat_of rest)))
+    (sym (numbered_append (λ (x : Statement). x.number) (λ (x : Statement). x.name) 2048 11 (flat_of inside) (flat_of rest)))
 
 numbers_flat_of : (ss : Statements) → numbers_of (λ (x : Statement). x.number) (λ (x : Statement). x.name) 2048 11 (flat_of ss) ≡ statement_numbers ss
 unfolding flat_of numbers_of statement_numbers
@@ -451,7 +451,7 @@ parts_split {g} (x ∷ xs) m =
     let L = limits xs in
     let S = numbered_statements (flat xs) in
     let S₀ = numbered_statements (flat_of x.statements) in
-    let whole : numbered_statements (flat_of x.statements ++ flat xs) ≡ S₀ ++ S = numbered-append (λ (x : Statement). x.number) (λ (x : Statement). x.name) 2048 11 (flat_of x.statements) (flat xs) in
+    let whole : numbered_statements (flat_of x.statements ++ flat xs) ≡ S₀ ++ S = numbered_append (λ (x : Statement). x.number) (λ (x : Statement). x.name) 2048 11 (flat_of x.statements) (flat xs) in
     ⊎_elim
     (λ i. ⊎_elim (λ a. has_left (A ++ L) (numbered_statements (flat_of x.statements ++ flat xs)) (has_left A L a))
     (λ b. has_right (A ++ L) (numbered_statements (flat_of x.statements ++ flat xs)) (subst (Has g) (sym whole) (has_left S₀ S (subst (Has g) (statements_numbered x.statements) b))))
@@ -470,7 +470,7 @@ parts_join {g} (x ∷ xs) m =
     let L = limits xs in
     let S = numbered_statements (flat xs) in
     let S₀ = numbered_statements (flat_of x.statements) in
-    let whole : numbered_statements (flat_of x.statements ++ flat xs) ≡ S₀ ++ S = numbered-append (λ (x : Statement). x.number) (λ (x : Statement). x.name) 2048 11 (flat_of x.statements) (flat xs) in
+    let whole : numbered_statements (flat_of x.statements ++ flat xs) ≡ S₀ ++ S = numbered_append (λ (x : Statement). x.number) (λ (x : Statement). x.name) 2048 11 (flat_of x.statements) (flat xs) in
     ⊎_elim
     (λ i. ⊎_elim (λ a. has_left (A ++ B) (each_part xs) (has_left A B a)) (λ b. has_right (A ++ B) (each_part xs) (parts_join xs (has_left L S b))) (has_split A L i))
     (λ i. ⊎_elim (λ a. has_left (A ++ B) (each_part xs) (has_right A B (subst (Has g) (sym (statements_numbered x.statements)) a)))
@@ -574,10 +574,10 @@ unfolding how_many same_kind
 used_kind k x [] t e = used_none x
 used_kind k x (y ∷ l) t e =
     let a : bit (same_kind k y.kind) ≡ 0 = omega arith in
-    used_more x y l ∙ go (same_object x y) (λ h. false≢true (sym (bit_kind k y a) ∙ kind-through h)) (used_kind k x l t (omega arith))
+    used_more x y l ∙ go (same_object x y) (λ h. false≢true (sym (bit_kind k y a) ∙ kind_through h)) (used_kind k x l t (omega arith))
   where
-    kind-through : same_object x y ≡ true → same_kind k y.kind ≡ true
-    kind-through h =
+    kind_through : same_object x y ≡ true → same_kind k y.kind ≡ true
+    kind_through h =
         let q = (same_alike x y h).kinds in
         ap (eqb (kind_number k)) (sym q) ∙ t
 
@@ -663,68 +663,68 @@ from_back lo [] b h = h
 from_back lo (x ∷ a) b h = from_back lo a b h.1
 
 module _ (s : List ℕ) (f : File) (K : Situation s f) where
-  limits-is : limits f.parts ≡ nth-fault (λ (x : Object). x.word) 11 512 f.parts
+  limits_is : limits f.parts ≡ nth_fault (λ (x : Object). x.word) 11 512 f.parts
   unfolding limits
-  limits-is =
+  limits_is =
       numbered_is (λ (x : Object). x.row) (λ (x : Object). x.word) 512 11 f.parts
       (subst (Counts 0) (sym (numbers_parts f.parts)) (whole K).numbers.1.1.0)
 
-  inside_is : numbered_statements (flat f.parts) ≡ nth-fault (λ (x : Statement). x.name) 11 2048 (flat f.parts)
+  inside_is : numbered_statements (flat f.parts) ≡ nth_fault (λ (x : Statement). x.name) 11 2048 (flat f.parts)
   unfolding numbered_statements
   inside_is =
       numbered_is (λ (x : Statement). x.number) (λ (x : Statement). x.name) 2048 11 (flat f.parts)
       (subst (Counts 0) (sym (numbers_flat f.parts)) (whole K).numbers.1.1.1)
 
-  part-order : InOrder 1 (object_words f.parts)
+  part_order : InOrder 1 (object_words f.parts)
   unfolding later_words
-  part-order = ordered_sub (sub_behind (spec_words f.specs) (drop {t = f.cpu} (sub_all (object_words f.parts)))) 1 (whole K).order
+  part_order = ordered_sub (sub_behind (spec_words f.specs) (drop {t = f.cpu} (sub_all (object_words f.parts)))) 1 (whole K).order
 
   -- The fault 24 that was found.
   unfoldable clashes : {n : ℕ} {r : Code} → Clashes f n r → List Fault
   clashes (clash front z rest w c h e) = record { place = z.name.place; number = 24 } ∷ []
-  clashes (no-clash u e) = []
+  clashes (no_clash u e) = []
 
-  clashes-real : {n : ℕ} {r : Code} (Q : Clashes f n r) → Real (clashes Q)
+  clashes_real : {n : ℕ} {r : Code} (Q : Clashes f n r) → Real (clashes Q)
   unfolding clashes faults_if
-  clashes-real (clash front z rest w c h e) = real_if true z.name 24 (omega arith)
-  clashes-real (no-clash u e) = real_none
+  clashes_real (clash front z rest w c h e) = real_if true z.name 24 (omega arith)
+  clashes_real (no_clash u e) = real_none
 
-  clashes-code : {n : ℕ} {r : Code} (Q : Clashes f n r) → r ≡ fault_of (first (clashes Q))
+  clashes_code : {n : ℕ} {r : Code} (Q : Clashes f n r) → r ≡ fault_of (first (clashes Q))
   unfolding clashes fault_of first sooner
-  clashes-code (clash front z rest w c h e) = e
-  clashes-code (no-clash u e) = e
+  clashes_code (clash front z rest w c h e) = e
+  clashes_code (no_clash u e) = e
 
-  clashes-in : {n : ℕ} {r : Code} (Q : Clashes f n r) (g : Fault) → Has g (clashes Q) → Has g (each_name [] f.parts)
+  clashes_in : {n : ℕ} {r : Code} (Q : Clashes f n r) (g : Fault) → Has g (clashes Q) → Has g (each_name [] f.parts)
   unfolding clashes each_name faults_if
-  clashes-in (clash front z rest w c h e) g m =
+  clashes_in (clash front z rest w c h e) g m =
       subst (λ (os : List Object). Has g (each_name [] os)) (sym w)
       (subst (Has g) (sym (each_name_append [] front (z ∷ rest)))
       (has_right (each_name [] front) (each_name front (z ∷ rest))
       (has_left (faults_if (elsewhere z front) z.name 24) (each_name (front ++ (z ∷ [])) rest) (subst (λ (b : Bool). Has g (faults_if b z.name 24)) (sym h) m))))
-  clashes-in (no-clash u e) g m = absurd (has_none m)
+  clashes_in (no_clash u e) g m = absurd (has_none m)
 
   module _ {l : ℕ} {best : Code} {k : ℕ} {cs : List ℕ} (M : Met f l best k cs) (full-front : (0 < length M.left → length M.before ≡ 513)) {r : Code} (Q : Clashes f l r) where
     abbrev C : List Fault
-    C = nth-fault (λ (x : Object). x.word) 11 512 f.parts
+    C = nth_fault (λ (x : Object). x.word) 11 512 f.parts
 
     abbrev D : List Fault
-    D = nth-fault (λ (x : Statement). x.name) 11 2048 (flat f.parts)
+    D = nth_fault (λ (x : Statement). x.name) 11 2048 (flat f.parts)
 
     unfoldable found : List Fault
     found = too_few kinds f.objects f.cpu ++ (each_object [] M.so_far ++ ((C ++ D) ++ clashes Q))
 
-    objects-split : each_object [] f.objects ≡ each_object [] M.so_far ++ each_object M.so_far (merge_from M.before M.left k)
-    objects-split = ap (each_object []) ((whole K).merged ∙ sym M.merged-so) ∙ each_behind [] M.so_far (merge_from M.before M.left k)
+    objects_split : each_object [] f.objects ≡ each_object [] M.so_far ++ each_object M.so_far (merge_from M.before M.left k)
+    objects_split = ap (each_object []) ((whole K).merged ∙ sym M.merged-so) ∙ each_behind [] M.so_far (merge_from M.before M.left k)
 
     parts_is : {g : Fault} → Has g (each_part f.parts) → Has g (C ++ D)
-    parts_is {g} m = subst (Has g) (ap₂ ◌++◌ limits-is inside_is) (parts_split f.parts m)
+    parts_is {g} m = subst (Has g) (ap₂ ◌++◌ limits_is inside_is) (parts_split f.parts m)
 
-    is-parts : {g : Fault} → Has g (C ++ D) → Has g (each_part f.parts)
-    is-parts {g} m = parts_join f.parts (subst (Has g) (sym (ap₂ ◌++◌ limits-is inside_is)) m)
+    is_parts : {g : Fault} → Has g (C ++ D) → Has g (each_part f.parts)
+    is_parts {g} m = parts_join f.parts (subst (Has g) (sym (ap₂ ◌++◌ limits_is inside_is)) m)
 
-    found-in-stage : (g : Fault) → Has g found → Covered g (object_faults f)
+    found_in_stage : (g : Fault) → Has g found → Covered g (object_faults f)
     unfolding found object_faults
-    found-in-stage g m =
+    found_in_stage g m =
         let a = too_few kinds f.objects f.cpu in
         let b = each_object [] M.so_far in
         let os = each_object [] f.objects in
@@ -732,9 +732,9 @@ module _ (s : List ℕ) (f : File) (K : Situation s f) where
         let ns = each_name [] f.parts in
         ⊎_elim (λ n. covered (has_left a (os ++ (ps ++ ns)) n))
         (λ n. ⊎_elim
-        (λ i. covered (has_right a (os ++ (ps ++ ns)) (has_left os (ps ++ ns) (subst (Has g) (sym objects-split) (has_left b (each_object M.so_far (merge_from M.before M.left k)) i)))))
-        (λ i. ⊎_elim (λ j. covered (has_right a (os ++ (ps ++ ns)) (has_right os (ps ++ ns) (has_left ps ns (is-parts j)))))
-        (λ j. covered (has_right a (os ++ (ps ++ ns)) (has_right os (ps ++ ns) (has_right ps ns (clashes-in Q g j)))))
+        (λ i. covered (has_right a (os ++ (ps ++ ns)) (has_left os (ps ++ ns) (subst (Has g) (sym objects_split) (has_left b (each_object M.so_far (merge_from M.before M.left k)) i)))))
+        (λ i. ⊎_elim (λ j. covered (has_right a (os ++ (ps ++ ns)) (has_right os (ps ++ ns) (has_left ps ns (is_parts j)))))
+        (λ j. covered (has_right a (os ++ (ps ++ ns)) (has_right os (ps ++ ns) (has_right ps ns (clashes_in Q g j)))))
         (has_split (C ++ D) (clashes Q) i))
         (has_split b ((C ++ D) ++ clashes Q) n))
         (has_split a (b ++ ((C ++ D) ++ clashes Q)) m)
@@ -752,59 +752,59 @@ module _ (s : List ℕ) (f : File) (K : Situation s f) where
         let u = i.nth in
         let w : f.parts ≡ F ++ (x ∷ R) = M.whole ∙ ap (λ (v : List Object). F ++ v) e in
         let v : f.parts ≡ u.front ++ (y ∷ (u.rest ++ (x ∷ R))) = w ∙ ap (λ (l : List Object). l ++ (x ∷ R)) u.whole ∙ append_assoc u.front (y ∷ u.rest) (x ∷ R) in
-        let o = words_behind 1 u.front y (u.rest ++ (x ∷ R)) (subst (λ (l : List Object). InOrder 1 (object_words l)) v part-order) in
+        let o = words_behind 1 u.front y (u.rest ++ (x ∷ R)) (subst (λ (l : List Object). InOrder 1 (object_words l)) v part_order) in
         let q = from_back (suc y.word.place) u.rest (x ∷ R) (from_order (suc y.word.place) (suc y.word.place) (u.rest ++ (x ∷ R)) (omega arith) o) in
         let t = merge_from_lo (suc y.word.place) M.so_far F (x ∷ R) k q m in
         covered_by (record { place = y.word.place; number = 11 })
         (has_right (too_few kinds f.objects f.cpu) _ (has_right (each_object [] M.so_far) _ (has_left (C ++ D) _ (has_left C D
-        (fault-nth (λ (x : Object). x.word) 11 {x = y} (record { front = u.front; rest = u.rest ++ (x ∷ R); whole = v; place = u.place }) refl)))))
+        (fault_nth (λ (x : Object). x.word) 11 {x = y} (record { front = u.front; rest = u.rest ++ (x ∷ R); whole = v; place = u.place }) refl)))))
         (left_of t)
 
     -- The faults of names lie right of the one that was found, or of 11 at the part that is one too many.
-    names-past : (g : Fault) (F R : List Object) → f.parts ≡ F ++ R → (0 < length R → length F ≡ 513) → Has g (each_name F R) → Covered g found
+    names_past : (g : Fault) (F R : List Object) → f.parts ≡ F ++ R → (0 < length R → length F ≡ 513) → Has g (each_name F R) → Covered g found
     unfolding found each_name
-    names-past g F [] w full m = absurd (has_none m)
-    names-past g F (x ∷ R) w full m =
+    names_past g F [] w full m = absurd (has_none m)
+    names_past g F (x ∷ R) w full m =
         let h = full (omega arith) in
         let i = nth_of F 512 (omega arith) in
         let y = i.element in
         let u = i.nth in
         let v : f.parts ≡ u.front ++ (y ∷ (u.rest ++ (x ∷ R))) = w ∙ ap (λ (l : List Object). l ++ (x ∷ R)) u.whole ∙ append_assoc u.front (y ∷ u.rest) (x ∷ R) in
-        let o = words_behind 1 u.front y (u.rest ++ (x ∷ R)) (subst (λ (l : List Object). InOrder 1 (object_words l)) v part-order) in
+        let o = words_behind 1 u.front y (u.rest ++ (x ∷ R)) (subst (λ (l : List Object). InOrder 1 (object_words l)) v part_order) in
         let q = names_back (suc y.word.place) u.rest (x ∷ R) (names_order (suc y.word.place) (suc y.word.place) (u.rest ++ (x ∷ R)) (omega arith) o) in
         let t = names_lo (suc y.word.place) F (x ∷ R) q m in
         covered_by (record { place = y.word.place; number = 11 })
         (has_right (too_few kinds f.objects f.cpu) _ (has_right (each_object [] M.so_far) _ (has_left (C ++ D) _ (has_left C D
-        (fault-nth (λ (x : Object). x.word) 11 {x = y} (record { front = u.front; rest = u.rest ++ (x ∷ R); whole = v; place = u.place }) refl)))))
+        (fault_nth (λ (x : Object). x.word) 11 {x = y} (record { front = u.front; rest = u.rest ++ (x ∷ R); whole = v; place = u.place }) refl)))))
         (left_of t)
 
-    names-found : (P : Clashes f l r) → clashes P ≡ clashes Q → (g : Fault) → Has g (each_name [] f.parts) → Covered g found
+    names_found : (P : Clashes f l r) → clashes P ≡ clashes Q → (g : Fault) → Has g (each_name [] f.parts) → Covered g found
     unfolding clashes found each_name
-    names-found (clash front z rest w c h e) q g m =
+    names_found (clash front z rest w c h e) q g m =
         let n = subst (Has g) (each_name_append [] front (z ∷ rest)) (subst (λ (os : List Object). Has g (each_name [] os)) w m) in
         let own : Has (record { place = z.name.place; number = 24 }) found =
         has_right (too_few kinds f.objects f.cpu) _ (has_right (each_object [] M.so_far) _ (has_right (C ++ D) _ (subst (Has (record { place = z.name.place; number = 24 })) q (here refl)))) in
         ⊎_elim (λ i. absurd (has_none (subst (Has g) c i)))
         (λ i. ⊎_elim (λ j. covered (subst (λ (v : Fault). Has v found) (in_if (elsewhere z front) z.name 24 j).1 own))
         (λ j.
-        let o = names_behind 1 front z rest (subst (λ (os : List Object). InOrder 1 (object_words os)) w part-order) in
+        let o = names_behind 1 front z rest (subst (λ (os : List Object). InOrder 1 (object_words os)) w part_order) in
         let t = names_lo (suc z.name.place) (front ++ (z ∷ [])) rest (names_order (suc z.name.place) (suc z.name.place) rest (omega arith) o) j in
         covered_by (record { place = z.name.place; number = 24 }) own (left_of t))
         (has_split (faults_if (elsewhere z front) z.name 24) (each_name (front ++ (z ∷ [])) rest) i))
         (has_split (each_name [] front) (each_name front (z ∷ rest)) n)
-    names-found (no-clash u e) q g m =
+    names_found (no_clash u e) q g m =
         let n = subst (Has g) (each_name_append [] u.front u.rest) (subst (λ (os : List Object). Has g (each_name [] os)) u.whole m) in
         let a : length f.parts ≡ length u.front + length u.rest = ap (λ (v : List Object). length v) u.whole ∙ length-append u.front u.rest in
         let b : length f.parts ≡ length M.before + length M.left = ap (λ (v : List Object). length v) M.whole ∙ length-append M.before M.left in
         let c = u.place in
         let d = M.place in
         ⊎_elim (λ i. absurd (has_none (subst (Has g) u.clear i)))
-        (λ i. names-past g u.front u.rest u.whole (λ t. let z = full-front (omega (arith, a, b, c, d, t)) in omega (arith, c, d, z)) i)
+        (λ i. names_past g u.front u.rest u.whole (λ t. let z = full-front (omega (arith, a, b, c, d, t)) in omega (arith, c, d, z)) i)
         (has_split (each_name [] u.front) (each_name u.front u.rest) n)
 
-    stage-in-found : (g : Fault) → Has g (object_faults f) → Covered g found
+    stage_in_found : (g : Fault) → Has g (object_faults f) → Covered g found
     unfolding found object_faults
-    stage-in-found g m =
+    stage_in_found g m =
         let a = too_few kinds f.objects f.cpu in
         let b = each_object [] M.so_far in
         let os = each_object [] f.objects in
@@ -814,13 +814,13 @@ module _ (s : List ℕ) (f : File) (K : Situation s f) where
         ⊎_elim (λ n. covered (has_left a (b ++ cd) n))
         (λ n. ⊎_elim
         (λ i. ⊎_elim (λ j. covered (has_right a (b ++ cd) (has_left b cd j))) (λ j. past_room g M.left refl j)
-        (has_split b (each_object M.so_far (merge_from M.before M.left k)) (subst (Has g) objects-split i)))
-        (λ i. ⊎_elim (λ j. covered (has_right a (b ++ cd) (has_right b cd (has_left (C ++ D) (clashes Q) (parts_is j))))) (λ j. names-found Q refl g j) (has_split ps ns i))
+        (has_split b (each_object M.so_far (merge_from M.before M.left k)) (subst (Has g) objects_split i)))
+        (λ i. ⊎_elim (λ j. covered (has_right a (b ++ cd) (has_right b cd (has_left (C ++ D) (clashes Q) (parts_is j))))) (λ j. names_found Q refl g j) (has_split ps ns i))
         (has_split os (ps ++ ns) n))
         (has_split a (os ++ (ps ++ ns)) m)
 
     stage_is : first (object_faults f) ≡ first found
-    stage_is = first_same (object_faults f) found found-in-stage stage-in-found
+    stage_is = first_same (object_faults f) found found_in_stage stage_in_found
 
 real_few : (ks : List Kind) (os : List Object) (cpu : Word) → Real (too_few ks os cpu)
 real_few ks os cpu = real (of_few ks os cpu)
@@ -843,24 +843,24 @@ objects_answer s p st x xn n m cs cpu l a b c d v y w z r t e₁ e₂ e₃ e₀ 
     let M = e₃ s f N in
     let Q = j₂ s f (record { situation = K; in_parts = h₁; firsts = λ j i. cells_of (length p) s p xn l n e₂ j₁ j (omega (arith, i, e₂)); few = omega (arith, e₂); inside = omega (arith, e₂, h₃) }) in
     let E₀ = clashes s f K Q in
-    let rE = clashes-real s f K Q in
+    let rE = clashes_real s f K Q in
     let whole_length : length f.parts ≡ length M.before + length M.left = ap (λ (v : List Object). length v) M.whole ∙ length-append M.before M.left in
     let pl = M.place in
     let A = too_few kinds f.objects f.cpu in
     let B = each_object [] M.so_far in
-    let C₀ = nth-fault (λ (x : Object). x.word) 11 512 f.parts in
-    let D₀ = nth-fault (λ (x : Statement). x.name) 11 2048 (flat f.parts) in
+    let C₀ = nth_fault (λ (x : Object). x.word) 11 512 f.parts in
+    let D₀ = nth_fault (λ (x : Statement). x.name) 11 2048 (flat f.parts) in
     let rB = each_real [] M.so_far in
-    let rC = real-nth (λ (x : Object). x.word) 11 (omega arith) f.parts 512 in
-    let rD = real-nth (λ (x : Statement). x.name) 11 (omega arith) (flat f.parts) 2048 in
+    let rC = real_nth (λ (x : Object). x.word) 11 (omega arith) f.parts 512 in
+    let rD = real_nth (λ (x : Statement). x.name) 11 (omega arith) (flat f.parts) 2048 in
     let same-few : too_few kinds f.objects f.cpu ≡ too_few kinds f.parts f.cpu = ap (λ (os : List Object). too_few kinds os f.cpu) (whole K).merged ∙ too_few_same kinds f.parts f.cpu in
     let qA : a ≡ fault_of (first A) = e₁ ∙ too_few_is f.parts f.cpu cs cpu h₅ h₆ ∙ ap (λ (v : List Fault). fault_of (first v)) (sym same-few) in
     let qB : b ≡ fault_of (first B) = e₀ ∙ M.found in
-    let qC : c ≡ fault_of (first C₀) = e₄ ∙ room-code (λ (x : Object). x.word) 11 p 10 512 1 n f.parts h₃ (λ x q. part_word p f h₁ x q) in
-    let qD : d ≡ fault_of (first D₀) = e₅ ∙ room-code (λ (x : Statement). x.name) 11 st 7 2048 0 m (flat f.parts) (h₄ ∙ sym (length_flat f.parts)) (λ x q. statement_cell f st x h₂ q) in
+    let qC : c ≡ fault_of (first C₀) = e₄ ∙ room_code (λ (x : Object). x.word) 11 p 10 512 1 n f.parts h₃ (λ x q. part_word p f h₁ x q) in
+    let qD : d ≡ fault_of (first D₀) = e₅ ∙ room_code (λ (x : Statement). x.name) 11 st 7 2048 0 m (flat f.parts) (h₄ ∙ sym (length_flat f.parts)) (λ x q. statement_cell f st x h₂ q) in
     let qy : y ≡ fault_of (first (C₀ ++ D₀)) = e₆ ∙ ap₂ order.sooner qC qD ∙ sym (fault_append C₀ D₀ rC rD) in
     let rCD = real_append C₀ D₀ rC rD in
-    let qw : w ≡ fault_of (first ((C₀ ++ D₀) ++ E₀)) = j₃ ∙ ap₂ order.sooner qy (clashes-code s f K Q) ∙ sym (fault_append (C₀ ++ D₀) E₀ rCD rE) in
+    let qw : w ≡ fault_of (first ((C₀ ++ D₀) ++ E₀)) = j₃ ∙ ap₂ order.sooner qy (clashes_code s f K Q) ∙ sym (fault_append (C₀ ++ D₀) E₀ rCD rE) in
     let rCE = real_append (C₀ ++ D₀) E₀ rCD rE in
     let qz : z ≡ fault_of (first (B ++ ((C₀ ++ D₀) ++ E₀))) = e₇ ∙ ap₂ order.sooner qB qw ∙ sym (fault_append B ((C₀ ++ D₀) ++ E₀) rB rCE) in
     let qr : r.fault ≡ fault_of (first (A ++ (B ++ ((C₀ ++ D₀) ++ E₀)))) =

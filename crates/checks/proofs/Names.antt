@@ -29,12 +29,12 @@ use Rattle.meaning.proofs.Sites.{statement_words, object_words}
 use Rattle.layout.specs.Kept.{kept_parts, object_cells}
 use Rattle.scopes.specs.Situations.{Situation, Nth}
 use Rattle.scopes.proofs.Rooms.{row_cell_lem}
-use Rattle.scopes.proofs.Finding.{seek-all, nth_front, below_front}
+use Rattle.scopes.proofs.Finding.{seek_all, nth_front, below_front}
 use Rattle.scopes.proofs.Goodness.{Good, Goods, good_back, part_good}
 use Rattle.scopes.proofs.Descents.{whole}
 use Rattle.merging.specs.Parts.{row_or, first_row}
 use Rattle.merging.proofs.Places.{good_name}
-use Rattle.checks.specs.Promises.{Titled, Unclashed, Clashes, clash, no-clash}
+use Rattle.checks.specs.Promises.{Titled, Unclashed, Clashes, clash, no_clash}
 
 -- Names used elsewhere ---------------------------------------------------------------------------------------------------------------------------
 
@@ -158,51 +158,51 @@ past_cells s l a k m m2 p n y z e f g =
     ap₂ both (ap₂ eqb (cell_past l (a + length l) (omega arith)) e ∙ eq-eqb 0 0 refl) (ap₂ (λ (u v : ℕ). same (part_of s u v) (part_of s p n)) f g)
 
 module _ (s p : List ℕ) (f : File) (K : Situation s f) (e : p ≡ kept_parts f) where
-  find-by-name : (front rest : List Object) (n key at len : ℕ) → key ≡ 0 → f.parts ≡ front ++ rest → n ≡ length front → n ≤ 513
+  find_by_name : (front rest : List Object) (n key at len : ℕ) → key ≡ 0 → f.parts ≡ front ++ rest → n ≡ length front → n ≤ 513
       → find_named s p 10 n (length p) key 3 at len 0 ≡ first (is_name s at len) At Nothing 0 front
   unfolding find_named is_name object_cells kept_parts
-  find-by-name front rest n key at len e₀ w k h =
+  find_by_name front rest n key at len e₀ w k h =
       ap (λ (m : ℕ). find_from (λ j. is_named s p (j * 10) (length p) key 3 4 at len) m 0) k
-      ∙ seek-all (is_name s at len) (λ j. is_named s p (j * 10) (length p) key 3 4 at len) front (λ a x b g.
+      ∙ seek_all (is_name s at len) (λ j. is_named s p (j * 10) (length p) key 3 4 at len) front (λ a x b g.
       let q = nth_front rest w a x b g in
       let l = below_front front a x b g in
       past_cells s p (length a * 10) key 3 4 at len x.name.place x.name.length e₀
       (row_cell_lem 513 f.parts p (length a) 3 x e q (omega arith) (omega arith))
       (row_cell_lem 513 f.parts p (length a) 4 x e q (omega arith) (omega arith)))
 
-  name-tests : (x : Object) → Good s x.name → (i : ℕ) (l rest : List Object) → Goods s (object_words (l ++ rest))
+  name_tests : (x : Object) → Good s x.name → (i : ℕ) (l rest : List Object) → Goods s (object_words (l ++ rest))
       → first (is_name s x.name.place x.name.length) At Nothing i l ≡ first (same_name x) At Nothing i l
   unfolding first object_words is_name same_name alike
-  name-tests x g i [] rest h = refl
-  name-tests x g i (y ∷ l) rest h =
+  name_tests x g i [] rest h = refl
+  name_tests x g i (y ∷ l) rest h =
       ap₂ (λ (b : Bool) (f : Found). pick b (At i) f) (ap₂ same (sym h.1.0.read.bytes) (sym g.read.bytes))
-      (name-tests x g (suc i) l rest (good_back s (statement_words y.statements) (object_words (l ++ rest)) h.1.1))
+      (name_tests x g (suc i) l rest (good_back s (statement_words y.statements) (object_words (l ++ rest)) h.1.1))
 
-  name-row : (j : ℕ) (front : List Object) (z : Object) (rest : List Object) → f.parts ≡ front ++ (z ∷ rest) → length front ≡ j → j < 513
+  name_row : (j : ℕ) (front : List Object) (z : Object) (rest : List Object) → f.parts ≡ front ++ (z ∷ rest) → length front ≡ j → j < 513
       → first_row (length p) s p j ≡ row_or j (first (same_name z) At Nothing 0 front)
   unfolding first_row kept_parts object_cells
-  name-row j front z rest w l h =
+  name_row j front z rest w l h =
       let q : Nth f.parts j z = record { front = front; rest = rest; whole = w; place = l } in
       let g : Goods s (object_words (front ++ (z ∷ rest))) = subst (λ (os : List Object). Goods s (object_words os)) w (part_good s f (whole K).good) in
       let c₃ : get_or p (j * 10 + 3) 0 ≡ z.name.place = row_cell_lem 513 f.parts p j 3 z e q h (omega arith) in
       let c₄ : get_or p (j * 10 + 4) 0 ≡ z.name.length = row_cell_lem 513 f.parts p j 4 z e q h (omega arith) in
       ap (row_or j)
       (ap₂ (λ (a b : ℕ). find_named s p 10 j (length p) (get_or p (j * 10 + length p) 0) 3 a b 0) c₃ c₄
-      ∙ find-by-name front (z ∷ rest) j (get_or p (j * 10 + length p) 0) z.name.place z.name.length (cell_past p (j * 10 + length p) (omega arith)) w (sym l) (omega arith)
-      ∙ name-tests z (good_name s front z rest g) 0 front (z ∷ rest) g)
+      ∙ find_by_name front (z ∷ rest) j (get_or p (j * 10 + length p) 0) z.name.place z.name.length (cell_past p (j * 10 + length p) (omega arith)) w (sym l) (omega arith)
+      ∙ name_tests z (good_name s front z rest g) 0 front (z ∷ rest) g)
 
-  kind-in : (j : ℕ) (z : Object) → Nth f.parts j z → j < 513 → get_or p (j * 10 + 0) 0 ≡ kind_number z.kind
+  kind_in : (j : ℕ) (z : Object) → Nth f.parts j z → j < 513 → get_or p (j * 10 + 0) 0 ≡ kind_number z.kind
   unfolding kept_parts object_cells
-  kind-in j z q h = row_cell_lem 513 f.parts p j 0 z e q h (omega arith)
+  kind_in j z q h = row_cell_lem 513 f.parts p j 0 z e q h (omega arith)
 
   -- The kinds of a part and of the first part with its name.
-  kinds-tell : (j i : ℕ) (front : List Object) (z : Object) (rest : List Object) → f.parts ≡ front ++ (z ∷ rest) → length front ≡ j → j < 513 → each_name [] front ≡ []
+  kinds_tell : (j i : ℕ) (front : List Object) (z : Object) (rest : List Object) → f.parts ≡ front ++ (z ∷ rest) → length front ≡ j → j < 513 → each_name [] front ≡ []
       → i ≡ first_row (length p) s p j → elsewhere z front ≡ not (eqb (get_or p (j * 10 + 0) 0) (get_or p (i * 10 + 0) 0))
   unfolding row_or kept_parts object_cells
-  kinds-tell j i front z rest w l h c r = go (first (same_name z) At Nothing 0 front) refl (r ∙ name-row j front z rest w l h)
+  kinds_tell j i front z rest w l h c r = go (first (same_name z) At Nothing 0 front) refl (r ∙ name_row j front z rest w l h)
     where
       own : get_or p (j * 10 + 0) 0 ≡ kind_number z.kind
-      own = kind-in j z (record { front = front; rest = rest; whole = w; place = l }) h
+      own = kind_in j z (record { front = front; rest = rest; whole = w; place = l }) h
 
       go : (u : Found) → first (same_name z) At Nothing 0 front ≡ u → i ≡ row_or j u → elsewhere z front ≡ not (eqb (get_or p (j * 10 + 0) 0) (get_or p (i * 10 + 0) 0))
       go (At k) q m =
@@ -212,7 +212,7 @@ module _ (s p : List ℕ) (f : File) (K : Situation s f) (e : p ≡ kept_parts f
           let b = length-append o.front (o.row ∷ o.rest) in
           let n : Nth f.parts i o.row = record { front = o.front; rest = o.rest ++ (z ∷ rest); whole = w ∙ ap (λ (v : List Object). v ++ (z ∷ rest)) o.whole ∙ append_assoc o.front (o.row ∷ o.rest) (z ∷ rest); place = omega (arith, pl, m) } in
           by_first z front o.front o.row o.rest c o.whole o.holds o.fails
-          ∙ sym (ap₂ (λ (x y : ℕ). not (eqb x y)) own (kind-in i o.row n (omega (arith, pl, m, a, b, l))))
+          ∙ sym (ap₂ (λ (x y : ℕ). not (eqb x y)) own (kind_in i o.row n (omega (arith, pl, m, a, b, l))))
       go Nothing q m =
           nothing_same z front (none_any (same_name z) 0 front q)
           ∙ sym (ap (λ (v : ℕ). not (eqb (get_or p (j * 10 + 0) 0) (get_or p (v * 10 + 0) 0))) m ∙ ap not (eq-eqb (get_or p (j * 10 + 0) 0) (get_or p (j * 10 + 0) 0) refl))
@@ -244,26 +244,26 @@ module _ {s p y : List ℕ} {n : ℕ} {f : File} (N : Titled s p y n f) {j : ℕ
   parts_are : f.parts ≡ U.front ++ (next.part ∷ next.more)
   parts_are = U.whole ∙ ap (λ (v : List Object). U.front ++ v) next.is
 
-  tells-it : (i : ℕ) → i ≡ get_or y j 0 → elsewhere next.part U.front ≡ not (eqb (get_or p (j * 10 + 0) 0) (get_or p (i * 10 + 0) 0))
-  tells-it i e =
+  tells_it : (i : ℕ) → i ≡ get_or y j 0 → elsewhere next.part U.front ≡ not (eqb (get_or p (j * 10 + 0) 0) (get_or p (i * 10 + 0) 0))
+  tells_it i e =
       let a = N.few in
-      kinds-tell s p f N.situation N.in_parts j i U.front next.part next.more parts_are U.place (omega arith) U.clear (e ∙ N.firsts j h)
+      kinds_tell s p f N.situation N.in_parts j i U.front next.part next.more parts_are U.place (omega arith) U.clear (e ∙ N.firsts j h)
 
-  pub name-clash : (i k b place : ℕ) → i ≡ get_or y j 0 → k ≡ get_or p (j * 10 + 0) 0 → b ≡ get_or p (i * 10 + 0) 0 → (k ≡ b → ⊥) → place ≡ get_or p (j * 10 + 3) 0
+  pub name_clash : (i k b place : ℕ) → i ≡ get_or y j 0 → k ≡ get_or p (j * 10 + 0) 0 → b ≡ get_or p (i * 10 + 0) 0 → (k ≡ b → ⊥) → place ≡ get_or p (j * 10 + 3) 0
       → Clashes f n (record { number = 24; place = place })
   unfolding kept_parts object_cells
-  name-clash i k b place e₁ e₂ e₃ g e₄ =
+  name_clash i k b place e₁ e₂ e₃ g e₄ =
       let a = N.few in
       let q : Nth f.parts j next.part = record { front = U.front; rest = next.more; whole = parts_are; place = U.place } in
       clash U.front next.part next.more parts_are U.clear
-      (tells-it i e₁ ∙ ap not (ap₂ eqb (sym e₂) (sym e₃) ∙ ne_eqb k b g))
+      (tells_it i e₁ ∙ ap not (ap₂ eqb (sym e₂) (sym e₃) ∙ ne_eqb k b g))
       (ap (λ (v : ℕ). record { number = 24; place = v }) (e₄ ∙ row_cell_lem 513 f.parts p j 3 next.part N.in_parts q (omega arith) (omega arith)))
 
-  pub name-clear : (i k b : ℕ) → i ≡ get_or y j 0 → k ≡ get_or p (j * 10 + 0) 0 → b ≡ get_or p (i * 10 + 0) 0 → k ≡ b → Unclashed f (j + 1)
+  pub name_clear : (i k b : ℕ) → i ≡ get_or y j 0 → k ≡ get_or p (j * 10 + 0) 0 → b ≡ get_or p (i * 10 + 0) 0 → k ≡ b → Unclashed f (j + 1)
   unfolding each_name faults_if
-  name-clear i k b e₁ e₂ e₃ g =
+  name_clear i k b e₁ e₂ e₃ g =
       let z = next.part in
-      let t : elsewhere z U.front ≡ false = tells-it i e₁ ∙ ap not (ap₂ eqb (sym e₂) (sym e₃) ∙ eq-eqb k b g) in
+      let t : elsewhere z U.front ≡ false = tells_it i e₁ ∙ ap not (ap₂ eqb (sym e₂) (sym e₃) ∙ eq-eqb k b g) in
       let c = U.place in
       let l = length-append U.front (z ∷ []) in
       record {
@@ -275,4 +275,4 @@ module _ {s p y : List ℕ} {n : ℕ} {f : File} (N : Titled s p y n f) {j : ℕ
       }
 
 pub clear_end : {f : File} {j n : ℕ} → j ≤ n → n ≤ j → Unclashed f j → Clashes f n (record { number = 0; place = 0 })
-clear_end {f} {j} {n} h g U = let e : j ≡ n = omega arith in no-clash (subst (Unclashed f) e U) refl
+clear_end {f} {j} {n} h g U = let e : j ≡ n = omega arith in no_clash (subst (Unclashed f) e U) refl

@@ -45,32 +45,32 @@ get_at (y ∷ a) x b d = get_at a x b d
 
 module _ {A : Type 0} (w : A → Word) (n : ℕ) where
   -- The fault n at row j, where there is one.
-  unfoldable pub nth-fault : ℕ → List A → List Fault
-  nth-fault j [] = []
-  nth-fault zero (x ∷ xs) = record { place = (w x).place; number = n } ∷ []
-  nth-fault (suc j) (x ∷ xs) = nth-fault j xs
+  unfoldable pub nth_fault : ℕ → List A → List Fault
+  nth_fault j [] = []
+  nth_fault zero (x ∷ xs) = record { place = (w x).place; number = n } ∷ []
+  nth_fault (suc j) (x ∷ xs) = nth_fault j xs
 
-  fault-behind : (a : List A) (x : A) (b : List A) → nth-fault (length a) (a ++ (x ∷ b)) ≡ record { place = (w x).place; number = n } ∷ []
-  unfolding nth-fault
-  fault-behind [] x b = refl
-  fault-behind (y ∷ a) x b = fault-behind a x b
+  fault_behind : (a : List A) (x : A) (b : List A) → nth_fault (length a) (a ++ (x ∷ b)) ≡ record { place = (w x).place; number = n } ∷ []
+  unfolding nth_fault
+  fault_behind [] x b = refl
+  fault_behind (y ∷ a) x b = fault_behind a x b
 
-  pub fault_at : {l : List A} {j : ℕ} {x : A} → Nth l j x → nth-fault j l ≡ record { place = (w x).place; number = n } ∷ []
-  fault_at {l} {j} {x} q = ap₂ nth-fault (sym q.place) q.whole ∙ fault-behind q.front x q.rest
+  pub fault_at : {l : List A} {j : ℕ} {x : A} → Nth l j x → nth_fault j l ≡ record { place = (w x).place; number = n } ∷ []
+  fault_at {l} {j} {x} q = ap₂ nth_fault (sym q.place) q.whole ∙ fault_behind q.front x q.rest
 
-  pub fault_past : (l : List A) (j : ℕ) → length l ≤ j → nth-fault j l ≡ []
-  unfolding nth-fault
+  pub fault_past : (l : List A) (j : ℕ) → length l ≤ j → nth_fault j l ≡ []
+  unfolding nth_fault
   fault_past [] j h = refl
   fault_past (x ∷ l) zero h = absurd (omega arith)
   fault_past (x ∷ l) (suc j) h = fault_past l j (omega arith)
 
-  pub fault-nth : {g : Fault} {l : List A} {j : ℕ} {x : A} → Nth l j x → record { place = (w x).place; number = n } ≡ g → Has g (nth-fault j l)
-  fault-nth {g} q e = subst (Has g) (sym (fault_at q)) (here e)
+  pub fault_nth : {g : Fault} {l : List A} {j : ℕ} {x : A} → Nth l j x → record { place = (w x).place; number = n } ≡ g → Has g (nth_fault j l)
+  fault_nth {g} q e = subst (Has g) (sym (fault_at q)) (here e)
 
-  pub real-nth : 0 < n → (l : List A) (j : ℕ) → Real (nth-fault j l)
-  real-nth h l j = by (dec_lt j (length l))
+  pub real_nth : 0 < n → (l : List A) (j : ℕ) → Real (nth_fault j l)
+  real_nth h l j = by (dec_lt j (length l))
     where
-      by : Dec (j < length l) → Real (nth-fault j l)
+      by : Dec (j < length l) → Real (nth_fault j l)
       by (yes k) = let r = nth_of l j k in subst Real (sym (fault_at r.nth)) (λ g m. only g m)
         where
           only : {p : ℕ} (g : Fault) → Has g (record { place = p; number = n } ∷ []) → 0 < g.number
@@ -79,12 +79,12 @@ module _ {A : Type 0} (w : A → Word) (n : ℕ) where
       by (no k) = subst Real (sym (fault_past l j (omega arith))) real_none
 
   -- What the code has of it.
-  pub room-code : (t : List ℕ) (wide last c rows : ℕ) (l : List A) → rows ≡ length l → ((x : A) → Nth l last x → cell_of t wide last c ≡ (w x).place)
-      → room_fault t wide last c rows n ≡ fault_of (first (nth-fault last l))
+  pub room_code : (t : List ℕ) (wide last c rows : ℕ) (l : List A) → rows ≡ length l → ((x : A) → Nth l last x → cell_of t wide last c ≡ (w x).place)
+      → room_fault t wide last c rows n ≡ fault_of (first (nth_fault last l))
   unfolding room_fault fault_if fault_of first sooner
-  room-code t wide last c rows l e f = by (dec_lt last (length l))
+  room_code t wide last c rows l e f = by (dec_lt last (length l))
     where
-      by : Dec (last < length l) → room_fault t wide last c rows n ≡ fault_of (first (nth-fault last l))
+      by : Dec (last < length l) → room_fault t wide last c rows n ≡ fault_of (first (nth_fault last l))
       by (yes h) =
           let r = nth_of l last h in
           rw (fault_at r.nth, lt-ltb last rows (omega (arith, e)), f r.element r.nth)
@@ -100,34 +100,34 @@ module _ {A : Type 0} (num : A → ℕ) (w : A → Word) (limit n : ℕ) where
   numbered [] = []
   numbered (x ∷ xs) = faults_if (eqb (num x) limit) (w x) n ++ numbered xs
 
-  pub numbered-append : (a b : List A) → numbered (a ++ b) ≡ numbered a ++ numbered b
+  pub numbered_append : (a b : List A) → numbered (a ++ b) ≡ numbered a ++ numbered b
   unfolding numbered
-  numbered-append [] b = refl
-  numbered-append (x ∷ a) b =
-      ap (λ (l : List Fault). faults_if (eqb (num x) limit) (w x) n ++ l) (numbered-append a b) ∙ sym (append_assoc (faults_if (eqb (num x) limit) (w x) n) (numbered a) (numbered b))
+  numbered_append [] b = refl
+  numbered_append (x ∷ a) b =
+      ap (λ (l : List Fault). faults_if (eqb (num x) limit) (w x) n ++ l) (numbered_append a b) ∙ sym (append_assoc (faults_if (eqb (num x) limit) (w x) n) (numbered a) (numbered b))
 
   pub numbers_append : (a b : List A) → numbers_of (a ++ b) ≡ numbers_of a ++ numbers_of b
   unfolding numbers_of
   numbers_append [] b = refl
   numbers_append (x ∷ a) b = ap (λ (l : List ℕ). num x ∷ l) (numbers_append a b)
 
-  numbered-past : (k : ℕ) (xs : List A) → Counts k (numbers_of xs) → limit < k → numbered xs ≡ []
+  numbered_past : (k : ℕ) (xs : List A) → Counts k (numbers_of xs) → limit < k → numbered xs ≡ []
   unfolding numbered numbers_of faults_if
-  numbered-past k [] c h = refl
-  numbered-past k (x ∷ xs) (counts_more e c) h = rw (ne_eqb (num x) limit (λ z. omega arith)) (numbered-past (suc k) xs c (omega arith))
+  numbered_past k [] c h = refl
+  numbered_past k (x ∷ xs) (counts_more e c) h = rw (ne_eqb (num x) limit (λ z. omega arith)) (numbered_past (suc k) xs c (omega arith))
 
-  numbered-from : (k : ℕ) (xs : List A) → Counts k (numbers_of xs) → k ≤ limit → numbered xs ≡ nth-fault w n (limit - k) xs
-  unfolding numbered numbers_of faults_if nth-fault
-  numbered-from k [] c h = sym (fault_past w n [] (limit - k) (omega arith))
-  numbered-from k (x ∷ xs) (counts_more e c) h = by (ℕ_discrete k limit) (λ g. numbered-from (suc k) xs c g)
+  numbered_from : (k : ℕ) (xs : List A) → Counts k (numbers_of xs) → k ≤ limit → numbered xs ≡ nth_fault w n (limit - k) xs
+  unfolding numbered numbers_of faults_if nth_fault
+  numbered_from k [] c h = sym (fault_past w n [] (limit - k) (omega arith))
+  numbered_from k (x ∷ xs) (counts_more e c) h = by (ℕ_discrete k limit) (λ g. numbered_from (suc k) xs c g)
     where
-      by : Dec (k ≡ limit) → (suc k ≤ limit → numbered xs ≡ nth-fault w n (limit - suc k) xs) → numbered (x ∷ xs) ≡ nth-fault w n (limit - k) (x ∷ xs)
+      by : Dec (k ≡ limit) → (suc k ≤ limit → numbered xs ≡ nth_fault w n (limit - suc k) xs) → numbered (x ∷ xs) ≡ nth_fault w n (limit - k) (x ∷ xs)
       by (yes q) r =
           let z : limit - k ≡ 0 = omega arith in
-          rw (z, eq-eqb (num x) limit (e ∙ q), numbered-past (suc k) xs c (omega arith))
+          rw (z, eq-eqb (num x) limit (e ∙ q), numbered_past (suc k) xs c (omega arith))
       by (no q) r =
           let z : limit - k ≡ suc (limit - suc k) = omega (arith, q) in
           rw (z, ne_eqb (num x) limit (λ y. q (sym e ∙ y))) (r (omega (arith, q)))
 
-  pub numbered_is : (xs : List A) → Counts 0 (numbers_of xs) → numbered xs ≡ nth-fault w n limit xs
-  numbered_is xs c = let z : limit - 0 ≡ limit = omega arith in numbered-from 0 xs c (omega arith) ∙ ap (λ (j : ℕ). nth-fault w n j xs) z
+  pub numbered_is : (xs : List A) → Counts 0 (numbers_of xs) → numbered xs ≡ nth_fault w n limit xs
+  numbered_is xs c = let z : limit - 0 ≡ limit = omega arith in numbered_from 0 xs c (omega arith) ∙ ap (λ (j : ℕ). nth_fault w n j xs) z

@@ -14,7 +14,7 @@ use Rattle.meaning.specs.Syntax.{Object}
 use Rattle.meaning.specs.Kinds.{kind_number, same_kind}
 use Rattle.meaning.specs.Applying.{how_many, counts_of, counts}
 use Rattle.rows.specs.Tally.{one_more, count_on}
-use Rattle.rows.proofs.Tallies.{counts_of_lem, how_many_lem, length-one-more, counts_of as cells_of}
+use Rattle.rows.proofs.Tallies.{counts_of_lem, how_many_lem, length_one_more, counts_of as cells_of}
 use Rattle.checks.specs.Promises.{numbers}
 
 pub alike : (k : Kind) (os : List Object) → how_many_lem (kind_number k) (numbers os) ≡ how_many k os
@@ -48,7 +48,7 @@ cell os (suc (suc (suc (suc (suc (suc (suc (suc (suc (suc (suc (suc (suc i))))))
 length_count : (cs ks : List ℕ) → length (count_on cs ks) ≡ length cs
 unfolding count_on
 length_count cs [] = refl
-length_count cs (k ∷ ks) = length_count (one_more cs k) ks ∙ length-one-more cs k
+length_count cs (k ∷ ks) = length_count (one_more cs k) ks ∙ length_one_more cs k
 
 length_numbers : (os : List Object) → length (numbers os) ≡ length os
 unfolding numbers

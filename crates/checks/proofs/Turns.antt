@@ -9,7 +9,7 @@ use borrow.Author.Tests.{lt-ltb, le-ltb}
 use Rattle.rows.specs.declared.Fault.{Fault}
 use Rattle.rows.specs.declared.Found.TheVariants.{At, Nothing}
 use Rattle.rows.specs.Order.{fault_if}
-use Rattle.rows.proofs.Searches.{find-stop, find_more, find-end}
+use Rattle.rows.proofs.Searches.{find_stop, find_more, find_end}
 use Rattle.grammar.specs.Grammar.{Kind}
 use Rattle.meaning.specs.Kinds.{fewest, most}
 use Rattle.kinds.specs.declared.Most.{Most}
@@ -33,7 +33,7 @@ room_is l w last c rows n p r e f = f ∙ ap (fault_if (ltb last rows) n) e
 pub lacks_here : (cs : List ℕ) (i n : ℕ) → i < 13 → n ≡ fewest (kind_at i) → get_or cs i 0 < n → lacking_from cs i ≡ At i
 unfolding lacking_from
 lacks_here cs i n h e g =
-    find-stop (λ j. ltb (get_or cs j 0) (fewest (kind_at j))) 13 i h (ap (ltb (get_or cs i 0)) (sym e) ∙ lt-ltb (get_or cs i 0) n g)
+    find_stop (λ j. ltb (get_or cs j 0) (fewest (kind_at j))) 13 i h (ap (ltb (get_or cs i 0)) (sym e) ∙ lt-ltb (get_or cs i 0) n g)
 
 pub lacks_more : (cs : List ℕ) (i n : ℕ) → i < 13 → n ≡ fewest (kind_at i) → n ≤ get_or cs i 0 → lacking_from cs i ≡ lacking_from cs (i + 1)
 unfolding lacking_from
@@ -42,7 +42,7 @@ lacks_more cs i n h e g =
 
 pub lacks_end : (cs : List ℕ) (i : ℕ) → 13 ≤ i → lacking_from cs i ≡ Nothing
 unfolding lacking_from
-lacks_end cs i h = find-end (λ j. ltb (get_or cs j 0) (fewest (kind_at j))) 13 i h
+lacks_end cs i h = find_end (λ j. ltb (get_or cs j 0) (fewest (kind_at j))) 13 i h
 
 -- 17 of an object.
 pub too_many_is : (v number n p : ℕ) (q : Kind) (x : Most) (b : Bool) (r : Fault) → q ≡ kind_at number → n ≡ v → x ≡ most_of (most q) → b ≡ full_of x n → r ≡ fault_if b 17 p

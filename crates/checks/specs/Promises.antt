@@ -33,7 +33,7 @@ pub record Met (f : File) (j : ℕ) (fault : Fault) (k : ℕ) (cs : List ℕ) : 
   pub so_far : List Object
   pub whole : f.parts ≡ before ++ left
   pub place : length before ≡ j
-  pub merged-so : so_far ++ merge_from before left k ≡ merge f.parts
+  pub merged_so : so_far ++ merge_from before left k ≡ merge f.parts
   pub number : length so_far ≡ k
   pub low : k ≤ j
   pub counted : cs ≡ count_on (replicate 13 0) (numbers so_far)
@@ -65,7 +65,7 @@ pub record Unclashed (f : File) (j : ℕ) : Type 0 where
 pub data Clashes (f : File) (n : ℕ) (r : Fault) : Type 0 where
   clash : (front : List Object) (z : Object) (rest : List Object) → f.parts ≡ front ++ (z ∷ rest) → each_name [] front ≡ [] → elsewhere z front ≡ true
       → r ≡ record { number = 24; place = z.name.place } → Clashes f n r
-  no-clash : Unclashed f n → r ≡ record { number = 0; place = 0 } → Clashes f n r
+  no_clash : Unclashed f n → r ≡ record { number = 0; place = 0 } → Clashes f n r
 
 abbrev pub NameFault : (p y : List ℕ) → ℕ → Fault → Type 0
 NameFault p y n r = (s : List ℕ) (f : File) → Titled s p y n f → Clashes f n r

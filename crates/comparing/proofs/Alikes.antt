@@ -29,8 +29,8 @@ same_truth false false f g = refl
 
 -- A test by keys.
 pub record Keyed {A K : Type 0} (r : A → A → Bool) (key : A → K) : Type 0 where
-  pub to-keys : (x y : A) → r x y ≡ true → key x ≡ key y
-  pub from-keys : (x y : A) → key x ≡ key y → r x y ≡ true
+  pub to_keys : (x y : A) → r x y ≡ true → key x ≡ key y
+  pub from_keys : (x y : A) → key x ≡ key y → r x y ≡ true
 
 pub keyed_flip : {A K : Type 0} {r : A → A → Bool} {key : A → K} → Keyed r key → (x y : A) → r x y ≡ r y x
 keyed_flip {r} k x y = same_truth (r x y) (r y x) (λ e. k.from-keys y x (sym (k.to-keys x y e))) (λ e. k.from-keys x y (sym (k.to-keys y x e)))
@@ -45,11 +45,11 @@ step_key a = (a.name.bytes, (bit a.list, a.position))
 pub step_keyed : Keyed same_step step_key
 unfolding same_step alike
 step_keyed = record {
-  to-keys = λ a b e.
+  to_keys = λ a b e.
       let p = both_true (same a.name.bytes b.name.bytes) (both (eqb (bit a.list) (bit b.list)) (eqb a.position b.position)) e in
       let q = both_true (eqb (bit a.list) (bit b.list)) (eqb a.position b.position) p.1 in
       λ i. (same_equal a.name.bytes b.name.bytes p.0 i, (eqb-true (bit a.list) (bit b.list) q.0 i, eqb-true a.position b.position q.1 i));
-  from-keys = λ a b e.
+  from_keys = λ a b e.
       both_of (same a.name.bytes b.name.bytes) (both (eqb (bit a.list) (bit b.list)) (eqb a.position b.position))
       (ap (same a.name.bytes) (sym (ap (λ (k : List ℕ × (ℕ × ℕ)). k.0) e)) ∙ same_self a.name.bytes)
       (both_of (eqb (bit a.list) (bit b.list)) (eqb a.position b.position)
@@ -85,14 +85,14 @@ path_same (a ∷ p) = both_of (same_step a a) (same_path p p) (step_keyed.from-k
 pub value_keyed : Keyed same_value (λ t. counts_as t.value t)
 unfolding same_value
 value_keyed = record {
-  to-keys = λ t u e. same_equal (counts_as t.value t) (counts_as u.value u) e;
-  from-keys = λ t u e. ap (same (counts_as t.value t)) (sym e) ∙ same_self (counts_as t.value t);
+  to_keys = λ t u e. same_equal (counts_as t.value t) (counts_as u.value u) e;
+  from_keys = λ t u e. ap (same (counts_as t.value t)) (sym e) ∙ same_self (counts_as t.value t);
 }
 
 -- Kinds.
 pub kind_keyed : Keyed same_kind kind_number
 unfolding same_kind
-kind_keyed = record { to-keys = λ a b e. eqb-true (kind_number a) (kind_number b) e; from-keys = λ a b e. eq-eqb (kind_number a) (kind_number b) e }
+kind_keyed = record { to_keys = λ a b e. eqb-true (kind_number a) (kind_number b) e; from_keys = λ a b e. eq-eqb (kind_number a) (kind_number b) e }
 
 -- Objects.
 abbrev pub object_key : Content → ℕ × List ℕ
@@ -101,10 +101,10 @@ object_key x = (kind_number x.object.kind, x.object.name.bytes)
 pub object_keyed : Keyed same_object object_key
 unfolding same_object same_kind alike
 object_keyed = record {
-  to-keys = λ x y e.
+  to_keys = λ x y e.
       let p = both_true (eqb (kind_number x.object.kind) (kind_number y.object.kind)) (same x.object.name.bytes y.object.name.bytes) e in
       λ i. (eqb-true (kind_number x.object.kind) (kind_number y.object.kind) p.0 i, same_equal x.object.name.bytes y.object.name.bytes p.1 i);
-  from-keys = λ x y e.
+  from_keys = λ x y e.
       both_of (eqb (kind_number x.object.kind) (kind_number y.object.kind)) (same x.object.name.bytes y.object.name.bytes)
       (eq-eqb (kind_number x.object.kind) (kind_number y.object.kind) (ap (λ (k : ℕ × List ℕ). k.0) e))
       (ap (same x.object.name.bytes) (sym (ap (λ (k : ℕ × List ℕ). k.1) e)) ∙ same_self x.object.name.bytes);

@@ -13,7 +13,7 @@ use Rattle.meaning.specs.Syntax.{Word}
 use Rattle.meaning.specs.Words.{alike}
 use Rattle.meaning.specs.Resolving.{Taken, Resolved, end, resolved, how_many_values}
 use Rattle.comparing.specs.Contents.{Step, same_step, how_often, step_to}
-use Rattle.comparing.proofs.Steps.{steps_of, step_number, step_numbers, AllNames, names-end, names_more, Numbering}
+use Rattle.comparing.proofs.Steps.{steps_of, step_number, step_numbers, AllNames, names_end, names_more, Numbering}
 use Rattle.comparing.proofs.Alikes.{same_truth, both_true, both_of}
 use Rattle.comparing.proofs.Rooting.{Coded, steps_length}
 
@@ -56,11 +56,11 @@ step_coded N c e s t f g =
 -- All steps to values are such, where there are at most 2,048.
 pub data AllFit (N : Word → Type 0) : List Step → Type 0 where
   fit_none : AllFit N []
-  fit-more : {s : Step} {ss : List Step} → Fit N s → AllFit N ss → AllFit N (s ∷ ss)
+  fit_more : {s : Step} {ss : List Step} → Fit N s → AllFit N ss → AllFit N (s ∷ ss)
 
 fit_append : {N : Word → Type 0} (ss ts : List Step) → AllFit N ss → AllFit N ts → AllFit N (ss ++ ts)
 fit_append [] ts a b = b
-fit_append (s ∷ ss) ts (fit-more x a) b = fit-more x (fit_append ss ts a b)
+fit_append (s ∷ ss) ts (fit_more x a) b = fit_more x (fit_append ss ts a b)
 
 often_most : (t : Word) (b : List Word) → how_often t b ≤ length b
 unfolding how_often
@@ -73,13 +73,13 @@ all_fit N end b w h = fit_none
 all_fit N (resolved t us rest) b (names_more i j w) h =
     let e = often_most t.definition.name b in
     let near : how_often t.definition.name b < 2048 = omega (arith, e, h) in
-    fit-more {s = step_to t b} (record { name = i; position = near })
+    fit_more {s = step_to t b} (record { name = i; position = near })
     (fit_append (steps_of us []) (steps_of rest (t.definition.name ∷ b)) (all_fit N us [] j (omega (arith, h))) (all_fit N rest (t.definition.name ∷ b) w (omega (arith, h))))
 
 pub fit_at : {N : Word → Type 0} (ss : List Step) (d : Step) (i : ℕ) → AllFit N ss → i < length ss → Fit N (get_or ss i d)
 fit_at [] d i a h = absurd (not-suc-le-zero h)
-fit_at (s ∷ ss) d zero (fit-more x a) h = x
-fit_at (s ∷ ss) d (suc i) (fit-more x a) h = fit_at ss d i a (le_of_suc-le-suc h)
+fit_at (s ∷ ss) d zero (fit_more x a) h = x
+fit_at (s ∷ ss) d (suc i) (fit_more x a) h = fit_at ss d i a (le_of_suc-le-suc h)
 
 pub number_at : (c : Word → ℕ) (ss : List Step) (d : Step) (i : ℕ) → i < length ss → get_or (step_numbers c ss) i 0 ≡ step_number c (get_or ss i d)
 unfolding step_numbers

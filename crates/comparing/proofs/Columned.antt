@@ -137,8 +137,8 @@ module _ (ps : List ℕ) (r j : ℕ) (l : List ℕ) (g : j < length ps) (w : Bac
   cut : (i : ℕ) → place_from j (drop j ps) (suc i) ≡ place_from j (here ∷ drop (suc j) ps) (suc i)
   cut i = ap (λ (m : List ℕ). place_from j m (suc i)) (drop-cons ps j 0 g)
 
-  at-cell : (p b : ℕ) → p ≡ here → b ≡ r + suc j → (i : ℕ) → i < length l → get_or (put_back l p b) i 0 ≡ back_number r (place_from j (drop j ps) (suc i))
-  at-cell p b e f i h = by (ℕ_discrete p 0) (ℕ_discrete p (suc i))
+  at_cell : (p b : ℕ) → p ≡ here → b ≡ r + suc j → (i : ℕ) → i < length l → get_or (put_back l p b) i 0 ≡ back_number r (place_from j (drop j ps) (suc i))
+  at_cell p b e f i h = by (ℕ_discrete p 0) (ℕ_discrete p (suc i))
     where
       later : (here ≡ suc i → ⊥) → get_or l i 0 ≡ back_number r (place_from j (drop j ps) (suc i))
       later z = w.cell i h ∙ ap (back_number r) (sym (cut i ∙ place_later j here (suc i) (drop (suc j) ps) z))
@@ -152,13 +152,13 @@ module _ (ps : List ℕ) (r j : ℕ) (l : List ℕ) (g : j < length ps) (w : Bac
       by (no z) (no q) =
           ap (λ (m : List ℕ). get_or m i 0) (sym (put_one l p b z)) ∙ get_or-set_other l (p - 1) i b 0 (λ y. q (omega (arith, y, z))) ∙ later (λ y. q (e ∙ y))
 
-  backs-step : (p b : ℕ) → p ≡ here → b ≡ r + suc j → Backs ps r j (put_back l p b)
-  backs-step p b e f = record { cell = λ i h. at-cell p b e f i (omega (arith, put_length l p b, h)) }
+  backs_step : (p b : ℕ) → p ≡ here → b ≡ r + suc j → Backs ps r j (put_back l p b)
+  backs_step p b e f = record { cell = λ i h. at_cell p b e f i (omega (arith, put_length l p b, h)) }
 
 pub backs_next : (ps : List ℕ) (r k : ℕ) (l m : List ℕ) (p b : ℕ) → Backs ps r k l → 0 < k → k ≤ length ps → p ≡ get_or ps (k - 1) 0 → b ≡ (r + (k - 1)) + 1 → m ≡ put_back l p b → Backs ps r (k - 1) m
 backs_next ps r k l m p b w h g e f q =
     let same : k ≡ suc (k - 1) = omega (arith, h) in
-    subst (Backs ps r (k - 1)) (sym q) (backs-step ps r (k - 1) l (omega (arith, h, g)) (subst (λ (n : ℕ). Backs ps r n l) same w) p b e (f ∙ one_more r (k - 1)))
+    subst (Backs ps r (k - 1)) (sym q) (backs_step ps r (k - 1) l (omega (arith, h, g)) (subst (λ (n : ℕ). Backs ps r n l) same w) p b e (f ∙ one_more r (k - 1)))
   where
     one_more : (a b : ℕ) → (a + b) + 1 ≡ a + suc b
     one_more a b = omega arith

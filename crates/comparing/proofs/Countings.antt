@@ -48,9 +48,9 @@ module _ (s v : List ℕ) (i : ℕ) (s2 v2 : List ℕ) (k p p2 : ℕ) (m n : Num
   unfolding row_float
   these = ap₂ equal (f ∙ ap (λ (q : ℕ). float_of_step (step_at s q)) e) (f2 ∙ ap (λ (q : ℕ). float_of_step (step_at s2 q)) e2)
 
-  pub floats-apart : num_at_most m n ≡ false → false ≡ equal (row_float s v i) (row_float s2 v2 k)
+  pub floats_apart : num_at_most m n ≡ false → false ≡ equal (row_float s v i) (row_float s2 v2 k)
   unfolding equal
-  floats-apart t = sym (ap (λ (c : Bool). both c (num_at_most n m)) t) ∙ these
+  floats_apart t = sym (ap (λ (c : Bool). both c (num_at_most n m)) t) ∙ these
 
   pub floats_equal : (r : Bool) → num_at_most m n ≡ true → r ≡ num_at_most n m → r ≡ equal (row_float s v i) (row_float s2 v2 k)
   unfolding equal
@@ -66,79 +66,79 @@ module _ (s d v : List ℕ) (i : ℕ) (s2 d2 v2 : List ℕ) (k : ℕ) where
   abbrev keys : Bool
   keys = same (row_key s d v i) (row_key s2 d2 v2 k)
 
-  pub sorts-differ : eqb a b ≡ false → false ≡ keys
+  pub sorts_differ : eqb a b ≡ false → false ≡ keys
   unfolding row_key same
-  sorts-differ e = sym (ap (λ (c : Bool). both c (same (within a s d v i) (within b s2 d2 v2 k))) e)
+  sorts_differ e = sym (ap (λ (c : Bool). both c (same (within a s d v i) (within b s2 d2 v2 k))) e)
 
   -- Of one sort: what is within it decides.
-  one-sort : eqb a b ≡ true → (x y : List ℕ) → within a s d v i ≡ x → within a s2 d2 v2 k ≡ y → same x y ≡ keys
+  one_sort : eqb a b ≡ true → (x y : List ℕ) → within a s d v i ≡ x → within a s2 d2 v2 k ≡ y → same x y ≡ keys
   unfolding row_key same
-  one-sort e x y p q =
+  one_sort e x y p q =
       sym (ap (λ (c : Bool). both c (same (within a s d v i) (within b s2 d2 v2 k))) e ∙ ap (λ (n : ℕ). same (within a s d v i) (within n s2 d2 v2 k)) (sym (eqb-true a b e)) ∙ ap₂ same p q)
 
   as_number : (s d v : List ℕ) (i : ℕ) (n : ℕ) → n ≡ 0 → within n s d v i ≡ cell_of v 9 i 4 ∷ cell_of v 9 i 5 ∷ []
   unfolding within
   as_number s d v i n e = ap (λ (m : ℕ). within m s d v i) e
 
-  as-truth : (s d v : List ℕ) (i : ℕ) (n : ℕ) → n ≡ 1 → within n s d v i ≡ cell_of v 9 i 5 ∷ []
+  as_truth : (s d v : List ℕ) (i : ℕ) (n : ℕ) → n ≡ 1 → within n s d v i ≡ cell_of v 9 i 5 ∷ []
   unfolding within
-  as-truth s d v i n e = ap (λ (m : ℕ). within m s d v i) e
+  as_truth s d v i n e = ap (λ (m : ℕ). within m s d v i) e
 
-  as-auto : (s d v : List ℕ) (i : ℕ) (n : ℕ) → n ≡ 2 → within n s d v i ≡ []
+  as_auto : (s d v : List ℕ) (i : ℕ) (n : ℕ) → n ≡ 2 → within n s d v i ≡ []
   unfolding within
-  as-auto s d v i n e = ap (λ (m : ℕ). within m s d v i) e
+  as_auto s d v i n e = ap (λ (m : ℕ). within m s d v i) e
 
-  as-reference : (s d v : List ℕ) (i : ℕ) (n : ℕ) → n ≡ 5 → within n s d v i ≡ row_kind d v i ∷ row_name s v 9 7 i
+  as_reference : (s d v : List ℕ) (i : ℕ) (n : ℕ) → n ≡ 5 → within n s d v i ≡ row_kind d v i ∷ row_name s v 9 7 i
   unfolding within
-  as-reference s d v i n e = ap (λ (m : ℕ). within m s d v i) e
+  as_reference s d v i n e = ap (λ (m : ℕ). within m s d v i) e
 
-  as-word : (s d v : List ℕ) (i : ℕ) (n : ℕ) → (n ≡ 0 → ⊥) → (n ≡ 1 → ⊥) → (n ≡ 2 → ⊥) → (n ≡ 5 → ⊥) → (n ≡ 6 → ⊥) → within n s d v i ≡ row_name s v 9 7 i
+  as_word : (s d v : List ℕ) (i : ℕ) (n : ℕ) → (n ≡ 0 → ⊥) → (n ≡ 1 → ⊥) → (n ≡ 2 → ⊥) → (n ≡ 5 → ⊥) → (n ≡ 6 → ⊥) → within n s d v i ≡ row_name s v 9 7 i
   unfolding within
-  as-word s d v i n e f g h j =
+  as_word s d v i n e f g h j =
       ap (λ (c : Bool). pick c (cell_of v 9 i 4 ∷ cell_of v 9 i 5 ∷ []) (pick (eqb n 1) (cell_of v 9 i 5 ∷ []) (pick (eqb n 2) [] (pick (eqb n 5) (row_kind d v i ∷ row_name s v 9 7 i) (pick (eqb n 6) (num_key (row_float s v i)) (row_name s v 9 7 i)))))) (ne_eqb n 0 e)
       ∙ ap (λ (c : Bool). pick c (cell_of v 9 i 5 ∷ []) (pick (eqb n 2) [] (pick (eqb n 5) (row_kind d v i ∷ row_name s v 9 7 i) (pick (eqb n 6) (num_key (row_float s v i)) (row_name s v 9 7 i))))) (ne_eqb n 1 f)
       ∙ ap (λ (c : Bool). pick c [] (pick (eqb n 5) (row_kind d v i ∷ row_name s v 9 7 i) (pick (eqb n 6) (num_key (row_float s v i)) (row_name s v 9 7 i)))) (ne_eqb n 2 g)
       ∙ ap (λ (c : Bool). pick c (row_kind d v i ∷ row_name s v 9 7 i) (pick (eqb n 6) (num_key (row_float s v i)) (row_name s v 9 7 i))) (ne_eqb n 5 h)
       ∙ ap (λ (c : Bool). pick c (num_key (row_float s v i)) (row_name s v 9 7 i)) (ne_eqb n 6 j)
 
-  as-float : (s d v : List ℕ) (i : ℕ) (n : ℕ) → n ≡ 6 → within n s d v i ≡ num_key (row_float s v i)
+  as_float : (s d v : List ℕ) (i : ℕ) (n : ℕ) → n ≡ 6 → within n s d v i ≡ num_key (row_float s v i)
   unfolding within
-  as-float s d v i n e = ap (λ (m : ℕ). within m s d v i) e
+  as_float s d v i n e = ap (λ (m : ℕ). within m s d v i) e
 
   both_last : (c : Bool) → c ≡ both c true
   both_last true = refl
   both_last false = refl
 
-  pub signs-differ : eqb a b ≡ true → a ≡ 0 → eqb (cell_of v 9 i 4) (cell_of v2 9 k 4) ≡ false → false ≡ keys
+  pub signs_differ : eqb a b ≡ true → a ≡ 0 → eqb (cell_of v 9 i 4) (cell_of v2 9 k 4) ≡ false → false ≡ keys
   unfolding same
-  signs-differ e z f =
+  signs_differ e z f =
       sym (ap (λ (c : Bool). both c (both (eqb (cell_of v 9 i 5) (cell_of v2 9 k 5)) true)) f)
-      ∙ one-sort e (cell_of v 9 i 4 ∷ cell_of v 9 i 5 ∷ []) (cell_of v2 9 k 4 ∷ cell_of v2 9 k 5 ∷ []) (as_number s d v i a z) (as_number s2 d2 v2 k a z)
+      ∙ one_sort e (cell_of v 9 i 4 ∷ cell_of v 9 i 5 ∷ []) (cell_of v2 9 k 4 ∷ cell_of v2 9 k 5 ∷ []) (as_number s d v i a z) (as_number s2 d2 v2 k a z)
 
-  pub number-keys : (r : Bool) → eqb a b ≡ true → a ≡ 0 → eqb (cell_of v 9 i 4) (cell_of v2 9 k 4) ≡ true → r ≡ eqb (cell_of v 9 i 5) (cell_of v2 9 k 5) → r ≡ keys
+  pub number_keys : (r : Bool) → eqb a b ≡ true → a ≡ 0 → eqb (cell_of v 9 i 4) (cell_of v2 9 k 4) ≡ true → r ≡ eqb (cell_of v 9 i 5) (cell_of v2 9 k 5) → r ≡ keys
   unfolding same
-  number-keys r e z f q =
+  number_keys r e z f q =
       q ∙ both_last (eqb (cell_of v 9 i 5) (cell_of v2 9 k 5)) ∙ sym (ap (λ (c : Bool). both c (both (eqb (cell_of v 9 i 5) (cell_of v2 9 k 5)) true)) f)
-      ∙ one-sort e (cell_of v 9 i 4 ∷ cell_of v 9 i 5 ∷ []) (cell_of v2 9 k 4 ∷ cell_of v2 9 k 5 ∷ []) (as_number s d v i a z) (as_number s2 d2 v2 k a z)
+      ∙ one_sort e (cell_of v 9 i 4 ∷ cell_of v 9 i 5 ∷ []) (cell_of v2 9 k 4 ∷ cell_of v2 9 k 5 ∷ []) (as_number s d v i a z) (as_number s2 d2 v2 k a z)
 
-  pub truth-keys : (r : Bool) → eqb a b ≡ true → a ≡ 1 → r ≡ eqb (cell_of v 9 i 5) (cell_of v2 9 k 5) → r ≡ keys
+  pub truth_keys : (r : Bool) → eqb a b ≡ true → a ≡ 1 → r ≡ eqb (cell_of v 9 i 5) (cell_of v2 9 k 5) → r ≡ keys
   unfolding same
-  truth-keys r e z q =
-      q ∙ both_last (eqb (cell_of v 9 i 5) (cell_of v2 9 k 5)) ∙ one-sort e (cell_of v 9 i 5 ∷ []) (cell_of v2 9 k 5 ∷ []) (as-truth s d v i a z) (as-truth s2 d2 v2 k a z)
+  truth_keys r e z q =
+      q ∙ both_last (eqb (cell_of v 9 i 5) (cell_of v2 9 k 5)) ∙ one_sort e (cell_of v 9 i 5 ∷ []) (cell_of v2 9 k 5 ∷ []) (as_truth s d v i a z) (as_truth s2 d2 v2 k a z)
 
-  pub auto-keys : eqb a b ≡ true → a ≡ 2 → true ≡ keys
+  pub auto_keys : eqb a b ≡ true → a ≡ 2 → true ≡ keys
   unfolding same
-  auto-keys e z = one-sort e [] [] (as-auto s d v i a z) (as-auto s2 d2 v2 k a z)
+  auto_keys e z = one_sort e [] [] (as_auto s d v i a z) (as_auto s2 d2 v2 k a z)
 
-  pub reference-keys : (r : Bool) → eqb a b ≡ true → a ≡ 5 → r ≡ both (eqb (row_kind d v i) (row_kind d2 v2 k)) (same (row_name s v 9 7 i) (row_name s2 v2 9 7 k)) → r ≡ keys
+  pub reference_keys : (r : Bool) → eqb a b ≡ true → a ≡ 5 → r ≡ both (eqb (row_kind d v i) (row_kind d2 v2 k)) (same (row_name s v 9 7 i) (row_name s2 v2 9 7 k)) → r ≡ keys
   unfolding same
-  reference-keys r e z q = q ∙ one-sort e (row_kind d v i ∷ row_name s v 9 7 i) (row_kind d2 v2 k ∷ row_name s2 v2 9 7 k) (as-reference s d v i a z) (as-reference s2 d2 v2 k a z)
+  reference_keys r e z q = q ∙ one_sort e (row_kind d v i ∷ row_name s v 9 7 i) (row_kind d2 v2 k ∷ row_name s2 v2 9 7 k) (as_reference s d v i a z) (as_reference s2 d2 v2 k a z)
 
-  pub word-keys : (r : Bool) → eqb a b ≡ true → (a ≡ 0 → ⊥) → (a ≡ 1 → ⊥) → (a ≡ 2 → ⊥) → (a ≡ 5 → ⊥) → (a ≡ 6 → ⊥) → r ≡ same (row_name s v 9 7 i) (row_name s2 v2 9 7 k) → r ≡ keys
-  word-keys r e f g h j m q = q ∙ one-sort e (row_name s v 9 7 i) (row_name s2 v2 9 7 k) (as-word s d v i a f g h j m) (as-word s2 d2 v2 k a f g h j m)
+  pub word_keys : (r : Bool) → eqb a b ≡ true → (a ≡ 0 → ⊥) → (a ≡ 1 → ⊥) → (a ≡ 2 → ⊥) → (a ≡ 5 → ⊥) → (a ≡ 6 → ⊥) → r ≡ same (row_name s v 9 7 i) (row_name s2 v2 9 7 k) → r ≡ keys
+  word_keys r e f g h j m q = q ∙ one_sort e (row_name s v 9 7 i) (row_name s2 v2 9 7 k) (as_word s d v i a f g h j m) (as_word s2 d2 v2 k a f g h j m)
 
-  pub float-keys : (r : Bool) → eqb a b ≡ true → a ≡ 6 → r ≡ equal (row_float s v i) (row_float s2 v2 k) → r ≡ keys
-  float-keys r e z q = q ∙ equal_keys (row_float s v i) (row_float s2 v2 k) ∙ one-sort e (num_key (row_float s v i)) (num_key (row_float s2 v2 k)) (as-float s d v i a z) (as-float s2 d2 v2 k a z)
+  pub float_keys : (r : Bool) → eqb a b ≡ true → a ≡ 6 → r ≡ equal (row_float s v i) (row_float s2 v2 k) → r ≡ keys
+  float_keys r e z q = q ∙ equal_keys (row_float s v i) (row_float s2 v2 k) ∙ one_sort e (num_key (row_float s v i)) (num_key (row_float s2 v2 k)) (as_float s d v i a z) (as_float s2 d2 v2 k a z)
 
 pub kind_low : (d v : List ℕ) (i j c : ℕ) → j ≡ cell_of v 9 i 0 → c ≡ cell_of d 13 j 12 → (r : ℕ) → r ≡ c - 22 → r ≡ row_kind d v i
 unfolding row_kind

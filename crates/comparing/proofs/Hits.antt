@@ -14,13 +14,13 @@ use Rattle.rows.specs.Table.{cell_of}
 use Rattle.rows.specs.Search.{row_name, has_key, find_from}
 use Rattle.rows.specs.declared.Found.{Found}
 use Rattle.rows.specs.declared.Found.TheVariants.{At, Nothing}
-use Rattle.rows.proofs.Searches.{find-stop, find_more, find-end}
+use Rattle.rows.proofs.Searches.{find_stop, find_more, find_end}
 use Rattle.indexes.specs.Indexing.{has_word}
 use Rattle.meaning.specs.Kinds.{kind_number, same_kind}
 use Rattle.meaning.specs.Words.{alike}
 use Rattle.comparing.specs.Lists.{the_first}
 use Rattle.comparing.specs.Contents.{Content, same_object}
-use Rattle.comparing.specs.Standing.{ObjectIs, ObjectsAt, no-objects, some-objects}
+use Rattle.comparing.specs.Standing.{ObjectIs, ObjectsAt, no_objects, some_objects}
 use Rattle.comparing.proofs.Alikes.{keyed_flip, object_keyed}
 
 -- What is found is the row of the content, and nothing is none.
@@ -53,14 +53,14 @@ module _ (s o : List ℕ) (x : Content) where
 
   -- THE THEOREM.
   pub object_hit : (n i : ℕ) (ys : List Content) → n ≡ i + length ys → ObjectsAt s o i ys → Hit (the_first (same_object x) ys) (find_from asks n i)
-  object_hit n i [] e no-objects = subst (λ (f : Found). Hit (the_first (same_object x) []) f) (sym (find-end asks n i (omega (arith, e)))) (subst (λ (c : Option Content). Hit c Nothing) (sym the_none) no_hit)
-  object_hit n i (y ∷ ys) e (some-objects r t) = by (same_object x y) refl (object_hit n (i + 1) ys (omega (arith, e)) t)
+  object_hit n i [] e no_objects = subst (λ (f : Found). Hit (the_first (same_object x) []) f) (sym (find_end asks n i (omega (arith, e)))) (subst (λ (c : Option Content). Hit c Nothing) (sym the_none) no_hit)
+  object_hit n i (y ∷ ys) e (some_objects r t) = by (same_object x y) refl (object_hit n (i + 1) ys (omega (arith, e)) t)
     where
       inside : i < n
       inside = omega (arith, e)
 
       by : (b : Bool) → same_object x y ≡ b → Hit (the_first (same_object x) ys) (find_from asks n (i + 1)) → Hit (the_first (same_object x) (y ∷ ys)) (find_from asks n i)
-      by true q h = subst (λ (f : Found). Hit (the_first (same_object x) (y ∷ ys)) f) (ap At r.row ∙ sym (find-stop asks n i inside (asks_same i y r ∙ q)))
+      by true q h = subst (λ (f : Found). Hit (the_first (same_object x) (y ∷ ys)) f) (ap At r.row ∙ sym (find_stop asks n i inside (asks_same i y r ∙ q)))
           (subst (λ (c : Option Content). Hit c (At y.object.row)) (sym (the_here y ys q)) (a_hit y))
       by false q h = subst (λ (f : Found). Hit (the_first (same_object x) (y ∷ ys)) f) (sym (find_more asks n i inside (asks_same i y r ∙ q)))
           (subst (λ (c : Option Content). Hit c (find_from asks n (i + 1))) (sym (the_later y ys q)) h)

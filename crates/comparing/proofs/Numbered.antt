@@ -17,7 +17,7 @@ use Rattle.sorting.specs.Sorted.{Rising, Rising-from}
 use Rattle.indexes.specs.Numbers.{name_number, summary_of}
 use Rattle.indexes.specs.Indexing.{entry_of, cell_number, least_at, Indexed, rank, name_rank, Ranks}
 use Rattle.indexes.proofs.Digits.{Bytes, number_same}
-use Rattle.indexes.proofs.Names.{Before, by-summary, by_number, at_more, name_short, name_bytes, cell-no-less, cell_below}
+use Rattle.indexes.proofs.Names.{Before, by_summary, by_number, at_more, name_short, name_bytes, cell_no_less, cell_below}
 use Rattle.indexes.proofs.Places.{Place, among_place}
 use Rattle.meaning.specs.Syntax.{Word}
 use Rattle.meaning.specs.Words.{alike}
@@ -85,47 +85,47 @@ abbrev pub Cells : List ℕ → Type 0
 Cells t = (j : ℕ) → get_or t j 0 < 18446744073709551616
 
 module _ (s t : List ℕ) (w c m : ℕ) (x : List ℕ) where
-  pub name-more : (a b : List ℕ) → Bytes a → length a ≤ 18446744073709551616 → Before a b → name_rank s t w c m x a ≤ name_rank s t w c m x b
+  pub name_more : (a b : List ℕ) → Bytes a → length a ≤ 18446744073709551616 → Before a b → name_rank s t w c m x a ≤ name_rank s t w c m x b
   unfolding name_rank
-  name-more a b d l h = rank_more (map (cell_number s t w c m) x) (least_at a 0) (least_at b 0) (at_more a b d l h)
+  name_more a b d l h = rank_more (map (cell_number s t w c m) x) (least_at a 0) (least_at b 0) (at_more a b d l h)
 
-  pub name-length : (a : List ℕ) → name_rank s t w c m x a ≤ length x
+  pub name_length : (a : List ℕ) → name_rank s t w c m x a ≤ length x
   unfolding name_rank
-  name-length a = omega (arith, rank_length (map (cell_number s t w c m) x) (least_at a 0), length-map x (cell_number s t w c m))
+  name_length a = omega (arith, rank_length (map (cell_number s t w c m) x) (least_at a 0), length-map x (cell_number s t w c m))
 
   -- A row's name stands before a larger one.
-  pub name-less : (n i : ℕ) (b : List ℕ) → Indexed s t w n c m x → n ≤ 65536 → Bytes s → length s ≤ 18446744073709551616 → Cells t → i < n → Before (row_name s t w m i) b
+  pub name_less : (n i : ℕ) (b : List ℕ) → Indexed s t w n c m x → n ≤ 65536 → Bytes s → length s ≤ 18446744073709551616 → Cells t → i < n → Before (row_name s t w m i) b
       → name_rank s t w c m x (row_name s t w m i) < name_rank s t w c m x b
   unfolding name_rank Rising
-  name-less n i b d few u l g h less = by (among_place x (entry_of s t w m i) (d.all i h))
+  name_less n i b d few u l g h less = by (among_place x (entry_of s t w m i) (d.all i h))
     where
       by : Place x (entry_of s t w m i) → rank (map (cell_number s t w c m) x) (least_at (row_name s t w m i) 0) < rank (map (cell_number s t w c m) x) (least_at b 0)
       by p =
           let own : get_or (map (cell_number s t w c m) x) p.at 0 ≡ cell_number s t w c m (entry_of s t w m i) = number_at (cell_number s t w c m) x p.at p.inside ∙ ap (cell_number s t w c m) p.cell in
           rank_between 0 (map (cell_number s t w c m) x) (least_at (row_name s t w m i) 0) (least_at b 0) p.at d.rising
-          (omega (arith, length-map x (cell_number s t w c m), p.inside)) (omega (arith, own, cell-no-less s t w c m i (omega arith))) (omega (arith, own, cell_below s t w c m i b u l g (omega arith) less))
+          (omega (arith, length-map x (cell_number s t w c m), p.inside)) (omega (arith, own, cell_no_less s t w c m i (omega arith))) (omega (arith, own, cell_below s t w c m i b u l g (omega arith) less))
 
 -- Two texts --------------------------------------------------------------------------------------------------------------------------------
 
 module _ (s d x s2 d2 x2 : List ℕ) where
   -- One of the definitions has this name.
   pub data Named : List ℕ → Type 0 where
-    in-first : (i : ℕ) → i < length x → Named (row_name s d 13 2 i)
-    in-second : (i : ℕ) → i < length x2 → Named (row_name s2 d2 13 2 i)
+    in_first : (i : ℕ) → i < length x → Named (row_name s d 13 2 i)
+    in_second : (i : ℕ) → i < length x2 → Named (row_name s2 d2 13 2 i)
 
   pub record Known (w : Word) : Type 0 where
     pub named : Named w.bytes
     pub bytes : Bytes w.bytes
 
   module _ (p : Index s d x) (q : Index s2 d2 x2) (u : Bytes s) (u2 : Bytes s2) (l : length s ≤ 18446744073709551616) (l2 : length s2 ≤ 18446744073709551616) (e : Cells d) (f : Cells d2) where
-    numbers-less : (a b : List ℕ) → Named a → Before a b → number_of_name s d x s2 d2 x2 a < number_of_name s d x s2 d2 x2 b
+    numbers_less : (a b : List ℕ) → Named a → Before a b → number_of_name s d x s2 d2 x2 a < number_of_name s d x s2 d2 x2 b
     unfolding number_of_name
-    numbers-less a b (in-first i h) g =
+    numbers_less a b (in_first i h) g =
         let long : length (row_name s d 13 2 i) ≤ 18446744073709551616 = omega (arith, l, name_short s d 13 2 i) in
-        omega (arith, name-less s d 13 0 2 x (length x) i b p.index p.few u l e h g, name-more s2 d2 13 0 2 x2 (row_name s d 13 2 i) b (name_bytes s d 13 2 i u) long g)
-    numbers-less a b (in-second i h) g =
+        omega (arith, name_less s d 13 0 2 x (length x) i b p.index p.few u l e h g, name_more s2 d2 13 0 2 x2 (row_name s d 13 2 i) b (name_bytes s d 13 2 i u) long g)
+    numbers_less a b (in_second i h) g =
         let long : length (row_name s2 d2 13 2 i) ≤ 18446744073709551616 = omega (arith, l2, name_short s2 d2 13 2 i) in
-        omega (arith, name-less s2 d2 13 0 2 x2 (length x2) i b q.index q.few u2 l2 f h g, name-more s d 13 0 2 x (row_name s2 d2 13 2 i) b (name_bytes s2 d2 13 2 i u2) long g)
+        omega (arith, name_less s2 d2 13 0 2 x2 (length x2) i b q.index q.few u2 l2 f h g, name_more s d 13 0 2 x (row_name s2 d2 13 2 i) b (name_bytes s2 d2 13 2 i u2) long g)
 
     -- THE THEOREM: equal numbers are equal names.
     pub numbered : Numbering Known (λ w. number_of_name s d x s2 d2 x2 w.bytes)
@@ -142,10 +142,10 @@ module _ (s d x s2 d2 x2 : List ℕ) where
           where
             by : Dec (summary_of a.bytes < summary_of b.bytes) → Dec (summary_of b.bytes < summary_of a.bytes) → Dec (name_number a.bytes < name_number b.bytes)
                 → Dec (name_number b.bytes < name_number a.bytes) → a.bytes ≡ b.bytes
-            by (yes h) i g j = absurd (omega (arith, z, numbers-less a.bytes b.bytes k.named (by-summary h)))
-            by (no h) (yes i) g j = absurd (omega (arith, z, numbers-less b.bytes a.bytes m.named (by-summary i)))
-            by (no h) (no i) (yes g) j = absurd (omega (arith, z, numbers-less a.bytes b.bytes k.named (by_number (omega arith) g)))
-            by (no h) (no i) (no g) (yes j) = absurd (omega (arith, z, numbers-less b.bytes a.bytes m.named (by_number (omega arith) j)))
+            by (yes h) i g j = absurd (omega (arith, z, numbers_less a.bytes b.bytes k.named (by_summary h)))
+            by (no h) (yes i) g j = absurd (omega (arith, z, numbers_less b.bytes a.bytes m.named (by_summary i)))
+            by (no h) (no i) (yes g) j = absurd (omega (arith, z, numbers_less a.bytes b.bytes k.named (by_number (omega arith) g)))
+            by (no h) (no i) (no g) (yes j) = absurd (omega (arith, z, numbers_less b.bytes a.bytes m.named (by_number (omega arith) j)))
             by (no h) (no i) (no g) (no j) = number_same a.bytes b.bytes k.bytes m.bytes (omega arith)
 
 -- What the code finds.
@@ -155,4 +155,4 @@ number_found s d x s2 d2 x2 l a b p q f g = ap₂ ◌+◌ (f (length x) p.index 
 
 pub rank_inside : (s d x l : List ℕ) (a : ℕ) → Index s d x → Ranks s d 13 0 2 x l a → a ≤ 65536
 unfolding Ranks
-rank_inside s d x l a p f = omega (arith, f (length x) p.index p.few, name-length s d 13 0 2 x l, p.few)
+rank_inside s d x l a p f = omega (arith, f (length x) p.index p.few, name_length s d 13 0 2 x l, p.few)

@@ -92,11 +92,11 @@ path_of_value [] k w e = absurd (false≢true (ap there e))
     there : Option Placed → Bool
     there none = false
     there (some v) = true
-path_of_value (v ∷ ws) zero w e = ap the-path (sym e)
+path_of_value (v ∷ ws) zero w e = ap the_path (sym e)
   where
-    the-path : Option Placed → Path
-    the-path none = []
-    the-path (some u) = u.path
+    the_path : Option Placed → Path
+    the_path none = []
+    the_path (some u) = u.path
 path_of_value (v ∷ ws) (suc k) w e = path_of_value ws k w e
 
 -- The test of a path and the number of a partner say the same.

@@ -32,9 +32,9 @@ module _ (s d v s2 d2 v2 : List ℕ) (x y : ℕ) where
   abbrev one : ℕ → ℕ → List Difference
   one b r = first_record s d v s2 d2 v2 x y b r
 
-  pub also-alone : (f g : Found) (b r : ℕ) → b ≡ 0 → ToldMore f (record { first_object = x; second_object = y; first_value = r + 1; second_value = 0 }) g → ToldAlso f (one b r) g
+  pub also_alone : (f g : Found) (b r : ℕ) → b ≡ 0 → ToldMore f (record { first_object = x; second_object = y; first_value = r + 1; second_value = 0 }) g → ToldAlso f (one b r) g
   unfolding first_record
-  also-alone f g b r e m ds t =
+  also_alone f g b r e m ds t =
       subst (λ (l : List Difference). Told (ds ++ l) g)
       (sym (ap (λ (c : Bool). pick c (record { first_object = x; second_object = y; first_value = r + 1; second_value = 0 } ∷ [])
       (pick (same (row_key s d v r) (row_key s2 d2 v2 (b - 1))) [] (record { first_object = x; second_object = y; first_value = r + 1; second_value = b } ∷ []))) (eq-eqb b 0 e))) (m ds t)
@@ -47,14 +47,14 @@ module _ (s d v s2 d2 v2 : List ℕ) (x y : ℕ) where
       (pick (same (row_key s d v r) (row_key s2 d2 v2 (b - 1))) [] (record { first_object = x; second_object = y; first_value = r + 1; second_value = b } ∷ []))) (ne_eqb b 0 n)
       ∙ ap (λ (z : Bool). pick z [] (record { first_object = x; second_object = y; first_value = r + 1; second_value = b } ∷ [])) (sym e)
 
-  pub also-same : (f : Found) (b r : ℕ) (c : Bool) → (b ≡ 0 → ⊥) → c ≡ same (row_key s d v r) (row_key s2 d2 v2 (b - 1)) → c ≡ true → ToldAlso f (one b r) f
-  also-same f b r c n e q ds t =
+  pub also_same : (f : Found) (b r : ℕ) (c : Bool) → (b ≡ 0 → ⊥) → c ≡ same (row_key s d v r) (row_key s2 d2 v2 (b - 1)) → c ≡ true → ToldAlso f (one b r) f
+  also_same f b r c n e q ds t =
       subst (λ (l : List Difference). Told (ds ++ l) f)
       (sym (partnered b r c n e ∙ ap (λ (z : Bool). pick z [] (record { first_object = x; second_object = y; first_value = r + 1; second_value = b } ∷ [])) q)) (also_none f ds t)
 
-  pub also-both : (f g : Found) (b r : ℕ) (c : Bool) → (b ≡ 0 → ⊥) → c ≡ same (row_key s d v r) (row_key s2 d2 v2 (b - 1)) → c ≡ false
+  pub also_both : (f g : Found) (b r : ℕ) (c : Bool) → (b ≡ 0 → ⊥) → c ≡ same (row_key s d v r) (row_key s2 d2 v2 (b - 1)) → c ≡ false
       → ToldMore f (record { first_object = x; second_object = y; first_value = r + 1; second_value = b }) g → ToldAlso f (one b r) g
-  also-both f g b r c n e q m ds t =
+  also_both f g b r c n e q m ds t =
       subst (λ (l : List Difference). Told (ds ++ l) g)
       (sym (partnered b r c n e ∙ ap (λ (z : Bool). pick z [] (record { first_object = x; second_object = y; first_value = r + 1; second_value = b } ∷ [])) q)) (m ds t)
 
@@ -74,9 +74,9 @@ module _ (s d v s2 d2 v2 : List ℕ) (x y : ℕ) where
       let b : r + 0 ≡ r = omega arith in
       record { inside = omega arith; few = h; left = λ g t. subst (λ (l : List Difference). ToldAlso f l g) (λ i. first_records s d v s2 d2 v2 back x y (a i) (b i) 0) t }
 
-  pub gathering-next : (back : List ℕ) (n r : ℕ) (f all next : Found) (k b : ℕ) → Gathering back n r f all k → k < n → b ≡ get_or back k 0 → ToldAlso all (one b (r + k)) next → Gathering back n r f next (k + 1)
+  pub gathering_next : (back : List ℕ) (n r : ℕ) (f all next : Found) (k b : ℕ) → Gathering back n r f all k → k < n → b ≡ get_or back k 0 → ToldAlso all (one b (r + k)) next → Gathering back n r f next (k + 1)
   unfolding first_records
-  gathering-next back n r f all next k b w h e t =
+  gathering_next back n r f all next k b w h e t =
       let m : n - k ≡ suc (n - (k + 1)) = omega (arith, h) in
       let p : (r + k) + 1 ≡ r + (k + 1) = omega arith in
       let q : one b (r + k) ++ rest back n r (k + 1) ≡ rest back n r k =

@@ -173,7 +173,7 @@ partners_at os ss before (o ∷ os2) (t ∷ ss2) (suc k) h l =
 
 -- Row i of some values: its path is its owner's with its step behind it.
 pub data Rooted (p : ℕ → Path) (st : ℕ → Step) (i : ℕ) : ℕ → Type 0 where
-  of-the-object : p i ≡ [] ++ (st i ∷ []) → Rooted p st i 0
+  of_the_object : p i ≡ [] ++ (st i ∷ []) → Rooted p st i 0
   of_row : (j : ℕ) → j < i → p i ≡ p j ++ (st i ∷ []) → Rooted p st i (suc j)
 
 -- Numbers for the values of two objects, of paths p and p2 and steps st and st2.
@@ -186,7 +186,7 @@ pub record Numbers (os ss os2 ss2 : List ℕ) (p p2 : ℕ → Path) (st st2 : �
   pub apart : (i j : ℕ) → i < length os → j < length os → same_path (p i) (p j) ≡ true → i ≡ j
 
 never_empty : (p : ℕ → Path) (st : ℕ → Step) (i o : ℕ) → Rooted p st i o → same_path [] (p i) ≡ true → ⊥
-never_empty p st i o (of-the-object e) h = false≢true (sym (none_longer [] (st i)) ∙ ap (same_path []) (sym e) ∙ h)
+never_empty p st i o (of_the_object e) h = false≢true (sym (none_longer [] (st i)) ∙ ap (same_path []) (sym e) ∙ h)
 never_empty p st i o (of_row j l e) h = false≢true (sym (none_longer (p j) (st i)) ∙ ap (same_path []) (sym e) ∙ h)
 
 -- Two rows with the same path have owners with the same path, or the object, and the same step.
@@ -209,8 +209,8 @@ module _ (os ss os2 ss2 : List ℕ) (p p2 : ℕ → Path) (st st2 : ℕ → Step
     pub only : (i : ℕ) → i < length os → same_path (p i) (p2 k) ≡ true → P k ≡ suc i
 
   -- The row that was found for the owner o and the step of row k.
-  hit-row : (o k i : ℕ) → step_from 0 os ss o (get_or ss2 k 0) ≡ suc i → Has os ss o (get_or ss2 k 0) i
-  hit-row o k i e =
+  hit_row : (o k i : ℕ) → step_from 0 os ss o (get_or ss2 k 0) ≡ suc i → Has os ss o (get_or ss2 k 0) i
+  hit_row o k i e =
       let h = found_hit 0 os ss o (get_or ss2 k 0) i e in
       let q : h.row ≡ i = let z = h.place in omega (arith, z) in
       subst (Has os ss o (get_or ss2 k 0)) q h.has
@@ -218,16 +218,16 @@ module _ (os ss os2 ss2 : List ℕ) (p p2 : ℕ → Path) (st st2 : ℕ → Step
   step_same : (k i o : ℕ) → k < length os2 → Has os ss o (get_or ss2 k 0) i → same_step (st i) (st2 k) ≡ true
   step_same k i o h x = sym (n.codes i k x.inside h) ∙ eq-eqb (get_or ss i 0) (get_or ss2 k 0) x.step
 
-  has-row : (k i o : ℕ) → k < length os2 → i < length os → get_or os i 0 ≡ o → same_step (st i) (st2 k) ≡ true → Has os ss o (get_or ss2 k 0) i
-  has-row k i o h g e s = record { inside = g; owner = e; step = eqb-true (get_or ss i 0) (get_or ss2 k 0) (n.codes i k g h ∙ s) }
+  has_row : (k i o : ℕ) → k < length os2 → i < length os → get_or os i 0 ≡ o → same_step (st i) (st2 k) ≡ true → Has os ss o (get_or ss2 k 0) i
+  has_row k i o h g e s = record { inside = g; owner = e; step = eqb-true (get_or ss i 0) (get_or ss2 k 0) (n.codes i k g h ∙ s) }
 
   -- What was found has the same path.
-  top-same : (k i : ℕ) → k < length os2 → p2 k ≡ [] ++ (st2 k ∷ []) → Has os ss 0 (get_or ss2 k 0) i → same_path (p i) (p2 k) ≡ true
+  top_same : (k i : ℕ) → k < length os2 → p2 k ≡ [] ++ (st2 k ∷ []) → Has os ss 0 (get_or ss2 k 0) i → same_path (p i) (p2 k) ≡ true
   unfolding same_path
-  top-same k i h e x = by-owner (subst (Rooted p st i) x.owner (n.rooted i x.inside))
+  top_same k i h e x = by-owner (subst (Rooted p st i) x.owner (n.rooted i x.inside))
     where
       by-owner : Rooted p st i 0 → same_path (p i) (p2 k) ≡ true
-      by-owner (of-the-object q) = parted [] [] (p i) (p2 k) (st i) (st2 k) q e ∙ step_same k i 0 h x
+      by-owner (of_the_object q) = parted [] [] (p i) (p2 k) (st i) (st2 k) q e ∙ step_same k i 0 h x
 
   row_same : (k j a i : ℕ) → k < length os2 → p2 k ≡ p2 j ++ (st2 k ∷ []) → same_path (p a) (p2 j) ≡ true → Has os ss (suc a) (get_or ss2 k 0) i → same_path (p i) (p2 k) ≡ true
   row_same k j a i h e s x = by-owner (subst (Rooted p st i) x.owner (n.rooted i x.inside))
@@ -245,23 +245,23 @@ module _ (os ss os2 ss2 : List ℕ) (p p2 : ℕ → Path) (st st2 : ℕ → Step
           let x = f u e in
           e ∙ ap suc (n.apart u i x.0 g (path_third (p2 k) (p u) (p i) (path_flip (p2 k) (p u) ∙ x.1) (path_flip (p2 k) (p i) ∙ s)))
 
-  top-partner : (k : ℕ) → k < length os2 → p2 k ≡ [] ++ (st2 k ∷ []) → P k ≡ step_from 0 os ss 0 (get_or ss2 k 0) → Partner k
-  top-partner k h e q = record {
-    inside = λ i r. (hit-row 0 k i (sym q ∙ r)).inside;
-    same = λ i r. top-same k i h e (hit-row 0 k i (sym q ∙ r));
-    only = λ i g s. settled k i (λ u r. ((hit-row 0 k u (sym q ∙ r)).inside, top-same k u h e (hit-row 0 k u (sym q ∙ r)))) g s (λ z. missed i g s (get_or os i 0) refl (n.rooted i g) (sym q ∙ z));
+  top_partner : (k : ℕ) → k < length os2 → p2 k ≡ [] ++ (st2 k ∷ []) → P k ≡ step_from 0 os ss 0 (get_or ss2 k 0) → Partner k
+  top_partner k h e q = record {
+    inside = λ i r. (hit_row 0 k i (sym q ∙ r)).inside;
+    same = λ i r. top_same k i h e (hit_row 0 k i (sym q ∙ r));
+    only = λ i g s. settled k i (λ u r. ((hit_row 0 k u (sym q ∙ r)).inside, top_same k u h e (hit_row 0 k u (sym q ∙ r)))) g s (λ z. missed i g s (get_or os i 0) refl (n.rooted i g) (sym q ∙ z));
   }
     where
       missed : (i : ℕ) → i < length os → same_path (p i) (p2 k) ≡ true → (o : ℕ) → get_or os i 0 ≡ o → Rooted p st i o → step_from 0 os ss 0 (get_or ss2 k 0) ≡ 0 → ⊥
-      missed i g s o w (of-the-object r) z =
-          not_missed 0 os ss 0 (get_or ss2 k 0) i n.long (has-row k i 0 h g w (both_true (same_path [] []) (same_step (st i) (st2 k)) (sym (parted [] [] (p i) (p2 k) (st i) (st2 k) r e) ∙ s)).1) z
+      missed i g s o w (of_the_object r) z =
+          not_missed 0 os ss 0 (get_or ss2 k 0) i n.long (has_row k i 0 h g w (both_true (same_path [] []) (same_step (st i) (st2 k)) (sym (parted [] [] (p i) (p2 k) (st i) (st2 k) r e) ∙ s)).1) z
       missed i g s o w (of_row a l r) z =
           never_empty p st a (get_or os a 0) (n.rooted a (omega (arith, l, g)))
           (path_flip [] (p a) ∙ (both_true (same_path (p a) []) (same_step (st i) (st2 k)) (sym (parted (p a) [] (p i) (p2 k) (st i) (st2 k) r e) ∙ s)).0)
 
-  row-partner : (k j : ℕ) → k < length os2 → j < k → p2 k ≡ p2 j ++ (st2 k ∷ []) → P k ≡ under os ss (P j) (get_or ss2 k 0) → Partner j → Partner k
+  row_partner : (k j : ℕ) → k < length os2 → j < k → p2 k ≡ p2 j ++ (st2 k ∷ []) → P k ≡ under os ss (P j) (get_or ss2 k 0) → Partner j → Partner k
   unfolding under
-  row-partner k j h l e q y = record {
+  row_partner k j h l e q y = record {
     inside = λ i r. (told (P j) refl i (sym q ∙ r)).0;
     same = λ i r. (told (P j) refl i (sym q ∙ r)).1;
     only = λ i g s. settled k i (λ u r. told (P j) refl u (sym q ∙ r)) g s (λ z. missed i g s (get_or os i 0) refl (n.rooted i g) (sym q ∙ z));
@@ -269,21 +269,21 @@ module _ (os ss os2 ss2 : List ℕ) (p p2 : ℕ → Path) (st st2 : ℕ → Step
     where
       told : (m : ℕ) → P j ≡ m → (i : ℕ) → under os ss m (get_or ss2 k 0) ≡ suc i → (i < length os) × (same_path (p i) (p2 k) ≡ true)
       told zero w i r = absurd (zero_not_suc i r)
-      told (suc a) w i r = let x = hit-row (suc a) k i r in (x.inside, row_same k j a i h e (y.same a w) x)
+      told (suc a) w i r = let x = hit_row (suc a) k i r in (x.inside, row_same k j a i h e (y.same a w) x)
 
       missed : (i : ℕ) → i < length os → same_path (p i) (p2 k) ≡ true → (o : ℕ) → get_or os i 0 ≡ o → Rooted p st i o → under os ss (P j) (get_or ss2 k 0) ≡ 0 → ⊥
-      missed i g s o w (of-the-object r) z =
+      missed i g s o w (of_the_object r) z =
           never_empty p2 st2 j (get_or os2 j 0) (n.rooted2 j (omega (arith, l, h)))
           (both_true (same_path [] (p2 j)) (same_step (st i) (st2 k)) (sym (parted [] (p2 j) (p i) (p2 k) (st i) (st2 k) r e) ∙ s)).0
       missed i g s o w (of_row a m r) z =
           let b = both_true (same_path (p a) (p2 j)) (same_step (st i) (st2 k)) (sym (parted (p a) (p2 j) (p i) (p2 k) (st i) (st2 k) r e) ∙ s) in
-          not_missed 0 os ss (suc a) (get_or ss2 k 0) i n.long (has-row k i (suc a) h g w b.1) (ap (λ (v : ℕ). under os ss v (get_or ss2 k 0)) (sym (y.only a (omega (arith, m, g)) b.0)) ∙ z)
+          not_missed 0 os ss (suc a) (get_or ss2 k 0) i n.long (has_row k i (suc a) h g w b.1) (ap (λ (v : ℕ). under os ss v (get_or ss2 k 0)) (sym (y.only a (omega (arith, m, g)) b.0)) ∙ z)
 
   one_row : (k : ℕ) → k < length os2 → (o : ℕ) → get_or os2 k 0 ≡ o → Rooted p2 st2 k o → ((j : ℕ) → j < k → Partner j) → Partner k
   unfolding partner_of
-  one_row k h o w (of-the-object e) ih = top-partner k h e (at k h ∙ ap (λ (v : ℕ). partner_of os ss (take k (partners os ss [] os2 ss2)) v (get_or ss2 k 0)) w)
+  one_row k h o w (of_the_object e) ih = top_partner k h e (at k h ∙ ap (λ (v : ℕ). partner_of os ss (take k (partners os ss [] os2 ss2)) v (get_or ss2 k 0)) w)
   one_row k h o w (of_row j l e) ih =
-      row-partner k j h l e
+      row_partner k j h l e
       (at k h ∙ ap (λ (v : ℕ). partner_of os ss (take k (partners os ss [] os2 ss2)) v (get_or ss2 k 0)) w ∙ ap (λ (v : ℕ). under os ss v (get_or ss2 k 0)) (get_or-take k (partners os ss [] os2 ss2) j 0 l))
       (ih j l)
 

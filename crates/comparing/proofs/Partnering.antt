@@ -71,14 +71,14 @@ filling_end x os2 ss2 out i f h os ss d = let a = f.room in sym (partners_end os
 
 -- The partner, by what is found.
 module _ (x before : List ℕ) (o t : ℕ) where
-  pub found-top : (r : ℕ) → o ≡ 0 → FindsStep x 0 t r → FindsPartner x before o t r
+  pub found_top : (r : ℕ) → o ≡ 0 → FindsStep x 0 t r → FindsPartner x before o t r
   unfolding FindsStep FindsPartner
-  found-top r e q os ss d = partner_top os ss before o t r e (q os ss d)
+  found_top r e q os ss d = partner_top os ss before o t r e (q os ss d)
 
   pub found_none : (p : ℕ) → 1 ≤ o → p ≡ get_or before (o - 1) 0 → p ≡ 0 → FindsPartner x before o t 0
   unfolding FindsPartner
   found_none p h e q os ss d = partner_none os ss before o t p h e q
 
-  pub found-under : (p r : ℕ) → 1 ≤ o → p ≡ get_or before (o - 1) 0 → (p ≡ 0 → ⊥) → FindsStep x p t r → FindsPartner x before o t r
+  pub found_under : (p r : ℕ) → 1 ≤ o → p ≡ get_or before (o - 1) 0 → (p ≡ 0 → ⊥) → FindsStep x p t r → FindsPartner x before o t r
   unfolding FindsStep FindsPartner
-  found-under p r h e n q os ss d = partner_under os ss before o t p r h e n (q os ss d)
+  found_under p r h e n q os ss d = partner_under os ss before o t p r h e n (q os ss d)

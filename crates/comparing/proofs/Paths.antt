@@ -23,17 +23,17 @@ pub data Begins (before : List Word) : Path → Type 0 where
 
 -- So it is for all of these.
 pub data AllBegin (before : List Word) : List Placed → Type 0 where
-  none-begin : AllBegin before []
-  more-begin : {v : Placed} {vs : List Placed} → Begins before v.path → AllBegin before vs → AllBegin before (v ∷ vs)
+  none_begin : AllBegin before []
+  more_begin : {v : Placed} {vs : List Placed} → Begins before v.path → AllBegin before vs → AllBegin before (v ∷ vs)
 
 append_begin : {before : List Word} {vs ws : List Placed} → AllBegin before vs → AllBegin before ws → AllBegin before (vs ++ ws)
-append_begin none-begin b = b
-append_begin (more-begin x a) b = more-begin x (append_begin a b)
+append_begin none_begin b = b
+append_begin (more_begin x a) b = more_begin x (append_begin a b)
 
 each_begin : (before : List Word) (s : Step) (vs : List Placed) → how_often s.name before ≤ s.position → AllBegin before (each (below s) vs)
 unfolding each below
-each_begin before s [] h = none-begin
-each_begin before s (v ∷ vs) h = more-begin (begins s v.path h) (each_begin before s vs h)
+each_begin before s [] h = none_begin
+each_begin before s (v ∷ vs) h = more_begin (begins s v.path h) (each_begin before s vs h)
 
 fewer : (a b c : ℕ) → a + b ≤ c → b ≤ c
 fewer a b c h = omega arith
@@ -43,17 +43,17 @@ unfolding how_often
 widen_begin t before p (begins c q h) = begins c q (fewer (bit (alike c.name t)) (how_often c.name before) c.position h)
 
 widen : (t : Word) (before : List Word) (vs : List Placed) → AllBegin (t ∷ before) vs → AllBegin before vs
-widen t before vs none-begin = none-begin
-widen t before vs (more-begin b a) = more-begin (widen_begin t before _ b) (widen t before _ a)
+widen t before vs none_begin = none_begin
+widen t before vs (more_begin b a) = more_begin (widen_begin t before _ b) (widen t before _ a)
 
 self : (n : ℕ) → n ≤ n
 self n = omega arith
 
 pub all_begin : (r : Resolved) (n : ℕ) (before : List Word) → AllBegin before (placed r n before)
 unfolding placed step_to
-all_begin end n before = none-begin
+all_begin end n before = none_begin
 all_begin (resolved t us rest) n before =
-    more-begin (begins (step_to t before) [] (self (how_often t.definition.name before)))
+    more_begin (begins (step_to t before) [] (self (how_often t.definition.name before)))
     (append_begin (each_begin before (step_to t before) (placed us (suc n) []) (self (how_often t.definition.name before)))
     (widen t.definition.name before (placed rest (suc n + how_many_values us) (t.definition.name ∷ before)) (all_begin rest (suc n + how_many_values us) (t.definition.name ∷ before))))
 
@@ -82,8 +82,8 @@ path_behind t before p q (begins c r h) = ap (λ (b : Bool). both b (same_path p
 
 none_behind : (t : Taken) (before : List Word) (p : Path) (vs : List Placed) → AllBegin (t.definition.name ∷ before) vs → the_first (λ w. same_path (step_to t before ∷ p) w.path) vs ≡ none
 unfolding the_first
-none_behind t before p vs none-begin = refl
-none_behind t before p (v ∷ vs) (more-begin b a) =
+none_behind t before p vs none_begin = refl
+none_behind t before p (v ∷ vs) (more_begin b a) =
     first_none (same_path (step_to t before ∷ p) v.path) v (the_first (λ w. same_path (step_to t before ∷ p) w.path) vs) (path_behind t before p v.path b) (none_behind t before p vs a)
 
 -- A value under a step is none of those that differ from it below.
@@ -98,8 +98,8 @@ below_other s p (v ∷ vs) e =
 -- The step itself is no path below it.
 step_alone : (s : Step) (before : List Word) (vs : List Placed) → AllBegin before vs → the_first (λ w. same_path (s ∷ []) w.path) (each (below s) vs) ≡ none
 unfolding the_first each below same_path
-step_alone s before vs none-begin = refl
-step_alone s before (v ∷ vs) (more-begin b a) =
+step_alone s before vs none_begin = refl
+step_alone s before (v ∷ vs) (more_begin b a) =
     first_none (both (same_step s s) (same_path [] v.path)) (below s v) (the_first (λ w. same_path (s ∷ []) w.path) (each (below s) vs))
     (not_true (both (same_step s s) (same_path [] v.path)) (λ q. not_empty v.path b (both_true (same_step s s) (same_path [] v.path) q).1)) (step_alone s before vs a)
   where

@@ -15,7 +15,7 @@ use Rattle.meaning.specs.Words.{alike}
 use Rattle.meaning.specs.Resolving.{Taken, Resolved, end, resolved, how_many_values}
 use Rattle.comparing.specs.Contents.{Step, how_often, step_to}
 use Rattle.comparing.specs.Partners.{last_position, positions}
-use Rattle.comparing.proofs.Steps.{owner_numbers, steps_of, name_numbers, positions_in, AllNames, names-end, names_more, Numbering}
+use Rattle.comparing.proofs.Steps.{owner_numbers, steps_of, name_numbers, positions_in, AllNames, names_end, names_more, Numbering}
 use Rattle.comparing.proofs.Alikes.{same_truth}
 use Rattle.comparing.proofs.Paths.{often_same}
 use Rattle.comparing.proofs.Rooting.{owners_length, steps_length}
@@ -56,15 +56,15 @@ last_snoc (z ∷ os) (n ∷ ns) (q ∷ ps) x y p o a l m =
 
 -- Rows of other owners behind change nothing.
 pub data Others (o : ℕ) : List ℕ → Type 0 where
-  no-others : Others o []
-  more-others : {x : ℕ} {xs : List ℕ} → (x ≡ o → ⊥) → Others o xs → Others o (x ∷ xs)
+  no_others : Others o []
+  more_others : {x : ℕ} {xs : List ℕ} → (x ≡ o → ⊥) → Others o xs → Others o (x ∷ xs)
 
 others_none : (xs ys qs : List ℕ) (o a : ℕ) → Others o xs → last_position xs ys qs o a ≡ 0
 unfolding last_position
 others_none [] ys qs o a w = refl
 others_none (x ∷ xs) [] qs o a w = refl
 others_none (x ∷ xs) (y ∷ ys) [] o a w = refl
-others_none (x ∷ xs) (y ∷ ys) (q ∷ qs) o a (more-others f w) =
+others_none (x ∷ xs) (y ∷ ys) (q ∷ qs) o a (more_others f w) =
     ap (λ (r : ℕ). pick (eqb r 0) (pick (both (eqb x o) (eqb y a)) (suc q) 0) r) (others_none xs ys qs o a w)
     ∙ ap (λ (c : Bool). pick (both c (eqb y a)) (suc q) 0) (ne_eqb x o f)
 
@@ -84,14 +84,14 @@ last_others (z ∷ os) (n ∷ ns) (p ∷ ps) xs ys qs o a l m w =
 
 others_append : (o : ℕ) (xs ys : List ℕ) → Others o xs → Others o ys → Others o (xs ++ ys)
 others_append o [] ys w z = z
-others_append o (x ∷ xs) ys (more-others f w) z = more-others f (others_append o xs ys w z)
+others_append o (x ∷ xs) ys (more_others f w) z = more_others f (others_append o xs ys w z)
 
 -- Below row k no row is owned from there on.
 others_low : (r : Resolved) (k p o : ℕ) → (p ≡ o → ⊥) → o ≤ k → Others o (owner_numbers r k p)
 unfolding owner_numbers
-others_low end k p o f h = no-others
+others_low end k p o f h = no_others
 others_low (resolved t us rest) k p o f h =
-    more-others f (others_append o (owner_numbers us (suc k) (suc k)) (owner_numbers rest (suc k + how_many_values us) p)
+    more_others f (others_append o (owner_numbers us (suc k) (suc k)) (owner_numbers rest (suc k + how_many_values us) p)
     (others_low us (suc k) (suc k) o (λ e. omega (arith, e, h)) (omega (arith, h)))
     (others_low rest (suc k + how_many_values us) p o f (omega (arith, h))))
 
@@ -101,9 +101,9 @@ not_same p o f e = omega arith
 -- No row behind them owns these.
 others_high : (r : Resolved) (k p o : ℕ) → p < o → k + how_many_values r < o → Others o (owner_numbers r k p)
 unfolding owner_numbers how_many_values
-others_high end k p o f h = no-others
+others_high end k p o f h = no_others
 others_high (resolved t us rest) k p o f h =
-    more-others (not_same p o f) (others_append o (owner_numbers us (suc k) (suc k)) (owner_numbers rest (suc k + how_many_values us) p)
+    more_others (not_same p o f) (others_append o (owner_numbers us (suc k) (suc k)) (owner_numbers rest (suc k + how_many_values us) p)
     (others_high us (suc k) (suc k) o (omega (arith, h)) (omega (arith, h)))
     (others_high rest (suc k + how_many_values us) p o f (omega (arith, h))))
 
@@ -206,16 +206,16 @@ positions_are N c e (resolved t us rest) (names_more i j w) k o b os ns ps s =
       names = ln1;
       places = lp1;
       count = l1;
-      low = λ m g. others_append m os (o ∷ []) (s.low m (omega (arith, g))) (more-others (not_same o m (omega (arith, g, low))) no-others);
+      low = λ m g. others_append m os (o ∷ []) (s.low m (omega (arith, g))) (more_others (not_same o m (omega (arith, g, low))) no_others);
       self = omega arith;
-      often = λ a g. others_none os1 ns1 ps1 (suc k) (c a) (others_append (suc k) os (o ∷ []) (s.low (suc k) (omega arith)) (more-others (not_same o (suc k) (omega (arith, low))) no-others));
+      often = λ a g. others_none os1 ns1 ps1 (suc k) (c a) (others_append (suc k) os (o ∷ []) (s.low (suc k) (omega arith)) (more_others (not_same o (suc k) (omega (arith, low))) no_others));
     } in
     let inner : positions os1 ns1 ps1 xs ys ≡ ps1 ++ zs = positions_are N c e us j (suc k) (suc k) [] os1 ns1 ps1 under in
     let behind : Stands N c (suc k + h) o (n ∷ b) (os1 ++ xs) (ns1 ++ ys) (ps1 ++ zs) = record {
       names = length-append ns1 ys ∙ ap₂ ◌+◌ ln1 (ly ∙ sym lx) ∙ sym (length-append os1 xs);
       places = length-append ps1 zs ∙ ap₂ ◌+◌ lp1 (lz ∙ sym lx) ∙ sym (length-append os1 xs);
       count = length-append os1 xs ∙ ap₂ ◌+◌ l1 lx;
-      low = λ m g. others_append m os1 xs (others_append m os (o ∷ []) (s.low m (omega (arith, g))) (more-others (not_same o m (omega (arith, g, low))) no-others)) (others_high us (suc k) (suc k) m (omega (arith, g)) g);
+      low = λ m g. others_append m os1 xs (others_append m os (o ∷ []) (s.low m (omega (arith, g))) (more_others (not_same o m (omega (arith, g, low))) no_others)) (others_high us (suc k) (suc k) m (omega (arith, g)) g);
       self = omega (arith, low);
       often = λ a g. last_others os1 ns1 ps1 xs ys zs o (c a) ln1 lp1 (others_low us (suc k) (suc k) o (not_back o k low) (omega (arith, low)))
           ∙ last_snoc os ns ps o (c n) q o (c a) s.names s.places ∙ often_next c n a (e n a i g) b o q (last_position os ns ps o (c a)) (s.often n i) (s.often a g);
@@ -232,4 +232,4 @@ pub object_positions : (N : Word → Type 0) (c : Word → ℕ) → Numbering N 
     → positions [] [] [] (owner_numbers r 0 0) (name_numbers c r) ≡ positions_in (steps_of r [])
 unfolding last_position how_often
 object_positions N c e r w =
-    positions_are N c e r w 0 0 [] [] [] [] (record { names = refl; places = refl; count = refl; low = λ m g. no-others; self = omega arith; often = λ a g. refl })
+    positions_are N c e r w 0 0 [] [] [] [] (record { names = refl; places = refl; count = refl; low = λ m g. no_others; self = omega arith; often = λ a g. refl })

@@ -46,33 +46,33 @@ module _ (os ns ps : List ℕ) (o a : ℕ) where
   test_has j h = both_of (eqb (get_or os j 0) o) (eqb (get_or ns j 0) a) (eq-eqb (get_or os j 0) o h.owner) (eq-eqb (get_or ns j 0) a h.step)
 
   -- One row more.
-  front-suc : (i : ℕ) → suc i ≤ length ps → Ready os ns ps → front (suc i) ≡ pick (both (eqb (get_or os i 0) o) (eqb (get_or ns i 0) a)) (suc (get_or ps i 0)) (front i)
-  front-suc i h r = let x = r.names in let y = r.inside in opened i (omega (arith, h, y)) (omega (arith, h, y, x)) (omega (arith, h))
+  front_suc : (i : ℕ) → suc i ≤ length ps → Ready os ns ps → front (suc i) ≡ pick (both (eqb (get_or os i 0) o) (eqb (get_or ns i 0) a)) (suc (get_or ps i 0)) (front i)
+  front_suc i h r = let x = r.names in let y = r.inside in opened i (omega (arith, h, y)) (omega (arith, h, y, x)) (omega (arith, h))
 
-  inside-os : (i : ℕ) → suc i ≤ length ps → Ready os ns ps → i < length os
-  inside-os i h r = let y = r.inside in omega (arith, h, y)
+  inside_os : (i : ℕ) → suc i ≤ length ps → Ready os ns ps → i < length os
+  inside_os i h r = let y = r.inside in omega (arith, h, y)
 
   pub front_empty : (i : ℕ) → i ≤ length ps → Ready os ns ps → ((j : ℕ) → j < i → Has os ns o a j → ⊥) → front i ≡ 0
   front_empty zero h r f = front_none 0 (omega arith)
   front_empty (suc i) h r f =
-      front-suc i h r
-      ∙ ap (λ (c : Bool). pick c (suc (get_or ps i 0)) (front i)) (not_has os ns o a i (inside-os i h r) (f i (omega arith)))
+      front_suc i h r
+      ∙ ap (λ (c : Bool). pick c (suc (get_or ps i 0)) (front i)) (not_has os ns o a i (inside_os i h r) (f i (omega arith)))
       ∙ front_empty i (omega (arith, h)) r (λ j l q. f j (omega (arith, l)) q)
 
-  pub front-last : (i j : ℕ) → i ≤ length ps → Ready os ns ps → j < i → Has os ns o a j → ((m : ℕ) → j < m → m < i → Has os ns o a m → ⊥) → front i ≡ suc (get_or ps j 0)
-  front-last zero j h r l q f = absurd (not-suc-le-zero l)
-  front-last (suc i) j h r l q f = by (ℕ_discrete i j) (λ z. front-last i j (omega (arith, h)) r z q (λ m u v w. f m u (omega (arith, v)) w))
+  pub front_last : (i j : ℕ) → i ≤ length ps → Ready os ns ps → j < i → Has os ns o a j → ((m : ℕ) → j < m → m < i → Has os ns o a m → ⊥) → front i ≡ suc (get_or ps j 0)
+  front_last zero j h r l q f = absurd (not-suc-le-zero l)
+  front_last (suc i) j h r l q f = by (ℕ_discrete i j) (λ z. front_last i j (omega (arith, h)) r z q (λ m u v w. f m u (omega (arith, v)) w))
     where
       by : Dec (i ≡ j) → (j < i → front i ≡ suc (get_or ps j 0)) → front (suc i) ≡ suc (get_or ps j 0)
       by (yes e) k =
-          front-suc i h r ∙ ap (λ (c : Bool). pick c (suc (get_or ps i 0)) (front i)) (test_has i (subst (Has os ns o a) (sym e) q)) ∙ ap (λ (u : ℕ). suc (get_or ps u 0)) e
+          front_suc i h r ∙ ap (λ (c : Bool). pick c (suc (get_or ps i 0)) (front i)) (test_has i (subst (Has os ns o a) (sym e) q)) ∙ ap (λ (u : ℕ). suc (get_or ps u 0)) e
       by (no n) k =
           let z : j < i = omega (arith, n, l) in
-          front-suc i h r ∙ ap (λ (c : Bool). pick c (suc (get_or ps i 0)) (front i)) (not_has os ns o a i (inside-os i h r) (f i z (omega arith))) ∙ k z
+          front_suc i h r ∙ ap (λ (c : Bool). pick c (suc (get_or ps i 0)) (front i)) (not_has os ns o a i (inside_os i h r) (f i z (omega arith))) ∙ k z
 
-  pub front-all : front (length ps) ≡ last_position (take (length ps) os) (take (length ps) ns) ps o a
+  pub front_all : front (length ps) ≡ last_position (take (length ps) os) (take (length ps) ns) ps o a
   unfolding front
-  front-all = ap (λ (x : List ℕ). last_position (take (length ps) os) (take (length ps) ns) x o a) (take_all (length ps) ps (omega arith))
+  front_all = ap (λ (x : List ℕ). last_position (take (length ps) os) (take (length ps) ns) x o a) (take_all (length ps) ps (omega arith))
 
 -- A position is at most the number of rows before.
 up_one : (b n r : ℕ) → r ≤ suc b + n → r ≤ b + suc n

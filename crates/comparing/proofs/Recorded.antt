@@ -47,11 +47,11 @@ module _ (s d v s2 d2 v2 : List ℕ) (x y : Content) where
   chosen true e = refl
   chosen false e = refl
 
-  pub one-record : (w : Placed) (o : Option Placed) (b r : ℕ) → Row s d v r w.taken → w.row ≡ r → Backed s2 d2 v2 o b → records_of (met x y w o) ≡ one b r
+  pub one_record : (w : Placed) (o : Option Placed) (b r : ℕ) → Row s d v r w.taken → w.row ≡ r → Backed s2 d2 v2 o b → records_of (met x y w o) ≡ one b r
   unfolding met record_of records_of first_record
-  one-record w o b r l e back_none =
+  one_record w o b r l e back_none =
       ap (λ (n : ℕ). record { first_object = suc x.object.row; second_object = suc y.object.row; first_value = n; second_value = 0 } ∷ []) (sym (alone w.row r e))
-  one-record w o b r l e (back_some u q) =
+  one_record w o b r l e (back_some u q) =
       chosen (same_value w.taken u.taken) (values_differ x.object y.object w u)
       ∙ (λ i. pick (same_keys i) [] (record { first_object = suc x.object.row; second_object = suc y.object.row; first_value = sym (alone w.row r e) i; second_value = suc u.row } ∷ []))
       ∙ sym (ap (λ (c : Bool). pick c (record { first_object = suc x.object.row; second_object = suc y.object.row; first_value = r + 1; second_value = 0 } ∷ [])
@@ -62,16 +62,16 @@ module _ (s d v s2 d2 v2 : List ℕ) (x y : Content) where
 
   -- The values ws stand from row r on.
   pub data Standing : ℕ → List Placed → Type 0 where
-    none-stand : {r : ℕ} → Standing r []
-    more-stand : {r : ℕ} {w : Placed} {ws : List Placed} → Row s d v r w.taken → w.row ≡ r → Standing (r + 1) ws → Standing r (w ∷ ws)
+    none_stand : {r : ℕ} → Standing r []
+    more_stand : {r : ℕ} {w : Placed} {ws : List Placed} → Row s d v r w.taken → w.row ≡ r → Standing (r + 1) ws → Standing r (w ∷ ws)
 
   -- THE THEOREM: the records of the first object's values, where `back` has the rows of the partners.
-  pub first-recorded : (ps back : List ℕ) (r k : ℕ) (ws : List Placed) → Standing r ws → ((i : ℕ) → i < k + length ws → Backed s2 d2 v2 (value_at y.values (place_from 0 ps (suc i))) (get_or back i 0))
+  pub first_recorded : (ps back : List ℕ) (r k : ℕ) (ws : List Placed) → Standing r ws → ((i : ℕ) → i < k + length ws → Backed s2 d2 v2 (value_at y.values (place_from 0 ps (suc i))) (get_or back i 0))
       → records_of (first_part x y ps k ws) ≡ first_records s d v s2 d2 v2 back (suc x.object.row) (suc y.object.row) (length ws) r k
   unfolding first_part first_records records_of
-  first-recorded ps back r k [] none-stand f = refl
-  first-recorded ps back r k (w ∷ ws) (more-stand l e t) f =
+  first_recorded ps back r k [] none_stand f = refl
+  first_recorded ps back r k (w ∷ ws) (more_stand l e t) f =
       records_append (met x y w (value_at y.values (place_from 0 ps (suc k)))) (first_part x y ps (suc k) ws)
-      ∙ ap₂ ◌++◌ (one-record w (value_at y.values (place_from 0 ps (suc k))) (get_or back k 0) r l e (f k (omega arith)))
-      (first-recorded ps back (r + 1) (suc k) ws t (λ i h. f i (omega (arith, h)))
+      ∙ ap₂ ◌++◌ (one_record w (value_at y.values (place_from 0 ps (suc k))) (get_or back k 0) r l e (f k (omega arith)))
+      (first_recorded ps back (r + 1) (suc k) ws t (λ i h. f i (omega (arith, h)))
       ∙ ap (λ (n : ℕ). first_records s d v s2 d2 v2 back (suc x.object.row) (suc y.object.row) (length ws) (r + 1) n) (sym (add-one k)))

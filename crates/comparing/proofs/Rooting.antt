@@ -19,26 +19,26 @@ use Rattle.comparing.specs.Partners.{partners}
 use Rattle.comparing.proofs.Steps.{owner_numbers, steps_of, path_at}
 use Rattle.comparing.proofs.Matching.{Apart, none_first}
 use Rattle.comparing.proofs.Alikes.{path_flip}
-use Rattle.comparing.proofs.Partnered.{Rooted, of-the-object, of_row, Numbers, partner}
+use Rattle.comparing.proofs.Partnered.{Rooted, of_the_object, of_row, Numbers, partner}
 use Rattle.comparing.proofs.Paths.{paths_apart}
 
 -- Paths and steps p and st of the rows from k on are those of these values, which stand under the path q; `before` are the names before.
 pub data Agrees (p : ℕ → Path) (st : ℕ → Step) : Resolved → ℕ → Path → List Word → Type 0 where
-  agree-end : {k : ℕ} {q : Path} {b : List Word} → Agrees p st end k q b
+  agree_end : {k : ℕ} {q : Path} {b : List Word} → Agrees p st end k q b
   agree : {t : Taken} {us rest : Resolved} {k : ℕ} {q : Path} {b : List Word} → p k ≡ q ++ (st k ∷ []) → Agrees p st us (suc k) (p k) []
       → Agrees p st rest (suc k + how_many_values us) q (t.definition.name ∷ b) → Agrees p st (resolved t us rest) k q b
 
 -- The owner of the number o, before row k, has the path q.
 pub data OwnerAt (p : ℕ → Path) (k : ℕ) : ℕ → Path → Type 0 where
-  the-object : OwnerAt p k 0 []
+  the_object : OwnerAt p k 0 []
   the_row : (j : ℕ) → j < k → OwnerAt p k (suc j) (p j)
 
 owner_later : {p : ℕ → Path} {k o : ℕ} {q : Path} (m : ℕ) → OwnerAt p k o q → OwnerAt p (suc k + m) o q
-owner_later m the-object = the-object
+owner_later m the_object = the_object
 owner_later {k} m (the_row j l) = the_row j (omega arith)
 
 rooted_by : (p : ℕ → Path) (st : ℕ → Step) (k o : ℕ) (q : Path) → OwnerAt p k o q → p k ≡ q ++ (st k ∷ []) → Rooted p st k o
-rooted_by p st k o q the-object e = of-the-object e
+rooted_by p st k o q the_object e = of_the_object e
 rooted_by p st k o q (the_row j l) e = of_row j l e
 
 -- Lists ----------------------------------------------------------------------------------------------------------------------------------------
@@ -143,7 +143,7 @@ append_assoc (x ∷ a) b c = ap (λ (l : Path). x ∷ l) (append_assoc a b c)
 pub agrees : (p : ℕ → Path) (st : ℕ → Step) (d : Step) (r : Resolved) (k m : ℕ) (q : Path) (b : List Word) → ((i : ℕ) → i < how_many_values r → p (k + i) ≡ q ++ path_at (placed r m b) i)
     → ((i : ℕ) → i < how_many_values r → st (k + i) ≡ get_or (steps_of r b) i d) → Agrees p st r k q b
 unfolding placed how_many_values steps_of path_at
-agrees p st d end k m q b f g = agree-end
+agrees p st d end k m q b f g = agree_end
 agrees p st d (resolved t us rest) k m q b f g =
     let s = step_to t b in
     let h = how_many_values us in
@@ -204,7 +204,7 @@ rooted_placed d r m i h =
     let z : (j : ℕ) → 0 + j ≡ j = λ j. omega arith in
     let l : i < how_many_values r = subst (λ (n : ℕ). i < n) (owners_length r 0 0) h in
     subst (λ (n : ℕ). Rooted p st n (get_or (owner_numbers r 0 0) i 0)) (z i)
-    (rooted_all p st r 0 0 [] [] (agrees p st d r 0 m [] [] (λ j g. ap p (z j)) (λ j g. ap st (z j))) the-object i l)
+    (rooted_all p st r 0 0 [] [] (agrees p st d r 0 m [] [] (λ j g. ap p (z j)) (λ j g. ap st (z j))) the_object i l)
 
 pub numbers : (d : Step) (r r2 : Resolved) (m m2 : ℕ) (ss ss2 : List ℕ) → Coded d r r2 ss ss2
     → Numbers (owner_numbers r 0 0) ss (owner_numbers r2 0 0) ss2 (path_at (placed r m [])) (path_at (placed r2 m2 [])) (λ j. get_or (steps_of r []) j d) (λ j. get_or (steps_of r2 []) j d)

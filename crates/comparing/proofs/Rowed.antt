@@ -18,7 +18,7 @@ use Rattle.comparing.specs.Contents.{Step, step_to}
 use Rattle.comparing.specs.Partners.{positions}
 use Rattle.comparing.proofs.Steps.{owner_numbers, name_numbers, steps_of, positions_in, step_number, step_numbers, AllNames, Numbering}
 use Rattle.comparing.specs.Columns.{owner_cell, step_cell, step_of_row, cells_of, owners_of, name_cell, names_of, places_of, steps_of_rows}
-use Rattle.comparing.specs.Standing.{RowIs, TreeAt, no_rows, some-rows}
+use Rattle.comparing.specs.Standing.{RowIs, TreeAt, no_rows, some_rows}
 use Rattle.comparing.proofs.Owned.{owner_number}
 use Rattle.comparing.proofs.Rooting.{steps_length}
 use Rattle.comparing.proofs.Codings.{all_fit, fit_at, number_at, numbers_length}
@@ -61,71 +61,71 @@ names_numbers c end = refl
 names_numbers c (resolved t us rest) = ap₂ (λ (a b : List ℕ). c t.definition.name ∷ (a ++ b)) (names_numbers c us) (names_numbers c rest)
 
 module _ (s d v : List ℕ) (many : ℕ) where
-  pub tree-cells : (f : ℕ → ℕ) (g : Taken → ℕ) → ((i : ℕ) (o : Owner) (t : Taken) → RowIs s d v many i o t → f i ≡ g t) → (x : Resolved) (i : ℕ) (o : Owner) → TreeAt s d v many i o x
+  pub tree_cells : (f : ℕ → ℕ) (g : Taken → ℕ) → ((i : ℕ) (o : Owner) (t : Taken) → RowIs s d v many i o t → f i ≡ g t) → (x : Resolved) (i : ℕ) (o : Owner) → TreeAt s d v many i o x
       → cells_of f i (how_many_values x) ≡ numbers_of g x
   unfolding cells_of numbers_of how_many_values
-  tree-cells f g e end i o no_rows = refl
-  tree-cells f g e (resolved t us rest) i o (some-rows r a b) =
+  tree_cells f g e end i o no_rows = refl
+  tree_cells f g e (resolved t us rest) i o (some_rows r a b) =
       ap₂ (λ (n : ℕ) (l : List ℕ). n ∷ l) (e i o t r)
       (cells_append f (suc i) (how_many_values us) (how_many_values rest)
-      ∙ ap₂ ◌++◌ (tree-cells f g e us (suc i) (of_value i) a) (tree-cells f g e rest (suc i + how_many_values us) o b))
+      ∙ ap₂ ◌++◌ (tree_cells f g e us (suc i) (of_value i) a) (tree_cells f g e rest (suc i + how_many_values us) o b))
 
-  owner-read : (n i : ℕ) (o : Owner) (t : Taken) → RowIs s d v many i o t → owner_cell v n i ≡ owner_number n o
+  owner_read : (n i : ℕ) (o : Owner) (t : Taken) → RowIs s d v many i o t → owner_cell v n i ≡ owner_number n o
   unfolding owner_cell owner_number owner_sort owner_row
-  owner-read n i (of_object k) t r =
+  owner_read n i (of_object k) t r =
       ap (λ (b : Bool). pick b 0 (suc (min (cell_of v 9 i 2) 65536 - n))) (eq-eqb (cell_of v 9 i 1) 0 r.of-sort)
-  owner-read n i (of_value m) t r =
+  owner_read n i (of_value m) t r =
       let a = r.of-sort in
       let b = r.of_row in
       let few = r.few in
       let e : suc (min (cell_of v 9 i 2) 65536 - n) ≡ suc (m - n) = omega (arith, b, few) in
       ap (λ (b : Bool). pick b 0 (suc (min (cell_of v 9 i 2) 65536 - n))) (ne_eqb (cell_of v 9 i 1) 0 (λ z. omega (arith, a, z))) ∙ e
 
-  tree-owners : (n k : ℕ) (x : Resolved) (i : ℕ) (o : Owner) → i ≡ n + k → TreeAt s d v many i o x → cells_of (owner_cell v n) i (how_many_values x) ≡ owner_numbers x k (owner_number n o)
+  tree_owners : (n k : ℕ) (x : Resolved) (i : ℕ) (o : Owner) → i ≡ n + k → TreeAt s d v many i o x → cells_of (owner_cell v n) i (how_many_values x) ≡ owner_numbers x k (owner_number n o)
   unfolding cells_of owner_numbers how_many_values owner_number
-  tree-owners n k end i o e no_rows = refl
-  tree-owners n k (resolved t us rest) i o e (some-rows r a b) =
+  tree_owners n k end i o e no_rows = refl
+  tree_owners n k (resolved t us rest) i o e (some_rows r a b) =
       let inner : suc i ≡ n + suc k = omega (arith, e) in
       let behind : suc i + how_many_values us ≡ n + (suc k + how_many_values us) = omega (arith, e) in
-      ap₂ (λ (n : ℕ) (l : List ℕ). n ∷ l) (owner-read n i o t r)
+      ap₂ (λ (n : ℕ) (l : List ℕ). n ∷ l) (owner_read n i o t r)
       (cells_append (owner_cell v n) (suc i) (how_many_values us) (how_many_values rest)
-      ∙ ap₂ ◌++◌ (tree-owners n (suc k) us (suc i) (of_value i) inner a ∙ ap (owner_numbers us (suc k)) (own e)) (tree-owners n (suc k + how_many_values us) rest (suc i + how_many_values us) o behind b))
+      ∙ ap₂ ◌++◌ (tree_owners n (suc k) us (suc i) (of_value i) inner a ∙ ap (owner_numbers us (suc k)) (own e)) (tree_owners n (suc k + how_many_values us) rest (suc i + how_many_values us) o behind b))
     where
       own : i ≡ n + k → owner_number n (of_value i) ≡ suc k
       own q = let z : suc (i - n) ≡ suc k = omega (arith, q) in z
 
   -- THE OWNERS of an object's rows.
-  pub owners-are : (x : Resolved) (n k : ℕ) → TreeAt s d v many n (of_object k) x → owners_of v n (how_many_values x) ≡ owner_numbers x 0 0
+  pub owners_are : (x : Resolved) (n k : ℕ) → TreeAt s d v many n (of_object k) x → owners_of v n (how_many_values x) ≡ owner_numbers x 0 0
   unfolding owners_of owner_number
-  owners-are x n k a = let e : n ≡ n + 0 = omega arith in tree-owners n 0 x n (of_object k) e a
+  owners_are x n k a = let e : n ≡ n + 0 = omega arith in tree_owners n 0 x n (of_object k) e a
 
   -- THE NAMES, where h has the numbers of the definitions' names by c.
   module _ (c : List ℕ → ℕ) (h : List ℕ) (g : (i : ℕ) → i < many → get_or h i 0 ≡ c (row_name s d 13 2 i)) (low : (l : List ℕ) → c l ≤ 1048576) where
-    name-read : (i : ℕ) (o : Owner) (t : Taken) → RowIs s d v many i o t → name_cell v h i ≡ c t.definition.name.bytes
+    name_read : (i : ℕ) (o : Owner) (t : Taken) → RowIs s d v many i o t → name_cell v h i ≡ c t.definition.name.bytes
     unfolding name_cell
-    name-read i o t r =
+    name_read i o t r =
         let few = low t.definition.name.bytes in
         let least : min (c t.definition.name.bytes) 1048576 ≡ c t.definition.name.bytes = omega (arith, few) in
         ap (λ (k : ℕ). min k 1048576) (ap (λ (j : ℕ). get_or h j 0) r.definition ∙ g t.definition.row r.known ∙ ap c r.name) ∙ least
 
-    pub names-are : (x : Resolved) (n : ℕ) (o : Owner) → TreeAt s d v many n o x → names_of v h n (how_many_values x) ≡ name_numbers (λ w. c w.bytes) x
+    pub names_are : (x : Resolved) (n : ℕ) (o : Owner) → TreeAt s d v many n o x → names_of v h n (how_many_values x) ≡ name_numbers (λ w. c w.bytes) x
     unfolding names_of
-    names-are x n o a = tree-cells (name_cell v h) (λ t. c t.definition.name.bytes) name-read x n o a ∙ names_numbers (λ w. c w.bytes) x
+    names_are x n o a = tree_cells (name_cell v h) (λ t. c t.definition.name.bytes) name_read x n o a ∙ names_numbers (λ w. c w.bytes) x
 
   -- The list marks.
-  abbrev mark-cell : ℕ → ℕ
-  mark-cell i = min (cell_of d 13 (cell_of v 9 i 0) 6) 1
+  abbrev mark_cell : ℕ → ℕ
+  mark_cell i = min (cell_of d 13 (cell_of v 9 i 0) 6) 1
 
   below_two : (b : Bool) → min (bit b) 1 ≡ bit b
   unfolding bit
   below_two true = refl
   below_two false = refl
 
-  mark-read : (i : ℕ) (o : Owner) (t : Taken) → RowIs s d v many i o t → mark-cell i ≡ bit t.definition.list
-  mark-read i o t r = ap (λ (j : ℕ). min (cell_of d 13 j 6) 1) r.definition ∙ ap (λ (j : ℕ). min j 1) r.list ∙ below_two t.definition.list
+  mark_read : (i : ℕ) (o : Owner) (t : Taken) → RowIs s d v many i o t → mark_cell i ≡ bit t.definition.list
+  mark_read i o t r = ap (λ (j : ℕ). min (cell_of d 13 j 6) 1) r.definition ∙ ap (λ (j : ℕ). min j 1) r.list ∙ below_two t.definition.list
 
-  pub marks-are : (x : Resolved) (n : ℕ) (o : Owner) → TreeAt s d v many n o x → cells_of mark-cell n (how_many_values x) ≡ numbers_of (λ t. bit t.definition.list) x
-  marks-are x n o a = tree-cells mark-cell (λ t. bit t.definition.list) mark-read x n o a
+  pub marks_are : (x : Resolved) (n : ℕ) (o : Owner) → TreeAt s d v many n o x → cells_of mark_cell n (how_many_values x) ≡ numbers_of (λ t. bit t.definition.list) x
+  marks_are x n o a = tree_cells mark_cell (λ t. bit t.definition.list) mark_read x n o a
 
 -- Steps ------------------------------------------------------------------------------------------------------------------------------------
 
@@ -163,10 +163,10 @@ module _ (s d v : List ℕ) (many : ℕ) (N : Word → Type 0) (c : List ℕ →
   cw w = c w.bytes
 
   -- THE STEPS of an object's rows.
-  pub steps-are : Numbering N cw → ((l : List ℕ) → c l ≤ 1048576) → (x : Resolved) (n k : ℕ) → TreeAt s d v many n (of_object k) x → AllNames N x → how_many_values x ≤ 2048 → (z : Step)
+  pub steps_are : Numbering N cw → ((l : List ℕ) → c l ≤ 1048576) → (x : Resolved) (n k : ℕ) → TreeAt s d v many n (of_object k) x → AllNames N x → how_many_values x ≤ 2048 → (z : Step)
       → steps_of_rows d v h n (how_many_values x) ≡ step_numbers cw (steps_of x [])
   unfolding steps_of_rows places_of step_of_row step_cell step_number step_to
-  steps-are num low x n k a w few z =
+  steps_are num low x n k a w few z =
       ext_get_or 0 (steps_of_rows d v h n (how_many_values x)) (step_numbers cw (steps_of x []))
       (cells_length (step_of_row d v (names_of v h n (how_many_values x)) (places_of v h n (how_many_values x)) n) 0 (how_many_values x) ∙ sym (numbers_length cw (steps_of x []) ∙ steps_length x []))
       (λ i l. at i (inside i l))
@@ -178,7 +178,7 @@ module _ (s d v : List ℕ) (many : ℕ) (N : Word → Type 0) (c : List ℕ →
       inside i l = let e = cells_length (step_of_row d v (names_of v h n (how_many_values x)) (places_of v h n (how_many_values x)) n) 0 (how_many_values x) in omega (arith, e, l)
 
       places : places_of v h n (how_many_values x) ≡ positions_in (steps_of x [])
-      places = ap₂ (λ (y u : List ℕ). positions [] [] [] y u) (owners-are s d v many x n k a) (names-are s d v many c h g low x n (of_object k) a) ∙ object_positions N cw num x w
+      places = ap₂ (λ (y u : List ℕ). positions [] [] [] y u) (owners_are s d v many x n k a) (names_are s d v many c h g low x n (of_object k) a) ∙ object_positions N cw num x w
 
       at : (i : ℕ) → i < how_many_values x → get_or (steps_of_rows d v h n (how_many_values x)) i 0 ≡ get_or (step_numbers cw (steps_of x [])) i 0
       at i l =
@@ -188,13 +188,13 @@ module _ (s d v : List ℕ) (many : ℕ) (N : Word → Type 0) (c : List ℕ →
           let pos = fit.position in
           let high = low st.name.bytes in
           let name : get_or (names_of v h n (how_many_values x)) i 0 ≡ cw st.name =
-          ap (λ (y : List ℕ). get_or y i 0) (names-are s d v many c h g low x n (of_object k) a ∙ sym (names_numbers cw x) ∙ sym (steps_numbers (λ y. cw y.name) (λ t. cw t.definition.name) (λ t b. refl) x []))
+          ap (λ (y : List ℕ). get_or y i 0) (names_are s d v many c h g low x n (of_object k) a ∙ sym (names_numbers cw x) ∙ sym (steps_numbers (λ y. cw y.name) (λ t. cw t.definition.name) (λ t b. refl) x []))
           ∙ step_cells_at (λ y. cw y.name) (steps_of x []) z i long in
           let place : get_or (places_of v h n (how_many_values x)) i 0 ≡ st.position =
           ap (λ (y : List ℕ). get_or y i 0) (places ∙ positions_cells (steps_of x [])) ∙ step_cells_at (λ y. y.position) (steps_of x []) z i long in
-          let mark : mark-cell s d v many (n + i) ≡ bit st.list =
-          sym (cells_at (mark-cell s d v many) n (how_many_values x) i l)
-          ∙ ap (λ (y : List ℕ). get_or y i 0) (marks-are s d v many x n (of_object k) a ∙ sym (steps_numbers (λ y. bit y.list) (λ t. bit t.definition.list) (λ t b. refl) x []))
+          let mark : mark_cell s d v many (n + i) ≡ bit st.list =
+          sym (cells_at (mark_cell s d v many) n (how_many_values x) i l)
+          ∙ ap (λ (y : List ℕ). get_or y i 0) (marks_are s d v many x n (of_object k) a ∙ sym (steps_numbers (λ y. bit y.list) (λ t. bit t.definition.list) (λ t b. refl) x []))
           ∙ step_cells_at (λ y. bit y.list) (steps_of x []) z i long in
           cells_at (step_of_row d v (names_of v h n (how_many_values x)) (places_of v h n (how_many_values x)) n) 0 (how_many_values x) i l
           ∙ ap (step_of_row d v (names_of v h n (how_many_values x)) (places_of v h n (how_many_values x)) n) (nought i)

@@ -40,7 +40,7 @@ each_none F (a ∷ l) h = ap₂ ◌++◌ (h a here) (each_none F l (λ b i. h b 
 -- Two lists of which each has, at each place, what is alike.
 pub data Alike {A : Type 0} (R : A → A → Type 0) : List A → List A → Type 0 where
   none_alike : Alike R [] []
-  more-alike : {a b : A} {l m : List A} → R a b → Alike R l m → Alike R (a ∷ l) (b ∷ m)
+  more_alike : {a b : A} {l m : List A} → R a b → Alike R l m → Alike R (a ∷ l) (b ∷ m)
 
 record Partner {A : Type 0} (R : A → A → Type 0) (a : A) (m : List A) : Type 0 where
   it : A
@@ -48,12 +48,12 @@ record Partner {A : Type 0} (R : A → A → Type 0) (a : A) (m : List A) : Type
   alike : R a it
 
 partner : {A : Type 0} {R : A → A → Type 0} {a : A} {l m : List A} → In a l → Alike R l m → Partner R a m
-partner here (more-alike r t) = record { it = _; is = here; alike = r }
-partner (there i) (more-alike r t) = let p = partner i t in record { it = p.it; is = there p.is; alike = p.alike }
+partner here (more_alike r t) = record { it = _; is = here; alike = r }
+partner (there i) (more_alike r t) = let p = partner i t in record { it = p.it; is = there p.is; alike = p.alike }
 
 alike_back : {A : Type 0} {R S : A → A → Type 0} → ((a b : A) → R a b → S b a) → {l m : List A} → Alike R l m → Alike S m l
 alike_back f none_alike = none_alike
-alike_back f (more-alike r t) = more-alike (f _ _ r) (alike_back f t)
+alike_back f (more_alike r t) = more_alike (f _ _ r) (alike_back f t)
 
 -- Values of one path that count as the same, and objects with such values.
 pub record SameValue (v w : Placed) : Type 0 where
@@ -91,9 +91,9 @@ module _ (x y : Content) (a : PathsApart x) (b : PathsApart y) (h : SameContent 
       ap (λ (o : Option Placed). choose (is_there o) (λ _. []) (λ _. value_in_second x.object y.object w ∷ []))
       (first_turned paired (λ s t. path_flip s.path t.path) w x.values ∙ found_in paired third_path w p.it x.values a p.is p.alike)
 
-  pub pair-none : of_pair x y ≡ []
+  pub pair_none : of_pair x y ≡ []
   unfolding of_pair
-  pair-none = ap₂ ◌++◌ (each_none (of_first_value x y) x.values first_none) (each_none (of_second_value x y) y.values second_none)
+  pair_none = ap₂ ◌++◌ (each_none (of_first_value x y) x.values first_none) (each_none (of_second_value x y) y.values second_none)
 
 all_in : {A : Type 0} (P : A → Type 0) (l : List A) (x : A) → All P l → In x l → P x
 all_in P (y ∷ l) x p here = p.0
@@ -105,7 +105,7 @@ module _ (xs ys : List Content) (a : Sound xs) (b : Sound ys) (h : Alike SameCon
   object_none x i =
       let p = partner i h in
       ap (matched x) (found_in same_object (keyed_third object_keyed) x p.it ys b.objects p.is p.alike.object)
-      ∙ pair-none x p.it (all_in PathsApart xs x a.paths i) (all_in PathsApart ys p.it b.paths p.is) p.alike
+      ∙ pair_none x p.it (all_in PathsApart xs x a.paths i) (all_in PathsApart ys p.it b.paths p.is) p.alike
 
   added_none : (y : Content) → In y ys → of_second_object xs y ≡ []
   unfolding of_second_object choose is_there ObjectsApart
@@ -115,9 +115,9 @@ module _ (xs ys : List Content) (a : Sound xs) (b : Sound ys) (h : Alike SameCon
       (first_turned same_object (keyed_flip object_keyed) y xs ∙ found_in same_object (keyed_third object_keyed) y p.it xs a.objects p.is p.alike)
 
   -- THE LAW.
-  pub alike-none : of_contents xs ys ≡ []
+  pub alike_none : of_contents xs ys ≡ []
   unfolding of_contents
-  alike-none = ap₂ ◌++◌ (each_none (of_first_object ys) xs object_none) (each_none (of_second_object xs) ys added_none)
+  alike_none = ap₂ ◌++◌ (each_none (of_first_object ys) xs object_none) (each_none (of_second_object xs) ys added_none)
 
 -- A text and itself ------------------------------------------------------------------------------------------------------------------------
 
@@ -126,12 +126,12 @@ value_self v = record { path = path_same v.path; value = value_keyed.from-keys v
 
 values_self : (l : List Placed) → Alike SameValue l l
 values_self [] = none_alike
-values_self (v ∷ l) = more-alike (value_self v) (values_self l)
+values_self (v ∷ l) = more_alike (value_self v) (values_self l)
 
 contents_self : (l : List Content) → Alike SameContent l l
 contents_self [] = none_alike
-contents_self (x ∷ l) = more-alike (record { object = object_keyed.from-keys x x refl; values = values_self x.values }) (contents_self l)
+contents_self (x ∷ l) = more_alike (record { object = object_keyed.from-keys x x refl; values = values_self x.values }) (contents_self l)
 
 pub self_none : (f : File) → ObjectsApart (contents f) → differences f f ≡ []
 unfolding differences
-self_none f a = alike-none (contents f) (contents f) (sound f a) (sound f a) (contents_self (contents f))
+self_none f a = alike_none (contents f) (contents f) (sound f a) (sound f a) (contents_self (contents f))

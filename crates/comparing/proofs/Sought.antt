@@ -18,7 +18,7 @@ use Rattle.comparing.specs.Columns.{Holds}
 use Rattle.comparing.specs.Ordering.{key_of, IsKey, entry_of, Bounded, EntryOf, StandsIn, Ordered, Parted, FirstPlace, FindsStep, FindsPartners, FindsPosition}
 use Rattle.comparing.proofs.Alikes.{both_of}
 use Rattle.comparing.proofs.Partnered.{Has, not_has}
-use Rattle.comparing.proofs.Reckoning.{Ready, front, front-all, front_empty, front-last}
+use Rattle.comparing.proofs.Reckoning.{Ready, front, front_all, front_empty, front_last}
 
 -- Numbers of pairs -------------------------------------------------------------------------------------------------------------------------
 
@@ -125,9 +125,9 @@ step_first i (x ∷ os) (y ∷ ss) o t (suc j) l h f =
 
 module _ (os ss x : List ℕ) (d : Ordered os ss x) (o t k : ℕ) (key : k ≡ key_of o t) where
   -- The cell of a row with these numbers.
-  has-entry : (j : ℕ) → Has os ss o t j → entry_of os ss j ≡ k * 2048 + j
+  has_entry : (j : ℕ) → Has os ss o t j → entry_of os ss j ≡ k * 2048 + j
   unfolding entry_of
-  has-entry j h = ap (λ (m : ℕ). m * 2048 + j) (ap₂ key_of h.owner h.step ∙ sym key)
+  has_entry j h = ap (λ (m : ℕ). m * 2048 + j) (ap₂ key_of h.owner h.step ∙ sym key)
 
   -- A row is below 2,048.
   low_row : (j : ℕ) → j < length os → j < 2048
@@ -135,16 +135,16 @@ module _ (os ss x : List ℕ) (d : Ordered os ss x) (o t k : ℕ) (key : k ≡ k
 
   -- The cell c of a row.
   module _ (c : ℕ) (e : EntryOf os ss c) where
-    entry-number : c ≡ key_of (get_or os e.row 0) (get_or ss e.row 0) * 2048 + e.row
+    entry_number : c ≡ key_of (get_or os e.row 0) (get_or ss e.row 0) * 2048 + e.row
     unfolding entry_of
-    entry-number = e.cell
+    entry_number = e.cell
 
     entry_row : c % 2048 ≡ e.row
-    entry_row = let n = entry-number in let l = low_row e.row e.inside in omega (arith, n, l)
+    entry_row = let n = entry_number in let l = low_row e.row e.inside in omega (arith, n, l)
 
     entry_has : c / 2048 ≡ k → Has os ss o t e.row
     entry_has q =
-        let n = entry-number in
+        let n = entry_number in
         let l = low_row e.row e.inside in
         let same : key_of (get_or os e.row 0) (get_or ss e.row 0) ≡ k = omega (arith, n, l, q) in
         let s = key_same (get_or os e.row 0) (get_or ss e.row 0) o t (d.bounded.first e.row e.inside) (d.bounded.second e.row e.inside) (same ∙ key) in
@@ -159,7 +159,7 @@ module _ (os ss x : List ℕ) (d : Ordered os ss x) (o t k : ℕ) (key : k ≡ k
         by s = from (dec_lt s.at p)
           where
             number : get_or x s.at 0 ≡ k * 2048 + j
-            number = s.cell ∙ has-entry j h
+            number = s.cell ∙ has_entry j h
 
             from : Dec (s.at < p) → (p < length x) × (get_or x p 0 ≤ k * 2048 + j)
             from (yes l) = let z = w.less s.at l in let n = number in absurd (omega (arith, z, n))
@@ -181,8 +181,8 @@ module _ (os ss x : List ℕ) (d : Ordered os ss x) (o t k : ℕ) (key : k ≡ k
         let q : get_or x p 0 / 2048 ≡ k = omega (arith, z, m, l) in
         n q))
 
-    step-there : p < length x → get_or x p 0 / 2048 ≡ k → get_or x p 0 % 2048 + 1 ≡ step_from 0 os ss o t
-    step-there h q = by (d.only p h)
+    step_there : p < length x → get_or x p 0 / 2048 ≡ k → get_or x p 0 % 2048 + 1 ≡ step_from 0 os ss o t
+    step_there h q = by (d.only p h)
       where
         by : EntryOf os ss (get_or x p 0) → get_or x p 0 % 2048 + 1 ≡ step_from 0 os ss o t
         by e =
@@ -199,7 +199,7 @@ module _ (os ss x : List ℕ) (d : Ordered os ss x) (o t k : ℕ) (key : k ≡ k
         by s = from (dec_lt s.at p)
           where
             number : get_or x s.at 0 ≡ k * 2048 + j
-            number = s.cell ∙ has-entry j h
+            number = s.cell ∙ has_entry j h
 
             from : Dec (s.at < p) → (0 < p) × (k * 2048 + j ≤ get_or x (p - 1) 0)
             from (no l) = let z = w.more s.at (omega (arith, l)) s.inside in let n = number in absurd (omega (arith, z, n, g))
@@ -228,7 +228,7 @@ module _ (os ss x : List ℕ) (d : Ordered os ss x) (o t k : ℕ) (key : k ≡ k
               let u = entry_row (get_or x (p - 1) 0) e in
               let m = w.less (p - 1) (omega (arith, h)) in
               ap (λ (j : ℕ). suc (get_or ps j 0)) u
-              ∙ sym (front-last os ss ps o t i e.row (omega (arith, all)) r (omega (arith, u, m, q)) (entry_has (get_or x (p - 1) 0) e q)
+              ∙ sym (front_last os ss ps o t i e.row (omega (arith, all)) r (omega (arith, u, m, q)) (entry_has (get_or x (p - 1) 0) e q)
               (λ j a b c. let y = (before j b c).1 in omega (arith, y, q, u, a)))
 
 -- The answers ------------------------------------------------------------------------------------------------------------------------------
@@ -238,13 +238,13 @@ module _ (x : List ℕ) (o t k p : ℕ) (key : IsKey o t k) (w : FirstPlace x (k
   unfolding FindsStep
   finds_past h os ss d = step_past os ss x d o t k key.key p (w.parted d.rising) h
 
-  pub finds-other : p < length x → (get_or x p 0 / 2048 ≡ k → ⊥) → FindsStep x o t 0
+  pub finds_other : p < length x → (get_or x p 0 / 2048 ≡ k → ⊥) → FindsStep x o t 0
   unfolding FindsStep
-  finds-other h n os ss d = step_other os ss x d o t k key.key p (w.parted d.rising) h n
+  finds_other h n os ss d = step_other os ss x d o t k key.key p (w.parted d.rising) h n
 
-  pub finds-there : p < length x → get_or x p 0 / 2048 ≡ k → FindsStep x o t (get_or x p 0 % 2048 + 1)
+  pub finds_there : p < length x → get_or x p 0 / 2048 ≡ k → FindsStep x o t (get_or x p 0 % 2048 + 1)
   unfolding FindsStep
-  finds-there h q os ss d = step-there os ss x d o t k key.key p (w.parted d.rising) h q
+  finds_there h q os ss d = step_there os ss x d o t k key.key p (w.parted d.rising) h q
 
 module _ (x ps : List ℕ) (o a k p : ℕ) (small : Small ps) (few : length ps ≤ 2048) (key : IsKey o a k) (w : FirstPlace x (k * 2048 + length ps) p) where
   ready : (os ns : List ℕ) → Ordered os ns x → length ps ≤ length os → Ready os ns ps
@@ -253,18 +253,18 @@ module _ (x ps : List ℕ) (o a k p : ℕ) (small : Small ps) (few : length ps �
   pub placed_past : p ≡ 0 → FindsPosition x ps o a 0
   unfolding FindsPosition
   placed_past z os ns d h =
-      last-past os ns x d o a k key.key (length ps) p few w.inside (w.parted d.rising) ps (ready os ns d h) refl z ∙ front-all os ns ps o a
+      last-past os ns x d o a k key.key (length ps) p few w.inside (w.parted d.rising) ps (ready os ns d h) refl z ∙ front_all os ns ps o a
 
   pub placed_other : 0 < p → (get_or x (p - 1) 0 / 2048 ≡ k → ⊥) → FindsPosition x ps o a 0
   unfolding FindsPosition
   placed_other g n os ns d h =
-      last-other os ns x d o a k key.key (length ps) p few w.inside (w.parted d.rising) ps (ready os ns d h) refl g n ∙ front-all os ns ps o a
+      last-other os ns x d o a k key.key (length ps) p few w.inside (w.parted d.rising) ps (ready os ns d h) refl g n ∙ front_all os ns ps o a
 
-  pub placed-there : (b : ℕ) → b ≡ get_or ps (get_or x (p - 1) 0 % 2048) 0 → 0 < p → get_or x (p - 1) 0 / 2048 ≡ k → FindsPosition x ps o a (b + 1)
+  pub placed_there : (b : ℕ) → b ≡ get_or ps (get_or x (p - 1) 0 % 2048) 0 → 0 < p → get_or x (p - 1) 0 / 2048 ≡ k → FindsPosition x ps o a (b + 1)
   unfolding FindsPosition
-  placed-there b e g q os ns d h =
+  placed_there b e g q os ns d h =
       let z : b + 1 ≡ suc (get_or ps (get_or x (p - 1) 0 % 2048) 0) = omega (arith, e) in
-      z ∙ last-there os ns x d o a k key.key (length ps) p few w.inside (w.parted d.rising) ps (ready os ns d h) refl g q ∙ front-all os ns ps o a
+      z ∙ last-there os ns x d o a k key.key (length ps) p few w.inside (w.parted d.rising) ps (ready os ns d h) refl g q ∙ front_all os ns ps o a
 
 pub position_found : (x ps os ns : List ℕ) (o a r : ℕ) → FindsPosition x ps o a r → Ordered os ns x → length ps ≤ length os → r ≡ last_position (take (length ps) os) (take (length ps) ns) ps o a
 unfolding FindsPosition

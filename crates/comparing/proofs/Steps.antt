@@ -67,7 +67,7 @@ step_numbers c (s ∷ ss) = step_number c s ∷ step_numbers c ss
 
 -- All attributes of these values have names of which N holds.
 pub data AllNames (N : Word → Type 0) : Resolved → Type 0 where
-  names-end : AllNames N end
+  names_end : AllNames N end
   names_more : {t : Taken} {us rest : Resolved} → N t.definition.name → AllNames N us → AllNames N rest → AllNames N (resolved t us rest)
 
 -- Words of which N holds are numbered so that equal numbers are equal bytes.

@@ -45,7 +45,7 @@ pub record RowIs (s d v : List ℕ) (many i : ℕ) (o : Owner) (t : Taken) : Typ
 -- From row i on stand these values under the owner o, each followed by what is under it.
 pub data TreeAt (s d v : List ℕ) (many : ℕ) : ℕ → Owner → Resolved → Type 0 where
   no_rows : {i : ℕ} {o : Owner} → TreeAt s d v many i o end
-  some-rows : {i : ℕ} {o : Owner} {t : Taken} {us rest : Resolved} → RowIs s d v many i o t → TreeAt s d v many (suc i) (of_value i) us
+  some_rows : {i : ℕ} {o : Owner} {t : Taken} {us rest : Resolved} → RowIs s d v many i o t → TreeAt s d v many (suc i) (of_value i) us
       → TreeAt s d v many (suc i + how_many_values us) o rest → TreeAt s d v many i o (resolved t us rest)
 
 -- Row i of the objects o is that of the content y, with the text s.
@@ -55,5 +55,5 @@ pub record ObjectIs (s o : List ℕ) (i : ℕ) (y : Content) : Type 0 where
   pub row : y.object.row ≡ i
 
 pub data ObjectsAt (s o : List ℕ) : ℕ → List Content → Type 0 where
-  no-objects : {i : ℕ} → ObjectsAt s o i []
-  some-objects : {i : ℕ} {y : Content} {ys : List Content} → ObjectIs s o i y → ObjectsAt s o (i + 1) ys → ObjectsAt s o i (y ∷ ys)
+  no_objects : {i : ℕ} → ObjectsAt s o i []
+  some_objects : {i : ℕ} {y : Content} {ys : List Content} → ObjectIs s o i y → ObjectsAt s o (i + 1) ys → ObjectsAt s o i (y ∷ ys)

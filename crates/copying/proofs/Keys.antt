@@ -13,11 +13,11 @@ use Rattle.rows.proofs.Walks.{first, any_of, first_append}
 use Rattle.rows.specs.Search.{find_from, has_key, find_row, row_of}
 use Rattle.meaning.specs.Syntax.{Word, Definitions, no_more, define, Values, no_value, value, File}
 use Rattle.meaning.proofs.Standing.{Run}
-use Rattle.meaning.proofs.Sites.{definition-words, value-words}
+use Rattle.meaning.proofs.Sites.{definition_words, value_words}
 use Rattle.layout.specs.Kept.{Entry, list_key, entries, entries_under, spec_entries, definition_cells, kept_definitions}
 use Rattle.scopes.proofs.Rooms.{definition_cell}
 use Rattle.meaning.proofs.Runs.{run_le, cut, Out, cuts}
-use Rattle.scopes.proofs.Finding.{seek-all}
+use Rattle.scopes.proofs.Finding.{seek_all}
 use Rattle.copying.specs.Copies.{attribute_of}
 
 -- The list of none of some definitions has the key k.
@@ -30,38 +30,38 @@ no_key_append [] k b f g = g
 no_key_append (x ∷ a) k b f g = (f.0, no_key_append a k b f.1 g)
 
 -- The key of a list is the place of its first word, and 0 is no word's.
-pub key_out : (vs : Values) (lo hi x : ℕ) → Run lo (value-words vs) hi → 0 < x → Out x lo hi → list_key vs ≡ x → ⊥
-unfolding list_key value-words
+pub key_out : (vs : Values) (lo hi x : ℕ) → Run lo (value_words vs) hi → 0 < x → Out x lo hi → list_key vs ≡ x → ⊥
+unfolding list_key value_words
 key_out no_value lo hi x r h o e = omega arith
-key_out (value w n us vs) lo hi x r h o e = let a = run_le (definition-words us ++ value-words vs) r.1 in o w.place r.0 (omega arith) e
+key_out (value w n us vs) lo hi x r h o e = let a = run_le (definition_words us ++ value_words vs) r.1 in o w.place r.0 (omega arith) e
 
 mutual
-  unfolding entries definition-words
+  unfolding entries definition_words
 
-  pub no-key-in : (ds : Definitions) (u : Word) (p lo hi x : ℕ) → Run lo (definition-words ds) hi → 0 < x → Out x lo hi → NoKey x (entries ds u p)
-  no-key-in no_more u p lo hi x r h o = tt
-  no-key-in (define d vs ds) u p lo hi x r h o =
+  pub no_key_in : (ds : Definitions) (u : Word) (p lo hi x : ℕ) → Run lo (definition_words ds) hi → 0 < x → Out x lo hi → NoKey x (entries ds u p)
+  no_key_in no_more u p lo hi x r h o = tt
+  no_key_in (define d vs ds) u p lo hi x r h o =
       let k = cuts d vs ds lo hi r in
       let i = k.low in
       let j = k.next in
-      let l = run_le (definition-words ds) k.rest in
-      let m = run_le (value-words vs) k.values in
+      let l = run_le (definition_words ds) k.rest in
+      let m = run_le (value_words vs) k.values in
       no_key_append (entries_under vs (list_key vs)) x (record { under = u; outer = p; definition = d; values = vs } ∷ entries ds u p)
-      (no-key-under vs (list_key vs) k.a k.b x k.values h (λ y a b. o y (omega arith) (omega arith))) (
+      (no_key_under vs (list_key vs) k.a k.b x k.values h (λ y a b. o y (omega arith) (omega arith))) (
         key_out vs k.a k.b x k.values h (λ y a b. o y (omega arith) (omega arith)),
-        no-key-in ds u p k.c hi x k.rest h (λ y a b. o y (omega arith) b),
+        no_key_in ds u p k.c hi x k.rest h (λ y a b. o y (omega arith) b),
       )
 
-  pub no-key-under : (vs : Values) (p lo hi x : ℕ) → Run lo (value-words vs) hi → 0 < x → Out x lo hi → NoKey x (entries_under vs p)
-  no-key-under no_value p lo hi x r h o = tt
-  no-key-under (value w n us vs) p lo hi x r h o =
+  pub no_key_under : (vs : Values) (p lo hi x : ℕ) → Run lo (value_words vs) hi → 0 < x → Out x lo hi → NoKey x (entries_under vs p)
+  no_key_under no_value p lo hi x r h o = tt
+  no_key_under (value w n us vs) p lo hi x r h o =
       let i = r.0 in
-      let k = cut (definition-words us) (value-words vs) (suc w.place) hi r.1 in
-      let l = run_le (definition-words us) k.front in
-      let m = run_le (value-words vs) k.back in
+      let k = cut (definition_words us) (value_words vs) (suc w.place) hi r.1 in
+      let l = run_le (definition_words us) k.front in
+      let m = run_le (value_words vs) k.back in
       no_key_append (entries us w p) x (entries_under vs p)
-      (no-key-in us w p (suc w.place) k.mid x k.front h (λ y a b. o y (omega arith) (omega arith)))
-      (no-key-under vs p k.mid hi x k.back h (λ y a b. o y (omega arith) b))
+      (no_key_in us w p (suc w.place) k.mid x k.front h (λ y a b. o y (omega arith) (omega arith)))
+      (no_key_under vs p k.mid hi x k.back h (λ y a b. o y (omega arith) b))
 
 -- As many entries as definitions.
 -- The search -------------------------------------------------------------------------------------------------------------------------------
@@ -87,7 +87,7 @@ find_key : (f : File) (d : List ℕ) (n k : ℕ) → d ≡ kept_definitions f �
 unfolding find_row
 find_key f d n k e m h =
     ap (λ (q : ℕ). find_from (λ j. has_key d (j * 19) 14 k) q 0) m
-    ∙ seek-all (has_list k) (λ j. has_key d (j * 19) 14 k) (spec_entries f.specs) (λ a x b w.
+    ∙ seek_all (has_list k) (λ j. has_key d (j * 19) 14 k) (spec_entries f.specs) (λ a x b w.
     let p : length (spec_entries f.specs) ≡ length (a ++ (x ∷ b)) = ap length w in
     let q = length-append a (x ∷ b) in
     key_cell f d k e a x b w (omega arith))

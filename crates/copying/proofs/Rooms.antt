@@ -43,10 +43,10 @@ module _ (g : List ℕ → List ℕ) (w c : ℕ) (k : c ≤ w) where
       (ap (λ (t : List ℕ). each_row g t w c (suc i) (length rs)) z ∙ rows_in rs (a ++ r) b (suc i) (omega arith) h.1)
 
   -- What is copied from a kept table that has room for all its rows.
-  pub rows-kept : (n : ℕ) (rs : List (List ℕ)) → Wide w rs → length rs * w ≤ n
+  pub rows_kept : (n : ℕ) (rs : List (List ℕ)) → Wide w rs → length rs * w ≤ n
       → each_row g (kept n rs) w c 0 (length rs) ≡ cells (λ (r : List ℕ). g (take c r)) rs
   unfolding kept
-  rows-kept n rs h q =
+  rows_kept n rs h q =
       let a = length_join w rs h in
       let b = length-replicate {A = ℕ} n 0 in
       let e : sets (replicate n 0) 0 (join rs) ≡ join rs ++ drop (0 + length (join rs)) (replicate n 0) = sets-eq (join rs) (replicate n 0) 0 (omega arith) in
@@ -54,10 +54,10 @@ module _ (g : List ℕ → List ℕ) (w c : ℕ) (k : c ≤ w) where
 
 -- Rows made of a list, one of each element.
 module _ {A : Type 0} (f : A → List ℕ) where
-  pub cells-map : (h : List ℕ → List ℕ) (xs : List A) → cells h (map_cells f xs) ≡ cells (λ (x : A). h (f x)) xs
+  pub cells_map : (h : List ℕ → List ℕ) (xs : List A) → cells h (map_cells f xs) ≡ cells (λ (x : A). h (f x)) xs
   unfolding cells map_cells
-  cells-map h [] = refl
-  cells-map h (x ∷ xs) = ap (λ (t : List ℕ). h (f x) ++ t) (cells-map h xs)
+  cells_map h [] = refl
+  cells_map h (x ∷ xs) = ap (λ (t : List ℕ). h (f x) ++ t) (cells_map h xs)
 
   pub cells_append : (xs ys : List A) → cells f (xs ++ ys) ≡ cells f xs ++ cells f ys
   unfolding cells

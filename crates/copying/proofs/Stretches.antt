@@ -17,32 +17,32 @@ length_cells l a (suc c) = ap suc (length_cells l (suc a) c)
 
 -- A loop that copies one cell a turn.
 module _ (l m : List ℕ) (j a c : ℕ) where
-  pub cells-start : sets l j (cells_from m (a + 0) (c - 0)) ≡ sets l j (cells_from m a c)
-  cells-start =
+  pub cells_start : sets l j (cells_from m (a + 0) (c - 0)) ≡ sets l j (cells_from m a c)
+  cells_start =
       let e : a + 0 ≡ a = omega arith in
       let f : c - 0 ≡ c = omega arith in
       ap₂ (λ (p q : ℕ). sets l j (cells_from m p q)) e f
 
   module _ (i : ℕ) where
-    cells-more : i < c → sets l j (cells_from m (a + i) (c - i)) ≡ sets (set l j (get_or m (a + i) 0)) (j + 1) (cells_from m (a + (i + 1)) (c - (i + 1)))
+    cells_more : i < c → sets l j (cells_from m (a + i) (c - i)) ≡ sets (set l j (get_or m (a + i) 0)) (j + 1) (cells_from m (a + (i + 1)) (c - (i + 1)))
     unfolding cells_from
-    cells-more h =
+    cells_more h =
         let e : c - i ≡ suc (c - (i + 1)) = omega arith in
         let f : suc (a + i) ≡ a + (i + 1) = omega arith in
         let g : suc j ≡ j + 1 = omega arith in
         ap (λ (k : ℕ). sets l j (cells_from m (a + i) k)) e
         ∙ ap₂ (λ (p q : ℕ). sets (set l j (get_or m (a + i) 0)) p (cells_from m q (c - (i + 1)))) g f
 
-    pub cells-turn : (v : ℕ) (all : List ℕ) → i < c → v ≡ get_or m (a + i) 0 → sets l j (cells_from m (a + i) (c - i)) ≡ all
+    pub cells_turn : (v : ℕ) (all : List ℕ) → i < c → v ≡ get_or m (a + i) 0 → sets l j (cells_from m (a + i) (c - i)) ≡ all
         → sets (set l j v) (j + 1) (cells_from m (a + (i + 1)) (c - (i + 1))) ≡ all
-    cells-turn v all h e inv = ap (λ (k : ℕ). sets (set l j k) (j + 1) (cells_from m (a + (i + 1)) (c - (i + 1)))) e ∙ sym (cells-more h) ∙ inv
+    cells_turn v all h e inv = ap (λ (k : ℕ). sets (set l j k) (j + 1) (cells_from m (a + (i + 1)) (c - (i + 1)))) e ∙ sym (cells_more h) ∙ inv
 
-    pub cells-past : length l ≤ j → l ≡ sets l j (cells_from m (a + i) (c - i))
-    cells-past h = sym (sets_out l j (cells_from m (a + i) (c - i)) h)
+    pub cells_past : length l ≤ j → l ≡ sets l j (cells_from m (a + i) (c - i))
+    cells_past h = sym (sets_out l j (cells_from m (a + i) (c - i)) h)
 
-    pub cells-end : c ≤ i → l ≡ sets l j (cells_from m (a + i) (c - i))
+    pub cells_end : c ≤ i → l ≡ sets l j (cells_from m (a + i) (c - i))
     unfolding cells_from
-    cells-end h =
+    cells_end h =
         let e : 0 ≡ c - i = omega arith in
         ap (λ (k : ℕ). sets l j (cells_from m (a + i) k)) e
 
@@ -85,16 +85,16 @@ attributed_keeps d n (k ∷ r) = refl
 
 -- A loop that copies one row a turn.
 module _ (g : List ℕ → List ℕ) (keeps : Keeps g) (m : List ℕ) (w c : ℕ) where
-  length-one : (a : ℕ) → length (g (cells_from m a c)) ≡ c
-  length-one a = keeps (cells_from m a c) ∙ length_cells m a c
+  length_one : (a : ℕ) → length (g (cells_from m a c)) ≡ c
+  length_one a = keeps (cells_from m a c) ∙ length_cells m a c
 
-  pub length-rows : (i n : ℕ) → length (each_row g m w c i n) ≡ n * c
+  pub length_rows : (i n : ℕ) → length (each_row g m w c i n) ≡ n * c
   unfolding each_row
-  length-rows i zero = omega arith
-  length-rows i (suc n) =
+  length_rows i zero = omega arith
+  length_rows i (suc n) =
       let a = length-append (g (cells_from m (i * w) c)) (each_row g m w c (suc i) n) in
-      let b = length-one (i * w) in
-      let e = length-rows (suc i) n in
+      let b = length_one (i * w) in
+      let e = length_rows (suc i) n in
       omega arith
 
   module _ (n : ℕ) where
@@ -105,7 +105,7 @@ module _ (g : List ℕ → List ℕ) (keeps : Keeps g) (m : List ℕ) (w c : ℕ
         let r = g (cells_from m (i * w) c) in
         let e : n - i ≡ suc (n - (i + 1)) = omega arith in
         let f : suc i ≡ i + 1 = omega arith in
-        let b = length-one (i * w) in
+        let b = length_one (i * w) in
         let k : i * c + length r ≡ (i + 1) * c = omega arith in
         ap (λ (q : ℕ). sets l (i * c) (each_row g m w c i q)) e
         ∙ sets_append l (i * c) r (each_row g m w c (suc i) (n - (i + 1)))

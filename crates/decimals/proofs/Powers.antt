@@ -37,8 +37,8 @@ power_less m k n h =
 
 -- the power that both sides have counts for nothing
 module _ (m n k l : ℕ) where
-  pub power-left : l ≤ k → leb (m * 10 ^ (k - l)) n ≡ leb (m * 10 ^ k) (n * 10 ^ l)
-  power-left h =
+  pub power_left : l ≤ k → leb (m * 10 ^ (k - l)) n ≡ leb (m * 10 ^ k) (n * 10 ^ l)
+  power_left h =
       let e : k - l + l ≡ k = omega arith in
       let q : m * 10 ^ (k - l) * 10 ^ l ≡ m * 10 ^ k =
       mul_assoc m (10 ^ (k - l)) (10 ^ l) ∙ ap (λ (x : ℕ). m * x) (sym (pow-add 10 (k - l) l)) ∙ ap (λ (j : ℕ). m * 10 ^ j) e in

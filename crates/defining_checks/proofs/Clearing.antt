@@ -10,7 +10,7 @@ use Rattle.token.specs.Find.{pick, both}
 use Rattle.meaning.specs.Syntax.{Word, Definition, Definitions, no_more, define, Values, no_value, value}
 use Rattle.meaning.specs.Scopes.{heads}
 use Rattle.meaning.proofs.Standing.{Run}
-use Rattle.meaning.proofs.Sites.{definition-words, value-words}
+use Rattle.meaning.proofs.Sites.{definition_words, value_words}
 use Rattle.layout.specs.Kept.{Entry, Choice, list_key, entries, entries_under}
 use Rattle.scopes.specs.Situations.{NoneOf}
 use Rattle.defining_checks.specs.Listing.{keep_if, under_of, others_of, others_for, word_if, list_of}
@@ -27,42 +27,42 @@ clear_append [] x b f g = g
 clear_append (y ∷ a) x b f g = (f.0, clear_append a x b f.1 g)
 
 -- The key of a list is the place of its first word.
-by_key : (vs : Values) (lo hi x : ℕ) → Run lo (value-words vs) hi → Out x lo hi
+by_key : (vs : Values) (lo hi x : ℕ) → Run lo (value_words vs) hi → Out x lo hi
     → ((list_key vs ≡ x → ⊥) → Clear x (entries_under vs (list_key vs))) → Clear x (entries_under vs (list_key vs))
-unfolding list_key entries_under value-words
+unfolding list_key entries_under value_words
 by_key no_value lo hi x r o f = tt
-by_key (value w e us vs) lo hi x r o f = let a = r.0 in let c = run_le (definition-words us ++ value-words vs) r.1 in f (o w.place a (omega arith))
+by_key (value w e us vs) lo hi x r o f = let a = r.0 in let c = run_le (definition_words us ++ value_words vs) r.1 in f (o w.place a (omega arith))
 
 mutual
-  unfolding entries definition-words
+  unfolding entries definition_words
 
-  pub clear_in : (ds : Definitions) (u : Word) (o lo hi x : ℕ) → Run lo (definition-words ds) hi → (u.place ≡ x → ⊥) → (o ≡ x → ⊥) → Out x lo hi → Clear x (entries ds u o)
+  pub clear_in : (ds : Definitions) (u : Word) (o lo hi x : ℕ) → Run lo (definition_words ds) hi → (u.place ≡ x → ⊥) → (o ≡ x → ⊥) → Out x lo hi → Clear x (entries ds u o)
   clear_in no_more u o lo hi x r h i out = tt
   clear_in (define d vs ds) u o lo hi x r h i out =
       let k = cuts d vs ds lo hi r in
       let k₁ = k.low in
       let k₂ = k.next in
-      let l = run_le (definition-words ds) k.rest in
-      let m = run_le (value-words vs) k.values in
+      let l = run_le (definition_words ds) k.rest in
+      let m = run_le (value_words vs) k.values in
       clear_append (entries_under vs (list_key vs)) x (record { under = u; outer = o; definition = d; values = vs } ∷ entries ds u o)
       (by_key vs k.a k.b x k.values (λ y p q. out y (omega arith) (omega arith))
-      (λ n. clear-under vs (list_key vs) k.a k.b x k.values n (λ y p q. out y (omega arith) (omega arith))))
+      (λ n. clear_under vs (list_key vs) k.a k.b x k.values n (λ y p q. out y (omega arith) (omega arith))))
       ((h, i), clear_in ds u o k.c hi x k.rest h i (λ y p q. out y (omega arith) q))
 
-  pub clear-under : (vs : Values) (key lo hi x : ℕ) → Run lo (value-words vs) hi → (key ≡ x → ⊥) → Out x lo hi → Clear x (entries_under vs key)
-  clear-under no_value key lo hi x r h out = tt
-  clear-under (value w e us vs) key lo hi x r h out =
+  pub clear_under : (vs : Values) (key lo hi x : ℕ) → Run lo (value_words vs) hi → (key ≡ x → ⊥) → Out x lo hi → Clear x (entries_under vs key)
+  clear_under no_value key lo hi x r h out = tt
+  clear_under (value w e us vs) key lo hi x r h out =
       let i = r.0 in
-      let k = cut (definition-words us) (value-words vs) (suc w.place) hi r.1 in
-      let l = run_le (definition-words us) k.front in
-      let m = run_le (value-words vs) k.back in
+      let k = cut (definition_words us) (value_words vs) (suc w.place) hi r.1 in
+      let l = run_le (definition_words us) k.front in
+      let m = run_le (value_words vs) k.back in
       clear_append (entries us w key) x (entries_under vs key)
       (clear_in us w key (suc w.place) k.mid x k.front (out w.place i (omega arith)) h (λ y p q. out y (omega arith) (omega arith)))
-      (clear-under vs key k.mid hi x k.back h (λ y p q. out y (omega arith) q))
+      (clear_under vs key k.mid hi x k.back h (λ y p q. out y (omega arith) q))
 
 -- The rows under the values of a list.
-pub clear_list : (vs : Values) (lo hi x : ℕ) → Run lo (value-words vs) hi → Out x lo hi → Clear x (entries_under vs (list_key vs))
-clear_list vs lo hi x r out = by_key vs lo hi x r out (λ n. clear-under vs (list_key vs) lo hi x r n out)
+pub clear_list : (vs : Values) (lo hi x : ℕ) → Run lo (value_words vs) hi → Out x lo hi → Clear x (entries_under vs (list_key vs))
+clear_list vs lo hi x r out = by_key vs lo hi x r out (λ n. clear_under vs (list_key vs) lo hi x r n out)
 
 -- What such rows have ------------------------------------------------------------------------------------------------------------------------
 
@@ -126,14 +126,14 @@ others_own o x =
     ∙ ap (λ b. keep_if b x.definition ++ []) (both_false (eqb x.outer o))
 
 -- The rows under one value of a list, for another value: those of its own scope.
-pub own_heads : (ds : Definitions) (w : Word) (key p lo hi : ℕ) → Run lo (definition-words ds) hi → key < lo → (w.place ≡ p → ⊥) → others_of key p (entries ds w key) ≡ heads ds
+pub own_heads : (ds : Definitions) (w : Word) (key p lo hi : ℕ) → Run lo (definition_words ds) hi → key < lo → (w.place ≡ p → ⊥) → others_of key p (entries ds w key) ≡ heads ds
 unfolding entries others_of heads keep_if
 own_heads no_more w key p lo hi r h n = refl
 own_heads (define d vs ds) w key p lo hi r h n =
     let k = cuts d vs ds lo hi r in
     let k₁ = k.low in
     let k₂ = k.next in
-    let m = run_le (value-words vs) k.values in
+    let m = run_le (value_words vs) k.values in
     let x : Entry = record { under = w; outer = key; definition = d; values = vs } in
     let t : both (eqb key key) (not (eqb w.place p)) ≡ true = ap₂ (λ a b. both a (not b)) (eq-eqb key key refl) (ne_eqb w.place p n) in
     others_append key p (entries_under vs (list_key vs)) (x ∷ entries ds w key)

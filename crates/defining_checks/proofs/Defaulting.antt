@@ -108,20 +108,20 @@ module _ (s d e xe : List ℕ) (full : Bool) (limit j at : ℕ) (e₀ : at ≡ g
       (ap (λ (n : ℕ). not (both full (leb limit n))) (sym (place_at f x hd q l)) ∙ ap not (sym k ∙ h))
 
   module _ (n : at ≡ 0 → ⊥) (b : Bool) (k : b ≡ both full (leb limit at)) (h : b ≡ false) (len code : ℕ) (e₁ : len ≡ get_or d (j * 19 + 11) 0) (e₂ : code ≡ get_or d (j * 19 + 18) 0) where
-    pub default-unset : code ≡ 4 → DefaultFault s d e xe full limit j (record { number = 0; place = 0 })
+    pub default_unset : code ≡ 4 → DefaultFault s d e xe full limit j (record { number = 0; place = 0 })
     unfolding judged_faults default_faults default_code code_of
-    default-unset i f m x st hd he hx room q l = by x.definition.default (sym i ∙ e₂ ∙ default_cell f d j x hd q l)
+    default_unset i f m x st hd he hx room q l = by x.definition.default (sym i ∙ e₂ ∙ default_cell f d j x hd q l)
       where
         by : (o : Option Word) → 4 ≡ default_code o
             → record { number = 0; place = 0 } ≡ fault_of (first (pick (judged full limit o) (default_faults x.definition x.values o) []))
         by none p = pick_none (judged full limit none)
         by (some t) p = pick_wrong (judged full limit (some t)) (default_wrong (sort_of t.class) (fits x.definition x.values t)) t (default_number (sort_of t.class)) (wrong_none t.class (fits x.definition x.values t) (sym p))
 
-    default-judged : (nr : ℕ) → ((a : Class) → code ≡ class_number a → nr ≡ default_number (sort_of a))
+    default_judged : (nr : ℕ) → ((a : Class) → code ≡ class_number a → nr ≡ default_number (sort_of a))
         → (u : ℕ) (c : Bool) (r : Fault) → (code ≡ 4 → ⊥) → WordIndexed s d e xe j at len u → TakesUnder s d j at code u c → r ≡ fault_if (not c) nr at
         → DefaultFault s d e xe full limit j r
     unfolding WordIndexed judged_faults judged definition_cells span_or absent span_of default_faults default_code code_of option_words
-    default-judged nr nk u c r i v w z f m x st hd he hx room q l =
+    default_judged nr nk u c r i v w z f m x st hd he hx room q l =
         z ∙ by x.definition.default refl (place_at f x hd q l) (e₁ ∙ definition_cell f d j 11 x hd q l (omega arith)) (e₂ ∙ default_cell f d j x hd q l) (entry_facts st (nth_in q)).facts.default
       where
         taken : Takes s d e m j at len code c
@@ -142,10 +142,10 @@ module _ (s d e xe : List ℕ) (full : Bool) (limit j at : ℕ) (e₀ : at ≡ g
             ap₂ (λ b k. fault_if b k at) wr (nk t.class w)
             ∙ pick_is (judged full limit (some t)) (default_wrong (sort_of t.class) (fits x.definition x.values t)) t (default_number (sort_of t.class)) at ok p
 
-    pub default-auto : (u : ℕ) (c : Bool) (r : Fault) → (code ≡ 4 → ⊥) → code ≡ 3 → WordIndexed s d e xe j at len u → TakesUnder s d j at code u c → r ≡ fault_if (not c) 23 at
+    pub default_auto : (u : ℕ) (c : Bool) (r : Fault) → (code ≡ 4 → ⊥) → code ≡ 3 → WordIndexed s d e xe j at len u → TakesUnder s d j at code u c → r ≡ fault_if (not c) 23 at
         → DefaultFault s d e xe full limit j r
-    default-auto u c r i a = default-judged 23 (λ k p. number_auto k (sym p ∙ a)) u c r i
+    default_auto u c r i a = default_judged 23 (λ k p. number_auto k (sym p ∙ a)) u c r i
 
-    pub default-other : (u : ℕ) (c : Bool) (r : Fault) → (code ≡ 4 → ⊥) → (code ≡ 3 → ⊥) → WordIndexed s d e xe j at len u → TakesUnder s d j at code u c → r ≡ fault_if (not c) 22 at
+    pub default_other : (u : ℕ) (c : Bool) (r : Fault) → (code ≡ 4 → ⊥) → (code ≡ 3 → ⊥) → WordIndexed s d e xe j at len u → TakesUnder s d j at code u c → r ≡ fault_if (not c) 22 at
         → DefaultFault s d e xe full limit j r
-    default-other u c r i a = default-judged 22 (λ k p. number_other k (λ q. a (p ∙ q))) u c r i
+    default_other u c r i a = default_judged 22 (λ k p. number_other k (λ q. a (p ∙ q))) u c r i

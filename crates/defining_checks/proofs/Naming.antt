@@ -16,7 +16,7 @@ use Rattle.rows.specs.declared.Found.TheVariants.{At, Nothing}
 use Rattle.rows.proofs.Walks.{first, any_of}
 use Rattle.rows.specs.Search.{find_named, find_from, is_named, has_key, is_found}
 use Rattle.rows.specs.Order.{fault_if}
-use Rattle.rows.proofs.Searches.{found_first, first_found, nothing-none, none-nothing, first_any, first_is, first-nothing}
+use Rattle.rows.proofs.Searches.{found_first, first_found, nothing_none, none_nothing, first_any, first_is, first_nothing}
 use Rattle.meaning.specs.Syntax.{Definition, File}
 use Rattle.meaning.specs.Words.{alike}
 use Rattle.meaning.specs.Defining.{defined_in, differs}
@@ -24,7 +24,7 @@ use Rattle.layout.specs.Kept.{Entry, spec_entries, kept_definitions, definition_
 use Rattle.scopes.specs.Situations.{Situation, Nth}
 use Rattle.scopes.proofs.Goodness.{Good}
 use Rattle.scopes.proofs.Rooms.{definition_cell}
-use Rattle.scopes.proofs.Finding.{is_row, find_in_definitions, seek-all, nth_front, below_front}
+use Rattle.scopes.proofs.Finding.{is_row, find_in_definitions, seek_all, nth_front, below_front}
 use Rattle.scopes.proofs.Descents.{In, here, there, nth_in, entry_facts}
 use Rattle.defining_checks.specs.Listing.{keep_if, under_of, others_of, others_for}
 use Rattle.defining_checks.specs.Promises.{first_again, TypeFault}
@@ -103,7 +103,7 @@ find_agree t u n h = by (find_from t n 0) refl
         let i = found_first t n 0 j e in
         let g = i.high in
         e ∙ sym (first_found u n 0 j (record { low = i.low; high = g; holds = sym (h j g) ∙ i.holds; fails = λ k a b. sym (h k (omega (arith, g))) ∙ i.fails k a b }))
-    by Nothing e = e ∙ sym (none-nothing u n 0 (λ k a b. sym (h k b) ∙ nothing-none t n 0 e k a b))
+    by Nothing e = e ∙ sym (none_nothing u n 0 (λ k a b. sym (h k b) ∙ nothing_none t n 0 e k a b))
 
 new_other : (a b c : Bool) → both b c ≡ false → both a c ≡ both (both a (not b)) c
 new_other true true c e = e
@@ -117,7 +117,7 @@ unfolding find_named is_named has_key first_other is_other
 other_is s d j o u at len e =
     find_agree (λ i. is_named s d (i * 19) 13 o 2 3 at len) (λ i. is_other s d o u at len i) j (λ k h.
     new_other (eqb (get_or d (k * 19 + 13) 0) o) (eqb (get_or d (k * 19 + 0) 0) u) (same (part_of s (get_or d (k * 19 + 2) 0) (get_or d (k * 19 + 3) 0)) (part_of s at len))
-    (nothing-none (λ i. is_named s d (i * 19) 0 u 2 3 at len) j 0 e k (omega arith) h))
+    (nothing_none (λ i. is_named s d (i * 19) 0 u 2 3 at len) j 0 e k (omega arith) h))
 
 -- The test of a row itself.
 unfoldable is_other_row : List ℕ → (o p at len : ℕ) → Entry → Bool
@@ -133,7 +133,7 @@ find_others : (f : File) (s d : List ℕ) (front rest : List Entry) (n o p at le
 unfolding first_other is_other_row definition_cells
 find_others f s d front rest n o p at len e w k h =
     ap (λ (m : ℕ). find_from (λ j. is_other s d o p at len j) m 0) k
-    ∙ seek-all (is_other_row s o p at len) (λ j. is_other s d o p at len j) front (λ a x b g.
+    ∙ seek_all (is_other_row s o p at len) (λ j. is_other s d o p at len j) front (λ a x b g.
     let q = nth_front rest w a x b g in
     let l = below_front front a x b g in
     other_cells s d o p at len (length a) x.outer x.under.place x.definition.name.place x.definition.name.length
@@ -149,32 +149,32 @@ module _ (s : List ℕ) (o p : ℕ) (d : Definition) (g : Good s d.name) where
   other_alike y h = ap (both (both (eqb y.outer o) (not (eqb y.under.place p)))) (ap₂ same (sym h.read.bytes) (sym g.read.bytes))
 
   -- A row that fails the test changes nothing.
-  differs-skip : (y : Entry) (l : List Definition) (c : Bool) → both c (alike y.definition.name d.name) ≡ false → differs d (keep_if c y.definition ++ l) ≡ differs d l
+  differs_skip : (y : Entry) (l : List Definition) (c : Bool) → both c (alike y.definition.name d.name) ≡ false → differs d (keep_if c y.definition ++ l) ≡ differs d l
   unfolding differs keep_if
-  differs-skip y l true e = ap (λ b. pick b (not (alike y.definition.word d.word)) (differs d l)) e
-  differs-skip y l false e = refl
+  differs_skip y l true e = ap (λ b. pick b (not (alike y.definition.word d.word)) (differs d l)) e
+  differs_skip y l false e = refl
 
-  differs-here : (y : Entry) (l : List Definition) (c : Bool) → both c (alike y.definition.name d.name) ≡ true
+  differs_here : (y : Entry) (l : List Definition) (c : Bool) → both c (alike y.definition.name d.name) ≡ true
       → differs d (keep_if c y.definition ++ l) ≡ not (alike y.definition.word d.word)
   unfolding differs keep_if
-  differs-here y l true e = ap (λ b. pick b (not (alike y.definition.word d.word)) (differs d l)) e
-  differs-here y l false e = absurd (false≢true e)
+  differs_here y l true e = ap (λ b. pick b (not (alike y.definition.word d.word)) (differs d l)) e
+  differs_here y l false e = absurd (false≢true e)
 
   differs_none : (E : List Entry) → ((y : Entry) → In y E → Good s y.definition.name) → any_of P E ≡ false → differs d (others_of o p E) ≡ false
   unfolding any_of differs others_of
   differs_none [] h e = refl
   differs_none (y ∷ E) h e =
-      differs-skip y (others_of o p E) (both (eqb y.outer o) (not (eqb y.under.place p))) (sym (other_alike y (h y (here refl))) ∙ neither_first (P y) (any_of P E) e)
+      differs_skip y (others_of o p E) (both (eqb y.outer o) (not (eqb y.under.place p))) (sym (other_alike y (h y (here refl))) ∙ neither_first (P y) (any_of P E) e)
       ∙ differs_none E (λ z m. h z (there m)) (neither_second (P y) (any_of P E) e)
 
-  differs-first : (a : List Entry) (y : Entry) (b : List Entry) → ((z : Entry) → In z (a ++ (y ∷ b)) → Good s z.definition.name) → any_of P a ≡ false → P y ≡ true
+  differs_first : (a : List Entry) (y : Entry) (b : List Entry) → ((z : Entry) → In z (a ++ (y ∷ b)) → Good s z.definition.name) → any_of P a ≡ false → P y ≡ true
       → differs d (others_of o p (a ++ (y ∷ b))) ≡ not (alike y.definition.word d.word)
   unfolding any_of others_of
-  differs-first [] y b h e t =
-      differs-here y (others_of o p b) (both (eqb y.outer o) (not (eqb y.under.place p))) (sym (other_alike y (h y (here refl))) ∙ t)
-  differs-first (z ∷ a) y b h e t =
-      differs-skip z (others_of o p (a ++ (y ∷ b))) (both (eqb z.outer o) (not (eqb z.under.place p))) (sym (other_alike z (h z (here refl))) ∙ neither_first (P z) (any_of P a) e)
-      ∙ differs-first a y b (λ v m. h v (there m)) (neither_second (P z) (any_of P a) e) t
+  differs_first [] y b h e t =
+      differs_here y (others_of o p b) (both (eqb y.outer o) (not (eqb y.under.place p))) (sym (other_alike y (h y (here refl))) ∙ t)
+  differs_first (z ∷ a) y b h e t =
+      differs_skip z (others_of o p (a ++ (y ∷ b))) (both (eqb z.outer o) (not (eqb z.under.place p))) (sym (other_alike z (h z (here refl))) ∙ neither_first (P z) (any_of P a) e)
+      ∙ differs_first a y b (λ v m. h v (there m)) (neither_second (P z) (any_of P a) e) t
 
 none_if : (b : Bool) (p : ℕ) → b ≡ false → record { number = 0; place = 0 } ≡ fault_if b 9 p
 unfolding fault_if
@@ -193,17 +193,17 @@ unfolding differs
 differs_nothing d = refl
 
 module _ (s d : List ℕ) (j o : ℕ) (e₁₃ : o ≡ get_or d (j * 19 + 13) 0) where
-  pub type-zero : o ≡ 0 → TypeFault s d j (record { number = 0; place = 0 })
+  pub type_zero : o ≡ 0 → TypeFault s d j (record { number = 0; place = 0 })
   unfolding definition_cells
-  type-zero n f x st hd q l =
+  type_zero n f x st hd q l =
       let c : o ≡ x.outer = e₁₃ ∙ definition_cell f d j 13 x hd q l (omega arith) in
       none_if _ x.definition.name.place (ap (differs x.definition) (others_zero x.outer x.under.place q.front (sym c ∙ n)) ∙ differs_nothing x.definition)
 
   module _ (n : o ≡ 0 → ⊥) (at len : ℕ) (e₂ : at ≡ get_or d (j * 19 + 2) 0) (e₃ : len ≡ get_or d (j * 19 + 3) 0)
       (z : Found) (k : z ≡ find_named s d 19 j 13 o 2 at len 0) (new : first_again s d j ≡ Nothing) where
-    other-first : z ≡ first_other s d o (get_or d (j * 19 + 0) 0) at len j 0
+    other_first : z ≡ first_other s d o (get_or d (j * 19 + 0) 0) at len j 0
     unfolding first_again
-    other-first = k ∙ other_is s d j o (get_or d (j * 19 + 0) 0) at len (ap₂ (λ a b. find_named s d 19 j 0 (get_or d (j * 19 + 0) 0) 2 a b 0) e₂ e₃ ∙ new)
+    other_first = k ∙ other_is s d j o (get_or d (j * 19 + 0) 0) at len (ap₂ (λ a b. find_named s d 19 j 0 (get_or d (j * 19 + 0) 0) 2 a b 0) e₂ e₃ ∙ new)
 
     search_is : (f : File) (x : Entry) → d ≡ kept_definitions f → (q : Nth (spec_entries f.specs) j x) → j < 513
         → z ≡ first (is_other_row s x.outer x.under.place x.definition.name.place x.definition.name.length) At Nothing 0 q.front
@@ -213,25 +213,25 @@ module _ (s d : List ℕ) (j o : ℕ) (e₁₃ : o ≡ get_or d (j * 19 + 13) 0)
         let c₀ : get_or d (j * 19 + 0) 0 ≡ x.under.place = definition_cell f d j 0 x hd q l (omega arith) in
         let c₂ : at ≡ x.definition.name.place = e₂ ∙ definition_cell f d j 2 x hd q l (omega arith) in
         let c₃ : len ≡ x.definition.name.length = e₃ ∙ definition_cell f d j 3 x hd q l (omega arith) in
-        other-first ∙ ap₂ (λ (a b : ℕ). first_other s d a b at len j 0) c c₀ ∙ ap₂ (λ (a b : ℕ). first_other s d x.outer x.under.place a b j 0) c₂ c₃
+        other_first ∙ ap₂ (λ (a b : ℕ). first_other s d a b at len j 0) c c₀ ∙ ap₂ (λ (a b : ℕ). first_other s d x.outer x.under.place a b j 0) c₂ c₃
         ∙ find_others f s d q.front (x ∷ q.rest) j x.outer x.under.place x.definition.name.place x.definition.name.length hd q.whole (sym q.place) (omega arith)
 
-    outer-some : (f : File) (x : Entry) → d ≡ kept_definitions f → Nth (spec_entries f.specs) j x → j < 513 → x.outer ≡ 0 → ⊥
+    outer_some : (f : File) (x : Entry) → d ≡ kept_definitions f → Nth (spec_entries f.specs) j x → j < 513 → x.outer ≡ 0 → ⊥
     unfolding definition_cells
-    outer-some f x hd q l i = let c : o ≡ x.outer = e₁₃ ∙ definition_cell f d j 13 x hd q l (omega arith) in n (c ∙ i)
+    outer_some f x hd q l i = let c : o ≡ x.outer = e₁₃ ∙ definition_cell f d j 13 x hd q l (omega arith) in n (c ∙ i)
 
-    pub type-none : z ≡ Nothing → TypeFault s d j (record { number = 0; place = 0 })
-    type-none h f x st hd q l =
+    pub type_none : z ≡ Nothing → TypeFault s d j (record { number = 0; place = 0 })
+    type_none h f x st hd q l =
         let g = (entry_facts st (nth_in q)).facts.name in
         let P = is_other_row s x.outer x.under.place x.definition.name.place x.definition.name.length in
-        let a : any_of P q.front ≡ false = first-nothing P 0 q.front (sym (search_is f x hd q l) ∙ h) in
-        none_if _ x.definition.name.place (ap (differs x.definition) (others_some x.outer x.under.place q.front (outer-some f x hd q l))
+        let a : any_of P q.front ≡ false = first_nothing P 0 q.front (sym (search_is f x hd q l) ∙ h) in
+        none_if _ x.definition.name.place (ap (differs x.definition) (others_some x.outer x.under.place q.front (outer_some f x hd q l))
         ∙ differs_none s x.outer x.under.place x.definition g q.front (names_before st q) a)
 
-    pub type-some : (i : ℕ) → z ≡ At i → (w wn v vn : ℕ) (b : Bool) (r : Fault) → w ≡ get_or d (j * 19 + 4) 0 → wn ≡ get_or d (j * 19 + 5) 0 → v ≡ get_or d (i * 19 + 4) 0 → vn ≡ get_or d (i * 19 + 5) 0
+    pub type_some : (i : ℕ) → z ≡ At i → (w wn v vn : ℕ) (b : Bool) (r : Fault) → w ≡ get_or d (j * 19 + 4) 0 → wn ≡ get_or d (j * 19 + 5) 0 → v ≡ get_or d (i * 19 + 4) 0 → vn ≡ get_or d (i * 19 + 5) 0
         → b ≡ same (part_of s v vn) (part_of s w wn) → r ≡ fault_if (not b) 9 at → TypeFault s d j r
     unfolding definition_cells alike
-    type-some i h w wn v vn b r e₄ e₅ i₄ i₅ eb er f x st hd q l =
+    type_some i h w wn v vn b r e₄ e₅ i₄ i₅ eb er f x st hd q l =
         let F = (entry_facts st (nth_in q)).facts in
         let P = is_other_row s x.outer x.under.place x.definition.name.place x.definition.name.length in
         let m = first_is P 0 q.front i (sym (search_is f x hd q l) ∙ h) in
@@ -257,6 +257,6 @@ module _ (s d : List ℕ) (j o : ℕ) (e₁₃ : o ≡ get_or d (j * 19 + 13) 0)
         eb ∙ ap₂ same (ap₂ (part_of s) y₄ y₅ ∙ sym G.typed.bytes) (ap₂ (part_of s) d₄ d₅ ∙ sym F.typed.bytes) in
         let good : (z : Entry) → In z (m.front ++ (y ∷ m.rest)) → Good s z.definition.name = λ z k. names_before st q z (subst (In z) (sym m.whole) k) in
         let c : differs x.definition (others_for x.outer x.under.place q.front) ≡ not (alike y.definition.word x.definition.word) =
-        ap (differs x.definition) (others_some x.outer x.under.place q.front (outer-some f x hd q l) ∙ ap (others_of x.outer x.under.place) m.whole)
-        ∙ differs-first s x.outer x.under.place x.definition F.name m.front y m.rest good m.fails m.holds in
+        ap (differs x.definition) (others_some x.outer x.under.place q.front (outer_some f x hd q l) ∙ ap (others_of x.outer x.under.place) m.whole)
+        ∙ differs_first s x.outer x.under.place x.definition F.name m.front y m.rest good m.fails m.holds in
         er ∙ ap₂ (λ (b : Bool) (n : ℕ). fault_if b 9 n) (ap not a ∙ sym c) c₂

@@ -11,13 +11,13 @@ use lib.Dec.{leb}
 use borrow.Author.Tests.{lt-ltb, leb-false}
 use Rattle.meaning.specs.Syntax.{Word, span_of, span_or, Definition, Definitions, no_more, define, Values, no_value, value, Spec, File, is_enum}
 use Rattle.meaning.proofs.Standing.{Run}
-use Rattle.meaning.proofs.Sites.{option_words, definition-words, value-words, spec_words}
-use Rattle.layout.specs.Kept.{Entry, Choice, list_key, entries, entries_under, spec_entries, choice_if, choices, choices-of, spec_choices}
+use Rattle.meaning.proofs.Sites.{option_words, definition_words, value_words, spec_words}
+use Rattle.layout.specs.Kept.{Entry, Choice, list_key, entries, entries_under, spec_entries, choice_if, choices, choices_of, spec_choices}
 use Rattle.scopes.specs.Situations.{Nth, NoneOf, Reached}
 use Rattle.scopes.proofs.Lists.{none_append, none_in, none_of, none_specs, KeyBefore, key_next, none_if}
 use Rattle.defining_checks.specs.Listing.{judged}
 use Rattle.defining_checks.specs.Promises.{Room}
-use Rattle.defining_checks.proofs.Rising.{Ascend, ascend_le, ascend_back, ascend-of}
+use Rattle.defining_checks.proofs.Rising.{Ascend, ascend_le, ascend_back, ascend_of}
 use Rattle.defining_checks.proofs.Rowwise.{none_list}
 use Rattle.meaning.proofs.Runs.{run_le, cut, Cuts, cuts}
 use Rattle.scopes.proofs.Rooms.{split}
@@ -93,31 +93,31 @@ default_behind d t b c e r =
     let y = k.0 in
     omega (arith, x, y)
 
-left_own : (u : Word) (o : ℕ) (d : Definition) (vs : Values) (ds : Definitions) (lo hi : ℕ) (C A B : List Choice) (q : Bool) → C ≡ A ++ (choices-of vs q (list_key vs) ++ B)
+left_own : (u : Word) (o : ℕ) (d : Definition) (vs : Values) (ds : Definitions) (lo hi : ℕ) (C A B : List Choice) (q : Bool) → C ≡ A ++ (choices_of vs q (list_key vs) ++ B)
     → (k : Cuts lo d vs ds hi) → NoneOf 0 C → ((x : ℕ) → k.a ≤ x → x < k.b → NoneOf x A) → ((x : ℕ) → k.a ≤ x → x < k.b → NoneOf x B)
     → LeftOf C (record { under = u; outer = o; definition = d; values = vs })
-unfolding list_key value-words
+unfolding list_key value_words
 left_own u o d no_value ds lo hi C A B q e k z f g t h = none_left 0 t.place C z
 left_own u o d (value w n us vs) ds lo hi C A B q e k z f g t h =
     let r = k.values in
     let i = r.0 in
-    let m = run_le (definition-words us ++ value-words vs) r.1 in
-    let K = choices-of (value w n us vs) q w.place in
+    let m = run_le (definition_words us ++ value_words vs) r.1 in
+    let K = choices_of (value w n us vs) q w.place in
     let j = default_behind d t k.b k.c h k.named in
     subst (Left w.place t.place) (sym e)
     (left_append A w.place t.place (K ++ B) (none_left w.place t.place A (f w.place i (omega arith)))
-    (left_append K w.place t.place B (ascend_left w.place t.place K k.a k.b (ascend-of (value w n us vs) q w.place k.a k.b r) j)
+    (left_append K w.place t.place B (ascend_left w.place t.place K k.a k.b (ascend_of (value w n us vs) q w.place k.a k.b r) j)
     (none_left w.place t.place B (g w.place i (omega arith)))))
 
-keyed : (vs : Values) (lo hi : ℕ) → Run lo (value-words vs) hi → KeyBefore vs (list_key vs)
+keyed : (vs : Values) (lo hi : ℕ) → Run lo (value_words vs) hi → KeyBefore vs (list_key vs)
 unfolding list_key
 keyed no_value lo hi r = tt
 keyed (value w e us vs) lo hi r = omega arith
 
 mutual
-  unfolding entries choices definition-words
+  unfolding entries choices definition_words
 
-  left_in : (ds : Definitions) (u : Word) (o lo hi : ℕ) (C A B : List Choice) → C ≡ A ++ (choices ds ++ B) → Run lo (definition-words ds) hi → NoneOf 0 C
+  left_in : (ds : Definitions) (u : Word) (o lo hi : ℕ) (C A B : List Choice) → C ≡ A ++ (choices ds ++ B) → Run lo (definition_words ds) hi → NoneOf 0 C
       → ((x : ℕ) → lo ≤ x → x < hi → NoneOf x A) → ((x : ℕ) → lo ≤ x → x < hi → NoneOf x B) → AllLeft C (entries ds u o)
   left_in no_more u o lo hi C A B e r z f g = tt
   left_in (define d vs ds) u o lo hi C A B e r z f g =
@@ -125,9 +125,9 @@ mutual
       let k = cuts d vs ds lo hi r in
       let k₁ = k.low in
       let k₂ = k.next in
-      let k₃ = run_le (value-words vs) k.values in
-      let k₄ = run_le (definition-words ds) k.rest in
-      let K = choices-of vs b (list_key vs) in
+      let k₃ = run_le (value_words vs) k.values in
+      let k₄ = run_le (definition_words ds) k.rest in
+      let K = choices_of vs b (list_key vs) in
       let rest = choices ds in
       let e₁ : C ≡ A ++ (K ++ (rest ++ B)) = e ∙ ap (λ l. A ++ l) (append_assoc K rest B) in
       let e₂ : C ≡ (A ++ K) ++ (rest ++ B) = e₁ ∙ sym (append_assoc A K (rest ++ B)) in
@@ -135,31 +135,31 @@ mutual
       let fb : (x : ℕ) → k.a ≤ x → x < k.b → NoneOf x (rest ++ B) =
       λ x p q. none_append rest x B (none_in ds k.c hi x k.rest (λ y p' q' z. omega arith)) (g x (omega arith) (omega arith)) in
       all_append C (entries_under vs (list_key vs)) (record { under = u; outer = o; definition = d; values = vs } ∷ entries ds u o)
-      (left-under vs b (list_key vs) k.a k.b C A (rest ++ B) e₁ k.values z (keyed vs k.a k.b k.values) fa fb) (
+      (left_under vs b (list_key vs) k.a k.b C A (rest ++ B) e₁ k.values z (keyed vs k.a k.b k.values) fa fb) (
         left_own u o d vs ds lo hi C A (rest ++ B) b e₁ k z fa fb,
         left_in ds u o k.c hi C (A ++ K) B e₂ k.rest z
             (λ x p q. none_append A x K (f x (omega arith) (omega arith)) (none_list vs b k.a k.b x k.values (λ y p' q' z. omega arith)))
             (λ x p q. g x (omega arith) (omega arith)),
       )
 
-  left-under : (vs : Values) (b : Bool) (key lo hi : ℕ) (C A B : List Choice) → C ≡ A ++ (choices-of vs b key ++ B) → Run lo (value-words vs) hi → NoneOf 0 C
+  left_under : (vs : Values) (b : Bool) (key lo hi : ℕ) (C A B : List Choice) → C ≡ A ++ (choices_of vs b key ++ B) → Run lo (value_words vs) hi → NoneOf 0 C
       → KeyBefore vs key → ((x : ℕ) → lo ≤ x → x < hi → NoneOf x A) → ((x : ℕ) → lo ≤ x → x < hi → NoneOf x B) → AllLeft C (entries_under vs key)
-  left-under no_value b key lo hi C A B e r z h f g = tt
-  left-under (value w n us vs) b key lo hi C A B e r z h f g =
+  left_under no_value b key lo hi C A B e r z h f g = tt
+  left_under (value w n us vs) b key lo hi C A B e r z h f g =
       let i = r.0 in
-      let k = cut (definition-words us) (value-words vs) (suc w.place) hi r.1 in
-      let k₁ = run_le (definition-words us) k.front in
-      let k₂ = run_le (value-words vs) k.back in
+      let k = cut (definition_words us) (value_words vs) (suc w.place) hi r.1 in
+      let k₁ = run_le (definition_words us) k.front in
+      let k₂ = run_le (value_words vs) k.back in
       let own = choice_if b key w in
       let rows = choices us in
-      let K = choices-of vs b key in
+      let K = choices_of vs b key in
       let e₁ : C ≡ (A ++ own) ++ (rows ++ (K ++ B)) = e ∙ simp append_assoc in
       let e₂ : C ≡ ((A ++ own) ++ rows) ++ (K ++ B) = e₁ ∙ sym (append_assoc (A ++ own) rows (K ++ B)) in
       all_append C (entries us w key) (entries_under vs key)
       (left_in us w key (suc w.place) k.mid C (A ++ own) (K ++ B) e₁ k.front z
       (λ x p q. none_append A x own (f x (omega arith) (omega arith)) (none_if b key w x (λ y. omega arith)))
       (λ x p q. none_append K x B (none_of vs b key k.mid hi x k.back (λ y. omega arith) (λ y p' q' v. omega arith)) (g x (omega arith) (omega arith))))
-      (left-under vs b key k.mid hi C ((A ++ own) ++ rows) B e₂ k.back z (key_next vs key k.mid hi k.back (omega arith))
+      (left_under vs b key k.mid hi C ((A ++ own) ++ rows) B e₂ k.back z (key_next vs key k.mid hi k.back (omega arith))
       (λ x p q. none_append (A ++ own) x rows (none_append A x own (f x (omega arith) (omega arith)) (none_if b key w x (λ y. omega arith)))
       (none_in us (suc w.place) k.mid x k.front (λ y p' q' v. omega arith)))
       (λ x p q. g x (omega arith) (omega arith)))
@@ -172,8 +172,8 @@ left_specs (y ∷ ys) lo hi C A e r z f =
     let us = y.definitions in
     let w = y.word in
     let i = r.0 in
-    let k = cut (definition-words us) (spec_words ys) (suc w.place) hi r.1 in
-    let k₁ = run_le (definition-words us) k.front in
+    let k = cut (definition_words us) (spec_words ys) (suc w.place) hi r.1 in
+    let k₁ = run_le (definition_words us) k.front in
     let k₂ = run_le (spec_words ys) k.back in
     let e₂ : C ≡ (A ++ choices us) ++ spec_choices ys = e ∙ sym (append_assoc A (choices us) (spec_choices ys)) in
     all_append C (entries us w 0) (spec_entries ys)

@@ -16,8 +16,8 @@ use Rattle.meaning.specs.Scopes.{sort_of, fits}
 use Rattle.meaning.specs.Faults.{Fault, faults_if}
 use Rattle.meaning.specs.Defining.{outside, bound_faults, low_faults, range_faults, default_wrong, default_number, default_faults, defined_in, differs, name_faults, word_faults}
 use Rattle.meaning.proofs.Standing.{Run}
-use Rattle.meaning.proofs.Sites.{bound_words, option_words, definition-words, value-words, spec_words}
-use Rattle.layout.specs.Kept.{Entry, Choice, list_key, entries, entries_under, spec_entries, choice_if, choices, choices-of, spec_choices}
+use Rattle.meaning.proofs.Sites.{bound_words, option_words, definition_words, value_words, spec_words}
+use Rattle.layout.specs.Kept.{Entry, Choice, list_key, entries, entries_under, spec_entries, choice_if, choices, choices_of, spec_choices}
 use Rattle.scopes.proofs.Forms.{Formed, an_integer, a_string, a_boolean, an_enum, a_float, a_reference, AllFormed, none_formed, more_formed, AllFormedUnder, none_under, more_under}
 use Rattle.scopes.proofs.Forming.{FormedSpecs}
 use Rattle.scopes.specs.Listing.{each}
@@ -129,9 +129,9 @@ behind_row x lo b c f h r before g m =
     (has_split (range_faults d.type d.bounds) (nf ++ default_faults d x.values d.default) m)
 
 module _ (s : List ℕ) (u : Word) (o : ℕ) (d : Definition) (ds : Definitions) (E : List Entry) (lo hi : ℕ) where
-  no-range : (vs : Values) (y : AttributeType) → d.type ≡ y → ((b : Bounds) (g : Fault) → Has g (range_faults y b) → ⊥) → (k : Cuts lo d vs ds hi)
+  no_range : (vs : Values) (y : AttributeType) → d.type ≡ y → ((b : Bounds) (g : Fault) → Has g (range_faults y b) → ⊥) → (k : Cuts lo d vs ds hi)
       → Rise k.a (entries_under vs (list_key vs)) k.b → Rise k.c E hi → Rise lo (entries_under vs (list_key vs) ++ (record { under = u; outer = o; definition = d; values = vs } ∷ E)) hi
-  no-range vs y e f k p q =
+  no_range vs y e f k p q =
       let x : Entry = record { under = u; outer = o; definition = d; values = vs } in
       let a = k.low in
       let n = k.named.0 in
@@ -141,13 +141,13 @@ module _ (s : List ℕ) (u : Word) (o : ℕ) (d : Definition) (ds : Definitions)
         rise_from E (suc d.name.place) k.c hi (omega (arith, m)) q,
       )
 
-  rise-definition : (vs : Values) → Formed s d vs → lo ≤ d.word.place → (k : Cuts lo d vs ds hi) → Rise k.a (entries_under vs (list_key vs)) k.b → Rise k.c E hi
+  rise_definition : (vs : Values) → Formed s d vs → lo ≤ d.word.place → (k : Cuts lo d vs ds hi) → Rise k.a (entries_under vs (list_key vs)) k.b → Rise k.c E hi
       → Rise lo (entries_under vs (list_key vs) ++ (record { under = u; outer = o; definition = d; values = vs } ∷ E)) hi
   unfolding entries_under range_faults
-  rise-definition vs (an_integer i e c r) h k p q =
+  rise_definition vs (an_integer i e c r) h k p q =
       let x : Entry = record { under = u; outer = o; definition = d; values = no_value } in
       let a = k.low in
-      let b = run_le (value-words no_value) k.values in
+      let b = run_le (value_words no_value) k.values in
       let n = k.named.0 in
       let m = run_le (option_words d.default) k.named.1 in (
         (
@@ -156,10 +156,10 @@ module _ (s : List ℕ) (u : Word) (o : ℕ) (d : Definition) (ds : Definitions)
         ),
         rise_from E (suc d.name.place) k.c hi (omega (arith, m)) q,
       )
-  rise-definition vs (a_float e c r) h k p q =
+  rise_definition vs (a_float e c r) h k p q =
       let x : Entry = record { under = u; outer = o; definition = d; values = no_value } in
       let a = k.low in
-      let b = run_le (value-words no_value) k.values in
+      let b = run_le (value_words no_value) k.values in
       let n = k.named.0 in
       let m = run_le (option_words d.default) k.named.1 in (
         (
@@ -168,37 +168,37 @@ module _ (s : List ℕ) (u : Word) (o : ℕ) (d : Definition) (ds : Definitions)
         ),
         rise_from E (suc d.name.place) k.c hi (omega (arith, m)) q,
       )
-  rise-definition vs (a_string e c r) h k p q = no-range vs string e (λ b g m. has_none m) k p q
-  rise-definition vs (a_boolean e c r t) h k p q = no-range vs boolean e (λ b g m. has_none m) k p q
-  rise-definition vs (an_enum e c r t) h k p q = no-range vs enum e (λ b g m. has_none m) k p q
-  rise-definition vs (a_reference i e c r) h k p q = no-range vs (reference i) e (λ b g m. has_none m) k p q
+  rise_definition vs (a_string e c r) h k p q = no_range vs string e (λ b g m. has_none m) k p q
+  rise_definition vs (a_boolean e c r t) h k p q = no_range vs boolean e (λ b g m. has_none m) k p q
+  rise_definition vs (an_enum e c r t) h k p q = no_range vs enum e (λ b g m. has_none m) k p q
+  rise_definition vs (a_reference i e c r) h k p q = no_range vs (reference i) e (λ b g m. has_none m) k p q
 
 mutual
-  unfolding entries definition-words
+  unfolding entries definition_words
 
-  rise-in : (s : List ℕ) (ds : Definitions) (u : Word) (o lo hi : ℕ) → Run lo (definition-words ds) hi → AllFormed s ds → Rise lo (entries ds u o) hi
-  rise-in s no_more u o lo hi r none_formed = r
-  rise-in s (define d vs ds) u o lo hi r (more_formed h t p q) =
+  rise_in : (s : List ℕ) (ds : Definitions) (u : Word) (o lo hi : ℕ) → Run lo (definition_words ds) hi → AllFormed s ds → Rise lo (entries ds u o) hi
+  rise_in s no_more u o lo hi r none_formed = r
+  rise_in s (define d vs ds) u o lo hi r (more_formed h t p q) =
       let k = cuts d vs ds lo hi r in
-      rise-definition s u o d ds (entries ds u o) lo hi vs h r.0 k (rise-under s vs (list_key vs) k.a k.b k.values p) (rise-in s ds u o k.c hi k.rest q)
+      rise_definition s u o d ds (entries ds u o) lo hi vs h r.0 k (rise_under s vs (list_key vs) k.a k.b k.values p) (rise_in s ds u o k.c hi k.rest q)
 
-  rise-under : (s : List ℕ) (vs : Values) (key lo hi : ℕ) → Run lo (value-words vs) hi → AllFormedUnder s vs → Rise lo (entries_under vs key) hi
-  rise-under s no_value key lo hi r none_under = r
-  rise-under s (value w e us vs) key lo hi r (more_under p q) =
+  rise_under : (s : List ℕ) (vs : Values) (key lo hi : ℕ) → Run lo (value_words vs) hi → AllFormedUnder s vs → Rise lo (entries_under vs key) hi
+  rise_under s no_value key lo hi r none_under = r
+  rise_under s (value w e us vs) key lo hi r (more_under p q) =
       let i = r.0 in
-      let k = cut (definition-words us) (value-words vs) (suc w.place) hi r.1 in
+      let k = cut (definition_words us) (value_words vs) (suc w.place) hi r.1 in
       rise_append (entries us w key) (entries_under vs key) lo k.mid hi
-      (rise_from (entries us w key) lo (suc w.place) k.mid (omega arith) (rise-in s us w key (suc w.place) k.mid k.front p)) (rise-under s vs key k.mid hi k.back q)
+      (rise_from (entries us w key) lo (suc w.place) k.mid (omega arith) (rise_in s us w key (suc w.place) k.mid k.front p)) (rise_under s vs key k.mid hi k.back q)
 
 pub rise_specs : (s : List ℕ) (xs : List Spec) (lo hi : ℕ) → Run lo (spec_words xs) hi → FormedSpecs s xs → Rise lo (spec_entries xs) hi
 unfolding spec_entries spec_words
 rise_specs s [] lo hi r t = r
 rise_specs s (y ∷ ys) lo hi r t =
     let i = r.0 in
-    let k = cut (definition-words y.definitions) (spec_words ys) (suc y.word.place) hi r.1 in
+    let k = cut (definition_words y.definitions) (spec_words ys) (suc y.word.place) hi r.1 in
     rise_append (entries y.definitions y.word 0) (spec_entries ys) lo k.mid hi
     (rise_from (entries y.definitions y.word 0) lo (suc y.word.place) k.mid (omega arith)
-    (rise-in s y.definitions y.word 0 (suc y.word.place) k.mid k.front t.0))
+    (rise_in s y.definitions y.word 0 (suc y.word.place) k.mid k.front t.0))
     (rise_specs s ys k.mid hi k.back t.1)
 
 -- The rows of enumerators ----------------------------------------------------------------------------------------------------------------------
@@ -244,31 +244,31 @@ ascend_if true o w lo h = (h, omega arith)
 ascend_if false o w lo h = omega arith
 
 mutual
-  unfolding choices definition-words
+  unfolding choices definition_words
 
-  pub ascend-in : (ds : Definitions) (lo hi : ℕ) → Run lo (definition-words ds) hi → Ascend lo (choices ds) hi
-  ascend-in no_more lo hi r = r
-  ascend-in (define d vs ds) lo hi r =
+  pub ascend_in : (ds : Definitions) (lo hi : ℕ) → Run lo (definition_words ds) hi → Ascend lo (choices ds) hi
+  ascend_in no_more lo hi r = r
+  ascend_in (define d vs ds) lo hi r =
       let k = cuts d vs ds lo hi r in
       let a = k.low in
       let b = k.next in
-      let K = choices-of vs (is_enum d.type) (list_key vs) in
-      ascend_append K (choices ds) lo k.b hi (ascend_from K lo k.a k.b a (ascend-of vs (is_enum d.type) (list_key vs) k.a k.b k.values))
-      (ascend_from (choices ds) k.b k.c hi b (ascend-in ds k.c hi k.rest))
+      let K = choices_of vs (is_enum d.type) (list_key vs) in
+      ascend_append K (choices ds) lo k.b hi (ascend_from K lo k.a k.b a (ascend_of vs (is_enum d.type) (list_key vs) k.a k.b k.values))
+      (ascend_from (choices ds) k.b k.c hi b (ascend_in ds k.c hi k.rest))
 
-  pub ascend-of : (vs : Values) (b : Bool) (key lo hi : ℕ) → Run lo (value-words vs) hi → Ascend lo (choices-of vs b key) hi
-  ascend-of no_value b key lo hi r = r
-  ascend-of (value w e us vs) b key lo hi r =
-      let k = cut (definition-words us) (value-words vs) (suc w.place) hi r.1 in
-      ascend_append (choice_if b key w) (choices us ++ choices-of vs b key) lo (suc w.place) hi (ascend_if b key w lo r.0)
-      (ascend_append (choices us) (choices-of vs b key) (suc w.place) k.mid hi (ascend-in us (suc w.place) k.mid k.front) (ascend-of vs b key k.mid hi k.back))
+  pub ascend_of : (vs : Values) (b : Bool) (key lo hi : ℕ) → Run lo (value_words vs) hi → Ascend lo (choices_of vs b key) hi
+  ascend_of no_value b key lo hi r = r
+  ascend_of (value w e us vs) b key lo hi r =
+      let k = cut (definition_words us) (value_words vs) (suc w.place) hi r.1 in
+      ascend_append (choice_if b key w) (choices us ++ choices_of vs b key) lo (suc w.place) hi (ascend_if b key w lo r.0)
+      (ascend_append (choices us) (choices_of vs b key) (suc w.place) k.mid hi (ascend_in us (suc w.place) k.mid k.front) (ascend_of vs b key k.mid hi k.back))
 
 pub ascend_specs : (xs : List Spec) (lo hi : ℕ) → Run lo (spec_words xs) hi → Ascend lo (spec_choices xs) hi
 unfolding spec_choices spec_words
 ascend_specs [] lo hi r = r
 ascend_specs (y ∷ ys) lo hi r =
     let i = r.0 in
-    let k = cut (definition-words y.definitions) (spec_words ys) (suc y.word.place) hi r.1 in
+    let k = cut (definition_words y.definitions) (spec_words ys) (suc y.word.place) hi r.1 in
     ascend_append (choices y.definitions) (spec_choices ys) lo k.mid hi
-    (ascend_from (choices y.definitions) lo (suc y.word.place) k.mid (omega arith) (ascend-in y.definitions (suc y.word.place) k.mid k.front))
+    (ascend_from (choices y.definitions) lo (suc y.word.place) k.mid (omega arith) (ascend_in y.definitions (suc y.word.place) k.mid k.front))
     (ascend_specs ys k.mid hi k.back)

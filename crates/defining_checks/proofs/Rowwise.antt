@@ -13,21 +13,21 @@ use Rattle.meaning.specs.Syntax.{Word, Definition, Definitions, no_more, define,
 use Rattle.meaning.specs.Words.{among}
 use Rattle.meaning.specs.Scopes.{heads}
 use Rattle.meaning.specs.Faults.{Fault, faults_if, sooner, first}
-use Rattle.meaning.specs.Defining.{range_faults, default_faults, name_faults, word_faults, scope-faults, value-faults, specified, spec_faults}
+use Rattle.meaning.specs.Defining.{range_faults, default_faults, name_faults, word_faults, scope_faults, value_faults, specified, spec_faults}
 use Rattle.meaning.proofs.Sooner.{sooner_comm, sooner_assoc, first_append}
-use Rattle.meaning.proofs.Numbering.{Counts, number_if, enumerator-numbers, enumerator-numbers-of, spec_enumerator_numbers, length-enumerators, length-enumerators-of}
+use Rattle.meaning.proofs.Numbering.{Counts, number_if, enumerator_numbers, enumerator_numbers_of, spec_enumerator_numbers, length_enumerators, length_enumerators_of}
 use Rattle.meaning.proofs.Standing.{Run, counts_back, counts_front, counts_head}
-use Rattle.meaning.proofs.Sites.{definition-words, value-words, spec_words}
-use Rattle.layout.specs.Kept.{Entry, Choice, list_key, entries, entries_under, spec_entries, choice_if, choices, choices-of, spec_choices}
+use Rattle.meaning.proofs.Sites.{definition_words, value_words, spec_words}
+use Rattle.layout.specs.Kept.{Entry, Choice, list_key, entries, entries_under, spec_entries, choice_if, choices, choices_of, spec_choices}
 use Rattle.scopes.specs.Situations.{NoneOf}
 use Rattle.scopes.proofs.Lists.{none_append, none_in, none_of, none_if}
 use Rattle.scopes.specs.Listing.{each}
 use Rattle.defining_checks.specs.Listing.{under_of, others_of, others_for, row_name_faults, word_if, list_of, choice_faults}
 use Rattle.scopes.proofs.Firsts.{each_append}
-use Rattle.defining_checks.proofs.Telling.{Apart, AllApart, more-apart, AllApartUnder, more_under, ApartSpecs}
+use Rattle.defining_checks.proofs.Telling.{Apart, AllApart, more_apart, AllApartUnder, more_under, ApartSpecs}
 use Rattle.defining_checks.proofs.Clearing.{Clear, clear_append, clear_in, clear_list, under_clear, others_clear, list_none, under_append, others_append, list_append, under_more, others_for_more, under_own, others_own, own_heads}
 use Rattle.meaning.proofs.Runs.{run_le, cut, Out, cuts}
-use Rattle.layout.proofs.Lengths.{length-choices, length-choices-of}
+use Rattle.layout.proofs.Lengths.{length_choices, length_choices_of}
 
 -- 21 at the bounds; 7, 8 and 9 at the name; 22 or 23 at the default.
 unfoldable pub row_faults : List Entry → Entry → List Fault
@@ -100,13 +100,13 @@ abbrev KeyedFor : Values → (key lo hi : ℕ) → List Entry → List Choice �
 KeyedFor no_value key lo hi A C b before others = Unit {0}
 KeyedFor (value w e us vs) key lo hi A C b before others = (key ≤ w.place) × Keyed key lo hi A C b before others
 
-keyed_first : (vs : Values) (lo hi : ℕ) (A : List Entry) (C : List Choice) (b : Bool) → Run lo (value-words vs) hi → 0 < lo
+keyed_first : (vs : Values) (lo hi : ℕ) (A : List Entry) (C : List Choice) (b : Bool) → Run lo (value_words vs) hi → 0 < lo
     → ((x : ℕ) → lo ≤ x → x < hi → Clear x A) → ((x : ℕ) → lo ≤ x → x < hi → NoneOf x C) → KeyedFor vs (list_key vs) lo hi A C b [] []
-unfolding list_key value-words
+unfolding list_key value_words
 keyed_first no_value lo hi A C b r z f g = tt
 keyed_first (value w e us vs) lo hi A C b r z f g =
     let i = r.0 in
-    let m = run_le (definition-words us ++ value-words vs) r.1 in (
+    let m = run_le (definition_words us ++ value_words vs) r.1 in (
       omega arith,
       record {
         positive = omega arith;
@@ -116,8 +116,8 @@ keyed_first (value w e us vs) lo hi A C b r z f g =
     )
 
 keyed_next : (vs : Values) (key lo hi : ℕ) (A : List Entry) (C : List Choice) (b : Bool) (before : List Word) (others : List Definition)
-    → Run lo (value-words vs) hi → key ≤ lo → Keyed key lo hi A C b before others → KeyedFor vs key lo hi A C b before others
-unfolding value-words
+    → Run lo (value_words vs) hi → key ≤ lo → Keyed key lo hi A C b before others → KeyedFor vs key lo hi A C b before others
+unfolding value_words
 keyed_next no_value key lo hi A C b before others r h k = tt
 keyed_next (value w e us vs) key lo hi A C b before others r h k = let i = r.0 in (omega arith, k)
 
@@ -148,12 +148,12 @@ length_choice true o w e = refl
 length_choice false o w e = refl
 
 -- The values of a definition, where there are any.
-pub none_list : (vs : Values) (b : Bool) (lo hi x : ℕ) → Run lo (value-words vs) hi → Out x lo hi → NoneOf x (choices-of vs b (list_key vs))
-unfolding list_key choices-of value-words
+pub none_list : (vs : Values) (b : Bool) (lo hi x : ℕ) → Run lo (value_words vs) hi → Out x lo hi → NoneOf x (choices_of vs b (list_key vs))
+unfolding list_key choices_of value_words
 none_list no_value b lo hi x r o = tt
 none_list (value w e us vs) b lo hi x r o =
     let i = r.0 in
-    let c = run_le (definition-words us ++ value-words vs) r.1 in
+    let c = run_le (definition_words us ++ value_words vs) r.1 in
     none_of (value w e us vs) b w.place lo hi x r (o w.place i (omega arith)) o
 
 for_positive : (key p : ℕ) (A : List Entry) → 0 < key → others_for key p A ≡ others_of key p A
@@ -163,26 +163,26 @@ for_positive key p A h = ap (λ b. pick b [] (others_of key p A)) (ne_eqb key 0 
 -- The faults along the definitions ----------------------------------------------------------------------------------------------------------
 
 mutual
-  unfolding scope-faults entries choices definition-words enumerator-numbers each row_faults row_name_faults heads
+  unfolding scope_faults entries choices definition_words enumerator_numbers each row_faults row_name_faults heads
 
   scope_rows : (ds : Definitions) (u : Word) (o lo hi : ℕ) (A : List Entry) (C : List Choice) (others before : List Definition)
-      → Run lo (definition-words ds) hi → u.place < lo → o ≤ u.place → under_of u.place A ≡ before → others_for o u.place A ≡ others
-      → ((x : ℕ) → lo ≤ x → x < hi → Clear x A) → ((x : ℕ) → lo ≤ x → x < hi → NoneOf x C) → Counts (length C) (enumerator-numbers ds) → AllApart ds
-      → first (scope-faults ds others before) ≡ sooner (first (each row_faults A (entries ds u o))) (first (each choice_faults C (choices ds)))
+      → Run lo (definition_words ds) hi → u.place < lo → o ≤ u.place → under_of u.place A ≡ before → others_for o u.place A ≡ others
+      → ((x : ℕ) → lo ≤ x → x < hi → Clear x A) → ((x : ℕ) → lo ≤ x → x < hi → NoneOf x C) → Counts (length C) (enumerator_numbers ds) → AllApart ds
+      → first (scope_faults ds others before) ≡ sooner (first (each row_faults A (entries ds u o))) (first (each choice_faults C (choices ds)))
   scope_rows no_more u o lo hi A C others before r h i e₁ e₂ f g c t = no_two
-  scope_rows (define d vs ds) u o lo hi A C others before r h i e₁ e₂ f g c (more-apart t₁ t₂ t₃) =
+  scope_rows (define d vs ds) u o lo hi A C others before r h i e₁ e₂ f g c (more_apart t₁ t₂ t₃) =
       let b = is_enum d.type in
       let k = cuts d vs ds lo hi r in
       let k₁ = k.low in
       let k₂ = k.next in
-      let k₃ = run_le (value-words vs) k.values in
-      let k₄ = run_le (definition-words ds) k.rest in
+      let k₃ = run_le (value_words vs) k.values in
+      let k₄ = run_le (definition_words ds) k.rest in
       let U = entries_under vs (list_key vs) in
       let x : Entry = record { under = u; outer = o; definition = d; values = vs } in
       let E = entries ds u o in
-      let K = choices-of vs b (list_key vs) in
-      let l₁ = length-choices-of vs b (list_key vs) in
-      let l₂ = length-enumerators-of vs b in
+      let K = choices_of vs b (list_key vs) in
+      let l₁ = length_choices_of vs b (list_key vs) in
+      let l₂ = length_enumerators_of vs b in
       let l₃ = length-append C K in
       let a₁ = under_more u.place A U e₁ (clear_list vs k.a k.b u.place k.values (λ y p q z. omega arith)) in
       let a₂ = others_for_more o u.place A U e₂ (others_clear o u.place U (clear_list vs k.a k.b o k.values (λ y p q z. omega arith))) in
@@ -190,46 +190,46 @@ mutual
       let b₂ : others_for o u.place ((A ++ U) ++ (x ∷ [])) ≡ others = others_for_more o u.place (A ++ U) (x ∷ []) a₂ (others_own o x) in
       let v = value_rows vs (list_key vs) b k.a k.b A C [] [] k.values
       (keyed_first vs k.a k.b A C b k.values (omega arith) (λ y p q. f y (omega arith) (omega arith)) (λ y p q. g y (omega arith) (omega arith)))
-      t₁ (λ y p q. f y (omega arith) (omega arith)) (λ y p q. g y (omega arith) (omega arith)) (counts_front (enumerator-numbers-of vs b) (enumerator-numbers ds) c) t₂ in
+      t₁ (λ y p q. f y (omega arith) (omega arith)) (λ y p q. g y (omega arith) (omega arith)) (counts_front (enumerator_numbers_of vs b) (enumerator_numbers ds) c) t₂ in
       let w = scope_rows ds u o k.c hi ((A ++ U) ++ (x ∷ [])) (C ++ K) others (before ++ (d ∷ [])) k.rest (omega arith) i b₁ b₂
       (λ y p q. clear_append (A ++ U) y (x ∷ []) (clear_append A y U (f y (omega arith) (omega arith)) (clear_list vs k.a k.b y k.values (λ v p' q' z. omega arith)))
       (((λ z. omega arith), (λ z. omega arith)), tt))
       (λ y p q. none_append C y K (g y (omega arith) (omega arith)) (none_list vs b k.a k.b y k.values (λ v p' q' z. omega arith)))
-      (counts_back (enumerator-numbers-of vs b) c (omega arith)) t₃ in
+      (counts_back (enumerator_numbers_of vs b) c (omega arith)) t₃ in
       let n : name_faults d others before ≡ name_faults d (others_for o u.place (A ++ U)) (under_of u.place (A ++ U)) = ap₂ (name_faults d) (sym a₂) (sym a₁) in
       let rg = range_faults d.type d.bounds in
       let df = default_faults d vs d.default in
-      ap (λ m. first ((rg ++ (value-faults vs b [] [] ++ (m ++ df))) ++ scope-faults ds others (before ++ (d ∷ [])))) n
-      ∙ join_definition rg (value-faults vs b [] []) (name_faults d (others_for o u.place (A ++ U)) (under_of u.place (A ++ U))) df (scope-faults ds others (before ++ (d ∷ [])))
+      ap (λ m. first ((rg ++ (value_faults vs b [] [] ++ (m ++ df))) ++ scope_faults ds others (before ++ (d ∷ [])))) n
+      ∙ join_definition rg (value_faults vs b [] []) (name_faults d (others_for o u.place (A ++ U)) (under_of u.place (A ++ U))) df (scope_faults ds others (before ++ (d ∷ [])))
       (each row_faults A U) (each row_faults ((A ++ U) ++ (x ∷ [])) E) (each choice_faults C K) (each choice_faults (C ++ K) (choices ds)) v w
       ∙ sym (ap₂ (λ p q. sooner (first p) (first q)) (each_append row_faults A U (x ∷ E)) (each_append choice_faults C K (choices ds)))
 
   value_rows : (vs : Values) (key : ℕ) (b : Bool) (lo hi : ℕ) (A : List Entry) (C : List Choice) (before : List Word) (others : List Definition)
-      → Run lo (value-words vs) hi → KeyedFor vs key lo hi A C b before others → (b ≡ false → Apart before vs)
-      → ((x : ℕ) → lo ≤ x → x < hi → Clear x A) → ((x : ℕ) → lo ≤ x → x < hi → NoneOf x C) → Counts (length C) (enumerator-numbers-of vs b) → AllApartUnder vs
-      → first (value-faults vs b before others) ≡ sooner (first (each row_faults A (entries_under vs key))) (first (each choice_faults C (choices-of vs b key)))
+      → Run lo (value_words vs) hi → KeyedFor vs key lo hi A C b before others → (b ≡ false → Apart before vs)
+      → ((x : ℕ) → lo ≤ x → x < hi → Clear x A) → ((x : ℕ) → lo ≤ x → x < hi → NoneOf x C) → Counts (length C) (enumerator_numbers_of vs b) → AllApartUnder vs
+      → first (value_faults vs b before others) ≡ sooner (first (each row_faults A (entries_under vs key))) (first (each choice_faults C (choices_of vs b key)))
   value_rows no_value key b lo hi A C before others r h a f g c t = no_two
   value_rows (value w e us vs) key b lo hi A C before others r h a f g c (more_under t₁ t₂) =
       let i = r.0 in
-      let k = cut (definition-words us) (value-words vs) (suc w.place) hi r.1 in
-      let k₁ = run_le (definition-words us) k.front in
-      let k₂ = run_le (value-words vs) k.back in
+      let k = cut (definition_words us) (value_words vs) (suc w.place) hi r.1 in
+      let k₁ = run_le (definition_words us) k.front in
+      let k₂ = run_le (value_words vs) k.back in
       let y = h.1 in
       let y₀ = h.0 in
       let z₀ = y.positive in
       let own = choice_if b key w in
       let E = entries us w key in
       let D = choices us in
-      let K = choices-of vs b key in
+      let K = choices_of vs b key in
       let l₁ = length_choice b key w e in
       let l₂ = length-append C own in
       let l₃ = length-append (C ++ own) D in
-      let l₄ = length-choices us in
-      let l₅ = length-enumerators us in
+      let l₄ = length_choices us in
+      let l₅ = length_enumerators us in
       let c₁ = counts_back (number_if b e) {m = length (C ++ own)} c (omega arith) in
-      let c₂ = counts_front (enumerator-numbers us) (enumerator-numbers-of vs b) c₁ in
-      let c₃ = counts_back (enumerator-numbers us) {m = length ((C ++ own) ++ D)} c₁ (omega arith) in
-      let p₁ = word_rows b key e w C before y.listed (apart_head b w e us vs before a) (number_head b e (length C) (enumerator-numbers us ++ enumerator-numbers-of vs b) c) in
+      let c₂ = counts_front (enumerator_numbers us) (enumerator_numbers_of vs b) c₁ in
+      let c₃ = counts_back (enumerator_numbers us) {m = length ((C ++ own) ++ D)} c₁ (omega arith) in
+      let p₁ = word_rows b key e w C before y.listed (apart_head b w e us vs before a) (number_head b e (length C) (enumerator_numbers us ++ enumerator_numbers_of vs b) c) in
       let p₂ = scope_rows us w key (suc w.place) k.mid A (C ++ own) others [] k.front (omega arith) y₀
       (under_clear w.place A (f w.place i (omega arith))) (for_positive key w.place A z₀ ∙ y.elsewhere w.place i (omega arith))
       (λ x p q. f x (omega arith) (omega arith)) (λ x p q. none_append C x own (g x (omega arith) (omega arith)) (none_if b key w x (λ z. omega arith))) c₂ t₁ in
@@ -247,7 +247,7 @@ mutual
       (λ x p q. none_append (C ++ own) x D (none_append C x own (g x (omega arith) (omega arith)) (none_if b key w x (λ z. omega arith)))
       (none_in us (suc w.place) k.mid x k.front (λ v p' q' z. omega arith)))
       c₃ t₂ in
-      join_value (word_faults b e w before) (scope-faults us others []) (value-faults vs b (before ++ (w ∷ [])) (others ++ heads us))
+      join_value (word_faults b e w before) (scope_faults us others []) (value_faults vs b (before ++ (w ∷ [])) (others ++ heads us))
       (each choice_faults C own) (each row_faults A E) (each row_faults (A ++ E) (entries_under vs key)) (each choice_faults (C ++ own) D) (each choice_faults ((C ++ own) ++ D) K) p₁ p₂ p₃
       ∙ sym (ap₂ (λ p q. sooner (first p) (first q)) (each_append row_faults A E (entries_under vs key))
       (each_append choice_faults C own (D ++ K) ∙ ap (λ l. each choice_faults C own ++ l) (each_append choice_faults (C ++ own) D K)))
@@ -262,21 +262,21 @@ spec_rows (y ∷ ys) lo hi A C before r z f g c t =
     let us = y.definitions in
     let w = y.word in
     let i = r.0 in
-    let k = cut (definition-words us) (spec_words ys) (suc w.place) hi r.1 in
-    let k₁ = run_le (definition-words us) k.front in
+    let k = cut (definition_words us) (spec_words ys) (suc w.place) hi r.1 in
+    let k₁ = run_le (definition_words us) k.front in
     let k₂ = run_le (spec_words ys) k.back in
     let E = entries us w 0 in
     let D = choices us in
     let l₁ = length-append C D in
-    let l₂ = length-choices us in
-    let l₃ = length-enumerators us in
+    let l₂ = length_choices us in
+    let l₃ = length_enumerators us in
     let p₁ = scope_rows us w 0 (suc w.place) k.mid A C [] [] k.front (omega arith) (omega arith) (under_clear w.place A (f w.place i (omega arith))) refl
-    (λ x p q. f x (omega arith) (omega arith)) (λ x p q. g x (omega arith) (omega arith)) (counts_front (enumerator-numbers us) (spec_enumerator_numbers ys) c) t.0 in
+    (λ x p q. f x (omega arith) (omega arith)) (λ x p q. g x (omega arith) (omega arith)) (counts_front (enumerator_numbers us) (spec_enumerator_numbers ys) c) t.0 in
     let p₂ = spec_rows ys k.mid hi (A ++ E) (C ++ D) (before ++ (y ∷ [])) k.back (omega arith)
     (λ x p q. clear_append A x E (f x (omega arith) (omega arith)) (clear_in us w 0 (suc w.place) k.mid x k.front (λ v. omega arith) (λ v. omega arith) (λ v p' q' e. omega arith)))
     (λ x p q. none_append C x D (g x (omega arith) (omega arith)) (none_in us (suc w.place) k.mid x k.front (λ v p' q' e. omega arith)))
-    (counts_back (enumerator-numbers us) c (omega arith)) t.1 in
-    join_spec (faults_if (specified y before) w 8) (scope-faults us [] []) (spec_faults (before ++ (y ∷ [])) ys) (again_faults (before ++ (y ∷ [])) ys)
+    (counts_back (enumerator_numbers us) c (omega arith)) t.1 in
+    join_spec (faults_if (specified y before) w 8) (scope_faults us [] []) (spec_faults (before ++ (y ∷ [])) ys) (again_faults (before ++ (y ∷ [])) ys)
     (each row_faults A E) (each row_faults (A ++ E) (spec_entries ys)) (each choice_faults C D) (each choice_faults (C ++ D) (spec_choices ys)) p₁ p₂
     ∙ sym (ap₂ (λ p q. sooner (first (faults_if (specified y before) w 8 ++ again_faults (before ++ (y ∷ [])) ys)) (sooner (first p) (first q)))
     (each_append row_faults A E (spec_entries ys)) (each_append choice_faults C D (spec_choices ys)))

@@ -20,7 +20,7 @@ use Rattle.meaning.specs.Defining.{range_faults, default_faults, specified, spec
 use Rattle.meaning.proofs.Sooner.{first_append}
 use Rattle.meaning.proofs.Standing.{Run}
 use Rattle.meaning.proofs.Order.{ahead_left}
-use Rattle.meaning.proofs.Sites.{definition-words, spec_words}
+use Rattle.meaning.proofs.Sites.{definition_words, spec_words}
 use Rattle.layout.specs.Kept.{Entry, Choice, spec_entries, spec_choices, again_place}
 use Rattle.scopes.specs.Situations.{Situation}
 use Rattle.scopes.specs.Promises.{fault_of}
@@ -29,7 +29,7 @@ use Rattle.scopes.specs.Listing.{each}
 use Rattle.defining_checks.specs.Listing.{others_for, under_of, row_name_faults, judged, judged_faults, kept_row_faults, list_of, choice_faults}
 use Rattle.defining_checks.proofs.Rowwise.{row_faults, again_faults, all_rows}
 use Rattle.defining_checks.specs.Promises.{Room}
-use Rattle.scopes.proofs.Firsts.{Real, real, real_none, real_append, real_if, fault_append, fault_one, real-each}
+use Rattle.scopes.proofs.Firsts.{Real, real, real_none, real_append, real_if, fault_append, fault_one, real_each}
 use Rattle.defining_checks.proofs.Telling.{text_apart}
 use Rattle.defining_checks.proofs.Rising.{rise_specs, ascend_specs}
 use Rattle.defining_checks.proofs.Covers.{kept_same}
@@ -55,13 +55,13 @@ option_some p h = ap (λ b. pick b none (some (record { place = p; number = 8 })
 
 ahead_option : (p q : ℕ) → 0 < p → (q ≡ 0) ⊎ (suc p ≤ q) → sooner (some (record { place = p; number = 8 })) (again_option q) ≡ some (record { place = p; number = 8 })
 unfolding sooner again_option
-ahead_option p q h o = ⊎_elim (λ e. zero-case e) (λ l. late-case l) o
+ahead_option p q h o = ⊎_elim (λ e. zero_case e) (λ l. late_case l) o
   where
-    zero-case : q ≡ 0 → sooner (some (record { place = p; number = 8 })) (again_option q) ≡ some (record { place = p; number = 8 })
-    zero-case e = ap (λ (n : ℕ). sooner (some (record { place = p; number = 8 })) (again_option n)) e
+    zero_case : q ≡ 0 → sooner (some (record { place = p; number = 8 })) (again_option q) ≡ some (record { place = p; number = 8 })
+    zero_case e = ap (λ (n : ℕ). sooner (some (record { place = p; number = 8 })) (again_option n)) e
 
-    late-case : suc p ≤ q → sooner (some (record { place = p; number = 8 })) (again_option q) ≡ some (record { place = p; number = 8 })
-    late-case l =
+    late_case : suc p ≤ q → sooner (some (record { place = p; number = 8 })) (again_option q) ≡ some (record { place = p; number = 8 })
+    late_case l =
         ap (sooner (some (record { place = p; number = 8 }))) (option_some q (omega (arith, l)))
         ∙ ap (λ b. some (pick b (record { place = p; number = 8 }) (record { place = q; number = 8 }))) (ahead_left (record { place = p; number = 8 }) (record { place = q; number = 8 }) l)
 
@@ -77,8 +77,8 @@ unfolding again_faults again_place spec_words
 again_is [] before lo hi r z = record { is = none_again; behind = inl refl }
 again_is (x ∷ xs) before lo hi r z =
     let i = r.0 in
-    let k = cut (definition-words x.definitions) (spec_words xs) (suc x.word.place) hi r.1 in
-    let l = run_le (definition-words x.definitions) k.front in
+    let k = cut (definition_words x.definitions) (spec_words xs) (suc x.word.place) hi r.1 in
+    let l = run_le (definition_words x.definitions) k.front in
     let a = again_is xs (before ++ (x ∷ [])) k.mid hi k.back (omega arith) in
     let q = again_place (before ++ (x ∷ [])) xs in
     let m = again_more lo x (again_faults (before ++ (x ∷ [])) xs) q (specified x before) z i a.is (⊎_elim (λ j. inl j) (λ j. inr (omega (arith, l, j))) a.behind) in
@@ -150,8 +150,8 @@ stage_is {s} f m full limit E₀ E₁ C₀ C₁ again v a r c k room wE nE wC nC
     first_append W (spec_faults [] f.specs) ∙ ap (sooner (first W)) (e₁ ∙ sym (first_append A (R ++ K))) ∙ sym (first_append W (A ++ (R ++ K))) in
     let rV = real_if (not (same f.version.bytes (bytes_of "\"2.5\""))) f.version 6 (omega arith) in
     let rA = real_again [] f.specs in
-    let rR = real-each (kept_row_faults full limit) (real_row full limit) [] E₀ in
-    let rK = real-each choice_faults real_choice [] C₀ in
+    let rR = real_each (kept_row_faults full limit) (real_row full limit) [] E₀ in
+    let rK = real_each choice_faults real_choice [] C₀ in
     let hV : v ≡ fault_of (first W) = hv ∙ sym (fault_one (not (same f.version.bytes (bytes_of "\"2.5\""))) f.version 6) in
     let hA : a ≡ fault_of (first A) = ha ∙ ap (λ (p : ℕ). order.faultIf (not (eqb p 0)) 8 p) ea ∙ sym (option_code (again_place [] f.specs)) ∙ ap fault_of (sym g.is) in
     sym (ap fault_of e₂ ∙ fault_append W (A ++ (R ++ K)) rV (real_append A (R ++ K) rA (real_append R K rR rK))

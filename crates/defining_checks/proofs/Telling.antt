@@ -13,7 +13,7 @@ use Rattle.token.proofs.Promises.{CodeOk, found_code}
 use Rattle.token.specs.declared.Sort.{Sort}
 use Rattle.token.specs.declared.Sort.TheVariants.{Word as WordToken, Number, String, Punctuator, Float}
 use Rattle.grammar.specs.Grammar.{Token, Class, tokens, matches, the, TRUE, FALSE}
-use Rattle.grammar.specs.Grammar.{Rule, Form, ◌▸◌, ∎, ◌⟶◌, Trees, nil, leaf, node, file, version, implementation, specs, spec, definitions, definition, attribute, D, P, auto, mark, integer_range, numbers, boolean_range, float_range, enumerator, enumerators, application, objects, object, block, statements, statement, default, own, file-is, version_is, implementation-is, no-spec, a-spec, spec_is, no-definition, a_definition, an-attribute, a_reference, an_integer, a_string, a_boolean, an_enum, a_float, reference-is, no-D, a-D, no-P, a-P, no-auto, with-auto, no-mark, a-mark, no-range, a-range, a-list, no_number, a_number, no-boolean-range, no-float-range, a-boolean-range, a-float-range, enumerator_is, no-enumerator, an_enumerator, no_default, a-default, own-auto, own-none, own-number, own-string, own-true, own-false, own_name, own-float, application-is, no_object, an_object, an-object-alone, an-object-with, no_block, a_block, no-statement, a_statement, statement-is, value-number, value-string, value-float, value-auto, value-name, value-true, value-false}
+use Rattle.grammar.specs.Grammar.{Rule, Form, ◌▸◌, ∎, ◌⟶◌, Trees, nil, leaf, node, file, version, implementation, specs, spec, definitions, definition, attribute, D, P, auto, mark, integer_range, numbers, boolean_range, float_range, enumerator, enumerators, application, objects, object, block, statements, statement, default, own, file_is, version_is, implementation_is, no_spec, a_spec, spec_is, no_definition, a_definition, an_attribute, a_reference, an_integer, a_string, a_boolean, an_enum, a_float, reference_is, no_D, a_D, no_P, a_P, no_auto, with_auto, no_mark, a_mark, no_range, a_range, a_list, no_number, a_number, no_boolean_range, no_float_range, a_boolean_range, a_float_range, enumerator_is, no_enumerator, an_enumerator, no_default, a_default, own_auto, own_none, own_number, own_string, own_true, own_false, own_name, own_float, application_is, no_object, an_object, an_object_alone, an_object_with, no_block, a_block, no_statement, a_statement, statement_is, value_number, value_string, value_float, value_auto, value_name, value_true, value_false}
 use Rattle.grammar.specs.Grammar.{reference as reference-rule, value as value-rule}
 use Rattle.grammar.specs.Terminals.{sign_of, class_of}
 use Rattle.grammar.specs.Terminals.{token_of as token_of_word}
@@ -94,7 +94,7 @@ Apart before (value w e us vs) = (among w before ≡ false) × Apart (before ++ 
 mutual
   pub data AllApart : Definitions → Type 0 where
     none_apart : AllApart no_more
-    more-apart : {d : Definition} {vs : Values} {ds : Definitions} → (is_enum d.type ≡ false → Apart [] vs) → AllApartUnder vs → AllApart ds → AllApart (define d vs ds)
+    more_apart : {d : Definition} {vs : Values} {ds : Definitions} → (is_enum d.type ≡ false → Apart [] vs) → AllApartUnder vs → AllApart ds → AllApart (define d vs ds)
 
   pub data AllApartUnder : Values → Type 0 where
     none_under : AllApartUnder no_value
@@ -153,15 +153,15 @@ apart_truths s q x t c f us d r k m n =
 
 means_apart : {x : Rule} {g : Form} (s : List ℕ) (p : x ⟶ g) (us : Trees ◌⟶◌ g) → All s us → (q : ℕ) → Chain s q (tokens us) → W x (means p (meaning s us))
 unfolding means meaning tokens first_value truths defined defining specifying is_enum among
-means_apart s file-is (node _ v (node _ i (node _ a nil))) h q c = h.1.0
+means_apart s file_is (node _ v (node _ i (node _ a nil))) h q c = h.1.0
 means_apart s version_is us h q c = tt
-means_apart s implementation-is (leaf _ _ (leaf _ _ (leaf _ _ (node _ ss r)))) h q c = h.0 0 0
-means_apart s no-spec nil h q c = λ n e. tt
-means_apart s a-spec (node _ x (node _ xs nil)) h q c = λ n e. (h.0 n e, h.1.0 _ _)
+means_apart s implementation_is (leaf _ _ (leaf _ _ (leaf _ _ (node _ ss r)))) h q c = h.0 0 0
+means_apart s no_spec nil h q c = λ n e. tt
+means_apart s a_spec (node _ x (node _ xs nil)) h q c = λ n e. (h.0 n e, h.1.0 _ _)
 means_apart s spec_is (leaf _ _ (leaf _ _ (node _ d r))) h q c = λ n e. h.0 n e
-means_apart s no-definition nil h q c = λ n e. none_apart
-means_apart s a_definition (node _ x (node _ xs nil)) h q c = λ n e. more-apart (h.0 n e).own (h.0 n e).under (h.1.0 _ _)
-means_apart s an-attribute (node _ x nil) h q c = λ n e. h.0 n e
+means_apart s no_definition nil h q c = λ n e. none_apart
+means_apart s a_definition (node _ x (node _ xs nil)) h q c = λ n e. more_apart (h.0 n e).own (h.0 n e).under (h.1.0 _ _)
+means_apart s an_attribute (node _ x nil) h q c = λ n e. h.0 n e
 means_apart s a_reference (node _ x nil) h q c = λ n e. h.0 n e
 means_apart s an_integer (leaf t m (node _ a (node _ r (leaf x _ (node _ k (node _ d b)))))) h q c = λ n e. record { own = λ z. tt; under = none_under }
 means_apart s a_float (leaf t m (node _ a (node _ r (leaf x _ (node _ k (node _ d b)))))) h q c = λ n e. record { own = λ z. tt; under = none_under }
@@ -169,57 +169,57 @@ means_apart s a_string (leaf t m (node _ a (leaf x _ (node _ k (node _ d b))))) 
 means_apart s a_boolean (leaf t m (node _ a (node _ r (leaf x _ (node _ k (node _ d b)))))) h q c = λ n e. record { own = λ z. (h.1.0 n e).0; under = (h.1.0 n e).1 }
 means_apart s an_enum (leaf t m (node _ a (leaf _ _ (node o v (node r vs (leaf _ _ (leaf x _ (node _ k (node _ d b))))))))) h q c = λ n e.
     record { own = λ z. absurd (false≢true (sym z)); under = more_under (h.1.0 n e) (h.1.1.0 _ _) }
-means_apart s reference-is (leaf t m (leaf x _ (node _ k b))) h q c = λ n e. record { own = λ z. tt; under = none_under }
-means_apart s no-D nil h q c = tt
-means_apart s a-D us h q c = tt
-means_apart s no-P nil h q c = λ n e. none_apart
-means_apart s a-P (leaf _ _ (node _ d (leaf _ _ nil))) h q c = λ n e. h.0 n e
-means_apart s no-auto us h q c = tt
-means_apart s with-auto us h q c = tt
-means_apart s no-mark us h q c = tt
-means_apart s a-mark us h q c = tt
-means_apart s no-range us h q c = tt
-means_apart s no-float-range us h q c = tt
-means_apart s a-range us h q c = tt
-means_apart s a-float-range us h q c = tt
-means_apart s a-list us h q c = tt
+means_apart s reference_is (leaf t m (leaf x _ (node _ k b))) h q c = λ n e. record { own = λ z. tt; under = none_under }
+means_apart s no_D nil h q c = tt
+means_apart s a_D us h q c = tt
+means_apart s no_P nil h q c = λ n e. none_apart
+means_apart s a_P (leaf _ _ (node _ d (leaf _ _ nil))) h q c = λ n e. h.0 n e
+means_apart s no_auto us h q c = tt
+means_apart s with_auto us h q c = tt
+means_apart s no_mark us h q c = tt
+means_apart s a_mark us h q c = tt
+means_apart s no_range us h q c = tt
+means_apart s no_float_range us h q c = tt
+means_apart s a_range us h q c = tt
+means_apart s a_float_range us h q c = tt
+means_apart s a_list us h q c = tt
 means_apart s no_number us h q c = tt
 means_apart s a_number us h q c = tt
-means_apart s no-boolean-range nil h q c = λ n e. (tt, none_under)
-means_apart s a-boolean-range (leaf x _ (leaf t m (node _ us (node _ d (leaf y _ (leaf f o (node _ vs (node _ b r)))))))) h q c = λ n e. (
+means_apart s no_boolean_range nil h q c = λ n e. (tt, none_under)
+means_apart s a_boolean_range (leaf x _ (leaf t m (node _ us (node _ d (leaf y _ (leaf f o (node _ vs (node _ b r)))))))) h q c = λ n e. (
   (refl, (ap (λ z. either z false) (apart_truths s q x t y f (tokens us) (tokens d) (tokens vs ++ (tokens b ++ tokens r)) c m o), tt)),
   more_under (h.0 n e) (more_under (h.1.1.0 _ _) none_under),
 )
 means_apart s enumerator_is (leaf w _ (node _ us (node _ d nil))) h q c = λ n e. h.0 n (suc e)
-means_apart s no-enumerator nil h q c = λ n e. none_under
+means_apart s no_enumerator nil h q c = λ n e. none_under
 means_apart s an_enumerator (leaf _ _ (node o v (node r vs nil))) h q c = λ n e. more_under (h.0 n e) (h.1.0 _ _)
 means_apart s no_default us h q c = tt
-means_apart s a-default us h q c = tt
-means_apart s own-auto us h q c = tt
-means_apart s own-none us h q c = tt
-means_apart s own-number us h q c = tt
-means_apart s own-string us h q c = tt
-means_apart s own-float us h q c = tt
-means_apart s own-true us h q c = tt
-means_apart s own-false us h q c = tt
+means_apart s a_default us h q c = tt
+means_apart s own_auto us h q c = tt
+means_apart s own_none us h q c = tt
+means_apart s own_number us h q c = tt
+means_apart s own_string us h q c = tt
+means_apart s own_float us h q c = tt
+means_apart s own_true us h q c = tt
+means_apart s own_false us h q c = tt
 means_apart s own_name us h q c = tt
-means_apart s application-is us h q c = tt
+means_apart s application_is us h q c = tt
 means_apart s no_object us h q c = tt
 means_apart s an_object us h q c = tt
-means_apart s an-object-alone us h q c = tt
-means_apart s an-object-with us h q c = tt
+means_apart s an_object_alone us h q c = tt
+means_apart s an_object_with us h q c = tt
 means_apart s no_block us h q c = tt
 means_apart s a_block us h q c = tt
-means_apart s no-statement us h q c = tt
+means_apart s no_statement us h q c = tt
 means_apart s a_statement us h q c = tt
-means_apart s statement-is us h q c = tt
-means_apart s value-number us h q c = tt
-means_apart s value-string us h q c = tt
-means_apart s value-float us h q c = tt
-means_apart s value-auto us h q c = tt
-means_apart s value-name us h q c = tt
-means_apart s value-true us h q c = tt
-means_apart s value-false us h q c = tt
+means_apart s statement_is us h q c = tt
+means_apart s value_number us h q c = tt
+means_apart s value_string us h q c = tt
+means_apart s value_float us h q c = tt
+means_apart s value_auto us h q c = tt
+means_apart s value_name us h q c = tt
+means_apart s value_true us h q c = tt
+means_apart s value_false us h q c = tt
 
 all_apart : {f : Form} (s : List ℕ) (ts : Trees ◌⟶◌ f) (p : ℕ) → Chain s p (tokens ts) → All s ts
 unfolding tokens

@@ -22,8 +22,8 @@ use Rattle.meaning.specs.Syntax.{Word, Definitions, no_more, define, Values, no_
 use Rattle.meaning.specs.Words.{alike, among}
 use Rattle.meaning.specs.Faults.{faults_if, first}
 use Rattle.meaning.specs.Defining.{range_faults, defined_in, differs, name_faults, word_faults}
-use Rattle.meaning.proofs.Sites.{bound_words, option_words, definition-words, value-words, spec_words}
-use Rattle.layout.specs.Kept.{Entry, Choice, list_key, choice_if, choices, choices-of, spec_entries, spec_choices, kept_definitions, choice_cells, definition_cells}
+use Rattle.meaning.proofs.Sites.{bound_words, option_words, definition_words, value_words, spec_words}
+use Rattle.layout.specs.Kept.{Entry, Choice, list_key, choice_if, choices, choices_of, spec_entries, spec_choices, kept_definitions, choice_cells, definition_cells}
 use Rattle.scopes.specs.Situations.{Situation, Nth}
 use Rattle.scopes.specs.Promises.{fault_of, RangeFault}
 use Rattle.scopes.proofs.Goodness.{Good, Goods, good_front, good_back, spec_good}
@@ -34,7 +34,7 @@ use Rattle.scopes.specs.Listing.{each}
 use Rattle.defining_checks.specs.Listing.{others_for, under_of, row_name_faults, judged_faults, kept_row_faults, word_if, list_of, choice_faults}
 use Rattle.defining_checks.specs.Promises.{Room, first_again, NewTypeFault, NameFault, DefaultFault, RowFault, RowsFault, EnumeratorFault, EnumeratorsFault, version_code, DefinitionFaults}
 use Rattle.defining_checks.proofs.Naming.{AgainFault, again_is}
-use Rattle.scopes.proofs.Firsts.{real_append, real_if, fault_append, fault_one, each_snoc, real-each}
+use Rattle.scopes.proofs.Firsts.{real_append, real_if, fault_append, fault_one, each_snoc, real_each}
 use Rattle.defining_checks.proofs.Reaching.{last_of}
 use Rattle.defining_checks.proofs.Covers.{row_is}
 use Rattle.rows.proofs.Orders.{found_some, found_none}
@@ -79,27 +79,27 @@ module _ (s d : List ℕ) (j at : ℕ) (a : Fault) (e : at ≡ get_or d (j * 19 
       hr ∙ ap₂ sooner g₇ (ap₂ sooner g₈ g₉ ∙ sym (fault_append W₈ W₉ r₈ r₉))
       ∙ sym (fault_append W₇ (W₈ ++ W₉) (real_if (eqb y.row 512) y.name 7 (omega arith)) (real_append W₈ W₉ r₈ r₉))
 
-  again-at : (z : Found) → z ≡ first_again s d j → AgainFault s d j (fault_if (is_found z) 8 at)
+  again_at : (z : Found) → z ≡ first_again s d j → AgainFault s d j (fault_if (is_found z) 8 at)
   unfolding first_again
-  again-at z k =
+  again_at z k =
       again_is s d j (get_or d (j * 19 + 0) 0) at (get_or d (j * 19 + 3) 0) z (fault_if (is_found z) 8 at) refl e refl
       (k ∙ ap (λ p. find_named s d 19 j 0 (get_or d (j * 19 + 0) 0) 2 p (get_or d (j * 19 + 3) 0) 0) (sym e)) refl
 
   -- Where an earlier row has the name, 9 does not come before 8.
-  pub name-again : (z : Found) (i : ℕ) (r : Fault) → z ≡ At i → r ≡ sooner a (record { number = 8; place = at }) → z ≡ first_again s d j → NameFault s d j r
-  name-again z i r h hr k f x st hd q l =
+  pub name_again : (z : Found) (i : ℕ) (r : Fault) → z ≡ At i → r ≡ sooner a (record { number = 8; place = at }) → z ≡ first_again s d j → NameFault s d j r
+  name_again z i r h hr k f x st hd q l =
       let y = x.definition in
       let D = differs y (others_for x.outer x.under.place q.front) in
       let n : at ≡ y.name.place = e ∙ cell_name f d j x hd q l in
       name_is (record { number = 8; place = at }) (fault_if D 9 at) r f x st hd q l
-      (found_some z i 8 at h ∙ again-at z k f x st hd q l) (ap (fault_if D 9) n) (hr ∙ ap (sooner a) (sym (eight_first at D)))
+      (found_some z i 8 at h ∙ again_at z k f x st hd q l) (ap (fault_if D 9) n) (hr ∙ ap (sooner a) (sym (eight_first at D)))
 
   pub name_new : (z : Found) (c r : Fault) → z ≡ Nothing → r ≡ sooner a c → z ≡ first_again s d j → NewTypeFault s d j c → NameFault s d j r
   name_new z c r h hr k hc f x st hd q l =
       let y = x.definition in
       let t = hc (sym k ∙ h) f x st hd q l in
       name_is none c r f x st hd q l
-      (found_none z 8 at h ∙ again-at z k f x st hd q l) t
+      (found_none z 8 at h ∙ again_at z k f x st hd q l) t
       (hr ∙ ap (sooner a) (t ∙ sym (none_last (differs y (others_for x.outer x.under.place q.front)) y.name.place) ∙ ap (sooner none) (sym t)))
 
 pub row_all : (s d e xe : List ℕ) (full : Bool) (limit j : ℕ) (a b c t r : Fault) → RangeFault s d j a → NameFault s d j b → DefaultFault s d e xe full limit j c
@@ -132,7 +132,7 @@ module _ (s d e xe : List ℕ) (full : Bool) (limit : ℕ) where
       let c = k f m a.last st hd he hx room (record { front = a.front; rest = rest; whole = v; place = a.many }) (omega (arith, l)) in
       z ∙ ap₂ sooner b c
       ∙ sym (ap (λ i. fault_of (first (each R [] i))) a.whole ∙ ap (λ i. fault_of (first i)) (each_snoc R a.front a.last)
-      ∙ fault_append (each R [] a.front) (R a.front a.last) (real-each R (real_row full limit) [] a.front) (real_row full limit a.front a.last))
+      ∙ fault_append (each R [] a.front) (R a.front a.last) (real_each R (real_row full limit) [] a.front) (real_row full limit a.front a.last))
 
   pub rows_end : (j n : ℕ) (best : Fault) → j ≤ n → n ≤ j → RowsFault s d e xe full limit j best → RowsFault s d e xe full limit n best
   rows_end j n best h k r = let i : j ≡ n = omega (arith, h, k) in subst (λ (x : ℕ). RowsFault s d e xe full limit x best) i r
@@ -161,30 +161,30 @@ good_if s true o w g = (g, tt)
 good_if s false o w g = tt
 
 mutual
-  unfolding choices definition-words
+  unfolding choices definition_words
 
-  good-choices : (s : List ℕ) (ds : Definitions) → Goods s (definition-words ds) → GoodChoices s (choices ds)
-  good-choices s no_more g = tt
-  good-choices s (define d vs ds) g =
+  good_choices : (s : List ℕ) (ds : Definitions) → Goods s (definition_words ds) → GoodChoices s (choices ds)
+  good_choices s no_more g = tt
+  good_choices s (define d vs ds) g =
       let w = d.name ∷ option_words d.default in
-      let h = good_front s (bound_words d.bounds ++ (value-words vs ++ w)) (definition-words ds) g.1 in
-      good_append s (choices-of vs (is_enum d.type) (list_key vs)) (choices ds)
-      (good-choices-of s vs (is_enum d.type) (list_key vs) (good_front s (value-words vs) w (good_back s (bound_words d.bounds) (value-words vs ++ w) h)))
-      (good-choices s ds (good_back s (bound_words d.bounds ++ (value-words vs ++ w)) (definition-words ds) g.1))
+      let h = good_front s (bound_words d.bounds ++ (value_words vs ++ w)) (definition_words ds) g.1 in
+      good_append s (choices_of vs (is_enum d.type) (list_key vs)) (choices ds)
+      (good_choices_of s vs (is_enum d.type) (list_key vs) (good_front s (value_words vs) w (good_back s (bound_words d.bounds) (value_words vs ++ w) h)))
+      (good_choices s ds (good_back s (bound_words d.bounds ++ (value_words vs ++ w)) (definition_words ds) g.1))
 
-  good-choices-of : (s : List ℕ) (vs : Values) (b : Bool) (o : ℕ) → Goods s (value-words vs) → GoodChoices s (choices-of vs b o)
-  good-choices-of s no_value b o g = tt
-  good-choices-of s (value w e us vs) b o g =
-      good_append s (choice_if b o w) (choices us ++ choices-of vs b o) (good_if s b o w g.0)
-      (good_append s (choices us) (choices-of vs b o) (good-choices s us (good_front s (definition-words us) (value-words vs) g.1))
-      (good-choices-of s vs b o (good_back s (definition-words us) (value-words vs) g.1)))
+  good_choices_of : (s : List ℕ) (vs : Values) (b : Bool) (o : ℕ) → Goods s (value_words vs) → GoodChoices s (choices_of vs b o)
+  good_choices_of s no_value b o g = tt
+  good_choices_of s (value w e us vs) b o g =
+      good_append s (choice_if b o w) (choices us ++ choices_of vs b o) (good_if s b o w g.0)
+      (good_append s (choices us) (choices_of vs b o) (good_choices s us (good_front s (definition_words us) (value_words vs) g.1))
+      (good_choices_of s vs b o (good_back s (definition_words us) (value_words vs) g.1)))
 
 good_specs : (s : List ℕ) (xs : List Spec) → Goods s (spec_words xs) → GoodChoices s (spec_choices xs)
 unfolding spec_choices spec_words
 good_specs s [] g = tt
 good_specs s (x ∷ xs) g =
-    good_append s (choices x.definitions) (spec_choices xs) (good-choices s x.definitions (good_front s (definition-words x.definitions) (spec_words xs) g.1))
-    (good_specs s xs (good_back s (definition-words x.definitions) (spec_words xs) g.1))
+    good_append s (choices x.definitions) (spec_choices xs) (good_choices s x.definitions (good_front s (definition_words x.definitions) (spec_words xs) g.1))
+    (good_specs s xs (good_back s (definition_words x.definitions) (spec_words xs) g.1))
 
 choice_any : (s : List ℕ) (x : Choice) → Good s x.word → (l : List Choice) → GoodChoices s l
     → any_of (is_choice s x.list x.word.place x.word.length) l ≡ among x.word (list_of x.list l)
@@ -221,23 +221,23 @@ enumerator_is s e j u at len a b z r e₀ e₁ e₂ ha k hb hr f x st he q l =
     hr ∙ ap₂ sooner g₇ g₈ ∙ sym (fault_append W₇ W₈ (real_if t x.word 7 (omega arith)) (real_if w x.word 8 (omega arith)))
 
 module _ (s e : List ℕ) where
-  pub choices-start : EnumeratorsFault s e 0 (record { number = 0; place = 0 })
+  pub choices_start : EnumeratorsFault s e 0 (record { number = 0; place = 0 })
   unfolding each first fault_of
-  choices-start f [] rest st he w n l = refl
-  choices-start f (x ∷ front) rest st he w n l = absurd (omega (arith, n))
+  choices_start f [] rest st he w n l = refl
+  choices_start f (x ∷ front) rest st he w n l = absurd (omega (arith, n))
 
-  pub choices-more : (j : ℕ) (best x r : Fault) → EnumeratorsFault s e j best → EnumeratorFault s e j x → r ≡ sooner best x → EnumeratorsFault s e (j + 1) r
-  choices-more j best x r h k z f front rest st he w n l =
+  pub choices_more : (j : ℕ) (best x r : Fault) → EnumeratorsFault s e j best → EnumeratorFault s e j x → r ≡ sooner best x → EnumeratorsFault s e (j + 1) r
+  choices_more j best x r h k z f front rest st he w n l =
       let a = last_of front j (omega (arith, n)) in
       let v : spec_choices f.specs ≡ a.front ++ (a.last ∷ rest) = w ∙ ap (λ i. i ++ rest) a.whole ∙ append_assoc a.front (a.last ∷ []) rest in
       let b = h f a.front (a.last ∷ rest) st he v a.many (omega (arith, l)) in
       let c = k f a.last st he (record { front = a.front; rest = rest; whole = v; place = a.many }) (omega (arith, l)) in
       z ∙ ap₂ sooner b c
       ∙ sym (ap (λ i. fault_of (first (each choice_faults [] i))) a.whole ∙ ap (λ i. fault_of (first i)) (each_snoc choice_faults a.front a.last)
-      ∙ fault_append (each choice_faults [] a.front) (choice_faults a.front a.last) (real-each choice_faults real_choice [] a.front) (real_choice a.front a.last))
+      ∙ fault_append (each choice_faults [] a.front) (choice_faults a.front a.last) (real_each choice_faults real_choice [] a.front) (real_choice a.front a.last))
 
-  pub choices-end : (j n : ℕ) (best : Fault) → j ≤ n → n ≤ j → EnumeratorsFault s e j best → EnumeratorsFault s e n best
-  choices-end j n best h k r = let i : j ≡ n = omega (arith, h, k) in subst (λ (x : ℕ). EnumeratorsFault s e x best) i r
+  pub choices_end : (j n : ℕ) (best : Fault) → j ≤ n → n ≤ j → EnumeratorsFault s e j best → EnumeratorsFault s e n best
+  choices_end j n best h k r = let i : j ≡ n = omega (arith, h, k) in subst (λ (x : ℕ). EnumeratorsFault s e x best) i r
 
 -- The stage ------------------------------------------------------------------------------------------------------------------------------------
 

@@ -75,22 +75,22 @@ abbrev pub Number : Drop → Type 0
 Number x = (x.number ≡ 13) ⊎ (x.number ≡ 14)
 
 module _ (k : Definitions → List Drop) (i : (us : Definitions) → Each Number (k us)) where
-  inside-numbers : (l : List Fault) (b : Bool) (x : Statement) (us : Definitions) → Each Number (or_inside l b x us k)
+  inside_numbers : (l : List Fault) (b : Bool) (x : Statement) (us : Definitions) → Each Number (or_inside l b x us k)
   unfolding or_inside drop_if
-  inside-numbers [] b x us = i us
-  inside-numbers (f ∷ fs) true x us = each_more (inr refl) each_none
-  inside-numbers (f ∷ fs) false x us = each_none
+  inside_numbers [] b x us = i us
+  inside_numbers (f ∷ fs) true x us = each_more (inr refl) each_none
+  inside_numbers (f ∷ fs) false x us = each_none
 
-  dropped-numbers : (o : Option Defined) (os : List Object) (x : Statement) (before : List Word) → Each Number (dropped o os x before k)
+  dropped_numbers : (o : Option Defined) (os : List Object) (x : Statement) (before : List Word) → Each Number (dropped o os x before k)
   unfolding dropped drop_if
-  dropped-numbers none os x before = each_more (inl refl) each_none
-  dropped-numbers (some d) os x before = inside-numbers (own_faults os x d before) (stated_again d x before) x (under d.values x.value)
+  dropped_numbers none os x before = each_more (inl refl) each_none
+  dropped_numbers (some d) os x before = inside_numbers (own_faults os x d before) (stated_again d x before) x (under d.values x.value)
 
 pub drop_numbers : (ss : Statements) (os : List Object) (ds : Definitions) (before : List Word) → Each Number (drops ss os ds before)
 unfolding drops
 drop_numbers done os ds before = each_none
 drop_numbers (state x inside rest) os ds before =
-    each_append (dropped-numbers (λ us. drops inside os us []) (λ us. drop_numbers inside os us []) (find_definition ds x.name) os x before)
+    each_append (dropped_numbers (λ us. drops inside os us []) (λ us. drop_numbers inside os us []) (find_definition ds x.name) os x before)
     (drop_numbers rest os ds (before ++ (x.name ∷ [])))
 
 numbers_of : (f : File) (xs : List Object) → Each Number (drops_of f xs)

@@ -22,7 +22,7 @@ use Rattle.meaning.specs.Judging.{reference_faults, brace_faults, faults_as, own
 use Rattle.meaning.proofs.Entries.{then_assoc}
 use Rattle.layout.specs.Kept.{statement_cells, statement_count, kind_place}
 use Rattle.blocks.specs.Blocks.{BlockAt, row_after}
-use Rattle.blocks.proofs.Ranges.{first_cell, first-after, inside_at, in_then, then_done, back_at}
+use Rattle.blocks.proofs.Ranges.{first_cell, first_after, inside_at, in_then, then_done, back_at}
 use Rattle.scopes.specs.Situations.{ScopeAt}
 use Rattle.scopes.specs.Given.{Given, Places}
 use Rattle.scopes.specs.Promises.{fault_of, FindsDefinition, FindsWord}
@@ -109,71 +109,71 @@ module _ (x : Statement) (us : Definitions) (k : Definitions → List Drop) wher
   abbrev left_over : Bool → List Refusal → List Drop
   left_over b l = or_inside (faults_if b x.name 14 ++ l) b x us k
 
-  sound-by : (b : Bool) (l : List Refusal) → High l → ruled b l ≡ 0 → left_over b l ≡ k us
+  sound_by : (b : Bool) (l : List Refusal) → High l → ruled b l ≡ 0 → left_over b l ≡ k us
   unfolding or_inside faults_if
-  sound-by true l q h = absurd (omega (arith, h))
-  sound-by false [] q h = refl
-  sound-by false (f ∷ fs) (a_fault i q) h = let n = high_number f fs i q in absurd (omega (arith, h, n))
+  sound_by true l q h = absurd (omega (arith, h))
+  sound_by false [] q h = refl
+  sound_by false (f ∷ fs) (a_fault i q) h = let n = high_number f fs i q in absurd (omega (arith, h, n))
 
-  drop-by : (b : Bool) (l : List Refusal) → High l → (ruled b l ≡ 0 → ⊥) → ruled b l ≤ 14 → left_over b l ≡ drop_if true x.name (ruled b l)
+  drop_by : (b : Bool) (l : List Refusal) → High l → (ruled b l ≡ 0 → ⊥) → ruled b l ≤ 14 → left_over b l ≡ drop_if true x.name (ruled b l)
   unfolding or_inside faults_if first fault_of
-  drop-by true l q i h = refl
-  drop-by false [] q i h = absurd (i refl)
-  drop-by false (f ∷ fs) (a_fault j q) i h = let n = high_number f fs j q in absurd (omega (arith, h, n))
+  drop_by true l q i h = refl
+  drop_by false [] q i h = absurd (i refl)
+  drop_by false (f ∷ fs) (a_fault j q) i h = let n = high_number f fs j q in absurd (omega (arith, h, n))
 
-  none-by : (b : Bool) (l : List Refusal) → High l → 14 < ruled b l → left_over b l ≡ []
+  none_by : (b : Bool) (l : List Refusal) → High l → 14 < ruled b l → left_over b l ≡ []
   unfolding or_inside faults_if drop_if first fault_of
-  none-by true l q h = absurd (omega (arith, h))
-  none-by false [] q h = absurd (omega (arith, h))
-  none-by false (f ∷ fs) q h = refl
+  none_by true l q h = absurd (omega (arith, h))
+  none_by false [] q h = absurd (omega (arith, h))
+  none_by false (f ∷ fs) q h = refl
 
   -- with nothing in the braces the value's faults do not matter
-  alone-by : (b : Bool) (l : List Refusal) → ((u : Definitions) → k u ≡ []) → left_over b l ≡ drop_if b x.name 14
+  alone_by : (b : Bool) (l : List Refusal) → ((u : Definitions) → k u ≡ []) → left_over b l ≡ drop_if b x.name 14
   unfolding or_inside faults_if drop_if
-  alone-by true l h = refl
-  alone-by false [] h = h us
-  alone-by false (f ∷ fs) h = refl
+  alone_by true l h = refl
+  alone_by false [] h = h us
+  alone_by false (f ∷ fs) h = refl
 
 module _ (os : List Object) (x : Statement) (before : List Word) (k : Definitions → List Drop) where
   alone : (d : Defined) → ((u : Definitions) → k u ≡ []) → dropped (some d) os x before k ≡ drop_if (stated_again d x before) x.name 14
   unfolding dropped own_faults stated_again
-  alone d h = alone-by x (under d.values x.value) k (both (not d.definition.list) (among x.name before)) (faults_as d.definition.type os x d) h
+  alone d h = alone_by x (under d.values x.value) k (both (not d.definition.list) (among x.name before)) (faults_as d.definition.type os x d) h
 
   sound : (o : Option Defined) → verdict o os x before ≡ 0 → dropped o os x before k ≡ k (scope_inside o x)
   unfolding verdict dropped scope_inside own_faults stated_again
   sound none h = absurd (omega (arith, h))
   sound (some d) h =
-      sound-by x (under d.values x.value) k (both (not d.definition.list) (among x.name before)) (faults_as d.definition.type os x d)
+      sound_by x (under d.values x.value) k (both (not d.definition.list) (among x.name before)) (faults_as d.definition.type os x d)
       (high_type d.definition.type os x d) h
 
-  at-fault : (o : Option Defined) → (verdict o os x before ≡ 0 → ⊥) → verdict o os x before ≤ 14 → dropped o os x before k ≡ drop_if true x.name (verdict o os x before)
+  at_fault : (o : Option Defined) → (verdict o os x before ≡ 0 → ⊥) → verdict o os x before ≤ 14 → dropped o os x before k ≡ drop_if true x.name (verdict o os x before)
   unfolding verdict dropped own_faults stated_again
-  at-fault none i h = refl
-  at-fault (some d) i h =
-      drop-by x (under d.values x.value) k (both (not d.definition.list) (among x.name before)) (faults_as d.definition.type os x d)
+  at_fault none i h = refl
+  at_fault (some d) i h =
+      drop_by x (under d.values x.value) k (both (not d.definition.list) (among x.name before)) (faults_as d.definition.type os x d)
       (high_type d.definition.type os x d) i h
 
   stays : (o : Option Defined) → 14 < verdict o os x before → dropped o os x before k ≡ []
   unfolding verdict dropped own_faults stated_again
   stays none h = absurd (omega (arith, h))
   stays (some d) h =
-      none-by x (under d.values x.value) k (both (not d.definition.list) (among x.name before)) (faults_as d.definition.type os x d)
+      none_by x (under d.values x.value) k (both (not d.definition.list) (among x.name before)) (faults_as d.definition.type os x d)
       (high_type d.definition.type os x d) h
 
 -- The verdict --------------------------------------------------------------------------------------------------------------------------------
 
 module _ (s d e o st : List ℕ) (z : Sizes) (key m k v name size : ℕ) (pn : name ≡ get_or st (k * 7 + 0) 0) (ps : size ≡ get_or st (k * 7 + 1) 0) where
-  pub verdict-undefined : FindsDefinition s d z.definitions key name size Nothing → Verdicts s d e o st z key m k v (record { number = 13; under = 0 })
+  pub verdict_undefined : FindsDefinition s d z.definitions key name size Nothing → Verdicts s d e o st z key m k v (record { number = 13; under = 0 })
   unfolding verdict
-  verdict-undefined g f ds before x inside rest c b p =
+  verdict_undefined g f ds before x inside rest c b p =
       let a = own_at before b p in
       let h = row_nothing (find_definition ds x.name) (looked_up Nothing pn ps c.given c.scope a g) in
       record { number = sym (ap (λ t. verdict t f.objects x (names before)) h); scope = λ q. absurd (omega (arith, q)) }
 
-  pub verdict-again : (j : ℕ) (r : Bool) → FindsDefinition s d z.definitions key name size (At j) → Again s d e o st z m k v j r → r ≡ true
+  pub verdict_again : (j : ℕ) (r : Bool) → FindsDefinition s d z.definitions key name size (At j) → Again s d e o st z m k v j r → r ≡ true
       → Verdicts s d e o st z key m k v (record { number = 14; under = 0 })
   unfolding verdict stated_again stated_as
-  verdict-again j r g w h f ds before x inside rest c b p =
+  verdict_again j r g w h f ds before x inside rest c b p =
       let a = own_at before b p in
       let y = row_found_as (find_definition ds x.name) j (looked_up (At j) pn ps c.given c.scope a g) in
       let i = w f x y.defined before (stated_as j y.defined c.given c.scope a y.is y.row) b p in
@@ -183,11 +183,11 @@ module _ (s d e o st : List ℕ) (z : Sizes) (key m k v name size : ℕ) (pn : n
         scope = λ q. absurd (omega (arith, q));
       }
 
-  pub verdict-value : (j at len u : ℕ) (r : Bool) (g : Fault) → FindsDefinition s d z.definitions key name size (At j) → Again s d e o st z m k v j r → r ≡ false
+  pub verdict_value : (j at len u : ℕ) (r : Bool) (g : Fault) → FindsDefinition s d z.definitions key name size (At j) → Again s d e o st z m k v j r → r ≡ false
       → at ≡ get_or st (k * 7 + 2) 0 → len ≡ get_or st (k * 7 + 3) 0 → FindsWord s d e z.enumerators j at len u → ValueFault s d e o st z k j g
       → Verdicts s d e o st z key m k v (record { number = g.number; under = u })
   unfolding verdict scope_inside stated_again stated_as
-  verdict-value j at len u r g p w h pa pl i l f ds before x inside rest c b t =
+  verdict_value j at len u r g p w h pa pl i l f ds before x inside rest c b t =
       let a = own_at before b t in
       let y = row_found_as (find_definition ds x.name) j (looked_up (At j) pn ps c.given c.scope a p) in
       let sa = stated_as j y.defined c.given c.scope a y.is y.row in
@@ -208,9 +208,9 @@ no_rows done h os us = refl
 no_rows (state x inside rest) h os us = absurd (omega (arith, h))
 
 module _ (s d e o st : List ℕ) (z : Sizes) (key m k v name size : ℕ) (pn : name ≡ get_or st (k * 7 + 0) 0) (ps : size ≡ get_or st (k * 7 + 1) 0) (l l' : List ℕ) where
-  pub alone-undefined : FindsDefinition s d z.definitions key name size Nothing → l' ≡ set l name 13 → DropsOne s d e o st z key m k (k + 1) v l l'
+  pub alone_undefined : FindsDefinition s d z.definitions key name size Nothing → l' ≡ set l name 13 → DropsOne s d e o st z key m k (k + 1) v l l'
   unfolding scatter dropped drop_if statement_cells
-  alone-undefined g w f ds before x inside rest c b p q =
+  alone_undefined g w f ds before x inside rest c b p q =
       let a = own_at before b p in
       let h = row_nothing (find_definition ds x.name) (looked_up Nothing pn ps c.given c.scope a g) in
       let at : name ≡ x.name.place = pn ∙ first_cell a 0 (omega arith) in
@@ -219,11 +219,11 @@ module _ (s d e o st : List ℕ) (z : Sizes) (key m k v name size : ℕ) (pn : n
       ∙ sym (ap (λ t. scatter l (dropped t f.objects x (names before) (λ us. drops inside f.objects us []))) h)
 
   module _ (j : ℕ) (r : Bool) (g : FindsDefinition s d z.definitions key name size (At j)) (w : Again s d e o st z m k v j r) where
-    by-again : (f : File) (ds : Definitions) (before : Statements) (x : Statement) (inside rest : Statements) → Scoped s d e o st z key f ds
+    by_again : (f : File) (ds : Definitions) (before : Statements) (x : Statement) (inside rest : Statements) → Scoped s d e o st z key f ds
         → BlockAt s st m v (then before (state x inside rest)) → k ≡ m + statements_in before → k + 1 ≡ suc k + statements_in inside
         → dropped (find_definition ds x.name) f.objects x (names before) (λ us. drops inside f.objects us []) ≡ drop_if r x.name 14
     unfolding stated_again stated_as
-    by-again f ds before x inside rest c b p q =
+    by_again f ds before x inside rest c b p q =
         let a = own_at before b p in
         let y = row_found_as (find_definition ds x.name) j (looked_up (At j) pn ps c.given c.scope a g) in
         let i = w f x y.defined before (stated_as j y.defined c.given c.scope a y.is y.row) b p in
@@ -233,19 +233,19 @@ module _ (s d e o st : List ℕ) (z : Sizes) (key m k v name size : ℕ) (pn : n
         ∙ alone f.objects x (names before) K y.defined (no_rows inside none f.objects)
         ∙ ap (λ (t : Bool). drop_if t x.name 14) (sym i)
 
-    pub alone-again : r ≡ true → l' ≡ set l name 14 → DropsOne s d e o st z key m k (k + 1) v l l'
+    pub alone_again : r ≡ true → l' ≡ set l name 14 → DropsOne s d e o st z key m k (k + 1) v l l'
     unfolding scatter drop_if statement_cells
-    alone-again h t f ds before x inside rest c b p q =
+    alone_again h t f ds before x inside rest c b p q =
         let at : name ≡ x.name.place = pn ∙ first_cell (own_at before b p) 0 (omega arith) in
         t
         ∙ ap (λ u. set l u 14) at
         ∙ ap (λ (y : Bool). scatter l (drop_if y x.name 14)) (sym h)
-        ∙ ap (scatter l) (sym (by-again f ds before x inside rest c b p q))
+        ∙ ap (scatter l) (sym (by_again f ds before x inside rest c b p q))
 
-    pub alone-kept : r ≡ false → l' ≡ l → DropsOne s d e o st z key m k (k + 1) v l l'
+    pub alone_kept : r ≡ false → l' ≡ l → DropsOne s d e o st z key m k (k + 1) v l l'
     unfolding scatter drop_if
-    alone-kept h t f ds before x inside rest c b p q =
-        t ∙ ap (λ (y : Bool). scatter l (drop_if y x.name 14)) (sym h) ∙ ap (scatter l) (sym (by-again f ds before x inside rest c b p q))
+    alone_kept h t f ds before x inside rest c b p q =
+        t ∙ ap (λ (y : Bool). scatter l (drop_if y x.name 14)) (sym h) ∙ ap (scatter l) (sym (by_again f ds before x inside rest c b p q))
 
 pub one_alone : (s d e o st : List ℕ) (z : Sizes) (key m k n v : ℕ) (l l' : List ℕ) → n ≡ k + 1 → DropsOne s d e o st z key m k (k + 1) v l l'
     → DropsOne s d e o st z key m k n v l l'
@@ -271,10 +271,10 @@ module _ (s d e o st : List ℕ) (z : Sizes) (key m k n v : ℕ) (r : Verdict) (
       let on = w f ds before x inside rest c b p in
       ap (scatter l) (sym (stays f.objects x (names before) (λ us. drops inside f.objects us []) t (subst (λ i. 14 < i) on.number h)))
 
-  pub one-marked : (l l' : List ℕ) (name : ℕ) → name ≡ get_or st (k * 7 + 0) 0 → (r.number ≡ 0 → ⊥) → r.number ≤ 14 → l' ≡ set l name r.number
+  pub one_marked : (l l' : List ℕ) (name : ℕ) → name ≡ get_or st (k * 7 + 0) 0 → (r.number ≡ 0 → ⊥) → r.number ≤ 14 → l' ≡ set l name r.number
       → DropsOne s d e o st z key m k n v l l'
   unfolding scatter drop_if statement_cells
-  one-marked l l' name pn i h g f ds before x inside rest c b p q =
+  one_marked l l' name pn i h g f ds before x inside rest c b p q =
       let a = own_at before b p in
       let t = find_definition ds x.name in
       let on = w f ds before x inside rest c b p in
@@ -283,7 +283,7 @@ module _ (s d e o st : List ℕ) (z : Sizes) (key m k n v : ℕ) (r : Verdict) (
       g
       ∙ ap (λ u. set l u r.number) at
       ∙ ap (λ u. set l x.name.place u) on.number
-      ∙ ap (scatter l) (sym (at-fault f.objects x (names before) (λ us. drops inside f.objects us []) t i' (subst (λ u. u ≤ 14) on.number h)))
+      ∙ ap (scatter l) (sym (at_fault f.objects x (names before) (λ us. drops inside f.objects us []) t i' (subst (λ u. u ≤ 14) on.number h)))
 
 -- A block ------------------------------------------------------------------------------------------------------------------------------------
 
@@ -315,14 +315,14 @@ drops_then (state x inside rest) b os ds ns =
     ∙ sym (append_assoc l (drops rest os ds (ns ++ (x.name ∷ []))) (drops b os ds (ns ++ (x.name ∷ names rest))))
 
 module _ (s d e o st : List ℕ) (z : Sizes) (key m n : ℕ) where
-  pub dropping-start : (l : List ℕ) → Dropping s d e o st z key m n m l l
+  pub dropping_start : (l : List ℕ) → Dropping s d e o st z key m n m l l
   unfolding then statements_in drops scatter
-  dropping-start l f ds ss c b = record { front = done; rest = ss; whole = refl; row = omega arith; marks = refl }
+  dropping_start l f ds ss c b = record { front = done; rest = ss; whole = refl; row = omega arith; marks = refl }
 
-  dropping-more : (k : ℕ) (l₀ l l' : List ℕ) → k < n → DropsOne s d e o st z key m k (row_after st k n) n l l' → Dropping s d e o st z key m n k l₀ l
+  dropping_more : (k : ℕ) (l₀ l l' : List ℕ) → k < n → DropsOne s d e o st z key m k (row_after st k n) n l l' → Dropping s d e o st z key m n k l₀ l
       → Dropping s d e o st z key m n (row_after st k n) l₀ l'
   unfolding then statements_in drops
-  dropping-more k l₀ l l' h w i f ds ss c b = go (i f ds ss c b).front (i f ds ss c b).rest (i f ds ss c b).whole (i f ds ss c b).row (i f ds ss c b).marks
+  dropping_more k l₀ l l' h w i f ds ss c b = go (i f ds ss c b).front (i f ds ss c b).rest (i f ds ss c b).whole (i f ds ss c b).row (i f ds ss c b).marks
     where
       go : (front rest : Statements) → ss ≡ then front rest → k ≡ m + statements_in front → l ≡ scatter l₀ (drops front f.objects ds [])
           → Gone m (row_after st k n) f ds ss l₀ l'
@@ -334,7 +334,7 @@ module _ (s d e o st : List ℕ) (z : Sizes) (key m n : ℕ) where
       go front (state x inside rest) p q t =
           let b' : BlockAt s st m n (then front (state x inside rest)) = subst (BlockAt s st m n) p b in
           let bb : BlockAt s st k n (state x inside rest) = subst (λ u. BlockAt s st u n (state x inside rest)) (sym q) (back_at front (state x inside rest) b') in
-          let a = first-after bb in
+          let a = first_after bb in
           let v = w f ds front x inside rest c b' q a in
           let j = dropped (find_definition ds x.name) f.objects x (names front) (λ us. drops inside f.objects us []) in
           let one : drops (state x inside done) f.objects ds (names front) ≡ j = append-nil j in
@@ -351,15 +351,15 @@ module _ (s d e o st : List ℕ) (z : Sizes) (key m n : ℕ) where
                 ∙ ap (scatter l₀) (sym (drops_then front (state x inside done) f.objects ds []));
           }
 
-  pub dropping-step : (k next : ℕ) (l₀ l l' : List ℕ) → next ≡ row_after st k n → k < n → DropsOne s d e o st z key m k next n l l'
+  pub dropping_step : (k next : ℕ) (l₀ l l' : List ℕ) → next ≡ row_after st k n → k < n → DropsOne s d e o st z key m k next n l l'
       → Dropping s d e o st z key m n k l₀ l → Dropping s d e o st z key m n next l₀ l'
-  dropping-step k next l₀ l l' p h w i =
+  dropping_step k next l₀ l l' p h w i =
       subst (λ a. Dropping s d e o st z key m n a l₀ l') (sym p)
-      (dropping-more k l₀ l l' h (subst (λ a. DropsOne s d e o st z key m k a n l l') p w) i)
+      (dropping_more k l₀ l l' h (subst (λ a. DropsOne s d e o st z key m k a n l l') p w) i)
 
-  pub dropping-end : (k : ℕ) (l₀ l : List ℕ) → n ≤ k → Dropping s d e o st z key m n k l₀ l → DropsBlock s d e o st z key m n l₀ l
+  pub dropping_end : (k : ℕ) (l₀ l : List ℕ) → n ≤ k → Dropping s d e o st z key m n k l₀ l → DropsBlock s d e o st z key m n l₀ l
   unfolding statements_in
-  dropping-end k l₀ l h i f ds ss c b = go (i f ds ss c b).front (i f ds ss c b).rest (i f ds ss c b).whole (i f ds ss c b).row (i f ds ss c b).marks
+  dropping_end k l₀ l h i f ds ss c b = go (i f ds ss c b).front (i f ds ss c b).rest (i f ds ss c b).whole (i f ds ss c b).row (i f ds ss c b).marks
     where
       go : (front rest : Statements) → ss ≡ then front rest → k ≡ m + statements_in front → l ≡ scatter l₀ (drops front f.objects ds [])
           → l ≡ scatter l₀ (drops ss f.objects ds [])
@@ -380,10 +380,10 @@ object_by s d e o st z ps i kind key m n l l' pk py pm pn g f front x rest c pl 
     let kind_is : kind ≡ kind_number x.kind = pk ∙ R.kind in
     let key_is : key ≡ kind_place (kind_number x.kind) f.specs = py ∙ ap (λ a. get_or ps a 0) kind_is ∙ pl.place x.kind in
     let m-is : m ≡ statement_count front = pm ∙ R.from in
-    let n-is : n ≡ statement_count front + statements_in x.statements = pn ∙ R.till in
+    let n_is : n ≡ statement_count front + statements_in x.statements = pn ∙ R.till in
     g f (of_kind x.kind f.specs) x.statements
     (record { given = c; scope = subst (λ a. ScopeAt f a (of_kind x.kind f.specs)) (sym key_is) (scope_of_kind f x.kind) })
-    (subst (λ a. BlockAt s st a n x.statements) (sym m-is) (subst (λ a. BlockAt s st (statement_count front) a x.statements) (sym n-is) R.block))
+    (subst (λ a. BlockAt s st a n x.statements) (sym m-is) (subst (λ a. BlockAt s st (statement_count front) a x.statements) (sym n_is) R.block))
 
 objects_append : (f : File) (a : List Object) (x : Object)
     → drops_of f (a ++ (x ∷ [])) ≡ drops_of f a ++ drops x.statements f.objects (of_kind x.kind f.specs) []
@@ -409,9 +409,9 @@ module _ (s d e o st : List ℕ) (z : Sizes) (ps : List ℕ) where
   unfolding drops_of scatter
   objects_start l f c pl = record { front = []; rest = f.objects; whole = refl; row = refl; marks = refl }
 
-  pub objects-more : (i : ℕ) (l₀ l l' : List ℕ) → i < z.objects → DropsObject s d e o st z ps i l l' → DroppingObjects s d e o st z ps i l₀ l
+  pub objects_more : (i : ℕ) (l₀ l l' : List ℕ) → i < z.objects → DropsObject s d e o st z ps i l l' → DroppingObjects s d e o st z ps i l₀ l
       → DroppingObjects s d e o st z ps (i + 1) l₀ l'
-  objects-more i l₀ l l' h w v f c pl = go (v f c pl).front (v f c pl).rest (v f c pl).whole (v f c pl).row (v f c pl).marks
+  objects_more i l₀ l l' h w v f c pl = go (v f c pl).front (v f c pl).rest (v f c pl).whole (v f c pl).row (v f c pl).marks
     where
       go : (front rest : List Object) → f.objects ≡ front ++ rest → length front ≡ i → l ≡ scatter l₀ (drops_of f front) → GoneObjects (i + 1) f l₀ l'
       go front [] p q t =

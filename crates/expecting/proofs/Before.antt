@@ -25,13 +25,13 @@ use Rattle.token.specs.declared.Step.{Step}
 use Rattle.token.specs.declared.Step.TheVariants.{Found, Refused, End}
 use Rattle.token.proofs.Find.{by_test}
 use Rattle.token.proofs.Sequences.{tokens_of, after_all}
-use Rattle.token.proofs.Steps.{TokenOk, token_ok, found_fits, lex-found, lex-bad}
-use Rattle.locality.proofs.Skipping.{Bare, plain, lone, unended, plain_step, lone-step, unended-step, gap_step, Skips, here, on, skips_step, stop}
+use Rattle.token.proofs.Steps.{TokenOk, token_ok, found_fits, lex_found, lex_bad}
+use Rattle.locality.proofs.Skipping.{Bare, plain, lone, unended, plain_step, lone_step, unended_step, gap_step, Skips, here, on, skips_step, stop}
 use Rattle.locality.proofs.Pieces.{Run, run_lex, run_high, Leading, leading, first}
 use Rattle.locality.proofs.Slices.{Split, split}
 use Rattle.grammar.specs.Grammar.{Token, Begins}
 use Rattle.grammar.specs.Terminals.{token_of, tokens_in, tokens}
-use Rattle.grammar.specs.Stage.{Shallow, Answers, passes, no_token, not-admitted, ends-early, too-deep}
+use Rattle.grammar.specs.Stage.{Shallow, Answers, passes, no_token, not_admitted, ends_early, too_deep}
 use Rattle.grammar.specs.declared.Answer.{Answer}
 use Rattle.grammar.specs.declared.Answer.TheVariants.{NotAdmitted}
 use Rattle.expecting.specs.Expected.{until}
@@ -86,14 +86,14 @@ token_end s m n e =
 
 bare_end : (s : List ℕ) (m n : ℕ) → Bare s m → step_at s m ≡ End n → length s ≤ m
 bare_end s m n (plain f) e = token_end s m n (sym (plain_step s m f) ∙ e)
-bare_end s m n (lone f g h) e = token_end s m n (sym (lone-step s m f g h) ∙ e)
-bare_end s m n (unended f g h k) e = absurd (let r = unended-step s m f g h k in let y : ◌≡◌ {A = ℕ} 0 1 = cc in omega arith)
+bare_end s m n (lone f g h) e = token_end s m n (sym (lone_step s m f g h) ∙ e)
+bare_end s m n (unended f g h k) e = absurd (let r = unended_step s m f g h k in let y : ◌≡◌ {A = ℕ} 0 1 = cc in omega arith)
 
 -- and where it finds a token, the token stands there
 bare_found : (s : List ℕ) (m : ℕ) (t : Lexeme) (c : Cursor) → Bare s m → step_at s m ≡ Found t c → t.at ≡ m
 bare_found s m t c (plain f) e = let o : TokenOk s m (Found t c) = subst (TokenOk s m) (sym (plain_step s m f) ∙ e) (token_ok s m) in o.0
-bare_found s m t c (lone f g h) e = let o : TokenOk s m (Found t c) = subst (TokenOk s m) (sym (lone-step s m f g h) ∙ e) (token_ok s m) in o.0
-bare_found s m t c (unended f g h k) e = absurd (let r = unended-step s m f g h k in let y : ◌≡◌ {A = ℕ} 0 1 = cc in omega arith)
+bare_found s m t c (lone f g h) e = let o : TokenOk s m (Found t c) = subst (TokenOk s m) (sym (lone_step s m f g h) ∙ e) (token_ok s m) in o.0
+bare_found s m t c (unended f g h k) e = absurd (let r = unended_step s m f g h k in let y : ◌≡◌ {A = ℕ} 0 1 = cc in omega arith)
 
 skips_high : (s : List ℕ) (m p : ℕ) → p ≤ length s → Skips s m p → m ≤ length s
 skips_high s m p h (here _ e) = omega arith
@@ -103,10 +103,10 @@ skips_high s m p h (on _ q g k) = skips_high s m q (gap_step s p q g).2 k
 
 pub record Before (s : List ℕ) (p : ℕ) : Type 0 where
   pub inside : p ≤ length s
-  pub from-here : ℕ
+  pub from_here : ℕ
   pub lexemes : List Lexeme
-  pub run : Run s from-here 0 lexemes
-  pub gap : Skips s p from-here
+  pub run : Run s from_here 0 lexemes
+  pub gap : Skips s p from_here
   pub are : map token_of lexemes ≡ until p (tokens s)
   pub shallow : Shallow (until p (tokens s))
   pub begins : Begins (until p (tokens s))
@@ -123,10 +123,10 @@ module _ (s : List ℕ) (l : List Token) (t : Token) (r : List Token) (e : token
   unfolding tokens
   parted = split token_of (tokens_of (lex_from s 0)) l (t ∷ r) (sym (lexed_map (lex_from s 0)) ∙ e)
 
-  by-back : (k : List Lexeme) → tokens_of (lex_from s 0) ≡ parted.front ++ k → map token_of k ≡ t ∷ r → Before s t.place
+  by_back : (k : List Lexeme) → tokens_of (lex_from s 0) ≡ parted.front ++ k → map token_of k ≡ t ∷ r → Before s t.place
   unfolding token_of
-  by-back [] w z = absurd (let y : ◌≡◌ {A = ℕ} 0 1 = cc in omega arith)
-  by-back (x ∷ xs) w z =
+  by_back [] w z = absurd (let y : ◌≡◌ {A = ℕ} 0 1 = cc in omega arith)
+  by_back (x ∷ xs) w z =
       let g = leading s 0 parted.front (x ∷ xs) w in
       let f = first s g.end x xs g.rest in
       let o = found_fits s g.end x f.next f.step in
@@ -137,7 +137,7 @@ module _ (s : List ℕ) (l : List Token) (t : Token) (r : List Token) (e : token
       let y : until t.place (tokens s) ≡ l = until_token s l t r e in
       record {
         inside = omega (arith, q, o.next, o.inside);
-        from-here = g.end;
+        from_here = g.end;
         lexemes = parted.front;
         run = g.run;
         gap = subst (λ (i : ℕ). Skips s i g.end) (sym at_place ∙ q) v.skipped;
@@ -146,8 +146,8 @@ module _ (s : List ℕ) (l : List Token) (t : Token) (r : List Token) (e : token
         begins = subst Begins (sym y) b;
       }
 
-  before-token : Before s t.place
-  before-token = by-back parted.back parted.whole parted.back_is
+  before_token : Before s t.place
+  before_token = by_back parted.back parted.whole parted.back_is
 
 -- at the end
 wholly_after : (ls : List Lexeme) (l : Lexed) → Wholly (after_all ls l) → Wholly l
@@ -162,9 +162,9 @@ module _ (s : List ℕ) (d : Wholly (lex_from s 0)) (h : Shallow (tokens s)) (b 
   by_step : (r : Step) → step_at s all_found.end ≡ r → Before s (length s)
   unfolding tokens tokens_of
   by_step (Found x c) e =
-      absurd (let z : x ∷ tokens_of (lex_from s c.at) ≡ [] = sym (ap tokens_of (lex-found s all_found.end x c e)) ∙ all_found.rest in let y : ◌≡◌ {A = ℕ} 0 1 = cc in omega arith)
+      absurd (let z : x ∷ tokens_of (lex_from s c.at) ≡ [] = sym (ap tokens_of (lex_found s all_found.end x c e)) ∙ all_found.rest in let y : ◌≡◌ {A = ℕ} 0 1 = cc in omega arith)
   by_step (Refused q) e =
-      absurd (subst Wholly (lex-bad s all_found.end q e) (wholly_after (tokens_of (lex_from s 0)) (lex_from s all_found.end) (subst Wholly (run_lex s all_found.end 0 (tokens_of (lex_from s 0)) all_found.run) d)))
+      absurd (subst Wholly (lex_bad s all_found.end q e) (wholly_after (tokens_of (lex_from s 0)) (lex_from s all_found.end) (subst Wholly (run_lex s all_found.end 0 (tokens_of (lex_from s 0)) all_found.run) d)))
   by_step (End n) e =
       let v = stop s all_found.end in
       let low = bare_end s v.place n v.bare (sym (skips_step s v.place all_found.end v.skipped) ∙ e) in
@@ -173,7 +173,7 @@ module _ (s : List ℕ) (d : Wholly (lex_from s 0)) (h : Shallow (tokens s)) (b 
       let y = until_end s in
       record {
         inside = omega arith;
-        from-here = all_found.end;
+        from_here = all_found.end;
         lexemes = tokens_of (lex_from s 0);
         run = all_found.run;
         gap = subst (λ (i : ℕ). Skips s i all_found.end) q v.skipped;
@@ -182,15 +182,15 @@ module _ (s : List ℕ) (d : Wholly (lex_from s 0)) (h : Shallow (tokens s)) (b 
         begins = subst Begins (sym y) b;
       }
 
-  before-end : Before s (length s)
-  before-end = by_step (step_at s all_found.end) refl
+  before_end : Before s (length s)
+  before_end = by_step (step_at s all_found.end) refl
 
 before_of : {s : List ℕ} {a : Answer} (p : ℕ) → a ≡ NotAdmitted p → Answers s a → Before s p
-before_of {s} p q (not-admitted l t r e h b n) = subst (Before s) (let x : t.place ≡ p = cc in x) (before-token s l t r e h b)
-before_of {s} p q (ends-early w h b n) = subst (Before s) (let x : length s ≡ p = cc in x) (before-end s w h b)
+before_of {s} p q (not_admitted l t r e h b n) = subst (Before s) (let x : t.place ≡ p = cc in x) (before_token s l t r e h b)
+before_of {s} p q (ends_early w h b n) = subst (Before s) (let x : length s ≡ p = cc in x) (before_end s w h b)
 before_of p q (passes w h d) = absurd (let z : ◌≡◌ {A = ℕ} 0 1 = cc in omega arith)
 before_of p q (no_token n w h b) = absurd (let z : ◌≡◌ {A = ℕ} 0 1 = cc in omega arith)
-before_of p q (too-deep l t r e h b m o) = absurd (let z : ◌≡◌ {A = ℕ} 0 1 = cc in omega arith)
+before_of p q (too_deep l t r e h b m o) = absurd (let z : ◌≡◌ {A = ℕ} 0 1 = cc in omega arith)
 
 pub before : (s : List ℕ) (p : ℕ) → Answers s (NotAdmitted p) → Before s p
 before s p a = before_of p refl a

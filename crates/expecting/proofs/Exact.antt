@@ -16,7 +16,7 @@ use Rattle.grammar.proofs.Uniqueness.{Good, one_good, forth, left_good, complete
 use Rattle.expecting.specs.Expected.{Leaf, under, leaves, tokens_at, Expects, until, GoesOn, ByTerminal}
 use Rattle.expecting.specs.Firsts.{admits, admits_at, onwards, rest_after, expects, expected, ExpectedExact}
 use Rattle.expecting.proofs.Leaves.{at_append, tokens_leaves, taker, leaves_back, leaves_to, leaves_from}
-use Rattle.expecting.proofs.Firsts.{class_of_lem, class_matches, taker_matches, move_first, first-move}
+use Rattle.expecting.proofs.Firsts.{class_of_lem, class_matches, taker_matches, move_first, first_move}
 
 -- Trees of what is left make trees of the whole, with the same leaves after -------------------------------------------------------------------
 
@@ -24,11 +24,11 @@ record Led (k : Symbols) (l : List Token) (m : List Leaf) : Type 0 where
   trees : Trees ◌⟹◌ k
   front : List Leaf
   are : leaves trees ≡ front ++ m
-  front-is : tokens_at front ≡ l
+  front_is : tokens_at front ≡ l
 
 lead : (l : List Token) {j : Symbols} (k : Symbols) → rest_after k l ≡ some j → (us : Trees ◌⟹◌ j) → Led k l (leaves us)
 unfolding rest_after tokens_at
-lead [] {j} k e us = subst (λ i. Led i [] (leaves us)) (sym (some_inj e)) (record { trees = us; front = []; are = refl; front-is = refl })
+lead [] {j} k e us = subst (λ i. Led i [] (leaves us)) (sym (some_inj e)) (record { trees = us; front = []; are = refl; front_is = refl })
 lead (t ∷ l) {j} k e us = go (feed k t.class) refl (λ i d. lead l i d us) e
   where
     go : (o : Option Symbols) → feed k t.class ≡ o → ((i : Symbols) → rest_after i l ≡ some j → Led i l (leaves us)) → onwards o (λ i. rest_after i l) ≡ some j
@@ -41,7 +41,7 @@ lead (t ∷ l) {j} k e us = go (feed k t.class) refl (λ i d. lead l i d us) e
           trees = back t v.fed w.trees;
           front = under (taker v.fed) t ∷ w.front;
           are = leaves_back t v.fed w.trees ∙ ap (under (taker v.fed) t ∷◌) w.are;
-          front-is = ap (t ∷◌) w.front-is;
+          front_is = ap (t ∷◌) w.front-is;
         }
 
 -- And trees of the whole come so -----------------------------------------------------------------------------------------------------------------
@@ -56,7 +56,7 @@ record Left (k : Symbols) (l : List Token) (m : List Leaf) : Type 0 where
 record Forward {k : Symbols} (ts : Trees ◌⟹◌ k) (x : Leaf) (m : List Leaf) : Type 0 where
   move : Move x.token.class k
   rest : Trees ◌⟹◌ (after move)
-  by-it : taker move ≡ x.terminal
+  by_it : taker move ≡ x.terminal
   are : leaves rest ≡ m
 
 forward : {k : Symbols} (ts : Trees ◌⟹◌ k) (x : Leaf) (m : List Leaf) → leaves ts ≡ x ∷ m → Forward ts x m
@@ -66,7 +66,7 @@ forward ts x m e =
     let q : under (taker f.by_move) x.token ∷ leaves f.rest ≡ x ∷ m = sym (leaves_back x.token f.by_move f.rest) ∙ sym (ap leaves f.same) ∙ e in
     let h : under (taker f.by_move) x.token ≡ x = cc in
     let r : leaves f.rest ≡ m = cc in
-    record { move = f.by_move; rest = f.rest; by-it = ap (λ (y : Leaf). y.terminal) h; are = r }
+    record { move = f.by_move; rest = f.rest; by_it = ap (λ (y : Leaf). y.terminal) h; are = r }
 
 leave : (front m : List Leaf) {k : Symbols} → Good k → (ts : Trees ◌⟹◌ k) → leaves ts ≡ front ++ m → Left k (tokens_at front) m
 unfolding rest_after tokens_at
@@ -90,7 +90,7 @@ found_at l a t m e = go (rest_after (paper file ▸ ∎) l) refl e
     go : (o : Option Symbols) → rest_after (paper file ▸ ∎) l ≡ o → admits_at o a ≡ true → (x : Expects l a) × (x.here ≡ t)
     go none r h = absurd (false≢true h)
     go (some j) r h =
-        let w = first-move a t.class m j h in
+        let w = first_move a t.class m j h in
         let us = back t w.move (finish (after w.move)) in
         let z = lead l (paper file ▸ ∎) r us in (
           record {
@@ -98,10 +98,10 @@ found_at l a t m e = go (rest_after (paper file ▸ ∎) l) refl e
             before = z.front;
             here = t;
             more = leaves (finish (after w.move));
-            leaves-are =
+            leaves_are =
                 leaves_from z.trees (lifted (file ▸ ∎)) ∙ z.are
                 ∙ ap (z.front ++◌) (leaves_back t w.move (finish (after w.move)) ∙ ap (λ (b : Terminal). under b t ∷ leaves (finish (after w.move))) w.by-it);
-            before-is = z.front-is;
+            before_is = z.front-is;
           },
           refl,
         )
@@ -140,21 +140,21 @@ goes_on l a t m x =
 -- And every token that goes on is of a terminal that is expected.
 record Cut (ls : List Leaf) (l : List Token) (t : Token) : Type 0 where
   front : List Leaf
-  leaf-here : Leaf
+  leaf_here : Leaf
   more : List Leaf
-  all_are : ls ≡ front ++ (leaf-here ∷ more)
-  front-is : tokens_at front ≡ l
-  token_is : leaf-here.token ≡ t
+  all_are : ls ≡ front ++ (leaf_here ∷ more)
+  front_is : tokens_at front ≡ l
+  token_is : leaf_here.token ≡ t
 
 cut : (ls : List Leaf) (l : List Token) (t : Token) (m : List Token) → tokens_at ls ≡ l ++ (t ∷ m) → Cut ls l t
 unfolding tokens_at
 cut [] [] t m e = absurd (let z : ◌≡◌ {A = ℕ} 0 1 = cc in omega arith)
 cut [] (u ∷ l) t m e = absurd (let z : ◌≡◌ {A = ℕ} 0 1 = cc in omega arith)
-cut (x ∷ ls) [] t m e = record { front = []; leaf-here = x; more = ls; all_are = refl; front-is = refl; token_is = let q : x.token ≡ t = cc in q }
+cut (x ∷ ls) [] t m e = record { front = []; leaf_here = x; more = ls; all_are = refl; front_is = refl; token_is = let q : x.token ≡ t = cc in q }
 cut (x ∷ ls) (u ∷ l) t m e =
     let r = cut ls l t m (let q : tokens_at ls ≡ l ++ (t ∷ m) = cc in q) in
     let q : x.token ≡ u = cc in
-    record { front = x ∷ r.front; leaf-here = r.leaf-here; more = r.more; all_are = ap (x ∷◌) r.all_are; front-is = ap₂ ◌∷◌ q r.front-is; token_is = r.token-is }
+    record { front = x ∷ r.front; leaf_here = r.leaf-here; more = r.more; all_are = ap (x ∷◌) r.all_are; front_is = ap₂ ◌∷◌ q r.front-is; token_is = r.token-is }
 
 pub by_terminal : ByTerminal
 by_terminal l t b =
@@ -165,7 +165,7 @@ by_terminal l t b =
     let f = forward r.trees x w.more r.are in (
       x.terminal,
       ap₂ (λ (a : Terminal) (u : Token). matches a u.class) (sym f.by-it) (sym w.token-is) ∙ taker_matches f.move,
-      record { tree = d.tree; before = w.front; here = x.token; more = w.more; leaves-are = w.all_are; before-is = w.front-is },
+      record { tree = d.tree; before = w.front; here = x.token; more = w.more; leaves_are = w.all_are; before_is = w.front-is },
     )
 
 -- A token goes on under one terminal alone ------------------------------------------------------------------------------------------------------
@@ -187,6 +187,6 @@ one_terminal l a b c m n x y = go (rest_after (paper file ▸ ∎) l) refl (told
     go : (o : Option Symbols) → rest_after (paper file ▸ ∎) l ≡ o → admits_at o a ≡ true → admits_at o b ≡ true → a ≡ b
     go none r h k = absurd (false≢true h)
     go (some j) r h k =
-        let v = first-move a c m j h in
-        let w = first-move b c n j k in
+        let v = first_move a c m j h in
+        let w = first_move b c n j k in
         sym v.by-it ∙ ap taker (move_unique (rest_after_good l (one_good (paper file)) r) v.move w.move) ∙ w.by-it

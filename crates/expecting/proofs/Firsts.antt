@@ -13,7 +13,7 @@ use Rattle.grammar.specs.Factored.{Nonterminal, paper, span, Symbols, ◌⟹◌,
 use Rattle.grammar.specs.Machine.{nullable, Move, take, enter, skip}
 use Rattle.grammar.proofs.Choices.{In, here, there, listed, both}
 use Rattle.grammar.proofs.Braces.{true_T}
-use Rattle.expecting.specs.Firsts.{same, first-with, some_first, first_within, first, admits}
+use Rattle.expecting.specs.Firsts.{same, first_with, some_first, first_within, first, admits}
 use Rattle.expecting.specs.Flags.{index}
 use Rattle.expecting.proofs.Leaves.{taker}
 
@@ -176,15 +176,15 @@ first_is a (paper statement) = refl
 first_is a (paper value) = refl
 first_is a span = refl
 
-some_in : (b : Nonterminal → Bool) (a : Terminal) {x : Nonterminal} {g : Symbols} (p : x ⟹ g) {cs : List (Choice x)} → In (by p) cs → first-with b a g ≡ true
+some_in : (b : Nonterminal → Bool) (a : Terminal) {x : Nonterminal} {g : Symbols} (p : x ⟹ g) {cs : List (Choice x)} → In (by p) cs → first_with b a g ≡ true
     → some_first b a cs ≡ true
 unfolding some_first
-some_in b a {g} p (here {l}) e = or_left (first-with b a g) (some_first b a l) e
-some_in b a p (there {b = by {f} q} {l} m) e = or_right (first-with b a f) (some_first b a l) (some_in b a p m e)
+some_in b a {g} p (here {l}) e = or_left (first_with b a g) (some_first b a l) e
+some_in b a p (there {b = by {f} q} {l} m) e = or_right (first_with b a f) (some_first b a l) (some_in b a p m e)
 
 -- The terminal of a move is one of them.
 pub move_first : {c : Class} {k : Symbols} (v : Move c k) → admits k (taker v) ≡ true
-unfolding admits first-with taker
+unfolding admits first_with taker
 move_first (take {a} m) = same_self a
 move_first (enter {x} {g} {k} p v) =
     or_left (first (taker v) x) (nullable x && admits k (taker v)) (first_is (taker v) x ∙ some_in (first (taker v)) (taker v) p (listed p) (move_first v))
@@ -200,43 +200,43 @@ taker_matches (skip e v) = taker_matches v
 -- Each of them has a move with each class that it matches.
 pub record Moves (a : Terminal) (c : Class) (k : Symbols) : Type 0 where
   pub move : Move c k
-  pub by-it : taker move ≡ a
+  pub by_it : taker move ≡ a
 
 record Begun (a : Terminal) (c : Class) (x : Nonterminal) : Type 0 where
   form : Symbols
-  rule-form : x ⟹ form
+  rule_form : x ⟹ form
   moves : Moves a c form
 
 module _ (a : Terminal) (c : Class) (m : matches a c ≡ true) where
-  with-moves : (b : Nonterminal → Bool) → ((x : Nonterminal) → b x ≡ true → Begun a c x) → (k : Symbols) → first-with b a k ≡ true → Moves a c k
-  unfolding first-with taker
-  with-moves b f [] e = absurd (false≢true e)
-  with-moves b f (tok d ∷ k) e =
-      let q = same_is d a e in record { move = take (ap (λ (x : Terminal). matches x c) q ∙ m); by-it = q }
-  with-moves b f (rule x ∷ k) e = go (or_true (b x) (nullable x && first-with b a k) e) (with-moves b f k)
+  with_moves : (b : Nonterminal → Bool) → ((x : Nonterminal) → b x ≡ true → Begun a c x) → (k : Symbols) → first_with b a k ≡ true → Moves a c k
+  unfolding first_with taker
+  with_moves b f [] e = absurd (false≢true e)
+  with_moves b f (tok d ∷ k) e =
+      let q = same_is d a e in record { move = take (ap (λ (x : Terminal). matches x c) q ∙ m); by_it = q }
+  with_moves b f (rule x ∷ k) e = go (or_true (b x) (nullable x && first_with b a k) e) (with_moves b f k)
     where
-      go : (b x ≡ true) ⊎ ((nullable x && first-with b a k) ≡ true) → (first-with b a k ≡ true → Moves a c k) → Moves a c (rule x ∷ k)
-      go (inl h) ih = let s = f x h in record { move = enter s.rule-form s.moves.move; by-it = s.moves.by-it }
+      go : (b x ≡ true) ⊎ ((nullable x && first_with b a k) ≡ true) → (first_with b a k ≡ true → Moves a c k) → Moves a c (rule x ∷ k)
+      go (inl h) ih = let s = f x h in record { move = enter s.rule-form s.moves.move; by_it = s.moves.by-it }
       go (inr h) ih =
-          let n = both (nullable x) (first-with b a k) h in
+          let n = both (nullable x) (first_with b a k) h in
           let s = ih n.1 in
-          record { move = skip n.0 s.move; by-it = s.by-it }
+          record { move = skip n.0 s.move; by_it = s.by-it }
 
-  some-begun : (b : Nonterminal → Bool) → ((x : Nonterminal) → b x ≡ true → Begun a c x) → {x : Nonterminal} (cs : List (Choice x))
+  some_begun : (b : Nonterminal → Bool) → ((x : Nonterminal) → b x ≡ true → Begun a c x) → {x : Nonterminal} (cs : List (Choice x))
       → some_first b a cs ≡ true → Begun a c x
   unfolding some_first
-  some-begun b f {x} [] e = absurd (false≢true e)
-  some-begun b f {x} (by {f = g} p ∷ cs) e = go (or_true (first-with b a g) (some_first b a cs) e) (some-begun b f cs)
+  some_begun b f {x} [] e = absurd (false≢true e)
+  some_begun b f {x} (by {f = g} p ∷ cs) e = go (or_true (first_with b a g) (some_first b a cs) e) (some_begun b f cs)
     where
-      go : (first-with b a g ≡ true) ⊎ (some_first b a cs ≡ true) → (some_first b a cs ≡ true → Begun a c x) → Begun a c x
-      go (inl h) ih = record { form = g; rule-form = p; moves = with-moves b f g h }
+      go : (first_with b a g ≡ true) ⊎ (some_first b a cs ≡ true) → (some_first b a cs ≡ true → Begun a c x) → Begun a c x
+      go (inl h) ih = record { form = g; rule_form = p; moves = with_moves b f g h }
       go (inr h) ih = ih h
 
   begun : (n : ℕ) (x : Nonterminal) → first_within n a x ≡ true → Begun a c x
   unfolding first_within
   begun zero x e = absurd (false≢true e)
-  begun (suc n) x e = some-begun (first_within n a) (begun n) (choices x) e
+  begun (suc n) x e = some_begun (first_within n a) (begun n) (choices x) e
 
-  pub first-move : (k : Symbols) → admits k a ≡ true → Moves a c k
+  pub first_move : (k : Symbols) → admits k a ≡ true → Moves a c k
   unfolding admits first
-  first-move k e = with-moves (first a) (begun 6) k e
+  first_move k e = with_moves (first a) (begun 6) k e

@@ -33,25 +33,25 @@ module _ (s : List ℕ) (p i : ℕ) (h : p ≤ length s) (k : i < 29) where
   front_long : length (take p s) ≡ p
   front_long = length-take-le p s h
 
-  pub asking-long : length (asking s p i) ≡ p + 17
+  pub asking_long : length (asking s p i) ≡ p + 17
   unfolding asking
-  asking-long =
+  asking_long =
       let a = front_long in
       let b = sample_long i k in
       let c = length-append (take p s) (10 ∷ sample_of i) in
       omega arith
 
-  pub byte-before : (j : ℕ) → j < p → byte s j ≡ byte (asking s p i) j
+  pub byte_before : (j : ℕ) → j < p → byte s j ≡ byte (asking s p i) j
   unfolding asking
-  byte-before j l = let a = front_long in sym (get_or-append (take p s) (10 ∷ sample_of i) 0 j (omega arith) ∙ get_or-take p s j 0 l)
+  byte_before j l = let a = front_long in sym (get_or-append (take p s) (10 ∷ sample_of i) 0 j (omega arith) ∙ get_or-take p s j 0 l)
 
-  pub byte-feed : (j : ℕ) → j ≡ p → 10 ≡ byte (asking s p i) j
+  pub byte_feed : (j : ℕ) → j ≡ p → 10 ≡ byte (asking s p i) j
   unfolding asking
-  byte-feed j e = sym (ap (byte (take p s ++ (10 ∷ sample_of i))) e ∙ get_or_at (take p s) 10 (sample_of i) 0 p front_long)
+  byte_feed j e = sym (ap (byte (take p s ++ (10 ∷ sample_of i))) e ∙ get_or_at (take p s) 10 (sample_of i) 0 p front_long)
 
-  pub byte-behind : (j : ℕ) → p ≤ j → (j ≡ p → ⊥) → byte (sample_of i) (j - p - 1) ≡ byte (asking s p i) j
+  pub byte_behind : (j : ℕ) → p ≤ j → (j ≡ p → ⊥) → byte (sample_of i) (j - p - 1) ≡ byte (asking s p i) j
   unfolding asking
-  byte-behind j f g =
+  byte_behind j f g =
       let a = front_long in
       let n : j ≡ length (take p s) + (1 + (j - p - 1)) = omega arith in
       sym (ap (byte (take p s ++ (10 ∷ sample_of i))) n ∙ get_or-append-add (take p s) (10 ∷ sample_of i) (1 + (j - p - 1)) 0 ∙ one_on (j - p - 1))

@@ -10,7 +10,7 @@ use Rattle.token.specs.Lexing.{Lexed, lex_from}
 use Rattle.locality.proofs.Onward.{reading}
 use Rattle.grammar.specs.Grammar.{Token, Begins}
 use Rattle.grammar.specs.Terminals.{token_of, tokens_in, tokens}
-use Rattle.grammar.specs.Stage.{Answers, passes, no_token, not-admitted, ends-early, too-deep}
+use Rattle.grammar.specs.Stage.{Answers, passes, no_token, not_admitted, ends_early, too_deep}
 use Rattle.grammar.specs.declared.Answer.{Answer}
 use Rattle.grammar.specs.declared.Answer.TheVariants.{NotAdmitted}
 use Rattle.expecting.specs.Expected.{until}
@@ -77,7 +77,7 @@ none_behind [] m t e = let z : ◌≡◌ {A = ℕ} 0 1 = cc in omega arith
 none_behind (x ∷ l) m t e = none_behind l m t (let q : l ≡ l ++ (t ∷ m) = cc in q)
 
 here_of : {s : List ℕ} {a : Answer} (p : ℕ) → a ≡ NotAdmitted p → Answers s a → Refused-here s p
-here_of {s} p q (not-admitted l t r e h b n) =
+here_of {s} p q (not_admitted l t r e h b n) =
     let x : t.place ≡ p = cc in
     let y : until p (tokens s) ≡ l = ap (λ (i : ℕ). until i (tokens s)) (sym x) ∙ until_token s l t r e in
     record {
@@ -86,13 +86,13 @@ here_of {s} p q (not-admitted l t r e h b n) =
           let z : u ≡ t = same_head l u t v r (ap (◌++ (u ∷ v)) (sym y) ∙ sym w ∙ e) in
           n (subst (λ (k : List Token). Begins (k ++ (t ∷ []))) y (subst (λ (k : Token). Begins (until p (tokens s) ++ (k ∷ []))) z c));
     }
-here_of {s} p q (ends-early w h b n) =
+here_of {s} p q (ends_early w h b n) =
     let x : length s ≡ p = cc in
     let y : until p (tokens s) ≡ tokens s = ap (λ (i : ℕ). until i (tokens s)) (sym x) ∙ until_end s in
     record { viable = subst Begins (sym y) b; not_viable = λ u v k c. none_behind (tokens s) v u (k ∙ ap (◌++ (u ∷ v)) y) }
 here_of p q (passes w h d) = absurd (let z : ◌≡◌ {A = ℕ} 0 1 = cc in omega arith)
 here_of p q (no_token n w h b) = absurd (let z : ◌≡◌ {A = ℕ} 0 1 = cc in omega arith)
-here_of p q (too-deep l t r e h b m o) = absurd (let z : ◌≡◌ {A = ℕ} 0 1 = cc in omega arith)
+here_of p q (too_deep l t r e h b m o) = absurd (let z : ◌≡◌ {A = ℕ} 0 1 = cc in omega arith)
 
 pub refused_here : (s : List ℕ) (p : ℕ) → Answers s (NotAdmitted p) → Refused-here s p
 refused_here s p a = here_of p refl a

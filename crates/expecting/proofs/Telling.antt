@@ -27,18 +27,18 @@ use Rattle.locality.proofs.Shift.{moved, moved_all}
 use Rattle.locality.proofs.Pieces.{divides_after, divides_moved}
 use Rattle.grammar.specs.Grammar.{Terminal, Token, Begins, Derivation, matches, name, number, string, float, kind, type, integer, the, sg, OIL-VERSION, IMPLEMENTATION, CPU, STRING, BOOLEAN, ENUM, FLOAT, TRUE, FALSE, AUTO, NO-DEFAULT, WITH-AUTO, lbrace, rbrace, lsquare, rsquare, equals, semicolon, colon, comma, dots}
 use Rattle.grammar.specs.Terminals.{sign_of, class_of as classOfToken, token_of, tokens_in, tokens}
-use Rattle.grammar.specs.Stage.{Divides, Shallow, Answers, passes, no_token, not-admitted, ends-early, too-deep}
+use Rattle.grammar.specs.Stage.{Divides, Shallow, Answers, passes, no_token, not_admitted, ends_early, too_deep}
 use Rattle.grammar.specs.declared.Answer.{Answer}
 use Rattle.grammar.specs.declared.Answer.TheVariants.{Passes, NotAdmitted}
 use Rattle.expecting.specs.Expected.{Expects, until, Expected}
 use Rattle.grammar.proofs.Answering.{answer_to, answer_to_lem}
 use Rattle.expecting.specs.Flags.{index, flag, RefusedAt, Tells, TellsDecided}
 use Rattle.expecting.specs.Firsts.{same}
-use Rattle.expecting.specs.Samples.{sample_of, asking, Room, AdmitsLast, Asks, as-name, as-itself}
+use Rattle.expecting.specs.Samples.{sample_of, asking, Room, AdmitsLast, Asks, as_name, as_itself}
 use Rattle.expecting.proofs.Firsts.{terminals, decoded, index_low, class_of_lem, class_matches, same_is, or_true}
 use Rattle.expecting.proofs.Exact.{goes_on, by_terminal, one_terminal}
-use Rattle.expecting.proofs.Fronts.{front-lex}
-use Rattle.expecting.proofs.Verdicts.{refuses, refuses-by}
+use Rattle.expecting.proofs.Fronts.{front_lex}
+use Rattle.expecting.proofs.Verdicts.{refuses, refuses_by}
 use Rattle.expecting.proofs.Before.{Before, before}
 
 -- Tokens one after the other ---------------------------------------------------------------------------------------------------------------------
@@ -144,23 +144,23 @@ may_name a h =
 passes_of : {s : List ℕ} {a : Answer} → a ≡ Passes → Answers s a → Derivation (tokens s)
 passes_of e (passes w h d) = d
 passes_of e (no_token n w h b) = absurd (let z : ◌≡◌ {A = ℕ} 0 1 = cc in omega arith)
-passes_of e (not-admitted l t r q h b n) = absurd (let z : ◌≡◌ {A = ℕ} 0 1 = cc in omega arith)
-passes_of e (ends-early w h b n) = absurd (let z : ◌≡◌ {A = ℕ} 0 1 = cc in omega arith)
-passes_of e (too-deep l t r q h b m o) = absurd (let z : ◌≡◌ {A = ℕ} 0 1 = cc in omega arith)
+passes_of e (not_admitted l t r q h b n) = absurd (let z : ◌≡◌ {A = ℕ} 0 1 = cc in omega arith)
+passes_of e (ends_early w h b n) = absurd (let z : ◌≡◌ {A = ℕ} 0 1 = cc in omega arith)
+passes_of e (too_deep l t r q h b m o) = absurd (let z : ◌≡◌ {A = ℕ} 0 1 = cc in omega arith)
 
 module _ {s : List ℕ} {p : ℕ} (b : Before s p) where
   asked : (i : ℕ) → lex_from (asking s p i) 0 ≡ after_all b.lexemes (moved_all (p + 1) (lex_from (sample_of i) 0))
   unfolding asking
-  asked i = front-lex s (sample_of i) p b.inside b.from-here b.lexemes b.run b.gap
+  asked i = front_lex s (sample_of i) p b.inside b.from-here b.lexemes b.run b.gap
 
-  asked-tokens : (i : ℕ) → tokens (asking s p i) ≡ until p (tokens s) ++ map (shifted (p + 1)) (tokens (sample_of i))
+  asked_tokens : (i : ℕ) → tokens (asking s p i) ≡ until p (tokens s) ++ map (shifted (p + 1)) (tokens (sample_of i))
   unfolding tokens
-  asked-tokens i =
+  asked_tokens i =
       ap tokens_in (asked i) ∙ tokens_after b.lexemes (moved_all (p + 1) (lex_from (sample_of i) 0))
       ∙ ap₂ ◌++◌ b.are (tokens_moved (p + 1) (lex_from (sample_of i) 0))
 
-  asked-wholly : (i : ℕ) → Divides (sample_of i) → Divides (asking s p i)
-  asked-wholly i d =
+  asked_wholly : (i : ℕ) → Divides (sample_of i) → Divides (asking s p i)
+  asked_wholly i d =
       subst Wholly (sym (asked i))
       (divides_after b.lexemes (moved_all (p + 1) (lex_from (sample_of i) 0)) (divides_moved (p + 1) (lex_from (sample_of i) 0) d))
 
@@ -171,13 +171,13 @@ module _ {s : List ℕ} {p : ℕ} (b : Before s p) where
   goes : (a : Terminal) {r : Bool} → AdmitsLast (asking s p (index a)) (p + 1) r → (r ≡ true) ↔ Begins (until p (tokens s) ++ (at_place a ∷ []))
   unfolding shifted
   goes a x =
-      x.exactly (until p (tokens s)) (at_place a) (asked-wholly (index a) (one a).whole)
-      (asked-tokens (index a) ∙ ap (λ (l : List Token). until p (tokens s) ++ map (shifted (p + 1)) l) (one a).token-is) (add-zero (p + 1)) b.shallow b.begins
+      x.exactly (until p (tokens s)) (at_place a) (asked_wholly (index a) (one a).whole)
+      (asked_tokens (index a) ∙ ap (λ (l : List Token). until p (tokens s) ++ map (shifted (p + 1)) l) (one a).token-is) (add-zero (p + 1)) b.shallow b.begins
 
   -- a name's sample is a name's alone
-  pub name-told : {r : Bool} → AdmitsLast (asking s p 0) (p + 1) r → (r ≡ true) ↔ Expected s p name
+  pub name_told : {r : Bool} → AdmitsLast (asking s p 0) (p + 1) r → (r ≡ true) ↔ Expected s p name
   unfolding index
-  name-told x =
+  name_told x =
       let l = until p (tokens s) in
       let g = goes name x in
       ((λ e. let y = by_terminal l (at_place name) (g.0 e) in only (taken_by name y.0 y.1) y.2), (λ y. g.1 (goes_on l name (at_place name) (class_matches name) y)))
@@ -188,9 +188,9 @@ module _ {s : List ℕ} {p : ℕ} (b : Before s p) where
 
   -- any other's may be a name's too
   pub told : {n r : Bool} (a : Terminal) → (a ≡ name → ⊥) → (n ≡ true) ↔ Expected s p name → Asks s p (index a) n r → (r ≡ true) ↔ Expected s p a
-  told a f g (as-name e h) =
+  told a f g (as_name e h) =
       ((λ z. absurd (false≢true z)), (λ y. absurd (f (one_terminal (until p (tokens s)) a name (class_of_lem a) (class_matches a) (may_name a h) y (g.0 e)))))
-  told a f g (as-itself e x) =
+  told a f g (as_itself e x) =
       let l = until p (tokens s) in
       let q = goes a x in
       ((λ z. let y = by_terminal l (at_place a) (q.0 z) in by (taken_by a y.0 y.1) y.2), (λ y. q.1 (goes_on l a (at_place a) (class_matches a) y)))
@@ -200,13 +200,13 @@ module _ {s : List ℕ} {p : ℕ} (b : Before s p) where
       by (inr e') y = absurd (e (g.1 (subst (Expects (until p (tokens s))) e'.0 y)) e'.1)
 
   -- no sample: the text's end
-  pub end-told : {r : Bool} → (r ≡ true) ↔ Answers (asking s p 28) Passes → (r ≡ true) ↔ Derivation (until p (tokens s))
+  pub end_told : {r : Bool} → (r ≡ true) ↔ Answers (asking s p 28) Passes → (r ≡ true) ↔ Derivation (until p (tokens s))
   unfolding tokens tokens_in
-  end-told g =
+  end_told g =
       let q : tokens (asking s p 28) ≡ until p (tokens s) =
-      asked-tokens 28 ∙ ap (λ (x : Lexed). until p (tokens s) ++ map (shifted (p + 1)) (tokens_in x)) none_lexed ∙ append-nil (until p (tokens s)) in (
+      asked_tokens 28 ∙ ap (λ (x : Lexed). until p (tokens s) ++ map (shifted (p + 1)) (tokens_in x)) none_lexed ∙ append-nil (until p (tokens s)) in (
         (λ e. subst Derivation q (passes_of refl (g.0 e))),
-        (λ d. g.1 (passes (asked-wholly 28 (subst Wholly (sym none_lexed) tt)) (subst Shallow (sym q) b.shallow) (subst Derivation (sym q) d))),
+        (λ d. g.1 (passes (asked_wholly 28 (subst Wholly (sym none_lexed) tt)) (subst Shallow (sym q) b.shallow) (subst Derivation (sym q) d))),
       )
 
 -- The flags --------------------------------------------------------------------------------------------------------------------------------------
@@ -232,7 +232,7 @@ unfolding index
 told_first {s} {p} f {v} h e x =
     record {
       each = λ a k.
-          subst (λ (c : Terminal). (flag (set f 0 v) (index c) ≡ true) ↔ Expected s p c) (sym (index_name a k)) (as_flag (get_or-set_same f 0 v false h) (name-told (before s p e) x));
+          subst (λ (c : Terminal). (flag (set f 0 v) (index c) ≡ true) ↔ Expected s p c) (sym (index_name a k)) (as_flag (get_or-set_same f 0 v false h) (name_told (before s p e) x));
     }
 
 pub told_more : {s : List ℕ} {p i : ℕ} {f : List Bool} {n v : Bool} → i < length f → 1 ≤ i → Answers s (NotAdmitted p) → AdmitsLast (asking s p 0) (p + 1) n
@@ -243,7 +243,7 @@ told_more {s} {p} {i} {f} {n} {v} h k e w x t =
           ⊎_elim
           (λ (q : index a ≡ i).
           as_flag (ap (flag (set f i v)) q ∙ get_or-set_same f i v false h)
-          (told (before s p e) a (no_name a (omega arith)) (name-told (before s p e) w) (subst (λ (j : ℕ). Asks s p j n v) (sym q) x)))
+          (told (before s p e) a (no_name a (omega arith)) (name_told (before s p e) w) (subst (λ (j : ℕ). Asks s p j n v) (sym q) x)))
           (λ (q : index a < i). as_flag (get_or-set_other f i (index a) v false (λ z. omega arith)) (t.each a q))
           (eq-or-lt_of_le (let z : index a ≤ i = omega arith in z));
     }
@@ -253,7 +253,7 @@ pub tells_all : {s : List ℕ} {p i : ℕ} {f : List Bool} {v : Bool} → 28 < l
 tells_all {s} {p} {i} {f} {v} h k e t g =
     record {
       terminal = λ _ a. let l = index_low a in as_flag (get_or-set_other f 28 (index a) v false (λ z. omega arith)) (t.each a (omega arith));
-      end = λ _. as_flag (get_or-set_same f 28 v false h) (end-told (before s p e.1) g);
+      end = λ _. as_flag (get_or-set_same f 28 v false h) (end_told (before s p e.1) g);
       elsewhere = λ z. absurd (z e);
     }
 
@@ -269,7 +269,7 @@ tells_none s p z =
 -- The flags are decided --------------------------------------------------------------------------------------------------------------------------
 
 answers_dec : (s : List ℕ) (p : ℕ) → Dec (Answers s (NotAdmitted p))
-answers_dec s p = by (refuses (answer_to s) p) (refuses-by s p (answer_to_lem s) (refuses (answer_to s) p) (answer_to s) refl refl)
+answers_dec s p = by (refuses (answer_to s) p) (refuses_by s p (answer_to_lem s) (refuses (answer_to s) p) (answer_to s) refl refl)
   where
     by : (b : Bool) → (b ≡ true) ↔ Answers s (NotAdmitted p) → Dec (Answers s (NotAdmitted p))
     by true g = yes (g.0 refl)

@@ -11,7 +11,7 @@ use borrow.Author.Tests.{eqb-true, eqb-false}
 use Rattle.token.specs.Lexing.{lex_from}
 use Rattle.grammar.specs.Grammar.{Token, Begins}
 use Rattle.grammar.specs.Terminals.{tokens}
-use Rattle.grammar.specs.Stage.{Divides, Shallow, Answers, passes, no_token, not-admitted, ends-early, too-deep}
+use Rattle.grammar.specs.Stage.{Divides, Shallow, Answers, passes, no_token, not_admitted, ends_early, too_deep}
 use Rattle.grammar.specs.declared.Answer.{Answer}
 use Rattle.grammar.specs.declared.Answer.TheVariants.{Passes, NoToken, NotAdmitted, TooDeep}
 use Rattle.grammar.proofs.Decided.{decided}
@@ -52,14 +52,14 @@ module _ (s : List ℕ) (l : List Token) (t : Token) (w : Divides s) (whole : to
   unfolding verdict
   exact (passes _ _ d) = yes refl (subst Begins whole (derived_begins d))
   exact (no_token p z _ _) = absurd (stops_not (lex_from s 0) p z w)
-  exact (ends-early _ _ c _) = go (eqb (length s) t.place) refl
+  exact (ends_early _ _ c _) = go (eqb (length s) t.place) refl
     where
       go : (x : Bool) → eqb (length s) t.place ≡ x → (not x ≡ true) ↔ Begins (l ++ (t ∷ []))
       go false e = yes refl (subst Begins whole c)
       go true e =
           let q : until (length s) (tokens s) ≡ l = ap (λ (i : ℕ). until i (tokens s)) (eqb-true (length s) t.place e) ∙ until_token s l t [] whole in
           absurd (none_behind l [] t (sym q ∙ until_end s ∙ whole))
-  exact (not-admitted m u r e _ c n) = go (eqb u.place t.place) refl
+  exact (not_admitted m u r e _ c n) = go (eqb u.place t.place) refl
     where
       go : (x : Bool) → eqb u.place t.place ≡ x → (not x ≡ true) ↔ Begins (l ++ (t ∷ []))
       go true z =
@@ -72,7 +72,7 @@ module _ (s : List ℕ) (l : List Token) (t : Token) (w : Divides s) (whole : to
           by (inl p) = absurd (eqb-false u.place t.place z (ap (λ (k : Token). k.place) p.1))
           by (inr (inl p)) = absurd (n (begins_front (m ++ (u ∷ [])) p.0 (subst Begins p.1 b)))
           by (inr (inr p)) = yes refl (begins_front (l ++ (t ∷ [])) p.0 (subst Begins p.1 c))
-  exact (too-deep m u r e _ c z o) = by (compare m u r l t [] (sym e ∙ whole))
+  exact (too_deep m u r e _ c z o) = by (compare m u r l t [] (sym e ∙ whole))
     where
       by : ((m ≡ l) × (u ≡ t)) ⊎ (Past m u l ⊎ Past l t m) → (true ≡ true) ↔ Begins (l ++ (t ∷ []))
       by (inl p) = yes refl (subst (λ (k : List Token). Begins (k ++ (t ∷ []))) p.0 (subst (λ (k : Token). Begins (m ++ (k ∷ []))) p.1 c))
@@ -105,29 +105,29 @@ module _ (s : List ℕ) (p : ℕ) where
   other : {a b : Answer} → Answers s a → (a ≡ b → ⊥) → Answers s b → ⊥
   other {a} {b} x n y = n (decided x y)
 
-  refuses-exact : (a : Answer) → Answers s a → (refuses a p ≡ true) ↔ Answers s (NotAdmitted p)
+  refuses_exact : (a : Answer) → Answers s a → (refuses a p ≡ true) ↔ Answers s (NotAdmitted p)
   unfolding refuses
-  refuses-exact Passes x = no refl (other x (λ e. let z : ◌≡◌ {A = ℕ} 0 1 = cc in omega arith))
-  refuses-exact (NoToken q) x = no refl (other x (λ e. let z : ◌≡◌ {A = ℕ} 0 1 = cc in omega arith))
-  refuses-exact (TooDeep q) x = no refl (other x (λ e. let z : ◌≡◌ {A = ℕ} 0 1 = cc in omega arith))
-  refuses-exact (NotAdmitted q) x = go (eqb q p) refl
+  refuses_exact Passes x = no refl (other x (λ e. let z : ◌≡◌ {A = ℕ} 0 1 = cc in omega arith))
+  refuses_exact (NoToken q) x = no refl (other x (λ e. let z : ◌≡◌ {A = ℕ} 0 1 = cc in omega arith))
+  refuses_exact (TooDeep q) x = no refl (other x (λ e. let z : ◌≡◌ {A = ℕ} 0 1 = cc in omega arith))
+  refuses_exact (NotAdmitted q) x = go (eqb q p) refl
     where
       go : (b : Bool) → eqb q p ≡ b → (b ≡ true) ↔ Answers s (NotAdmitted p)
       go true e = yes refl (subst (λ (i : ℕ). Answers s (NotAdmitted i)) (eqb-true q p e) x)
       go false e = no refl (other x (λ z. eqb-false q p e (let y : q ≡ p = cc in y)))
 
-  pub refuses-by : {a : Answer} → Answers s a → (r : Bool) (b : Answer) → a ≡ b → refuses b p ≡ r → (r ≡ true) ↔ Answers s (NotAdmitted p)
-  refuses-by x r b q v = subst (λ (c : Bool). (c ≡ true) ↔ Answers s (NotAdmitted p)) v (refuses-exact b (subst (Answers s) q x))
+  pub refuses_by : {a : Answer} → Answers s a → (r : Bool) (b : Answer) → a ≡ b → refuses b p ≡ r → (r ≡ true) ↔ Answers s (NotAdmitted p)
+  refuses_by x r b q v = subst (λ (c : Bool). (c ≡ true) ↔ Answers s (NotAdmitted p)) v (refuses_exact b (subst (Answers s) q x))
 
-  passes-exact : (a : Answer) → Answers s a → (passing a ≡ true) ↔ Answers s Passes
+  passes_exact : (a : Answer) → Answers s a → (passing a ≡ true) ↔ Answers s Passes
   unfolding passing
-  passes-exact Passes x = yes refl x
-  passes-exact (NoToken q) x = no refl (other x (λ e. let z : ◌≡◌ {A = ℕ} 0 1 = cc in omega arith))
-  passes-exact (NotAdmitted q) x = no refl (other x (λ e. let z : ◌≡◌ {A = ℕ} 0 1 = cc in omega arith))
-  passes-exact (TooDeep q) x = no refl (other x (λ e. let z : ◌≡◌ {A = ℕ} 0 1 = cc in omega arith))
+  passes_exact Passes x = yes refl x
+  passes_exact (NoToken q) x = no refl (other x (λ e. let z : ◌≡◌ {A = ℕ} 0 1 = cc in omega arith))
+  passes_exact (NotAdmitted q) x = no refl (other x (λ e. let z : ◌≡◌ {A = ℕ} 0 1 = cc in omega arith))
+  passes_exact (TooDeep q) x = no refl (other x (λ e. let z : ◌≡◌ {A = ℕ} 0 1 = cc in omega arith))
 
 pub passes_by : {s : List ℕ} {a : Answer} → Answers s a → (r : Bool) (b : Answer) → a ≡ b → passing b ≡ r → (r ≡ true) ↔ Answers s Passes
-passes_by {s} x r b q v = subst (λ (c : Bool). (c ≡ true) ↔ Answers s Passes) v (passes-exact s 0 b (subst (Answers s) q x))
+passes_by {s} x r b q v = subst (λ (c : Bool). (c ≡ true) ↔ Answers s Passes) v (passes_exact s 0 b (subst (Answers s) q x))
 
 -- Of the same text.
 pub admits_as : {s u : List ℕ} {p : ℕ} {r : Bool} → s ≡ u → AdmitsLast s p r → AdmitsLast u p r

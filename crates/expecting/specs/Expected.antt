@@ -29,8 +29,8 @@ pub record Expects (l : List Token) (a : Terminal) : Type 0 where
   pub before : List Leaf
   pub here : Token
   pub more : List Leaf
-  pub leaves-are : leaves tree ≡ before ++ (under a here ∷ more)
-  pub before-is : tokens_at before ≡ l
+  pub leaves_are : leaves tree ≡ before ++ (under a here ∷ more)
+  pub before_is : tokens_at before ≡ l
 
 -- the tokens before a place, of tokens in the order of their places
 unfoldable pub until : ℕ → List Token → List Token

@@ -16,16 +16,16 @@ same a b = eqb (index a) (index b)
 
 module _ (b : Nonterminal → Bool) (a : Terminal) where
   -- whether a may be first in the symbols k, where b says it of a rule
-  unfoldable pub first-with : Symbols → Bool
+  unfoldable pub first_with : Symbols → Bool
   unfolding same nullable
-  first-with [] = false
-  first-with (tok c ∷ k) = same c a
-  first-with (rule x ∷ k) = b x || nullable x && first-with k
+  first_with [] = false
+  first_with (tok c ∷ k) = same c a
+  first_with (rule x ∷ k) = b x || nullable x && first_with k
 
   unfoldable pub some_first : {x : Nonterminal} → List (Choice x) → Bool
-  unfolding first-with
+  unfolding first_with
   some_first [] = false
-  some_first (by {f} p ∷ cs) = first-with f || some_first cs
+  some_first (by {f} p ∷ cs) = first_with f || some_first cs
 
 unfoldable pub first_within : ℕ → Terminal → Nonterminal → Bool
 unfolding some_first choices
@@ -39,8 +39,8 @@ first a x = first_within 6 a x
 
 -- a may be first in what is still to be read
 unfoldable pub admits : Symbols → Terminal → Bool
-unfolding first-with first
-admits k a = first-with (first a) a k
+unfolding first_with first
+admits k a = first_with (first a) a k
 
 unfoldable pub admits_at : Option Symbols → Terminal → Bool
 unfolding admits

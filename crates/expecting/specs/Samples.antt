@@ -36,5 +36,5 @@ pub record AdmitsLast (s : List ℕ) (p : ℕ) (r : Bool) : Type 0 where
 
 -- r tells whether the text goes on with the sample i; not where the sample may be a name's and a name goes on, for then it goes on as a name.
 pub data Asks (s : List ℕ) (p i : ℕ) (named : Bool) : Bool → Type 0 where
-  as-name : named ≡ true → i < 11 → Asks s p i named false
-  as-itself : {r : Bool} → (named ≡ true → i < 11 → ⊥) → AdmitsLast (asking s p i) (p + 1) r → Asks s p i named r
+  as_name : named ≡ true → i < 11 → Asks s p i named false
+  as_itself : {r : Bool} → (named ≡ true → i < 11 → ⊥) → AdmitsLast (asking s p i) (p + 1) r → Asks s p i named r

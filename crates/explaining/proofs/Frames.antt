@@ -8,7 +8,7 @@ use borrow.Author.Tests.{lt-ltb, le-ltb}
 use lib.Dec.{ltb}
 use lib.ListN.{length}
 use Rattle.token.proofs.Find.{by_test}
-use Rattle.explaining.proofs.Starts.{start-low}
+use Rattle.explaining.proofs.Starts.{start_low}
 use Rattle.explaining.proofs.Whole.{shown_after, shown_behind, shown_inside}
 use Rattle.explaining.specs.declared.View.{View}
 use Rattle.explaining.specs.Places.{line_start, line_end, shown_end}
@@ -20,21 +20,21 @@ module _ (a e p : ℕ) where
   unfolding window_from
   from_start h = omega arith
 
-  pub from-short : e - 72 ≤ a → a ≡ window_from a e p
+  pub from_short : e - 72 ≤ a → a ≡ window_from a e p
   unfolding window_from
-  from-short h = omega arith
+  from_short h = omega arith
 
-  pub from-near : a < p - 36 → p - 36 < e - 72 → p - 36 ≡ window_from a e p
+  pub from_near : a < p - 36 → p - 36 < e - 72 → p - 36 ≡ window_from a e p
   unfolding window_from
-  from-near h k = omega arith
+  from_near h k = omega arith
 
   pub from_last : a < e - 72 → e - 72 ≤ p - 36 → e - 72 ≡ window_from a e p
   unfolding window_from
   from_last h k = omega arith
 
-  pub window-is : a ≤ p → p ≤ e → IsWindow a e p (window_from a e p) (window_to a e p)
+  pub window_is : a ≤ p → p ≤ e → IsWindow a e p (window_from a e p) (window_to a e p)
   unfolding window_from window_to
-  window-is h k =
+  window_is h k =
       record {
         starts = omega arith;
         ends = omega arith;
@@ -44,7 +44,7 @@ module _ (a e p : ℕ) where
         full = λ l. omega arith;
         whole = λ l. (omega arith, omega arith);
         near_before = λ l. omega arith;
-        near-behind = λ l. omega arith;
+        near_behind = λ l. omega arith;
       }
 
 pub dots_three : (a b : ℕ) → a < b → 3 ≡ dots_for a b
@@ -81,7 +81,7 @@ view_in_fits s a e p h i n j k =
 
 pub view_fits : (s : List ℕ) (p : ℕ) → p ≤ length s → Fits s (view_of s p)
 unfolding view_of
-view_fits s p h = view_in_fits s _ _ p (start-low s p) (shown_after s p h) (shown_behind s p) (shown_inside s p h) h
+view_fits s p h = view_in_fits s _ _ p (start_low s p) (shown_after s p h) (shown_behind s p) (shown_inside s p h) h
 
 pub view_is_of : (s : List ℕ) (p a t e : ℕ) (v : View) → a ≡ line_start s p → t ≡ line_end s p → e ≡ shown_end s t → v ≡ view_in a e p → v ≡ view_of s p
 unfolding view_of

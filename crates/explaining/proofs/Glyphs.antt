@@ -13,53 +13,53 @@ use Rattle.explaining.specs.declared.Ink.TheVariants.{Shown, Before, Marked}
 use Rattle.explaining.specs.Pictures.{shown_byte, under_byte, drawn}
 
 module _ (b : ℕ) where
-  pub shown-tab : b ≡ 9 → 9 ≡ shown_byte b
+  pub shown_tab : b ≡ 9 → 9 ≡ shown_byte b
   unfolding shown_byte
-  shown-tab e = rw (eq-eqb b 9 e)
+  shown_tab e = rw (eq-eqb b 9 e)
 
-  pub shown-low : (b ≡ 9 → ⊥) → b < 32 → 63 ≡ shown_byte b
+  pub shown_low : (b ≡ 9 → ⊥) → b < 32 → 63 ≡ shown_byte b
   unfolding shown_byte
-  shown-low n h = rw (ne_eqb b 9 n, lt-leb 32 b h)
+  shown_low n h = rw (ne_eqb b 9 n, lt-leb 32 b h)
 
-  pub shown-high : (b ≡ 9 → ⊥) → 126 < b → 63 ≡ shown_byte b
+  pub shown_high : (b ≡ 9 → ⊥) → 126 < b → 63 ≡ shown_byte b
   unfolding shown_byte
-  shown-high n h = rw (ne_eqb b 9 n, lt-leb b 126 h, le-leb 32 b (omega arith))
+  shown_high n h = rw (ne_eqb b 9 n, lt-leb b 126 h, le-leb 32 b (omega arith))
 
-  pub shown-plain : (b ≡ 9 → ⊥) → 32 ≤ b → b ≤ 126 → b ≡ shown_byte b
+  pub shown_plain : (b ≡ 9 → ⊥) → 32 ≤ b → b ≤ 126 → b ≡ shown_byte b
   unfolding shown_byte
-  shown-plain n l h = rw (ne_eqb b 9 n, le-leb 32 b l, le-leb b 126 h)
+  shown_plain n l h = rw (ne_eqb b 9 n, le-leb 32 b l, le-leb b 126 h)
 
-  pub under-tab : (k : ℕ) → b ≡ 9 → b ≡ under_byte k b
+  pub under_tab : (k : ℕ) → b ≡ 9 → b ≡ under_byte k b
   unfolding under_byte
-  under-tab k e = e ∙ rw (eq-eqb b 9 e)
+  under_tab k e = e ∙ rw (eq-eqb b 9 e)
 
-  pub under-other : (k : ℕ) → (b ≡ 9 → ⊥) → k ≡ under_byte k b
+  pub under_other : (k : ℕ) → (b ≡ 9 → ⊥) → k ≡ under_byte k b
   unfolding under_byte
-  under-other k n = rw (ne_eqb b 9 n)
+  under_other k n = rw (ne_eqb b 9 n)
 
-  pub drawn-shown : (i : Ink) → i ≡ Shown → shown_byte b ≡ drawn i b
+  pub drawn_shown : (i : Ink) → i ≡ Shown → shown_byte b ≡ drawn i b
   unfolding drawn
-  drawn-shown i e = rw e
+  drawn_shown i e = rw e
 
-  pub drawn-before : (i : Ink) → i ≡ Before → under_byte 32 b ≡ drawn i b
+  pub drawn_before : (i : Ink) → i ≡ Before → under_byte 32 b ≡ drawn i b
   unfolding drawn
-  drawn-before i e = rw e
+  drawn_before i e = rw e
 
-  pub drawn-marked : (i : Ink) → i ≡ Marked → under_byte 126 b ≡ drawn i b
+  pub drawn_marked : (i : Ink) → i ≡ Marked → under_byte 126 b ≡ drawn i b
   unfolding drawn
-  drawn-marked i e = rw e
+  drawn_marked i e = rw e
 
   -- a tab stands under a tab, and only there
-  pub tab-shown : shown_byte b ≡ 9 → b ≡ 9
+  pub tab_shown : shown_byte b ≡ 9 → b ≡ 9
   unfolding shown_byte
-  tab-shown =
+  tab_shown =
       by_test (λ (k : ℕ). k ≡ 9 → b ≡ 9) (eqb b 9) 9 _
       (λ t _. eqb-true b 9 t)
       (λ _. by_test (λ (k : ℕ). k ≡ 9 → b ≡ 9) (both (leb 32 b) (leb b 126)) b 63 (λ _ e. e) (λ _ e. absurd (omega arith)))
 
-  pub tab-under : (c : ℕ) → (c ≡ 9 → ⊥) → under_byte c b ≡ 9 → b ≡ 9
+  pub tab_under : (c : ℕ) → (c ≡ 9 → ⊥) → under_byte c b ≡ 9 → b ≡ 9
   unfolding under_byte
-  tab-under c n = by_test (λ (k : ℕ). k ≡ 9 → b ≡ 9) (eqb b 9) 9 c (λ t _. eqb-true b 9 t) (λ _ e. absurd (n e))
+  tab_under c n = by_test (λ (k : ℕ). k ≡ 9 → b ≡ 9) (eqb b 9) 9 c (λ t _. eqb-true b 9 t) (λ _ e. absurd (n e))
 
 -- what is shown is a tab or printable
 pub printable : (b : ℕ) → (shown_byte b ≡ 9 → ⊥) → (32 ≤ shown_byte b) × (shown_byte b ≤ 126)

@@ -15,95 +15,95 @@ use Rattle.explaining.specs.Characters.{begun_by, lowest_in, highest_in, rest_of
 
 -- the first byte of a character
 module _ (b : ℕ) where
-  pub begun-1 : b < 128 → 0 ≡ begun_by b
+  pub begun_1 : b < 128 → 0 ≡ begun_by b
   unfolding begun_by
-  begun-1 h = rw (lt-ltb b 128 h)
+  begun_1 h = rw (lt-ltb b 128 h)
 
-  pub begun-2 : 128 ≤ b → b < 194 → 8 ≡ begun_by b
+  pub begun_2 : 128 ≤ b → b < 194 → 8 ≡ begun_by b
   unfolding begun_by
-  begun-2 g h = rw (le-ltb b 128 (omega arith), lt-ltb b 194 h)
+  begun_2 g h = rw (le-ltb b 128 (omega arith), lt-ltb b 194 h)
 
-  pub begun-3 : 194 ≤ b → b < 224 → 1 ≡ begun_by b
+  pub begun_3 : 194 ≤ b → b < 224 → 1 ≡ begun_by b
   unfolding begun_by
-  begun-3 g h = rw (le-ltb b 128 (omega arith), le-ltb b 194 (omega arith), lt-ltb b 224 h)
+  begun_3 g h = rw (le-ltb b 128 (omega arith), le-ltb b 194 (omega arith), lt-ltb b 224 h)
 
-  pub begun-4 : 224 ≤ b → b < 225 → 4 ≡ begun_by b
+  pub begun_4 : 224 ≤ b → b < 225 → 4 ≡ begun_by b
   unfolding begun_by
-  begun-4 g h = rw (le-ltb b 128 (omega arith), le-ltb b 194 (omega arith), le-ltb b 224 (omega arith), lt-ltb b 225 h)
+  begun_4 g h = rw (le-ltb b 128 (omega arith), le-ltb b 194 (omega arith), le-ltb b 224 (omega arith), lt-ltb b 225 h)
 
-  pub begun-5 : 225 ≤ b → b < 237 → 2 ≡ begun_by b
+  pub begun_5 : 225 ≤ b → b < 237 → 2 ≡ begun_by b
   unfolding begun_by
-  begun-5 g h = rw (le-ltb b 128 (omega arith), le-ltb b 194 (omega arith), le-ltb b 224 (omega arith), le-ltb b 225 (omega arith), lt-ltb b 237 h)
+  begun_5 g h = rw (le-ltb b 128 (omega arith), le-ltb b 194 (omega arith), le-ltb b 224 (omega arith), le-ltb b 225 (omega arith), lt-ltb b 237 h)
 
-  pub begun-6 : 237 ≤ b → b < 238 → 5 ≡ begun_by b
+  pub begun_6 : 237 ≤ b → b < 238 → 5 ≡ begun_by b
   unfolding begun_by
-  begun-6 g h = rw (le-ltb b 128 (omega arith), le-ltb b 194 (omega arith), le-ltb b 224 (omega arith), le-ltb b 225 (omega arith), le-ltb b 237 (omega arith), lt-ltb b 238 h)
+  begun_6 g h = rw (le-ltb b 128 (omega arith), le-ltb b 194 (omega arith), le-ltb b 224 (omega arith), le-ltb b 225 (omega arith), le-ltb b 237 (omega arith), lt-ltb b 238 h)
 
-  pub begun-7 : 238 ≤ b → b < 240 → 2 ≡ begun_by b
+  pub begun_7 : 238 ≤ b → b < 240 → 2 ≡ begun_by b
   unfolding begun_by
-  begun-7 g h = rw (le-ltb b 128 (omega arith), le-ltb b 194 (omega arith), le-ltb b 224 (omega arith), le-ltb b 225 (omega arith), le-ltb b 237 (omega arith), le-ltb b 238 (omega arith), lt-ltb b 240 h)
+  begun_7 g h = rw (le-ltb b 128 (omega arith), le-ltb b 194 (omega arith), le-ltb b 224 (omega arith), le-ltb b 225 (omega arith), le-ltb b 237 (omega arith), le-ltb b 238 (omega arith), lt-ltb b 240 h)
 
-  pub begun-8 : 240 ≤ b → b < 241 → 6 ≡ begun_by b
+  pub begun_8 : 240 ≤ b → b < 241 → 6 ≡ begun_by b
   unfolding begun_by
-  begun-8 g h = rw (le-ltb b 128 (omega arith), le-ltb b 194 (omega arith), le-ltb b 224 (omega arith), le-ltb b 225 (omega arith), le-ltb b 237 (omega arith), le-ltb b 238 (omega arith), le-ltb b 240 (omega arith), lt-ltb b 241 h)
+  begun_8 g h = rw (le-ltb b 128 (omega arith), le-ltb b 194 (omega arith), le-ltb b 224 (omega arith), le-ltb b 225 (omega arith), le-ltb b 237 (omega arith), le-ltb b 238 (omega arith), le-ltb b 240 (omega arith), lt-ltb b 241 h)
 
-  pub begun-9 : 241 ≤ b → b < 244 → 3 ≡ begun_by b
+  pub begun_9 : 241 ≤ b → b < 244 → 3 ≡ begun_by b
   unfolding begun_by
-  begun-9 g h = rw (le-ltb b 128 (omega arith), le-ltb b 194 (omega arith), le-ltb b 224 (omega arith), le-ltb b 225 (omega arith), le-ltb b 237 (omega arith), le-ltb b 238 (omega arith), le-ltb b 240 (omega arith), le-ltb b 241 (omega arith), lt-ltb b 244 h)
+  begun_9 g h = rw (le-ltb b 128 (omega arith), le-ltb b 194 (omega arith), le-ltb b 224 (omega arith), le-ltb b 225 (omega arith), le-ltb b 237 (omega arith), le-ltb b 238 (omega arith), le-ltb b 240 (omega arith), le-ltb b 241 (omega arith), lt-ltb b 244 h)
 
-  pub begun-10 : 244 ≤ b → b < 245 → 7 ≡ begun_by b
+  pub begun_10 : 244 ≤ b → b < 245 → 7 ≡ begun_by b
   unfolding begun_by
-  begun-10 g h = rw (le-ltb b 128 (omega arith), le-ltb b 194 (omega arith), le-ltb b 224 (omega arith), le-ltb b 225 (omega arith), le-ltb b 237 (omega arith), le-ltb b 238 (omega arith), le-ltb b 240 (omega arith), le-ltb b 241 (omega arith), le-ltb b 244 (omega arith), lt-ltb b 245 h)
+  begun_10 g h = rw (le-ltb b 128 (omega arith), le-ltb b 194 (omega arith), le-ltb b 224 (omega arith), le-ltb b 225 (omega arith), le-ltb b 237 (omega arith), le-ltb b 238 (omega arith), le-ltb b 240 (omega arith), le-ltb b 241 (omega arith), le-ltb b 244 (omega arith), lt-ltb b 245 h)
 
-  pub begun-11 : 245 ≤ b → 8 ≡ begun_by b
+  pub begun_11 : 245 ≤ b → 8 ≡ begun_by b
   unfolding begun_by
-  begun-11 g = rw (le-ltb b 128 (omega arith), le-ltb b 194 (omega arith), le-ltb b 224 (omega arith), le-ltb b 225 (omega arith), le-ltb b 237 (omega arith), le-ltb b 238 (omega arith), le-ltb b 240 (omega arith), le-ltb b 241 (omega arith), le-ltb b 244 (omega arith), le-ltb b 245 (omega arith))
+  begun_11 g = rw (le-ltb b 128 (omega arith), le-ltb b 194 (omega arith), le-ltb b 224 (omega arith), le-ltb b 225 (omega arith), le-ltb b 237 (omega arith), le-ltb b 238 (omega arith), le-ltb b 240 (omega arith), le-ltb b 241 (omega arith), le-ltb b 244 (omega arith), le-ltb b 245 (omega arith))
 
 -- the bytes that go on
 module _ (k : ℕ) where
-  pub low-4 : k ≡ 4 → 160 ≡ lowest_in k
+  pub low_4 : k ≡ 4 → 160 ≡ lowest_in k
   unfolding lowest_in
-  low-4 e = rw (eq-eqb k 4 e)
+  low_4 e = rw (eq-eqb k 4 e)
 
-  pub low-6 : (k ≡ 4 → ⊥) → k ≡ 6 → 144 ≡ lowest_in k
+  pub low_6 : (k ≡ 4 → ⊥) → k ≡ 6 → 144 ≡ lowest_in k
   unfolding lowest_in
-  low-6 n e = rw (ne_eqb k 4 n, eq-eqb k 6 e)
+  low_6 n e = rw (ne_eqb k 4 n, eq-eqb k 6 e)
 
-  pub low-other : (k ≡ 4 → ⊥) → (k ≡ 6 → ⊥) → 128 ≡ lowest_in k
+  pub low_other : (k ≡ 4 → ⊥) → (k ≡ 6 → ⊥) → 128 ≡ lowest_in k
   unfolding lowest_in
-  low-other n m = rw (ne_eqb k 4 n, ne_eqb k 6 m)
+  low_other n m = rw (ne_eqb k 4 n, ne_eqb k 6 m)
 
-  pub high-5 : k ≡ 5 → 159 ≡ highest_in k
+  pub high_5 : k ≡ 5 → 159 ≡ highest_in k
   unfolding highest_in
-  high-5 e = rw (eq-eqb k 5 e)
+  high_5 e = rw (eq-eqb k 5 e)
 
-  pub high-7 : (k ≡ 5 → ⊥) → k ≡ 7 → 143 ≡ highest_in k
+  pub high_7 : (k ≡ 5 → ⊥) → k ≡ 7 → 143 ≡ highest_in k
   unfolding highest_in
-  high-7 n e = rw (ne_eqb k 5 n, eq-eqb k 7 e)
+  high_7 n e = rw (ne_eqb k 5 n, eq-eqb k 7 e)
 
-  pub high-other : (k ≡ 5 → ⊥) → (k ≡ 7 → ⊥) → 191 ≡ highest_in k
+  pub high_other : (k ≡ 5 → ⊥) → (k ≡ 7 → ⊥) → 191 ≡ highest_in k
   unfolding highest_in
-  high-other n m = rw (ne_eqb k 5 n, ne_eqb k 7 m)
+  high_other n m = rw (ne_eqb k 5 n, ne_eqb k 7 m)
 
-  pub rest-1 : k < 2 → 0 ≡ rest_of k
+  pub rest_1 : k < 2 → 0 ≡ rest_of k
   unfolding rest_of
-  rest-1 h = rw (lt-ltb k 2 h)
+  rest_1 h = rw (lt-ltb k 2 h)
 
-  pub rest-2 : 2 ≤ k → k ≡ 2 → 1 ≡ rest_of k
+  pub rest_2 : 2 ≤ k → k ≡ 2 → 1 ≡ rest_of k
   unfolding rest_of
-  rest-2 g e = rw (le-ltb k 2 g, eq-eqb k 2 e)
+  rest_2 g e = rw (le-ltb k 2 g, eq-eqb k 2 e)
 
-  pub rest-3 : 2 ≤ k → (k ≡ 2 → ⊥) → k ≡ 3 → 2 ≡ rest_of k
+  pub rest_3 : 2 ≤ k → (k ≡ 2 → ⊥) → k ≡ 3 → 2 ≡ rest_of k
   unfolding rest_of
-  rest-3 g n e = rw (le-ltb k 2 g, ne_eqb k 2 n, eq-eqb k 3 e)
+  rest_3 g n e = rw (le-ltb k 2 g, ne_eqb k 2 n, eq-eqb k 3 e)
 
-  pub rest-4 : 2 ≤ k → (k ≡ 2 → ⊥) → (k ≡ 3 → ⊥) → k < 6 → 1 ≡ rest_of k
+  pub rest_4 : 2 ≤ k → (k ≡ 2 → ⊥) → (k ≡ 3 → ⊥) → k < 6 → 1 ≡ rest_of k
   unfolding rest_of
-  rest-4 g n m h = rw (le-ltb k 2 g, ne_eqb k 2 n, ne_eqb k 3 m, lt-ltb k 6 h)
+  rest_4 g n m h = rw (le-ltb k 2 g, ne_eqb k 2 n, ne_eqb k 3 m, lt-ltb k 6 h)
 
-  pub rest-6 : 2 ≤ k → (k ≡ 2 → ⊥) → (k ≡ 3 → ⊥) → 6 ≤ k → 2 ≡ rest_of k
+  pub rest_6 : 2 ≤ k → (k ≡ 2 → ⊥) → (k ≡ 3 → ⊥) → 6 ≤ k → 2 ≡ rest_of k
   unfolding rest_of
-  rest-6 g n m h = rw (le-ltb k 2 g, ne_eqb k 2 n, ne_eqb k 3 m, le-ltb k 6 h)
+  rest_6 g n m h = rw (le-ltb k 2 g, ne_eqb k 2 n, ne_eqb k 3 m, le-ltb k 6 h)
 
 -- the state behind a byte
 module _ (k b : ℕ) where
@@ -111,14 +111,14 @@ module _ (k b : ℕ) where
   unfolding state_after
   after_none e x f = f ∙ rw (eq-eqb k 0 e)
 
-  pub after-bad : (k ≡ 0 → ⊥) → k ≡ 8 → 8 ≡ state_after k b
+  pub after_bad : (k ≡ 0 → ⊥) → k ≡ 8 → 8 ≡ state_after k b
   unfolding state_after
-  after-bad n e = rw (ne_eqb k 0 n, eq-eqb k 8 e)
+  after_bad n e = rw (ne_eqb k 0 n, eq-eqb k 8 e)
 
   module _ (n : k ≡ 0 → ⊥) (m : k ≡ 8 → ⊥) (l : ℕ) (f : l ≡ lowest_in k) where
-    pub after-low : b < l → 8 ≡ state_after k b
+    pub after_low : b < l → 8 ≡ state_after k b
     unfolding state_after
-    after-low h = rw (ne_eqb k 0 n, ne_eqb k 8 m, lt-leb (lowest_in k) b (omega arith))
+    after_low h = rw (ne_eqb k 0 n, ne_eqb k 8 m, lt-leb (lowest_in k) b (omega arith))
 
     module _ (g : l ≤ b) (u : ℕ) (v : u ≡ highest_in k) where
       pub after-high : u < b → 8 ≡ state_after k b
@@ -141,21 +141,21 @@ state_end s i k h = ap (state_of k) (drop_of_length-le s h)
 
 -- counting those that begin a character
 module _ (b : ℕ) where
-  pub start-low : b < 128 → 1 ≡ start_of b
+  pub start_low : b < 128 → 1 ≡ start_of b
   unfolding start_of
-  start-low h = rw (lt-ltb b 128 h)
+  start_low h = rw (lt-ltb b 128 h)
 
-  pub start-inner : 128 ≤ b → b < 192 → 0 ≡ start_of b
+  pub start_inner : 128 ≤ b → b < 192 → 0 ≡ start_of b
   unfolding start_of
-  start-inner g h = rw (le-ltb b 128 g, lt-ltb b 192 h)
+  start_inner g h = rw (le-ltb b 128 g, lt-ltb b 192 h)
 
-  pub start-high : 128 ≤ b → 192 ≤ b → 1 ≡ start_of b
+  pub start_high : 128 ≤ b → 192 ≤ b → 1 ≡ start_of b
   unfolding start_of
-  start-high g h = rw (le-ltb b 128 g, le-ltb b 192 h)
+  start_high g h = rw (le-ltb b 128 g, le-ltb b 192 h)
 
-  pub start-most : start_of b ≤ 1
+  pub start_most : start_of b ≤ 1
   unfolding start_of
-  start-most =
+  start_most =
       by_test (λ (q : ℕ). q ≤ 1) (ltb b 128) 1 _ (λ _. omega arith)
       (λ _. by_test (λ (q : ℕ). q ≤ 1) (ltb b 192) 0 1 (λ _. omega arith) (λ _. omega arith))
 
@@ -170,17 +170,17 @@ starts_end s i h = ap starts (drop_of_length-le s h)
 starts_most : (s : List ℕ) → starts s ≤ length s
 unfolding starts
 starts_most [] = omega arith
-starts_most (b ∷ s) = omega (arith, start-most b, starts_most s)
+starts_most (b ∷ s) = omega (arith, start_most b, starts_most s)
 
 module _ (s : List ℕ) where
-  pub are-utf-8 : (k : ℕ) → k ≡ state_of 0 s → k ≡ 0 → (n : ℕ) → n ≡ starts s → n ≡ characters s
+  pub are_utf_8 : (k : ℕ) → k ≡ state_of 0 s → k ≡ 0 → (n : ℕ) → n ≡ starts s → n ≡ characters s
   unfolding characters
-  are-utf-8 k e h n f = f ∙ rw (eq-eqb (state_of 0 s) 0 (sym e ∙ h))
+  are_utf_8 k e h n f = f ∙ rw (eq-eqb (state_of 0 s) 0 (sym e ∙ h))
 
-  pub are-bytes : (k : ℕ) → k ≡ state_of 0 s → (k ≡ 0 → ⊥) → length s ≡ characters s
+  pub are_bytes : (k : ℕ) → k ≡ state_of 0 s → (k ≡ 0 → ⊥) → length s ≡ characters s
   unfolding characters
-  are-bytes k e h = rw (ne_eqb (state_of 0 s) 0 (λ z. h (e ∙ z)))
+  are_bytes k e h = rw (ne_eqb (state_of 0 s) 0 (λ z. h (e ∙ z)))
 
-  pub characters-most : characters s ≤ length s
+  pub characters_most : characters s ≤ length s
   unfolding characters
-  characters-most = by_test (λ (q : ℕ). q ≤ length s) (eqb (state_of 0 s) 0) (starts s) (length s) (λ _. starts_most s) (λ _. omega arith)
+  characters_most = by_test (λ (q : ℕ). q ≤ length s) (eqb (state_of 0 s) 0) (starts s) (length s) (λ _. starts_most s) (λ _. omega arith)

@@ -16,43 +16,43 @@ use Rattle.explaining.specs.declared.View.{View}
 use Rattle.explaining.specs.Places.{line_end, cr_before, shown_end, token_end}
 use Rattle.explaining.specs.Windows.{Fits, view_in, view_of, ViewsAreWindows}
 use Rattle.explaining.specs.Pictures.{dots, line_bytes, mark_bytes, marked, shown_line, mark_line, picture}
-use Rattle.explaining.proofs.Starts.{start-low}
-use Rattle.explaining.proofs.Ends.{end_low, end-at, cr-inside}
-use Rattle.explaining.proofs.Frames.{window-is, view_fits}
-use Rattle.explaining.proofs.Stores.{bytes_long, line_short, mark-long}
+use Rattle.explaining.proofs.Starts.{start_low}
+use Rattle.explaining.proofs.Ends.{end_low, end_at, cr_inside}
+use Rattle.explaining.proofs.Frames.{window_is, view_fits}
+use Rattle.explaining.proofs.Stores.{bytes_long, line_short, mark_long}
 
 module _ (s : List ℕ) (v : View) (h : Fits s v) where
-  middle-long : length (dots v.front ++ bytes_between s v.from v.to) ≡ length (dots v.front) + (v.to - v.from)
-  middle-long = length-append (dots v.front) (bytes_between s v.from v.to) ∙ ap (length (dots v.front) +◌) (bytes_long s v.from v.to h.inside)
+  middle_long : length (dots v.front ++ bytes_between s v.from v.to) ≡ length (dots v.front) + (v.to - v.from)
+  middle_long = length-append (dots v.front) (bytes_between s v.from v.to) ∙ ap (length (dots v.front) +◌) (bytes_long s v.from v.to h.inside)
 
-  mark-at : length (mark_bytes s v) ≡ length (dots v.front) + (v.at - v.from)
+  mark_at : length (mark_bytes s v) ≡ length (dots v.front) + (v.at - v.from)
   unfolding mark_bytes
-  mark-at = length-append (dots v.front) (bytes_between s v.from v.at) ∙ ap (length (dots v.front) +◌) (bytes_long s v.from v.at h.placed)
+  mark_at = length-append (dots v.front) (bytes_between s v.from v.at) ∙ ap (length (dots v.front) +◌) (bytes_long s v.from v.at h.placed)
 
   -- the bytes before the mark are the first of the line shown
-  pub mark-front : v.at ≤ v.to → take (length (mark_bytes s v)) (line_bytes s v) ≡ mark_bytes s v
+  pub mark_front : v.at ≤ v.to → take (length (mark_bytes s v)) (line_bytes s v) ≡ mark_bytes s v
   unfolding line_bytes mark_bytes
-  mark-front k =
+  mark_front k =
       let n = v.at - v.from in
       let d = dots v.front in
       let b = take (v.to - v.from) (drop v.from s) in
-      let l : length (d ++ bytes_between s v.from v.at) ≤ length (d ++ b) = omega (arith, mark-at, middle-long) in
+      let l : length (d ++ bytes_between s v.from v.at) ≤ length (d ++ b) = omega (arith, mark_at, middle_long) in
       take-append-le _ (d ++ b) (dots v.behind) l
-      ∙ ap (λ (i : ℕ). take i (d ++ b)) mark-at
+      ∙ ap (λ (i : ℕ). take i (d ++ b)) mark_at
       ∙ take-append-add d b n
       ∙ ap (d ++◌) (take-take n (v.to - v.from) (drop v.from s) (omega arith))
 
   -- and what stands over the mark is the byte at the place
-  pub mark-under : v.at < v.to → byte (line_bytes s v) (length (mark_bytes s v)) ≡ byte s v.at
+  pub mark_under : v.at < v.to → byte (line_bytes s v) (length (mark_bytes s v)) ≡ byte s v.at
   unfolding line_bytes mark_bytes
-  mark-under k =
+  mark_under k =
       let n = v.at - v.from in
       let d = dots v.front in
       let b = take (v.to - v.from) (drop v.from s) in
-      let l : length (d ++ bytes_between s v.from v.at) < length (d ++ b) = omega (arith, mark-at, middle-long, h.before) in
+      let l : length (d ++ bytes_between s v.from v.at) < length (d ++ b) = omega (arith, mark_at, middle_long, h.before) in
       let e : v.from + n ≡ v.at = omega (arith, h.before) in
       get_or-append (d ++ b) (dots v.behind) 0 _ l
-      ∙ ap (byte (d ++ b)) mark-at
+      ∙ ap (byte (d ++ b)) mark_at
       ∙ get_or-append-add d b n 0
       ∙ get_or-take (v.to - v.from) (drop v.from s) n 0 (omega (arith, h.before))
       ∙ get_or-drop v.from s n 0
@@ -63,19 +63,19 @@ pub place_shown : (s : List ℕ) (p : ℕ) → p ≤ length s → byte s p ≢ 1
 unfolding shown_end
 place_shown s p h n =
     by_test (λ (k : ℕ). p ≤ k) (cr_before s (line_end s p)) (line_end s p - 1) (line_end s p)
-    (λ t. before-cr t (dec_lt p (line_end s p)))
+    (λ t. before_cr t (dec_lt p (line_end s p)))
     (λ _. end_low s p)
   where
-    before-cr : cr_before s (line_end s p) ≡ true → Dec (p < line_end s p) → p ≤ line_end s p - 1
-    before-cr t (yes y) = omega arith
-    before-cr t (no k) =
+    before_cr : cr_before s (line_end s p) ≡ true → Dec (p < line_end s p) → p ≤ line_end s p - 1
+    before_cr t (yes y) = omega arith
+    before_cr t (no k) =
         let e : line_end s p ≡ p = omega (arith, end_low s p) in
-        absurd (n (ap (byte s) (sym e) ∙ end-at s p h (cr-inside s (line_end s p) t)))
+        absurd (n (ap (byte s) (sym e) ∙ end_at s p h (cr_inside s (line_end s p) t)))
 
 -- so the view of such a place is a window on its line around it
 pub view_is_window : ViewsAreWindows
 unfolding view_of view_in
-view_is_window s p h n = window-is _ _ p (start-low s p) (place_shown s p h n)
+view_is_window s p h n = window_is _ _ p (start_low s p) (place_shown s p h n)
 
 marked_most : (v : View) (e : ℕ) → marked v e ≤ v.to - (v.at + 1)
 unfolding marked
@@ -88,4 +88,4 @@ picture_short s p h =
     let v = view_of s p in
     let f = view_fits s p h in
     let e = token_end s p in
-    omega (arith, length-append (shown_line s v) (mark_line s v e), line_short s v f, mark-long s v f e, marked_most v e, f.front, f.near, f.most)
+    omega (arith, length-append (shown_line s v) (mark_line s v e), line_short s v f, mark_long s v f e, marked_most v e, f.front, f.near, f.most)

@@ -9,7 +9,7 @@ use native.Mathlib.Numerals.{add-one}
 use lib.ListN.{length, drop, get_or, set, drop_of_length-le, length-append, length-map, length-drop}
 use lib.Seq.{sets, drop-cons, length-take-le}
 use Rattle.token.specs.Tokens.{bytes_between, part_of}
-use Rattle.token.proofs.Lexemes.{part_inside, part-past}
+use Rattle.token.proofs.Lexemes.{part_inside, part_past}
 use Rattle.rows.proofs.Stores.{sets_append, sets_out}
 use Rattle.explaining.specs.declared.View.{View}
 use Rattle.explaining.specs.declared.Ink.TheVariants.{Shown, Before, Marked}
@@ -19,14 +19,14 @@ use Rattle.explaining.specs.Pictures.{drawn, dots, line_bytes, mark_bytes, marke
 
 -- a loop that stores one byte a turn
 module _ (l : List ℕ) (j : ℕ) (f : ℕ → ℕ) (s : List ℕ) (i : ℕ) where
-  pub puts-more : (v : ℕ) → v ≡ f (get_or s i 0) → i < length s → sets l j (map f (drop i s)) ≡ sets (set l j v) (j + 1) (map f (drop (i + 1) s))
-  puts-more v e h = rw (drop-cons s i 0 h, add-one i, add-one j, e)
+  pub puts_more : (v : ℕ) → v ≡ f (get_or s i 0) → i < length s → sets l j (map f (drop i s)) ≡ sets (set l j v) (j + 1) (map f (drop (i + 1) s))
+  puts_more v e h = rw (drop-cons s i 0 h, add-one i, add-one j, e)
 
-  pub puts-past : length l ≤ j → l ≡ sets l j (map f (drop i s))
-  puts-past h = sym (sets_out l j (map f (drop i s)) h)
+  pub puts_past : length l ≤ j → l ≡ sets l j (map f (drop i s))
+  puts_past h = sym (sets_out l j (map f (drop i s)) h)
 
-  pub puts-end : length s ≤ i → l ≡ sets l j (map f (drop i s))
-  puts-end h = rw (drop_of_length-le s h)
+  pub puts_end : length s ≤ i → l ≡ sets l j (map f (drop i s))
+  puts_end h = rw (drop_of_length-le s h)
 
 map_append : (f : ℕ → ℕ) (xs ys : List ℕ) → map f (xs ++ ys) ≡ map f xs ++ map f ys
 map_append f [] ys = refl
@@ -50,9 +50,9 @@ pub bytes_long : (s : List ℕ) (a b : ℕ) → b ≤ length s → length (bytes
 bytes_long s a b h = length-take-le (b - a) (drop a s) (omega (arith, length-drop a s))
 
 module _ (s : List ℕ) (v : View) (h : Fits s v) where
-  line-bytes-long : length (line_bytes s v) ≡ v.front + (v.to - v.from) + v.behind
+  line_bytes_long : length (line_bytes s v) ≡ v.front + (v.to - v.from) + v.behind
   unfolding line_bytes
-  line-bytes-long =
+  line_bytes_long =
       omega (
         arith,
         length-append (dots v.front ++ bytes_between s v.from v.to) (dots v.behind),
@@ -62,9 +62,9 @@ module _ (s : List ℕ) (v : View) (h : Fits s v) where
         bytes_long s v.from v.to h.inside,
       )
 
-  mark-bytes-long : length (mark_bytes s v) ≡ v.front + (v.at - v.from)
+  mark_bytes_long : length (mark_bytes s v) ≡ v.front + (v.at - v.from)
   unfolding mark_bytes
-  mark-bytes-long =
+  mark_bytes_long =
       omega (
         arith,
         length-append (dots v.front) (bytes_between s v.from v.at),
@@ -72,25 +72,25 @@ module _ (s : List ℕ) (v : View) (h : Fits s v) where
         bytes_long s v.from v.at h.placed,
       )
 
-  pub line-long : v.front + (v.to - v.from) + v.behind + 1 ≡ length (shown_line s v)
+  pub line_long : v.front + (v.to - v.from) + v.behind + 1 ≡ length (shown_line s v)
   unfolding shown_line
-  line-long =
-      omega (arith, length-append (map (drawn Shown) (line_bytes s v)) (10 ∷ []), length-map (line_bytes s v) (drawn Shown), line-bytes-long)
+  line_long =
+      omega (arith, length-append (map (drawn Shown) (line_bytes s v)) (10 ∷ []), length-map (line_bytes s v) (drawn Shown), line_bytes_long)
 
   -- what is shown of a token behind its first byte lies in the text
-  marked-long : (e : ℕ) → length (part_of s (v.at + 1) (marked v e)) ≡ marked v e
+  marked_long : (e : ℕ) → length (part_of s (v.at + 1) (marked v e)) ≡ marked v e
   unfolding marked
-  marked-long e = by (dec_lt (length s) (v.at + 1))
+  marked_long e = by (dec_lt (length s) (v.at + 1))
     where
       by : Dec (length s < v.at + 1) → length (part_of s (v.at + 1) (min e v.to - (v.at + 1))) ≡ min e v.to - (v.at + 1)
-      by (yes y) = ap length (part-past s (v.at + 1) _ y) ∙ omega (arith, h.inside)
+      by (yes y) = ap length (part_past s (v.at + 1) _ y) ∙ omega (arith, h.inside)
       by (no n) =
           ap length (part_inside s (v.at + 1) _ (omega arith) (omega (arith, h.inside)))
           ∙ length-take-le _ (drop (v.at + 1) s) (omega (arith, length-drop (v.at + 1) s, h.inside))
 
-  pub mark-long : (e : ℕ) → v.front + (v.at - v.from) + 2 + marked v e ≡ length (mark_line s v e)
+  pub mark_long : (e : ℕ) → v.front + (v.at - v.from) + 2 + marked v e ≡ length (mark_line s v e)
   unfolding mark_line
-  mark-long e =
+  mark_long e =
       let m = map (drawn Before) (mark_bytes s v) in
       let t = map (drawn Marked) (part_of s (v.at + 1) (marked v e)) in
       omega (
@@ -99,20 +99,20 @@ module _ (s : List ℕ) (v : View) (h : Fits s v) where
         length-append (m ++ (94 ∷ [])) t,
         length-append m (94 ∷ []),
         length-map (mark_bytes s v) (drawn Before),
-        mark-bytes-long,
+        mark_bytes_long,
         length-map (part_of s (v.at + 1) (marked v e)) (drawn Marked),
-        marked-long e,
+        marked_long e,
       )
 
   -- the four runs of the line shown
-  pub line-written : (l l₁ l₂ l₃ l₄ : List ℕ)
+  pub line_written : (l l₁ l₂ l₃ l₄ : List ℕ)
       → l₁ ≡ sets l 0 (map (drawn Shown) (dots v.front))
       → l₂ ≡ sets l₁ v.front (map (drawn Shown) (bytes_between s v.from v.to))
       → l₃ ≡ sets l₂ (v.front + (v.to - v.from)) (map (drawn Shown) (dots v.behind))
       → l₄ ≡ sets l₃ (v.front + (v.to - v.from) + v.behind) (10 ∷ [])
       → l₄ ≡ sets l 0 (shown_line s v)
   unfolding shown_line line_bytes
-  line-written l l₁ l₂ l₃ l₄ e₁ e₂ e₃ e₄ =
+  line_written l l₁ l₂ l₃ l₄ e₁ e₂ e₃ e₄ =
       let front = dots v.front in
       let middle = bytes_between s v.from v.to in
       let f : ℕ → ℕ = drawn Shown in
@@ -120,7 +120,7 @@ module _ (s : List ℕ) (v : View) (h : Fits s v) where
       let n₂ : v.front + (v.to - v.from) ≡ 0 + length (front ++ middle) =
       omega (arith, length-append front middle, dots_long v.front h.front, bytes_long s v.from v.to h.inside) in
       let n₃ : v.front + (v.to - v.from) + v.behind ≡ 0 + length (map f (front ++ middle ++ dots v.behind)) =
-      omega (arith, length-map (line_bytes s v) f, line-bytes-long) in
+      omega (arith, length-map (line_bytes s v) f, line_bytes_long) in
       let m₂ : l₂ ≡ sets l 0 (map f (front ++ middle)) =
       e₂ ∙ ap (λ (k : List ℕ). sets k v.front (map f middle)) e₁ ∙ draws_next f l 0 front v.front middle n₁ in
       let m₃ : l₃ ≡ sets l 0 (map f (front ++ middle ++ dots v.behind)) =
@@ -144,8 +144,8 @@ module _ (s : List ℕ) (v : View) (h : Fits s v) where
       let f : ℕ → ℕ = drawn Before in
       let t = map (drawn Marked) (part_of s (v.at + 1) (marked v e)) in
       let m = map f (front ++ middle) in
-      let tl : length t ≡ n = length-map (part_of s (v.at + 1) (marked v e)) (drawn Marked) ∙ marked-long e ∙ sym g in
-      let ml : length m ≡ v.front + (v.at - v.from) = length-map (mark_bytes s v) f ∙ mark-bytes-long in
+      let tl : length t ≡ n = length-map (part_of s (v.at + 1) (marked v e)) (drawn Marked) ∙ marked_long e ∙ sym g in
+      let ml : length m ≡ v.front + (v.at - v.from) = length-map (mark_bytes s v) f ∙ mark_bytes_long in
       let n₁ : a + v.front ≡ a + length front = omega (arith, dots_long v.front h.front) in
       let n₂ : a + v.front + (v.at - v.from) ≡ a + length m = omega (arith, ml) in
       let n₃ : a + v.front + (v.at - v.from) + 1 ≡ a + length (m ++ (94 ∷ [])) = omega (arith, ml, length-append m (94 ∷ [])) in
@@ -160,13 +160,13 @@ module _ (s : List ℕ) (v : View) (h : Fits s v) where
       ∙ ap (λ (k : List ℕ). sets k (a + v.front + (v.at - v.from) + 1) t) m₃ ∙ sets_next l a (m ++ (94 ∷ [])) _ t n₃ in
       e₅ ∙ ap (λ (k : List ℕ). sets k (a + v.front + (v.at - v.from) + 1 + n) (10 ∷ [])) m₄ ∙ sets_next l a (m ++ (94 ∷ []) ++ t) _ (10 ∷ []) n₄
 
-  pub mark-end : (a e n : ℕ) → n ≡ marked v e → a + v.front + (v.at - v.from) + 1 + n + 1 ≡ a + length (mark_line s v e)
-  mark-end a e n g = omega (arith, g, mark-long e)
+  pub mark_end : (a e n : ℕ) → n ≡ marked v e → a + v.front + (v.at - v.from) + 1 + n + 1 ≡ a + length (mark_line s v e)
+  mark_end a e n g = omega (arith, g, mark_long e)
 
   -- from what the code computes
-  pub marked-is : (e k n : ℕ) → k ≡ min e v.to → n ≡ k - (v.at + 1) → n ≡ marked v e
+  pub marked_is : (e k n : ℕ) → k ≡ min e v.to → n ≡ k - (v.at + 1) → n ≡ marked v e
   unfolding marked
-  marked-is e k n i j = omega arith
+  marked_is e k n i j = omega arith
 
 -- both lines, one behind the other
 pub picture_written : (s : List ℕ) (p : ℕ) (v : View) → v ≡ view_of s p → (e : ℕ) → e ≡ token_end s p → (n m : ℕ) (l l₁ l₂ : List ℕ)
@@ -183,4 +183,4 @@ picture_written s p v i e z n m l l₁ l₂ e₁ k e₂ j =
     (sym w ∙ ap length q, d ∙ ap (sets l 0) q)
 
 pub line_short : (s : List ℕ) (v : View) → Fits s v → length (shown_line s v) ≤ 79
-line_short s v h = omega (arith, line-long s v h, h.front, h.behind, h.most)
+line_short s v h = omega (arith, line_long s v h, h.front, h.behind, h.most)

@@ -50,7 +50,7 @@ pub record IsWindow (a e p b c : ℕ) : Type 0 where
   pub whole : e ≤ a + 72 → (a ≡ b) × (c ≡ e)
   -- where bytes are cut, 36 are shown between there and the place
   pub near_before : a < b → b + 36 ≤ p
-  pub near-behind : c < e → p + 36 ≤ c
+  pub near_behind : c < e → p + 36 ≤ c
 
 -- THE STATEMENT, which proofs/Marks has (`view_is_window`): the view of a place that is not at an LF is a window on its line around it.
 abbrev pub ViewsAreWindows : Type 0

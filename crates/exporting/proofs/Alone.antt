@@ -130,14 +130,14 @@ module _ (s : List ℕ) (n : (expansion_of s (alone s)).number ≡ 30 → ⊥) w
       ap (λ (b : Bool). (expansion_if b 65535 s (alone s)).number) well in
       e ∙ fill_number x.number (0 + x.place) (0 + length x.bytes) (0 + length x.bytes + x.rest) (λ z. n (e ∙ z))
 
-  pub text-is : text s (alone s) ≡ s
-  text-is = (itself s well).bytes
+  pub text_is : text s (alone s) ≡ s
+  text_is = (itself s well).bytes
 
   -- Places of the text are its own.
   pub place_is : (p : ℕ) → place_of s (alone s) p ≡ min p (length s)
   unfolding place_of place_in
   place_is p =
-      ap₂ (λ (g : List ℕ) (x : List ℕ). pick (ltb p (length x)) (get_or g p 0) (length (main_text s (alone s)))) (itself s well).origins text-is
+      ap₂ (λ (g : List ℕ) (x : List ℕ). pick (ltb p (length x)) (get_or g p 0) (length (main_text s (alone s)))) (itself s well).origins text_is
       ∙ ap (λ (x : List ℕ). pick (ltb p (length s)) (get_or (up_from 0 (length s)) p 0) (length x)) (main_alone s)
       ∙ by (dec_lt p (length s))
     where
@@ -155,6 +155,6 @@ module _ (s : List ℕ) (n : (expansion_of s (alone s)).number ≡ 30 → ⊥) w
   alone_answer a t =
       let q : reading s ≡ a = t.no_other (reading s) (text-answers s) in
       let e : sources_answer s (alone s) ≡ renumbered (expanded s (alone s)).number a =
-      is_renumbered s (alone s) n ∙ ap (λ (x : List ℕ). renumbered (expanded s (alone s)).number (reading x)) text-is ∙ ap (renumbered (expanded s (alone s)).number) q in
+      is_renumbered s (alone s) n ∙ ap (λ (x : List ℕ). renumbered (expanded s (alone s)).number (reading x)) text_is ∙ ap (renumbered (expanded s (alone s)).number) q in
       let h : Answers s (alone s) (renumbered (expanded s (alone s)).number a) = subst (Answers s (alone s)) e (answers s (alone s)) in
-      record { in-expanded = renumbered (expanded s (alone s)).number a; given = h; no_other = λ y j. sym (one_answer j) ∙ one_answer h; placed = refl }
+      record { in_expanded = renumbered (expanded s (alone s)).number a; given = h; no_other = λ y j. sym (one_answer j) ∙ one_answer h; placed = refl }

@@ -29,39 +29,39 @@ module _ (s : List ℕ) (k : ℕ) (e : k ≡ (expansion_of s (alone s)).number) 
   unfolding placed_answer is_at_start
   thirty h =
       let a : Answers s (alone s) (refused 30 0) = too_long (sym e ∙ h) in
-      record { in-expanded = refused 30 0; given = a; no_other = λ y j. sym (one_answer j) ∙ one_answer a; placed = refl }
+      record { in_expanded = refused 30 0; given = a; no_other = λ y j. sym (one_answer j) ∙ one_answer a; placed = refl }
 
-  pub normal-thirty : {l : List ℕ} → k ≡ 30 → NormalByRules s l l (record { number = 30; place = 0; length = 0 })
+  pub normal_thirty : {l : List ℕ} → k ≡ 30 → NormalByRules s l l (record { number = 30; place = 0; length = 0 })
   unfolding refusal
-  normal-thirty h = rules.NormalByRules.refuses 30 0 (thirty h) refl refl
+  normal_thirty h = rules.NormalByRules.refuses 30 0 (thirty h) refl refl
 
-  pub value-thirty : {kind name path l : List ℕ} → k ≡ 30 → ValueByRules s kind name path l l (record { number = 30; place = 0; length = 0 })
+  pub value_thirty : {kind name path l : List ℕ} → k ≡ 30 → ValueByRules s kind name path l l (record { number = 30; place = 0; length = 0 })
   unfolding refusal
-  value-thirty h = rules.ValueByRules.refuses 30 0 (thirty h) refl refl
+  value_thirty h = rules.ValueByRules.refuses 30 0 (thirty h) refl refl
 
   module _ (n : k ≡ 30 → ⊥) where
-    no-thirty : (expansion_of s (alone s)).number ≡ 30 → ⊥
-    no-thirty z = n (e ∙ z)
+    no_thirty : (expansion_of s (alone s)).number ≡ 30 → ⊥
+    no_thirty z = n (e ∙ z)
 
     number : (expanded s (alone s)).number ≡ k
-    number = sym (e ∙ number_is s no-thirty)
+    number = sym (e ∙ number_is s no_thirty)
 
-    pub refused-alone : (m p : ℕ) → TheTextsAnswer s (refused m p) → TheAnswer s (alone s) (refused (pick (eqb m 3) k m) (place_told (length s) (pick (eqb m 3) k m) p))
+    pub refused_alone : (m p : ℕ) → TheTextsAnswer s (refused m p) → TheAnswer s (alone s) (refused (pick (eqb m 3) k m) (place_told (length s) (pick (eqb m 3) k m) p))
     unfolding placed_answer renumbered place_told
-    refused-alone m p t =
+    refused_alone m p t =
         subst (λ (x : ℕ). TheAnswer s (alone s) (refused (pick (eqb m 3) x m) (pick (is_at_start (pick (eqb m 3) x m)) p (min p (length s))))) number
         (subst (λ (x : ℕ). TheAnswer s (alone s) (refused (pick (eqb m 3) (expanded s (alone s)).number m) (pick (is_at_start (pick (eqb m 3) (expanded s (alone s)).number m)) p x)))
-        (place_is s no-thirty p) (alone_answer s no-thirty (refused m p) t))
+        (place_is s no_thirty p) (alone_answer s no_thirty (refused m p) t))
 
-    accepted-alone : (t : Tables) → TheTextsAnswer s (accepted t) → TheAnswer s (alone s) (accepted (placed_tables (place_of s (alone s)) t))
+    accepted_alone : (t : Tables) → TheTextsAnswer s (accepted t) → TheAnswer s (alone s) (accepted (placed_tables (place_of s (alone s)) t))
     unfolding placed_answer renumbered
-    accepted-alone t h = alone_answer s no-thirty (accepted t) h
+    accepted_alone t h = alone_answer s no_thirty (accepted t) h
 
-    pub normal-rules : {l l' : List ℕ} {r : Told} → NormalWith k s l l' r → NormalByRules s l l' r
+    pub normal_rules : {l l' : List ℕ} {r : Told} → NormalWith k s l l' r → NormalByRules s l l' r
     unfolding refusal_told
-    normal-rules (telling.NormalWith.refuses m p t q i) = rules.NormalByRules.refuses _ _ (refused-alone m p t) q i
-    normal-rules (telling.NormalWith.longer t a w h b q i) = rules.NormalByRules.longer _ (accepted-alone t a) w h b q i
-    normal-rules (telling.NormalWith.writes t a w h b q i) = rules.NormalByRules.writes _ (accepted-alone t a) w h b q i
+    normal_rules (telling.NormalWith.refuses m p t q i) = rules.NormalByRules.refuses _ _ (refused_alone m p t) q i
+    normal_rules (telling.NormalWith.longer t a w h b q i) = rules.NormalByRules.longer _ (accepted_alone t a) w h b q i
+    normal_rules (telling.NormalWith.writes t a w h b q i) = rules.NormalByRules.writes _ (accepted_alone t a) w h b q i
 
     -- An answer for an accepted text is told as it is.
     told_as : {f : File} {kind name path l l' : List ℕ} {v : Valued} → Answered f kind name path l l' v → value_told (length s) k v ≡ value v
@@ -70,7 +70,7 @@ module _ (s : List ℕ) (k : ℕ) (e : k ≡ (expansion_of s (alone s)).number) 
     told_as (too_short t a b c) = refl
     told_as (copies t a b c) = refl
 
-    pub value-rules : {kind name path l l' : List ℕ} {v : Valued} → ValuesByRules s kind name path l l' v → {r : Told} → r ≡ value_told (length s) k v → ValueByRules s kind name path l l' r
+    pub value_rules : {kind name path l l' : List ℕ} {v : Valued} → ValuesByRules s kind name path l l' v → {r : Told} → r ≡ value_told (length s) k v → ValueByRules s kind name path l l' r
     unfolding value_told refusal_told
-    value-rules {v = v} (values.ValuesByRules.refuses m p t q i) z = rules.ValueByRules.refuses _ _ (refused-alone m p t) (z ∙ ap (value_told (length s) k) q) i
-    value-rules {v = v} (values.ValuesByRules.answers t a d f) z = rules.ValueByRules.answers _ (accepted-alone t a) d v f (z ∙ told_as (f d))
+    value_rules {v = v} (values.ValuesByRules.refuses m p t q i) z = rules.ValueByRules.refuses _ _ (refused_alone m p t) (z ∙ ap (value_told (length s) k) q) i
+    value_rules {v = v} (values.ValuesByRules.answers t a d f) z = rules.ValueByRules.answers _ (accepted_alone t a) d v f (z ∙ told_as (f d))

@@ -21,8 +21,8 @@ use Rattle.exporting.specs.Rules.{refusal, heading, HeadingByRules}
 use Rattle.exporting.specs.Telling.{refusal_told, heading_told, HeadingWith}
 use Rattle.exporting.specs.declared.Told.{Told}
 use Rattle.exporting.specs.declared.Heading.{Heading}
-use Rattle.exporting.proofs.Alone.{text-is, place_is}
-use Rattle.exporting.proofs.Calling.{refused-alone}
+use Rattle.exporting.proofs.Alone.{text_is, place_is}
+use Rattle.exporting.proofs.Calling.{refused_alone}
 
 -- The inner function ---------------------------------------------------------------------------------------------------------------------------
 
@@ -49,34 +49,34 @@ refused_with {n} {s} {a} h i j =
 -- The call -------------------------------------------------------------------------------------------------------------------------------------
 
 module _ (s : List ℕ) (k : ℕ) (e : k ≡ (expansion_of s (alone s)).number) where
-  pub heading-thirty : k ≡ 30 → HeadingByRules s (record { number = 30; place = 0; version = 0; version_length = 0; name = 0; name_length = 0 })
+  pub heading_thirty : k ≡ 30 → HeadingByRules s (record { number = 30; place = 0; version = 0; version_length = 0; name = 0; name_length = 0 })
   unfolding heading
-  heading-thirty h = record { answer = Refused 30 0; heads = too_long (sym e ∙ h); told = refl }
+  heading_thirty h = record { answer = Refused 30 0; heads = too_long (sym e ∙ h); told = refl }
 
   module _ (n : k ≡ 30 → ⊥) where
-    no-thirty : (expansion_of s (alone s)).number ≡ 30 → ⊥
-    no-thirty z = n (e ∙ z)
+    no_thirty : (expansion_of s (alone s)).number ≡ 30 → ⊥
+    no_thirty z = n (e ∙ z)
 
     short : length s ≤ 65535
-    short = subst (λ (x : List ℕ). length x ≤ 65535) (text-is s no-thirty) (within s (alone s) no-thirty).short
+    short = subst (λ (x : List ℕ). length x ≤ 65535) (text_is s no_thirty) (within s (alone s) no_thirty).short
 
     -- Where there is that brace.
     front : (f : Front (tokens s)) → TextsHead s (alone s) (placed_heading (place_of s (alone s)) (answer_in f.tree))
     front =
-        subst (λ (x : List ℕ). (f : Front (tokens x)) → TextsHead s (alone s) (placed_heading (place_of s (alone s)) (answer_in f.tree))) (text-is s no-thirty)
-        (λ f. headed no-thirty f)
+        subst (λ (x : List ℕ). (f : Front (tokens x)) → TextsHead s (alone s) (placed_heading (place_of s (alone s)) (answer_in f.tree))) (text_is s no_thirty)
+        (λ f. headed no_thirty f)
 
-    placed-is : (v m : Token) → placed_heading (place_of s (alone s)) (version_and_name v m) ≡ heading_told (length s) k (version_and_name v m)
+    placed_is : (v m : Token) → placed_heading (place_of s (alone s)) (version_and_name v m) ≡ heading_told (length s) k (version_and_name v m)
     unfolding placed_heading version_and_name heading_told
-    placed-is v m = ap₂ (λ (x y : ℕ). VersionAndName x (v.length - 2) y m.length) (place_is s no-thirty (v.place + 1)) (place_is s no-thirty m.place)
+    placed_is v m = ap₂ (λ (x y : ℕ). VersionAndName x (v.length - 2) y m.length) (place_is s no_thirty (v.place + 1)) (place_is s no_thirty m.place)
 
     head_of : (a : Answer) → Heads s a → TextsHead s (alone s) (heading_told (length s) k a)
     unfolding heading_told refusal_told refusal
     head_of _ (heads.too_long h) = absurd (let z = short in omega arith)
-    head_of _ (heads.headed h f) = subst (TextsHead s (alone s)) (placed-is (string_in f.tree) (name_in f.tree)) (front f)
+    head_of _ (heads.headed h f) = subst (TextsHead s (alone s)) (placed_is (string_in f.tree) (name_in f.tree)) (front f)
     head_of _ (heads.refused h w a i j) =
         let t = (q_7 s (Refused (number_of a) (stage_place a)) (heads.refused h w a i j)).as_read (number_of a) (stage_place a) refl in
-        refused no-thirty (subst (λ (x : List ℕ). Front (tokens x) → ⊥) (sym (text-is s no-thirty)) w) _ _ (refused-alone s k e n (number_of a) (stage_place a) t)
+        refused no_thirty (subst (λ (x : List ℕ). Front (tokens x) → ⊥) (sym (text_is s no_thirty)) w) _ _ (refused_alone s k e n (number_of a) (stage_place a) t)
 
-    pub heading-rules : {r : Heading} → HeadingWith k s r → HeadingByRules s r
-    heading-rules h = record { answer = heading_told (length s) k h.answer; heads = head_of h.answer h.heads; told = h.told }
+    pub heading_rules : {r : Heading} → HeadingWith k s r → HeadingByRules s r
+    heading_rules h = record { answer = heading_told (length s) k h.answer; heads = head_of h.answer h.heads; told = h.told }

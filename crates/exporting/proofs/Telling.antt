@@ -34,17 +34,17 @@ refused_told long n m p a b c g e h f =
 -- Values -------------------------------------------------------------------------------------------------------------------------------------
 
 module _ (long n : ℕ) (a : Valued) where
-  pub value-refused : (m p : ℕ) → a ≡ v.Refused m p → (r : Told) → r ≡ refusal_told long n m p → r ≡ value_told long n a
+  pub value_refused : (m p : ℕ) → a ≡ v.Refused m p → (r : Told) → r ≡ refusal_told long n m p → r ≡ value_told long n a
   unfolding value_told
-  value-refused m p e r h = h ∙ sym (ap (value_told long n) e)
+  value_refused m p e r h = h ∙ sym (ap (value_told long n) e)
 
-  pub value-lost : a ≡ v.NotFound → record { number = 255; place = 0; length = 0 } ≡ value_told long n a
+  pub value_lost : a ≡ v.NotFound → record { number = 255; place = 0; length = 0 } ≡ value_told long n a
   unfolding value_told refusal
-  value-lost e = sym (ap (value_told long n) e)
+  value_lost e = sym (ap (value_told long n) e)
 
-  pub value-copied : (k : ℕ) → a ≡ v.Copied k → record { number = 0; place = 0; length = k } ≡ value_told long n a
+  pub value_copied : (k : ℕ) → a ≡ v.Copied k → record { number = 0; place = 0; length = k } ≡ value_told long n a
   unfolding value_told done
-  value-copied k e = sym (ap (value_told long n) e)
+  value_copied k e = sym (ap (value_told long n) e)
 
 -- Normal text ----------------------------------------------------------------------------------------------------------------------------------
 
@@ -63,23 +63,23 @@ module _ (n : ℕ) (s d e o v l d' e' o' v' l' : List ℕ) (w : Written) (rooms 
   refused_as : (m p m' p' : ℕ) → Refused m' p' ≡ Refused m p → (r : Told) → r ≡ refusal_told (length s) n m p → r ≡ refusal_told (length s) n m' p'
   refused_as m p m' p' q r h = let a : m ≡ m' = cc in let b : p ≡ p' = cc in h ∙ ap₂ (refusal_told (length s) n) a b
 
-  by-refusal : WritesByRules s d e o v l d' e' o' v' l' w → (m p : ℕ) → w.answer ≡ Refused m p → (r : Told) → r ≡ refusal_told (length s) n m p → NormalWith n s l l' r
+  by_refusal : WritesByRules s d e o v l d' e' o' v' l' w → (m p : ℕ) → w.answer ≡ Refused m p → (r : Told) → r ≡ refusal_told (length s) n m p → NormalWith n s l l' r
   unfolding refusal_told refusal place_told is_at_start
-  by-refusal (written.short-tables not q u i) m p h r z = absurd (not rooms)
-  by-refusal (written.refuses f k j t q u i) m p h r z = telling.refuses k j t (refused_as m p k j (sym (ap (λ (x : Written). x.answer) q) ∙ h) r z) i
-  by-refusal (written.longer f t a y b c q u i) m p h r z = telling.longer t a y b c (refused_as m p 20 0 (sym (ap (λ (x : Written). x.answer) q) ∙ h) r z) i
-  by-refusal (written.writes f t a y b c q u i) m p h r z = absurd (no_refusal m p (sym (ap (λ (x : Written). x.answer) q) ∙ h))
+  by_refusal (written.short-tables not q u i) m p h r z = absurd (not rooms)
+  by_refusal (written.refuses f k j t q u i) m p h r z = telling.refuses k j t (refused_as m p k j (sym (ap (λ (x : Written). x.answer) q) ∙ h) r z) i
+  by_refusal (written.longer f t a y b c q u i) m p h r z = telling.longer t a y b c (refused_as m p 20 0 (sym (ap (λ (x : Written). x.answer) q) ∙ h) r z) i
+  by_refusal (written.writes f t a y b c q u i) m p h r z = absurd (no_refusal m p (sym (ap (λ (x : Written). x.answer) q) ∙ h))
 
-  by-acceptance : WritesByRules s d e o v l d' e' o' v' l' w → w.answer ≡ Accepted → (r : Told) → r ≡ done w.length → NormalWith n s l l' r
-  by-acceptance (written.short-tables not q u i) h r z = absurd (not rooms)
-  by-acceptance (written.refuses f k j t q u i) h r z = absurd (no_refusal k j (sym h ∙ ap (λ (x : Written). x.answer) q))
-  by-acceptance (written.longer f t a y b c q u i) h r z = absurd (no_refusal 20 0 (sym h ∙ ap (λ (x : Written). x.answer) q))
-  by-acceptance (written.writes f t a y b c q u i) h r z = telling.writes t a y b c (z ∙ ap (λ (x : Written). done x.length) q) i
+  by_acceptance : WritesByRules s d e o v l d' e' o' v' l' w → w.answer ≡ Accepted → (r : Told) → r ≡ done w.length → NormalWith n s l l' r
+  by_acceptance (written.short-tables not q u i) h r z = absurd (not rooms)
+  by_acceptance (written.refuses f k j t q u i) h r z = absurd (no_refusal k j (sym h ∙ ap (λ (x : Written). x.answer) q))
+  by_acceptance (written.longer f t a y b c q u i) h r z = absurd (no_refusal 20 0 (sym h ∙ ap (λ (x : Written). x.answer) q))
+  by_acceptance (written.writes f t a y b c q u i) h r z = telling.writes t a y b c (z ∙ ap (λ (x : Written). done x.length) q) i
 
 module _ {n : ℕ} {s l d' e' o' v' l' : List ℕ} {w : Written} (h : WritesByRules s (replicate 6656 0) (replicate 3072 0) (replicate 2048 0) (replicate 18432 0) l d' e' o' v' l' w) where
-  pub normal-refused : (m p : ℕ) → w.answer ≡ Refused m p → (r : Told) → r ≡ refusal_told (length s) n m p → NormalWith n s l l' r
-  normal-refused m p q r z = by-refusal n s _ _ _ _ l d' e' o' v' l' w own_rooms h m p q r z
+  pub normal_refused : (m p : ℕ) → w.answer ≡ Refused m p → (r : Told) → r ≡ refusal_told (length s) n m p → NormalWith n s l l' r
+  normal_refused m p q r z = by_refusal n s _ _ _ _ l d' e' o' v' l' w own_rooms h m p q r z
 
-  pub normal-written : w.answer ≡ Accepted → NormalWith n s l l' (record { number = 0; place = 0; length = w.length })
+  pub normal_written : w.answer ≡ Accepted → NormalWith n s l l' (record { number = 0; place = 0; length = w.length })
   unfolding done
-  normal-written q = by-acceptance n s _ _ _ _ l d' e' o' v' l' w own_rooms h q _ refl
+  normal_written q = by_acceptance n s _ _ _ _ l d' e' o' v' l' w own_rooms h q _ refl

@@ -25,17 +25,17 @@ class_back n h =
     (T_true {b = eqb (class_number (class_at n)) n} (below (λ m. eqb (class_number (class_at m)) m) 56 tt n h))
 
 module _ {s : List ℕ} {a : Look} {w : Word} (q : Seen s a w) where
-  pub seen-code : code_of w ≡ a.code
+  pub seen_code : code_of w ≡ a.code
   unfolding code_of word_of seen
-  seen-code = ap (λ (x : Word). class_number x.class) q.word ∙ class_back a.code q.low
+  seen_code = ap (λ (x : Word). class_number x.class) q.word ∙ class_back a.code q.low
 
-  pub seen-place : w.place ≡ a.at
+  pub seen_place : w.place ≡ a.at
   unfolding word_of seen
-  seen-place = ap (λ (x : Word). x.place) q.word
+  seen_place = ap (λ (x : Word). x.place) q.word
 
-  pub seen-length : w.length ≡ a.next - a.at
+  pub seen_length : w.length ≡ a.next - a.at
   unfolding word_of seen
-  seen-length = ap (λ (x : Word). x.length) q.word
+  seen_length = ap (λ (x : Word). x.length) q.word
 
 -- Kinds ----------------------------------------------------------------------------------------------------------------------------------
 

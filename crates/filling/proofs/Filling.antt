@@ -13,7 +13,7 @@ use Rattle.grammar.specs.Machine.{Stream, ended, bad, ◌▹◌, prepend}
 use Rattle.grammar.specs.Readers.{seen, rest_by, rest, refusal, Took, Reads, Meets}
 use Rattle.grammar.proofs.Meeting.{Still, ◌⊳◌, still}
 use Rattle.grammar.specs.declared.Look.{Look}
-use Rattle.grammar.proofs.Splits.{join, tokens-join}
+use Rattle.grammar.proofs.Splits.{join, tokens_join}
 use Rattle.grammar.proofs.Steps.{prepend_append}
 use Rattle.grammar.proofs.Literal.{lifted, from, tokens_from}
 use Rattle.meaning.specs.Actions.{M, Parts, word_of, means, meaning}
@@ -32,8 +32,8 @@ pub record Effects (W S : Type 0) (then : W → W → W) (nothing : W) (Does : S
   pub assoc : (a b c : W) → then (then a b) c ≡ then a (then b c)
   pub front : (a : W) → then nothing a ≡ a
   pub back : (a : W) → then a nothing ≡ a
-  pub does-none : (x : S) → Does x nothing x
-  pub does-then : (x y z : S) (a b : W) → Does x a y → Does y b z → Does x (then a b) z
+  pub does_none : (x : S) → Does x nothing x
+  pub does_then : (x y z : S) (a b : W) → Does x a y → Does y b z → Does x (then a b) z
 
 -- The parts of two forms in a row.
 unfoldable pub front_of : (f g : Form) → Parts (f ++ g) → Parts f
@@ -69,7 +69,7 @@ told_then {s} {w} {Q} {R} a b =
     record {
       trees = join a.trees b.trees;
       split = a.split ∙ ap (prepend (tokens a.trees)) b.split ∙ sym (prepend_append (tokens a.trees) (tokens b.trees) w)
-          ∙ ap (λ l. prepend l w) (sym (tokens-join a.trees b.trees));
+          ∙ ap (λ l. prepend l w) (sym (tokens_join a.trees b.trees));
       holds = (subst Q (sym (meaning_front s a.trees b.trees)) a.holds, subst R (sym (meaning_behind s a.trees b.trees)) b.holds);
     }
 
@@ -224,7 +224,7 @@ both t u =
       assoc = λ a b c. ap₂ (λ p q. (p, q)) (t.assoc a.0 b.0 c.0) (u.assoc a.1 b.1 c.1);
       front = λ a. ap₂ (λ p q. (p, q)) (t.front a.0) (u.front a.1);
       back = λ a. ap₂ (λ p q. (p, q)) (t.back a.0) (u.back a.1);
-      does-none = λ x. (t.does-none x.0, u.does-none x.1);
-      does-then = λ x y z a b d d'.
+      does_none = λ x. (t.does-none x.0, u.does-none x.1);
+      does_then = λ x y z a b d d'.
           (t.does-then x.0 y.0 z.0 a.0 b.0 d.0 d'.0, u.does-then x.1 y.1 z.1 a.1 b.1 d.1 d'.1);
     }

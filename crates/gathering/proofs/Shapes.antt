@@ -238,11 +238,11 @@ two_counted l h =
 
 -- where too little is lent, nothing is asked
 module _ {b l g b' l' : List ℕ} {r : ℕ} (w : Rooms b l g) where
-  pub short-bytes : length b < 557048 → Gathered b' l' r
-  short-bytes h = absurd (omega (arith, w.bytes))
+  pub short_bytes : length b < 557048 → Gathered b' l' r
+  short_bytes h = absurd (omega (arith, w.bytes))
 
   pub short_lengths : length l < 16 → Gathered b' l' r
   short_lengths h = absurd (omega (arith, w.lengths))
 
-  pub short-origins : length g < 131070 → Gathered b' l' r
-  short-origins h = absurd (omega (arith, w.origins))
+  pub short_origins : length g < 131070 → Gathered b' l' r
+  short_origins h = absurd (omega (arith, w.origins))

@@ -9,21 +9,21 @@ use Rattle.token.specs.Lexing.{lex_from, Lexed, Divides as Wholly, more as found
 use Rattle.token.proofs.Promises.{Ends, lex_ends}
 use Rattle.grammar.specs.Grammar.{Token, file, ◌▸◌, ∎, Derivation, Begins}
 use Rattle.grammar.specs.Terminals.{token_of, tokens_in, tokens}
-use Rattle.grammar.specs.Stage.{StopsAt, Shallow, Answers, passes, no_token, not-admitted, ends-early, too-deep}
+use Rattle.grammar.specs.Stage.{StopsAt, Shallow, Answers, passes, no_token, not_admitted, ends_early, too_deep}
 use Rattle.grammar.specs.Factored.{paper}
 use Rattle.grammar.specs.Machine.{nullable_form, feed, Stream, ended, bad, ◌▹◌, prepend, next, at_end, run}
 use Rattle.grammar.specs.Readers.{stream_of, lex_at, look_at, refusal_of, answer_of, seen, on, Meets}
 use Rattle.grammar.specs.declared.Look.{Look}
 use Rattle.grammar.specs.declared.Answer.{Answer}
 use Rattle.grammar.specs.declared.Answer.TheVariants.{NotAdmitted}
-use Rattle.grammar.proofs.Meeting.{by-look, on_look}
-use Rattle.grammar.proofs.Runs.{Outcome, well, no-token-at, not_taken, unfinished, seventeenth, run_is}
+use Rattle.grammar.proofs.Meeting.{by_look, on_look}
+use Rattle.grammar.proofs.Runs.{Outcome, well, no_token_at, not_taken, unfinished, seventeenth, run_is}
 
 -- With nothing to be read behind it, a look is what it answers.
 answer_is : (s : List ℕ) (a : Look) → on s a ∎ ≡ answer_of a
 unfolding answer_of refusal_of run next at_end nullable_form feed seen
 answer_is s a =
-    by-look s a (λ o. o ∎ ≡ answer_of a)
+    by_look s a (λ o. o ∎ ≡ answer_of a)
     (λ h. rw (ne_eqb a.code 56 (λ e. omega arith), lt-ltb a.code 56 h) refl)
     (λ e. rw (eq-eqb a.code 56 e) refl)
     (λ h. rw (ne_eqb a.code 56 (λ e. omega arith), le-ltb a.code 56 (omega arith)) refl)
@@ -77,19 +77,19 @@ unfolding lex_at tokens
 answered s (well l n e h d) =
     let w = ended_is (length s) (lex_from s 0) l n (lex_ends s 0) e in
     passes w.0 (subst Shallow (sym w.1) h) (subst Derivation (sym w.1) d)
-answered s (no-token-at l p e h b) =
+answered s (no_token_at l p e h b) =
     let w = bad_is (lex_from s 0) l p e in
     no_token p w.0 (subst Shallow (sym w.1) h) (subst Begins (sym w.1) b)
 answered s (not_taken l t u e h b n) =
     let w = token_is (lex_from s 0) l t u e in
-    not-admitted l t w.0 w.1 h b n
+    not_admitted l t w.0 w.1 h b n
 answered s (unfinished l n e h b d) =
     let w = ended_is (length s) (lex_from s 0) l n (lex_ends s 0) e in
     subst (λ m. Answers s (NotAdmitted m)) (sym w.2)
-    (ends-early w.0 (subst Shallow (sym w.1) h) (subst Begins (sym w.1) b) (λ q. d (subst Derivation w.1 q)))
+    (ends_early w.0 (subst Shallow (sym w.1) h) (subst Begins (sym w.1) b) (λ q. d (subst Derivation w.1 q)))
 answered s (seventeenth l t u e h b m o) =
     let w = token_is (lex_from s 0) l t u e in
-    too-deep l t w.0 w.1 h b m o
+    too_deep l t w.0 w.1 h b m o
 
 -- An answer to every text, found by the machine.
 abbrev pub answer_to : List ℕ → Answer

@@ -4,8 +4,8 @@ use mathlib.Core.List.{List, [], ◌∷◌}
 use mathlib.Core.Bool.{Bool, true, false, ◌&&◌, false≢true, Bool-set}
 use Prim.Native.Nat.{ℕ, zero, suc}
 use lib.ListN.{get_or}
-use Rattle.grammar.specs.Grammar.{Form, Rule, ◌⟶◌, Class, Kind, Integer, OS, UINT32, integers, strings, booleans, enums, floats, file, version, implementation, specs, spec, definitions, definition, attribute, reference, D, P, auto, mark, integer_range, numbers, boolean_range, float_range, enumerator, enumerators, default, own, application, objects, object, block, statements, statement, value, file-is, version_is, implementation-is, no-spec, a-spec, spec_is, no-definition, a_definition, an-attribute, a_reference, an_integer, a_string, a_boolean, an_enum, a_float, reference-is, no-D, a-D, no-P, a-P, no-auto, with-auto, no-mark, a-mark, no-range, a-range, a-list, no_number, a_number, no-boolean-range, no-float-range, a-boolean-range, a-float-range, enumerator_is, no-enumerator, an_enumerator, no_default, a-default, own-auto, own-none, own-number, own-string, own-true, own-false, own_name, own-float, application-is, no_object, an_object, an-object-alone, an-object-with, no_block, a_block, no-statement, a_statement, statement-is, value-number, value-string, value-float, value-auto, value-name, value-true, value-false, ordinary, numeral, quoted, floating, other, kind_word, type_word, integer_word, word, sign, OIL-VERSION, IMPLEMENTATION, CPU, STRING, BOOLEAN, ENUM, FLOAT, TRUE, FALSE, AUTO, NO-DEFAULT, WITH-AUTO, lbrace, rbrace, lsquare, rsquare, equals, semicolon, colon, comma, dots}
-use Rattle.grammar.specs.Factored.{Written, written, forms, Status, same, changed, status, is_same, kept, Nonterminal, paper, span, Symbols, ◌⟹◌, keep, object-is, range_none, range_is, one_number, up_to, many-numbers, by, kept_choices, choices_by, choices}
+use Rattle.grammar.specs.Grammar.{Form, Rule, ◌⟶◌, Class, Kind, Integer, OS, UINT32, integers, strings, booleans, enums, floats, file, version, implementation, specs, spec, definitions, definition, attribute, reference, D, P, auto, mark, integer_range, numbers, boolean_range, float_range, enumerator, enumerators, default, own, application, objects, object, block, statements, statement, value, file_is, version_is, implementation_is, no_spec, a_spec, spec_is, no_definition, a_definition, an_attribute, a_reference, an_integer, a_string, a_boolean, an_enum, a_float, reference_is, no_D, a_D, no_P, a_P, no_auto, with_auto, no_mark, a_mark, no_range, a_range, a_list, no_number, a_number, no_boolean_range, no_float_range, a_boolean_range, a_float_range, enumerator_is, no_enumerator, an_enumerator, no_default, a_default, own_auto, own_none, own_number, own_string, own_true, own_false, own_name, own_float, application_is, no_object, an_object, an_object_alone, an_object_with, no_block, a_block, no_statement, a_statement, statement_is, value_number, value_string, value_float, value_auto, value_name, value_true, value_false, ordinary, numeral, quoted, floating, other, kind_word, type_word, integer_word, word, sign, OIL-VERSION, IMPLEMENTATION, CPU, STRING, BOOLEAN, ENUM, FLOAT, TRUE, FALSE, AUTO, NO-DEFAULT, WITH-AUTO, lbrace, rbrace, lsquare, rsquare, equals, semicolon, colon, comma, dots}
+use Rattle.grammar.specs.Factored.{Written, written, forms, Status, same, changed, status, is_same, kept, Nonterminal, paper, span, Symbols, ◌⟹◌, keep, object_is, range_none, range_is, one_number, up_to, many_numbers, by, kept_choices, choices_by, choices}
 
 -- `In a l`: a is an element of l.
 pub data In {A : Type 0} : A → List A → Type 0 where
@@ -18,77 +18,77 @@ all Q (a ∷ l) = Q a && all Q l
 
 pub formed : {x : Rule} {f : Form} (p : x ⟶ f) → In (written p) (forms x)
 unfolding forms
-formed file-is = here
+formed file_is = here
 formed version_is = here
-formed implementation-is = here
-formed no-spec = here
-formed a-spec = there here
+formed implementation_is = here
+formed no_spec = here
+formed a_spec = there here
 formed spec_is = here
-formed no-definition = here
+formed no_definition = here
 formed a_definition = there here
-formed an-attribute = here
+formed an_attribute = here
 formed a_reference = there here
 formed an_integer = here
 formed a_string = there here
 formed a_boolean = there (there here)
 formed an_enum = there (there (there here))
 formed a_float = there (there (there (there here)))
-formed reference-is = here
-formed no-D = here
-formed a-D = there here
-formed no-P = here
-formed a-P = there here
-formed no-auto = here
-formed with-auto = there here
-formed no-mark = here
-formed a-mark = there here
-formed no-range = here
-formed a-range = there here
-formed a-list = there (there here)
+formed reference_is = here
+formed no_D = here
+formed a_D = there here
+formed no_P = here
+formed a_P = there here
+formed no_auto = here
+formed with_auto = there here
+formed no_mark = here
+formed a_mark = there here
+formed no_range = here
+formed a_range = there here
+formed a_list = there (there here)
 formed no_number = here
 formed a_number = there here
-formed no-boolean-range = here
-formed a-boolean-range = there here
-formed no-float-range = here
-formed a-float-range = there here
+formed no_boolean_range = here
+formed a_boolean_range = there here
+formed no_float_range = here
+formed a_float_range = there here
 formed enumerator_is = here
-formed no-enumerator = here
+formed no_enumerator = here
 formed an_enumerator = there here
 formed no_default = here
-formed a-default = there here
-formed own-number = there (there here)
-formed own-string = there (there here)
-formed own-true = there (there here)
-formed own-false = there (there (there here))
+formed a_default = there here
+formed own_number = there (there here)
+formed own_string = there (there here)
+formed own_true = there (there here)
+formed own_false = there (there (there here))
 formed own_name = there (there here)
-formed own-float = there (there here)
-formed application-is = here
+formed own_float = there (there here)
+formed application_is = here
 formed no_object = here
 formed an_object = there here
-formed an-object-alone = here
-formed an-object-with = there here
+formed an_object_alone = here
+formed an_object_with = there here
 formed no_block = here
 formed a_block = there here
-formed no-statement = here
+formed no_statement = here
 formed a_statement = there here
-formed statement-is = here
-formed value-number = here
-formed value-string = there here
-formed value-auto = there (there here)
-formed value-name = there (there (there here))
-formed value-true = there (there (there (there here)))
-formed value-false = there (there (there (there (there here))))
-formed value-float = there (there (there (there (there (there here)))))
-formed (own-auto {s = integers}) = here
-formed (own-auto {s = strings}) = here
-formed (own-auto {s = booleans}) = here
-formed (own-auto {s = enums}) = here
-formed (own-auto {s = floats}) = here
-formed (own-none {s = integers}) = there here
-formed (own-none {s = strings}) = there here
-formed (own-none {s = booleans}) = there here
-formed (own-none {s = enums}) = there here
-formed (own-none {s = floats}) = there here
+formed statement_is = here
+formed value_number = here
+formed value_string = there here
+formed value_auto = there (there here)
+formed value_name = there (there (there here))
+formed value_true = there (there (there (there here)))
+formed value_false = there (there (there (there (there here))))
+formed value_float = there (there (there (there (there (there here)))))
+formed (own_auto {s = integers}) = here
+formed (own_auto {s = strings}) = here
+formed (own_auto {s = booleans}) = here
+formed (own_auto {s = enums}) = here
+formed (own_auto {s = floats}) = here
+formed (own_none {s = integers}) = there here
+formed (own_none {s = strings}) = there here
+formed (own_none {s = booleans}) = there here
+formed (own_none {s = enums}) = there here
+formed (own_none {s = floats}) = there here
 
 kept_listed : {x : Rule} {f : Form} {p : x ⟶ f} (e : kept x ≡ true) {ws : List (Written x)} → In (written p) ws → In (by (keep p e)) (kept_choices e ws)
 unfolding kept_choices
@@ -103,12 +103,12 @@ choices_kept (changed c) q e = absurd (false≢true (sym (ap is_same q) ∙ e))
 pub listed : {x : Nonterminal} {f : Symbols} (p : x ⟹ f) → In (by p) (choices x)
 unfolding choices
 listed (keep {x} p e) = subst (In (by (keep p e))) (sym (choices_kept (status x) refl e)) (kept_listed e (formed p))
-listed object-is = here
+listed object_is = here
 listed range_none = here
 listed range_is = there here
 listed one_number = here
 listed up_to = there here
-listed many-numbers = there (there here)
+listed many_numbers = there (there here)
 
 -- What a computation finds of each rule, and of each class, holds of each.
 pub both : (a b : Bool) → (a && b) ≡ true → (a ≡ true) × (b ≡ true)

@@ -77,8 +77,8 @@ module _ (Q : Class → Bool) where
   none [] n h = refl
   none (t ∷ ts) n h = ap (λ b. either b (any ts n)) h.0 ∙ none ts n h.1
 
-  pub not-any : (ts : List (ℕ → Bool)) {n : ℕ} → T (up_to (λ m. either (any ts m) (not (Q (class_at m)))) 56) → Each ts n → No Q n
-  not-any ts {n} t h l = unless (any ts n) (Q (class_at n)) (every (λ m. either (any ts m) (not (Q (class_at m)))) t n l) (none ts n h)
+  pub not_any : (ts : List (ℕ → Bool)) {n : ℕ} → T (up_to (λ m. either (any ts m) (not (Q (class_at m)))) 56) → Each ts n → No Q n
+  not_any ts {n} t h l = unless (any ts n) (Q (class_at n)) (every (λ m. either (any ts m) (not (Q (class_at m)))) t n l) (none ts n h)
 
   pub not_code : (m : ℕ) {n : ℕ} → T (up_to (λ k. either (eqb k m) (not (Q (class_at k)))) 56) → (n ≡ m → ⊥) → No Q n
   not_code m {n} t h l = unless (eqb n m) (Q (class_at n)) (every (λ k. either (eqb k m) (not (Q (class_at k)))) t n l) (ne_eqb n m h)
@@ -88,8 +88,8 @@ unfolding class_at
 past n h = get_or-eq_default classes other (let l : 55 ≤ n = omega arith in l)
 
 module _ (Q R : Class → Bool) where
-  pub in-set : Q (other) ≡ false → T (up_to (λ m. implies (Q (class_at m)) (R (class_at m))) 56) → {n : ℕ} → Q (class_at n) ≡ true → Yes R n
-  in-set d t {n} h =
+  pub in_set : Q (other) ≡ false → T (up_to (λ m. implies (Q (class_at m)) (R (class_at m))) 56) → {n : ℕ} → Q (class_at n) ≡ true → Yes R n
+  in_set d t {n} h =
       ⊎_elim (λ l. (l, implied (Q (class_at n)) (R (class_at n)) (every (λ m. implies (Q (class_at m)) (R (class_at m))) t n l) h))
       (λ g. absurd (false≢true (sym (ap Q (past n g) ∙ d) ∙ h)))
       (lt_or_le n 56)
@@ -99,10 +99,10 @@ module _ (Q R : Class → Bool) where
 
 -- A set of codes between two codes.
 module _ (Q : Class → Bool) where
-  pub is-between : (low high : ℕ) → T (both (ltb high 56) (not (Q (other)))) → T (up_to (λ m. alike (between low m high) (Q (class_at m))) 56) → (n : ℕ)
+  pub is_between : (low high : ℕ) → T (both (ltb high 56) (not (Q (other)))) → T (up_to (λ m. alike (between low m high) (Q (class_at m))) 56) → (n : ℕ)
       → between low n high ≡ Q (class_at n)
   unfolding between
-  is-between low high d t n =
+  is_between low high d t n =
       let p = parts (ltb high 56) (not (Q (other))) d in
       ⊎_elim (λ l. alike_is (between low n high) (Q (class_at n)) (every (λ m. alike (between low m high) (Q (class_at m))) t n l))
       (λ g. out (leb low n) (lt-leb n high (let h = ltb-true high 56 p.0 in omega arith)) ∙ sym (ap Q (past n g) ∙ not-true (Q (other)) p.1))
@@ -114,19 +114,19 @@ module _ (Q : Class → Bool) where
 
 pub kind_is : (n : ℕ) → between 9 n 21 ≡ matches kind (class_at n)
 unfolding between class_at matches
-kind_is = is-between (matches kind) 9 21 tt tt
+kind_is = is_between (matches kind) 9 21 tt tt
 
 pub type_is : (n : ℕ) → between 22 n 34 ≡ matches type (class_at n)
 unfolding between class_at matches
-type_is = is-between (matches type) 22 34 tt tt
+type_is = is_between (matches type) 22 34 tt tt
 
 pub integer_is : (n : ℕ) → between 35 n 38 ≡ matches integer (class_at n)
 unfolding between class_at matches
-integer_is = is-between (matches integer) 35 38 tt tt
+integer_is = is_between (matches integer) 35 38 tt tt
 
 pub definition_is : (n : ℕ) → between 22 n 42 ≡ starts (paper definition) (class_at n)
 unfolding between class_at starts
-definition_is = is-between (starts (paper definition)) 22 42 tt tt
+definition_is = is_between (starts (paper definition)) 22 42 tt tt
 
 pub name_zero : (n : ℕ) → n ≡ 0 → true ≡ matches name (class_at n)
 unfolding class_at matches

@@ -7,7 +7,7 @@ use lib.ListN.{length}
 use Rattle.token.specs.Lexing.{lex_from, Lexed, more, ended, refused}
 use Rattle.grammar.specs.Grammar.{Token, Derivation, Begins}
 use Rattle.grammar.specs.Terminals.{tokens}
-use Rattle.grammar.specs.Stage.{Divides, StopsAt, Shallow, Answers, AnswersDecided, passes, no_token, not-admitted, ends-early, too-deep}
+use Rattle.grammar.specs.Stage.{Divides, StopsAt, Shallow, Answers, AnswersDecided, passes, no_token, not_admitted, ends_early, too_deep}
 use Rattle.grammar.specs.declared.Answer.{Answer}
 use Rattle.grammar.specs.declared.Answer.TheVariants.{Passes, NoToken, NotAdmitted, TooDeep}
 use Rattle.grammar.proofs.Fronts.{one_more, begins_front, shallow_front, derived_begins, not_shallow, stops_not}
@@ -34,7 +34,7 @@ record Stopped (s : List ℕ) (l : List Token) (t : Token) : Type 0 where
   split : tokens s ≡ l ++ (t ∷ rest)
   shallow : Shallow l
   viable : Begins l
-  no-further : Shallow (l ++ (t ∷ [])) → Begins (l ++ (t ∷ [])) → ⊥
+  no_further : Shallow (l ++ (t ∷ [])) → Begins (l ++ (t ∷ [])) → ⊥
 
 past_not : {s : List ℕ} {l : List Token} {t : Token} (m : List Token) → Stopped s l t → Past l t m → Shallow m → Begins m → ⊥
 past_not {s} {l} {t} m a p h b =
@@ -54,18 +54,18 @@ no_stop {s} {l} {t} h b a = past_not (tokens s) a (a.rest, a.split ∙ one_more 
 -- The answers at a token, and those at the end of the tokens.
 data Cut (l : List Token) (t : Token) : Answer → Type 0 where
   cut_token : (Begins (l ++ (t ∷ [])) → ⊥) → Cut l t (NotAdmitted t.place)
-  cut-deep : Begins (l ++ (t ∷ [])) → Cut l t (TooDeep t.place)
+  cut_deep : Begins (l ++ (t ∷ [])) → Cut l t (TooDeep t.place)
 
 data Full (s : List ℕ) : Answer → Type 0 where
-  full-pass : Divides s → Derivation (tokens s) → Full s Passes
-  full-stop : (p : ℕ) → StopsAt (lex_from s 0) p → Full s (NoToken p)
-  full-early : Divides s → (Derivation (tokens s) → ⊥) → Full s (NotAdmitted (length s))
+  full_pass : Divides s → Derivation (tokens s) → Full s Passes
+  full_stop : (p : ℕ) → StopsAt (lex_from s 0) p → Full s (NoToken p)
+  full_early : Divides s → (Derivation (tokens s) → ⊥) → Full s (NotAdmitted (length s))
 
 cut_same : {l : List Token} {t : Token} {r q : Answer} → Cut l t r → Cut l t q → r ≡ q
 cut_same (cut_token n) (cut_token n') = refl
-cut_same (cut_token n) (cut-deep b) = absurd (n b)
-cut_same (cut-deep b) (cut_token n) = absurd (n b)
-cut_same (cut-deep b) (cut-deep b') = refl
+cut_same (cut_token n) (cut_deep b) = absurd (n b)
+cut_same (cut_deep b) (cut_token n) = absurd (n b)
+cut_same (cut_deep b) (cut_deep b') = refl
 
 one_place : (l : Lexed) (p q : ℕ) → StopsAt l p → StopsAt l q → p ≡ q
 unfolding StopsAt
@@ -74,36 +74,36 @@ one_place (ended n) p q a b = absurd a
 one_place (refused n) p q a b = sym a ∙ b
 
 full_same : {s : List ℕ} {r q : Answer} → Full s r → Full s q → r ≡ q
-full_same (full-pass w d) (full-pass w' d') = refl
-full_same {s} (full-pass w d) (full-stop p h) = absurd (stops_not (lex_from s 0) p h w)
-full_same (full-pass w d) (full-early w' n) = absurd (n d)
-full_same {s} (full-stop p h) (full-pass w d) = absurd (stops_not (lex_from s 0) p h w)
-full_same {s} (full-stop p h) (full-stop q h') = ap NoToken (one_place (lex_from s 0) p q h h')
-full_same {s} (full-stop p h) (full-early w n) = absurd (stops_not (lex_from s 0) p h w)
-full_same (full-early w n) (full-pass w' d) = absurd (n d)
-full_same {s} (full-early w n) (full-stop p h) = absurd (stops_not (lex_from s 0) p h w)
-full_same (full-early w n) (full-early w' n') = refl
+full_same (full_pass w d) (full_pass w' d') = refl
+full_same {s} (full_pass w d) (full_stop p h) = absurd (stops_not (lex_from s 0) p h w)
+full_same (full_pass w d) (full_early w' n) = absurd (n d)
+full_same {s} (full_stop p h) (full_pass w d) = absurd (stops_not (lex_from s 0) p h w)
+full_same {s} (full_stop p h) (full_stop q h') = ap NoToken (one_place (lex_from s 0) p q h h')
+full_same {s} (full_stop p h) (full_early w n) = absurd (stops_not (lex_from s 0) p h w)
+full_same (full_early w n) (full_pass w' d) = absurd (n d)
+full_same {s} (full_early w n) (full_stop p h) = absurd (stops_not (lex_from s 0) p h w)
+full_same (full_early w n) (full_early w' n') = refl
 
 data Case (s : List ℕ) (r : Answer) : Type 0 where
   at_end : Shallow (tokens s) → Begins (tokens s) → Full s r → Case s r
-  at-token : (l : List Token) (t : Token) → Stopped s l t → Cut l t r → Case s r
+  at_token : (l : List Token) (t : Token) → Stopped s l t → Cut l t r → Case s r
 
 case_of : {s : List ℕ} {r : Answer} → Answers s r → Case s r
-case_of (passes w h d) = at_end h (derived_begins d) (full-pass w d)
-case_of (no_token p w h b) = at_end h b (full-stop p w)
-case_of (not-admitted l t r e h b n) =
-    at-token l t (record { rest = r; split = e; shallow = h; viable = b; no-further = λ _. n }) (cut_token n)
-case_of (ends-early w h b n) = at_end h b (full-early w n)
-case_of (too-deep l t r e h b m o) =
-    at-token l t
-    (record { rest = r; split = e; shallow = h; viable = begins_front l (t ∷ []) b; no-further = λ g _. not_shallow l t m o g })
-    (cut-deep b)
+case_of (passes w h d) = at_end h (derived_begins d) (full_pass w d)
+case_of (no_token p w h b) = at_end h b (full_stop p w)
+case_of (not_admitted l t r e h b n) =
+    at_token l t (record { rest = r; split = e; shallow = h; viable = b; no_further = λ _. n }) (cut_token n)
+case_of (ends_early w h b n) = at_end h b (full_early w n)
+case_of (too_deep l t r e h b m o) =
+    at_token l t
+    (record { rest = r; split = e; shallow = h; viable = begins_front l (t ∷ []) b; no_further = λ g _. not_shallow l t m o g })
+    (cut_deep b)
 
 both_cases : {s : List ℕ} {r q : Answer} → Case s r → Case s q → r ≡ q
 both_cases (at_end h b f) (at_end h' b' f') = full_same f f'
-both_cases (at_end h b f) (at-token l t a c) = absurd (no_stop h b a)
-both_cases (at-token l t a c) (at_end h b f) = absurd (no_stop h b a)
-both_cases {q} (at-token l t a c) (at-token m u a' c') =
+both_cases (at_end h b f) (at_token l t a c) = absurd (no_stop h b a)
+both_cases (at_token l t a c) (at_end h b f) = absurd (no_stop h b a)
+both_cases {q} (at_token l t a c) (at_token m u a' c') =
     let e = one_stop a a' in
     cut_same c (subst (λ k. Cut k t q) (sym e.0) (subst (λ w. Cut m w q) (sym e.1) c'))
 

@@ -34,104 +34,104 @@ unfolding code_of
 word_other k c e h = sym (ap code_of e ∙ ap (λ b. pick b c 55) (le-ltb c 43 h))
 
 module _ (s : List ℕ) (p d : ℕ) where
-  pub look-found : (t : Token) (c : Cursor) (n : ℕ) → step_at s p ≡ Found t c → n ≡ code_of t.sort
+  pub look_found : (t : Token) (c : Cursor) (n : ℕ) → step_at s p ≡ Found t c → n ≡ code_of t.sort
       → record { code = n; at = t.at; next = c.at; depth = d } ≡ look_at s p d
   unfolding look_at look_of
-  look-found t c n e h = ap (λ (m : ℕ). record { code = m; at = t.at; next = c.at; depth = d }) h ∙ sym (ap (λ (r : Step). look_of r d) e)
+  look_found t c n e h = ap (λ (m : ℕ). record { code = m; at = t.at; next = c.at; depth = d }) h ∙ sym (ap (λ (r : Step). look_of r d) e)
 
-  pub look-bad : (q : ℕ) → step_at s p ≡ Refused q → record { code = 59; at = q; next = q; depth = d } ≡ look_at s p d
+  pub look_bad : (q : ℕ) → step_at s p ≡ Refused q → record { code = 59; at = q; next = q; depth = d } ≡ look_at s p d
   unfolding look_at look_of
-  look-bad q e = sym (ap (λ (r : Step). look_of r d) e)
+  look_bad q e = sym (ap (λ (r : Step). look_of r d) e)
 
-  pub look-end : (n : ℕ) → step_at s p ≡ End n → record { code = 56; at = n; next = n; depth = d } ≡ look_at s p d
+  pub look_end : (n : ℕ) → step_at s p ≡ End n → record { code = 56; at = n; next = n; depth = d } ≡ look_at s p d
   unfolding look_at look_of
-  look-end n e = sym (ap (λ (r : Step). look_of r d) e)
+  look_end n e = sym (ap (λ (r : Step). look_of r d) e)
 
 module _ (s : List ℕ) (a : Look) where
-  pub on-open : a.code ≡ 45 → a.depth < 16 → look_at s a.next (a.depth + 1) ≡ advanced s a
+  pub on_open : a.code ≡ 45 → a.depth < 16 → look_at s a.next (a.depth + 1) ≡ advanced s a
   unfolding advanced
-  on-open h l = rw (eq-eqb a.code 45 h, lt-ltb a.depth 16 l) refl
+  on_open h l = rw (eq-eqb a.code 45 h, lt-ltb a.depth 16 l) refl
 
-  pub on-deep : a.code ≡ 45 → 16 ≤ a.depth → record { code = 61; at = a.at; next = a.next; depth = a.depth } ≡ advanced s a
+  pub on_deep : a.code ≡ 45 → 16 ≤ a.depth → record { code = 61; at = a.at; next = a.next; depth = a.depth } ≡ advanced s a
   unfolding advanced
-  on-deep h l = rw (eq-eqb a.code 45 h, le-ltb a.depth 16 l) refl
+  on_deep h l = rw (eq-eqb a.code 45 h, le-ltb a.depth 16 l) refl
 
-  pub on-close : (d : ℕ) → (a.code ≡ 45 → ⊥) → a.code ≡ 46 → d ≡ a.depth - 1 → look_at s a.next d ≡ advanced s a
+  pub on_close : (d : ℕ) → (a.code ≡ 45 → ⊥) → a.code ≡ 46 → d ≡ a.depth - 1 → look_at s a.next d ≡ advanced s a
   unfolding advanced
-  on-close d g h e = rw (ne_eqb a.code 45 g, eq-eqb a.code 46 h, e) refl
+  on_close d g h e = rw (ne_eqb a.code 45 g, eq-eqb a.code 46 h, e) refl
 
-  pub on-plain : (a.code ≡ 45 → ⊥) → (a.code ≡ 46 → ⊥) → look_at s a.next a.depth ≡ advanced s a
+  pub on_plain : (a.code ≡ 45 → ⊥) → (a.code ≡ 46 → ⊥) → look_at s a.next a.depth ≡ advanced s a
   unfolding advanced
-  on-plain g h = rw (ne_eqb a.code 45 g, ne_eqb a.code 46 h) refl
+  on_plain g h = rw (ne_eqb a.code 45 g, ne_eqb a.code 46 h) refl
 
-  pub expected-is : (m : ℕ) → a.code ≡ m → advanced s a ≡ expected s a m
+  pub expected_is : (m : ℕ) → a.code ≡ m → advanced s a ≡ expected s a m
   unfolding expected
-  expected-is m h = rw (eq-eqb a.code m h) refl
+  expected_is m h = rw (eq-eqb a.code m h) refl
 
-  pub expected-no : (m : ℕ) → (a.code ≡ m → ⊥) → refusal a ≡ expected s a m
+  pub expected_no : (m : ℕ) → (a.code ≡ m → ⊥) → refusal a ≡ expected s a m
   unfolding expected
-  expected-no m h = rw (ne_eqb a.code m h) refl
+  expected_no m h = rw (ne_eqb a.code m h) refl
 
 module _ (a : Look) where
-  pub refusal-here : a.code ≤ 56 → record { code = 60; at = a.at; next = a.next; depth = a.depth } ≡ refusal a
+  pub refusal_here : a.code ≤ 56 → record { code = 60; at = a.at; next = a.next; depth = a.depth } ≡ refusal a
   unfolding refusal
-  refusal-here h = rw (le-leb a.code 56 h) refl
+  refusal_here h = rw (le-leb a.code 56 h) refl
 
-  pub refusal-stays : 56 < a.code → a ≡ refusal a
+  pub refusal_stays : 56 < a.code → a ≡ refusal a
   unfolding refusal
-  refusal-stays h = rw (lt-leb a.code 56 h) refl
+  refusal_stays h = rw (lt-leb a.code 56 h) refl
 
 module _ (low n high : ℕ) where
-  pub between-low : n < low → false ≡ between low n high
+  pub between_low : n < low → false ≡ between low n high
   unfolding between
-  between-low h = rw (lt-leb low n h) refl
+  between_low h = rw (lt-leb low n h) refl
 
-  pub between-high : low ≤ n → leb n high ≡ between low n high
+  pub between_high : low ≤ n → leb n high ≡ between low n high
   unfolding between
-  between-high h = rw (le-leb low n h) refl
+  between_high h = rw (le-leb low n h) refl
 
 module _ (m n : ℕ) where
-  pub fits-integers : m ≡ 0 → eqb n 43 ≡ fitting (sort_at m) n
+  pub fits_integers : m ≡ 0 → eqb n 43 ≡ fitting (sort_at m) n
   unfolding sort_at fitting
-  fits-integers e = rw e refl
+  fits_integers e = rw e refl
 
-  pub fits-strings : m ≡ 1 → eqb n 44 ≡ fitting (sort_at m) n
+  pub fits_strings : m ≡ 1 → eqb n 44 ≡ fitting (sort_at m) n
   unfolding sort_at fitting
-  fits-strings e = rw e refl
+  fits_strings e = rw e refl
 
-  pub fits-true : m ≡ 2 → n ≡ 1 → true ≡ fitting (sort_at m) n
+  pub fits_true : m ≡ 2 → n ≡ 1 → true ≡ fitting (sort_at m) n
   unfolding sort_at fitting
-  fits-true e h = rw (e, h) refl
+  fits_true e h = rw (e, h) refl
 
-  pub fits-false : m ≡ 2 → (n ≡ 1 → ⊥) → eqb n 2 ≡ fitting (sort_at m) n
+  pub fits_false : m ≡ 2 → (n ≡ 1 → ⊥) → eqb n 2 ≡ fitting (sort_at m) n
   unfolding sort_at fitting
-  fits-false e h = rw (e, ne_eqb n 1 h) refl
+  fits_false e h = rw (e, ne_eqb n 1 h) refl
 
-  pub fits-floats : m ≡ 4 → eqb n 54 ≡ fitting (sort_at m) n
+  pub fits_floats : m ≡ 4 → eqb n 54 ≡ fitting (sort_at m) n
   unfolding sort_at fitting
-  fits-floats e = rw e refl
+  fits_floats e = rw e refl
 
-  pub fits-enums : (m ≡ 0 → ⊥) → (m ≡ 1 → ⊥) → (m ≡ 2 → ⊥) → (m ≡ 4 → ⊥) → matches name (class_at n) ≡ fitting (sort_at m) n
+  pub fits_enums : (m ≡ 0 → ⊥) → (m ≡ 1 → ⊥) → (m ≡ 2 → ⊥) → (m ≡ 4 → ⊥) → matches name (class_at n) ≡ fitting (sort_at m) n
   unfolding sort_at fitting
-  fits-enums h i j k = rw (ne_eqb m 0 h, ne_eqb m 1 i, ne_eqb m 2 j, ne_eqb m 4 k) refl
+  fits_enums h i j k = rw (ne_eqb m 0 h, ne_eqb m 1 i, ne_eqb m 2 j, ne_eqb m 4 k) refl
 
 module _ (a : Look) where
-  pub answer-passes : a.code ≡ 56 → Passes ≡ answer_of a
+  pub answer_passes : a.code ≡ 56 → Passes ≡ answer_of a
   unfolding answer_of
-  answer-passes h = rw (eq-eqb a.code 56 h) refl
+  answer_passes h = rw (eq-eqb a.code 56 h) refl
 
-  pub answer-token : (a.code ≡ 56 → ⊥) → a.code < 56 → NotAdmitted a.at ≡ answer_of a
+  pub answer_token : (a.code ≡ 56 → ⊥) → a.code < 56 → NotAdmitted a.at ≡ answer_of a
   unfolding answer_of
-  answer-token h l = rw (ne_eqb a.code 56 h, lt-ltb a.code 56 l) refl
+  answer_token h l = rw (ne_eqb a.code 56 h, lt-ltb a.code 56 l) refl
 
-  pub answer-no-token : 56 ≤ a.code → a.code ≡ 59 → NoToken a.at ≡ answer_of a
+  pub answer_no_token : 56 ≤ a.code → a.code ≡ 59 → NoToken a.at ≡ answer_of a
   unfolding answer_of refusal_of
-  answer-no-token l e = rw (ne_eqb a.code 56 (λ h. omega arith), le-ltb a.code 56 l, eq-eqb a.code 59 e) refl
+  answer_no_token l e = rw (ne_eqb a.code 56 (λ h. omega arith), le-ltb a.code 56 l, eq-eqb a.code 59 e) refl
 
-  pub answer-not-admitted : 56 ≤ a.code → a.code ≡ 60 → NotAdmitted a.at ≡ answer_of a
+  pub answer_not_admitted : 56 ≤ a.code → a.code ≡ 60 → NotAdmitted a.at ≡ answer_of a
   unfolding answer_of refusal_of
-  answer-not-admitted l e = rw (ne_eqb a.code 56 (λ h. omega arith), le-ltb a.code 56 l, ne_eqb a.code 59 (λ h. omega arith), eq-eqb a.code 60 e) refl
+  answer_not_admitted l e = rw (ne_eqb a.code 56 (λ h. omega arith), le-ltb a.code 56 l, ne_eqb a.code 59 (λ h. omega arith), eq-eqb a.code 60 e) refl
 
-  pub answer-too-deep : (a.code ≡ 56 → ⊥) → 56 ≤ a.code → (a.code ≡ 59 → ⊥) → (a.code ≡ 60 → ⊥) → TooDeep a.at ≡ answer_of a
+  pub answer_too_deep : (a.code ≡ 56 → ⊥) → 56 ≤ a.code → (a.code ≡ 59 → ⊥) → (a.code ≡ 60 → ⊥) → TooDeep a.at ≡ answer_of a
   unfolding answer_of refusal_of
-  answer-too-deep h l i j = rw (ne_eqb a.code 56 h, le-ltb a.code 56 l, ne_eqb a.code 59 i, ne_eqb a.code 60 j) refl
+  answer_too_deep h l i j = rw (ne_eqb a.code 56 h, le-ltb a.code 56 l, ne_eqb a.code 59 i, ne_eqb a.code 60 j) refl

@@ -17,7 +17,7 @@ use Rattle.token.specs.declared.Sort.{Sort}
 use Rattle.token.specs.declared.Sort.TheVariants.{Word, Number, String, Punctuator, Float}
 use Rattle.token.proofs.Find.{by_test}
 use Rattle.token.proofs.Tables.{up_to}
-use Rattle.token.proofs.Steps.{found_fits, lex-found, lex-bad, lex-end}
+use Rattle.token.proofs.Steps.{found_fits, lex_found, lex_bad, lex_end}
 use Rattle.grammar.specs.Grammar.{Rule, Terminal, Class, ◌·◌, ◌▸◌, ∎, matches}
 use Rattle.grammar.specs.Terminals.{token_of}
 use Rattle.grammar.specs.Factored.{Nonterminal, paper, Symbols, ◌⟹◌, choices, by}
@@ -27,7 +27,7 @@ use Rattle.grammar.specs.Readers.{punctuator_code, code_of, class_at, stream_of,
 use Rattle.grammar.specs.declared.Look.{Look}
 use Rattle.grammar.specs.declared.Answer.{Answer}
 use Rattle.grammar.specs.declared.Answer.TheVariants.{NotAdmitted}
-use Rattle.grammar.proofs.Steps.{when, feed_tok, feed_enter, feed_only, nullable_append, run_tok_no, run_pass, run_pass_end, run_no, run_no_end, took-nil, took-tok, took-rule, took-then}
+use Rattle.grammar.proofs.Steps.{when, feed_tok, feed_enter, feed_only, nullable_append, run_tok_no, run_pass, run_pass_end, run_no, run_no_end, took_nil, took_tok, took_rule, took_then}
 use Rattle.grammar.proofs.Codes.{Yes, No, at_code, not_code, brace_open, brace_close, class_code}
 
 -- THE INVARIANT of a loop that reads the rule x from the look a: it is still to be read from the look b.
@@ -40,26 +40,26 @@ pub record Still (x : Rule) (s : List ℕ) (a b : Look) : Type 0 where
 
 -- What holds of the outcomes of a token, of the end and of a refusal holds of those of a look.
 module _ (s : List ℕ) (a : Look) where
-  pub by-look : (Q : (Symbols → Answer) → Type 0)
+  pub by_look : (Q : (Symbols → Answer) → Type 0)
       → (a.code < 56 → Q (λ k. run a.depth k (seen a ▹ lex_at s a.next)))
       → (a.code ≡ 56 → Q (λ k. run a.depth k (ended a.at)))
       → (56 < a.code → Q (λ k. refusal_of a.code a.at))
       → Q (on s a)
   unfolding on on_by
-  by-look Q t e r = go (ltb a.code 56) refl (eqb a.code 56) refl
+  by_look Q t e r = go (ltb a.code 56) refl (eqb a.code 56) refl
     where
       go : (b : Bool) → ltb a.code 56 ≡ b → (b' : Bool) → eqb a.code 56 ≡ b' → Q (λ k. on_by b b' s a k)
       go true p b' q = t (ltb-true a.code 56 p)
       go false p true q = e (eqb-true a.code 56 q)
       go false p false q = r (let g = ltb-false a.code 56 p in let n = eqb-false a.code 56 q in omega arith)
 
-  pub on-token : a.code < 56 → (k : Symbols) → on s a k ≡ run a.depth k (seen a ▹ lex_at s a.next)
+  pub on_token : a.code < 56 → (k : Symbols) → on s a k ≡ run a.depth k (seen a ▹ lex_at s a.next)
   unfolding on on_by
-  on-token h k = ap (λ b. on_by b (eqb a.code 56) s a k) (lt-ltb a.code 56 h)
+  on_token h k = ap (λ b. on_by b (eqb a.code 56) s a k) (lt-ltb a.code 56 h)
 
-  pub left-token : a.code < 56 → left s a ≡ suc (length s - a.next)
+  pub left_token : a.code < 56 → left s a ≡ suc (length s - a.next)
   unfolding left
-  left-token h = ap (λ b. pick b (suc (length s - a.next)) 0) (lt-ltb a.code 56 h)
+  left_token h = ap (λ b. pick b (suc (length s - a.next)) 0) (lt-ltb a.code 56 h)
 
 punctuator_low : (b : ℕ) → punctuator_code b < 56
 unfolding punctuator_code
@@ -96,11 +96,11 @@ on_look s p d k = go (step_at s p) refl
     go (Found t c) e =
         let o = found_fits s p t c e in
         let n : c.at - t.at ≡ t.len = omega arith in
-        on-token s (look_of (Found t c) d) (code_low t.sort) k
+        on_token s (look_of (Found t c) d) (code_low t.sort) k
         ∙ ap₂ (λ (q : Class) (n : ℕ). run d k (record { class = q; place = t.at; length = n } ▹ lex_at s c.at)) (class_code t.sort) n
-        ∙ sym (ap (λ l. run d k (stream_of l)) (lex-found s p t c e))
-    go (Refused q) e = sym (ap (λ l. run d k (stream_of l)) (lex-bad s p q e))
-    go (End n) e = sym (ap (λ l. run d k (stream_of l)) (lex-end s p n e))
+        ∙ sym (ap (λ l. run d k (stream_of l)) (lex_found s p t c e))
+    go (Refused q) e = sym (ap (λ l. run d k (stream_of l)) (lex_bad s p q e))
+    go (End n) e = sym (ap (λ l. run d k (stream_of l)) (lex_end s p n e))
 
 pub left_look : (s : List ℕ) (p d : ℕ) → left s (look_at s p d) ≤ length s - p
 unfolding look_at look_of left
@@ -109,7 +109,7 @@ left_look s p d = go (step_at s p) refl
     go : (r : Step) → step_at s p ≡ r → left s (look_of r d) ≤ length s - p
     go (Found t c) e =
         let o = found_fits s p t c e in
-        let l = left-token s (look_of (Found t c) d) (code_low t.sort) in
+        let l = left_token s (look_of (Found t c) d) (code_low t.sort) in
         omega arith
     go (Refused q) e = omega arith
     go (End n) e = omega arith
@@ -128,9 +128,9 @@ rest_look s p d = go (step_at s p) refl
         let n : c.at - t.at ≡ t.len = omega arith in
         rest_token s (look_of (Found t c) d) (code_low t.sort)
         ∙ ap₂ (λ (q : Class) (n : ℕ). record { class = q; place = t.at; length = n } ▹ lex_at s c.at) (class_code t.sort) n
-        ∙ sym (ap stream_of (lex-found s p t c e))
+        ∙ sym (ap stream_of (lex_found s p t c e))
     go (Refused q) e h = absurd (omega arith)
-    go (End n) e h = sym (ap stream_of (lex-end s p n e))
+    go (End n) e h = sym (ap stream_of (lex_end s p n e))
 
 -- Readers --------------------------------------------------------------------------------------------------------------------------------
 
@@ -140,7 +140,7 @@ pub ◌⊳◌ : {e e' : ℕ} {f g : Symbols} {s : List ℕ} {a b c : Look} → R
     record {
       reads = λ k. ap (on s a) (append_assoc f g k) ∙ m.reads (g ++ k) ∙ n.reads k;
       falls = let x = m.falls in let y = n.falls in omega arith;
-      took = λ h. let y = n.took h in let x = m.took y.0 in (x.0, took-then x.1 y.1);
+      took = λ h. let y = n.took h in let x = m.took y.0 in (x.0, took_then x.1 y.1);
     }
 
 pub loosen : {e : ℕ} {f : Symbols} {s : List ℕ} {a b : Look} → Reads e f s a b → Reads 0 f s a b
@@ -157,15 +157,15 @@ take t {s} {a} {r} (l, m) e =
     subst (Reads 1 (t · ∎) s a) (sym e)
     (record {
       reads = λ k.
-          on-token s a l (t · k)
+          on_token s a l (t · k)
           ∙ ap₂ (λ o d. next o d a.at (λ j i. run i j (lex_at s a.next))) (feed_tok t k (class_at a.code) ∙ ap (λ b. when b (some k)) m)
           (ap₂ (λ p q. deeper_by p q a.depth) (brace_open a.code l) (brace_close a.code l))
           ∙ go (eqb a.code 45) (eqb a.code 46) (ltb a.depth 16) refl k;
-      falls = let x = left-token s a l in let y = down (eqb a.code 45) (eqb a.code 46) (ltb a.depth 16) in omega arith;
+      falls = let x = left_token s a l in let y = down (eqb a.code 45) (eqb a.code 46) (ltb a.depth 16) in omega arith;
       took = λ h. (
         omega arith,
         subst (λ u. Took ◌⟹◌ (t · ∎) u (rest s (advanced s a))) (sym (rest_token s a l))
-            (took-tok (seen a) m (gone (eqb a.code 45) (eqb a.code 46) (ltb a.depth 16) h)),
+            (took_tok (seen a) m (gone (eqb a.code 45) (eqb a.code 46) (ltb a.depth 16) h)),
       );
     })
   where
@@ -184,14 +184,14 @@ take t {s} {a} {r} (l, m) e =
     go false true c e k = ap (λ d. run d k (lex_at s a.next)) (pred_is a.depth) ∙ sym (on_look s a.next (a.depth - 1) k)
     go false false c e k = sym (on_look s a.next a.depth k)
 
-    none-at : (p d : ℕ) → (look_at s p d).code ≤ 56 → Took ◌⟹◌ ∎ (lex_at s p) (rest s (look_at s p d))
-    none-at p d h = subst (λ u. Took ◌⟹◌ ∎ u (rest s (look_at s p d))) (rest_look s p d h) (took-nil (rest s (look_at s p d)))
+    none_at : (p d : ℕ) → (look_at s p d).code ≤ 56 → Took ◌⟹◌ ∎ (lex_at s p) (rest s (look_at s p d))
+    none_at p d h = subst (λ u. Took ◌⟹◌ ∎ u (rest s (look_at s p d))) (rest_look s p d h) (took_nil (rest s (look_at s p d)))
 
     gone : (b b' c : Bool) → (to b b' c).code ≤ 56 → Took ◌⟹◌ ∎ (lex_at s a.next) (rest s (to b b' c))
-    gone true b' true h = none-at a.next (a.depth + 1) h
+    gone true b' true h = none_at a.next (a.depth + 1) h
     gone true b' false h = absurd (omega arith)
-    gone false true c h = none-at a.next (a.depth - 1) h
-    gone false false c h = none-at a.next a.depth h
+    gone false true c h = none_at a.next (a.depth - 1) h
+    gone false false c h = none_at a.next a.depth h
 
     down : (b b' c : Bool) → left s (to b b' c) ≤ length s - a.next
     down true b' true = left_look s a.next (a.depth + 1)
@@ -211,7 +211,7 @@ stays s a e f t n = go (leb a.code 56) refl
     go true p =
         let h = leb-true a.code 56 p in
         record {
-          reads = by-look s a (λ o. (k : Symbols) → o (f ++ k) ≡ NotAdmitted a.at) t (λ _. n) (λ g. absurd (omega arith));
+          reads = by_look s a (λ o. (k : Symbols) → o (f ++ k) ≡ NotAdmitted a.at) t (λ _. n) (λ g. absurd (omega arith));
           falls = omega arith;
           took = λ g. absurd (omega arith);
         }
@@ -219,7 +219,7 @@ stays s a e f t n = go (leb a.code 56) refl
         let h = leb-false a.code 56 p in
         let z : left s a ≡ 0 = ap (λ b. pick b (suc (length s - a.next)) 0) (le-ltb a.code 56 (omega arith)) in
         record {
-          reads = by-look s a (λ o. (k : Symbols) → o (f ++ k) ≡ o k) (λ g. absurd (omega arith)) (λ g. absurd (omega arith)) (λ g k. refl);
+          reads = by_look s a (λ o. (k : Symbols) → o (f ++ k) ≡ o k) (λ g. absurd (omega arith)) (λ g. absurd (omega arith)) (λ g k. refl);
           falls = omega arith;
           took = λ g. absurd (omega arith);
         }
@@ -247,10 +247,10 @@ pub pass : (x : Nonterminal) {s : List ℕ} {a : Look} → nullable x ≡ true �
 unfolding seen
 pass x {s} {a} n h =
     record {
-      reads = by-look s a (λ o. (k : Symbols) → o (x ▸ k) ≡ o k) (λ l k. run_pass a.depth x k (seen a) (lex_at s a.next) n (h l))
+      reads = by_look s a (λ o. (k : Symbols) → o (x ▸ k) ≡ o k) (λ l k. run_pass a.depth x k (seen a) (lex_at s a.next) n (h l))
           (λ _ k. run_pass_end a.depth x k a.at n) (λ _ k. refl);
       falls = omega arith;
-      took = λ h. (h, took-rule (empty_form x n) (took-nil (rest s a)) (took-nil (rest s a)));
+      took = λ h. (h, took_rule (empty_form x n) (took_nil (rest s a)) (took_nil (rest s a)));
     }
 
 pub not_begun : (x : Nonterminal) {s : List ℕ} {a r : Look} → nullable x ≡ false → No (starts x) a.code → r ≡ refusal a → Reads 1 (x ▸ ∎) s a r
@@ -262,16 +262,16 @@ not_begun x {s} {a} n h e =
 enters : {x : Nonterminal} {g : Symbols} (p : x ⟹ g) (s : List ℕ) (a : Look) (k : Symbols) → Yes (takes g) a.code → on s a (x ▸ k) ≡ on s a (g ++ k)
 unfolding run seen
 enters {x} {g} p s a k (l, h) =
-    on-token s a l (x ▸ k)
+    on_token s a l (x ▸ k)
     ∙ ap (λ o. next o (deeper a.depth (class_at a.code)) a.at (λ j i. run i j (lex_at s a.next))) (feed_enter p k (class_at a.code) h)
-    ∙ sym (on-token s a l (g ++ k))
+    ∙ sym (on_token s a l (g ++ k))
 
 pub form : {x : Nonterminal} {g : Symbols} (p : x ⟹ g) {e : ℕ} {s : List ℕ} {a b : Look} → Yes (takes g) a.code → Reads e g s a b → Reads e (x ▸ ∎) s a b
 form p {s} {a} {b} y m =
     record {
       reads = λ k. enters p s a k y ∙ m.reads k;
       falls = m.falls;
-      took = λ h. let w = m.took h in (w.0, took-rule p w.1 (took-nil (rest s b)));
+      took = λ h. let w = m.took h in (w.0, took_rule p w.1 (took_nil (rest s b)));
     }
 
 pub only : {x : Nonterminal} {g : Symbols} (p : x ⟹ g) {e : ℕ} {s : List ℕ} {a b : Look} → choices x ≡ by p ∷ [] → nullable x ≡ false → nullable_form g ≡ false
@@ -279,13 +279,13 @@ pub only : {x : Nonterminal} {g : Symbols} (p : x ⟹ g) {e : ℕ} {s : List ℕ
 unfolding run nullable_form seen
 only {x} {g} p {s} {a} {b} c n h m =
     record {
-      reads = λ k. by-look s a (λ o. o (x ▸ k) ≡ o (g ++ k))
+      reads = λ k. by_look s a (λ o. o (x ▸ k) ≡ o (g ++ k))
           (λ _. ap (λ o. next o (deeper a.depth (class_at a.code)) a.at (λ j i. run i j (lex_at s a.next))) (feed_only p k (class_at a.code) c n h))
           (λ _. ap (λ b. at_end (b && nullable_form k) a.at) n ∙ sym (ap (λ b. at_end b a.at) (nullable_append g k h)))
           (λ _. refl)
           ∙ m.reads k;
       falls = m.falls;
-      took = λ h. let w = m.took h in (w.0, took-rule p w.1 (took-nil (rest s b)));
+      took = λ h. let w = m.took h in (w.0, took_rule p w.1 (took_nil (rest s b)));
     }
 
 -- Lists, read by a loop.
@@ -301,7 +301,7 @@ again {x} g p {s} {a} {b} z y m =
       wraps = λ h.
           let y = m.took h in
           let q = z.wraps y.0 in
-          (q.0, λ u w. q.1 u (took-rule p (took-then y.1 w) (took-nil u)));
+          (q.0, λ u w. q.1 u (took_rule p (took_then y.1 w) (took_nil u)));
     }
 
 pub done : (x : Rule) {s : List ℕ} {a b : Look} → Still x s a b → nullable (paper x) ≡ true → No (starts (paper x)) b.code → Reads 0 (paper x ▸ ∎) s a b
@@ -315,14 +315,14 @@ done x {s} {a} {b} z n h =
 
 -- A reader that goes on from a token leaves less.
 pub fell : {f : Symbols} {s : List ℕ} {a b : Look} → a.code < 56 → Reads 1 f s a b → left s b < left s a
-fell {s} {a} h m = let x = left-token s a h in let y = m.falls in omega arith
+fell {s} {a} h m = let x = left_token s a h in let y = m.falls in omega arith
 
 -- Past a token less is left.
 pub went_on : (m : ℕ) → T (ltb m 56) → (s : List ℕ) (a b : Look) → a.code ≡ m → b ≡ advanced s a → left s b < left s a
 unfolding advanced left
 went_on m t s a b h e =
     let l : a.code < 56 = rw h (ltb→lt m 56 t) in
-    let x = left-token s a l in
+    let x = left_token s a l in
     let y = down (eqb a.code 45) (eqb a.code 46) (ltb a.depth 16) in
     let z : left s b ≡ left s (advanced s a) = ap (left s) e in
     omega arith

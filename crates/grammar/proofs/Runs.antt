@@ -23,7 +23,7 @@ use Rattle.grammar.proofs.Viable.{start, viable, not_viable, derived, not_derive
 pub data Outcome (s : Stream) : Answer → Type 0 where
   well : (l : List Token) (n : ℕ) → s ≡ prepend l (ended n) → Shallow l → Derivation l → Outcome s Passes
   -- Refusal 3: where no token is, and the tokens before it begin a list that the grammar derives.
-  no-token-at : (l : List Token) (p : ℕ) → s ≡ prepend l (bad p) → Shallow l → Begins l → Outcome s (NoToken p)
+  no_token_at : (l : List Token) (p : ℕ) → s ≡ prepend l (bad p) → Shallow l → Begins l → Outcome s (NoToken p)
   -- Refusal 4: at a token that the grammar does not admit, or at the end.
   not_taken : (l : List Token) (t : Token) (r : Stream) → s ≡ prepend l (t ▹ r) → Shallow l → Begins l → (Begins (l ++ (t ∷ [])) → ⊥)
       → Outcome s (NotAdmitted t.place)
@@ -80,7 +80,7 @@ reach_one (u ∷ l) t {i} k e = go (feed k u.class) (λ j. reach_one l t j) e
 -- The braces open behind the tokens l are d, and were never too many.
 record Behind (l : List Token) (d : ℕ) : Type 0 where
   shallow : Shallow l
-  open-now : d + closes l ≡ opens l
+  open_now : d + closes l ≡ opens l
 
 counted : (l : List Token) (t : Token) {b b' : Bool} {d e : ℕ} → Turn b b' d e → matches (sg lbrace) t.class ≡ b → matches (sg rbrace) t.class ≡ b'
     → d + closes l ≡ opens l → e + closes (l ++ (t ∷ [])) ≡ opens (l ++ (t ∷ []))
@@ -91,7 +91,7 @@ counted l t turn_plain p q w = let x = ap bit p in let y = ap bit q in omega (ar
 
 one_more : (l : List Token) (t : Token) {d e : ℕ} → Turn (matches (sg lbrace) t.class) (matches (sg rbrace) t.class) d e → e ≤ 16
     → Behind l d → Behind (l ++ (t ∷ [])) e
-one_more l t {d} {e} turn h w = record { shallow = λ l₁ l₂ f. whole l₁ (fronts l₁ l₂ l t f); open-now = c }
+one_more l t {d} {e} turn h w = record { shallow = λ l₁ l₂ f. whole l₁ (fronts l₁ l₂ l t f); open_now = c }
   where
     c : e + closes (l ++ (t ∷ [])) ≡ opens (l ++ (t ∷ []))
     c = counted l t turn refl refl w.open-now
@@ -124,7 +124,7 @@ run_from s₀ (ended n) l k d q e nest w = go (nullable_form k) refl
     go : (b : Bool) → nullable_form k ≡ b → Outcome s₀ (at_end b n)
     go true h = well l n q w.shallow (derived l e h)
     go false h = unfinished l n q w.shallow (viable l e) (not_derived l e h)
-run_from s₀ (bad p) l k d q e nest w = no-token-at l p q w.shallow (viable l e)
+run_from s₀ (bad p) l k d q e nest w = no_token_at l p q w.shallow (viable l e)
 run_from s₀ (t ▹ s) l k d q e nest w = go (feed k t.class) refl (λ j. run_from s₀ s (l ++ (t ∷ [])) j)
   where
     go : (o : Option Symbols) → feed k t.class ≡ o
@@ -154,7 +154,7 @@ run_from s₀ (t ▹ s) l k d q e nest w = go (feed k t.class) refl (λ j. run_f
 -- The run of any stream.
 pub run_is : (s : Stream) → Outcome s (run 0 (paper file ▸ ∎) s)
 unfolding prepend reach opens closes
-run_is s = run_from s s [] start 0 refl refl (nest_rule nest_nil) (record { shallow = nothing; open-now = refl })
+run_is s = run_from s s [] start 0 refl refl (nest_rule nest_nil) (record { shallow = nothing; open_now = refl })
   where
     nothing : Shallow []
     nothing [] l₂ f = omega arith

@@ -10,11 +10,11 @@ module _ {N : Type 0} {G : N → List (Symbol N) → Type 0} where
   join (leaf t m ts) ks = leaf t m (join ts ks)
   join (node p us ts) ks = node p us (join ts ks)
 
-  pub tokens-parts : (g k : List (Symbol N)) (ts : Trees G (g ++ k)) → tokens ts ≡ tokens (left g k ts) ++ tokens (right g k ts)
+  pub tokens_parts : (g k : List (Symbol N)) (ts : Trees G (g ++ k)) → tokens ts ≡ tokens (left g k ts) ++ tokens (right g k ts)
   unfolding tokens left right
-  tokens-parts [] k ts = refl
-  tokens-parts (tok a ∷ g) k (leaf t m ts) = ap (t ∷◌) (tokens-parts g k ts)
-  tokens-parts (rule x ∷ g) k (node p us ts) = ap (tokens us ++◌) (tokens-parts g k ts) ∙ sym (append_assoc (tokens us) _ _)
+  tokens_parts [] k ts = refl
+  tokens_parts (tok a ∷ g) k (leaf t m ts) = ap (t ∷◌) (tokens_parts g k ts)
+  tokens_parts (rule x ∷ g) k (node p us ts) = ap (tokens us ++◌) (tokens_parts g k ts) ∙ sym (append_assoc (tokens us) _ _)
 
   pub left_join : {g k : List (Symbol N)} (ts : Trees G g) (ks : Trees G k) → left g k (join ts ks) ≡ ts
   unfolding left join
@@ -22,14 +22,14 @@ module _ {N : Type 0} {G : N → List (Symbol N) → Type 0} where
   left_join (leaf t m ts) ks = ap (leaf t m) (left_join ts ks)
   left_join (node p us ts) ks = ap (node p us) (left_join ts ks)
 
-  pub right-join : {g k : List (Symbol N)} (ts : Trees G g) (ks : Trees G k) → right g k (join ts ks) ≡ ks
+  pub right_join : {g k : List (Symbol N)} (ts : Trees G g) (ks : Trees G k) → right g k (join ts ks) ≡ ks
   unfolding right join
-  right-join nil ks = refl
-  right-join (leaf t m ts) ks = right-join ts ks
-  right-join (node p us ts) ks = right-join ts ks
+  right_join nil ks = refl
+  right_join (leaf t m ts) ks = right_join ts ks
+  right_join (node p us ts) ks = right_join ts ks
 
-  pub tokens-join : {g k : List (Symbol N)} (ts : Trees G g) (us : Trees G k) → tokens (join ts us) ≡ tokens ts ++ tokens us
+  pub tokens_join : {g k : List (Symbol N)} (ts : Trees G g) (us : Trees G k) → tokens (join ts us) ≡ tokens ts ++ tokens us
   unfolding tokens join
-  tokens-join nil us = refl
-  tokens-join (leaf t m ts) us = ap (t ∷◌) (tokens-join ts us)
-  tokens-join (node p vs ts) us = ap (tokens vs ++◌) (tokens-join ts us) ∙ sym (append_assoc (tokens vs) (tokens ts) (tokens us))
+  tokens_join nil us = refl
+  tokens_join (leaf t m ts) us = ap (t ∷◌) (tokens_join ts us)
+  tokens_join (node p vs ts) us = ap (tokens vs ++◌) (tokens_join ts us) ∙ sym (append_assoc (tokens vs) (tokens ts) (tokens us))

@@ -7,12 +7,12 @@ use Prim.Native.Nat.{ℕ}
 use Rattle.token.specs.Find.{is_there}
 use Rattle.grammar.specs.Grammar.{Symbol, Terminal, Class, Token, tok, rule, ◌▸◌, ◌·◌, ∎, matches, nil, leaf, node, tokens}
 use Rattle.grammar.specs.Factored.{Nonterminal, Symbols, ◌⟹◌, Choice, by, choices}
-use Rattle.grammar.specs.Machine.{nullable, nullable_form, Move, after, Start, start, test, take_step, skip_step, rule-step, form-step, tries, begin, move, starts, left_of, feed, Stream, ended, ◌▹◌, prepend, deeper, at_end, next, run}
+use Rattle.grammar.specs.Machine.{nullable, nullable_form, Move, after, Start, start, test, take_step, skip_step, rule_step, form_step, tries, begin, move, starts, left_of, feed, Stream, ended, ◌▹◌, prepend, deeper, at_end, next, run}
 use Rattle.grammar.proofs.Checks.{takes, begin_is, clear_is}
 use Rattle.grammar.specs.Readers.{Took}
 use Rattle.grammar.specs.declared.Answer.TheVariants.{NotAdmitted}
 use Rattle.grammar.proofs.Choices.{listed}
-use Rattle.grammar.proofs.Splits.{join, tokens-join}
+use Rattle.grammar.proofs.Splits.{join, tokens_join}
 use Rattle.grammar.proofs.Uniqueness.{test_is, found, is_none}
 
 -- The machine's step, symbol by symbol -------------------------------------------------------------------------------------------------
@@ -57,7 +57,7 @@ unfolding feed when else onto rest_of
 feed_rule x k c = go (begin c x) (nullable x) refl (move c k)
   where
     go : (s : Option (Start c x)) (b : Bool) → nullable x ≡ b → (o : Option (Move c k))
-        → left_of (rule-step s (skip_step (test (nullable x)) o)) ≡ else (onto k (start_left s)) (when b (left_of o))
+        → left_of (rule_step s (skip_step (test (nullable x)) o)) ≡ else (onto k (start_left s)) (when b (left_of o))
     go (some (start p v)) b e o = refl
     go none true e none = ap (λ q. left_of (skip_step {c = c} {x = x} {k = k} q none)) (test_is e)
     go none true e (some v) = ap (λ q. left_of (skip_step {c = c} {x = x} {k = k} q (some v))) (test_is e)
@@ -114,7 +114,7 @@ pub starts_any : (x : Nonterminal) (c : Class) → starts x c ≡ any_takes (cho
 unfolding starts any_takes
 starts_any x c = ap is_there (begin_is c x) ∙ go (choices x)
   where
-    step : {f : Symbols} (p : x ⟹ f) (m : Option (Move c f)) (o : Option (Start c x)) → is_there (form-step p m o) ≡ (is_there m || is_there o)
+    step : {f : Symbols} (p : x ⟹ f) (m : Option (Move c f)) (o : Option (Start c x)) → is_there (form_step p m o) ≡ (is_there m || is_there o)
     step p none o = refl
     step p (some v) o = refl
 
@@ -186,26 +186,26 @@ prepend_append [] m s = refl
 prepend_append (t ∷ l) m s = ap (t ▹◌) (prepend_append l m s)
 
 module _ {N : Type 0} {G : N → List (Symbol N) → Type 0} where
-  pub took-nil : (s : Stream) → Took G ∎ s s
+  pub took_nil : (s : Stream) → Took G ∎ s s
   unfolding prepend tokens
-  took-nil s = record { took = nil; split = refl }
+  took_nil s = record { took = nil; split = refl }
 
-  pub took-tok : {a : Terminal} {f : List (Symbol N)} {s s' : Stream} (t : Token) → matches a t.class ≡ true → Took G f s s' → Took G (a · f) (t ▹ s) s'
+  pub took_tok : {a : Terminal} {f : List (Symbol N)} {s s' : Stream} (t : Token) → matches a t.class ≡ true → Took G f s s' → Took G (a · f) (t ▹ s) s'
   unfolding prepend tokens
-  took-tok t m r = record { took = leaf t m r.took; split = ap (t ▹◌) r.split }
+  took_tok t m r = record { took = leaf t m r.took; split = ap (t ▹◌) r.split }
 
-  pub took-rule : {x : N} {g f : List (Symbol N)} {s s' s'' : Stream} → G x g → Took G g s s' → Took G f s' s'' → Took G (x ▸ f) s s''
+  pub took_rule : {x : N} {g f : List (Symbol N)} {s s' s'' : Stream} → G x g → Took G g s s' → Took G f s' s'' → Took G (x ▸ f) s s''
   unfolding tokens
-  took-rule {s''} p r q =
+  took_rule {s''} p r q =
       record {
         took = node p r.took q.took;
         split = r.split ∙ ap (prepend (tokens r.took)) q.split ∙ sym (prepend_append (tokens r.took) (tokens q.took) s'');
       }
 
-  pub took-then : {f g : List (Symbol N)} {s s' s'' : Stream} → Took G f s s' → Took G g s' s'' → Took G (f ++ g) s s''
-  took-then {s''} r q =
+  pub took_then : {f g : List (Symbol N)} {s s' s'' : Stream} → Took G f s s' → Took G g s' s'' → Took G (f ++ g) s s''
+  took_then {s''} r q =
       record {
         took = join r.took q.took;
         split = r.split ∙ ap (prepend (tokens r.took)) q.split ∙ sym (prepend_append (tokens r.took) (tokens q.took) s'')
-            ∙ ap (λ l. prepend l s'') (sym (tokens-join r.took q.took));
+            ∙ ap (λ l. prepend l s'') (sym (tokens_join r.took q.took));
       }

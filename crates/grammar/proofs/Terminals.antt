@@ -8,65 +8,65 @@ use Rattle.grammar.specs.declared.Look.{Look}
 use Rattle.grammar.proofs.Meeting.{tokened}
 
 module _ {s : List ℕ} {a r : Look} where
-  pub true-is : r ≡ expected s a 1 → Meets 1 (the TRUE · ∎) s a r
+  pub true_is : r ≡ expected s a 1 → Meets 1 (the TRUE · ∎) s a r
   unfolding class_at matches
-  true-is = tokened (the TRUE) 1 (tt, tt)
+  true_is = tokened (the TRUE) 1 (tt, tt)
 
-  pub false-is : r ≡ expected s a 2 → Meets 1 (the FALSE · ∎) s a r
+  pub false_is : r ≡ expected s a 2 → Meets 1 (the FALSE · ∎) s a r
   unfolding class_at matches
-  false-is = tokened (the FALSE) 2 (tt, tt)
+  false_is = tokened (the FALSE) 2 (tt, tt)
 
-  pub oil-version-is : r ≡ expected s a 6 → Meets 1 (the OIL-VERSION · ∎) s a r
+  pub oil_version_is : r ≡ expected s a 6 → Meets 1 (the OIL-VERSION · ∎) s a r
   unfolding class_at matches
-  oil-version-is = tokened (the OIL-VERSION) 6 (tt, tt)
+  oil_version_is = tokened (the OIL-VERSION) 6 (tt, tt)
 
-  pub implementation-is : r ≡ expected s a 7 → Meets 1 (the IMPLEMENTATION · ∎) s a r
+  pub implementation_is : r ≡ expected s a 7 → Meets 1 (the IMPLEMENTATION · ∎) s a r
   unfolding class_at matches
-  implementation-is = tokened (the IMPLEMENTATION) 7 (tt, tt)
+  implementation_is = tokened (the IMPLEMENTATION) 7 (tt, tt)
 
-  pub cpu-is : r ≡ expected s a 8 → Meets 1 (the CPU · ∎) s a r
+  pub cpu_is : r ≡ expected s a 8 → Meets 1 (the CPU · ∎) s a r
   unfolding class_at matches
-  cpu-is = tokened (the CPU) 8 (tt, tt)
+  cpu_is = tokened (the CPU) 8 (tt, tt)
 
   pub number_is : r ≡ expected s a 43 → Meets 1 (number · ∎) s a r
   unfolding class_at matches
   number_is = tokened number 43 (tt, tt)
 
-  pub string-is : r ≡ expected s a 44 → Meets 1 (string · ∎) s a r
+  pub string_is : r ≡ expected s a 44 → Meets 1 (string · ∎) s a r
   unfolding class_at matches
-  string-is = tokened string 44 (tt, tt)
+  string_is = tokened string 44 (tt, tt)
 
-  pub lbrace-is : r ≡ expected s a 45 → Meets 1 (sg lbrace · ∎) s a r
+  pub lbrace_is : r ≡ expected s a 45 → Meets 1 (sg lbrace · ∎) s a r
   unfolding class_at matches
-  lbrace-is = tokened (sg lbrace) 45 (tt, tt)
+  lbrace_is = tokened (sg lbrace) 45 (tt, tt)
 
-  pub rbrace-is : r ≡ expected s a 46 → Meets 1 (sg rbrace · ∎) s a r
+  pub rbrace_is : r ≡ expected s a 46 → Meets 1 (sg rbrace · ∎) s a r
   unfolding class_at matches
-  rbrace-is = tokened (sg rbrace) 46 (tt, tt)
+  rbrace_is = tokened (sg rbrace) 46 (tt, tt)
 
-  pub lsquare-is : r ≡ expected s a 47 → Meets 1 (sg lsquare · ∎) s a r
+  pub lsquare_is : r ≡ expected s a 47 → Meets 1 (sg lsquare · ∎) s a r
   unfolding class_at matches
-  lsquare-is = tokened (sg lsquare) 47 (tt, tt)
+  lsquare_is = tokened (sg lsquare) 47 (tt, tt)
 
-  pub rsquare-is : r ≡ expected s a 48 → Meets 1 (sg rsquare · ∎) s a r
+  pub rsquare_is : r ≡ expected s a 48 → Meets 1 (sg rsquare · ∎) s a r
   unfolding class_at matches
-  rsquare-is = tokened (sg rsquare) 48 (tt, tt)
+  rsquare_is = tokened (sg rsquare) 48 (tt, tt)
 
-  pub equals-is : r ≡ expected s a 49 → Meets 1 (sg equals · ∎) s a r
+  pub equals_is : r ≡ expected s a 49 → Meets 1 (sg equals · ∎) s a r
   unfolding class_at matches
-  equals-is = tokened (sg equals) 49 (tt, tt)
+  equals_is = tokened (sg equals) 49 (tt, tt)
 
-  pub semicolon-is : r ≡ expected s a 50 → Meets 1 (sg semicolon · ∎) s a r
+  pub semicolon_is : r ≡ expected s a 50 → Meets 1 (sg semicolon · ∎) s a r
   unfolding class_at matches
-  semicolon-is = tokened (sg semicolon) 50 (tt, tt)
+  semicolon_is = tokened (sg semicolon) 50 (tt, tt)
 
-  pub comma-is : r ≡ expected s a 52 → Meets 1 (sg comma · ∎) s a r
+  pub comma_is : r ≡ expected s a 52 → Meets 1 (sg comma · ∎) s a r
   unfolding class_at matches
-  comma-is = tokened (sg comma) 52 (tt, tt)
+  comma_is = tokened (sg comma) 52 (tt, tt)
 
-  pub dots-is : r ≡ expected s a 53 → Meets 1 (sg dots · ∎) s a r
+  pub dots_is : r ≡ expected s a 53 → Meets 1 (sg dots · ∎) s a r
   unfolding class_at matches
-  dots-is = tokened (sg dots) 53 (tt, tt)
+  dots_is = tokened (sg dots) 53 (tt, tt)
 
   pub float_is : r ≡ expected s a 54 → Meets 1 (float · ∎) s a r
   unfolding class_at matches

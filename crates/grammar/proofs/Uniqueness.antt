@@ -12,10 +12,10 @@ pub use Rattle.grammar.specs.Building.{back, empty}
 use Rattle.grammar.specs.Building.{and_parts}
 use Rattle.grammar.specs.Grammar.{Symbol, Terminal, Class, Token, Kind, Integer, tok, rule, matches, Trees, nil, leaf, node, tokens, name, number, string, float, kind, type, integer, the, sg, ordinary, numeral, quoted, floating, kind_word, type_word, integer_word, word, sign, OS, UINT32, given_code, sign_code}
 use Rattle.grammar.specs.Factored.{Nonterminal, Symbols, ◌⟹◌, Choice, by, choices}
-use Rattle.grammar.specs.Machine.{has_empty, empty_of, nullable, empty_form, nullable_form, Move, take, enter, skip, after, Start, start, test, take_step, skip_step, rule-step, form-step, tries, begin, move, starts, left_of, feed}
+use Rattle.grammar.specs.Machine.{has_empty, empty_of, nullable, empty_form, nullable_form, Move, take, enter, skip, after, Start, start, test, take_step, skip_step, rule_step, form_step, tries, begin, move, starts, left_of, feed}
 use Rattle.grammar.proofs.Checks.{takes, begin_is, none_takes, clear, clear_is, follows, apart, apart_is, implies, link, linked, linked?, linked_all, not_nullable?, proper, proper_is}
 use Rattle.grammar.proofs.Choices.{In, here, there, listed, all, nonterminals, classes, both, every, every_rule, every_class}
-use Rattle.grammar.proofs.Splits.{left, right, join, tokens-parts, left_join, right-join}
+use Rattle.grammar.proofs.Splits.{left, right, join, tokens_parts, left_join, right_join}
 
 -- A move and the trees of what is left make trees ------------------------------------------------------------------------------------
 
@@ -23,7 +23,7 @@ pub tokens_back : (t : Token) {k : Symbols} (v : Move t.class k) (ts : Trees ◌
 unfolding back tokens
 tokens_back t (take m) ts = refl
 tokens_back t (enter {k} p v) ts =
-    ap (◌++ tokens (right (after v) k ts)) (tokens_back t v (left (after v) k ts)) ∙ ap (t ∷◌) (sym (tokens-parts (after v) k ts))
+    ap (◌++ tokens (right (after v) k ts)) (tokens_back t v (left (after v) k ts)) ∙ ap (t ∷◌) (sym (tokens_parts (after v) k ts))
 tokens_back t (skip e v) ts = tokens_back t v ts
 
 -- Trees _⟹_ without a token --------------------------------------------------------------------------------------------------------------
@@ -109,7 +109,7 @@ pub data Seen {k : Symbols} (ts : Trees ◌⟹◌ k) : Type 0 where
 seen_node : {x : Nonterminal} {g k : Symbols} (p : x ⟹ g) (us : Trees ◌⟹◌ g) (ts : Trees ◌⟹◌ k) → Seen us → Seen ts → Seen (node p us ts)
 unfolding back tokens
 seen_node p us ts (moved t v r e) s =
-    moved t (enter p v) (join r ts) (ap₂ (node p) (e ∙ ap (back t v) (sym (left_join r ts))) (sym (right-join r ts)))
+    moved t (enter p v) (join r ts) (ap₂ (node p) (e ∙ ap (back t v) (sym (left_join r ts))) (sym (right_join r ts)))
 seen_node p us ts (still h) (still h') = still (ap₂ ◌++◌ h h')
 seen_node {x} p us ts (still h) (moved t v r e) =
     let b = empty_node p us ts h in
@@ -140,8 +140,8 @@ module _ (c : Class) (x : Nonterminal) (k : Symbols) where
   skips (some e) none = refl
   skips (some e) (some v) = refl
 
-  steps : (s : Option (Start c x)) (o : Option (Move c (rule x ∷ k))) → is_there (rule-step s o) ≡ (is_there s || is_there o)
-  unfolding rule-step is_there
+  steps : (s : Option (Start c x)) (o : Option (Move c (rule x ∷ k))) → is_there (rule_step s o) ≡ (is_there s || is_there o)
+  unfolding rule_step is_there
   steps none o = refl
   steps (some (start p v)) o = refl
 
@@ -251,11 +251,11 @@ not_both false b h n = refl
 pub found : {c : Class} {x : Nonterminal} {g : Symbols} {p : x ⟹ g} {v : Move c g} {cs : List (Choice x)} → clear cs c ≡ true → In (by p) cs
     → move c g ≡ some v → tries c (begin c) cs ≡ some (start p v)
 unfolding clear tries move
-found {c} {p} h (here {l}) e = ap (λ o. form-step p o (tries c (begin c) l)) e
+found {c} {p} h (here {l}) e = ap (λ o. form_step p o (tries c (begin c) l)) e
 found {c} {g} h (there {b = by {f} q} {l} m) e =
     let hs = both (not (takes f c) || none_takes l c) (clear l c) h in
     let t = not_both (takes f c) (none_takes l c) hs.0 (λ n. none_found c n m (move_takes e)) in
-    ap (λ o. form-step q o (tries c (begin c) l)) (is_none (move c f) t) ∙ found hs.1 m e
+    ap (λ o. form_step q o (tries c (begin c) l)) (is_none (move c f) t) ∙ found hs.1 m e
 
 not_starts : (n s f : Bool) → not (n && s && f) ≡ true → n ≡ true → f ≡ true → s ≡ false
 not_starts n true f h p q = absurd (not_false (n && true && f) h (ap₂ (λ a b. a && true && b) p q))
@@ -267,9 +267,9 @@ complete g (take m) = ap take_step (test_is m)
 complete {c} (good_rule {k} fol h) (skip {x} e v) =
     let m = complete h v in
     let b = is_none (begin c x) (not_starts (nullable x) (starts x c) (follows x c) (apart_is x c) e (fol c (move_takes m))) in
-    ap₂ (λ s o. rule-step s (skip_step (test (nullable x)) o)) b m ∙ ap (λ o. skip_step o (some v)) (test_is e)
+    ap₂ (λ s o. rule_step s (skip_step (test (nullable x)) o)) b m ∙ ap (λ o. skip_step o (some v)) (test_is e)
 complete {c} (good_rule {k} fol h) (enter {x} p v) =
-    ap (λ s. rule-step s (skip_step (test (nullable x)) (move c k))) (begin_is c x ∙ found (clear_is x c) (listed p) (complete (alone_good p) v))
+    ap (λ s. rule_step s (skip_step (test (nullable x)) (move c k))) (begin_is c x ∙ found (clear_is x c) (listed p) (complete (alone_good p) v))
 
 -- At most one tree list of a good form has given tokens --------------------------------------------------------------------------------
 
@@ -288,7 +288,7 @@ pub record Forth {k : Symbols} (ts : Trees ◌⟹◌ k) (t : Token) (l : List To
   pub by_move : Move t.class k
   pub rest : Trees ◌⟹◌ (after by_move)
   pub same : ts ≡ back t by_move rest
-  pub rest-tokens : tokens rest ≡ l
+  pub rest_tokens : tokens rest ≡ l
 
 pub forth : {k : Symbols} (ts : Trees ◌⟹◌ k) (t : Token) (l : List Token) → tokens ts ≡ t ∷ l → Forth ts t l
 forth ts t l e = go (seen ts)
@@ -299,7 +299,7 @@ forth ts t l e = go (seen ts)
         let p : u ∷ tokens us ≡ t ∷ l = sym (tokens_back u v us) ∙ sym (ap tokens q) ∙ e in
         let first : u ≡ t = cc in
         let others : tokens us ≡ l = cc in
-        subst (λ w. Forth ts w l) first (record { by_move = v; rest = us; same = q; rest-tokens = others })
+        subst (λ w. Forth ts w l) first (record { by_move = v; rest = us; same = q; rest_tokens = others })
 
 pub left_good : {c : Class} {k : Symbols} → Good k → (v : Move c k) → Good (after v)
 left_good {k} g v = rw append-nil at (after_good v [] (rw append-nil g))

@@ -2,8 +2,8 @@
 -- grammar of document 01. `reading` computes with them (crates/meaning/specs/Tree.antt); the rules themselves do not name them. Assumes nothing.
 use Rattle.std.specs.Prelude.{◌≡◌, refl, List, [], ◌∷◌, ◌++◌, Bool, true, false, ◌&&◌}
 use Rattle.std.proofs.lemmas.Bool.{false≢true}
-use Rattle.grammar.specs.Grammar.{Form, Rule, Symbol, Terminal, Token, tok, rule, ◌⟶◌, ◌·◌, ◌▸◌, ∎, number, sg, semicolon, comma, rsquare, D, numbers, Trees, nil, leaf, node, an-object-alone, an-object-with, no_block, a_block, no-range, a-range, a-list, no_number, a_number}
-use Rattle.grammar.specs.Factored.{paper, Symbols, lift, ◌⟹◌, keep, object-is, range_none, range_is, one_number, up_to, many-numbers}
+use Rattle.grammar.specs.Grammar.{Form, Rule, Symbol, Terminal, Token, tok, rule, ◌⟶◌, ◌·◌, ◌▸◌, ∎, number, sg, semicolon, comma, rsquare, D, numbers, Trees, nil, leaf, node, an_object_alone, an_object_with, no_block, a_block, no_range, a_range, a_list, no_number, a_number}
+use Rattle.grammar.specs.Factored.{paper, Symbols, lift, ◌⟹◌, keep, object_is, range_none, range_is, one_number, up_to, many_numbers}
 use Rattle.grammar.specs.Machine.{nullable, empty_form, nullable_form, Move, take, enter, skip, after}
 
 -- Trees of a form in two parts.
@@ -53,14 +53,14 @@ unfoldable pub from : {k : Symbols} → Trees ◌⟹◌ k → {f : Form} → Lif
 from nil lifted_nil = nil
 from (leaf t m ts) (lifted_tok h) = leaf t m (from ts h)
 from (node (keep {g} p e) us ts) (lifted_rule h) = node p (from us (lifted g)) (from ts h)
-from (node object-is (leaf k m₁ (leaf n m₂ (node (keep no_block e) nil r))) ts) (lifted_rule h) =
-    node an-object-alone (leaf k m₁ (leaf n m₂ (from r (lifted (D ▸ sg semicolon · ∎))))) (from ts h)
-from (node object-is (leaf k m₁ (leaf n m₂ (node (keep a_block e) (leaf o m₃ (node (keep {g} q e') ss (leaf c m₄ nil))) r))) ts) (lifted_rule h) =
-    node an-object-with (leaf k m₁ (leaf n m₂ (leaf o m₃ (node q (from ss (lifted g)) (leaf c m₄ (from r (lifted (D ▸ sg semicolon · ∎)))))))) (from ts h)
-from (node range_none nil ts) (lifted_rule h) = node no-range nil (from ts h)
+from (node object_is (leaf k m₁ (leaf n m₂ (node (keep no_block e) nil r))) ts) (lifted_rule h) =
+    node an_object_alone (leaf k m₁ (leaf n m₂ (from r (lifted (D ▸ sg semicolon · ∎))))) (from ts h)
+from (node object_is (leaf k m₁ (leaf n m₂ (node (keep a_block e) (leaf o m₃ (node (keep {g} q e') ss (leaf c m₄ nil))) r))) ts) (lifted_rule h) =
+    node an_object_with (leaf k m₁ (leaf n m₂ (leaf o m₃ (node q (from ss (lifted g)) (leaf c m₄ (from r (lifted (D ▸ sg semicolon · ∎)))))))) (from ts h)
+from (node range_none nil ts) (lifted_rule h) = node no_range nil (from ts h)
 from (node range_is (leaf o m₁ (leaf n m₂ (node one_number nil r))) ts) (lifted_rule h) =
-    node a-list (leaf o m₁ (leaf n m₂ (node no_number nil (from r (lifted (sg rsquare · ∎)))))) (from ts h)
+    node a_list (leaf o m₁ (leaf n m₂ (node no_number nil (from r (lifted (sg rsquare · ∎)))))) (from ts h)
 from (node range_is (leaf o m₁ (leaf n m₂ (node up_to (leaf d m₃ (leaf e m₄ nil)) r))) ts) (lifted_rule h) =
-    node a-range (leaf o m₁ (leaf n m₂ (leaf d m₃ (leaf e m₄ (from r (lifted (sg rsquare · ∎))))))) (from ts h)
-from (node range_is (leaf o m₁ (leaf n m₂ (node many-numbers vs r))) ts) (lifted_rule h) =
-    node a-list (leaf o m₁ (leaf n m₂ (node a_number (from vs (lifted (sg comma · number · numbers ▸ ∎))) (from r (lifted (sg rsquare · ∎)))))) (from ts h)
+    node a_range (leaf o m₁ (leaf n m₂ (leaf d m₃ (leaf e m₄ (from r (lifted (sg rsquare · ∎))))))) (from ts h)
+from (node range_is (leaf o m₁ (leaf n m₂ (node many_numbers vs r))) ts) (lifted_rule h) =
+    node a_list (leaf o m₁ (leaf n m₂ (node a_number (from vs (lifted (sg comma · number · numbers ▸ ∎))) (from r (lifted (sg rsquare · ∎)))))) (from ts h)

@@ -23,12 +23,12 @@ pub record Offending (l : List Token) (t : Token) : Type 0 where
 
 -- the place of refusal 4: that of this token, or the text's end where all tokens together still begin such a list
 pub data Place (s : List ℕ) : ℕ → Type 0 where
-  at-token : (t : Token) → Offending (tokens s) t → Place s t.place
+  at_token : (t : Token) → Offending (tokens s) t → Place s t.place
   at_end : Begins (tokens s) → Place s (length s)
 
 pub record Demand-3 (s : List ℕ) (r : Answer) : Type 0 where
   -- "The reading passes the grammar stage exactly when document 01's grammar derives the text's tokens"
-  pub passes-exactly : Covered s → (r ≡ Passes) ↔ Derivation (tokens s)
+  pub passes_exactly : Covered s → (r ≡ Passes) ↔ Derivation (tokens s)
   -- "any two derivations of them are the same"
   pub one_derivation : (d e : Derivation (tokens s)) → d.tree ≡ e.tree
   -- "A reading that doesn't pass gives refusal 4, and its place is ..."

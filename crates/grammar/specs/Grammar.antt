@@ -160,21 +160,21 @@ abbrev pub ∎ : {N : Type 0} → List (Symbol N)
 infix 20 ◌⟶◌
 pub data ◌⟶◌ : Rule → Form → Type 0 where
   -- "D is nothing or `:` string"
-  no-D : D ⟶ ∎
-  a-D : D ⟶ sg colon · string · ∎
+  no_D : D ⟶ ∎
+  a_D : D ⟶ sg colon · string · ∎
   -- "file: version, implementation, application, end." The end is that of the list: nothing follows.
-  file-is : file ⟶ version ▸ implementation ▸ application ▸ ∎
+  file_is : file ⟶ version ▸ implementation ▸ application ▸ ∎
   -- "version: OIL_VERSION `=` string D `;`"
   version_is : version ⟶ the OIL-VERSION · sg equals · string · D ▸ sg semicolon · ∎
   -- "implementation: IMPLEMENTATION name `{` specs `}` D `;` with each spec: kind `{` definitions `}` D `;`"
-  implementation-is : implementation ⟶ the IMPLEMENTATION · name · sg lbrace · specs ▸ sg rbrace · D ▸ sg semicolon · ∎
-  no-spec : specs ⟶ ∎
-  a-spec : specs ⟶ spec ▸ specs ▸ ∎
+  implementation_is : implementation ⟶ the IMPLEMENTATION · name · sg lbrace · specs ▸ sg rbrace · D ▸ sg semicolon · ∎
+  no_spec : specs ⟶ ∎
+  a_spec : specs ⟶ spec ▸ specs ▸ ∎
   spec_is : spec ⟶ kind · sg lbrace · definitions ▸ sg rbrace · D ▸ sg semicolon · ∎
   -- a definition is an attribute or a reference
-  no-definition : definitions ⟶ ∎
+  no_definition : definitions ⟶ ∎
   a_definition : definitions ⟶ definition ▸ definitions ▸ ∎
-  an-attribute : definition ⟶ attribute ▸ ∎
+  an_attribute : definition ⟶ attribute ▸ ∎
   a_reference : definition ⟶ reference ▸ ∎
   -- "attribute: type, WITH_AUTO or nothing, range, name, list mark `[` `]` or nothing, default, D `;`", a form for each sort of type
   an_integer : attribute ⟶ integer · auto ▸ integer_range ▸ name · mark ▸ default integers ▸ D ▸ sg semicolon · ∎
@@ -183,58 +183,58 @@ pub data ◌⟶◌ : Rule → Form → Type 0 where
   an_enum : attribute ⟶ the ENUM · auto ▸ sg lsquare · enumerator ▸ enumerators ▸ sg rsquare · name · mark ▸ default enums ▸ D ▸ sg semicolon · ∎
   -- document 02, Q-4: "Add the type FLOAT, with WITH_AUTO, a range of two floats, list mark, default and values"
   a_float : attribute ⟶ the FLOAT · auto ▸ float_range ▸ name · mark ▸ default floats ▸ D ▸ sg semicolon · ∎
-  no-float-range : float_range ⟶ ∎
-  a-float-range : float_range ⟶ sg lsquare · float · sg dots · float · sg rsquare · ∎
-  no-auto : auto ⟶ ∎
-  with-auto : auto ⟶ the WITH-AUTO · ∎
-  no-mark : mark ⟶ ∎
-  a-mark : mark ⟶ sg lsquare · sg rsquare · ∎
+  no_float_range : float_range ⟶ ∎
+  a_float_range : float_range ⟶ sg lsquare · float · sg dots · float · sg rsquare · ∎
+  no_auto : auto ⟶ ∎
+  with_auto : auto ⟶ the WITH-AUTO · ∎
+  no_mark : mark ⟶ ∎
+  a_mark : mark ⟶ sg lsquare · sg rsquare · ∎
   -- "reference: a kind followed by `_TYPE` as one word, name, list mark or nothing, D `;`"
-  reference-is : reference ⟶ type · name · mark ▸ D ▸ sg semicolon · ∎
+  reference_is : reference ⟶ type · name · mark ▸ D ▸ sg semicolon · ∎
   -- "types: UINT32, INT32, UINT64, INT64 with a range of nothing, `[` number `..` number `]` or `[` one or more numbers parted by commas `]`;"
-  no-range : integer_range ⟶ ∎
-  a-range : integer_range ⟶ sg lsquare · number · sg dots · number · sg rsquare · ∎
-  a-list : integer_range ⟶ sg lsquare · number · numbers ▸ sg rsquare · ∎
+  no_range : integer_range ⟶ ∎
+  a_range : integer_range ⟶ sg lsquare · number · sg dots · number · sg rsquare · ∎
+  a_list : integer_range ⟶ sg lsquare · number · numbers ▸ sg rsquare · ∎
   no_number : numbers ⟶ ∎
   a_number : numbers ⟶ sg comma · number · numbers ▸ ∎
   -- "STRING and no range; BOOLEAN with nothing or `[` TRUE P D `,` FALSE P D `]`;"
-  no-boolean-range : boolean_range ⟶ ∎
-  a-boolean-range : boolean_range ⟶ sg lsquare · the TRUE · P ▸ D ▸ sg comma · the FALSE · P ▸ D ▸ sg rsquare · ∎
+  no_boolean_range : boolean_range ⟶ ∎
+  a_boolean_range : boolean_range ⟶ sg lsquare · the TRUE · P ▸ D ▸ sg comma · the FALSE · P ▸ D ▸ sg rsquare · ∎
   -- "ENUM with `[` one or more of name P D parted by commas `]`."
   enumerator_is : enumerator ⟶ name · P ▸ D ▸ ∎
-  no-enumerator : enumerators ⟶ ∎
+  no_enumerator : enumerators ⟶ ∎
   an_enumerator : enumerators ⟶ sg comma · enumerator ▸ enumerators ▸ ∎
   -- "P: nothing or `{` definitions `}`."
-  no-P : P ⟶ ∎
-  a-P : P ⟶ sg lbrace · definitions ▸ sg rbrace · ∎
+  no_P : P ⟶ ∎
+  a_P : P ⟶ sg lbrace · definitions ▸ sg rbrace · ∎
   -- "default: nothing, or `=` and AUTO, NO_DEFAULT, or the type's own form (number, string, TRUE or FALSE, name)."
   no_default : {s : Sort} → default s ⟶ ∎
-  a-default : {s : Sort} → default s ⟶ sg equals · own s ▸ ∎
-  own-auto : {s : Sort} → own s ⟶ the AUTO · ∎
-  own-none : {s : Sort} → own s ⟶ the NO-DEFAULT · ∎
-  own-number : own integers ⟶ number · ∎
-  own-string : own strings ⟶ string · ∎
-  own-true : own booleans ⟶ the TRUE · ∎
-  own-false : own booleans ⟶ the FALSE · ∎
+  a_default : {s : Sort} → default s ⟶ sg equals · own s ▸ ∎
+  own_auto : {s : Sort} → own s ⟶ the AUTO · ∎
+  own_none : {s : Sort} → own s ⟶ the NO-DEFAULT · ∎
+  own_number : own integers ⟶ number · ∎
+  own_string : own strings ⟶ string · ∎
+  own_true : own booleans ⟶ the TRUE · ∎
+  own_false : own booleans ⟶ the FALSE · ∎
   own_name : own enums ⟶ name · ∎
-  own-float : own floats ⟶ float · ∎
+  own_float : own floats ⟶ float · ∎
   -- "application: CPU name `{` objects `}` D `;` with each object: kind name D `;` or kind name `{` statements `}` D `;`"
-  application-is : application ⟶ the CPU · name · sg lbrace · objects ▸ sg rbrace · D ▸ sg semicolon · ∎
+  application_is : application ⟶ the CPU · name · sg lbrace · objects ▸ sg rbrace · D ▸ sg semicolon · ∎
   no_object : objects ⟶ ∎
   an_object : objects ⟶ object ▸ objects ▸ ∎
-  an-object-alone : object ⟶ kind · name · D ▸ sg semicolon · ∎
-  an-object-with : object ⟶ kind · name · sg lbrace · statements ▸ sg rbrace · D ▸ sg semicolon · ∎
+  an_object_alone : object ⟶ kind · name · D ▸ sg semicolon · ∎
+  an_object_with : object ⟶ kind · name · sg lbrace · statements ▸ sg rbrace · D ▸ sg semicolon · ∎
   -- "statement: name `=` value D `;` where value is a number, string, AUTO, or a name, TRUE or FALSE with or without `{` statements `}`."
-  no-statement : statements ⟶ ∎
+  no_statement : statements ⟶ ∎
   a_statement : statements ⟶ statement ▸ statements ▸ ∎
-  statement-is : statement ⟶ name · sg equals · value ▸ D ▸ sg semicolon · ∎
-  value-number : value ⟶ number · ∎
-  value-string : value ⟶ string · ∎
-  value-float : value ⟶ float · ∎
-  value-auto : value ⟶ the AUTO · ∎
-  value-name : value ⟶ name · block ▸ ∎
-  value-true : value ⟶ the TRUE · block ▸ ∎
-  value-false : value ⟶ the FALSE · block ▸ ∎
+  statement_is : statement ⟶ name · sg equals · value ▸ D ▸ sg semicolon · ∎
+  value_number : value ⟶ number · ∎
+  value_string : value ⟶ string · ∎
+  value_float : value ⟶ float · ∎
+  value_auto : value ⟶ the AUTO · ∎
+  value_name : value ⟶ name · block ▸ ∎
+  value_true : value ⟶ the TRUE · block ▸ ∎
+  value_false : value ⟶ the FALSE · block ▸ ∎
   no_block : block ⟶ ∎
   a_block : block ⟶ sg lbrace · statements ▸ sg rbrace · ∎
 

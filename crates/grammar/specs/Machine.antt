@@ -72,40 +72,40 @@ module _ {c : Class} where
   skip_step (some e) none = none
   skip_step (some e) (some v) = some (skip e v)
 
-  unfoldable pub rule-step : {x : Nonterminal} {k : Symbols} → Option (Start c x) → Option (Move c (rule x ∷ k)) → Option (Move c (rule x ∷ k))
-  rule-step (some (start p v)) o = some (enter p v)
-  rule-step none o = o
+  unfoldable pub rule_step : {x : Nonterminal} {k : Symbols} → Option (Start c x) → Option (Move c (rule x ∷ k)) → Option (Move c (rule x ∷ k))
+  rule_step (some (start p v)) o = some (enter p v)
+  rule_step none o = o
 
-  unfoldable pub form-step : {x : Nonterminal} {f : Symbols} → x ⟹ f → Option (Move c f) → Option (Start c x) → Option (Start c x)
-  form-step p (some v) o = some (start p v)
-  form-step p none o = o
+  unfoldable pub form_step : {x : Nonterminal} {f : Symbols} → x ⟹ f → Option (Move c f) → Option (Start c x) → Option (Start c x)
+  form_step p (some v) o = some (start p v)
+  form_step p none o = o
 
 module _ (c : Class) where
   -- A `let` waits: what it binds is computed only if it is looked at.
-  unfoldable pub move-with : ((x : Nonterminal) → Option (Start c x)) → (k : Symbols) → Option (Move c k)
-  unfolding take_step skip_step rule-step test matches nullable
-  move-with b [] = none
-  move-with b (tok a ∷ k) = take_step (test (matches a c))
-  move-with b (rule x ∷ k) = let m = move-with b k in let o = skip_step (test (nullable x)) m in rule-step (b x) o
+  unfoldable pub move_with : ((x : Nonterminal) → Option (Start c x)) → (k : Symbols) → Option (Move c k)
+  unfolding take_step skip_step rule_step test matches nullable
+  move_with b [] = none
+  move_with b (tok a ∷ k) = take_step (test (matches a c))
+  move_with b (rule x ∷ k) = let m = move_with b k in let o = skip_step (test (nullable x)) m in rule_step (b x) o
 
   unfoldable pub tries : ((x : Nonterminal) → Option (Start c x)) → {x : Nonterminal} → List (Choice x) → Option (Start c x)
-  unfolding move-with form-step
+  unfolding move_with form_step
   tries b [] = none
-  tries b (by {f} p ∷ cs) = let o = tries b cs in form-step p (move-with b f) o
+  tries b (by {f} p ∷ cs) = let o = tries b cs in form_step p (move_with b f) o
 
-  unfoldable pub begin-within : ℕ → (x : Nonterminal) → Option (Start c x)
+  unfoldable pub begin_within : ℕ → (x : Nonterminal) → Option (Start c x)
   unfolding tries choices
-  begin-within zero x = none
-  begin-within (suc n) x = tries (begin-within n) (choices x)
+  begin_within zero x = none
+  begin_within (suc n) x = tries (begin_within n) (choices x)
 
   -- No rule leads to its first terminal through more than five others.
   unfoldable pub begin : (x : Nonterminal) → Option (Start c x)
-  unfolding begin-within
-  begin x = begin-within 6 x
+  unfolding begin_within
+  begin x = begin_within 6 x
 
   unfoldable pub move : (k : Symbols) → Option (Move c k)
-  unfolding move-with begin
-  move k = move-with begin k
+  unfolding move_with begin
+  move k = move_with begin k
 
 -- The rule takes a token of class c by one of its forms.
 unfoldable pub starts : Nonterminal → Class → Bool

@@ -52,12 +52,12 @@ pub data Answers (s : List ℕ) : Answer → Type 0 where
   -- 3: "no token; string or `/*` unended", at "its first byte"
   no_token : (p : ℕ) → StopsAt (lex_from s 0) p → Shallow (tokens s) → Begins (tokens s) → Answers s (NoToken p)
   -- 4: "token the grammar does not admit", at "the token"
-  not-admitted : (l : List Token) (t : Token) (r : List Token) → tokens s ≡ l ++ (t ∷ r) → Shallow l → Begins l → (Begins (l ++ (t ∷ [])) → ⊥)
+  not_admitted : (l : List Token) (t : Token) (r : List Token) → tokens s ≡ l ++ (t ∷ r) → Shallow l → Begins l → (Begins (l ++ (t ∷ [])) → ⊥)
       → Answers s (NotAdmitted t.place)
   -- 4: "text ends early", at the "text length"
-  ends-early : Divides s → Shallow (tokens s) → Begins (tokens s) → (Derivation (tokens s) → ⊥) → Answers s (NotAdmitted (length s))
+  ends_early : Divides s → Shallow (tokens s) → Begins (tokens s) → (Derivation (tokens s) → ⊥) → Answers s (NotAdmitted (length s))
   -- 5: "`{` the grammar admits, but seventeenth open", at "the `{`"
-  too-deep : (l : List Token) (t : Token) (r : List Token) → tokens s ≡ l ++ (t ∷ r) → Shallow l → Begins (l ++ (t ∷ []))
+  too_deep : (l : List Token) (t : Token) (r : List Token) → tokens s ≡ l ++ (t ∷ r) → Shallow l → Begins (l ++ (t ∷ []))
       → matches (sg lbrace) t.class ≡ true → opens l ≡ closes l + 16 → Answers s (TooDeep t.place)
 
 -- "A reading accepts or gives one numbered refusal and a byte place, both fixed by the rules": these cases decide the answer. proofs/Decided has it

@@ -9,9 +9,9 @@ use lib.ListN.{length}
 use lib.Dec.{ltb}
 use borrow.Author.Tests.{ltb-true, ltb-false}
 use Rattle.token.proofs.Bytes.{both_true, both_second}
-use Rattle.grammar.specs.Grammar.{Terminal, Token, Form, tok, Trees, nil, leaf, node, tokens, ◌⟶◌, matches, Derivation, version_is, no-D, a-D}
+use Rattle.grammar.specs.Grammar.{Terminal, Token, Form, tok, Trees, nil, leaf, node, tokens, ◌⟶◌, matches, Derivation, version_is, no_D, a_D}
 use Rattle.grammar.specs.Terminals.{tokens as tokens-of}
-use Rattle.grammar.specs.Stage.{Answers, passes, no_token, not-admitted, ends-early, too-deep}
+use Rattle.grammar.specs.Stage.{Answers, passes, no_token, not_admitted, ends_early, too_deep}
 use Rattle.grammar.specs.Readers.{lex_at}
 use Rattle.grammar.specs.declared.Answer.{Answer as StageAnswer}
 use Rattle.grammar.specs.declared.Answer.TheVariants.{Passes}
@@ -55,7 +55,7 @@ plain_front l h = cut w.leaves w.split
     cut (leaf o m₁ (leaf e m₂ (leaf v m₃ (leaf c m₄ (leaf i m₅ (leaf n m₆ (leaf b m₇ nil))))))) q =
         subst (λ (z : List Token). Answered z (version_and_name (nth z 2) (nth z 5))) (sym q)
         (record {
-          front = record { tree = node version_is (leaf o m₁ (leaf e m₂ (leaf v m₃ (node no-D nil (leaf c m₄ nil))))) (leaf i m₅ (leaf n m₆ (leaf b m₇ nil))); behind = w.behind; split = refl };
+          front = record { tree = node version_is (leaf o m₁ (leaf e m₂ (leaf v m₃ (node no_D nil (leaf c m₄ nil))))) (leaf i m₅ (leaf n m₆ (leaf b m₇ nil))); behind = w.behind; split = refl };
           says = refl;
         })
 
@@ -70,7 +70,7 @@ described_front l h = cut w.leaves w.split
     cut (leaf o m₁ (leaf e m₂ (leaf v m₃ (leaf k m₈ (leaf d m₉ (leaf c m₄ (leaf i m₅ (leaf n m₆ (leaf b m₇ nil))))))))) q =
         subst (λ (z : List Token). Answered z (version_and_name (nth z 2) (nth z 7))) (sym q)
         (record {
-          front = record { tree = node version_is (leaf o m₁ (leaf e m₂ (leaf v m₃ (node a-D (leaf k m₈ (leaf d m₉ nil)) (leaf c m₄ nil))))) (leaf i m₅ (leaf n m₆ (leaf b m₇ nil))); behind = w.behind; split = refl };
+          front = record { tree = node version_is (leaf o m₁ (leaf e m₂ (leaf v m₃ (node a_D (leaf k m₈ (leaf d m₉ nil)) (leaf c m₄ nil))))) (leaf i m₅ (leaf n m₆ (leaf b m₇ nil))); behind = w.behind; split = refl };
           says = refl;
         })
 
@@ -80,18 +80,18 @@ unfolding tokens begins_with
 front_begins l f = go f.tree f.split
   where
     go : (t : Trees ◌⟶◌ front_form) → l ≡ tokens t ++ f.behind → (begins_with plain l ≡ true) ⊎ (begins_with described l ≡ true)
-    go (node version_is (leaf o m₁ (leaf e m₂ (leaf v m₃ (node no-D nil (leaf c m₄ nil))))) (leaf i m₅ (leaf n m₆ (leaf b m₇ nil)))) q =
+    go (node version_is (leaf o m₁ (leaf e m₂ (leaf v m₃ (node no_D nil (leaf c m₄ nil))))) (leaf i m₅ (leaf n m₆ (leaf b m₇ nil)))) q =
         inl (ap (begins_with plain) q ∙ rw (m₁, m₂, m₃, m₄, m₅, m₆, m₇) refl)
-    go (node version_is (leaf o m₁ (leaf e m₂ (leaf v m₃ (node a-D (leaf k m₈ (leaf d m₉ nil)) (leaf c m₄ nil))))) (leaf i m₅ (leaf n m₆ (leaf b m₇ nil)))) q =
+    go (node version_is (leaf o m₁ (leaf e m₂ (leaf v m₃ (node a_D (leaf k m₈ (leaf d m₉ nil)) (leaf c m₄ nil))))) (leaf i m₅ (leaf n m₆ (leaf b m₇ nil)))) q =
         inr (ap (begins_with described) q ∙ rw (m₁, m₂, m₃, m₈, m₉, m₄, m₅, m₆, m₇) refl)
 
 -- What passes is derived.
 pub derived : {s : List ℕ} {a : StageAnswer} → Answers s a → a ≡ Passes → Derivation (tokens-of s)
 derived (passes w h d) e = d
 derived (no_token p w h b) e = absurd (let z : ◌≡◌ {A = ℕ} 0 1 = cc in omega arith)
-derived (not-admitted l t r q h b n) e = absurd (let z : ◌≡◌ {A = ℕ} 0 1 = cc in omega arith)
-derived (ends-early w h b n) e = absurd (let z : ◌≡◌ {A = ℕ} 0 1 = cc in omega arith)
-derived (too-deep l t r q h b m o) e = absurd (let z : ◌≡◌ {A = ℕ} 0 1 = cc in omega arith)
+derived (not_admitted l t r q h b n) e = absurd (let z : ◌≡◌ {A = ℕ} 0 1 = cc in omega arith)
+derived (ends_early w h b n) e = absurd (let z : ◌≡◌ {A = ℕ} 0 1 = cc in omega arith)
+derived (too_deep l t r q h b m o) e = absurd (let z : ◌≡◌ {A = ℕ} 0 1 = cc in omega arith)
 
 -- where what is derived has a front
 pub computes : ((s : List ℕ) → Derivation (tokens-of s) → Front (tokens-of s)) → (s : List ℕ) → Heads s (computed s)

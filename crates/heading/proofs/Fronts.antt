@@ -6,10 +6,10 @@ use Prim.Native.Nat.{ℕ, suc, ◌≤◌, ◌<◌}
 use native.Mathlib.Omega.{arith}
 use lib.Dec.{ltb, eqb}
 use lib.ListN.{length}
-use Rattle.token.specs.Lexing.{Lexed, more, ended as done, refused as none-at, lex_from}
+use Rattle.token.specs.Lexing.{Lexed, more, ended as done, refused as none_at, lex_from}
 use Rattle.token.proofs.Steps.{bad_fits, end_fits}
 use Rattle.locality.proofs.Onward.{reading}
-use Rattle.grammar.specs.Grammar.{Terminal, Token, Trees, nil, leaf, node, tokens, ◌·◌, ◌▸◌, ∎, ◌⟶◌, matches, sg, colon, semicolon, lbrace, equals, the, OIL-VERSION, IMPLEMENTATION, string, name, version, D, no-D, a-D, version_is}
+use Rattle.grammar.specs.Grammar.{Terminal, Token, Trees, nil, leaf, node, tokens, ◌·◌, ◌▸◌, ∎, ◌⟶◌, matches, sg, colon, semicolon, lbrace, equals, the, OIL-VERSION, IMPLEMENTATION, string, name, version, D, no_D, a_D, version_is}
 use Rattle.grammar.specs.Terminals.{token_of, tokens_in, tokens as tokens-of}
 use Rattle.grammar.specs.Factored.{Symbols, paper, ◌⟹◌}
 use Rattle.grammar.specs.Machine.{feed, Stream, ended, bad, ◌▹◌, prepend, next, run}
@@ -20,7 +20,7 @@ use Rattle.grammar.specs.declared.Answer.TheVariants.{Passes, NotAdmitted}
 use Rattle.grammar.proofs.Literal.{from, lifted, tokens_from}
 use Rattle.grammar.proofs.Codes.{not_code, brace_open}
 use Rattle.grammar.proofs.Steps.{run_tok_no, prepend_append}
-use Rattle.grammar.proofs.Meeting.{by-look, on_look, rest_token, rest_look}
+use Rattle.grammar.proofs.Meeting.{by_look, on_look, rest_token, rest_look}
 use Rattle.heading.specs.Headings.{front_form, Front, string_in, name_in, brace_in}
 use Rattle.heading.proofs.Runs.{name_run, run_open, no_colon, Late, Behind, run_late}
 
@@ -29,18 +29,18 @@ use Rattle.heading.proofs.Runs.{name_run, run_open, no_colon, Late, Behind, run_
 pub front_same : (a b : Trees ◌⟶◌ front_form) (r q : List Token) → tokens a ++ r ≡ tokens b ++ q
     → (string_in a ≡ string_in b) × (name_in a ≡ name_in b) × (brace_in a ≡ brace_in b)
 unfolding tokens string_in name_in brace_in
-front_same (node version_is (leaf o m₁ (leaf e m₂ (leaf v m₃ (node no-D nil (leaf c m₄ nil))))) (leaf i m₅ (leaf n m₆ (leaf b m₇ nil))))
-    (node version_is (leaf o' m₁' (leaf e' m₂' (leaf v' m₃' (node no-D nil (leaf c' m₄' nil))))) (leaf i' m₅' (leaf n' m₆' (leaf b' m₇' nil)))) r q h =
+front_same (node version_is (leaf o m₁ (leaf e m₂ (leaf v m₃ (node no_D nil (leaf c m₄ nil))))) (leaf i m₅ (leaf n m₆ (leaf b m₇ nil))))
+    (node version_is (leaf o' m₁' (leaf e' m₂' (leaf v' m₃' (node no_D nil (leaf c' m₄' nil))))) (leaf i' m₅' (leaf n' m₆' (leaf b' m₇' nil)))) r q h =
     let x : v ≡ v' = cc in let y : n ≡ n' = cc in let z : b ≡ b' = cc in (x, y, z)
-front_same (node version_is (leaf o m₁ (leaf e m₂ (leaf v m₃ (node (a-D) (leaf k m₈ (leaf w m₉ nil)) (leaf c m₄ nil))))) (leaf i m₅ (leaf n m₆ (leaf b m₇ nil))))
-    (node version_is (leaf o' m₁' (leaf e' m₂' (leaf v' m₃' (node a-D (leaf k' m₈' (leaf w' m₉' nil)) (leaf c' m₄' nil))))) (leaf i' m₅' (leaf n' m₆' (leaf b' m₇' nil)))) r q h =
+front_same (node version_is (leaf o m₁ (leaf e m₂ (leaf v m₃ (node (a_D) (leaf k m₈ (leaf w m₉ nil)) (leaf c m₄ nil))))) (leaf i m₅ (leaf n m₆ (leaf b m₇ nil))))
+    (node version_is (leaf o' m₁' (leaf e' m₂' (leaf v' m₃' (node a_D (leaf k' m₈' (leaf w' m₉' nil)) (leaf c' m₄' nil))))) (leaf i' m₅' (leaf n' m₆' (leaf b' m₇' nil)))) r q h =
     let x : v ≡ v' = cc in let y : n ≡ n' = cc in let z : b ≡ b' = cc in (x, y, z)
-front_same (node version_is (leaf o m₁ (leaf e m₂ (leaf v m₃ (node no-D nil (leaf c m₄ nil))))) (leaf i m₅ (leaf n m₆ (leaf b m₇ nil))))
-    (node version_is (leaf o' m₁' (leaf e' m₂' (leaf v' m₃' (node a-D (leaf k' m₈' (leaf w' m₉' nil)) (leaf c' m₄' nil))))) (leaf i' m₅' (leaf n' m₆' (leaf b' m₇' nil)))) r q h =
+front_same (node version_is (leaf o m₁ (leaf e m₂ (leaf v m₃ (node no_D nil (leaf c m₄ nil))))) (leaf i m₅ (leaf n m₆ (leaf b m₇ nil))))
+    (node version_is (leaf o' m₁' (leaf e' m₂' (leaf v' m₃' (node a_D (leaf k' m₈' (leaf w' m₉' nil)) (leaf c' m₄' nil))))) (leaf i' m₅' (leaf n' m₆' (leaf b' m₇' nil)))) r q h =
     let x : c ≡ k' = cc in
     absurd (false≢true (sym (no_colon c.class m₄) ∙ ap (λ (t : Token). matches (sg colon) t.class) x ∙ m₈'))
-front_same (node version_is (leaf o m₁ (leaf e m₂ (leaf v m₃ (node (a-D) (leaf k m₈ (leaf w m₉ nil)) (leaf c m₄ nil))))) (leaf i m₅ (leaf n m₆ (leaf b m₇ nil))))
-    (node version_is (leaf o' m₁' (leaf e' m₂' (leaf v' m₃' (node no-D nil (leaf c' m₄' nil))))) (leaf i' m₅' (leaf n' m₆' (leaf b' m₇' nil)))) r q h =
+front_same (node version_is (leaf o m₁ (leaf e m₂ (leaf v m₃ (node (a_D) (leaf k m₈ (leaf w m₉ nil)) (leaf c m₄ nil))))) (leaf i m₅ (leaf n m₆ (leaf b m₇ nil))))
+    (node version_is (leaf o' m₁' (leaf e' m₂' (leaf v' m₃' (node no_D nil (leaf c' m₄' nil))))) (leaf i' m₅' (leaf n' m₆' (leaf b' m₇' nil)))) r q h =
     let x : c' ≡ k = cc in
     absurd (false≢true (sym (no_colon c'.class m₄') ∙ ap (λ (t : Token). matches (sg colon) t.class) x ∙ m₈))
 
@@ -68,7 +68,7 @@ pub lexed_tokens : (l : Lexed) → tokens_in l ≡ stream_tokens (stream_of l)
 unfolding tokens_in stream_tokens stream_of
 lexed_tokens (more t l) = ap (token_of t ∷◌) (lexed_tokens l)
 lexed_tokens (done n) = refl
-lexed_tokens (none-at p) = refl
+lexed_tokens (none_at p) = refl
 
 pub prepended : (ts : List Token) (u : Stream) → stream_tokens (prepend ts u) ≡ ts ++ stream_tokens u
 unfolding stream_tokens prepend
@@ -83,7 +83,7 @@ front_of s t u e =
 
 pub record Built (ts₁ : List Token) (v : Token) (ts₃ ts₄ : List Token) (n b : Token) : Type 0 where
   pub whole : Trees ◌⟶◌ front_form
-  pub string-is : string_in whole ≡ v
+  pub string_is : string_in whole ≡ v
   pub name_is : name_in whole ≡ n
   pub tokens_are : tokens whole ≡ ts₁ ++ (v ∷ (ts₃ ++ (ts₄ ++ (n ∷ b ∷ []))))
 
@@ -92,12 +92,12 @@ build : (t₁ : Trees ◌⟹◌ (the OIL-VERSION · sg equals · ∎)) (v : Toke
     → Built (tokens t₁) v (tokens t₃) (tokens t₄) n b
 unfolding tokens string_in name_in
 build (leaf o m₁ (leaf e m₂ nil)) v mv t₃ (leaf i mi nil) n mn b mb =
-    record { whole = node version_is (leaf o m₁ (leaf e m₂ (leaf v mv t₃))) (leaf i mi (leaf n mn (leaf b mb nil))); string-is = refl; name_is = refl; tokens_are = refl }
+    record { whole = node version_is (leaf o m₁ (leaf e m₂ (leaf v mv t₃))) (leaf i mi (leaf n mn (leaf b mb nil))); string_is = refl; name_is = refl; tokens_are = refl }
 
 pub record Shown (s : List ℕ) (v n : Token) : Type 0 where
   pub front : Front (tokens-of s)
-  pub its-string : string_in front.tree ≡ v
-  pub its-name : name_in front.tree ≡ n
+  pub its_string : string_in front.tree ≡ v
+  pub its_name : name_in front.tree ≡ n
 
 pub looked : (s : List ℕ) (a c d e f g : Look) → a ≡ look_at s 0 0 → Meets 1 (the OIL-VERSION · sg equals · ∎) s a c → Meets 1 (string · ∎) s c d
     → Meets 0 (D ▸ sg semicolon · ∎) s d e → Meets 1 (the IMPLEMENTATION · ∎) s e f → Meets 1 (name · ∎) s f g → g.code ≡ 45 → Shown s (seen c) (seen f)
@@ -126,18 +126,18 @@ looked s a c d e f g at m₁ m₂ m₃ m₄ m₅ h =
     k₁.1.split ∙ ap (prepend (tokens k₁.1.took)) y₂ ∙ sym (prepend_append (tokens k₁.1.took) (seen c ∷ (tokens t₃ ++ tail₄)) u) in
     record {
       front = front_of s w.whole u (sym begins ∙ y₁ ∙ ap (λ l. prepend l u) (sym w.tokens-are));
-      its-string = w.string-is;
-      its-name = w.name-is;
+      its_string = w.string-is;
+      its_name = w.name-is;
     }
 
 -- No front where the look behind the name is no brace -------------------------------------------------------------------------------------------
 
 -- A text's stream behind a front, with the brace before everything that follows.
 pub record Follows (s : List ℕ) (t : Trees ◌⟶◌ front_form) : Type 0 where
-  pub from-here : ℕ
-  pub inside : from-here ≤ length s
-  pub later : (brace_in t).place < from-here
-  pub stream : lex_at s 0 ≡ prepend (tokens t) (lex_at s from-here)
+  pub from_here : ℕ
+  pub inside : from_here ≤ length s
+  pub later : (brace_in t).place < from_here
+  pub stream : lex_at s 0 ≡ prepend (tokens t) (lex_at s from_here)
 
 pub late_from : (s : List ℕ) (e : ℕ) → e ≤ length s → (p : ℕ) → e ≤ p → Late e (lex_at s p)
 unfolding lex_at stream_of token_of
@@ -155,7 +155,7 @@ pub no_front : (s : List ℕ) (a g : Look) → a ≡ look_at s 0 0 → Meets 1 (
     → (t : Trees ◌⟶◌ front_form) → Follows s t → ⊥
 unfolding run next feed brace_in tokens prepend class_at matches seen
 no_front s a g at m h (node version_is us (leaf i m₁ (leaf n m₂ (leaf b m₃ nil)))) w =
-    by-look s g (λ o. ((k : Symbols) → o k ≡ run 0 k (b ▹ u)) → ⊥) token end refused same
+    by_look s g (λ o. ((k : Symbols) → o k ≡ run 0 k (b ▹ u)) → ⊥) token end refused same
   where
     u : Stream
     u = lex_at s w.from-here

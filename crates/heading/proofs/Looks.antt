@@ -21,14 +21,14 @@ use Rattle.token.specs.declared.Token.{Token as Lexeme}
 use Rattle.token.specs.declared.Cursor.{Cursor}
 use Rattle.token.specs.declared.Step.{Step}
 use Rattle.token.specs.declared.Step.TheVariants.{Found, Refused, End}
-use Rattle.token.proofs.Find.{by_test, find-low, find-holds, find-before}
+use Rattle.token.proofs.Find.{by_test, find_low, find_holds, find_before}
 use Rattle.token.proofs.Steps.{found_fits, bad_fits, end_fits}
-use Rattle.locality.proofs.Forms.{number-form}
-use Rattle.locality.proofs.Skipping.{Bare, plain, lone, unended, plain_step, lone-step, unended-step, skips_step, stop}
+use Rattle.locality.proofs.Forms.{number_form}
+use Rattle.locality.proofs.Skipping.{Bare, plain, lone, unended, plain_step, lone_step, unended_step, skips_step, stop}
 use Rattle.grammar.specs.Factored.{Symbols}
 use Rattle.grammar.specs.Readers.{punctuator_code, code_of, look_of, look_at, stop as stopped, advanced, refusal, expected, Reads}
 use Rattle.grammar.specs.declared.Look.{Look}
-use Rattle.grammar.proofs.Meeting.{by-look}
+use Rattle.grammar.proofs.Meeting.{by_look}
 use Rattle.heading.specs.Promises.{InQuotes}
 
 -- A string stands in quotes -----------------------------------------------------------------------------------------------------------------
@@ -76,13 +76,13 @@ in_quotes : (s : List ℕ) (q : ℕ) → q < length s → byte s q ≡ 34 → fi
 unfolding find_byte
 in_quotes s q h o l =
     let t : ℕ → Bool = λ i. eqb (byte s i) 34 in
-    let low = find-low t (length s) (q + 1) in
+    let low = find_low t (length s) (q + 1) in
     let back : find t (length s) (q + 1) ≡ find t (length s) (q + 1) + 1 - 1 = omega arith in
     record {
       long = omega arith;
       opening = o;
-      closing = subst (λ (i : ℕ). byte s i ≡ 34) back (eqb-true (byte s (find t (length s) (q + 1))) 34 (find-holds t (length s) (q + 1) (omega arith) l));
-      none_between = λ i j k e. false≢true (sym (find-before t (length s) (q + 1) i (omega arith) (omega arith)) ∙ eq-eqb (byte s i) 34 e);
+      closing = subst (λ (i : ℕ). byte s i ≡ 34) back (eqb-true (byte s (find t (length s) (q + 1))) 34 (find_holds t (length s) (q + 1) (omega arith) l));
+      none_between = λ i j k e. false≢true (sym (find_before t (length s) (q + 1) i (omega arith) (omega arith)) ∙ eq-eqb (byte s i) 34 e);
     }
 
 abbrev StringOk : List ℕ → Step → Type 0
@@ -93,7 +93,7 @@ StringOk s (End n) = Unit {0}
 whole_ok : (s : List ℕ) (p q : ℕ) → StringOk s (whole_at s p q)
 unfolding whole_at found code_of
 whole_ok s p q =
-    number-form (eqb (byte s p) 45) (ltb p q) (limit_of (eqb (byte s p) 45)) (λ (f : ℕ → ℕ → Step). StringOk s (f p (word_end s q))) (λ m _ h. absurd (omega arith)) tt
+    number_form (eqb (byte s p) 45) (ltb p q) (limit_of (eqb (byte s p) 45)) (λ (f : ℕ → ℕ → Step). StringOk s (f p (word_end s q))) (λ m _ h. absurd (omega arith)) tt
     (bytes_between s q (word_end s q))
 
 float_ok : (s : List ℕ) (minus : Bool) (v : Amount) (w : Power) (n p : ℕ) → StringOk s (float_of minus v w n p)
@@ -134,8 +134,8 @@ token_ok s q =
 
 bare_ok : (s : List ℕ) (p : ℕ) → Bare s p → StringOk s (step_at s p)
 bare_ok s p (plain e) = subst (StringOk s) (sym (plain_step s p e)) (token_ok s p)
-bare_ok s p (lone e f g) = subst (StringOk s) (sym (lone-step s p e f g)) (token_ok s p)
-bare_ok s p (unended e f g h) = subst (StringOk s) (sym (unended-step s p e f g h)) tt
+bare_ok s p (lone e f g) = subst (StringOk s) (sym (lone_step s p e f g)) (token_ok s p)
+bare_ok s p (unended e f g h) = subst (StringOk s) (sym (unended_step s p e f g h)) tt
 
 string_ok : (s : List ℕ) (p : ℕ) → StringOk s (step_at s p)
 string_ok s p = let k = stop s p in subst (StringOk s) (sym (skips_step s k.place p k.skipped)) (bare_ok s k.place k.bare)
@@ -191,7 +191,7 @@ expected_look m p q s a b e h = go (eqb a.code m) refl
 pub sticky : (f : Symbols) {s : List ℕ} {a : Look} → 56 < a.code → Reads 0 f s a a
 sticky f {s} {a} h =
     record {
-      reads = by-look s a (λ o. (k : Symbols) → o (f ++ k) ≡ o k) (λ l. absurd (omega arith)) (λ e. absurd (omega arith)) (λ _ k. refl);
+      reads = by_look s a (λ o. (k : Symbols) → o (f ++ k) ≡ o k) (λ l. absurd (omega arith)) (λ e. absurd (omega arith)) (λ _ k. refl);
       falls = omega arith;
       took = λ g. absurd (omega arith);
     }

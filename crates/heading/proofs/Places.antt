@@ -7,7 +7,7 @@ use native.Mathlib.Omega.{arith}
 use lib.Dec.{ltb}
 use lib.ListN.{length}
 use borrow.Author.Tests.{ltb-true, ne_eqb}
-use Rattle.token.specs.Lexing.{Lexed, more, ended as done, refused as none-at, lex_from}
+use Rattle.token.specs.Lexing.{Lexed, more, ended as done, refused as none_at, lex_from}
 use Rattle.token.proofs.Sequences.{tokens_of, after_all}
 use Rattle.token.specs.declared.Sort.{Sort}
 use Rattle.token.specs.declared.Sort.TheVariants.{Word, Number, String, Punctuator, Float}
@@ -28,17 +28,17 @@ use Rattle.heading.proofs.Fronts.{front_of, Follows}
 record Halves (ls : List Lexeme) (ts vs : List Token) : Type 0 where
   front : List Lexeme
   back : List Lexeme
-  both-are : ls ≡ front ++ back
-  front-is : map token_of front ≡ ts
+  both_are : ls ≡ front ++ back
+  front_is : map token_of front ≡ ts
   back_is : map token_of back ≡ vs
 
 halves : (ls : List Lexeme) (ts vs : List Token) → map token_of ls ≡ ts ++ vs → Halves ls ts vs
-halves ls [] vs e = record { front = []; back = ls; both-are = refl; front-is = refl; back_is = e }
+halves ls [] vs e = record { front = []; back = ls; both_are = refl; front_is = refl; back_is = e }
 halves [] (t ∷ ts) vs e = absurd (let z : ◌≡◌ {A = ℕ} 0 1 = cc in omega arith)
 halves (x ∷ ls) (t ∷ ts) vs e =
     let p : token_of x ≡ t = cc in
     let h = halves ls ts vs (let q : map token_of ls ≡ ts ++ vs = cc in q) in
-    record { front = x ∷ h.front; back = h.back; both-are = ap (x ∷◌) h.both-are; front-is = ap₂ ◌∷◌ p h.front-is; back_is = h.back_is }
+    record { front = x ∷ h.front; back = h.back; both_are = ap (x ∷◌) h.both-are; front_is = ap₂ ◌∷◌ p h.front-is; back_is = h.back_is }
 
 -- the last of a list
 record Last (ls : List Lexeme) (ts : List Token) (b : Token) : Type 0 where
@@ -62,7 +62,7 @@ lexed_map : (l : Lexed) → tokens_in l ≡ map token_of (tokens_of l)
 unfolding tokens_in tokens_of
 lexed_map (more t l) = ap (token_of t ∷◌) (lexed_map l)
 lexed_map (done n) = refl
-lexed_map (none-at p) = refl
+lexed_map (none_at p) = refl
 
 streamed : (ls : List Lexeme) (l : Lexed) → stream_of (after_all ls l) ≡ prepend (map token_of ls) (stream_of l)
 unfolding after_all stream_of prepend
@@ -110,7 +110,7 @@ follows s f =
     let p : l.last.at ≡ (brace_in f.tree).place = ap (λ (x : Token). x.place) l.last-is in
     let q = last_step s w.upto 0 l.before l.last r in
     record {
-      from-here = w.upto;
+      from_here = w.upto;
       inside = run_high s w.upto 0 w.lexemes w.steps (omega arith);
       later = omega (arith, q.0, p);
       stream = found_stream w;
@@ -120,11 +120,11 @@ follows s f =
 
 brace_ends : (k : Sort) → matches (sg lbrace) (class_of k) ≡ true → (b : List ℕ) → ends k b ≡ true
 unfolding ends class_of matches code code_of
-brace_ends (Word c) h b = absurd (false≢true (sym (word-no (ltb c 43) refl) ∙ ap (matches (sg lbrace)) (class_code (Word c)) ∙ h))
+brace_ends (Word c) h b = absurd (false≢true (sym (word_no (ltb c 43) refl) ∙ ap (matches (sg lbrace)) (class_code (Word c)) ∙ h))
   where
-    word-no : (t : Bool) → ltb c 43 ≡ t → matches (sg lbrace) (class_at (code_of (Word c))) ≡ false
-    word-no true e = rw e (let l = ltb-true c 43 e in brace_open c (omega arith) ∙ ne_eqb c 45 (λ z. omega arith))
-    word-no false e = rw e (brace_open 55 (omega arith))
+    word_no : (t : Bool) → ltb c 43 ≡ t → matches (sg lbrace) (class_at (code_of (Word c))) ≡ false
+    word_no true e = rw e (let l = ltb-true c 43 e in brace_open c (omega arith) ∙ ne_eqb c 45 (λ z. omega arith))
+    word_no false e = rw e (brace_open 55 (omega arith))
 brace_ends (Number n m) h b = absurd (false≢true h)
 brace_ends (Float n m k) h b = absurd (false≢true h)
 brace_ends String h b = refl

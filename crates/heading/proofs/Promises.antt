@@ -4,7 +4,7 @@ use mathlib.Core.List.{List, [], ◌∷◌, ◌++◌, append_assoc}
 use Prim.Native.Nat.{ℕ, suc, ◌+◌, ◌-◌, ◌≤◌, ◌<◌}
 use native.Mathlib.Omega.{arith}
 use lib.ListN.{length}
-use Rattle.grammar.specs.Grammar.{Token, Trees, nil, leaf, node, tokens, ◌▸◌, ∎, ◌⟶◌, file, file-is, version_is, implementation-is, Derivation}
+use Rattle.grammar.specs.Grammar.{Token, Trees, nil, leaf, node, tokens, ◌▸◌, ∎, ◌⟶◌, file, file_is, version_is, implementation_is, Derivation}
 use Rattle.grammar.specs.Terminals.{tokens as tokens-of}
 use Rattle.grammar.specs.Stage.{number_of, place_of, Answers}
 use Rattle.grammar.specs.Factored.{paper}
@@ -16,7 +16,7 @@ use Rattle.grammar.proofs.Answering.{answer_to, answer_to_lem}
 use Rattle.grammar.proofs.Decided.{decided}
 use Rattle.grammar.proofs.Steps.{prepend_append}
 use Rattle.meaning.specs.Actions.{syntax, meaning, means, word_of}
-use Rattle.meaning.specs.Reading.{Answers as Reads, too_long as reads-too-long, not-grammar}
+use Rattle.meaning.specs.Reading.{Answers as Reads, too_long as reads-too-long, not_grammar}
 use Rattle.meaning.specs.Rules.{TheAnswer}
 use Rattle.meaning.proofs.Whole.{one_answer as one-reading}
 use Rattle.meaning.specs.Answers.{refused as is_refused}
@@ -55,7 +55,7 @@ record Fronted (s : List ℕ) (t : Trees ◌⟶◌ (file ▸ ∎)) : Type 0 wher
 
 fronted : (s : List ℕ) (t : Trees ◌⟶◌ (file ▸ ∎)) → Fronted s t
 unfolding tokens string_in name_in version_and_name its_version_and_name token_of_word syntax meaning means word_of
-fronted s (node file-is (node version_is (leaf o m₁ (leaf e m₂ (leaf v m₃ ds))) (node implementation-is (leaf i m₄ (leaf n m₅ (leaf b m₆ ts))) us)) nil) =
+fronted s (node file_is (node version_is (leaf o m₁ (leaf e m₂ (leaf v m₃ ds))) (node implementation_is (leaf i m₄ (leaf n m₅ (leaf b m₆ ts))) us)) nil) =
     record {
       front = record {
         tree = node version_is (leaf o m₁ (leaf e m₂ (leaf v m₃ ds))) (leaf i m₄ (leaf n m₅ (leaf b m₆ nil)));
@@ -101,11 +101,11 @@ joined a b c h k f e x y =
     one_answer y (headed k g.0) ∙ ap (λ t. answer_in t) g.1 ∙ one_answer (headed h f) x
 
 pub front_decides : FrontDecides
-front_decides s u r q h k w x y = at-shared s w.this w.front w.through-brace u w.that h k x y
+front_decides s u r q h k w x y = at_shared s w.this w.front w.through-brace u w.that h k x y
   where
-    at-shared : (s : List ℕ) → s ≡ w.shared ++ w.behind → (f : Front (tokens-of s)) → (brace_in f.tree).place + (brace_in f.tree).length ≡ length w.shared
+    at_shared : (s : List ℕ) → s ≡ w.shared ++ w.behind → (f : Front (tokens-of s)) → (brace_in f.tree).place + (brace_in f.tree).length ≡ length w.shared
         → (u : List ℕ) → u ≡ w.shared ++ w.behind-other → length s ≤ 65535 → length u ≤ 65535 → Heads s r → Heads u q → q ≡ r
-    at-shared s i f e u j h k x y =
+    at_shared s i f e u j h k x y =
         subst
         (λ (z : List ℕ). (f : Front (tokens-of z)) → (brace_in f.tree).place + (brace_in f.tree).length ≡ length w.shared → length z ≤ 65535 → Heads z r → q ≡ r)
         (sym i)
@@ -156,40 +156,40 @@ quotes (refused l k a o x) p n q m e = absurd (let z : ◌≡◌ {A = ℕ} 0 1 =
 pub q_7 : MeetsQ7
 q_7 s r (too_long h) =
     record {
-      without-quotes = quotes (too_long h);
+      without_quotes = quotes (too_long h);
       from_front = λ u q l. absurd (omega arith);
       first = λ _. refl;
       derives = λ l. absurd (omega arith);
-      that-same = λ l. absurd (omega arith);
+      that_same = λ l. absurd (omega arith);
       later = behind_brace s;
       otherwise = λ l. absurd (omega arith);
       as_read = λ n p e. the_only 2 0 n p (reads-too-long h) e;
       no_brace = λ n p l. absurd (omega arith);
-      never-6 = λ p e. let z : ◌≡◌ {A = ℕ} 2 6 = cc in omega arith;
+      never_6 = λ p e. let z : ◌≡◌ {A = ℕ} 2 6 = cc in omega arith;
     }
 q_7 s r (headed l f) =
     record {
-      without-quotes = quotes (headed l f);
+      without_quotes = quotes (headed l f);
       from_front = λ u q h k w y. front_decides s u _ q h k w (headed l f) y;
       first = λ h. absurd (omega arith);
       derives = λ _ d. let w = derived_front s d in one_heading f w.0 ∙ w.1;
-      that-same = λ _ a e n h. let x = behind_brace s f a e n in let y = h f in absurd (omega arith);
+      that_same = λ _ a e n h. let x = behind_brace s f a e n in let y = h f in absurd (omega arith);
       later = behind_brace s;
       otherwise = λ _ g. one_heading f g;
       as_read = λ n p e. absurd (not_refused _ _ n p e);
       no_brace = λ n p _ e. absurd (not_refused _ _ n p e);
-      never-6 = λ p e. not_refused _ _ 6 p e;
+      never_6 = λ p e. not_refused _ _ 6 p e;
     }
 q_7 s r (refused l n a p e) =
     record {
-      without-quotes = quotes (refused l n a p e);
+      without_quotes = quotes (refused l n a p e);
       from_front = λ u q h k w y. absurd (n w.front);
       first = λ h. absurd (omega arith);
       derives = λ _ d. absurd (n (derived_front s d).0);
-      that-same = λ _ b e' _ _. ap (λ (x : StageAnswer). Refused (number_of x) (place_of x)) (decided e e');
+      that_same = λ _ b e' _ _. ap (λ (x : StageAnswer). Refused (number_of x) (place_of x)) (decided e e');
       later = behind_brace s;
       otherwise = λ _ f. absurd (n f);
-      as_read = λ i q g. the_only (number_of a) (place_of a) i q (not-grammar a l p e) g;
+      as_read = λ i q g. the_only (number_of a) (place_of a) i q (not_grammar a l p e) g;
       no_brace = λ i q _ _ f. n f;
-      never-6 = λ q g. other_number a q g;
+      never_6 = λ q g. other_number a q g;
     }

@@ -16,7 +16,7 @@ use Rattle.locality.proofs.Pieces.{Run, go}
 use Rattle.grammar.specs.Grammar.{Token, Trees, leaf, node, tokens, ◌⟶◌, matches, code, string, version_is}
 use Rattle.grammar.specs.Terminals.{token_of, class_of, tokens as tokens-of}
 use Rattle.grammar.specs.Readers.{code_of, class_at}
-use Rattle.grammar.proofs.Codes.{not_code, in-set, class_code}
+use Rattle.grammar.proofs.Codes.{not_code, in_set, class_code}
 use Rattle.heading.specs.Headings.{front_form, Front, string_in}
 use Rattle.heading.specs.Promises.{InQuotes}
 use Rattle.heading.proofs.Looks.{string_quoted}
@@ -33,14 +33,14 @@ string_code k h = by_code (eqb (code_of k) 44) refl
     by_code : (b : Bool) → eqb (code_of k) 44 ≡ b → code_of k ≡ 44
     by_code true e = eqb-true (code_of k) 44 e
     by_code false e =
-        absurd (false≢true (sym (not_code (matches string) 44 tt (λ z. false≢true (sym e ∙ eq-eqb (code_of k) 44 z)) (in-set (matches string) (matches string) refl tt g).0) ∙ g))
+        absurd (false≢true (sym (not_code (matches string) 44 tt (λ z. false≢true (sym e ∙ eq-eqb (code_of k) 44 z)) (in_set (matches string) (matches string) refl tt g).0) ∙ g))
 
 -- The third token of a text, and the step that finds it.
 record Third (s : List ℕ) (v : Token) : Type 0 where
-  from-here : ℕ
+  from_here : ℕ
   lexeme : Lexeme
   next : Cursor
-  step : step_at s from-here ≡ Found lexeme next
+  step : step_at s from_here ≡ Found lexeme next
   is : token_of lexeme ≡ v
 
 third : (s : List ℕ) (q p : ℕ) (ls : List Lexeme) (o e v : Token) (ts : List Token) → map token_of ls ≡ o ∷ e ∷ v ∷ ts → Run s q p ls → Third s v
@@ -48,7 +48,7 @@ third s q p [] o e v ts h r = absurd (let z : ◌≡◌ {A = ℕ} 0 1 = cc in om
 third s q p (a ∷ []) o e v ts h r = absurd (let y : ◌≡◌ {A = List Token} [] (e ∷ v ∷ ts) = cc in let z : ◌≡◌ {A = ℕ} 0 1 = cc in omega arith)
 third s q p (a ∷ b ∷ []) o e v ts h r = absurd (let y : ◌≡◌ {A = List Token} [] (v ∷ ts) = cc in let z : ◌≡◌ {A = ℕ} 0 1 = cc in omega arith)
 third s q p (a ∷ b ∷ x ∷ ls) o e v ts h (go _ _ c₁ _ e₁ (go _ _ c₂ _ e₂ (go _ _ c₃ _ e₃ r))) =
-    record { from-here = c₂.at; lexeme = x; next = c₃; step = e₃; is = cc }
+    record { from_here = c₂.at; lexeme = x; next = c₃; step = e₃; is = cc }
 
 quoted_at : (s : List ℕ) (v : Token) → matches string v.class ≡ true → Third s v → InQuotes s v.place (v.place + v.length)
 unfolding token_of

@@ -5,7 +5,7 @@ use mathlib.Core.Bool.{Bool, true, false, ◌||◌}
 use mathlib.Core.Option.{Option, none, some}
 use Prim.Native.Nat.{ℕ, ◌≤◌}
 use lib.Dec.{eqb, eqb→eq}
-use Rattle.grammar.specs.Grammar.{Terminal, Token, Class, Trees, nil, leaf, node, tokens, ◌·◌, ◌▸◌, ∎, ◌⟶◌, matches, code, sign_code, sg, colon, semicolon, lbrace, rbrace, equals, the, OIL-VERSION, IMPLEMENTATION, string, name, file, version, implementation, application, specs, D, no-D, a-D, file-is, version_is, implementation-is}
+use Rattle.grammar.specs.Grammar.{Terminal, Token, Class, Trees, nil, leaf, node, tokens, ◌·◌, ◌▸◌, ∎, ◌⟶◌, matches, code, sign_code, sg, colon, semicolon, lbrace, rbrace, equals, the, OIL-VERSION, IMPLEMENTATION, string, name, file, version, implementation, application, specs, D, no_D, a_D, file_is, version_is, implementation_is}
 use Rattle.grammar.specs.Factored.{Nonterminal, paper, Symbols, lift, ◌⟹◌, keep, kept, choices, by}
 use Rattle.grammar.proofs.Checks.{takes}
 use Rattle.grammar.specs.Machine.{nullable, nullable_form, starts, feed, Stream, ended, bad, ◌▹◌, prepend, opened, deeper, deeper_by, at_end, next, run}
@@ -60,15 +60,15 @@ version_form = the OIL-VERSION · sg equals · string · paper D ▸ sg semicolo
 pub version_run : (us : Trees ◌⟶◌ (the OIL-VERSION · sg equals · string · D ▸ sg semicolon · ∎)) (d : ℕ) (k : Symbols) (u : Stream)
     → run d (paper version ▸ k) (prepend (tokens us) u) ≡ run d k u
 unfolding tokens prepend kept choices nullable nullable_form terminal_code
-version_run (leaf o m₁ (leaf e m₂ (leaf v m₃ (node no-D nil (leaf c m₄ nil))))) d k u =
+version_run (leaf o m₁ (leaf e m₂ (leaf v m₃ (node no_D nil (leaf c m₄ nil))))) d k u =
     run_only (keep version_is refl) d k o _ refl refl refl
     ∙ run_take d (the OIL-VERSION) _ o _ m₁ refl refl ∙ run_take d (sg equals) _ e _ m₂ refl refl ∙ run_take d string _ v _ m₃ refl refl
     ∙ run_pass d (paper D) _ c _ refl (D-starts c.class ∙ no_colon c.class m₄)
     ∙ run_take d (sg semicolon) _ c _ m₄ refl refl
-version_run (leaf o m₁ (leaf e m₂ (leaf v m₃ (node a-D (leaf q m₅ (leaf w m₆ nil)) (leaf c m₄ nil))))) d k u =
+version_run (leaf o m₁ (leaf e m₂ (leaf v m₃ (node a_D (leaf q m₅ (leaf w m₆ nil)) (leaf c m₄ nil))))) d k u =
     run_only (keep version_is refl) d k o _ refl refl refl
     ∙ run_take d (the OIL-VERSION) _ o _ m₁ refl refl ∙ run_take d (sg equals) _ e _ m₂ refl refl ∙ run_take d string _ v _ m₃ refl refl
-    ∙ run_enter (keep a-D refl) d _ q _ (takes_tok (sg colon) (string · ∎) q.class ∙ m₅)
+    ∙ run_enter (keep a_D refl) d _ q _ (takes_tok (sg colon) (string · ∎) q.class ∙ m₅)
     ∙ run_take d (sg colon) _ q _ m₅ refl refl ∙ run_take d string _ w _ m₆ refl refl
     ∙ run_take d (sg semicolon) _ c _ m₄ refl refl
 
@@ -89,12 +89,12 @@ unfolding terminal_code kept choices nullable nullable_form prepend tokens
 file_run us i n b u m₁ m₂ m₃ =
     first us
     ∙ version_run us 0 (lift (implementation ▸ application ▸ ∎)) (i ▹ n ▹ b ▹ u)
-    ∙ run_only (keep implementation-is refl) 0 (lift (application ▸ ∎)) i _ refl refl refl
+    ∙ run_only (keep implementation_is refl) 0 (lift (application ▸ ∎)) i _ refl refl refl
     ∙ run_take 0 (the IMPLEMENTATION) _ i _ m₁ refl refl ∙ run_take 0 name _ n _ m₂ refl refl ∙ run_open _ b u m₃
   where
     first : (us : Trees ◌⟶◌ (the OIL-VERSION · sg equals · string · D ▸ sg semicolon · ∎)) → run 0 (paper file ▸ ∎) (prepend (tokens us) (i ▹ n ▹ b ▹ u))
         ≡ run 0 (lift (version ▸ implementation ▸ application ▸ ∎)) (prepend (tokens us) (i ▹ n ▹ b ▹ u))
-    first (leaf o m ts) = run_only (keep file-is refl) 0 ∎ o _ refl refl refl
+    first (leaf o m ts) = run_only (keep file_is refl) 0 ∎ o _ refl refl refl
 
 -- Where refusals stand ------------------------------------------------------------------------------------------------------------------------
 

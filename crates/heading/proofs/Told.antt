@@ -14,9 +14,9 @@ use Rattle.grammar.specs.declared.Answer.{Answer}
 use Rattle.grammar.specs.declared.Answer.TheVariants.{Passes, NoToken, NotAdmitted, TooDeep}
 use Rattle.grammar.proofs.Codes.{not_code}
 use Rattle.grammar.proofs.Meeting.{◌⊳◌, not_taken}
-use Rattle.grammar.proofs.Terminals.{oil-version-is, equals-is, string-is, implementation-is}
-use Rattle.grammar.proofs.Rules.{version-by, implementation-by, file-by}
-use Rattle.grammar.proofs.Lookaheads.{answer-no-token, answer-not-admitted, answer-too-deep}
+use Rattle.grammar.proofs.Terminals.{oil_version_is, equals_is, string_is, implementation_is}
+use Rattle.grammar.proofs.Rules.{version_by, implementation_by, file_by}
+use Rattle.grammar.proofs.Lookaheads.{answer_no_token, answer_not_admitted, answer_too_deep}
 use Rattle.grammar.proofs.Answering.{stage_answers}
 use Rattle.heading.specs.Headings.{Front, name_in, version_and_name, Heads, headed, refused}
 use Rattle.heading.specs.declared.Answer.TheVariants.{VersionAndName, Refused}
@@ -26,7 +26,7 @@ use Rattle.heading.proofs.Places.{follows}
 
 -- The readings up to the brace.
 pub record Ahead (s : List ℕ) (a b c d e f g : Look) : Type 0 where
-  pub at-start : a ≡ look_at s 0 0
+  pub at_start : a ≡ look_at s 0 0
   pub oil : b ≡ expected s a 6
   pub equal : c ≡ expected s b 49
   pub quoted : d ≡ expected s c 44
@@ -36,74 +36,74 @@ pub record Ahead (s : List ℕ) (a b c d e f g : Look) : Type 0 where
 
 pub ahead : {s : List ℕ} {a b c d e f g : Look} → a ≡ look_at s 0 0 → b ≡ expected s a 6 → c ≡ expected s b 49 → d ≡ expected s c 44
     → Meets 0 (D ▸ sg semicolon · ∎) s d e → f ≡ expected s e 7 → Meets 1 (name · ∎) s f g → Ahead s a b c d e f g
-ahead p q r t u v w = record { at-start = p; oil = q; equal = r; quoted = t; finished = u; implemented = v; named = w }
+ahead p q r t u v w = record { at_start = p; oil = q; equal = r; quoted = t; finished = u; implemented = v; named = w }
 
 module _ {s : List ℕ} {a b c d e f g : Look} (w : Ahead s a b c d e f g) where
   module _ (h : g.code ≡ 45) where
     -- The string and the name are tokens of the text.
-    c-low : c.code ≤ 56
-    c-low =
+    c_low : c.code ≤ 56
+    c_low =
         let k₅ = w.named.took (omega arith) in
-        let k₄ = (implementation-is w.implemented).took k₅.0 in
+        let k₄ = (implementation_is w.implemented).took k₅.0 in
         let k₃ = w.finished.took k₄.0 in
-        ((string-is w.quoted).took k₃.0).0
+        ((string_is w.quoted).took k₃.0).0
 
-    f-low : f.code ≤ 56
-    f-low = (w.named.took (omega arith)).0
+    f_low : f.code ≤ 56
+    f_low = (w.named.took (omega arith)).0
 
-    d-low : d.code ≤ 56
-    d-low = (w.finished.took ((implementation-is w.implemented).took f-low).0).0
+    d_low : d.code ≤ 56
+    d_low = (w.finished.took ((implementation_is w.implemented).took f_low).0).0
 
-    pub string-fits : (c.at + 2 ≤ c.next) × (c.next ≤ length s)
-    string-fits =
-        let q = expected_look 44 refl refl s c d w.quoted d-low in
-        let p = expected_look 49 refl refl s b c w.equal c-low in
+    pub string_fits : (c.at + 2 ≤ c.next) × (c.next ≤ length s)
+    string_fits =
+        let q = expected_look 44 refl refl s c d w.quoted d_low in
+        let p = expected_look 49 refl refl s b c w.equal c_low in
         let x = look_string s b.next b.depth (subst (λ (l : Look). l.code ≡ 44) p.1 q.0) in
         let y = look_fits s b.next b.depth in
         subst (λ (l : Look). (l.at + 2 ≤ l.next) × (l.next ≤ length s)) (sym p.1) (x, y.1)
 
     pub name_fits : f.at ≤ f.next
     name_fits =
-        let p = expected_look 7 refl refl s e f w.implemented f-low in
+        let p = expected_look 7 refl refl s e f w.implemented f_low in
         subst (λ (l : Look). l.at ≤ l.next) (sym p.1) (look_fits s e.next e.depth).0
 
     pub told : length s ≤ 65535 → Heads s (VersionAndName (c.at + 1) ((c.next - c.at) - 2) f.at (f.next - f.at))
     unfolding version_and_name seen
     told short =
-        let v = looked s a c d e f g w.at-start (oil-version-is w.oil ⊳ equals-is w.equal) (string-is w.quoted) w.finished (implementation-is w.implemented) w.named h in
+        let v = looked s a c d e f g w.at-start (oil_version_is w.oil ⊳ equals_is w.equal) (string_is w.quoted) w.finished (implementation_is w.implemented) w.named h in
         subst (λ (n : Token). Heads s (version_and_name (seen c) n)) v.its-name
         (subst (λ (t : Token). Heads s (version_and_name t (name_in v.front.tree))) v.its-string (headed short v.front))
 
   module _ (h : g.code ≡ 45 → ⊥) (r : Look) (q : r ≡ refusal g) where
-    r-high : 56 < r.code
-    r-high = subst (λ (l : Look). 56 < l.code) (sym q) (refusal_high g)
+    r_high : 56 < r.code
+    r_high = subst (λ (l : Look). 56 < l.code) (sym q) (refusal_high g)
 
     whole : Meets 1 (file ▸ ∎) s a r
     unfolding matches class_at
     whole =
-        file-by
-        (version-by (oil-version-is w.oil ⊳ equals-is w.equal ⊳ string-is w.quoted ⊳ w.finished)
-        ⊳ implementation-by (implementation-is w.implemented ⊳ w.named ⊳ not_taken (sg lbrace) (not_code (matches (sg lbrace)) 45 tt h) q ⊳ sticky (lift (specs ▸ sg rbrace · D ▸ sg semicolon · ∎)) r-high)
-        ⊳ sticky (lift (application ▸ ∎)) r-high)
+        file_by
+        (version_by (oil_version_is w.oil ⊳ equals_is w.equal ⊳ string_is w.quoted ⊳ w.finished)
+        ⊳ implementation_by (implementation_is w.implemented ⊳ w.named ⊳ not_taken (sg lbrace) (not_code (matches (sg lbrace)) 45 tt h) q ⊳ sticky (lift (specs ▸ sg rbrace · D ▸ sg semicolon · ∎)) r_high)
+        ⊳ sticky (lift (application ▸ ∎)) r_high)
 
     none : Front (tokens-of s) → ⊥
     none t =
         no_front s a g w.at-start
-        (version-by (oil-version-is w.oil ⊳ equals-is w.equal ⊳ string-is w.quoted ⊳ w.finished) ⊳ implementation-is w.implemented ⊳ w.named)
+        (version_by (oil_version_is w.oil ⊳ equals_is w.equal ⊳ string_is w.quoted ⊳ w.finished) ⊳ implementation_is w.implemented ⊳ w.named)
         h t.tree (follows s t)
 
     by_answer : length s ≤ 65535 → (n : Answer) → n ≡ answer_of r → (n ≡ Passes → ⊥) → Heads s (Refused (number_of n) (place_of n))
     by_answer short n e p = refused short none n p (stage_answers s a r n w.at-start whole e)
 
-    pub told-3 : length s ≤ 65535 → r.code ≡ 59 → Heads s (Refused 3 r.at)
+    pub told_3 : length s ≤ 65535 → r.code ≡ 59 → Heads s (Refused 3 r.at)
     unfolding number_of place_of
-    told-3 short z = by_answer short (NoToken r.at) (answer-no-token r (omega (arith, r-high)) z) (λ y. let x : ◌≡◌ {A = ℕ} 0 1 = cc in omega arith)
+    told_3 short z = by_answer short (NoToken r.at) (answer_no_token r (omega (arith, r_high)) z) (λ y. let x : ◌≡◌ {A = ℕ} 0 1 = cc in omega arith)
 
-    pub told-4 : length s ≤ 65535 → r.code ≡ 60 → Heads s (Refused 4 r.at)
+    pub told_4 : length s ≤ 65535 → r.code ≡ 60 → Heads s (Refused 4 r.at)
     unfolding number_of place_of
-    told-4 short z = by_answer short (NotAdmitted r.at) (answer-not-admitted r (omega (arith, r-high)) z) (λ y. let x : ◌≡◌ {A = ℕ} 0 1 = cc in omega arith)
+    told_4 short z = by_answer short (NotAdmitted r.at) (answer_not_admitted r (omega (arith, r_high)) z) (λ y. let x : ◌≡◌ {A = ℕ} 0 1 = cc in omega arith)
 
-    pub told-5 : length s ≤ 65535 → (r.code ≡ 59 → ⊥) → (r.code ≡ 60 → ⊥) → Heads s (Refused 5 r.at)
+    pub told_5 : length s ≤ 65535 → (r.code ≡ 59 → ⊥) → (r.code ≡ 60 → ⊥) → Heads s (Refused 5 r.at)
     unfolding number_of place_of
-    told-5 short z₃ z₄ =
-        by_answer short (TooDeep r.at) (answer-too-deep r (λ y. omega (arith, r-high)) (omega (arith, r-high)) z₃ z₄) (λ y. let x : ◌≡◌ {A = ℕ} 0 1 = cc in omega arith)
+    told_5 short z₃ z₄ =
+        by_answer short (TooDeep r.at) (answer_too_deep r (λ y. omega (arith, r_high)) (omega (arith, r_high)) z₃ z₄) (λ y. let x : ◌≡◌ {A = ℕ} 0 1 = cc in omega arith)

@@ -40,15 +40,15 @@ pub record SameFront (s u : List ℕ) : Type 0 where
   pub front : Front (tokens-of s)
   pub shared : List ℕ
   pub behind : List ℕ
-  pub behind-other : List ℕ
+  pub behind_other : List ℕ
   pub this : s ≡ shared ++ behind
-  pub that : u ≡ shared ++ behind-other
-  pub through-brace : front_end front ≡ length shared
+  pub that : u ≡ shared ++ behind_other
+  pub through_brace : front_end front ≡ length shared
 
 -- r is the answer to the text s.
 pub record Q-7 (s : List ℕ) (r : Answer) : Type 0 where
   -- "the version string, without its quotes": these stand right before it and right after it
-  pub without-quotes : (p n q m : ℕ) → r ≡ VersionAndName p n q m → InQuotes s (p - 1) (p + n + 1)
+  pub without_quotes : (p n q m : ℕ) → r ≡ VersionAndName p n q m → InQuotes s (p - 1) (p + n + 1)
   -- "Answer from the tokens through the brace after the implementation's name.": another text with the same front has the same answer, whatever
   -- stands after the brace
   pub from_front : (u : List ℕ) (q : Answer) → length s ≤ 65535 → length u ≤ 65535 → SameFront s u → Heads u q → q ≡ r
@@ -58,7 +58,7 @@ pub record Q-7 (s : List ℕ) (r : Answer) : Type 0 where
   pub derives : length s ≤ 65535 → (d : Derivation (tokens-of s)) → r ≡ its_version_and_name (syntax s d.tree)
   -- "For others, if the full reading's refusal 3, 4 or 5 lies at or before that brace, or there is none, that same number and place": where there
   -- is no such brace, nothing is asked of the place
-  pub that-same : length s ≤ 65535 → (a : StageAnswer) → Answers s a → (a ≡ Passes → ⊥) → ((f : Front (tokens-of s)) → place_of a ≤ (brace_in f.tree).place)
+  pub that_same : length s ≤ 65535 → (a : StageAnswer) → Answers s a → (a ≡ Passes → ⊥) → ((f : Front (tokens-of s)) → place_of a ≤ (brace_in f.tree).place)
       → r ≡ Refused (number_of a) (place_of a)
   -- "otherwise the answer": where there is that brace, each refusal of the grammar stage lies after it, and the answer is from its tokens
   pub later : (f : Front (tokens-of s)) (a : StageAnswer) → Answers s a → (a ≡ Passes → ⊥) → (brace_in f.tree).place < place_of a
@@ -67,7 +67,7 @@ pub record Q-7 (s : List ℕ) (r : Answer) : Type 0 where
   pub as_read : (n p : ℕ) → r ≡ Refused n p → TheAnswer s (refused n p)
   pub no_brace : (n p : ℕ) → length s ≤ 65535 → r ≡ Refused n p → Front (tokens-of s) → ⊥
   -- "It never gives 6."
-  pub never-6 : (p : ℕ) → r ≡ Refused 6 p → ⊥
+  pub never_6 : (p : ℕ) → r ≡ Refused 6 p → ⊥
 
 -- Every text has one answer, and it can be computed: `decides` in proofs/Promises.
 abbrev pub Decides : Type 0

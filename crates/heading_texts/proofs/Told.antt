@@ -26,9 +26,9 @@ use Rattle.lent_texts.specs.declared.Expanded.{Expanded}
 use Rattle.lent_texts.specs.declared.Refusal.{Refusal}
 use Rattle.lent_texts.specs.declared.Lent.{Lent}
 use Rattle.lent_texts.specs.declared.Lent.TheVariants.{Stopped, Text}
-use Rattle.lent_texts.proofs.Told.{AtOnce, by-1, by-30, at_once, There, there, answered_refused, thirty_answer, one_told}
+use Rattle.lent_texts.proofs.Told.{AtOnce, by_1, by_30, at_once, There, there, answered_refused, thirty_answer, one_told}
 use Rattle.lent_texts.proofs.Numbers.{fault_numbers}
-use Rattle.heading_texts.specs.Headings.{placed_heading, TextsHead, too_long, headed, refused, HeadsTexts, short-rooms, by-rules, told_in, HeadsExpanded}
+use Rattle.heading_texts.specs.Headings.{placed_heading, TextsHead, too_long, headed, refused, HeadsTexts, short_rooms, by_rules, told_in, HeadsExpanded}
 use Rattle.heading_texts.specs.Promises.{Quoted, Q-7-Texts}
 
 -- ---- the inner function
@@ -37,13 +37,13 @@ pub names_expanded : {s g : List ℕ} {e : Expanded} {a : Answer} {p n q m p' q'
     p' ≡ place_in g e.length e.main p → q' ≡ place_in g e.length e.main q → HeadsExpanded s g e (VersionAndName p' n q' m)
 unfolding told_in
 names_expanded {g = g} {e = e} {a = a} {p} {n} {q} {m} {p'} {q'} h i j k =
-    record { in-expanded = a; heads = h; told = ap₂ (λ (x y : ℕ). VersionAndName x n y m) j k ∙ ap (told_in g e) (sym i) }
+    record { in_expanded = a; heads = h; told = ap₂ (λ (x y : ℕ). VersionAndName x n y m) j k ∙ ap (told_in g e) (sym i) }
 
 pub refuses_expanded : {s g : List ℕ} {e : Expanded} {a : Answer} {n p : ℕ} {r : Refusal} → Heads s a → a ≡ Refused n p → r ≡ refusal_in g e n p →
     HeadsExpanded s g e (Refused r.number r.place)
 unfolding told_in
 refuses_expanded {g = g} {e = e} {a = a} h i j =
-    record { in-expanded = a; heads = h; told = ap (λ (y : Refusal). Refused y.number y.place) j ∙ ap (told_in g e) (sym i) }
+    record { in_expanded = a; heads = h; told = ap (λ (y : Refusal). Refused y.number y.place) j ∙ ap (told_in g e) (sym i) }
 
 -- ---- the expanded text
 
@@ -100,10 +100,10 @@ module _ {b l x g : List ℕ} {e : Expanded} (k : Holds b l x g e) where
       let t : u.place ≡ p = cc in
       subst (λ (o : ℕ). TheAnswer b l (is_refused o p)) s (subst (λ (o : ℕ). TheAnswer b l (is_refused u.number o)) t (answered_refused i j k (w.as_read i j refl) u refl))
 
-  six-by : (a r : Answer) → Q-7 (text b l) a → r ≡ told_in g e a → (p : ℕ) → r ≡ Refused 6 p → ⊥
+  six_by : (a r : Answer) → Q-7 (text b l) a → r ≡ told_in g e a → (p : ℕ) → r ≡ Refused 6 p → ⊥
   unfolding told_in refusal_at refusal_in
-  six-by (VersionAndName p₀ n₀ q₀ m₀) r w z p y = let c = sym z ∙ y in let d : ◌≡◌ {A = ℕ} 0 1 = cc in omega arith
-  six-by (Refused i j) r w z p y =
+  six_by (VersionAndName p₀ n₀ q₀ m₀) r w z p y = let c = sym z ∙ y in let d : ◌≡◌ {A = ℕ} 0 1 = cc in omega arith
+  six_by (Refused i j) r w z p y =
       let c = sym z ∙ y in
       let d : pick (eqb i 3) e.fault i ≡ 6 = cc in
       six_number i e.fault (λ f. w.never-6 j (ap (λ (o : ℕ). Refused o j) f)) (subst FaultNumber (sym k.fault) (fault_numbers b l)) d
@@ -118,18 +118,18 @@ module _ {b l x g : List ℕ} {e : Expanded} (k : Holds b l x g e) where
       let h : u.place ≡ p = cc in
       c ∙ ap₂ Refused f h
 
-  q-7-by : (a r : Answer) → Q-7 (text b l) a → r ≡ told_in g e a → Q-7-Texts b l r
+  q_7_by : (a r : Answer) → Q-7 (text b l) a → r ≡ told_in g e a → Q-7-Texts b l r
   unfolding its_version_and_name token_of_word
-  q-7-by a r w z =
+  q_7_by a r w z =
       record {
-        without-quotes = quoted_by a r w z;
+        without_quotes = quoted_by a r w z;
         first = λ n. absurd (k.within n);
         derives = λ _ d. z ∙ ap (told_in g e) (w.derives short d) ∙ version_placed (token_of_word (syntax (text b l) d.tree).version) (token_of_word (syntax (text b l) d.tree).implementation_name) k;
-        that-same = λ _ s i j h n p t. same_by a r w z _ _ (w.that-same short s i j h) n p t;
+        that_same = λ _ s i j h n p t. same_by a r w z _ _ (w.that-same short s i j h) n p t;
         later = w.later;
         otherwise = λ _ f. z ∙ ap (told_in g e) (w.otherwise short f) ∙ version_placed (string_in f.tree) (name_in f.tree) k;
         as_read = read_by a r w z;
-        never-6 = six-by a r w z;
+        never_6 = six_by a r w z;
       }
 
 -- ---- the public call
@@ -140,23 +140,23 @@ Both b l x g x' g' r = HeadsTexts b l x g x' g' r × (Rooms x g → Q-7-Texts b 
 thirty : (b l : List ℕ) → (expansion_of b l).number ≡ 30 → Q-7-Texts b l (Refused 30 0)
 thirty b l n =
     record {
-      without-quotes = λ p i q m e. absurd (let z : ◌≡◌ {A = ℕ} 0 1 = cc in omega arith);
+      without_quotes = λ p i q m e. absurd (let z : ◌≡◌ {A = ℕ} 0 1 = cc in omega arith);
       first = λ _. refl;
       derives = λ u. absurd (u n);
-      that-same = λ u. absurd (u n);
+      that_same = λ u. absurd (u n);
       later = behind_brace (text b l);
       otherwise = λ u. absurd (u n);
       as_read = λ i p e.
           let s : 30 ≡ i = cc in
           let t : 0 ≡ p = cc in
           subst (λ (o : ℕ). TheAnswer b l (is_refused o p)) s (subst (λ (o : ℕ). TheAnswer b l (is_refused 30 o)) t (thirty_answer b l n));
-      never-6 = λ p e. let z : ◌≡◌ {A = ℕ} 30 6 = cc in omega arith;
+      never_6 = λ p e. let z : ◌≡◌ {A = ℕ} 30 6 = cc in omega arith;
     }
 
 once : {b l x g x' g' : List ℕ} (n : ℕ) → AtOnce b l x g x' g' n → Both b l x g x' g' (Refused n 0)
-once n (by-1 h i j k) = (short-rooms h (ap (λ (o : ℕ). Refused o 0) i) j k, λ r. absurd (h r))
-once {b} {l} {x} {g} {x'} {g'} n (by-30 h i j k f) =
-    subst (λ (o : ℕ). Both b l x g x' g' (Refused o 0)) (sym i) (by-rules h (too_long j) f, λ _. thirty b l j)
+once n (by_1 h i j k) = (short_rooms h (ap (λ (o : ℕ). Refused o 0) i) j k, λ r. absurd (h r))
+once {b} {l} {x} {g} {x'} {g'} n (by_30 h i j k f) =
+    subst (λ (o : ℕ). Both b l x g x' g' (Refused o 0)) (sym i) (by_rules h (too_long j) f, λ _. thirty b l j)
 
 pub stopped_heads : {b l x g x' g' : List ℕ} {r : Lent} (n : ℕ) → ExpandsTexts b l x g x' g' r → r ≡ Stopped n → Both b l x g x' g' (Refused n 0)
 stopped_heads n u q = once n (at_once n u q)
@@ -167,4 +167,4 @@ text_heads {b} {l} {e = e} {a = a} u q w =
     let t = there e u q in
     let k = t.holds in
     let h : Heads (text b l) w.in-expanded = subst (λ (y : List ℕ). Heads y w.in-expanded) k.bytes w.heads in
-    (by-rules t.rooms (head_of k w.in-expanded a h w.told) t.filled, λ _. q-7-by k w.in-expanded a (q_7 (text b l) w.in-expanded h) w.told)
+    (by_rules t.rooms (head_of k w.in-expanded a h w.told) t.filled, λ _. q_7_by k w.in-expanded a (q_7 (text b l) w.in-expanded h) w.told)

@@ -29,8 +29,8 @@ pub data TextsHead (b l : List ℕ) : Answer → Type 0 where
 -- x and g are lent for the expanded text and its origins; x' and g' is what they hold afterwards; r is what is returned.
 pub data HeadsTexts (b l x g x' g' : List ℕ) (r : Answer) : Type 0 where
   -- 1, "lent tables too short", at 0. "Refusal 1 changes nothing."
-  short-rooms : (Rooms x g → ⊥) → r ≡ Refused 1 0 → x' ≡ x → g' ≡ g → HeadsTexts b l x g x' g' r
-  by-rules : Rooms x g → TextsHead b l r → Filled b l x g x' g' → HeadsTexts b l x g x' g' r
+  short_rooms : (Rooms x g → ⊥) → r ≡ Refused 1 0 → x' ≡ x → g' ≡ g → HeadsTexts b l x g x' g' r
+  by_rules : Rooms x g → TextsHead b l r → Filled b l x g x' g' → HeadsTexts b l x g x' g' r
 
 -- The inner function ---------------------------------------------------------------------------------------------------------------------------
 
@@ -40,6 +40,6 @@ told_in g e (VersionAndName p n q m) = VersionAndName (place_in g e.length e.mai
 told_in g e (Refused n p) = Refused (refusal_in g e n p).number (refusal_in g e n p).place
 
 pub record HeadsExpanded (s g : List ℕ) (e : Expanded) (r : Answer) : Type 0 where
-  pub in-expanded : Answer
-  pub heads : Heads s in-expanded
-  pub told : r ≡ told_in g e in-expanded
+  pub in_expanded : Answer
+  pub heads : Heads s in_expanded
+  pub told : r ≡ told_in g e in_expanded

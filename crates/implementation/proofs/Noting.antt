@@ -18,23 +18,23 @@ module _ {m : ℕ} where
   pub placed_first : (l : List ℕ) {l' : List ℕ} (k p : ℕ) → m ≡ 0 → l' ≡ set l k p → l' ≡ placed l m k p
   placed_first l k p h e = e ∙ sym (ap (λ (b : Bool). pick b (set l k p) l) (eq-eqb m 0 h))
 
-  pub placed-before : (l : List ℕ) (k p : ℕ) → (m ≡ 0 → ⊥) → l ≡ placed l m k p
-  placed-before l k p h = sym (ap (λ (b : Bool). pick b (set l k p) l) (ne_eqb m 0 h))
+  pub placed_before : (l : List ℕ) (k p : ℕ) → (m ≡ 0 → ⊥) → l ≡ placed l m k p
+  placed_before l k p h = sym (ap (λ (b : Bool). pick b (set l k p) l) (ne_eqb m 0 h))
 
-  pub again-first : (f g p : ℕ) → m ≡ 0 → g ≡ again_after m f g p
-  again-first f g p h = sym (ap (λ (b : Bool). pick b g (pick (eqb f 0) p g)) (eq-eqb m 0 h))
+  pub again_first : (f g p : ℕ) → m ≡ 0 → g ≡ again_after m f g p
+  again_first f g p h = sym (ap (λ (b : Bool). pick b g (pick (eqb f 0) p g)) (eq-eqb m 0 h))
 
-  pub again-now : {f : ℕ} (g p : ℕ) → (m ≡ 0 → ⊥) → f ≡ 0 → p ≡ again_after m f g p
-  again-now {f} g p h i = sym (ap₂ (λ (b c : Bool). pick b g (pick c p g)) (ne_eqb m 0 h) (eq-eqb f 0 i))
+  pub again_now : {f : ℕ} (g p : ℕ) → (m ≡ 0 → ⊥) → f ≡ 0 → p ≡ again_after m f g p
+  again_now {f} g p h i = sym (ap₂ (λ (b c : Bool). pick b g (pick c p g)) (ne_eqb m 0 h) (eq-eqb f 0 i))
 
-  pub again-before : {f : ℕ} (g p : ℕ) → (m ≡ 0 → ⊥) → (f ≡ 0 → ⊥) → g ≡ again_after m f g p
-  again-before {f} g p h i = sym (ap₂ (λ (b c : Bool). pick b g (pick c p g)) (ne_eqb m 0 h) (ne_eqb f 0 i))
+  pub again_before : {f : ℕ} (g p : ℕ) → (m ≡ 0 → ⊥) → (f ≡ 0 → ⊥) → g ≡ again_after m f g p
+  again_before {f} g p h i = sym (ap₂ (λ (b c : Bool). pick b g (pick c p g)) (ne_eqb m 0 h) (ne_eqb f 0 i))
 
   pub found_first : (f : ℕ) → m ≡ 0 → f ≡ found_after m f
   found_first f h = sym (ap (λ (b : Bool). pick b f 1) (eq-eqb m 0 h))
 
-  pub found-now : (f : ℕ) → (m ≡ 0 → ⊥) → 1 ≡ found_after m f
-  found-now f h = sym (ap (λ (b : Bool). pick b f 1) (ne_eqb m 0 h))
+  pub found_now : (f : ℕ) → (m ≡ 0 → ⊥) → 1 ≡ found_after m f
+  found_now f h = sym (ap (λ (b : Bool). pick b f 1) (ne_eqb m 0 h))
 
 -- One word more.
 pub noted : (k p : ℕ) {mark : ℕ} (x : Noted) {marks places : List ℕ} {again found : ℕ} → mark ≡ get_or x.marks k 0 → places ≡ placed x.places mark k p
@@ -59,6 +59,6 @@ noting =
       assoc = append_assoc;
       front = λ a. refl;
       back = append-nil;
-      does-none = λ x. refl;
-      does-then = λ x y z a b d e. e ∙ ap (λ (c : Noted). note_all c b) d ∙ sym (note_append x a b);
+      does_none = λ x. refl;
+      does_then = λ x y z a b d e. e ∙ ap (λ (c : Noted). note_all c b) d ∙ sym (note_append x a b);
     }

@@ -23,7 +23,7 @@ use Rattle.sources.specs.declared.Event.{Event}
 use Rattle.sources.specs.declared.Event.TheVariants.{Stop as Stops, Include as Includes}
 use Rattle.sources.proofs.Events.{EventOk, event_ok}
 use Rattle.sources.proofs.Pieces.{walk_law, expand_law}
-use Rattle.including.specs.Expansions.{Expands, as-it-stands, with-text, with-fault, Expansions}
+use Rattle.including.specs.Expansions.{Expands, as_it_stands, with_text, with_fault, Expansions}
 
 -- ---- a text to include is not open, and there are eight
 
@@ -65,28 +65,28 @@ module _ (b l o : List ℕ) (k : ℕ) (s : List ℕ) (g : Include → Piece) whe
   abbrev Inner : Type 0
   Inner = (i : Include) → i.number < 8 → (get_or o i.number 0 ≡ 1 → ⊥) → Expands b l (set o i.number 1) i.number (bytes_between b i.from i.to) 0 (g i)
 
-  at-include : (p : ℕ) (i : Include) (h : ℕ → Piece) → event_at b l s o p ≡ Includes i →
+  at_include : (p : ℕ) (i : Include) (h : ℕ → Piece) → event_at b l s o p ≡ Includes i →
       Expands b l (set o i.number 1) i.number (bytes_between b i.from i.to) 0 (g i) → Expands b l o k s i.after (h i.after) →
       (t : Bool) → eqb (g i).number 0 ≡ t →
       Expands b l o k s p (onto_part k s p i.start (included_by t (origin k i.hash) (length s - i.after) (g i) h i.after))
-  at-include p i h e x y true z = with-text o k s p i (g i) (h i.after) e x (eqb-true (g i).number 0 z) y
-  at-include p i h e x y false z = with-fault o k s p i (g i) e x (eqb-false (g i).number 0 z)
+  at_include p i h e x y true z = with_text o k s p i (g i) (h i.after) e x (eqb-true (g i).number 0 z) y
+  at_include p i h e x y false z = with_fault o k s p i (g i) e x (eqb-false (g i).number 0 z)
 
-  at-event : Inner → (p : ℕ) (h : ℕ → Piece) → ((q : ℕ) → p < q → q ≤ length s → Expands b l o k s q (h q)) → (e : Event) → event_at b l s o p ≡ e →
+  at_event : Inner → (p : ℕ) (h : ℕ → Piece) → ((q : ℕ) → p < q → q ≤ length s → Expands b l o k s q (h q)) → (e : Event) → event_at b l s o p ≡ e →
       EventOk b s p e → Free o e → Expands b l o k s p (after_event k s p g h e)
   unfolding included
-  at-event f p h r (Stops n q) e ok free = as-it-stands o k s p n q e
-  at-event f p h r (Includes i) e ok free =
+  at_event f p h r (Stops n q) e ok free = as_it_stands o k s p n q e
+  at_event f p h r (Includes i) e ok free =
       let a = ok.first in
       let c = ok.hash in
       let d = ok.after in
-      at-include p i h e (f i ok.number free) (r i.after (omega arith) ok.last) (eqb (g i).number 0) refl
+      at_include p i h e (f i ok.number free) (r i.after (omega arith) ok.last) (eqb (g i).number 0) refl
 
   at_place : told_well b l ≡ true → Inner → (n p : ℕ) → length s < p + n → p ≤ length s → Expands b l o k s p (walk b l k s o g p)
   at_place t f zero p h j = absurd (omega arith)
   at_place t f (suc n) p h j =
       subst (Expands b l o k s p) (sym (walk_law b l k s o g p t j))
-      (at-event f p (walk b l k s o g) (λ q u v. at_place t f n q (omega arith) v) (event_at b l s o p) refl (event_ok b l s o p t j) (event_free b l s o p))
+      (at_event f p (walk b l k s o g) (λ q u v. at_place t f n q (omega arith) v) (event_at b l s o p) refl (event_ok b l s o p t j) (event_free b l s o p))
 
 to_depth : (d : ℕ) (b l : List ℕ) → told_well b l ≡ true → (o : List ℕ) (k : ℕ) (s : List ℕ) → length o ≡ 8 → closed o < d → Expands b l o k s 0 (expand_n d b l k s o)
 unfolding inner
@@ -118,27 +118,27 @@ no_line : {A : Type 0} {n q : ℕ} {i : Include} → Stops n q ≡ Includes i �
 no_line e = no_numbers cc
 
 one : {b l o : List ℕ} {k : ℕ} {s : List ℕ} {p : ℕ} {x y : Piece} → Expands b l o k s p x → Expands b l o k s p y → x ≡ y
-one (as-it-stands _ k s p n q e) (as-it-stands _ _ _ _ m r f) = ap₂ (stopped k s p) (same_number (sym e ∙ f)) (same_place (sym e ∙ f))
-one (as-it-stands _ _ _ _ n q e) (with-text _ _ _ _ i x y f u z v) = no_line (sym e ∙ f)
-one (as-it-stands _ _ _ _ n q e) (with-fault _ _ _ _ i x f u z) = no_line (sym e ∙ f)
-one (with-text _ _ _ _ i x y f u z v) (as-it-stands _ _ _ _ n q e) = no_line (sym e ∙ f)
-one (with-fault _ _ _ _ i x f u z) (as-it-stands _ _ _ _ n q e) = no_line (sym e ∙ f)
-one {b} {l} {o} (with-text _ k s p i x y f u z v) (with-text _ _ _ _ j x' y' f' u' z' v') =
+one (as_it_stands _ k s p n q e) (as_it_stands _ _ _ _ m r f) = ap₂ (stopped k s p) (same_number (sym e ∙ f)) (same_place (sym e ∙ f))
+one (as_it_stands _ _ _ _ n q e) (with_text _ _ _ _ i x y f u z v) = no_line (sym e ∙ f)
+one (as_it_stands _ _ _ _ n q e) (with_fault _ _ _ _ i x f u z) = no_line (sym e ∙ f)
+one (with_text _ _ _ _ i x y f u z v) (as_it_stands _ _ _ _ n q e) = no_line (sym e ∙ f)
+one (with_fault _ _ _ _ i x f u z) (as_it_stands _ _ _ _ n q e) = no_line (sym e ∙ f)
+one {b} {l} {o} (with_text _ k s p i x y f u z v) (with_text _ _ _ _ j x' y' f' u' z' v') =
     let w : j ≡ i = same_line (sym f' ∙ f) in
     let c : x ≡ x' = one u (subst (λ (a : Include). Expands b l (set o a.number 1) a.number (bytes_between b a.from a.to) 0 x') w u') in
     let d : y ≡ y' = one v (subst (λ (a : Include). Expands b l o k s a.after y') w v') in
     ap (λ (a : Piece). onto_part k s p i.start (onto a.bytes a.origins (onto_end (origin k i.hash) y))) c
     ∙ ap (λ (a : Piece). onto_part k s p i.start (onto x'.bytes x'.origins (onto_end (origin k i.hash) a))) d
     ∙ ap (λ (a : Include). onto_part k s p a.start (onto x'.bytes x'.origins (onto_end (origin k a.hash) y'))) (sym w)
-one {b} {l} {o} (with-text _ _ _ _ i x y f u z v) (with-fault _ _ _ _ j x' f' u' z') =
+one {b} {l} {o} (with_text _ _ _ _ i x y f u z v) (with_fault _ _ _ _ j x' f' u' z') =
     let w : j ≡ i = same_line (sym f' ∙ f) in
     let c : x ≡ x' = one u (subst (λ (a : Include). Expands b l (set o a.number 1) a.number (bytes_between b a.from a.to) 0 x') w u') in
     absurd (z' (ap (λ (a : Piece). a.number) (sym c) ∙ z))
-one {b} {l} {o} (with-fault _ _ _ _ i x f u z) (with-text _ _ _ _ j x' y' f' u' z' v') =
+one {b} {l} {o} (with_fault _ _ _ _ i x f u z) (with_text _ _ _ _ j x' y' f' u' z' v') =
     let w : j ≡ i = same_line (sym f' ∙ f) in
     let c : x ≡ x' = one u (subst (λ (a : Include). Expands b l (set o a.number 1) a.number (bytes_between b a.from a.to) 0 x') w u') in
     absurd (z (ap (λ (a : Piece). a.number) c ∙ z'))
-one {b} {l} {o} (with-fault _ k s p i x f u z) (with-fault _ _ _ _ j x' f' u' z') =
+one {b} {l} {o} (with_fault _ k s p i x f u z) (with_fault _ _ _ _ j x' f' u' z') =
     let w : j ≡ i = same_line (sym f' ∙ f) in
     let c : x ≡ x' = one u (subst (λ (a : Include). Expands b l (set o a.number 1) a.number (bytes_between b a.from a.to) 0 x') w u') in
     ap (λ (a : Piece). onto_part k s p i.start (with_rest (suc (length s - i.after)) a)) c

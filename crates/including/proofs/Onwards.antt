@@ -26,13 +26,13 @@ unfolding find
 find_up t e p = ap (λ (n : ℕ). first_of t n (suc p)) (suc-sub-suc e p) ∙ first_up t (e - p) p
 
 module _ (x : ℕ) (b : List ℕ) where
-  pub byte-up : (c p : ℕ) → find_byte c (x ∷ b) (suc p) ≡ suc (find_byte c b p)
+  pub byte_up : (c p : ℕ) → find_byte c (x ∷ b) (suc p) ≡ suc (find_byte c b p)
   unfolding find_byte
-  byte-up c p = find_up (λ i. eqb (byte (x ∷ b) i) c) (length b) p
+  byte_up c p = find_up (λ i. eqb (byte (x ∷ b) i) c) (length b) p
 
-  pair-up : (p c d : ℕ) → pair_at (x ∷ b) (suc p) c d ≡ pair_at b p c d
+  pair_up : (p c d : ℕ) → pair_at (x ∷ b) (suc p) c d ≡ pair_at b p c d
   unfolding pair_at
-  pair-up p c d =
+  pair_up p c d =
       ap (λ (n : ℕ). both (ltb n (suc (length b))) (both (eqb (byte b p) c) (eqb (byte (x ∷ b) n) d))) (suc-add p 1)
       ∙ ap (λ (t : Bool). both t (both (eqb (byte b p) c) (eqb (byte b (p + 1)) d))) (leb-suc-suc (suc (p + 1)) (length b))
 
@@ -40,7 +40,7 @@ module _ (x : ℕ) (b : List ℕ) where
   unfolding find_close
   close_up p =
       find_up (λ i. pair_at (x ∷ b) i 42 47) (length b) p
-      ∙ ap (λ (t : ℕ → Bool). suc (find t (length b) p)) (fun_ext (λ i. pair-up i 42 47))
+      ∙ ap (λ (t : ℕ → Bool). suc (find t (length b) p)) (fun_ext (λ i. pair_up i 42 47))
 
 -- ---- what is set aside
 
@@ -54,7 +54,7 @@ at_up : (x : ℕ) (b : List ℕ) (i : ℕ) → aside_at (x ∷ b) (suc i) ≡ su
 unfolding aside_at
 at_up x b i =
     let c : find_close (x ∷ b) (suc i + 2) ≡ suc (find_close b (i + 2)) = ap (find_close (x ∷ b)) (suc-add i 2) ∙ close_up x b (i + 2) in
-    rw (pair-up x b i 47 47, pair-up x b i 47 42, c, leb-suc-suc (suc (find_close b (i + 2))) (length b), suc-add i 1, suc-add (find_close b (i + 2)) 2)
+    rw (pair_up x b i 47 47, pair_up x b i 47 42, c, leb-suc-suc (suc (find_close b (i + 2))) (length b), suc-add i 1, suc-add (find_close b (i + 2)) 2)
     (three_up (is_aside (byte b i)) (pair_at b i 47 47) (both (pair_at b i 47 42) (ltb (find_close b (i + 2)) (length b))) (i + 1) (length b) (find_close b (i + 2) + 2) i)
 
 on_up : (t : Bool) (i j : ℕ) (k h : ℕ → ℕ) → k (suc j) ≡ suc (h j) → on_aside t (suc i) (suc j) k ≡ suc (on_aside t i j h)
@@ -80,5 +80,5 @@ aside_on (x ∷ a) b i =
 pub byte_on : (c : ℕ) (a b : List ℕ) (i : ℕ) → find_byte c (a ++ b) (length a + i) ≡ length a + find_byte c b i
 byte_on c [] b i = ap (find_byte c b) (zero-add i) ∙ sym (zero-add (find_byte c b i))
 byte_on c (x ∷ a) b i =
-    ap (find_byte c (x ∷ (a ++ b))) (suc-add (length a) i) ∙ byte-up x (a ++ b) c (length a + i) ∙ ap suc (byte_on c a b i)
+    ap (find_byte c (x ∷ (a ++ b))) (suc-add (length a) i) ∙ byte_up x (a ++ b) c (length a + i) ∙ ap suc (byte_on c a b i)
     ∙ sym (suc-add (length a) (find_byte c b i))

@@ -12,11 +12,11 @@ use lib.Dec.{ltb, eqb}
 use borrow.Author.Tests.{eq-eqb, eqb-true}
 use Rattle.token.specs.Find.{both, either, byte}
 use Rattle.token.specs.Bytes.{pair_at, find_close}
-use Rattle.token.proofs.Find.{find_here, find-next}
-use Rattle.token.proofs.Bytes.{both_true, both_second, not_true, pair-second, pair-other, pair_inside}
+use Rattle.token.proofs.Find.{find_here, find_next}
+use Rattle.token.proofs.Bytes.{both_true, both_second, not_true, pair_second, pair_other, pair_inside}
 use Rattle.sources.specs.Lines.{is_aside, aside_at, aside}
 use Rattle.sources.proofs.Singles.{split}
-use Rattle.sources.proofs.Asides.{aside-blank, aside-line, aside-comment, aside-open, aside_none, aside-past, aside_stay, aside-next}
+use Rattle.sources.proofs.Asides.{aside_blank, aside_line, aside_comment, aside_open, aside_none, aside_past, aside_stay, aside_next}
 use Rattle.including.specs.IncludeLines.{Blank, space, tab, carriage_return, NoClose, Aside, nothing, blank, comment, AsideEnd, no_more, line_comment}
 use Rattle.including.proofs.Onwards.{close_up, aside_on}
 
@@ -35,7 +35,7 @@ pair_says s p a b e =
 
 -- two bytes at the front
 pair_front : (a b : ℕ) (l : List ℕ) → pair_at (a ∷ b ∷ l) 0 a b ≡ true
-pair_front a b l = pair-second (a ∷ b ∷ l) 0 a b (omega arith) refl ∙ same_byte b
+pair_front a b l = pair_second (a ∷ b ∷ l) 0 a b (omega arith) refl ∙ same_byte b
   where
     same_byte : (b : ℕ) → eqb b b ≡ true
     same_byte b = eq-eqb b b refl
@@ -57,7 +57,7 @@ unfolding find_close
 close_find [] r f = find_here (λ i. pair_at (42 ∷ 47 ∷ r) i 42 47) (length (42 ∷ 47 ∷ r)) 0 (omega arith) (pair_front 42 47 r)
 close_find (b ∷ c) r f =
     let m : List ℕ = c ++ (42 ∷ 47 ∷ r) in
-    find-next (λ i. pair_at (b ∷ m) i 42 47) (length (b ∷ m)) 0 (omega arith) (not_true (pair_at (b ∷ m) 0 42 47) (λ e. here c f (pair_says (b ∷ m) 0 42 47 e)))
+    find_next (λ i. pair_at (b ∷ m) i 42 47) (length (b ∷ m)) 0 (omega arith) (not_true (pair_at (b ∷ m) 0 42 47) (λ e. here c f (pair_says (b ∷ m) 0 42 47 e)))
     ∙ close_up b m 0
     ∙ ap suc (close_find c r (λ x y e. f (b ∷ x) y (ap (λ (z : List ℕ). b ∷ z) e)))
   where
@@ -81,9 +81,9 @@ module _ (b : ℕ) (l : List ℕ) where
       false≢true (sym e ∙ ap (λ (x : List ℕ). pair_at x 0 42 47) z ∙ pair_front 42 47 (y ++ (42 ∷ 47 ∷ r)))
   free_on f r w e k (z ∷ x) y q = k x y (ap (drop 1) q)
 
-  split-on : find_close (b ∷ l) 0 < length (b ∷ l) → (find_close l 0 < length l → CloseSplit l) → (t : Bool) → pair_at (b ∷ l) 0 42 47 ≡ t → CloseSplit (b ∷ l)
+  split_on : find_close (b ∷ l) 0 < length (b ∷ l) → (find_close l 0 < length l → CloseSplit l) → (t : Bool) → pair_at (b ∷ l) 0 42 47 ≡ t → CloseSplit (b ∷ l)
   unfolding find_close
-  split-on h f true e =
+  split_on h f true e =
       record {
         front = [];
         back = drop 2 (b ∷ l);
@@ -91,8 +91,8 @@ module _ (b : ℕ) (l : List ℕ) where
         size = sym (find_here (λ i. pair_at (b ∷ l) i 42 47) (length (b ∷ l)) 0 (omega arith) e);
         free = no_close;
       }
-  split-on h f false e =
-      let n : find_close (b ∷ l) 0 ≡ suc (find_close l 0) = find-next (λ i. pair_at (b ∷ l) i 42 47) (length (b ∷ l)) 0 (omega arith) e ∙ close_up b l 0 in
+  split_on h f false e =
+      let n : find_close (b ∷ l) 0 ≡ suc (find_close l 0) = find_next (λ i. pair_at (b ∷ l) i 42 47) (length (b ∷ l)) 0 (omega arith) e ∙ close_up b l 0 in
       let k = f (omega arith) in
       record {
         front = b ∷ k.front;
@@ -104,7 +104,7 @@ module _ (b : ℕ) (l : List ℕ) where
 
 close_split : (l : List ℕ) → find_close l 0 < length l → CloseSplit l
 close_split [] h = absurd (omega arith)
-close_split (b ∷ l) h = split-on b l h (close_split l) (pair_at (b ∷ l) 0 42 47) refl
+close_split (b ∷ l) h = split_on b l h (close_split l) (pair_at (b ∷ l) 0 42 47) refl
 
 -- ---- blanks
 
@@ -127,10 +127,10 @@ blank_of b = by (eqb b 32) refl (eqb b 9) refl (eqb b 13) refl
 -- ---- what is set aside is passed
 
 front_next : (a r : List ℕ) → (length a ≡ 0 → ⊥) → aside_at (a ++ r) 0 ≡ length a → aside (a ++ r) 0 ≡ length a + aside r 0
-front_next a r h e = aside-next (a ++ r) 0 (λ z. h (sym e ∙ z)) ∙ ap (aside (a ++ r)) (e ∙ sym (add-zero (length a))) ∙ aside_on a r 0
+front_next a r h e = aside_next (a ++ r) 0 (λ z. h (sym e ∙ z)) ∙ ap (aside (a ++ r)) (e ∙ sym (add-zero (length a))) ∙ aside_on a r 0
 
 blank_next : (b : ℕ) (r : List ℕ) → is_aside b ≡ true → aside (b ∷ r) 0 ≡ 1 + aside r 0
-blank_next b r e = front_next (b ∷ []) r (λ z. absurd (omega arith)) (sym (aside-blank (b ∷ r) 0 e))
+blank_next b r e = front_next (b ∷ []) r (λ z. absurd (omega arith)) (sym (aside_blank (b ∷ r) 0 e))
 
 slash_no_aside : is_aside 47 ≡ false
 unfolding is_aside
@@ -146,7 +146,7 @@ comment_next c r f =
     let s : length a ≡ 2 + (length c + 2) = two_more (length (c ++ (42 ∷ 47 ∷ []))) ∙ ap (λ (x : ℕ). 2 + x) (length-append c (42 ∷ 47 ∷ [])) in
     let z = length-append c (42 ∷ 47 ∷ r) in
     let p : aside_at l 0 ≡ find_close l 2 + 2 =
-    sym (aside-comment l 0 slash_no_aside (pair-second l 0 47 47 (omega arith) refl) (pair_front 47 42 m) (omega arith)) in
+    sym (aside_comment l 0 slash_no_aside (pair_second l 0 47 47 (omega arith) refl) (pair_front 47 42 m) (omega arith)) in
     let q : aside_at (a ++ r) 0 ≡ length a = ap (λ (x : List ℕ). aside_at x 0) w ∙ p ∙ (let y : find_close l 2 + 2 ≡ length a = omega arith in y) in
     ap (λ (x : List ℕ). aside x 0) (sym w) ∙ front_next a r (λ y. absurd (omega arith)) q ∙ ap (λ (x : ℕ). x + aside r 0) s
 
@@ -166,17 +166,17 @@ passes (comment {c} {l} k a) r =
 
 -- a byte at which nothing is set aside
 pub stays_at : (b : ℕ) (r : List ℕ) → is_aside b ≡ false → (b ≡ 47 → ⊥) → aside (b ∷ r) 0 ≡ 0
-stays_at b r e n = aside_stay (b ∷ r) 0 (sym (aside_none (b ∷ r) 0 e (pair-other (b ∷ r) 0 47 47 n) (pair-other (b ∷ r) 0 47 42 n)))
+stays_at b r e n = aside_stay (b ∷ r) 0 (sym (aside_none (b ∷ r) 0 e (pair_other (b ∷ r) 0 47 47 n) (pair_other (b ∷ r) 0 47 42 n)))
 
 -- a comment `//` goes to the end
 line_next : (c : List ℕ) → aside (47 ∷ 47 ∷ c) 0 ≡ length (47 ∷ 47 ∷ c)
 line_next c =
     let l : List ℕ = 47 ∷ 47 ∷ c in
-    let e : aside_at l 0 ≡ length l = sym (aside-line l 0 slash_no_aside (pair_front 47 47 c)) in
-    aside-next l 0 (λ z. absurd (omega arith)) ∙ ap (aside l) e ∙ aside_stay l (length l) (sym (aside-past l (length l) (omega arith)))
+    let e : aside_at l 0 ≡ length l = sym (aside_line l 0 slash_no_aside (pair_front 47 47 c)) in
+    aside_next l 0 (λ z. absurd (omega arith)) ∙ ap (aside l) e ∙ aside_stay l (length l) (sym (aside_past l (length l) (omega arith)))
 
 none_next : aside [] 0 ≡ 0
-none_next = aside_stay [] 0 (sym (aside-past [] 0 (omega arith)))
+none_next = aside_stay [] 0 (sym (aside_past [] 0 (omega arith)))
 
 pub passes_end : {x : List ℕ} → AsideEnd x → aside x 0 ≡ length x
 passes_end (no_more {l} a) =
@@ -250,8 +250,8 @@ again : {l m : List ℕ} → l ≡ m → Passed m (aside m 0) → Passed l (asid
 again e p = subst (λ (x : List ℕ). Passed x (aside x 0)) (sym e) p
 
 module _ (b : ℕ) (l : List ℕ) (f : (m : List ℕ) → length m < length (b ∷ l) → Passed m (aside m 0)) where
-  by-close : is_aside b ≡ false → pair_at (b ∷ l) 0 47 47 ≡ false → pair_at (b ∷ l) 0 47 42 ≡ true → Passed (b ∷ l) (aside (b ∷ l) 0)
-  by-close e n g =
+  by_close : is_aside b ≡ false → pair_at (b ∷ l) 0 47 47 ≡ false → pair_at (b ∷ l) 0 47 42 ≡ true → Passed (b ∷ l) (aside (b ∷ l) 0)
+  by_close e n g =
       let w = pair_split (b ∷ l) 47 42 g in
       let m : List ℕ = drop 2 (b ∷ l) in
       let c : find_close (b ∷ l) 2 ≡ 2 + find_close m 0 =
@@ -263,23 +263,23 @@ module _ (b : ℕ) (l : List ℕ) (f : (m : List ℕ) → length m < length (b �
       let y = ap length k.whole in
       let x = length-append k.front (42 ∷ 47 ∷ k.back) in
       again w (comment_passed m k (f k.back (omega arith))))
-      (λ u. none_passed (b ∷ l) (aside (b ∷ l) 0) (aside_stay (b ∷ l) 0 (sym (aside-open (b ∷ l) 0 e n g u))))
+      (λ u. none_passed (b ∷ l) (aside (b ∷ l) 0) (aside_stay (b ∷ l) 0 (sym (aside_open (b ∷ l) 0 e n g u))))
 
-  by-block : (t : Bool) → is_aside b ≡ false → pair_at (b ∷ l) 0 47 47 ≡ false → pair_at (b ∷ l) 0 47 42 ≡ t → Passed (b ∷ l) (aside (b ∷ l) 0)
-  by-block true e n g = by-close e n g
-  by-block false e n g = none_passed (b ∷ l) (aside (b ∷ l) 0) (aside_stay (b ∷ l) 0 (sym (aside_none (b ∷ l) 0 e n g)))
+  by_block : (t : Bool) → is_aside b ≡ false → pair_at (b ∷ l) 0 47 47 ≡ false → pair_at (b ∷ l) 0 47 42 ≡ t → Passed (b ∷ l) (aside (b ∷ l) 0)
+  by_block true e n g = by_close e n g
+  by_block false e n g = none_passed (b ∷ l) (aside (b ∷ l) 0) (aside_stay (b ∷ l) 0 (sym (aside_none (b ∷ l) 0 e n g)))
 
   by_line : (t : Bool) → is_aside b ≡ false → pair_at (b ∷ l) 0 47 47 ≡ t → Passed (b ∷ l) (aside (b ∷ l) 0)
   by_line true e n = again (pair_split (b ∷ l) 47 47 n) (line_passed (drop 2 (b ∷ l)))
-  by_line false e n = by-block (pair_at (b ∷ l) 0 47 42) e n refl
+  by_line false e n = by_block (pair_at (b ∷ l) 0 47 42) e n refl
 
-  by-blank : (t : Bool) → is_aside b ≡ t → Passed (b ∷ l) (aside (b ∷ l) 0)
-  by-blank true e = blank_passed b l e (f l (omega arith))
-  by-blank false e = by_line (pair_at (b ∷ l) 0 47 47) e refl
+  by_blank : (t : Bool) → is_aside b ≡ t → Passed (b ∷ l) (aside (b ∷ l) 0)
+  by_blank true e = blank_passed b l e (f l (omega arith))
+  by_blank false e = by_line (pair_at (b ∷ l) 0 47 47) e refl
 
 by_shorter : (l : List ℕ) → ((m : List ℕ) → length m < length l → Passed m (aside m 0)) → Passed l (aside l 0)
 by_shorter [] f = none_passed [] (aside [] 0) none_next
-by_shorter (b ∷ l) f = by-blank b l f (is_aside b) refl
+by_shorter (b ∷ l) f = by_blank b l f (is_aside b) refl
 
 passed_n : (n : ℕ) (l : List ℕ) → length l ≤ n → Passed l (aside l 0)
 passed_n zero l h = by_shorter l (λ m k. absurd (omega arith))

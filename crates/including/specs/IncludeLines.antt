@@ -45,9 +45,9 @@ pub record IncludeLine (line name : List ℕ) : Type 0 where
   pub opens : ℕ
   pub closes : ℕ
   pub whole : line ≡ before ++ (bytes_of "#include" ++ (between ++ (opens ∷ (name ++ (closes ∷ behind)))))
-  pub before-aside : Aside before
-  pub between-aside : Aside between
-  pub behind-aside : AsideEnd behind
+  pub before_aside : Aside before
+  pub between_aside : Aside between
+  pub behind_aside : AsideEnd behind
   pub quoted : Quotes opens closes
   pub closed : Without closes name
 

@@ -10,12 +10,12 @@ use Rattle.rows.specs.Search.{row_name}
 use Rattle.indexes.specs.declared.Order.TheVariants.{Less, Same}
 use Rattle.indexes.specs.Numbers.{name_number, summary_of}
 use Rattle.indexes.specs.Indexing.{row_key, pair_of, row_pair, row_cell, least_of, RowCompared, entry_of, span, cell_number, least_at, CellCompared}
-use Rattle.indexes.proofs.Digits.{Bytes, part-short, part_bytes}
-use Rattle.indexes.proofs.Comparisons.{sum_less, least_below, row_below, cell-before, cell_row, cell-number, entry-same, entry_row}
+use Rattle.indexes.proofs.Digits.{Bytes, part_short, part_bytes}
+use Rattle.indexes.proofs.Comparisons.{sum_less, least_below, row_below, cell_before, cell_row, cell_number_lem, entry_same, entry_row}
 
 -- The name a stands before the name b in every index: the summaries decide, then the numbers.
 pub data Before (a b : List ℕ) : Type 0 where
-  by-summary : summary_of a < summary_of b → Before a b
+  by_summary : summary_of a < summary_of b → Before a b
   by_number : summary_of a ≡ summary_of b → name_number a < name_number b → Before a b
 
 scaled : (v p : ℕ) → v ≤ p → v * 18446744073709551616 ≤ p * 18446744073709551616
@@ -49,7 +49,7 @@ at_key a k = beside (summary_of a * span) (summary_of a * span) (least_of a 0) (
 
 pub at_more : (a b : List ℕ) → Bytes a → length a ≤ 18446744073709551616 → Before a b → least_at a 0 ≤ least_at b 0
 unfolding least_at
-at_more a b d l (by-summary h) = by (summary_of a * span + least_of a 0) (summary_of b * span + least_of b 0) (sum_less (summary_of a) (summary_of b) span (least_of a 0) (least_of b 0) h below)
+at_more a b d l (by_summary h) = by (summary_of a * span + least_of a 0) (summary_of b * span + least_of b 0) (sum_less (summary_of a) (summary_of b) span (least_of a 0) (least_of b 0) h below)
   where
     below : least_of a 0 < span
     below = let e = least_below a 0 d l (omega arith) in omega (arith, e)
@@ -61,7 +61,7 @@ at_more a b d l (by_number e h) = beside (summary_of a * span) (summary_of b * s
 -- A row's name is no longer than the text.
 pub name_short : (s t : List ℕ) (w m i : ℕ) → length (row_name s t w m i) ≤ length s
 unfolding row_name
-name_short s t w m i = part-short s (cell_of t w i m) (cell_of t w i (m + 1))
+name_short s t w m i = part_short s (cell_of t w i m) (cell_of t w i (m + 1))
 
 pub name_bytes : (s t : List ℕ) (w m i : ℕ) → Bytes s → Bytes (row_name s t w m i)
 unfolding row_name
@@ -69,17 +69,17 @@ name_bytes s t w m i b = part_bytes s (cell_of t w i m) (cell_of t w i (m + 1)) 
 
 module _ (s t : List ℕ) (w c m : ℕ) where
   -- The cell of row i.
-  own-cell : (i : ℕ) → i < 65536 → CellCompared s t w c m (entry_of s t w m i) (row_key t w c i) (row_name s t w m i) Same
+  own_cell : (i : ℕ) → i < 65536 → CellCompared s t w c m (entry_of s t w m i) (row_key t w c i) (row_name s t w m i) Same
   unfolding RowCompared
-  own-cell i h = entry-same s t w c m i (row_key t w c i) (row_name s t w m i) (refl, refl) h
+  own_cell i h = entry_same s t w c m i (row_key t w c i) (row_name s t w m i) (refl, refl) h
 
-  own-summary : (i : ℕ) → i < 65536 → entry_of s t w m i / 65536 ≡ summary_of (row_name s t w m i)
+  own_summary : (i : ℕ) → i < 65536 → entry_of s t w m i / 65536 ≡ summary_of (row_name s t w m i)
   unfolding CellCompared
-  own-summary i h = (own-cell i h).0
+  own_summary i h = (own_cell i h).0
 
-  pub cell-no-less : (i : ℕ) → i < 65536 → least_at (row_name s t w m i) 0 ≤ cell_number s t w c m (entry_of s t w m i)
-  cell-no-less i h =
-      let e = cell-number s t w c m (entry_of s t w m i) (row_key t w c i) (row_name s t w m i) (own-cell i h) in
+  pub cell_no_less : (i : ℕ) → i < 65536 → least_at (row_name s t w m i) 0 ≤ cell_number s t w c m (entry_of s t w m i)
+  cell_no_less i h =
+      let e = cell_number_lem s t w c m (entry_of s t w m i) (row_key t w c i) (row_name s t w m i) (own_cell i h) in
       let k = at_key (row_name s t w m i) (row_key t w c i) in
       omega (arith, e, k)
 
@@ -89,9 +89,9 @@ module _ (s t : List ℕ) (w c m : ℕ) where
 
   pub cell_below : (i : ℕ) (b : List ℕ) → Bytes s → length s ≤ 18446744073709551616 → ((j : ℕ) → get_or t j 0 < 18446744073709551616) → i < 65536 → Before (row_name s t w m i) b → cell_number s t w c m (entry_of s t w m i) < least_at b 0
   unfolding CellCompared
-  cell_below i b u l d h (by-summary g) =
-      cell-before s t w c m (entry_of s t w m i) 0 b (subst (λ (n : ℕ). n < summary_of b) (sym (own-summary i h)) g)
+  cell_below i b u l d h (by_summary g) =
+      cell_before s t w c m (entry_of s t w m i) 0 b (subst (λ (n : ℕ). n < summary_of b) (sym (own_summary i h)) g)
       (subst (λ (j : ℕ). row_cell s t w c m j < span) (sym (entry_row s t w c m i h)) (row_below s t w c m i u l d (omega arith)))
   cell_below i b u l d h (by_number e g) =
-      cell_row s t w c m (entry_of s t w m i) 0 b (own-summary i h ∙ e) Less
+      cell_row s t w c m (entry_of s t w m i) 0 b (own_summary i h ∙ e) Less
       (subst (λ (j : ℕ). RowCompared s t w c m j 0 b Less) (sym (entry_row s t w c m i h)) (row_before i b d g))

@@ -21,7 +21,7 @@ use Rattle.indexes.specs.declared.Place.{Place as Spot}
 use Rattle.indexes.specs.declared.Order.TheVariants.{Less, Same, More}
 use Rattle.indexes.specs.Indexing.{row_pair, pair_of, row_cell, least_of, span, cell_number, least_at, CellCompared, rank, Parts, PartsAt, Stopped, Ends, name_rank, Ranks}
 use Rattle.indexes.proofs.Digits.{number_positive}
-use Rattle.indexes.proofs.Comparisons.{cell-number}
+use Rattle.indexes.proofs.Comparisons.{cell_number_lem}
 
 -- a place of l with the cell c
 pub record Place (l : List ℕ) (c : ℕ) : Type 0 where
@@ -49,16 +49,16 @@ module _ (f : ℕ → ℕ) where
   number_at (y ∷ x) (suc i) h = number_at x i (le_of_suc-le-suc h)
 
   -- of rows in order a later one is no less than an earlier
-  pub rising-rows : (x : List ℕ) (p q : ℕ) → Rising (map f x) → p ≤ q → q < length x → f (get_or x p 0) ≤ f (get_or x q 0)
-  rising-rows x p q r h g = omega (arith, rising_places (map f x) p q r h (omega (arith, length-map x f)), number_at x p (omega arith), number_at x q g)
+  pub rising_rows : (x : List ℕ) (p q : ℕ) → Rising (map f x) → p ≤ q → q < length x → f (get_or x p 0) ≤ f (get_or x q 0)
+  rising_rows x p q r h g = omega (arith, rising_places (map f x) p q r h (omega (arith, length-map x f)), number_at x p (omega arith), number_at x q g)
 
   -- the place where rows are parted is the rank
-  pub parts-rank : (x : List ℕ) (v r : ℕ) → Parts f x v r r → r ≡ rank (map f x) v
+  pub parts_rank : (x : List ℕ) (v r : ℕ) → Parts f x v r r → r ≡ rank (map f x) v
   unfolding rank
-  parts-rank [] v r p = omega (arith, p.inside)
-  parts-rank (y ∷ x) v zero p = ap (λ (b : Bool). pick b (suc (rank (map f x) v)) 0) (sym (le-ltb (f y) v (p.more 0 (omega arith) (omega arith))))
-  parts-rank (y ∷ x) v (suc r) p =
-      ap suc (parts-rank x v r (record { inside = le_of_suc-le-suc p.inside; less = λ i h g. p.less (suc i) (omega arith) (omega arith); more = λ i h g. p.more (suc i) (omega arith) (omega arith) }))
+  parts_rank [] v r p = omega (arith, p.inside)
+  parts_rank (y ∷ x) v zero p = ap (λ (b : Bool). pick b (suc (rank (map f x) v)) 0) (sym (le-ltb (f y) v (p.more 0 (omega arith) (omega arith))))
+  parts_rank (y ∷ x) v (suc r) p =
+      ap suc (parts_rank x v r (record { inside = le_of_suc-le-suc p.inside; less = λ i h g. p.less (suc i) (omega arith) (omega arith); more = λ i h g. p.more (suc i) (omega arith) (omega arith) }))
       ∙ ap (λ (b : Bool). pick b (suc (rank (map f x) v)) 0) (sym (lt-ltb (f y) v (p.less 0 (omega arith) (omega arith))))
 
 module _ (s t : List ℕ) (w c k m : ℕ) (x l : List ℕ) where
@@ -67,13 +67,13 @@ module _ (s t : List ℕ) (w c k m : ℕ) (x l : List ℕ) where
   unfolding PartsAt
   parts_all r = record { inside = omega arith; less = λ i h g. absurd (omega arith); more = λ i h g. absurd (omega arith) }
 
-  pub stopped-end : Stopped s t w c k m x l (length x) false
-  stopped-end = record { here = λ e. absurd (false≢true e); past = λ e h. absurd (omega arith) }
+  pub stopped_end : Stopped s t w c k m x l (length x) false
+  stopped_end = record { here = λ e. absurd (false≢true e); past = λ e h. absurd (omega arith) }
 
   module _ (low high i : ℕ) (p : PartsAt s t w c k m x l low high) (g : i < length x) where
-    at-or-past : least_at l k ≤ cell_number s t w c m (get_or x i 0) → PartsAt s t w c k m x l low i
+    at_or_past : least_at l k ≤ cell_number s t w c m (get_or x i 0) → PartsAt s t w c k m x l low i
     unfolding PartsAt
-    at-or-past h d = record { inside = (p d).inside; less = (p d).less; more = λ j a b. omega (arith, rising-rows (cell_number s t w c m) x i j d a b) }
+    at_or_past h d = record { inside = (p d).inside; less = (p d).less; more = λ j a b. omega (arith, rising_rows (cell_number s t w c m) x i j d a b) }
 
     module _ (r : Order) (o : CellCompared s t w c m (get_or x i 0) k l r) where
       compared : (q : Order) → r ≡ q → CellCompared s t w c m (get_or x i 0) k l q
@@ -86,17 +86,17 @@ module _ (s t : List ℕ) (w c k m : ℕ) (x l : List ℕ) where
           let below : cell_number s t w c m (get_or x i 0) < least_at l k = compared Less e in
           record {
             inside = omega arith;
-            less = λ j a b. omega (arith, rising-rows (cell_number s t w c m) x j i d (omega arith) g);
+            less = λ j a b. omega (arith, rising_rows (cell_number s t w c m) x j i d (omega arith) g);
             more = (p d).more;
           }
 
       -- it is not
       pub parts_same : r ≡ Same → PartsAt s t w c k m x l low i
-      parts_same e = at-or-past (omega (arith, cell-number s t w c m (get_or x i 0) k l (compared Same e)))
+      parts_same e = at_or_past (omega (arith, cell_number_lem s t w c m (get_or x i 0) k l (compared Same e)))
 
       pub parts_more : r ≡ More → PartsAt s t w c k m x l low i
       unfolding CellCompared
-      parts_more e = let above : least_at l k + 18446744073709551616 ≤ cell_number s t w c m (get_or x i 0) = compared More e in at-or-past (omega arith)
+      parts_more e = let above : least_at l k + 18446744073709551616 ≤ cell_number s t w c m (get_or x i 0) = compared More e in at_or_past (omega arith)
 
       pub stopped-same : r ≡ Same → Stopped s t w c k m x l i true
       stopped-same e = record { here = λ _. (g, compared Same e); past = λ f. absurd (false≢true (sym f)) }
@@ -111,7 +111,7 @@ module _ (s t : List ℕ) (w c k m : ℕ) (x l : List ℕ) where
 -- the place for a name and the key 0 is the name's rank
 pub ends_ranks : (s t : List ℕ) (w c m : ℕ) (x l : List ℕ) (p : Spot) → Ends s t w c 0 m x l p → Ranks s t w c m x l p.at
 unfolding PartsAt Ranks name_rank
-ends_ranks s t w c m x l p h n d b = parts-rank (cell_number s t w c m) x (least_at l 0) p.at (h.parts d.rising)
+ends_ranks s t w c m x l p h n d b = parts_rank (cell_number s t w c m) x (least_at l 0) p.at (h.parts d.rising)
 
 -- no cell stands before those with an empty name
 part_none : (s : List ℕ) (at : ℕ) → part_of s at 0 ≡ []
@@ -144,5 +144,5 @@ pub rank_none : (s t : List ℕ) (w c m : ℕ) (x : List ℕ) (at len : ℕ) →
 unfolding Ranks name_rank
 rank_none s t w c m x at len z n d h =
     subst (λ (l : List ℕ). 0 ≡ rank (map (cell_number s t w c m) x) (least_at l 0)) (sym (ap (part_of s at) z ∙ part_none s at))
-    (parts-rank (cell_number s t w c m) x (least_at [] 0) 0
+    (parts_rank (cell_number s t w c m) x (least_at [] 0) 0
     (record { inside = omega arith; less = λ i a b. absurd (omega arith); more = λ i a b. least_cell s t w c m (get_or x i 0) }))

@@ -6,7 +6,7 @@ use native.Mathlib.Omega.{arith}
 use lib.ListN.{length, get_or}
 use Rattle.rows.specs.declared.Found.TheVariants.{At}
 use Rattle.rows.specs.Search.{find_row}
-use Rattle.rows.proofs.Searches.{row-stop, row_more}
+use Rattle.rows.proofs.Searches.{row_stop, row_more}
 
 -- row k begins at p
 module _ (d : List ℕ) (n key k p : ℕ) (h : k < n) (f : n ≤ 512) (g : 9728 ≤ length d) (q : p ≡ k * 19) where
@@ -17,8 +17,8 @@ module _ (d : List ℕ) (n key k p : ℕ) (h : k < n) (f : n ≤ 512) (g : 9728 
   first_cell = let z : p + 0 ≡ p = omega arith in ap (λ (i : ℕ). get_or d i 0) z
 
   -- it stands under the word
-  pub under-stop : get_or d p 0 ≡ key → find_row d 19 n 0 key k ≡ At k
-  under-stop c = row-stop d 19 n 0 key k p h begins (first_cell ∙ c)
+  pub under_stop : get_or d p 0 ≡ key → find_row d 19 n 0 key k ≡ At k
+  under_stop c = row_stop d 19 n 0 key k p h begins (first_cell ∙ c)
 
   -- it does not
   pub under_more : (get_or d p 0 ≡ key → ⊥) → find_row d 19 n 0 key k ≡ find_row d 19 n 0 key (k + 1)

@@ -29,7 +29,7 @@ use Rattle.meaning.specs.Faults.{first, faults_if, Fault as Refusal}
 use Rattle.meaning.specs.Scopes.{sort_of, names, find_definition, find_object, fits, under, of_kind}
 use Rattle.meaning.specs.Judging.{lacks, reference_faults, brace_faults, faults_as, own_faults, and_inside, judged, judge, judge_object, judge_objects, statement_stage}
 use Rattle.layout.specs.Kept.{class_number, code_of, place_or, statement_cells, statement_count, kind_place}
-use Rattle.blocks.specs.Blocks.{BraceIn, no_brace, a-brace, BlockAt, row_after, IsBefore}
+use Rattle.blocks.specs.Blocks.{BraceIn, no_brace, a_brace, BlockAt, row_after, IsBefore}
 use Rattle.scopes.specs.Situations.{HasDefinition, Stands, ScopeAt, no_scope, scope}
 use Rattle.scopes.specs.Given.{Given, Places}
 use Rattle.scopes.specs.Promises.{fault_of, row_found, object_found, FindsDefinition, FindsWord, FindsObject, TakesUnder}
@@ -39,43 +39,43 @@ use Rattle.scopes.proofs.Descents.{found_definition, scope_under, scope_of_kind}
 use Rattle.judging.specs.Promises.{name_code, ReferenceFault, StatedAs, OwnFault, Marked, Lacks, LackFault, Scoped, Judges, JudgesOne, JudgesBlock, JudgesObject, JudgesObjects}
 use Rattle.scopes.specs.declared.Sizes.{Sizes}
 use Rattle.lookups.proofs.Standings.{file_stands}
-use Rattle.lookups.proofs.Attributes.{read_at, AttributeRow, stands-below, reached, known, formed, kept_object}
+use Rattle.lookups.proofs.Attributes.{read_at, AttributeRow, stands_below, reached, known, formed, kept_object}
 use Rattle.sorting.specs.Sorted.{Tells}
 use Rattle.lookups.specs.Owners.{Owners}
 use Rattle.judging.proofs.Lacking.{unowned}
 use Rattle.scopes.proofs.Firsts.{real, real_if, fault_append, fault_at, none_there}
-use Rattle.blocks.proofs.Ranges.{first_cell, first-name, first_value, first-brace, first-after, inside_at, in_then, then_done, back_at}
+use Rattle.blocks.proofs.Ranges.{first_cell, first_name, first_value, first_brace, first_after, inside_at, in_then, then_done, back_at}
 use Rattle.layout.proofs.Codes.{kind_low, integer_low}
 
 -- Names ------------------------------------------------------------------------------------------------------------------------------------
 
 -- The cases of a code.
 module _ (c : ℕ) where
-  pub code-number : c ≡ 43 → name_code c ≡ false
+  pub code_number : c ≡ 43 → name_code c ≡ false
   unfolding name_code
-  code-number h = ap (λ b. pick b false (pick (eqb c 44) false (pick (eqb c 0) true (pick (eqb c 54) false (leb 5 c))))) (eq-eqb c 43 h)
+  code_number h = ap (λ b. pick b false (pick (eqb c 44) false (pick (eqb c 0) true (pick (eqb c 54) false (leb 5 c))))) (eq-eqb c 43 h)
 
-  code-not-number : (c ≡ 43 → ⊥) → name_code c ≡ pick (eqb c 44) false (pick (eqb c 0) true (pick (eqb c 54) false (leb 5 c)))
+  code_not_number : (c ≡ 43 → ⊥) → name_code c ≡ pick (eqb c 44) false (pick (eqb c 0) true (pick (eqb c 54) false (leb 5 c)))
   unfolding name_code
-  code-not-number h = ap (λ b. pick b false (pick (eqb c 44) false (pick (eqb c 0) true (pick (eqb c 54) false (leb 5 c))))) (ne_eqb c 43 h)
+  code_not_number h = ap (λ b. pick b false (pick (eqb c 44) false (pick (eqb c 0) true (pick (eqb c 54) false (leb 5 c))))) (ne_eqb c 43 h)
 
-  pub code-string : (c ≡ 43 → ⊥) → c ≡ 44 → name_code c ≡ false
-  code-string h i = code-not-number h ∙ ap (λ b. pick b false (pick (eqb c 0) true (pick (eqb c 54) false (leb 5 c)))) (eq-eqb c 44 i)
+  pub code_string : (c ≡ 43 → ⊥) → c ≡ 44 → name_code c ≡ false
+  code_string h i = code_not_number h ∙ ap (λ b. pick b false (pick (eqb c 0) true (pick (eqb c 54) false (leb 5 c)))) (eq-eqb c 44 i)
 
-  code-not-string : (c ≡ 43 → ⊥) → (c ≡ 44 → ⊥) → name_code c ≡ pick (eqb c 0) true (pick (eqb c 54) false (leb 5 c))
-  code-not-string h i = code-not-number h ∙ ap (λ b. pick b false (pick (eqb c 0) true (pick (eqb c 54) false (leb 5 c)))) (ne_eqb c 44 i)
+  code_not_string : (c ≡ 43 → ⊥) → (c ≡ 44 → ⊥) → name_code c ≡ pick (eqb c 0) true (pick (eqb c 54) false (leb 5 c))
+  code_not_string h i = code_not_number h ∙ ap (λ b. pick b false (pick (eqb c 0) true (pick (eqb c 54) false (leb 5 c)))) (ne_eqb c 44 i)
 
-  pub code-ordinary : (c ≡ 43 → ⊥) → (c ≡ 44 → ⊥) → c ≡ 0 → name_code c ≡ true
-  code-ordinary h i k = code-not-string h i ∙ ap (λ b. pick b true (pick (eqb c 54) false (leb 5 c))) (eq-eqb c 0 k)
+  pub code_ordinary : (c ≡ 43 → ⊥) → (c ≡ 44 → ⊥) → c ≡ 0 → name_code c ≡ true
+  code_ordinary h i k = code_not_string h i ∙ ap (λ b. pick b true (pick (eqb c 54) false (leb 5 c))) (eq-eqb c 0 k)
 
-  code-not-ordinary : (c ≡ 43 → ⊥) → (c ≡ 44 → ⊥) → (c ≡ 0 → ⊥) → name_code c ≡ pick (eqb c 54) false (leb 5 c)
-  code-not-ordinary h i k = code-not-string h i ∙ ap (λ b. pick b true (pick (eqb c 54) false (leb 5 c))) (ne_eqb c 0 k)
+  code_not_ordinary : (c ≡ 43 → ⊥) → (c ≡ 44 → ⊥) → (c ≡ 0 → ⊥) → name_code c ≡ pick (eqb c 54) false (leb 5 c)
+  code_not_ordinary h i k = code_not_string h i ∙ ap (λ b. pick b true (pick (eqb c 54) false (leb 5 c))) (ne_eqb c 0 k)
 
-  pub code-float : (c ≡ 43 → ⊥) → (c ≡ 44 → ⊥) → (c ≡ 0 → ⊥) → c ≡ 54 → name_code c ≡ false
-  code-float h i k l = code-not-ordinary h i k ∙ ap (λ b. pick b false (leb 5 c)) (eq-eqb c 54 l)
+  pub code_float : (c ≡ 43 → ⊥) → (c ≡ 44 → ⊥) → (c ≡ 0 → ⊥) → c ≡ 54 → name_code c ≡ false
+  code_float h i k l = code_not_ordinary h i k ∙ ap (λ b. pick b false (leb 5 c)) (eq-eqb c 54 l)
 
   pub code_other : (c ≡ 43 → ⊥) → (c ≡ 44 → ⊥) → (c ≡ 0 → ⊥) → (c ≡ 54 → ⊥) → name_code c ≡ leb 5 c
-  code_other h i k l = code-not-ordinary h i k ∙ ap (λ b. pick b false (leb 5 c)) (ne_eqb c 54 l)
+  code_other h i k l = code_not_ordinary h i k ∙ ap (λ b. pick b false (leb 5 c)) (ne_eqb c 54 l)
 
 from_five : (n : ℕ) → (n ≡ 0 → ⊥) → (n ≡ 1 → ⊥) → (n ≡ 2 → ⊥) → (n ≡ 3 → ⊥) → (n ≡ 4 → ⊥) → 5 ≤ n
 from_five zero a b c d e = absurd (a refl)
@@ -90,9 +90,9 @@ module _ (os : List Object) (k : Kind) (t : Word) where
   abbrev Coded : ℕ → Type 0
   Coded n = reference_faults os k (sort_coded n) t ≡ pick (name_code n) (faults_if (not (is_there (find_object k os t))) t 18) (faults_if true t 15)
 
-  reference-coded : (n : ℕ) → Coded n
+  reference_coded : (n : ℕ) → Coded n
   unfolding reference_faults sort_coded name_code
-  reference-coded n = by (ℕ_discrete n 43) (ℕ_discrete n 44) (ℕ_discrete n 0) (ℕ_discrete n 1) (ℕ_discrete n 2) (ℕ_discrete n 3) (ℕ_discrete n 4) (ℕ_discrete n 54)
+  reference_coded n = by (ℕ_discrete n 43) (ℕ_discrete n 44) (ℕ_discrete n 0) (ℕ_discrete n 1) (ℕ_discrete n 2) (ℕ_discrete n 3) (ℕ_discrete n 4) (ℕ_discrete n 54)
     where
       by : Dec (n ≡ 43) → Dec (n ≡ 44) → Dec (n ≡ 0) → Dec (n ≡ 1) → Dec (n ≡ 2) → Dec (n ≡ 3) → Dec (n ≡ 4) → Dec (n ≡ 54) → Coded n
       by (yes e) _ _ _ _ _ _ _ = subst Coded (sym e) refl
@@ -107,8 +107,8 @@ module _ (os : List Object) (k : Kind) (t : Word) where
           ap (λ q. reference_faults os k q t) (name_coded n a b d e f g h)
           ∙ ap (λ q. pick q (faults_if (not (is_there (find_object k os t))) t 18) (faults_if true t 15)) (sym (code_other n a b c h ∙ le-leb 5 n (from_five n c d e f g)))
 
-  reference-by : (c : Class) → reference_faults os k (sort_of c) t ≡ pick (name_code (class_number c)) (faults_if (not (is_there (find_object k os t))) t 18) (faults_if true t 15)
-  reference-by c = ap (λ q. reference_faults os k q t) (tells c).sort ∙ reference-coded (class_number c)
+  reference_by : (c : Class) → reference_faults os k (sort_of c) t ≡ pick (name_code (class_number c)) (faults_if (not (is_there (find_object k os t))) t 18) (faults_if true t 15)
+  reference_by c = ap (λ q. reference_faults os k q t) (tells c).sort ∙ reference_coded (class_number c)
 
 found_there : (o : Option Object) → is_found (object_found o) ≡ is_there o
 unfolding object_found is_there
@@ -117,27 +117,27 @@ found_there (some x) = refl
 
 -- A reference's value: no name; no object; an object.
 module _ (s o : List ℕ) (n kind at len code : ℕ) where
-  pub reference-no-name : name_code code ≡ false → ReferenceFault s o n kind at len code (record { number = 15; place = at })
+  pub reference_no_name : name_code code ≡ false → ReferenceFault s o n kind at len code (record { number = 15; place = at })
   unfolding code_of fault_if
-  reference-no-name h f k t p q l m i b pl e =
+  reference_no_name h f k t p q l m i b pl e =
       fault_at true t 15 at pl
-      ∙ ap (λ l. fault_of (first l)) (sym (reference-by f.objects k t t.class ∙ ap (λ b. pick b (faults_if (not (is_there (find_object k f.objects t))) t 18) (faults_if true t 15)) (ap name_code e ∙ h)))
+      ∙ ap (λ l. fault_of (first l)) (sym (reference_by f.objects k t t.class ∙ ap (λ b. pick b (faults_if (not (is_there (find_object k f.objects t))) t 18) (faults_if true t 15)) (ap name_code e ∙ h)))
 
-  pub reference-name : (r : Found) → name_code code ≡ true → FindsObject s o n kind at len r → ReferenceFault s o n kind at len code (fault_if (not (is_found r)) 18 at)
+  pub reference_name : (r : Found) → name_code code ≡ true → FindsObject s o n kind at len r → ReferenceFault s o n kind at len code (fault_if (not (is_found r)) 18 at)
   unfolding code_of
-  reference-name r h g f k t p q l m i b pl e =
+  reference_name r h g f k t p q l m i b pl e =
       let there : is_found r ≡ is_there (find_object k f.objects t) = ap is_found (g f k t p q l m i b) ∙ found_there (find_object k f.objects t) in
       ap (λ b. fault_if (not b) 18 at) there
       ∙ fault_at (not (is_there (find_object k f.objects t))) t 18 at pl
-      ∙ ap (λ l. fault_of (first l)) (sym (reference-by f.objects k t t.class ∙ ap (λ b. pick b (faults_if (not (is_there (find_object k f.objects t))) t 18) (faults_if true t 15)) (ap name_code e ∙ h)))
+      ∙ ap (λ l. fault_of (first l)) (sym (reference_by f.objects k t t.class ∙ ap (λ b. pick b (faults_if (not (is_there (find_object k f.objects t))) t 18) (faults_if true t 15)) (ap name_code e ∙ h)))
 
-  pub reference-nothing : name_code code ≡ true → FindsObject s o n kind at len Nothing → ReferenceFault s o n kind at len code (record { number = 18; place = at })
+  pub reference_nothing : name_code code ≡ true → FindsObject s o n kind at len Nothing → ReferenceFault s o n kind at len code (record { number = 18; place = at })
   unfolding fault_if
-  reference-nothing h g = reference-name Nothing h g
+  reference_nothing h g = reference_name Nothing h g
 
-  pub reference-object : (i : ℕ) → name_code code ≡ true → FindsObject s o n kind at len (At i) → ReferenceFault s o n kind at len code (record { number = 0; place = 0 })
+  pub reference_object : (i : ℕ) → name_code code ≡ true → FindsObject s o n kind at len (At i) → ReferenceFault s o n kind at len code (record { number = 0; place = 0 })
   unfolding fault_if
-  reference-object i h g = reference-name (At i) h g
+  reference_object i h g = reference_name (At i) h g
 
 -- A statement's cells ----------------------------------------------------------------------------------------------------------------------
 
@@ -148,52 +148,52 @@ one_zero h = omega arith
 brace_fault : {s : List ℕ} (o : Option Word) (p : ℕ) → p ≡ place_or o → BraceIn s o → fault_if (not (eqb p 0)) 15 p ≡ fault_of (first (brace_faults o))
 unfolding place_or brace_faults fault_of fault_if first
 brace_fault none p e no_brace = ap (λ q. fault_if (not (eqb q 0)) 15 q) e
-brace_fault (some t) p e (a-brace w) =
+brace_fault (some t) p e (a_brace w) =
     let l = w.later in
     ap (λ b. fault_if (not b) 15 p) (ne_eqb p 0 (λ h. omega arith)) ∙ fault_at true t 15 p (sym e)
 
 module _ {s d e o st : List ℕ} {z : Sizes} {k j : ℕ} {f : File} {x : Statement} {y : Defined} (a : StatedAs s d e o st z k j f x y) where
-  value-place : get_or st (k * 7 + 2) 0 ≡ x.value.place
+  value_place : get_or st (k * 7 + 2) 0 ≡ x.value.place
   unfolding statement_cells
-  value-place = first_cell a.block 2 (omega arith)
+  value_place = first_cell a.block 2 (omega arith)
 
-  value-size : get_or st (k * 7 + 3) 0 ≡ x.value.length
+  value_size : get_or st (k * 7 + 3) 0 ≡ x.value.length
   unfolding statement_cells
-  value-size = first_cell a.block 3 (omega arith)
+  value_size = first_cell a.block 3 (omega arith)
 
-  value-code : get_or st (k * 7 + 4) 0 ≡ code_of x.value
+  value_code : get_or st (k * 7 + 4) 0 ≡ code_of x.value
   unfolding statement_cells
-  value-code = first_cell a.block 4 (omega arith)
+  value_code = first_cell a.block 4 (omega arith)
 
-  brace-place : get_or st (k * 7 + 5) 0 ≡ place_or x.brace
+  brace_place : get_or st (k * 7 + 5) 0 ≡ place_or x.brace
   unfolding statement_cells
-  brace-place = first_cell a.block 5 (omega arith)
+  brace_place = first_cell a.block 5 (omega arith)
 
   name_place : get_or st (k * 7 + 0) 0 ≡ x.name.place
   unfolding statement_cells
   name_place = first_cell a.block 0 (omega arith)
 
-  name-size : get_or st (k * 7 + 1) 0 ≡ x.name.length
+  name_size : get_or st (k * 7 + 1) 0 ≡ x.name.length
   unfolding statement_cells
-  name-size = first_cell a.block 1 (omega arith)
+  name_size = first_cell a.block 1 (omega arith)
 
   row : AttributeRow s d f a.attribute.under j y
   row = known a.given.tables a.attribute
 
-  type-formed : Formed s y.definition y.values
-  type-formed = formed a.given.tables a.attribute
+  type_formed : Formed s y.definition y.values
+  type_formed = formed a.given.tables a.attribute
 
   -- The scope of the word that the value is, of the values of its attribute.
   pub value_scope : (at len u : ℕ) → at ≡ get_or st (k * 7 + 2) 0 → len ≡ get_or st (k * 7 + 3) 0 → FindsWord s d e z.enumerators j at len u → ScopeAt f u (under y.values x.value)
   value_scope at len u pa pl w =
       let T = a.given.tables in
       let is = w f y x.value T.situation T.in_definitions T.in_enumerators row.row-of row.low (reached T y.values)
-      (read_at (first_value a.block) (pa ∙ value-place) (pl ∙ value-size)).bytes in
+      (read_at (first_value a.block) (pa ∙ value_place) (pl ∙ value_size)).bytes in
       subst (λ q. ScopeAt f q (under y.values x.value)) (sym is) (scope_under x.value T.situation row.row-of)
 
   -- No type's word has a code below 22.
   pub value_none : (c : ℕ) → c ≡ get_or d (j * 19 + 12) 0 → c < 22 → ⊥
-  value_none c e h = go (e ∙ row.type-code) type-formed
+  value_none c e h = go (e ∙ row.type-code) type_formed
     where
       go : c ≡ code_of y.definition.word → {vs : Values} → Formed s y.definition vs → ⊥
       go q (an_integer i t w b) = let l = integer_low i in omega arith
@@ -204,12 +204,12 @@ module _ {s d e o st : List ℕ} {z : Sizes} {k j : ℕ} {f : File} {x : Stateme
       go q (a_reference r t w b) = omega arith
 
   -- From 22 up to 34 it is a reference.
-  pub value-reference : (c at len code brace : ℕ) (g : Fault) → c ≡ get_or d (j * 19 + 12) 0 → 22 ≤ c → c < 35
+  pub value_reference : (c at len code brace : ℕ) (g : Fault) → c ≡ get_or d (j * 19 + 12) 0 → 22 ≤ c → c < 35
       → at ≡ get_or st (k * 7 + 2) 0 → len ≡ get_or st (k * 7 + 3) 0 → code ≡ get_or st (k * 7 + 4) 0 → brace ≡ get_or st (k * 7 + 5) 0
       → ReferenceFault s o z.objects (c - 22) at len code g
       → sooner-of g (fault_if (not (eqb brace 0)) 15 brace) ≡ fault_of (first (faults_as y.definition.type f.objects x y))
   unfolding faults_as bit
-  value-reference c at len code brace g e l h pa pl pc pb r = go (e ∙ row.type-code) type-formed
+  value_reference c at len code brace g e l h pa pl pc pb r = go (e ∙ row.type-code) type_formed
     where
       unfolded : (q : Kind) → y.definition.type ≡ reference q
           → fault_of (first (reference_faults f.objects q (sort_of x.value.class) x.value ++ brace_faults x.brace)) ≡ fault_of (first (faults_as y.definition.type f.objects x y))
@@ -227,42 +227,42 @@ module _ {s d e o st : List ℕ} {z : Sizes} {k j : ℕ} {f : File} {x : Stateme
           let room_of = a.given.tables.objects-fit in
           let v = first_value a.block in
           let g-is : g ≡ fault_of (first (reference_faults f.objects q (sort_of x.value.class) x.value)) =
-          r f q x.value a.given.tables.situation a.given.tables.in_objects a.given.tables.objects (omega arith) n (v.bytes ∙ sym (ap₂ (part_of s) (pa ∙ value-place) (pl ∙ value-size)))
-          (sym (pa ∙ value-place)) (sym (pc ∙ value-code)) in
-          ap₂ sooner-of g-is (brace_fault x.brace brace (pb ∙ brace-place) (first-brace a.block))
+          r f q x.value a.given.tables.situation a.given.tables.in_objects a.given.tables.objects (omega arith) n (v.bytes ∙ sym (ap₂ (part_of s) (pa ∙ value_place) (pl ∙ value_size)))
+          (sym (pa ∙ value_place)) (sym (pc ∙ value_code)) in
+          ap₂ sooner-of g-is (brace_fault x.brace brace (pb ∙ brace_place) (first_brace a.block))
           ∙ sym (fault_append (reference_faults f.objects q (sort_of x.value.class) x.value) (brace_faults x.brace)
           (real (of_reference f.objects q (sort_of x.value.class) x.value)) (real (of_brace x.brace)))
           ∙ unfolded q t
 
   -- From 35 on it is not.
-  pub value-other : (c at code u : ℕ) (b : Bool) → c ≡ get_or d (j * 19 + 12) 0 → 35 ≤ c
+  pub value_other : (c at code u : ℕ) (b : Bool) → c ≡ get_or d (j * 19 + 12) 0 → 35 ≤ c
       → at ≡ get_or st (k * 7 + 2) 0 → code ≡ get_or st (k * 7 + 4) 0 → FindsWord s d e z.enumerators j (get_or st (k * 7 + 2) 0) (get_or st (k * 7 + 3) 0) u
       → TakesUnder s d j at code u b → fault_if (not b) 15 at ≡ fault_of (first (faults_as y.definition.type f.objects x y))
   unfolding faults_as bit
-  value-other c at code u b q h pa pc w r =
+  value_other c at code u b q h pa pc w r =
       let v = first_value a.block in
       let len = get_or st (k * 7 + 3) 0 in
-      let same_place = pa ∙ value-place in
+      let same_place = pa ∙ value_place in
       let T = a.given.tables in
       let taken : b ≡ fits y.definition y.values x.value =
       r e z.enumerators len (subst (λ p. FindsWord s d e z.enumerators j p len u) (sym pa) w) f y x.value T.situation T.in_definitions T.in_enumerators
-      row.row-of row.low (reached T y.values) (read_at v same_place value-size) (sym (pc ∙ value-code)) in
+      row.row-of row.low (reached T y.values) (read_at v same_place value_size) (sym (pc ∙ value_code)) in
       ap (λ t. fault_if (not t) 15 at) taken
       ∙ fault_at (not (fits y.definition y.values x.value)) x.value 15 at (sym same_place)
-      ∙ go (q ∙ row.type-code) type-formed
+      ∙ go (q ∙ row.type-code) type_formed
     where
-      no-reference : (u : AttributeType) → y.definition.type ≡ u
+      no_reference : (u : AttributeType) → y.definition.type ≡ u
           → faults_as u f.objects x y ≡ faults_if (not (fits y.definition y.values x.value)) x.value 15
           → fault_of (first (faults_if (not (fits y.definition y.values x.value)) x.value 15)) ≡ fault_of (first (faults_as y.definition.type f.objects x y))
-      no-reference u t q = ap (λ l. fault_of (first l)) (sym q ∙ sym (ap (λ w. faults_as w f.objects x y) t))
+      no_reference u t q = ap (λ l. fault_of (first l)) (sym q ∙ sym (ap (λ w. faults_as w f.objects x y) t))
 
       go : c ≡ code_of y.definition.word → {vs : Values} → Formed s y.definition vs
           → fault_of (first (faults_if (not (fits y.definition y.values x.value)) x.value 15)) ≡ fault_of (first (faults_as y.definition.type f.objects x y))
-      go m (an_integer i t w b) = no-reference (integer i) t refl
-      go m (a_string t w b) = no-reference string t refl
-      go m (a_float t w b) = no-reference float t refl
-      go m (a_boolean t w b v) = no-reference boolean t refl
-      go m (an_enum t w b v) = no-reference enum t refl
+      go m (an_integer i t w b) = no_reference (integer i) t refl
+      go m (a_string t w b) = no_reference string t refl
+      go m (a_float t w b) = no_reference float t refl
+      go m (a_boolean t w b v) = no_reference boolean t refl
+      go m (an_enum t w b v) = no_reference enum t refl
       go m (a_reference q t w b) = let l = kind_low q in absurd (omega arith)
 
   -- A list may be stated again.
@@ -275,10 +275,10 @@ module _ {s d e o st : List ℕ} {z : Sizes} {k j : ℕ} {f : File} {x : Stateme
       go false q = absurd (h q)
 
   -- A single attribute may not.
-  pub again-single : (c m n : ℕ) (r : Bool) (before : Statements) → c ≡ get_or d (j * 19 + 6) 0 → c ≡ 0
+  pub again_single : (c m n : ℕ) (r : Bool) (before : Statements) → c ≡ get_or d (j * 19 + 6) 0 → c ≡ 0
       → BlockAt s st m n (then before (state x a.inside a.rest)) → k ≡ m + statements_in before → IsBefore s st m k n r → r ≡ both (not y.definition.list) (among x.name (names before))
   unfolding faults_as bit
-  again-single c m n r before e h b q g =
+  again_single c m n r before e h b q g =
       g before x a.inside a.rest b q ∙ go y.definition.list (sym h ∙ e ∙ row.list-mark)
     where
       go : (t : Bool) → 0 ≡ bit t → among x.name (names before) ≡ both (not t) (among x.name (names before))
@@ -286,10 +286,10 @@ module _ {s d e o st : List ℕ} {z : Sizes} {k j : ℕ} {f : File} {x : Stateme
       go false q = refl
 
   -- 14, and then those of the value.
-  pub own-by : (name : ℕ) (r : Bool) (g : Fault) (before : Statements) → name ≡ get_or st (k * 7 + 0) 0 → r ≡ both (not y.definition.list) (among x.name (names before))
+  pub own_by : (name : ℕ) (r : Bool) (g : Fault) (before : Statements) → name ≡ get_or st (k * 7 + 0) 0 → r ≡ both (not y.definition.list) (among x.name (names before))
       → g ≡ fault_of (first (faults_as y.definition.type f.objects x y)) → sooner-of (fault_if r 14 name) g ≡ fault_of (first (own_faults f.objects x y (names before)))
   unfolding own_faults
-  own-by name r g before n e q =
+  own_by name r g before n e q =
       let t = both (not y.definition.list) (among x.name (names before)) in
       ap₂ sooner-of (ap (λ b. fault_if b 14 name) e ∙ fault_at t x.name 14 name (sym (n ∙ name_place))) q
       ∙ sym (fault_append (faults_if t x.name 14) (faults_as y.definition.type f.objects x y) (real_if t x.name 14 (omega arith)) (real (of_type y.definition.type f.objects x y)))
@@ -298,24 +298,24 @@ module _ {s d e o st : List ℕ} {z : Sizes} {k j : ℕ} {f : File} {x : Stateme
 
 module _ (s d st ms : List ℕ) (z : Sizes) (key m n owner : ℕ) where
   -- The place 0 is no word's.
-  pub lack-none : key ≡ 0 → LackFault s d st ms z key m n owner (record { number = 0; place = 0 })
+  pub lack_none : key ≡ 0 → LackFault s d st ms z key m n owner (record { number = 0; place = 0 })
   unfolding lacks faults_if first fault_of
-  lack-none h e o f ds ss w c b p = go c.scope h
+  lack_none h e o f ds ss w c b p = go c.scope h
     where
       go : {k : ℕ} {us : Definitions} → ScopeAt f k us → k ≡ 0 → record { number = 0; place = 0 } ≡ fault_of (first (faults_if (lacks us (names ss)) w 16))
       go no_scope q = refl
       go (scope g t) q = let l = (file_stands c.given.tables.situation t).0.later in absurd (omega arith)
 
-  pub lack-some : (r : Bool) → (key ≡ 0 → ⊥) → Lacks s d st ms z.definitions key m n r → LackFault s d st ms z key m n owner (fault_if r 16 owner)
-  lack-some r h l e o f ds ss w c b p = ap (λ t. fault_if t 16 owner) (go c.scope h l b) ∙ fault_at (lacks ds (names ss)) w 16 owner p
+  pub lack_some : (r : Bool) → (key ≡ 0 → ⊥) → Lacks s d st ms z.definitions key m n r → LackFault s d st ms z key m n owner (fault_if r 16 owner)
+  lack_some r h l e o f ds ss w c b p = ap (λ t. fault_if t 16 owner) (go c.scope h l b) ∙ fault_at (lacks ds (names ss)) w 16 owner p
     where
       go : {k : ℕ} {us : Definitions} → ScopeAt f k us → (k ≡ 0 → ⊥) → Lacks s d st ms z.definitions k m n r → BlockAt s st m n ss → r ≡ lacks us (names ss)
       go no_scope q g t = absurd (q refl)
       go (scope {u} {ds = us} i t) q g t' =
           g f u us ss
           (record {
-            enumerator-table = e;
-            object-table = o;
+            enumerator_table = e;
+            object_table = o;
             sizes = z;
             given = c.given;
             most = omega arith;
@@ -324,12 +324,12 @@ module _ (s d st ms : List ℕ) (z : Sizes) (key m n owner : ℕ) where
             place = i;
             block = t';
           })
-          (stands-below c.given.tables t)
+          (stands_below c.given.tables t)
 
   -- Nothing that must be stated stands under the word.
-  pub lack-unowned : (u : List ℕ) → (key ≡ 0 → ⊥) → Owners d ms u → Tells u key false → LackFault s d st ms z key m n owner (record { number = 0; place = 0 })
+  pub lack_unowned : (u : List ℕ) → (key ≡ 0 → ⊥) → Owners d ms u → Tells u key false → LackFault s d st ms z key m n owner (record { number = 0; place = 0 })
   unfolding fault_if
-  lack-unowned u h w t = lack-some false h (unowned s d st ms u z.definitions key m n w t)
+  lack_unowned u h w t = lack_some false h (unowned s d st ms u z.definitions key m n w t)
 
 -- One statement ----------------------------------------------------------------------------------------------------------------------------
 
@@ -374,7 +374,7 @@ unfolding statement_cells
 looked_up {s} {f = f} {ds = ds} {x = x} r pn ps c w b g =
     let l = c.tables.definitions-fit in
     g f ds x.name c.tables.situation c.tables.in_definitions c.tables.definitions (omega arith) w
-    ((first-name b).bytes ∙ sym (ap₂ (part_of s) (pn ∙ first_cell b 0 (omega arith)) (ps ∙ first_cell b 1 (omega arith))))
+    ((first_name b).bytes ∙ sym (ap₂ (part_of s) (pn ∙ first_cell b 0 (omega arith)) (ps ∙ first_cell b 1 (omega arith))))
 
 unfoldable pub stated_as : {s d e o st : List ℕ} {z : Sizes} {key k after : ℕ} {f : File} {ds : Definitions} {x : Statement} {inside rest : Statements} (j : ℕ) (y : Defined)
     → Given s d e o st z f → ScopeAt f key ds → BlockAt s st k after (state x inside rest) → find_definition ds x.name ≡ some y → y.definition.row ≡ j → StatedAs s d e o st z k j f x y
@@ -384,17 +384,17 @@ stated_as {after = after} {ds = ds} {x = x} {inside = inside} {rest = rest} j y 
     record { given = c; inside = inside; rest = rest; after = after; block = b; attribute = record { under = u.word_of; scope = ds; stands = u.stands; has = t; row = r } }
 
 module _ (s d e o st ms : List ℕ) (z : Sizes) (key m k n v name size : ℕ) (pn : name ≡ get_or st (k * 7 + 0) 0) (ps : size ≡ get_or st (k * 7 + 1) 0) where
-  pub one-undefined : FindsDefinition s d z.definitions key name size Nothing → JudgesOne s d e o st ms z key m k n v (record { number = 13; place = name })
+  pub one_undefined : FindsDefinition s d z.definitions key name size Nothing → JudgesOne s d e o st ms z key m k n v (record { number = 13; place = name })
   unfolding judged fault_if statement_cells
-  one-undefined g f ds before x inside rest c b p q =
+  one_undefined g f ds before x inside rest c b p q =
       let a = own_at before b p in
       let h = row_nothing (find_definition ds x.name) (looked_up Nothing pn ps c.given c.scope a g) in
       fault_at true x.name 13 name (sym (pn ∙ first_cell a 0 (omega arith)))
       ∙ ap (λ t. fault_of (first (judged t f.objects x (names before) (names inside) (λ us. judge inside f.objects us [])))) (sym h)
 
-  pub one-fault : (j : ℕ) (g : Fault) → FindsDefinition s d z.definitions key name size (At j) → OwnFault s d e o st z m k v j g → is_fault g ≡ true → JudgesOne s d e o st ms z key m k n v g
+  pub one_fault : (j : ℕ) (g : Fault) → FindsDefinition s d z.definitions key name size (At j) → OwnFault s d e o st z m k v j g → is_fault g ≡ true → JudgesOne s d e o st ms z key m k n v g
   unfolding judged stated_as
-  one-fault j g p w h f ds before x inside rest c b t q =
+  one_fault j g p w h f ds before x inside rest c b t q =
       let a = own_at before b t in
       let y = row_found_as (find_definition ds x.name) j (looked_up (At j) pn ps c.given c.scope a p) in
       let i = w f x y.defined before (stated_as j y.defined c.given c.scope a y.is y.row) b t in
@@ -414,13 +414,13 @@ module _ (s d e o st ms : List ℕ) (z : Sizes) (key m k n v name size : ℕ) (p
       let sa = stated_as j t c.given c.scope a y.is y.row in
       let i = w f x t before sa b i₀ in
       let L = own_faults f.objects x t (names before) in
-      let none-own = no_first L (none_there (first L) (of_first L (of_own f.objects x t (names before))) (ap (λ (u : Fault). u.number) (sym i) ∙ is_none g h)) in
+      let none_own = no_first L (none_there (first L) (of_first L (of_own f.objects x t (names before))) (ap (λ (u : Fault). u.number) (sym i) ∙ is_none g h)) in
       let pa' = pa ∙ first_cell a 2 (omega arith) in
       let sc = value_scope sa at len key' pa pl u in
       let k₁ : suc k ≡ k + 1 = omega arith in
       let bi : BlockAt s st (k + 1) n inside = subst (λ u. BlockAt s st u n inside) k₁ (subst (λ u. BlockAt s st (suc k) u inside) (sym q) (inside_at a)) in
       l f (under t.values x.value) inside x.value (record { given = c.given; marked = c.marked; scope = sc }) bi (sym pa')
-      ∙ ap (λ w. fault_of (first (and_inside w x (under t.values x.value) (names inside) (λ us. judge inside f.objects us [])))) (sym none-own)
+      ∙ ap (λ w. fault_of (first (and_inside w x (under t.values x.value) (names inside) (λ us. judge inside f.objects us [])))) (sym none_own)
       ∙ ap (λ t. fault_of (first (judged t f.objects x (names before) (names inside) (λ us. judge inside f.objects us [])))) (sym y.is)
 
 -- The value word, by the cells of the statement's row.
@@ -466,14 +466,14 @@ judge_then (state x inside rest) b os ds ns =
     ∙ sym (append_assoc l (judge rest os ds (ns ++ (x.name ∷ []))) (judge b os ds (ns ++ (x.name ∷ names rest))))
 
 module _ (s d e o st ms : List ℕ) (z : Sizes) (key m n : ℕ) where
-  pub judging-start : Judging s d e o st ms z key m n m (record { number = 0; place = 0 })
+  pub judging_start : Judging s d e o st ms z key m n m (record { number = 0; place = 0 })
   unfolding then statements_in judge first fault_of
-  judging-start f ds ss c b = record { front = done; rest = ss; whole = refl; row = omega arith; found = refl }
+  judging_start f ds ss c b = record { front = done; rest = ss; whole = refl; row = omega arith; found = refl }
 
-  pub judging-more : (k : ℕ) (best g : Fault) → k < n → JudgesOne s d e o st ms z key m k (row_after st k n) n g → Judging s d e o st ms z key m n k best
+  pub judging_more : (k : ℕ) (best g : Fault) → k < n → JudgesOne s d e o st ms z key m k (row_after st k n) n g → Judging s d e o st ms z key m n k best
       → Judging s d e o st ms z key m n (row_after st k n) (sooner-of best g)
   unfolding then statements_in judge
-  judging-more k best g h w i f ds ss c b = go (i f ds ss c b).front (i f ds ss c b).rest (i f ds ss c b).whole (i f ds ss c b).row (i f ds ss c b).found
+  judging_more k best g h w i f ds ss c b = go (i f ds ss c b).front (i f ds ss c b).rest (i f ds ss c b).whole (i f ds ss c b).row (i f ds ss c b).found
     where
       go : (front rest : Statements) → ss ≡ then front rest → k ≡ m + statements_in front → best ≡ fault_of (first (judge front f.objects ds []))
           → Gone m (row_after st k n) f ds ss (sooner-of best g)
@@ -485,7 +485,7 @@ module _ (s d e o st ms : List ℕ) (z : Sizes) (key m n : ℕ) where
       go front (state x inside rest) p q t =
           let b' : BlockAt s st m n (then front (state x inside rest)) = subst (BlockAt s st m n) p b in
           let bb : BlockAt s st k n (state x inside rest) = subst (λ u. BlockAt s st u n (state x inside rest)) (sym q) (back_at front (state x inside rest) b') in
-          let a = first-after bb in
+          let a = first_after bb in
           let v = w f ds front x inside rest c b' q a in
           let j = judged (find_definition ds x.name) f.objects x (names front) (names inside) (λ us. judge inside f.objects us []) in
           let one : judge (state x inside done) f.objects ds (names front) ≡ j = append-nil j in
@@ -502,16 +502,16 @@ module _ (s d e o st ms : List ℕ) (z : Sizes) (key m n : ℕ) where
                 ∙ ap (λ r. fault_of (first r)) (sym (judge_then front (state x inside done) f.objects ds []));
           }
 
-  pub judging-step : (k next : ℕ) (best g r : Fault) → next ≡ row_after st k n → r ≡ sooner-of best g → k < n → JudgesOne s d e o st ms z key m k next n g
+  pub judging_step : (k next : ℕ) (best g r : Fault) → next ≡ row_after st k n → r ≡ sooner-of best g → k < n → JudgesOne s d e o st ms z key m k next n g
       → Judging s d e o st ms z key m n k best → Judging s d e o st ms z key m n next r
-  judging-step k next best g r p q h w i =
+  judging_step k next best g r p q h w i =
       subst (λ b. Judging s d e o st ms z key m n next b) (sym q)
       (subst (λ a. Judging s d e o st ms z key m n a (sooner-of best g)) (sym p)
-      (judging-more k best g h (subst (λ a. JudgesOne s d e o st ms z key m k a n g) p w) i))
+      (judging_more k best g h (subst (λ a. JudgesOne s d e o st ms z key m k a n g) p w) i))
 
-  pub judging-end : (k : ℕ) (best : Fault) → n ≤ k → Judging s d e o st ms z key m n k best → Judges s d e o st ms z key m n best
+  pub judging_end : (k : ℕ) (best : Fault) → n ≤ k → Judging s d e o st ms z key m n k best → Judges s d e o st ms z key m n best
   unfolding statements_in
-  judging-end k best h i f ds ss c b = go (i f ds ss c b).front (i f ds ss c b).rest (i f ds ss c b).whole (i f ds ss c b).row (i f ds ss c b).found
+  judging_end k best h i f ds ss c b = go (i f ds ss c b).front (i f ds ss c b).rest (i f ds ss c b).whole (i f ds ss c b).row (i f ds ss c b).found
     where
       go : (front rest : Statements) → ss ≡ then front rest → k ≡ m + statements_in front → best ≡ fault_of (first (judge front f.objects ds []))
           → best ≡ fault_of (first (judge ss f.objects ds []))
@@ -533,10 +533,10 @@ object_by s d e o st ms z ps i kind key owner m n r pk py po pm pn g f front x r
     let kind_is : kind ≡ kind_number x.kind = pk ∙ R.kind in
     let key_is : key ≡ kind_place (kind_number x.kind) f.specs = py ∙ ap (λ a. get_or ps a 0) kind_is ∙ pl.place x.kind in
     let m-is : m ≡ statement_count front = pm ∙ R.from in
-    let n-is : n ≡ statement_count front + statements_in x.statements = pn ∙ R.till in
+    let n_is : n ≡ statement_count front + statements_in x.statements = pn ∙ R.till in
     g f (of_kind x.kind f.specs) x.statements x.name
     (record { given = c; marked = mk; scope = subst (λ a. ScopeAt f a (of_kind x.kind f.specs)) (sym key_is) (scope_of_kind f x.kind) })
-    (subst (λ a. BlockAt s st a n x.statements) (sym m-is) (subst (λ a. BlockAt s st (statement_count front) a x.statements) (sym n-is) R.block))
+    (subst (λ a. BlockAt s st a n x.statements) (sym m-is) (subst (λ a. BlockAt s st (statement_count front) a x.statements) (sym n_is) R.block))
     (sym (po ∙ R.name))
 
 objects_append : (f : File) (a : List Object) (x : Object) → judge_objects f (a ++ (x ∷ [])) ≡ judge_objects f a ++ judge_object f x (of_kind x.kind f.specs)
@@ -562,9 +562,9 @@ module _ (s d e o st ms : List ℕ) (z : Sizes) (ps : List ℕ) where
   unfolding judge_objects first fault_of
   objects_start f c mk pl = record { front = []; rest = f.objects; whole = refl; row = refl; found = refl }
 
-  pub objects-more : (i : ℕ) (best g : Fault) → i < z.objects → JudgesObject s d e o st ms z ps i g → JudgingObjects s d e o st ms z ps i best
+  pub objects_more : (i : ℕ) (best g : Fault) → i < z.objects → JudgesObject s d e o st ms z ps i g → JudgingObjects s d e o st ms z ps i best
       → JudgingObjects s d e o st ms z ps (i + 1) (sooner-of best g)
-  objects-more i best g h w v f c mk pl = go (v f c mk pl).front (v f c mk pl).rest (v f c mk pl).whole (v f c mk pl).row (v f c mk pl).found
+  objects_more i best g h w v f c mk pl = go (v f c mk pl).front (v f c mk pl).rest (v f c mk pl).whole (v f c mk pl).row (v f c mk pl).found
     where
       go : (front rest : List Object) → f.objects ≡ front ++ rest → length front ≡ i → best ≡ fault_of (first (judge_objects f front)) → GoneObjects (i + 1) f (sooner-of best g)
       go front [] p q t =
@@ -584,9 +584,9 @@ module _ (s d e o st ms : List ℕ) (z : Sizes) (ps : List ℕ) where
                 ∙ ap (λ r. fault_of (first r)) (sym (objects_append f front x));
           }
 
-  pub objects-step : (i : ℕ) (best g r : Fault) → r ≡ sooner-of best g → i < z.objects → JudgesObject s d e o st ms z ps i g → JudgingObjects s d e o st ms z ps i best
+  pub objects_step : (i : ℕ) (best g r : Fault) → r ≡ sooner-of best g → i < z.objects → JudgesObject s d e o st ms z ps i g → JudgingObjects s d e o st ms z ps i best
       → JudgingObjects s d e o st ms z ps (i + 1) r
-  objects-step i best g r q h w v = subst (λ b. JudgingObjects s d e o st ms z ps (i + 1) b) (sym q) (objects-more i best g h w v)
+  objects_step i best g r q h w v = subst (λ b. JudgingObjects s d e o st ms z ps (i + 1) b) (sym q) (objects_more i best g h w v)
 
   pub objects_end : (i : ℕ) (best : Fault) → z.objects ≤ i → JudgingObjects s d e o st ms z ps i best → JudgesObjects s d e o st ms z ps best
   unfolding statement_stage

@@ -15,11 +15,11 @@ use Rattle.token.specs.Find.{both, either, bit}
 use Rattle.grammar.specs.Grammar.{word}
 use Rattle.rows.specs.declared.Found.TheVariants.{At, Nothing}
 use Rattle.rows.specs.Search.{has_key, find_row}
-use Rattle.rows.proofs.Searches.{found_first, nothing-none}
+use Rattle.rows.proofs.Searches.{found_first, nothing_none}
 use Rattle.meaning.specs.Syntax.{Word, Definitions, no_more, define, Defined, Statements, done, File, statements_in}
 use Rattle.meaning.specs.Words.{among}
 use Rattle.meaning.specs.Scopes.{Under, find_value, definitions_or, under, names}
-use Rattle.meaning.specs.Judging.{taken, lacking, lacks, lacks-under}
+use Rattle.meaning.specs.Judging.{taken, lacking, lacks, lacks_under}
 use Rattle.layout.specs.Kept.{spec_entries, statement_rows}
 use Rattle.amounts.specs.Known.{Known}
 use Rattle.amounts.proofs.Frames.{known_marked}
@@ -33,7 +33,7 @@ use Rattle.lookups.specs.Owners.{Owners}
 use Rattle.judging.specs.Promises.{needed, Marked, Owned, lack, RowLacks, LacksRow, Lacks, Needs}
 use Rattle.scopes.specs.declared.Sizes.{Sizes}
 use Rattle.lookups.proofs.Standings.{file_stands}
-use Rattle.lookups.proofs.Attributes.{read_at, AttributeRow, under-cell, stands-below, reached, known, name_at, value_below, none-given, not_taken, default-word, nothing_at}
+use Rattle.lookups.proofs.Attributes.{read_at, AttributeRow, under_cell, stands_below, reached, known, name_at, value_below, none_given, not_taken, default_word, nothing_at}
 use Rattle.judging.proofs.Standings.{in_scope}
 use Rattle.token.proofs.Bytes.{both_false}
 use Rattle.meaning.proofs.Unders.{lacks_there}
@@ -44,7 +44,7 @@ pub has_lacks : {ds : Definitions} {x : Defined} (ns : List Word) → HasDefinit
 unfolding lacks lack needed
 has_lacks ns (this_definition {d} {vs} {ds}) h = ap (λ b. either b (lacks ds ns)) h
 has_lacks ns (later_definition {d} {vs} {ds} p) h =
-    go (both (not (among d.name ns)) (lacking (taken d.default) d.list (λ t. lacks-under vs t))) (has_lacks ns p h)
+    go (both (not (among d.name ns)) (lacking (taken d.default) d.list (λ t. lacks_under vs t))) (has_lacks ns p h)
   where
     go : (b : Bool) → lacks ds ns ≡ true → either b (lacks ds ns) ≡ true
     go true e = refl
@@ -85,19 +85,19 @@ module _ {s d st ms : List ℕ} {n key m e : ℕ} {f : File} {u : Word} {ds : De
   }
 
   -- It does not need to be stated.
-  pub row-unmarked : i < n → get_or ms i 0 ≡ 0 → RowLacks ds (names ss) i false
+  pub row_unmarked : i < n → get_or ms i 0 ≡ 0 → RowLacks ds (names ss) i false
   unfolding lack
-  row-unmarked h g = record {
+  row_unmarked h g = record {
     own = λ x p r.
         sym (ap (both (not (among x.definition.name (names ss)))) (bit_zero (needed x) (sym (o.marked i x (own_row p r) h) ∙ g)) ∙ both_false (not (among x.definition.name (names ss))));
     some = λ z. absurd (false≢true z);
   }
 
   -- It does, and is one of the scope.
-  pub row-marked : (b : Bool) → i < n → get_or d (i * 19 + 0) 0 ≡ key → (get_or ms i 0 ≡ 0 → ⊥)
+  pub row_marked : (b : Bool) → i < n → get_or d (i * 19 + 0) 0 ≡ key → (get_or ms i 0 ≡ 0 → ⊥)
       → IsStated s st m e (get_or d (i * 19 + 2) 0) (get_or d (i * 19 + 3) 0) b → RowLacks ds (names ss) i (not b)
   unfolding lack
-  row-marked b h k g t =
+  row_marked b h k g t =
       let T = o.given.tables in
       let l₁ = o.most in
       let l₂ = T.definitions in
@@ -107,7 +107,7 @@ module _ {s d st ms : List ℕ} {n key m e : ℕ} {f : File} {u : Word} {ds : De
             let z : b ≡ among x.definition.name (names ss) = t ss x.definition.name o.block (name_at T (own_row q r) (get_or d (i * 19 + 2) 0) (get_or d (i * 19 + 3) 0) refl refl) in
             let j : needed x ≡ true = bit_more (needed x) (λ q'. g (o.marked i x (own_row q r) h ∙ q')) in
             ap not z ∙ sym (ap (both (not (among x.definition.name (names ss)))) j ∙ both_true (not (among x.definition.name (names ss))));
-        some = λ q. in_scope T.situation o.stands w.nth (sym (under-cell T w.nth) ∙ k ∙ sym o.place);
+        some = λ q. in_scope T.situation o.stands w.nth (sym (under_cell T w.nth) ∙ k ∙ sym o.place);
       }
 
 -- The loop over the rows: none of those passed lacks its statement.
@@ -146,8 +146,8 @@ module _ (s d st ms : List ℕ) (n key m e : ℕ) where
       go (yes r) = p f u ds ss o x q r
       go (no r) = sym ((row_other o x.definition.row (no_key d x.definition.row key (g x.definition.row (omega (arith, r)) k))).own x q refl)
 
-  passed-one : (i : ℕ) → i < n → get_or d (i * 19 + 0) 0 ≡ key → LacksRow s d st ms i m e false → Passed s d st ms n key m e i → Passed s d st ms n key m e (i + 1)
-  passed-one i h a l p f u ds ss o x q k = go (ℕ_discrete x.definition.row i)
+  passed_one : (i : ℕ) → i < n → get_or d (i * 19 + 0) 0 ≡ key → LacksRow s d st ms i m e false → Passed s d st ms n key m e i → Passed s d st ms n key m e (i + 1)
+  passed_one i h a l p f u ds ss o x q k = go (ℕ_discrete x.definition.row i)
     where
       go : Dec (x.definition.row ≡ i) → lack x (names ss) ≡ false
       go (yes r) = sym ((l n key f u ds ss o h a).own x q r)
@@ -156,24 +156,24 @@ module _ (s d st ms : List ℕ) (n key m e : ℕ) where
   pub passed_end : (i : ℕ) → n ≤ i → Passed s d st ms n key m e i → Lacks s d st ms n key m e false
   passed_end i h p f u ds ss o b = sym (none_lacks ds (names ss) (λ x q. let k = b x q in p f u ds ss o x q (omega arith)))
 
-  pub passed-stop : (i j : ℕ) → find_row d 19 n 0 key i ≡ At j → LacksRow s d st ms j m e true → Lacks s d st ms n key m e true
+  pub passed_stop : (i j : ℕ) → find_row d 19 n 0 key i ≡ At j → LacksRow s d st ms j m e true → Lacks s d st ms n key m e true
   unfolding find_row
-  passed-stop i j g l f u ds ss o b =
+  passed_stop i j g l f u ds ss o b =
       let a = found_first (λ k. has_key d (k * 19) 0 key) n i j g in
       let r = l n key f u ds ss o a.high (has_key_lem d j key a.holds) in
       let y = r.some refl in
       sym (has_lacks (names ss) y.has (sym (r.own y.defined y.has y.row)))
 
-  pub passed-more : (i j : ℕ) → find_row d 19 n 0 key i ≡ At j → LacksRow s d st ms j m e false → Passed s d st ms n key m e i → Passed s d st ms n key m e (j + 1)
+  pub passed_more : (i j : ℕ) → find_row d 19 n 0 key i ≡ At j → LacksRow s d st ms j m e false → Passed s d st ms n key m e i → Passed s d st ms n key m e (j + 1)
   unfolding find_row
-  passed-more i j g l p =
+  passed_more i j g l p =
       let a = found_first (λ k. has_key d (k * 19) 0 key) n i j g in
-      passed-one j a.high (has_key_lem d j key a.holds) l (passed_on i j a.fails p)
+      passed_one j a.high (has_key_lem d j key a.holds) l (passed_on i j a.fails p)
 
   -- There is none left.
   pub passed_none : (i : ℕ) → find_row d 19 n 0 key i ≡ Nothing → Passed s d st ms n key m e i → Lacks s d st ms n key m e false
   unfolding find_row
-  passed_none i g p = passed_end n (omega arith) (passed_on i n (nothing-none (λ k. has_key d (k * 19) 0 key) n i g) p)
+  passed_none i g p = passed_end n (omega arith) (passed_on i n (nothing_none (λ k. has_key d (k * 19) 0 key) n i g) p)
 
 -- Nothing that must be stated stands under the word.
 pub unowned : (s d st ms u : List ℕ) (n key m e : ℕ) → Owners d ms u → Tells u key false → Lacks s d st ms n key m e false
@@ -190,7 +190,7 @@ unowned s d st ms u n key m e w t f v ds ss o b =
   where
     go : (i : ℕ) (x : Defined) → HasDefinition ds x → x.definition.row < n → x.definition.row < 512 → get_or d (x.definition.row * 19 + 0) 0 ≡ key
         → Dec (get_or ms x.definition.row 0 ≡ 0) → lack x (names ss) ≡ false
-    go i x q h r c (yes g) = sym ((row-unmarked o x.definition.row h g).own x q refl)
+    go i x q h r c (yes g) = sym ((row_unmarked o x.definition.row h g).own x q refl)
     go i x q h r c (no g) = absurd (false≢true (t w.rising ∙ ap (λ k. among_cells k u) (sym c) ∙ w.has x.definition.row r g))
 
 -- Attributes that are not stated -----------------------------------------------------------------------------------------------------------
@@ -198,12 +198,12 @@ unowned s d st ms u n key m e w t f v ds ss o b =
 -- It takes no default: it is single.
 needs_none : (x : Defined) → taken x.definition.default ≡ none → needed x ≡ not x.definition.list
 unfolding needed lacking
-needs_none x h = ap (λ o. lacking o x.definition.list (λ t. lacks-under x.values t)) h
+needs_none x h = ap (λ o. lacking o x.definition.list (λ t. lacks_under x.values t)) h
 
 -- It takes its default: what is under that.
 needs_default : (x : Defined) (t : Word) → taken x.definition.default ≡ some t → needed x ≡ lacks (under x.values t) []
 unfolding needed lacking
-needs_default x t h = ap (λ o. lacking o x.definition.list (λ w. lacks-under x.values w)) h ∙ lacks_there x.values t
+needs_default x t h = ap (λ o. lacking o x.definition.list (λ w. lacks_under x.values w)) h ∙ lacks_there x.values t
 
 -- The value that an attribute takes by default, and the place of its word in the attribute's list.
 pub record Taking (x : Defined) (key : ℕ) : Type 0 where
@@ -220,22 +220,22 @@ module _ {s d e o st : List ℕ} {z : Sizes} {f : File} {j : ℕ} {x : Defined} 
   row : AttributeRow s d f a.under j x
   row = known c.tables a
 
-  by-list : taken x.definition.default ≡ none → bit (eqb (get_or d (j * 19 + 6) 0) 0) ≡ bit (needed x)
-  by-list h = ap (λ k. bit (eqb k 0)) row.list-mark ∙ bit_not x.definition.list ∙ ap bit (sym (needs_none x h))
+  by_list : taken x.definition.default ≡ none → bit (eqb (get_or d (j * 19 + 6) 0) 0) ≡ bit (needed x)
+  by_list h = ap (λ k. bit (eqb k 0)) row.list-mark ∙ bit_not x.definition.list ∙ ap bit (sym (needs_none x h))
 
   -- No default.
-  pub needs-no-size : get_or d (j * 19 + 11) 0 ≡ 0 → bit (eqb (get_or d (j * 19 + 6) 0) 0) ≡ bit (needed x)
-  needs-no-size g = by-list (none-given row g)
+  pub needs_no_size : get_or d (j * 19 + 11) 0 ≡ 0 → bit (eqb (get_or d (j * 19 + 6) 0) 0) ≡ bit (needed x)
+  needs_no_size g = by_list (none_given row g)
 
   -- NO_DEFAULT.
-  pub needs-no-default : get_or d (j * 19 + 18) 0 ≡ 4 → bit (eqb (get_or d (j * 19 + 6) 0) 0) ≡ bit (needed x)
-  needs-no-default g = by-list (not_taken row g)
+  pub needs_no_default : get_or d (j * 19 + 18) 0 ≡ 4 → bit (eqb (get_or d (j * 19 + 6) 0) 0) ≡ bit (needed x)
+  needs_no_default g = by_list (not_taken row g)
 
   -- What it takes, and the place of the value word that this is.
   pub taking : (at len key : ℕ) → at ≡ get_or d (j * 19 + 10) 0 → len ≡ get_or d (j * 19 + 11) 0 → (len ≡ 0 → ⊥) → (get_or d (j * 19 + 18) 0 ≡ 4 → ⊥)
       → FindsWord s d e z.enumerators j at len key → Taking x key
   taking at len key p l n m w =
-      let t = default-word row (λ q. n (l ∙ q)) m in
+      let t = default_word row (λ q. n (l ∙ q)) m in
       let T = c.tables in
       record {
         word_of = t.word;
@@ -245,30 +245,30 @@ module _ {s d e o st : List ℕ} {z : Sizes} {f : File} {j : ℕ} {x : Defined} 
       }
 
   -- Nothing is under it.
-  pub needs-nothing : {key : ℕ} → Taking x key → key ≡ 0 → 0 ≡ bit (needed x)
+  pub needs_nothing : {key : ℕ} → Taking x key → key ≡ 0 → 0 ≡ bit (needed x)
   unfolding place_found under definitions_or lacks bit
-  needs-nothing t g = go (find_value x.values t.word_of) refl (sym t.key-is ∙ g)
+  needs_nothing t g = go (find_value x.values t.word_of) refl (sym t.key-is ∙ g)
     where
       go : (o : Option Under) → find_value x.values t.word_of ≡ o → place_found o ≡ 0 → 0 ≡ bit (needed x)
       go none p z = sym (ap bit (needs_default x t.word_of t.takes ∙ ap (λ o. lacks (definitions_or o) []) p))
       go (some v) p z = let w = (file_stands c.tables.situation (under_value a.stands a.has (found_value x.values t.word_of p))).0.later in absurd (omega arith)
 
   -- What is under it lacks something, or nothing.
-  pub needs-under : {key : ℕ} (ms : List ℕ) (b : Bool) → Taking x key → (key ≡ 0 → ⊥) → Marked f ms j → Lacks s d st ms j key 0 0 b → bit b ≡ bit (needed x)
+  pub needs_under : {key : ℕ} (ms : List ℕ) (b : Bool) → Taking x key → (key ≡ 0 → ⊥) → Marked f ms j → Lacks s d st ms j key 0 0 b → bit b ≡ bit (needed x)
   unfolding place_found under definitions_or names statements_in statement_rows
-  needs-under {key} ms b t g m l = go (find_value x.values t.word_of) refl t.key-is
+  needs_under {key} ms b t g m l = go (find_value x.values t.word_of) refl t.key-is
     where
       go : (o : Option Under) → find_value x.values t.word_of ≡ o → key ≡ place_found o → bit b ≡ bit (needed x)
       go none p k = absurd (g k)
       go (some v) p k =
           let i = found_value x.values t.word_of p in
-          let b₀ = stands-below c.tables a.stands x a.has in
+          let b₀ = stands_below c.tables a.stands x a.has in
           let r = a.row in
           ap bit
           (l f v.word v.definitions done
           (record {
-            enumerator-table = e;
-            object-table = o;
+            enumerator_table = e;
+            object_table = o;
             sizes = z;
             given = c;
             most = omega arith;
@@ -305,17 +305,17 @@ marks_put f t ms n l h k m i x a c =
 
 -- They leave the numbers of the definitions as they are.
 module _ (s d t ms : List ℕ) (k : Known s d t) (l : length ms ≡ 512) (t' : List ℕ) (e : t' ≡ sets t 0 ms) where
-  pub table-known : Known s d t'
-  table-known = subst (Known s d) (sym e) (known_marked s d t ms (omega (arith, l)) k)
+  pub table_known : Known s d t'
+  table_known = subst (Known s d) (sym e) (known_marked s d t ms (omega (arith, l)) k)
 
-  pub table-marked : (f : File) (n : ℕ) → n ≤ 512 → Marked f ms n → Marked f t' n
-  table-marked f n h m =
+  pub table_marked : (f : File) (n : ℕ) → n ≤ 512 → Marked f ms n → Marked f t' n
+  table_marked f n h m =
       let a = k.noted.room in
       let b = k.noted.inside in
       subst (λ r. Marked f r n) (sym e) (marks_put f t ms n l h (omega (arith, a, b)) m)
 
-  pub table-owners : (u : List ℕ) → Owners d ms u → Owners d t' u
-  table-owners u o =
+  pub table_owners : (u : List ℕ) → Owners d ms u → Owners d t' u
+  table_owners u o =
       let a = k.noted.room in
       let b = k.noted.inside in
       let cell : (i : ℕ) → i < 512 → get_or t' i 0 ≡ get_or ms i 0 =

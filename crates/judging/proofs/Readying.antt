@@ -11,7 +11,7 @@ use Rattle.lookups.specs.Owners.{Owners}
 use Rattle.lookups.proofs.Naming.{names_kept, words_put}
 use Rattle.judging.specs.Names.{Ready, MarksReady, Blank, SameRoom, StaysBlank}
 use Rattle.judging.specs.Promises.{JudgesObjects, JudgesAll, Marks}
-use Rattle.judging.proofs.Lacking.{table-known, table-marked, table-owners}
+use Rattle.judging.proofs.Lacking.{table_known, table_marked, table_owners}
 use Rattle.amounts.specs.Promises.{Notes}
 use Rattle.rows.specs.declared.Fault.{Fault}
 use Rattle.scopes.specs.declared.Sizes.{Sizes}
@@ -32,10 +32,10 @@ module _ (s d e o st : List ℕ) (z : Sizes) (x ms k₀ k k₁ : List ℕ) (r : 
   known = n (length k₀) b.room b.blank
 
   pub ready_by : Ready s d e o st z x k₁
-  ready_by = record { known = table-known s d k ms known r.size k₁ q; named = r.named; owners = table-owners s d k ms known r.size k₁ q (owner_words x) r.owners }
+  ready_by = record { known = table_known s d k ms known r.size k₁ q; named = r.named; owners = table_owners s d k ms known r.size k₁ q (owner_words x) r.owners }
 
-  pub judges-marked : (ps : List ℕ) (a : Fault) → JudgesObjects s d e o st k₁ z ps a → JudgesObjects s d e o st ms z ps a
-  judges-marked ps a j f g m p = j f g (table-marked s d k ms known r.size k₁ q f z.definitions r.few m) p
+  pub judges_marked : (ps : List ℕ) (a : Fault) → JudgesObjects s d e o st k₁ z ps a → JudgesObjects s d e o st ms z ps a
+  judges_marked ps a j f g m p = j f g (table_marked s d k ms known r.size k₁ q f z.definitions r.few m) p
 
 pub blank_of : (n : ℕ) → 3072 ≤ n → Blank (replicate n 0)
 blank_of n h = let l = length-replicate {A = ℕ} n 0 in record { room = omega (arith, l, h); blank = ap (λ (i : ℕ). replicate i 0) (sym l) }

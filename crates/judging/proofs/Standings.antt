@@ -19,19 +19,19 @@ use Rattle.judging.specs.Promises.{HasRow}
 
 -- A row with a number, one of some.
 data Among (i : ℕ) : List Standing → Type 0 where
-  this-one : {x : Standing} {xs : List Standing} → x.number ≡ i → Among i (x ∷ xs)
-  later-one : {x : Standing} {xs : List Standing} → Among i xs → Among i (x ∷ xs)
+  this_one : {x : Standing} {xs : List Standing} → x.number ≡ i → Among i (x ∷ xs)
+  later_one : {x : Standing} {xs : List Standing} → Among i xs → Among i (x ∷ xs)
 
 among_if : (b : Bool) (j i : ℕ) (r : DefinitionRow) {l : List Standing} → Among i l → Among i (standing_if b j r ++ l)
 unfolding standing_if
-among_if true j i r a = later-one a
+among_if true j i r a = later_one a
 among_if false j i r a = a
 
 selected : (p m : ℕ) (front : List Entry) (x : Entry) (rest : List Entry) → x.under.place ≡ p → Among (m + length front) (select p m (entry_rows (front ++ (x ∷ rest))))
 unfolding select entry_rows definition_row standing_if span_of
 selected p m [] x rest e =
     subst (λ b. Among (m + 0) (standing_if b m (definition_row x.under x.definition) ++ select p (suc m) (entry_rows rest)))
-    (sym (eq-eqb x.under.place p e)) (this-one (omega arith))
+    (sym (eq-eqb x.under.place p e)) (this_one (omega arith))
 selected p m (y ∷ front) x rest e =
     let n : suc m + length front ≡ m + suc (length front) = omega arith in
     among_if (eqb y.under.place p) m (m + suc (length front)) (definition_row y.under y.definition)
@@ -42,8 +42,8 @@ of_later z = record { defined = z.defined; has = later_definition z.has; row = z
 
 standing_of : (u : Word) (ds : Definitions) (i : ℕ) → Among i (standing u ds) → HasRow ds i
 unfolding standing
-standing_of u (define d vs ds) i (this-one e) = record { defined = record { definition = d; values = vs }; has = this_definition; row = e }
-standing_of u (define d vs ds) i (later-one a) = of_later (standing_of u ds i a)
+standing_of u (define d vs ds) i (this_one e) = record { defined = record { definition = d; values = vs }; has = this_definition; row = e }
+standing_of u (define d vs ds) i (later_one a) = of_later (standing_of u ds i a)
 
 -- A row under the word of a scope is that of one of its definitions.
 pub in_scope : {s : List ℕ} {f : File} {u : Word} {ds : Definitions} {j : ℕ} {y : Entry} → Situation s f → Stands f.specs u ds

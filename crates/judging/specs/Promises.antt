@@ -10,7 +10,7 @@ use Rattle.meaning.specs.Words.{among}
 use Rattle.meaning.specs.Kinds.{kind_number}
 use Rattle.meaning.specs.Faults.{first, faults_if}
 use Rattle.meaning.specs.Scopes.{names, find_definition, of_kind, sort_of}
-use Rattle.meaning.specs.Judging.{taken, lacking, lacks, lacks-under, faults_as, reference_faults, own_faults, judged, judge, judge_object, statement_stage}
+use Rattle.meaning.specs.Judging.{taken, lacking, lacks, lacks_under, faults_as, reference_faults, own_faults, judged, judge, judge_object, statement_stage}
 use Rattle.layout.specs.Kept.{code_of, kept_objects}
 use Rattle.blocks.specs.Blocks.{BlockAt}
 use Rattle.scopes.specs.Situations.{Situation, HasDefinition, Stands, ScopeAt}
@@ -22,7 +22,7 @@ use Rattle.scopes.specs.declared.Sizes.{Sizes}
 
 -- 16 is given where the attribute is not stated.
 unfoldable pub needed : Defined → Bool
-needed x = lacking (taken x.definition.default) x.definition.list (λ t. lacks-under x.values t)
+needed x = lacking (taken x.definition.default) x.definition.list (λ t. lacks_under x.values t)
 
 -- Of the first n rows, those that need to be stated are marked 1 in ms, the others 0.
 abbrev pub Marked : File → List ℕ → ℕ → Type 0
@@ -30,10 +30,10 @@ Marked f ms n = (j : ℕ) (x : Defined) → Attribute f j x → j < n → get_or
 
 -- The word u at key has the scope ds, the rows from m to e are the block ss, and the first n rows of definitions are marked.
 pub record Owned (s d st ms : List ℕ) (n key m e : ℕ) (f : File) (u : Word) (ds : Definitions) (ss : Statements) : Type 0 where
-  pub enumerator-table : List ℕ
-  pub object-table : List ℕ
+  pub enumerator_table : List ℕ
+  pub object_table : List ℕ
   pub sizes : Sizes
-  pub given : Given s d enumerator-table object-table st sizes f
+  pub given : Given s d enumerator_table object_table st sizes f
   pub most : n ≤ sizes.definitions
   pub marked : Marked f ms n
   pub stands : Stands f.specs u ds

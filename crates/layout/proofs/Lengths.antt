@@ -6,8 +6,8 @@ use Prim.Native.Nat.{ℕ, suc, ◌+◌, ◌*◌}
 use native.Mathlib.Omega.{arith}
 use lib.ListN.{length, length-append}
 use Rattle.token.specs.Find.{bit}
-use Rattle.meaning.specs.Syntax.{Word, Definitions, no_more, define, Values, no_value, value, Statements, done, state, Object, is_enum, definitions_in, definitions_under, enumerators-in, enumerators-under, statements_in}
-use Rattle.layout.specs.Kept.{Wide, Entry, entries, entries_under, list_key, truth_cells, default_code, definition_cells, choice_if, choices, choices-of, statement_rows, all_statement_rows, statement_count, object_cells, object_rows, join, map_cells}
+use Rattle.meaning.specs.Syntax.{Word, Definitions, no_more, define, Values, no_value, value, Statements, done, state, Object, is_enum, definitions_in, definitions_under, enumerators_in, enumerators_under, statements_in}
+use Rattle.layout.specs.Kept.{Wide, Entry, entries, entries_under, list_key, truth_cells, default_code, definition_cells, choice_if, choices, choices_of, statement_rows, all_statement_rows, statement_count, object_cells, object_rows, join, map_cells}
 
 -- Rows of one width ------------------------------------------------------------------------------------------------------------------------
 
@@ -44,15 +44,15 @@ module _ {A : Type 0} (f : A → List ℕ) where
   map_append [] ys = refl
   map_append (x ∷ xs) ys = ap (λ (l : List (List ℕ)). f x ∷ l) (map_append xs ys)
 
-  pub length-map : (xs : List A) → length (map_cells f xs) ≡ length xs
+  pub length_map : (xs : List A) → length (map_cells f xs) ≡ length xs
   unfolding map_cells
-  length-map [] = refl
-  length-map (x ∷ xs) = ap suc (length-map xs)
+  length_map [] = refl
+  length_map (x ∷ xs) = ap suc (length_map xs)
 
-  pub wide-map : (w : ℕ) → ((x : A) → length (f x) ≡ w) → (xs : List A) → Wide w (map_cells f xs)
+  pub wide_map : (w : ℕ) → ((x : A) → length (f x) ≡ w) → (xs : List A) → Wide w (map_cells f xs)
   unfolding map_cells
-  wide-map w h [] = tt
-  wide-map w h (x ∷ xs) = (h x, wide-map w h xs)
+  wide_map w h [] = tt
+  wide_map w h (x ∷ xs) = (h x, wide_map w h xs)
 
 -- Definitions ------------------------------------------------------------------------------------------------------------------------------
 
@@ -73,20 +73,20 @@ definition_wide x =
 mutual
   unfolding entries definitions_in
 
-  pub length-entries : (ds : Definitions) (u : Word) (o : ℕ) → length (entries ds u o) ≡ definitions_in ds
-  length-entries no_more u o = refl
-  length-entries (define d vs ds) u o =
+  pub length_entries : (ds : Definitions) (u : Word) (o : ℕ) → length (entries ds u o) ≡ definitions_in ds
+  length_entries no_more u o = refl
+  length_entries (define d vs ds) u o =
       let a = length-append (entries_under vs (list_key vs)) (record { under = u; outer = o; definition = d; values = vs } ∷ entries ds u o) in
-      let b = length-entries-under vs (list_key vs) in
-      let c = length-entries ds u o in
+      let b = length_entries_under vs (list_key vs) in
+      let c = length_entries ds u o in
       omega arith
 
-  pub length-entries-under : (vs : Values) (o : ℕ) → length (entries_under vs o) ≡ definitions_under vs
-  length-entries-under no_value o = refl
-  length-entries-under (value w e us vs) o =
+  pub length_entries_under : (vs : Values) (o : ℕ) → length (entries_under vs o) ≡ definitions_under vs
+  length_entries_under no_value o = refl
+  length_entries_under (value w e us vs) o =
       let a = length-append (entries us w o) (entries_under vs o) in
-      let b = length-entries us w o in
-      let c = length-entries-under vs o in
+      let b = length_entries us w o in
+      let c = length_entries_under vs o in
       omega arith
 
 -- Enumerators ------------------------------------------------------------------------------------------------------------------------------
@@ -97,24 +97,24 @@ length_choice true o w = refl
 length_choice false o w = refl
 
 mutual
-  unfolding choices enumerators-in
+  unfolding choices enumerators_in
 
-  pub length-choices : (ds : Definitions) → length (choices ds) ≡ enumerators-in ds
-  length-choices no_more = refl
-  length-choices (define d vs ds) =
-      let a = length-append (choices-of vs (is_enum d.type) (list_key vs)) (choices ds) in
-      let b = length-choices-of vs (is_enum d.type) (list_key vs) in
-      let c = length-choices ds in
+  pub length_choices : (ds : Definitions) → length (choices ds) ≡ enumerators_in ds
+  length_choices no_more = refl
+  length_choices (define d vs ds) =
+      let a = length-append (choices_of vs (is_enum d.type) (list_key vs)) (choices ds) in
+      let b = length_choices_of vs (is_enum d.type) (list_key vs) in
+      let c = length_choices ds in
       omega arith
 
-  pub length-choices-of : (vs : Values) (b : Bool) (o : ℕ) → length (choices-of vs b o) ≡ enumerators-under vs b
-  length-choices-of no_value b o = refl
-  length-choices-of (value w e us vs) b o =
+  pub length_choices_of : (vs : Values) (b : Bool) (o : ℕ) → length (choices_of vs b o) ≡ enumerators_under vs b
+  length_choices_of no_value b o = refl
+  length_choices_of (value w e us vs) b o =
       let i = length_choice b o w in
-      let j = length-append (choice_if b o w) (choices us ++ choices-of vs b o) in
-      let k = length-append (choices us) (choices-of vs b o) in
-      let c = length-choices us in
-      let d = length-choices-of vs b o in
+      let j = length-append (choice_if b o w) (choices us ++ choices_of vs b o) in
+      let k = length-append (choices us) (choices_of vs b o) in
+      let c = length_choices us in
+      let d = length_choices_of vs b o in
       omega arith
 
 -- Statements and objects -------------------------------------------------------------------------------------------------------------------

@@ -114,11 +114,11 @@ choice_if false o w = []
 unfoldable mutual
   pub choices : Definitions → List Choice
   choices no_more = []
-  choices (define d vs ds) = choices-of vs (is_enum d.type) (list_key vs) ++ choices ds
+  choices (define d vs ds) = choices_of vs (is_enum d.type) (list_key vs) ++ choices ds
 
-  pub choices-of : Values → Bool → ℕ → List Choice
-  choices-of no_value b o = []
-  choices-of (value w e us vs) b o = choice_if b o w ++ (choices us ++ choices-of vs b o)
+  pub choices_of : Values → Bool → ℕ → List Choice
+  choices_of no_value b o = []
+  choices_of (value w e us vs) b o = choice_if b o w ++ (choices us ++ choices_of vs b o)
 
 unfoldable pub spec_choices : List Spec → List Choice
 spec_choices [] = []

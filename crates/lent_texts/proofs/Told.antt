@@ -19,7 +19,7 @@ use Rattle.sources_reading.proofs.Answered.{answers, one_answer}
 use Rattle.sources_reading.proofs.Renumbered.{is_renumbered}
 use Rattle.placing.specs.Placed.{place_in, placed_tables, is_at_start, placed_answer}
 use Rattle.lent_texts.specs.Answered.{place_of, TheAnswer}
-use Rattle.lent_texts.specs.Expanded.{refusal_at, refusal_in, Rooms, Filled, Holds, ExpandsTexts, short-rooms, too_long, expands}
+use Rattle.lent_texts.specs.Expanded.{refusal_at, refusal_in, Rooms, Filled, Holds, ExpandsTexts, short_rooms, too_long, expands}
 use Rattle.lent_texts.specs.declared.Expanded.{Expanded}
 use Rattle.lent_texts.specs.declared.Refusal.{Refusal}
 use Rattle.lent_texts.specs.declared.Lent.{Lent}
@@ -43,7 +43,7 @@ refused_is g e k p n q i j =
 -- ---- `expand`
 
 pub short_expands : {b l x g : List ℕ} → (Rooms x g → ⊥) → ExpandsTexts b l x g x g (Stopped 1)
-short_expands n = short-rooms n refl refl
+short_expands n = short_rooms n refl refl
 
 module _ (b l x g x' g' : List ℕ) (e : Expansion) (u : Expands 65535 b l x g x' g' e) (hx : 65535 ≤ length x) (hg : 65535 ≤ length g) where
   rooms : Rooms x g
@@ -59,14 +59,14 @@ module _ (b l x g x' g' : List ℕ) (e : Expansion) (u : Expands 65535 b l x g x
     k : Kept b l x' g' e
     k = kept b l x g x' g' e u hx hg not
 
-    pub two-told : 1 < length l
-    two-told = k.two
+    pub two_told : 1 < length l
+    two_told = k.two
 
-    pub small-number : e.number ≤ 29
-    small-number = k.small
+    pub small_number : e.number ≤ 29
+    small_number = k.small
 
-    pub text-expands : ExpandsTexts b l x g x' g' (Text (record { fault = e.number; length = e.length; main = get_or l 1 0 }))
-    text-expands =
+    pub text_expands : ExpandsTexts b l x g x' g' (Text (record { fault = e.number; length = e.length; main = get_or l 1 0 }))
+    text_expands =
         expands rooms (record {
           within = λ z. not (ap (λ (y : Expansion). y.number) u.result ∙ z);
           fault = k.number;
@@ -79,18 +79,18 @@ module _ (b l x g x' g' : List ℕ) (e : Expansion) (u : Expands 65535 b l x g x
 
 -- the lent texts are refused at once
 pub data AtOnce (b l x g x' g' : List ℕ) (n : ℕ) : Type 0 where
-  by-1 : (Rooms x g → ⊥) → n ≡ 1 → x' ≡ x → g' ≡ g → AtOnce b l x g x' g' n
-  by-30 : Rooms x g → n ≡ 30 → (expansion_of b l).number ≡ 30 → TheAnswer b l (refused 30 0) → Filled b l x g x' g' → AtOnce b l x g x' g' n
+  by_1 : (Rooms x g → ⊥) → n ≡ 1 → x' ≡ x → g' ≡ g → AtOnce b l x g x' g' n
+  by_30 : Rooms x g → n ≡ 30 → (expansion_of b l).number ≡ 30 → TheAnswer b l (refused 30 0) → Filled b l x g x' g' → AtOnce b l x g x' g' n
 
 pub thirty_answer : (b l : List ℕ) → (expansion_of b l).number ≡ 30 → TheAnswer b l (refused 30 0)
 unfolding placed_answer is_at_start
 thirty_answer b l n =
     let h : Answers b l (refused 30 0) = texts-too-long n in
-    record { in-expanded = refused 30 0; given = h; no_other = λ y k. sym (one_answer k) ∙ one_answer h; placed = refl }
+    record { in_expanded = refused 30 0; given = h; no_other = λ y k. sym (one_answer k) ∙ one_answer h; placed = refl }
 
 pub at_once : {b l x g x' g' : List ℕ} {r : Lent} (n : ℕ) → ExpandsTexts b l x g x' g' r → r ≡ Stopped n → AtOnce b l x g x' g' n
-at_once n (short-rooms h i j) q = by-1 h (let z : n ≡ 1 = cc in z) i j
-at_once {b} {l} n (too_long h i j) q = by-30 h (let z : n ≡ 30 = cc in z) i (thirty_answer b l i) j
+at_once n (short_rooms h i j) q = by_1 h (let z : n ≡ 1 = cc in z) i j
+at_once {b} {l} n (too_long h i j) q = by_30 h (let z : n ≡ 30 = cc in z) i (thirty_answer b l i) j
 at_once n (expands h i j) q = absurd (let z : ◌≡◌ {A = ℕ} 0 1 = cc in omega arith)
 
 -- there is the expanded text
@@ -100,7 +100,7 @@ pub record There (b l x g x' g' : List ℕ) (e : Expanded) : Type 0 where
   pub filled : Filled b l x g x' g'
 
 pub there : {b l x g x' g' : List ℕ} {r : Lent} (e : Expanded) → ExpandsTexts b l x g x' g' r → r ≡ Text e → There b l x g x' g' e
-there e (short-rooms h i j) q = absurd (let z : ◌≡◌ {A = ℕ} 0 1 = cc in omega arith)
+there e (short_rooms h i j) q = absurd (let z : ◌≡◌ {A = ℕ} 0 1 = cc in omega arith)
 there e (too_long h i j) q = absurd (let z : ◌≡◌ {A = ℕ} 0 1 = cc in omega arith)
 there {b} {l} {x' = x'} {g' = g'} e (expands {e = f} h i j) q =
     let z : f ≡ e = cc in
@@ -117,7 +117,7 @@ the_answer {b} {l} a k t =
     let q : reading s ≡ a = t.no_other (reading s) (text-answers s) in
     let h : Answers b l (renumbered (expanded b l).number a) =
     subst (Answers b l) (is_renumbered b l k.within ∙ ap (renumbered (expanded b l).number) q) (answers b l) in
-    record { in-expanded = renumbered (expanded b l).number a; given = h; no_other = λ y j. sym (one_answer j) ∙ one_answer h; placed = refl }
+    record { in_expanded = renumbered (expanded b l).number a; given = h; no_other = λ y j. sym (one_answer j) ∙ one_answer h; placed = refl }
 
 pub answered_accepted : {b l x g : List ℕ} {e : Expanded} (t : Tables) → Holds b l x g e → TheTextsAnswer (expanded b l).bytes (accepted t) →
     TheAnswer b l (accepted (placed_tables (place_of b l) t))

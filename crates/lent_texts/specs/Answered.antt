@@ -12,10 +12,10 @@ place_of b l p = place_in (expanded b l).origins (length (expanded b l).bytes) (
 -- The answer of the rules to the lent texts, where the lent tables have full room and no output is asked for: the rules give it in the expanded
 -- text, and no other, and its places are those of the lent texts.
 pub record TheAnswer (b l : List ℕ) (a : Answer) : Type 0 where
-  pub in-expanded : Answer
-  pub given : Answers b l in-expanded
-  pub no_other : (x : Answer) → Answers b l x → x ≡ in-expanded
-  pub placed : a ≡ placed_answer (place_of b l) in-expanded
+  pub in_expanded : Answer
+  pub given : Answers b l in_expanded
+  pub no_other : (x : Answer) → Answers b l x → x ≡ in_expanded
+  pub placed : a ≡ placed_answer (place_of b l) in_expanded
 
 -- The numbers of the first fault of an expanded text: none, 3 and 27 to 29.
 pub data FaultNumber : ℕ → Type 0 where

@@ -39,7 +39,7 @@ pub record Holds (b l x g : List ℕ) (e : Expanded) : Type 0 where
 -- For the texts of the buffer b with lengths l; x and g are lent for the expanded text and its origins, x' and g' is what they hold afterwards.
 pub data ExpandsTexts (b l x g x' g' : List ℕ) : Lent → Type 0 where
   -- 1, "lent tables too short". "Refusal 1 changes nothing."
-  short-rooms : (Rooms x g → ⊥) → x' ≡ x → g' ≡ g → ExpandsTexts b l x g x' g' (Stopped 1)
+  short_rooms : (Rooms x g → ⊥) → x' ≡ x → g' ≡ g → ExpandsTexts b l x g x' g' (Stopped 1)
   -- 30
   too_long : Rooms x g → (expansion_of b l).number ≡ 30 → Filled b l x g x' g' → ExpandsTexts b l x g x' g' (Stopped 30)
   -- Else the expanded text.

@@ -19,12 +19,12 @@ use Rattle.token.specs.declared.Cursor.{Cursor}
 use Rattle.token.specs.declared.Token.{Token}
 use Rattle.token.specs.declared.Step.{Step}
 use Rattle.token.specs.declared.Step.TheVariants.{Found, Refused, End}
-use Rattle.token.proofs.Find.{find-holds}
+use Rattle.token.proofs.Find.{find_holds}
 use Rattle.token.proofs.Bytes.{pair_inside}
 use Rattle.token.proofs.Steps.{TokenOk, token_ok, found_fits, lex_law}
-use Rattle.locality.proofs.Skipping.{Gap, a-blank, a-line, a_block, parting, Bare, plain, lone, unended, Skips, here, on, skips_step, skips_low, stop}
+use Rattle.locality.proofs.Skipping.{Gap, a_blank, a_line, a_block, parting, Bare, plain, lone, unended, Skips, here, on, skips_step, skips_low, stop}
 use Rattle.locality.proofs.Shift.{moved, moved_step, moved_all, step_shift, lex_rest}
-use Rattle.locality.proofs.Front.{Same, close_low, pair_front, class-front, close-front, gap-front, by_bare}
+use Rattle.locality.proofs.Front.{Same, close_low, pair_front, class_front, close_front, gap_front, by_bare}
 use Rattle.locality.proofs.Pieces.{may_start, Piece, piece_append, Run, last_end, run_last, LastEnds, piece_run, first, leading}
 
 module _ (g z b : List ℕ) where
@@ -32,44 +32,44 @@ module _ (g z b : List ℕ) where
   common : Same (g ++ z) (g ++ b) 0 (length g)
   common i _ h = get_or-append g b 0 i h ∙ sym (get_or-append g z 0 i h)
 
-  high-first : length g ≤ length (g ++ z)
-  high-first = let l = length-append g z in omega arith
+  high_first : length g ≤ length (g ++ z)
+  high_first = let l = length-append g z in omega arith
 
-  high-second : length g ≤ length (g ++ b)
-  high-second = let l = length-append g b in omega arith
+  high_second : length g ≤ length (g ++ b)
+  high_second = let l = length-append g b in omega arith
 
   -- a blank or a comment that ends inside g, or where g ends and no blank follows
   gap_other : (r q : ℕ) → q ≤ length g → length g < length (g ++ z) → (class_of (byte (g ++ z) (length g)) ≡ blank → ⊥) → Gap (g ++ z) r q → Gap (g ++ b) r q
   unfolding find_byte class_of
-  gap_other r q k l n (a-blank c e) = a-blank (class-front (g ++ z) (g ++ b) 0 (length g) high-first high-second common r (omega arith) (omega arith) ∙ c) e
-  gap_other r q k l n (a-line c t e) =
+  gap_other r q k l n (a_blank c e) = a_blank (class_front (g ++ z) (g ++ b) 0 (length g) high_first high_second common r (omega arith) (omega arith) ∙ c) e
+  gap_other r q k l n (a_line c t e) =
       ⊎_elim
       (λ same.
       absurd
       (let i = pair_inside (g ++ z) r 47 47 t in
       let feed : ℕ → Bool = λ i. eqb (byte (g ++ z) i) 10 in
       let f : find feed (length (g ++ z)) (r + 2) ≡ length g = sym e ∙ same in
-      let h = find-holds feed (length (g ++ z)) (r + 2) (omega arith) (omega arith) in
+      let h = find_holds feed (length (g ++ z)) (r + 2) (omega arith) (omega arith) in
       let v : byte (g ++ z) (length g) ≡ 10 = eqb-true (byte (g ++ z) (length g)) 10 (ap feed (sym f) ∙ h) in
       n (ap class_of v)))
-      (λ less. gap-front (g ++ z) (g ++ b) 0 (length g) high-first high-second common r q (omega arith) less (a-line c t e))
+      (λ less. gap_front (g ++ z) (g ++ b) 0 (length g) high_first high_second common r q (omega arith) less (a_line c t e))
       (eq-or-lt_of_le k)
   gap_other r q k l n (a_block c f t h e) =
       let s = g ++ z in
       let u = g ++ b in
       let i = pair_inside s r 47 42 t in
       let at_least : r + 2 ≤ find_close s (r + 2) = close_low s (r + 2) in
-      let w : find_close u (r + 2) ≡ find_close s (r + 2) = close-front s u 0 (length g) high-first high-second common r (omega arith) (omega arith) h (omega arith) in
-      let o = high-second in
-      a_block (class-front s u 0 (length g) high-first high-second common r (omega arith) (omega arith) ∙ c)
-      (pair_front s u 0 (length g) high-first high-second common r 47 47 (omega arith) (omega arith) ∙ f)
-      (pair_front s u 0 (length g) high-first high-second common r 47 42 (omega arith) (omega arith) ∙ t) (omega arith) (omega arith)
+      let w : find_close u (r + 2) ≡ find_close s (r + 2) = close_front s u 0 (length g) high_first high_second common r (omega arith) (omega arith) h (omega arith) in
+      let o = high_second in
+      a_block (class_front s u 0 (length g) high_first high_second common r (omega arith) (omega arith) ∙ c)
+      (pair_front s u 0 (length g) high_first high_second common r 47 47 (omega arith) (omega arith) ∙ f)
+      (pair_front s u 0 (length g) high_first high_second common r 47 42 (omega arith) (omega arith) ∙ t) (omega arith) (omega arith)
 
-  skips-other : (m p : ℕ) → m ≡ length g → length g < length (g ++ z) → (class_of (byte (g ++ z) (length g)) ≡ blank → ⊥) → Skips (g ++ z) m p → Skips (g ++ b) m p
-  skips-other m p e l n (here _ i) = here p i
-  skips-other m p e l n (on _ q h k) =
+  skips_other : (m p : ℕ) → m ≡ length g → length g < length (g ++ z) → (class_of (byte (g ++ z) (length g)) ≡ blank → ⊥) → Skips (g ++ z) m p → Skips (g ++ b) m p
+  skips_other m p e l n (here _ i) = here p i
+  skips_other m p e l n (on _ q h k) =
       let o = skips_low (g ++ z) m q k in
-      on p q (gap_other p q (omega arith) l n h) (skips-other m q e l n k)
+      on p q (gap_other p q (omega arith) l n h) (skips_other m q e l n k)
 
 -- where a token begins there is no blank
 no_blank : (s : List ℕ) (m : ℕ) → Bare s m → class_of (byte s m) ≡ blank → ⊥
@@ -97,7 +97,7 @@ piece_gap g z t c e i =
     record {
       joined = λ b _.
           let u = g ++ b in
-          lex_law u 0 ∙ ap (λ (x : Step). after_step x (lex_from u)) (skips_step u m 0 (skips-other g z b m 0 q less n w.skipped))
+          lex_law u 0 ∙ ap (λ (x : Step). after_step x (lex_from u)) (skips_step u m 0 (skips_other g z b m 0 q less n w.skipped))
           ∙ sym (lex_law u m) ∙ ap (lex_from u) q ∙ lex_rest g b;
       inside = tt;
     }
@@ -107,13 +107,13 @@ record Unmoved (d : ℕ) (r : Step) (t : Token) : Type 0 where
   token : Token
   next : Cursor
   found_it : r ≡ Found token next
-  at-is : d + token.at ≡ t.at
+  at_is : d + token.at ≡ t.at
 
 unmove : (d : ℕ) (r : Step) (t : Token) (c : Cursor) → moved_step d r ≡ Found t c → Unmoved d r t
 unfolding moved_step moved
 unmove d (Found u k) t c e =
     let v : record { sort = u.sort; at = d + u.at; len = u.len } ≡ t = cc in
-    record { token = u; next = k; found_it = refl; at-is = ap (λ (x : Token). x.at) v }
+    record { token = u; next = k; found_it = refl; at_is = ap (λ (x : Token). x.at) v }
 unmove d (Refused q) t c e = absurd (let x : ◌≡◌ {A = ℕ} 0 1 = cc in omega arith)
 unmove d (End q) t c e = absurd (let x : ◌≡◌ {A = ℕ} 0 1 = cc in omega arith)
 

@@ -18,8 +18,8 @@ use Rattle.token.specs.declared.Amount.{Amount}
 use Rattle.token.specs.declared.Amount.TheVariants.{Is, Not}
 use Rattle.token.specs.declared.Power.{Power}
 use Rattle.token.specs.declared.Power.TheVariants.{Times, None}
-use Rattle.token.proofs.Lexemes.{number-whole}
-use Rattle.token.proofs.Decimals.{dotted-short}
+use Rattle.token.proofs.Lexemes.{number_whole}
+use Rattle.token.proofs.Decimals.{dotted_short}
 use Rattle.token.specs.Tokens.{bytes_between, found, word_at, limit_of, is_negative, number_of, whole_at, float_of, float_by, float_at, number_by, number_at, token_of, step_at}
 use Rattle.token.specs.declared.Cursor.{Cursor}
 use Rattle.token.specs.declared.Token.{Token}
@@ -28,11 +28,11 @@ use Rattle.token.specs.declared.Sort.TheVariants.{Word, Number, String, Punctuat
 use Rattle.token.specs.declared.Step.{Step}
 use Rattle.token.specs.declared.Step.TheVariants.{Found, Refused, End}
 use Rattle.token.proofs.Tables.{up_to, below}
-use Rattle.token.proofs.Values.{num_at_most, numeral-decimal, numeral-zero}
+use Rattle.token.proofs.Values.{num_at_most, numeral_decimal, numeral_zero}
 use Rattle.token.proofs.Bytes.{both_true, word_byte, class_is, both_second, T_true}
 use Rattle.locality.proofs.Skipping.{parting}
-use Rattle.locality.proofs.Forms.{number-form, step-form}
-use Rattle.locality.proofs.Front.{find-is}
+use Rattle.locality.proofs.Forms.{number_form, step_form}
+use Rattle.locality.proofs.Front.{find_is}
 use Rattle.locality.proofs.Join.{One, start, step_one}
 
 -- ---- the limits of a text's numbers
@@ -66,7 +66,7 @@ within false m h = h
 whole_ok : (s : List ℕ) (p q : ℕ) → StepNumber (whole_at s p q)
 unfolding whole_at found
 whole_ok s p q =
-    number-form (eqb (byte s p) 45) (ltb p q) (limit_of (eqb (byte s p) 45)) (λ (f : ℕ → ℕ → Step). StepNumber (f p (word_end s q)))
+    number_form (eqb (byte s p) 45) (ltb p q) (limit_of (eqb (byte s p) 45)) (λ (f : ℕ → ℕ → Step). StepNumber (f p (word_end s q)))
     (λ m h. within (eqb (byte s p) 45) m h) tt (bytes_between s q (word_end s q))
 
 float_ok : (minus : Bool) (v : Amount) (w : Power) (n p : ℕ) → StepNumber (float_of minus v w n p)
@@ -91,7 +91,7 @@ unfolding word_at found
 found_number s p t c n m e k =
     subst NumberOk k
     (subst StepNumber e
-    (step-form s StepNumber (λ q _. tt) (λ q _. number_ok s q q) (λ q _. number_ok s q (q + 1)) (λ q e. tt) (λ m q e. tt) (λ q. tt) tt p))
+    (step_form s StepNumber (λ q _. tt) (λ q _. number_ok s q q) (λ q _. number_ok s q (q + 1)) (λ q e. tt) (λ m q e. tt) (λ q. tt) tt p))
 
 -- ---- digits
 
@@ -171,19 +171,19 @@ numeral_is : (minus signed : Bool) (max n : ℕ) (w : List ℕ) (p e : ℕ) → 
     number_of minus (numeral signed max w) p e ≡ found (Number (is_negative minus n) n) p e
 unfolding digits_after
 numeral_is minus signed max n w p e r h (yes l) =
-    ap (λ (f : ℕ → ℕ → Step). f p e) (ap (number_of minus) (numeral-decimal signed max w (λ e. omega (arith, r.long)) (r.first l)))
+    ap (λ (f : ℕ → ℕ → Step). f p e) (ap (number_of minus) (numeral_decimal signed max w (λ e. omega (arith, r.long)) (r.first l)))
     ∙ rw (digits_all w r.digits, r.value) (ap (λ (f : ℕ → ℕ → Step). f p e) (ap (number_of minus) (num_at_most max n h)))
 numeral_is minus signed max n w p e r h (no l) =
     let z : n ≡ 0 = omega arith in
     let o = r.none z in
-    ap (λ (f : ℕ → ℕ → Step). f p e) (ap (number_of minus) (numeral-zero signed max w o.0 o.1))
+    ap (λ (f : ℕ → ℕ → Step). f p e) (ap (number_of minus) (numeral_zero signed max w o.0 o.1))
     ∙ ap (λ (m : ℕ). found (Number (is_negative minus m) m) p e) (sym z)
 
 -- a text of one run of letters, digits and `_` from q on
 run_end : (w : List ℕ) (q : ℕ) → q ≤ length w → ((i : ℕ) → q ≤ i → i < length w → is_word_byte (byte w i) ≡ true) → word_end w q ≡ length w
 unfolding word_end
 run_end w q h f =
-    find-is (λ i. not (is_word_byte (byte w i))) (length w) q (length w) h (omega arith) (λ i l m. ap not (f i l m)) (λ l. absurd (omega arith))
+    find_is (λ i. not (is_word_byte (byte w i))) (length w) q (length w) h (omega arith) (λ i l m. ap not (f i l m)) (λ l. absurd (omega arith))
 
 first_digit : (w : List ℕ) → Digits w → 0 < length w → (d : ℕ) × (byte w 0 ≡ 48 + d) × (d < 10)
 first_digit [] g h = absurd (omega arith)
@@ -209,7 +209,7 @@ plus n w r h =
     let run : word_end w 0 ≡ length w = run_end w 0 (omega arith) (λ i _ l. digits_word w r.digits i l) in
     step_one w (Number false n)
     (start w digit r.long c refl
-    ∙ number-whole w 0 0 (length w) (sym run) (dotted-short w (length w) (omega arith))
+    ∙ number_whole w 0 0 (length w) (sym run) (dotted_short w (length w) (omega arith))
     ∙ rw (run, whole_between w, minus) (numeral_is false (ltb 0 0) 18446744073709551615 n w 0 (length w) r h (dec_lt 0 n)))
 
 -- and after a minus
@@ -219,7 +219,7 @@ minus n w r l h =
     let run : word_end (45 ∷ w) 1 ≡ suc (length w) = run_end (45 ∷ w) 1 (omega arith) (tail_word 45 w r.digits) in
     step_one (45 ∷ w) (Number true n)
     (start (45 ∷ w) plus_minus (omega arith) refl refl
-    ∙ number-whole (45 ∷ w) 0 1 (suc (length w)) (sym run) (dotted-short (45 ∷ w) (suc (length w)) (omega arith))
+    ∙ number_whole (45 ∷ w) 0 1 (suc (length w)) (sym run) (dotted_short (45 ∷ w) (suc (length w)) (omega arith))
     ∙ rw (run, after_first 45 w) (numeral_is true (ltb 0 1) 9223372036854775808 n w 0 (suc (length w)) r h (dec_lt 0 n))
     ∙ ap (λ (b : Bool). found (Number b n) 0 (suc (length w))) (lt-ltb 0 n l))
 

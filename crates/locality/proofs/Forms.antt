@@ -15,7 +15,7 @@ use Rattle.token.specs.declared.Sort.TheVariants.{Number, String, Punctuator}
 use Rattle.token.specs.declared.Step.{Step}
 use Rattle.token.specs.declared.Step.TheVariants.{Refused, End}
 use Rattle.token.proofs.Find.{by_test}
-use Rattle.locality.proofs.Skipping.{Bare, plain, lone, unended, plain_step, lone-step, unended-step, skips_step, stop}
+use Rattle.locality.proofs.Skipping.{Bare, plain, lone, unended, plain_step, lone_step, unended_step, skips_step, stop}
 
 -- a number, by its amount: none, or one within the limit
 module _ (minus signed : Bool) (max : ℕ) (P : (ℕ → ℕ → Step) → Type 0)
@@ -27,9 +27,9 @@ module _ (minus signed : Bool) (max : ℕ) (P : (ℕ → ℕ → Step) → Type 
       (λ _. by_test (λ v. P (number_of minus v)) (leb (value_after base a w) max) _ _ (λ t. is (value_after base a w) (leb-true (value_after base a w) max t)) (λ _. isn't))
       (λ _. isn't)
 
-  pub number-form : (w : List ℕ) → P (number_of minus (numeral signed max w))
+  pub number_form : (w : List ℕ) → P (number_of minus (numeral signed max w))
   unfolding numeral
-  number-form w =
+  number_form w =
       by_test (λ v. P (number_of minus v)) (eqb (length w) 0) _ _ (λ _. isn't)
       (λ _.
       by_test (λ v. P (number_of minus v)) (eqb (byte w 0) 48) _ _
@@ -61,17 +61,17 @@ module _ (s : List ℕ) (P : Step → Type 0)
   by_class slash q h = bad q
   by_class other q h = bad q
 
-  token-form : (q : ℕ) → P (token_at s q)
+  token_form : (q : ℕ) → P (token_at s q)
   unfolding token_at
-  token-form q =
+  token_form q =
       by_test P (ltb q (length s)) (token_of (class_of (byte s q)) s q) (End (length s))
       (λ t. by_class (class_of (byte s q)) q (ltb-true q (length s) t)) (λ _. end)
 
   by_bare : (p : ℕ) → Bare s p → P (step_at s p)
-  by_bare p (plain e) = subst P (sym (plain_step s p e)) (token-form p)
-  by_bare p (lone e f g) = subst P (sym (lone-step s p e f g)) (token-form p)
-  by_bare p (unended e f g h) = subst P (sym (unended-step s p e f g h)) (bad p)
+  by_bare p (plain e) = subst P (sym (plain_step s p e)) (token_form p)
+  by_bare p (lone e f g) = subst P (sym (lone_step s p e f g)) (token_form p)
+  by_bare p (unended e f g h) = subst P (sym (unended_step s p e f g h)) (bad p)
 
   -- what a step from p finds
-  pub step-form : (p : ℕ) → P (step_at s p)
-  step-form p = let k = stop s p in subst P (sym (skips_step s k.place p k.skipped)) (by_bare k.place k.bare)
+  pub step_form : (p : ℕ) → P (step_at s p)
+  step_form p = let k = stop s p in subst P (sym (skips_step s k.place p k.skipped)) (by_bare k.place k.bare)

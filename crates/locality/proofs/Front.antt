@@ -18,8 +18,8 @@ use Rattle.token.specs.declared.Amount.{Amount}
 use Rattle.token.specs.declared.Amount.TheVariants.{Is, Not}
 use Rattle.token.specs.declared.Power.{Power}
 use Rattle.token.specs.declared.Power.TheVariants.{Times, None}
-use Rattle.token.proofs.Lexemes.{number-float, number-whole}
-use Rattle.token.proofs.Decimals.{mark-low, mark-high, dotted_inside, signed_inside, signed-past, signed_other, power_none, power-signed, power-unsigned, some-none, power_fits}
+use Rattle.token.proofs.Lexemes.{number_float, number_whole}
+use Rattle.token.proofs.Decimals.{mark_low, mark_high, dotted_inside, signed_inside, signed_past, signed_other, power_none, power_signed, power_unsigned, some_none, power_fits}
 use Rattle.token.specs.Tokens.{bytes_between, found, word_at, limit_of, whole_at, float_of, float_by, float_at, number_by, number_at, string_at, dots_at, token_of, token_at, step_at}
 use Rattle.token.specs.declared.Cursor.{Cursor}
 use Rattle.token.specs.declared.Token.{Token}
@@ -27,11 +27,11 @@ use Rattle.token.specs.declared.Sort.{Sort}
 use Rattle.token.specs.declared.Sort.TheVariants.{Word, Number, String, Punctuator, Float}
 use Rattle.token.specs.declared.Step.{Step}
 use Rattle.token.specs.declared.Step.TheVariants.{Found, Refused, End}
-use Rattle.token.proofs.Find.{by_test, find_here, find-next, find_past, find-low, find-high, find-holds, find-before}
-use Rattle.token.proofs.Bytes.{pair_inside, either_true, byte_low, word-high, word_low, both_true, both_second}
+use Rattle.token.proofs.Find.{by_test, find_here, find_next, find_past, find_low, find_high, find_holds, find_before}
+use Rattle.token.proofs.Bytes.{pair_inside, either_true, byte_low, word_high, word_low, both_true, both_second}
 use Rattle.token.proofs.Steps.{TokenOk, token_ok}
-use Rattle.locality.proofs.Skipping.{Gap, a-blank, a-line, a_block, parting, Bare, plain, lone, unended, gap_step, plain_step, lone-step, unended-step, Skips, here, on, skips_step, skips_low, stop}
-use Rattle.locality.proofs.Forms.{number-form}
+use Rattle.locality.proofs.Skipping.{Gap, a_blank, a_line, a_block, parting, Bare, plain, lone, unended, gap_step, plain_step, lone_step, unended_step, Skips, here, on, skips_step, skips_low, stop}
+use Rattle.locality.proofs.Forms.{number_form}
 
 -- two texts have the same bytes from p up to e
 abbrev pub Same : List ℕ → List ℕ → ℕ → ℕ → Type 0
@@ -55,12 +55,12 @@ module _ (t : ℕ → Bool) where
       ap (find t e) same
       ∙ ⊎_elim (λ z. find_past t e q (omega arith)) (λ l. find_here t e q l (g l)) (eq-or-lt_of_le k)
   reach e q (suc n) p h k f g =
-      find-next t e p (omega arith) (f p (omega arith) (omega arith))
+      find_next t e p (omega arith) (f p (omega arith) (omega arith))
       ∙ reach e q n (p + 1) (omega arith) k (λ i l m. f i (omega arith) m) g
 
   -- the place that is found is the one before which the test never holds, and at which it holds or all ends
-  pub find-is : (e p q : ℕ) → p ≤ q → q ≤ e → ((i : ℕ) → p ≤ i → i < q → t i ≡ false) → (q < e → t q ≡ true) → find t e p ≡ q
-  find-is e p q h k f g = reach e q (q - p) p (omega arith) k f g
+  pub find_is : (e p q : ℕ) → p ≤ q → q ≤ e → ((i : ℕ) → p ≤ i → i < q → t i ≡ false) → (q < e → t q ≡ true) → find t e p ≡ q
+  find_is e p q h k f g = reach e q (q - p) p (omega arith) k f g
 
 -- the first byte of what goes on at e
 pub first_rest : (s : List ℕ) (e : ℕ) → byte (drop e s) 0 ≡ byte s e
@@ -84,8 +84,8 @@ module _ (s u : List ℕ) where
   unfolding word_end
   word_same p l h f e =
       let t : ℕ → Bool = λ i. not (is_word_byte (byte s i)) in
-      find-is (λ i. not (is_word_byte (byte u i))) (length u) p (find t (length s) p) (find-low t (length s) p) h
-      (λ i k m. ap (λ (b : ℕ). not (is_word_byte b)) (f i k m) ∙ find-before t (length s) p i k m)
+      find_is (λ i. not (is_word_byte (byte u i))) (length u) p (find t (length s) p) (find_low t (length s) p) h
+      (λ i k m. ap (λ (b : ℕ). not (is_word_byte b)) (f i k m) ∙ find_before t (length s) p i k m)
       (λ _. ap (λ (b : ℕ). not (is_word_byte b)) (sym (first_rest u (find t (length s) p))) ∙ e)
 
 -- the byte after a run is no word's
@@ -94,7 +94,7 @@ unfolding word_end is_word_byte
 word_ends s p h =
     let t : ℕ → Bool = λ i. not (is_word_byte (byte s i)) in
     ap (λ (b : ℕ). not (is_word_byte b)) (first_rest s (find t (length s) p))
-    ∙ ⊎_elim (λ e. past (find t (length s) p) (omega arith)) (λ l. find-holds t (length s) p h l) (eq-or-lt_of_le (find-high t (length s) p h))
+    ∙ ⊎_elim (λ e. past (find t (length s) p) (omega arith)) (λ l. find_holds t (length s) p h l) (eq-or-lt_of_le (find_high t (length s) p h))
   where
     past : (n : ℕ) → length s ≤ n → not (is_word_byte (byte s n)) ≡ true
     past n l = ap (λ (b : ℕ). not (is_word_byte b)) (get_or-eq_default s 0 l)
@@ -105,8 +105,8 @@ unfolding word_end is_word_byte
 digit_on s p h e =
     let t : ℕ → Bool = λ i. not (is_word_byte (byte s i)) in
     let z : is_word_byte (byte s p) ≡ true = ap (either (is_letter (byte s p))) e ∙ either_true (is_letter (byte s p)) in
-    let n = find-next t (length s) p h (ap not z) in
-    let l = find-low t (length s) (p + 1) in
+    let n = find_next t (length s) p h (ap not z) in
+    let l = find_low t (length s) (p + 1) in
     omega arith
 
 -- a dot and a digit, seen from where a text goes on
@@ -122,7 +122,7 @@ not_both false b e = absurd (false≢true e)
 -- the end of a comment is not before the place it is looked for from
 pub close_low : (s : List ℕ) (p : ℕ) → p ≤ find_close s p
 unfolding find_close
-close_low s p = find-low (λ i. pair_at s i 42 47) (length s) p
+close_low s p = find_low (λ i. pair_at s i 42 47) (length s) p
 
 -- ---- blanks and comments
 
@@ -132,8 +132,8 @@ module _ (s u : List ℕ) (z e : ℕ) (es : e ≤ length s) (eu : e ≤ length u
   pub pair_front : (r a b : ℕ) → z ≤ r → r + 1 < e → pair_at u r a b ≡ pair_at s r a b
   pair_front r a b h k = pair_same s u r a b (omega arith) (omega arith) (same r h (omega arith)) (same (r + 1) (omega arith) k)
 
-  pub class-front : (r : ℕ) → z ≤ r → r < e → class_of (byte u r) ≡ class_of (byte s r)
-  class-front r h k = ap class_of (same r h k)
+  pub class_front : (r : ℕ) → z ≤ r → r < e → class_of (byte u r) ≡ class_of (byte s r)
+  class_front r h k = ap class_of (same r h k)
 
   pub line_front : (r : ℕ) → z ≤ r → pair_at s r 47 47 ≡ true → find_byte 10 s (r + 2) < e → find_byte 10 u (r + 2) ≡ find_byte 10 s (r + 2)
   unfolding find_byte
@@ -141,40 +141,40 @@ module _ (s u : List ℕ) (z e : ℕ) (es : e ≤ length s) (eu : e ≤ length u
       let i = pair_inside s r 47 47 t in
       let feed : ℕ → Bool = λ i. eqb (byte s i) 10 in
       let q = find feed (length s) (r + 2) in
-      let low = find-low feed (length s) (r + 2) in
-      find-is (λ i. eqb (byte u i) 10) (length u) (r + 2) q low (omega arith)
-      (λ i l n. ap (λ (b : ℕ). eqb b 10) (same i (omega arith) (omega arith)) ∙ find-before feed (length s) (r + 2) i l n)
-      (λ l. ap (λ (b : ℕ). eqb b 10) (same q (omega arith) (omega arith)) ∙ find-holds feed (length s) (r + 2) (omega arith) (omega arith))
+      let low = find_low feed (length s) (r + 2) in
+      find_is (λ i. eqb (byte u i) 10) (length u) (r + 2) q low (omega arith)
+      (λ i l n. ap (λ (b : ℕ). eqb b 10) (same i (omega arith) (omega arith)) ∙ find_before feed (length s) (r + 2) i l n)
+      (λ l. ap (λ (b : ℕ). eqb b 10) (same q (omega arith) (omega arith)) ∙ find_holds feed (length s) (r + 2) (omega arith) (omega arith))
 
-  pub close-front : (r : ℕ) → z ≤ r → r + 2 ≤ length s → find_close s (r + 2) < length s → find_close s (r + 2) + 1 < e →
+  pub close_front : (r : ℕ) → z ≤ r → r + 2 ≤ length s → find_close s (r + 2) < length s → find_close s (r + 2) + 1 < e →
       find_close u (r + 2) ≡ find_close s (r + 2)
   unfolding find_close
-  close-front r h i l k =
+  close_front r h i l k =
       let t : ℕ → Bool = λ i. pair_at s i 42 47 in
       let c = find t (length s) (r + 2) in
-      let low = find-low t (length s) (r + 2) in
-      find-is (λ i. pair_at u i 42 47) (length u) (r + 2) c low (omega arith)
-      (λ i a n. pair_front i 42 47 (omega arith) (omega arith) ∙ find-before t (length s) (r + 2) i a n)
-      (λ _. pair_front c 42 47 (omega arith) (omega arith) ∙ find-holds t (length s) (r + 2) i l)
+      let low = find_low t (length s) (r + 2) in
+      find_is (λ i. pair_at u i 42 47) (length u) (r + 2) c low (omega arith)
+      (λ i a n. pair_front i 42 47 (omega arith) (omega arith) ∙ find_before t (length s) (r + 2) i a n)
+      (λ _. pair_front c 42 47 (omega arith) (omega arith) ∙ find_holds t (length s) (r + 2) i l)
 
-  pub gap-front : (r q : ℕ) → z ≤ r → q < e → Gap s r q → Gap u r q
-  gap-front r q h k (a-blank c n) = a-blank (class-front r h (omega arith) ∙ c) n
-  gap-front r q h k (a-line c t n) =
+  pub gap_front : (r q : ℕ) → z ≤ r → q < e → Gap s r q → Gap u r q
+  gap_front r q h k (a_blank c n) = a_blank (class_front r h (omega arith) ∙ c) n
+  gap_front r q h k (a_line c t n) =
       let low = byte_low s (r + 2) 10 in
-      a-line (class-front r h (omega arith) ∙ c) (pair_front r 47 47 h (omega arith) ∙ t) (n ∙ sym (line_front r h t (omega arith)))
-  gap-front r q h k (a_block c f t l n) =
+      a_line (class_front r h (omega arith) ∙ c) (pair_front r 47 47 h (omega arith) ∙ t) (n ∙ sym (line_front r h t (omega arith)))
+  gap_front r q h k (a_block c f t l n) =
       let low = close_low s (r + 2) in
       let i = pair_inside s r 47 42 t in
-      let w : find_close u (r + 2) ≡ find_close s (r + 2) = close-front r h (omega arith) l (omega arith) in
-      a_block (class-front r h (omega arith) ∙ c) (pair_front r 47 47 h (omega arith) ∙ f) (pair_front r 47 42 h (omega arith) ∙ t) (omega arith) (omega arith)
+      let w : find_close u (r + 2) ≡ find_close s (r + 2) = close_front r h (omega arith) l (omega arith) in
+      a_block (class_front r h (omega arith) ∙ c) (pair_front r 47 47 h (omega arith) ∙ f) (pair_front r 47 42 h (omega arith) ∙ t) (omega arith) (omega arith)
 
   -- what is skipped in s is skipped in u
-  skips-front : (m p : ℕ) → z ≤ p → m < e → Skips s m p → Skips u m p
-  skips-front m p h k (here _ i) = here p i
-  skips-front m p h k (on _ q g r) =
+  skips_front : (m p : ℕ) → z ≤ p → m < e → Skips s m p → Skips u m p
+  skips_front m p h k (here _ i) = here p i
+  skips_front m p h k (on _ q g r) =
       let l = skips_low s m q r in
       let f = (gap_step s p q g).1 in
-      on p q (gap-front p q h (omega arith) g) (skips-front m q (omega arith) k r)
+      on p q (gap_front p q h (omega arith) g) (skips_front m q (omega arith) k r)
 
 -- ---- floats
 
@@ -205,7 +205,7 @@ module _ (s u : List ℕ) (p q d r m : ℕ) (dd : d ≡ word_end s q) (rr : r �
   dr = let z = digit_on s (d + 1) di digit_at in omega arith
 
   rl : r ≤ length s
-  rl = let i = di in let z = word-high s (d + 1) (omega arith) in omega arith
+  rl = let i = di in let z = word_high s (d + 1) (omega arith) in omega arith
 
   re : r ≤ e
   re = (power_fits s m r rl low x e pw).1
@@ -214,55 +214,55 @@ module _ (s u : List ℕ) (p q d r m : ℕ) (dd : d ≡ word_end s q) (rr : r �
   el = (power_fits s m r rl low x e pw).2
 
   md : d + 1 ≤ m
-  md = let z = mark-low s r (d + 1) in omega arith
+  md = let z = mark_low s r (d + 1) in omega arith
 
   mr : m ≤ r
-  mr = let i = dr in let z = mark-high s r (d + 1) (omega arith) in omega arith
+  mr = let i = dr in let z = mark_high s r (d + 1) (omega arith) in omega arith
 
   -- a run that ends before e, and one that ends at e
-  run-kept : (a : ℕ) → p ≤ a → a ≤ length s → word_end s a < e → word_end u a ≡ word_end s a
-  run-kept a h l k =
+  run_kept : (a : ℕ) → p ≤ a → a ≤ length s → word_end s a < e → word_end u a ≡ word_end s a
+  run_kept a h l k =
       let w = word_end s a in
       let lo = word_low s a in
       word_same s u a l (omega arith) (λ i f g. same i (omega arith) (omega arith))
       (ap (λ (b : ℕ). not (is_word_byte b)) (first_rest u w ∙ same w (omega arith) k ∙ sym (first_rest s w)) ∙ word_ends s a l)
 
-  last-kept : (a : ℕ) → p ≤ a → a ≤ length s → word_end s a ≡ e → word_end u a ≡ word_end s a
-  last-kept a h l k =
+  last_kept : (a : ℕ) → p ≤ a → a ≤ length s → word_end s a ≡ e → word_end u a ≡ word_end s a
+  last_kept a h l k =
       word_same s u a l (omega arith) (λ i f g. same i (omega arith) (omega arith))
       (ap (λ (n : ℕ). not (is_word_byte (byte (drop n u) 0))) k ∙ stops)
 
-  either-kept : (a : ℕ) → p ≤ a → a ≤ length s → word_end s a ≤ e → word_end u a ≡ word_end s a
-  either-kept a h l k = ⊎_elim (λ z. last-kept a h l z) (λ z. run-kept a h l z) (eq-or-lt_of_le k)
+  either_kept : (a : ℕ) → p ≤ a → a ≤ length s → word_end s a ≤ e → word_end u a ≡ word_end s a
+  either_kept a h l k = ⊎_elim (λ z. last_kept a h l z) (λ z. run_kept a h l z) (eq-or-lt_of_le k)
 
-  dot-kept : is_dotted u d ≡ true
+  dot_kept : is_dotted u d ≡ true
   unfolding is_dotted
-  dot-kept =
+  dot_kept =
       let i = dr in
       let j = re in
       let k = qd in
       ap₂ (λ (a b : ℕ). both (eqb a 46) (is_digit b)) (same d (omega arith) (omega arith)) (same (d + 1) (omega arith) (omega arith)) ∙ dot_at
 
   first_kept : word_end u q ≡ d
-  first_kept = let i = dr in let j = re in run-kept q pq ql (omega arith) ∙ sym dd
+  first_kept = let i = dr in let j = re in run_kept q pq ql (omega arith) ∙ sym dd
 
-  second-kept : word_end u (d + 1) ≡ r
-  second-kept = let i = di in let j = qd in let k = re in either-kept (d + 1) (omega arith) (omega arith) (omega arith) ∙ sym rr
+  second_kept : word_end u (d + 1) ≡ r
+  second_kept = let i = di in let j = qd in let k = re in either_kept (d + 1) (omega arith) (omega arith) (omega arith) ∙ sym rr
 
-  mark-kept : find_mark u r (d + 1) ≡ m
+  mark_kept : find_mark u r (d + 1) ≡ m
   unfolding find_mark
-  mark-kept =
+  mark_kept =
       let t : ℕ → Bool = λ i. is_exponent_mark (byte s i) in
       let j = qd in
       let k = re in
       let n = dr in
-      find-is (λ i. is_exponent_mark (byte u i)) r (d + 1) (find t r (d + 1)) (find-low t r (d + 1)) (find-high t r (d + 1) (omega arith))
-      (λ i a b. ap is_exponent_mark (same i (omega arith) (let z = find-high t r (d + 1) (omega arith) in omega arith)) ∙ find-before t r (d + 1) i a b)
-      (λ b. ap is_exponent_mark (same (find t r (d + 1)) (let z = find-low t r (d + 1) in omega arith) (omega arith)) ∙ find-holds t r (d + 1) (omega arith) b)
+      find_is (λ i. is_exponent_mark (byte u i)) r (d + 1) (find t r (d + 1)) (find_low t r (d + 1)) (find_high t r (d + 1) (omega arith))
+      (λ i a b. ap is_exponent_mark (same i (omega arith) (let z = find_high t r (d + 1) (omega arith) in omega arith)) ∙ find_before t r (d + 1) i a b)
+      (λ b. ap is_exponent_mark (same (find t r (d + 1)) (let z = find_low t r (d + 1) in omega arith) (omega arith)) ∙ find_holds t r (d + 1) (omega arith) b)
       ∙ sym mm
 
-  unsigned-kept : (m ≡ r → ⊥) → is_signed s m r ≡ false → power_at u m r ≡ power_at s m r
-  unsigned-kept n t =
+  unsigned_kept : (m ≡ r → ⊥) → is_signed s m r ≡ false → power_at u m r ≡ power_at s m r
+  unsigned_kept n t =
       let j = qd in
       let k = md in
       let l = re in
@@ -271,35 +271,35 @@ module _ (s u : List ℕ) (p q d r m : ℕ) (dd : d ≡ word_end s q) (rr : r �
       let w : List ℕ = bytes_between s (m + 1) r in
       let long : m + 1 ≡ r → ⊥ = λ z.
       no_power false (some_digits 64 0 w) r low x e
-      (some-none 64 0 w (length-take (r - (m + 1)) (drop (m + 1) s) ∙ (let y : r - (m + 1) ≡ 0 = omega arith in ap (λ (n : ℕ). min n (length (drop (m + 1) s))) y ∙ zero-min (length (drop (m + 1) s)))))
-      (sym (power-unsigned s m r n t) ∙ pw) in
-      power-unsigned u m r n (signed_other u m r long)
+      (some_none 64 0 w (length-take (r - (m + 1)) (drop (m + 1) s) ∙ (let y : r - (m + 1) ≡ 0 = omega arith in ap (λ (n : ℕ). min n (length (drop (m + 1) s))) y ∙ zero-min (length (drop (m + 1) s)))))
+      (sym (power_unsigned s m r n t) ∙ pw) in
+      power_unsigned u m r n (signed_other u m r long)
       ∙ ap (λ (v : List ℕ). power_of false (some_digits 64 0 v) r) (between_same s u (m + 1) r (omega arith) (omega arith) (λ i a b. same i (omega arith) (omega arith)))
-      ∙ sym (power-unsigned s m r n t)
+      ∙ sym (power_unsigned s m r n t)
 
-  signed-kept : (m ≡ r → ⊥) → is_signed s m r ≡ true → power_at u m r ≡ power_at s m r
+  signed_kept : (m ≡ r → ⊥) → is_signed s m r ≡ true → power_at u m r ≡ power_at s m r
   unfolding is_signed
-  signed-kept n t =
+  signed_kept n t =
       let j = qd in
       let k = md in
       let mh = mr in
       let g = signed_inside s m r t in
       let E = word_end s (r + 1) in
-      let ee : e ≡ E = power_end (eqb (byte s r) 45) (some_digits 64 0 (take (E - (r + 1)) (drop (r + 1) s))) E low x e (sym (power-signed s m r n t E refl) ∙ pw) in
+      let ee : e ≡ E = power_end (eqb (byte s r) 45) (some_digits 64 0 (take (E - (r + 1)) (drop (r + 1) s))) E low x e (sym (power_signed s m r n t E refl) ∙ pw) in
       let lo = word_low s (r + 1) in
       let o = el in
       let b : byte u r ≡ byte s r = same r (omega arith) (omega arith) in
-      power-signed u m r n (ap (λ (c : ℕ). both (eqb (m + 1) r) (is_plus_minus c)) b ∙ t) E (sym (last-kept (r + 1) (omega arith) (omega arith) (sym ee)))
+      power_signed u m r n (ap (λ (c : ℕ). both (eqb (m + 1) r) (is_plus_minus c)) b ∙ t) E (sym (last_kept (r + 1) (omega arith) (omega arith) (sym ee)))
       ∙ ap₂ (λ (c : ℕ) (v : List ℕ). power_of (eqb c 45) (some_digits 64 0 v) E) b (between_same s u (r + 1) E (omega arith) (omega arith) (λ n' a f. same n' (omega arith) (omega arith)))
-      ∙ sym (power-signed s m r n t E refl)
+      ∙ sym (power_signed s m r n t E refl)
 
-  power-kept : power_at u m r ≡ power_at s m r
-  power-kept = by (ℕ_discrete m r) (is_signed s m r) refl
+  power_kept : power_at u m r ≡ power_at s m r
+  power_kept = by (ℕ_discrete m r) (is_signed s m r) refl
     where
       by : Dec (m ≡ r) → (b : Bool) → is_signed s m r ≡ b → power_at u m r ≡ power_at s m r
       by (yes z) b t = power_none u m r z ∙ sym (power_none s m r z)
-      by (no n) true t = signed-kept n t
-      by (no n) false t = unsigned-kept n t
+      by (no n) true t = signed_kept n t
+      by (no n) false t = unsigned_kept n t
 
   pub float_same : number_at u p q ≡ float_by s p q d r m
   unfolding float_at float_by
@@ -310,14 +310,14 @@ module _ (s u : List ℕ) (p q d r m : ℕ) (dd : d ≡ word_end s q) (rr : r �
       let l = el in
       let a = md in
       let b = mr in
-      number-float u p q d (sym first_kept) dot-kept
+      number_float u p q d (sym first_kept) dot_kept
       ∙ rw (
-        second-kept,
-        mark-kept,
+        second_kept,
+        mark_kept,
         same p (omega arith) (omega arith),
         between_same s u q d (omega arith) (omega arith) (λ i f g. same i (omega arith) (omega arith)),
         between_same s u (d + 1) m (omega arith) (omega arith) (λ i f g. same i (omega arith) (omega arith)),
-        power-kept,
+        power_kept,
       )
 
 -- ---- tokens
@@ -334,22 +334,22 @@ unfolding find_byte
 quote_front s u p h k f l =
     let t : ℕ → Bool = λ i. eqb (byte s i) 34 in
     let e = find t (length s) (p + 1) in
-    let low = find-low t (length s) (p + 1) in
-    find-is (λ i. eqb (byte u i) 34) (length u) (p + 1) e low (omega arith)
-    (λ i a b. ap (λ (b : ℕ). eqb b 34) (f i (omega arith) (omega arith)) ∙ find-before t (length s) (p + 1) i a b)
-    (λ _. ap (λ (b : ℕ). eqb b 34) (f e (omega arith) (omega arith)) ∙ find-holds t (length s) (p + 1) (omega arith) l)
+    let low = find_low t (length s) (p + 1) in
+    find_is (λ i. eqb (byte u i) 34) (length u) (p + 1) e low (omega arith)
+    (λ i a b. ap (λ (b : ℕ). eqb b 34) (f i (omega arith) (omega arith)) ∙ find_before t (length s) (p + 1) i a b)
+    (λ _. ap (λ (b : ℕ). eqb b 34) (f e (omega arith) (omega arith)) ∙ find_holds t (length s) (p + 1) (omega arith) l)
 
 module _ (s u : List ℕ) (p : ℕ) (inside : p < length s) where
   word_kept : Kept s u p (word_at u p) (word_at s p)
   unfolding word_at found ends
   word_kept =
       λ _ k f e.
-      rw (word_same s u p (omega arith) k f e, between_same s u p (word_end s p) (word-high s p (omega arith)) k f)
+      rw (word_same s u p (omega arith) k f e, between_same s u p (word_end s p) (word_high s p (omega arith)) k f)
 
-  whole-kept : (q : ℕ) → p ≤ q → q ≤ length s → Kept s u p (number_at u p q) (whole_at s p q)
+  whole_kept : (q : ℕ) → p ≤ q → q ≤ length s → Kept s u p (number_at u p q) (whole_at s p q)
   unfolding whole_at found ends
-  whole-kept q h l =
-      number-form (eqb (byte s p) 45) (ltb p q) (limit_of (eqb (byte s p) 45))
+  whole_kept q h l =
+      number_form (eqb (byte s p) 45) (ltb p q) (limit_of (eqb (byte s p) 45))
       (λ (f : ℕ → ℕ → Step).
       (p < word_end s q → word_end s q ≤ length u → Same s u p (word_end s q) → both (not (is_word_byte (byte (drop (word_end s q) u) 0))) (not (is_dotted (drop (word_end s q) u) 0)) ≡ true →
       number_at u p q ≡ f p (word_end s q)) → Kept s u p (number_at u p q) (f p (word_end s q)))
@@ -358,8 +358,8 @@ module _ (s u : List ℕ) (p : ℕ) (inside : p < length s) where
       let g : Same s u q (word_end s q) = λ i a b. f i (omega arith) b in
       let x = not_both (not (is_word_byte (byte (drop (word_end s q) u) 0))) (is_dotted (drop (word_end s q) u) 0) e in
       let w : word_end u q ≡ word_end s q = word_same s u q l k g x.0 in
-      number-whole u p q (word_end s q) (sym w) (sym (dotted_rest u (word_end s q)) ∙ x.1)
-      ∙ rw (w, between_same s u q (word_end s q) (word-high s q l) k g, f p (omega arith) n))
+      number_whole u p q (word_end s q) (sym w) (sym (dotted_rest u (word_end s q)) ∙ x.1)
+      ∙ rw (w, between_same s u q (word_end s q) (word_high s q l) k g, f p (omega arith) n))
 
   float_kept : (q : ℕ) → p ≤ q → q ≤ length s → is_dotted s (word_end s q) ≡ true → Kept s u p (number_at u p q) (float_at s p q (word_end s q))
   unfolding float_at float_by found ends
@@ -382,18 +382,18 @@ module _ (s u : List ℕ) (p : ℕ) (inside : p < length s) where
       by Not (Times b x e) f g = tt
       by Not None f g = tt
 
-  number-by-kept : (q : ℕ) → p ≤ q → q ≤ length s → (b : Bool) → is_dotted s (word_end s q) ≡ b → Kept s u p (number_at u p q) (number_by b s p q)
+  number_by_kept : (q : ℕ) → p ≤ q → q ≤ length s → (b : Bool) → is_dotted s (word_end s q) ≡ b → Kept s u p (number_at u p q) (number_by b s p q)
   unfolding number_by
-  number-by-kept q h l true t = float_kept q h l t
-  number-by-kept q h l false t = whole-kept q h l
+  number_by_kept q h l true t = float_kept q h l t
+  number_by_kept q h l false t = whole_kept q h l
 
-  number-kept : (q : ℕ) → p ≤ q → q ≤ length s → Kept s u p (number_at u p q) (number_at s p q)
+  number_kept : (q : ℕ) → p ≤ q → q ≤ length s → Kept s u p (number_at u p q) (number_at s p q)
   unfolding number_at
-  number-kept q h l = number-by-kept q h l (is_dotted s (word_end s q)) refl
+  number_kept q h l = number_by_kept q h l (is_dotted s (word_end s q)) refl
 
-  string-kept : Kept s u p (string_at u p) (string_at s p)
+  string_kept : Kept s u p (string_at u p) (string_at s p)
   unfolding string_at found
-  string-kept =
+  string_kept =
       let e = find_byte 34 s (p + 1) in
       by_test (Kept s u p (string_at u p)) (ltb e (length s)) (found String p (e + 1)) (Refused p)
       (λ b _ k f _.
@@ -402,26 +402,26 @@ module _ (s u : List ℕ) (p : ℕ) (inside : p < length s) where
       rw (n, lt-ltb e (length u) (omega arith)))
       (λ _. tt)
 
-  dots-kept : Kept s u p (dots_at u p) (dots_at s p)
+  dots_kept : Kept s u p (dots_at u p) (dots_at s p)
   unfolding dots_at found
-  dots-kept =
+  dots_kept =
       by_test (Kept s u p (dots_at u p)) (pair_at s p 46 46) (found (Punctuator 46) p (p + 2)) (Refused p)
       (λ t _ k f _.
       let l = pair_inside s p 46 46 t in
       rw (pair_same s u p 46 46 l (omega arith) (f p (omega arith) (omega arith)) (f (p + 1) (omega arith) (omega arith)), t))
       (λ _. tt)
 
-  class-kept : (c : Class) → Kept s u p (token_of c u p) (token_of c s p)
+  class_kept : (c : Class) → Kept s u p (token_of c u p) (token_of c s p)
   unfolding token_of found
-  class-kept letter = word_kept
-  class-kept digit = number-kept p (omega arith) (omega arith)
-  class-kept blank = tt
-  class-kept plus_minus = number-kept (p + 1) (omega arith) (omega arith)
-  class-kept quote = string-kept
-  class-kept punctuator = λ n k f _. rw (f p (omega arith) n)
-  class-kept dot = dots-kept
-  class-kept slash = tt
-  class-kept other = tt
+  class_kept letter = word_kept
+  class_kept digit = number_kept p (omega arith) (omega arith)
+  class_kept blank = tt
+  class_kept plus_minus = number_kept (p + 1) (omega arith) (omega arith)
+  class_kept quote = string_kept
+  class_kept punctuator = λ n k f _. rw (f p (omega arith) n)
+  class_kept dot = dots_kept
+  class_kept slash = tt
+  class_kept other = tt
 
   -- a byte that begins a token begins neither a blank nor a comment
   begins : (c : Class) (t : Token) (k : Cursor) → token_of c s p ≡ Found t k → parting c ≡ false
@@ -436,27 +436,27 @@ module _ (s u : List ℕ) (p : ℕ) (inside : p < length s) where
   begins slash t k e = absurd (let y : ◌≡◌ {A = ℕ} 0 1 = cc in omega arith)
   begins other t k e = refl
 
-  token-in : token_at s p ≡ token_of (class_of (byte s p)) s p
+  token_in : token_at s p ≡ token_of (class_of (byte s p)) s p
   unfolding token_at
-  token-in = rw (lt-ltb p (length s) inside)
+  token_in = rw (lt-ltb p (length s) inside)
 
 -- a token that begins at p and is found in s is found in u, by a step from p
 token_front : (s u : List ℕ) (p : ℕ) (t : Token) (c : Cursor) → token_at s p ≡ Found t c →
     c.at ≤ length u → Same s u p c.at → ends t.sort (drop c.at u) ≡ true → step_at u p ≡ Found t c
 token_front s u p t c e k f h =
     let o : TokenOk s p (Found t c) = subst (TokenOk s p) e (token_ok s p) in
-    let is = token-in s u p (omega arith) in
-    let iu = token-in u u p (omega arith) in
+    let is = token_in s u p (omega arith) in
+    let iu = token_in u u p (omega arith) in
     let b : byte u p ≡ byte s p = f p (omega arith) (omega arith) in
     plain_step u p (ap (λ (x : ℕ). parting (class_of x)) b ∙ begins s u p (omega arith) (class_of (byte s p)) t c (sym is ∙ e))
     ∙ iu ∙ ap (λ (x : ℕ). token_of (class_of x) u p) b
-    ∙ subst (Kept s u p (token_of (class_of (byte s p)) u p)) (sym is ∙ e) (class-kept s u p (omega arith) (class_of (byte s p))) (omega arith) k f h
+    ∙ subst (Kept s u p (token_of (class_of (byte s p)) u p)) (sym is ∙ e) (class_kept s u p (omega arith) (class_of (byte s p))) (omega arith) k f h
 
 -- a token that is found where neither a blank nor a comment stands begins there
 pub by_bare : (s : List ℕ) (m : ℕ) (t : Token) (c : Cursor) → Bare s m → step_at s m ≡ Found t c → token_at s m ≡ Found t c
 by_bare s m t c (plain f) e = sym (plain_step s m f) ∙ e
-by_bare s m t c (lone f g h) e = sym (lone-step s m f g h) ∙ e
-by_bare s m t c (unended f g h k) e = absurd (let r = unended-step s m f g h k in let y : ◌≡◌ {A = ℕ} 0 1 = cc in omega arith)
+by_bare s m t c (lone f g h) e = sym (lone_step s m f g h) ∙ e
+by_bare s m t c (unended f g h k) e = absurd (let r = unended_step s m f g h k in let y : ◌≡◌ {A = ℕ} 0 1 = cc in omega arith)
 
 -- a step from p that finds a token finds it in every text that has the same bytes from p up to its end, and goes on so that it ends there
 pub step_front : (s u : List ℕ) (p : ℕ) (t : Token) (c : Cursor) → step_at s p ≡ Found t c →
@@ -467,5 +467,5 @@ step_front s u p t c e k f h =
     let r : token_at s m ≡ Found t c = by_bare s m t c w.bare (sym (skips_step s m p w.skipped) ∙ e) in
     let o : TokenOk s m (Found t c) = subst (TokenOk s m) r (token_ok s m) in
     let low = skips_low s m p w.skipped in
-    skips_step u m p (skips-front s u p c.at o.3 k f m p (omega arith) (omega arith) w.skipped)
+    skips_step u m p (skips_front s u p c.at o.3 k f m p (omega arith) (omega arith) w.skipped)
     ∙ token_front s u m t c r k (λ i a b. f i (omega arith) b) h

@@ -10,7 +10,7 @@ use Rattle.token.specs.declared.Cursor.{Cursor}
 use Rattle.token.specs.declared.Token.{Token}
 use Rattle.token.specs.declared.Step.{Step}
 use Rattle.token.specs.declared.Step.TheVariants.{Found, Refused, End}
-use Rattle.token.proofs.Steps.{TokenFits, found_fits, lex-found, lex-bad, lex-end}
+use Rattle.token.proofs.Steps.{TokenFits, found_fits, lex_found, lex_bad, lex_end}
 
 module _ (n : ℕ) (P : ℕ → Type 0) (f : (p : ℕ) → ((q : ℕ) → p < q → q ≤ n → P q) → P p) where
   within : (k p : ℕ) → n ≤ p + k → P p
@@ -28,9 +28,9 @@ module _ (s : List ℕ) (P : ℕ → Lexed → Type 0)
   by_step : (p : ℕ) → ((q : ℕ) → p < q → q ≤ length s → P q (lex_from s q)) → (r : Step) → step_at s p ≡ r → P p (lex_from s p)
   by_step p f (Found t c) e =
       let o = found_fits s p t c e in
-      subst (P p) (sym (lex-found s p t c e)) (found p t c e o (f c.at (omega arith) o.inside))
-  by_step p f (Refused q) e = subst (P p) (sym (lex-bad s p q e)) (bad p q e)
-  by_step p f (End n) e = subst (P p) (sym (lex-end s p n e)) (end p n e)
+      subst (P p) (sym (lex_found s p t c e)) (found p t c e o (f c.at (omega arith) o.inside))
+  by_step p f (Refused q) e = subst (P p) (sym (lex_bad s p q e)) (bad p q e)
+  by_step p f (End n) e = subst (P p) (sym (lex_end s p n e)) (end p n e)
 
   -- from every place on
   pub reading : (p : ℕ) → P p (lex_from s p)

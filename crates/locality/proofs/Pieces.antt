@@ -12,7 +12,7 @@ use borrow.Author.Tests.{eq-eqb}
 use Rattle.token.specs.Find.{byte, both}
 use Rattle.token.proofs.Find.{by_test}
 use Rattle.token.proofs.Bytes.{both_true, both_second}
-use Rattle.token.proofs.Decimals.{dotted-other}
+use Rattle.token.proofs.Decimals.{dotted_other}
 use Rattle.token.specs.Bytes.{blank, pair_at, class_of, is_word_byte}
 use Rattle.token.specs.Tokens.{step_at, found, dots_at, token_of, token_at}
 use Rattle.token.specs.Lexing.{Lexed, more, ended, refused, after_step, Divides, lex_from}
@@ -23,11 +23,11 @@ use Rattle.token.specs.declared.Sort.{Sort}
 use Rattle.token.specs.declared.Sort.TheVariants.{Word, Number, String, Punctuator, Float}
 use Rattle.token.specs.declared.Step.{Step}
 use Rattle.token.specs.declared.Step.TheVariants.{Found, Refused, End}
-use Rattle.token.proofs.Steps.{found_fits, lex_law, lex-found, lex-bad, lex-end}
-use Rattle.locality.proofs.Skipping.{a-blank, gap_step, plain_step, parting}
+use Rattle.token.proofs.Steps.{found_fits, lex_law, lex_found, lex_bad, lex_end}
+use Rattle.locality.proofs.Skipping.{a_blank, gap_step, plain_step, parting}
 use Rattle.locality.proofs.Shift.{moved, moved_all, lex_rest}
 use Rattle.locality.proofs.Front.{ends}
-use Rattle.locality.proofs.Join.{step-longer, step-shorter, rest-ends, found-ends, One}
+use Rattle.locality.proofs.Join.{step_longer, step_shorter, rest_ends, found_ends, One}
 
 -- ---- tokens, and then others
 
@@ -155,7 +155,7 @@ unfolding after_all
 piece_blank x e =
     record {
       joined = λ b _.
-          lex_law (x ∷ b) 0 ∙ ap (λ (r : Step). after_step r (lex_from (x ∷ b))) (gap_step (x ∷ b) 0 1 (a-blank e refl)).0
+          lex_law (x ∷ b) 0 ∙ ap (λ (r : Step). after_step r (lex_from (x ∷ b))) (gap_step (x ∷ b) 0 1 (a_blank e refl)).0
           ∙ sym (lex_law (x ∷ b) 1) ∙ lex_rest (x ∷ []) b;
       inside = tt;
     }
@@ -170,7 +170,7 @@ pub data Run (s : List ℕ) (q : ℕ) : ℕ → List Token → Type 0 where
 pub run_lex : (s : List ℕ) (q p : ℕ) (ts : List Token) → Run s q p ts → lex_from s p ≡ after_all ts (lex_from s q)
 unfolding after_all
 run_lex s q p ts (stay _ e) = ap (lex_from s) e
-run_lex s q p ts (go _ t c us e r) = lex-found s p t c e ∙ ap (more t) (run_lex s q c.at us r)
+run_lex s q p ts (go _ t c us e r) = lex_found s p t c e ∙ ap (more t) (run_lex s q c.at us r)
 
 pub run_low : (s : List ℕ) (q p : ℕ) (ts : List Token) → Run s q p ts → p ≤ q
 run_low s q p ts (stay _ e) = omega arith
@@ -229,22 +229,22 @@ pub run_other : (a b z : List ℕ) (p : ℕ) (ts : List Token) → Run (a ++ z) 
 run_other a b z p [] (stay _ e) h = stay p e
 run_other a b z p (t ∷ []) (go _ _ c _ e r) h =
     go p t c []
-    (step-longer a b p t c (step-shorter a z p t c e (run_low (a ++ z) (length a) c.at [] r)) (ap (ends t.sort) (ap (λ (i : ℕ). drop i (a ++ b)) (at_end r) ∙ drop-append_seam a b) ∙ h))
+    (step_longer a b p t c (step_shorter a z p t c e (run_low (a ++ z) (length a) c.at [] r)) (ap (ends t.sort) (ap (λ (i : ℕ). drop i (a ++ b)) (at_end r) ∙ drop-append_seam a b) ∙ h))
     (run_other a b z c.at [] r tt)
   where
     at_end : {n : ℕ} → Run (a ++ z) (length a) n [] → n ≡ length a
     at_end (stay _ i) = i
 run_other a b z p (t ∷ u ∷ ts) (go _ _ c _ e r) h =
     let l = first_step (a ++ z) (length a) c.at u ts r in
-    let n = dotted-next r in
+    let n = dotted_next r in
     go p t c (u ∷ ts)
-    (step-longer a b p t c (step-shorter a z p t c e (omega arith))
-    (rest-ends a b t.sort c.at l n ∙ sym (rest-ends a z t.sort c.at l n) ∙ found-ends (a ++ z) p t c e))
+    (step_longer a b p t c (step_shorter a z p t c e (omega arith))
+    (rest_ends a b t.sort c.at l n ∙ sym (rest_ends a z t.sort c.at l n) ∙ found_ends (a ++ z) p t c e))
     (run_other a b z c.at (u ∷ ts) r h)
   where
     -- a dot behind the token is `..`, whose second byte is in a
-    dotted-next : {n : ℕ} → Run (a ++ z) (length a) n (u ∷ ts) → byte a n ≡ 46 → n + 1 < length a
-    dotted-next {n} (go _ _ k _ i j) y =
+    dotted_next : {n : ℕ} → Run (a ++ z) (length a) n (u ∷ ts) → byte a n ≡ 46 → n + 1 < length a
+    dotted_next {n} (go _ _ k _ i j) y =
         let low = run_low (a ++ z) (length a) k.at ts j in
         let o = found_fits (a ++ z) n u k i in
         let x : n < length a = omega arith in
@@ -271,13 +271,13 @@ pub record First (s : List ℕ) (p : ℕ) (t : Token) (us : List Token) : Type 0
 by_step : (s : List ℕ) (p : ℕ) (t : Token) (us : List Token) (r : Step) → step_at s p ≡ r → tokens_of (lex_from s p) ≡ t ∷ us → First s p t us
 unfolding tokens_of
 by_step s p t us (Found u c) e k =
-    let l : u ∷ tokens_of (lex_from s c.at) ≡ t ∷ us = sym (ap tokens_of (lex-found s p u c e)) ∙ k in
+    let l : u ∷ tokens_of (lex_from s c.at) ≡ t ∷ us = sym (ap tokens_of (lex_found s p u c e)) ∙ k in
     let same : u ≡ t = cc in
     record { next = c; step = e ∙ ap (λ (x : Token). Found x c) same; rest = cc }
 by_step s p t us (Refused q) e k =
-    absurd (let l : [] ≡ t ∷ us = sym (ap tokens_of (lex-bad s p q e)) ∙ k in let z : ◌≡◌ {A = ℕ} 0 1 = cc in omega arith)
+    absurd (let l : [] ≡ t ∷ us = sym (ap tokens_of (lex_bad s p q e)) ∙ k in let z : ◌≡◌ {A = ℕ} 0 1 = cc in omega arith)
 by_step s p t us (End n) e k =
-    absurd (let l : [] ≡ t ∷ us = sym (ap tokens_of (lex-end s p n e)) ∙ k in let z : ◌≡◌ {A = ℕ} 0 1 = cc in omega arith)
+    absurd (let l : [] ≡ t ∷ us = sym (ap tokens_of (lex_end s p n e)) ∙ k in let z : ◌≡◌ {A = ℕ} 0 1 = cc in omega arith)
 
 -- so it is where they are the tokens from p on
 pub first : (s : List ℕ) (p : ℕ) (t : Token) (us : List Token) → tokens_of (lex_from s p) ≡ t ∷ us → First s p t us
@@ -305,7 +305,7 @@ ends_follow (Word c) b e = both_true (not (is_word_byte (byte b 0))) (not (eqb (
 ends_follow (Float n m k) b e = both_true (not (is_word_byte (byte b 0))) (not (eqb (byte b 0) 46)) e
 ends_follow (Number n m) b e =
     ap₂ (λ (x y : Bool). both x (not y)) (both_true (not (is_word_byte (byte b 0))) (not (eqb (byte b 0) 46)) e)
-    (dotted-other b 0 (λ z. false≢true (sym (ap not (eq-eqb (byte b 0) 46 z)) ∙ both_second (not (is_word_byte (byte b 0))) (not (eqb (byte b 0) 46)) e)))
+    (dotted_other b 0 (λ z. false≢true (sym (ap not (eq-eqb (byte b 0) 46 z)) ∙ both_second (not (is_word_byte (byte b 0))) (not (eqb (byte b 0) 46)) e)))
 ends_follow String b e = refl
 ends_follow (Punctuator m) b e = refl
 

@@ -23,10 +23,10 @@ use Rattle.token.specs.declared.Sort.TheVariants.{Word, Number, String, Punctuat
 use Rattle.token.specs.declared.Token.{Token}
 use Rattle.token.specs.declared.Step.{Step}
 use Rattle.token.specs.declared.Step.TheVariants.{Found, Refused, End}
-use Rattle.token.proofs.Steps.{lex-found, lex-bad, lex-end}
+use Rattle.token.proofs.Steps.{lex_found, lex_bad, lex_end}
 use Rattle.locality.proofs.Onward.{reading}
-use Rattle.locality.proofs.Skipping.{Gap, a-blank, a-line, a_block, Bare, plain, lone, unended, plain_step, lone-step, unended-step, Skips, here, on, skips_step, stop}
-use Rattle.locality.proofs.Forms.{number-form}
+use Rattle.locality.proofs.Skipping.{Gap, a_blank, a_line, a_block, Bare, plain, lone, unended, plain_step, lone_step, unended_step, Skips, here, on, skips_step, stop}
+use Rattle.locality.proofs.Forms.{number_form}
 
 -- a token, d places further on
 unfoldable pub moved : ℕ → Token → Token
@@ -70,17 +70,17 @@ unfolding find
 find_up t e p = ap (λ (n : ℕ). first_of t n (suc p)) (suc-sub-suc e p) ∙ first_up t (e - p) p
 
 module _ (x : ℕ) (b : List ℕ) where
-  word-up : (p : ℕ) → word_end (x ∷ b) (suc p) ≡ suc (word_end b p)
+  word_up : (p : ℕ) → word_end (x ∷ b) (suc p) ≡ suc (word_end b p)
   unfolding word_end
-  word-up p = find_up (λ i. not (is_word_byte (byte (x ∷ b) i))) (length b) p
+  word_up p = find_up (λ i. not (is_word_byte (byte (x ∷ b) i))) (length b) p
 
-  byte-up : (c p : ℕ) → find_byte c (x ∷ b) (suc p) ≡ suc (find_byte c b p)
+  byte_up : (c p : ℕ) → find_byte c (x ∷ b) (suc p) ≡ suc (find_byte c b p)
   unfolding find_byte
-  byte-up c p = find_up (λ i. eqb (byte (x ∷ b) i) c) (length b) p
+  byte_up c p = find_up (λ i. eqb (byte (x ∷ b) i) c) (length b) p
 
-  pair-up : (p c d : ℕ) → pair_at (x ∷ b) (suc p) c d ≡ pair_at b p c d
+  pair_up : (p c d : ℕ) → pair_at (x ∷ b) (suc p) c d ≡ pair_at b p c d
   unfolding pair_at
-  pair-up p c d =
+  pair_up p c d =
       ap (λ (n : ℕ). both (ltb n (suc (length b))) (both (eqb (byte b p) c) (eqb (byte (x ∷ b) n) d))) (suc-add p 1)
       ∙ ap (λ (t : Bool). both t (both (eqb (byte b p) c) (eqb (byte b (p + 1)) d))) (leb-suc-suc (suc (p + 1)) (length b))
 
@@ -88,18 +88,18 @@ module _ (x : ℕ) (b : List ℕ) where
   unfolding find_close
   close_up p =
       find_up (λ i. pair_at (x ∷ b) i 42 47) (length b) p
-      ∙ ap (λ (t : ℕ → Bool). suc (find t (length b) p)) (fun_ext (λ i. pair-up i 42 47))
+      ∙ ap (λ (t : ℕ → Bool). suc (find t (length b) p)) (fun_ext (λ i. pair_up i 42 47))
 
-  between-up : (p e : ℕ) → bytes_between (x ∷ b) (suc p) (suc e) ≡ bytes_between b p e
-  between-up p e = ap (λ (n : ℕ). take n (drop p b)) (suc-sub-suc e p)
+  between_up : (p e : ℕ) → bytes_between (x ∷ b) (suc p) (suc e) ≡ bytes_between b p e
+  between_up p e = ap (λ (n : ℕ). take n (drop p b)) (suc-sub-suc e p)
 
-  dotted-up : (e : ℕ) → is_dotted (x ∷ b) (suc e) ≡ is_dotted b e
+  dotted_up : (e : ℕ) → is_dotted (x ∷ b) (suc e) ≡ is_dotted b e
   unfolding is_dotted
-  dotted-up e = ap (λ (n : ℕ). both (eqb (byte b e) 46) (is_digit (byte (x ∷ b) n))) (suc-add e 1)
+  dotted_up e = ap (λ (n : ℕ). both (eqb (byte b e) 46) (is_digit (byte (x ∷ b) n))) (suc-add e 1)
 
-  mark-up : (e p : ℕ) → find_mark (x ∷ b) (suc e) (suc p) ≡ suc (find_mark b e p)
+  mark_up : (e p : ℕ) → find_mark (x ∷ b) (suc e) (suc p) ≡ suc (find_mark b e p)
   unfolding find_mark
-  mark-up e p = find_up (λ i. is_exponent_mark (byte (x ∷ b) i)) e p
+  mark_up e p = find_up (λ i. is_exponent_mark (byte (x ∷ b) i)) e p
 
   signed_up : (m r : ℕ) → is_signed (x ∷ b) (suc m) (suc r) ≡ is_signed b m r
   unfolding is_signed
@@ -109,16 +109,16 @@ module _ (x : ℕ) (b : List ℕ) where
 
 module _ (x : ℕ) (b : List ℕ) where
   gap_up : (p q : ℕ) → Gap b p q → Gap (x ∷ b) (suc p) (suc q)
-  gap_up p q (a-blank e z) = a-blank e (ap suc z ∙ sym (suc-add p 1))
-  gap_up p q (a-line e t z) =
-      a-line e (pair-up x b p 47 47 ∙ t) (ap suc z ∙ sym (byte-up x b 10 (p + 2)) ∙ ap (find_byte 10 (x ∷ b)) (sym (suc-add p 2)))
+  gap_up p q (a_blank e z) = a_blank e (ap suc z ∙ sym (suc-add p 1))
+  gap_up p q (a_line e t z) =
+      a_line e (pair_up x b p 47 47 ∙ t) (ap suc z ∙ sym (byte_up x b 10 (p + 2)) ∙ ap (find_byte 10 (x ∷ b)) (sym (suc-add p 2)))
   gap_up p q (a_block e f t l z) =
       let n : find_close (x ∷ b) (suc p + 2) ≡ suc (find_close b (p + 2)) = ap (find_close (x ∷ b)) (suc-add p 2) ∙ close_up x b (p + 2) in
-      a_block e (pair-up x b p 47 47 ∙ f) (pair-up x b p 47 42 ∙ t) (omega arith) (omega arith)
+      a_block e (pair_up x b p 47 47 ∙ f) (pair_up x b p 47 42 ∙ t) (omega arith) (omega arith)
 
-  skips-up : (m p : ℕ) → Skips b m p → Skips (x ∷ b) (suc m) (suc p)
-  skips-up m p (here _ e) = here (suc p) (ap suc e)
-  skips-up m p (on _ q g k) = on (suc p) (suc q) (gap_up p q g) (skips-up m q k)
+  skips_up : (m p : ℕ) → Skips b m p → Skips (x ∷ b) (suc m) (suc p)
+  skips_up m p (here _ e) = here (suc p) (ap suc e)
+  skips_up m p (on _ q g k) = on (suc p) (suc q) (gap_up p q g) (skips_up m q k)
 
 -- ---- tokens
 
@@ -128,7 +128,7 @@ found_up k p e = ap (λ (n : ℕ). Found (record { sort = k; at = suc p; len = n
 
 number_up : (minus signed : Bool) (max : ℕ) (w : List ℕ) (p e : ℕ) → number_of minus (numeral signed max w) (suc p) (suc e) ≡ up (number_of minus (numeral signed max w) p e)
 number_up minus signed max w p e =
-    number-form minus signed max (λ (f : ℕ → ℕ → Step). f (suc p) (suc e) ≡ up (f p e)) (λ m _. found_up (Number (is_negative minus m) m) p e) refl w
+    number_form minus signed max (λ (f : ℕ → ℕ → Step). f (suc p) (suc e) ≡ up (f p e)) (λ m _. found_up (Number (is_negative minus m) m) p e) refl w
 
 -- the end of an exponent, one place further on
 abbrev later : Power → Power
@@ -152,15 +152,15 @@ float_of_up minus Not (Times t x e) n p = refl
 float_of_up minus Not None n p = refl
 
 module _ (x : ℕ) (b : List ℕ) where
-  word-at-up : (p : ℕ) → word_at (x ∷ b) (suc p) ≡ up (word_at b p)
+  word_at_up : (p : ℕ) → word_at (x ∷ b) (suc p) ≡ up (word_at b p)
   unfolding word_at
-  word-at-up p =
-      rw (word-up x b p, between-up x b p (word_end b p)) (found_up (Word (code_of (bytes_between b p (word_end b p)))) p (word_end b p))
+  word_at_up p =
+      rw (word_up x b p, between_up x b p (word_end b p)) (found_up (Word (code_of (bytes_between b p (word_end b p)))) p (word_end b p))
 
-  whole-up : (p q : ℕ) → whole_at (x ∷ b) (suc p) (suc q) ≡ up (whole_at b p q)
+  whole_up : (p q : ℕ) → whole_at (x ∷ b) (suc p) (suc q) ≡ up (whole_at b p q)
   unfolding whole_at
-  whole-up p q =
-      rw (word-up x b q, between-up x b q (word_end b q), leb-suc-suc (suc p) q)
+  whole_up p q =
+      rw (word_up x b q, between_up x b q (word_end b q), leb-suc-suc (suc p) q)
       (number_up (eqb (byte b p) 45) (ltb p q) (limit_of (eqb (byte b p) 45)) (bytes_between b q (word_end b q)) p (word_end b q))
 
   power_up : (m r : ℕ) → power_at (x ∷ b) (suc m) (suc r) ≡ later (power_at b m r)
@@ -171,7 +171,7 @@ module _ (x : ℕ) (b : List ℕ) where
         signed_up x b m r,
         suc-add r 1,
         suc-add m 1,
-        word-up x b (r + 1),
+        word_up x b (r + 1),
         suc-sub-suc (word_end b (r + 1)) (r + 1),
         suc-sub-suc r (m + 1),
         power_of_up (eqb (byte b r) 45) (some_digits 64 0 (bytes_between b (r + 1) (word_end b (r + 1)))) (word_end b (r + 1)),
@@ -181,74 +181,74 @@ module _ (x : ℕ) (b : List ℕ) where
       (power_of (eqb (byte b r) 45) (some_digits 64 0 (bytes_between b (r + 1) (word_end b (r + 1)))) (word_end b (r + 1)))
       (power_of false (some_digits 64 0 (bytes_between b (m + 1) r)) r))
 
-  float-by-up : (p q d r m : ℕ) → float_by (x ∷ b) (suc p) (suc q) (suc d) (suc r) (suc m) ≡ up (float_by b p q d r m)
+  float_by_up : (p q d r m : ℕ) → float_by (x ∷ b) (suc p) (suc q) (suc d) (suc r) (suc m) ≡ up (float_by b p q d r m)
   unfolding float_by
-  float-by-up p q d r m =
-      rw (suc-add d 1, between-up x b q d, between-up x b (d + 1) m, suc-sub-suc m (d + 1), power_up m r)
+  float_by_up p q d r m =
+      rw (suc-add d 1, between_up x b q d, between_up x b (d + 1) m, suc-sub-suc m (d + 1), power_up m r)
       (float_of_up (eqb (byte b p) 45) (mantissa_of (bytes_between b q d) (bytes_between b (d + 1) m)) (power_at b m r) (m - (d + 1)) p)
 
   float_up : (p q d : ℕ) → float_at (x ∷ b) (suc p) (suc q) (suc d) ≡ up (float_at b p q d)
   unfolding float_at
   float_up p q d =
       let r = word_end b (d + 1) in
-      let e : word_end (x ∷ b) (suc d + 1) ≡ suc r = ap (word_end (x ∷ b)) (suc-add d 1) ∙ word-up x b (d + 1) in
-      let m : find_mark (x ∷ b) (suc r) (suc d + 1) ≡ suc (find_mark b r (d + 1)) = ap (find_mark (x ∷ b) (suc r)) (suc-add d 1) ∙ mark-up x b r (d + 1) in
-      rw (e, m) (float-by-up p q d r (find_mark b r (d + 1)))
+      let e : word_end (x ∷ b) (suc d + 1) ≡ suc r = ap (word_end (x ∷ b)) (suc-add d 1) ∙ word_up x b (d + 1) in
+      let m : find_mark (x ∷ b) (suc r) (suc d + 1) ≡ suc (find_mark b r (d + 1)) = ap (find_mark (x ∷ b) (suc r)) (suc-add d 1) ∙ mark_up x b r (d + 1) in
+      rw (e, m) (float_by_up p q d r (find_mark b r (d + 1)))
 
-  number-by-up : (t : Bool) (p q : ℕ) → number_by t (x ∷ b) (suc p) (suc q) ≡ up (number_by t b p q)
+  number_by_up : (t : Bool) (p q : ℕ) → number_by t (x ∷ b) (suc p) (suc q) ≡ up (number_by t b p q)
   unfolding number_by
-  number-by-up true p q = ap (float_at (x ∷ b) (suc p) (suc q)) (word-up x b q) ∙ float_up p q (word_end b q)
-  number-by-up false p q = whole-up p q
+  number_by_up true p q = ap (float_at (x ∷ b) (suc p) (suc q)) (word_up x b q) ∙ float_up p q (word_end b q)
+  number_by_up false p q = whole_up p q
 
-  number-at-up : (p q : ℕ) → number_at (x ∷ b) (suc p) (suc q) ≡ up (number_at b p q)
+  number_at_up : (p q : ℕ) → number_at (x ∷ b) (suc p) (suc q) ≡ up (number_at b p q)
   unfolding number_at
-  number-at-up p q =
-      ap (λ (t : Bool). number_by t (x ∷ b) (suc p) (suc q)) (ap (is_dotted (x ∷ b)) (word-up x b q) ∙ dotted-up x b (word_end b q))
-      ∙ number-by-up (is_dotted b (word_end b q)) p q
+  number_at_up p q =
+      ap (λ (t : Bool). number_by t (x ∷ b) (suc p) (suc q)) (ap (is_dotted (x ∷ b)) (word_up x b q) ∙ dotted_up x b (word_end b q))
+      ∙ number_by_up (is_dotted b (word_end b q)) p q
 
-  string-up : (p : ℕ) → string_at (x ∷ b) (suc p) ≡ up (string_at b p)
+  string_up : (p : ℕ) → string_at (x ∷ b) (suc p) ≡ up (string_at b p)
   unfolding string_at
-  string-up p =
+  string_up p =
       let e = find_byte 34 b (p + 1) in
-      rw (suc-add p 1, byte-up x b 34 (p + 1), suc-add e 1, leb-suc-suc (suc e) (length b), found_up String p (e + 1))
+      rw (suc-add p 1, byte_up x b 34 (p + 1), suc-add e 1, leb-suc-suc (suc e) (length b), found_up String p (e + 1))
       (push up (ltb e (length b)) (found String p (e + 1)) (Refused p))
 
-  dots-up : (p : ℕ) → dots_at (x ∷ b) (suc p) ≡ up (dots_at b p)
+  dots_up : (p : ℕ) → dots_at (x ∷ b) (suc p) ≡ up (dots_at b p)
   unfolding dots_at
-  dots-up p =
-      rw (pair-up x b p 46 46, suc-add p 2, found_up (Punctuator 46) p (p + 2)) (push up (pair_at b p 46 46) (found (Punctuator 46) p (p + 2)) (Refused p))
+  dots_up p =
+      rw (pair_up x b p 46 46, suc-add p 2, found_up (Punctuator 46) p (p + 2)) (push up (pair_at b p 46 46) (found (Punctuator 46) p (p + 2)) (Refused p))
 
-  token-of-up : (c : Class) (p : ℕ) → token_of c (x ∷ b) (suc p) ≡ up (token_of c b p)
+  token_of_up : (c : Class) (p : ℕ) → token_of c (x ∷ b) (suc p) ≡ up (token_of c b p)
   unfolding token_of
-  token-of-up letter p = word-at-up p
-  token-of-up digit p = number-at-up p p
-  token-of-up blank p = refl
-  token-of-up plus_minus p = ap (number_at (x ∷ b) (suc p)) (suc-add p 1) ∙ number-at-up p (p + 1)
-  token-of-up quote p = string-up p
-  token-of-up punctuator p = ap (found (Punctuator (byte b p)) (suc p)) (suc-add p 1) ∙ found_up (Punctuator (byte b p)) p (p + 1)
-  token-of-up dot p = dots-up p
-  token-of-up slash p = refl
-  token-of-up other p = refl
+  token_of_up letter p = word_at_up p
+  token_of_up digit p = number_at_up p p
+  token_of_up blank p = refl
+  token_of_up plus_minus p = ap (number_at (x ∷ b) (suc p)) (suc-add p 1) ∙ number_at_up p (p + 1)
+  token_of_up quote p = string_up p
+  token_of_up punctuator p = ap (found (Punctuator (byte b p)) (suc p)) (suc-add p 1) ∙ found_up (Punctuator (byte b p)) p (p + 1)
+  token_of_up dot p = dots_up p
+  token_of_up slash p = refl
+  token_of_up other p = refl
 
-  token-up : (p : ℕ) → token_at (x ∷ b) (suc p) ≡ up (token_at b p)
+  token_up : (p : ℕ) → token_at (x ∷ b) (suc p) ≡ up (token_at b p)
   unfolding token_at
-  token-up p =
-      rw (leb-suc-suc (suc p) (length b), token-of-up (class_of (byte b p)) p)
+  token_up p =
+      rw (leb-suc-suc (suc p) (length b), token_of_up (class_of (byte b p)) p)
       (push up (ltb p (length b)) (token_of (class_of (byte b p)) b p) (End (length b)))
 
-  bare-up : (m : ℕ) → Bare b m → step_at (x ∷ b) (suc m) ≡ up (step_at b m)
-  bare-up m (plain e) = plain_step (x ∷ b) (suc m) e ∙ token-up m ∙ ap up (sym (plain_step b m e))
-  bare-up m (lone e f g) =
-      lone-step (x ∷ b) (suc m) e (pair-up x b m 47 47 ∙ f) (pair-up x b m 47 42 ∙ g) ∙ token-up m ∙ ap up (sym (lone-step b m e f g))
-  bare-up m (unended e f g h) =
+  bare_up : (m : ℕ) → Bare b m → step_at (x ∷ b) (suc m) ≡ up (step_at b m)
+  bare_up m (plain e) = plain_step (x ∷ b) (suc m) e ∙ token_up m ∙ ap up (sym (plain_step b m e))
+  bare_up m (lone e f g) =
+      lone_step (x ∷ b) (suc m) e (pair_up x b m 47 47 ∙ f) (pair_up x b m 47 42 ∙ g) ∙ token_up m ∙ ap up (sym (lone_step b m e f g))
+  bare_up m (unended e f g h) =
       let n : find_close (x ∷ b) (suc m + 2) ≡ suc (find_close b (m + 2)) = ap (find_close (x ∷ b)) (suc-add m 2) ∙ close_up x b (m + 2) in
-      unended-step (x ∷ b) (suc m) e (pair-up x b m 47 47 ∙ f) (pair-up x b m 47 42 ∙ g) (omega arith) ∙ ap up (sym (unended-step b m e f g h))
+      unended_step (x ∷ b) (suc m) e (pair_up x b m 47 47 ∙ f) (pair_up x b m 47 42 ∙ g) (omega arith) ∙ ap up (sym (unended_step b m e f g h))
 
-  step-up : (p : ℕ) → step_at (x ∷ b) (suc p) ≡ up (step_at b p)
-  step-up p =
+  step_up : (p : ℕ) → step_at (x ∷ b) (suc p) ≡ up (step_at b p)
+  step_up p =
       let k = stop b p in
-      skips_step (x ∷ b) (suc k.place) (suc p) (skips-up x b k.place p k.skipped)
-      ∙ bare-up k.place k.bare ∙ ap up (sym (skips_step b k.place p k.skipped))
+      skips_step (x ∷ b) (suc k.place) (suc p) (skips_up x b k.place p k.skipped)
+      ∙ bare_up k.place k.bare ∙ ap up (sym (skips_step b k.place p k.skipped))
 
 -- ---- any text in front
 
@@ -271,7 +271,7 @@ pub step_shift : (a b : List ℕ) (p : ℕ) → step_at (a ++ b) (length a + p) 
 step_shift [] b p = ap (step_at b) (zero-add p) ∙ move_none (step_at b p)
 step_shift (x ∷ a) b p =
     ap (step_at (x ∷ (a ++ b))) (suc-add (length a) p)
-    ∙ step-up x (a ++ b) (length a + p) ∙ ap up (step_shift a b p) ∙ move_more (length a) (step_at b p)
+    ∙ step_up x (a ++ b) (length a + p) ∙ ap up (step_shift a b p) ∙ move_more (length a) (step_at b p)
 
 -- all tokens from p on in b, with a in front
 lex_shift : (a b : List ℕ) (p : ℕ) → lex_from (a ++ b) (length a + p) ≡ moved_all (length a) (lex_from b p)
@@ -281,9 +281,9 @@ lex_shift a b =
     λ p r e. step_shift a b p ∙ ap (moved_step (length a)) e in
     reading b (λ (p : ℕ) (l : Lexed). lex_from (a ++ b) (length a + p) ≡ moved_all (length a) l)
     (λ p t c e o f.
-    lex-found (a ++ b) (length a + p) (moved (length a) t) (record { at = length a + c.at }) (step p (Found t c) e) ∙ ap (more (moved (length a) t)) f)
-    (λ p q e. lex-bad (a ++ b) (length a + p) (length a + q) (step p (Refused q) e))
-    (λ p n e. lex-end (a ++ b) (length a + p) (length a + n) (step p (End n) e))
+    lex_found (a ++ b) (length a + p) (moved (length a) t) (record { at = length a + c.at }) (step p (Found t c) e) ∙ ap (more (moved (length a) t)) f)
+    (λ p q e. lex_bad (a ++ b) (length a + p) (length a + q) (step p (Refused q) e))
+    (λ p n e. lex_end (a ++ b) (length a + p) (length a + n) (step p (End n) e))
 
 -- all tokens of b, with a in front
 pub lex_rest : (a b : List ℕ) → lex_from (a ++ b) (length a) ≡ moved_all (length a) (lex_from b 0)

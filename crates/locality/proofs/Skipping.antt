@@ -12,14 +12,14 @@ use Rattle.token.specs.Bytes.{Class, letter, digit, blank, plus_minus, quote, pu
 use Rattle.token.specs.Gaps.{gap_of, gap_at}
 use Rattle.token.specs.Tokens.{token_at, after_skip, step_at}
 use Rattle.token.specs.declared.Step.TheVariants.{Refused}
-use Rattle.token.proofs.Gaps.{comment-line, comment-block, comment-open, comment-none, past_ok, skip-past, skip-here, skip-open}
-use Rattle.token.proofs.Lexemes.{step-token, step-open}
+use Rattle.token.proofs.Gaps.{comment_line, comment_block, comment_open, comment_none, past_ok, skip_past, skip_here, skip_open}
+use Rattle.token.proofs.Lexemes.{step_token, step_open}
 use Rattle.locality.proofs.Onward.{onward}
 
 -- a blank or a comment stands from p up to q
 pub data Gap (s : List ℕ) (p q : ℕ) : Type 0 where
-  a-blank : class_of (byte s p) ≡ blank → q ≡ p + 1 → Gap s p q
-  a-line : class_of (byte s p) ≡ slash → pair_at s p 47 47 ≡ true → q ≡ find_byte 10 s (p + 2) → Gap s p q
+  a_blank : class_of (byte s p) ≡ blank → q ≡ p + 1 → Gap s p q
+  a_line : class_of (byte s p) ≡ slash → pair_at s p 47 47 ≡ true → q ≡ find_byte 10 s (p + 2) → Gap s p q
   a_block : class_of (byte s p) ≡ slash → pair_at s p 47 47 ≡ false → pair_at s p 47 42 ≡ true → find_close s (p + 2) < length s →
       q ≡ find_close s (p + 2) + 2 → Gap s p q
 
@@ -46,44 +46,44 @@ module _ (s : List ℕ) (p : ℕ) where
   -- past a blank or a comment
   pub gap_step : (q : ℕ) → Gap s p q → (step_at s p ≡ step_at s q) × (p < q) × (q ≤ length s)
   unfolding gap_at gap_of step_at
-  gap_step q (a-blank e z) =
+  gap_step q (a_blank e z) =
       let h = ap (λ (c : Class). gap_of c s p) e in
-      subst (λ (n : ℕ). (step_at s p ≡ step_at s n) × (p < n) × (n ≤ length s)) (sym z) (ap (after_skip s) (skip-past s p (p + 1) h), (past_ok s p (p + 1) h).0, (past_ok s p (p + 1) h).1)
-  gap_step q (a-line e t z) =
+      subst (λ (n : ℕ). (step_at s p ≡ step_at s n) × (p < n) × (n ≤ length s)) (sym z) (ap (after_skip s) (skip_past s p (p + 1) h), (past_ok s p (p + 1) h).0, (past_ok s p (p + 1) h).1)
+  gap_step q (a_line e t z) =
       let n = find_byte 10 s (p + 2) in
-      let h = ap (λ (c : Class). gap_of c s p) e ∙ comment-line s p t in
-      subst (λ (n : ℕ). (step_at s p ≡ step_at s n) × (p < n) × (n ≤ length s)) (sym z) (ap (after_skip s) (skip-past s p n h), (past_ok s p n h).0, (past_ok s p n h).1)
+      let h = ap (λ (c : Class). gap_of c s p) e ∙ comment_line s p t in
+      subst (λ (n : ℕ). (step_at s p ≡ step_at s n) × (p < n) × (n ≤ length s)) (sym z) (ap (after_skip s) (skip_past s p n h), (past_ok s p n h).0, (past_ok s p n h).1)
   gap_step q (a_block e f t l z) =
       let n = find_close s (p + 2) + 2 in
-      let h = ap (λ (c : Class). gap_of c s p) e ∙ comment-block s p f t l in
-      subst (λ (n : ℕ). (step_at s p ≡ step_at s n) × (p < n) × (n ≤ length s)) (sym z) (ap (after_skip s) (skip-past s p n h), (past_ok s p n h).0, (past_ok s p n h).1)
+      let h = ap (λ (c : Class). gap_of c s p) e ∙ comment_block s p f t l in
+      subst (λ (n : ℕ). (step_at s p ≡ step_at s n) × (p < n) × (n ≤ length s)) (sym z) (ap (after_skip s) (skip_past s p n h), (past_ok s p n h).0, (past_ok s p n h).1)
 
   by_class : (c : Class) → class_of (byte s p) ≡ c → parting c ≡ false → step_at s p ≡ token_at s p
   unfolding gap_at gap_of parting
-  by_class letter e f = step-token s p p (skip-here s p (ap (λ (c : Class). gap_of c s p) e))
-  by_class digit e f = step-token s p p (skip-here s p (ap (λ (c : Class). gap_of c s p) e))
+  by_class letter e f = step_token s p p (skip_here s p (ap (λ (c : Class). gap_of c s p) e))
+  by_class digit e f = step_token s p p (skip_here s p (ap (λ (c : Class). gap_of c s p) e))
   by_class blank e f = absurd (let z : ◌≡◌ {A = ℕ} 0 1 = cc in omega arith)
-  by_class plus_minus e f = step-token s p p (skip-here s p (ap (λ (c : Class). gap_of c s p) e))
-  by_class quote e f = step-token s p p (skip-here s p (ap (λ (c : Class). gap_of c s p) e))
-  by_class punctuator e f = step-token s p p (skip-here s p (ap (λ (c : Class). gap_of c s p) e))
-  by_class dot e f = step-token s p p (skip-here s p (ap (λ (c : Class). gap_of c s p) e))
+  by_class plus_minus e f = step_token s p p (skip_here s p (ap (λ (c : Class). gap_of c s p) e))
+  by_class quote e f = step_token s p p (skip_here s p (ap (λ (c : Class). gap_of c s p) e))
+  by_class punctuator e f = step_token s p p (skip_here s p (ap (λ (c : Class). gap_of c s p) e))
+  by_class dot e f = step_token s p p (skip_here s p (ap (λ (c : Class). gap_of c s p) e))
   by_class slash e f = absurd (let z : ◌≡◌ {A = ℕ} 0 1 = cc in omega arith)
-  by_class other e f = step-token s p p (skip-here s p (ap (λ (c : Class). gap_of c s p) e))
+  by_class other e f = step_token s p p (skip_here s p (ap (λ (c : Class). gap_of c s p) e))
 
   -- at a byte that begins neither
   pub plain_step : parting (class_of (byte s p)) ≡ false → step_at s p ≡ token_at s p
   plain_step e = by_class (class_of (byte s p)) refl e
 
   -- at a slash that begins no comment
-  pub lone-step : class_of (byte s p) ≡ slash → pair_at s p 47 47 ≡ false → pair_at s p 47 42 ≡ false → step_at s p ≡ token_at s p
+  pub lone_step : class_of (byte s p) ≡ slash → pair_at s p 47 47 ≡ false → pair_at s p 47 42 ≡ false → step_at s p ≡ token_at s p
   unfolding gap_at gap_of
-  lone-step e f g = step-token s p p (skip-here s p (ap (λ (c : Class). gap_of c s p) e ∙ comment-none s p f g))
+  lone_step e f g = step_token s p p (skip_here s p (ap (λ (c : Class). gap_of c s p) e ∙ comment_none s p f g))
 
   -- at a comment that is not ended
-  pub unended-step : class_of (byte s p) ≡ slash → pair_at s p 47 47 ≡ false → pair_at s p 47 42 ≡ true → length s ≤ find_close s (p + 2) →
+  pub unended_step : class_of (byte s p) ≡ slash → pair_at s p 47 47 ≡ false → pair_at s p 47 42 ≡ true → length s ≤ find_close s (p + 2) →
       step_at s p ≡ Refused p
   unfolding gap_at gap_of
-  unended-step e f g h = step-open s p p (skip-open s p (ap (λ (c : Class). gap_of c s p) e ∙ comment-open s p f g h))
+  unended_step e f g h = step_open s p p (skip_open s p (ap (λ (c : Class). gap_of c s p) e ∙ comment_open s p f g h))
 
 -- ---- from a place up to where a token or a refusal stands
 
@@ -126,13 +126,13 @@ module _ (s : List ℕ) (p : ℕ) (f : (q : ℕ) → p < q → q ≤ length s �
   unfolding parting
   by_byte letter e = at_once (plain (ap parting e))
   by_byte digit e = at_once (plain (ap parting e))
-  by_byte blank e = after (p + 1) (a-blank e refl)
+  by_byte blank e = after (p + 1) (a_blank e refl)
   by_byte plus_minus e = at_once (plain (ap parting e))
   by_byte quote e = at_once (plain (ap parting e))
   by_byte punctuator e = at_once (plain (ap parting e))
   by_byte dot e = at_once (plain (ap parting e))
   by_byte slash e =
-      by_bool (pair_at s p 47 47) (λ t. after (find_byte 10 s (p + 2)) (a-line e t refl))
+      by_bool (pair_at s p 47 47) (λ t. after (find_byte 10 s (p + 2)) (a_line e t refl))
       (λ t.
       by_bool (pair_at s p 47 42)
       (λ u.

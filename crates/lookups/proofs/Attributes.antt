@@ -15,7 +15,7 @@ use Rattle.meaning.specs.Judging.{taken}
 use Rattle.meaning.proofs.Sites.{option_words, object_words}
 use Rattle.layout.specs.Kept.{Entry, spec_entries, spec_choices, definition_cells, default_code, code_of, object_cells, statement_count, statement_rows, all_statement_rows}
 use Rattle.blocks.specs.Blocks.{Holds, WordIn, none_in, BlockAt}
-use Rattle.blocks.proofs.Files.{AllIn, objects_in, object_cell, object-block, statements_held}
+use Rattle.blocks.proofs.Files.{AllIn, objects_in, object_cell, object_block, statements_held}
 use Rattle.scopes.specs.Situations.{Situation, HasValue, Stands, Nth, RowOf, Reached, ReadAt}
 use Rattle.scopes.specs.Given.{Tables, Given, Attribute, Below}
 use Rattle.scopes.proofs.Forms.{Formed}
@@ -40,30 +40,30 @@ pub record AttributeRow (s d : List ℕ) (f : File) (u : Word) (j : ℕ) (x : De
   pub row_of : RowOf f j x
   pub low : j < 513
   pub inside : j < length (spec_entries f.specs)
-  pub under-place : get_or d (j * 19 + 0) 0 ≡ u.place
+  pub under_place : get_or d (j * 19 + 0) 0 ≡ u.place
   pub name_place : get_or d (j * 19 + 2) 0 ≡ x.definition.name.place
-  pub name-length : get_or d (j * 19 + 3) 0 ≡ x.definition.name.length
-  pub list-mark : get_or d (j * 19 + 6) 0 ≡ bit x.definition.list
+  pub name_length : get_or d (j * 19 + 3) 0 ≡ x.definition.name.length
+  pub list_mark : get_or d (j * 19 + 6) 0 ≡ bit x.definition.list
   pub type_code : get_or d (j * 19 + 12) 0 ≡ code_of x.definition.word
-  pub default-place : get_or d (j * 19 + 10) 0 ≡ (span_or x.definition.default).place
-  pub default-length : get_or d (j * 19 + 11) 0 ≡ (span_or x.definition.default).length
+  pub default_place : get_or d (j * 19 + 10) 0 ≡ (span_or x.definition.default).place
+  pub default_length : get_or d (j * 19 + 11) 0 ≡ (span_or x.definition.default).length
   pub default_is : get_or d (j * 19 + 18) 0 ≡ default_code x.definition.default
   pub name : WordIn s x.definition.name
   pub default : AllIn s (option_words x.definition.default)
 
 module _ {s d e o : List ℕ} {z : Sizes} {f : File} (g : Tables s d e o z f) where
   -- The word that a row stands under.
-  pub under-cell : {j : ℕ} {y : Entry} → Nth (spec_entries f.specs) j y → get_or d (j * 19 + 0) 0 ≡ y.under.place
+  pub under_cell : {j : ℕ} {y : Entry} → Nth (spec_entries f.specs) j y → get_or d (j * 19 + 0) 0 ≡ y.under.place
   unfolding definition_cells
-  under-cell {j} {y} n =
+  under_cell {j} {y} n =
       let h = nth_low n in
       let i = g.definitions in
       let k = g.definitions-fit in
       definition_cell f d j 0 y g.in_definitions n (omega arith) (omega arith)
 
   -- All rows are below their number.
-  pub stands-below : {u : Word} {ds : Definitions} → Stands f.specs u ds → Below z.definitions ds
-  stands-below q x h =
+  pub stands_below : {u : Word} {ds : Definitions} → Stands f.specs u ds → Below z.definitions ds
+  stands_below q x h =
       let a = nth_low (stands_at g.situation q h).nth in
       let b = g.definitions in
       omega arith
@@ -97,13 +97,13 @@ module _ {s d e o : List ℕ} {z : Sizes} {f : File} (g : Tables s d e o z f) wh
           row_of = record { under = a.under; outer = q.outer; nth = n };
           low = l;
           inside = h;
-          under-place = c 0 (omega arith);
+          under_place = c 0 (omega arith);
           name_place = c 2 (omega arith);
-          name-length = c 3 (omega arith);
-          list-mark = c 6 (omega arith);
+          name_length = c 3 (omega arith);
+          list_mark = c 6 (omega arith);
           type_code = c 12 (omega arith);
-          default-place = c 10 (omega arith);
-          default-length = c 11 (omega arith);
+          default_place = c 10 (omega arith);
+          default_length = c 11 (omega arith);
           default_is = default_cell f d j E g.in_definitions n l;
           name = w.1.0;
           default = w.1.1;
@@ -132,9 +132,9 @@ pub record DefaultWord (s d : List ℕ) (j : ℕ) (x : Defined) : Type 0 where
 
 module _ {s d : List ℕ} {f : File} {u : Word} {j : ℕ} {x : Defined} (k : AttributeRow s d f u j x) where
   -- There is none, or it is NO_DEFAULT.
-  pub none-given : get_or d (j * 19 + 11) 0 ≡ 0 → taken x.definition.default ≡ none
+  pub none_given : get_or d (j * 19 + 11) 0 ≡ 0 → taken x.definition.default ≡ none
   unfolding span_or span_of option_words taken
-  none-given e = by x.definition.default (sym k.default-length ∙ e) k.default
+  none_given e = by x.definition.default (sym k.default-length ∙ e) k.default
     where
       by : (o : Option Word) → (span_or o).length ≡ 0 → AllIn s (option_words o) → taken o ≡ none
       by none h a = refl
@@ -149,9 +149,9 @@ module _ {s d : List ℕ} {f : File} {u : Word} {j : ℕ} {x : Defined} (k : Att
       by (some t) h = taken_none t h
 
   -- There is one.
-  pub default-word : (get_or d (j * 19 + 11) 0 ≡ 0 → ⊥) → (get_or d (j * 19 + 18) 0 ≡ 4 → ⊥) → DefaultWord s d j x
+  pub default_word : (get_or d (j * 19 + 11) 0 ≡ 0 → ⊥) → (get_or d (j * 19 + 18) 0 ≡ 4 → ⊥) → DefaultWord s d j x
   unfolding span_or span_of absent option_words default_code
-  default-word n m = by x.definition.default refl k.default k.default-place k.default-length k.default-is
+  default_word n m = by x.definition.default refl k.default k.default-place k.default-length k.default-is
     where
       by : (o : Option Word) → x.definition.default ≡ o → AllIn s (option_words o) → get_or d (j * 19 + 10) 0 ≡ (span_or o).place → get_or d (j * 19 + 11) 0 ≡ (span_or o).length
           → get_or d (j * 19 + 18) 0 ≡ default_code o → DefaultWord s d j x
@@ -198,5 +198,5 @@ kept_object {s} {d} {e} {o} {st} {z} {f} {i} front x rest g w p =
       name = b 3 (omega arith);
       from = b 8 (omega arith);
       till = b 9 (omega arith);
-      block = object-block s f front x rest w st g.in_statements (omega arith) a;
+      block = object_block s f front x rest w st g.in_statements (omega arith) a;
     }

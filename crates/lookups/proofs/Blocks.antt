@@ -19,8 +19,8 @@ use Rattle.rows.specs.declared.Found.{Found}
 use Rattle.rows.specs.declared.Found.TheVariants.{At, Nothing}
 use Rattle.rows.specs.Search.{is_found, row_name}
 use Rattle.blocks.specs.Blocks.{row_after, FindsStated, IsStated}
-use Rattle.blocks.proofs.Ranges.{looking_start, looking-stop, looking-more, looking-end, is_stated, after_later, after-back, after_past, after_next}
-use Rattle.lookups.proofs.Notes.{row_place, row-size}
+use Rattle.blocks.proofs.Ranges.{looking_start, looking_stop, looking_more, looking_end, is_stated, after_later, after_back, after_past, after_next}
+use Rattle.lookups.proofs.Notes.{row_place, row_size}
 use Rattle.lookups.specs.Ranks.{Ranked, NextRow, Skips, start_of, first_noted, Firsts, FirstsTo, MayState, StatedRanked, RowStated, IsRowStated}
 
 -- a loop that fills one cell a turn
@@ -32,9 +32,9 @@ filled l i v e =
 -- the cases of the row after that of row k
 module _ (k v e : ℕ) where
   -- its last cell lies before it
-  pub next-back : v ≤ k → NextRow k v e e
+  pub next_back : v ≤ k → NextRow k v e e
   unfolding NextRow
-  next-back l st c = after-back st k e v c l
+  next_back l st c = after_back st k e v c l
 
   -- past the end
   pub next_past : e < v → NextRow k v e e
@@ -53,43 +53,43 @@ next_later st k e j n l = subst (λ (x : ℕ). k < x) (sym (n st refl)) (after_l
 
 -- the search from row k on: it has the name, it has not, or the block ends there
 module _ (s st : List ℕ) (k e at len : ℕ) where
-  finds-here : k < e → same (part_of s at len) (row_name s st 7 0 k) ≡ true → FindsStated s st k e at len (At k)
+  finds_here : k < e → same (part_of s at len) (row_name s st 7 0 k) ≡ true → FindsStated s st k e at len (At k)
   unfolding row_name
-  finds-here h q = looking-stop k e at len k (looking_start s st k e at len) h q
+  finds_here h q = looking_stop k e at len k (looking_start s st k e at len) h q
 
-  finds-after : (r : Found) → k < e → same (part_of s at len) (row_name s st 7 0 k) ≡ false → FindsStated s st (row_after st k e) e at len r → FindsStated s st k e at len r
+  finds_after : (r : Found) → k < e → same (part_of s at len) (row_name s st 7 0 k) ≡ false → FindsStated s st (row_after st k e) e at len r → FindsStated s st k e at len r
   unfolding row_name
-  finds-after r h q n ss t b p = let l = looking-more k e at len k (looking_start s st k e at len) h q ss t b p in n l.left t l.block p ∙ l.same-found
+  finds_after r h q n ss t b p = let l = looking_more k e at len k (looking_start s st k e at len) h q ss t b p in n l.left t l.block p ∙ l.same-found
 
-  pub finds-end : e ≤ k → FindsStated s st k e at len Nothing
-  finds-end h = looking-end k e at len k (looking_start s st k e at len) h
+  pub finds_end : e ≤ k → FindsStated s st k e at len Nothing
+  finds_end h = looking_end k e at len k (looking_start s st k e at len) h
 
 -- rows of another rank are passed
 module _ (st h : List ℕ) (a e g : ℕ) where
-  pub skips-none : Skips st h a e g a
-  skips-none = record { later = omega arith; finds = λ s at len f i b c n. n }
+  pub skips_none : Skips st h a e g a
+  skips_none = record { later = omega arith; finds = λ s at len f i b c n. n }
 
-  pub skips-more : (k x : ℕ) → Skips st h a e g k → k < e → k < length h → (get_or h k 0 ≡ g → ⊥) → NextRow k (get_or st (k * 7 + 6) 0) e x → Skips st h a e g x
+  pub skips_more : (k x : ℕ) → Skips st h a e g k → k < e → k < length h → (get_or h k 0 ≡ g → ⊥) → NextRow k (get_or st (k * 7 + 6) 0) e x → Skips st h a e g x
   unfolding NextRow
-  skips-more k x z l j q n =
+  skips_more k x z l j q n =
       let y : x ≡ row_after st k e = n st refl in
       record {
         later = omega (arith, z.later, after_later st k e l);
         finds = λ s at len f i b c u.
             let other = not_true (same (part_of s at len) (row_name s st 7 0 k)) (λ w. q (b.cell k j ∙ sym (c ∙ ap f (same_equal (part_of s at len) (row_name s st 7 0 k) w)))) in
-            z.finds s at len f i b c (finds-after s st k e at len i l other (subst (λ (v : ℕ). FindsStated s st v e at len i) y u));
+            z.finds s at len f i b c (finds_after s st k e at len i l other (subst (λ (v : ℕ). FindsStated s st v e at len i) y u));
       }
 
-  pub skips-on : (j k : ℕ) → Skips st h a e g j → Skips st h j e g k → Skips st h a e g k
-  skips-on j k x y = record { later = omega (arith, x.later, y.later); finds = λ s at len f i b c u. x.finds s at len f i b c (y.finds s at len f i b c u) }
+  pub skips_on : (j k : ℕ) → Skips st h a e g j → Skips st h j e g k → Skips st h a e g k
+  skips_on j k x y = record { later = omega (arith, x.later, y.later); finds = λ s at len f i b c u. x.finds s at len f i b c (y.finds s at len f i b c u) }
 
   -- a row is left, or none is
-  pub may-state : (F : List ℕ) → MayState st h F a e g true
-  may-state F = record { none = λ s at len f z b c q. absurd (false≢true (sym q)) }
+  pub may_state : (F : List ℕ) → MayState st h F a e g true
+  may_state F = record { none = λ s at len f z b c q. absurd (false≢true (sym q)) }
 
-  pub states-nothing : (F : List ℕ) (k : ℕ) → k ≡ start_of F a g → e ≤ k → MayState st h F a e g false
-  states-nothing F k p l =
-      record { none = λ s at len f z b c q. (subst (λ (x : ℕ). Skips st h a e g x) (sym p) (z.skips g)).finds s at len f Nothing b c (finds-end s st k e at len l) }
+  pub states_nothing : (F : List ℕ) (k : ℕ) → k ≡ start_of F a g → e ≤ k → MayState st h F a e g false
+  states_nothing F k p l =
+      record { none = λ s at len f z b c q. (subst (λ (x : ℕ). Skips st h a e g x) (sym p) (z.skips g)).finds s at len f Nothing b c (finds_end s st k e at len l) }
 
 module _ (s st h : List ℕ) (a e at len g : ℕ) where
   -- what is found from row k on is what is found
@@ -97,30 +97,30 @@ module _ (s st h : List ℕ) (a e at len g : ℕ) where
   Onward k = (f : List ℕ → ℕ) (r : Found) → Ranked f s st 7 0 h → g ≡ f (part_of s at len) → FindsStated s st k e at len r → FindsStated s st a e at len r
 
   -- the start
-  pub onward-start : (k : ℕ) → Skips st h a e g k → Onward k
+  pub onward_start : (k : ℕ) → Skips st h a e g k → Onward k
   unfolding Onward
-  onward-start k z f r b c u = z.finds s at len f r b c u
+  onward_start k z f r b c u = z.finds s at len f r b c u
 
   module _ (k p n : ℕ) (o : Onward k) (l : k < e) (q : Bool) (c₁ : p ≡ get_or st (k * 7 + 0) 0) (c₂ : n ≡ get_or st (k * 7 + 1) 0) (d : q ≡ same (part_of s at len) (part_of s p n)) where
-    name-same : q ≡ same (part_of s at len) (row_name s st 7 0 k)
+    name_same : q ≡ same (part_of s at len) (row_name s st 7 0 k)
     unfolding row_name
-    name-same = d ∙ ap₂ (λ (x y : ℕ). same (part_of s at len) (part_of s x y)) c₁ c₂
+    name_same = d ∙ ap₂ (λ (x y : ℕ). same (part_of s at len) (part_of s x y)) c₁ c₂
 
     -- row k has the name
-    pub onward-stop : q ≡ true → StatedRanked s st h a e at len g (At k)
+    pub onward_stop : q ≡ true → StatedRanked s st h a e at len g (At k)
     unfolding Onward StatedRanked
-    onward-stop t f b c = o f (At k) b c (finds-here s st k e at len l (sym name-same ∙ t))
+    onward_stop t f b c = o f (At k) b c (finds_here s st k e at len l (sym name_same ∙ t))
 
     -- it has not
-    pub onward-more : q ≡ false → (x y : ℕ) → x ≡ row_after st k e → Skips st h x e g y → Onward y
+    pub onward_more : q ≡ false → (x y : ℕ) → x ≡ row_after st k e → Skips st h x e g y → Onward y
     unfolding Onward
-    onward-more t x y w z f r b c u =
-        o f r b c (finds-after s st k e at len r l (sym name-same ∙ t) (subst (λ (v : ℕ). FindsStated s st v e at len r) w (z.finds s at len f r b c u)))
+    onward_more t x y w z f r b c u =
+        o f r b c (finds_after s st k e at len r l (sym name_same ∙ t) (subst (λ (v : ℕ). FindsStated s st v e at len r) w (z.finds s at len f r b c u)))
 
   -- the block ends
-  pub onward-end : (k : ℕ) → Onward k → e ≤ k → StatedRanked s st h a e at len g Nothing
+  pub onward_end : (k : ℕ) → Onward k → e ≤ k → StatedRanked s st h a e at len g Nothing
   unfolding Onward StatedRanked
-  onward-end k o l f b c = o f Nothing b c (finds-end s st k e at len l)
+  onward_end k o l f b c = o f Nothing b c (finds_end s st k e at len l)
 
 -- the row behind is later
 pub skips_later : (st h : List ℕ) (k e g x y : ℕ) → k < e → x ≡ row_after st k e → Skips st h x e g y → k < y
@@ -129,11 +129,11 @@ skips_later st h k e g x y l w z = omega (arith, w, z.later, after_later st k e 
 -- the first rows of the ranks
 module _ (st h : List ℕ) (a e : ℕ) where
   -- none is noted
-  pub firsts-none : (n : ℕ) → FirstsTo st h a e a (replicate n e)
-  firsts-none n = record { skips = λ g l. by g (get_or-replicate n g e 0 (omega (arith, length-replicate n e))) }
+  pub firsts_none : (n : ℕ) → FirstsTo st h a e a (replicate n e)
+  firsts_none n = record { skips = λ g l. by g (get_or-replicate n g e 0 (omega (arith, length-replicate n e))) }
     where
       by : (g : ℕ) → get_or (replicate n e) g 0 ≡ e → Skips st h a e g (pick (eqb (get_or (replicate n e) g 0) e) a (get_or (replicate n e) g 0))
-      by g q = rw (q, eq-eqb e e refl) (skips-none st h a e g)
+      by g q = rw (q, eq-eqb e e refl) (skips_none st h a e g)
 
   -- the first rows of the ranks up to row k, and that row
   pub firsts_more : (F F' : List ℕ) (k x : ℕ) → FirstsTo st h a e k F → k < e → k < length h → F' ≡ first_noted F e (get_or h k 0) k
@@ -149,7 +149,7 @@ module _ (st h : List ℕ) (a e : ℕ) where
       other g v q = go (eqb v e)
         where
           go : (b : Bool) → Skips st h a e g (pick b k v) → Skips st h a e g (pick b x v)
-          go true y = skips-more st h a e g k x y l j q n
+          go true y = skips_more st h a e g k x y l j q n
           go false y = y
 
       by : (b : Bool) → eqb (get_or F r 0) e ≡ b → FirstsTo st h a e x (pick b (set F r k) F)
@@ -170,12 +170,12 @@ module _ (st h : List ℕ) (a e : ℕ) where
           at g d (no m) = other g (get_or F g 0) (λ p. m (sym p)) (z.skips g d)
 
   -- all rows of the block were looked at
-  pub firsts-all : (F : List ℕ) (k : ℕ) → FirstsTo st h a e k F → k ≡ e → Firsts st h a e F
+  pub firsts_all : (F : List ℕ) (k : ℕ) → FirstsTo st h a e k F → k ≡ e → Firsts st h a e F
   unfolding start_of
-  firsts-all F k z p = record { skips = λ g. by g (ltb g (length F)) refl }
+  firsts_all F k z p = record { skips = λ g. by g (ltb g (length F)) refl }
     where
       by : (g : ℕ) (b : Bool) → ltb g (length F) ≡ b → Skips st h a e g (pick b (get_or F g 0) a)
-      by g false q = skips-none st h a e g
+      by g false q = skips_none st h a e g
       by g true q = go (eqb (get_or F g 0) e) refl (z.skips g (ltb-true g (length F) q))
         where
           go : (b : Bool) → eqb (get_or F g 0) e ≡ b → Skips st h a e g (pick b k (get_or F g 0)) → Skips st h a e g (get_or F g 0)
@@ -188,22 +188,22 @@ module _ (st h : List ℕ) (a e : ℕ) where
   firsts_at n = record { skips = λ g. by g (ltb g (length (replicate n a))) refl }
     where
       by : (g : ℕ) (b : Bool) → ltb g (length (replicate n a)) ≡ b → Skips st h a e g (pick b (get_or (replicate n a) g 0) a)
-      by g false q = skips-none st h a e g
-      by g true q = rw (get_or-replicate n g a 0 (omega (arith, length-replicate n a, ltb-true g (length (replicate n a)) q))) (skips-none st h a e g)
+      by g false q = skips_none st h a e g
+      by g true q = rw (get_or-replicate n g a 0 (omega (arith, length-replicate n a, ltb-true g (length (replicate n a)) q))) (skips_none st h a e g)
 
-  pub firsts-from : (F₀ F : List ℕ) (k : ℕ) → FirstsTo st h a e k F₀ → F ≡ replicate (length F₀) a → Firsts st h a e F
-  firsts-from F₀ F k z p = subst (λ (x : List ℕ). Firsts st h a e x) (sym p) (firsts_at (length F₀))
+  pub firsts_from : (F₀ F : List ℕ) (k : ℕ) → FirstsTo st h a e k F₀ → F ≡ replicate (length F₀) a → Firsts st h a e F
+  firsts_from F₀ F k z p = subst (λ (x : List ℕ). Firsts st h a e x) (sym p) (firsts_at (length F₀))
 
   -- with no cell
-  pub firsts-empty : (F : List ℕ) → length F ≡ 0 → Firsts st h a e F
+  pub firsts_empty : (F : List ℕ) → length F ≡ 0 → Firsts st h a e F
   unfolding start_of
-  firsts-empty F n = record { skips = λ g. rw (le-ltb g (length F) (omega arith)) (skips-none st h a e g) }
+  firsts_empty F n = record { skips = λ g. rw (le-ltb g (length F) (omega arith)) (skips_none st h a e g) }
 
 module _ (F : List ℕ) (e g k : ℕ) where
   -- nothing is noted past the table, or where a row is noted
-  pub noted-past : length F ≤ g → F ≡ first_noted F e g k
+  pub noted_past : length F ≤ g → F ≡ first_noted F e g k
   unfolding first_noted
-  noted-past h = by (eqb (get_or F g 0) e)
+  noted_past h = by (eqb (get_or F g 0) e)
     where
       by : (b : Bool) → F ≡ pick b (set F g k) F
       by true = sym (set_out F g k h)
@@ -213,15 +213,15 @@ module _ (F : List ℕ) (e g k : ℕ) where
   unfolding first_noted
   noted_here q = rw (eq-eqb (get_or F g 0) e q)
 
-  pub noted-not : (get_or F g 0 ≡ e → ⊥) → F ≡ first_noted F e g k
+  pub noted_not : (get_or F g 0 ≡ e → ⊥) → F ≡ first_noted F e g k
   unfolding first_noted
-  noted-not q = rw (ne_eqb (get_or F g 0) e q)
+  noted_not q = rw (ne_eqb (get_or F g 0) e q)
 
 -- where a search begins
 module _ (F : List ℕ) (a g : ℕ) where
-  pub start-noted : g < length F → get_or F g 0 ≡ start_of F a g
+  pub start_noted : g < length F → get_or F g 0 ≡ start_of F a g
   unfolding start_of
-  start-noted h = rw (lt-ltb g (length F) h)
+  start_noted h = rw (lt-ltb g (length F) h)
 
   pub start_first : length F ≤ g → a ≡ start_of F a g
   unfolding start_of
@@ -233,7 +233,7 @@ module _ (s t : List ℕ) (w m : ℕ) (v : List ℕ) (i : ℕ) (st h F : List �
     p = row_place t w m i y m2 at len c d u
 
     q : len ≡ get_or t (i * w + (m + 1)) 0
-    q = row-size t w m i y m2 at len c d o
+    q = row_size t w m i y m2 at len c d o
 
     -- what is found by the cells that were read
     pub found_at : (r : Found) → FindsStated s st a e at len r → FindsStated s st a e (get_or t (i * w + m) 0) (get_or t (i * w + (m + 1)) 0) r
@@ -241,24 +241,24 @@ module _ (s t : List ℕ) (w m : ℕ) (v : List ℕ) (i : ℕ) (st h F : List �
         subst (λ (k : ℕ). FindsStated s st a e k (get_or t (i * w + (m + 1)) 0) r) p (subst (λ (k : ℕ). FindsStated s st a e at k r) q z)
 
     -- the row's name has a rank, and the rows before k have not
-    pub row-ranked : (j k : ℕ) (r : Found) → i < length v → j ≡ start_of F a (get_or v i 0) → Skips st h j e (get_or v i 0) k → StatedRanked s st h k e at len (get_or v i 0) r → RowStated s t w m v i st h F a e r
+    pub row_ranked : (j k : ℕ) (r : Found) → i < length v → j ≡ start_of F a (get_or v i 0) → Skips st h j e (get_or v i 0) k → StatedRanked s st h k e at len (get_or v i 0) r → RowStated s t w m v i st h F a e r
     unfolding StatedRanked RowStated row_name
-    row-ranked j k r l y x z f b g o =
-        let x₀ = skips-on st h a e (get_or v i 0) j k (subst (λ (u : ℕ). Skips st h a e (get_or v i 0) u) (sym y) (o.skips (get_or v i 0))) x in
+    row_ranked j k r l y x z f b g o =
+        let x₀ = skips_on st h a e (get_or v i 0) j k (subst (λ (u : ℕ). Skips st h a e (get_or v i 0) u) (sym y) (o.skips (get_or v i 0))) x in
         let n : get_or v i 0 ≡ f (part_of s at len) = b.cell i l ∙ sym (ap₂ (λ (x y : ℕ). f (part_of s x y)) p q) in
         found_at r (x₀.finds s at len f r g n (z f g n))
 
   module _ (r : Found) where
     -- the row's name has none
-    pub row-searched : FindsStated s st a e (get_or t (i * w + m) 0) (get_or t (i * w + (m + 1)) 0) r → RowStated s t w m v i st h F a e r
+    pub row_searched : FindsStated s st a e (get_or t (i * w + m) 0) (get_or t (i * w + (m + 1)) 0) r → RowStated s t w m v i st h F a e r
     unfolding RowStated
-    row-searched z f b g o = z
+    row_searched z f b g o = z
 
   -- no row has it
   pub row_none : (j k : ℕ) → i < length v → j ≡ start_of F a (get_or v i 0) → Skips st h j e (get_or v i 0) k → e ≤ k → RowStated s t w m v i st h F a e Nothing
   unfolding RowStated row_name
   row_none j k l y x g f b c o =
-      (skips-on st h a e (get_or v i 0) j k (subst (λ (u : ℕ). Skips st h a e (get_or v i 0) u) (sym y) (o.skips (get_or v i 0))) x).finds s (get_or t (i * w + m) 0) (get_or t (i * w + (m + 1)) 0) f Nothing c (b.cell i l) (finds-end s st k e (get_or t (i * w + m) 0) (get_or t (i * w + (m + 1)) 0) g)
+      (skips_on st h a e (get_or v i 0) j k (subst (λ (u : ℕ). Skips st h a e (get_or v i 0) u) (sym y) (o.skips (get_or v i 0))) x).finds s (get_or t (i * w + m) 0) (get_or t (i * w + (m + 1)) 0) f Nothing c (b.cell i l) (finds_end s st k e (get_or t (i * w + m) 0) (get_or t (i * w + (m + 1)) 0) g)
 
   -- whether one is found
   pub row_is : (r z : Found) → RowStated s t w m v i st h F a e r → r ≡ z → IsRowStated s t w m v i st h F a e (is_found z)

@@ -23,14 +23,14 @@ use Rattle.scopes.specs.declared.Sizes.{Sizes}
 -- Parts ------------------------------------------------------------------------------------------------------------------------------------
 
 module _ (t : List ℕ) (at n : ℕ) where
-  pub part-past : length t ≤ at → [] ≡ part t at n
-  part-past h = sym (ap (take n) (drop_of_length-le t h) ∙ take_all n [] (omega arith))
+  pub part_past : length t ≤ at → [] ≡ part t at n
+  part_past h = sym (ap (take n) (drop_of_length-le t h) ∙ take_all n [] (omega arith))
 
-  pub part-rest : length t - at ≤ n → take (length t - at) (drop at t) ≡ part t at n
-  part-rest h = let l = length-drop at t in take_all (length t - at) (drop at t) (omega arith) ∙ sym (take_all n (drop at t) (omega arith))
+  pub part_rest : length t - at ≤ n → take (length t - at) (drop at t) ≡ part t at n
+  part_rest h = let l = length-drop at t in take_all (length t - at) (drop at t) (omega arith) ∙ sym (take_all n (drop at t) (omega arith))
 
-  pub part-within : take ((at + n) - at) (drop at t) ≡ part t at n
-  part-within = ap (λ (k : ℕ). take k (drop at t)) (add-sub_cancel_left at n)
+  pub part_within : take ((at + n) - at) (drop at t) ≡ part t at n
+  part_within = ap (λ (k : ℕ). take k (drop at t)) (add-sub_cancel_left at n)
 
 -- What is found ----------------------------------------------------------------------------------------------------------------------------
 
@@ -38,39 +38,39 @@ module _ (s t x y : List ℕ) (w m n at : ℕ) (i : IndexAt s t w m n at x) (e :
   index_of : Indexed s t w n 0 m y
   index_of = subst (λ (l : List ℕ). Indexed s t w n 0 m l) (sym e) i.index
 
-  few-of : n ≤ 65536
-  few-of = let l = i.few in omega arith
+  few_of : n ≤ 65536
+  few_of = let l = i.few in omega arith
 
 pub definition_found : (s d x y : List ℕ) (n key at len : ℕ) (r : Found) → IndexAt s d 19 2 n 0 x → y ≡ part x 0 n → DefinitionIndexed s d y key at len r
     → FindsDefinition s d n key at len r
 unfolding DefinitionIndexed
-definition_found s d x y n key at len r i e g = g n (index_of s d x y 19 2 n 0 i e) (few-of s d x y 19 2 n 0 i e)
+definition_found s d x y n key at len r i e g = g n (index_of s d x y 19 2 n 0 i e) (few_of s d x y 19 2 n 0 i e)
 
 pub object_found : (s o x y : List ℕ) (n kind at len : ℕ) (r : Found) → IndexAt s o 10 3 n 1536 x → y ≡ part x 1536 n → ObjectIndexed s o y kind at len r
     → FindsObject s o n kind at len r
 unfolding ObjectIndexed
-object_found s o x y n kind at len r i e g = g n (index_of s o x y 10 3 n 1536 i e) (few-of s o x y 10 3 n 1536 i e)
+object_found s o x y n kind at len r i e g = g n (index_of s o x y 10 3 n 1536 i e) (few_of s o x y 10 3 n 1536 i e)
 
 pub word_found : (s d a x y : List ℕ) (n j at len r : ℕ) → IndexAt s a 3 1 n 512 x → y ≡ part x 512 n → WordIndexed s d a y j at len r
     → FindsWord s d a n j at len r
 unfolding WordIndexed
-word_found s d a x y n j at len r i e g = g n (index_of s a x y 3 1 n 512 i e) (few-of s a x y 3 1 n 512 i e)
+word_found s d a x y n j at len r i e g = g n (index_of s a x y 3 1 n 512 i e) (few_of s a x y 3 1 n 512 i e)
 
 -- A block that states the name of a row, whose rank is noted.
 module _ (s d st x : List ℕ) (h : Ranks s d st x) (v F : List ℕ) (i a e : ℕ) (q : v ≡ statement_ranks x) where
   of_statements : Ranked h.rank s st 7 0 v
   of_statements = subst (λ (l : List ℕ). Ranked h.rank s st 7 0 l) (sym q) h.statements
 
-  pub definition-stated : (y : List ℕ) (r : Bool) → y ≡ definition_ranks x → Firsts st (statement_ranks x) a e F → IsRowStated s d 19 2 y i st v F a e r
+  pub definition_stated : (y : List ℕ) (r : Bool) → y ≡ definition_ranks x → Firsts st (statement_ranks x) a e F → IsRowStated s d 19 2 y i st v F a e r
       → IsStated s st a e (get_or d (i * 19 + 2) 0) (get_or d (i * 19 + 3) 0) r
   unfolding IsRowStated
-  definition-stated y r p o g =
+  definition_stated y r p o g =
       g h.rank (subst (λ (l : List ℕ). Ranked h.rank s d 19 2 l) (sym p) h.definitions) of_statements
       (subst (λ (l : List ℕ). Firsts st l a e F) (sym q) o)
 
-  pub statement-stated : (r : Found) → Firsts st (statement_ranks x) a e F → RowStated s st 7 0 v i st v F a e r → FindsStated s st a e (get_or st (i * 7 + 0) 0) (get_or st (i * 7 + 1) 0) r
+  pub statement_stated : (r : Found) → Firsts st (statement_ranks x) a e F → RowStated s st 7 0 v i st v F a e r → FindsStated s st a e (get_or st (i * 7 + 0) 0) (get_or st (i * 7 + 1) 0) r
   unfolding RowStated
-  statement-stated r o g = g h.rank of_statements of_statements (subst (λ (l : List ℕ). Firsts st l a e F) (sym q) o)
+  statement_stated r o g = g h.rank of_statements of_statements (subst (λ (l : List ℕ). Firsts st l a e F) (sym q) o)
 
 -- The first rows of the ranks, in the table.
 pub firsts_to_in : (st x v F : List ℕ) (a e k : ℕ) → v ≡ statement_ranks x → FirstsTo st (statement_ranks x) a e k F → FirstsTo st v a e k F
@@ -82,36 +82,36 @@ firsts_in st x v F a e q o = subst (λ (l : List ℕ). Firsts st l a e F) q o
 -- How it is made ---------------------------------------------------------------------------------------------------------------------------
 
 module _ (x y : List ℕ) (at n : ℕ) (h : at + n ≤ length x) (l : length y ≡ n) where
-  mid-sets : put_mid at ((at + n) - at) x y ≡ sets x at y
-  mid-sets =
+  mid_sets : put_mid at ((at + n) - at) x y ≡ sets x at y
+  mid_sets =
       let e : at + n ≡ at + length y = omega arith in
       ap (λ (q : List ℕ). take at x ++ (y ++ q)) (Post-is at (at + n) x (omega arith) ∙ ap (λ (k : ℕ). drop k x) e)
       ∙ sym (append_assoc (take at x) y (drop (at + length y) x))
       ∙ sym (sets-eq y x at (omega arith))
 
-  sets-within : Within at n x (sets x at y)
-  sets-within = record {
+  sets_within : Within at n x (sets x at y)
+  sets_within = record {
     size = length-sets x at y;
     before = λ a k g. part_sets_before x at y a k g;
     behind = λ a k g. part_sets_after x at y a k (omega (arith, l, g));
   }
 
-  sets-part : part (sets x at y) at n ≡ y
-  sets-part = ap (λ (k : ℕ). part (sets x at y) at k) (sym l) ∙ part_sets_same x at y (omega arith)
+  sets_part : part (sets x at y) at n ≡ y
+  sets_part = ap (λ (k : ℕ). part (sets x at y) at k) (sym l) ∙ part_sets_same x at y (omega arith)
 
-  pub puts-index : (s t : List ℕ) (w m room k : ℕ) → k ≡ n → Makes s t w k 0 m room y → PutsIndex s t w m n at room x (put_mid at ((at + n) - at) x y)
+  pub puts_index : (s t : List ℕ) (w m room k : ℕ) → k ≡ n → Makes s t w k 0 m room y → PutsIndex s t w m n at room x (put_mid at ((at + n) - at) x y)
   unfolding Makes
-  puts-index s t w m room k e g =
-      subst (λ (v : List ℕ). PutsIndex s t w m n at room x v) (sym mid-sets)
+  puts_index s t w m room k e g =
+      subst (λ (v : List ℕ). PutsIndex s t w m n at room x v) (sym mid_sets)
       (record {
-        within = sets-within;
-        index = λ c. subst (λ (v : List ℕ). Indexed s t w n 0 m v) (sym sets-part) (subst (λ (a : ℕ). Indexed s t w a 0 m y) e (g (omega (arith, c, e))));
+        within = sets_within;
+        index = λ c. subst (λ (v : List ℕ). Indexed s t w n 0 m v) (sym sets_part) (subst (λ (a : ℕ). Indexed s t w a 0 m y) e (g (omega (arith, c, e))));
       })
 
-  pub puts-ranks : (s d v t : List ℕ) (w m : ℕ) → NotesRanks s d v t w m y → PutsRanks s d v t w m n at x (put_mid at ((at + n) - at) x y)
-  puts-ranks s d v t w m g =
-      subst (λ (u : List ℕ). PutsRanks s d v t w m n at x u) (sym mid-sets)
-      (record { within = sets-within; ranks = subst (λ (u : List ℕ). NotesRanks s d v t w m u) (sym sets-part) g })
+  pub puts_ranks : (s d v t : List ℕ) (w m : ℕ) → NotesRanks s d v t w m y → PutsRanks s d v t w m n at x (put_mid at ((at + n) - at) x y)
+  puts_ranks s d v t w m g =
+      subst (λ (u : List ℕ). PutsRanks s d v t w m n at x u) (sym mid_sets)
+      (record { within = sets_within; ranks = subst (λ (u : List ℕ). NotesRanks s d v t w m u) (sym sets_part) g })
 
 -- as many cells as are lent
 pub lent_count : (x : List ℕ) (at n : ℕ) → at + n ≤ length x → length (take ((at + n) - at) (drop at x)) ≡ n
@@ -119,16 +119,16 @@ lent_count x at n h = mid_len at (at + n) x h ∙ add-sub_cancel_left at n
 
 -- A cell of a part.
 same_cell : (x y : List ℕ) (k : ℕ) → part x k 1 ≡ part y k 1 → get_or x k 0 ≡ get_or y k 0
-same_cell x y k q = part-cell x ∙ ap (λ (l : List ℕ). get_or l 0 0) q ∙ sym (part-cell y)
+same_cell x y k q = part_cell x ∙ ap (λ (l : List ℕ). get_or l 0 0) q ∙ sym (part_cell y)
   where
-    part-cell : (l : List ℕ) → get_or l k 0 ≡ get_or (part l k 1) 0 0
-    part-cell l = let e : k + 0 ≡ k = omega arith in sym (get_or-take 1 (drop k l) 0 0 (omega arith) ∙ get_or-drop k l 0 0 ∙ ap (λ (i : ℕ). get_or l i 0) e)
+    part_cell : (l : List ℕ) → get_or l k 0 ≡ get_or (part l k 1) 0 0
+    part_cell l = let e : k + 0 ≡ k = omega arith in sym (get_or-take 1 (drop k l) 0 0 (omega arith) ∙ get_or-drop k l 0 0 ∙ ap (λ (i : ℕ). get_or l i 0) e)
 
 -- The next rows are put behind all others.
 pub puts_links : (st h x y : List ℕ) → 4867 + length h ≤ length x → length y ≡ length h → Linked st h y → PutsLinks st h x (put_mid 4867 ((4867 + length h) - 4867) x y)
 puts_links st h x y a b g =
-    subst (λ (v : List ℕ). PutsLinks st h x v) (sym (mid-sets x y 4867 (length h) a b))
-    (record { within = sets-within x y 4867 (length h) a b; links = subst (λ (v : List ℕ). Linked st h v) (sym (sets-part x y 4867 (length h) a b)) g })
+    subst (λ (v : List ℕ). PutsLinks st h x v) (sym (mid_sets x y 4867 (length h) a b))
+    (record { within = sets_within x y 4867 (length h) a b; links = subst (λ (v : List ℕ). Linked st h v) (sym (sets_part x y 4867 (length h) a b)) g })
 
 module _ (s d e o st : List ℕ) (z : Sizes) (v₀ h₀ spare x₀ v h x₁ x₂ x₃ x₄ x₅ x₆ x₇ : List ℕ) (n₁ r₁ r₂ r₃ : ℕ) (b : Rooms z v₀ h₀ spare x₀) where
   pub named_by : n₁ ≡ length v₀ → length v ≡ length v₀ → length h ≡ length h₀ → 512 ≤ r₁ → 512 ≤ r₂ → 512 ≤ r₃ → Makes s d 19 n₁ 0 2 r₁ v → x₁ ≡ sets x₀ 0 v
@@ -189,7 +189,7 @@ module _ (s d e o st : List ℕ) (z : Sizes) (v₀ h₀ spare x₀ v h x₁ x₂
         };
         ranks = record {
           rank = rank;
-          few-definitions = omega (arith, d₂, fd);
+          few_definitions = omega (arith, d₂, fd);
           few_statements = omega (arith, d₁, fs);
           definitions = subst (λ (u : List ℕ). Ranked rank s d 19 2 u)
               (sym (ap (λ (k : ℕ). part x₇ 3841 k) d₂ ∙ last 3841 n (omega (arith, fd)))) (p₅.ranks n iv few);
@@ -227,7 +227,7 @@ names_kept s d e o st z x y u l q g =
             objects = record { few = n.objects.few; index = subst (λ (v : List ℕ). Indexed s o 10 z.objects 0 3 v) (sym (low 1536 z.objects (omega (arith, fo)))) n.objects.index };
             ranks = record {
               rank = r.rank;
-              few-definitions = let c = cell 4866 (omega arith) in omega (arith, c, b₂);
+              few_definitions = let c = cell 4866 (omega arith) in omega (arith, c, b₂);
               few_statements = let c = cell 4865 (omega arith) in omega (arith, c, b₁);
               definitions = subst (λ (v : List ℕ). Ranked r.rank s d 19 2 v)
                   (sym (ap (λ (k : ℕ). part y 3841 k) (cell 4866 (omega arith)) ∙ low 3841 (get_or x 4866 0) (omega (arith, b₂)))) r.definitions;

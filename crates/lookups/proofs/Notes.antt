@@ -26,15 +26,15 @@ module _ (t : List ℕ) (w m i a m2 p n : ℕ) (d : m2 ≡ min (length t) (m + 1
   pub row_place : p ≡ get_or t (a + m) 0 → p ≡ get_or t (i * w + m) 0
   row_place f = f ∙ ap (λ (k : ℕ). get_or t (k + m) 0) e ∙ cell_start t (i * w) m
 
-  pub row-size : n ≡ get_or t (a + m2) 0 → n ≡ get_or t (i * w + (m + 1)) 0
-  row-size g =
+  pub row_size : n ≡ get_or t (a + m2) 0 → n ≡ get_or t (i * w + (m + 1)) 0
+  row_size g =
       g ∙ ap₂ (λ (k j : ℕ). get_or t (k + j) 0) e d ∙ cell_start t (i * w) (min (length t) (m + 1)) ∙ cell_column t (i * w) (m + 1)
 
 module _ (s d x t : List ℕ) (w m : ℕ) where
   -- no rank is noted
-  pub noted-none : (h : List ℕ) → NotesRanksTo s d x t w m 0 h
+  pub noted_none : (h : List ℕ) → NotesRanksTo s d x t w m 0 h
   unfolding NotesRanksTo
-  noted-none h k g l = record { cell = λ i b. absurd (omega arith) }
+  noted_none h k g l = record { cell = λ i b. absurd (omega arith) }
 
   -- one more
   pub noted_more : (j : ℕ) (h : List ℕ) (m2 y p n v : ℕ) → NotesRanksTo s d x t w m j h → j < length h → m2 ≡ min (length t) (m + 1)
@@ -49,7 +49,7 @@ module _ (s d x t : List ℕ) (w m : ℕ) where
       by : (i : ℕ) → i < j + 1 → Dec (i ≡ j) → get_or (set h j v) i 0 ≡ number (part_of s (get_or t (i * w + m) 0) (get_or t (i * w + (m + 1)) 0))
       by i l (yes o) =
           subst (λ (u : ℕ). get_or (set h j v) u 0 ≡ number (part_of s (get_or t (u * w + m) 0) (get_or t (u * w + (m + 1)) 0))) (sym o)
-          (get_or-set_same h j v 0 g ∙ r k z q ∙ ap₂ (λ (i l : ℕ). number (part_of s i l)) (row_place t w m j y m2 p n c e a) (row-size t w m j y m2 p n c e b))
+          (get_or-set_same h j v 0 g ∙ r k z q ∙ ap₂ (λ (i l : ℕ). number (part_of s i l)) (row_place t w m j y m2 p n c e a) (row_size t w m j y m2 p n c e b))
       by i l (no o) = get_or-set_other h j i v 0 o ∙ (f k z q).cell i (omega arith)
 
   -- all

@@ -8,7 +8,7 @@ use Rattle.rows.specs.declared.Found.TheVariants.{At, Nothing}
 use Rattle.indexes.specs.Indexing.{Finds}
 use Rattle.scopes.specs.Promises.{FindsTruth}
 use Rattle.scopes.proofs.Answering.{finds_in_scope, finds_in_objects}
-use Rattle.scopes.proofs.Taking.{finds_enumerator, word-truth, word-nothing, word_none, word_some}
+use Rattle.scopes.proofs.Taking.{finds_enumerator, word_truth, word_nothing, word_none, word_some}
 use Rattle.lookups.specs.Answers.{DefinitionIndexed, ObjectIndexed, EnumeratorIndexed, WordIndexed}
 
 -- a definition
@@ -23,20 +23,20 @@ object_indexed s o x kind at len r f n i b = finds_in_objects s o n kind at len 
 
 module _ (s d e x : List ℕ) (j at len : ℕ) where
   -- an enumerator
-  pub enumerator-indexed : (key : ℕ) (r : Found) → key ≡ get_or d (j * 19 + 14) 0 → Finds s e 3 0 key 1 at len x r → EnumeratorIndexed s d e x j at len r
+  pub enumerator_indexed : (key : ℕ) (r : Found) → key ≡ get_or d (j * 19 + 14) 0 → Finds s e 3 0 key 1 at len x r → EnumeratorIndexed s d e x j at len r
   unfolding Finds EnumeratorIndexed
-  enumerator-indexed key r h f n i b = finds_enumerator s d e n j at len key r h (f n i b)
+  enumerator_indexed key r h f n i b = finds_enumerator s d e n j at len key r h (f n i b)
 
   module _ (c : ℕ) (h : c ≡ get_or d (j * 19 + 12) 0) where
     -- a word of a BOOLEAN
-    pub truth-indexed : (r : ℕ) → c ≡ 40 → FindsTruth s d j at len r → WordIndexed s d e x j at len r
+    pub truth_indexed : (r : ℕ) → c ≡ 40 → FindsTruth s d j at len r → WordIndexed s d e x j at len r
     unfolding WordIndexed
-    truth-indexed r k g n i b = word-truth s d e n j at len c h r k g
+    truth_indexed r k g n i b = word_truth s d e n j at len c h r k g
 
     -- of an attribute without a list
-    pub nothing-indexed : (c ≡ 40 → ⊥) → (c ≡ 41 → ⊥) → WordIndexed s d e x j at len 0
+    pub nothing_indexed : (c ≡ 40 → ⊥) → (c ≡ 41 → ⊥) → WordIndexed s d e x j at len 0
     unfolding WordIndexed
-    nothing-indexed k k2 n i b = word-nothing s d e n j at len c h k k2
+    nothing_indexed k k2 n i b = word_nothing s d e n j at len c h k k2
 
     module _ (k : c ≡ 41) (z : Found) (g : EnumeratorIndexed s d e x j at len z) where
       -- of an ENUM: none

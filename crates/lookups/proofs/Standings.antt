@@ -8,7 +8,7 @@ use lib.ListN.{length, length-append}
 use Rattle.meaning.specs.Syntax.{Word, Definitions, Values, Defined, Spec, File}
 use Rattle.meaning.specs.Scopes.{Under, under}
 use Rattle.meaning.proofs.Numbering.{Counts, counts_more}
-use Rattle.meaning.proofs.Sites.{bound_words, option_words, definition-words, value-words, spec_words}
+use Rattle.meaning.proofs.Sites.{bound_words, option_words, definition_words, value_words, spec_words}
 use Rattle.layout.specs.Kept.{Entry, entries, entries_under, spec_entries, list_key}
 use Rattle.blocks.specs.Blocks.{WordIn}
 use Rattle.blocks.proofs.Files.{AllIn, in_front, in_back, file_in, specs_in}
@@ -146,31 +146,31 @@ under_below {s} {f} {u} {ds} {x} {y} {v} p q h g k =
 -- Words ------------------------------------------------------------------------------------------------------------------------------------
 
 -- The words of definitions are those of the text.
-pub words_definition : {s : List ℕ} {ds : Definitions} {x : Defined} → HasDefinition ds x → AllIn s (definition-words ds)
-    → AllIn s (value-words x.values) × (WordIn s x.definition.name × AllIn s (option_words x.definition.default))
-unfolding definition-words
+pub words_definition : {s : List ℕ} {ds : Definitions} {x : Defined} → HasDefinition ds x → AllIn s (definition_words ds)
+    → AllIn s (value_words x.values) × (WordIn s x.definition.name × AllIn s (option_words x.definition.default))
+unfolding definition_words
 words_definition {s} (this_definition {d} {vs} {ds}) w =
     let n = d.name ∷ option_words d.default in
     let b = bound_words d.bounds in
-    let k = in_back s b (value-words vs ++ n) (in_front s (b ++ (value-words vs ++ n)) (definition-words ds) w.1) in
-    (in_front s (value-words vs) n k, in_back s (value-words vs) n k)
+    let k = in_back s b (value_words vs ++ n) (in_front s (b ++ (value_words vs ++ n)) (definition_words ds) w.1) in
+    (in_front s (value_words vs) n k, in_back s (value_words vs) n k)
 words_definition {s} (later_definition {d} {vs} {ds} h) w =
-    words_definition h (in_back s (bound_words d.bounds ++ (value-words vs ++ (d.name ∷ option_words d.default))) (definition-words ds) w.1)
+    words_definition h (in_back s (bound_words d.bounds ++ (value_words vs ++ (d.name ∷ option_words d.default))) (definition_words ds) w.1)
 
-words_value : {s : List ℕ} {vs : Values} {v : Under} → HasValue vs v → AllIn s (value-words vs) → WordIn s v.word × AllIn s (definition-words v.definitions)
-unfolding value-words
-words_value {s} (this_value {w} {e} {us} {vs}) a = (a.0, in_front s (definition-words us) (value-words vs) a.1)
-words_value {s} (later_value {w} {e} {us} {vs} h) a = words_value h (in_back s (definition-words us) (value-words vs) a.1)
+words_value : {s : List ℕ} {vs : Values} {v : Under} → HasValue vs v → AllIn s (value_words vs) → WordIn s v.word × AllIn s (definition_words v.definitions)
+unfolding value_words
+words_value {s} (this_value {w} {e} {us} {vs}) a = (a.0, in_front s (definition_words us) (value_words vs) a.1)
+words_value {s} (later_value {w} {e} {us} {vs} h) a = words_value h (in_back s (definition_words us) (value_words vs) a.1)
 
-words_spec : {s : List ℕ} {xs : List Spec} {x : Spec} → HasSpec xs x → AllIn s (spec_words xs) → WordIn s x.word × AllIn s (definition-words x.definitions)
+words_spec : {s : List ℕ} {xs : List Spec} {x : Spec} → HasSpec xs x → AllIn s (spec_words xs) → WordIn s x.word × AllIn s (definition_words x.definitions)
 unfolding spec_words
-words_spec {s} (this_spec {x} {xs}) a = (a.0, in_front s (definition-words x.definitions) (spec_words xs) a.1)
-words_spec {s} (later_spec {x} {y} {xs} h) a = words_spec h (in_back s (definition-words y.definitions) (spec_words xs) a.1)
+words_spec {s} (this_spec {x} {xs}) a = (a.0, in_front s (definition_words x.definitions) (spec_words xs) a.1)
+words_spec {s} (later_spec {x} {y} {xs} h) a = words_spec h (in_back s (definition_words y.definitions) (spec_words xs) a.1)
 
-stands_words : {s : List ℕ} {xs : List Spec} {u : Word} {ds : Definitions} → AllIn s (spec_words xs) → Stands xs u ds → WordIn s u × AllIn s (definition-words ds)
+stands_words : {s : List ℕ} {xs : List Spec} {u : Word} {ds : Definitions} → AllIn s (spec_words xs) → Stands xs u ds → WordIn s u × AllIn s (definition_words ds)
 stands_words a (under_kind h) = words_spec h a
 stands_words a (under_value p h g) = words_value g (words_definition h (stands_words a p).1).0
 
-pub file_stands : {s : List ℕ} {f : File} {u : Word} {ds : Definitions} → Situation s f → Stands f.specs u ds → WordIn s u × AllIn s (definition-words ds)
+pub file_stands : {s : List ℕ} {f : File} {u : Word} {ds : Definitions} → Situation s f → Stands f.specs u ds → WordIn s u × AllIn s (definition_words ds)
 file_stands {s} {f} p q =
     stands_words (subst (λ g. AllIn s (spec_words g.specs)) (sym p.syntax-of) (specs_in s _ (file_in s p.derivation))) q

@@ -32,7 +32,7 @@ pub record IndexAt (s t : List ℕ) (w m n at : ℕ) (x : List ℕ) : Type 0 whe
 -- It has the ranks of the names of the definitions d and the statements st.
 pub record Ranks (s d st x : List ℕ) : Type 0 where
   pub rank : List ℕ → ℕ
-  pub few-definitions : get_or x 4866 0 ≤ 512
+  pub few_definitions : get_or x 4866 0 ≤ 512
   pub few_statements : get_or x 4865 0 ≤ 2049
   pub definitions : Ranked rank s d 19 2 (definition_ranks x)
   pub statements : Ranked rank s st 7 0 (statement_ranks x)
@@ -82,7 +82,7 @@ pub record PutsLinks (st h x y : List ℕ) : Type 0 where
 -- There is room for the table x, for the index v of the definitions, for the ranks h of the statements' names, and for sorting.
 pub record Rooms (z : Sizes) (v h spare x : List ℕ) : Type 0 where
   pub few : FewRows z
-  pub statements-fit : length h ≤ 2049
+  pub statements_fit : length h ≤ 2049
   pub size : length v ≡ z.definitions
-  pub spare-room : length spare ≡ 512
+  pub spare_room : length spare ≡ 512
   pub room : length x ≡ 6916

@@ -13,7 +13,7 @@ use Rattle.reading.specs.Results.{ReadsSpanned}
 use Rattle.reading.specs.Decisions.{RoomSizes}
 use Rattle.reading.specs.declared.Answer.TheVariants.{Accepted, Refused}
 use Rattle.reading.specs.declared.Spanned.{Spanned}
-use Rattle.writing.proofs.Calling.{file, own, own-fits, reads-own, given-whole, many-definitions, refused-reading}
+use Rattle.writing.proofs.Calling.{file, own, own_fits, reads_own, given_whole, many_definitions, refused_reading}
 use Rattle.masks.specs.Results.{check_answered, check_parsed, check, Made, left, plan_answered, plan_parsed, plan_text, Leaves, PlansText}
 use Rattle.masks.specs.Promises.{ReadAs, ChecksRead, PlansRead}
 use Rattle.masks.specs.declared.Checked.{Checked}
@@ -24,23 +24,23 @@ use Rattle.masks.specs.declared.Planned.TheVariants as p
 -- A refused text ---------------------------------------------------------------------------------------------------------------------------
 
 module _ (n q : ℕ) (l : List ℕ) where
-  check-file-refused : (a : Answer) (f : File) → a ≡ refused n q → c.Refused n q ≡ check_answered a f l
+  check_file_refused : (a : Answer) (f : File) → a ≡ refused n q → c.Refused n q ≡ check_answered a f l
   unfolding check_answered
-  check-file-refused a f e = ap (λ (x : Answer). check_answered x f l) (sym e)
+  check_file_refused a f e = ap (λ (x : Answer). check_answered x f l) (sym e)
 
-  check-refused-by : (x : Parsed) → answer_of_parsed x ≡ refused n q → c.Refused n q ≡ check_parsed x l
+  check_refused_by : (x : Parsed) → answer_of_parsed x ≡ refused n q → c.Refused n q ≡ check_parsed x l
   unfolding check_parsed answer_of_parsed
-  check-refused-by (parsed f) e = check-file-refused (answer f) f e
-  check-refused-by (not_parsed m k) e = let y : m ≡ n = cc in let z : k ≡ q = cc in cc
+  check_refused_by (parsed f) e = check_file_refused (answer f) f e
+  check_refused_by (not_parsed m k) e = let y : m ≡ n = cc in let z : k ≡ q = cc in cc
 
-  plan-file-refused : (a : Answer) (f : File) → a ≡ refused n q → left (p.Refused n q) l ≡ plan_answered a f l
+  plan_file_refused : (a : Answer) (f : File) → a ≡ refused n q → left (p.Refused n q) l ≡ plan_answered a f l
   unfolding plan_answered
-  plan-file-refused a f e = ap (λ (x : Answer). plan_answered x f l) (sym e)
+  plan_file_refused a f e = ap (λ (x : Answer). plan_answered x f l) (sym e)
 
-  plan-refused-by : (x : Parsed) → answer_of_parsed x ≡ refused n q → left (p.Refused n q) l ≡ plan_parsed x l
+  plan_refused_by : (x : Parsed) → answer_of_parsed x ≡ refused n q → left (p.Refused n q) l ≡ plan_parsed x l
   unfolding plan_parsed answer_of_parsed
-  plan-refused-by (parsed f) e = plan-file-refused (answer f) f e
-  plan-refused-by (not_parsed m k) e = let y : m ≡ n = cc in let z : k ≡ q = cc in cc
+  plan_refused_by (parsed f) e = plan_file_refused (answer f) f e
+  plan_refused_by (not_parsed m k) e = let y : m ≡ n = cc in let z : k ≡ q = cc in cc
 
 -- The caller's own tables --------------------------------------------------------------------------------------------------------------------
 
@@ -63,36 +63,36 @@ full_room k =
 module _ {s d₁ e₁ o₁ v₁ : List ℕ} {w : Spanned} (h : ReadsSpanned s (replicate 6656 0) (replicate 3072 0) (replicate 2048 0) (replicate 18432 0) d₁ e₁ o₁ v₁ w) where
   pub check_refused : (n q : ℕ) → w.reading.answer ≡ Refused n q → (l : List ℕ) → c.Refused n q ≡ check s l
   unfolding check reading
-  check_refused n q i l = check-refused-by n q l (parse s) (refused-reading h (full_room rooms) n q i)
+  check_refused n q i l = check_refused_by n q l (parse s) (refused_reading h (full_room rooms) n q i)
 
   pub plan_refused : (n q : ℕ) → w.reading.answer ≡ Refused n q → (l : List ℕ) → PlansText s l l (p.Refused n q)
   unfolding plan_text reading left
   plan_refused n q i l =
-      let e = plan-refused-by n q l (parse s) (refused-reading h (full_room rooms) n q i) in
+      let e = plan_refused_by n q l (parse s) (refused_reading h (full_room rooms) n q i) in
       record { result = ap (λ (x : Made). x.result) e; list = ap (λ (x : Made). x.list) e }
 
   module _ (i : w.reading.answer ≡ Accepted) where
     read_as : ReadAs s d₁ o₁ v₁ w (file h i)
     unfolding tables
     read_as =
-        let g = given-whole h i rooms in
-        let a = (own-fits h i).objects in
+        let g = given_whole h i rooms in
+        let a = (own_fits h i).objects in
         let b = g.tables.many-objects in
-        record { tables = g.tables; definitions = many-definitions h i; few = omega (arith, a, b); places = (h.spans i).places }
+        record { tables = g.tables; definitions = many_definitions h i; few = omega (arith, a, b); places = (h.spans i).places }
 
-    parse-is : parse s ≡ parsed (file h i)
-    parse-is = let a = h.spans i in parse_derived s a.covered a.situation.derivation ∙ ap parsed (sym a.situation.syntax-of)
+    parse_is : parse s ≡ parsed (file h i)
+    parse_is = let a = h.spans i in parse_derived s a.covered a.situation.derivation ∙ ap parsed (sym a.situation.syntax-of)
 
     answer_is : answer (file h i) ≡ accepted (own h i)
-    answer_is = sym (h.spans i).answered ∙ reads-own h i
+    answer_is = sym (h.spans i).answered ∙ reads_own h i
 
-    pub check-accepted : (l : List ℕ) (r : Checked) → ChecksRead s d₁ o₁ v₁ w l r → r ≡ check s l
+    pub check_accepted : (l : List ℕ) (r : Checked) → ChecksRead s d₁ o₁ v₁ w l r → r ≡ check s l
     unfolding check check_parsed check_answered
-    check-accepted l r k =
-        k (file h i) read_as ∙ sym (ap (λ (x : Parsed). check_parsed x l) parse-is ∙ ap (λ (x : Answer). check_answered x (file h i) l) answer_is)
+    check_accepted l r k =
+        k (file h i) read_as ∙ sym (ap (λ (x : Parsed). check_parsed x l) parse_is ∙ ap (λ (x : Answer). check_answered x (file h i) l) answer_is)
 
-    pub plan-accepted : (l l' : List ℕ) (r : Planned) → PlansRead s d₁ o₁ v₁ w l l' r → PlansText s l l' r
+    pub plan_accepted : (l l' : List ℕ) (r : Planned) → PlansRead s d₁ o₁ v₁ w l l' r → PlansText s l l' r
     unfolding plan_text plan_parsed plan_answered
-    plan-accepted l l' r k =
-        subst (λ (x : Made). Leaves x l' r) (sym (ap (λ (x : Parsed). plan_parsed x l) parse-is ∙ ap (λ (x : Answer). plan_answered x (file h i) l) answer_is))
+    plan_accepted l l' r k =
+        subst (λ (x : Made). Leaves x l' r) (sym (ap (λ (x : Parsed). plan_parsed x l) parse_is ∙ ap (λ (x : Answer). plan_answered x (file h i) l) answer_is))
         (k (file h i) read_as)

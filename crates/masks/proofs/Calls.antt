@@ -27,9 +27,9 @@ use Rattle.masks.specs.declared.Checked.{Checked}
 use Rattle.masks.specs.declared.Checked.TheVariants as c
 use Rattle.masks.specs.declared.Planned.{Planned}
 use Rattle.masks.specs.declared.Planned.TheVariants as p
-use Rattle.masks.proofs.Scenes.{how_many, breaking-same, plan-same, few}
+use Rattle.masks.proofs.Scenes.{how_many, breaking_same, plan_same, few}
 use Rattle.masks.proofs.Rules.{before_many}
-use Rattle.masks.proofs.Plannables.{plannable-is}
+use Rattle.masks.proofs.Plannables.{plannable_is}
 
 found_named : (o : Option ℕ) → named_found (found_of o) ≡ named_first o
 unfolding named_found found_of named_first
@@ -82,28 +82,28 @@ module _ {s d o v : List ℕ} {m n : ℕ} {rows₀ rows : List ℕ} {e : ℕ} (w
       how-many-of f t k = how_many t k wide q
 
   -- More than 256 events there are not.
-  pub too-many-events : (l : List ℕ) (r : Checked) → 256 < e → ChecksRows s d o v m n l r
-  too-many-events l r h f t k = let z = few t k wide q in absurd (omega (arith, h, z))
+  pub too_many_events : (l : List ℕ) (r : Checked) → 256 < e → ChecksRows s d o v m n l r
+  too_many_events l r h f t k = let z = few t k wide q in absurd (omega (arith, h, z))
 
   -- The first event that breaks its rule.
-  pub found-checked : {marks₀ marks given₀ given : List ℕ} (l : List ℕ) (x : Found) (r : Checked) → ((a : ℕ) → a < 65536 → get_or marks₀ a 0 ≡ 0) → Marked marks₀ (refers_at o v n 0 0) marks → Filled s d v n rows e given₀ given
+  pub found_checked : {marks₀ marks given₀ given : List ℕ} (l : List ℕ) (x : Found) (r : Checked) → ((a : ℕ) → a < 65536 → get_or marks₀ a 0 ≡ 0) → Marked marks₀ (refers_at o v n 0 0) marks → Filled s d v n rows e given₀ given
       → e ≡ length l → x ≡ found_of (breaking (tasks_at marks rows m 0) l 0 (masks_at given (length l) 0) l) → r ≡ named_found x → ChecksRows s d o v m n l r
   unfolding check_listed choose
-  found-checked l x r clear a g h w y f t k =
+  found_checked l x r clear a g h w y f t k =
       y ∙ ap named_found w ∙ found_named (breaking (tasks_at _ rows m 0) l 0 (masks_at _ (length l) 0) l)
-      ∙ ap named_first (breaking-same t k wide q clear a g l (sym h))
+      ∙ ap named_first (breaking_same t k wide q clear a g l (sym h))
       ∙ sym (ap (λ (b : Bool). choose b (λ _. named_first (breaking (tasks_of f) l 0 (masks_of f) l)) (λ _. c.WrongLength)) (eq-eqb (length l) (length (masks_of f)) (sym h ∙ how_many t k wide q)))
 
   -- The planner's list is shorter than the events.
-  pub list-short : (l : List ℕ) → length l < e → PlansRows s d o v m n l l p.WrongLength
+  pub list_short : (l : List ℕ) → length l < e → PlansRows s d o v m n l l p.WrongLength
   unfolding plan_listed choose
-  list-short l h f t k =
+  list_short l h f t k =
       let z = how_many t k wide q in
       leaves_left _ p.WrongLength l
       (ap (λ (b : Bool). choose b (λ _. left p.WrongLength l) (λ _. made (plan (tasks_of f) (masks_of f)) l)) (lt-ltb (length l) (length (masks_of f)) (omega (arith, h, z))))
 
-  pub too-many-planned : (l l' : List ℕ) (r : Planned) → 256 < e → PlansRows s d o v m n l l' r
-  too-many-planned l l' r h f t k = let z = few t k wide q in absurd (omega (arith, h, z))
+  pub too_many_planned : (l l' : List ℕ) (r : Planned) → 256 < e → PlansRows s d o v m n l l' r
+  too_many_planned l l' r h f t k = let z = few t k wide q in absurd (omega (arith, h, z))
 
   -- What the planner over the rows hands out.
   pub handed_out : {marks₀ marks given₀ given : List ℕ} (j : ℕ) (l l' : List ℕ) (r : Planned) → ((a : ℕ) → a < 65536 → get_or marks₀ a 0 ≡ 0) → Marked marks₀ (refers_at o v n 0 0) marks → Filled s d v n rows e given₀ given
@@ -113,7 +113,7 @@ module _ {s d o v : List ℕ} {m n : ℕ} {rows₀ rows : List ℕ} {e : ℕ} (w
       let z = how_many t k wide q in
       let u : plan_from (tasks_at marks rows m 0) (before_plan (masks_at given j 0)) 0 (masks_at given j 0) ≡ plan (tasks_of f) (masks_of f) =
       ap (λ (c : ℕ). plan_from (tasks_at marks rows m 0) (before_plan (masks_at given c 0)) 0 (masks_at given c 0)) h
-      ∙ plan-same t k wide q clear a g (before_plan (masks_at given e 0)) (before_many given e 0) refl in
+      ∙ plan_same t k wide q clear a g (before_plan (masks_at given e 0)) (before_many given e 0) refl in
       let x : made (plan_from (tasks_at marks rows m 0) (before_plan (masks_at given j 0)) 0 (masks_at given j 0)) l ≡ plan_listed f l =
       ap (λ (c : Plan). made c l) u
       ∙ sym (ap (λ (b : Bool). choose b (λ _. left p.WrongLength l) (λ _. made (plan (tasks_of f) (masks_of f)) l)) (le-ltb (length l) (length (masks_of f)) (omega (arith, w, z)))) in
@@ -137,32 +137,32 @@ array_wide = let e : length (replicate {A = ℕ} 256 0) ≡ 256 = length-replica
 module _ {s d o v : List ℕ} {w : Spanned} where
   defines : {f : File} → ReadAs s d o v w f → defines_mask s d (get_or w.places 7 0) w.reading.definitions ≡ plannable f
   unfolding kind_number
-  defines h = plannable-is h.tables.situation h.tables.definitions h.definitions (h.places.place EVENT)
+  defines h = plannable_is h.tables.situation h.tables.definitions h.definitions (h.places.place EVENT)
 
   module _ (b : Bool) (q : b ≡ defines_mask s d (get_or w.places 7 0) w.reading.definitions) where
-    pub check-not : b ≡ false → (l : List ℕ) → ChecksRead s d o v w l c.NotPlannable
+    pub check_not : b ≡ false → (l : List ℕ) → ChecksRead s d o v w l c.NotPlannable
     unfolding check_file choose
-    check-not e l f h =
+    check_not e l f h =
         sym (ap (λ (x : Bool). choose x (λ _. choose (eqb (length l) (length (masks_of f))) (λ _. named_first (breaking (tasks_of f) l 0 (masks_of f) l)) (λ _. c.WrongLength)) (λ _. c.NotPlannable))
         (sym (defines h) ∙ sym q ∙ e))
 
-    pub plan-not : b ≡ false → (l : List ℕ) → PlansRead s d o v w l l p.NotPlannable
+    pub plan_not : b ≡ false → (l : List ℕ) → PlansRead s d o v w l l p.NotPlannable
     unfolding plan_file choose
-    plan-not e l f h =
+    plan_not e l f h =
         leaves_left _ p.NotPlannable l
         (ap (λ (x : Bool). choose x (λ _. choose (ltb (length l) (length (masks_of f))) (λ _. left p.WrongLength l) (λ _. made (plan (tasks_of f) (masks_of f)) l)) (λ _. left p.NotPlannable l))
         (sym (defines h) ∙ sym q ∙ e))
 
-    pub check-so : b ≡ true → (l : List ℕ) (r : Checked) → ChecksRows s d o v w.reading.objects w.reading.values l r → ChecksRead s d o v w l r
+    pub check_so : b ≡ true → (l : List ℕ) (r : Checked) → ChecksRows s d o v w.reading.objects w.reading.values l r → ChecksRead s d o v w l r
     unfolding check_file check_listed choose
-    check-so e l r k f h =
+    check_so e l r k f h =
         k f h.tables h.few
         ∙ sym (ap (λ (x : Bool). choose x (λ _. choose (eqb (length l) (length (masks_of f))) (λ _. named_first (breaking (tasks_of f) l 0 (masks_of f) l)) (λ _. c.WrongLength)) (λ _. c.NotPlannable))
         (sym (defines h) ∙ sym q ∙ e))
 
-    pub plan-so : b ≡ true → (l l' : List ℕ) (r : Planned) → PlansRows s d o v w.reading.objects w.reading.values l l' r → PlansRead s d o v w l l' r
+    pub plan_so : b ≡ true → (l l' : List ℕ) (r : Planned) → PlansRows s d o v w.reading.objects w.reading.values l l' r → PlansRead s d o v w l l' r
     unfolding plan_file plan_listed choose
-    plan-so e l l' r k f h =
+    plan_so e l l' r k f h =
         subst (λ (x : Made). Leaves x l' r)
         (sym (ap (λ (x : Bool). choose x (λ _. choose (ltb (length l) (length (masks_of f))) (λ _. left p.WrongLength l) (λ _. made (plan (tasks_of f) (masks_of f)) l)) (λ _. left p.NotPlannable l))
         (sym (defines h) ∙ sym q ∙ e)))

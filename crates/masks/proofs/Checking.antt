@@ -28,25 +28,25 @@ module _ (ts : List Task) (l : List ℕ) where
   chosen true x i e = (refl, e)
   chosen false x i e = absurd (none_some (sym e))
 
-  pub breaking-none : (i : ℕ) (rs : List Mask) (ms : List ℕ) → length ms ≡ length rs → breaking ts l i rs ms ≡ none → (m : ℕ) → m < length rs → tested i rs ms m ≡ true
+  pub breaking_none : (i : ℕ) (rs : List Mask) (ms : List ℕ) → length ms ≡ length rs → breaking ts l i rs ms ≡ none → (m : ℕ) → m < length rs → tested i rs ms m ≡ true
   unfolding breaking
-  breaking-none i [] ms h e m b = absurd (omega arith)
-  breaking-none i (r ∷ rs) [] h e m b = absurd (omega (arith, h))
-  breaking-none i (r ∷ rs) (n ∷ ms) h e zero b = let z : i ≡ i + 0 = omega arith in ap (λ (x : ℕ). keeps ts l x r n) (sym z) ∙ (chosen (keeps ts l i r n) (breaking ts l (suc i) rs ms) i e).0
-  breaking-none i (r ∷ rs) (n ∷ ms) h e (suc m) b =
+  breaking_none i [] ms h e m b = absurd (omega arith)
+  breaking_none i (r ∷ rs) [] h e m b = absurd (omega (arith, h))
+  breaking_none i (r ∷ rs) (n ∷ ms) h e zero b = let z : i ≡ i + 0 = omega arith in ap (λ (x : ℕ). keeps ts l x r n) (sym z) ∙ (chosen (keeps ts l i r n) (breaking ts l (suc i) rs ms) i e).0
+  breaking_none i (r ∷ rs) (n ∷ ms) h e (suc m) b =
       let z : suc i + m ≡ i + suc m = omega arith in
       let k : length ms ≡ length rs = omega (arith, h) in
       let c : m < length rs = omega (arith, b) in
-      ap (λ (x : ℕ). keeps ts l x (get_or rs m automatic) (get_or ms m 0)) (sym z) ∙ breaking-none (suc i) rs ms k (chosen (keeps ts l i r n) (breaking ts l (suc i) rs ms) i e).1 m c
+      ap (λ (x : ℕ). keeps ts l x (get_or rs m automatic) (get_or ms m 0)) (sym z) ∙ breaking_none (suc i) rs ms k (chosen (keeps ts l i r n) (breaking ts l (suc i) rs ms) i e).1 m c
 
-  pub none-breaking : (i : ℕ) (rs : List Mask) (ms : List ℕ) → length ms ≡ length rs → ((m : ℕ) → m < length rs → tested i rs ms m ≡ true) → breaking ts l i rs ms ≡ none
+  pub none_breaking : (i : ℕ) (rs : List Mask) (ms : List ℕ) → length ms ≡ length rs → ((m : ℕ) → m < length rs → tested i rs ms m ≡ true) → breaking ts l i rs ms ≡ none
   unfolding breaking choose
-  none-breaking i [] ms h f = refl
-  none-breaking i (r ∷ rs) [] h f = refl
-  none-breaking i (r ∷ rs) (n ∷ ms) h f =
+  none_breaking i [] ms h f = refl
+  none_breaking i (r ∷ rs) [] h f = refl
+  none_breaking i (r ∷ rs) (n ∷ ms) h f =
       let z : i ≡ i + 0 = omega arith in
       let k : length ms ≡ length rs = omega (arith, h) in
-      let g = none-breaking (suc i) rs ms k (λ m b. let y : suc i + m ≡ i + suc m = omega arith in let c : suc m < length (r ∷ rs) = omega (arith, b) in ap (λ (x : ℕ). keeps ts l x (get_or rs m automatic) (get_or ms m 0)) y ∙ f (suc m) c) in
+      let g = none_breaking (suc i) rs ms k (λ m b. let y : suc i + m ≡ i + suc m = omega arith in let c : suc m < length (r ∷ rs) = omega (arith, b) in ap (λ (x : ℕ). keeps ts l x (get_or rs m automatic) (get_or ms m 0)) y ∙ f (suc m) c) in
       let t : 0 < length (r ∷ rs) = omega arith in
       ap (λ (b : Bool). choose b (λ _. breaking ts l (suc i) rs ms) (λ _. some i)) (ap (λ (x : ℕ). keeps ts l x r n) z ∙ f 0 t) ∙ g
 
@@ -57,11 +57,11 @@ module _ (ts : List Task) (l : List ℕ) where
     fails : tested i rs ms number ≡ false
     before : (m : ℕ) → m < number → tested i rs ms m ≡ true
 
-  breaking-some : (i : ℕ) (rs : List Mask) (ms : List ℕ) (j : ℕ) → breaking ts l i rs ms ≡ some j → Breaks i rs ms j
+  breaking_some : (i : ℕ) (rs : List Mask) (ms : List ℕ) (j : ℕ) → breaking ts l i rs ms ≡ some j → Breaks i rs ms j
   unfolding breaking choose
-  breaking-some i [] ms j e = absurd (none_some e)
-  breaking-some i (r ∷ rs) [] j e = absurd (none_some e)
-  breaking-some i (r ∷ rs) (n ∷ ms) j e = go (cases (keeps ts l i r n)) e (λ y. breaking-some (suc i) rs ms j y)
+  breaking_some i [] ms j e = absurd (none_some e)
+  breaking_some i (r ∷ rs) [] j e = absurd (none_some e)
+  breaking_some i (r ∷ rs) (n ∷ ms) j e = go (cases (keeps ts l i r n)) e (λ y. breaking_some (suc i) rs ms j y)
     where
       earlier : keeps ts l i r n ≡ true → (a : Breaks (suc i) rs ms j) → (m : ℕ) → m < suc a.number → tested i (r ∷ rs) (n ∷ ms) m ≡ true
       earlier q a zero b = let z : i ≡ i + 0 = omega arith in ap (λ (x : ℕ). keeps ts l x r n) (sym z) ∙ q
@@ -92,15 +92,15 @@ module _ (ts : List Task) (l : List ℕ) where
 
 -- THE CHECKER ACCEPTS EXACTLY what Q-6 says.
 pub accepts_only : (ts : List Task) (rs : List Mask) (l : List ℕ) → length l ≡ length rs → breaking ts l 0 rs l ≡ none → Fine ts rs l
-accepts_only ts rs l h e = record { one_each = h; each = λ i b. keeps_true ts l i (get_or rs i automatic) (ap (λ (x : ℕ). keeps ts l x (get_or rs i automatic) (get_or l i 0)) (sym (from_zero i)) ∙ breaking-none ts l 0 rs l h e i b) }
+accepts_only ts rs l h e = record { one_each = h; each = λ i b. keeps_true ts l i (get_or rs i automatic) (ap (λ (x : ℕ). keeps ts l x (get_or rs i automatic) (get_or l i 0)) (sym (from_zero i)) ∙ breaking_none ts l 0 rs l h e i b) }
 
 pub accepts_all : (ts : List Task) (rs : List Mask) (l : List ℕ) → Fine ts rs l → (length l ≡ length rs) × (breaking ts l 0 rs l ≡ none)
-accepts_all ts rs l f = (f.one_each, none-breaking ts l 0 rs l f.one_each (λ i b. ap (λ (x : ℕ). keeps ts l x (get_or rs i automatic) (get_or l i 0)) (from_zero i) ∙ keeps_is ts l i (get_or rs i automatic) (f.each i b)))
+accepts_all ts rs l f = (f.one_each, none_breaking ts l 0 rs l f.one_each (λ i b. ap (λ (x : ℕ). keeps ts l x (get_or rs i automatic) (get_or l i 0)) (from_zero i) ∙ keeps_is ts l i (get_or rs i automatic) (f.each i b)))
 
 -- ELSE IT NAMES THE FIRST EVENT THAT BREAKS ITS OWN RULE.
 pub names_first : (ts : List Task) (rs : List Mask) (l : List ℕ) (i : ℕ) → length l ≡ length rs → breaking ts l 0 rs l ≡ some i → FirstBroken ts rs l i
 names_first ts rs l i h e =
-    let a = breaking-some ts l 0 rs l i e in
+    let a = breaking_some ts l 0 rs l i e in
     let at : (n : ℕ) → keeps ts l (0 + n) (get_or rs n automatic) (get_or l n 0) ≡ keeps ts l n (get_or rs n automatic) (get_or l n 0) = λ n. ap (λ (x : ℕ). keeps ts l x (get_or rs n automatic) (get_or l n 0)) (from_zero n) in
     let q : FirstBroken ts rs l a.number = record {
       event = a.event;

@@ -20,7 +20,7 @@ use Rattle.meaning.specs.Cells.{object_cells}
 use Rattle.meaning.proofs.Rooms.{object_width}
 use Rattle.meaning.proofs.Numbering.{Counts, counts_more, object_numbers}
 use Rattle.writing.specs.Promises.{From, Pairs, a_pair}
-use Rattle.writing.proofs.Froms.{from_cell, from-append}
+use Rattle.writing.proofs.Froms.{from_cell, from_append}
 use Rattle.masks.specs.Bits.{has, common, single}
 use Rattle.masks.specs.Masks.{Mask, given, automatic, Task, beside, keeps, breaking, taken, lowest, Plan, full, plan_from}
 use Rattle.masks.specs.Events.{events, rows_of, mask_in, masks_in}
@@ -28,7 +28,7 @@ use Rattle.masks.specs.Marks.{mask_at, masks_at}
 use Rattle.masks.specs.Members.{event_rows_at}
 use Rattle.masks.proofs.Refers.{task_kind}
 use Rattle.masks.proofs.Reflections.{Cases, yes, no, cases}
-use Rattle.masks.proofs.Masking.{row-mask, first-mask, later-mask}
+use Rattle.masks.proofs.Masking.{row_mask, first_mask, later_mask}
 
 eqb_sym : (a b : ℕ) → eqb a b ≡ eqb b a
 eqb_sym a b = go (cases (eqb a b))
@@ -46,7 +46,7 @@ kind_cell {o} {m} {i} x xs k h =
 
 next_objects : {o : List ℕ} {m i : ℕ} (x : Object) (xs : List Object) → From 8 object_cells o m i (object_rows (x ∷ xs)) → From 8 object_cells o m (suc i) (object_rows xs)
 unfolding object_rows
-next_objects {o} {m} {i} x xs h = let z : suc i ≡ i + 1 = omega arith in from-append 8 object_cells object_width (record { kind = x.kind; word = span_of x.word; name = span_of x.name; block = x.block; parts = x.parts } ∷ []) (object_rows xs) z h
+next_objects {o} {m} {i} x xs h = let z : suc i ≡ i + 1 = omega arith in from_append 8 object_cells object_width (record { kind = x.kind; word = span_of x.word; name = span_of x.name; block = x.block; parts = x.parts } ∷ []) (object_rows xs) z h
 
 -- The rows of the events are those of the file.
 pub event_rows_are : {o : List ℕ} {m : ℕ} (xs : List Object) (i : ℕ) → From 8 object_cells o m i (object_rows xs) → Counts i (object_numbers xs) → event_rows_at o (length xs) i ≡ rows_of (events xs)
@@ -89,15 +89,15 @@ masks_mapped t g (e ∷ es) i h =
 
 module _ (s d : List ℕ) (f : File) where
   -- From the object of row i on, whose values' rows begin at n: g gives the mask of these rows.
-  pub masks-are : (xs : List Object) (i n : ℕ) (g : ℕ → Mask) → Pairs s d xs (all_values f xs) → Counts i (object_numbers xs)
-      → ((row : ℕ) → i ≤ row → g row ≡ row-mask s d (all_value_rows (all_values f xs) i n) row) → mapped g (rows_of (events xs)) ≡ masks_in f (events xs)
+  pub masks_are : (xs : List Object) (i n : ℕ) (g : ℕ → Mask) → Pairs s d xs (all_values f xs) → Counts i (object_numbers xs)
+      → ((row : ℕ) → i ≤ row → g row ≡ row_mask s d (all_value_rows (all_values f xs) i n) row) → mapped g (rows_of (events xs)) ≡ masks_in f (events xs)
   unfolding mapped rows_of events masks_in all_values object_numbers
-  masks-are [] i n g p c h = refl
-  masks-are (x ∷ xs) i n g (a_pair u w t p) (counts_more c0 c1) h =
+  masks_are [] i n g p c h = refl
+  masks_are (x ∷ xs) i n g (a_pair u w t p) (counts_more c0 c1) h =
       let y = object_values f x in
       go (same_kind EVENT x.kind)
-      (ap g c0 ∙ h i (omega arith) ∙ first-mask s d y (all_values f xs) i n t)
-      (masks-are xs (suc i) (n + how_many_values y) g p c1 (λ row b. let e : i ≤ row = omega (arith, b) in let k : i < row = omega (arith, b) in h row e ∙ later-mask s d y (all_values f xs) i n row k))
+      (ap g c0 ∙ h i (omega arith) ∙ first_mask s d y (all_values f xs) i n t)
+      (masks_are xs (suc i) (n + how_many_values y) g p c1 (λ row b. let e : i ≤ row = omega (arith, b) in let k : i < row = omega (arith, b) in h row e ∙ later_mask s d y (all_values f xs) i n row k))
     where
       go : (b : Bool) → g x.row ≡ mask_in (object_values f x) → mapped g (rows_of (events xs)) ≡ masks_in f (events xs)
           → mapped g (rows_of (pick b (x ∷ events xs) (events xs))) ≡ masks_in f (pick b (x ∷ events xs) (events xs))

@@ -15,7 +15,7 @@ use lib.Dec.{eqb, lit<}
 use lib.Pow.{shl_exact, shr-shr}
 use borrow.Author.Tests.{eq-eqb, ne_eqb}
 use Rattle.token.specs.Find.{both, either, find}
-use Rattle.token.proofs.Find.{find_here, find-next, find_past}
+use Rattle.token.proofs.Find.{find_here, find_next, find_past}
 use Rattle.masks.specs.Bits.{has, some_below, single}
 use Rattle.masks.specs.Masks.{Task, meets, beside}
 use Rattle.masks.specs.Marks.{task_at, tasks_at, has_power, another}
@@ -64,7 +64,7 @@ pub zero_more : (m k x : ℕ) → k < 64 → x ≡ m / 2 ^ k → x % 2 ≡ 1 →
     → (x / 2 ≡ m / 2 ^ (k + 1)) × (find (λ j. not (has m j)) 64 (k + 1) ≡ find (λ j. not (has m j)) 64 0)
 unfolding has
 zero_more m k x h e q i =
-    (ap (λ (n : ℕ). n / 2) e ∙ shr-shr m k 1, sym (find-next (λ j. not (has m j)) 64 k h (ap not (eq-eqb (m / 2 ^ k % 2) 1 (ap (λ (n : ℕ). n % 2) (sym e) ∙ q)))) ∙ i)
+    (ap (λ (n : ℕ). n / 2) e ∙ shr-shr m k 1, sym (find_next (λ j. not (has m j)) 64 k h (ap not (eq-eqb (m / 2 ^ k % 2) 1 (ap (λ (n : ℕ). n % 2) (sym e) ∙ q)))) ∙ i)
 
 pub zero_end : (m k : ℕ) → 64 ≤ k → find (λ j. not (has m j)) 64 k ≡ find (λ j. not (has m j)) 64 0 → k ≡ find (λ j. not (has m j)) 64 0
 zero_end m k h i = sym (find_past (λ j. not (has m j)) 64 k h) ∙ i
@@ -111,53 +111,53 @@ drop_past (x ∷ l) zero h = absurd (omega (arith, h))
 drop_past (x ∷ l) (suc j) h = drop_past l j (omega (arith, h))
 
 module _ (t : Task) (i : ℕ) (p : ℕ → Bool) (l : List ℕ) where
-  meets-next : (j : ℕ) → j < length l → meets t i p (drop j l) j ≡ either (both (another t i j) (p (get_or l j 0))) (meets t i p (drop (j + 1) l) (j + 1))
+  meets_next : (j : ℕ) → j < length l → meets t i p (drop j l) j ≡ either (both (another t i j) (p (get_or l j 0))) (meets t i p (drop (j + 1) l) (j + 1))
   unfolding meets another
-  meets-next j h = ap (λ (x : List ℕ). meets t i p x j) (drop_here l j h) ∙ ap (λ (k : ℕ). either (both (both (t j) (not (eqb i j))) (p (get_or l j 0))) (meets t i p (drop (j + 1) l) k)) (sym (add-one j))
+  meets_next j h = ap (λ (x : List ℕ). meets t i p x j) (drop_here l j h) ∙ ap (λ (k : ℕ). either (both (both (t j) (not (eqb i j))) (p (get_or l j 0))) (meets t i p (drop (j + 1) l) k)) (sym (add-one j))
 
-  pub meets-stop : (j : ℕ) → j < length l → both (another t i j) (p (get_or l j 0)) ≡ true → meets t i p (drop j l) j ≡ meets t i p l 0 → true ≡ meets t i p l 0
-  meets-stop j h e q = sym (meets-next j h ∙ ap (λ (b : Bool). either b (meets t i p (drop (j + 1) l) (j + 1))) e) ∙ q
+  pub meets_stop : (j : ℕ) → j < length l → both (another t i j) (p (get_or l j 0)) ≡ true → meets t i p (drop j l) j ≡ meets t i p l 0 → true ≡ meets t i p l 0
+  meets_stop j h e q = sym (meets_next j h ∙ ap (λ (b : Bool). either b (meets t i p (drop (j + 1) l) (j + 1))) e) ∙ q
 
-  pub meets-more : (j : ℕ) → j < length l → both (another t i j) (p (get_or l j 0)) ≡ false → meets t i p (drop j l) j ≡ meets t i p l 0 → meets t i p (drop (j + 1) l) (j + 1) ≡ meets t i p l 0
-  meets-more j h e q = sym (meets-next j h ∙ ap (λ (b : Bool). either b (meets t i p (drop (j + 1) l) (j + 1))) e) ∙ q
+  pub meets_more : (j : ℕ) → j < length l → both (another t i j) (p (get_or l j 0)) ≡ false → meets t i p (drop j l) j ≡ meets t i p l 0 → meets t i p (drop (j + 1) l) (j + 1) ≡ meets t i p l 0
+  meets_more j h e q = sym (meets_next j h ∙ ap (λ (b : Bool). either b (meets t i p (drop (j + 1) l) (j + 1))) e) ∙ q
 
-  pub meets-end : (j : ℕ) → length l ≤ j → meets t i p (drop j l) j ≡ meets t i p l 0 → false ≡ meets t i p l 0
+  pub meets_end : (j : ℕ) → length l ≤ j → meets t i p (drop j l) j ≡ meets t i p l 0 → false ≡ meets t i p l 0
   unfolding meets
-  meets-end j h q = sym (ap (λ (x : List ℕ). meets t i p x j) (drop_past l j h)) ∙ q
+  meets_end j h q = sym (ap (λ (x : List ℕ). meets t i p x j) (drop_past l j h)) ∙ q
 
 -- Tasks ------------------------------------------------------------------------------------------------------------------------------------
 
 module _ (marks rows : List ℕ) where
-  pub tasks-here : (c t : ℕ) → t < c → tasks_at marks rows (c - t) t ≡ task_at marks rows t ∷ tasks_at marks rows (c - (t + 1)) (t + 1)
+  pub tasks_here : (c t : ℕ) → t < c → tasks_at marks rows (c - t) t ≡ task_at marks rows t ∷ tasks_at marks rows (c - (t + 1)) (t + 1)
   unfolding tasks_at
-  tasks-here c t h =
+  tasks_here c t h =
       let e : c - t ≡ suc (c - (t + 1)) = omega (arith, h) in
       ap (λ (n : ℕ). tasks_at marks rows n t) e ∙ ap (λ (n : ℕ). task_at marks rows t ∷ tasks_at marks rows (c - (t + 1)) n) (sym (add-one t))
 
-  pub tasks-start : (c : ℕ) → tasks_at marks rows (c - 0) 0 ≡ tasks_at marks rows c 0
-  tasks-start c = let e : c - 0 ≡ c = omega arith in ap (λ (n : ℕ). tasks_at marks rows n 0) e
+  pub tasks_start : (c : ℕ) → tasks_at marks rows (c - 0) 0 ≡ tasks_at marks rows c 0
+  tasks_start c = let e : c - 0 ≡ c = omega arith in ap (λ (n : ℕ). tasks_at marks rows n 0) e
 
-  pub tasks-none : (c t : ℕ) → c ≤ t → tasks_at marks rows (c - t) t ≡ []
+  pub tasks_none : (c t : ℕ) → c ≤ t → tasks_at marks rows (c - t) t ≡ []
   unfolding tasks_at
-  tasks-none c t h = let e : c - t ≡ 0 = omega (arith, h) in ap (λ (n : ℕ). tasks_at marks rows n t) e
+  tasks_none c t h = let e : c - t ≡ 0 = omega (arith, h) in ap (λ (n : ℕ). tasks_at marks rows n t) e
 
   module _ (i : ℕ) (p : ℕ → Bool) (l : List ℕ) (c : ℕ) where
-    pub beside-start : beside (tasks_at marks rows (c - 0) 0) i p l ≡ beside (tasks_at marks rows c 0) i p l
-    beside-start = ap (λ (x : List Task). beside x i p l) (tasks-start c)
+    pub beside_start : beside (tasks_at marks rows (c - 0) 0) i p l ≡ beside (tasks_at marks rows c 0) i p l
+    beside_start = ap (λ (x : List Task). beside x i p l) (tasks_start c)
 
-    beside-next : (t : ℕ) → t < c → beside (tasks_at marks rows (c - t) t) i p l ≡ either (both (task_at marks rows t i) (meets (task_at marks rows t) i p l 0)) (beside (tasks_at marks rows (c - (t + 1)) (t + 1)) i p l)
+    beside_next : (t : ℕ) → t < c → beside (tasks_at marks rows (c - t) t) i p l ≡ either (both (task_at marks rows t i) (meets (task_at marks rows t) i p l 0)) (beside (tasks_at marks rows (c - (t + 1)) (t + 1)) i p l)
     unfolding beside
-    beside-next t h = ap (λ (x : List Task). beside x i p l) (tasks-here c t h)
+    beside_next t h = ap (λ (x : List Task). beside x i p l) (tasks_here c t h)
 
-    pub beside-stop : (t : ℕ) → t < c → both (task_at marks rows t i) (meets (task_at marks rows t) i p l 0) ≡ true → beside (tasks_at marks rows (c - t) t) i p l ≡ beside (tasks_at marks rows c 0) i p l → true ≡ beside (tasks_at marks rows c 0) i p l
-    beside-stop t h e q = sym (beside-next t h ∙ ap (λ (b : Bool). either b (beside (tasks_at marks rows (c - (t + 1)) (t + 1)) i p l)) e) ∙ q
+    pub beside_stop : (t : ℕ) → t < c → both (task_at marks rows t i) (meets (task_at marks rows t) i p l 0) ≡ true → beside (tasks_at marks rows (c - t) t) i p l ≡ beside (tasks_at marks rows c 0) i p l → true ≡ beside (tasks_at marks rows c 0) i p l
+    beside_stop t h e q = sym (beside_next t h ∙ ap (λ (b : Bool). either b (beside (tasks_at marks rows (c - (t + 1)) (t + 1)) i p l)) e) ∙ q
 
-    pub beside-more : (t : ℕ) → t < c → both (task_at marks rows t i) (meets (task_at marks rows t) i p l 0) ≡ false → beside (tasks_at marks rows (c - t) t) i p l ≡ beside (tasks_at marks rows c 0) i p l → beside (tasks_at marks rows (c - (t + 1)) (t + 1)) i p l ≡ beside (tasks_at marks rows c 0) i p l
-    beside-more t h e q = sym (beside-next t h ∙ ap (λ (b : Bool). either b (beside (tasks_at marks rows (c - (t + 1)) (t + 1)) i p l)) e) ∙ q
+    pub beside_more : (t : ℕ) → t < c → both (task_at marks rows t i) (meets (task_at marks rows t) i p l 0) ≡ false → beside (tasks_at marks rows (c - t) t) i p l ≡ beside (tasks_at marks rows c 0) i p l → beside (tasks_at marks rows (c - (t + 1)) (t + 1)) i p l ≡ beside (tasks_at marks rows c 0) i p l
+    beside_more t h e q = sym (beside_next t h ∙ ap (λ (b : Bool). either b (beside (tasks_at marks rows (c - (t + 1)) (t + 1)) i p l)) e) ∙ q
 
     pub beside_end : (t : ℕ) → c ≤ t → beside (tasks_at marks rows (c - t) t) i p l ≡ beside (tasks_at marks rows c 0) i p l → false ≡ beside (tasks_at marks rows c 0) i p l
     unfolding beside
-    beside_end t h q = sym (ap (λ (x : List Task). beside x i p l) (tasks-none c t h)) ∙ q
+    beside_end t h q = sym (ap (λ (x : List Task). beside x i p l) (tasks_none c t h)) ∙ q
 
 -- Bits gathered ----------------------------------------------------------------------------------------------------------------------------
 
@@ -198,32 +198,32 @@ pub gathers_more : (a r : ℕ) (x : Bool) (f : ℕ → Bool) → x ≡ true → 
 gathers_more a r x f e h k = h k ∙ either_both_yes (has a k) x (f k) e
 
 module _ (t : Task) (i : ℕ) (l : List ℕ) where
-  pub gather-turn : (a b r j : ℕ) → j < length l → ((k : ℕ) → has r k ≡ either (has b k) (both (another t i j) (has (get_or l j 0) k)))
+  pub gather_turn : (a b r j : ℕ) → j < length l → ((k : ℕ) → has r k ≡ either (has b k) (both (another t i j) (has (get_or l j 0) k)))
       → ((k : ℕ) → either (has b k) (meets t i (λ n. has n k) (drop j l) j) ≡ either (has a k) (meets t i (λ n. has n k) l 0))
       → (k : ℕ) → either (has r k) (meets t i (λ n. has n k) (drop (j + 1) l) (j + 1)) ≡ either (has a k) (meets t i (λ n. has n k) l 0)
-  gather-turn a b r j h e q k =
+  gather_turn a b r j h e q k =
       ap (λ (x : Bool). either x (meets t i (λ n. has n k) (drop (j + 1) l) (j + 1))) (e k)
       ∙ sym (either_assoc (has b k) (both (another t i j) (has (get_or l j 0) k)) (meets t i (λ n. has n k) (drop (j + 1) l) (j + 1)))
-      ∙ ap (either (has b k)) (sym (meets-next t i (λ n. has n k) l j h)) ∙ q k
+      ∙ ap (either (has b k)) (sym (meets_next t i (λ n. has n k) l j h)) ∙ q k
 
-  pub gather-end : (a b j : ℕ) → length l ≤ j → ((k : ℕ) → either (has b k) (meets t i (λ n. has n k) (drop j l) j) ≡ either (has a k) (meets t i (λ n. has n k) l 0))
+  pub gather_end : (a b j : ℕ) → length l ≤ j → ((k : ℕ) → either (has b k) (meets t i (λ n. has n k) (drop j l) j) ≡ either (has a k) (meets t i (λ n. has n k) l 0))
       → (k : ℕ) → has b k ≡ either (has a k) (meets t i (λ n. has n k) l 0)
   unfolding meets
-  gather-end a b j h q k = sym (either_false (has b k)) ∙ ap (λ (x : List ℕ). either (has b k) (meets t i (λ n. has n k) x j)) (sym (drop_past l j h)) ∙ q k
+  gather_end a b j h q k = sym (either_false (has b k)) ∙ ap (λ (x : List ℕ). either (has b k) (meets t i (λ n. has n k) x j)) (sym (drop_past l j h)) ∙ q k
 
 module _ (marks rows : List ℕ) (i : ℕ) (l : List ℕ) (c : ℕ) where
-  pub taken-turn : (b r t : ℕ) → t < c → ((k : ℕ) → has r k ≡ either (has b k) (both (task_at marks rows t i) (meets (task_at marks rows t) i (λ n. has n k) l 0)))
+  pub taken_turn : (b r t : ℕ) → t < c → ((k : ℕ) → has r k ≡ either (has b k) (both (task_at marks rows t i) (meets (task_at marks rows t) i (λ n. has n k) l 0)))
       → ((k : ℕ) → either (has b k) (beside (tasks_at marks rows (c - t) t) i (λ n. has n k) l) ≡ beside (tasks_at marks rows c 0) i (λ n. has n k) l)
       → (k : ℕ) → either (has r k) (beside (tasks_at marks rows (c - (t + 1)) (t + 1)) i (λ n. has n k) l) ≡ beside (tasks_at marks rows c 0) i (λ n. has n k) l
-  taken-turn b r t h e q k =
+  taken_turn b r t h e q k =
       ap (λ (x : Bool). either x (beside (tasks_at marks rows (c - (t + 1)) (t + 1)) i (λ n. has n k) l)) (e k)
       ∙ sym (either_assoc (has b k) (both (task_at marks rows t i) (meets (task_at marks rows t) i (λ n. has n k) l 0)) (beside (tasks_at marks rows (c - (t + 1)) (t + 1)) i (λ n. has n k) l))
-      ∙ ap (either (has b k)) (sym (beside-next marks rows i (λ n. has n k) l c t h)) ∙ q k
+      ∙ ap (either (has b k)) (sym (beside_next marks rows i (λ n. has n k) l c t h)) ∙ q k
 
   pub taken_start : (k : ℕ) → either (has 0 k) (beside (tasks_at marks rows (c - 0) 0) i (λ n. has n k) l) ≡ beside (tasks_at marks rows c 0) i (λ n. has n k) l
-  taken_start k = ap (λ (x : Bool). either x (beside (tasks_at marks rows (c - 0) 0) i (λ n. has n k) l)) (has_zero k) ∙ beside-start marks rows i (λ n. has n k) l c
+  taken_start k = ap (λ (x : Bool). either x (beside (tasks_at marks rows (c - 0) 0) i (λ n. has n k) l)) (has_zero k) ∙ beside_start marks rows i (λ n. has n k) l c
 
-  pub taken-end : (b t : ℕ) → c ≤ t → ((k : ℕ) → either (has b k) (beside (tasks_at marks rows (c - t) t) i (λ n. has n k) l) ≡ beside (tasks_at marks rows c 0) i (λ n. has n k) l)
+  pub taken_end : (b t : ℕ) → c ≤ t → ((k : ℕ) → either (has b k) (beside (tasks_at marks rows (c - t) t) i (λ n. has n k) l) ≡ beside (tasks_at marks rows c 0) i (λ n. has n k) l)
       → (k : ℕ) → has b k ≡ beside (tasks_at marks rows c 0) i (λ n. has n k) l
   unfolding beside
-  taken-end b t h q k = sym (either_false (has b k)) ∙ ap (λ (x : List Task). either (has b k) (beside x i (λ n. has n k) l)) (sym (tasks-none marks rows c t h)) ∙ q k
+  taken_end b t h q k = sym (either_false (has b k)) ∙ ap (λ (x : List Task). either (has b k) (beside x i (λ n. has n k) l)) (sym (tasks_none marks rows c t h)) ∙ q k

@@ -32,36 +32,36 @@ module _ (m o v : List ℕ) (k a : ℕ) where
   first_out : (b : Bool) (c : Bool) (d : Bool) → b ≡ false → both (both b c) d ≡ false
   first_out b c d e = ap (λ (y : Bool). both (both y c) d) e
 
-  second-out : (b c d : Bool) → c ≡ false → both (both b c) d ≡ false
-  second-out true c d e = ap (λ (y : Bool). both y d) e
-  second-out false c d e = refl
+  second_out : (b c d : Bool) → c ≡ false → both (both b c) d ≡ false
+  second_out true c d e = ap (λ (y : Bool). both y d) e
+  second_out false c d e = refl
 
-  third-out : (b c d e : Bool) → d ≡ false → both (both b c) (both d e) ≡ false
-  third-out true true d e q = ap (λ (y : Bool). both y e) q
-  third-out true false d e q = refl
-  third-out false c d e q = refl
+  third_out : (b c d e : Bool) → d ≡ false → both (both b c) (both d e) ≡ false
+  third_out true true d e q = ap (λ (y : Bool). both y e) q
+  third_out true false d e q = refl
+  third_out false c d e q = refl
 
-  fourth-out : (b c d e : Bool) → e ≡ false → both (both b c) (both d e) ≡ false
-  fourth-out true true true e q = q
-  fourth-out true true false e q = refl
-  fourth-out true false d e q = refl
-  fourth-out false c d e q = refl
+  fourth_out : (b c d e : Bool) → e ≡ false → both (both b c) (both d e) ≡ false
+  fourth_out true true true e q = q
+  fourth_out true true false e q = refl
+  fourth_out true false d e q = refl
+  fourth_out false c d e q = refl
 
-  pub no-task : (x : ℕ) → x ≡ cell_of o 8 a 0 → (x ≡ 2 → ⊥) → Marked m (hits o v k a) m
+  pub no_task : (x : ℕ) → x ≡ cell_of o 8 a 0 → (x ≡ 2 → ⊥) → Marked m (hits o v k a) m
   unfolding hits
-  no-task x e z = unmarked m (hits o v k a) (λ t y _ _. first_out (eqb (cell_of o 8 a 0) 2) (eqb (cell_of v 9 k 3) 5) (both (eqb a t) (eqb (cell_of v 9 k 5) y)) (ne_eqb (cell_of o 8 a 0) 2 (λ q. z (e ∙ q))))
+  no_task x e z = unmarked m (hits o v k a) (λ t y _ _. first_out (eqb (cell_of o 8 a 0) 2) (eqb (cell_of v 9 k 3) 5) (both (eqb a t) (eqb (cell_of v 9 k 5) y)) (ne_eqb (cell_of o 8 a 0) 2 (λ q. z (e ∙ q))))
 
-  pub no-reference : (x : ℕ) → x ≡ cell_of v 9 k 3 → (x ≡ 5 → ⊥) → Marked m (hits o v k a) m
+  pub no_reference : (x : ℕ) → x ≡ cell_of v 9 k 3 → (x ≡ 5 → ⊥) → Marked m (hits o v k a) m
   unfolding hits
-  no-reference x e z = unmarked m (hits o v k a) (λ t y _ _. second-out (eqb (cell_of o 8 a 0) 2) (eqb (cell_of v 9 k 3) 5) (both (eqb a t) (eqb (cell_of v 9 k 5) y)) (ne_eqb (cell_of v 9 k 3) 5 (λ q. z (e ∙ q))))
+  no_reference x e z = unmarked m (hits o v k a) (λ t y _ _. second_out (eqb (cell_of o 8 a 0) 2) (eqb (cell_of v 9 k 3) 5) (both (eqb a t) (eqb (cell_of v 9 k 5) y)) (ne_eqb (cell_of v 9 k 3) 5 (λ q. z (e ∙ q))))
 
   pub no_room : 256 ≤ a → Marked m (hits o v k a) m
   unfolding hits
-  no_room h = unmarked m (hits o v k a) (λ t y c _. third-out (eqb (cell_of o 8 a 0) 2) (eqb (cell_of v 9 k 3) 5) (eqb a t) (eqb (cell_of v 9 k 5) y) (ne_eqb a t (λ (q : a ≡ t). omega (arith, h, c, q))))
+  no_room h = unmarked m (hits o v k a) (λ t y c _. third_out (eqb (cell_of o 8 a 0) 2) (eqb (cell_of v 9 k 3) 5) (eqb a t) (eqb (cell_of v 9 k 5) y) (ne_eqb a t (λ (q : a ≡ t). omega (arith, h, c, q))))
 
-  pub no-column : (x : ℕ) → x ≡ cell_of v 9 k 5 → 256 ≤ x → Marked m (hits o v k a) m
+  pub no_column : (x : ℕ) → x ≡ cell_of v 9 k 5 → 256 ≤ x → Marked m (hits o v k a) m
   unfolding hits
-  no-column x e h = unmarked m (hits o v k a) (λ t y _ c. fourth-out (eqb (cell_of o 8 a 0) 2) (eqb (cell_of v 9 k 3) 5) (eqb a t) (eqb (cell_of v 9 k 5) y) (ne_eqb (cell_of v 9 k 5) y (λ (q : cell_of v 9 k 5 ≡ y). let w : x ≡ y = e ∙ q in omega (arith, h, c, w))))
+  no_column x e h = unmarked m (hits o v k a) (λ t y _ c. fourth_out (eqb (cell_of o 8 a 0) 2) (eqb (cell_of v 9 k 3) 5) (eqb a t) (eqb (cell_of v 9 k 5) y) (ne_eqb (cell_of v 9 k 5) y (λ (q : cell_of v 9 k 5 ≡ y). let w : x ≡ y = e ∙ q in omega (arith, h, c, w))))
 
   pub marked : (w s x : ℕ) → length m ≡ 65536 → w ≡ cell_of o 8 a 0 → w ≡ 2 → s ≡ cell_of v 9 k 3 → s ≡ 5 → x ≡ cell_of v 9 k 5 → a < 256 → x < 256 → Marked m (hits o v k a) (set m (a * 256 + x) 1)
   unfolding hits

@@ -28,30 +28,30 @@ use Rattle.scopes.specs.Situations.{Situation, HasDefinition, this_definition, l
 use Rattle.scopes.proofs.Descents.{scope_facts, scope_of_kind}
 use Rattle.lookups.proofs.Standings.{words_definition, file_stands}
 use Rattle.writing.specs.Promises.{From}
-use Rattle.writing.proofs.Froms.{from_cell, from-append, from_room}
+use Rattle.writing.proofs.Froms.{from_cell, from_append, from_room}
 use Rattle.masks.specs.Events.{is_uint64, is_mask, has_mask, plannable}
 use Rattle.masks.specs.Members.{mask_row, some_row, defines_mask}
 
 -- The row's test ---------------------------------------------------------------------------------------------------------------------------
 
 module _ (s d : List ℕ) (p j x : ℕ) (e : x ≡ cell_of d 13 j 0) where
-  pub under-other : (x ≡ p → ⊥) → false ≡ mask_row s d p j
+  pub under_other : (x ≡ p → ⊥) → false ≡ mask_row s d p j
   unfolding mask_row
-  under-other z = ap (λ (b : Bool). both b (both (eqb (cell_of d 13 j 12) 37) (both (eqb (cell_of d 13 j 6) 0) (same (row_name s d 13 2 j) (bytes_of "MASK"))))) (sym (ne_eqb (cell_of d 13 j 0) p (λ q. z (e ∙ q))))
+  under_other z = ap (λ (b : Bool). both b (both (eqb (cell_of d 13 j 12) 37) (both (eqb (cell_of d 13 j 6) 0) (same (row_name s d 13 2 j) (bytes_of "MASK"))))) (sym (ne_eqb (cell_of d 13 j 0) p (λ q. z (e ∙ q))))
 
   module _ (h : x ≡ p) where
     under_same : (b : Bool) → both (eqb (cell_of d 13 j 0) p) b ≡ b
     under_same b = ap (λ (c : Bool). both c b) (eq-eqb (cell_of d 13 j 0) p (sym e ∙ h))
 
-    pub other-type : (y : ℕ) → y ≡ cell_of d 13 j 12 → (y ≡ 37 → ⊥) → false ≡ mask_row s d p j
+    pub other_type : (y : ℕ) → y ≡ cell_of d 13 j 12 → (y ≡ 37 → ⊥) → false ≡ mask_row s d p j
     unfolding mask_row
-    other-type y f z =
+    other_type y f z =
         sym (under_same (both (eqb (cell_of d 13 j 12) 37) (both (eqb (cell_of d 13 j 6) 0) (same (row_name s d 13 2 j) (bytes_of "MASK"))))
         ∙ ap (λ (b : Bool). both b (both (eqb (cell_of d 13 j 6) 0) (same (row_name s d 13 2 j) (bytes_of "MASK")))) (ne_eqb (cell_of d 13 j 12) 37 (λ q. z (f ∙ q))))
 
-    pub a-list : (y u : ℕ) → y ≡ cell_of d 13 j 12 → y ≡ 37 → u ≡ cell_of d 13 j 6 → (u ≡ 0 → ⊥) → false ≡ mask_row s d p j
+    pub a_list : (y u : ℕ) → y ≡ cell_of d 13 j 12 → y ≡ 37 → u ≡ cell_of d 13 j 6 → (u ≡ 0 → ⊥) → false ≡ mask_row s d p j
     unfolding mask_row
-    a-list y u f g i z =
+    a_list y u f g i z =
         sym (under_same (both (eqb (cell_of d 13 j 12) 37) (both (eqb (cell_of d 13 j 6) 0) (same (row_name s d 13 2 j) (bytes_of "MASK"))))
         ∙ ap₂ (λ (b c : Bool). both b (both c (same (row_name s d 13 2 j) (bytes_of "MASK")))) (eq-eqb (cell_of d 13 j 12) 37 (sym f ∙ g)) (ne_eqb (cell_of d 13 j 6) 0 (λ q. z (i ∙ q))))
 
@@ -70,16 +70,16 @@ module _ (s d : List ℕ) (p n : ℕ) where
   unfolding defines_mask
   no_place e = ap (λ (b : Bool). pick b false (some_row (mask_row s d p) n 0)) (sym (eq-eqb p 0 e))
 
-  some-place : (p ≡ 0 → ⊥) → defines_mask s d p n ≡ some_row (mask_row s d p) n 0
+  some_place : (p ≡ 0 → ⊥) → defines_mask s d p n ≡ some_row (mask_row s d p) n 0
   unfolding defines_mask
-  some-place h = ap (λ (b : Bool). pick b false (some_row (mask_row s d p) n 0)) (ne_eqb p 0 h)
+  some_place h = ap (λ (b : Bool). pick b false (some_row (mask_row s d p) n 0)) (ne_eqb p 0 h)
 
   -- The rows from j on decide.
   abbrev pub Seeks : ℕ → Type 0
   Seeks j = some_row (mask_row s d p) (n - j) j ≡ defines_mask s d p n
 
-  pub seeks-start : (p ≡ 0 → ⊥) → Seeks 0
-  seeks-start h = let e : n - 0 ≡ n = omega arith in ap (λ (c : ℕ). some_row (mask_row s d p) c 0) e ∙ sym (some-place h)
+  pub seeks_start : (p ≡ 0 → ⊥) → Seeks 0
+  seeks_start h = let e : n - 0 ≡ n = omega arith in ap (λ (c : ℕ). some_row (mask_row s d p) c 0) e ∙ sym (some_place h)
 
   next_row : (j : ℕ) → j < n → some_row (mask_row s d p) (n - j) j ≡ either (mask_row s d p j) (some_row (mask_row s d p) (n - (j + 1)) (j + 1))
   unfolding some_row
@@ -87,15 +87,15 @@ module _ (s d : List ℕ) (p n : ℕ) where
       let e : n - j ≡ suc (n - (j + 1)) = omega (arith, h) in
       ap (λ (c : ℕ). some_row (mask_row s d p) c j) e ∙ ap (λ (i : ℕ). either (mask_row s d p j) (some_row (mask_row s d p) (n - (j + 1)) i)) (sym (add-one j))
 
-  pub seeks-stop : (j : ℕ) → j < n → true ≡ mask_row s d p j → Seeks j → true ≡ defines_mask s d p n
-  seeks-stop j h e q = ap (λ (b : Bool). either b (some_row (mask_row s d p) (n - (j + 1)) (j + 1))) e ∙ sym (next_row j h) ∙ q
+  pub seeks_stop : (j : ℕ) → j < n → true ≡ mask_row s d p j → Seeks j → true ≡ defines_mask s d p n
+  seeks_stop j h e q = ap (λ (b : Bool). either b (some_row (mask_row s d p) (n - (j + 1)) (j + 1))) e ∙ sym (next_row j h) ∙ q
 
-  pub seeks-more : (j : ℕ) → j < n → false ≡ mask_row s d p j → Seeks j → Seeks (j + 1)
-  seeks-more j h e q = ap (λ (b : Bool). either b (some_row (mask_row s d p) (n - (j + 1)) (j + 1))) e ∙ sym (next_row j h) ∙ q
+  pub seeks_more : (j : ℕ) → j < n → false ≡ mask_row s d p j → Seeks j → Seeks (j + 1)
+  seeks_more j h e q = ap (λ (b : Bool). either b (some_row (mask_row s d p) (n - (j + 1)) (j + 1))) e ∙ sym (next_row j h) ∙ q
 
-  pub seeks-end : (j : ℕ) → n ≤ j → Seeks j → false ≡ defines_mask s d p n
+  pub seeks_end : (j : ℕ) → n ≤ j → Seeks j → false ≡ defines_mask s d p n
   unfolding some_row
-  seeks-end j h q = let e : n - j ≡ 0 = omega (arith, h) in sym (ap (λ (c : ℕ). some_row (mask_row s d p) c j) e) ∙ q
+  seeks_end j h q = let e : n - j ≡ 0 = omega (arith, h) in sym (ap (λ (c : ℕ). some_row (mask_row s d p) c j) e) ∙ q
 
 -- The rows and the scope ---------------------------------------------------------------------------------------------------------------------
 
@@ -126,25 +126,25 @@ rotated false b false = refl
 
 module _ (s : List ℕ) where
   -- The row is a single UINT64 attribute MASK.
-  unfoldable row-test : DefinitionRow → Bool
-  row-test r = both (is_uint64 r.typed) (both (not r.list) (same (part_of s r.name.place r.name.length) (bytes_of "MASK")))
+  unfoldable row_test : DefinitionRow → Bool
+  row_test r = both (is_uint64 r.typed) (both (not r.list) (same (part_of s r.name.place r.name.length) (bytes_of "MASK")))
 
-  unfoldable any-standing : List Standing → Bool
-  any-standing [] = false
-  any-standing (x ∷ xs) = let a = any-standing xs in either (row-test x.row) a
+  unfoldable any_standing : List Standing → Bool
+  any_standing [] = false
+  any_standing (x ∷ xs) = let a = any_standing xs in either (row_test x.row) a
 
   -- The definitions of a scope, whose names are in the text.
-  standing-mask : (u : Word) (ds : Definitions) → ((x : Defined) → HasDefinition ds x → WordIn s x.definition.name) → any-standing (standing u ds) ≡ has_mask ds
-  unfolding any-standing standing row-test definition_row span_of has_mask is_mask
-  standing-mask u no_more h = refl
-  standing-mask u (define d vs ds) h =
+  standing_mask : (u : Word) (ds : Definitions) → ((x : Defined) → HasDefinition ds x → WordIn s x.definition.name) → any_standing (standing u ds) ≡ has_mask ds
+  unfolding any_standing standing row_test definition_row span_of has_mask is_mask
+  standing_mask u no_more h = refl
+  standing_mask u (define d vs ds) h =
       ap₂ (λ (l : List ℕ) (b : Bool). either (both (is_uint64 d.type) (both (not d.list) (same l (bytes_of "MASK")))) b)
-      (sym (h (record { definition = d; values = vs }) this_definition).bytes) (standing-mask u ds (λ x k. h x (later_definition k)))
+      (sym (h (record { definition = d; values = vs }) this_definition).bytes) (standing_mask u ds (λ x k. h x (later_definition k)))
       ∙ ap (λ (b : Bool). either b (has_mask ds)) (rotated (is_uint64 d.type) (not d.list) (same d.name.bytes (bytes_of "MASK")))
 
   module _ (d : List ℕ) (n p : ℕ) where
-    test_is : (r : DefinitionRow) (rs : List DefinitionRow) (i : ℕ) → From 13 definition_cells d n i (r ∷ rs) → mask_row s d p i ≡ both (eqb r.under.place p) (row-test r)
-    unfolding mask_row row_name row-test definition_cells
+    test_is : (r : DefinitionRow) (rs : List DefinitionRow) (i : ℕ) → From 13 definition_cells d n i (r ∷ rs) → mask_row s d p i ≡ both (eqb r.under.place p) (row_test r)
+    unfolding mask_row row_name row_test definition_cells
     test_is r rs i h =
         let e0 = from_cell 13 definition_cells definition_width r rs 0 (omega arith) h in
         let e2 = from_cell 13 definition_cells definition_width r rs 2 (omega arith) h in
@@ -155,14 +155,14 @@ module _ (s : List ℕ) where
         (ap₂ both (ap (λ (c : ℕ). eqb c 37) e12 ∙ code_is r.typed)
         (ap₂ both (ap (λ (c : ℕ). eqb c 0) e6 ∙ bit_is r.list) (ap₂ (λ (a b : ℕ). same (part_of s a b) (bytes_of "MASK")) e2 e3)))
 
-    rows-select : (rs : List DefinitionRow) (i : ℕ) → From 13 definition_cells d n i rs → some_row (mask_row s d p) (length rs) i ≡ any-standing (select p i rs)
-    unfolding some_row select any-standing standing_if
-    rows-select [] i h = refl
-    rows-select (r ∷ rs) i h =
+    rows_select : (rs : List DefinitionRow) (i : ℕ) → From 13 definition_cells d n i rs → some_row (mask_row s d p) (length rs) i ≡ any_standing (select p i rs)
+    unfolding some_row select any_standing standing_if
+    rows_select [] i h = refl
+    rows_select (r ∷ rs) i h =
         let z : suc i ≡ i + 1 = omega arith in
-        ap₂ either (test_is r rs i h) (rows-select rs (suc i) (from-append 13 definition_cells definition_width (r ∷ []) rs z h)) ∙ go (eqb r.under.place p)
+        ap₂ either (test_is r rs i h) (rows_select rs (suc i) (from_append 13 definition_cells definition_width (r ∷ []) rs z h)) ∙ go (eqb r.under.place p)
       where
-        go : (b : Bool) → either (both b (row-test r)) (any-standing (select p (suc i) rs)) ≡ any-standing (standing_if b i r ++ select p (suc i) rs)
+        go : (b : Bool) → either (both b (row_test r)) (any_standing (select p (suc i) rs)) ≡ any_standing (standing_if b i r ++ select p (suc i) rs)
         go true = refl
         go false = refl
 
@@ -174,13 +174,13 @@ module _ {s d : List ℕ} {n : ℕ} {f : File} (t : Situation s f) (e : d ≡ de
   scope_is {p} (scope {u} {ds} q k) =
       let a = scope_facts t k in
       let g = a.good.later in
-      some-place s d p n (λ (z : p ≡ 0). omega (arith, z, q, g))
+      some_place s d p n (λ (z : p ≡ 0). omega (arith, z, q, g))
       ∙ ap (λ (c : ℕ). some_row (mask_row s d p) c 0) m
-      ∙ rows-select s d n p (all_definition_rows f.specs) 0 (from_room 13 definition_cells (512 * 13) (all_definition_rows f.specs) d n e m)
-      ∙ ap (λ (c : ℕ). any-standing s (select c 0 (all_definition_rows f.specs))) (sym q)
-      ∙ ap (any-standing s) a.scope
-      ∙ standing-mask s u ds (λ x h. (words_definition h (file_stands t k).1).1.0)
+      ∙ rows_select s d n p (all_definition_rows f.specs) 0 (from_room 13 definition_cells (512 * 13) (all_definition_rows f.specs) d n e m)
+      ∙ ap (λ (c : ℕ). any_standing s (select c 0 (all_definition_rows f.specs))) (sym q)
+      ∙ ap (any_standing s) a.scope
+      ∙ standing_mask s u ds (λ x h. (words_definition h (file_stands t k).1).1.0)
 
-  pub plannable-is : {p : ℕ} → p ≡ kind_place (kind_number EVENT) f.specs → defines_mask s d p n ≡ plannable f
+  pub plannable_is : {p : ℕ} → p ≡ kind_place (kind_number EVENT) f.specs → defines_mask s d p n ≡ plannable f
   unfolding plannable
-  plannable-is q = scope_is (subst (λ (i : ℕ). ScopeAt f i (of_kind EVENT f.specs)) (sym q) (scope_of_kind f EVENT))
+  plannable_is q = scope_is (subst (λ (i : ℕ). ScopeAt f i (of_kind EVENT f.specs)) (sym q) (scope_of_kind f EVENT))

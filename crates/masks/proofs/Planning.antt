@@ -10,11 +10,11 @@ use lib.Seq.{get_or-set_same, get_or-set_other}
 use lib.Dec.{ltb}
 use borrow.Author.Tests.{ltb-true, ltb-false, not-true, not-false}
 use Rattle.token.specs.Find.{find}
-use Rattle.token.proofs.Find.{find-holds, find-before}
+use Rattle.token.proofs.Find.{find_holds, find_before}
 use Rattle.meaning.specs.Words.{choose}
 use Rattle.masks.specs.Bits.{has}
 use Rattle.masks.specs.Masks.{Mask, given, automatic, Task, taken, lowest, before_plan, Plan, planned, full, plan_from, plan}
-use Rattle.masks.specs.Statements.{Together, this_task, later_task, Other, Kept, given-kept, auto-kept, Fine, Counts, by-given, by-earlier, Taken, Proposal, PlanBefore, FullAt}
+use Rattle.masks.specs.Statements.{Together, this_task, later_task, Other, Kept, given_kept, auto_kept, Fine, Counts, by_given, by_earlier, Taken, Proposal, PlanBefore, FullAt}
 use Rattle.masks.proofs.Powers.{has_zero, has_own, has_only}
 use Rattle.masks.proofs.Reflections.{not_both, Order, less, same, more, order, beside_true, beside_is, from_zero}
 
@@ -25,25 +25,25 @@ given_not_auto {g} e q = let z : ◌≡◌ {A = Mask} (given g) automatic = sym 
 
 -- By the sort of a mask.
 data Sort (r : Mask) : Type 0 where
-  a-given : (g : ℕ) → r ≡ given g → Sort r
+  a_given : (g : ℕ) → r ≡ given g → Sort r
   an_auto : r ≡ automatic → Sort r
 
 sort : (r : Mask) → Sort r
-sort (given g) = a-given g refl
+sort (given g) = a_given g refl
 sort automatic = an_auto refl
 
 -- What counts ------------------------------------------------------------------------------------------------------------------------------
 
 taken_as : {ts : List Task} {rs : List Mask} {l l' : List ℕ} {i k : ℕ} → ((j : ℕ) → j < length rs → Counts rs i j → get_or l j 0 ≡ get_or l' j 0) → Taken ts rs l i k → Taken ts rs l' i k
-taken_as {k = k} f t = record { at = t.at; other = t.other; counts = t.counts; has-it = ap (λ (m : ℕ). has m k) (sym (f t.at t.other.event t.counts)) ∙ t.has-it }
+taken_as {k = k} f t = record { at = t.at; other = t.other; counts = t.counts; has_it = ap (λ (m : ℕ). has m k) (sym (f t.at t.other.event t.counts)) ∙ t.has-it }
 
 -- One plan ---------------------------------------------------------------------------------------------------------------------------------
 
 module _ {ts : List Task} {rs : List Mask} {l l' : List ℕ} {i i' : ℕ} (a : PlanBefore ts rs l i) (b : PlanBefore ts rs l' i') where
   -- What counts for the event m is the same, if the earlier masks are.
   counted : (m : ℕ) → ((j : ℕ) → j < m → j < length rs → get_or l j 0 ≡ get_or l' j 0) → (j : ℕ) → j < length rs → Counts rs m j → get_or l j 0 ≡ get_or l' j 0
-  counted m f j h (by-given {g} e) = a.kept j g h e ∙ sym (b.kept j g h e)
-  counted m f j h (by-earlier q) = f j q h
+  counted m f j h (by_given {g} e) = a.kept j g h e ∙ sym (b.kept j g h e)
+  counted m f j h (by_earlier q) = f j q h
 
   one_bit : (m : ℕ) → ((j : ℕ) → j < length rs → Counts rs m j → get_or l j 0 ≡ get_or l' j 0) → (p : Proposal ts rs l m) → (q : Proposal ts rs l' m) → get_or l m 0 ≡ get_or l' m 0
   one_bit m f p q = go (order p.bit q.bit)
@@ -64,7 +64,7 @@ module _ {ts : List Task} {rs : List Mask} {l l' : List ℕ} {i i' : ℕ} (a : P
       go (same e) f = by (sort (get_or rs j automatic))
         where
           by : Sort (get_or rs j automatic) → get_or l j 0 ≡ get_or l' j 0
-          by (a-given g q) = a.kept j g d q ∙ sym (b.kept j g d q)
+          by (a_given g q) = a.kept j g d q ∙ sym (b.kept j g d q)
           by (an_auto q) =
               let u : j < i = omega (arith, h, e) in
               let v : j < i' = omega (arith, k, e) in
@@ -87,11 +87,11 @@ module _ (ts : List Task) (rs : List Mask) where
       let n = t.before.one_each in
       let h = b.other.event in
       let m : b.at < length rs = omega (arith, n, h) in
-      record { at = b.at; other = record { event = m; another = b.other.another; together = b.other.together }; counts = go b.at m b.holds (sort (get_or rs b.at automatic)) (order b.at i); has-it = b.holds }
+      record { at = b.at; other = record { event = m; another = b.other.another; together = b.other.together }; counts = go b.at m b.holds (sort (get_or rs b.at automatic)) (order b.at i); has_it = b.holds }
     where
       go : (j : ℕ) → j < length rs → has (get_or l j 0) k ≡ true → Sort (get_or rs j automatic) → Order j i → Counts rs i j
-      go j m y (a-given g q) o = by-given q
-      go j m y (an_auto q) (less h) = by-earlier h
+      go j m y (a_given g q) o = by_given q
+      go j m y (an_auto q) (less h) = by_earlier h
       go j m y (an_auto q) (same z) = let x : i ≤ j = omega (arith, z) in absurd (not_both y (ap (λ (n : ℕ). has n k) (t.later j x m q) ∙ has_zero k))
       go j m y (an_auto q) (more h) = let x : i ≤ j = omega (arith, h) in absurd (not_both y (ap (λ (n : ℕ). has n k) (t.later j x m q) ∙ has_zero k))
 
@@ -103,8 +103,8 @@ module _ (ts : List Task) (rs : List Mask) where
       beside_is ts i (λ x. has x k) l t.at (record { event = m; another = t.other.another; together = t.other.together }) t.has-it
 
   -- The next turn, after a given mask.
-  given-turn : {l : List ℕ} {i g : ℕ} → get_or rs i automatic ≡ given g → Turn l i → Turn l (suc i)
-  given-turn {l} {i} {g} e t = record {
+  given_turn : {l : List ℕ} {i g : ℕ} → get_or rs i automatic ≡ given g → Turn l i → Turn l (suc i)
+  given_turn {l} {i} {g} e t = record {
     before = record { one_each = t.before.one_each; kept = t.before.kept; proposed = λ j h c q. go j h c q (order j i) };
     later = λ j h c q. let x : i ≤ j = omega (arith, h) in t.later j x c q;
   }
@@ -115,9 +115,9 @@ module _ (ts : List Task) (rs : List Mask) where
       go j h c q (more x) = absurd (omega (arith, h, x))
 
   -- And after a proposal.
-  auto-turn : {l : List ℕ} {i : ℕ} → i < length rs → get_or rs i automatic ≡ automatic → Turn l i → lowest ts i l < 64 → Turn (set l i (2 ^ lowest ts i l)) (suc i)
+  auto_turn : {l : List ℕ} {i : ℕ} → i < length rs → get_or rs i automatic ≡ automatic → Turn l i → lowest ts i l < 64 → Turn (set l i (2 ^ lowest ts i l)) (suc i)
   unfolding lowest
-  auto-turn {l} {i} b e t h = record {
+  auto_turn {l} {i} b e t h = record {
     before = record { one_each = length-set l i (2 ^ k) ∙ t.before.one_each; kept = kept; proposed = λ j c d q. go j c d q (order j i) };
     later = λ j x c q. let y : i ≤ j = omega (arith, x) in let z : j ≡ i → ⊥ = λ (w : j ≡ i). omega (arith, x, w) in get_or-set_other l i j (2 ^ k) 0 z ∙ t.later j y c q;
   }
@@ -136,8 +136,8 @@ module _ (ts : List Task) (rs : List Mask) where
 
       -- What counts up to this turn is as before.
       still : (m : ℕ) → m ≤ i → (j : ℕ) → j < length rs → Counts rs m j → get_or l j 0 ≡ get_or l' j 0
-      still m x j c (by-given {g} q) = t.before.kept j g c q ∙ sym (kept j g c q)
-      still m x j c (by-earlier h) = sym (get_or-set_other l i j (2 ^ k) 0 (λ (w : j ≡ i). omega (arith, x, h, w)))
+      still m x j c (by_given {g} q) = t.before.kept j g c q ∙ sym (kept j g c q)
+      still m x j c (by_earlier h) = sym (get_or-set_other l i j (2 ^ k) 0 (λ (w : j ≡ i). omega (arith, x, h, w)))
 
       go : (j : ℕ) → j < suc i → j < length rs → get_or rs j automatic ≡ automatic → Order j i → Proposal ts rs l' j
       go j c d q (less x) =
@@ -157,15 +157,15 @@ module _ (ts : List Task) (rs : List Mask) where
             bit = k;
             below = h;
             is = get_or-set_same l i (2 ^ k) 0 inside;
-            outside = λ z. not_both (taken_is t.before.one_each (taken_as (λ m u v. sym (still i (omega arith) m u v)) z)) (not-true (taken ts i l k) (find-holds (λ n. not (taken ts i l n)) 64 0 (omega arith) h));
-            lowest = λ n u. taken_as (still i (omega arith)) (taken_true t (not-false (taken ts i l n) (find-before (λ n. not (taken ts i l n)) 64 0 n (omega arith) u)));
+            outside = λ z. not_both (taken_is t.before.one_each (taken_as (λ m u v. sym (still i (omega arith) m u v)) z)) (not-true (taken ts i l k) (find_holds (λ n. not (taken ts i l n)) 64 0 (omega arith) h));
+            lowest = λ n u. taken_as (still i (omega arith)) (taken_true t (not-false (taken ts i l n) (find_before (λ n. not (taken ts i l n)) 64 0 n (omega arith) u)));
           }
       go j c d q (more x) = absurd (omega (arith, c, x))
 
   -- What a run can come to.
   pub data Outcome : Plan → Type 0 where
-    a-plan : {l : List ℕ} → PlanBefore ts rs l (length rs) → Outcome (planned l)
-    no-plan : {i : ℕ} → FullAt ts rs i → Outcome (full i)
+    a_plan : {l : List ℕ} → PlanBefore ts rs l (length rs) → Outcome (planned l)
+    no_plan : {i : ℕ} → FullAt ts rs i → Outcome (full i)
 
   chosen : (b : Bool) {x y : Plan} → (b ≡ true → Outcome x) → (b ≡ false → Outcome y) → Outcome (choose b (λ _. x) (λ _. y))
   unfolding choose
@@ -174,12 +174,12 @@ module _ (ts : List Task) (rs : List Mask) where
 
   run : (left : List Mask) (l : List ℕ) (i : ℕ) → length rs ≡ i + length left → ((m : ℕ) → get_or rs (i + m) automatic ≡ get_or left m automatic) → Turn l i → Outcome (plan_from ts l i left)
   unfolding plan_from lowest
-  run [] l i n e t = let z : i ≡ length rs = omega (arith, n) in a-plan (subst (PlanBefore ts rs l) z t.before)
+  run [] l i n e t = let z : i ≡ length rs = omega (arith, n) in a_plan (subst (PlanBefore ts rs l) z t.before)
   run (given g ∷ left) l i n e t =
       let z : i ≡ i + 0 = omega arith in
       let q : get_or rs i automatic ≡ given g = ap (λ (x : ℕ). get_or rs x automatic) z ∙ e 0 in
       let y : length rs ≡ suc i + length left = omega (arith, n) in
-      run left l (suc i) y (λ m. let x : suc i + m ≡ i + suc m = omega arith in ap (λ (w : ℕ). get_or rs w automatic) x ∙ e (suc m)) (given-turn q t)
+      run left l (suc i) y (λ m. let x : suc i + m ≡ i + suc m = omega arith in ap (λ (w : ℕ). get_or rs w automatic) x ∙ e (suc m)) (given_turn q t)
   run (automatic ∷ left) l i n e t =
       let z : i ≡ i + 0 = omega arith in
       let q : get_or rs i automatic ≡ automatic = ap (λ (x : ℕ). get_or rs x automatic) z ∙ e 0 in
@@ -187,8 +187,8 @@ module _ (ts : List Task) (rs : List Mask) where
       let b : i < length rs = omega (arith, n) in
       let k = lowest ts i l in
       chosen (ltb k 64)
-      (λ h. run left (set l i (2 ^ k)) (suc i) y (λ m. let x : suc i + m ≡ i + suc m = omega arith in ap (λ (w : ℕ). get_or rs w automatic) x ∙ e (suc m)) (auto-turn b q t (ltb-true k 64 h)))
-      (λ h. no-plan (record { list = l; before = t.before; event = b; auto = q; all = λ m u. let v = ltb-false k 64 h in let w : m < k = omega (arith, u, v) in taken_true t (not-false (taken ts i l m) (find-before (λ x. not (taken ts i l x)) 64 0 m (omega arith) w)) }))
+      (λ h. run left (set l i (2 ^ k)) (suc i) y (λ m. let x : suc i + m ≡ i + suc m = omega arith in ap (λ (w : ℕ). get_or rs w automatic) x ∙ e (suc m)) (auto_turn b q t (ltb-true k 64 h)))
+      (λ h. no_plan (record { list = l; before = t.before; event = b; auto = q; all = λ m u. let v = ltb-false k 64 h in let w : m < k = omega (arith, u, v) in taken_true t (not-false (taken ts i l m) (find_before (λ x. not (taken ts i l x)) 64 0 m (omega arith) w)) }))
 
 before_length : (rs : List Mask) → length (before_plan rs) ≡ length rs
 unfolding before_plan
@@ -222,12 +222,12 @@ outcome ts rs =
     })
 
 of_planned : {ts : List Task} {rs : List Mask} {l : List ℕ} {p : Plan} → Outcome ts rs p → p ≡ planned l → PlanBefore ts rs l (length rs)
-of_planned {ts} {rs} {l} (a-plan {l = m} b) e = let z : m ≡ l = cc in subst (λ (x : List ℕ). PlanBefore ts rs x (length rs)) z b
-of_planned (no-plan f) e = absurd (let y : ◌≡◌ {A = ℕ} 0 1 = cc in omega (arith, y))
+of_planned {ts} {rs} {l} (a_plan {l = m} b) e = let z : m ≡ l = cc in subst (λ (x : List ℕ). PlanBefore ts rs x (length rs)) z b
+of_planned (no_plan f) e = absurd (let y : ◌≡◌ {A = ℕ} 0 1 = cc in omega (arith, y))
 
 of_full : {ts : List Task} {rs : List Mask} {i : ℕ} {p : Plan} → Outcome ts rs p → p ≡ full i → FullAt ts rs i
-of_full (a-plan b) e = absurd (let y : ◌≡◌ {A = ℕ} 0 1 = cc in omega (arith, y))
-of_full {ts} {rs} {i} (no-plan {i = j} f) e = let z : j ≡ i = cc in subst (FullAt ts rs) z f
+of_full (a_plan b) e = absurd (let y : ◌≡◌ {A = ℕ} 0 1 = cc in omega (arith, y))
+of_full {ts} {rs} {i} (no_plan {i = j} f) e = let z : j ≡ i = cc in subst (FullAt ts rs) z f
 
 -- A PLAN gives each AUTO event "the lowest bit outside the given masks and the earlier proposals, both only of events that share a task with it".
 pub plans : (ts : List Task) (rs : List Mask) (l : List ℕ) → plan ts rs ≡ planned l → PlanBefore ts rs l (length rs)
@@ -245,8 +245,8 @@ no_bit {ts} {rs} {i} {j} {l} f b h =
     p.outside (taken_as (counted f.before b i (agree f.before b i (omega arith) x)) (f.all p.bit p.below))
 
 refused_so : {ts : List Task} {rs : List Mask} {i : ℕ} {p : Plan} → FullAt ts rs i → Outcome ts rs p → p ≡ full i
-refused_so f (a-plan b) = absurd (no_bit f b f.event)
-refused_so {i = i} f (no-plan {i = j} g) = go (order i j)
+refused_so f (a_plan b) = absurd (no_bit f b f.event)
+refused_so {i = i} f (no_plan {i = j} g) = go (order i j)
   where
     go : Order i j → full j ≡ full i
     go (less h) = absurd (no_bit f g.before h)
@@ -284,19 +284,19 @@ plan_fine ts rs l b = record { one_each = b.one_each; each = λ i h. each i h (s
         own = record { event = inside; another = o.another; together = o.together }
 
         go : Sort (get_or rs j automatic) → Order j i → ⊥
-        go (a-given g e) u = p.outside (record { at = j; other = own; counts = by-given e; has-it = y })
-        go (an_auto e) (less u) = p.outside (record { at = j; other = own; counts = by-earlier u; has-it = y })
+        go (a_given g e) u = p.outside (record { at = j; other = own; counts = by_given e; has_it = y })
+        go (an_auto e) (less u) = p.outside (record { at = j; other = own; counts = by_earlier u; has_it = y })
         go (an_auto e) (same u) = o.another (sym u)
         go (an_auto e) (more u) =
             let r = b.proposed j inside inside e in
             let k : r.bit ≡ p.bit = has_only r.bit p.bit (ap (λ (m : ℕ). has m p.bit) (sym r.is) ∙ y) in
-            r.outside (record { at = i; other = other_turned h own; counts = by-earlier u; has-it = ap (λ (m : ℕ). has m r.bit) p.is ∙ ap (has (2 ^ p.bit)) k ∙ has_own p.bit })
+            r.outside (record { at = i; other = other_turned h own; counts = by_earlier u; has_it = ap (λ (m : ℕ). has m r.bit) p.is ∙ ap (has (2 ^ p.bit)) k ∙ has_own p.bit })
 
     each : (i : ℕ) → i < length rs → Sort (get_or rs i automatic) → Kept ts l i (get_or rs i automatic)
-    each i h (a-given g q) = subst (Kept ts l i) (sym q) (given-kept (b.kept i g h q))
+    each i h (a_given g q) = subst (Kept ts l i) (sym q) (given_kept (b.kept i g h q))
     each i h (an_auto q) =
         let p = b.proposed i h h q in
         subst (Kept ts l i) (sym q)
-        (auto-kept (record { bit = p.bit; below = p.below; is = p.is }) (λ j o k c x y.
+        (auto_kept (record { bit = p.bit; below = p.below; is = p.is }) (λ j o k c x y.
         let e : p.bit ≡ k = has_only p.bit k (ap (λ (m : ℕ). has m k) (sym p.is) ∙ x) in
         apart i j h q o (ap (has (get_or l j 0)) e ∙ y) (sort (get_or rs j automatic)) (order j i)))

@@ -16,7 +16,7 @@ use Rattle.meaning.specs.Kinds.{same_kind}
 use Rattle.meaning.specs.Cells.{owner_sort, owner_row, value_sort, value_amount, value_cells}
 use Rattle.meaning.proofs.Rooms.{value_width}
 use Rattle.writing.specs.Promises.{From}
-use Rattle.writing.proofs.Froms.{from_cell, from-append}
+use Rattle.writing.proofs.Froms.{from_cell, from_append}
 use Rattle.meaning.specs.Resolving.{Value, number, truth, auto, string, float, enumerator, object, object_values, all_values, Resolved, end, resolved, Owner, of_object, of_value, ValueRow, value_row, value_rows, all_value_rows, how_many_values}
 use Rattle.masks.specs.Events.{leads, refers, tasks_in}
 use Rattle.masks.specs.Masks.{Task, meets, beside}
@@ -32,19 +32,19 @@ both_either false a b c = refl
 
 -- The rows of values of the object o, and rows behind them.
 module _ (o t x : ℕ) where
-  rows-refer : (r : Resolved) (n : ℕ) (w : Owner) (rest : List ValueRow) → owner_now w o ≡ o
+  rows_refer : (r : Resolved) (n : ℕ) (w : Owner) (rest : List ValueRow) → owner_now w o ≡ o
       → row_refers (value_rows r n w ++ rest) o t x ≡ either (both (eqb o t) (refers x r)) (row_refers rest o t x)
   unfolding value_rows value_row row_refers refers owner_now
-  rows-refer end n w rest e = sym (nothing (eqb o t) (row_refers rest o t x))
+  rows_refer end n w rest e = sym (nothing (eqb o t) (row_refers rest o t x))
     where
       nothing : (b c : Bool) → either (both b false) c ≡ c
       nothing true c = refl
       nothing false c = refl
-  rows-refer (resolved v us more) n w rest e =
+  rows_refer (resolved v us more) n w rest e =
       ap (λ (q : ℕ). either (both (eqb q t) (leads x v.value)) (row_refers ((value_rows us (suc n) (of_value n) ++ value_rows more (suc n + how_many_values us) w) ++ rest) q t x)) e
       ∙ ap (λ (l : List ValueRow). either (both (eqb o t) (leads x v.value)) (row_refers l o t x)) (append_assoc (value_rows us (suc n) (of_value n)) (value_rows more (suc n + how_many_values us) w) rest)
-      ∙ ap (either (both (eqb o t) (leads x v.value))) (rows-refer us (suc n) (of_value n) (value_rows more (suc n + how_many_values us) w ++ rest) refl
-      ∙ ap (either (both (eqb o t) (refers x us))) (rows-refer more (suc n + how_many_values us) w rest e))
+      ∙ ap (either (both (eqb o t) (leads x v.value))) (rows_refer us (suc n) (of_value n) (value_rows more (suc n + how_many_values us) w ++ rest) refl
+      ∙ ap (either (both (eqb o t) (refers x us))) (rows_refer more (suc n + how_many_values us) w rest e))
       ∙ ap (either (both (eqb o t) (leads x v.value))) (both_either (eqb o t) (refers x us) (refers x more) (row_refers rest o t x))
       ∙ both_either (eqb o t) (leads x v.value) (either (refers x us) (refers x more)) (row_refers rest o t x)
 
@@ -61,7 +61,7 @@ unfolding all_value_rows row_refers refers_nth owner_now
 all_refer [] o n a t x = refl
 all_refer (y ∷ ys) o n a t x =
     any_before (y ∷ ys) o n a o t x
-    ∙ rows-refer o t x y n (of_object o) (all_value_rows ys (suc o) (n + how_many_values y)) refl
+    ∙ rows_refer o t x y n (of_object o) (all_value_rows ys (suc o) (n + how_many_values y)) refl
     ∙ ap (either (both (eqb o t) (refers x y))) (all_refer ys (suc o) (n + how_many_values y) o t x)
 
 -- The cells of the rows --------------------------------------------------------------------------------------------------------------------
@@ -97,19 +97,19 @@ both_out true a b = refl
 both_out false a b = refl
 
 module _ (o v : List ℕ) (n t x : ℕ) where
-  hits-is : (k a : ℕ) (w : Value) → cell_of v 9 k 3 ≡ value_sort w → cell_of v 9 k 5 ≡ value_amount w → hits o v k a t x ≡ both (eqb (cell_of o 8 t 0) 2) (both (eqb a t) (leads x w))
+  hits_is : (k a : ℕ) (w : Value) → cell_of v 9 k 3 ≡ value_sort w → cell_of v 9 k 5 ≡ value_amount w → hits o v k a t x ≡ both (eqb (cell_of o 8 t 0) 2) (both (eqb a t) (leads x w))
   unfolding hits
-  hits-is k a w e q =
+  hits_is k a w e q =
       ap₂ (λ (s m : ℕ). both (both (eqb (cell_of o 8 a 0) 2) (eqb s 5)) (both (eqb a t) (eqb m x))) e q
       ∙ both_four (eqb (cell_of o 8 a 0) 2) (eqb (value_sort w) 5) (eqb a t) (eqb (value_amount w) x)
       ∙ ap (λ (b : Bool). both (eqb (cell_of o 8 a 0) 2) (both (eqb a t) b)) (leads_is w x)
       ∙ same_under (λ i. eqb (cell_of o 8 i 0) 2) a t (leads x w) (cases (eqb a t))
 
   -- The cells of the values refer as their rows do, for a task.
-  pub cells-refer : (rs : List ValueRow) (k a : ℕ) → From 9 value_cells v n k rs → refers_at o v (length rs) k a t x ≡ both (eqb (cell_of o 8 t 0) 2) (row_refers rs a t x)
+  pub cells_refer : (rs : List ValueRow) (k a : ℕ) → From 9 value_cells v n k rs → refers_at o v (length rs) k a t x ≡ both (eqb (cell_of o 8 t 0) 2) (row_refers rs a t x)
   unfolding refers_at row_refers object_at value_cells
-  cells-refer [] k a h = sym (both_false (eqb (cell_of o 8 t 0) 2))
-  cells-refer (r ∷ rs) k a h =
+  cells_refer [] k a h = sym (both_false (eqb (cell_of o 8 t 0) 2))
+  cells_refer (r ∷ rs) k a h =
       let e1 = from_cell 9 value_cells value_width r rs 1 (omega arith) h in
       let e2 = from_cell 9 value_cells value_width r rs 2 (omega arith) h in
       let e3 = from_cell 9 value_cells value_width r rs 3 (omega arith) h in
@@ -117,8 +117,8 @@ module _ (o v : List ℕ) (n t x : ℕ) where
       let z : suc k ≡ k + 1 = omega arith in
       let m : object_at v k a ≡ owner_now r.owner a = ap₂ (λ (i j : ℕ). pick (eqb i 0) j a) e1 e2 ∙ now_is r.owner a in
       ap (λ (i : ℕ). either (hits o v k i t x) (refers_at o v (length rs) (suc k) i t x)) m
-      ∙ ap₂ either (hits-is k (owner_now r.owner a) r.value e3 e5)
-      (cells-refer rs (suc k) (owner_now r.owner a) (from-append 9 value_cells value_width (r ∷ []) rs z h))
+      ∙ ap₂ either (hits_is k (owner_now r.owner a) r.value e3 e5)
+      (cells_refer rs (suc k) (owner_now r.owner a) (from_append 9 value_cells value_width (r ∷ []) rs z h))
       ∙ both_out (eqb (cell_of o 8 t 0) 2) (both (eqb (owner_now r.owner a) t) (leads x r.value)) (row_refers rs (owner_now r.owner a) t x)
 
 -- The references of the objects --------------------------------------------------------------------------------------------------------------
@@ -164,19 +164,19 @@ module _ (f : File) (marks rows es : List ℕ) (i : ℕ) (p : ℕ → Bool) (l :
       let w : t < o + length (x ∷ xs) = omega (arith, b) in
       h t j u w c ∙ ap₂ both (ap (λ (y : Bool). pick y (same_kind TASK x.kind) (task_kind xs (suc o) t)) (ne_eqb o t (λ (z : o ≡ t). omega (arith, q, z)))) (later_refers (object_values f x) (all_values f xs) o t (get_or es j 0) q)
 
-  own-marks : (x : Object) (xs : List Object) (o : ℕ) → Marks (x ∷ xs) o → (j : ℕ) → j < length l → task_at marks rows o j ≡ both (same_kind TASK x.kind) (refers (get_or es j 0) (object_values f x))
+  own_marks : (x : Object) (xs : List Object) (o : ℕ) → Marks (x ∷ xs) o → (j : ℕ) → j < length l → task_at marks rows o j ≡ both (same_kind TASK x.kind) (refers (get_or es j 0) (object_values f x))
   unfolding all_values task_kind
-  own-marks x xs o h j c =
+  own_marks x xs o h j c =
       h o j (omega arith) (omega arith) c ∙ ap₂ both (ap (λ (y : Bool). pick y (same_kind TASK x.kind) (task_kind xs (suc o) o)) (eq-eqb o o refl)) (own_refers (object_values f x) (all_values f xs) o (get_or es j 0))
 
   -- The marked tasks are those of the file.
-  pub beside-tasks : (xs : List Object) (o : ℕ) → Marks xs o → beside (tasks_at marks rows (length xs) o) i p l ≡ beside (tasks_in f es xs) i p l
+  pub beside_tasks : (xs : List Object) (o : ℕ) → Marks xs o → beside (tasks_at marks rows (length xs) o) i p l ≡ beside (tasks_in f es xs) i p l
   unfolding tasks_at beside tasks_in
-  beside-tasks [] o h = refl
-  beside-tasks (x ∷ xs) o h = go (cases (same_kind TASK x.kind)) (beside-tasks xs (suc o) (next_marks x xs o h))
+  beside_tasks [] o h = refl
+  beside_tasks (x ∷ xs) o h = go (cases (same_kind TASK x.kind)) (beside_tasks xs (suc o) (next_marks x xs o h))
     where
       own : (j : ℕ) → j < length l → task_at marks rows o j ≡ both (same_kind TASK x.kind) (refers (get_or es j 0) (object_values f x))
-      own = own-marks x xs o h
+      own = own_marks x xs o h
 
       go : Cases (same_kind TASK x.kind) → beside (tasks_at marks rows (length xs) (suc o)) i p l ≡ beside (tasks_in f es xs) i p l
           → either (both (task_at marks rows o i) (meets (task_at marks rows o) i p l 0)) (beside (tasks_at marks rows (length xs) (suc o)) i p l)

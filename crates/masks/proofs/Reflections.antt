@@ -13,7 +13,7 @@ use Rattle.token.specs.Find.{pick, both, either}
 use Rattle.token.proofs.Bytes.{both_true, both_second}
 use Rattle.masks.specs.Bits.{has, some_below, single, common}
 use Rattle.masks.specs.Masks.{Mask, given, automatic, Task, meets, beside, keeps}
-use Rattle.masks.specs.Statements.{Together, this_task, later_task, Other, OneBit, Apart, Kept, given-kept, auto-kept}
+use Rattle.masks.specs.Statements.{Together, this_task, later_task, Other, OneBit, Apart, Kept, given_kept, auto_kept}
 
 -- Truth ------------------------------------------------------------------------------------------------------------------------------------
 
@@ -96,7 +96,7 @@ some_below_is (suc n) p k h e = go (cases (eqb k n)) (λ r. some_below_is n p k 
 pub record Met (t : Task) (i : ℕ) (p : ℕ → Bool) (ns : List ℕ) (j : ℕ) : Type 0 where
   pub at : ℕ
   pub inside : at < length ns
-  pub in-task : t (j + at) ≡ true
+  pub in_task : t (j + at) ≡ true
   pub another : i ≡ j + at → ⊥
   pub holds : p (get_or ns at 0) ≡ true
 
@@ -110,12 +110,12 @@ meets_true t i p (n ∷ ns) j e = go (cases (both (both (t j) (not (eqb i j))) (
         let a = both_true (both (t j) (not (eqb i j))) (p n) q in
         let z : j ≡ j + 0 = omega arith in
         let d = eqb-false i j (not-true (eqb i j) (both_second (t j) (not (eqb i j)) a)) in
-        record { at = 0; inside = omega arith; in-task = ap t (sym z) ∙ both_true (t j) (not (eqb i j)) a; another = λ x. d (x ∙ sym z); holds = both_second (both (t j) (not (eqb i j))) (p n) q }
+        record { at = 0; inside = omega arith; in_task = ap t (sym z) ∙ both_true (t j) (not (eqb i j)) a; another = λ x. d (x ∙ sym z); holds = both_second (both (t j) (not (eqb i j))) (p n) q }
     go (no q) f =
         let r = f (of_either (both (both (t j) (not (eqb i j))) (p n)) (meets t i p ns (suc j)) e q) in
         let h = r.inside in
         let z : suc j + r.at ≡ j + suc r.at = omega arith in
-        record { at = suc r.at; inside = omega (arith, h); in-task = ap t (sym z) ∙ r.in-task; another = λ x. r.another (x ∙ sym z); holds = r.holds }
+        record { at = suc r.at; inside = omega (arith, h); in_task = ap t (sym z) ∙ r.in-task; another = λ x. r.another (x ∙ sym z); holds = r.holds }
 
 pub meets_is : (t : Task) (i : ℕ) (p : ℕ → Bool) (ns : List ℕ) (j m : ℕ) → m < length ns → t (j + m) ≡ true → (i ≡ j + m → ⊥) → p (get_or ns m 0) ≡ true → meets t i p ns j ≡ true
 unfolding meets
@@ -176,11 +176,11 @@ common_true m n e a =
 
 pub keeps_true : (ts : List Task) (l : List ℕ) (i : ℕ) (r : Mask) → keeps ts l i r (get_or l i 0) ≡ true → Kept ts l i r
 unfolding keeps
-keeps_true ts l i (given g) e = given-kept (eqb-true (get_or l i 0) g e)
+keeps_true ts l i (given g) e = given_kept (eqb-true (get_or l i 0) g e)
 keeps_true ts l i automatic e =
     let s = both_true (single (get_or l i 0)) (not (beside ts i (common (get_or l i 0)) l)) e in
     let b = not-true (beside ts i (common (get_or l i 0)) l) (both_second (single (get_or l i 0)) (not (beside ts i (common (get_or l i 0)) l)) e) in
-    auto-kept (single_true (get_or l i 0) s) (λ j o. common_false (get_or l i 0) (get_or l j 0) (go j o b))
+    auto_kept (single_true (get_or l i 0) s) (λ j o. common_false (get_or l i 0) (get_or l j 0) (go j o b))
   where
     go : (j : ℕ) → Other ts (length l) i j → beside ts i (common (get_or l i 0)) l ≡ false → common (get_or l i 0) (get_or l j 0) ≡ false
     go j o b = by (cases (common (get_or l i 0) (get_or l j 0)))
@@ -191,8 +191,8 @@ keeps_true ts l i automatic e =
 
 pub keeps_is : (ts : List Task) (l : List ℕ) (i : ℕ) (r : Mask) → Kept ts l i r → keeps ts l i r (get_or l i 0) ≡ true
 unfolding keeps
-keeps_is ts l i (given g) (given-kept e) = eq-eqb (get_or l i 0) g e
-keeps_is ts l i automatic (auto-kept o a) = both_intro (single_is (get_or l i 0) o) (not_yes (by (cases (beside ts i (common (get_or l i 0)) l))))
+keeps_is ts l i (given g) (given_kept e) = eq-eqb (get_or l i 0) g e
+keeps_is ts l i automatic (auto_kept o a) = both_intro (single_is (get_or l i 0) o) (not_yes (by (cases (beside ts i (common (get_or l i 0)) l))))
   where
     by : Cases (beside ts i (common (get_or l i 0)) l) → beside ts i (common (get_or l i 0)) l ≡ false
     by (yes q) = let r = beside_true ts i (common (get_or l i 0)) l q in absurd (common_true (get_or l i 0) (get_or l r.at 0) r.holds (a r.at r.other))

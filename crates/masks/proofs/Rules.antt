@@ -63,17 +63,17 @@ common_power m n o = go (cases (has n o.bit))
 -- The checker's rule -----------------------------------------------------------------------------------------------------------------------
 
 module _ (ts : List Task) (l t : List ℕ) (i m x : ℕ) (e : x ≡ get_or t (i * 2 + 0) 0) where
-  pub rule-given : (g : ℕ) → x ≡ 0 → g ≡ get_or t (i * 2 + 1) 0 → eqb m g ≡ keeps ts l i (mask_at t i) m
+  pub rule_given : (g : ℕ) → x ≡ 0 → g ≡ get_or t (i * 2 + 1) 0 → eqb m g ≡ keeps ts l i (mask_at t i) m
   unfolding keeps
-  rule-given g z q = ap (λ (r : Mask). keeps ts l i r m) (sym (mask_given t i x g e z q))
+  rule_given g z q = ap (λ (r : Mask). keeps ts l i r m) (sym (mask_given t i x g e z q))
 
-  pub rule-many : (x ≡ 0 → ⊥) → single m ≡ false → false ≡ keeps ts l i (mask_at t i) m
+  pub rule_many : (x ≡ 0 → ⊥) → single m ≡ false → false ≡ keeps ts l i (mask_at t i) m
   unfolding keeps
-  rule-many z q = ap (λ (b : Bool). both b (not (beside ts i (common m) l))) (sym q) ∙ ap (λ (r : Mask). keeps ts l i r m) (sym (mask_auto t i x e z))
+  rule_many z q = ap (λ (b : Bool). both b (not (beside ts i (common m) l))) (sym q) ∙ ap (λ (r : Mask). keeps ts l i r m) (sym (mask_auto t i x e z))
 
-  pub rule-clash : (x ≡ 0 → ⊥) → single m ≡ true → (b : Bool) → b ≡ beside ts i (has_power m) l → not b ≡ keeps ts l i (mask_at t i) m
+  pub rule_clash : (x ≡ 0 → ⊥) → single m ≡ true → (b : Bool) → b ≡ beside ts i (has_power m) l → not b ≡ keeps ts l i (mask_at t i) m
   unfolding keeps
-  rule-clash z q b h =
+  rule_clash z q b h =
       let o = single_true m q in
       let f : ◌≡◌ {A = ℕ → Bool} (has_power m) (common m) = λ j n. sym (common_power m n o) j in
       ap not (h ∙ ap (λ (p : ℕ → Bool). beside ts i p l) f)
@@ -95,22 +95,22 @@ module _ (ts : List Task) (t l : List ℕ) where
   abbrev pub left : ℕ → Option ℕ
   left i = breaking ts l i (masks_at t (length l - i) i) (drop i l)
 
-  left-next : (i : ℕ) → i < length l → left i ≡ choose (keeps ts l i (mask_at t i) (get_or l i 0)) (λ _. left (i + 1)) (λ _. some i)
+  left_next : (i : ℕ) → i < length l → left i ≡ choose (keeps ts l i (mask_at t i) (get_or l i 0)) (λ _. left (i + 1)) (λ _. some i)
   unfolding breaking
-  left-next i h =
+  left_next i h =
       ap₂ (λ (rs : List Mask) (ms : List ℕ). breaking ts l i rs ms) (masks_here t (length l) i h) (drop_here l i h)
       ∙ ap (λ (k : ℕ). choose (keeps ts l i (mask_at t i) (get_or l i 0)) (λ _. breaking ts l k (masks_at t (length l - (i + 1)) (i + 1)) (drop (i + 1) l)) (λ _. some i)) (sym (add-one i))
 
   pub left_start : left 0 ≡ breaking ts l 0 (masks_at t (length l) 0) l
   left_start = let e : length l - 0 ≡ length l = omega arith in ap (λ (n : ℕ). breaking ts l 0 (masks_at t n 0) l) e
 
-  pub left-stop : (i : ℕ) (o : Option ℕ) → i < length l → keeps ts l i (mask_at t i) (get_or l i 0) ≡ false → left i ≡ o → At i ≡ found_of o
+  pub left_stop : (i : ℕ) (o : Option ℕ) → i < length l → keeps ts l i (mask_at t i) (get_or l i 0) ≡ false → left i ≡ o → At i ≡ found_of o
   unfolding found_of choose
-  left-stop i o h e q = ap found_of (sym (left-next i h ∙ ap (λ (b : Bool). choose b (λ _. left (i + 1)) (λ _. some i)) e) ∙ q)
+  left_stop i o h e q = ap found_of (sym (left_next i h ∙ ap (λ (b : Bool). choose b (λ _. left (i + 1)) (λ _. some i)) e) ∙ q)
 
-  pub left-more : (i : ℕ) (o : Option ℕ) → i < length l → keeps ts l i (mask_at t i) (get_or l i 0) ≡ true → left i ≡ o → left (i + 1) ≡ o
+  pub left_more : (i : ℕ) (o : Option ℕ) → i < length l → keeps ts l i (mask_at t i) (get_or l i 0) ≡ true → left i ≡ o → left (i + 1) ≡ o
   unfolding choose
-  left-more i o h e q = sym (left-next i h ∙ ap (λ (b : Bool). choose b (λ _. left (i + 1)) (λ _. some i)) e) ∙ q
+  left_more i o h e q = sym (left_next i h ∙ ap (λ (b : Bool). choose b (λ _. left (i + 1)) (λ _. some i)) e) ∙ q
 
   pub left_end : (i : ℕ) (o : Option ℕ) → length l ≤ i → left i ≡ o → Nothing ≡ found_of o
   unfolding found_of breaking
@@ -172,21 +172,21 @@ started_more {t} {l₀} l i x h q f = record { size = length-set l i x ∙ f.siz
 -- The planner's turns ----------------------------------------------------------------------------------------------------------------------
 
 module _ (ts : List Task) (t l : List ℕ) (i x : ℕ) (e : x ≡ get_or t (i * 2 + 0) 0) where
-  pub turn-given : x ≡ 0 → Turned ts (mask_at t i) i l l true
+  pub turn_given : x ≡ 0 → Turned ts (mask_at t i) i l l true
   unfolding plan_from
-  turn-given z = record {
+  turn_given z = record {
     goes_on = λ q rest. ap (λ (r : Mask). plan_from ts l i (r ∷ rest)) (mask_given t i x (get_or t (i * 2 + 1) 0) e z refl);
     stops = λ q. absurd (not_both refl q);
   }
 
-  lowest-is : (b : ℕ) → ((k : ℕ) → has b k ≡ beside ts i (λ n. has n k) l) → find (λ k. not (has b k)) 64 0 ≡ lowest ts i l
+  lowest_is : (b : ℕ) → ((k : ℕ) → has b k ≡ beside ts i (λ n. has n k) l) → find (λ k. not (has b k)) 64 0 ≡ lowest ts i l
   unfolding lowest taken
-  lowest-is b h = let f : ◌≡◌ {A = ℕ → Bool} (λ k. not (has b k)) (λ k. not (beside ts i (λ n. has n k) l)) = λ j k. not (h k j) in ap (λ (p : ℕ → Bool). find p 64 0) f
+  lowest_is b h = let f : ◌≡◌ {A = ℕ → Bool} (λ k. not (has b k)) (λ k. not (beside ts i (λ n. has n k) l)) = λ j k. not (h k j) in ap (λ (p : ℕ → Bool). find p 64 0) f
 
-  pub turn-auto : (x ≡ 0 → ⊥) → (b k y : ℕ) → ((k : ℕ) → has b k ≡ beside ts i (λ n. has n k) l) → k ≡ find (λ k. not (has b k)) 64 0 → k < 64 → y ≡ 2 ^ k → Turned ts (mask_at t i) i l (set l i y) true
+  pub turn_auto : (x ≡ 0 → ⊥) → (b k y : ℕ) → ((k : ℕ) → has b k ≡ beside ts i (λ n. has n k) l) → k ≡ find (λ k. not (has b k)) 64 0 → k < 64 → y ≡ 2 ^ k → Turned ts (mask_at t i) i l (set l i y) true
   unfolding plan_from choose
-  turn-auto z b k y h q c d =
-      let w : k ≡ lowest ts i l = q ∙ lowest-is b h in
+  turn_auto z b k y h q c d =
+      let w : k ≡ lowest ts i l = q ∙ lowest_is b h in
       record {
         goes_on = λ _ rest.
             ap (λ (r : Mask). plan_from ts l i (r ∷ rest)) (mask_auto t i x e z)
@@ -196,10 +196,10 @@ module _ (ts : List Task) (t l : List ℕ) (i x : ℕ) (e : x ≡ get_or t (i * 
         stops = λ q. absurd (not_both refl q);
       }
 
-  pub turn-full : (x ≡ 0 → ⊥) → (b k : ℕ) → ((k : ℕ) → has b k ≡ beside ts i (λ n. has n k) l) → k ≡ find (λ k. not (has b k)) 64 0 → 64 ≤ k → Turned ts (mask_at t i) i l l false
+  pub turn_full : (x ≡ 0 → ⊥) → (b k : ℕ) → ((k : ℕ) → has b k ≡ beside ts i (λ n. has n k) l) → k ≡ find (λ k. not (has b k)) 64 0 → 64 ≤ k → Turned ts (mask_at t i) i l l false
   unfolding plan_from choose
-  turn-full z b k h q c =
-      let w : k ≡ lowest ts i l = q ∙ lowest-is b h in
+  turn_full z b k h q c =
+      let w : k ≡ lowest ts i l = q ∙ lowest_is b h in
       record {
         goes_on = λ q. absurd (not_both q refl);
         stops = λ _ rest.
@@ -217,10 +217,10 @@ module _ (ts : List Task) (t : List ℕ) (n : ℕ) (p : Plan) where
       ap (λ (k : ℕ). plan_from ts l' k (masks_at t (n - (i + 1)) (i + 1))) (add-one i)
       ∙ sym (w.goes_on e (masks_at t (n - (i + 1)) (i + 1))) ∙ sym (ap (plan_from ts l i) (masks_here t n i h)) ∙ q
 
-  pub turns-stop : (l l' : List ℕ) (i : ℕ) (b : Bool) → i < n → Turned ts (mask_at t i) i l l' b → b ≡ false → plan_from ts l i (masks_at t (n - i) i) ≡ p → p ≡ plan_of (At i) l'
+  pub turns_stop : (l l' : List ℕ) (i : ℕ) (b : Bool) → i < n → Turned ts (mask_at t i) i l l' b → b ≡ false → plan_from ts l i (masks_at t (n - i) i) ≡ p → p ≡ plan_of (At i) l'
   unfolding plan_of
-  turns-stop l l' i b h w e q = sym q ∙ ap (plan_from ts l i) (masks_here t n i h) ∙ w.stops e (masks_at t (n - (i + 1)) (i + 1))
+  turns_stop l l' i b h w e q = sym q ∙ ap (plan_from ts l i) (masks_here t n i h) ∙ w.stops e (masks_at t (n - (i + 1)) (i + 1))
 
-  pub turns-end : (l : List ℕ) (i : ℕ) → n ≤ i → plan_from ts l i (masks_at t (n - i) i) ≡ p → p ≡ plan_of Nothing l
+  pub turns_end : (l : List ℕ) (i : ℕ) → n ≤ i → plan_from ts l i (masks_at t (n - i) i) ≡ p → p ≡ plan_of Nothing l
   unfolding plan_of plan_from
-  turns-end l i h q = sym q ∙ ap (plan_from ts l i) (masks_none t n i h)
+  turns_end l i h q = sym q ∙ ap (plan_from ts l i) (masks_none t n i h)

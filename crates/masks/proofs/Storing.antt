@@ -17,7 +17,7 @@ use Rattle.rows.specs.Search.{row_name, find_from}
 use Rattle.rows.specs.declared.Found.{Found}
 use Rattle.rows.specs.declared.Found.TheVariants.{At, Nothing}
 use Rattle.rows.proofs.Stores.{sets_append}
-use Rattle.rows.proofs.Searches.{find-stop, find_more, find-end}
+use Rattle.rows.proofs.Searches.{find_stop, find_more, find_end}
 use Rattle.masks.specs.Masks.{given, automatic}
 use Rattle.masks.proofs.Reflections.{Order, less, more, order, same as equals}
 use Rattle.masks.specs.Marks.{mask_at}
@@ -88,32 +88,32 @@ putting_end {l₀} {o} {m} {l} {i} {e} h q =
 -- Masks ------------------------------------------------------------------------------------------------------------------------------------
 
 module _ (s d v : List ℕ) (row k x : ℕ) (e : x ≡ cell_of v 9 k 1) where
-  pub mask-inner : (x ≡ 0 → ⊥) → false ≡ is_mask_at s d v row k
+  pub mask_inner : (x ≡ 0 → ⊥) → false ≡ is_mask_at s d v row k
   unfolding is_mask_at
-  mask-inner z = ap (λ (b : Bool). both (both b (eqb (cell_of v 9 k 2) row)) (same (row_name s d 13 2 (cell_of v 9 k 0)) (bytes_of "MASK"))) (sym (ne_eqb (cell_of v 9 k 1) 0 (λ q. z (e ∙ q))))
+  mask_inner z = ap (λ (b : Bool). both (both b (eqb (cell_of v 9 k 2) row)) (same (row_name s d 13 2 (cell_of v 9 k 0)) (bytes_of "MASK"))) (sym (ne_eqb (cell_of v 9 k 1) 0 (λ q. z (e ∙ q))))
 
-  pub mask-of-other : (y : ℕ) → x ≡ 0 → y ≡ cell_of v 9 k 2 → (y ≡ row → ⊥) → false ≡ is_mask_at s d v row k
+  pub mask_of_other : (y : ℕ) → x ≡ 0 → y ≡ cell_of v 9 k 2 → (y ≡ row → ⊥) → false ≡ is_mask_at s d v row k
   unfolding is_mask_at
-  mask-of-other y z f g =
+  mask_of_other y z f g =
       ap (λ (b : Bool). both b (same (row_name s d 13 2 (cell_of v 9 k 0)) (bytes_of "MASK")))
       (sym (ap₂ both (eq-eqb (cell_of v 9 k 1) 0 (sym e ∙ z)) (ne_eqb (cell_of v 9 k 2) row (λ q. g (f ∙ q)))))
 
-  pub mask-named : (y j a n : ℕ) (w : List ℕ) (r : Bool) → x ≡ 0 → y ≡ cell_of v 9 k 2 → y ≡ row → j ≡ cell_of v 9 k 0 → a ≡ get_or d (j * 13 + 2) 0 → n ≡ get_or d (j * 13 + 3) 0 → w ≡ part_of s a n → r ≡ same w (bytes_of "MASK") → r ≡ is_mask_at s d v row k
+  pub mask_named : (y j a n : ℕ) (w : List ℕ) (r : Bool) → x ≡ 0 → y ≡ cell_of v 9 k 2 → y ≡ row → j ≡ cell_of v 9 k 0 → a ≡ get_or d (j * 13 + 2) 0 → n ≡ get_or d (j * 13 + 3) 0 → w ≡ part_of s a n → r ≡ same w (bytes_of "MASK") → r ≡ is_mask_at s d v row k
   unfolding is_mask_at row_name
-  mask-named y j a n w r z f g h p q u t =
+  mask_named y j a n w r z f g h p q u t =
       t ∙ ap (λ (c : List ℕ). same c (bytes_of "MASK")) (u ∙ ap₂ (part_of s) (p ∙ ap (λ (c : ℕ). get_or d (c * 13 + 2) 0) h) (q ∙ ap (λ (c : ℕ). get_or d (c * 13 + 3) 0) h))
       ∙ ap (λ (b : Bool). both b (same (row_name s d 13 2 (cell_of v 9 k 0)) (bytes_of "MASK")))
       (sym (ap₂ both (eq-eqb (cell_of v 9 k 1) 0 (sym e ∙ z)) (eq-eqb (cell_of v 9 k 2) row (sym f ∙ g))))
 
 module _ (t : ℕ → Bool) (n : ℕ) where
   pub seek_stop : (k : ℕ) → k < n → t k ≡ true → find_from t n k ≡ find_from t n 0 → At k ≡ find_from t n 0
-  seek_stop k h e q = sym (find-stop t n k h e) ∙ q
+  seek_stop k h e q = sym (find_stop t n k h e) ∙ q
 
-  pub seek-more : (k : ℕ) → k < n → t k ≡ false → find_from t n k ≡ find_from t n 0 → find_from t n (k + 1) ≡ find_from t n 0
-  seek-more k h e q = sym (find_more t n k h e) ∙ q
+  pub seek_more : (k : ℕ) → k < n → t k ≡ false → find_from t n k ≡ find_from t n 0 → find_from t n (k + 1) ≡ find_from t n 0
+  seek_more k h e q = sym (find_more t n k h e) ∙ q
 
-  pub seek-end : (k : ℕ) → n ≤ k → find_from t n k ≡ find_from t n 0 → Nothing ≡ find_from t n 0
-  seek-end k h q = sym (find-end t n k h) ∙ q
+  pub seek_end : (k : ℕ) → n ≤ k → find_from t n k ≡ find_from t n 0 → Nothing ≡ find_from t n 0
+  seek_end k h q = sym (find_end t n k h) ∙ q
 
 -- The two cells of an event's mask, stored.
 pub stored_given : (v l : List ℕ) (f : Found) (j a b : ℕ) → j * 2 + 1 < length l → a ≡ sort_found v f → b ≡ amount_found v f → PutGiven v f j l (set (set l (j * 2) a) (j * 2 + 1) b)

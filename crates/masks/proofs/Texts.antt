@@ -33,49 +33,49 @@ fine_checked f l e h =
     ∙ ap named_first a.1
 
 data Cases-of (x : Plan) : Type 0 where
-  some-plan : (ms : List ℕ) → x ≡ planned ms → Cases-of x
+  some_plan : (ms : List ℕ) → x ≡ planned ms → Cases-of x
 
 -- THE CHECKER ACCEPTS EVERY PLAN that the planner makes, of any text, into any list.
 module _ (n : ℕ) where
-  planned-as : (x : Plan) (l : List ℕ) → (made x l).result ≡ p.Made n → (ms : List ℕ) → x ≡ planned ms → take n (made x l).list ≡ ms
+  planned_as : (x : Plan) (l : List ℕ) → (made x l).result ≡ p.Made n → (ms : List ℕ) → x ≡ planned ms → take n (made x l).list ≡ ms
   unfolding made left
-  planned-as (planned ys) l e ms q =
+  planned_as (planned ys) l e ms q =
       let z : length ys ≡ n = cc in
       let y : ys ≡ ms = cc in
       take_at ys (drop (length ys) l) n z ∙ y
-  planned-as (full i) l e ms q = absurd (let z : ◌≡◌ {A = ℕ} 0 1 = cc in omega (arith, z))
+  planned_as (full i) l e ms q = absurd (let z : ◌≡◌ {A = ℕ} 0 1 = cc in omega (arith, z))
 
-  is-planned : (x : Plan) (l : List ℕ) → (made x l).result ≡ p.Made n → Cases-of x
+  is_planned : (x : Plan) (l : List ℕ) → (made x l).result ≡ p.Made n → Cases-of x
   unfolding made left
-  is-planned (planned ys) l e = some-plan ys refl
-  is-planned (full i) l e = absurd (let z : ◌≡◌ {A = ℕ} 0 1 = cc in omega (arith, z))
+  is_planned (planned ys) l e = some_plan ys refl
+  is_planned (full i) l e = absurd (let z : ◌≡◌ {A = ℕ} 0 1 = cc in omega (arith, z))
 
-  file-checked : (f : File) (l : List ℕ) (b d : Bool) → plannable f ≡ b → ltb (length l) (length (masks_of f)) ≡ d
+  file_checked : (f : File) (l : List ℕ) (b d : Bool) → plannable f ≡ b → ltb (length l) (length (masks_of f)) ≡ d
       → (choose b (λ _. choose d (λ _. left p.WrongLength l) (λ _. made (plan (tasks_of f) (masks_of f)) l)) (λ _. left p.NotPlannable l)).result ≡ p.Made n
       → check_file f (take n (choose b (λ _. choose d (λ _. left p.WrongLength l) (λ _. made (plan (tasks_of f) (masks_of f)) l)) (λ _. left p.NotPlannable l)).list) ≡ c.Accepted
   unfolding choose left
-  file-checked f l true true e q h = absurd (let z : ◌≡◌ {A = ℕ} 0 1 = cc in omega (arith, z))
-  file-checked f l true false e q h = go (is-planned (plan (tasks_of f) (masks_of f)) l h)
+  file_checked f l true true e q h = absurd (let z : ◌≡◌ {A = ℕ} 0 1 = cc in omega (arith, z))
+  file_checked f l true false e q h = go (is_planned (plan (tasks_of f) (masks_of f)) l h)
     where
       go : Cases-of (plan (tasks_of f) (masks_of f)) → check_file f (take n (made (plan (tasks_of f) (masks_of f)) l).list) ≡ c.Accepted
-      go (some-plan ms w) =
-          ap (check_file f) (planned-as (plan (tasks_of f) (masks_of f)) l h ms w)
+      go (some_plan ms w) =
+          ap (check_file f) (planned_as (plan (tasks_of f) (masks_of f)) l h ms w)
           ∙ fine_checked f ms e (plan_fine (tasks_of f) (masks_of f) ms (plans (tasks_of f) (masks_of f) ms w))
-  file-checked f l false d e q h = absurd (let z : ◌≡◌ {A = ℕ} 0 1 = cc in omega (arith, z))
+  file_checked f l false d e q h = absurd (let z : ◌≡◌ {A = ℕ} 0 1 = cc in omega (arith, z))
 
-  answered-checked : (a : Answer) (f : File) (l : List ℕ) → (plan_answered a f l).result ≡ p.Made n → check_answered a f (take n (plan_answered a f l).list) ≡ c.Accepted
+  answered_checked : (a : Answer) (f : File) (l : List ℕ) → (plan_answered a f l).result ≡ p.Made n → check_answered a f (take n (plan_answered a f l).list) ≡ c.Accepted
   unfolding plan_answered check_answered plan_file left
-  answered-checked (accepted t) f l h = file-checked f l (plannable f) (ltb (length l) (length (masks_of f))) refl refl h
-  answered-checked (refused m q) f l h = absurd (let z : ◌≡◌ {A = ℕ} 0 1 = cc in omega (arith, z))
+  answered_checked (accepted t) f l h = file_checked f l (plannable f) (ltb (length l) (length (masks_of f))) refl refl h
+  answered_checked (refused m q) f l h = absurd (let z : ◌≡◌ {A = ℕ} 0 1 = cc in omega (arith, z))
 
-  parsed-checked : (x : Parsed) (l : List ℕ) → (plan_parsed x l).result ≡ p.Made n → check_parsed x (take n (plan_parsed x l).list) ≡ c.Accepted
+  parsed_checked : (x : Parsed) (l : List ℕ) → (plan_parsed x l).result ≡ p.Made n → check_parsed x (take n (plan_parsed x l).list) ≡ c.Accepted
   unfolding plan_parsed check_parsed left
-  parsed-checked (parsed f) l h = answered-checked (answer f) f l h
-  parsed-checked (not_parsed m q) l h = absurd (let z : ◌≡◌ {A = ℕ} 0 1 = cc in omega (arith, z))
+  parsed_checked (parsed f) l h = answered_checked (answer f) f l h
+  parsed_checked (not_parsed m q) l h = absurd (let z : ◌≡◌ {A = ℕ} 0 1 = cc in omega (arith, z))
 
 pub plan_checked : PlanAccepted
 unfolding plan_text check
-plan_checked s l n h = parsed-checked n (parse s) l h
+plan_checked s l n h = parsed_checked n (parse s) l h
 
 -- THE CHECKER ACCEPTS ONLY lists that are fine.
 module _ (f : File) (l : List ℕ) where
@@ -84,26 +84,26 @@ module _ (f : File) (l : List ℕ) where
   named_none none e = refl
   named_none (some i) e = absurd (let z : ◌≡◌ {A = ℕ} 0 1 = cc in omega (arith, z))
 
-  checked-fine : (b d : Bool) → eqb (length l) (length (masks_of f)) ≡ d
+  checked_fine : (b d : Bool) → eqb (length l) (length (masks_of f)) ≡ d
       → choose b (λ _. choose d (λ _. named_first (breaking (tasks_of f) l 0 (masks_of f) l)) (λ _. c.WrongLength)) (λ _. c.NotPlannable) ≡ c.Accepted
       → (b ≡ true) × Fine (tasks_of f) (masks_of f) l
   unfolding choose
-  checked-fine true true q h = (refl, accepts_only (tasks_of f) (masks_of f) l (eqb-true (length l) (length (masks_of f)) q) (named_none (breaking (tasks_of f) l 0 (masks_of f) l) h))
-  checked-fine true false q h = absurd (let z : ◌≡◌ {A = ℕ} 0 1 = cc in omega (arith, z))
-  checked-fine false d q h = absurd (let z : ◌≡◌ {A = ℕ} 0 1 = cc in omega (arith, z))
+  checked_fine true true q h = (refl, accepts_only (tasks_of f) (masks_of f) l (eqb-true (length l) (length (masks_of f)) q) (named_none (breaking (tasks_of f) l 0 (masks_of f) l) h))
+  checked_fine true false q h = absurd (let z : ◌≡◌ {A = ℕ} 0 1 = cc in omega (arith, z))
+  checked_fine false d q h = absurd (let z : ◌≡◌ {A = ℕ} 0 1 = cc in omega (arith, z))
 
-  pub file-fine : check_file f l ≡ c.Accepted → (plannable f ≡ true) × Fine (tasks_of f) (masks_of f) l
+  pub file_fine : check_file f l ≡ c.Accepted → (plannable f ≡ true) × Fine (tasks_of f) (masks_of f) l
   unfolding check_file
-  file-fine h = checked-fine (plannable f) (eqb (length l) (length (masks_of f))) refl h
+  file_fine h = checked_fine (plannable f) (eqb (length l) (length (masks_of f))) refl h
 
 -- THE CHECKER ACCEPTS EXACTLY, for an accepted text with the syntax f.
 module _ (s : List ℕ) (f : File) (t : Tables) (a : parse s ≡ parsed f) (b : answer f ≡ accepted t) (l : List ℕ) where
-  check-is : check s l ≡ check_file f l
+  check_is : check s l ≡ check_file f l
   unfolding check check_parsed check_answered
-  check-is = ap (λ (x : Parsed). check_parsed x l) a ∙ ap (λ (x : Answer). check_answered x f l) b
+  check_is = ap (λ (x : Parsed). check_parsed x l) a ∙ ap (λ (x : Answer). check_answered x f l) b
 
-  pub text-fine : check s l ≡ c.Accepted → (plannable f ≡ true) × Fine (tasks_of f) (masks_of f) l
-  text-fine h = file-fine f l (sym check-is ∙ h)
+  pub text_fine : check s l ≡ c.Accepted → (plannable f ≡ true) × Fine (tasks_of f) (masks_of f) l
+  text_fine h = file_fine f l (sym check_is ∙ h)
 
-  pub fine-text : plannable f ≡ true → Fine (tasks_of f) (masks_of f) l → check s l ≡ c.Accepted
-  fine-text e h = check-is ∙ fine_checked f l e h
+  pub fine_text : plannable f ≡ true → Fine (tasks_of f) (masks_of f) l → check s l ≡ c.Accepted
+  fine_text e h = check_is ∙ fine_checked f l e h

@@ -24,7 +24,7 @@ pub data Verdict (f : File) (l : List ℕ) : Checked → Type 0 where
   -- "then, before all else, one where EVENT itself has no UINT64 single MASK is refused as not plannable"
   not_plannable : plannable f ≡ false → Verdict f l c.NotPlannable
   -- "A list of the wrong length is refused as such"
-  wrong-length : plannable f ≡ true → (length l ≡ length (masks_of f) → ⊥) → Verdict f l c.WrongLength
+  wrong_length : plannable f ≡ true → (length l ≡ length (masks_of f) → ⊥) → Verdict f l c.WrongLength
   -- "else the first event breaking its own rule (given: kept; AUTO: the other two) is named"
   breaks : plannable f ≡ true → length l ≡ length (masks_of f) → (i : ℕ) → FirstBroken (tasks_of f) (masks_of f) l i → Verdict f l (c.Breaks i)
   -- "It accepts exactly if .."
@@ -43,7 +43,7 @@ pub data ChecksByRules (s l : List ℕ) (r : Checked) : Type 0 where
 pub data Outcome (f : File) (l l' : List ℕ) : Planned → Type 0 where
   not_plannable : plannable f ≡ false → l' ≡ l → Outcome f l l' p.NotPlannable
   -- "Its lent list .. is first refused as of wrong length if shorter than the events"; "all on a refusal, stay"
-  wrong-length : plannable f ≡ true → length l < length (masks_of f) → l' ≡ l → Outcome f l l' p.WrongLength
+  wrong_length : plannable f ≡ true → length l < length (masks_of f) → l' ≡ l → Outcome f l l' p.WrongLength
   -- "It refuses exactly when all 64 bits are taken for some event, and names the first such event."
   full_at : plannable f ≡ true → length (masks_of f) ≤ length l → (i : ℕ) → FullAt (tasks_of f) (masks_of f) i → l' ≡ l → Outcome f l l' (p.Full i)
   -- "AUTO events in object order, each taking the lowest bit outside ..": the plan is ms, "filled from the start; entries past them .. stay"

@@ -26,8 +26,8 @@ Apart m n = (k : ℕ) → k < 64 → has m k ≡ true → has n k ≡ true → �
 
 -- An event's own rule: "given: kept; AUTO: the other two".
 pub data Kept (ts : List Task) (l : List ℕ) (i : ℕ) : Mask → Type 0 where
-  given-kept : {g : ℕ} → get_or l i 0 ≡ g → Kept ts l i (given g)
-  auto-kept : OneBit (get_or l i 0) → ((j : ℕ) → Other ts (length l) i j → Apart (get_or l i 0) (get_or l j 0)) → Kept ts l i automatic
+  given_kept : {g : ℕ} → get_or l i 0 ≡ g → Kept ts l i (given g)
+  auto_kept : OneBit (get_or l i 0) → ((j : ℕ) → Other ts (length l) i j → Apart (get_or l i 0) (get_or l j 0)) → Kept ts l i automatic
 
 -- "the list has one mask for each event, in object order, given masks are kept, each AUTO mask has a single bit of 64, and an AUTO mask shares no
 -- bit with the listed mask of another event of any same task": the events' masks are rs.
@@ -45,8 +45,8 @@ pub record FirstBroken (ts : List Task) (rs : List Mask) (l : List ℕ) (i : ℕ
 
 -- The mask of the event j counts for the event i: it is a given one or an earlier proposal.
 pub data Counts (rs : List Mask) (i j : ℕ) : Type 0 where
-  by-given : {g : ℕ} → get_or rs j automatic ≡ given g → Counts rs i j
-  by-earlier : j < i → Counts rs i j
+  by_given : {g : ℕ} → get_or rs j automatic ≡ given g → Counts rs i j
+  by_earlier : j < i → Counts rs i j
 
 -- Bit k is taken for the event i by "the given masks and the earlier proposals, both only of events that share a task with it", where the
 -- events' masks are l.
@@ -54,7 +54,7 @@ pub record Taken (ts : List Task) (rs : List Mask) (l : List ℕ) (i k : ℕ) : 
   pub at : ℕ
   pub other : Other ts (length rs) i at
   pub counts : Counts rs i at
-  pub has-it : has (get_or l at 0) k ≡ true
+  pub has_it : has (get_or l at 0) k ≡ true
 
 -- The event i takes "the lowest bit outside".
 pub record Proposal (ts : List Task) (rs : List Mask) (l : List ℕ) (i : ℕ) : Type 0 where

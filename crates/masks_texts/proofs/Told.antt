@@ -18,7 +18,7 @@ use Rattle.lent_texts.specs.declared.Expanded.{Expanded}
 use Rattle.lent_texts.specs.declared.Refusal.{Refusal}
 use Rattle.lent_texts.specs.declared.Lent.{Lent}
 use Rattle.lent_texts.specs.declared.Lent.TheVariants.{Stopped, Text}
-use Rattle.lent_texts.proofs.Told.{AtOnce, by-1, by-30, at_once, There, there, answered_refused, answered_accepted}
+use Rattle.lent_texts.proofs.Told.{AtOnce, by_1, by_30, at_once, There, there, answered_refused, answered_accepted}
 use Rattle.masks_texts.specs.Masks.{ChecksTexts, PlansTexts, told_check, told_plan, ChecksExpanded, PlansExpanded}
 use Rattle.masks_texts.specs.Masks as specs
 
@@ -28,45 +28,45 @@ pub check_refused : {s g ms : List ℕ} {e : Expanded} {a : Checked} {n q : ℕ}
     ChecksExpanded s g e ms (c.Refused r.number r.place)
 unfolding told_check
 check_refused {g = g} {e = e} {a = a} h i j =
-    record { in-expanded = a; rules = h; told = ap (λ (y : Refusal). c.Refused y.number y.place) j ∙ ap (told_check g e) (sym i) }
+    record { in_expanded = a; rules = h; told = ap (λ (y : Refusal). c.Refused y.number y.place) j ∙ ap (told_check g e) (sym i) }
 
 pub check_not_plannable : {s g ms : List ℕ} {e : Expanded} {a : Checked} → ChecksByRules s ms a → a ≡ c.NotPlannable → ChecksExpanded s g e ms c.NotPlannable
 unfolding told_check
-check_not_plannable {g = g} {e = e} {a = a} h q = record { in-expanded = a; rules = h; told = ap (told_check g e) (sym q) }
+check_not_plannable {g = g} {e = e} {a = a} h q = record { in_expanded = a; rules = h; told = ap (told_check g e) (sym q) }
 
 pub check_wrong_length : {s g ms : List ℕ} {e : Expanded} {a : Checked} → ChecksByRules s ms a → a ≡ c.WrongLength → ChecksExpanded s g e ms c.WrongLength
 unfolding told_check
-check_wrong_length {g = g} {e = e} {a = a} h q = record { in-expanded = a; rules = h; told = ap (told_check g e) (sym q) }
+check_wrong_length {g = g} {e = e} {a = a} h q = record { in_expanded = a; rules = h; told = ap (told_check g e) (sym q) }
 
 pub check_breaks : {s g ms : List ℕ} {e : Expanded} {a : Checked} {i : ℕ} → ChecksByRules s ms a → a ≡ c.Breaks i → ChecksExpanded s g e ms (c.Breaks i)
 unfolding told_check
-check_breaks {g = g} {e = e} {a = a} h q = record { in-expanded = a; rules = h; told = ap (told_check g e) (sym q) }
+check_breaks {g = g} {e = e} {a = a} h q = record { in_expanded = a; rules = h; told = ap (told_check g e) (sym q) }
 
 pub check_accepts : {s g ms : List ℕ} {e : Expanded} {a : Checked} → ChecksByRules s ms a → a ≡ c.Accepted → ChecksExpanded s g e ms c.Accepted
 unfolding told_check
-check_accepts {g = g} {e = e} {a = a} h q = record { in-expanded = a; rules = h; told = ap (told_check g e) (sym q) }
+check_accepts {g = g} {e = e} {a = a} h q = record { in_expanded = a; rules = h; told = ap (told_check g e) (sym q) }
 
 pub plan_refused : {s g ms ms' : List ℕ} {e : Expanded} {a : Planned} {n q : ℕ} {r : Refusal} → PlansByRules s ms ms' a → a ≡ p.Refused n q → r ≡ refusal_in g e n q →
     PlansExpanded s g e ms ms' (p.Refused r.number r.place)
 unfolding told_plan
 plan_refused {g = g} {e = e} {a = a} h i j =
-    record { in-expanded = a; rules = h; told = ap (λ (y : Refusal). p.Refused y.number y.place) j ∙ ap (told_plan g e) (sym i) }
+    record { in_expanded = a; rules = h; told = ap (λ (y : Refusal). p.Refused y.number y.place) j ∙ ap (told_plan g e) (sym i) }
 
 pub plan_not_plannable : {s g ms ms' : List ℕ} {e : Expanded} {a : Planned} → PlansByRules s ms ms' a → a ≡ p.NotPlannable → PlansExpanded s g e ms ms' p.NotPlannable
 unfolding told_plan
-plan_not_plannable {g = g} {e = e} {a = a} h q = record { in-expanded = a; rules = h; told = ap (told_plan g e) (sym q) }
+plan_not_plannable {g = g} {e = e} {a = a} h q = record { in_expanded = a; rules = h; told = ap (told_plan g e) (sym q) }
 
 pub plan_wrong_length : {s g ms ms' : List ℕ} {e : Expanded} {a : Planned} → PlansByRules s ms ms' a → a ≡ p.WrongLength → PlansExpanded s g e ms ms' p.WrongLength
 unfolding told_plan
-plan_wrong_length {g = g} {e = e} {a = a} h q = record { in-expanded = a; rules = h; told = ap (told_plan g e) (sym q) }
+plan_wrong_length {g = g} {e = e} {a = a} h q = record { in_expanded = a; rules = h; told = ap (told_plan g e) (sym q) }
 
 pub plan_full : {s g ms ms' : List ℕ} {e : Expanded} {a : Planned} {i : ℕ} → PlansByRules s ms ms' a → a ≡ p.Full i → PlansExpanded s g e ms ms' (p.Full i)
 unfolding told_plan
-plan_full {g = g} {e = e} {a = a} h q = record { in-expanded = a; rules = h; told = ap (told_plan g e) (sym q) }
+plan_full {g = g} {e = e} {a = a} h q = record { in_expanded = a; rules = h; told = ap (told_plan g e) (sym q) }
 
 pub plan_made : {s g ms ms' : List ℕ} {e : Expanded} {a : Planned} {i : ℕ} → PlansByRules s ms ms' a → a ≡ p.Made i → PlansExpanded s g e ms ms' (p.Made i)
 unfolding told_plan
-plan_made {g = g} {e = e} {a = a} h q = record { in-expanded = a; rules = h; told = ap (told_plan g e) (sym q) }
+plan_made {g = g} {e = e} {a = a} h q = record { in_expanded = a; rules = h; told = ap (told_plan g e) (sym q) }
 
 -- ---- the answers that tell no place
 
@@ -87,8 +87,8 @@ same_outcome f ms ms' g e _ (rules.makes h i j k o) = rules.makes h i j k o
 -- ---- the checker
 
 check_once : {b l x g x' g' : List ℕ} (ms : List ℕ) (n : ℕ) → AtOnce b l x g x' g' n → ChecksTexts b l x g x' g' ms (c.Refused n 0)
-check_once ms n (by-1 h i j k) = specs.short-rooms h (ap (λ (o : ℕ). c.Refused o 0) i) j k
-check_once ms n (by-30 h i _ k f) = specs.refuses h f 30 0 k (ap (λ (o : ℕ). c.Refused o 0) i)
+check_once ms n (by_1 h i j k) = specs.short-rooms h (ap (λ (o : ℕ). c.Refused o 0) i) j k
+check_once ms n (by_30 h i _ k f) = specs.refuses h f 30 0 k (ap (λ (o : ℕ). c.Refused o 0) i)
 
 pub stopped_checks : {b l x g x' g' ms : List ℕ} {r : Lent} (n : ℕ) → ExpandsTexts b l x g x' g' r → r ≡ Stopped n → ChecksTexts b l x g x' g' ms (c.Refused n 0)
 stopped_checks {ms = ms} n u q = check_once ms n (at_once n u q)
@@ -111,8 +111,8 @@ text_checks {ms = ms} {e = e} {a = a} u q w =
 -- ---- the planner
 
 plan_once : {b l x g x' g' : List ℕ} (ms : List ℕ) (n : ℕ) → AtOnce b l x g x' g' n → PlansTexts b l x g x' g' ms ms (p.Refused n 0)
-plan_once ms n (by-1 h i j k) = specs.short-rooms h (ap (λ (o : ℕ). p.Refused o 0) i) j k refl
-plan_once ms n (by-30 h i _ k f) = specs.refuses h f 30 0 k (ap (λ (o : ℕ). p.Refused o 0) i) refl
+plan_once ms n (by_1 h i j k) = specs.short-rooms h (ap (λ (o : ℕ). p.Refused o 0) i) j k refl
+plan_once ms n (by_30 h i _ k f) = specs.refuses h f 30 0 k (ap (λ (o : ℕ). p.Refused o 0) i) refl
 
 pub stopped_plans : {b l x g x' g' ms : List ℕ} {r : Lent} (n : ℕ) → ExpandsTexts b l x g x' g' r → r ≡ Stopped n → PlansTexts b l x g x' g' ms ms (p.Refused n 0)
 stopped_plans {ms = ms} n u q = plan_once ms n (at_once n u q)

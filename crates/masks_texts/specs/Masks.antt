@@ -18,7 +18,7 @@ use Rattle.lent_texts.specs.declared.Expanded.{Expanded}
 -- what they hold afterwards; r is what is returned.
 pub data ChecksTexts (b l x g x' g' ms : List ℕ) (r : Checked) : Type 0 where
   -- 1, "lent tables too short", at 0. "Refusal 1 changes nothing."
-  short-rooms : (Rooms x g → ⊥) → r ≡ c.Refused 1 0 → x' ≡ x → g' ≡ g → ChecksTexts b l x g x' g' ms r
+  short_rooms : (Rooms x g → ⊥) → r ≡ c.Refused 1 0 → x' ≡ x → g' ≡ g → ChecksTexts b l x g x' g' ms r
   -- "A refused text gives its refusal"
   refuses : Rooms x g → Filled b l x g x' g' → (n q : ℕ) → TheAnswer b l (refused n q) → r ≡ c.Refused n q → ChecksTexts b l x g x' g' ms r
   -- "A checker takes an accepted text and anyone's list of masks."
@@ -27,7 +27,7 @@ pub data ChecksTexts (b l x g x' g' ms : List ℕ) (r : Checked) : Type 0 where
 
 -- The planner, with the lent list ms, which is ms' afterwards.
 pub data PlansTexts (b l x g x' g' ms ms' : List ℕ) (r : Planned) : Type 0 where
-  short-rooms : (Rooms x g → ⊥) → r ≡ p.Refused 1 0 → x' ≡ x → g' ≡ g → ms' ≡ ms → PlansTexts b l x g x' g' ms ms' r
+  short_rooms : (Rooms x g → ⊥) → r ≡ p.Refused 1 0 → x' ≡ x → g' ≡ g → ms' ≡ ms → PlansTexts b l x g x' g' ms ms' r
   refuses : Rooms x g → Filled b l x g x' g' → (n q : ℕ) → TheAnswer b l (refused n q) → r ≡ p.Refused n q → ms' ≡ ms → PlansTexts b l x g x' g' ms ms' r
   judges : Rooms x g → Filled b l x g x' g' → (t : Tables) → TheAnswer b l (accepted t) → Derivation (found b l)
       → ((d : Derivation (found b l)) → Outcome (syntax (text b l) d.tree) ms ms' r) → PlansTexts b l x g x' g' ms ms' r
@@ -50,11 +50,11 @@ told_plan g e (p.Full i) = p.Full i
 told_plan g e (p.Made n) = p.Made n
 
 pub record ChecksExpanded (s g : List ℕ) (e : Expanded) (ms : List ℕ) (r : Checked) : Type 0 where
-  pub in-expanded : Checked
-  pub rules : ChecksByRules s ms in-expanded
-  pub told : r ≡ told_check g e in-expanded
+  pub in_expanded : Checked
+  pub rules : ChecksByRules s ms in_expanded
+  pub told : r ≡ told_check g e in_expanded
 
 pub record PlansExpanded (s g : List ℕ) (e : Expanded) (ms ms' : List ℕ) (r : Planned) : Type 0 where
-  pub in-expanded : Planned
-  pub rules : PlansByRules s ms ms' in-expanded
-  pub told : r ≡ told_plan g e in-expanded
+  pub in_expanded : Planned
+  pub rules : PlansByRules s ms ms' in_expanded
+  pub told : r ≡ told_plan g e in_expanded

@@ -9,7 +9,7 @@ use lib.ListN.{length, length-append}
 unfoldable pub use Rattle.meaning.specs.Merging.{then}
 unfoldable pub use Rattle.meaning.specs.Joining.{joins}
 use Rattle.meaning.specs.Judging.{taken}
-use Rattle.meaning.specs.Resolving.{take_value, Resolved, end, resolved, entries, default_entry, resolve, resolve-under, Owner, of_value, value_row, value_rows, how_many_values}
+use Rattle.meaning.specs.Resolving.{take_value, Resolved, end, resolved, entries, default_entry, resolve, resolve_under, Owner, of_value, value_row, value_rows, how_many_values}
 use Rattle.meaning.specs.Scopes.{names}
 use Rattle.meaning.specs.Syntax.{Definition, Definitions, define, Values, Statements, done, state, Object, Word}
 use Rattle.meaning.specs.Words.{alike, among, choose}
@@ -66,8 +66,8 @@ default_joins (some t) os d vs f rest = refl
 unfoldable pub contributed : Definition → Values → List Object → Statements → Resolved
 contributed d vs os ss =
     choose (among d.name (names ss))
-    (λ _. entries ss os d vs (λ t us. resolve-under vs os t us) end)
-    (λ _. default_entry (taken d.default) os d vs (λ t us. resolve-under vs os t us) end)
+    (λ _. entries ss os d vs (λ t us. resolve_under vs os t us) end)
+    (λ _. default_entry (taken d.default) os d vs (λ t us. resolve_under vs os t us) end)
 
 pub resolve_more : (d : Definition) (vs : Values) (ds : Definitions) (os : List Object) (ss : Statements)
     → resolve (define d vs ds) os ss ≡ joins (contributed d vs os ss) (resolve ds os ss)
@@ -75,7 +75,7 @@ unfolding resolve contributed choose
 resolve_more d vs ds os ss = go (among d.name (names ss))
   where
     f : Word → Statements → Resolved
-    f t us = resolve-under vs os t us
+    f t us = resolve_under vs os t us
 
     go : (b : Bool) → choose b (λ _. entries ss os d vs f (resolve ds os ss)) (λ _. default_entry (taken d.default) os d vs f (resolve ds os ss))
         ≡ joins (choose b (λ _. entries ss os d vs f end) (λ _. default_entry (taken d.default) os d vs f end)) (resolve ds os ss)

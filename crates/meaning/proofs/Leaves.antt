@@ -3,9 +3,9 @@
 use mathlib.Core.Path.{◌≡◌, refl, sym, ◌∙◌, ap, ap₂, subst}
 use mathlib.Core.List.{List, [], ◌∷◌, ◌++◌, append_assoc}
 use Prim.Native.Nat.{ℕ, suc}
-use Rattle.grammar.specs.Grammar.{Token, tokens, Rule, Form, ◌▸◌, ∎, ◌⟶◌, Trees, nil, leaf, node, file, version, implementation, specs, spec, definitions, definition, attribute, D, P, auto, mark, integer_range, numbers, boolean_range, float_range, enumerator, enumerators, application, objects, object, block, statements, statement, default, own, file-is, version_is, implementation-is, no-spec, a-spec, spec_is, no-definition, a_definition, an-attribute, a_reference, an_integer, a_string, a_boolean, an_enum, a_float, reference-is, no-D, a-D, no-P, a-P, no-auto, with-auto, no-mark, a-mark, no-range, a-range, a-list, no_number, a_number, no-boolean-range, no-float-range, a-boolean-range, a-float-range, enumerator_is, no-enumerator, an_enumerator, no_default, a-default, own-auto, own-none, own-number, own-string, own-true, own-false, own_name, own-float, application-is, no_object, an_object, an-object-alone, an-object-with, no_block, a_block, no-statement, a_statement, statement-is, value-number, value-string, value-float, value-auto, value-name, value-true, value-false, reference as reference-rule, value as value-rule}
+use Rattle.grammar.specs.Grammar.{Token, tokens, Rule, Form, ◌▸◌, ∎, ◌⟶◌, Trees, nil, leaf, node, file, version, implementation, specs, spec, definitions, definition, attribute, D, P, auto, mark, integer_range, numbers, boolean_range, float_range, enumerator, enumerators, application, objects, object, block, statements, statement, default, own, file_is, version_is, implementation_is, no_spec, a_spec, spec_is, no_definition, a_definition, an_attribute, a_reference, an_integer, a_string, a_boolean, an_enum, a_float, reference_is, no_D, a_D, no_P, a_P, no_auto, with_auto, no_mark, a_mark, no_range, a_range, a_list, no_number, a_number, no_boolean_range, no_float_range, a_boolean_range, a_float_range, enumerator_is, no_enumerator, an_enumerator, no_default, a_default, own_auto, own_none, own_number, own_string, own_true, own_false, own_name, own_float, application_is, no_object, an_object, an_object_alone, an_object_with, no_block, a_block, no_statement, a_statement, statement_is, value_number, value_string, value_float, value_auto, value_name, value_true, value_false, reference as reference-rule, value as value-rule}
 use Rattle.meaning.proofs.Order.{Ordered, Sub, sub_nil, keep, drop, sub_none, sub_append, sub_behind, sub_front, sub_all, ordered_sub, at_rises, foremost, rises_first, InOrder}
-use Rattle.meaning.proofs.Sites.{bound_words, option_words, definition-words, value-words, defined_words, spec_words, statement_words, object_words, file_words, definition_at}
+use Rattle.meaning.proofs.Sites.{bound_words, option_words, definition_words, value_words, defined_words, spec_words, statement_words, object_words, file_words, definition_at}
 use Rattle.meaning.specs.Actions.{M, Enumerator, first_value, truths, defined, defining, specifying, stating, means, meaning, syntax, word_of}
 use Rattle.meaning.specs.Defining.{definition_faults}
 use Rattle.meaning.specs.Faults.{first}
@@ -47,21 +47,21 @@ W file f l = Sub (file_words f) l
 W version v l = Sub (v ∷ []) l
 W implementation i l = Sub (spec_words i.specs) l
 W specs g l = (n e : ℕ) → Sub (spec_words (g n e)) l
-W spec g l = (n e : ℕ) → Sub ((g n e).word ∷ definition-words (g n e).definitions) l
-W definitions g l = (n e : ℕ) → Sub (definition-words (g n e)) l
+W spec g l = (n e : ℕ) → Sub ((g n e).word ∷ definition_words (g n e).definitions) l
+W definitions g l = (n e : ℕ) → Sub (definition_words (g n e)) l
 W definition g l = (n e : ℕ) → Sub (defined_words (g n e)) l
 W attribute g l = (n e : ℕ) → Sub (defined_words (g n e)) l
 W reference-rule g l = (n e : ℕ) → Sub (defined_words (g n e)) l
 W D m l = Unit {0}
-W P g l = (n e : ℕ) → Sub (definition-words (g n e)) l
+W P g l = (n e : ℕ) → Sub (definition_words (g n e)) l
 W auto m l = Unit {0}
 W mark m l = Unit {0}
 W integer_range r l = Sub (bound_words r.bounds) l
 W float_range r l = Sub (bound_words r.bounds) l
 W numbers ts l = Sub ts l
-W boolean_range g l = (n e : ℕ) → Sub (value-words (g n e).values) l
-W enumerator g l = (n e : ℕ) → Sub ((g n e).word ∷ definition-words (g n e).under) l
-W enumerators g l = (n e : ℕ) → Sub (value-words (g n e)) l
+W boolean_range g l = (n e : ℕ) → Sub (value_words (g n e).values) l
+W enumerator g l = (n e : ℕ) → Sub ((g n e).word ∷ definition_words (g n e).under) l
+W enumerators g l = (n e : ℕ) → Sub (value_words (g n e)) l
 W application a l = Sub (a.name ∷ object_words a.objects) l
 W objects g l = (n k : ℕ) → Sub (object_words (g n k)) l
 W object g l = (n k : ℕ) → Sub ((g n k).word ∷ (g n k).name ∷ statement_words (g n k).statements) l
@@ -81,22 +81,22 @@ All s (node {x} p us ts) = W x (means p (meaning s us)) (leaves s us) × All s t
 sub_right : (a b c : List Word) {l : List Word} → Sub l ((a ++ b) ++ c) → Sub l (a ++ (b ++ c))
 sub_right a b c {l} p = subst (λ m. Sub l m) (append_assoc a b c) p
 
-value_list_words : (x : Enumerator) (n e : ℕ) (g : ℕ → ℕ → Values) {a b : List Word} → Sub (x.word ∷ definition-words x.under) a
-    → ((n e : ℕ) → Sub (value-words (g n e)) b) → Sub (value-words (first_value x n e g)) (a ++ b)
-unfolding first_value value-words
+value_list_words : (x : Enumerator) (n e : ℕ) (g : ℕ → ℕ → Values) {a b : List Word} → Sub (x.word ∷ definition_words x.under) a
+    → ((n e : ℕ) → Sub (value_words (g n e)) b) → Sub (value_words (first_value x n e g)) (a ++ b)
+unfolding first_value value_words
 value_list_words x n e g p q = sub_append p (q _ _)
 
 means_words : {x : Rule} {g : Form} (s : List ℕ) (p : x ⟶ g) (us : Trees ◌⟶◌ g) → All s us → W x (means p (meaning s us)) (leaves s us)
-unfolding means meaning leaves first_value truths defined defining specifying stating bound_words option_words definition-words value-words defined_words spec_words statement_words object_words file_words
-means_words s file-is (node _ v (node _ i (node _ a nil))) h = sub_append h.0 (sub_append h.1.0 (sub_front h.1.1.0 []))
+unfolding means meaning leaves first_value truths defined defining specifying stating bound_words option_words definition_words value_words defined_words spec_words statement_words object_words file_words
+means_words s file_is (node _ v (node _ i (node _ a nil))) h = sub_append h.0 (sub_append h.1.0 (sub_front h.1.1.0 []))
 means_words s version_is (leaf _ _ (leaf _ _ (leaf v _ (node _ d r)))) h = drop (drop (keep (sub_none _)))
-means_words s implementation-is (leaf _ _ (leaf _ _ (leaf _ _ (node _ ss r)))) h = drop (drop (drop (sub_front (h.0 0 0) _)))
-means_words s no-spec nil h = λ n e. sub_nil
-means_words s a-spec (node _ x (node _ xs nil)) h = λ n e. sub_append (h.0 n e) (sub_front (h.1.0 _ _) [])
+means_words s implementation_is (leaf _ _ (leaf _ _ (leaf _ _ (node _ ss r)))) h = drop (drop (drop (sub_front (h.0 0 0) _)))
+means_words s no_spec nil h = λ n e. sub_nil
+means_words s a_spec (node _ x (node _ xs nil)) h = λ n e. sub_append (h.0 n e) (sub_front (h.1.0 _ _) [])
 means_words s spec_is (leaf _ _ (leaf _ _ (node _ d r))) h = λ n e. keep (drop (sub_front (h.0 n e) _))
-means_words s no-definition nil h = λ n e. sub_nil
+means_words s no_definition nil h = λ n e. sub_nil
 means_words s a_definition (node _ x (node _ xs nil)) h = λ n e. sub_append (h.0 n e) (sub_front (h.1.0 _ _) [])
-means_words s an-attribute (node _ x nil) h = λ n e. sub_front (h.0 n e) []
+means_words s an_attribute (node _ x nil) h = λ n e. sub_front (h.0 n e) []
 means_words s a_reference (node _ x nil) h = λ n e. sub_front (h.0 n e) []
 means_words s an_integer (leaf _ _ (node _ a (node _ r (leaf x _ (node _ k (node _ d b)))))) h = λ n e.
     keep (sub_behind (leaves s a) (sub_append h.1.0 (keep (sub_behind (leaves s k) (sub_front h.1.1.1.0 _)))))
@@ -110,56 +110,56 @@ means_words s an_enum (leaf _ _ (node _ a (leaf _ _ (node q v (node r vs (leaf _
     keep (sub_behind (leaves s a) (drop (sub_right (leaves s v) (leaves s vs) _
     (sub_append (value_list_words (means q (meaning s v) n e) n e (means r (meaning s vs)) (h.1.0 n e) h.1.1.0)
     (drop (keep (sub_behind (leaves s k) (sub_front h.1.1.1.1.0 _))))))))
-means_words s reference-is (leaf _ _ (leaf x _ (node _ k b))) h = λ n e. keep (keep (sub_none _))
-means_words s no-D nil h = tt
-means_words s a-D us h = tt
-means_words s no-P nil h = λ n e. sub_nil
-means_words s a-P (leaf _ _ (node _ d (leaf _ _ nil))) h = λ n e. drop (sub_front (h.0 n e) _)
-means_words s no-auto us h = tt
-means_words s with-auto us h = tt
-means_words s no-mark us h = tt
-means_words s a-mark us h = tt
-means_words s no-range nil h = sub_nil
-means_words s no-float-range nil h = sub_nil
-means_words s a-range (leaf _ _ (leaf a _ (leaf _ _ (leaf b _ r)))) h = drop (keep (drop (keep (sub_none _))))
-means_words s a-float-range (leaf _ _ (leaf a _ (leaf _ _ (leaf b _ r)))) h = drop (keep (drop (keep (sub_none _))))
-means_words s a-list (leaf _ _ (leaf a _ (node _ ns r))) h = drop (keep (sub_front h.0 _))
+means_words s reference_is (leaf _ _ (leaf x _ (node _ k b))) h = λ n e. keep (keep (sub_none _))
+means_words s no_D nil h = tt
+means_words s a_D us h = tt
+means_words s no_P nil h = λ n e. sub_nil
+means_words s a_P (leaf _ _ (node _ d (leaf _ _ nil))) h = λ n e. drop (sub_front (h.0 n e) _)
+means_words s no_auto us h = tt
+means_words s with_auto us h = tt
+means_words s no_mark us h = tt
+means_words s a_mark us h = tt
+means_words s no_range nil h = sub_nil
+means_words s no_float_range nil h = sub_nil
+means_words s a_range (leaf _ _ (leaf a _ (leaf _ _ (leaf b _ r)))) h = drop (keep (drop (keep (sub_none _))))
+means_words s a_float_range (leaf _ _ (leaf a _ (leaf _ _ (leaf b _ r)))) h = drop (keep (drop (keep (sub_none _))))
+means_words s a_list (leaf _ _ (leaf a _ (node _ ns r))) h = drop (keep (sub_front h.0 _))
 means_words s no_number nil h = sub_nil
 means_words s a_number (leaf _ _ (leaf a _ (node _ ns nil))) h = drop (keep (sub_front h.0 []))
-means_words s no-boolean-range nil h = λ n e. sub_nil
-means_words s a-boolean-range (leaf _ _ (leaf t _ (node _ us (node _ d (leaf _ _ (leaf f _ (node _ vs (node _ b c)))))))) h = λ n e.
+means_words s no_boolean_range nil h = λ n e. sub_nil
+means_words s a_boolean_range (leaf _ _ (leaf t _ (node _ us (node _ d (leaf _ _ (leaf f _ (node _ vs (node _ b c)))))))) h = λ n e.
     drop (keep (sub_append (h.0 n e) (sub_behind (leaves s d) (drop (keep (sub_append (h.1.1.0 _ _) (sub_none _)))))))
 means_words s enumerator_is (leaf w _ (node _ us (node _ d nil))) h = λ n e. keep (sub_front (h.0 n (suc e)) _)
-means_words s no-enumerator nil h = λ n e. sub_nil
+means_words s no_enumerator nil h = λ n e. sub_nil
 means_words s an_enumerator (leaf _ _ (node q v (node r vs nil))) h = λ n e.
     drop (value_list_words (means q (meaning s v) n e) n e (means r (meaning s vs)) (h.0 n e) (λ a b. sub_front (h.1.0 a b) []))
 means_words s no_default nil h = sub_nil
-means_words s a-default (leaf _ _ (node _ o nil)) h = drop (sub_front h.0 [])
-means_words s own-auto (leaf t _ nil) h = keep sub_nil
-means_words s own-none (leaf t _ nil) h = keep sub_nil
-means_words s own-number (leaf t _ nil) h = keep sub_nil
-means_words s own-string (leaf t _ nil) h = keep sub_nil
-means_words s own-float (leaf t _ nil) h = keep sub_nil
-means_words s own-true (leaf t _ nil) h = keep sub_nil
-means_words s own-false (leaf t _ nil) h = keep sub_nil
+means_words s a_default (leaf _ _ (node _ o nil)) h = drop (sub_front h.0 [])
+means_words s own_auto (leaf t _ nil) h = keep sub_nil
+means_words s own_none (leaf t _ nil) h = keep sub_nil
+means_words s own_number (leaf t _ nil) h = keep sub_nil
+means_words s own_string (leaf t _ nil) h = keep sub_nil
+means_words s own_float (leaf t _ nil) h = keep sub_nil
+means_words s own_true (leaf t _ nil) h = keep sub_nil
+means_words s own_false (leaf t _ nil) h = keep sub_nil
 means_words s own_name (leaf t _ nil) h = keep sub_nil
-means_words s application-is (leaf _ _ (leaf x _ (leaf _ _ (node _ os r)))) h = drop (keep (drop (sub_front (h.0 0 0) _)))
+means_words s application_is (leaf _ _ (leaf x _ (leaf _ _ (node _ os r)))) h = drop (keep (drop (sub_front (h.0 0 0) _)))
 means_words s no_object nil h = λ n k. sub_nil
 means_words s an_object (node _ x (node _ xs nil)) h = λ n k. sub_append (h.0 n k) (sub_front (h.1.0 _ _) [])
-means_words s an-object-alone (leaf _ _ (leaf x _ r)) h = λ n k. keep (keep (sub_none _))
-means_words s an-object-with (leaf _ _ (leaf x _ (leaf _ _ (node _ ss r)))) h = λ n k. keep (keep (drop (sub_front (h.0 k) _)))
+means_words s an_object_alone (leaf _ _ (leaf x _ r)) h = λ n k. keep (keep (sub_none _))
+means_words s an_object_with (leaf _ _ (leaf x _ (leaf _ _ (node _ ss r)))) h = λ n k. keep (keep (drop (sub_front (h.0 k) _)))
 means_words s no_block nil h = λ k. sub_nil
 means_words s a_block (leaf _ _ (node _ ss r)) h = λ k. keep (sub_front (h.0 k) _)
-means_words s no-statement nil h = λ k. sub_nil
+means_words s no_statement nil h = λ k. sub_nil
 means_words s a_statement (node _ x (node _ xs nil)) h = λ k. sub_append (h.0 k) (sub_front (h.1.0 _) [])
-means_words s statement-is (leaf x _ (leaf _ _ (node _ v r))) h = λ k. keep (drop (sub_front (h.0 (suc k)) _))
-means_words s value-number (leaf t _ nil) h = λ k. keep sub_nil
-means_words s value-string (leaf t _ nil) h = λ k. keep sub_nil
-means_words s value-float (leaf t _ nil) h = λ k. keep sub_nil
-means_words s value-auto (leaf t _ nil) h = λ k. keep sub_nil
-means_words s value-name (leaf t _ (node _ b nil)) h = λ k. keep (sub_front (h.0 k) [])
-means_words s value-true (leaf t _ (node _ b nil)) h = λ k. keep (sub_front (h.0 k) [])
-means_words s value-false (leaf t _ (node _ b nil)) h = λ k. keep (sub_front (h.0 k) [])
+means_words s statement_is (leaf x _ (leaf _ _ (node _ v r))) h = λ k. keep (drop (sub_front (h.0 (suc k)) _))
+means_words s value_number (leaf t _ nil) h = λ k. keep sub_nil
+means_words s value_string (leaf t _ nil) h = λ k. keep sub_nil
+means_words s value_float (leaf t _ nil) h = λ k. keep sub_nil
+means_words s value_auto (leaf t _ nil) h = λ k. keep sub_nil
+means_words s value_name (leaf t _ (node _ b nil)) h = λ k. keep (sub_front (h.0 k) [])
+means_words s value_true (leaf t _ (node _ b nil)) h = λ k. keep (sub_front (h.0 k) [])
+means_words s value_false (leaf t _ (node _ b nil)) h = λ k. keep (sub_front (h.0 k) [])
 
 all_words : {f : Form} (s : List ℕ) (ts : Trees ◌⟶◌ f) → All s ts
 all_words s nil = tt
@@ -174,9 +174,9 @@ words_leaves s (node p us nil) = sub_front (means_words s p us (all_words s us))
 -- Where the tokens are in order, the first fault of the list of 6 to 10 is the leftmost, and of those at its place the one with the smallest
 -- number. With objects in parts the later stages' faults are not met in text order.
 module _ (s : List ℕ) (t : Trees ◌⟶◌ (file ▸ ∎)) (o : Ordered 0 (tokens t)) where
-  pub definition-order : first (definition_faults (syntax s t)) ≡ foremost (definition_faults (syntax s t))
+  pub definition_order : first (definition_faults (syntax s t)) ≡ foremost (definition_faults (syntax s t))
   unfolding file_words
-  definition-order =
+  definition_order =
       let f = syntax s t in
       let w = ordered_sub (words_leaves s t) 0 (leaves_in_order s t o) in
       rises_first (definition_faults f) (at_rises 0 (definition_at f) (ordered_sub (sub_front (sub_all (f.version ∷ spec_words f.specs)) (f.cpu ∷ object_words f.parts)) 0 w))

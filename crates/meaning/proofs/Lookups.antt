@@ -16,7 +16,7 @@ use Rattle.meaning.specs.Syntax.{span_of, Definition, Definitions, no_more, defi
 use Rattle.meaning.specs.Words.{alike}
 use Rattle.meaning.specs.Actions.{word_of, syntax}
 use Rattle.meaning.proofs.Order.{Sub, sub_nil, keep, drop}
-use Rattle.meaning.proofs.Sites.{bound_words, option_words, definition-words, value-words, file_words}
+use Rattle.meaning.proofs.Sites.{bound_words, option_words, definition_words, value_words, file_words}
 use Rattle.meaning.proofs.Leaves.{leaves_words, words, words_leaves}
 
 -- Words of the text ------------------------------------------------------------------------------------------------------------------------
@@ -49,15 +49,15 @@ text_back s [] b h = h
 text_back s (w ∷ a) b h = text_back s a b h.1
 
 -- The words of a definition's type and name, and those of the definitions behind it.
-pub name_text : (s : List ℕ) (d : Definition) (vs : Values) (ds : Definitions) → InText s (definition-words (define d vs ds))
-    → (d.name.bytes ≡ part s (span_of d.name)) × InText s (definition-words ds)
-unfolding definition-words
+pub name_text : (s : List ℕ) (d : Definition) (vs : Values) (ds : Definitions) → InText s (definition_words (define d vs ds))
+    → (d.name.bytes ≡ part s (span_of d.name)) × InText s (definition_words ds)
+unfolding definition_words
 name_text s d vs ds h =
     let w = d.name ∷ option_words d.default in
-    let a = d.word ∷ (bound_words d.bounds ++ (value-words vs ++ w)) in
-    let k = (text_front s a (definition-words ds) h).1 in
-    let m = text_back s (value-words vs) w (text_back s (bound_words d.bounds) (value-words vs ++ w) k) in
-    (m.0, text_back s a (definition-words ds) h)
+    let a = d.word ∷ (bound_words d.bounds ++ (value_words vs ++ w)) in
+    let k = (text_front s a (definition_words ds) h).1 in
+    let m = text_back s (value_words vs) w (text_back s (bound_words d.bounds) (value_words vs ++ w) k) in
+    (m.0, text_back s a (definition_words ds) h)
 
 -- Names in the tables ----------------------------------------------------------------------------------------------------------------------
 
@@ -70,7 +70,7 @@ first_standing s t (x ∷ xs) = let r = first_standing s t xs in pick (same (par
 unfoldable pub row_under : Word → Defined → Standing
 row_under u x = record { number = x.definition.row; row = definition_row u x.definition }
 
-standing_finds : (s : List ℕ) (u t : Word) (ds : Definitions) → InText s (definition-words ds)
+standing_finds : (s : List ℕ) (u t : Word) (ds : Definitions) → InText s (definition_words ds)
     → first_standing s t (standing u ds) ≡ if_there (row_under u) (find_definition ds t)
 unfolding first_standing standing row_under definition_row find_definition alike if_there
 standing_finds s u t no_more h = refl
@@ -84,6 +84,6 @@ standing_finds s u t (define d vs ds) h =
     go false e = e
 
 -- In the table R: the row that a name of the scope has.
-pub finds_definition : (R : List DefinitionRow) (u : Word) (ds : Definitions) (s : List ℕ) (t : Word) → InText s (definition-words ds) → Scope R u ds
+pub finds_definition : (R : List DefinitionRow) (u : Word) (ds : Definitions) (s : List ℕ) (t : Word) → InText s (definition_words ds) → Scope R u ds
     → first_standing s t (select-under u.place 0 R) ≡ if_there (row_under u) (find_definition ds t)
 finds_definition R u ds s t h e = ap (first_standing s t) e ∙ standing_finds s u t ds h

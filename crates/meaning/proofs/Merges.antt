@@ -20,7 +20,7 @@ use Rattle.meaning.specs.Kinds.{kind_number, same_kind}
 use Rattle.meaning.specs.Scopes.{find_object}
 use Rattle.meaning.specs.Applying.{elsewhere}
 use Rattle.meaning.specs.Actions.{means, meaning, syntax}
-use Rattle.grammar.specs.Grammar.{file, ◌▸◌, ∎, ◌⟶◌, Trees, nil, node, file-is}
+use Rattle.grammar.specs.Grammar.{file, ◌▸◌, ∎, ◌⟶◌, Trees, nil, node, file_is}
 use Rattle.meaning.proofs.Sites.{option_words, statement_words, object_words}
 use Rattle.meaning.specs.Merging.{then, same_object, used, continued, merged, merge_from, merge}
 
@@ -120,26 +120,26 @@ module _ (g : Object → ℕ) where
   sum (x ∷ xs) = g x + sum xs
 
   -- over those that are no further parts of the objects before,
-  unfoldable pub sum-new : (before xs : List Object) → ℕ
-  sum-new before [] = 0
-  sum-new before (x ∷ xs) = let r = sum-new before xs in pick (used x before) r (g x + r)
+  unfoldable pub sum_new : (before xs : List Object) → ℕ
+  sum_new before [] = 0
+  sum_new before (x ∷ xs) = let r = sum_new before xs in pick (used x before) r (g x + r)
 
   -- and over the further parts of x.
   unfoldable pub sum_same : Object → List Object → ℕ
   sum_same x [] = 0
   sum_same x (y ∷ ys) = let r = sum_same x ys in pick (same_object x y) (g y + r) r
 
-  sum-fresh : (xs : List Object) → sum-new [] xs ≡ sum xs
-  unfolding sum sum-new
-  sum-fresh [] = refl
-  sum-fresh (x ∷ xs) = ap (λ (b : Bool). pick b (sum-new [] xs) (g x + sum-new [] xs)) (used_none x) ∙ ap (g x +◌) (sum-fresh xs)
+  sum_fresh : (xs : List Object) → sum_new [] xs ≡ sum xs
+  unfolding sum sum_new
+  sum_fresh [] = refl
+  sum_fresh (x ∷ xs) = ap (λ (b : Bool). pick b (sum_new [] xs) (g x + sum_new [] xs)) (used_none x) ∙ ap (g x +◌) (sum_fresh xs)
 
   -- A part of a kind and name that was used before changes nothing,
-  sum-used : (before : List Object) (x : Object) (xs : List Object) → used x before ≡ true → sum-new (before ++ (x ∷ [])) xs ≡ sum-new before xs
-  unfolding sum-new
-  sum-used before x [] u = refl
-  sum-used before x (y ∷ ys) u =
-      ap₂ (λ (b : Bool) (r : ℕ). pick b r (g y + r)) (used_behind y x before ∙ go (used y before) (same_object y x) (λ e. used_alike y x before (same_alike y x e) ∙ u)) (sum-used before x ys u)
+  sum_used : (before : List Object) (x : Object) (xs : List Object) → used x before ≡ true → sum_new (before ++ (x ∷ [])) xs ≡ sum_new before xs
+  unfolding sum_new
+  sum_used before x [] u = refl
+  sum_used before x (y ∷ ys) u =
+      ap₂ (λ (b : Bool) (r : ℕ). pick b r (g y + r)) (used_behind y x before ∙ go (used y before) (same_object y x) (λ e. used_alike y x before (same_alike y x e) ∙ u)) (sum_used before x ys u)
     where
       go : (a b : Bool) → (b ≡ true → a ≡ true) → either a b ≡ a
       go true b f = refl
@@ -147,16 +147,16 @@ module _ (g : Object → ℕ) where
       go false false f = refl
 
   -- and the first of its kind and name takes its further parts.
-  sum_first : (before : List Object) (x : Object) (xs : List Object) → used x before ≡ false → sum_same x xs + sum-new (before ++ (x ∷ [])) xs ≡ sum-new before xs
-  unfolding sum-new sum_same
+  sum_first : (before : List Object) (x : Object) (xs : List Object) → used x before ≡ false → sum_same x xs + sum_new (before ++ (x ∷ [])) xs ≡ sum_new before xs
+  unfolding sum_new sum_same
   sum_first before x [] u = refl
   sum_first before x (y ∷ ys) u =
       go (same_object x y) (used y before) (used y (before ++ (x ∷ []))) (used_behind y x before ∙ ap (either (used y before)) (same_swap y x))
       (λ e. sym (used_alike x y before (same_alike x y e)) ∙ u) (sum_first before x ys u)
     where
-      go : (a b c : Bool) → c ≡ either b a → (a ≡ true → b ≡ false) → sum_same x ys + sum-new (before ++ (x ∷ [])) ys ≡ sum-new before ys
-          → pick a (g y + sum_same x ys) (sum_same x ys) + pick c (sum-new (before ++ (x ∷ [])) ys) (g y + sum-new (before ++ (x ∷ [])) ys)
-          ≡ pick b (sum-new before ys) (g y + sum-new before ys)
+      go : (a b c : Bool) → c ≡ either b a → (a ≡ true → b ≡ false) → sum_same x ys + sum_new (before ++ (x ∷ [])) ys ≡ sum_new before ys
+          → pick a (g y + sum_same x ys) (sum_same x ys) + pick c (sum_new (before ++ (x ∷ [])) ys) (g y + sum_new (before ++ (x ∷ [])) ys)
+          ≡ pick b (sum_new before ys) (g y + sum_new before ys)
       go true true c e f h = absurd (false≢true (sym (f refl)))
       go true false c e f h = rw e (let i = h in omega arith)
       go false true c e f h = rw e h
@@ -177,59 +177,59 @@ continued_sum x (y ∷ ys) = go (same_object x y) (continued_sum x ys)
     go true e = statements_then y.statements (continued x ys) ∙ ap (statements_in y.statements +◌) e
     go false e = e
 
-merge_sum : (before xs : List Object) (n : ℕ) → sum own_statements (merge_from before xs n) ≡ sum-new own_statements before xs
-unfolding merge_from merged sum sum-new choose
+merge_sum : (before xs : List Object) (n : ℕ) → sum own_statements (merge_from before xs n) ≡ sum_new own_statements before xs
+unfolding merge_from merged sum sum_new choose
 merge_sum before [] n = refl
 merge_sum before (x ∷ xs) n =
-    go (used x before) (merge_sum (before ++ (x ∷ [])) xs n) (merge_sum (before ++ (x ∷ [])) xs (suc n)) (sum-used own_statements before x xs) (sum_first own_statements before x xs)
+    go (used x before) (merge_sum (before ++ (x ∷ [])) xs n) (merge_sum (before ++ (x ∷ [])) xs (suc n)) (sum_used own_statements before x xs) (sum_first own_statements before x xs)
     (statements_then x.statements (continued x xs)) (continued_sum x xs)
   where
-    go : (b : Bool) → sum own_statements (merge_from (before ++ (x ∷ [])) xs n) ≡ sum-new own_statements (before ++ (x ∷ [])) xs
-        → sum own_statements (merge_from (before ++ (x ∷ [])) xs (suc n)) ≡ sum-new own_statements (before ++ (x ∷ [])) xs
-        → (b ≡ true → sum-new own_statements (before ++ (x ∷ [])) xs ≡ sum-new own_statements before xs)
-        → (b ≡ false → sum_same own_statements x xs + sum-new own_statements (before ++ (x ∷ [])) xs ≡ sum-new own_statements before xs)
+    go : (b : Bool) → sum own_statements (merge_from (before ++ (x ∷ [])) xs n) ≡ sum_new own_statements (before ++ (x ∷ [])) xs
+        → sum own_statements (merge_from (before ++ (x ∷ [])) xs (suc n)) ≡ sum_new own_statements (before ++ (x ∷ [])) xs
+        → (b ≡ true → sum_new own_statements (before ++ (x ∷ [])) xs ≡ sum_new own_statements before xs)
+        → (b ≡ false → sum_same own_statements x xs + sum_new own_statements (before ++ (x ∷ [])) xs ≡ sum_new own_statements before xs)
         → statements_in (then x.statements (continued x xs)) ≡ statements_in x.statements + statements_in (continued x xs)
         → statements_in (continued x xs) ≡ sum_same own_statements x xs
         → sum own_statements (choose b (λ _. merge_from (before ++ (x ∷ [])) xs n) (λ _. merged x n xs ∷ merge_from (before ++ (x ∷ [])) xs (suc n)))
-        ≡ pick b (sum-new own_statements before xs) (statements_in x.statements + sum-new own_statements before xs)
+        ≡ pick b (sum_new own_statements before xs) (statements_in x.statements + sum_new own_statements before xs)
     go true p q f h e c = p ∙ f refl
     go false p q f h e c = let i = h refl in omega arith
 
 pub merge_statements : (xs : List Object) → sum own_statements (merge xs) ≡ sum own_statements xs
 unfolding merge
-merge_statements xs = merge_sum [] xs 0 ∙ sum-fresh own_statements xs
+merge_statements xs = merge_sum [] xs 0 ∙ sum_fresh own_statements xs
 
 -- No word is new -------------------------------------------------------------------------------------------------------------------------------
 
 -- The objects of a text's syntax are its parts, merged.
 pub syntax_merged : (s : List ℕ) (t : Trees ◌⟶◌ (file ▸ ∎)) → (syntax s t).objects ≡ merge (syntax s t).parts
 unfolding syntax meaning means
-syntax_merged s (node file-is us nil) = refl
+syntax_merged s (node file_is us nil) = refl
 
 -- w is one of some words.
 pub data In (w : Word) : List Word → Type 0 where
-  in-here : {v : Word} {l : List Word} → v ≡ w → In w (v ∷ l)
-  in-there : {v : Word} {l : List Word} → In w l → In w (v ∷ l)
+  in_here : {v : Word} {l : List Word} → v ≡ w → In w (v ∷ l)
+  in_there : {v : Word} {l : List Word} → In w l → In w (v ∷ l)
 
 in_some : {w : Word} {l : List Word} → In w l → length l ≡ 0 → ⊥
-in_some (in-here q) e = omega arith
-in_some (in-there h) e = omega arith
+in_some (in_here q) e = omega arith
+in_some (in_there h) e = omega arith
 
 in_none : {w : Word} → In w [] → ⊥
 in_none h = in_some h refl
 
 in_left : {w : Word} {a : List Word} (b : List Word) → In w a → In w (a ++ b)
-in_left b (in-here q) = in-here q
-in_left b (in-there h) = in-there (in_left b h)
+in_left b (in_here q) = in_here q
+in_left b (in_there h) = in_there (in_left b h)
 
 in_right : {w : Word} (a : List Word) {b : List Word} → In w b → In w (a ++ b)
 in_right [] h = h
-in_right (v ∷ a) h = in-there (in_right a h)
+in_right (v ∷ a) h = in_there (in_right a h)
 
 in_either : {w : Word} (a b : List Word) → In w (a ++ b) → In w a ⊎ In w b
 in_either [] b h = inr h
-in_either (v ∷ a) b (in-here q) = inl (in-here q)
-in_either (v ∷ a) b (in-there h) = ⊎_elim (λ i. inl (in-there i)) (λ i. inr i) (in_either a b h)
+in_either (v ∷ a) b (in_here q) = inl (in_here q)
+in_either (v ∷ a) b (in_there h) = ⊎_elim (λ i. inl (in_there i)) (λ i. inr i) (in_either a b h)
 
 words_then : (a b : Statements) → statement_words (then a b) ≡ statement_words a ++ statement_words b
 unfolding then statement_words
@@ -241,11 +241,11 @@ words_then (state x inside rest) b =
 -- Of a part its statements', and those of the parts behind it.
 in_statements : {w : Word} (y : Object) (ys : List Object) → In w (statement_words y.statements) → In w (object_words (y ∷ ys))
 unfolding object_words
-in_statements y ys h = in-there (in-there (in_left (object_words ys) h))
+in_statements y ys h = in_there (in_there (in_left (object_words ys) h))
 
 in_later : {w : Word} (y : Object) (ys : List Object) → In w (object_words ys) → In w (object_words (y ∷ ys))
 unfolding object_words
-in_later y ys h = in-there (in-there (in_right (statement_words y.statements) h))
+in_later y ys h = in_there (in_there (in_right (statement_words y.statements) h))
 
 continued_words : {w : Word} (x : Object) (ys : List Object) → In w (statement_words (continued x ys)) → In w (object_words ys)
 unfolding continued statement_words
@@ -260,9 +260,9 @@ continued_words {w} x (y ∷ ys) h = go (same_object x y) (λ i. continued_words
 
 merged_words : {w : Word} (x : Object) (n : ℕ) (xs os : List Object) → (In w (object_words os) → In w (object_words xs)) → In w (object_words (merged x n xs ∷ os)) → In w (object_words (x ∷ xs))
 unfolding object_words merged
-merged_words x n xs os f (in-here q) = in-here q
-merged_words x n xs os f (in-there (in-here q)) = in-there (in-here q)
-merged_words {w} x n xs os f (in-there (in-there h)) =
+merged_words x n xs os f (in_here q) = in_here q
+merged_words x n xs os f (in_there (in_here q)) = in_there (in_here q)
+merged_words {w} x n xs os f (in_there (in_there h)) =
     ⊎_elim
     (λ i. ⊎_elim (λ j. in_statements x xs j) (λ j. in_later x xs (continued_words x xs j))
     (in_either (statement_words x.statements) (statement_words (continued x xs)) (subst (In w) (words_then x.statements (continued x xs)) i)))

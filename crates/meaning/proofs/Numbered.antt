@@ -11,7 +11,7 @@ use Rattle.meaning.specs.Syntax.{Word, Bounds, no_bounds, from_to, one_of, Attri
 use Rattle.meaning.specs.Kinds.{kinds}
 use Rattle.meaning.specs.Faults.{Fault, faults_if, ahead, sooner, first}
 use Rattle.meaning.specs.Scopes.{Sort, a_number, a_string, a_truth, an_auto, a_no_default, a_name, a_float, sort_of, heads, of_kind, find_definition, names}
-use Rattle.meaning.specs.Defining.{outside, bound_faults, low_faults, range_faults, default_number, default_faults, name_faults, word_faults, scope-faults, value-faults, spec_faults, definition_faults}
+use Rattle.meaning.specs.Defining.{outside, bound_faults, low_faults, range_faults, default_number, default_faults, name_faults, word_faults, scope_faults, value_faults, spec_faults, definition_faults}
 use Rattle.meaning.specs.Applying.{too_few, statement_faults, each_object, each_part, elsewhere, each_name, object_faults}
 use Rattle.meaning.specs.Judging.{reference_faults, brace_faults, faults_as, own_faults, and_inside, judged, judge, judge_object, judge_objects, statement_stage}
 
@@ -83,25 +83,25 @@ unfolding word_faults
 of_word b e w before = with_more (at_if _ w 7 (omega arith)) (at_if _ w 8 (omega arith))
 
 mutual
-  unfolding scope-faults
+  unfolding scope_faults
 
-  of-scope : (ds : Definitions) (others before : List Definition) → Numbered (scope-faults ds others before)
-  of-scope no_more others before = no_fault
-  of-scope (define d vs ds) others before =
+  of_scope : (ds : Definitions) (others before : List Definition) → Numbered (scope_faults ds others before)
+  of_scope no_more others before = no_fault
+  of_scope (define d vs ds) others before =
       with_more
       (with_more (of_range d.type d.bounds)
       (with_more (of_values vs (is_enum d.type) [] []) (with_more (of_name d others before) (of_default d vs d.default))))
-      (of-scope ds others (before ++ (d ∷ [])))
+      (of_scope ds others (before ++ (d ∷ [])))
 
-  of_values : (vs : Values) (b : Bool) (before : List Word) (others : List Definition) → Numbered (value-faults vs b before others)
+  of_values : (vs : Values) (b : Bool) (before : List Word) (others : List Definition) → Numbered (value_faults vs b before others)
   of_values no_value b before others = no_fault
   of_values (value w e us vs) b before others =
-      with_more (with_more (of_word b e w before) (of-scope us others [])) (of_values vs b (before ++ (w ∷ [])) (others ++ heads us))
+      with_more (with_more (of_word b e w before) (of_scope us others [])) (of_values vs b (before ++ (w ∷ [])) (others ++ heads us))
 
 of_specs : (before xs : List Spec) → Numbered (spec_faults before xs)
 unfolding spec_faults
 of_specs before [] = no_fault
-of_specs before (x ∷ xs) = with_more (with_more (at_if _ x.word 8 (omega arith)) (of-scope x.definitions [] [])) (of_specs (before ++ (x ∷ [])) xs)
+of_specs before (x ∷ xs) = with_more (with_more (at_if _ x.word 8 (omega arith)) (of_scope x.definitions [] [])) (of_specs (before ++ (x ∷ [])) xs)
 
 pub of_definitions : (f : File) → Numbered (definition_faults f)
 unfolding definition_faults

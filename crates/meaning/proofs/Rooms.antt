@@ -17,7 +17,7 @@ use Rattle.meaning.specs.Words.{choose, among}
 use Rattle.meaning.specs.Faults.{Fault, faults_if, sooner, first}
 use Rattle.meaning.specs.Actions.{syntax}
 use Rattle.meaning.specs.Scopes.{heads, find_object}
-use Rattle.meaning.specs.Defining.{DefinitionRow, EnumeratorRow, definition-rows, enumerator-rows, all_definition_rows, all_enumerator_rows, range_faults, default_faults, defined_in, differs, name_faults, word_faults, scope-faults, value-faults, specified, spec_faults, definition_faults}
+use Rattle.meaning.specs.Defining.{DefinitionRow, EnumeratorRow, definition_rows, enumerator_rows, all_definition_rows, all_enumerator_rows, range_faults, default_faults, defined_in, differs, name_faults, word_faults, scope_faults, value_faults, specified, spec_faults, definition_faults}
 use Rattle.meaning.specs.Applying.{ObjectRow, object_rows, how_many, full, too_few, statement_faults, each_object, each_part, each_name, object_faults}
 use Rattle.meaning.specs.Kinds.{kinds, most}
 use Rattle.meaning.specs.Judging.{statement_stage}
@@ -25,9 +25,9 @@ use Rattle.meaning.specs.Resolving.{ValueRow, Resolved, all_values, value_rows, 
 use Rattle.meaning.specs.Answers.{Tables, Answer, accepted, tables, unless, answer}
 use Rattle.meaning.specs.Cells.{definition_cells, enumerator_cells, object_cells, value_cells, cells, zeros, room_cells, definition_room, enumerator_room, object_room, value_room}
 use Rattle.meaning.proofs.Entries.{length_values}
-use Rattle.meaning.proofs.Numbering.{Counts, counts_more, definition-numbers, numbers-under, number_if, enumerator-numbers, enumerator-numbers-of, spec_numbers, spec_enumerator_numbers, statement_numbers, object_numbers, all_statement_numbers, length-definitions, length-enumerators, numbered}
-use Rattle.meaning.proofs.Standing.{length-rows}
-use Rattle.meaning.proofs.Choices.{length-rows as length-enumerator-rows}
+use Rattle.meaning.proofs.Numbering.{Counts, counts_more, definition_numbers, numbers_under, number_if, enumerator_numbers, enumerator_numbers_of, spec_numbers, spec_enumerator_numbers, statement_numbers, object_numbers, all_statement_numbers, length_definitions, length_enumerators, numbered}
+use Rattle.meaning.proofs.Standing.{length_rows}
+use Rattle.meaning.proofs.Choices.{length_rows as length-enumerator-rows}
 
 -- Widths -----------------------------------------------------------------------------------------------------------------------------------
 
@@ -132,7 +132,7 @@ module _ (d : Definition) (vs : Values) (ds : Definitions) (others before : List
   of_range = range_faults d.type d.bounds
 
   of_values : List Fault
-  of_values = value-faults vs (is_enum d.type) [] []
+  of_values = value_faults vs (is_enum d.type) [] []
 
   of_name : List Fault
   of_name = name_faults d others before
@@ -140,105 +140,105 @@ module _ (d : Definition) (vs : Values) (ds : Definitions) (others before : List
   of_default : List Fault
   of_default = default_faults d vs d.default
 
-  rest-none : scope-faults (define d vs ds) others before ≡ [] → scope-faults ds others (before ++ (d ∷ [])) ≡ []
-  unfolding scope-faults of_range of_values of_name of_default
-  rest-none e = nothing_back (of_range ++ (of_values ++ (of_name ++ of_default))) (scope-faults ds others (before ++ (d ∷ []))) e
+  rest_none : scope_faults (define d vs ds) others before ≡ [] → scope_faults ds others (before ++ (d ∷ [])) ≡ []
+  unfolding scope_faults of_range of_values of_name of_default
+  rest_none e = nothing_back (of_range ++ (of_values ++ (of_name ++ of_default))) (scope_faults ds others (before ++ (d ∷ []))) e
 
-  inner-none : scope-faults (define d vs ds) others before ≡ [] → of_values ++ (of_name ++ of_default) ≡ []
-  unfolding scope-faults of_range of_values of_name of_default
-  inner-none e =
+  inner_none : scope_faults (define d vs ds) others before ≡ [] → of_values ++ (of_name ++ of_default) ≡ []
+  unfolding scope_faults of_range of_values of_name of_default
+  inner_none e =
       nothing_back of_range (of_values ++ (of_name ++ of_default))
-      (nothing_front (of_range ++ (of_values ++ (of_name ++ of_default))) (scope-faults ds others (before ++ (d ∷ []))) e)
+      (nothing_front (of_range ++ (of_values ++ (of_name ++ of_default))) (scope_faults ds others (before ++ (d ∷ []))) e)
 
-  values-none : scope-faults (define d vs ds) others before ≡ [] → value-faults vs (is_enum d.type) [] [] ≡ []
+  values_none : scope_faults (define d vs ds) others before ≡ [] → value_faults vs (is_enum d.type) [] [] ≡ []
   unfolding of_values of_name of_default
-  values-none e = nothing_front of_values (of_name ++ of_default) (inner-none e)
+  values_none e = nothing_front of_values (of_name ++ of_default) (inner_none e)
 
-  name-none : scope-faults (define d vs ds) others before ≡ [] → name_faults d others before ≡ []
+  name_none : scope_faults (define d vs ds) others before ≡ [] → name_faults d others before ≡ []
   unfolding of_values of_name of_default
-  name-none e = nothing_front of_name of_default (nothing_back of_values (of_name ++ of_default) (inner-none e))
+  name_none e = nothing_front of_name of_default (nothing_back of_values (of_name ++ of_default) (inner_none e))
 
 module _ (w : Word) (e : ℕ) (us : Definitions) (vs : Values) (b : Bool) (before : List Word) (others : List Definition) where
-  word_none : value-faults (value w e us vs) b before others ≡ [] → word_faults b e w before ≡ []
-  unfolding scope-faults
+  word_none : value_faults (value w e us vs) b before others ≡ [] → word_faults b e w before ≡ []
+  unfolding scope_faults
   word_none h =
-      nothing_front (word_faults b e w before) (scope-faults us others [])
-      (nothing_front (word_faults b e w before ++ scope-faults us others []) (value-faults vs b (before ++ (w ∷ [])) (others ++ heads us)) h)
+      nothing_front (word_faults b e w before) (scope_faults us others [])
+      (nothing_front (word_faults b e w before ++ scope_faults us others []) (value_faults vs b (before ++ (w ∷ [])) (others ++ heads us)) h)
 
-  under_none : value-faults (value w e us vs) b before others ≡ [] → scope-faults us others [] ≡ []
-  unfolding scope-faults
+  under_none : value_faults (value w e us vs) b before others ≡ [] → scope_faults us others [] ≡ []
+  unfolding scope_faults
   under_none h =
-      nothing_back (word_faults b e w before) (scope-faults us others [])
-      (nothing_front (word_faults b e w before ++ scope-faults us others []) (value-faults vs b (before ++ (w ∷ [])) (others ++ heads us)) h)
+      nothing_back (word_faults b e w before) (scope_faults us others [])
+      (nothing_front (word_faults b e w before ++ scope_faults us others []) (value_faults vs b (before ++ (w ∷ [])) (others ++ heads us)) h)
 
-  behind-none : value-faults (value w e us vs) b before others ≡ [] → value-faults vs b (before ++ (w ∷ [])) (others ++ heads us) ≡ []
-  unfolding scope-faults
-  behind-none h = nothing_back (word_faults b e w before ++ scope-faults us others []) (value-faults vs b (before ++ (w ∷ [])) (others ++ heads us)) h
-
-mutual
-  unfolding definition-numbers
-
-  scope-without : (ds : Definitions) (others before : List Definition) → scope-faults ds others before ≡ [] → Without 512 (definition-numbers ds)
-  scope-without no_more others before e = tt
-  scope-without (define d vs ds) others before e =
-      without_append 512 (numbers-under vs) (d.row ∷ definition-numbers ds)
-      (values-without vs (is_enum d.type) [] [] (values-none d vs ds others before e))
-      (name_without d others before (name-none d vs ds others before e), scope-without ds others (before ++ (d ∷ [])) (rest-none d vs ds others before e))
-
-  values-without : (vs : Values) (b : Bool) (before : List Word) (others : List Definition) → value-faults vs b before others ≡ [] → Without 512 (numbers-under vs)
-  values-without no_value b before others h = tt
-  values-without (value w e us vs) b before others h =
-      without_append 512 (definition-numbers us) (numbers-under vs)
-      (scope-without us others [] (under_none w e us vs b before others h))
-      (values-without vs b (before ++ (w ∷ [])) (others ++ heads us) (behind-none w e us vs b before others h))
+  behind_none : value_faults (value w e us vs) b before others ≡ [] → value_faults vs b (before ++ (w ∷ [])) (others ++ heads us) ≡ []
+  unfolding scope_faults
+  behind_none h = nothing_back (word_faults b e w before ++ scope_faults us others []) (value_faults vs b (before ++ (w ∷ [])) (others ++ heads us)) h
 
 mutual
-  unfolding enumerator-numbers
+  unfolding definition_numbers
 
-  enums-without : (ds : Definitions) (others before : List Definition) → scope-faults ds others before ≡ [] → Without 1024 (enumerator-numbers ds)
-  enums-without no_more others before e = tt
-  enums-without (define d vs ds) others before e =
-      without_append 1024 (enumerator-numbers-of vs (is_enum d.type)) (enumerator-numbers ds)
-      (list-without vs (is_enum d.type) [] [] (values-none d vs ds others before e))
-      (enums-without ds others (before ++ (d ∷ [])) (rest-none d vs ds others before e))
+  scope_without : (ds : Definitions) (others before : List Definition) → scope_faults ds others before ≡ [] → Without 512 (definition_numbers ds)
+  scope_without no_more others before e = tt
+  scope_without (define d vs ds) others before e =
+      without_append 512 (numbers_under vs) (d.row ∷ definition_numbers ds)
+      (values_without vs (is_enum d.type) [] [] (values_none d vs ds others before e))
+      (name_without d others before (name_none d vs ds others before e), scope_without ds others (before ++ (d ∷ [])) (rest_none d vs ds others before e))
 
-  list-without : (vs : Values) (b : Bool) (before : List Word) (others : List Definition) → value-faults vs b before others ≡ [] → Without 1024 (enumerator-numbers-of vs b)
-  list-without no_value b before others h = tt
-  list-without (value w e us vs) b before others h =
-      without_append 1024 (number_if b e) (enumerator-numbers us ++ enumerator-numbers-of vs b)
+  values_without : (vs : Values) (b : Bool) (before : List Word) (others : List Definition) → value_faults vs b before others ≡ [] → Without 512 (numbers_under vs)
+  values_without no_value b before others h = tt
+  values_without (value w e us vs) b before others h =
+      without_append 512 (definition_numbers us) (numbers_under vs)
+      (scope_without us others [] (under_none w e us vs b before others h))
+      (values_without vs b (before ++ (w ∷ [])) (others ++ heads us) (behind_none w e us vs b before others h))
+
+mutual
+  unfolding enumerator_numbers
+
+  enums_without : (ds : Definitions) (others before : List Definition) → scope_faults ds others before ≡ [] → Without 1024 (enumerator_numbers ds)
+  enums_without no_more others before e = tt
+  enums_without (define d vs ds) others before e =
+      without_append 1024 (enumerator_numbers_of vs (is_enum d.type)) (enumerator_numbers ds)
+      (list_without vs (is_enum d.type) [] [] (values_none d vs ds others before e))
+      (enums_without ds others (before ++ (d ∷ [])) (rest_none d vs ds others before e))
+
+  list_without : (vs : Values) (b : Bool) (before : List Word) (others : List Definition) → value_faults vs b before others ≡ [] → Without 1024 (enumerator_numbers_of vs b)
+  list_without no_value b before others h = tt
+  list_without (value w e us vs) b before others h =
+      without_append 1024 (number_if b e) (enumerator_numbers us ++ enumerator_numbers_of vs b)
       (word_without b e w before (word_none w e us vs b before others h))
-      (without_append 1024 (enumerator-numbers us) (enumerator-numbers-of vs b)
-      (enums-without us others [] (under_none w e us vs b before others h))
-      (list-without vs b (before ++ (w ∷ [])) (others ++ heads us) (behind-none w e us vs b before others h)))
+      (without_append 1024 (enumerator_numbers us) (enumerator_numbers_of vs b)
+      (enums_without us others [] (under_none w e us vs b before others h))
+      (list_without vs b (before ++ (w ∷ [])) (others ++ heads us) (behind_none w e us vs b before others h)))
 
 specs_without : (before xs : List Spec) → spec_faults before xs ≡ [] → Without 512 (spec_numbers xs) × Without 1024 (spec_enumerator_numbers xs)
 unfolding spec_faults spec_numbers spec_enumerator_numbers
 specs_without before [] e = (tt, tt)
 specs_without before (x ∷ xs) e =
     let a = faults_if (specified x before) x.word 8 in
-    let b = scope-faults x.definitions [] [] in
+    let b = scope_faults x.definitions [] [] in
     let c = spec_faults (before ++ (x ∷ [])) xs in
     let own = nothing_back a b (nothing_front (a ++ b) c e) in
     let more = specs_without (before ++ (x ∷ [])) xs (nothing_back (a ++ b) c e) in (
-      without_append 512 (definition-numbers x.definitions) (spec_numbers xs) (scope-without x.definitions [] [] own) more.0,
-      without_append 1024 (enumerator-numbers x.definitions) (spec_enumerator_numbers xs) (enums-without x.definitions [] [] own) more.1,
+      without_append 512 (definition_numbers x.definitions) (spec_numbers xs) (scope_without x.definitions [] [] own) more.0,
+      without_append 1024 (enumerator_numbers x.definitions) (spec_enumerator_numbers xs) (enums_without x.definitions [] [] own) more.1,
     )
 
 definition_rows_length : (xs : List Spec) → length (all_definition_rows xs) ≡ length (spec_numbers xs)
 unfolding all_definition_rows spec_numbers
 definition_rows_length [] = refl
 definition_rows_length (x ∷ xs) =
-    length-append (definition-rows x.definitions x.word) (all_definition_rows xs)
-    ∙ ap₂ ◌+◌ (length-rows x.definitions x.word ∙ sym (length-definitions x.definitions)) (definition_rows_length xs)
-    ∙ sym (length-append (definition-numbers x.definitions) (spec_numbers xs))
+    length-append (definition_rows x.definitions x.word) (all_definition_rows xs)
+    ∙ ap₂ ◌+◌ (length_rows x.definitions x.word ∙ sym (length_definitions x.definitions)) (definition_rows_length xs)
+    ∙ sym (length-append (definition_numbers x.definitions) (spec_numbers xs))
 
 enumerator_rows_length : (xs : List Spec) → length (all_enumerator_rows xs) ≡ length (spec_enumerator_numbers xs)
 unfolding all_enumerator_rows spec_enumerator_numbers
 enumerator_rows_length [] = refl
 enumerator_rows_length (x ∷ xs) =
-    length-append (enumerator-rows x.definitions) (all_enumerator_rows xs)
-    ∙ ap₂ ◌+◌ (length-enumerator-rows x.definitions ∙ sym (length-enumerators x.definitions)) (enumerator_rows_length xs)
-    ∙ sym (length-append (enumerator-numbers x.definitions) (spec_enumerator_numbers xs))
+    length-append (enumerator_rows x.definitions) (all_enumerator_rows xs)
+    ∙ ap₂ ◌+◌ (length-enumerator-rows x.definitions ∙ sym (length_enumerators x.definitions)) (enumerator_rows_length xs)
+    ∙ sym (length-append (enumerator_numbers x.definitions) (spec_enumerator_numbers xs))
 
 -- Objects and values -------------------------------------------------------------------------------------------------------------------------
 

@@ -5,7 +5,7 @@ use Prim.Native.Nat.{ℕ, suc, ◌≤◌, ◌<◌}
 use native.Mathlib.Omega.{arith}
 use Rattle.meaning.specs.Syntax.{Word, Definition, Definitions, define, Values}
 use Rattle.meaning.proofs.Order.{InOrder}
-use Rattle.meaning.proofs.Sites.{bound_words, option_words, definition-words, value-words}
+use Rattle.meaning.proofs.Sites.{bound_words, option_words, definition_words, value_words}
 
 abbrev pub Run : ℕ → List Word → ℕ → Type 0
 Run lo [] hi = lo ≤ hi
@@ -35,20 +35,20 @@ pub record Cuts (lo : ℕ) (d : Definition) (vs : Values) (ds : Definitions) (hi
   pub c : ℕ
   pub low : lo ≤ a
   pub bounds : Run (suc d.word.place) (bound_words d.bounds) a
-  pub values : Run a (value-words vs) b
+  pub values : Run a (value_words vs) b
   pub named : Run b (d.name ∷ option_words d.default) c
   pub next : b ≤ c
-  pub rest : Run c (definition-words ds) hi
+  pub rest : Run c (definition_words ds) hi
 
-pub cuts : (d : Definition) (vs : Values) (ds : Definitions) (lo hi : ℕ) → Run lo (definition-words (define d vs ds)) hi → Cuts lo d vs ds hi
-unfolding definition-words
+pub cuts : (d : Definition) (vs : Values) (ds : Definitions) (lo hi : ℕ) → Run lo (definition_words (define d vs ds)) hi → Cuts lo d vs ds hi
+unfolding definition_words
 cuts d vs ds lo hi r =
     let w = d.name ∷ option_words d.default in
     let h = r.0 in
-    let k = cut (bound_words d.bounds ++ (value-words vs ++ w)) (definition-words ds) (suc d.word.place) hi r.1 in
-    let m = cut (bound_words d.bounds) (value-words vs ++ w) (suc d.word.place) k.mid k.front in
+    let k = cut (bound_words d.bounds ++ (value_words vs ++ w)) (definition_words ds) (suc d.word.place) hi r.1 in
+    let m = cut (bound_words d.bounds) (value_words vs ++ w) (suc d.word.place) k.mid k.front in
     let o = run_le (bound_words d.bounds) m.front in
-    let n = cut (value-words vs) w m.mid k.mid m.back in
+    let n = cut (value_words vs) w m.mid k.mid m.back in
     record { a = m.mid; b = n.mid; c = k.mid; low = omega arith; bounds = m.front; values = n.front; named = n.back; next = run_le w n.back; rest = k.back }
 
 -- Words in order lie before some place.

@@ -23,7 +23,7 @@ use Rattle.meaning.specs.Answers.{Answer, accepted, unless, tables, answer}
 use Rattle.meaning.specs.Reading.{reading}
 use Rattle.meaning.proofs.Found.{reading_derived}
 use Rattle.meaning.proofs.Order.{Ordered, foremost}
-use Rattle.meaning.proofs.Leaves.{definition-order}
+use Rattle.meaning.proofs.Leaves.{definition_order}
 
 tokens_later : (l : List Token) {p q : ℕ} → p ≤ q → Ordered q l → Ordered p l
 tokens_later [] h o = tt
@@ -61,7 +61,7 @@ answer_in_order f =
 
 pub in_order : (s : List ℕ) (t : Trees ◌⟶◌ (file ▸ ∎)) → Ordered 0 (tokens t) → answer (syntax s t) ≡ answer_in_order (syntax s t)
 unfolding answer answer_in_order
-in_order s t o = simp (definition-order s t o)
+in_order s t o = simp (definition_order s t o)
 
 -- All together: a text of at most 65,535 bytes that divides into the tokens of a derivation, with never more than sixteen braces open.
 pub reading_in_order : (s : List ℕ) → Covered s → (d : Derivation (tokens-of s)) → reading s ≡ answer_in_order (syntax s d.tree)

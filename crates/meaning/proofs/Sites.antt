@@ -8,7 +8,7 @@ use Rattle.grammar.specs.Grammar.{Kind, Integer}
 use Rattle.meaning.proofs.Numbered.{default_high}
 use Rattle.meaning.proofs.Order.{At, nowhere, on, at_append, at_none, at_if, at_only, at_more}
 use Rattle.meaning.specs.Applying.{too_few, statement_faults, each_object, object_faults}
-use Rattle.meaning.specs.Defining.{outside, bound_faults, low_faults, range_faults, default_number, default_faults, name_faults, word_faults, scope-faults, value-faults, spec_faults, definition_faults}
+use Rattle.meaning.specs.Defining.{outside, bound_faults, low_faults, range_faults, default_number, default_faults, name_faults, word_faults, scope_faults, value_faults, spec_faults, definition_faults}
 use Rattle.meaning.specs.Faults.{Fault}
 use Rattle.meaning.specs.Judging.{reference_faults, brace_faults, faults_as, own_faults, and_inside, judged, judge, judge_object, judge_objects, statement_stage}
 use Rattle.meaning.specs.Kinds.{kinds}
@@ -29,22 +29,22 @@ option_words (some t) = t ∷ []
 unfoldable mutual
   unfolding bound_words option_words
 
-  pub definition-words : Definitions → List Word
-  definition-words no_more = []
-  definition-words (define d vs ds) = (d.word ∷ (bound_words d.bounds ++ (value-words vs ++ (d.name ∷ option_words d.default)))) ++ definition-words ds
+  pub definition_words : Definitions → List Word
+  definition_words no_more = []
+  definition_words (define d vs ds) = (d.word ∷ (bound_words d.bounds ++ (value_words vs ++ (d.name ∷ option_words d.default)))) ++ definition_words ds
 
-  pub value-words : Values → List Word
-  value-words no_value = []
-  value-words (value w e us vs) = w ∷ (definition-words us ++ value-words vs)
+  pub value_words : Values → List Word
+  value_words no_value = []
+  value_words (value w e us vs) = w ∷ (definition_words us ++ value_words vs)
 
 unfoldable pub defined_words : Defined → List Word
-unfolding bound_words option_words value-words
-defined_words x = x.definition.word ∷ (bound_words x.definition.bounds ++ (value-words x.values ++ (x.definition.name ∷ option_words x.definition.default)))
+unfolding bound_words option_words value_words
+defined_words x = x.definition.word ∷ (bound_words x.definition.bounds ++ (value_words x.values ++ (x.definition.name ∷ option_words x.definition.default)))
 
 unfoldable pub spec_words : List Spec → List Word
-unfolding definition-words
+unfolding definition_words
 spec_words [] = []
-spec_words (x ∷ xs) = x.word ∷ (definition-words x.definitions ++ spec_words xs)
+spec_words (x ∷ xs) = x.word ∷ (definition_words x.definitions ++ spec_words xs)
 
 unfoldable pub statement_words : Statements → List Word
 unfolding option_words
@@ -102,24 +102,24 @@ unfolding word_faults
 word_at b e w before = at_if _ 7 (omega arith) (at_only _ 8 w [] (omega arith))
 
 mutual
-  unfolding scope-faults definition-words
+  unfolding scope_faults definition_words
 
-  pub scope-at : (ds : Definitions) (others before : List Definition) → At 0 (definition-words ds) (scope-faults ds others before)
-  scope-at no_more others before = nowhere
-  scope-at (define d vs ds) others before =
+  pub scope_at : (ds : Definitions) (others before : List Definition) → At 0 (definition_words ds) (scope_faults ds others before)
+  scope_at no_more others before = nowhere
+  scope_at (define d vs ds) others before =
       at_append
       (on (at_append (range_at d.type d.bounds) (at_append (value_at vs (is_enum d.type) [] []) (at_append (name_at d others before) (default_at d vs d.default)))))
-      (scope-at ds others (before ++ (d ∷ [])))
+      (scope_at ds others (before ++ (d ∷ [])))
 
-  pub value_at : (vs : Values) (b : Bool) (before : List Word) (others : List Definition) → At 0 (value-words vs) (value-faults vs b before others)
+  pub value_at : (vs : Values) (b : Bool) (before : List Word) (others : List Definition) → At 0 (value_words vs) (value_faults vs b before others)
   value_at no_value b before others = nowhere
   value_at (value w e us vs) b before others =
-      at_append (at_append (word_at b e w before) (scope-at us others [])) (value_at vs b (before ++ (w ∷ [])) (others ++ heads us))
+      at_append (at_append (word_at b e w before) (scope_at us others [])) (value_at vs b (before ++ (w ∷ [])) (others ++ heads us))
 
 spec_at : (before xs : List Spec) → At 0 (spec_words xs) (spec_faults before xs)
 unfolding spec_faults spec_words
 spec_at before [] = nowhere
-spec_at before (x ∷ xs) = at_append (at_if _ 8 (omega arith) (on (scope-at x.definitions [] []))) (spec_at (before ++ (x ∷ [])) xs)
+spec_at before (x ∷ xs) = at_append (at_if _ 8 (omega arith) (on (scope_at x.definitions [] []))) (spec_at (before ++ (x ∷ [])) xs)
 
 pub definition_at : (f : File) → At 0 (f.version ∷ spec_words f.specs) (definition_faults f)
 unfolding definition_faults

@@ -17,7 +17,7 @@ use Rattle.meaning.proofs.Order.{ahead_left, ahead_same}
 -- The fault a is left of b, or at its place with a number not above its own.
 pub data Le (a b : Fault) : Type 0 where
   left_of : a.place < b.place → Le a b
-  not-above : a.place ≡ b.place → a.number ≤ b.number → Le a b
+  not_above : a.place ≡ b.place → a.number ≤ b.number → Le a b
 
 -- The fault a is left of b, or at its place with a smaller number.
 pub data Lt (a b : Fault) : Type 0 where
@@ -26,12 +26,12 @@ pub data Lt (a b : Fault) : Type 0 where
 
 pub le_ahead : (a b : Fault) → Le a b → ahead a b ≡ true
 le_ahead a b (left_of h) = ahead_left a b h
-le_ahead a b (not-above e h) = ahead_same a b e h
+le_ahead a b (not_above e h) = ahead_same a b e h
 
 by_tests : (a b : Fault) (l e n : Bool) → ltb a.place b.place ≡ l → eqb a.place b.place ≡ e → leb a.number b.number ≡ n
     → either l (both e n) ≡ true → Le a b
 by_tests a b true e n p q r h = left_of (ltb-true a.place b.place p)
-by_tests a b false true true p q r h = not-above (eqb-true a.place b.place q) (leb-true a.number b.number r)
+by_tests a b false true true p q r h = not_above (eqb-true a.place b.place q) (leb-true a.number b.number r)
 by_tests a b false true false p q r h = absurd (false≢true h)
 by_tests a b false false n p q r h = absurd (false≢true h)
 
@@ -55,9 +55,9 @@ not_ahead a b h = by_not a b (ltb a.place b.place) (eqb a.place b.place) (leb a.
 
 pub le_trans : {a b c : Fault} → Le a b → Le b c → Le a c
 le_trans (left_of h) (left_of i) = left_of (omega arith)
-le_trans (left_of h) (not-above e i) = left_of (omega arith)
-le_trans (not-above e h) (left_of i) = left_of (omega arith)
-le_trans (not-above e h) (not-above f i) = not-above (e ∙ f) (omega arith)
+le_trans (left_of h) (not_above e i) = left_of (omega arith)
+le_trans (not_above e h) (left_of i) = left_of (omega arith)
+le_trans (not_above e h) (not_above f i) = not_above (e ∙ f) (omega arith)
 
 lt_trans : {a b c : Fault} → Lt a b → Lt b c → Lt a c
 lt_trans (left h) (left i) = left (omega arith)
@@ -67,9 +67,9 @@ lt_trans (below e h) (below f i) = below (e ∙ f) (omega arith)
 
 lt_le : {a b : Fault} → Lt a b → Le b a → ⊥
 lt_le (left h) (left_of i) = omega arith
-lt_le (left h) (not-above e i) = omega arith
+lt_le (left h) (not_above e i) = omega arith
 lt_le (below e h) (left_of i) = omega arith
-lt_le (below e h) (not-above f i) = omega arith
+lt_le (below e h) (not_above f i) = omega arith
 
 lt_lt : {a b : Fault} → Lt a b → Lt b a → ⊥
 lt_lt (left h) (left i) = omega arith
@@ -82,9 +82,9 @@ same_fault a b e f = ap₂ (λ p n. record { place = p; number = n }) e f
 
 pub le_same : (a b : Fault) → Le a b → Le b a → a ≡ b
 le_same a b (left_of h) (left_of i) = absurd (omega arith)
-le_same a b (left_of h) (not-above e i) = absurd (omega arith)
-le_same a b (not-above e h) (left_of i) = absurd (omega arith)
-le_same a b (not-above e h) (not-above f i) = let n : a.number ≡ b.number = omega arith in same_fault a b e n
+le_same a b (left_of h) (not_above e i) = absurd (omega arith)
+le_same a b (not_above e h) (left_of i) = absurd (omega arith)
+le_same a b (not_above e h) (not_above f i) = let n : a.number ≡ b.number = omega arith in same_fault a b e n
 
 -- The earlier of two -----------------------------------------------------------------------------------------------------------------------
 

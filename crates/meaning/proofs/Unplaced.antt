@@ -11,11 +11,11 @@ use Rattle.meaning.specs.Syntax.{Num, Word, Span, absent, span_of, span_or, Attr
 use Rattle.meaning.specs.Words.{choose, alike, among, equal, among_numbers, in_bounds}
 use Rattle.meaning.specs.Kinds.{same_kind, kinds}
 use Rattle.meaning.specs.Scopes.{Sort, a_number, a_string, a_truth, an_auto, a_no_default, a_name, a_float, sort_of, of_kind, Under, find_value, under, find_definition, names, find_object}
-use Rattle.meaning.specs.Defining.{DefinitionRow, EnumeratorRow, definition_row, definition-rows, definition-rows-under, enumerator_row, enumerator-rows, enumerator-rows-of, all_definition_rows, all_enumerator_rows}
+use Rattle.meaning.specs.Defining.{DefinitionRow, EnumeratorRow, definition_row, definition_rows, definition_rows_under, enumerator_row, enumerator_rows, enumerator_rows_of, all_definition_rows, all_enumerator_rows}
 use Rattle.meaning.specs.Applying.{ObjectRow, object_rows, how_many, counts_of, counts}
 use Rattle.meaning.specs.Answers.{Tables, tables}
-use Rattle.meaning.specs.Judging.{is_no_default, taken_by, taken, lacking, lacks, lacks-under}
-use Rattle.meaning.specs.Resolving.{Value, number, truth, auto, string as string-value, float as float_value, enumerator, object, Taken, Resolved, end, resolved, number_or, row_or, named, valued, take_value, entries, default_entry, resolve, resolve-under, object_values, all_values, Owner, of_object, of_value, ValueRow, value_row, how_many_values, value_rows, all_value_rows, how_many_in_all}
+use Rattle.meaning.specs.Judging.{is_no_default, taken_by, taken, lacking, lacks, lacks_under}
+use Rattle.meaning.specs.Resolving.{Value, number, truth, auto, string as string-value, float as float_value, enumerator, object, Taken, Resolved, end, resolved, number_or, row_or, named, valued, take_value, entries, default_entry, resolve, resolve_under, object_values, all_values, Owner, of_object, of_value, ValueRow, value_row, how_many_values, value_rows, all_value_rows, how_many_in_all}
 use Rattle.meaning.specs.Normal.{written, closed, lines, object_lines, application_lines}
 use Rattle.meaning.specs.Places.{each, unplaced_definition_row, unplaced_enumerator_row, unplaced_object_row, unplaced_value_row, unplaced_tables}
 use Rattle.meaning.specs.Faults.{Fault}
@@ -49,19 +49,19 @@ unplaced_definition d = record {
 }
 
 unfoldable mutual
-  pub unplaced-definitions : Definitions → Definitions
-  unplaced-definitions no_more = no_more
-  unplaced-definitions (define d vs ds) = define (unplaced_definition d) (unplaced-values vs) (unplaced-definitions ds)
+  pub unplaced_definitions : Definitions → Definitions
+  unplaced_definitions no_more = no_more
+  unplaced_definitions (define d vs ds) = define (unplaced_definition d) (unplaced_values vs) (unplaced_definitions ds)
 
-  pub unplaced-values : Values → Values
-  unplaced-values no_value = no_value
-  unplaced-values (value w e us vs) = value (unplaced_word w) e (unplaced-definitions us) (unplaced-values vs)
+  pub unplaced_values : Values → Values
+  unplaced_values no_value = no_value
+  unplaced_values (value w e us vs) = value (unplaced_word w) e (unplaced_definitions us) (unplaced_values vs)
 
 unfoldable pub unplaced_defined : Defined → Defined
-unplaced_defined x = record { definition = unplaced_definition x.definition; values = unplaced-values x.values }
+unplaced_defined x = record { definition = unplaced_definition x.definition; values = unplaced_values x.values }
 
 unfoldable pub unplaced_spec : Spec → Spec
-unplaced_spec x = record { kind = x.kind; word = unplaced_word x.word; definitions = unplaced-definitions x.definitions }
+unplaced_spec x = record { kind = x.kind; word = unplaced_word x.word; definitions = unplaced_definitions x.definitions }
 
 unfoldable pub unplaced_statement : Statement → Statement
 unplaced_statement x = record
@@ -133,37 +133,37 @@ bounds_unplaced n (one_of ts) = numbers_unplaced n ts
 -- Scopes -----------------------------------------------------------------------------------------------------------------------------------
 
 unfoldable pub unplaced_under : Under → Under
-unplaced_under u = record { word = unplaced_word u.word; number = u.number; definitions = unplaced-definitions u.definitions }
+unplaced_under u = record { word = unplaced_word u.word; number = u.number; definitions = unplaced_definitions u.definitions }
 
-pub value_unplaced : (vs : Values) (t : Word) → find_value (unplaced-values vs) (unplaced_word t) ≡ if_there unplaced_under (find_value vs t)
-unfolding find_value unplaced-values if_there unplaced_under alike unplaced_word
+pub value_unplaced : (vs : Values) (t : Word) → find_value (unplaced_values vs) (unplaced_word t) ≡ if_there unplaced_under (find_value vs t)
+unfolding find_value unplaced_values if_there unplaced_under alike unplaced_word
 value_unplaced no_value t = refl
 value_unplaced (value w e us vs) t = go (same w.bytes t.bytes) (value_unplaced vs t)
   where
-    go : (b : Bool) → find_value (unplaced-values vs) (unplaced_word t) ≡ if_there unplaced_under (find_value vs t)
-        → pick b (some (record { word = unplaced_word w; number = e; definitions = unplaced-definitions us })) (find_value (unplaced-values vs) (unplaced_word t))
+    go : (b : Bool) → find_value (unplaced_values vs) (unplaced_word t) ≡ if_there unplaced_under (find_value vs t)
+        → pick b (some (record { word = unplaced_word w; number = e; definitions = unplaced_definitions us })) (find_value (unplaced_values vs) (unplaced_word t))
         ≡ if_there unplaced_under (pick b (some (record { word = w; number = e; definitions = us })) (find_value vs t))
     go true h = refl
     go false h = h
 
-pub definition_unplaced : (ds : Definitions) (t : Word) → find_definition (unplaced-definitions ds) (unplaced_word t) ≡ if_there unplaced_defined (find_definition ds t)
-unfolding find_definition unplaced-definitions unplaced_definition if_there unplaced_defined alike unplaced_word
+pub definition_unplaced : (ds : Definitions) (t : Word) → find_definition (unplaced_definitions ds) (unplaced_word t) ≡ if_there unplaced_defined (find_definition ds t)
+unfolding find_definition unplaced_definitions unplaced_definition if_there unplaced_defined alike unplaced_word
 definition_unplaced no_more t = refl
 definition_unplaced (define d vs ds) t = go (same d.name.bytes t.bytes) (definition_unplaced ds t)
   where
-    go : (b : Bool) → find_definition (unplaced-definitions ds) (unplaced_word t) ≡ if_there unplaced_defined (find_definition ds t)
-        → pick b (some (record { definition = unplaced_definition d; values = unplaced-values vs })) (find_definition (unplaced-definitions ds) (unplaced_word t))
+    go : (b : Bool) → find_definition (unplaced_definitions ds) (unplaced_word t) ≡ if_there unplaced_defined (find_definition ds t)
+        → pick b (some (record { definition = unplaced_definition d; values = unplaced_values vs })) (find_definition (unplaced_definitions ds) (unplaced_word t))
         ≡ if_there unplaced_defined (pick b (some (record { definition = d; values = vs })) (find_definition ds t))
     go true h = refl
     go false h = h
 
-pub kind_unplaced : (k : Kind) (xs : List Spec) → of_kind k (each unplaced_spec xs) ≡ unplaced-definitions (of_kind k xs)
-unfolding of_kind each unplaced_spec unplaced-definitions
+pub kind_unplaced : (k : Kind) (xs : List Spec) → of_kind k (each unplaced_spec xs) ≡ unplaced_definitions (of_kind k xs)
+unfolding of_kind each unplaced_spec unplaced_definitions
 kind_unplaced k [] = refl
 kind_unplaced k (x ∷ xs) = go (same_kind k x.kind) (kind_unplaced k xs)
   where
-    go : (b : Bool) → of_kind k (each unplaced_spec xs) ≡ unplaced-definitions (of_kind k xs)
-        → pick b (unplaced-definitions x.definitions) (of_kind k (each unplaced_spec xs)) ≡ unplaced-definitions (pick b x.definitions (of_kind k xs))
+    go : (b : Bool) → of_kind k (each unplaced_spec xs) ≡ unplaced_definitions (of_kind k xs)
+        → pick b (unplaced_definitions x.definitions) (of_kind k (each unplaced_spec xs)) ≡ unplaced_definitions (pick b x.definitions (of_kind k xs))
     go true h = refl
     go false h = h
 
@@ -209,22 +209,22 @@ choose_same true p q = p
 choose_same false p q = q
 
 mutual
-  unfolding lacks unplaced-definitions unplaced_definition each
+  unfolding lacks unplaced_definitions unplaced_definition each
 
-  pub lacks-unplaced : (ds : Definitions) (ns : List Word) → lacks (unplaced-definitions ds) (each unplaced_word ns) ≡ lacks ds ns
-  lacks-unplaced no_more ns = refl
-  lacks-unplaced (define d vs ds) ns =
+  pub lacks_unplaced : (ds : Definitions) (ns : List Word) → lacks (unplaced_definitions ds) (each unplaced_word ns) ≡ lacks ds ns
+  lacks_unplaced no_more ns = refl
+  lacks_unplaced (define d vs ds) ns =
       ap₂ either
       (ap₂ (λ a b. both (not a) b) (among_unplaced d.name ns)
-      (ap (λ o. lacking o d.list (λ t. lacks-under (unplaced-values vs) t)) (taken_unplaced d.default)
-      ∙ lacking_unplaced (taken d.default) d.list (λ t. lacks-under (unplaced-values vs) t) (λ t. lacks-under vs t) (λ t. under_unplaced vs t)))
-      (lacks-unplaced ds ns)
+      (ap (λ o. lacking o d.list (λ t. lacks_under (unplaced_values vs) t)) (taken_unplaced d.default)
+      ∙ lacking_unplaced (taken d.default) d.list (λ t. lacks_under (unplaced_values vs) t) (λ t. lacks_under vs t) (λ t. under_unplaced vs t)))
+      (lacks_unplaced ds ns)
 
-  under_unplaced : (vs : Values) (t : Word) → lacks-under (unplaced-values vs) (unplaced_word t) ≡ lacks-under vs t
+  under_unplaced : (vs : Values) (t : Word) → lacks_under (unplaced_values vs) (unplaced_word t) ≡ lacks_under vs t
   under_unplaced no_value t = refl
   under_unplaced (value w e us vs) t =
-      ap (λ b. choose b (λ _. lacks (unplaced-definitions us) []) (λ _. lacks-under (unplaced-values vs) (unplaced_word t))) (alike_unplaced w t)
-      ∙ choose_same (alike w t) (lacks-unplaced us []) (under_unplaced vs t)
+      ap (λ b. choose b (λ _. lacks (unplaced_definitions us) []) (λ _. lacks_under (unplaced_values vs) (unplaced_word t))) (alike_unplaced w t)
+      ∙ choose_same (alike w t) (lacks_unplaced us []) (under_unplaced vs t)
 
 -- Resolved values --------------------------------------------------------------------------------------------------------------------------
 
@@ -239,7 +239,7 @@ row_unplaced none = refl
 row_unplaced (some x) = refl
 
 named_unplaced : (y : AttributeType) (os : List Object) (vs : Values) (t : Word)
-    → named y (each unplaced_object os) (unplaced-values vs) (unplaced_word t) ≡ named y os vs t
+    → named y (each unplaced_object os) (unplaced_values vs) (unplaced_word t) ≡ named y os vs t
 unfolding named
 named_unplaced (integer i) os vs t = refl
 named_unplaced string os vs t = refl
@@ -249,7 +249,7 @@ named_unplaced enum os vs t = ap enumerator (ap number_or (value_unplaced vs t) 
 named_unplaced (reference k) os vs t = ap object (ap row_or (object_unplaced k os t) ∙ row_unplaced (find_object k os t))
 
 valued_unplaced : (o : Sort) (os : List Object) (d : Definition) (vs : Values) (t : Word)
-    → valued o (each unplaced_object os) (unplaced_definition d) (unplaced-values vs) (unplaced_word t) ≡ valued o os d vs t
+    → valued o (each unplaced_object os) (unplaced_definition d) (unplaced_values vs) (unplaced_word t) ≡ valued o os d vs t
 unfolding valued unplaced_definition unplaced_word
 valued_unplaced a_number os d vs t = refl
 valued_unplaced a_string os d vs t = refl
@@ -260,7 +260,7 @@ valued_unplaced a_no_default os d vs t = refl
 valued_unplaced a_name os d vs t = named_unplaced d.type os vs t
 
 take_unplaced : (b : Bool) (os : List Object) (d : Definition) (vs : Values) (t : Word)
-    → take_value b (each unplaced_object os) (unplaced_definition d) (unplaced-values vs) (unplaced_word t) ≡ unplaced_taken (take_value b os d vs t)
+    → take_value b (each unplaced_object os) (unplaced_definition d) (unplaced_values vs) (unplaced_word t) ≡ unplaced_taken (take_value b os d vs t)
 unfolding take_value unplaced_taken unplaced_word
 take_unplaced b os d vs t =
     ap (λ v. record { definition = unplaced_definition d; value = v; stated = b; word = unplaced_word t }) (valued_unplaced (sort_of t.class) os d vs t)
@@ -273,18 +273,18 @@ abbrev Inner : (Word → Statements → Resolved) → (Word → Statements → R
 Inner f g = (t : Word) (us : Statements) → f (unplaced_word t) (unplaced_statements us) ≡ unplaced_resolved (g t us)
 
 entries_unplaced : (ss : Statements) (os : List Object) (d : Definition) (vs : Values) (f g : Word → Statements → Resolved) → Inner f g → (rest : Resolved)
-    → entries (unplaced_statements ss) (each unplaced_object os) (unplaced_definition d) (unplaced-values vs) f (unplaced_resolved rest)
+    → entries (unplaced_statements ss) (each unplaced_object os) (unplaced_definition d) (unplaced_values vs) f (unplaced_resolved rest)
     ≡ unplaced_resolved (entries ss os d vs g rest)
 unfolding entries unplaced_statements unplaced_statement unplaced_word unplaced_definition alike choose unplaced_resolved
 entries_unplaced done os d vs f g h rest = refl
 entries_unplaced (state x inside more) os d vs f g h rest = go (alike x.name d.name) (entries_unplaced more os d vs f g h rest)
   where
     E : Resolved
-    E = entries (unplaced_statements more) (each unplaced_object os) (unplaced_definition d) (unplaced-values vs) f (unplaced_resolved rest)
+    E = entries (unplaced_statements more) (each unplaced_object os) (unplaced_definition d) (unplaced_values vs) f (unplaced_resolved rest)
 
     go : (b : Bool) → E ≡ unplaced_resolved (entries more os d vs g rest)
         → choose b
-        (λ _. resolved (take_value true (each unplaced_object os) (unplaced_definition d) (unplaced-values vs) (unplaced_word x.value)) (f (unplaced_word x.value) (unplaced_statements inside)) E)
+        (λ _. resolved (take_value true (each unplaced_object os) (unplaced_definition d) (unplaced_values vs) (unplaced_word x.value)) (f (unplaced_word x.value) (unplaced_statements inside)) E)
         (λ _. E)
         ≡ unplaced_resolved (choose b (λ _. resolved (take_value true os d vs x.value) (g x.value inside) (entries more os d vs g rest)) (λ _. entries more os d vs g rest))
     go true e = resolved_same (take_unplaced true os d vs x.value) (h x.value inside) e
@@ -299,7 +299,7 @@ unfolding unplaced_definition
 default_taken d = taken_unplaced d.default
 
 default_unplaced : (o : Option Word) (os : List Object) (d : Definition) (vs : Values) (f g : Word → Statements → Resolved) → Inner f g → (rest : Resolved)
-    → default_entry (if_there unplaced_word o) (each unplaced_object os) (unplaced_definition d) (unplaced-values vs) f (unplaced_resolved rest)
+    → default_entry (if_there unplaced_word o) (each unplaced_object os) (unplaced_definition d) (unplaced_values vs) f (unplaced_resolved rest)
     ≡ unplaced_resolved (default_entry o os d vs g rest)
 unfolding default_entry if_there unplaced_resolved unplaced_statements
 default_unplaced none os d vs f g h rest = refl
@@ -312,38 +312,38 @@ unplaced_choose true x y p q = p
 unplaced_choose false x y p q = q
 
 mutual
-  unfolding resolve unplaced-definitions unplaced_resolved
+  unfolding resolve unplaced_definitions unplaced_resolved
 
-  pub resolve-unplaced : (ds : Definitions) (os : List Object) (ss : Statements)
-      → resolve (unplaced-definitions ds) (each unplaced_object os) (unplaced_statements ss) ≡ unplaced_resolved (resolve ds os ss)
-  resolve-unplaced no_more os ss = refl
-  resolve-unplaced (define d vs ds) os ss =
-      let f : Word → Statements → Resolved = λ t us. resolve-under (unplaced-values vs) (each unplaced_object os) t us in
-      let g : Word → Statements → Resolved = λ t us. resolve-under vs os t us in
-      let r = resolve-unplaced ds os ss in
+  pub resolve_unplaced : (ds : Definitions) (os : List Object) (ss : Statements)
+      → resolve (unplaced_definitions ds) (each unplaced_object os) (unplaced_statements ss) ≡ unplaced_resolved (resolve ds os ss)
+  resolve_unplaced no_more os ss = refl
+  resolve_unplaced (define d vs ds) os ss =
+      let f : Word → Statements → Resolved = λ t us. resolve_under (unplaced_values vs) (each unplaced_object os) t us in
+      let g : Word → Statements → Resolved = λ t us. resolve_under vs os t us in
+      let r = resolve_unplaced ds os ss in
       ap (λ b. choose b
-      (λ _. entries (unplaced_statements ss) (each unplaced_object os) (unplaced_definition d) (unplaced-values vs) f (resolve (unplaced-definitions ds) (each unplaced_object os) (unplaced_statements ss)))
-      (λ _. default_entry (taken (unplaced_definition d).default) (each unplaced_object os) (unplaced_definition d) (unplaced-values vs) f (resolve (unplaced-definitions ds) (each unplaced_object os) (unplaced_statements ss))))
+      (λ _. entries (unplaced_statements ss) (each unplaced_object os) (unplaced_definition d) (unplaced_values vs) f (resolve (unplaced_definitions ds) (each unplaced_object os) (unplaced_statements ss)))
+      (λ _. default_entry (taken (unplaced_definition d).default) (each unplaced_object os) (unplaced_definition d) (unplaced_values vs) f (resolve (unplaced_definitions ds) (each unplaced_object os) (unplaced_statements ss))))
       (stated_unplaced d ss)
       ∙ unplaced_choose (among d.name (names ss)) (entries ss os d vs g (resolve ds os ss)) (default_entry (taken d.default) os d vs g (resolve ds os ss))
-      (ap (entries (unplaced_statements ss) (each unplaced_object os) (unplaced_definition d) (unplaced-values vs) f) r
-      ∙ entries_unplaced ss os d vs f g (λ t us. resolve-under-unplaced vs os t us) (resolve ds os ss))
-      (ap₂ (λ o q. default_entry o (each unplaced_object os) (unplaced_definition d) (unplaced-values vs) f q) (default_taken d) r
-      ∙ default_unplaced (taken d.default) os d vs f g (λ t us. resolve-under-unplaced vs os t us) (resolve ds os ss))
+      (ap (entries (unplaced_statements ss) (each unplaced_object os) (unplaced_definition d) (unplaced_values vs) f) r
+      ∙ entries_unplaced ss os d vs f g (λ t us. resolve_under_unplaced vs os t us) (resolve ds os ss))
+      (ap₂ (λ o q. default_entry o (each unplaced_object os) (unplaced_definition d) (unplaced_values vs) f q) (default_taken d) r
+      ∙ default_unplaced (taken d.default) os d vs f g (λ t us. resolve_under_unplaced vs os t us) (resolve ds os ss))
 
-  resolve-under-unplaced : (vs : Values) (os : List Object) (t : Word) (ss : Statements)
-      → resolve-under (unplaced-values vs) (each unplaced_object os) (unplaced_word t) (unplaced_statements ss) ≡ unplaced_resolved (resolve-under vs os t ss)
-  resolve-under-unplaced no_value os t ss = refl
-  resolve-under-unplaced (value w e us vs) os t ss =
-      ap (λ b. choose b (λ _. resolve (unplaced-definitions us) (each unplaced_object os) (unplaced_statements ss))
-      (λ _. resolve-under (unplaced-values vs) (each unplaced_object os) (unplaced_word t) (unplaced_statements ss))) (alike_unplaced w t)
-      ∙ unplaced_choose (alike w t) (resolve us os ss) (resolve-under vs os t ss) (resolve-unplaced us os ss) (resolve-under-unplaced vs os t ss)
+  resolve_under_unplaced : (vs : Values) (os : List Object) (t : Word) (ss : Statements)
+      → resolve_under (unplaced_values vs) (each unplaced_object os) (unplaced_word t) (unplaced_statements ss) ≡ unplaced_resolved (resolve_under vs os t ss)
+  resolve_under_unplaced no_value os t ss = refl
+  resolve_under_unplaced (value w e us vs) os t ss =
+      ap (λ b. choose b (λ _. resolve (unplaced_definitions us) (each unplaced_object os) (unplaced_statements ss))
+      (λ _. resolve_under (unplaced_values vs) (each unplaced_object os) (unplaced_word t) (unplaced_statements ss))) (alike_unplaced w t)
+      ∙ unplaced_choose (alike w t) (resolve us os ss) (resolve_under vs os t ss) (resolve_unplaced us os ss) (resolve_under_unplaced vs os t ss)
 
 values_unplaced : (f : File) (x : Object) → object_values (unplaced f) (unplaced_object x) ≡ unplaced_resolved (object_values f x)
 unfolding object_values unplaced unplaced_object
 values_unplaced f x =
     ap (λ ds. resolve ds (each unplaced_object f.objects) (unplaced_statements x.statements)) (kind_unplaced x.kind f.specs)
-    ∙ resolve-unplaced (of_kind x.kind f.specs) f.objects x.statements
+    ∙ resolve_unplaced (of_kind x.kind f.specs) f.objects x.statements
 
 pub all_values_unplaced : (f : File) (xs : List Object) → all_values (unplaced f) (each unplaced_object xs) ≡ each unplaced_resolved (all_values f xs)
 unfolding all_values each
@@ -433,19 +433,19 @@ definition_row_unplaced u d =
     ap (λ (p : Span). record { under = absent; name = absent; type = absent; list = d.list; auto = d.auto; range = absent; default = p; typed = d.type }) (default_span d.default)
 
 mutual
-  unfolding definition-rows unplaced-definitions each
+  unfolding definition_rows unplaced_definitions each
 
-  definition-rows-unplaced : (ds : Definitions) (u : Word) → definition-rows (unplaced-definitions ds) (unplaced_word u) ≡ each unplaced_definition_row (definition-rows ds u)
-  definition-rows-unplaced no_more u = refl
-  definition-rows-unplaced (define d vs ds) u =
-      ap₂ ◌++◌ (definition-rows-under-unplaced vs) (ap₂ ◌∷◌ (definition_row_unplaced u d) (definition-rows-unplaced ds u))
-      ∙ sym (each_append unplaced_definition_row (definition-rows-under vs) (definition_row u d ∷ definition-rows ds u))
+  definition_rows_unplaced : (ds : Definitions) (u : Word) → definition_rows (unplaced_definitions ds) (unplaced_word u) ≡ each unplaced_definition_row (definition_rows ds u)
+  definition_rows_unplaced no_more u = refl
+  definition_rows_unplaced (define d vs ds) u =
+      ap₂ ◌++◌ (definition_rows_under_unplaced vs) (ap₂ ◌∷◌ (definition_row_unplaced u d) (definition_rows_unplaced ds u))
+      ∙ sym (each_append unplaced_definition_row (definition_rows_under vs) (definition_row u d ∷ definition_rows ds u))
 
-  definition-rows-under-unplaced : (vs : Values) → definition-rows-under (unplaced-values vs) ≡ each unplaced_definition_row (definition-rows-under vs)
-  definition-rows-under-unplaced no_value = refl
-  definition-rows-under-unplaced (value w e us vs) =
-      ap₂ ◌++◌ (definition-rows-unplaced us w) (definition-rows-under-unplaced vs)
-      ∙ sym (each_append unplaced_definition_row (definition-rows us w) (definition-rows-under vs))
+  definition_rows_under_unplaced : (vs : Values) → definition_rows_under (unplaced_values vs) ≡ each unplaced_definition_row (definition_rows_under vs)
+  definition_rows_under_unplaced no_value = refl
+  definition_rows_under_unplaced (value w e us vs) =
+      ap₂ ◌++◌ (definition_rows_unplaced us w) (definition_rows_under_unplaced vs)
+      ∙ sym (each_append unplaced_definition_row (definition_rows us w) (definition_rows_under vs))
 
 enumerator_row_unplaced : (b : Bool) (a : ℕ) (w : Word) → enumerator_row b a (unplaced_word w) ≡ each unplaced_enumerator_row (enumerator_row b a w)
 unfolding enumerator_row each unplaced_enumerator_row unplaced_word span_of absent
@@ -453,35 +453,35 @@ enumerator_row_unplaced true a w = refl
 enumerator_row_unplaced false a w = refl
 
 mutual
-  unfolding enumerator-rows unplaced-definitions unplaced_definition each
+  unfolding enumerator_rows unplaced_definitions unplaced_definition each
 
-  enumerator-rows-unplaced : (ds : Definitions) → enumerator-rows (unplaced-definitions ds) ≡ each unplaced_enumerator_row (enumerator-rows ds)
-  enumerator-rows-unplaced no_more = refl
-  enumerator-rows-unplaced (define d vs ds) =
-      ap₂ ◌++◌ (enumerator-rows-of-unplaced vs (is_enum d.type) d.row) (enumerator-rows-unplaced ds)
-      ∙ sym (each_append unplaced_enumerator_row (enumerator-rows-of vs (is_enum d.type) d.row) (enumerator-rows ds))
+  enumerator_rows_unplaced : (ds : Definitions) → enumerator_rows (unplaced_definitions ds) ≡ each unplaced_enumerator_row (enumerator_rows ds)
+  enumerator_rows_unplaced no_more = refl
+  enumerator_rows_unplaced (define d vs ds) =
+      ap₂ ◌++◌ (enumerator_rows_of_unplaced vs (is_enum d.type) d.row) (enumerator_rows_unplaced ds)
+      ∙ sym (each_append unplaced_enumerator_row (enumerator_rows_of vs (is_enum d.type) d.row) (enumerator_rows ds))
 
-  enumerator-rows-of-unplaced : (vs : Values) (b : Bool) (a : ℕ) → enumerator-rows-of (unplaced-values vs) b a ≡ each unplaced_enumerator_row (enumerator-rows-of vs b a)
-  enumerator-rows-of-unplaced no_value b a = refl
-  enumerator-rows-of-unplaced (value w e us vs) b a =
+  enumerator_rows_of_unplaced : (vs : Values) (b : Bool) (a : ℕ) → enumerator_rows_of (unplaced_values vs) b a ≡ each unplaced_enumerator_row (enumerator_rows_of vs b a)
+  enumerator_rows_of_unplaced no_value b a = refl
+  enumerator_rows_of_unplaced (value w e us vs) b a =
       ap₂ ◌++◌ (enumerator_row_unplaced b a w)
-      (ap₂ ◌++◌ (enumerator-rows-unplaced us) (enumerator-rows-of-unplaced vs b a)
-      ∙ sym (each_append unplaced_enumerator_row (enumerator-rows us) (enumerator-rows-of vs b a)))
-      ∙ sym (each_append unplaced_enumerator_row (enumerator_row b a w) (enumerator-rows us ++ enumerator-rows-of vs b a))
+      (ap₂ ◌++◌ (enumerator_rows_unplaced us) (enumerator_rows_of_unplaced vs b a)
+      ∙ sym (each_append unplaced_enumerator_row (enumerator_rows us) (enumerator_rows_of vs b a)))
+      ∙ sym (each_append unplaced_enumerator_row (enumerator_row b a w) (enumerator_rows us ++ enumerator_rows_of vs b a))
 
 pub all_definition_rows_unplaced : (xs : List Spec) → all_definition_rows (each unplaced_spec xs) ≡ each unplaced_definition_row (all_definition_rows xs)
 unfolding all_definition_rows each unplaced_spec
 all_definition_rows_unplaced [] = refl
 all_definition_rows_unplaced (x ∷ xs) =
-    ap₂ ◌++◌ (definition-rows-unplaced x.definitions x.word) (all_definition_rows_unplaced xs)
-    ∙ sym (each_append unplaced_definition_row (definition-rows x.definitions x.word) (all_definition_rows xs))
+    ap₂ ◌++◌ (definition_rows_unplaced x.definitions x.word) (all_definition_rows_unplaced xs)
+    ∙ sym (each_append unplaced_definition_row (definition_rows x.definitions x.word) (all_definition_rows xs))
 
 pub all_enumerator_rows_unplaced : (xs : List Spec) → all_enumerator_rows (each unplaced_spec xs) ≡ each unplaced_enumerator_row (all_enumerator_rows xs)
 unfolding all_enumerator_rows each unplaced_spec
 all_enumerator_rows_unplaced [] = refl
 all_enumerator_rows_unplaced (x ∷ xs) =
-    ap₂ ◌++◌ (enumerator-rows-unplaced x.definitions) (all_enumerator_rows_unplaced xs)
-    ∙ sym (each_append unplaced_enumerator_row (enumerator-rows x.definitions) (all_enumerator_rows xs))
+    ap₂ ◌++◌ (enumerator_rows_unplaced x.definitions) (all_enumerator_rows_unplaced xs)
+    ∙ sym (each_append unplaced_enumerator_row (enumerator_rows x.definitions) (all_enumerator_rows xs))
 
 pub object_rows_unplaced : (xs : List Object) → object_rows (each unplaced_object xs) ≡ each unplaced_object_row (object_rows xs)
 unfolding object_rows each unplaced_object unplaced_object_row unplaced_word span_of absent

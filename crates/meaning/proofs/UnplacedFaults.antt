@@ -14,13 +14,13 @@ use Rattle.meaning.specs.Words.{choose, alike, among, num_at_most, in_float_boun
 use Rattle.meaning.specs.Kinds.{same_kind, kinds, fewest, most}
 use Rattle.meaning.specs.Faults.{Fault, faults_if, sooner, first}
 use Rattle.meaning.specs.Scopes.{Sort, a_number, a_string, a_truth, an_auto, a_no_default, a_name, a_float, sort_of, of_kind, Under, find_value, definitions_or, under, find_definition, heads, names, find_object, fits_number, fits_float, fits_as, fits}
-use Rattle.meaning.specs.Defining.{outside, bound_faults, low_faults, range_faults, default_wrong, default_number, default_faults, defined_in, differs, name_faults, word_faults, scope-faults, value-faults, specified, spec_faults, definition_faults}
+use Rattle.meaning.specs.Defining.{outside, bound_faults, low_faults, range_faults, default_wrong, default_number, default_faults, defined_in, differs, name_faults, word_faults, scope_faults, value_faults, specified, spec_faults, definition_faults}
 use Rattle.meaning.specs.Applying.{how_many, too_few, full, statement_faults, each_object, each_part, elsewhere, each_name, object_faults}
 use Rattle.meaning.specs.Judging.{lacks, reference_faults, brace_faults, faults_as, own_faults, and_inside, judged, judge, judge_object, judge_objects, statement_stage}
 use Rattle.meaning.specs.Resolving.{all_values, how_many_in_all, too_many}
 use Rattle.meaning.specs.Answers.{Tables, Answer, accepted, refused, tables, unless, answer}
 use Rattle.meaning.specs.Places.{each, unplaced_tables}
-use Rattle.meaning.proofs.Unplaced.{if_there, unplaced_word, unplaced_bounds, unplaced_definition, unplaced-definitions, unplaced-values, unplaced_defined, unplaced_spec, unplaced_statement, unplaced_statements, unplaced_object, unplaced, unplaced_fault, unplaced_resolved, each_append, among_unplaced, bounds_unplaced, unplaced_under, value_unplaced, definition_unplaced, kind_unplaced, object_unplaced, names_unplaced, there_unplaced, lacks-unplaced, all_values_unplaced, how_many_objects_unplaced, how_many_all_unplaced, tables_unplaced}
+use Rattle.meaning.proofs.Unplaced.{if_there, unplaced_word, unplaced_bounds, unplaced_definition, unplaced_definitions, unplaced_values, unplaced_defined, unplaced_spec, unplaced_statement, unplaced_statements, unplaced_object, unplaced, unplaced_fault, unplaced_resolved, each_append, among_unplaced, bounds_unplaced, unplaced_under, value_unplaced, definition_unplaced, kind_unplaced, object_unplaced, names_unplaced, there_unplaced, lacks_unplaced, all_values_unplaced, how_many_objects_unplaced, how_many_all_unplaced, tables_unplaced}
 
 -- Faults at the place 0.
 abbrev at_zero : List Fault → List Fault
@@ -60,7 +60,7 @@ float_fits float (from_to a c) n = refl
 float_fits float (one_of ts) n = refl
 float_fits (reference k) b n = refl
 
-as_fits : (o : Sort) (d : Definition) (vs : Values) (t : Word) → fits_as o (unplaced_definition d) (unplaced-values vs) (unplaced_word t) ≡ fits_as o d vs t
+as_fits : (o : Sort) (d : Definition) (vs : Values) (t : Word) → fits_as o (unplaced_definition d) (unplaced_values vs) (unplaced_word t) ≡ fits_as o d vs t
 unfolding fits_as unplaced_definition unplaced_word
 as_fits a_number d vs t = number_fits d.type d.bounds t.number
 as_fits a_float d vs t = float_fits d.type d.bounds t.float
@@ -70,7 +70,7 @@ as_fits an_auto d vs t = refl
 as_fits a_no_default d vs t = refl
 as_fits a_name d vs t = ap (both (is_enum d.type)) (ap is_there (value_unplaced vs t) ∙ there_unplaced unplaced_under (find_value vs t))
 
-fits_unplaced : (d : Definition) (vs : Values) (t : Word) → fits (unplaced_definition d) (unplaced-values vs) (unplaced_word t) ≡ fits d vs t
+fits_unplaced : (d : Definition) (vs : Values) (t : Word) → fits (unplaced_definition d) (unplaced_values vs) (unplaced_word t) ≡ fits d vs t
 unfolding fits unplaced_word
 fits_unplaced d vs t = as_fits (sort_of t.class) d vs t
 
@@ -104,7 +104,7 @@ range_unplaced float b = low_unplaced b
 range_unplaced (reference k) b = refl
 
 default_unplaced : (d : Definition) (vs : Values) (o : Option Word)
-    → default_faults (unplaced_definition d) (unplaced-values vs) (if_there unplaced_word o) ≡ at_zero (default_faults d vs o)
+    → default_faults (unplaced_definition d) (unplaced_values vs) (if_there unplaced_word o) ≡ at_zero (default_faults d vs o)
 unfolding default_faults if_there each unplaced_word
 default_unplaced d vs none = refl
 default_unplaced d vs (some t) = if_same t (default_number (sort_of t.class)) (ap (default_wrong (sort_of t.class)) (fits_unplaced d vs t))
@@ -134,8 +134,8 @@ unfolding word_faults
 word_unplaced b e w before =
     append_unplaced (faults_if (both b (eqb e 1024)) w 7) (faults_if (among w before) w 8) (if_unplaced (both b (eqb e 1024)) w 7) (if_same w 8 (among_unplaced w before))
 
-heads_unplaced : (ds : Definitions) → heads (unplaced-definitions ds) ≡ each unplaced_definition (heads ds)
-unfolding heads unplaced-definitions each
+heads_unplaced : (ds : Definitions) → heads (unplaced_definitions ds) ≡ each unplaced_definition (heads ds)
+unfolding heads unplaced_definitions each
 heads_unplaced no_more = refl
 heads_unplaced (define d vs ds) = ap (unplaced_definition d ∷◌) (heads_unplaced ds)
 
@@ -145,29 +145,29 @@ unfolding each
 behind f l a = sym (each_append f l (a ∷ []))
 
 mutual
-  unfolding scope-faults unplaced-definitions unplaced_definition each
+  unfolding scope_faults unplaced_definitions unplaced_definition each
 
-  scope-unplaced : (ds : Definitions) (others before : List Definition)
-      → scope-faults (unplaced-definitions ds) (each unplaced_definition others) (each unplaced_definition before) ≡ at_zero (scope-faults ds others before)
-  scope-unplaced no_more others before = refl
-  scope-unplaced (define d vs ds) others before =
+  scope_unplaced : (ds : Definitions) (others before : List Definition)
+      → scope_faults (unplaced_definitions ds) (each unplaced_definition others) (each unplaced_definition before) ≡ at_zero (scope_faults ds others before)
+  scope_unplaced no_more others before = refl
+  scope_unplaced (define d vs ds) others before =
       append_unplaced
-      (range_faults d.type d.bounds ++ (value-faults vs (is_enum d.type) [] [] ++ (name_faults d others before ++ default_faults d vs d.default)))
-      (scope-faults ds others (before ++ (d ∷ [])))
-      (append_unplaced (range_faults d.type d.bounds) (value-faults vs (is_enum d.type) [] [] ++ (name_faults d others before ++ default_faults d vs d.default))
+      (range_faults d.type d.bounds ++ (value_faults vs (is_enum d.type) [] [] ++ (name_faults d others before ++ default_faults d vs d.default)))
+      (scope_faults ds others (before ++ (d ∷ [])))
+      (append_unplaced (range_faults d.type d.bounds) (value_faults vs (is_enum d.type) [] [] ++ (name_faults d others before ++ default_faults d vs d.default))
       (range_unplaced d.type d.bounds)
-      (append_unplaced (value-faults vs (is_enum d.type) [] []) (name_faults d others before ++ default_faults d vs d.default)
+      (append_unplaced (value_faults vs (is_enum d.type) [] []) (name_faults d others before ++ default_faults d vs d.default)
       (values_unplaced vs (is_enum d.type) [] [])
       (append_unplaced (name_faults d others before) (default_faults d vs d.default) (name_unplaced d others before) (default_unplaced d vs d.default))))
-      (ap (scope-faults (unplaced-definitions ds) (each unplaced_definition others)) (behind unplaced_definition before d) ∙ scope-unplaced ds others (before ++ (d ∷ [])))
+      (ap (scope_faults (unplaced_definitions ds) (each unplaced_definition others)) (behind unplaced_definition before d) ∙ scope_unplaced ds others (before ++ (d ∷ [])))
 
   values_unplaced : (vs : Values) (b : Bool) (before : List Word) (others : List Definition)
-      → value-faults (unplaced-values vs) b (each unplaced_word before) (each unplaced_definition others) ≡ at_zero (value-faults vs b before others)
+      → value_faults (unplaced_values vs) b (each unplaced_word before) (each unplaced_definition others) ≡ at_zero (value_faults vs b before others)
   values_unplaced no_value b before others = refl
   values_unplaced (value w e us vs) b before others =
-      append_unplaced (word_faults b e w before ++ scope-faults us others []) (value-faults vs b (before ++ (w ∷ [])) (others ++ heads us))
-      (append_unplaced (word_faults b e w before) (scope-faults us others []) (word_unplaced b e w before) (scope-unplaced us others []))
-      (ap₂ (value-faults (unplaced-values vs) b) (behind unplaced_word before w)
+      append_unplaced (word_faults b e w before ++ scope_faults us others []) (value_faults vs b (before ++ (w ∷ [])) (others ++ heads us))
+      (append_unplaced (word_faults b e w before) (scope_faults us others []) (word_unplaced b e w before) (scope_unplaced us others []))
+      (ap₂ (value_faults (unplaced_values vs) b) (behind unplaced_word before w)
       (ap (each unplaced_definition others ++◌) (heads_unplaced us) ∙ sym (each_append unplaced_definition others (heads us)))
       ∙ values_unplaced vs b (before ++ (w ∷ [])) (others ++ heads us))
 
@@ -180,8 +180,8 @@ specs_unplaced : (before xs : List Spec) → spec_faults (each unplaced_spec bef
 unfolding spec_faults each unplaced_spec
 specs_unplaced before [] = refl
 specs_unplaced before (x ∷ xs) =
-    append_unplaced (faults_if (specified x before) x.word 8 ++ scope-faults x.definitions [] []) (spec_faults (before ++ (x ∷ [])) xs)
-    (append_unplaced (faults_if (specified x before) x.word 8) (scope-faults x.definitions [] []) (if_same x.word 8 (specified_unplaced x before)) (scope-unplaced x.definitions [] []))
+    append_unplaced (faults_if (specified x before) x.word 8 ++ scope_faults x.definitions [] []) (spec_faults (before ++ (x ∷ [])) xs)
+    (append_unplaced (faults_if (specified x before) x.word 8) (scope_faults x.definitions [] []) (if_same x.word 8 (specified_unplaced x before)) (scope_unplaced x.definitions [] []))
     (ap (λ b. spec_faults b (each unplaced_spec xs)) (behind unplaced_spec before x) ∙ specs_unplaced (before ++ (x ∷ [])) xs)
 
 pub definition_faults_unplaced : (f : File) → definition_faults (unplaced f) ≡ each unplaced_fault (definition_faults f)
@@ -264,7 +264,7 @@ brace_unplaced none = refl
 brace_unplaced (some t) = if_unplaced true t 15
 
 value_fault : (x : Statement) (d : Defined)
-    → faults_if (not (fits (unplaced_definition d.definition) (unplaced-values d.values) (unplaced_word x.value))) (unplaced_word x.value) 15
+    → faults_if (not (fits (unplaced_definition d.definition) (unplaced_values d.values) (unplaced_word x.value))) (unplaced_word x.value) 15
     ≡ at_zero (faults_if (not (fits d.definition d.values x.value)) x.value 15)
 value_fault x d = if_same x.value 15 (ap not (fits_unplaced d.definition d.values x.value))
 
@@ -294,20 +294,20 @@ own_unplaced os x d before =
 
 -- What is in the braces, and the same without places.
 abbrev Inside : (Definitions → List Fault) → (Definitions → List Fault) → Type 0
-Inside f g = (us : Definitions) → f (unplaced-definitions us) ≡ at_zero (g us)
+Inside f g = (us : Definitions) → f (unplaced_definitions us) ≡ at_zero (g us)
 
 and_unplaced : (own : List Fault) (x : Statement) (us : Definitions) (ns : List Word) (f g : Definitions → List Fault) → Inside f g
-    → and_inside (at_zero own) (unplaced_statement x) (unplaced-definitions us) (each unplaced_word ns) f ≡ at_zero (and_inside own x us ns g)
+    → and_inside (at_zero own) (unplaced_statement x) (unplaced_definitions us) (each unplaced_word ns) f ≡ at_zero (and_inside own x us ns g)
 unfolding and_inside each unplaced_statement
-and_unplaced [] x us ns f g h = append_unplaced (faults_if (lacks us ns) x.value 16) (g us) (if_same x.value 16 (lacks-unplaced us ns)) (h us)
+and_unplaced [] x us ns f g h = append_unplaced (faults_if (lacks us ns) x.value 16) (g us) (if_same x.value 16 (lacks_unplaced us ns)) (h us)
 and_unplaced (e ∷ es) x us ns f g h = refl
 
-or_unplaced : (o : Option Under) → definitions_or (if_there unplaced_under o) ≡ unplaced-definitions (definitions_or o)
-unfolding definitions_or if_there unplaced_under unplaced-definitions
+or_unplaced : (o : Option Under) → definitions_or (if_there unplaced_under o) ≡ unplaced_definitions (definitions_or o)
+unfolding definitions_or if_there unplaced_under unplaced_definitions
 or_unplaced none = refl
 or_unplaced (some u) = refl
 
-under_unplaced : (vs : Values) (t : Word) → under (unplaced-values vs) (unplaced_word t) ≡ unplaced-definitions (under vs t)
+under_unplaced : (vs : Values) (t : Word) → under (unplaced_values vs) (unplaced_word t) ≡ unplaced_definitions (under vs t)
 unfolding under
 under_unplaced vs t = ap definitions_or (value_unplaced vs t) ∙ or_unplaced (find_value vs t)
 
@@ -315,11 +315,11 @@ undefined_name : (x : Statement) → faults_if true (unplaced_statement x).name 
 unfolding unplaced_statement
 undefined_name x = if_unplaced true x.name 13
 
-value_scope : (d : Defined) (x : Statement) → under (unplaced_defined d).values (unplaced_statement x).value ≡ unplaced-definitions (under d.values x.value)
+value_scope : (d : Defined) (x : Statement) → under (unplaced_defined d).values (unplaced_statement x).value ≡ unplaced_definitions (under d.values x.value)
 unfolding unplaced_defined unplaced_statement
 value_scope d x = under_unplaced d.values x.value
 
-statement_definition : (ds : Definitions) (x : Statement) → find_definition (unplaced-definitions ds) (unplaced_statement x).name ≡ if_there unplaced_defined (find_definition ds x.name)
+statement_definition : (ds : Definitions) (x : Statement) → find_definition (unplaced_definitions ds) (unplaced_statement x).name ≡ if_there unplaced_defined (find_definition ds x.name)
 unfolding unplaced_statement
 statement_definition ds x = definition_unplaced ds x.name
 
@@ -337,7 +337,7 @@ judged_unplaced (some d) os x before ns f g h =
     ∙ and_unplaced (own_faults os x d before) x (under d.values x.value) ns f g h
 
 judge_unplaced : (ss : Statements) (os : List Object) (ds : Definitions) (before : List Word)
-    → judge (unplaced_statements ss) (each unplaced_object os) (unplaced-definitions ds) (each unplaced_word before) ≡ at_zero (judge ss os ds before)
+    → judge (unplaced_statements ss) (each unplaced_object os) (unplaced_definitions ds) (each unplaced_word before) ≡ at_zero (judge ss os ds before)
 unfolding judge unplaced_statements each
 judge_unplaced done os ds before = refl
 judge_unplaced (state x inside rest) os ds before =
@@ -346,16 +346,16 @@ judge_unplaced (state x inside rest) os ds before =
     (statement_definition ds x) (names_unplaced inside)
     ∙ judged_unplaced (find_definition ds x.name) os x before (names inside)
     (λ us. judge (unplaced_statements inside) (each unplaced_object os) us []) (λ us. judge inside os us []) (λ us. judge_unplaced inside os us []))
-    (ap (judge (unplaced_statements rest) (each unplaced_object os) (unplaced-definitions ds)) (statement_behind before x) ∙ judge_unplaced rest os ds (before ++ (x.name ∷ [])))
+    (ap (judge (unplaced_statements rest) (each unplaced_object os) (unplaced_definitions ds)) (statement_behind before x) ∙ judge_unplaced rest os ds (before ++ (x.name ∷ [])))
 
-judge_object_unplaced : (f : File) (x : Object) (ds : Definitions) → judge_object (unplaced f) (unplaced_object x) (unplaced-definitions ds) ≡ at_zero (judge_object f x ds)
+judge_object_unplaced : (f : File) (x : Object) (ds : Definitions) → judge_object (unplaced f) (unplaced_object x) (unplaced_definitions ds) ≡ at_zero (judge_object f x ds)
 unfolding judge_object unplaced unplaced_object each
 judge_object_unplaced f x ds =
     append_unplaced (faults_if (lacks ds (names x.statements)) x.name 16) (judge x.statements f.objects ds [])
-    (if_same x.name 16 (ap (lacks (unplaced-definitions ds)) (names_unplaced x.statements) ∙ lacks-unplaced ds (names x.statements)))
+    (if_same x.name 16 (ap (lacks (unplaced_definitions ds)) (names_unplaced x.statements) ∙ lacks_unplaced ds (names x.statements)))
     (judge_unplaced x.statements f.objects ds [])
 
-object_scope : (f : File) (x : Object) → of_kind (unplaced_object x).kind (unplaced f).specs ≡ unplaced-definitions (of_kind x.kind f.specs)
+object_scope : (f : File) (x : Object) → of_kind (unplaced_object x).kind (unplaced f).specs ≡ unplaced_definitions (of_kind x.kind f.specs)
 unfolding unplaced unplaced_object
 object_scope f x = kind_unplaced x.kind f.specs
 

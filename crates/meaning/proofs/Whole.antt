@@ -18,14 +18,14 @@ use Rattle.grammar.proofs.Decided.{decided}
 use Rattle.grammar.specs.declared.Answer.{Answer as GrammarAnswer}
 use Rattle.grammar.specs.declared.Answer.TheVariants.{Passes, NoToken, NotAdmitted, TooDeep}
 use Rattle.meaning.specs.Answers.{Tables, Answer, accepted}
-use Rattle.meaning.specs.Reading.{Answers, too_long, not-grammar, meant, reading, normal_text}
+use Rattle.meaning.specs.Reading.{Answers, too_long, not_grammar, meant, reading, normal_text}
 use Rattle.meaning.specs.Rules.{TheNormalText}
 use Rattle.meaning.specs.Computed.{OneAnswer, OneNormalText}
 use Rattle.meaning.proofs.Found.{run_answers, reading_long, reading_derived, reading_refused, normal_derived}
 
 module _ (s : List ℕ) (h : length s ≤ 65535) where
   refusing : (a : GrammarAnswer) → run 0 (paper file ▸ ∎) (stream_of (lex_from s 0)) ≡ a → (a ≡ Passes → ⊥) → StageAnswers s a → Answers s (reading s)
-  refusing a e n t = subst (λ b. Answers s b) (sym (reading_refused s a h e n)) (not-grammar a h n t)
+  refusing a e n t = subst (λ b. Answers s b) (sym (reading_refused s a h e n)) (not_grammar a h n t)
 
   by_stage : (a : GrammarAnswer) → run 0 (paper file ▸ ∎) (stream_of (lex_from s 0)) ≡ a → StageAnswers s a → Answers s (reading s)
   by_stage Passes e (passes v q d) =
@@ -46,7 +46,7 @@ answers s = go (ltb 65535 (length s)) refl
 -- A text has one answer: what `Answers` allows is what `reading` gives.
 pub one_answer : {s : List ℕ} {a : Answer} → Answers s a → reading s ≡ a
 one_answer {s} (too_long h) = reading_long s h
-one_answer {s} (not-grammar a h n t) = reading_refused s a h (decided (run_answers s) t) n
+one_answer {s} (not_grammar a h n t) = reading_refused s a h (decided (run_answers s) t) n
 one_answer {s} (meant w d) = reading_derived s w d
 
 -- So `reading` gives the one answer of the rules.
@@ -56,7 +56,7 @@ the_answer s = record { given = answers s; no_other = λ b h. sym (one_answer h)
 -- And `normal_text` the one normal text of an accepted text.
 pub the_normal_text : {s : List ℕ} {a : Answer} (t : Tables) → Answers s a → a ≡ accepted t → TheNormalText s (normal_text s)
 the_normal_text t (too_long h) e = absurd (let z : ◌≡◌ {A = Bool} false true = cc in false≢true z)
-the_normal_text t (not-grammar a h n k) e = absurd (let z : ◌≡◌ {A = Bool} false true = cc in false≢true z)
+the_normal_text t (not_grammar a h n k) e = absurd (let z : ◌≡◌ {A = Bool} false true = cc in false≢true z)
 the_normal_text {s} t (meant w d) e = record { derivation = d; written = normal_derived s w }
 
 pub every_normal_text : OneNormalText

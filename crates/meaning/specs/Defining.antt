@@ -44,13 +44,13 @@ definition_row u d = record {
 
 -- "their rows stand, in the order of their names in the text": what is under the values of a definition stands before it.
 unfoldable mutual
-  pub definition-rows : Definitions → Word → List DefinitionRow
-  definition-rows no_more u = []
-  definition-rows (define d vs ds) u = definition-rows-under vs ++ (definition_row u d ∷ definition-rows ds u)
+  pub definition_rows : Definitions → Word → List DefinitionRow
+  definition_rows no_more u = []
+  definition_rows (define d vs ds) u = definition_rows_under vs ++ (definition_row u d ∷ definition_rows ds u)
 
-  pub definition-rows-under : Values → List DefinitionRow
-  definition-rows-under no_value = []
-  definition-rows-under (value w e us vs) = definition-rows us w ++ definition-rows-under vs
+  pub definition_rows_under : Values → List DefinitionRow
+  definition_rows_under no_value = []
+  definition_rows_under (value w e us vs) = definition_rows us w ++ definition_rows_under vs
 
 -- "an enumerator row its attribute and name": the row of the word w, of the attribute a. TRUE and FALSE have none.
 unfoldable pub enumerator_row : Bool → ℕ → Word → List EnumeratorRow
@@ -58,22 +58,22 @@ enumerator_row true a w = record { attribute = a; name = span_of w } ∷ []
 enumerator_row false a w = []
 
 unfoldable mutual
-  pub enumerator-rows : Definitions → List EnumeratorRow
-  enumerator-rows no_more = []
-  enumerator-rows (define d vs ds) = enumerator-rows-of vs (is_enum d.type) d.row ++ enumerator-rows ds
+  pub enumerator_rows : Definitions → List EnumeratorRow
+  enumerator_rows no_more = []
+  enumerator_rows (define d vs ds) = enumerator_rows_of vs (is_enum d.type) d.row ++ enumerator_rows ds
 
-  pub enumerator-rows-of : Values → Bool → ℕ → List EnumeratorRow
-  enumerator-rows-of no_value b a = []
-  enumerator-rows-of (value w e us vs) b a = enumerator_row b a w ++ (enumerator-rows us ++ enumerator-rows-of vs b a)
+  pub enumerator_rows_of : Values → Bool → ℕ → List EnumeratorRow
+  enumerator_rows_of no_value b a = []
+  enumerator_rows_of (value w e us vs) b a = enumerator_row b a w ++ (enumerator_rows us ++ enumerator_rows_of vs b a)
 
 -- The two tables, "in the order of their names in the text".
 unfoldable pub all_definition_rows : List Spec → List DefinitionRow
 all_definition_rows [] = []
-all_definition_rows (x ∷ xs) = definition-rows x.definitions x.word ++ all_definition_rows xs
+all_definition_rows (x ∷ xs) = definition_rows x.definitions x.word ++ all_definition_rows xs
 
 unfoldable pub all_enumerator_rows : List Spec → List EnumeratorRow
 all_enumerator_rows [] = []
-all_enumerator_rows (x ∷ xs) = enumerator-rows x.definitions ++ all_enumerator_rows xs
+all_enumerator_rows (x ∷ xs) = enumerator_rows x.definitions ++ all_enumerator_rows xs
 
 -- Faults -----------------------------------------------------------------------------------------------------------------------------------
 
@@ -149,20 +149,20 @@ unfoldable pub word_faults : Bool → ℕ → Word → List Word → List Fault
 word_faults enum? e w before = faults_if (both enum? (eqb e 1024)) w 7 ++ faults_if (among w before) w 8
 
 unfoldable mutual
-  pub scope-faults : Definitions → (others before : List Definition) → List Fault
-  scope-faults no_more others before = []
-  scope-faults (define d vs ds) others before =
+  pub scope_faults : Definitions → (others before : List Definition) → List Fault
+  scope_faults no_more others before = []
+  scope_faults (define d vs ds) others before =
       (range_faults d.type d.bounds
-      ++ (value-faults vs (is_enum d.type) [] []
+      ++ (value_faults vs (is_enum d.type) [] []
       ++ (name_faults d others before
       ++ default_faults d vs d.default)))
-      ++ scope-faults ds others (before ++ (d ∷ []))
+      ++ scope_faults ds others (before ++ (d ∷ []))
 
-  pub value-faults : Values → Bool → List Word → List Definition → List Fault
-  value-faults no_value enum? before others = []
-  value-faults (value w e us vs) enum? before others =
-      (word_faults enum? e w before ++ scope-faults us others [])
-      ++ value-faults vs enum? (before ++ (w ∷ [])) (others ++ heads us)
+  pub value_faults : Values → Bool → List Word → List Definition → List Fault
+  value_faults no_value enum? before others = []
+  value_faults (value w e us vs) enum? before others =
+      (word_faults enum? e w before ++ scope_faults us others [])
+      ++ value_faults vs enum? (before ++ (w ∷ [])) (others ++ heads us)
 
 -- 8, "kind specified .. a second time", at the kind's word; and what is in its braces.
 unfoldable pub specified : Spec → List Spec → Bool
@@ -172,7 +172,7 @@ specified x (y ∷ ys) = either (same_kind x.kind y.kind) (specified x ys)
 unfoldable pub spec_faults : (before : List Spec) → List Spec → List Fault
 spec_faults before [] = []
 spec_faults before (x ∷ xs) =
-    (faults_if (specified x before) x.word 8 ++ scope-faults x.definitions [] []) ++ spec_faults (before ++ (x ∷ [])) xs
+    (faults_if (specified x before) x.word 8 ++ scope_faults x.definitions [] []) ++ spec_faults (before ++ (x ∷ [])) xs
 
 -- The stage of 6 to 9 and 21 to 23; 6 is "version string is not 2.5", at "the string".
 unfoldable pub definition_faults : File → List Fault

@@ -41,11 +41,11 @@ unfoldable mutual
   pub lacks : Definitions → List Word → Bool
   lacks no_more ns = false
   lacks (define d vs ds) ns =
-      either (both (not (among d.name ns)) (lacking (taken d.default) d.list (λ t. lacks-under vs t))) (lacks ds ns)
+      either (both (not (among d.name ns)) (lacking (taken d.default) d.list (λ t. lacks_under vs t))) (lacks ds ns)
 
-  pub lacks-under : Values → Word → Bool
-  lacks-under no_value t = false
-  lacks-under (value w e us vs) t = choose (alike w t) (λ _. lacks us []) (λ _. lacks-under vs t)
+  pub lacks_under : Values → Word → Bool
+  lacks_under no_value t = false
+  lacks_under (value w e us vs) t = choose (alike w t) (λ _. lacks us []) (λ _. lacks_under vs t)
 
 -- Values -----------------------------------------------------------------------------------------------------------------------------------
 

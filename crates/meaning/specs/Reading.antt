@@ -24,7 +24,7 @@ pub data Answers (s : List ℕ) : Answer → Type 0 where
   -- 2: "text too long", at 0. "The text is at most 65,535 bytes."
   too_long : 65535 < length s → Answers s (refused 2 0)
   -- 3, 4 and 5: what the grammar stage answers
-  not-grammar : (a : GrammarAnswer) → length s ≤ 65535 → (a ≡ Passes → ⊥) → StageAnswers s a → Answers s (refused (number_of a) (place_of a))
+  not_grammar : (a : GrammarAnswer) → length s ≤ 65535 → (a ≡ Passes → ⊥) → StageAnswers s a → Answers s (refused (number_of a) (place_of a))
   -- 6 to 19, or accepted: by the derivation of the text's tokens
   meant : Covered s → (d : Derivation (tokens s)) → Answers s (answer (syntax s d.tree))
 

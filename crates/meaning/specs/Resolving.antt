@@ -86,13 +86,13 @@ unfoldable mutual
   resolve (define d vs ds) os ss =
       let rest = resolve ds os ss in
       choose (among d.name (names ss))
-      (λ _. entries ss os d vs (λ t us. resolve-under vs os t us) rest)
-      (λ _. default_entry (taken d.default) os d vs (λ t us. resolve-under vs os t us) rest)
+      (λ _. entries ss os d vs (λ t us. resolve_under vs os t us) rest)
+      (λ _. default_entry (taken d.default) os d vs (λ t us. resolve_under vs os t us) rest)
 
   -- Under the value t of a list: nothing where no value has that word. "AUTO stays AUTO, with nothing under it."
-  pub resolve-under : Values → List Object → Word → Statements → Resolved
-  resolve-under no_value os t ss = end
-  resolve-under (value w e us vs) os t ss = choose (alike w t) (λ _. resolve us os ss) (λ _. resolve-under vs os t ss)
+  pub resolve_under : Values → List Object → Word → Statements → Resolved
+  resolve_under no_value os t ss = end
+  resolve_under (value w e us vs) os t ss = choose (alike w t) (λ _. resolve us os ss) (λ _. resolve_under vs os t ss)
 
 -- The values of an object, in the scope of its kind.
 unfoldable pub object_values : File → Object → Resolved

@@ -152,14 +152,14 @@ is_enum float = false
 is_enum (reference k) = false
 
 unfoldable mutual
-  pub enumerators-in : Definitions → ℕ
-  enumerators-in no_more = 0
-  enumerators-in (define d vs ds) = enumerators-under vs (is_enum d.type) + enumerators-in ds
+  pub enumerators_in : Definitions → ℕ
+  enumerators_in no_more = 0
+  enumerators_in (define d vs ds) = enumerators_under vs (is_enum d.type) + enumerators_in ds
 
-  pub enumerators-under : Values → Bool → ℕ
+  pub enumerators_under : Values → Bool → ℕ
   -- One for each enumerator: "TRUE, FALSE not counted".
-  enumerators-under no_value b = 0
-  enumerators-under (value w e us vs) b = bit b + (enumerators-in us + enumerators-under vs b)
+  enumerators_under no_value b = 0
+  enumerators_under (value w e us vs) b = bit b + (enumerators_in us + enumerators_under vs b)
 
 -- "At most 2,048 statements, nested ones counted."
 unfoldable pub statements_in : Statements → ℕ

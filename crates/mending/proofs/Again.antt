@@ -30,58 +30,58 @@ use Rattle.dropping.specs.Drops.{Drop, drop_if, stated_again, or_inside, drops a
 use Rattle.mending.specs.Ends.{end_of}
 use Rattle.mending.specs.Pieces.{Dropped, Piece, keeps, drops, piece_at, next_place, pieces, kept_of, dropped_of, bytes_at, lines, number_or, number_at, kept, dropped, mended}
 use Rattle.mending.specs.Results.{Outcome, left, written, by_answer, mend_by, or_refused, mend_parsed, mend_text}
-use Rattle.mending.specs.Rules.{Mending, not-mended, too_short, done as is-done, MendsByRules, refuses, mends}
-use Rattle.mending.specs.Assured.{Accepts, WrittenAccepted, AcceptedStays, MendedStays, Follow, at_end, byte-kept, span-dropped, PiecesFollow}
+use Rattle.mending.specs.Rules.{Mending, not_mended, too_short, done as is-done, MendsByRules, refuses, mends}
+use Rattle.mending.specs.Assured.{Accepts, WrittenAccepted, AcceptedStays, MendedStays, Follow, at_end, byte_kept, span_dropped, PiecesFollow}
 use Rattle.mending.specs.declared.Mended.{Mended}
 use Rattle.mending.specs.declared.Mended.TheVariants as m
-use Rattle.mending.proofs.Endings.{end_after, end-inside}
-use Rattle.mending.proofs.Piecing.{next_on, next_in, pieces-here, pieces-past}
-use Rattle.mending.proofs.Judged.{text-by-rules}
+use Rattle.mending.proofs.Endings.{end_after, end_inside}
+use Rattle.mending.proofs.Piecing.{next_on, next_in, pieces_here, pieces_past}
+use Rattle.mending.proofs.Judged.{text_by_rules}
 use Rattle.mending.proofs.Wholes.{none_faulty}
 
 -- Accepted -----------------------------------------------------------------------------------------------------------------------------------
 
 module _ {s g l k l' k' : List ℕ} (n c : ℕ) where
-  from-mending : {ds : List Drop} {r : Mended} → Mending s g ds l k l' k' r → r ≡ m.Done n c → Accepts (take n l')
-  from-mending (not-mended a p h i j) e = absurd (let z : ◌≡◌ {A = Bool} false true = cc in false≢true z)
-  from-mending (too_short t h w i j) e = absurd (let z : ◌≡◌ {A = Bool} false true = cc in false≢true z)
-  from-mending {ds = ds} (is-done t h v w i j) e =
+  from_mending : {ds : List Drop} {r : Mended} → Mending s g ds l k l' k' r → r ≡ m.Done n c → Accepts (take n l')
+  from_mending (not_mended a p h i j) e = absurd (let z : ◌≡◌ {A = Bool} false true = cc in false≢true z)
+  from_mending (too_short t h w i j) e = absurd (let z : ◌≡◌ {A = Bool} false true = cc in false≢true z)
+  from_mending {ds = ds} (is-done t h v w i j) e =
       let z : length (mended s ds) ≡ n = cc in
       let y : take n l' ≡ mended s ds = ap (take n) i ∙ take_at (mended s ds) (drop (length (mended s ds)) l) n z in
       record { tables = t; answer = subst (λ (x : List ℕ). TheAnswer x (accepted t)) (sym y) h }
 
-  from-rules : {r : Mended} → MendsByRules s g l k l' k' r → r ≡ m.Done n c → Accepts (take n l')
-  from-rules (refuses h a p t i j v) e = absurd (let z : ◌≡◌ {A = Mended} (m.Refused a p) (m.Done n c) = sym i ∙ e in let y : ◌≡◌ {A = Bool} false true = cc in false≢true y)
-  from-rules (mends p h) e = from-mending (h p.derivation) e
+  from_rules : {r : Mended} → MendsByRules s g l k l' k' r → r ≡ m.Done n c → Accepts (take n l')
+  from_rules (refuses h a p t i j v) e = absurd (let z : ◌≡◌ {A = Mended} (m.Refused a p) (m.Done n c) = sym i ∙ e in let y : ◌≡◌ {A = Bool} false true = cc in false≢true y)
+  from_rules (mends p h) e = from_mending (h p.derivation) e
 
 pub written_accepted : WrittenAccepted
-written_accepted s g l k n c e = from-rules n c (text-by-rules s g l k) e
+written_accepted s g l k n c e = from_rules n c (text_by_rules s g l k) e
 
 -- A text without a fault of the statements has nothing to drop -------------------------------------------------------------------------------
 
 first_none : (fs : List Fault) → first fs ≡ none → fs ≡ []
 unfolding first sooner
 first_none [] e = refl
-first_none (f ∷ fs) e = absurd (by-rest (first fs) e)
+first_none (f ∷ fs) e = absurd (by_rest (first fs) e)
   where
-    by-rest : (o : Option Fault) → sooner (some f) o ≡ none → ⊥
-    by-rest none i = let z : ◌≡◌ {A = Bool} false true = cc in false≢true z
-    by-rest (some g) i = let z : ◌≡◌ {A = Bool} false true = cc in false≢true z
+    by_rest : (o : Option Fault) → sooner (some f) o ≡ none → ⊥
+    by_rest none i = let z : ◌≡◌ {A = Bool} false true = cc in false≢true z
+    by_rest (some g) i = let z : ◌≡◌ {A = Bool} false true = cc in false≢true z
 
 front_empty : (xs ys : List Fault) → xs ++ ys ≡ [] → (xs ≡ []) × (ys ≡ [])
 front_empty [] ys e = (refl, e)
-front_empty (x ∷ xs) ys e = absurd (let z : ◌≡◌ {A = ℕ} 1 0 = ap one-if e in omega arith)
+front_empty (x ∷ xs) ys e = absurd (let z : ◌≡◌ {A = ℕ} 1 0 = ap one_if e in omega arith)
   where
-    one-if : List Fault → ℕ
-    one-if [] = 0
-    one-if (y ∷ zs) = 1
+    one_if : List Fault → ℕ
+    one_if [] = 0
+    one_if (y ∷ zs) = 1
 
 not_empty : {f : Fault} {fs : List Fault} → ◌≡◌ {A = List Fault} (f ∷ fs) [] → ⊥
-not_empty e = let z : ◌≡◌ {A = ℕ} 1 0 = ap one-if e in omega arith
+not_empty e = let z : ◌≡◌ {A = ℕ} 1 0 = ap one_if e in omega arith
   where
-    one-if : List Fault → ℕ
-    one-if [] = 0
-    one-if (y ∷ zs) = 1
+    one_if : List Fault → ℕ
+    one_if [] = 0
+    one_if (y ∷ zs) = 1
 
 module _ (os : List Object) (x : Statement) (before ns : List Word) (j : Definitions → List Fault) (d : Definitions → List Drop) (h : (us : Definitions) → j us ≡ [] → d us ≡ []) where
   inside_none : (fs : List Fault) (again : Bool) (us : Definitions) → and_inside fs x us ns j ≡ [] → or_inside fs again x us d ≡ []
@@ -89,17 +89,17 @@ module _ (os : List Object) (x : Statement) (before ns : List Word) (j : Definit
   inside_none [] again us e = h us (front_empty (faults_if (lacks us ns) x.value 16) (j us) e).1
   inside_none (f ∷ fs) again us e = absurd (not_empty e)
 
-  statement-none : (o : Option Defined) → judged o os x before ns j ≡ [] → dropped-by o os x before d ≡ []
+  statement_none : (o : Option Defined) → judged o os x before ns j ≡ [] → dropped-by o os x before d ≡ []
   unfolding judged dropped-by faults_if
-  statement-none none e = absurd (not_empty e)
-  statement-none (some y) e = inside_none (own_faults os x y before) (stated_again y x before) (under y.values x.value) e
+  statement_none none e = absurd (not_empty e)
+  statement_none (some y) e = inside_none (own_faults os x y before) (stated_again y x before) (under y.values x.value) e
 
 drops_none : (ss : Statements) (os : List Object) (ds : Definitions) (before : List Word) → judge ss os ds before ≡ [] → drops-in ss os ds before ≡ []
 unfolding judge drops-in
 drops_none done os ds before e = refl
 drops_none (state x inside rest) os ds before e =
     let p = front_empty (judged (find_definition ds x.name) os x before (names inside) (λ us. judge inside os us [])) (judge rest os ds (before ++ (x.name ∷ []))) e in
-    let a = statement-none os x before (names inside) (λ us. judge inside os us []) (λ us. drops-in inside os us []) (λ us i. drops_none inside os us [] i) (find_definition ds x.name) p.0 in
+    let a = statement_none os x before (names inside) (λ us. judge inside os us []) (λ us. drops-in inside os us []) (λ us i. drops_none inside os us [] i) (find_definition ds x.name) p.0 in
     let b = drops_none rest os ds (before ++ (x.name ∷ [])) p.1 in
     ap (λ (y : List Drop). y ++ drops-in rest os ds (before ++ (x.name ∷ []))) a ∙ b
 
@@ -122,37 +122,37 @@ nothing_dropped f e = objects_none f f.objects (first_none (judge_objects f f.ob
 module _ (s : List ℕ) where
   keeps_here : (p : ℕ) → p < length s → pieces s (number_at []) p ≡ keeps p ∷ pieces s (number_at []) (p + 1)
   unfolding number_at number_or piece_at next_place
-  keeps_here p h = pieces-here s (number_at []) p h
+  keeps_here p h = pieces_here s (number_at []) p h
 
   all_kept : (k p : ℕ) → length s ≤ p + k → bytes_at s (kept_of (pieces s (number_at []) p)) ≡ drop p s
   unfolding bytes_at kept_of
-  all_kept zero p h = ap (λ (x : List Piece). bytes_at s (kept_of x)) (pieces-past s (number_at []) p (omega arith)) ∙ sym (drop_of_length-le s (let z : length s ≤ p = omega arith in z))
+  all_kept zero p h = ap (λ (x : List Piece). bytes_at s (kept_of x)) (pieces_past s (number_at []) p (omega arith)) ∙ sym (drop_of_length-le s (let z : length s ≤ p = omega arith in z))
   all_kept (suc k) p h = by_place (λ q a. all_kept k q a) (dec_le (length s) p)
     where
       by_place : ((q : ℕ) → length s ≤ q + k → bytes_at s (kept_of (pieces s (number_at []) q)) ≡ drop q s) → Dec (length s ≤ p) → bytes_at s (kept_of (pieces s (number_at []) p)) ≡ drop p s
-      by_place f (yes i) = ap (λ (x : List Piece). bytes_at s (kept_of x)) (pieces-past s (number_at []) p i) ∙ sym (drop_of_length-le s i)
+      by_place f (yes i) = ap (λ (x : List Piece). bytes_at s (kept_of x)) (pieces_past s (number_at []) p i) ∙ sym (drop_of_length-le s i)
       by_place f (no i) =
           let j : p < length s = omega arith in
           ap (λ (x : List Piece). bytes_at s (kept_of x)) (keeps_here p j)
           ∙ ap (byte s p ∷◌) (f (p + 1) (omega arith) ∙ ap (λ (q : ℕ). drop q s) (add-one p))
           ∙ sym (drop-cons s p 0 j)
 
-  mended-none : mended s [] ≡ s
+  mended_none : mended s [] ≡ s
   unfolding mended kept
-  mended-none = all_kept (length s) 0 (omega arith)
+  mended_none = all_kept (length s) 0 (omega arith)
 
   none_dropped : (k p : ℕ) → length s ≤ p + k → dropped_of (pieces s (number_at []) p) ≡ []
   unfolding dropped_of
-  none_dropped zero p h = ap dropped_of (pieces-past s (number_at []) p (omega arith))
+  none_dropped zero p h = ap dropped_of (pieces_past s (number_at []) p (omega arith))
   none_dropped (suc k) p h = by_place (λ q a. none_dropped k q a) (dec_le (length s) p)
     where
       by_place : ((q : ℕ) → length s ≤ q + k → dropped_of (pieces s (number_at []) q) ≡ []) → Dec (length s ≤ p) → dropped_of (pieces s (number_at []) p) ≡ []
-      by_place f (yes i) = ap dropped_of (pieces-past s (number_at []) p i)
+      by_place f (yes i) = ap dropped_of (pieces_past s (number_at []) p i)
       by_place f (no i) = let j : p < length s = omega arith in ap dropped_of (keeps_here p j) ∙ f (p + 1) (omega arith)
 
-  dropped-none : dropped s [] ≡ []
+  dropped_none : dropped s [] ≡ []
   unfolding dropped
-  dropped-none = none_dropped (length s) 0 (omega arith)
+  dropped_none = none_dropped (length s) 0 (omega arith)
 
 passes_on : (o : Option Fault) (k : Unit {0} → Answer) (t : Tables) → unless o k ≡ accepted t → (o ≡ none) × (k tt ≡ accepted t)
 unfolding unless
@@ -178,9 +178,9 @@ accepted_stays s a g l k h =
     ap (λ (t : Parsed). mend_parsed t s g l k) (parse_derived s d.covered d.derivation)
     ∙ none_faulty f s g l k p₁.0 p₂.0
     ∙ ap (λ (ds : List Drop). mend_by s g ds l k) (nothing_dropped f p₃.0)
-    ∙ ap (λ (x : Answer). by_answer x s g [] l k) (ap reading (mended-none s) ∙ r)
-    ∙ ap (λ (x : List ℕ). written x (lines g (dropped s [])) l k) (mended-none s)
-    ∙ ap (λ (x : List Dropped). written s (lines g x) l k) (dropped-none s)
+    ∙ ap (λ (x : Answer). by_answer x s g [] l k) (ap reading (mended_none s) ∙ r)
+    ∙ ap (λ (x : List ℕ). written x (lines g (dropped s [])) l k) (mended_none s)
+    ∙ ap (λ (x : List Dropped). written s (lines g x) l k) (dropped_none s)
     ∙ written_whole s g l k h
 
 pub mended_stays : MendedStays
@@ -191,28 +191,28 @@ mended_stays s g l k n c e g₁ l₁ k₁ h = accepted_stays (take n (mend_text 
 module _ (s : List ℕ) (n : ℕ → ℕ) where
   one_follows : (k p : ℕ) → p < length s → {ps : List Piece} → Follow (length s) ps (next_place k s p) → Follow (length s) (piece_at k s p ∷ ps) p
   unfolding piece_at next_place
-  one_follows zero p h t = byte-kept t
+  one_follows zero p h t = byte_kept t
   one_follows (suc k) p h {ps} t =
       let a = end_after s p h in
       let e : end_of s p ≡ p + (end_of s p - p) = omega arith in
-      span-dropped (let z : 0 < end_of s p - p = omega arith in z) (subst (λ (q : ℕ). Follow (length s) ps q) e t)
+      span_dropped (let z : 0 < end_of s p - p = omega arith in z) (subst (λ (q : ℕ). Follow (length s) ps q) e t)
 
-  follow-from : (k p : ℕ) → length s ≤ p + k → p ≤ length s → Follow (length s) (pieces s n p) p
-  follow-from zero p h i = let e : length s ≡ p = omega arith in subst (λ (q : ℕ). Follow (length s) (pieces s n q) q) e (ended (length s) refl)
+  follow_from : (k p : ℕ) → length s ≤ p + k → p ≤ length s → Follow (length s) (pieces s n p) p
+  follow_from zero p h i = let e : length s ≡ p = omega arith in subst (λ (q : ℕ). Follow (length s) (pieces s n q) q) e (ended (length s) refl)
     where
       ended : (q : ℕ) → q ≡ length s → Follow (length s) (pieces s n q) q
-      ended q j = subst (λ (x : List Piece). Follow (length s) x q) (sym (pieces-past s n q (omega arith))) (subst (λ (z : ℕ). Follow (length s) [] z) (sym j) at_end)
-  follow-from (suc k) p h i = by_place (λ q a b. follow-from k q a b) (dec_le (length s) p)
+      ended q j = subst (λ (x : List Piece). Follow (length s) x q) (sym (pieces_past s n q (omega arith))) (subst (λ (z : ℕ). Follow (length s) [] z) (sym j) at_end)
+  follow_from (suc k) p h i = by_place (λ q a b. follow_from k q a b) (dec_le (length s) p)
     where
       by_place : ((q : ℕ) → length s ≤ q + k → q ≤ length s → Follow (length s) (pieces s n q) q) → Dec (length s ≤ p) → Follow (length s) (pieces s n p) p
       by_place f (yes j) =
           let e : length s ≡ p = omega arith in
-          subst (λ (x : List Piece). Follow (length s) x p) (sym (pieces-past s n p j)) (subst (λ (z : ℕ). Follow (length s) [] z) e at_end)
+          subst (λ (x : List Piece). Follow (length s) x p) (sym (pieces_past s n p j)) (subst (λ (z : ℕ). Follow (length s) [] z) e at_end)
       by_place f (no j) =
           let l : p < length s = omega arith in
           let o = next_on (n p) s p l in
-          subst (λ (x : List Piece). Follow (length s) x p) (sym (pieces-here s n p l))
+          subst (λ (x : List Piece). Follow (length s) x p) (sym (pieces_here s n p l))
           (one_follows (n p) p l (f (next_place (n p) s p) (omega arith) (next_in (n p) s p l)))
 
 pub pieces_follow : PiecesFollow
-pieces_follow s ds = follow-from s (number_at ds) (length s) 0 (omega arith) (omega arith)
+pieces_follow s ds = follow_from s (number_at ds) (length s) 0 (omega arith) (omega arith)

@@ -84,29 +84,29 @@ unfolding end_from
 end_past s d p h = none_left (length s - p) s d p h
 
 module _ (s : List ℕ) (d p : ℕ) (h : p < length s) where
-  pub end-bad : (q : ℕ) → step_at s p ≡ Refused q → end_from s d p ≡ length s
+  pub end_bad : (q : ℕ) → step_at s p ≡ Refused q → end_from s d p ≡ length s
   unfolding end_by
-  end-bad q e = end_law s d p h ∙ ap (λ (r : Step). end_by r d (length s) (end_from s)) e
+  end_bad q e = end_law s d p h ∙ ap (λ (r : Step). end_by r d (length s) (end_from s)) e
 
   pub end_none : (q : ℕ) → step_at s p ≡ End q → end_from s d p ≡ length s
   unfolding end_by
   end_none q e = end_law s d p h ∙ ap (λ (r : Step). end_by r d (length s) (end_from s)) e
 
   module _ (t : Token) (c : Cursor) (e : step_at s p ≡ Found t c) (b : ℕ) (i : b ≡ punctuator_of t.sort) where
-    found-law : end_from s d p ≡ choose (is_last d b) (λ _. c.at) (λ _. end_from s (open_after d b) c.at)
+    found_law : end_from s d p ≡ choose (is_last d b) (λ _. c.at) (λ _. end_from s (open_after d b) c.at)
     unfolding end_by
-    found-law =
+    found_law =
         end_law s d p h
         ∙ ap (λ (r : Step). end_by r d (length s) (end_from s)) e
         ∙ ap (λ (k : ℕ). choose (is_last d k) (λ _. c.at) (λ _. end_from s (open_after d k) c.at)) (sym i)
 
-    pub end-found : is_last d b ≡ true → end_from s d p ≡ c.at
+    pub end_found : is_last d b ≡ true → end_from s d p ≡ c.at
     unfolding choose
-    end-found q = found-law ∙ ap (λ (v : Bool). choose v (λ _. c.at) (λ _. end_from s (open_after d b) c.at)) q
+    end_found q = found_law ∙ ap (λ (v : Bool). choose v (λ _. c.at) (λ _. end_from s (open_after d b) c.at)) q
 
     pub end_on : is_last d b ≡ false → end_from s d p ≡ end_from s (open_after d b) c.at
     unfolding choose
-    end_on q = found-law ∙ ap (λ (v : Bool). choose v (λ _. c.at) (λ _. end_from s (open_after d b) c.at)) q
+    end_on q = found_law ∙ ap (λ (v : Bool). choose v (λ _. c.at) (λ _. end_from s (open_after d b) c.at)) q
 
 -- Bounds -------------------------------------------------------------------------------------------------------------------------------------
 
@@ -156,8 +156,8 @@ module _ (s : List ℕ) (p : ℕ) (h : p < length s) where
   pub end_after : p < end_of s p
   end_after = bounds.0
 
-  pub end-inside : end_of s p ≤ length s
-  end-inside = bounds.1
+  pub end_inside : end_of s p ≤ length s
+  end_inside = bounds.1
 
 -- The loop of `statement_end` ----------------------------------------------------------------------------------------------------------------
 
@@ -180,19 +180,19 @@ open_low d b = by_tests (eqb b 123) (eqb b 125)
     by_tests false false = omega arith
 
 module _ {s : List ℕ} {at d p : ℕ} (u : Ending s at d p) where
-  pub ending-past : length s ≤ p → length s ≡ end_of s at
-  ending-past h = sym (end_past s d p h) ∙ u.left
+  pub ending_past : length s ≤ p → length s ≡ end_of s at
+  ending_past h = sym (end_past s d p h) ∙ u.left
 
   module _ (h : p < length s) where
-    pub ending-bad : (q : ℕ) → step_at s p ≡ Refused q → length s ≡ end_of s at
-    ending-bad q e = sym (end-bad s d p h q e) ∙ u.left
+    pub ending_bad : (q : ℕ) → step_at s p ≡ Refused q → length s ≡ end_of s at
+    ending_bad q e = sym (end_bad s d p h q e) ∙ u.left
 
-    pub ending-none : (q : ℕ) → step_at s p ≡ End q → length s ≡ end_of s at
-    ending-none q e = sym (end_none s d p h q e) ∙ u.left
+    pub ending_none : (q : ℕ) → step_at s p ≡ End q → length s ≡ end_of s at
+    ending_none q e = sym (end_none s d p h q e) ∙ u.left
 
     module _ (t : Token) (c : Cursor) (b : ℕ) (e : step_at s p ≡ Found t c) (i : b ≡ punctuator_of t.sort) (r : Bool) (k : r ≡ is_last d b) where
       pub ending-found : r ≡ true → c.at ≡ end_of s at
-      ending-found q = sym (end-found s d p h t c e b i (sym k ∙ q)) ∙ u.left
+      ending-found q = sym (end_found s d p h t c e b i (sym k ∙ q)) ∙ u.left
 
       pub ending-on : r ≡ false → (d' : ℕ) → d' ≡ open_after d b → Ending s at d' c.at
       ending-on q d' z =

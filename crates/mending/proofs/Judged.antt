@@ -33,11 +33,11 @@ use Rattle.meaning.specs.Reading.{Parsed, parsed, not_parsed, after_grammar, par
 use Rattle.meaning.specs.Rules.{TheAnswer}
 use Rattle.meaning.proofs.Found.{run_answers, parse_derived}
 use Rattle.meaning.proofs.Whole.{the_answer}
-use Rattle.reading.proofs.Derived.{Derived, the-refusal}
+use Rattle.reading.proofs.Derived.{Derived, the_refusal}
 use Rattle.dropping.specs.Drops.{Drop, all_drops}
 use Rattle.mending.specs.Pieces.{dropped, mended, lines}
 use Rattle.mending.specs.Results.{Outcome, left, place_back, written, by_answer, mend_by, or_refused, mend_parsed, mend_text, MendsText}
-use Rattle.mending.specs.Rules.{Passes, TooShort, text-short, lines-short, Mending, not-mended, too_short, done, MendsByRules, refuses, mends}
+use Rattle.mending.specs.Rules.{Passes, TooShort, text_short, lines_short, Mending, not_mended, too_short, done, MendsByRules, refuses, mends}
 use Rattle.mending.specs.declared.Mended.{Mended}
 use Rattle.mending.specs.declared.Mended.TheVariants as m
 
@@ -62,15 +62,15 @@ module _ (s : List ℕ) (f : File) (e : parse s ≡ parsed f) where
   by_length true h i = not_parsed_here i
   by_length false h i = by_stage (ltb-false 65535 (length s) h) _ (run_answers s) i
 
-  pub parsed-derived : Derived s
+  pub parsed_derived : Derived s
   unfolding parse
-  parsed-derived = by_length (ltb 65535 (length s)) refl e
+  parsed_derived = by_length (ltb 65535 (length s)) refl e
 
   same_file : {a b : File} → ◌≡◌ {A = Parsed} (parsed a) (parsed b) → a ≡ b
   same_file i = cc
 
-  pub own-syntax : (d : Derivation (tokens s)) → f ≡ syntax s d.tree
-  own-syntax d = same_file (sym e ∙ parse_derived s parsed-derived.covered d)
+  pub own_syntax : (d : Derivation (tokens s)) → f ≡ syntax s d.tree
+  own_syntax d = same_file (sym e ∙ parse_derived s parsed_derived.covered d)
 
 -- A text of more than 65,535 bytes.
 pub parse_long : (s : List ℕ) → 65535 < length s → parse s ≡ not_parsed 2 0
@@ -97,25 +97,25 @@ module _ (s g : List ℕ) (ds : List Drop) (l k : List ℕ) where
         lines = lines g (dropped s ds) ++ drop (length (lines g (dropped s ds))) k;
       }))
   unfolding choose left
-  by_room t h true b i j = too_short t h (text-short (ltb-true (length l) (length (mended s ds)) i)) refl refl
-  by_room t h false true i j = too_short t h (lines-short (ltb-true (length k) (length (lines g (dropped s ds))) j)) refl refl
+  by_room t h true b i j = too_short t h (text_short (ltb-true (length l) (length (mended s ds)) i)) refl refl
+  by_room t h false true i j = too_short t h (lines_short (ltb-true (length k) (length (lines g (dropped s ds))) j)) refl refl
   by_room t h false false i j = done t h (ltb-false (length l) (length (mended s ds)) i) (ltb-false (length k) (length (lines g (dropped s ds))) j) refl refl
 
-  by-answers : (a : Answer) → TheAnswer (mended s ds) a → Comes (by_answer a s g ds l k)
+  by_answers : (a : Answer) → TheAnswer (mended s ds) a → Comes (by_answer a s g ds l k)
   unfolding by_answer written left
-  by-answers (accepted t) h = by_room t h (ltb (length l) (length (mended s ds))) (ltb (length k) (length (lines g (dropped s ds)))) refl refl
-  by-answers (refused n p) h = not-mended n p h refl refl
+  by_answers (accepted t) h = by_room t h (ltb (length l) (length (mended s ds))) (ltb (length k) (length (lines g (dropped s ds)))) refl refl
+  by_answers (refused n p) h = not_mended n p h refl refl
 
   mending : Comes (mend_by s g ds l k)
   unfolding mend_by
-  mending = by-answers (reading (mended s ds)) (the_answer (mended s ds))
+  mending = by_answers (reading (mended s ds)) (the_answer (mended s ds))
 
 module _ (s g l k : List ℕ) where
   abbrev ByRules : Outcome → Type 0
   ByRules o = MendsByRules s g l k o.text o.lines o.result
 
-  not-passing : (n p : ℕ) → parse s ≡ not_parsed n p → Passes s → ⊥
-  not-passing n p e h = not_parsed_here (sym e ∙ parse_derived s h.covered h.derivation)
+  not_passing : (n p : ℕ) → parse s ≡ not_parsed n p → Passes s → ⊥
+  not_passing n p e h = not_parsed_here (sym e ∙ parse_derived s h.covered h.derivation)
 
   module _ (f : File) (e : parse s ≡ parsed f) where
     reading_is : (a : Answer) → answer f ≡ a → reading s ≡ a
@@ -124,49 +124,49 @@ module _ (s g l k : List ℕ) where
 
     faulty : {x : Fault} (o : File → Option Fault) → o f ≡ some x → ((h : Passes s) → o (syntax s h.derivation.tree) ≡ none) → Passes s → ⊥
     faulty o i j h =
-        let z : ◌≡◌ {A = Option Fault} (some _) none = sym i ∙ ap o (own-syntax s f e h.derivation) ∙ j h in
+        let z : ◌≡◌ {A = Option Fault} (some _) none = sym i ∙ ap o (own_syntax s f e h.derivation) ∙ j h in
         let y : ◌≡◌ {A = Bool} false true = cc in
         false≢true y
 
-    by-objects : first (definition_faults f) ≡ none → (o : Option Fault) → first (object_faults f) ≡ o
+    by_objects : first (definition_faults f) ≡ none → (o : Option Fault) → first (object_faults f) ≡ o
         → ByRules (or_refused o l k (λ _. mend_by s g (all_drops f) l k))
     unfolding or_refused left answer unless rest
-    by-objects i none j =
-        let d = parsed-derived s f e in
-        let u = own-syntax s f e d.derivation in
+    by_objects i none j =
+        let d = parsed_derived s f e in
+        let u = own_syntax s f e d.derivation in
         mends
         (record {
           covered = d.covered;
           derivation = d.derivation;
-          no-definition-fault = ap (λ (x : File). first (definition_faults x)) (sym u) ∙ i;
-          no-object-fault = ap (λ (x : File). first (object_faults x)) (sym u) ∙ j;
+          no_definition_fault = ap (λ (x : File). first (definition_faults x)) (sym u) ∙ i;
+          no_object_fault = ap (λ (x : File). first (object_faults x)) (sym u) ∙ j;
         })
         (λ v. subst (λ (x : File). Mending s g (all_drops x) l k (mend_by s g (all_drops f) l k).text (mend_by s g (all_drops f) l k).lines (mend_by s g (all_drops f) l k).result)
-        (own-syntax s f e v) (mending s g (all_drops f) l k))
-    by-objects i (some x) j =
+        (own_syntax s f e v) (mending s g (all_drops f) l k))
+    by_objects i (some x) j =
         refuses (faulty (λ y. first (object_faults y)) j (λ h. h.no-object-fault)) x.number x.place
-        (the-refusal s x.number x.place (reading_is (refused x.number x.place)
+        (the_refusal s x.number x.place (reading_is (refused x.number x.place)
         (ap (λ (y : Option Fault). unless y (λ _. unless (first (object_faults f)) (λ _. rest f))) i ∙ ap (λ (y : Option Fault). unless y (λ _. rest f)) j)))
         refl refl refl
 
-    by-definitions : (o : Option Fault) → first (definition_faults f) ≡ o
+    by_definitions : (o : Option Fault) → first (definition_faults f) ≡ o
         → ByRules (or_refused o l k (λ _. or_refused (first (object_faults f)) l k (λ _. mend_by s g (all_drops f) l k)))
     unfolding or_refused left answer unless rest
-    by-definitions none i = by-objects i (first (object_faults f)) refl
-    by-definitions (some x) i =
+    by_definitions none i = by_objects i (first (object_faults f)) refl
+    by_definitions (some x) i =
         refuses (faulty (λ y. first (definition_faults y)) i (λ h. h.no-definition-fault)) x.number x.place
-        (the-refusal s x.number x.place (reading_is (refused x.number x.place)
+        (the_refusal s x.number x.place (reading_is (refused x.number x.place)
         (ap (λ (y : Option Fault). unless y (λ _. unless (first (object_faults f)) (λ _. rest f))) i)))
         refl refl refl
 
   by_parse : (x : Parsed) → parse s ≡ x → ByRules (mend_parsed x s g l k)
   unfolding mend_parsed left reading answer_of_parsed
-  by_parse (not_parsed n p) e = refuses (not-passing n p e) n p (the-refusal s n p (ap answer_of_parsed e)) refl refl refl
-  by_parse (parsed f) e = by-definitions f e (first (definition_faults f)) refl
+  by_parse (not_parsed n p) e = refuses (not_passing n p e) n p (the_refusal s n p (ap answer_of_parsed e)) refl refl refl
+  by_parse (parsed f) e = by_definitions f e (first (definition_faults f)) refl
 
-  pub text-by-rules : ByRules (mend_text s g l k)
+  pub text_by_rules : ByRules (mend_text s g l k)
   unfolding mend_text
-  text-by-rules = by_parse (parse s) refl
+  text_by_rules = by_parse (parse s) refl
 
 -- The clauses of `mend`: from the first, the second.
 pub mends_rules : {s g l k l' k' : List ℕ} {r : Mended} → MendsText s g l k l' k' r → MendsText s g l k l' k' r × MendsByRules s g l k l' k' r
@@ -174,5 +174,5 @@ mends_rules {s} {g} {l} {k} {l'} {k'} {r} h = (
   h,
   subst (λ (x : Mended). MendsByRules s g l k l' k' x) (sym h.result)
       (subst (λ (x : List ℕ). MendsByRules s g l k x k' (mend_text s g l k).result) (sym h.text)
-      (subst (λ (x : List ℕ). MendsByRules s g l k (mend_text s g l k).text x (mend_text s g l k).result) (sym h.lines) (text-by-rules s g l k))),
+      (subst (λ (x : List ℕ). MendsByRules s g l k (mend_text s g l k).text x (mend_text s g l k).result) (sym h.lines) (text_by_rules s g l k))),
 )

@@ -13,11 +13,11 @@ use borrow.Author.Tests.{eq-eqb, ne_eqb, eqb-true, lt-ltb, le-ltb}
 use Rattle.token.specs.Find.{pick, both, byte}
 use Rattle.meaning.specs.Words.{choose}
 use Rattle.writing.specs.Wrote.{Wrote}
-use Rattle.writing.proofs.Writes.{wrote_length, wrote-low, wrote_then, wrote_as, wrote_none}
+use Rattle.writing.proofs.Writes.{wrote_length, wrote_low, wrote_then, wrote_as, wrote_none}
 use Rattle.mending.specs.Ends.{end_of}
 use Rattle.mending.specs.Pieces.{Dropped, Piece, keeps, drops, piece_at, next_place, pieces_in, pieces, kept_of, dropped_of, bytes_at, line, lines}
 use Rattle.mending.specs.Promises.{marked, next_by, kept_by, mended_by, lines_by, is_here, left_after, stored, place_after, line_at, PutsKept, PutsMended}
-use Rattle.mending.proofs.Endings.{end_after, end-inside}
+use Rattle.mending.proofs.Endings.{end_after, end_inside}
 
 -- The place after a piece --------------------------------------------------------------------------------------------------------------------
 
@@ -29,109 +29,109 @@ next_on (suc n) s p h = end_after s p h
 pub next_in : (k : ℕ) (s : List ℕ) (p : ℕ) → p < length s → next_place k s p ≤ length s
 unfolding next_place
 next_in zero s p h = omega arith
-next_in (suc n) s p h = end-inside s p h
+next_in (suc n) s p h = end_inside s p h
 
 -- All pieces ---------------------------------------------------------------------------------------------------------------------------------
 
 module _ (s : List ℕ) (m : ℕ → ℕ) where
-  in-here : (n p : ℕ) → p < length s → pieces_in (suc n) s (length s) m p ≡ piece_at (m p) s p ∷ pieces_in n s (length s) m (next_place (m p) s p)
+  in_here : (n p : ℕ) → p < length s → pieces_in (suc n) s (length s) m p ≡ piece_at (m p) s p ∷ pieces_in n s (length s) m (next_place (m p) s p)
   unfolding pieces_in choose
-  in-here n p h = ap (λ (b : Bool). choose b (λ _. piece_at (m p) s p ∷ pieces_in n s (length s) m (next_place (m p) s p)) (λ _. [])) (lt-ltb p (length s) h)
+  in_here n p h = ap (λ (b : Bool). choose b (λ _. piece_at (m p) s p ∷ pieces_in n s (length s) m (next_place (m p) s p)) (λ _. [])) (lt-ltb p (length s) h)
 
-  in-past : (n p : ℕ) → length s ≤ p → pieces_in n s (length s) m p ≡ []
+  in_past : (n p : ℕ) → length s ≤ p → pieces_in n s (length s) m p ≡ []
   unfolding pieces_in choose
-  in-past zero p h = refl
-  in-past (suc n) p h = ap (λ (b : Bool). choose b (λ _. piece_at (m p) s p ∷ pieces_in n s (length s) m (next_place (m p) s p)) (λ _. [])) (le-ltb p (length s) h)
+  in_past zero p h = refl
+  in_past (suc n) p h = ap (λ (b : Bool). choose b (λ _. piece_at (m p) s p ∷ pieces_in n s (length s) m (next_place (m p) s p)) (λ _. [])) (le-ltb p (length s) h)
 
   enough : (n k p : ℕ) → length s ≤ p + n → length s ≤ p + k → pieces_in n s (length s) m p ≡ pieces_in k s (length s) m p
-  enough zero k p h i = in-past zero p (omega arith) ∙ sym (in-past k p (omega arith))
-  enough (suc n) zero p h i = in-past (suc n) p (omega arith) ∙ sym (in-past zero p (omega arith))
+  enough zero k p h i = in_past zero p (omega arith) ∙ sym (in_past k p (omega arith))
+  enough (suc n) zero p h i = in_past (suc n) p (omega arith) ∙ sym (in_past zero p (omega arith))
   enough (suc n) (suc k) p h i = by_place (λ q a b. enough n k q a b) (dec_le (length s) p)
     where
       by_place : ((q : ℕ) → length s ≤ q + n → length s ≤ q + k → pieces_in n s (length s) m q ≡ pieces_in k s (length s) m q) → Dec (length s ≤ p)
           → pieces_in (suc n) s (length s) m p ≡ pieces_in (suc k) s (length s) m p
-      by_place f (yes l) = in-past (suc n) p l ∙ sym (in-past (suc k) p l)
+      by_place f (yes l) = in_past (suc n) p l ∙ sym (in_past (suc k) p l)
       by_place f (no l) =
           let j : p < length s = omega arith in
           let o = next_on (m p) s p j in
-          in-here n p j ∙ ap (piece_at (m p) s p ∷◌) (f (next_place (m p) s p) (omega arith) (omega arith)) ∙ sym (in-here k p j)
+          in_here n p j ∙ ap (piece_at (m p) s p ∷◌) (f (next_place (m p) s p) (omega arith) (omega arith)) ∙ sym (in_here k p j)
 
-  pub pieces-here : (p : ℕ) → p < length s → pieces s m p ≡ piece_at (m p) s p ∷ pieces s m (next_place (m p) s p)
+  pub pieces_here : (p : ℕ) → p < length s → pieces s m p ≡ piece_at (m p) s p ∷ pieces s m (next_place (m p) s p)
   unfolding pieces
-  pieces-here p h =
+  pieces_here p h =
       let o = next_on (m p) s p h in
       enough (length s - p) (suc (length s - p)) p (omega arith) (omega arith)
-      ∙ in-here (length s - p) p h
+      ∙ in_here (length s - p) p h
       ∙ ap (piece_at (m p) s p ∷◌) (enough (length s - p) (length s - next_place (m p) s p) (next_place (m p) s p) (omega arith) (omega arith))
 
-  pub pieces-past : (p : ℕ) → length s ≤ p → pieces s m p ≡ []
+  pub pieces_past : (p : ℕ) → length s ≤ p → pieces s m p ≡ []
   unfolding pieces
-  pieces-past p h = in-past (length s - p) p h
+  pieces_past p h = in_past (length s - p) p h
 
 -- The pieces by marks ------------------------------------------------------------------------------------------------------------------------
 
 module _ (s m : List ℕ) (p : ℕ) (h : p < length s) where
   -- by the mark k at p
-  pieces-by : (k : ℕ) → marked m p ≡ k → pieces s (marked m) p ≡ piece_at k s p ∷ pieces s (marked m) (next_place k s p)
-  pieces-by k e =
-      pieces-here s (marked m) p h ∙ ap (λ (j : ℕ). piece_at j s p ∷ pieces s (marked m) (next_place j s p)) e
+  pieces_by : (k : ℕ) → marked m p ≡ k → pieces s (marked m) p ≡ piece_at k s p ∷ pieces s (marked m) (next_place k s p)
+  pieces_by k e =
+      pieces_here s (marked m) p h ∙ ap (λ (j : ℕ). piece_at j s p ∷ pieces s (marked m) (next_place j s p)) e
 
   next_is : (k : ℕ) → marked m p ≡ k → next_by s m p ≡ next_place k s p
   unfolding next_by
   next_is k e = ap (λ (j : ℕ). next_place j s p) e
 
-  kept-keep : marked m p ≡ 0 → kept_by s m p ≡ p ∷ kept_by s m (next_by s m p)
+  kept_keep : marked m p ≡ 0 → kept_by s m p ≡ p ∷ kept_by s m (next_by s m p)
   unfolding kept_by kept_of piece_at
-  kept-keep e = ap kept_of (pieces-by 0 e) ∙ ap (λ (q : ℕ). p ∷ kept_of (pieces s (marked m) q)) (sym (next_is 0 e))
+  kept_keep e = ap kept_of (pieces_by 0 e) ∙ ap (λ (q : ℕ). p ∷ kept_of (pieces s (marked m) q)) (sym (next_is 0 e))
 
-  kept-drop : (n : ℕ) → marked m p ≡ suc n → kept_by s m p ≡ kept_by s m (next_by s m p)
+  kept_drop : (n : ℕ) → marked m p ≡ suc n → kept_by s m p ≡ kept_by s m (next_by s m p)
   unfolding kept_by kept_of piece_at
-  kept-drop n e = ap kept_of (pieces-by (suc n) e) ∙ ap (λ (q : ℕ). kept_of (pieces s (marked m) q)) (sym (next_is (suc n) e))
+  kept_drop n e = ap kept_of (pieces_by (suc n) e) ∙ ap (λ (q : ℕ). kept_of (pieces s (marked m) q)) (sym (next_is (suc n) e))
 
-  mended-keep : marked m p ≡ 0 → mended_by s m p ≡ byte s p ∷ mended_by s m (next_by s m p)
+  mended_keep : marked m p ≡ 0 → mended_by s m p ≡ byte s p ∷ mended_by s m (next_by s m p)
   unfolding mended_by bytes_at
-  mended-keep e = ap (bytes_at s) (kept-keep e)
+  mended_keep e = ap (bytes_at s) (kept_keep e)
 
-  mended-drop : (n : ℕ) → marked m p ≡ suc n → mended_by s m p ≡ mended_by s m (next_by s m p)
+  mended_drop : (n : ℕ) → marked m p ≡ suc n → mended_by s m p ≡ mended_by s m (next_by s m p)
   unfolding mended_by
-  mended-drop n e = ap (bytes_at s) (kept-drop n e)
+  mended_drop n e = ap (bytes_at s) (kept_drop n e)
 
   module _ (g : List ℕ) where
     lines_keep : marked m p ≡ 0 → lines_by s g m p ≡ line_at s g m p ++ lines_by s g m (next_by s m p)
     unfolding lines_by dropped_of piece_at line_at
     lines_keep e =
-        ap (λ (x : List Piece). lines g (dropped_of x)) (pieces-by 0 e)
+        ap (λ (x : List Piece). lines g (dropped_of x)) (pieces_by 0 e)
         ∙ ap (λ (q : ℕ). lines g (dropped_of (pieces s (marked m) q))) (sym (next_is 0 e))
         ∙ sym (ap (λ (b : Bool). pick b [] (line (get_or g p 0) (end_of s p - p) (marked m p)) ++ lines_by s g m (next_by s m p)) (eq-eqb (marked m p) 0 e))
 
-    lines-drop : (n : ℕ) → marked m p ≡ suc n → lines_by s g m p ≡ line_at s g m p ++ lines_by s g m (next_by s m p)
+    lines_drop : (n : ℕ) → marked m p ≡ suc n → lines_by s g m p ≡ line_at s g m p ++ lines_by s g m (next_by s m p)
     unfolding lines_by lines dropped_of piece_at line_at
-    lines-drop n e =
-        ap (λ (x : List Piece). lines g (dropped_of x)) (pieces-by (suc n) e)
+    lines_drop n e =
+        ap (λ (x : List Piece). lines g (dropped_of x)) (pieces_by (suc n) e)
         ∙ ap (λ (q : ℕ). line (get_or g p 0) (end_of s p - p) (suc n) ++ lines g (dropped_of (pieces s (marked m) q))) (sym (next_is (suc n) e))
         ∙ ap (λ (k : ℕ). line (get_or g p 0) (end_of s p - p) k ++ lines_by s g m (next_by s m p)) (sym e)
         ∙ sym (ap (λ (b : Bool). pick b [] (line (get_or g p 0) (end_of s p - p) (marked m p)) ++ lines_by s g m (next_by s m p))
         (ne_eqb (marked m p) 0 (λ z. let y : ◌≡◌ {A = ℕ} 0 (suc n) = sym z ∙ e in omega arith)))
 
-    lines-here : lines_by s g m p ≡ line_at s g m p ++ lines_by s g m (next_by s m p)
-    lines-here = by-mark (marked m p) refl
+    lines_here : lines_by s g m p ≡ line_at s g m p ++ lines_by s g m (next_by s m p)
+    lines_here = by_mark (marked m p) refl
       where
-        by-mark : (k : ℕ) → marked m p ≡ k → lines_by s g m p ≡ line_at s g m p ++ lines_by s g m (next_by s m p)
-        by-mark zero e = lines_keep e
-        by-mark (suc n) e = lines-drop n e
+        by_mark : (k : ℕ) → marked m p ≡ k → lines_by s g m p ≡ line_at s g m p ++ lines_by s g m (next_by s m p)
+        by_mark zero e = lines_keep e
+        by_mark (suc n) e = lines_drop n e
 
 module _ (s m : List ℕ) (p : ℕ) (h : length s ≤ p) where
-  kept-past : kept_by s m p ≡ []
+  kept_past : kept_by s m p ≡ []
   unfolding kept_by kept_of
-  kept-past = ap kept_of (pieces-past s (marked m) p h)
+  kept_past = ap kept_of (pieces_past s (marked m) p h)
 
-  mended-past : mended_by s m p ≡ []
+  mended_past : mended_by s m p ≡ []
   unfolding mended_by bytes_at
-  mended-past = ap (bytes_at s) kept-past
+  mended_past = ap (bytes_at s) kept_past
 
-  lines-past : (g : List ℕ) → lines_by s g m p ≡ []
+  lines_past : (g : List ℕ) → lines_by s g m p ≡ []
   unfolding lines_by lines dropped_of
-  lines-past g = ap (λ (x : List Piece). lines g (dropped_of x)) (pieces-past s (marked m) p h)
+  lines_past g = ap (λ (x : List Piece). lines g (dropped_of x)) (pieces_past s (marked m) p h)
 
 -- `next` and the tests -----------------------------------------------------------------------------------------------------------------------
 
@@ -141,11 +141,11 @@ next_keep s m p k e z = ap (λ (j : ℕ). next_place j s p) (sym z ∙ e)
 
 pub next_drop : (s m : List ℕ) (p k q : ℕ) → k ≡ marked m p → (k ≡ 0 → ⊥) → q ≡ end_of s p → q ≡ next_by s m p
 unfolding next_by next_place
-next_drop s m p k q e n i = i ∙ by-mark k n ∙ ap (λ (j : ℕ). next_place j s p) e
+next_drop s m p k q e n i = i ∙ by_mark k n ∙ ap (λ (j : ℕ). next_place j s p) e
   where
-    by-mark : (j : ℕ) → (j ≡ 0 → ⊥) → end_of s p ≡ next_place j s p
-    by-mark zero x = absurd (x refl)
-    by-mark (suc j) x = refl
+    by_mark : (j : ℕ) → (j ≡ 0 → ⊥) → end_of s p ≡ next_place j s p
+    by_mark zero x = absurd (x refl)
+    by_mark (suc j) x = refl
 
 pub next_after : (s m : List ℕ) (p q : ℕ) → p < length s → q ≡ next_by s m p → p < q
 unfolding next_by
@@ -156,37 +156,37 @@ unfolding next_by
 next_inside s m p h = next_in (marked m p) s p h
 
 module _ (s m : List ℕ) (p : ℕ) (l : List ℕ) (at k : ℕ) (e : k ≡ marked m p) where
-  pub puts-dropped : (k ≡ 0 → ⊥) → PutsKept s m p l at l at
+  pub puts_dropped : (k ≡ 0 → ⊥) → PutsKept s m p l at l at
   unfolding stored place_after
-  puts-dropped n =
+  puts_dropped n =
       let i = ne_eqb (marked m p) 0 (λ z. n (e ∙ z)) in
       record { bytes = sym (ap (λ (b : Bool). pick b (set l at (byte s p)) l) i); next = sym (ap (λ (b : Bool). pick b (at + 1) at) i) }
 
-  pub puts-kept : k ≡ 0 → (l' : List ℕ) → l' ≡ set l at (byte s p) → PutsKept s m p l at l' (at + 1)
+  pub puts_kept : k ≡ 0 → (l' : List ℕ) → l' ≡ set l at (byte s p) → PutsKept s m p l at l' (at + 1)
   unfolding stored place_after
-  puts-kept z l' q =
+  puts_kept z l' q =
       let i = eq-eqb (marked m p) 0 (sym e ∙ z) in
       record { bytes = q ∙ sym (ap (λ (b : Bool). pick b (set l at (byte s p)) l) i); next = sym (ap (λ (b : Bool). pick b (at + 1) at) i) }
 
 module _ (m : List ℕ) (p left k : ℕ) (e : k ≡ marked m p) where
-  pub here-dropped : (k ≡ 0 → ⊥) → false ≡ is_here m p left
+  pub here_dropped : (k ≡ 0 → ⊥) → false ≡ is_here m p left
   unfolding is_here
-  here-dropped n = sym (ap (λ (b : Bool). both b (eqb left 0)) (ne_eqb (marked m p) 0 (λ z. n (e ∙ z))))
+  here_dropped n = sym (ap (λ (b : Bool). both b (eqb left 0)) (ne_eqb (marked m p) 0 (λ z. n (e ∙ z))))
 
-  pub here-kept : k ≡ 0 → (r : Bool) → r ≡ eqb left 0 → r ≡ is_here m p left
+  pub here_kept : k ≡ 0 → (r : Bool) → r ≡ eqb left 0 → r ≡ is_here m p left
   unfolding is_here
-  here-kept z r q = q ∙ sym (ap (λ (b : Bool). both b (eqb left 0)) (eq-eqb (marked m p) 0 (sym e ∙ z)))
+  here_kept z r q = q ∙ sym (ap (λ (b : Bool). both b (eqb left 0)) (eq-eqb (marked m p) 0 (sym e ∙ z)))
 
-  pub left-dropped : (k ≡ 0 → ⊥) → left ≡ left_after m p left
+  pub left_dropped : (k ≡ 0 → ⊥) → left ≡ left_after m p left
   unfolding left_after
-  left-dropped n = sym (ap (λ (b : Bool). pick b (left - 1) left) (ne_eqb (marked m p) 0 (λ z. n (e ∙ z))))
+  left_dropped n = sym (ap (λ (b : Bool). pick b (left - 1) left) (ne_eqb (marked m p) 0 (λ z. n (e ∙ z))))
 
-  pub left-kept : k ≡ 0 → left - 1 ≡ left_after m p left
+  pub left_kept : k ≡ 0 → left - 1 ≡ left_after m p left
   unfolding left_after
-  left-kept z = sym (ap (λ (b : Bool). pick b (left - 1) left) (eq-eqb (marked m p) 0 (sym e ∙ z)))
+  left_kept z = sym (ap (λ (b : Bool). pick b (left - 1) left) (eq-eqb (marked m p) 0 (sym e ∙ z)))
 
   pub left_none : k ≡ 0 → left ≡ 0 → 0 ≡ left_after m p left
-  left_none z n = let i : 0 ≡ left - 1 = omega arith in i ∙ left-kept z
+  left_none z n = let i : 0 ≡ left - 1 = omega arith in i ∙ left_kept z
 
 -- The loop of `put_mended` -------------------------------------------------------------------------------------------------------------------
 
@@ -202,18 +202,18 @@ pub copying_start : (s m l : List ℕ) → Copying s m l l 0 0
 copying_start s m l = record { bytes = refl; many = omega arith; size = refl; low = omega arith; inside = omega arith }
 
 module _ {s m l₀ l : List ℕ} {p at : ℕ} (u : Copying s m l₀ l p at) where
-  pub copying-past : length s ≤ p → PutsMended s m l₀ l at
-  copying-past h =
-      let e = mended-past s m p h in
+  pub copying_past : length s ≤ p → PutsMended s m l₀ l at
+  copying_past h =
+      let e = mended_past s m p h in
       let n : at + length (mended_by s m p) ≡ at = ap (λ (x : List ℕ). at + length x) e ∙ (let z : at + 0 ≡ at = omega arith in z) in
       let lo = u.low in
       let i = u.inside in
       record { bytes = sym (ap (sets l at) e) ∙ u.bytes; many = sym n ∙ u.many; few = omega arith }
 
   module _ (h : p < length s) (q : ℕ) (i : q ≡ next_by s m p) where
-    copy-keep : marked m p ≡ 0 → Copying s m l₀ (set l at (byte s p)) q (at + 1)
-    copy-keep e =
-        let w : mended_by s m p ≡ byte s p ∷ mended_by s m q = mended-keep s m p h e ∙ ap (λ (x : ℕ). byte s p ∷ mended_by s m x) (sym i) in
+    copy_keep : marked m p ≡ 0 → Copying s m l₀ (set l at (byte s p)) q (at + 1)
+    copy_keep e =
+        let w : mended_by s m p ≡ byte s p ∷ mended_by s m q = mended_keep s m p h e ∙ ap (λ (x : ℕ). byte s p ∷ mended_by s m x) (sym i) in
         let k = u.many in
         let v : length (mended_by s m p) ≡ suc (length (mended_by s m q)) = ap length w in
         let lo = u.low in
@@ -227,9 +227,9 @@ module _ {s m l₀ l : List ℕ} {p at : ℕ} (u : Copying s m l₀ l p at) wher
           inside = j;
         }
 
-    copy-drop : (n : ℕ) → marked m p ≡ suc n → Copying s m l₀ l q at
-    copy-drop n e =
-        let w : mended_by s m p ≡ mended_by s m q = mended-drop s m p h n e ∙ ap (mended_by s m) (sym i) in
+    copy_drop : (n : ℕ) → marked m p ≡ suc n → Copying s m l₀ l q at
+    copy_drop n e =
+        let w : mended_by s m p ≡ mended_by s m q = mended_drop s m p h n e ∙ ap (mended_by s m) (sym i) in
         let lo = u.low in
         let o = next_after s m p q h i in
         let j : q ≤ length s = subst (λ (x : ℕ). x ≤ length s) (sym i) (next_inside s m p h) in
@@ -241,20 +241,20 @@ module _ {s m l₀ l : List ℕ} {p at : ℕ} (u : Copying s m l₀ l p at) wher
           inside = j;
         }
 
-    pub copying-on : (l' : List ℕ) (at' : ℕ) → PutsKept s m p l at l' at' → Copying s m l₀ l' q at'
+    pub copying_on : (l' : List ℕ) (at' : ℕ) → PutsKept s m p l at l' at' → Copying s m l₀ l' q at'
     unfolding stored place_after
-    copying-on l' at' w = by-mark (marked m p) refl
+    copying_on l' at' w = by_mark (marked m p) refl
       where
         moved : (x y : List ℕ) (a b : ℕ) → y ≡ x → b ≡ a → Copying s m l₀ x q a → Copying s m l₀ y q b
         moved x y a b j k c = subst (λ (z : List ℕ). Copying s m l₀ z q b) (sym j) (subst (λ (z : ℕ). Copying s m l₀ x q z) (sym k) c)
 
-        by-mark : (k : ℕ) → marked m p ≡ k → Copying s m l₀ l' q at'
-        by-mark zero e =
+        by_mark : (k : ℕ) → marked m p ≡ k → Copying s m l₀ l' q at'
+        by_mark zero e =
             let b = eq-eqb (marked m p) 0 e in
-            moved _ l' _ at' (w.bytes ∙ ap (λ (x : Bool). pick x (set l at (byte s p)) l) b) (w.next ∙ ap (λ (x : Bool). pick x (at + 1) at) b) (copy-keep e)
-        by-mark (suc n) e =
+            moved _ l' _ at' (w.bytes ∙ ap (λ (x : Bool). pick x (set l at (byte s p)) l) b) (w.next ∙ ap (λ (x : Bool). pick x (at + 1) at) b) (copy_keep e)
+        by_mark (suc n) e =
             let b = ne_eqb (marked m p) 0 (λ z. let y : ◌≡◌ {A = ℕ} 0 (suc n) = sym z ∙ e in omega arith) in
-            moved _ l' _ at' (w.bytes ∙ ap (λ (x : Bool). pick x (set l at (byte s p)) l) b) (w.next ∙ ap (λ (x : Bool). pick x (at + 1) at) b) (copy-drop n e)
+            moved _ l' _ at' (w.bytes ∙ ap (λ (x : Bool). pick x (set l at (byte s p)) l) b) (w.next ∙ ap (λ (x : Bool). pick x (at + 1) at) b) (copy_drop n e)
 
 -- The loop of `place_back` -------------------------------------------------------------------------------------------------------------------
 
@@ -271,17 +271,17 @@ both_true true false e = absurd (false≢true e)
 both_true false b e = absurd (false≢true e)
 
 module _ {s m : List ℕ} {place p left : ℕ} (u : Seeking s m place p left) where
-  pub seeking-past : length s ≤ p → length s ≡ get_or (kept_by s m 0) place (length s)
-  seeking-past h = sym (ap (λ (x : List ℕ). get_or x left (length s)) (kept-past s m p h)) ∙ u.same
+  pub seeking_past : length s ≤ p → length s ≡ get_or (kept_by s m 0) place (length s)
+  seeking_past h = sym (ap (λ (x : List ℕ). get_or x left (length s)) (kept_past s m p h)) ∙ u.same
 
   module _ (h : p < length s) (r : Bool) (k : r ≡ is_here m p left) where
-    pub seeking-found : r ≡ true → p ≡ get_or (kept_by s m 0) place (length s)
+    pub seeking_found : r ≡ true → p ≡ get_or (kept_by s m 0) place (length s)
     unfolding is_here
-    seeking-found q =
+    seeking_found q =
         let t = both_true (eqb (marked m p) 0) (eqb left 0) (sym k ∙ q) in
         let e = eqb-true (marked m p) 0 t.0 in
         let n = eqb-true left 0 t.1 in
-        sym (ap (λ (x : List ℕ). get_or x left (length s)) (kept-keep s m p h e) ∙ ap (λ (j : ℕ). get_or (p ∷ kept_by s m (next_by s m p)) j (length s)) n) ∙ u.same
+        sym (ap (λ (x : List ℕ). get_or x left (length s)) (kept_keep s m p h e) ∙ ap (λ (j : ℕ). get_or (p ∷ kept_by s m (next_by s m p)) j (length s)) n) ∙ u.same
 
     module _ (q : r ≡ false) (left' next : ℕ) (i : left' ≡ left_after m p left) (j : next ≡ next_by s m p) where
       seek-drop : (n : ℕ) → marked m p ≡ suc n → Seeking s m place next left'
@@ -292,7 +292,7 @@ module _ {s m : List ℕ} {place p left : ℕ} (u : Seeking s m place p left) wh
             same =
                 ap (λ (x : ℕ). get_or (kept_by s m next) x (length s)) z
                 ∙ ap (λ (x : ℕ). get_or (kept_by s m x) left (length s)) j
-                ∙ sym (ap (λ (x : List ℕ). get_or x left (length s)) (kept-drop s m p h n e))
+                ∙ sym (ap (λ (x : List ℕ). get_or x left (length s)) (kept_drop s m p h n e))
                 ∙ u.same;
           }
 
@@ -306,7 +306,7 @@ module _ {s m : List ℕ} {place p left : ℕ} (u : Seeking s m place p left) wh
                 ap (λ (x : ℕ). get_or (kept_by s m next) x (length s)) y
                 ∙ ap (λ (x : ℕ). get_or (kept_by s m x) n (length s)) j
                 ∙ sym (ap (λ (x : ℕ). get_or (p ∷ kept_by s m (next_by s m p)) x (length s)) w)
-                ∙ sym (ap (λ (x : List ℕ). get_or x left (length s)) (kept-keep s m p h e))
+                ∙ sym (ap (λ (x : List ℕ). get_or x left (length s)) (kept_keep s m p h e))
                 ∙ u.same;
           }
 
@@ -336,22 +336,22 @@ pub saying_start : (s g m : List ℕ) {k l : List ℕ} {a b : ℕ} → Wrote k a
 saying_start s g m {k} {l} {a} {b} w =
     let n : length l ≡ length k = wrote_length w in
     let r = w.room in
-    record { so_far = []; wrote = wrote_none l b (omega (arith, n, r)) (wrote-low w); left = refl }
+    record { so_far = []; wrote = wrote_none l b (omega (arith, n, r)) (wrote_low w); left = refl }
 
 module _ {s g m l₀ l : List ℕ} {a₀ p at : ℕ} (u : Saying s g m l₀ a₀ l p at) where
-  pub saying-size : length l ≡ length l₀
-  saying-size = wrote_length u.wrote
+  pub saying_size : length l ≡ length l₀
+  saying_size = wrote_length u.wrote
 
-  pub saying-past : {k : List ℕ} {a : ℕ} → length s ≤ p → Wrote k a [] l₀ a₀ → Wrote k a (lines_by s g m 0) l at
-  saying-past h w = wrote_then w (wrote_as (sym (ap (u.so_far ++◌) (lines-past s m p h g) ∙ append-nil u.so_far) ∙ u.left) u.wrote)
+  pub saying_past : {k : List ℕ} {a : ℕ} → length s ≤ p → Wrote k a [] l₀ a₀ → Wrote k a (lines_by s g m 0) l at
+  saying_past h w = wrote_then w (wrote_as (sym (ap (u.so_far ++◌) (lines_past s m p h g) ∙ append-nil u.so_far) ∙ u.left) u.wrote)
 
-  pub saying-on : p < length s → {q : ℕ} → q ≡ next_by s m p → {l' : List ℕ} {at' : ℕ} → Wrote l at (line_at s g m p) l' at' → Saying s g m l₀ a₀ l' q at'
-  saying-on h {q} i w =
+  pub saying_on : p < length s → {q : ℕ} → q ≡ next_by s m p → {l' : List ℕ} {at' : ℕ} → Wrote l at (line_at s g m p) l' at' → Saying s g m l₀ a₀ l' q at'
+  saying_on h {q} i w =
       record {
         so_far = u.so_far ++ line_at s g m p;
         wrote = wrote_then u.wrote w;
         left =
             append_assoc u.so_far (line_at s g m p) (lines_by s g m q)
-            ∙ ap (u.so_far ++◌) (ap (λ (x : ℕ). line_at s g m p ++ lines_by s g m x) i ∙ sym (lines-here s m p h g))
+            ∙ ap (u.so_far ++◌) (ap (λ (x : ℕ). line_at s g m p ++ lines_by s g m x) i ∙ sym (lines_here s m p h g))
             ∙ u.left;
       }

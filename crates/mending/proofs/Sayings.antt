@@ -25,13 +25,13 @@ puts_line o n k u v w x = wrote_then u (wrote_then v (wrote_then w x))
 
 -- The line for a piece.
 module _ (s g m : List ℕ) (p k : ℕ) (e : k ≡ marked m p) {l l' : List ℕ} {at r : ℕ} where
-  pub puts-no-line : k ≡ 0 → Wrote l at [] l' r → Wrote l at (line_at s g m p) l' r
+  pub puts_no_line : k ≡ 0 → Wrote l at [] l' r → Wrote l at (line_at s g m p) l' r
   unfolding line_at
-  puts-no-line z w = wrote_as (sym (ap (λ (b : Bool). pick b [] (line (get_or g p 0) (end_of s p - p) (marked m p))) (eq-eqb (marked m p) 0 (sym e ∙ z)))) w
+  puts_no_line z w = wrote_as (sym (ap (λ (b : Bool). pick b [] (line (get_or g p 0) (end_of s p - p) (marked m p))) (eq-eqb (marked m p) 0 (sym e ∙ z)))) w
 
-  pub puts-its-line : (k ≡ 0 → ⊥) → (o q : ℕ) → q ≡ end_of s p → o ≡ get_or g p 0 → Wrote l at (line o (q - p) k) l' r → Wrote l at (line_at s g m p) l' r
+  pub puts_its_line : (k ≡ 0 → ⊥) → (o q : ℕ) → q ≡ end_of s p → o ≡ get_or g p 0 → Wrote l at (line o (q - p) k) l' r → Wrote l at (line_at s g m p) l' r
   unfolding line_at
-  puts-its-line n o q i j w =
+  puts_its_line n o q i j w =
       wrote_as
       (ap (λ (x : ℕ). line x (q - p) k) j
       ∙ ap (λ (x : ℕ). line (get_or g p 0) (x - p) k) i

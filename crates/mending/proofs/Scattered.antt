@@ -13,7 +13,7 @@ use Rattle.token.specs.Find.{pick}
 use Rattle.dropping.specs.Drops.{Drop, scatter}
 use Rattle.mending.specs.Pieces.{Piece, piece_at, next_place, pieces, kept_of, dropped_of, bytes_at, lines, number_or, number_at, kept, dropped, mended, back}
 use Rattle.mending.specs.Promises.{marked, kept_by, mended_by, lines_by}
-use Rattle.mending.proofs.Piecing.{next_on, pieces-here, pieces-past}
+use Rattle.mending.proofs.Piecing.{next_on, pieces_here, pieces_past}
 
 -- A mark after a store.
 mark_set : (m : List ℕ) (x p : ℕ) (n : ℕ) → p < length m → get_or (set m x n) p 0 ≡ pick (eqb p x) n (get_or m p 0)
@@ -38,21 +38,21 @@ scattered (x ∷ xs) m p h =
 -- Pieces by numbers that are equal in the text are equal.
 module _ (s : List ℕ) (m n : ℕ → ℕ) (e : (p : ℕ) → p < length s → m p ≡ n p) where
   same_from : (k p : ℕ) → length s ≤ p + k → pieces s m p ≡ pieces s n p
-  same_from zero p h = pieces-past s m p (omega arith) ∙ sym (pieces-past s n p (omega arith))
+  same_from zero p h = pieces_past s m p (omega arith) ∙ sym (pieces_past s n p (omega arith))
   same_from (suc k) p h = by_place (λ q a. same_from k q a) (dec_le (length s) p)
     where
       by_place : ((q : ℕ) → length s ≤ q + k → pieces s m q ≡ pieces s n q) → Dec (length s ≤ p) → pieces s m p ≡ pieces s n p
-      by_place f (yes l) = pieces-past s m p l ∙ sym (pieces-past s n p l)
+      by_place f (yes l) = pieces_past s m p l ∙ sym (pieces_past s n p l)
       by_place f (no l) =
           let i : p < length s = omega arith in
           let o = next_on (m p) s p i in
-          pieces-here s m p i
+          pieces_here s m p i
           ∙ ap (piece_at (m p) s p ∷◌) (f (next_place (m p) s p) (omega arith))
           ∙ ap (λ (j : ℕ). piece_at j s p ∷ pieces s n (next_place j s p)) (e p i)
-          ∙ sym (pieces-here s n p i)
+          ∙ sym (pieces_here s n p i)
 
-  pub same-pieces : pieces s m 0 ≡ pieces s n 0
-  same-pieces = same_from (length s) 0 (omega arith)
+  pub same_pieces : pieces s m 0 ≡ pieces s n 0
+  same_pieces = same_from (length s) 0 (omega arith)
 
 -- So it is for blank marks into which the drops were put.
 module _ (s m : List ℕ) (ds : List Drop) (h : length s ≤ 65535) (e : m ≡ scatter (replicate 65536 0) ds) where
@@ -66,15 +66,15 @@ module _ (s m : List ℕ) (ds : List Drop) (h : length s ≤ 65535) (e : m ≡ s
       ∙ ap (λ (n : ℕ). number_or n ds p) (get_or-replicate 65536 p 0 0 l)
 
   pieces_are : pieces s (marked m) 0 ≡ pieces s (number_at ds) 0
-  pieces_are = same-pieces s (marked m) (number_at ds) number_is
+  pieces_are = same_pieces s (marked m) (number_at ds) number_is
 
-  pub kept-is : kept_by s m 0 ≡ kept s ds
+  pub kept_is : kept_by s m 0 ≡ kept s ds
   unfolding kept_by kept
-  kept-is = ap kept_of pieces_are
+  kept_is = ap kept_of pieces_are
 
-  pub mended-is : mended_by s m 0 ≡ mended s ds
+  pub mended_is : mended_by s m 0 ≡ mended s ds
   unfolding mended_by mended
-  mended-is = ap (bytes_at s) kept-is
+  mended_is = ap (bytes_at s) kept_is
 
   pub lines_are : (g : List ℕ) → lines_by s g m 0 ≡ lines g (dropped s ds)
   unfolding lines_by dropped

@@ -29,7 +29,7 @@ use Rattle.meaning.proofs.Found.{parse_derived, reading_long}
 use Rattle.meaning.proofs.Whole.{answers}
 use Rattle.placing.specs.Placed.{is_at_start}
 use Rattle.reading.specs.Results.{reading_of}
-use Rattle.reading.specs.Rules.{ReadsByRules, short-tables, by-rules}
+use Rattle.reading.specs.Rules.{ReadsByRules, short_tables, by_rules}
 use Rattle.reading.specs.Decisions.{Merged, or_else, stage_fault, Passed, Decides}
 use Rattle.reading.specs.declared.Answer.{Answer}
 use Rattle.reading.specs.declared.Answer.TheVariants.{Accepted, Refused}
@@ -42,8 +42,8 @@ use Rattle.mending.specs.Results.{Outcome, left, place_back, written, by_answer,
 use Rattle.mending.specs.Promises.{kept_by, mended_by, lines_by, PutsMended, place_by, AnswersTo, PutsOut, DropsKept, MarksDrops, stops, marks}
 use Rattle.mending.specs.declared.Mended.{Mended}
 use Rattle.mending.specs.declared.Mended.TheVariants as the
-use Rattle.mending.proofs.Scattered.{kept-is, mended-is, lines_are}
-use Rattle.mending.proofs.Judged.{parsed-derived, own-syntax, parse_long, not_parsed_here}
+use Rattle.mending.proofs.Scattered.{kept_is, mended_is, lines_are}
+use Rattle.mending.proofs.Judged.{parsed_derived, own_syntax, parse_long, not_parsed_here}
 
 -- `mark_drops` ---------------------------------------------------------------------------------------------------------------
 
@@ -52,15 +52,15 @@ long_stops s l h =
     stops (λ z. let y : ◌≡◌ {A = ℕ} 2 0 = z in omega arith) (reading_long s h) (λ f e n. not_parsed_here (sym (parse_long s h) ∙ e))
 
 module _ {s : List ℕ} {y : Merged} {r : Decision} (l : length s ≤ 65535) (h : Decides s (replicate 9747 0) (replicate 3075 0) (replicate 2570 0) (replicate 14343 0) y r) where
-  pub fault-stops : {m : List ℕ} → is_fault r.fault ≡ true → MarksDrops s m m r.fault
-  fault-stops i =
+  pub fault_stops : {m : List ℕ} → is_fault r.fault ≡ true → MarksDrops s m m r.fault
+  fault_stops i =
       let d = h.decided l refl refl refl refl in
       let n = is_one r.fault i in
       stops n (d.refused-by n)
-      (λ f e z. let w = parsed-derived s f e in d.stopped n w.covered w.derivation (ap stage_fault (sym (own-syntax s f e w.derivation)) ∙ z))
+      (λ f e z. let w = parsed_derived s f e in d.stopped n w.covered w.derivation (ap stage_fault (sym (own_syntax s f e w.derivation)) ∙ z))
 
-  pub kept-marks : {m m' : List ℕ} → is_fault r.fault ≡ false → DropsKept s y r m m' → MarksDrops s m m' r.fault
-  kept-marks i k =
+  pub kept_marks : {m m' : List ℕ} → is_fault r.fault ≡ false → DropsKept s y r m m' → MarksDrops s m m' r.fault
+  kept_marks i k =
       let n = is_none r.fault i in
       let p = (h.decided l refl refl refl refl).passes n in
       let t = p.kept.situation in
@@ -77,8 +77,8 @@ rooms =
     record { definitions = omega (arith, a); enumerators = omega (arith, b); objects = omega (arith, c); values = omega (arith, d) }
 
 pub answers_to : {s d e o v : List ℕ} {r : Reading} → ReadsByRules s (replicate 6656 0) (replicate 3072 0) (replicate 2048 0) (replicate 18432 0) d e o v r → AnswersTo s r.answer
-answers_to (short-tables n i u) = absurd (n rooms)
-answers_to {s} (by-rules k a t i u) = ap (λ (x : Reading). x.answer) i ∙ ap (λ (x : Meant). (reading_of x).answer) (sym (t.no_other (reading s) (answers s)))
+answers_to (short_tables n i u) = absurd (n rooms)
+answers_to {s} (by_rules k a t i u) = ap (λ (x : Reading). x.answer) i ∙ ap (λ (x : Meant). (reading_of x).answer) (sym (t.no_other (reading s) (answers s)))
 
 refused_by : (a : Meant) (n p : ℕ) → (reading_of a).answer ≡ Refused n p → a ≡ refused n p
 unfolding reading_of
@@ -97,9 +97,9 @@ module _ (s m : List ℕ) (n p : ℕ) {b : Bool} (e : b ≡ is_at_start n) where
   unfolding place_by
   back_start i = sym (ap (λ (x : Bool). pick x p (get_or (kept_by s m 0) p (length s))) (sym e ∙ i))
 
-  pub back-other : b ≡ false → {q : ℕ} → q ≡ get_or (kept_by s m 0) p (length s) → q ≡ place_by s m n p
+  pub back_other : b ≡ false → {q : ℕ} → q ≡ get_or (kept_by s m 0) p (length s) → q ≡ place_by s m n p
   unfolding place_by
-  back-other i j = j ∙ sym (ap (λ (x : Bool). pick x p (get_or (kept_by s m 0) p (length s))) (sym e ∙ i))
+  back_other i j = j ∙ sym (ap (λ (x : Bool). pick x p (get_or (kept_by s m 0) p (length s))) (sym e ∙ i))
 
 -- `put_out` ----------------------------------------------------------------------------------------------------------------------------------
 
@@ -113,22 +113,22 @@ module _ (w x l k : List ℕ) where
   unfolding left
   left_both o e = record { result = ap (λ (y : Outcome). y.result) (sym e); text = ap (λ (y : Outcome). y.text) (sym e); lines = ap (λ (y : Outcome). y.lines) (sym e) }
 
-  pub text-too-short : length l < length w → Leaves (written w x l k) l k (the.NotMended 20 0)
+  pub text_too_short : length l < length w → Leaves (written w x l k) l k (the.NotMended 20 0)
   unfolding written choose
-  text-too-short h = left_both (written w x l k) (ap (λ (a : Bool). by_tests a (ltb (length k) (length x))) (lt-ltb (length l) (length w) h))
+  text_too_short h = left_both (written w x l k) (ap (λ (a : Bool). by_tests a (ltb (length k) (length x))) (lt-ltb (length l) (length w) h))
 
   module _ (h : length w ≤ length l) (n : ℕ) {y y' : List ℕ} (u : Wrote y 0 x y' n) where
-    pub lines-too-short : length k < n → Leaves (written w x l k) l k (the.NotMended 20 0)
+    pub lines_too_short : length k < n → Leaves (written w x l k) l k (the.NotMended 20 0)
     unfolding written choose
-    lines-too-short i =
+    lines_too_short i =
         let e = u.next in
         let j : length k < length x = omega arith in
         left_both (written w x l k)
         (ap (λ (a : Bool). by_tests a (ltb (length k) (length x))) (le-ltb (length l) (length w) h) ∙ ap (λ (b : Bool). by_tests false b) (lt-ltb (length k) (length x) j))
 
-    pub both-put : n ≤ length k → length k < cap → {l' k' : List ℕ} {a r : ℕ} → Wrote l 0 w l' a → Wrote k 0 x k' r → Leaves (written w x l k) l' k' (the.Done (length w) r)
+    pub both_put : n ≤ length k → length k < cap → {l' k' : List ℕ} {a r : ℕ} → Wrote l 0 w l' a → Wrote k 0 x k' r → Leaves (written w x l k) l' k' (the.Done (length w) r)
     unfolding written choose
-    both-put i b {l'} {k'} {a} {r} p q =
+    both_put i b {l'} {k'} {a} {r} p q =
         let e = u.next in
         let f = q.next in
         let j : length x ≤ length k = omega arith in
@@ -147,17 +147,17 @@ module _ (s g l k : List ℕ) (n p : ℕ) (e : reading s ≡ refused n p) (not :
   same_refusal : {a b c d : ℕ} → ◌≡◌ {A = Meant} (refused a b) (refused c d) → left (the.Refused a b) l k ≡ left (the.Refused c d) l k
   same_refusal {a} {b} {c} {d} i = let x : a ≡ c = cc in let y : b ≡ d = cc in cc
 
-  by-stages : (f : File) → parse s ≡ parsed f → (a b : Option Refusal) → first (definition_faults f) ≡ a → first (object_faults f) ≡ b → (next : Unit {0} → Meant) (o : Unit {0} → Outcome)
+  by_stages : (f : File) → parse s ≡ parsed f → (a b : Option Refusal) → first (definition_faults f) ≡ a → first (object_faults f) ≡ b → (next : Unit {0} → Meant) (o : Unit {0} → Outcome)
       → unless a (λ _. unless b next) ≡ refused n p → or_refused a l k (λ _. or_refused b l k o) ≡ left (the.Refused n p) l k
   unfolding unless or_refused stage_fault or_else
-  by-stages f i (some x) b u v next o r = same_refusal r
-  by-stages f i none (some x) u v next o r = same_refusal r
-  by-stages f i none none u v next o r = absurd (not f i (ap (λ (y : Option Refusal). or_else y (first (object_faults f))) u ∙ v))
+  by_stages f i (some x) b u v next o r = same_refusal r
+  by_stages f i none (some x) u v next o r = same_refusal r
+  by_stages f i none none u v next o r = absurd (not f i (ap (λ (y : Option Refusal). or_else y (first (object_faults f))) u ∙ v))
 
   by_parse : (x : Parsed) → parse s ≡ x → mend_parsed x s g l k ≡ left (the.Refused n p) l k
   unfolding mend_parsed reading answer_of_parsed answer
   by_parse (not_parsed a b) i = same_refusal (sym (ap answer_of_parsed i) ∙ e)
-  by_parse (parsed f) i = by-stages f i (first (definition_faults f)) (first (object_faults f)) refl refl _ _ (sym (ap answer_of_parsed i) ∙ e)
+  by_parse (parsed f) i = by_stages f i (first (definition_faults f)) (first (object_faults f)) refl refl _ _ (sym (ap answer_of_parsed i) ∙ e)
 
   refused_text : mend_text s g l k ≡ left (the.Refused n p) l k
   unfolding mend_text
@@ -202,7 +202,7 @@ ready {s} {m} {w} {r} {f} {n} (marks o z x a b c d) i u j =
       text = λ g l q. ap (λ (t : Parsed). mend_parsed t s g l q) a ∙ none_faulty x s g l q b c;
       short = z;
       marked = d;
-      bytes = j ∙ y ∙ mended-is s m (all_drops x) z d;
+      bytes = j ∙ y ∙ mended_is s m (all_drops x) z d;
     }
 
 module _ {s m w r : List ℕ} {f : Fault} {n : ℕ} (u : MarksDrops s (replicate 65536 0) m f) (i : is_fault f ≡ false) (v : PutsMended s m (replicate 65535 0) r n) (j : w ≡ part_of r 0 n)
@@ -213,19 +213,19 @@ module _ {s m w r : List ℕ} {f : Fault} {n : ℕ} (u : MarksDrops s (replicate
   told : b ≡ (reading_of (reading (mended s y.drops))).answer
   told = t ∙ ap (λ (x : List ℕ). (reading_of (reading x)).answer) y.bytes
 
-  pub mends-not : (g l k : List ℕ) (c p : ℕ) → b ≡ Refused c p → {q : ℕ} → q ≡ place_by s m c p → MendsText s g l k l k (the.NotMended c q)
+  pub mends_not : (g l k : List ℕ) (c p : ℕ) → b ≡ Refused c p → {q : ℕ} → q ≡ place_by s m c p → MendsText s g l k l k (the.NotMended c q)
   unfolding mend_by by_answer place_by place_back back
-  mends-not g l k c p e {q} h =
+  mends_not g l k c p e {q} h =
       let z = refused_by (reading (mended s y.drops)) c p (sym told ∙ e) in
       leaves_left l k
       (y.text g l k
       ∙ ap (λ (x : Meant). by_answer x s g y.drops l k) z
-      ∙ ap (λ (x : List ℕ). left (the.NotMended c (pick (is_at_start c) p (get_or x p (length s)))) l k) (sym (kept-is s m y.drops y.short y.marked))
+      ∙ ap (λ (x : List ℕ). left (the.NotMended c (pick (is_at_start c) p (get_or x p (length s)))) l k) (sym (kept_is s m y.drops y.short y.marked))
       ∙ ap (λ (x : ℕ). left (the.NotMended c x) l k) (sym h))
 
-  pub mends-done : (g l k : List ℕ) → b ≡ Accepted → {l' k' : List ℕ} {q : Mended} → PutsOut s g m w l k l' k' q → MendsText s g l k l' k' q
+  pub mends_done : (g l k : List ℕ) → b ≡ Accepted → {l' k' : List ℕ} {q : Mended} → PutsOut s g m w l k l' k' q → MendsText s g l k l' k' q
   unfolding mend_by
-  mends-done g l k e {l'} {k'} {q} h =
+  mends_done g l k e {l'} {k'} {q} h =
       let z =
       y.text g l k
       ∙ accepted_by (reading (mended s y.drops)) (sym told ∙ e) s g y.drops l k

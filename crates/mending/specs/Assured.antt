@@ -34,8 +34,8 @@ MendedStays = (s g l k : List ℕ) (n c : ℕ) → (mend_text s g l k).result �
 -- The pieces ps follow one another from place p to n: each byte between is one that is kept, or lies in one that is dropped, and no byte is in two.
 pub data Follow (n : ℕ) : List Piece → ℕ → Type 0 where
   at_end : Follow n [] n
-  byte-kept : {p : ℕ} {ps : List Piece} → Follow n ps (p + 1) → Follow n (keeps p ∷ ps) p
-  span-dropped : {x : Dropped} {ps : List Piece} → 0 < x.length → Follow n ps (x.place + x.length) → Follow n (drops x ∷ ps) x.place
+  byte_kept : {p : ℕ} {ps : List Piece} → Follow n ps (p + 1) → Follow n (keeps p ∷ ps) p
+  span_dropped : {x : Dropped} {ps : List Piece} → 0 < x.length → Follow n ps (x.place + x.length) → Follow n (drops x ∷ ps) x.place
 
 -- Every byte outside the drops is kept, in order. proofs/Again has `pieces_follow`.
 abbrev pub PiecesFollow : Type 0

@@ -21,18 +21,18 @@ use Rattle.mending.specs.declared.Mended.TheVariants as m
 pub record Passes (s : List ℕ) : Type 0 where
   pub covered : Covered s
   pub derivation : Derivation (tokens s)
-  pub no-definition-fault : first (definition_faults (syntax s derivation.tree)) ≡ none
-  pub no-object-fault : first (object_faults (syntax s derivation.tree)) ≡ none
+  pub no_definition_fault : first (definition_faults (syntax s derivation.tree)) ≡ none
+  pub no_object_fault : first (object_faults (syntax s derivation.tree)) ≡ none
 
 -- "Either too short": the text w or the lines x are longer than their outputs.
 pub data TooShort (w x l k : List ℕ) : Type 0 where
-  text-short : length l < length w → TooShort w x l k
-  lines-short : length k < length x → TooShort w x l k
+  text_short : length l < length w → TooShort w x l k
+  lines_short : length k < length x → TooShort w x l k
 
 -- With the drops ds, where the outputs are l' and k' afterwards.
 pub data Mending (s g : List ℕ) (ds : List Drop) (l k l' k' : List ℕ) : Mended → Type 0 where
   -- "Otherwise give the refusal of the mended text, with its place in the original, and leave both."
-  not-mended : (n p : ℕ) → TheAnswer (mended s ds) (refused n p) → l' ≡ l → k' ≡ k → Mending s g ds l k l' k' (m.NotMended n (place_back s ds n p))
+  not_mended : (n p : ℕ) → TheAnswer (mended s ds) (refused n p) → l' ≡ l → k' ≡ k → Mending s g ds l k l' k' (m.NotMended n (place_back s ds n p))
   -- "Either too short gets 20 and leaves both."
   too_short : (t : Tables) → TheAnswer (mended s ds) (accepted t) → TooShort (mended s ds) (lines g (dropped s ds)) l k → l' ≡ l → k' ≡ k
       → Mending s g ds l k l' k' (m.NotMended 20 0)

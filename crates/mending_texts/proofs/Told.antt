@@ -21,7 +21,7 @@ use Rattle.lent_texts.specs.declared.Expanded.{Expanded}
 use Rattle.lent_texts.specs.declared.Refusal.{Refusal}
 use Rattle.lent_texts.specs.declared.Lent.{Lent}
 use Rattle.lent_texts.specs.declared.Lent.TheVariants.{Stopped, Text}
-use Rattle.lent_texts.proofs.Told.{AtOnce, by-1, by-30, at_once, There, there, answered_refused}
+use Rattle.lent_texts.proofs.Told.{AtOnce, by_1, by_30, at_once, There, there, answered_refused}
 use Rattle.dropping.specs.Drops.{Drop, all_drops}
 use Rattle.mending.specs.Pieces.{dropped, mended, lines}
 use Rattle.mending.specs.Results.{place_back}
@@ -38,23 +38,23 @@ use Rattle.mending_texts.specs.declared.Mended.TheVariants as m
 -- ---- the inner function
 
 module _ {s g : List ℕ} {e : Expanded} {o k o' k' : List ℕ} {y : Answer} (h : MendsByRules s g o k o' k' y) where
-  pub refused-expanded : {n q : ℕ} {r : Refusal} → y ≡ a.Refused n q → r ≡ refusal_in g e n q → MendsExpanded s g e o k o' k' (m.Refused r.number r.place)
+  pub refused_expanded : {n q : ℕ} {r : Refusal} → y ≡ a.Refused n q → r ≡ refusal_in g e n q → MendsExpanded s g e o k o' k' (m.Refused r.number r.place)
   unfolding told_in
-  refused-expanded i j = record { in-expanded = y; rules = h; told = ap (λ (x : Refusal). m.Refused x.number x.place) j ∙ ap (told_in g e) (sym i) }
+  refused_expanded i j = record { in_expanded = y; rules = h; told = ap (λ (x : Refusal). m.Refused x.number x.place) j ∙ ap (told_in g e) (sym i) }
 
-  pub not-mended-expanded : {n q p : ℕ} → y ≡ a.NotMended n q → p ≡ pick (is_at_start n) q (place_in g e.length e.main q) → MendsExpanded s g e o k o' k' (m.Refused n p)
+  pub not_mended_expanded : {n q p : ℕ} → y ≡ a.NotMended n q → p ≡ pick (is_at_start n) q (place_in g e.length e.main q) → MendsExpanded s g e o k o' k' (m.Refused n p)
   unfolding told_in
-  not-mended-expanded {n = n} i j = record { in-expanded = y; rules = h; told = ap (m.Refused n) j ∙ ap (told_in g e) (sym i) }
+  not_mended_expanded {n = n} i j = record { in_expanded = y; rules = h; told = ap (m.Refused n) j ∙ ap (told_in g e) (sym i) }
 
-  pub done-expanded : {n q : ℕ} → y ≡ a.Done n q → MendsExpanded s g e o k o' k' (m.Done n q)
+  pub done_expanded : {n q : ℕ} → y ≡ a.Done n q → MendsExpanded s g e o k o' k' (m.Done n q)
   unfolding told_in
-  done-expanded i = record { in-expanded = y; rules = h; told = ap (told_in g e) (sym i) }
+  done_expanded i = record { in_expanded = y; rules = h; told = ap (told_in g e) (sym i) }
 
 -- ---- the public call
 
 once : {b l x g o k x' g' : List ℕ} (n : ℕ) → AtOnce b l x g x' g' n → MendsTexts b l x g o k x' g' o k (m.Refused n 0)
-once n (by-1 h i j k) = specs.short-rooms h (ap (λ (z : ℕ). m.Refused z 0) i) j k refl refl
-once n (by-30 h i e k f) = specs.too_long h f e k (ap (λ (z : ℕ). m.Refused z 0) i) refl refl
+once n (by_1 h i j k) = specs.short-rooms h (ap (λ (z : ℕ). m.Refused z 0) i) j k refl refl
+once n (by_30 h i e k f) = specs.too_long h f e k (ap (λ (z : ℕ). m.Refused z 0) i) refl refl
 
 pub stopped_mends : {b l x g o k x' g' : List ℕ} {r : Lent} (n : ℕ) → ExpandsTexts b l x g x' g' r → r ≡ Stopped n → MendsTexts b l x g o k x' g' o k (m.Refused n 0)
 stopped_mends n u q = once n (at_once n u q)
@@ -77,20 +77,20 @@ module _ {b l x g : List ℕ} {e : Expanded} (t : Holds b l x g e) where
   same_lines ds = lines_same (text b l) ds g (expanded b l).origins same_origin
 
   -- So the answer is by them,
-  by-origins : {o k o' k' : List ℕ} (ds : List Drop) {y : Answer} → Mending (text b l) g ds o k o' k' y → Mending (text b l) (expanded b l).origins ds o k o' k' y
-  by-origins ds (rules.not-mended n p h i j) = rules.not-mended n p h i j
-  by-origins {o} {k} ds (rules.too_short u h (rules.text-short w) i j) = rules.too_short u h (rules.text-short w) i j
-  by-origins {o} {k} ds (rules.too_short u h (rules.lines-short w) i j) = rules.too_short u h (rules.lines-short (subst (λ (z : List ℕ). length k < length z) (same_lines ds) w)) i j
-  by-origins {o} {k} {o'} {k'} ds (rules.done u h v w i j) =
+  by_origins : {o k o' k' : List ℕ} (ds : List Drop) {y : Answer} → Mending (text b l) g ds o k o' k' y → Mending (text b l) (expanded b l).origins ds o k o' k' y
+  by_origins ds (rules.not-mended n p h i j) = rules.not-mended n p h i j
+  by_origins {o} {k} ds (rules.too_short u h (rules.text-short w) i j) = rules.too_short u h (rules.text-short w) i j
+  by_origins {o} {k} ds (rules.too_short u h (rules.lines-short w) i j) = rules.too_short u h (rules.lines-short (subst (λ (z : List ℕ). length k < length z) (same_lines ds) w)) i j
+  by_origins {o} {k} {o'} {k'} ds (rules.done u h v w i j) =
       subst (λ (z : List ℕ). (length z ≤ length k) → k' ≡ z ++ drop (length z) k → Mending (text b l) (expanded b l).origins ds o k o' k' (a.Done (length (mended (text b l) ds)) (length z)))
       (sym (same_lines ds)) (λ w₁ j₁. rules.done u h v w₁ i j₁) w j
 
   -- and its place is that in the lent texts.
-  mending-placed : {s h : List ℕ} {ds : List Drop} {o k o' k' : List ℕ} (y : Answer) → Mending s h ds o k o' k' y → told_in g e y ≡ placed_mended (place_of b l) y
+  mending_placed : {s h : List ℕ} {ds : List Drop} {o k o' k' : List ℕ} (y : Answer) → Mending s h ds o k o' k' y → told_in g e y ≡ placed_mended (place_of b l) y
   unfolding told_in placed_mended
-  mending-placed {s} {ds = ds} _ (rules.not-mended n p h i j) = ap (λ (z : ℕ). m.Refused n (pick (is_at_start n) (place_back s ds n p) z)) (t.place (place_back s ds n p))
-  mending-placed _ (rules.too_short u h w i j) = ap (λ (z : ℕ). m.Refused 20 (pick (is_at_start 20) 0 z)) (t.place 0)
-  mending-placed _ (rules.done u h v w i j) = refl
+  mending_placed {s} {ds = ds} _ (rules.not-mended n p h i j) = ap (λ (z : ℕ). m.Refused n (pick (is_at_start n) (place_back s ds n p) z)) (t.place (place_back s ds n p))
+  mending_placed _ (rules.too_short u h w i j) = ap (λ (z : ℕ). m.Refused 20 (pick (is_at_start 20) 0 z)) (t.place 0)
+  mending_placed _ (rules.done u h v w i j) = refl
 
 mends_by : {b l x g o k x' g' o' k' : List ℕ} {e : Expanded} (y : Answer) (r : Mended) → There b l x g x' g' e → MendsByRules (text b l) g' o k o' k' y → r ≡ told_in g' e y
     → MendsTexts b l x g o k x' g' o' k' r
@@ -99,7 +99,7 @@ mends_by {b} {l} {g' = g'} {e = e} y r t (rules.refuses c n q h i j v) z =
     let u = refusal_in g' e n q in
     specs.refuses t.rooms t.filled t.holds.within c u.number u.place (answered_refused n q t.holds h u refl) (z ∙ ap (told_in g' e) i) j v
 mends_by {b} {l} {g' = g'} {e = e} y r t (rules.mends p h) z =
-    specs.mends t.rooms t.filled t.holds.within p y (λ d. by-origins t.holds (all_drops (syntax (text b l) d.tree)) (h d)) (z ∙ mending-placed t.holds y (h p.derivation))
+    specs.mends t.rooms t.filled t.holds.within p y (λ d. by_origins t.holds (all_drops (syntax (text b l) d.tree)) (h d)) (z ∙ mending_placed t.holds y (h p.derivation))
 
 pub text_mends : {b l x g o k x' g' o' k' : List ℕ} {r : Lent} {e : Expanded} {q : Mended} → ExpandsTexts b l x g x' g' r → r ≡ Text e
     → MendsExpanded (take e.length x') g' e o k o' k' q → MendsTexts b l x g o k x' g' o' k' q

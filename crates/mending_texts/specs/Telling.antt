@@ -28,7 +28,7 @@ placed_mended f (a.Done n k) = m.Done n k
 -- x', g', o' and k' is what they hold afterwards; r is what is returned.
 pub data MendsTexts (b l x g o k x' g' o' k' : List ℕ) (r : Mended) : Type 0 where
   -- 1, "lent tables too short", at 0. "Refusal 1 changes nothing."
-  short-rooms : (Rooms x g → ⊥) → r ≡ m.Refused 1 0 → x' ≡ x → g' ≡ g → o' ≡ o → k' ≡ k → MendsTexts b l x g o k x' g' o' k' r
+  short_rooms : (Rooms x g → ⊥) → r ≡ m.Refused 1 0 → x' ≡ x → g' ≡ g → o' ≡ o → k' ≡ k → MendsTexts b l x g o k x' g' o' k' r
   -- 30
   too_long : Rooms x g → Filled b l x g x' g' → (expansion_of b l).number ≡ 30 → TheAnswer b l (refused 30 0) → r ≡ m.Refused 30 0 → o' ≡ o → k' ≡ k
       → MendsTexts b l x g o k x' g' o' k' r
@@ -49,6 +49,6 @@ told_in g e (a.NotMended n p) = m.Refused n (pick (is_at_start n) p (place_in g 
 told_in g e (a.Done n k) = m.Done n k
 
 pub record MendsExpanded (s g : List ℕ) (e : Expanded) (o k o' k' : List ℕ) (r : Mended) : Type 0 where
-  pub in-expanded : Answer
-  pub rules : MendsByRules s g o k o' k' in-expanded
-  pub told : r ≡ told_in g e in-expanded
+  pub in_expanded : Answer
+  pub rules : MendsByRules s g o k o' k' in_expanded
+  pub told : r ≡ told_in g e in_expanded

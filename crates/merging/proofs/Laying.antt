@@ -24,7 +24,7 @@ use Rattle.blocks.proofs.Files.{wide_statements, wide_all, all_split, object_spl
 use Rattle.scopes.specs.Situations.{Nth}
 use Rattle.merging.specs.Moves.{moved_rows, Moved, Moves}
 use Rattle.merging.specs.Promises.{Parted, FirstAt, Gathered, share, Put, begun}
-use Rattle.merging.proofs.Moving.{moved-block}
+use Rattle.merging.proofs.Moving.{moved_block}
 
 -- Statements -----------------------------------------------------------------------------------------------------------------------------------
 
@@ -106,9 +106,9 @@ count_split a z b = count_append a (z ∷ b)
 -- The statements of a part in the table ------------------------------------------------------------------------------------------------------------
 
 module _ {s p st x : List ℕ} {n : ℕ} {f : File} (P : Parted s p st x n f) {j : ℕ} {z : Object} (r : Nth f.parts j z) where
-  part-cell : (c : ℕ) → c < 10 → get_or p (j * 10 + c) 0 ≡ get_or (object_cells z (statement_count r.front)) c 0
+  part_cell : (c : ℕ) → c < 10 → get_or p (j * 10 + c) 0 ≡ get_or (object_cells z (statement_count r.front)) c 0
   unfolding kept_parts
-  part-cell c h =
+  part_cell c h =
       let a = P.parts in
       let b = P.parts-fit in
       let l = length_objects f.parts 0 in
@@ -121,26 +121,26 @@ module _ {s p st x : List ℕ} {n : ℕ} {f : File} (P : Parted s p st x n f) {j
 
   pub from_cell : get_or p (j * 10 + 8) 0 ≡ statement_count r.front
   unfolding object_cells
-  from_cell = part-cell 8 (omega arith)
+  from_cell = part_cell 8 (omega arith)
 
-  pub end-cell : get_or p (j * 10 + 9) 0 ≡ statement_count r.front + statements_in z.statements
+  pub end_cell : get_or p (j * 10 + 9) 0 ≡ statement_count r.front + statements_in z.statements
   unfolding object_cells
-  end-cell = part-cell 9 (omega arith)
+  end_cell = part_cell 9 (omega arith)
 
-  pub head-cells : (get_or p (j * 10 + 0) 0 ≡ kind_number z.kind) × (get_or p (j * 10 + 1) 0 ≡ z.word.place) × (get_or p (j * 10 + 2) 0 ≡ z.word.length)
+  pub head_cells : (get_or p (j * 10 + 0) 0 ≡ kind_number z.kind) × (get_or p (j * 10 + 1) 0 ≡ z.word.place) × (get_or p (j * 10 + 2) 0 ≡ z.word.length)
       × (get_or p (j * 10 + 3) 0 ≡ z.name.place) × (get_or p (j * 10 + 4) 0 ≡ z.name.length) × (get_or p (j * 10 + 5) 0 ≡ z.block.place) × (get_or p (j * 10 + 6) 0 ≡ z.block.length)
   unfolding object_cells
-  head-cells =
-      (part-cell 0 (omega arith), part-cell 1 (omega arith), part-cell 2 (omega arith), part-cell 3 (omega arith), part-cell 4 (omega arith), part-cell 5 (omega arith), part-cell 6 (omega arith))
+  head_cells =
+      (part_cell 0 (omega arith), part_cell 1 (omega arith), part_cell 2 (omega arith), part_cell 3 (omega arith), part_cell 4 (omega arith), part_cell 5 (omega arith), part_cell 6 (omega arith))
 
   -- The rows moved are those of the part's statements.
-  pub moved-part : (from end : ℕ) (l l' : List ℕ) (m m' c : ℕ) → from ≡ get_or p (j * 10 + 8) 0 → end ≡ get_or p (j * 10 + 9) 0 → m + statements_in z.statements ≤ 2049 → Moves st from end l m l' m'
+  pub moved_part : (from end : ℕ) (l l' : List ℕ) (m m' c : ℕ) → from ≡ get_or p (j * 10 + 8) 0 → end ≡ get_or p (j * 10 + 9) 0 → m + statements_in z.statements ≤ 2049 → Moves st from end l m l' m'
       → Gathered z.statements 1 l m c l' m' (c + 1)
   unfolding kept_part_statements
-  moved-part from end l l' m m' c e₁ e₂ g M =
+  moved_part from end l l' m m' c e₁ e₂ g M =
       let k = statement_count r.front in
       let a : from ≡ k = e₁ ∙ from_cell in
-      let b : end ≡ k + statements_in z.statements = e₂ ∙ end-cell in
+      let b : end ≡ k + statements_in z.statements = e₂ ∙ end_cell in
       let t = P.statements-fit in
       let u = length_all f.parts 0 in
       let v = count_split r.front z r.rest in
@@ -153,7 +153,7 @@ module _ {s p st x : List ℕ} {n : ℕ} {f : File} (P : Parted s p st x n f) {j
       let whole : all_statement_rows f.parts 0 ≡ all_statement_rows r.front 0 ++ (statement_rows z.statements k ++ rest) =
       ap (λ (os : List Object). all_statement_rows os 0) r.whole ∙ all_split r.front z r.rest 0
       ∙ (let i : 0 + k ≡ k = omega arith in ap (λ (i : ℕ). all_statement_rows r.front 0 ++ (statement_rows z.statements i ++ rest)) i) in
-      let block = moved-block st (all_statement_rows f.parts 0) H k m (omega arith) z.statements (all_statement_rows r.front 0) rest k whole (length_all r.front 0) (omega arith) (omega arith) in
+      let block = moved_block st (all_statement_rows f.parts 0) H k m (omega arith) z.statements (all_statement_rows r.front 0) rest k whole (length_all r.front 0) (omega arith) (omega arith) in
       record {
         table = q.table ∙ ap (sets l (m * 7))
             (ap (λ (i : ℕ). moved_rows st i m (end - from) i) a ∙ ap (λ (i : ℕ). moved_rows st k m i k) n₁ ∙ block ∙ ap (λ (i : ℕ). join (statement_rows z.statements i)) n₂);

@@ -90,10 +90,10 @@ moved_split st from to (suc n) m k =
 
 module _ (st : List ℕ) (rows : List (List ℕ)) (H : Holds 2049 7 st rows) (from to : ℕ) (low : to ≤ 2049) where
   -- The row of a statement.
-  moved-one : (front rest : List (List ℕ)) (x : Statement) (k n : ℕ) → rows ≡ front ++ (statement_cells x (suc k + n) ∷ rest) → length front ≡ k → from ≤ k
+  moved_one : (front rest : List (List ℕ)) (x : Statement) (k n : ℕ) → rows ≡ front ++ (statement_cells x (suc k + n) ∷ rest) → length front ≡ k → from ≤ k
       → suc k + n ≤ 2049 → moved_row st k from to ≡ statement_cells x (suc (to + (k - from)) + n)
   unfolding moved_row statement_cells
-  moved-one front rest x k n w p h g =
+  moved_one front rest x k n w p h g =
       let cell : (c : ℕ) → c < 7 → get_or st (k * 7 + c) 0 ≡ get_or (statement_cells x (suc k + n)) c 0 =
       λ c i. ap (λ (j : ℕ). get_or st (j * 7 + c) 0) (sym p) ∙ cell_held front rest (statement_cells x (suc k + n)) c H w i in
       let z : (suc k + n) - from + to ≡ suc (to + (k - from)) + n = omega (arith, h) in
@@ -101,11 +101,11 @@ module _ (st : List ℕ) (rows : List (List ℕ)) (H : Holds 2049 7 st rows) (fr
       (ap₂ ◌∷◌ (cell 4 (omega arith)) (ap₂ ◌∷◌ (cell 5 (omega arith))
       (ap₂ ◌∷◌ (ap (λ (a : ℕ). shift_of a from to) (cell 6 (omega arith)) ∙ sym (shift_is (suc k + n) from to (omega (arith, h)) (omega (arith, g)) (omega (arith, low))) ∙ z) refl))))))
 
-  pub moved-block : (ss : Statements) (front rest : List (List ℕ)) (k : ℕ) → rows ≡ front ++ (statement_rows ss k ++ rest) → length front ≡ k → from ≤ k
+  pub moved_block : (ss : Statements) (front rest : List (List ℕ)) (k : ℕ) → rows ≡ front ++ (statement_rows ss k ++ rest) → length front ≡ k → from ≤ k
       → k + statements_in ss ≤ 2049 → moved_rows st from to (statements_in ss) k ≡ join (statement_rows ss (to + (k - from)))
   unfolding statement_rows statements_in join moved_rows
-  moved-block done front rest k w p h g = refl
-  moved-block (state x inside more) front rest k w p h g =
+  moved_block done front rest k w p h g = refl
+  moved_block (state x inside more) front rest k w p h g =
       let n = statements_in inside in
       let r = statement_cells x (suc k + n) in
       let A = statement_rows inside (suc k) in
@@ -119,9 +119,9 @@ module _ (st : List ℕ) (rows : List (List ℕ)) (H : Holds 2049 7 st rows) (fr
       let K = to + (k - from) in
       let e₁ : to + (suc k - from) ≡ suc K = omega (arith, h) in
       let e₂ : to + ((suc k + n) - from) ≡ suc K + n = omega (arith, h) in
-      ap₂ ◌++◌ (moved-one front ((A ++ B) ++ rest) x k n w p h (omega arith))
+      ap₂ ◌++◌ (moved_one front ((A ++ B) ++ rest) x k n w p h (omega arith))
       (moved_split st from to n (statements_in more) (suc k)
       ∙ ap₂ ◌++◌
-      (moved-block inside (front ++ (r ∷ [])) (B ++ rest) (suc k) w₁ (omega arith) (omega arith) (omega arith) ∙ ap (λ (j : ℕ). join (statement_rows inside j)) e₁)
-      (moved-block more ((front ++ (r ∷ [])) ++ A) rest (suc k + n) w₂ (omega arith) (omega arith) (omega arith) ∙ ap (λ (j : ℕ). join (statement_rows more j)) e₂)
+      (moved_block inside (front ++ (r ∷ [])) (B ++ rest) (suc k) w₁ (omega arith) (omega arith) (omega arith) ∙ ap (λ (j : ℕ). join (statement_rows inside j)) e₁)
+      (moved_block more ((front ++ (r ∷ [])) ++ A) rest (suc k + n) w₂ (omega arith) (omega arith) (omega arith) ∙ ap (λ (j : ℕ). join (statement_rows more j)) e₂)
       ∙ sym (join_append (statement_rows inside (suc K)) (statement_rows more (suc K + n))))

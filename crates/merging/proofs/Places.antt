@@ -84,18 +84,18 @@ found_inside p l i e =
 
 -- The parts' names are what the text has at their places.
 module _ (s : List ℕ) (x : Object) (g : Good s x.name) where
-  object-test : (y : Object) → Good s y.name → is_object s (kind_number x.kind) x.name.place x.name.length y ≡ same_object x y
+  object_test : (y : Object) → Good s y.name → is_object s (kind_number x.kind) x.name.place x.name.length y ≡ same_object x y
   unfolding is_object same_object same_kind alike
-  object-test y h =
+  object_test y h =
       ap₂ both (eqb_sym (kind_number y.kind) (kind_number x.kind)) (ap₂ same (sym h.read.bytes) (sym g.read.bytes))
 
-  object-tests : (i : ℕ) (l rest : List Object) → Goods s (object_words (l ++ rest))
+  object_tests : (i : ℕ) (l rest : List Object) → Goods s (object_words (l ++ rest))
       → first (is_object s (kind_number x.kind) x.name.place x.name.length) At Nothing i l ≡ first (same_object x) At Nothing i l
   unfolding first object_words
-  object-tests i [] rest h = refl
-  object-tests i (y ∷ l) rest h =
-      ap₂ (λ (b : Bool) (f : Found). pick b (At i) f) (object-test y h.1.0)
-      (object-tests (suc i) l rest (good_back s (statement_words y.statements) (object_words (l ++ rest)) h.1.1))
+  object_tests i [] rest h = refl
+  object_tests i (y ∷ l) rest h =
+      ap₂ (λ (b : Bool) (f : Found). pick b (At i) f) (object_test y h.1.0)
+      (object_tests (suc i) l rest (good_back s (statement_words y.statements) (object_words (l ++ rest)) h.1.1))
 
 pub good_name : (s : List ℕ) (p : List Object) (x : Object) (rest : List Object) → Goods s (object_words (p ++ (x ∷ rest))) → Good s x.name
 unfolding object_words
@@ -116,7 +116,7 @@ row_is s p f j before z rest k e w l h =
     (ap (λ (n : ℕ). find_named s p 10 j 0 n 3 (get_or p (j * 10 + 3) 0) (get_or p (j * 10 + 4) 0) 0) c₀
     ∙ ap₂ (λ (a b : ℕ). find_named s p 10 j 0 (kind_number z.kind) 3 a b 0) c₃ c₄
     ∙ find_in_rows 513 f.parts s p before (z ∷ rest) j (kind_number z.kind) z.name.place z.name.length e w (sym l) (omega arith)
-    ∙ object-tests s z (good_name s before z rest g) 0 before (z ∷ rest) g)
+    ∙ object_tests s z (good_name s before z rest g) 0 before (z ∷ rest) g)
 
 -- Whether a part is the first of its object -------------------------------------------------------------------------------------------------------
 
@@ -141,8 +141,8 @@ module _ (j c : ℕ) (before : List Object) (z : Object) (e : c ≡ row_or j (fi
       go true h = absurd (h refl)
       go false h = refl
 
-  pub old-by : (c ≡ j → ⊥) → used z before ≡ true
-  old-by h = go (used z before) (λ u. h (e ∙ new_row z before j u))
+  pub old_by : (c ≡ j → ⊥) → used z before ≡ true
+  old_by h = go (used z before) (λ u. h (e ∙ new_row z before j u))
     where
       go : (b : Bool) → (b ≡ false → ⊥) → b ≡ true
       go true h = refl
@@ -150,20 +150,20 @@ module _ (j c : ℕ) (before : List Object) (z : Object) (e : c ≡ row_or j (fi
 
 module _ {s p st x : List ℕ} {n : ℕ} {f : File} (P : Parted s p st x n f) where
   -- The cell of a part's row.
-  cell-is : (j : ℕ) (before : List Object) (z : Object) (rest : List Object) → f.parts ≡ before ++ (z ∷ rest) → length before ≡ j
+  cell_is : (j : ℕ) (before : List Object) (z : Object) (rest : List Object) → f.parts ≡ before ++ (z ∷ rest) → length before ≡ j
       → get_or x j 0 ≡ row_or j (first (same_object z) At Nothing 0 before)
-  cell-is j before z rest w l =
+  cell_is j before z rest w l =
       let m = P.parts in
       let c = P.parts-fit in
       let a : length f.parts ≡ length (before ++ (z ∷ rest)) = ap (λ (k : List Object). length k) w in
       let b = length-append before (z ∷ rest) in
       P.firsts j (omega arith) ∙ row_is s p f j before z rest P.situation P.in_parts w l (omega arith)
 
-  pub is-new : (j : ℕ) (before : List Object) (z : Object) (rest : List Object) → f.parts ≡ before ++ (z ∷ rest) → length before ≡ j → get_or x j 0 ≡ j → used z before ≡ false
-  is-new j before z rest w l e = new_by j (get_or x j 0) before z (cell-is j before z rest w l) l e
+  pub is_new : (j : ℕ) (before : List Object) (z : Object) (rest : List Object) → f.parts ≡ before ++ (z ∷ rest) → length before ≡ j → get_or x j 0 ≡ j → used z before ≡ false
+  is_new j before z rest w l e = new_by j (get_or x j 0) before z (cell_is j before z rest w l) l e
 
-  pub is-old : (j : ℕ) (before : List Object) (z : Object) (rest : List Object) → f.parts ≡ before ++ (z ∷ rest) → length before ≡ j → (get_or x j 0 ≡ j → ⊥) → used z before ≡ true
-  is-old j before z rest w l e = old-by j (get_or x j 0) before z (cell-is j before z rest w l) e
+  pub is_old : (j : ℕ) (before : List Object) (z : Object) (rest : List Object) → f.parts ≡ before ++ (z ∷ rest) → length before ≡ j → (get_or x j 0 ≡ j → ⊥) → used z before ≡ true
+  is_old j before z rest w l e = old_by j (get_or x j 0) before z (cell_is j before z rest w l) e
 
 -- Whether a part belongs to the object whose first part is y ---------------------------------------------------------------------------------------
 
@@ -191,8 +191,8 @@ module _ {s p st x : List ℕ} {n : ℕ} {f : File} (P : Parted s p st x n f) {i
       let b = r.place in
       behind r.front z r.rest q.front y q.rest (sym r.whole ∙ q.whole) (omega arith)
 
-  by-cell : get_or x j 0 ≡ row_or j (first (same_object z) At Nothing 0 r.front)
-  by-cell = cell-is P j r.front z r.rest r.whole r.place
+  by_cell : get_or x j 0 ≡ row_or j (first (same_object z) At Nothing 0 r.front)
+  by_cell = cell_is P j r.front z r.rest r.whole r.place
 
   found_here : (mid : List Object) → r.front ≡ q.front ++ (y ∷ mid) → same_object y z ≡ true → get_or x j 0 ≡ i
   unfolding row_or
@@ -200,27 +200,27 @@ module _ {s p st x : List ℕ} {n : ℕ} {f : File} (P : Parted s p st x n f) {i
       let u : is_found (first (same_object z) At Nothing 0 q.front) ≡ false = found_used z 0 q.front ∙ sym (used_alike y z q.front (same_alike y z t)) ∙ q.new in
       let v = first_at (same_object z) 0 q.front y mid u (same_swap z y ∙ t) in
       let w : 0 + length q.front ≡ i = let a = q.place in omega arith in
-      by-cell ∙ ap (λ (l : List Object). row_or j (first (same_object z) At Nothing 0 l)) e ∙ ap (row_or j) v ∙ w
+      by_cell ∙ ap (λ (l : List Object). row_or j (first (same_object z) At Nothing 0 l)) e ∙ ap (row_or j) v ∙ w
 
-  of-itself : r.front ≡ q.front → z ≡ y → get_or x j 0 ≡ i
-  of-itself e g =
+  of_itself : r.front ≡ q.front → z ≡ y → get_or x j 0 ≡ i
+  of_itself e g =
       let a = q.place in
       let b = r.place in
       let c : length r.front ≡ length q.front = ap (λ (l : List Object). length l) e in
       let d : j ≡ i = omega arith in
-      by-cell ∙ new_row z r.front j (ap (λ (o : Object). used o r.front) g ∙ ap (used y) e ∙ q.new) ∙ d
+      by_cell ∙ new_row z r.front j (ap (λ (o : Object). used o r.front) g ∙ ap (used y) e ∙ q.new) ∙ d
 
   pub no_part : (get_or x j 0 ≡ i → ⊥) → same_object y z ≡ false
   no_part e = go (same_object y z) place_of refl
     where
       go : (b : Bool) → Behind r.front z q.front y → same_object y z ≡ b → b ≡ false
-      go true (itself a g) t = absurd (e (of-itself a g))
+      go true (itself a g) t = absurd (e (of_itself a g))
       go true (later mid a) t = absurd (e (found_here mid a t))
       go false k t = refl
 
-  pub a-part : get_or x j 0 ≡ i → same_object y z ≡ true
+  pub a_part : get_or x j 0 ≡ i → same_object y z ≡ true
   unfolding row_or
-  a-part e = go place_of
+  a_part e = go place_of
     where
       seen : (mid : List Object) → r.front ≡ q.front ++ (y ∷ mid) → (g : Found) → first (same_object z) At Nothing 0 r.front ≡ g → row_or j g ≡ i → same_object z y ≡ true
       seen mid a (At k) t u =
@@ -236,4 +236,4 @@ module _ {s p st x : List ℕ} {n : ℕ} {f : File} (P : Parted s p st x n f) {i
 
       go : Behind r.front z q.front y → same_object y z ≡ true
       go (itself a g) = ap (same_object y) g ∙ same_itself y
-      go (later mid a) = same_swap y z ∙ seen mid a (first (same_object z) At Nothing 0 r.front) refl (sym by-cell ∙ e)
+      go (later mid a) = same_swap y z ∙ seen mid a (first (same_object z) At Nothing 0 r.front) refl (sym by_cell ∙ e)

@@ -19,8 +19,8 @@ use Rattle.scopes.proofs.Descents.{whole}
 use Rattle.merging.specs.Parts.{row_or, first_row, first_rows}
 use Rattle.merging.specs.Moves.{Moves}
 use Rattle.merging.specs.Promises.{Parted, FirstAt, Gathered, share, GathersOne, Gathers, Put, begun, MergesOne, Merges, AllPut}
-use Rattle.merging.proofs.Places.{is-new, is-old, no_part, a-part}
-use Rattle.merging.proofs.Laying.{gathered_none, gathered_then, continued_append, continued_one, continued_itself, further_append, further_one, count_append, head-cells, moved-part, put_none, put_then, put_one, begun_none, begun_one, merge_step, merge_count}
+use Rattle.merging.proofs.Places.{is_new, is_old, no_part, a_part}
+use Rattle.merging.proofs.Laying.{gathered_none, gathered_then, continued_append, continued_one, continued_itself, further_append, further_one, count_append, head_cells, moved_part, put_none, put_then, put_one, begun_none, begun_one, merge_step, merge_count}
 
 -- First rows -----------------------------------------------------------------------------------------------------------------------------------
 
@@ -33,9 +33,9 @@ module _ (col : ℕ) (s p : List ℕ) (j : ℕ) {k a n : ℕ} {f : Found} (e₁ 
   unfolding first_row row_or
   first_found g h = ap (row_or j) (sym g ∙ named h)
 
-  pub first-nothing : f ≡ Nothing → f ≡ find_named s p 10 j col k 3 a n 0 → j ≡ first_row col s p j
+  pub first_nothing : f ≡ Nothing → f ≡ find_named s p 10 j col k 3 a n 0 → j ≡ first_row col s p j
   unfolding first_row row_or
-  first-nothing g h = ap (row_or j) (sym g ∙ named h)
+  first_nothing g h = ap (row_or j) (sym g ∙ named h)
 
 pub each_start : (col : ℕ) (s p out : List ℕ) (n : ℕ) → sets out 0 (first_rows col s p (n - 0) 0) ≡ sets out 0 (first_rows col s p n 0)
 each_start col s p out n = let e : n - 0 ≡ n = omega arith in ap (λ (m : ℕ). sets out 0 (first_rows col s p m 0)) e
@@ -90,10 +90,10 @@ pub gather_some : (p st x l l' : List ℕ) (i j m m' c from end : ℕ) → get_o
     → GathersOne p st x i j l m c l' m' (c + 1)
 unfolding bit
 gather_some p st x l l' i j m m' c from end h e₁ e₂ M s n f y z P q r g k =
-    let e = a-part P q r g h in
+    let e = a_part P q r g h in
     let w : statements_in (share y z) ≡ statements_in z.statements = ap statements_in (share_all y z e) in
     subst (λ (b : Bool). Gathered (share y z) (bit b) l m c l' m' (c + 1)) (sym e)
-    (subst (λ (ss : Statements). Gathered ss 1 l m c l' m' (c + 1)) (sym (share_all y z e)) (moved-part P r from end l l' m m' c e₁ e₂ (omega arith) M))
+    (subst (λ (ss : Statements). Gathered ss 1 l m c l' m' (c + 1)) (sym (share_all y z e)) (moved_part P r from end l l' m m' c e₁ e₂ (omega arith) M))
 
 -- What all rows give ----------------------------------------------------------------------------------------------------------------------------
 
@@ -171,17 +171,17 @@ gathering_end p st x l l' i n j m m' c' h g d K s f y q P room =
 
 pub merge_none : (p st x o t : List ℕ) (i n k m : ℕ) → (get_or x i 0 ≡ i → ⊥) → MergesOne p st x i n o t k m o t k m
 merge_none p st x o t i n k m h s f before z rest P w l g =
-    subst (λ (os : List Object). Put os o t k m o t k m) (sym (begun_none before z rest k (is-old P i before z rest w l h))) (put_none o t k m)
+    subst (λ (os : List Object). Put os o t k m o t k m) (sym (begun_none before z rest k (is_old P i before z rest w l h))) (put_none o t k m)
 
 pub merge_some : (p st x o o' t t' : List ℕ) (i n k m m' c a₀ a₁ a₂ a₃ a₄ a₅ a₆ : ℕ) → get_or x i 0 ≡ i → Gathers p st x i n t m t' m' c → a₀ ≡ get_or p (i * 10 + 0) 0
     → a₁ ≡ get_or p (i * 10 + 1) 0 → a₂ ≡ get_or p (i * 10 + 2) 0 → a₃ ≡ get_or p (i * 10 + 3) 0 → a₄ ≡ get_or p (i * 10 + 4) 0 → a₅ ≡ get_or p (i * 10 + 5) 0 → a₆ ≡ get_or p (i * 10 + 6) 0
     → o' ≡ sets o (k * 10) (a₀ ∷ a₁ ∷ a₂ ∷ a₃ ∷ a₄ ∷ a₅ ∷ a₆ ∷ c ∷ m ∷ m' ∷ []) → MergesOne p st x i n o t k m o' t' (k + 1) m'
 unfolding statement_count merged
 merge_some p st x o o' t t' i n k m m' c a₀ a₁ a₂ a₃ a₄ a₅ a₆ h G e₀ e₁ e₂ e₃ e₄ e₅ e₆ e s f before z rest P w l g =
-    let u = is-new P i before z rest w l h in
+    let u = is_new P i before z rest w l h in
     let q : FirstAt f i z = record { front = before; rest = rest; whole = w; place = l; new = u } in
     let r : Nth f.parts i z = record { front = before; rest = rest; whole = w; place = l } in
-    let cs = head-cells P r in
+    let cs = head_cells P r in
     let b = begun_one before z rest k u in
     let d : statement_count (begun before z rest k) ≡ statements_in (then z.statements (continued z rest)) + 0 = ap statement_count b in
     let d₂ : statements_in (continued z (z ∷ rest)) ≡ statements_in (then z.statements (continued z rest)) = ap statements_in (continued_itself z rest) in
@@ -196,7 +196,7 @@ pub record Upto (f : File) (i : ℕ) (o t o' t' : List ℕ) (k m : ℕ) : Type 0
   pub so_far : List Object
   pub whole : f.parts ≡ before ++ left
   pub place : length before ≡ i
-  pub merged-so : so_far ++ merge_from before left k ≡ merge f.parts
+  pub merged_so : so_far ++ merge_from before left k ≡ merge f.parts
   pub put : Put so_far o t 0 0 o' t' k m
 
 abbrev pub Merging : (p st x : List ℕ) → (n i : ℕ) → (o t o' t' : List ℕ) → (k m : ℕ) → Type 0
@@ -204,7 +204,7 @@ Merging p st x n i o t o' t' k m = (s : List ℕ) (f : File) → Parted s p st x
 
 pub merging_start : (p st x o t : List ℕ) (n : ℕ) → Merging p st x n 0 o t o t 0 0
 unfolding merge
-merging_start p st x o t n s f P h = record { before = []; left = f.parts; so_far = []; whole = refl; place = refl; merged-so = refl; put = put_none o t 0 0 }
+merging_start p st x o t n s f P h = record { before = []; left = f.parts; so_far = []; whole = refl; place = refl; merged_so = refl; put = put_none o t 0 0 }
 
 pub merging_more : (p st x o t o₁ t₁ o₂ t₂ : List ℕ) (n i k m k₂ m₂ : ℕ) → i < n → MergesOne p st x i n o₁ t₁ k m o₂ t₂ k₂ m₂ → Merging p st x n i o t o₁ t₁ k m
     → Merging p st x n (i + 1) o t o₂ t₂ k₂ m₂
@@ -236,7 +236,7 @@ merging_more p st x o t o₁ t₁ o₂ t₂ n i k m k₂ m₂ h one K s f P _ =
       so_far = u.so_far ++ os;
       whole = w ∙ sym (append_assoc u.before (z ∷ []) rest);
       place = omega arith;
-      merged-so = append_assoc u.so_far os (merge_from (u.before ++ (z ∷ [])) rest k₂) ∙ ap (λ (j : ℕ). u.so_far ++ (os ++ merge_from (u.before ++ (z ∷ [])) rest j)) e₇ ∙ e;
+      merged_so = append_assoc u.so_far os (merge_from (u.before ++ (z ∷ [])) rest k₂) ∙ ap (λ (j : ℕ). u.so_far ++ (os ++ merge_from (u.before ++ (z ∷ [])) rest j)) e₇ ∙ e;
       put = put_then u.put y;
     }
 

@@ -15,8 +15,8 @@ pub record Parted (s p st x : List ℕ) (n : ℕ) (f : File) : Type 0 where
   pub in_statements : st ≡ kept_part_statements f
   pub parts : n ≡ length f.parts
   pub firsts : (j : ℕ) → j < n → get_or x j 0 ≡ first_row 0 s p j
-  pub parts-fit : n ≤ 512
-  pub statements-fit : statement_count f.parts ≤ 2048
+  pub parts_fit : n ≤ 512
+  pub statements_fit : statement_count f.parts ≤ 2048
 
 -- Row i is that of y, the first part of an object.
 pub record FirstAt (f : File) (i : ℕ) (y : Object) : Type 0 where

@@ -8,12 +8,12 @@ use native.Mathlib.Nat.{add-zero}
 use lib.ListN.{length, length-append}
 use lib.Seq.{sets, length-sets}
 use Rattle.filling.specs.Tables.{Table}
-use Rattle.grammar.specs.Grammar.{◌·◌, ◌▸◌, ∎, matches, name, kind, sg, lbrace, rbrace, semicolon, D, statements, object, objects, an_object, no_object, an-object-alone, an-object-with}
+use Rattle.grammar.specs.Grammar.{◌·◌, ◌▸◌, ∎, matches, name, kind, sg, lbrace, rbrace, semicolon, D, statements, object, objects, an_object, no_object, an_object_alone, an_object_with}
 use Rattle.grammar.specs.Readers.{class_at, advanced, Meets}
 use Rattle.grammar.specs.declared.Look.{Look}
 use Rattle.grammar.proofs.Codes.{at_code}
 use Rattle.grammar.proofs.Meeting.{◌⊳◌, take}
-use Rattle.grammar.proofs.Rules.{block-pass, block_by, object_by, objects-again, objects-done}
+use Rattle.grammar.proofs.Rules.{block_pass, block_by, object_by, objects_again, objects_done}
 use Rattle.meaning.specs.Syntax.{absent, through, statements_in}
 use Rattle.meaning.specs.Actions.{means}
 use Rattle.layout.specs.Kept.{statement_rows, object_cells, object_rows, all_statement_rows, join}
@@ -23,7 +23,7 @@ use Rattle.rows.proofs.Tallies.{count_on_append}
 use Rattle.filling.specs.Fills.{Walks}
 use Rattle.filling.proofs.Filling.{Going, Effects, front_of, behind, plain, first, matched, ◌▻◌, told_as, told_rule, going_on, gone, both as side_by_side}
 use Rattle.filling.proofs.Tables.{wide_one, wide_then, rows_append, ◌⸬◌}
-use Rattle.filling.proofs.Codes.{seen-place, seen-length, kind_seen}
+use Rattle.filling.proofs.Codes.{seen_place, seen_length, kind_seen}
 use Rattle.object_parts.specs.Rows.{Lines, Fill, StatementRows, Put, FillBoth, All, FillAll, numbers, PartRows, AllRows}
 use Rattle.object_parts.proofs.Stated.{then, none_yet, lines}
 
@@ -75,7 +75,7 @@ puts =
       assoc = λ a b c. ap₂ (λ p q. (p, q)) (fun_ext (λ k. joined (a.0 k) (a.1 k) b.0 b.1 c.0 k)) (lines.assoc a.1 b.1 c.1);
       front = λ a. ap₂ (λ p q. (p, q)) (fun_ext (λ k. ap a.0 (add-zero k))) (lines.front a.1);
       back = λ a. ap₂ (λ p q. (p, q)) (fun_ext (λ k. append-nil (a.0 k))) (lines.back a.1);
-      does-none = λ x.
+      does_none = λ x.
           record {
             wide = λ k. omega arith;
             same = λ k l. refl;
@@ -84,7 +84,7 @@ puts =
             table = λ h h'. refl;
             lines = lines.does-none x.1;
           };
-      does-then = put_then;
+      does_then = put_then;
     }
   where
     joined : (xs ys : List (List ℕ)) (b b' c : Lines) (k : ℕ)
@@ -100,8 +100,8 @@ counting =
       assoc = append_assoc;
       front = λ a. refl;
       back = append-nil;
-      does-none = λ x. refl;
-      does-then = λ x y z a b d e. e ∙ ap (λ (c : List ℕ). count_on c b) d ∙ sym (count_on_append x a b);
+      does_none = λ x. refl;
+      does_then = λ x y z a b d e. e ∙ ap (λ (c : List ℕ). count_on c b) d ∙ sym (count_on_append x a b);
     }
 
 pub all : Effects All (List ℕ × (Table × Table)) beside ([], no_put) FillAll
@@ -122,11 +122,11 @@ put_part {l} {n} {t} w r c h f p i q =
     }
 
 module _ {s : List ℕ} {a b c : Look} {l l' : List ℕ} {n n' : ℕ} where
-  pub part-alone : {e k v w m : ℕ} {t : List ℕ} {r : Look} → k ≡ a.code - 9 → Meets 1 (kind · ∎) s a b → Meets 1 (name · ∎) s b c → v ≡ a.next - a.at → w ≡ b.next - b.at
+  pub part_alone : {e k v w m : ℕ} {t : List ℕ} {r : Look} → k ≡ a.code - 9 → Meets 1 (kind · ∎) s a b → Meets 1 (name · ∎) s b c → v ≡ a.next - a.at → w ≡ b.next - b.at
       → n' ≡ n + min 1 (65536 - n) → (c.code ≡ 45 → ⊥) → l' ≡ sets l (n * 10) (k ∷ a.at ∷ v ∷ b.at ∷ w ∷ 0 ∷ 0 ∷ 1 ∷ m ∷ m ∷ []) → Meets e (D ▸ sg semicolon · ∎) s c r
       → Walks FillBoth 1 (object ▸ ∎) (λ w m. PartRows a w m.0) s a r ((l, n), (t, m)) ((l', n'), (t, m))
   unfolding means absent front_of behind PartRows object_cells statement_rows statements_in
-  part-alone {k} {v} {w} {m} {t} g x y p q i h o d =
+  part_alone {k} {v} {w} {m} {t} g x y p q i h o d =
       let f = matched kind x ▻ first name y ▻ plain (D ▸ sg semicolon · ∎) d in
       let row : ℕ → List ℕ = λ j. k ∷ a.at ∷ v ∷ b.at ∷ w ∷ 0 ∷ 0 ∷ 1 ∷ j ∷ j ∷ [] in
       let z : Put = ((λ j. row j ∷ []), none_yet) in
@@ -134,14 +134,14 @@ module _ {s : List ℕ} {a b c : Look} {l l' : List ℕ} {n n' : ℕ} where
         what = z;
         does = put_part none_yet row (row m) (λ j. refl) (lines.does-none (t, m)) o (λ _. refl) i;
         fills = record {
-          meets = object_by (x ⊳ y ⊳ block-pass h ⊳ d);
+          meets = object_by (x ⊳ y ⊳ block_pass h ⊳ d);
           told = λ u.
-              told_rule (λ m. PartRows a z m) an-object-alone
+              told_rule (λ m. PartRows a z m) an_object_alone
               (told_as (f.told u) (λ m q' j j'.
               let kd = kind_seen q'.0.0 q'.0.1 in (
                 kd,
                 ap (λ (r : List ℕ). r ∷ [])
-                    ((kd ∙ sym g) ⸬ seen-place q'.0.0 ⸬ (seen-length q'.0.0 ∙ sym p) ⸬ seen-place q'.1.0 ⸬ (seen-length q'.1.0 ∙ sym q) ⸬ refl ⸬ refl
+                    ((kd ∙ sym g) ⸬ seen_place q'.0.0 ⸬ (seen_length q'.0.0 ∙ sym p) ⸬ seen_place q'.1.0 ⸬ (seen_length q'.1.0 ∙ sym q) ⸬ refl ⸬ refl
                     ⸬ refl ⸬ refl ⸬ add-zero j' ⸬ refl),
                 refl,
               )));
@@ -149,13 +149,13 @@ module _ {s : List ℕ} {a b c : Look} {l l' : List ℕ} {n n' : ℕ} where
       }
 
 module _ {s : List ℕ} {a b c g : Look} {l l' : List ℕ} {n n' : ℕ} where
-  pub part-with : {e e' k v w m m' extent : ℕ} {t t' : List ℕ} {d r f : Look} → k ≡ a.code - 9 → Meets 1 (kind · ∎) s a b → Meets 1 (name · ∎) s b c → v ≡ a.next - a.at
+  pub part_with : {e e' k v w m m' extent : ℕ} {t t' : List ℕ} {d r f : Look} → k ≡ a.code - 9 → Meets 1 (kind · ∎) s a b → Meets 1 (name · ∎) s b c → v ≡ a.next - a.at
       → w ≡ b.next - b.at → n' ≡ n + min 1 (65536 - n) → c.code ≡ 45 → d ≡ advanced s c
       → Walks Fill 0 (statements ▸ ∎) (λ w m. StatementRows w m.0) s d g (t, m) (t', m') → extent ≡ (g.at + (g.next - g.at)) - c.at
       → l' ≡ sets l (n * 10) (k ∷ a.at ∷ v ∷ b.at ∷ w ∷ c.at ∷ extent ∷ 1 ∷ m ∷ m' ∷ []) → Meets e (sg rbrace · ∎) s g f → Meets e' (D ▸ sg semicolon · ∎) s f r
       → Walks FillBoth 1 (object ▸ ∎) (λ w m. PartRows a w m.0) s a r ((l, n), (t, m)) ((l', n'), (t', m'))
   unfolding means through front_of behind PartRows StatementRows object_cells matches class_at
-  part-with {k} {v} {w} {m} {m'} {extent} gk x y p q i h o ss ex wr cl d =
+  part_with {k} {v} {w} {m} {m'} {extent} gk x y p q i h o ss ex wr cl d =
       let br = take (sg lbrace) {s = s} {a = c} (at_code (matches (sg lbrace)) 45 tt h) o in
       let f = matched kind x ▻ first name y ▻ first (sg lbrace) br ▻ ss.fills ▻ first (sg rbrace) cl ▻ plain (D ▸ sg semicolon · ∎) d in
       let row : ℕ → List ℕ = λ j. k ∷ a.at ∷ v ∷ b.at ∷ w ∷ c.at ∷ extent ∷ 1 ∷ j ∷ (j + length (ss.what j)) ∷ [] in
@@ -167,7 +167,7 @@ module _ {s : List ℕ} {a b c g : Look} {l l' : List ℕ} {n n' : ℕ} where
         fills = record {
           meets = object_by (x ⊳ y ⊳ block_by h o (ss.fills.meets ⊳ cl) ⊳ d);
           told = λ u.
-              told_rule (λ m. PartRows a z m) an-object-with
+              told_rule (λ m. PartRows a z m) an_object_with
               (told_as (f.told u) (λ m q' j j'.
               let kd = kind_seen q'.0.0 q'.0.1 in
               let last = q'.1.1.1.1.0 in
@@ -177,9 +177,9 @@ module _ {s : List ℕ} {a b c g : Look} {l l' : List ℕ} {n n' : ℕ} where
               let e : statements_in st ≡ length (ss.what j') = sym (length_statements st j') ∙ ap (λ (l : List (List ℕ)). length l) rows in (
                 kd,
                 ap (λ (r : List ℕ). r ∷ [])
-                    ((kd ∙ sym gk) ⸬ seen-place q'.0.0 ⸬ (seen-length q'.0.0 ∙ sym p) ⸬ seen-place q'.1.0 ⸬ (seen-length q'.1.0 ∙ sym q) ⸬ seen-place open-brace
-                    ⸬ (ap₂ (λ (i j : ℕ). (i + j) - m.1.1.0.place) (seen-place last) (seen-length last)
-                    ∙ ap (λ (i : ℕ). (g.at + (g.next - g.at)) - i) (seen-place open-brace) ∙ sym ex)
+                    ((kd ∙ sym gk) ⸬ seen_place q'.0.0 ⸬ (seen_length q'.0.0 ∙ sym p) ⸬ seen_place q'.1.0 ⸬ (seen_length q'.1.0 ∙ sym q) ⸬ seen_place open-brace
+                    ⸬ (ap₂ (λ (i j : ℕ). (i + j) - m.1.1.0.place) (seen_place last) (seen_length last)
+                    ∙ ap (λ (i : ℕ). (g.at + (g.next - g.at)) - i) (seen_place open-brace) ∙ sym ex)
                     ⸬ refl ⸬ refl ⸬ ap (λ (i : ℕ). j' + i) e ⸬ refl),
                 rows,
               )));
@@ -189,11 +189,11 @@ module _ {s : List ℕ} {a b c g : Look} {l l' : List ℕ} {n n' : ℕ} where
 -- Parts ----------------------------------------------------------------------------------------------------------------------------------
 
 module _ {s : List ℕ} {a : Look} {cs cs₁ cs₂ : List ℕ} {x y z : Table × Table} where
-  pub parts-on : {k : ℕ} {o r : Look} → Going beside FillAll objects AllRows s o a (cs, x) (cs₁, y) → matches kind (class_at a.code) ≡ true → k ≡ a.code - 9
+  pub parts_on : {k : ℕ} {o r : Look} → Going beside FillAll objects AllRows s o a (cs, x) (cs₁, y) → matches kind (class_at a.code) ≡ true → k ≡ a.code - 9
       → cs₂ ≡ one_more cs₁ k → Walks FillBoth 1 (object ▸ ∎) (λ w m. PartRows a w m.0) s a r y z → Going beside FillAll objects AllRows s o r (cs, x) (cs₂, z)
   unfolding means front_of behind PartRows AllRows numbers object_rows all_statement_rows count_on
-  parts-on {k} g h p q w =
-      going_on all AllRows (object ▸ ∎) an_object {w = (k ∷ [], w.what)} g (objects-again g.still h w.fills.meets) (q, w.does) w.fills
+  parts_on {k} g h p q w =
+      going_on all AllRows (object ▸ ∎) an_object {w = (k ∷ [], w.what)} g (objects_again g.still h w.fills.meets) (q, w.does) w.fills
       (λ m more u v i j.
       let o = m.0 i j in
       let j' = j + statements_in o.statements in
@@ -206,7 +206,7 @@ module _ {s : List ℕ} {a : Look} {cs cs₁ cs₂ : List ℕ} {x y z : Table ×
       ))
 
 module _ {s : List ℕ} {a : Look} {x y : List ℕ × (Table × Table)} where
-  pub parts-gone : {o : Look} → Going beside FillAll objects AllRows s o a x y → matches kind (class_at a.code) ≡ false
+  pub parts_gone : {o : Look} → Going beside FillAll objects AllRows s o a x y → matches kind (class_at a.code) ≡ false
       → Walks FillAll 0 (objects ▸ ∎) (λ w m. AllRows w m.0) s o a x y
   unfolding means AllRows numbers object_rows all_statement_rows
-  parts-gone g h = gone all AllRows no_object (λ i j. (refl, refl, refl)) g (objects-done g.still h)
+  parts_gone g h = gone all AllRows no_object (λ i j. (refl, refl, refl)) g (objects_done g.still h)

@@ -8,12 +8,12 @@ use native.Mathlib.Omega.{arith}
 use native.Mathlib.Nat.{add-zero}
 use lib.ListN.{length, length-append}
 use lib.Seq.{sets}
-use Rattle.grammar.specs.Grammar.{Terminal, ◌⟶◌, ◌·◌, ◌▸◌, ∎, matches, name, number, string, float, the, sg, TRUE, FALSE, AUTO, lbrace, rbrace, equals, semicolon, D, block, statements, statement, value, no_block, a_block, no-statement, a_statement, statement-is, value-number, value-string, value-float, value-auto, value-name, value-true, value-false}
+use Rattle.grammar.specs.Grammar.{Terminal, ◌⟶◌, ◌·◌, ◌▸◌, ∎, matches, name, number, string, float, the, sg, TRUE, FALSE, AUTO, lbrace, rbrace, equals, semicolon, D, block, statements, statement, value, no_block, a_block, no_statement, a_statement, statement_is, value_number, value_string, value_float, value_auto, value_name, value_true, value_false}
 use Rattle.grammar.specs.Readers.{class_at, advanced, refusal, Meets}
 use Rattle.grammar.specs.declared.Look.{Look}
 use Rattle.grammar.proofs.Codes.{at_code}
 use Rattle.grammar.proofs.Meeting.{◌⊳◌, take}
-use Rattle.grammar.proofs.Rules.{name-taken, block-pass, block_by, value-numbers, value-strings, value-floats, value-autos, value-trues, value-falses, value_names, statement-by, statements-again, statements-done}
+use Rattle.grammar.proofs.Rules.{name_taken, block_pass, block_by, value_numbers, value_strings, value_floats, value_autos, value_trues, value_falses, value_names, statement_by, statements_again, statements_done}
 use Rattle.meaning.specs.Syntax.{Statement, Statements, done, state, statements_in}
 use Rattle.meaning.specs.Actions.{Parts, means, stating}
 use Rattle.layout.specs.Kept.{place_or, statement_cells, statement_rows, join}
@@ -22,7 +22,7 @@ use Rattle.filling.specs.Tables.{Wide, Table}
 use Rattle.filling.specs.Fills.{Walks}
 use Rattle.filling.proofs.Filling.{Going, Effects, front_of, behind, plain, first, ◌▻◌, told_as, told_rule, told_none, refused, going_on, gone}
 use Rattle.filling.proofs.Tables.{wrote_none, wrote_on, wide_one, wide_then, ◌⸬◌}
-use Rattle.filling.proofs.Codes.{seen-code, seen-place, seen-length}
+use Rattle.filling.proofs.Codes.{seen_code, seen_place, seen_length}
 use Rattle.object_parts.specs.Rows.{Lines, Fill, StatementRows, StatedRows, BlockRows, ValueRows}
 use Rattle.object_parts.proofs.Stores.{wrote_around}
 
@@ -44,8 +44,8 @@ lines =
       assoc = λ a b c. fun_ext (λ k. joined (a k) (λ i. b i) (λ i. c i) k);
       front = λ a. fun_ext (λ k. ap a (add-zero k));
       back = λ a. fun_ext (λ k. append-nil (a k));
-      does-none = λ x. (none_wide, wrote_none);
-      does-then = λ x y z a b d d'. ((λ k. wide_then 7 (a k) (b (k + length (a k))) (d.0 k) (d'.0 (k + length (a k)))), wrote_on b d'.0 d.1 d'.1);
+      does_none = λ x. (none_wide, wrote_none);
+      does_then = λ x y z a b d d'. ((λ k. wide_then 7 (a k) (b (k + length (a k))) (d.0 k) (d'.0 (k + length (a k)))), wrote_on b d'.0 d.1 d'.1);
     }
   where
     joined : (xs : List (List ℕ)) (b c : Lines) (k : ℕ)
@@ -68,11 +68,11 @@ unfolding statements_in
 after_one x inside k = let e = length_statements (state x inside done) k in omega (arith, e)
 
 module _ {s : List ℕ} {a : Look} {x y z : Table} where
-  pub statements-on : {o r : Look} → Going then Fill statements StatementRows s o a x y → matches name (class_at a.code) ≡ true
+  pub statements_on : {o r : Look} → Going then Fill statements StatementRows s o a x y → matches name (class_at a.code) ≡ true
       → Walks Fill 1 (statement ▸ ∎) (λ w m. StatedRows w m.0) s a r y z → Going then Fill statements StatementRows s o r x z
   unfolding means stating front_of behind StatementRows StatedRows
-  statements-on g h w =
-      going_on lines StatementRows (statement ▸ ∎) a_statement g (statements-again g.still h w.fills.meets) w.does w.fills
+  statements_on g h w =
+      going_on lines StatementRows (statement ▸ ∎) a_statement g (statements_again g.still h w.fills.meets) w.does w.fills
       (λ m more q r k.
       let c = (m.0 k).statement in
       let inside = (m.0 k).inside in
@@ -81,31 +81,31 @@ module _ {s : List ℕ} {a : Look} {x y z : Table} where
       rows_stating c inside (m.1.0 i) k ∙ ap₂ ◌++◌ (q k) (r i ∙ ap more e))
 
 module _ {s : List ℕ} {a : Look} {x y : Table} where
-  pub statements-gone : {o : Look} → Going then Fill statements StatementRows s o a x y → matches name (class_at a.code) ≡ false
+  pub statements_gone : {o : Look} → Going then Fill statements StatementRows s o a x y → matches name (class_at a.code) ≡ false
       → Walks Fill 0 (statements ▸ ∎) (λ w m. StatementRows w m.0) s o a x y
   unfolding means StatementRows statement_rows
-  statements-gone g h = gone lines StatementRows no-statement (λ k. refl) g (statements-done g.still h)
+  statements_gone g h = gone lines StatementRows no_statement (λ k. refl) g (statements_done g.still h)
 
-  pub block-there : {e e' : ℕ} {b c r : Look} → a.code ≡ 45 → b ≡ advanced s a → Walks Fill e (statements ▸ ∎) (λ w m. StatementRows w m.0) s b c x y
+  pub block_there : {e e' : ℕ} {b c r : Look} → a.code ≡ 45 → b ≡ advanced s a → Walks Fill e (statements ▸ ∎) (λ w m. StatementRows w m.0) s b c x y
       → Meets e' (sg rbrace · ∎) s c r → Walks Fill 0 (block ▸ ∎) (λ w m. BlockRows a.at w m.0) s a r x y
   unfolding means front_of behind matches class_at StatementRows BlockRows place_or
-  block-there h p w m =
+  block_there h p w m =
       let f = first (sg lbrace) (take (sg lbrace) {s = s} {a = a} (at_code (matches (sg lbrace)) 45 tt h) p) ▻ w.fills ▻ plain (sg rbrace · ∎) m in
       record {
         what = w.what;
         does = w.does;
         fills = record {
           meets = block_by h p (w.fills.meets ⊳ m);
-          told = λ k. told_rule (λ m. BlockRows a.at w.what m) a_block (told_as (f.told k) (λ m q. (seen-place q.0, q.1.0)));
+          told = λ k. told_rule (λ m. BlockRows a.at w.what m) a_block (told_as (f.told k) (λ m q. (seen_place q.0, q.1.0)));
         };
       }
 
   -- A value with a block.
-  value-with : (t : Terminal) (p : value ⟶ t · block ▸ ∎) {e : ℕ} {b r : Look} (i : ℕ) → Meets 1 (value ▸ ∎) s a r → Meets 1 (t · ∎) s a b
+  value_with : (t : Terminal) (p : value ⟶ t · block ▸ ∎) {e : ℕ} {b r : Look} (i : ℕ) → Meets 1 (value ▸ ∎) s a r → Meets 1 (t · ∎) s a b
       → ((m : Parts (t · block ▸ ∎)) → means p m ≡ record { word = m.0; block = m.1.0 })
       → Walks Fill e (block ▸ ∎) (λ w m. BlockRows i w m.0) s b r x y → Walks Fill 1 (value ▸ ∎) (λ w m. ValueRows s a i w m.0) s a r x y
   unfolding front_of behind BlockRows ValueRows
-  value-with t p i v u e w =
+  value_with t p i v u e w =
       let f = first t u ▻ w.fills in
       record {
         what = w.what;
@@ -118,22 +118,22 @@ module _ {s : List ℕ} {a : Look} {x y : Table} where
         };
       }
 
-  pub value-true-there : {b r : Look} (i : ℕ) → a.code ≡ 1 → b ≡ advanced s a → Walks Fill 0 (block ▸ ∎) (λ w m. BlockRows i w m.0) s b r x y
+  pub value_true_there : {b r : Look} (i : ℕ) → a.code ≡ 1 → b ≡ advanced s a → Walks Fill 0 (block ▸ ∎) (λ w m. BlockRows i w m.0) s b r x y
       → Walks Fill 1 (value ▸ ∎) (λ w m. ValueRows s a i w m.0) s a r x y
   unfolding means matches class_at
-  value-true-there i h p w =
-      value-with (the TRUE) value-true i (value-trues h p w.fills.meets) (take (the TRUE) (at_code (matches (the TRUE)) 1 tt h) p) (λ m. refl) w
+  value_true_there i h p w =
+      value_with (the TRUE) value_true i (value_trues h p w.fills.meets) (take (the TRUE) (at_code (matches (the TRUE)) 1 tt h) p) (λ m. refl) w
 
-  pub value-false-there : {b r : Look} (i : ℕ) → a.code ≡ 2 → b ≡ advanced s a → Walks Fill 0 (block ▸ ∎) (λ w m. BlockRows i w m.0) s b r x y
+  pub value_false_there : {b r : Look} (i : ℕ) → a.code ≡ 2 → b ≡ advanced s a → Walks Fill 0 (block ▸ ∎) (λ w m. BlockRows i w m.0) s b r x y
       → Walks Fill 1 (value ▸ ∎) (λ w m. ValueRows s a i w m.0) s a r x y
   unfolding means matches class_at
-  value-false-there i h p w =
-      value-with (the FALSE) value-false i (value-falses h p w.fills.meets) (take (the FALSE) (at_code (matches (the FALSE)) 2 tt h) p) (λ m. refl) w
+  value_false_there i h p w =
+      value_with (the FALSE) value_false i (value_falses h p w.fills.meets) (take (the FALSE) (at_code (matches (the FALSE)) 2 tt h) p) (λ m. refl) w
 
-  pub value-name-there : {b r : Look} (i : ℕ) → matches name (class_at a.code) ≡ true → b ≡ advanced s a → Walks Fill 0 (block ▸ ∎) (λ w m. BlockRows i w m.0) s b r x y
+  pub value_name_there : {b r : Look} (i : ℕ) → matches name (class_at a.code) ≡ true → b ≡ advanced s a → Walks Fill 0 (block ▸ ∎) (λ w m. BlockRows i w m.0) s b r x y
       → Walks Fill 1 (value ▸ ∎) (λ w m. ValueRows s a i w m.0) s a r x y
   unfolding means
-  value-name-there i h p w = value-with name value-name i (value_names h p w.fills.meets) (name-taken h p) (λ m. refl) w
+  value_name_there i h p w = value_with name value_name i (value_names h p w.fills.meets) (name_taken h p) (λ m. refl) w
 
 module _ {s : List ℕ} {a : Look} {x : Table} where
   pub block_none : (a.code ≡ 45 → ⊥) → Walks Fill 0 (block ▸ ∎) (λ w m. BlockRows 0 w m.0) s a a x x
@@ -142,15 +142,15 @@ module _ {s : List ℕ} {a : Look} {x : Table} where
       record {
         what = none_yet;
         does = (none_wide, wrote_none);
-        fills = record { meets = block-pass h; told = λ k. told_none (λ m. BlockRows 0 none_yet m) no_block (refl, λ k. refl) };
+        fills = record { meets = block_pass h; told = λ k. told_none (λ m. BlockRows 0 none_yet m) no_block (refl, λ k. refl) };
       }
 
   -- A value without one.
-  value-alone : (t : Terminal) (p : value ⟶ t · ∎) {r : Look} → Meets 1 (value ▸ ∎) s a r → Meets 1 (t · ∎) s a r
+  value_alone : (t : Terminal) (p : value ⟶ t · ∎) {r : Look} → Meets 1 (value ▸ ∎) s a r → Meets 1 (t · ∎) s a r
       → ((m : Parts (t · ∎)) → means p m ≡ record { word = m.0; block = record { brace = none; inside = λ k. done } })
       → Walks Fill 1 (value ▸ ∎) (λ w m. ValueRows s a 0 w m.0) s a r x x
   unfolding ValueRows place_or statement_rows
-  value-alone t p v u e =
+  value_alone t p v u e =
       let f = first t u in
       record {
         what = none_yet;
@@ -162,32 +162,32 @@ module _ {s : List ℕ} {a : Look} {x : Table} where
         };
       }
 
-  pub value-number-there : {r : Look} → a.code ≡ 43 → r ≡ advanced s a → Walks Fill 1 (value ▸ ∎) (λ w m. ValueRows s a 0 w m.0) s a r x x
+  pub value_number_there : {r : Look} → a.code ≡ 43 → r ≡ advanced s a → Walks Fill 1 (value ▸ ∎) (λ w m. ValueRows s a 0 w m.0) s a r x x
   unfolding means matches class_at
-  value-number-there h p = value-alone number value-number (value-numbers h p) (take number (at_code (matches number) 43 tt h) p) (λ m. refl)
+  value_number_there h p = value_alone number value_number (value_numbers h p) (take number (at_code (matches number) 43 tt h) p) (λ m. refl)
 
-  pub value-string-there : {r : Look} → a.code ≡ 44 → r ≡ advanced s a → Walks Fill 1 (value ▸ ∎) (λ w m. ValueRows s a 0 w m.0) s a r x x
+  pub value_string_there : {r : Look} → a.code ≡ 44 → r ≡ advanced s a → Walks Fill 1 (value ▸ ∎) (λ w m. ValueRows s a 0 w m.0) s a r x x
   unfolding means matches class_at
-  value-string-there h p = value-alone string value-string (value-strings h p) (take string (at_code (matches string) 44 tt h) p) (λ m. refl)
+  value_string_there h p = value_alone string value_string (value_strings h p) (take string (at_code (matches string) 44 tt h) p) (λ m. refl)
 
-  pub value-float-there : {r : Look} → a.code ≡ 54 → r ≡ advanced s a → Walks Fill 1 (value ▸ ∎) (λ w m. ValueRows s a 0 w m.0) s a r x x
+  pub value_float_there : {r : Look} → a.code ≡ 54 → r ≡ advanced s a → Walks Fill 1 (value ▸ ∎) (λ w m. ValueRows s a 0 w m.0) s a r x x
   unfolding means matches class_at
-  value-float-there h p = value-alone float value-float (value-floats h p) (take float (at_code (matches float) 54 tt h) p) (λ m. refl)
+  value_float_there h p = value_alone float value_float (value_floats h p) (take float (at_code (matches float) 54 tt h) p) (λ m. refl)
 
-  pub value-auto-there : {r : Look} → a.code ≡ 3 → r ≡ advanced s a → Walks Fill 1 (value ▸ ∎) (λ w m. ValueRows s a 0 w m.0) s a r x x
+  pub value_auto_there : {r : Look} → a.code ≡ 3 → r ≡ advanced s a → Walks Fill 1 (value ▸ ∎) (λ w m. ValueRows s a 0 w m.0) s a r x x
   unfolding means matches class_at
-  value-auto-there h p = value-alone (the AUTO) value-auto (value-autos h p) (take (the AUTO) (at_code (matches (the AUTO)) 3 tt h) p) (λ m. refl)
+  value_auto_there h p = value_alone (the AUTO) value_auto (value_autos h p) (take (the AUTO) (at_code (matches (the AUTO)) 3 tt h) p) (λ m. refl)
 
   pub value_none : {r : Look} → Meets 1 (value ▸ ∎) s a r → r ≡ refusal a → Walks Fill 1 (value ▸ ∎) (λ w m. ValueRows s a 0 w m.0) s a r x x
   value_none m e = record { what = none_yet; does = (none_wide, wrote_none); fills = record { meets = m; told = λ k. refused a e k } }
 
 module _ {s : List ℕ} {a c : Look} {l l₁ l₂ : List ℕ} {n k n₁ : ℕ} where
-  pub statement-there : (i : ℕ) {e v w : ℕ} {b d r : Look} → Meets 1 (name · ∎) s a b → Meets 1 (sg equals · ∎) s b c → k ≡ n + min 1 (65536 - n)
+  pub statement_there : (i : ℕ) {e v w : ℕ} {b d r : Look} → Meets 1 (name · ∎) s a b → Meets 1 (sg equals · ∎) s b c → k ≡ n + min 1 (65536 - n)
       → Walks Fill 1 (value ▸ ∎) (λ w m. ValueRows s c i w m.0) s c d (l, k) (l₁, n₁) → v ≡ a.next - a.at → w ≡ c.next - c.at
       → l₂ ≡ sets l₁ (n * 7) (a.at ∷ v ∷ c.at ∷ w ∷ c.code ∷ i ∷ n₁ ∷ []) → Meets e (D ▸ sg semicolon · ∎) s d r
       → Walks Fill 1 (statement ▸ ∎) (λ w m. StatedRows w m.0) s a r (l, n) (l₂, n₁)
   unfolding means front_of behind ValueRows StatedRows statement_rows statement_cells
-  statement-there i {v} {w} x y g u p q o d =
+  statement_there i {v} {w} x y g u p q o d =
       let f = first name x ▻ plain (sg equals · ∎) y ▻ u.fills ▻ plain (D ▸ sg semicolon · ∎) d in
       let z : Lines = λ j. (a.at ∷ v ∷ c.at ∷ w ∷ c.code ∷ i ∷ (suc j + length (u.what (suc j))) ∷ []) ∷ u.what (suc j) in
       record {
@@ -197,15 +197,15 @@ module _ {s : List ℕ} {a c : Look} {l l₁ l₂ : List ℕ} {n k n₁ : ℕ} w
           wrote_around a.at v c.at w c.code i u.what u.does.0 g u.does.1 o,
         );
         fills = record {
-          meets = statement-by f.meets;
+          meets = statement_by f.meets;
           told = λ h.
-              told_rule (λ m. StatedRows z m) statement-is
+              told_rule (λ m. StatedRows z m) statement_is
               (told_as (f.told h) (λ m t j.
               let val = t.1.1.0 in
               let inside = m.1.1.0.block.inside (suc j) in
               let e : statements_in inside ≡ length (u.what (suc j)) = sym (length_statements inside (suc j)) ∙ ap (λ (l : List (List ℕ)). length l) (val.2 (suc j)) in
               ap₂ ◌∷◌
-              (seen-place t.0 ⸬ (seen-length t.0 ∙ sym p) ⸬ seen-place val.0 ⸬ (seen-length val.0 ∙ sym q) ⸬ seen-code val.0 ⸬ val.1
+              (seen_place t.0 ⸬ (seen_length t.0 ∙ sym p) ⸬ seen_place val.0 ⸬ (seen_length val.0 ∙ sym q) ⸬ seen_code val.0 ⸬ val.1
               ⸬ ap (λ (k : ℕ). suc j + k) e ⸬ refl)
               (append-nil (statement_rows inside (suc j)) ∙ val.2 (suc j))));
         };

@@ -89,9 +89,9 @@ module _ (f : ℕ → ℕ) where
       ∙ ap (λ (l : List ℕ). pick (eqb (get_or x (c + 1) 0) 0) (x ++ y) l) (set-append_left x y c (f (get_or x c 0)) k)
       ∙ pick_left (eqb (get_or x (c + 1) 0) 0) x y (set x c (f (get_or x c 0)))
 
-  at-zeros : (i k : ℕ) → place_at f i (zeros k) ≡ zeros k
+  at_zeros : (i k : ℕ) → place_at f i (zeros k) ≡ zeros k
   unfolding place_at
-  at-zeros i k = ap (λ (v : ℕ). pick (eqb v 0) (zeros k) (set (zeros k) i (f (get_or (zeros k) i 0)))) (zeros_get k (i + 1))
+  at_zeros i k = ap (λ (v : ℕ). pick (eqb v 0) (zeros k) (set (zeros k) i (f (get_or (zeros k) i 0)))) (zeros_get k (i + 1))
 
   at_first : (p n : ℕ) (y : List ℕ) → place_at f 0 (p ∷ n ∷ y) ≡ pick (eqb n 0) p (f p) ∷ n ∷ y
   unfolding place_at
@@ -116,20 +116,20 @@ first_row w c = ap (λ (k : ℕ). k + c) (zero-mul w) ∙ (let e : 0 + c ≡ c =
 
 module _ (f : ℕ → ℕ) (w c : ℕ) where
   -- by its first row
-  column-row : (n : ℕ) (r t : List ℕ) → length r ≡ w → c + 1 < w → place_column f w c (suc n) (r ++ t) ≡ place_at f c r ++ place_column f w c n t
+  column_row : (n : ℕ) (r t : List ℕ) → length r ≡ w → c + 1 < w → place_column f w c (suc n) (r ++ t) ≡ place_at f c r ++ place_column f w c n t
   unfolding place_column
-  column-row zero r t e h =
+  column_row zero r t e h =
       let k : c + 1 < length r = omega arith in
       ap (λ (j : ℕ). place_at f j (r ++ t)) (first_row w c) ∙ at_left f r t c k
-  column-row (suc n) r t e h =
-      ap (place_at f (suc n * w + c)) (column-row n r t e h)
+  column_row (suc n) r t e h =
+      ap (place_at f (suc n * w + c)) (column_row n r t e h)
       ∙ ap (λ (j : ℕ). place_at f j (place_at f c r ++ place_column f w c n t)) (next_row n w c)
       ∙ at_right f (place_at f c r) (place_column f w c n t) w (n * w + c) (length_at f c r ∙ e)
 
-  column-zeros : (n k : ℕ) → place_column f w c n (zeros k) ≡ zeros k
+  column_zeros : (n k : ℕ) → place_column f w c n (zeros k) ≡ zeros k
   unfolding place_column
-  column-zeros zero k = refl
-  column-zeros (suc n) k = ap (place_at f (n * w + c)) (column-zeros n k) ∙ at-zeros f (n * w + c) k
+  column_zeros zero k = refl
+  column_zeros (suc n) k = ap (place_at f (n * w + c)) (column_zeros n k) ∙ at_zeros f (n * w + c) k
 
 -- ---- columns
 
@@ -142,47 +142,47 @@ place_cells f [] r = r
 place_cells f (c ∷ cs) r = place_cells f cs (place_at f c r)
 
 module _ (f : ℕ → ℕ) (w : ℕ) where
-  columns-row : (cs : List ℕ) (n : ℕ) (r t : List ℕ) → length r ≡ w → Within w cs →
+  columns_row : (cs : List ℕ) (n : ℕ) (r t : List ℕ) → length r ≡ w → Within w cs →
       place_columns f w cs (suc n) (r ++ t) ≡ place_cells f cs r ++ place_columns f w cs n t
   unfolding place_columns
-  columns-row [] n r t e h = refl
-  columns-row (c ∷ cs) n r t e h =
-      ap (place_columns f w cs (suc n)) (column-row f w c n r t e h.0)
-      ∙ columns-row cs n (place_at f c r) (place_column f w c n t) (length_at f c r ∙ e) h.1
+  columns_row [] n r t e h = refl
+  columns_row (c ∷ cs) n r t e h =
+      ap (place_columns f w cs (suc n)) (column_row f w c n r t e h.0)
+      ∙ columns_row cs n (place_at f c r) (place_column f w c n t) (length_at f c r ∙ e) h.1
 
-  columns-zeros : (cs : List ℕ) (n k : ℕ) → place_columns f w cs n (zeros k) ≡ zeros k
+  columns_zeros : (cs : List ℕ) (n k : ℕ) → place_columns f w cs n (zeros k) ≡ zeros k
   unfolding place_columns
-  columns-zeros [] n k = refl
-  columns-zeros (c ∷ cs) n k = ap (place_columns f w cs n) (column-zeros f w c n k) ∙ columns-zeros cs n k
+  columns_zeros [] n k = refl
+  columns_zeros (c ∷ cs) n k = ap (place_columns f w cs n) (column_zeros f w c n k) ∙ columns_zeros cs n k
 
 -- ---- rows
 
 module _ (f : ℕ → ℕ) (w : ℕ) (cs : List ℕ) (within : Within w cs) {R : Type 0} (g : R → List ℕ) (width : (r : R) → length (g r) ≡ w) (q : R → R)
     (same : (r : R) → place_cells f cs (g r) ≡ g (q r)) where
-  rows-placed : (n : ℕ) (rs : List R) (k : ℕ) → length rs ≤ n → place_columns f w cs n (cells g rs ++ zeros k) ≡ cells g (each q rs) ++ zeros k
+  rows_placed : (n : ℕ) (rs : List R) (k : ℕ) → length rs ≤ n → place_columns f w cs n (cells g rs ++ zeros k) ≡ cells g (each q rs) ++ zeros k
   unfolding cells each
-  rows-placed n [] k h = columns-zeros f w cs n k
-  rows-placed zero (r ∷ rs) k h = absurd (omega arith)
-  rows-placed (suc n) (r ∷ rs) k h =
+  rows_placed n [] k h = columns_zeros f w cs n k
+  rows_placed zero (r ∷ rs) k h = absurd (omega arith)
+  rows_placed (suc n) (r ∷ rs) k h =
       ap (place_columns f w cs (suc n)) (append_assoc (g r) (cells g rs) (zeros k))
-      ∙ columns-row f w cs n (g r) (cells g rs ++ zeros k) (width r) within
-      ∙ ap₂ ◌++◌ (same r) (rows-placed n rs k (omega arith))
+      ∙ columns_row f w cs n (g r) (cells g rs ++ zeros k) (width r) within
+      ∙ ap₂ ◌++◌ (same r) (rows_placed n rs k (omega arith))
       ∙ sym (append_assoc (g (q r)) (cells g (each q rs)) (zeros k))
 
-  pub room-placed : (m n : ℕ) (rs : List R) → length rs ≤ n → place_columns f w cs n (room_cells m g rs) ≡ room_cells m g (each q rs)
+  pub room_placed : (m n : ℕ) (rs : List R) → length rs ≤ n → place_columns f w cs n (room_cells m g rs) ≡ room_cells m g (each q rs)
   unfolding room_cells
-  room-placed m n rs h =
+  room_placed m n rs h =
       let a = cells_length w g width rs in
       let b = cells_length w g width (each q rs) in
       let e : length (cells g rs) ≡ length (cells g (each q rs)) = a ∙ ap (λ (i : ℕ). i * w) (sym (length_each q rs)) ∙ sym b in
-      rows-placed n rs (m - length (cells g rs)) h ∙ ap (λ (i : ℕ). cells g (each q rs) ++ zeros (m - i)) e
+      rows_placed n rs (m - length (cells g rs)) h ∙ ap (λ (i : ℕ). cells g (each q rs) ++ zeros (m - i)) e
 
 -- ---- the four tables
 
 module _ (f : ℕ → ℕ) where
-  definition-placed : (r : DefinitionRow) → place_cells f (0 ∷ 2 ∷ 4 ∷ 8 ∷ 10 ∷ []) (definition_cells r) ≡ definition_cells (placed_definition_row f r)
+  definition_placed : (r : DefinitionRow) → place_cells f (0 ∷ 2 ∷ 4 ∷ 8 ∷ 10 ∷ []) (definition_cells r) ≡ definition_cells (placed_definition_row f r)
   unfolding definition_cells placed_definition_row placed_span
-  definition-placed r =
+  definition_placed r =
       let a : (Span → ℕ) = λ s. pick (eqb s.length 0) s.place (f s.place) in
       let u = r.under in
       let n = r.name in
@@ -194,13 +194,13 @@ module _ (f : ℕ → ℕ) where
       ∙ ap (λ (l : List ℕ). place_at f 10 l) (place_here f (a u ∷ u.length ∷ a n ∷ n.length ∷ a t ∷ t.length ∷ _ ∷ _ ∷ []) g.place g.length _ 8 refl)
       ∙ place_here f (a u ∷ u.length ∷ a n ∷ n.length ∷ a t ∷ t.length ∷ _ ∷ _ ∷ a g ∷ g.length ∷ []) r.default.place r.default.length _ 10 refl
 
-  enumerator-placed : (r : EnumeratorRow) → place_cells f (1 ∷ []) (enumerator_cells r) ≡ enumerator_cells (placed_enumerator_row f r)
+  enumerator_placed : (r : EnumeratorRow) → place_cells f (1 ∷ []) (enumerator_cells r) ≡ enumerator_cells (placed_enumerator_row f r)
   unfolding enumerator_cells placed_enumerator_row placed_span
-  enumerator-placed r = place_here f (r.attribute ∷ []) r.name.place r.name.length [] 1 refl
+  enumerator_placed r = place_here f (r.attribute ∷ []) r.name.place r.name.length [] 1 refl
 
-  object-placed : (r : ObjectRow) → place_cells f (1 ∷ 3 ∷ 5 ∷ []) (object_cells r) ≡ object_cells (placed_object_row f r)
+  object_placed : (r : ObjectRow) → place_cells f (1 ∷ 3 ∷ 5 ∷ []) (object_cells r) ≡ object_cells (placed_object_row f r)
   unfolding object_cells placed_object_row placed_span
-  object-placed r =
+  object_placed r =
       let a : (Span → ℕ) = λ s. pick (eqb s.length 0) s.place (f s.place) in
       let w = r.word in
       let n = r.name in
@@ -212,19 +212,19 @@ module _ (f : ℕ → ℕ) where
   unfolding value_cells placed_value_row placed_span
   value_placed r = place_here f (_ ∷ _ ∷ _ ∷ _ ∷ _ ∷ _ ∷ _ ∷ []) r.word.place r.word.length [] 7 refl
 
-  pub places-tables : (d e o v d' e' o' v' : List ℕ) → d' ≡ place_columns f 13 (0 ∷ 2 ∷ 4 ∷ 8 ∷ 10 ∷ []) 512 d → e' ≡ place_column f 3 1 1024 e →
+  pub places_tables : (d e o v d' e' o' v' : List ℕ) → d' ≡ place_columns f 13 (0 ∷ 2 ∷ 4 ∷ 8 ∷ 10 ∷ []) 512 d → e' ≡ place_column f 3 1 1024 e →
       o' ≡ place_columns f 8 (1 ∷ 3 ∷ 5 ∷ []) 256 o → v' ≡ place_column f 9 7 2048 v → PlacesTables f d e o v d' e' o' v'
   unfolding placed_tables definition_room enumerator_room object_room value_room place_columns
-  places-tables d e o v d' e' o' v' p q r s =
+  places_tables d e o v d' e' o' v' p q r s =
       record {
         definitions = λ t h z. p ∙ ap (place_columns f 13 (0 ∷ 2 ∷ 4 ∷ 8 ∷ 10 ∷ []) 512) z
-            ∙ room-placed f 13 (0 ∷ 2 ∷ 4 ∷ 8 ∷ 10 ∷ []) (omega arith, (omega arith, (omega arith, (omega arith, (omega arith, tt))))) definition_cells definition_width (placed_definition_row f) definition-placed (512 * 13) 512 t.definitions h.definitions;
+            ∙ room_placed f 13 (0 ∷ 2 ∷ 4 ∷ 8 ∷ 10 ∷ []) (omega arith, (omega arith, (omega arith, (omega arith, (omega arith, tt))))) definition_cells definition_width (placed_definition_row f) definition_placed (512 * 13) 512 t.definitions h.definitions;
         enumerators = λ t h z. q ∙ ap (place_column f 3 1 1024) z
-            ∙ room-placed f 3 (1 ∷ []) (omega arith, tt) enumerator_cells enumerator_width (placed_enumerator_row f) enumerator-placed (1024 * 3) 1024 t.enumerators h.enumerators;
+            ∙ room_placed f 3 (1 ∷ []) (omega arith, tt) enumerator_cells enumerator_width (placed_enumerator_row f) enumerator_placed (1024 * 3) 1024 t.enumerators h.enumerators;
         objects = λ t h z. r ∙ ap (place_columns f 8 (1 ∷ 3 ∷ 5 ∷ []) 256) z
-            ∙ room-placed f 8 (1 ∷ 3 ∷ 5 ∷ []) (omega arith, (omega arith, (omega arith, tt))) object_cells object_width (placed_object_row f) object-placed (256 * 8) 256 t.objects h.objects;
+            ∙ room_placed f 8 (1 ∷ 3 ∷ 5 ∷ []) (omega arith, (omega arith, (omega arith, tt))) object_cells object_width (placed_object_row f) object_placed (256 * 8) 256 t.objects h.objects;
         values = λ t h z. s ∙ ap (place_column f 9 7 2048) z
-            ∙ room-placed f 9 (7 ∷ []) (omega arith, tt) value_cells value_width (placed_value_row f) value_placed (2048 * 9) 2048 t.values h.values;
+            ∙ room_placed f 9 (7 ∷ []) (omega arith, tt) value_cells value_width (placed_value_row f) value_placed (2048 * 9) 2048 t.values h.values;
       }
 
 -- ---- the functions
@@ -234,17 +234,17 @@ module _ (f : ℕ → ℕ) where
   unfolding place_at
   place_none i t e = rw (eq-eqb (get_or t (i + 1) 0) 0 e)
 
-  pub place-some : (i : ℕ) (t : List ℕ) (v : ℕ) → (get_or t (i + 1) 0 ≡ 0 → ⊥) → v ≡ f (get_or t i 0) → set t i v ≡ place_at f i t
+  pub place_some : (i : ℕ) (t : List ℕ) (v : ℕ) → (get_or t (i + 1) 0 ≡ 0 → ⊥) → v ≡ f (get_or t i 0) → set t i v ≡ place_at f i t
   unfolding place_at
-  place-some i t v e g = rw (ne_eqb (get_or t (i + 1) 0) 0 e, g)
+  place_some i t v e g = rw (ne_eqb (get_or t (i + 1) 0) 0 e, g)
 
-  pub column-start : (w c : ℕ) (t : List ℕ) → t ≡ place_column f w c 0 t
+  pub column_start : (w c : ℕ) (t : List ℕ) → t ≡ place_column f w c 0 t
   unfolding place_column
-  column-start w c t = refl
+  column_start w c t = refl
 
-  pub column-next : (w c i at : ℕ) (t u v : List ℕ) → at ≡ i * w + c → u ≡ place_column f w c i t → v ≡ place_at f at u → v ≡ place_column f w c (i + 1) t
+  pub column_next : (w c i at : ℕ) (t u v : List ℕ) → at ≡ i * w + c → u ≡ place_column f w c i t → v ≡ place_at f at u → v ≡ place_column f w c (i + 1) t
   unfolding place_column
-  column-next w c i at t u v e g h =
+  column_next w c i at t u v e g h =
       let k : suc i ≡ i + 1 = omega arith in
       h ∙ ap (λ (j : ℕ). place_at f j u) e ∙ ap (place_at f (i * w + c)) g ∙ ap (λ (j : ℕ). place_column f w c j t) k
 
@@ -268,30 +268,30 @@ pub column_end : (f : ℕ → ℕ) (w c i n : ℕ) (t u : List ℕ) → i ≡ n 
 column_end f w c i n t u e g = g ∙ ap (λ (j : ℕ). place_column f w c j t) e
 
 module _ (g : List ℕ) (n m p : ℕ) where
-  pub place-lent : (v : ℕ) → p < n → v ≡ get_or g p 0 → v ≡ place_in g n m p
+  pub place_lent : (v : ℕ) → p < n → v ≡ get_or g p 0 → v ≡ place_in g n m p
   unfolding place_in
-  place-lent v h e = e ∙ ap (λ (b : Bool). pick b (get_or g p 0) m) (sym (lt-ltb p n h))
+  place_lent v h e = e ∙ ap (λ (b : Bool). pick b (get_or g p 0) m) (sym (lt-ltb p n h))
 
   pub place_end : n ≤ p → m ≡ place_in g n m p
   unfolding place_in
   place_end h = ap (λ (b : Bool). pick b (get_or g p 0) m) (sym (le-ltb p n h))
 
 module _ (n : ℕ) where
-  pub start-one : n ≡ 1 → true ≡ is_at_start n
+  pub start_one : n ≡ 1 → true ≡ is_at_start n
   unfolding is_at_start
-  start-one e = rw (eq-eqb n 1 e)
+  start_one e = rw (eq-eqb n 1 e)
 
-  pub start-nineteen : (n ≡ 1 → ⊥) → n ≡ 19 → true ≡ is_at_start n
+  pub start_nineteen : (n ≡ 1 → ⊥) → n ≡ 19 → true ≡ is_at_start n
   unfolding is_at_start
-  start-nineteen a e = rw (ne_eqb n 1 a, eq-eqb n 19 e)
+  start_nineteen a e = rw (ne_eqb n 1 a, eq-eqb n 19 e)
 
-  pub start-twenty : (n ≡ 1 → ⊥) → (n ≡ 19 → ⊥) → n ≡ 20 → true ≡ is_at_start n
+  pub start_twenty : (n ≡ 1 → ⊥) → (n ≡ 19 → ⊥) → n ≡ 20 → true ≡ is_at_start n
   unfolding is_at_start
-  start-twenty a b e = rw (ne_eqb n 1 a, ne_eqb n 19 b, eq-eqb n 20 e)
+  start_twenty a b e = rw (ne_eqb n 1 a, ne_eqb n 19 b, eq-eqb n 20 e)
 
-  pub start-last : (n ≡ 1 → ⊥) → (n ≡ 19 → ⊥) → (n ≡ 20 → ⊥) → eqb n 30 ≡ is_at_start n
+  pub start_last : (n ≡ 1 → ⊥) → (n ≡ 19 → ⊥) → (n ≡ 20 → ⊥) → eqb n 30 ≡ is_at_start n
   unfolding is_at_start
-  start-last a b c = rw (ne_eqb n 1 a, ne_eqb n 19 b, ne_eqb n 20 c)
+  start_last a b c = rw (ne_eqb n 1 a, ne_eqb n 19 b, ne_eqb n 20 c)
 
 pub refused_start : (b : Bool) (p q : ℕ) → b ≡ true → p ≡ pick b p q
 refused_start b p q e = ap (λ (t : Bool). pick t p q) (sym e)
@@ -301,14 +301,14 @@ refused_placed b p q v e f = f ∙ ap (λ (t : Bool). pick t p q) (sym e)
 
 -- one column after the other
 module _ (f : ℕ → ℕ) (w n : ℕ) where
-  pub columns-three : (a b c : ℕ) (t t₁ t₂ t₃ : List ℕ) → t₁ ≡ place_column f w a n t → t₂ ≡ place_column f w b n t₁ → t₃ ≡ place_column f w c n t₂ →
+  pub columns_three : (a b c : ℕ) (t t₁ t₂ t₃ : List ℕ) → t₁ ≡ place_column f w a n t → t₂ ≡ place_column f w b n t₁ → t₃ ≡ place_column f w c n t₂ →
       t₃ ≡ place_columns f w (a ∷ b ∷ c ∷ []) n t
   unfolding place_columns
-  columns-three a b c t t₁ t₂ t₃ p q r =
+  columns_three a b c t t₁ t₂ t₃ p q r =
       r ∙ ap (place_column f w c n) (q ∙ ap (place_column f w b n) p)
 
-  pub columns-five : (a b c d e : ℕ) (t t₁ t₂ t₃ t₄ t₅ : List ℕ) → t₁ ≡ place_column f w a n t → t₂ ≡ place_column f w b n t₁ → t₃ ≡ place_column f w c n t₂ →
+  pub columns_five : (a b c d e : ℕ) (t t₁ t₂ t₃ t₄ t₅ : List ℕ) → t₁ ≡ place_column f w a n t → t₂ ≡ place_column f w b n t₁ → t₃ ≡ place_column f w c n t₂ →
       t₄ ≡ place_column f w d n t₃ → t₅ ≡ place_column f w e n t₄ → t₅ ≡ place_columns f w (a ∷ b ∷ c ∷ d ∷ e ∷ []) n t
   unfolding place_columns
-  columns-five a b c d e t t₁ t₂ t₃ t₄ t₅ p q r s u =
+  columns_five a b c d e t t₁ t₂ t₃ t₄ t₅ p q r s u =
       u ∙ ap (place_column f w e n) (s ∙ ap (place_column f w d n) (r ∙ ap (place_column f w c n) (q ∙ ap (place_column f w b n) p)))

@@ -14,7 +14,7 @@ use Rattle.token.proofs.Promises.{lex_ends}
 use Rattle.grammar.specs.Grammar.{file, tokens as tokens-of, Derivation}
 use Rattle.grammar.specs.Terminals.{tokens}
 use Rattle.grammar.specs.Machine.{ended, prepend}
-use Rattle.grammar.specs.Stage.{number_of, Divides, Shallow, Answers as StageAnswers, passes, no_token, not-admitted, ends-early, too-deep}
+use Rattle.grammar.specs.Stage.{number_of, Divides, Shallow, Answers as StageAnswers, passes, no_token, not_admitted, ends_early, too_deep}
 use Rattle.grammar.specs.Demand.{Covered}
 use Rattle.grammar.specs.Readers.{look_at, answer_of, refusal_of, rest, rest_by, lex_at}
 use Rattle.grammar.specs.declared.Look.{Look}
@@ -30,7 +30,7 @@ use Rattle.meaning.specs.Faults.{first, Fault as Refusal}
 use Rattle.meaning.specs.Defining.{definition_faults}
 use Rattle.meaning.specs.Applying.{object_faults}
 use Rattle.meaning.specs.Answers.{Answer as Meant, refused, unless, answer}
-use Rattle.meaning.specs.Reading.{Parsed, parsed, parse, not-grammar, meant, reading}
+use Rattle.meaning.specs.Reading.{Parsed, parsed, parse, not_grammar, meant, reading}
 use Rattle.meaning.proofs.Found.{parse_derived}
 use Rattle.meaning.proofs.Whole.{one_answer}
 use Rattle.layout.specs.Kept.{kept, kept_definitions, kept_enumerators, kept_parts, kept_part_statements}
@@ -54,9 +54,9 @@ number_zero (TooDeep p) e = absurd (omega arith)
 passed_is : {s : List ℕ} {a : GrammarAnswer} → StageAnswers s a → a ≡ Passes → Divides s × Shallow (tokens s)
 passed_is (passes d h t) e = (d, h)
 passed_is (no_token p h i b) e = absurd (let z : ◌≡◌ {A = ℕ} 0 1 = cc in omega arith)
-passed_is (not-admitted l t r q h b n) e = absurd (let z : ◌≡◌ {A = ℕ} 0 1 = cc in omega arith)
-passed_is (ends-early d h b n) e = absurd (let z : ◌≡◌ {A = ℕ} 0 1 = cc in omega arith)
-passed_is (too-deep l t r q h b m o) e = absurd (let z : ◌≡◌ {A = ℕ} 0 1 = cc in omega arith)
+passed_is (not_admitted l t r q h b n) e = absurd (let z : ◌≡◌ {A = ℕ} 0 1 = cc in omega arith)
+passed_is (ends_early d h b n) e = absurd (let z : ◌≡◌ {A = ℕ} 0 1 = cc in omega arith)
+passed_is (too_deep l t r q h b m o) e = absurd (let z : ◌≡◌ {A = ℕ} 0 1 = cc in omega arith)
 
 refusal_not : (n p : ℕ) → refusal_of n p ≡ Passes → ⊥
 unfolding refusal_of
@@ -79,22 +79,22 @@ passes_code a =
     (λ t e. absurd (refusal_not a.code a.at e)))
 
 module _ (s : List ℕ) (x y : Rooms) (w : Walked) (h : Whole s x y w) where
-  grammar-answers : StageAnswers s (answer_of w.look)
-  grammar-answers = stage_answers s (look_at s 0 0) w.look (answer_of w.look) refl h.meets refl
+  grammar_answers : StageAnswers s (answer_of w.look)
+  grammar_answers = stage_answers s (look_at s 0 0) w.look (answer_of w.look) refl h.meets refl
 
   -- What the grammar stage refuses, the reading refuses.
-  pub refused-early : length s ≤ 65535 → (g : Fault) → g ≡ grammar_fault (answer_of w.look) → (g.number ≡ 0 → ⊥) → reading s ≡ refused g.number g.place
+  pub refused_early : length s ≤ 65535 → (g : Fault) → g ≡ grammar_fault (answer_of w.look) → (g.number ≡ 0 → ⊥) → reading s ≡ refused g.number g.place
   unfolding grammar_fault number_of
-  refused-early l g e n =
+  refused_early l g e n =
       let a = answer_of w.look in
       let m : number_of a ≡ g.number = ap (λ (q : Fault). q.number) (sym e) in
-      one_answer (not-grammar a l (λ q. n (sym m ∙ ap number_of q)) grammar-answers) ∙ ap (λ (q : Fault). refused q.number q.place) (sym e)
+      one_answer (not_grammar a l (λ q. n (sym m ∙ ap number_of q)) grammar_answers) ∙ ap (λ (q : Fault). refused q.number q.place) (sym e)
 
   -- Then it does not pass that stage.
-  pub stopped-early : (g : Fault) → g ≡ grammar_fault (answer_of w.look) → (g.number ≡ 0 → ⊥) → Covered s → Derivation (tokens s) → ⊥
+  pub stopped_early : (g : Fault) → g ≡ grammar_fault (answer_of w.look) → (g.number ≡ 0 → ⊥) → Covered s → Derivation (tokens s) → ⊥
   unfolding grammar_fault number_of
-  stopped-early g e n c d =
-      let q : answer_of w.look ≡ Passes = one-stage grammar-answers (passes c.divides c.shallow d) in
+  stopped_early g e n c d =
+      let q : answer_of w.look ≡ Passes = one-stage grammar_answers (passes c.divides c.shallow d) in
       n (ap (λ (z : Fault). z.number) e ∙ ap number_of q)
 
 -- The text has the syntax f, and its rows are kept.
@@ -112,7 +112,7 @@ unfolding rest rest_by lex_at tokens syntax Few kept_definitions kept_enumerator
 arrived s y w h l z =
     let e = number_zero (answer_of w.look) z in
     let c = passes_code w.look e in
-    let g = passed_is (grammar-answers s blank y w h) e in
+    let g = passed_is (grammar_answers s blank y w h) e in
     let i : w.look.code ≤ 56 = omega arith in
     let t = h.told i in
     let p = (h.meets.took i).0 in
@@ -132,7 +132,7 @@ arrived s y w h l z =
     record {
       file = syntax s t.trees;
       kept = record {
-        situation = record { derivation = record { tree = t.trees; leaves = sym v.1 }; syntax-of = refl };
+        situation = record { derivation = record { tree = t.trees; leaves = sym v.1 }; syntax_of = refl };
         in_definitions = k.definition-rows m₀;
         in_enumerators = k.enumerator-rows m₁;
         in_parts = k.part-table m₂ m₃;
@@ -166,10 +166,10 @@ same_syntax s c d e = same_file (sym (parse_derived s c d) ∙ parse_derived s c
 
 module _ (b : Option Refusal) where
   -- A stage with a fault answers,
-  pub answers-first : (a : Option Refusal) (r : Fault) → r ≡ fault_of a → (r.number ≡ 0 → ⊥) → r ≡ fault_of (or_else a b)
+  pub answers_first : (a : Option Refusal) (r : Fault) → r ≡ fault_of a → (r.number ≡ 0 → ⊥) → r ≡ fault_of (or_else a b)
   unfolding fault_of or_else
-  answers-first none r e n = absurd (n (ap (λ (q : Fault). q.number) e))
-  answers-first (some x) r e n = e
+  answers_first none r e n = absurd (n (ap (λ (q : Fault). q.number) e))
+  answers_first (some x) r e n = e
 
   -- and one without hands on to the next.
   pub answers_next : (a : Option Refusal) (r : Fault) → NumberedOne a → r ≡ fault_of a → r.number ≡ 0 → fault_of b ≡ fault_of (or_else a b)
@@ -220,7 +220,7 @@ decided s y y' w d t g =
             file = f;
             kept = g.kept n;
             covered = t.covered;
-            no-definition-fault = z.0;
-            no-object-fault = z.1;
+            no_definition_fault = z.0;
+            no_object_fault = z.1;
           };
     }

@@ -16,18 +16,18 @@ use Rattle.meaning.specs.Cells.{rooms_after}
 use Rattle.meaning.specs.Rules.{FullRoom}
 use Rattle.meaning.proofs.Whole.{the_answer}
 use Rattle.reading.specs.Results.{reading_of, rooms_of, table_after, Reads, ReadsSpanned}
-use Rattle.reading.specs.Rules.{ReadsByRules, short-tables, by-rules}
+use Rattle.reading.specs.Rules.{ReadsByRules, short_tables, by_rules}
 use Rattle.reading.specs.Demand.{Demand-3}
 use Rattle.reading.specs.declared.Reading.{Reading}
 use Rattle.reading.specs.declared.Spanned.{Spanned}
-use Rattle.reading.proofs.Lending.{call-enough, call-short}
+use Rattle.reading.proofs.Lending.{call_enough, call_short}
 use Rattle.reading.proofs.Demand.{demand_3}
 
 module _ {d e o v : List ℕ} where
   -- Full room is room enough,
-  pub full-enough : FullRoom d e o v → enough (rooms_of d e o v) ≡ true
+  pub full_enough : FullRoom d e o v → enough (rooms_of d e o v) ≡ true
   unfolding enough rooms_of
-  full-enough f =
+  full_enough f =
       let a : 512 ≤ length d / 13 = (le-div_iff_mul-le {k = 13} {x = 512} {y = length d} (omega arith)).1 f.definitions in
       let b : 1024 ≤ length e / 3 = (le-div_iff_mul-le {k = 3} {x = 1024} {y = length e} (omega arith)).1 f.enumerators in
       let c : 256 ≤ length o / 8 = (le-div_iff_mul-le {k = 8} {x = 256} {y = length o} (omega arith)).1 f.objects in
@@ -35,9 +35,9 @@ module _ {d e o v : List ℕ} where
       rw (le-leb 512 (length d / 13) a, le-leb 1024 (length e / 3) b, le-leb 256 (length o / 8) c, le-leb 2048 (length v / 9) g)
 
   -- and the other way round.
-  pub enough-full : enough (rooms_of d e o v) ≡ true → FullRoom d e o v
+  pub enough_full : enough (rooms_of d e o v) ≡ true → FullRoom d e o v
   unfolding enough rooms_of
-  enough-full h =
+  enough_full h =
       let x₁ = leb 512 (length d / 13) in
       let x₂ = leb 1024 (length e / 3) in
       let x₃ = leb 256 (length o / 8) in
@@ -53,20 +53,20 @@ module _ {d e o v : List ℕ} where
 
   module _ {s d' e' o' v' : List ℕ} {r : Reading} (k : Reads s d e o v d' e' o' v' r) where
     -- What `Reads` says is what the rules say.
-    pub reads-by-rules : ReadsByRules s d e o v d' e' o' v' r
+    pub reads_by_rules : ReadsByRules s d e o v d' e' o' v' r
     unfolding table_after
-    reads-by-rules = go (enough (rooms_of d e o v)) refl
+    reads_by_rules = go (enough (rooms_of d e o v)) refl
       where
         go : (b : Bool) → enough (rooms_of d e o v) ≡ b → ReadsByRules s d e o v d' e' o' v' r
         go true q =
-            by-rules (enough-full q) (reading s) (the_answer s) (k.result ∙ ap reading_of (call-enough s d e o v q)) (record {
+            by_rules (enough_full q) (reading s) (the_answer s) (k.result ∙ ap reading_of (call_enough s d e o v q)) (record {
               definitions = k.definitions ∙ ap (λ (b : Bool). table_after b (rooms_after (reading s)).definitions 6656 d) q;
               enumerators = k.enumerators ∙ ap (λ (b : Bool). table_after b (rooms_after (reading s)).enumerators 3072 e) q;
               objects = k.objects ∙ ap (λ (b : Bool). table_after b (rooms_after (reading s)).objects 2048 o) q;
               values = k.values ∙ ap (λ (b : Bool). table_after b (rooms_after (reading s)).values 18432 v) q;
             })
         go false q =
-            short-tables (λ f. false≢true (sym q ∙ full-enough f)) (k.result ∙ ap reading_of (call-short s d e o v q)) (record {
+            short_tables (λ f. false≢true (sym q ∙ full_enough f)) (k.result ∙ ap reading_of (call_short s d e o v q)) (record {
               definitions = k.definitions ∙ ap (λ (b : Bool). table_after b (rooms_after (reading s)).definitions 6656 d) q;
               enumerators = k.enumerators ∙ ap (λ (b : Bool). table_after b (rooms_after (reading s)).enumerators 3072 e) q;
               objects = k.objects ∙ ap (λ (b : Bool). table_after b (rooms_after (reading s)).objects 2048 o) q;
@@ -74,10 +74,10 @@ module _ {d e o v : List ℕ} where
             })
 
     -- Demand 3, for tables of full room.
-    pub full-demand-3 : FullRoom d e o v → Demand-3 s r.answer
-    full-demand-3 f = demand_3 (full-enough f) k
+    pub full_demand_3 : FullRoom d e o v → Demand-3 s r.answer
+    full_demand_3 f = demand_3 (full_enough f) k
 
 -- The clauses of `read_spanned`: from the first, the others.
 pub and_rules : {s d e o v d' e' o' v' : List ℕ} {r : Spanned} → ReadsSpanned s d e o v d' e' o' v' r
     → ReadsSpanned s d e o v d' e' o' v' r × (ReadsByRules s d e o v d' e' o' v' r.reading × (FullRoom d e o v → Demand-3 s r.reading.answer))
-and_rules k = (k, (reads-by-rules k.reads, full-demand-3 k.reads))
+and_rules k = (k, (reads_by_rules k.reads, full_demand_3 k.reads))

@@ -21,7 +21,7 @@ use Rattle.meaning.specs.Applying.{object_faults}
 use Rattle.meaning.specs.Judging.{statement_stage}
 use Rattle.meaning.specs.Resolving.{all_values, how_many_in_all, too_many}
 use Rattle.meaning.specs.Answers.{Answer as Meant, unless, answer}
-use Rattle.meaning.specs.Reading.{Answers, too_long, not-grammar, meant, reading}
+use Rattle.meaning.specs.Reading.{Answers, too_long, not_grammar, meant, reading}
 use Rattle.meaning.specs.Calls.{enough}
 use Rattle.meaning.proofs.Whole.{answers}
 use Rattle.reading.specs.Results.{reading_of, rooms_of, Reads}
@@ -30,7 +30,7 @@ use Rattle.reading.specs.declared.Answer.{Answer}
 use Rattle.reading.specs.declared.Answer.TheVariants.{Refused}
 use Rattle.reading.specs.declared.Reading.{Reading}
 use Rattle.meaning.proofs.Numbered.{Numbered, no_fault, a_fault, NumberedOne, of_definitions, of_objects, of_stage, of_first}
-use Rattle.reading.proofs.Lending.{call-enough}
+use Rattle.reading.proofs.Lending.{call_enough}
 
 -- The answer as `read` gives it.
 abbrev given : Meant → Answer
@@ -45,11 +45,11 @@ passes_unless (some f) next h k = h
 
 of_many : (n : ℕ) → Numbered (too_many n)
 unfolding too_many choose
-of_many n = by-choice (ltb 2048 n)
+of_many n = by_choice (ltb 2048 n)
   where
-    by-choice : (b : Bool) → Numbered (choose b (λ _. record { place = 0; number = 19 } ∷ []) (λ _. []))
-    by-choice true = a_fault {f = record { place = 0; number = 19 }} (omega arith) no_fault
-    by-choice false = no_fault
+    by_choice : (b : Bool) → Numbered (choose b (λ _. record { place = 0; number = 19 } ∷ []) (λ _. []))
+    by_choice true = a_fault {f = record { place = 0; number = 19 }} (omega arith) no_fault
+    by_choice false = no_fault
 
 -- What the grammar derives passes.
 derived_passes : (f : File) → PassesGrammar (given (answer f))
@@ -69,7 +69,7 @@ module _ (s : List ℕ) (w : Covered s) where
   passing : {a : Meant} → Answers s a → PassesGrammar (given a) ↔ Derivation (tokens s)
   unfolding reading_of
   passing (too_long h) = let k = w.short in absurd (omega arith)
-  passing (not-grammar a h n t) =
+  passing (not_grammar a h n t) =
       let q = stage-demand-3 s a t in
       ((λ h. absurd (four (number_of a) (place_of a) (q.refusal w n).0 h)), (λ d. absurd (n ((q.passes-exactly w).1 d))))
   passing (meant c d) = ((λ _. d), (λ _. derived_passes _))
@@ -77,7 +77,7 @@ module _ (s : List ℕ) (w : Covered s) where
   refusing : {a : Meant} → Answers s a → (PassesGrammar (given a) → ⊥) → RefusedByGrammar s (given a)
   unfolding reading_of
   refusing (too_long h) k = let k = w.short in absurd (omega arith)
-  refusing (not-grammar a h n t) k =
+  refusing (not_grammar a h n t) k =
       let q = (stage-demand-3 s a t).refusal w n in
       subst (λ m. RefusedByGrammar s (Refused m (place_of a))) (sym q.0) (refused_at (place_of a) q.1)
   refusing (meant c d) k = absurd (k (derived_passes _))
@@ -85,7 +85,7 @@ module _ (s : List ℕ) (w : Covered s) where
 -- Of the rules' answer to any text.
 pub reading_demand_3 : (s : List ℕ) → Demand-3 s (reading_of (reading s)).answer
 reading_demand_3 s = record {
-  passes-exactly = λ w. passing s w (answers s);
+  passes_exactly = λ w. passing s w (answers s);
   one_derivation = one_derivation (tokens s);
   refusal = λ w. refusing s w (answers s);
 }
@@ -93,5 +93,5 @@ reading_demand_3 s = record {
 -- DEMAND 3, for a call with tables that are long enough.
 pub demand_3 : {s d e o v d' e' o' v' : List ℕ} {r : Reading} → enough (rooms_of d e o v) ≡ true → Reads s d e o v d' e' o' v' r → Demand-3 s r.answer
 demand_3 {s} {d} {e} {o} {v} {r} h k =
-    let q : r.answer ≡ given (reading s) = ap (λ (x : Reading). x.answer) k.result ∙ ap given (call-enough s d e o v h) in
+    let q : r.answer ≡ given (reading s) = ap (λ (x : Reading). x.answer) k.result ∙ ap given (call_enough s d e o v h) in
     subst (λ a. Demand-3 s a) (sym q) (reading_demand_3 s)

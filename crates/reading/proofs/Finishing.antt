@@ -28,7 +28,7 @@ use Rattle.judging.specs.Names.{StaysBlank}
 use Rattle.meaning.proofs.Found.{reading_long}
 use Rattle.reading.specs.declared.Answer.TheVariants.{Accepted}
 use Rattle.reading.specs.declared.Reading.{Reading}
-use Rattle.reading.proofs.Settling.{fitting, given, places, refused_fills, statement-refused, no-statement-fault, too-many-values, accepted-fills}
+use Rattle.reading.proofs.Settling.{fitting, given, places, refused_fills, statement_refused, no_statement_fault, too_many_values, accepted_fills}
 
 pub wrote : (s : List ℕ) (y : Merged) (w : Decision) (z : Sizes) (p : Passed s y w) → z.definitions ≡ w.walked.definitions → z.enumerators ≡ w.walked.enumerators → z.objects ≡ w.objects
     → (v v' : List ℕ) (n : ℕ) → ResolvesAll s y.definitions y.enumerators y.objects y.statements v z w.walked.places v' n → v ≡ replicate 18432 0
@@ -39,17 +39,17 @@ wrote s y w z p a b c v v' n r e =
 module _ (s : List ℕ) (y : Merged) (w : Decision) (z : Sizes) (a : z.definitions ≡ w.walked.definitions) (b : z.enumerators ≡ w.walked.enumerators)
     (c : z.objects ≡ w.objects) (d e o v v₁ : List ℕ) (n : ℕ)
     (x : ResolvesAll s y.definitions y.enumerators y.objects y.statements v z w.walked.places v₁ n) where
-  pub settles-too-many : (v₂ : List ℕ) (r : Reading) → 2048 < n → v₂ ≡ replicate (length v₁) 0 → r ≡ reading_of (refused 19 0) → Settles s y w d e o v d e o v₂ r
-  settles-too-many v₂ r h q t p m₀ k =
+  pub settles_too_many : (v₂ : List ℕ) (r : Reading) → 2048 < n → v₂ ≡ replicate (length v₁) 0 → r ≡ reading_of (refused 19 0) → Settles s y w d e o v d e o v₂ r
+  settles_too_many v₂ r h q t p m₀ k =
       let u = wrote s y w z p a b c v v₁ n x k.values in
       let m = u.count in
       let l : length v₁ ≡ 18432 = ap length u.table ∙ length-sets v 0 (cells value_cells (all_value_rows (all_values p.file p.file.objects) 0 0)) ∙ ap length k.values ∙ length-replicate {A = ℕ} 18432 0 in
-      refused_fills s 19 0 d e o v₂ r (too-many-values s y w p m₀ (omega arith)) t k.definitions k.enumerators k.objects (q ∙ ap (λ (i : ℕ). replicate i 0) l)
+      refused_fills s 19 0 d e o v₂ r (too_many_values s y w p m₀ (omega arith)) t k.definitions k.enumerators k.objects (q ∙ ap (λ (i : ℕ). replicate i 0) l)
 
-  pub settles-accepted : (d₂ e₂ o₂ : List ℕ) → n ≤ 2048 → CopiesDefinitions y.definitions w.walked.definitions d d₂
+  pub settles_accepted : (d₂ e₂ o₂ : List ℕ) → n ≤ 2048 → CopiesDefinitions y.definitions w.walked.definitions d d₂
       → CopiesEnumerators y.definitions w.walked.definitions y.enumerators w.walked.enumerators e e₂ → CopiesObjects y.objects w.objects o o₂
       → Settles s y w d e o v d₂ e₂ o₂ v₁ (record { answer = Accepted; definitions = w.walked.definitions; enumerators = w.walked.enumerators; objects = w.objects; values = n; counts = w.counts })
-  settles-accepted d₂ e₂ o₂ h i j l p m₀ k =
+  settles_accepted d₂ e₂ o₂ h i j l p m₀ k =
       let u = wrote s y w z p a b c v v₁ n x k.values in
       let g = p.kept in
       let t = fitting s p.file g.situation p.no-definition-fault p.no-object-fault in
@@ -59,7 +59,7 @@ module _ (s : List ℕ) (y : Merged) (w : Decision) (z : Sizes) (a : z.definitio
       let g₀ = g.definitions in
       let g₁ = g.enumerators in
       let g₂ = g.objects in
-      accepted-fills s y w p m₀ n d₂ e₂ o₂ v₁ v u.count h k.values u.table
+      accepted_fills s y w p m₀ n d₂ e₂ o₂ v₁ v u.count h k.values u.table
       (i.1 s p.file g.situation g.in_definitions g.definitions (omega arith) (k.definitions ∙ cleared_zeros 6656))
       (j.1 s p.file g.situation g.in_definitions g.definitions (omega arith) g.in_enumerators g.enumerators (omega arith) (k.enumerators ∙ cleared_zeros 3072))
       (l.1 s p.file g.situation g.in_objects g.objects (omega arith) (k.objects ∙ cleared_zeros 2048))
@@ -73,15 +73,15 @@ module _ (s : List ℕ) (y : Merged) (w : Decision) (z : Sizes) (a : z.definitio
 
   -- v is lent to them, and is v₁ then.
   module _ (v₁ : List ℕ) (l : StaysBlank v v₁) where
-    blank-still : BlankRooms d e o v → BlankRooms d e o v₁
-    blank-still k = record { definitions = k.definitions; enumerators = k.enumerators; objects = k.objects; values = l 18432 k.values }
+    blank_still : BlankRooms d e o v → BlankRooms d e o v₁
+    blank_still k = record { definitions = k.definitions; enumerators = k.enumerators; objects = k.objects; values = l 18432 k.values }
 
-    pub concludes-refused : (r : Reading) → is_fault g ≡ true → r ≡ reading_of (refused g.number g.place) → Concludes s y w d e o v d e o v₁ r
-    concludes-refused r i q p k =
-        refused_fills s g.number g.place d e o v₁ r (statement-refused s y w p g (judged p) (is_one g i)) q k.definitions k.enumerators k.objects (l 18432 k.values)
+    pub concludes_refused : (r : Reading) → is_fault g ≡ true → r ≡ reading_of (refused g.number g.place) → Concludes s y w d e o v d e o v₁ r
+    concludes_refused r i q p k =
+        refused_fills s g.number g.place d e o v₁ r (statement_refused s y w p g (judged p) (is_one g i)) q k.definitions k.enumerators k.objects (l 18432 k.values)
 
-    pub concludes-settled : (d' e' o' v' : List ℕ) (r : Reading) → is_fault g ≡ false → Settles s y w d e o v₁ d' e' o' v' r → Concludes s y w d e o v d' e' o' v' r
-    concludes-settled d' e' o' v' r i h p k = h p (no-statement-fault s y w p g (judged p) (is_none g i)) (blank-still k)
+    pub concludes_settled : (d' e' o' v' : List ℕ) (r : Reading) → is_fault g ≡ false → Settles s y w d e o v₁ d' e' o' v' r → Concludes s y w d e o v d' e' o' v' r
+    concludes_settled d' e' o' v' r i h p k = h p (no_statement_fault s y w p g (judged p) (is_none g i)) (blank_still k)
 
 -- Rooms that were cleared first --------------------------------------------------------------------------------------------------------------
 
@@ -100,10 +100,10 @@ module _ (s d₀ e₀ o₀ v₀ d e o v : List ℕ) (z : RoomSizes d₀ e₀ o�
   fill_long r h q = refused_fills s 2 0 d e o v r (reading_long s h) q blanks.definitions blanks.enumerators blanks.objects blanks.values
 
   module _ (h : length s ≤ 65535) (y : Merged) (x : Decision) (t : Decides s (replicate 9747 0) (replicate 3075 0) (replicate 2570 0) (replicate 14343 0) y x) where
-    pub fill-refused : (r : Reading) → is_fault x.fault ≡ true → r ≡ reading_of (refused x.fault.number x.fault.place) → Filled s d e o v r
-    fill-refused r i q =
+    pub fill_refused : (r : Reading) → is_fault x.fault ≡ true → r ≡ reading_of (refused x.fault.number x.fault.place) → Filled s d e o v r
+    fill_refused r i q =
         refused_fills s x.fault.number x.fault.place d e o v r ((t.decided h refl refl refl refl).refused-by (is_one x.fault i)) q blanks.definitions blanks.enumerators
         blanks.objects blanks.values
 
-    pub fill-settled : (d' e' o' v' : List ℕ) (r : Reading) → is_fault x.fault ≡ false → Concludes s y x d e o v d' e' o' v' r → Filled s d' e' o' v' r
-    fill-settled d' e' o' v' r i k = k ((t.decided h refl refl refl refl).passes (is_none x.fault i)) blanks
+    pub fill_settled : (d' e' o' v' : List ℕ) (r : Reading) → is_fault x.fault ≡ false → Concludes s y x d e o v d' e' o' v' r → Filled s d' e' o' v' r
+    fill_settled d' e' o' v' r i k = k ((t.decided h refl refl refl refl).passes (is_none x.fault i)) blanks

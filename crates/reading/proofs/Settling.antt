@@ -12,7 +12,7 @@ use Rattle.meaning.specs.Actions.{syntax}
 use Rattle.meaning.specs.Words.{choose}
 use Rattle.meaning.specs.Kinds.{kind_number}
 use Rattle.meaning.specs.Faults.{first, sooner}
-use Rattle.meaning.specs.Defining.{definition-rows, all_definition_rows, enumerator-rows, all_enumerator_rows, definition_faults}
+use Rattle.meaning.specs.Defining.{definition_rows, all_definition_rows, enumerator_rows, all_enumerator_rows, definition_faults}
 use Rattle.meaning.specs.Applying.{object_rows, counts, object_faults}
 use Rattle.meaning.specs.Judging.{statement_stage}
 use Rattle.meaning.proofs.Numbered.{of_stage, of_first}
@@ -24,11 +24,11 @@ use Rattle.meaning.specs.Answers.{Tables, accepted, refused, unless, tables, ans
 use Rattle.meaning.specs.Cells.{cells, zeros, room_cells, definition_room, enumerator_room, object_room, value_room, rooms_after, definition_cells, enumerator_cells, object_cells, value_cells}
 use Rattle.meaning.proofs.Rooms.{definitions_fit, objects_fit, value_rows_length, value_width, cells_length}
 use Rattle.meaning.proofs.Numbering.{statement_numbers, all_statement_numbers, length_statements}
-use Rattle.meaning.proofs.Standing.{length-rows}
-use Rattle.meaning.proofs.Choices.{length-rows as length-enumerator-rows}
+use Rattle.meaning.proofs.Standing.{length_rows}
+use Rattle.meaning.proofs.Choices.{length_rows as length-enumerator-rows}
 use Rattle.layout.specs.Kept.{entries, spec_entries, choices, spec_choices, statement_count}
 use Rattle.layout.proofs.Codes.{kind_low}
-use Rattle.layout.proofs.Lengths.{length-entries, length-choices}
+use Rattle.layout.proofs.Lengths.{length_entries, length_choices}
 use Rattle.scopes.specs.Situations.{Situation}
 use Rattle.scopes.specs.Given.{Given, Places}
 use Rattle.scopes.specs.declared.Sizes.{Sizes}
@@ -50,10 +50,10 @@ definitions_as_many : (xs : List Spec) → length (all_definition_rows xs) ≡ l
 unfolding all_definition_rows spec_entries
 definitions_as_many [] = refl
 definitions_as_many (x ∷ xs) =
-    let a = length-append (definition-rows x.definitions x.word) (all_definition_rows xs) in
+    let a = length-append (definition_rows x.definitions x.word) (all_definition_rows xs) in
     let b = length-append (entries x.definitions x.word 0) (spec_entries xs) in
-    let c = length-rows x.definitions x.word in
-    let d = length-entries x.definitions x.word 0 in
+    let c = length_rows x.definitions x.word in
+    let d = length_entries x.definitions x.word 0 in
     let e = definitions_as_many xs in
     omega arith
 
@@ -61,10 +61,10 @@ enumerators_as_many : (xs : List Spec) → length (all_enumerator_rows xs) ≡ l
 unfolding all_enumerator_rows spec_choices
 enumerators_as_many [] = refl
 enumerators_as_many (x ∷ xs) =
-    let a = length-append (enumerator-rows x.definitions) (all_enumerator_rows xs) in
+    let a = length-append (enumerator_rows x.definitions) (all_enumerator_rows xs) in
     let b = length-append (choices x.definitions) (spec_choices xs) in
     let c = length-enumerator-rows x.definitions in
-    let d = length-choices x.definitions in
+    let d = length_choices x.definitions in
     let e = enumerators_as_many xs in
     omega arith
 
@@ -88,7 +88,7 @@ pub record Fitting (f : File) : Type 0 where
   pub enumerators : length (spec_choices f.specs) ≤ 1024
   pub objects : length f.objects ≤ 256
   pub parts : length f.parts ≤ 512
-  pub part-statements : statement_count f.parts ≤ 2048
+  pub part_statements : statement_count f.parts ≤ 2048
   pub statements : statement_count f.objects ≤ 2048
 
 fitting_by : (s : List ℕ) (f : File) (t : Situation s f) → first (definition_faults (syntax s t.derivation.tree)) ≡ none
@@ -108,7 +108,7 @@ fitting_by s f t a b =
     let l = statements_as_many g.parts in
     let m = ap statement_count (syntax_merged s t.derivation.tree) in
     let n = merge_count g.parts in
-    record { definitions = omega arith; enumerators = omega arith; objects = omega arith; parts = omega arith; part-statements = omega arith; statements = omega arith }
+    record { definitions = omega arith; enumerators = omega arith; objects = omega arith; parts = omega arith; part_statements = omega arith; statements = omega arith }
 
 pub fitting : (s : List ℕ) (f : File) → Situation s f → first (definition_faults f) ≡ none → first (object_faults f) ≡ none → Fitting f
 fitting s f t a b =
@@ -137,11 +137,11 @@ module _ {s : List ℕ} {y : Merged} {w : Decision} {f : File} (k : Kept s y w f
           enumerators = omega arith;
           objects = omega arith;
           definitions_fit = omega arith;
-          enumerators-fit = omega arith;
+          enumerators_fit = omega arith;
           objects_fit = omega arith;
         };
         in_statements = k.in_statements;
-        statements-fit = t.statements;
+        statements_fit = t.statements;
       }
 
 -- The places of the kinds, as the stages take them.
@@ -182,13 +182,13 @@ module _ (s : List ℕ) (y : Merged) (w : Decision) (p : Passed s y w) where
   settled = rw (p.no-definition-fault, p.no-object-fault)
 
   -- A fault of theirs refuses the text,
-  pub statement-refused : (c : Fault) → c ≡ fault_of (first (statement_stage p.file)) → (c.number ≡ 0 → ⊥) → reading s ≡ refused c.number c.place
-  statement-refused c e n =
+  pub statement_refused : (c : Fault) → c ≡ fault_of (first (statement_stage p.file)) → (c.number ≡ 0 → ⊥) → reading s ≡ refused c.number c.place
+  statement_refused c e n =
       reading_is s p.file p.kept.situation p.covered ∙ settled ∙ stage_refuses (first (statement_stage p.file)) _ c e n
 
   -- and where there is none,
-  pub no-statement-fault : (c : Fault) → c ≡ fault_of (first (statement_stage p.file)) → c.number ≡ 0 → first (statement_stage p.file) ≡ none
-  no-statement-fault c e n =
+  pub no_statement_fault : (c : Fault) → c ≡ fault_of (first (statement_stage p.file)) → c.number ≡ 0 → first (statement_stage p.file) ≡ none
+  no_statement_fault c e n =
       none_there (first (statement_stage p.file)) (of_first (statement_stage p.file) (of_stage p.file)) (ap (λ (q : Fault). q.number) (sym e) ∙ n)
 
   -- refusal 19, and an accepted text.
@@ -198,9 +198,9 @@ module _ (s : List ℕ) (y : Merged) (w : Decision) (p : Passed s y w) where
     unfolding unless
     passed = settled ∙ rw none_stated
 
-    pub too-many-values : 2048 < how_many_in_all (all_values p.file p.file.objects) → reading s ≡ refused 19 0
+    pub too_many_values : 2048 < how_many_in_all (all_values p.file p.file.objects) → reading s ≡ refused 19 0
     unfolding too_many choose first sooner unless
-    too-many-values h =
+    too_many_values h =
         reading_is s p.file p.kept.situation p.covered ∙ passed
         ∙ rw (lt-ltb 2048 (how_many_in_all (all_values p.file p.file.objects)) h)
 
@@ -218,12 +218,12 @@ accepted_is a b c n k t p q r h e = rw (p, q, r, h, e)
 
 module _ (s : List ℕ) (y : Merged) (w : Decision) (p : Passed s y w) (none_stated : first (statement_stage p.file) ≡ none) where
   -- The rooms of an accepted text.
-  pub accepted-fills : (n : ℕ) (d e o v v₀ : List ℕ) → n ≡ min 2049 (how_many_in_all (all_values p.file p.file.objects)) → n ≤ 2048 → v₀ ≡ replicate 18432 0
+  pub accepted_fills : (n : ℕ) (d e o v v₀ : List ℕ) → n ≡ min 2049 (how_many_in_all (all_values p.file p.file.objects)) → n ≤ 2048 → v₀ ≡ replicate 18432 0
       → v ≡ sets v₀ 0 (cells value_cells (all_value_rows (all_values p.file p.file.objects) 0 0))
       → d ≡ definition_room (all_definition_rows p.file.specs) → e ≡ enumerator_room (all_enumerator_rows p.file.specs) → o ≡ object_room (object_rows p.file.objects)
       → Filled s d e o v (record { answer = Accepted; definitions = w.walked.definitions; enumerators = w.walked.enumerators; objects = w.objects; values = n; counts = w.counts })
   unfolding rooms_after value_room tables
-  accepted-fills n d e o v v₀ c h b vs ds es os =
+  accepted_fills n d e o v v₀ c h b vs ds es os =
       let f = p.file in
       let rs = all_values f f.objects in
       let rows = all_value_rows rs 0 0 in

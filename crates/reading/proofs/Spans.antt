@@ -34,7 +34,7 @@ unfolding is_accepted
 not_refused r n p a b = absurd (false≢true (sym (ap is_accepted b) ∙ ap is_accepted a))
 
 pub refused_spanned : (s d e o v : List ℕ) (r : Spanned) (n p : ℕ) → Unspanned n p r → Filled s d e o v r.reading → FilledSpanned s d e o v r
-refused_spanned s d e o v r n p h f = record { filled = f; spans = not_accepted s r n p h; no-spans = λ _ _ _. h.none }
+refused_spanned s d e o v r n p h f = record { filled = f; spans = not_accepted s r n p h; no_spans = λ _ _ _. h.none }
 
 -- An answer that is a refusal is all of the answer.
 same_refusal : (a : Meant) (n p : ℕ) → (reading_of a).answer ≡ Refused n p → reading_of a ≡ reading_of (refused n p)
@@ -67,5 +67,5 @@ settled_spanned s h y x t i d e o v r f a =
         cpu = k.cpu;
         places = places k;
       };
-      no-spans = λ n q b. not_refused _ n q a b;
+      no_spans = λ n q b. not_refused _ n q a b;
     }

@@ -104,8 +104,8 @@ pub record Passed (s : List ℕ) (y : Merged) (w : Decision) : Type 0 where
   pub file : File
   pub kept : Kept s y w file
   pub covered : Covered s
-  pub no-definition-fault : first (definition_faults file) ≡ none
-  pub no-object-fault : first (object_faults file) ≡ none
+  pub no_definition_fault : first (definition_faults file) ≡ none
+  pub no_object_fault : first (object_faults file) ≡ none
 
 -- What is decided: a refusal, and then the text does not pass these stages, or that it passes them.
 pub record Decided (s : List ℕ) (y : Merged) (r : Decision) : Type 0 where
@@ -114,8 +114,8 @@ pub record Decided (s : List ℕ) (y : Merged) (r : Decision) : Type 0 where
   pub passes : r.fault.number ≡ 0 → Passed s y r
 
 pub record Decides (s d e o t : List ℕ) (y : Merged) (r : Decision) : Type 0 where
-  pub definitions-size : length y.definitions ≡ length d
-  pub enumerators-size : length y.enumerators ≡ length e
+  pub definitions_size : length y.definitions ≡ length d
+  pub enumerators_size : length y.enumerators ≡ length e
   pub decided : length s ≤ 65535 → d ≡ replicate 9747 0 → e ≡ replicate 3075 0 → o ≡ replicate 2570 0 → t ≡ replicate 14343 0 → Decided s y r
 
 -- The rooms of the lent tables, and the answer, are those of the text s.
@@ -135,7 +135,7 @@ pub record Unspanned (n p : ℕ) (r : Spanned) : Type 0 where
 pub record FilledSpanned (s d' e' o' v' : List ℕ) (r : Spanned) : Type 0 where
   pub filled : Filled s d' e' o' v' r.reading
   pub spans : r.reading.answer ≡ Accepted → SpansOf s r
-  pub no-spans : (n p : ℕ) → r.reading.answer ≡ Refused n p → NoSpans r
+  pub no_spans : (n p : ℕ) → r.reading.answer ≡ Refused n p → NoSpans r
 
 -- Blank rooms are filled.
 pub record BlankRooms (d e o v : List ℕ) : Type 0 where

@@ -18,7 +18,7 @@ pub data RefusedByGrammar (s : List ℕ) : Answer → Type 0 where
 
 pub record Demand-3 (s : List ℕ) (r : Answer) : Type 0 where
   -- "The reading passes the grammar stage exactly when document 01's grammar derives the text's tokens"
-  pub passes-exactly : Covered s → PassesGrammar r ↔ Derivation (tokens s)
+  pub passes_exactly : Covered s → PassesGrammar r ↔ Derivation (tokens s)
   -- "any two derivations of them are the same"
   pub one_derivation : (d e : Derivation (tokens s)) → d.tree ≡ e.tree
   -- "A reading that doesn't pass gives refusal 4, and its place is ..."

@@ -65,4 +65,4 @@ pub record NoSpans (r : Spanned) : Type 0 where
 pub record ReadsSpanned (s d e o v d' e' o' v' : List ℕ) (r : Spanned) : Type 0 where
   pub reads : Reads s d e o v d' e' o' v' r.reading
   pub spans : r.reading.answer ≡ Accepted → SpansOf s r
-  pub no-spans : (n p : ℕ) → r.reading.answer ≡ Refused n p → NoSpans r
+  pub no_spans : (n p : ℕ) → r.reading.answer ≡ Refused n p → NoSpans r

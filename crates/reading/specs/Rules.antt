@@ -11,6 +11,6 @@ use Rattle.reading.specs.declared.Reading.{Reading}
 -- returned.
 pub data ReadsByRules (s d e o v d' e' o' v' : List ℕ) (r : Reading) : Type 0 where
   -- 1, "lent tables too short", at 0. "Refusal 1 changes nothing."
-  short-tables : (FullRoom d e o v → ⊥) → r ≡ reading_of (refused 1 0) → Untouched d e o v d' e' o' v' → ReadsByRules s d e o v d' e' o' v' r
+  short_tables : (FullRoom d e o v → ⊥) → r ≡ reading_of (refused 1 0) → Untouched d e o v d' e' o' v' → ReadsByRules s d e o v d' e' o' v' r
   -- Else the one answer of the rules to the text: a refusal, whose rooms are zero, or the tables, whose rows are in the rooms.
-  by-rules : FullRoom d e o v → (a : Meant) → TheAnswer s a → r ≡ reading_of a → InRooms (rooms_after a) d e o v d' e' o' v' → ReadsByRules s d e o v d' e' o' v' r
+  by_rules : FullRoom d e o v → (a : Meant) → TheAnswer s a → r ≡ reading_of a → InRooms (rooms_after a) d e o v d' e' o' v' → ReadsByRules s d e o v d' e' o' v' r

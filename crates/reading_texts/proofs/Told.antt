@@ -9,14 +9,14 @@ use lib.Dec.{eqb}
 use Rattle.token.specs.Find.{pick}
 use Rattle.meaning.specs.Answers.{Tables, Answer, accepted, refused}
 use Rattle.meaning.specs.Cells.{rooms_after, cells, room_cells, definition_room, enumerator_room, object_room, value_room}
-use Rattle.meaning.specs.Reading.{Answers as TextAnswers, too_long, not-grammar, meant, reading}
+use Rattle.meaning.specs.Reading.{Answers as TextAnswers, too_long, not_grammar, meant, reading}
 use Rattle.meaning.specs.Rules.{TheAnswer as TheTextsAnswer, FullRoom}
 use Rattle.meaning.proofs.Rooms.{accepted_fits}
 use Rattle.meaning.proofs.Whole.{answers as text-answers}
 use Rattle.copying.proofs.Rooms.{cleared_zeros}
 use Rattle.reading.specs.Results.{reading_of}
 use Rattle.reading.proofs.Demand.{reading_demand_3}
-use Rattle.reading.specs.Rules.{ReadsByRules, short-tables as short, by-rules as ruled}
+use Rattle.reading.specs.Rules.{ReadsByRules, short_tables as short, by_rules as ruled}
 use Rattle.reading.specs.declared.Answer.{Answer as AnswerTold}
 use Rattle.reading.specs.declared.Answer.TheVariants.{Accepted, Refused}
 use Rattle.reading.specs.declared.Reading.{Reading}
@@ -31,7 +31,7 @@ use Rattle.placing.specs.Placed.{place_in, placed_definition_row, placed_enumera
 use Rattle.placing.specs.Columns.{RowsFit, PlacesTables}
 use Rattle.placing.proofs.Rowwise.{length_each}
 use Rattle.lent_texts.specs.Answered.{place_of, TheAnswer}
-use Rattle.reading_texts.specs.Reads.{FullRooms, ReadsTexts, short-tables, by-rules, Plain, placed_told, DemandTexts}
+use Rattle.reading_texts.specs.Reads.{FullRooms, ReadsTexts, short_tables, by_rules, Plain, placed_told, DemandTexts}
 use Rattle.reading_texts.specs.Filling.{RoomSizes, Hold, ReadsExpanded, FillsTexts}
 use Rattle.lent_texts.proofs.Kept.{Kept, kept}
 
@@ -76,7 +76,7 @@ ruled_of {s} {d} {e} {o} {v} z (ruled f a t q i) =
 
 pub rows_fit : {s : List ℕ} {a : Answer} (t : Tables) → TextAnswers s a → a ≡ accepted t → RowsFit t
 rows_fit t (too_long h) e = absurd (let z : ◌≡◌ {A = ℕ} 0 1 = cc in omega arith)
-rows_fit t (not-grammar a h n k) e = absurd (let z : ◌≡◌ {A = ℕ} 0 1 = cc in omega arith)
+rows_fit t (not_grammar a h n k) e = absurd (let z : ◌≡◌ {A = ℕ} 0 1 = cc in omega arith)
 rows_fit {s} t (meant w d) e =
     let f = accepted_fits s d.tree t e in
     record { definitions = f.definitions; enumerators = f.enumerators; objects = f.objects; values = f.values }
@@ -106,9 +106,9 @@ module _ (s g : List ℕ) (m n : ℕ) where
         };
       }
 
-  pub accepted-reads : {d e o v d' e' o' v' : List ℕ} {r : Reading} → Ruled s d e o v r → r.answer ≡ Accepted →
+  pub accepted_reads : {d e o v d' e' o' v' : List ℕ} {r : Reading} → Ruled s d e o v r → r.answer ≡ Accepted →
       PlacesTables (place_in g (length s) m) d e o v d' e' o' v' → ReadsExpanded s g m n d' e' o' v' r
-  accepted-reads {d} {e} {o} {v} {d'} {e'} {o'} {v'} {r} k z u = accepted_by d e o v d' e' o' v' r k.answer k.rules k.result k.rooms z u
+  accepted_reads {d} {e} {o} {v} {d'} {e'} {o'} {v'} {r} k z u = accepted_by d e o v d' e' o' v' r k.answer k.rules k.result k.rooms z u
 
   refused_by : (d e o v : List ℕ) (r x : Reading) (k p n' p' : ℕ) (a : Answer) → TheTextsAnswer s a → r ≡ reading_of a → Hold (rooms_after a) d e o v → r.answer ≡ Refused k p →
       n' ≡ pick (eqb k 3) n k → p' ≡ pick (is_at_start n') p (place_in g (length s) m p) → x ≡ reading_of (refused n' p') → ReadsExpanded s g m n d e o v x
@@ -129,9 +129,9 @@ module _ (s g : List ℕ) (m n : ℕ) where
         rooms = record { definitions = h.definitions; enumerators = h.enumerators; objects = h.objects; values = h.values };
       }
 
-  pub refused-reads : {d e o v : List ℕ} {r : Reading} (x : Reading) (k p n' p' : ℕ) → Ruled s d e o v r → r.answer ≡ Refused k p →
+  pub refused_reads : {d e o v : List ℕ} {r : Reading} (x : Reading) (k p n' p' : ℕ) → Ruled s d e o v r → r.answer ≡ Refused k p →
       n' ≡ pick (eqb k 3) n k → p' ≡ pick (is_at_start n') p (place_in g (length s) m p) → x ≡ reading_of (refused n' p') → ReadsExpanded s g m n d e o v x
-  refused-reads {d} {e} {o} {v} {r} x k p n' p' u z i j w = refused_by d e o v r x k p n' p' u.answer u.rules u.result u.rooms z i j w
+  refused_reads {d} {e} {o} {v} {r} x k p n' p' u z i j w = refused_by d e o v r x k p n' p' u.answer u.rules u.result u.rooms z i j w
 
 -- ---- lent texts
 
@@ -152,8 +152,8 @@ module _ (b l x g x' g' : List ℕ) (e : Expansion) (u : ExpandsToRead b l x g x
   own = exactly u
 
   -- 30
-  thirty-own : e.number ≡ 30 → (expansion_of b l).number ≡ 30
-  thirty-own n = by own.number
+  thirty_own : e.number ≡ 30 → (expansion_of b l).number ≡ 30
+  thirty_own n = by own.number
     where
       by : (e.number ≡ (expansion_of b l).number) ⊎ ((e.number ≡ 3) × ((expansion_of b l).number ≡ 0)) → (expansion_of b l).number ≡ 30
       by (inl i) = sym i ∙ n
@@ -162,12 +162,12 @@ module _ (b l x g x' g' : List ℕ) (e : Expansion) (u : ExpandsToRead b l x g x
   pub thirty_answer : e.number ≡ 30 → TheAnswer b l (refused 30 0)
   unfolding placed_answer is_at_start
   thirty_answer n =
-      let h : Answers b l (refused 30 0) = texts-too-long (thirty-own n) in
-      record { in-expanded = refused 30 0; given = h; no_other = λ y k. sym (one_answer k) ∙ one_answer h; placed = refl }
+      let h : Answers b l (refused 30 0) = texts-too-long (thirty_own n) in
+      record { in_expanded = refused 30 0; given = h; no_other = λ y k. sym (one_answer k) ∙ one_answer h; placed = refl }
 
-  pub thirty-fills : (d e₁ o v d' e' o' v' : List ℕ) (r : Reading) → e.number ≡ 30 → RoomSizes d e₁ o v → d' ≡ replicate (length d) 0 → e' ≡ replicate (length e₁) 0 →
+  pub thirty_fills : (d e₁ o v d' e' o' v' : List ℕ) (r : Reading) → e.number ≡ 30 → RoomSizes d e₁ o v → d' ≡ replicate (length d) 0 → e' ≡ replicate (length e₁) 0 →
       o' ≡ replicate (length o) 0 → v' ≡ replicate (length v) 0 → r ≡ reading_of (refused 30 0) → FillsTexts b l x g x' g' d' e' o' v' r
-  thirty-fills d e₁ o v d' e' o' v' r n z p q i j w =
+  thirty_fills d e₁ o v d' e' o' v' r n z p q i j w =
       record { answer = refused 30 0; rules = thirty_answer n; result = w; rooms = thirty_rooms z p q i j; bytes = u.bytes; origins = u.origins }
 
   module _ (hx : 65535 ≤ length x) (hg : 65535 ≤ length g) (not : e.number ≡ 30 → ⊥) where
@@ -182,34 +182,34 @@ module _ (b l x g x' g' : List ℕ) (e : Expansion) (u : ExpandsToRead b l x g x
     k = kept b l x g x' g' (expansion_of b l) own.expands hx hg not_own
 
     -- the text that is read is the expanded text
-    pub room-inside : e.length ≤ length x'
-    room-inside = subst (λ (n : ℕ). n ≤ length x') (sym own.size) k.inside
+    pub room_inside : e.length ≤ length x'
+    room_inside = subst (λ (n : ℕ). n ≤ length x') (sym own.size) k.inside
 
-    pub two-told : 1 < length l
-    two-told = k.two
+    pub two_told : 1 < length l
+    two_told = k.two
 
-    pub small-number : e.number ≤ 29
-    small-number = by own.number
+    pub small_number : e.number ≤ 29
+    small_number = by own.number
       where
         by : (e.number ≡ (expansion_of b l).number) ⊎ ((e.number ≡ 3) × ((expansion_of b l).number ≡ 0)) → e.number ≤ 29
         by (inl i) = subst (λ (n : ℕ). n ≤ 29) (sym i) k.small
         by (inr i) = let z = i.0 in omega arith
 
-    pub text-is : take e.length x' ≡ (expanded b l).bytes
-    text-is = ap (λ (n : ℕ). take n x') own.size ∙ k.bytes
+    pub text_is : take e.length x' ≡ (expanded b l).bytes
+    text_is = ap (λ (n : ℕ). take n x') own.size ∙ k.bytes
 
     places : place_in g' (length (take e.length x')) (get_or l 1 0) ≡ place_of b l
-    places = ap (λ (n : ℕ). place_in g' n (get_or l 1 0)) (ap length text-is ∙ sym k.size) ∙ fun_ext k.place
+    places = ap (λ (n : ℕ). place_in g' n (get_or l 1 0)) (ap length text_is ∙ sym k.size) ∙ fun_ext k.place
 
     -- its answer
-    is-reading : (a : Answer) → TheTextsAnswer (take e.length x') a → reading (expanded b l).bytes ≡ a
-    is-reading a t =
+    is_reading : (a : Answer) → TheTextsAnswer (take e.length x') a → reading (expanded b l).bytes ≡ a
+    is_reading a t =
         let s = (expanded b l).bytes in
-        let t' : TheTextsAnswer s a = subst (λ (y : List ℕ). TheTextsAnswer y a) text-is t in
+        let t' : TheTextsAnswer s a = subst (λ (y : List ℕ). TheTextsAnswer y a) text_is t in
         t'.no_other (reading s) (text-answers s)
 
     the_answer : (a : Answer) → TheTextsAnswer (take e.length x') a → Answers b l (renumbered (expanded b l).number a)
-    the_answer a t = subst (Answers b l) (is_renumbered b l not_own ∙ ap (renumbered (expanded b l).number) (is-reading a t)) (answers b l)
+    the_answer a t = subst (Answers b l) (is_renumbered b l not_own ∙ ap (renumbered (expanded b l).number) (is_reading a t)) (answers b l)
 
     -- with the number of its fault
     same_number : (a : Answer) → TheTextsAnswer (take e.length x') a → renumbered e.number a ≡ renumbered (expanded b l).number a
@@ -219,27 +219,27 @@ module _ (b l x g x' g' : List ℕ) (e : Expansion) (u : ExpandsToRead b l x g x
         by (inl i) = ap (λ (n : ℕ). renumbered n a) (i ∙ k.number)
         by (inr i) =
             ap (λ (n : ℕ). renumbered n a) i.0
-            ∙ subst (λ (c : Answer). renumbered 3 c ≡ renumbered (expanded b l).number c) (is-reading a t) (plain_number b l not_own (inl (sym k.number ∙ i.1)))
+            ∙ subst (λ (c : Answer). renumbered 3 c ≡ renumbered (expanded b l).number c) (is_reading a t) (plain_number b l not_own (inl (sym k.number ∙ i.1)))
 
     -- and with its places
-    pub texts-placed : (n : ℕ) (a : Answer) → n ≡ e.number → TheTextsAnswer (take e.length x') a →
+    pub texts_placed : (n : ℕ) (a : Answer) → n ≡ e.number → TheTextsAnswer (take e.length x') a →
         placed_answer (place_in g' (length (take e.length x')) (get_or l 1 0)) (renumbered n a) ≡ placed_answer (place_of b l) (renumbered (expanded b l).number a)
-    texts-placed n a i t =
+    texts_placed n a i t =
         ap (λ (f : ℕ → ℕ). placed_answer f (renumbered n a)) places
         ∙ ap (placed_answer (place_of b l)) (ap (λ (y : ℕ). renumbered y a) i ∙ same_number a t)
 
-    pub texts-answer : (a : Answer) → TheTextsAnswer (take e.length x') a → TheAnswer b l (placed_answer (place_of b l) (renumbered (expanded b l).number a))
-    texts-answer a t =
+    pub texts_answer : (a : Answer) → TheTextsAnswer (take e.length x') a → TheAnswer b l (placed_answer (place_of b l) (renumbered (expanded b l).number a))
+    texts_answer a t =
         let h = the_answer a t in
-        record { in-expanded = renumbered (expanded b l).number a; given = h; no_other = λ y j. sym (one_answer j) ∙ one_answer h; placed = refl }
+        record { in_expanded = renumbered (expanded b l).number a; given = h; no_other = λ y j. sym (one_answer j) ∙ one_answer h; placed = refl }
 
-    pub read-fills : {d' e' o' v' : List ℕ} {r : Reading} (n : ℕ) → n ≡ e.number → ReadsExpanded (take e.length x') g' (get_or l 1 0) n d' e' o' v' r →
+    pub read_fills : {d' e' o' v' : List ℕ} {r : Reading} (n : ℕ) → n ≡ e.number → ReadsExpanded (take e.length x') g' (get_or l 1 0) n d' e' o' v' r →
         FillsTexts b l x g x' g' d' e' o' v' r
-    read-fills {d'} {e'} {o'} {v'} {r} n i w =
-        let z = texts-placed n w.answer i w.rules in
+    read_fills {d'} {e'} {o'} {v'} {r} n i w =
+        let z = texts_placed n w.answer i w.rules in
         record {
           answer = placed_answer (place_of b l) (renumbered (expanded b l).number w.answer);
-          rules = texts-answer w.answer w.rules;
+          rules = texts_answer w.answer w.rules;
           result = w.result ∙ ap reading_of z;
           rooms = subst (λ (y : Answer). Hold (rooms_after y) d' e' o' v') z w.rooms;
           bytes = u.bytes;
@@ -249,12 +249,12 @@ module _ (b l x g x' g' : List ℕ) (e : Expansion) (u : ExpandsToRead b l x g x
 -- ---- the public call
 
 pub short_reads : {b l x g d e o v : List ℕ} {r : Reading} → (FullRooms x g d e o v → ⊥) → r ≡ reading_of (refused 1 0) → ReadsTexts b l x g d e o v x g d e o v r
-short_reads n q = short-tables n q refl refl (record { definitions = refl; enumerators = refl; objects = refl; values = refl })
+short_reads n q = short_tables n q refl refl (record { definitions = refl; enumerators = refl; objects = refl; values = refl })
 
 pub full_reads : {b l x g d e o v x' g' d' e' o' v' : List ℕ} {r : Reading} → FullRooms x g d e o v → FillsTexts b l x g x' g' d' e' o' v' r →
     ReadsTexts b l x g d e o v x' g' (d' ++ drop 6656 d) (e' ++ drop 3072 e) (o' ++ drop 2048 o) (v' ++ drop 18432 v) r
 full_reads {b} {l} {x} {g} {d} {e} {o} {v} f u =
-    by-rules f u.answer u.rules u.result (record {
+    by_rules f u.answer u.rules u.result (record {
       definitions = ap (λ (y : List ℕ). y ++ drop 6656 d) u.rooms.definitions;
       enumerators = ap (λ (y : List ℕ). y ++ drop 3072 e) u.rooms.enumerators;
       objects = ap (λ (y : List ℕ). y ++ drop 2048 o) u.rooms.objects;
@@ -272,7 +272,7 @@ answer_demand b l z a r t q =
     let s = (expanded b l).bytes in
     let h : t.in-expanded ≡ reading s = sym (one_answer t.given) ∙ plain_answer b l z.within z.number in
     record {
-      in-expanded = (reading_of (reading s)).answer;
+      in_expanded = (reading_of (reading s)).answer;
       demand = reading_demand_3 s;
       placed = q ∙ ap (λ (y : Answer). (reading_of y).answer) t.placed ∙ reading_placed (place_of b l) t.in-expanded
           ∙ ap (λ (y : Answer). placed_told (place_of b l) (reading_of y).answer) h;
@@ -280,8 +280,8 @@ answer_demand b l z a r t q =
 
 demand_texts : {b l x g d e o v x' g' d' e' o' v' : List ℕ} {r : Reading} → ReadsTexts b l x g d e o v x' g' d' e' o' v' r → FullRooms x g d e o v → Plain b l →
     DemandTexts b l r.answer
-demand_texts (short-tables n _ _ _ _) f z = absurd (n f)
-demand_texts {b} {l} {r = r} (by-rules _ a t q _ _ _) f z = answer_demand b l z a r.answer t (ap (λ (y : Reading). y.answer) q)
+demand_texts (short_tables n _ _ _ _) f z = absurd (n f)
+demand_texts {b} {l} {r = r} (by_rules _ a t q _ _ _) f z = answer_demand b l z a r.answer t (ap (λ (y : Reading). y.answer) q)
 
 pub and_demand : {b l x g d e o v x' g' d' e' o' v' : List ℕ} {r : Reading} → ReadsTexts b l x g d e o v x' g' d' e' o' v' r →
     ReadsTexts b l x g d e o v x' g' d' e' o' v' r × (FullRooms x g d e o v → Plain b l → DemandTexts b l r.answer)

@@ -25,10 +25,10 @@ pub record FullRooms (x g d e o v : List ℕ) : Type 0 where
 -- what they hold afterwards; r is what is returned.
 pub data ReadsTexts (b l x g d e o v x' g' d' e' o' v' : List ℕ) (r : Reading) : Type 0 where
   -- 1, "lent tables too short", at 0. "Refusal 1 changes nothing."
-  short-tables : (FullRooms x g d e o v → ⊥) → r ≡ reading_of (refused 1 0) → x' ≡ x → g' ≡ g → Untouched d e o v d' e' o' v' →
+  short_tables : (FullRooms x g d e o v → ⊥) → r ≡ reading_of (refused 1 0) → x' ≡ x → g' ≡ g → Untouched d e o v d' e' o' v' →
       ReadsTexts b l x g d e o v x' g' d' e' o' v' r
   -- Else the one answer of the rules to the texts: a refusal, whose rooms are zero, or the tables, whose rows are in the rooms.
-  by-rules : FullRooms x g d e o v → (a : Answer) → TheAnswer b l a → r ≡ reading_of a → InRooms (rooms_after a) d e o v d' e' o' v' →
+  by_rules : FullRooms x g d e o v → (a : Answer) → TheAnswer b l a → r ≡ reading_of a → InRooms (rooms_after a) d e o v d' e' o' v' →
       x' ≡ filled (told_well b l) 65535 x (expanded b l).bytes → g' ≡ filled (told_well b l) 65535 g (expanded b l).origins →
       ReadsTexts b l x g d e o v x' g' d' e' o' v' r
 
@@ -45,6 +45,6 @@ placed_told f Accepted = Accepted
 placed_told f (Refused n p) = Refused n (pick (is_at_start n) p (f p))
 
 pub record DemandTexts (b l : List ℕ) (r : Told) : Type 0 where
-  pub in-expanded : Told
-  pub demand : Demand-3 (expanded b l).bytes in-expanded
-  pub placed : r ≡ placed_told (place_of b l) in-expanded
+  pub in_expanded : Told
+  pub demand : Demand-3 (expanded b l).bytes in_expanded
+  pub placed : r ≡ placed_told (place_of b l) in_expanded

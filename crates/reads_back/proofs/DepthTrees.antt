@@ -4,7 +4,7 @@ use mathlib.Core.List.{List, [], ◌∷◌, ◌++◌}
 use Prim.Native.Nat.{ℕ, suc, ◌+◌, ◌≤◌}
 use native.Mathlib.Omega.{arith}
 use Rattle.token.specs.Find.{bit}
-use Rattle.grammar.specs.Grammar.{tokens, given_code, sign_code, Rule, rule, tok, Form, ◌▸◌, ∎, ◌⟶◌, Trees, nil, leaf, node, file, version, implementation, specs, spec, definitions, definition, attribute, D, P, auto, mark, integer_range, numbers, boolean_range, float_range, enumerator, enumerators, application, objects, object, block, statements, statement, default, own, file-is, version_is, implementation-is, no-spec, a-spec, spec_is, no-definition, a_definition, an-attribute, a_reference, an_integer, a_string, a_boolean, an_enum, a_float, reference-is, no-D, a-D, no-P, a-P, no-auto, with-auto, no-mark, a-mark, no-range, a-range, a-list, no_number, a_number, no-boolean-range, no-float-range, a-boolean-range, a-float-range, enumerator_is, no-enumerator, an_enumerator, no_default, a-default, own-auto, own-none, own-number, own-string, own-true, own-false, own_name, own-float, application-is, no_object, an_object, an-object-alone, an-object-with, no_block, a_block, no-statement, a_statement, statement-is, value-number, value-string, value-float, value-auto, value-name, value-true, value-false, reference as reference-rule, value as value-rule}
+use Rattle.grammar.specs.Grammar.{tokens, given_code, sign_code, Rule, rule, tok, Form, ◌▸◌, ∎, ◌⟶◌, Trees, nil, leaf, node, file, version, implementation, specs, spec, definitions, definition, attribute, D, P, auto, mark, integer_range, numbers, boolean_range, float_range, enumerator, enumerators, application, objects, object, block, statements, statement, default, own, file_is, version_is, implementation_is, no_spec, a_spec, spec_is, no_definition, a_definition, an_attribute, a_reference, an_integer, a_string, a_boolean, an_enum, a_float, reference_is, no_D, a_D, no_P, a_P, no_auto, with_auto, no_mark, a_mark, no_range, a_range, a_list, no_number, a_number, no_boolean_range, no_float_range, a_boolean_range, a_float_range, enumerator_is, no_enumerator, an_enumerator, no_default, a_default, own_auto, own_none, own_number, own_string, own_true, own_false, own_name, own_float, application_is, no_object, an_object, an_object_alone, an_object_with, no_block, a_block, no_statement, a_statement, statement_is, value_number, value_string, value_float, value_auto, value_name, value_true, value_false, reference as reference-rule, value as value-rule}
 use Rattle.grammar.proofs.Braces.{terminal_code, opening, closing, agree}
 use Rattle.meaning.specs.Syntax.{Word, Definition, Definitions, no_more, define, Values, no_value, value, Spec}
 use Rattle.meaning.specs.Actions.{M, word_of, first_value, truths, defined, defining, specifying, means, meaning, syntax}
@@ -41,67 +41,67 @@ form_closes (rule x ∷ f) = form_closes f
 -- A form closes the braces that it opens.
 form_balanced : {x : Rule} {g : Form} → x ⟶ g → form_opens g ≡ form_closes g
 unfolding form_opens form_closes bit terminal_code given_code sign_code
-form_balanced no-D = refl
-form_balanced a-D = refl
-form_balanced file-is = refl
+form_balanced no_D = refl
+form_balanced a_D = refl
+form_balanced file_is = refl
 form_balanced version_is = refl
-form_balanced implementation-is = refl
-form_balanced no-spec = refl
-form_balanced a-spec = refl
+form_balanced implementation_is = refl
+form_balanced no_spec = refl
+form_balanced a_spec = refl
 form_balanced spec_is = refl
-form_balanced no-definition = refl
+form_balanced no_definition = refl
 form_balanced a_definition = refl
-form_balanced an-attribute = refl
+form_balanced an_attribute = refl
 form_balanced a_reference = refl
 form_balanced an_integer = refl
 form_balanced a_float = refl
 form_balanced a_string = refl
 form_balanced a_boolean = refl
 form_balanced an_enum = refl
-form_balanced no-auto = refl
-form_balanced with-auto = refl
-form_balanced no-mark = refl
-form_balanced a-mark = refl
-form_balanced reference-is = refl
-form_balanced no-range = refl
-form_balanced no-float-range = refl
-form_balanced a-range = refl
-form_balanced a-float-range = refl
-form_balanced a-list = refl
+form_balanced no_auto = refl
+form_balanced with_auto = refl
+form_balanced no_mark = refl
+form_balanced a_mark = refl
+form_balanced reference_is = refl
+form_balanced no_range = refl
+form_balanced no_float_range = refl
+form_balanced a_range = refl
+form_balanced a_float_range = refl
+form_balanced a_list = refl
 form_balanced no_number = refl
 form_balanced a_number = refl
-form_balanced no-boolean-range = refl
-form_balanced a-boolean-range = refl
+form_balanced no_boolean_range = refl
+form_balanced a_boolean_range = refl
 form_balanced enumerator_is = refl
-form_balanced no-enumerator = refl
+form_balanced no_enumerator = refl
 form_balanced an_enumerator = refl
-form_balanced no-P = refl
-form_balanced a-P = refl
+form_balanced no_P = refl
+form_balanced a_P = refl
 form_balanced no_default = refl
-form_balanced a-default = refl
-form_balanced own-auto = refl
-form_balanced own-none = refl
-form_balanced own-number = refl
-form_balanced own-string = refl
-form_balanced own-float = refl
-form_balanced own-true = refl
-form_balanced own-false = refl
+form_balanced a_default = refl
+form_balanced own_auto = refl
+form_balanced own_none = refl
+form_balanced own_number = refl
+form_balanced own_string = refl
+form_balanced own_float = refl
+form_balanced own_true = refl
+form_balanced own_false = refl
 form_balanced own_name = refl
-form_balanced application-is = refl
+form_balanced application_is = refl
 form_balanced no_object = refl
 form_balanced an_object = refl
-form_balanced an-object-alone = refl
-form_balanced an-object-with = refl
-form_balanced no-statement = refl
+form_balanced an_object_alone = refl
+form_balanced an_object_with = refl
+form_balanced no_statement = refl
 form_balanced a_statement = refl
-form_balanced statement-is = refl
-form_balanced value-number = refl
-form_balanced value-string = refl
-form_balanced value-float = refl
-form_balanced value-auto = refl
-form_balanced value-name = refl
-form_balanced value-true = refl
-form_balanced value-false = refl
+form_balanced statement_is = refl
+form_balanced value_number = refl
+form_balanced value_string = refl
+form_balanced value_float = refl
+form_balanced value_auto = refl
+form_balanced value_name = refl
+form_balanced value_true = refl
+form_balanced value_false = refl
 form_balanced no_block = refl
 form_balanced a_block = refl
 
@@ -130,8 +130,8 @@ trees_balanced s p us = let q = trees_count s us in let e = form_balanced p in o
 mutual
   -- With k braces open there is room for definitions: at most sixteen are open around each.
   pub data Room : ℕ → Definitions → Type 0 where
-    room-none : {k : ℕ} → Room k no_more
-    room-more : {k : ℕ} {d : Definition} {vs : Values} {ds : Definitions} → k ≤ 16 → RoomUnder k vs → Room k ds → Room k (define d vs ds)
+    room_none : {k : ℕ} → Room k no_more
+    room_more : {k : ℕ} {d : Definition} {vs : Values} {ds : Definitions} → k ≤ 16 → RoomUnder k vs → Room k ds → Room k (define d vs ds)
 
   -- Those under the values of a list stand in one brace more.
   pub data RoomUnder : ℕ → Values → Type 0 where
@@ -182,14 +182,14 @@ All s a b (node {x} p us ts) = ((k : ℕ) → a ≡ b + k → W k x (means p (me
 
 means_room : {x : Rule} {g : Form} (s : List ℕ) (p : x ⟶ g) (us : Trees ◌⟶◌ g) (a b k : ℕ) → a ≡ b + k → k ≤ 16 → All s a b us → W k x (means p (meaning s us))
 unfolding means meaning first_value truths defined defining specifying bit terminal_code given_code sign_code
-means_room s file-is (node _ v (node _ i (node _ c nil))) a b k e l h = h.1.0 k e
-means_room s implementation-is (leaf _ _ (leaf _ _ (leaf _ _ (node _ ss (leaf _ _ (node _ d (leaf _ _ nil))))))) a b k e l h = h.0 (suc k) (omega arith) 0 0
-means_room s no-spec nil a b k e l h = λ n m. tt
-means_room s a-spec (node _ x (node _ xs nil)) a b k e l h = λ n m. (h.0 k e n m, h.1.0 k e _ _)
+means_room s file_is (node _ v (node _ i (node _ c nil))) a b k e l h = h.1.0 k e
+means_room s implementation_is (leaf _ _ (leaf _ _ (leaf _ _ (node _ ss (leaf _ _ (node _ d (leaf _ _ nil))))))) a b k e l h = h.0 (suc k) (omega arith) 0 0
+means_room s no_spec nil a b k e l h = λ n m. tt
+means_room s a_spec (node _ x (node _ xs nil)) a b k e l h = λ n m. (h.0 k e n m, h.1.0 k e _ _)
 means_room s spec_is (leaf _ _ (leaf _ _ (node _ d r))) a b k e l h = h.0 (suc k) (omega arith)
-means_room s no-definition nil a b k e l h = λ n m. room-none
-means_room s a_definition (node _ x (node _ xs nil)) a b k e l h = λ n m. room-more l (h.0 k e n m) (h.1.0 k e _ _)
-means_room s an-attribute (node _ x nil) a b k e l h = h.0 k e
+means_room s no_definition nil a b k e l h = λ n m. room_none
+means_room s a_definition (node _ x (node _ xs nil)) a b k e l h = λ n m. room_more l (h.0 k e n m) (h.1.0 k e _ _)
+means_room s an_attribute (node _ x nil) a b k e l h = h.0 k e
 means_room s a_reference (node _ x nil) a b k e l h = h.0 k e
 means_room s an_integer (leaf _ _ (node _ c (node _ r (leaf x _ (node _ i (node _ d z)))))) a b k e l h = λ n m. under_none
 means_room s a_float (leaf _ _ (node _ c (node _ r (leaf x _ (node _ i (node _ d z)))))) a b k e l h = λ n m. under_none
@@ -197,57 +197,57 @@ means_room s a_string (leaf _ _ (node _ c (leaf x _ (node _ i (node _ d z))))) a
 means_room s a_boolean (leaf _ _ (node _ c (node _ r (leaf x _ (node _ i (node _ d z)))))) a b k e l h = h.1.0 k (omega arith)
 means_room s an_enum (leaf _ _ (node _ c (leaf _ _ (node q v (node r vs (leaf _ _ (leaf x _ (node _ i (node _ d z))))))))) a b k e l h = λ n m.
     under_more (h.1.0 k (omega arith) n m) (h.1.1.0 k (omega arith) _ _)
-means_room s reference-is (leaf _ _ (leaf x _ (node _ i r))) a b k e l h = λ n m. under_none
-means_room s no-P nil a b k e l h = λ n m. room-none
-means_room s a-P (leaf _ _ (node _ d (leaf _ _ nil))) a b k e l h = h.0 (suc k) (omega arith)
-means_room s no-boolean-range nil a b k e l h = λ n m. under_none
-means_room s a-boolean-range (leaf _ _ (leaf t _ (node _ us (node _ d (leaf _ _ (leaf f _ (node _ vs (node _ z r)))))))) a b k e l h = λ n m.
+means_room s reference_is (leaf _ _ (leaf x _ (node _ i r))) a b k e l h = λ n m. under_none
+means_room s no_P nil a b k e l h = λ n m. room_none
+means_room s a_P (leaf _ _ (node _ d (leaf _ _ nil))) a b k e l h = h.0 (suc k) (omega arith)
+means_room s no_boolean_range nil a b k e l h = λ n m. under_none
+means_room s a_boolean_range (leaf _ _ (leaf t _ (node _ us (node _ d (leaf _ _ (leaf f _ (node _ vs (node _ z r)))))))) a b k e l h = λ n m.
     under_more (h.0 k (omega arith) _ _) (under_more (h.1.1.0 k (omega arith) _ _) under_none)
 means_room s enumerator_is (leaf w _ (node _ us (node _ d nil))) a b k e l h = λ n m. h.0 k (omega arith) n (suc m)
-means_room s no-enumerator nil a b k e l h = λ n m. under_none
+means_room s no_enumerator nil a b k e l h = λ n m. under_none
 means_room s an_enumerator (leaf _ _ (node q v (node r vs nil))) a b k e l h = λ n m.
     under_more (h.0 k (omega arith) n m) (h.1.0 k (omega arith) _ _)
 means_room s version_is us a b k e l h = tt
-means_room s no-D us a b k e l h = tt
-means_room s a-D us a b k e l h = tt
-means_room s no-auto us a b k e l h = tt
-means_room s with-auto us a b k e l h = tt
-means_room s no-mark us a b k e l h = tt
-means_room s a-mark us a b k e l h = tt
-means_room s no-range us a b k e l h = tt
-means_room s no-float-range us a b k e l h = tt
-means_room s a-range us a b k e l h = tt
-means_room s a-float-range us a b k e l h = tt
-means_room s a-list us a b k e l h = tt
+means_room s no_D us a b k e l h = tt
+means_room s a_D us a b k e l h = tt
+means_room s no_auto us a b k e l h = tt
+means_room s with_auto us a b k e l h = tt
+means_room s no_mark us a b k e l h = tt
+means_room s a_mark us a b k e l h = tt
+means_room s no_range us a b k e l h = tt
+means_room s no_float_range us a b k e l h = tt
+means_room s a_range us a b k e l h = tt
+means_room s a_float_range us a b k e l h = tt
+means_room s a_list us a b k e l h = tt
 means_room s no_number us a b k e l h = tt
 means_room s a_number us a b k e l h = tt
 means_room s no_default us a b k e l h = tt
-means_room s a-default us a b k e l h = tt
-means_room s own-auto us a b k e l h = tt
-means_room s own-none us a b k e l h = tt
-means_room s own-number us a b k e l h = tt
-means_room s own-string us a b k e l h = tt
-means_room s own-float us a b k e l h = tt
-means_room s own-true us a b k e l h = tt
-means_room s own-false us a b k e l h = tt
+means_room s a_default us a b k e l h = tt
+means_room s own_auto us a b k e l h = tt
+means_room s own_none us a b k e l h = tt
+means_room s own_number us a b k e l h = tt
+means_room s own_string us a b k e l h = tt
+means_room s own_float us a b k e l h = tt
+means_room s own_true us a b k e l h = tt
+means_room s own_false us a b k e l h = tt
 means_room s own_name us a b k e l h = tt
-means_room s application-is us a b k e l h = tt
+means_room s application_is us a b k e l h = tt
 means_room s no_object us a b k e l h = tt
 means_room s an_object us a b k e l h = tt
-means_room s an-object-alone us a b k e l h = tt
-means_room s an-object-with us a b k e l h = tt
+means_room s an_object_alone us a b k e l h = tt
+means_room s an_object_with us a b k e l h = tt
 means_room s no_block us a b k e l h = tt
 means_room s a_block us a b k e l h = tt
-means_room s no-statement us a b k e l h = tt
+means_room s no_statement us a b k e l h = tt
 means_room s a_statement us a b k e l h = tt
-means_room s statement-is us a b k e l h = tt
-means_room s value-number us a b k e l h = tt
-means_room s value-string us a b k e l h = tt
-means_room s value-float us a b k e l h = tt
-means_room s value-auto us a b k e l h = tt
-means_room s value-name us a b k e l h = tt
-means_room s value-true us a b k e l h = tt
-means_room s value-false us a b k e l h = tt
+means_room s statement_is us a b k e l h = tt
+means_room s value_number us a b k e l h = tt
+means_room s value_string us a b k e l h = tt
+means_room s value_float us a b k e l h = tt
+means_room s value_auto us a b k e l h = tt
+means_room s value_name us a b k e l h = tt
+means_room s value_true us a b k e l h = tt
+means_room s value_false us a b k e l h = tt
 
 all_room : {f : Form} (s : List ℕ) (ts : Trees ◌⟶◌ f) (a b : ℕ) → Low a b (plain_leaves s ts) → All s a b ts
 unfolding plain_leaves plain_word unplaced_word word_of

@@ -113,7 +113,7 @@ pub record Level (k : ℕ) (l : List Word) : Type 0 where
 
 -- A word that is no brace.
 pub record Flat (w : Word) : Type 0 where
-  pub no-open : matches (sg lbrace) w.class ≡ false
+  pub no_open : matches (sg lbrace) w.class ≡ false
   pub no_close : matches (sg rbrace) w.class ≡ false
 
 -- The braces that two lists of words open.

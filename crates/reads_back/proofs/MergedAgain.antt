@@ -111,8 +111,8 @@ new_from os before [] n h = tt
 new_from os before (x ∷ xs) n h =
     go (used x before) refl (λ g. new_from os (before ++ (x ∷ [])) xs n g) (λ g. new_from (os ++ (merged x n xs ∷ [])) (before ++ (x ∷ [])) xs (suc n) g)
   where
-    either-used : (z : Object) → used x before ≡ true → used z before ≡ used z (before ++ (x ∷ []))
-    either-used z u = sym (used_behind z x before ∙ by (used z before) (same_object z x) (λ e. used_alike z x before (same_alike z x e) ∙ u))
+    either_used : (z : Object) → used x before ≡ true → used z before ≡ used z (before ++ (x ∷ []))
+    either_used z u = sym (used_behind z x before ∙ by (used z before) (same_object z x) (λ e. used_alike z x before (same_alike z x e) ∙ u))
       where
         by : (a b : Bool) → (b ≡ true → a ≡ true) → either a b ≡ a
         by true b f = refl
@@ -122,7 +122,7 @@ new_from os before (x ∷ xs) n h =
     go : (b : Bool) → used x before ≡ b → (SameUsed os (before ++ (x ∷ [])) → AllNew os (merge_from (before ++ (x ∷ [])) xs n))
         → (SameUsed (os ++ (merged x n xs ∷ [])) (before ++ (x ∷ [])) → AllNew (os ++ (merged x n xs ∷ [])) (merge_from (before ++ (x ∷ [])) xs (suc n)))
         → AllNew os (choose b (λ _. merge_from (before ++ (x ∷ [])) xs n) (λ _. merged x n xs ∷ merge_from (before ++ (x ∷ [])) xs (suc n)))
-    go true u p q = p (λ z. h z ∙ either-used z u)
+    go true u p q = p (λ z. h z ∙ either_used z u)
     go false u p q = (
       used_alike (merged x n xs) x os (merged_alike x n xs) ∙ h x ∙ u,
       q (λ z. used_behind z (merged x n xs) os ∙ ap₂ either (h z) (same_merged z x n xs) ∙ sym (used_behind z x before)),
@@ -145,12 +145,12 @@ inside_none y x [] b e = same_swap x y ∙ neither_first (same_object y x) (used
 inside_none y x (z ∷ a) b e = inside_none y x a b (neither_second (same_object y z) (used y (a ++ (x ∷ b))) (sym (used_more y z (a ++ (x ∷ b))) ∙ e))
 
 module _ (x : Object) where
-  no-further : (a b ys : List Object) → AllNew (a ++ (x ∷ b)) ys → (further x ys ≡ 0) × (continued x ys ≡ done)
+  no_further : (a b ys : List Object) → AllNew (a ++ (x ∷ b)) ys → (further x ys ≡ 0) × (continued x ys ≡ done)
   unfolding further continued bit
-  no-further a b [] h = (refl, refl)
-  no-further a b (y ∷ ys) h =
+  no_further a b [] h = (refl, refl)
+  no_further a b (y ∷ ys) h =
       let e = inside_none y x a b h.0 in
-      let r = no-further a (b ++ (y ∷ [])) ys (behind h.1) in (
+      let r = no_further a (b ++ (y ∷ [])) ys (behind h.1) in (
         ap₂ (λ (t : Bool) (n : ℕ). bit t + n) e r.0,
         ap₂ (λ (t : Bool) (ss : Statements). pick t (then y.statements ss) ss) e r.1,
       )
@@ -169,7 +169,7 @@ same_from : (before xs : List Object) (n : ℕ) → AllNew before xs → Single 
 unfolding merge_from choose
 same_from before [] n h s = refl
 same_from before (x ∷ xs) n h s =
-    let r = no-further x before [] xs h.1 in
+    let r = no_further x before [] xs h.1 in
     ap (λ (b : Bool). choose b (λ _. merge_from (before ++ (x ∷ [])) xs n) (λ _. merged x n xs ∷ merge_from (before ++ (x ∷ [])) xs (suc n))) h.0
     ∙ ap₂ ◌∷◌ (whole_again x n xs s.0 s.1 r.0 r.1) (same_from (before ++ (x ∷ [])) xs (suc n) h.1 s.2)
 

@@ -4,7 +4,7 @@ use mathlib.Core.List.{List, [], ◌∷◌, ◌++◌, append_assoc, append-nil}
 use mathlib.Core.Bool.{true}
 use Prim.Native.Nat.{ℕ}
 use Rattle.token.specs.Words.{bytes_of}
-use Rattle.grammar.specs.Grammar.{Token, matches, sg, word, OIL-VERSION, semicolon, ◌▸◌, ∎, ◌⟶◌, Trees, nil, leaf, node, file, version, implementation, application, file-is, no-D, version_is, implementation-is, Derivation, tokens as Leaves-of}
+use Rattle.grammar.specs.Grammar.{Token, matches, sg, word, OIL-VERSION, semicolon, ◌▸◌, ∎, ◌⟶◌, Trees, nil, leaf, node, file, version, implementation, application, file_is, no_D, version_is, implementation_is, Derivation, tokens as Leaves-of}
 use Rattle.grammar.specs.Terminals.{tokens}
 use Rattle.grammar.proofs.Viable.{one_derivation}
 use Rattle.meaning.specs.Syntax.{Word, absent, through, Object, File}
@@ -22,15 +22,15 @@ use Rattle.reads_back.proofs.RestatedTrees.{restated_application, application_tr
 -- The three parts of a file ------------------------------------------------------------------------------------------------------------------
 
 unfoldable whole_tree : Trees ◌⟶◌ (version ▸ ∎) → Trees ◌⟶◌ (implementation ▸ ∎) → Trees ◌⟶◌ (application ▸ ∎) → Trees ◌⟶◌ (file ▸ ∎)
-whole_tree (node p us nil) (node q vs nil) (node r ws nil) = node file-is (node p us (node q vs (node r ws nil))) nil
+whole_tree (node p us nil) (node q vs nil) (node r ws nil) = node file_is (node p us (node q vs (node r ws nil))) nil
 
 unfoldable file_of : Word → Implementation → Application → File
-file_of v i a = means file-is (v, (i, (a, tt)))
+file_of v i a = means file_is (v, (i, (a, tt)))
 
 file_bare : (v : Word) (i : Implementation) (a : Application)
     → unplaced (file_of v i a) ≡ file_of (unplaced_word v) (bare_implementation i) (bare_application a)
 unfolding file_of bare_parts bare_M
-file_bare v i a = sym (means_bare file-is (v, (i, (a, tt))))
+file_bare v i a = sym (means_bare file_is (v, (i, (a, tt))))
 
 -- Files of the same parts are the same.
 file_same : {v v' : Word} {i i' : Implementation} {a a' : Application} → v ≡ v' → i ≡ i' → a ≡ a' → file_of v i a ≡ file_of v' i' a'
@@ -52,15 +52,15 @@ whole_syntax s (node p us nil) (node q vs nil) (node r ws nil) = refl
 record Three (t : Trees ◌⟶◌ (file ▸ ∎)) : Type 0 where
   version_tree : Trees ◌⟶◌ (version ▸ ∎)
   implementation_tree : Trees ◌⟶◌ (implementation ▸ ∎)
-  application-part : Trees ◌⟶◌ (application ▸ ∎)
-  whole : t ≡ whole_tree version_tree implementation_tree application-part
+  application_part : Trees ◌⟶◌ (application ▸ ∎)
+  whole : t ≡ whole_tree version_tree implementation_tree application_part
 
 three : (t : Trees ◌⟶◌ (file ▸ ∎)) → Three t
 unfolding whole_tree
-three (node file-is (node p us (node q vs (node r ws nil))) nil) = record {
+three (node file_is (node p us (node q vs (node r ws nil))) nil) = record {
   version_tree = node p us nil;
   implementation_tree = node q vs nil;
-  application-part = node r ws nil;
+  application_part = node r ws nil;
   whole = refl;
 }
 
@@ -72,19 +72,19 @@ record Ends (s : List ℕ) (i : Trees ◌⟶◌ (implementation ▸ ∎)) : Type
   mid : List Token
   final : Token
   leaves : Leaves-of i ≡ first ∷ (mid ++ (final ∷ []))
-  final-is : matches (sg semicolon) final.class ≡ true
-  span-is : (meaning s i).0.span ≡ through (word_of s first) (word_of s final)
+  final_is : matches (sg semicolon) final.class ≡ true
+  span_is : (meaning s i).0.span ≡ through (word_of s first) (word_of s final)
 
 ends : (s : List ℕ) (i : Trees ◌⟶◌ (implementation ▸ ∎)) → Ends s i
 unfolding Leaves-of meaning means
-ends s (node implementation-is (leaf a _ (leaf x _ (leaf o _ (node p ss (leaf r _ (node q ds (leaf c h nil))))))) nil) = record {
+ends s (node implementation_is (leaf a _ (leaf x _ (leaf o _ (node p ss (leaf r _ (node q ds (leaf c h nil))))))) nil) = record {
   first = a;
   mid = x ∷ o ∷ (Leaves-of ss ++ (r ∷ Leaves-of ds));
   final = c;
   leaves = append-nil (a ∷ x ∷ o ∷ (Leaves-of ss ++ (r ∷ (Leaves-of ds ++ (c ∷ [])))))
       ∙ ap (λ l. a ∷ x ∷ o ∷ l) (sym (append_assoc (Leaves-of ss) (r ∷ Leaves-of ds) (c ∷ [])));
-  final-is = h;
-  span-is = refl;
+  final_is = h;
+  span_is = refl;
 }
 
 -- The implementation of a file, unplaced.
@@ -93,7 +93,7 @@ restated_implementation f = record { span = absent; name = unplaced_word f.imple
 
 -- The tokens of the implementation in a text's derivation.
 unfoldable pub implementation_leaves : Trees ◌⟶◌ (file ▸ ∎) → List Token
-implementation_leaves (node file-is (node _ v (node _ i (node _ a nil))) nil) = Leaves-of i
+implementation_leaves (node file_is (node _ v (node _ i (node _ a nil))) nil) = Leaves-of i
 
 implementation_part : (v : Trees ◌⟶◌ (version ▸ ∎)) (i : Trees ◌⟶◌ (implementation ▸ ∎)) (a : Trees ◌⟶◌ (application ▸ ∎))
     → implementation_leaves (whole_tree v i a) ≡ Leaves-of i
@@ -102,12 +102,12 @@ implementation_part (node p us nil) (node q vs nil) (node r ws nil) = sym (appen
 
 -- The tree of the implementation in a file's tree.
 unfoldable pub implementation_tree : Trees ◌⟶◌ (file ▸ ∎) → Trees ◌⟶◌ (implementation ▸ ∎)
-implementation_tree (node file-is (node _ v (node p i (node _ a nil))) nil) = node p i nil
+implementation_tree (node file_is (node _ v (node p i (node _ a nil))) nil) = node p i nil
 
 -- It has the implementation's tokens.
 pub implementation_tree_leaves : (t : Trees ◌⟶◌ (file ▸ ∎)) → Leaves-of (implementation_tree t) ≡ implementation_leaves t
 unfolding implementation_tree implementation_leaves Leaves-of
-implementation_tree_leaves (node file-is (node _ v (node p i (node _ a nil))) nil) = append-nil (Leaves-of i)
+implementation_tree_leaves (node file_is (node _ v (node p i (node _ a nil))) nil) = append-nil (Leaves-of i)
 
 -- Any tree of the implementation's tokens means the definitions of the file.
 pub implementation_specs : (s : List ℕ) (t : Trees ◌⟶◌ (file ▸ ∎)) (i : Trees ◌⟶◌ (implementation ▸ ∎)) → Leaves-of i ≡ implementation_leaves t
@@ -132,9 +132,9 @@ pub record ImplementationTokens (s : List ℕ) (d : Derivation (tokens s)) : Typ
   pub final : Token
   pub after : List Token
   pub whole : tokens s ≡ before ++ ((first ∷ (mid ++ (final ∷ []))) ++ after)
-  pub leaves-are : implementation_leaves d.tree ≡ first ∷ (mid ++ (final ∷ []))
-  pub final-is : matches (sg semicolon) final.class ≡ true
-  pub span-is : (syntax s d.tree).implementation ≡ through (word_of s first) (word_of s final)
+  pub leaves_are : implementation_leaves d.tree ≡ first ∷ (mid ++ (final ∷ []))
+  pub final_is : matches (sg semicolon) final.class ≡ true
+  pub span_is : (syntax s d.tree).implementation ≡ through (word_of s first) (word_of s final)
   -- they are derived, and mean the implementation
   pub derived : WordTrees (implementation ▸ ∎) (each (plain_word s) (first ∷ (mid ++ (final ∷ [])))) (restated_implementation (syntax s d.tree), tt)
 
@@ -155,9 +155,9 @@ implementation_tokens s d =
       final = e.final;
       after = Leaves-of a;
       whole = sym d.leaves ∙ ap Leaves-of t.whole ∙ whole_leaves v i a ∙ ap (λ l. Leaves-of v ++ (l ++ Leaves-of a)) e.leaves;
-      leaves-are = ap implementation_leaves t.whole ∙ implementation_part v i a ∙ e.leaves;
-      final-is = e.final-is;
-      span-is = ap (λ (x : File). x.implementation) f ∙ e.span-is;
+      leaves_are = ap implementation_leaves t.whole ∙ implementation_part v i a ∙ e.leaves;
+      final_is = e.final-is;
+      span_is = ap (λ (x : File). x.implementation) f ∙ e.span-is;
       derived = subst₂ (λ l x. WordTrees (implementation ▸ ∎) (each (plain_word s) l) (x, tt)) e.leaves (sym (ap restated_implementation f)) (lifted s i);
     }
 
@@ -167,19 +167,19 @@ version_tree : WordTrees (version ▸ ∎) version_words (version_string, tt)
 unfolding means matches given
 version_tree =
     word_node version_is (word_leaf (given (word OIL-VERSION) (bytes_of "OIL_VERSION")) refl (word_leaf equal_sign refl (word_leaf version_string refl
-    (word_node no-D word_nil (word_leaf stop refl word_nil))))) word_nil
+    (word_node no_D word_nil (word_leaf stop refl word_nil))))) word_nil
 
 -- A tree of the tokens ts of the text n, with the restated syntax of s; the implementation's tokens are `middle`.
 pub record Planted (s n : List ℕ) (d : Derivation (tokens s)) (middle ts : List Token) : Type 0 where
   pub tree : Trees ◌⟶◌ (file ▸ ∎)
   pub leaves : Leaves-of tree ≡ ts
-  pub syntax-is : unplaced (syntax n tree) ≡ restated_file (syntax s d.tree)
+  pub syntax_is : unplaced (syntax n tree) ≡ restated_file (syntax s d.tree)
   pub first : Token
   pub mid : List Token
   pub final : Token
-  pub middle-is : middle ≡ first ∷ (mid ++ (final ∷ []))
-  pub leaves-are : implementation_leaves tree ≡ middle
-  pub span-is : (syntax n tree).implementation ≡ through (word_of n first) (word_of n final)
+  pub middle_is : middle ≡ first ∷ (mid ++ (final ∷ []))
+  pub leaves_are : implementation_leaves tree ≡ middle
+  pub span_is : (syntax n tree).implementation ≡ through (word_of n first) (word_of n final)
 
 restated_parts : (f : File) → merge (restated_objects f.objects (all_values f f.objects) 0) ≡ restated_objects f.objects (all_values f f.objects) 0
     → file_of version_string (restated_implementation f) (restated_application f) ≡ restated_file f
@@ -213,12 +213,12 @@ planted_text s n d im said heading middle last h m l =
     record {
       tree = whole_tree v.tree i.tree a.tree;
       leaves = whole_leaves v.tree i.tree a.tree ∙ ap₂ ◌++◌ v.leaves (ap₂ ◌++◌ i.leaves a.leaves);
-      syntax-is = ap unplaced w ∙ file_bare (meaning n v.tree).0 (meaning n i.tree).0 (meaning n a.tree).0
+      syntax_is = ap unplaced w ∙ file_bare (meaning n v.tree).0 (meaning n i.tree).0 (meaning n a.tree).0
           ∙ file_same (ap (λ k. k.0) v.meaning-is) (ap (λ k. k.0) i.meaning-is) (ap (λ k. k.0) a.meaning-is) ∙ restated_parts f (merged_restated s d said);
       first = e.first;
       mid = e.mid;
       final = e.final;
-      middle-is = sym i.leaves ∙ e.leaves;
-      leaves-are = implementation_part v.tree i.tree a.tree ∙ i.leaves;
-      span-is = ap (λ (x : File). x.implementation) w ∙ e.span-is;
+      middle_is = sym i.leaves ∙ e.leaves;
+      leaves_are = implementation_part v.tree i.tree a.tree ∙ i.leaves;
+      span_is = ap (λ (x : File). x.implementation) w ∙ e.span-is;
     }

@@ -18,7 +18,7 @@ use Rattle.meaning.specs.Applying.{ObjectRow}
 use Rattle.meaning.specs.Edges.{worked_tables}
 use Rattle.meaning.proofs.Edges.{edges_hold}
 use Rattle.meaning.specs.Answers.{Tables, Answer, accepted, tables, answer}
-use Rattle.meaning.specs.Reading.{Answers, too_long, not-grammar, meant, parsed, parse, reading, normal_text}
+use Rattle.meaning.specs.Reading.{Answers, too_long, not_grammar, meant, parsed, parse, reading, normal_text}
 use Rattle.meaning.proofs.Found.{parse_derived, reading_derived, normal_derived}
 use Rattle.meaning.specs.Rules.{TheAnswer, TheNormalText}
 use Rattle.meaning.proofs.Whole.{answers, one_answer, the_answer, the_normal_text}
@@ -43,9 +43,9 @@ use Rattle.reads_back.proofs.SameMeaning.{accepted_tables, MeansSame, means_same
 -- Where the syntax without its places is accepted, so is the syntax, with the same tables but places.
 record Accepts (a : Answer) (t : Tables) : Type 0 where
   placed : Tables
-  accepted-as : a ≡ accepted placed
-  same-as : bare placed ≡ bare t
-  parts-as : each (λ (r : ObjectRow). r.parts) placed.objects ≡ each (λ (r : ObjectRow). 1) placed.objects
+  accepted_as : a ≡ accepted placed
+  same_as : bare placed ≡ bare t
+  parts_as : each (λ (r : ObjectRow). r.parts) placed.objects ≡ each (λ (r : ObjectRow). 1) placed.objects
   stated_as : AllStated t.values → AllStated placed.values
 
 parts_unplaced : (l : List ObjectRow) (g : ℕ → ℕ) → each (λ (r : ObjectRow). g r.parts) (each unplaced_object_row l) ≡ each (λ (r : ObjectRow). g r.parts) l
@@ -66,9 +66,9 @@ accepts t h (both_accept u) e =
     let q : unplaced_tables u ≡ t = cc in
     record {
       placed = u;
-      accepted-as = refl;
-      same-as = sym (bare_unplaced u) ∙ ap bare q;
-      parts-as = alone u t q h;
+      accepted_as = refl;
+      same_as = sym (bare_unplaced u) ∙ ap bare q;
+      parts_as = alone u t q h;
       stated_as = λ i. stated_placed u.values (subst (λ (x : Tables). AllStated x.values) (sym q) i);
     }
 accepts t h (both_refuse n p m q) e = absurd (let z : ◌≡◌ {A = Bool} false true = cc in false≢true z)
@@ -79,96 +79,96 @@ lines_of f = application_lines f (all_values f f.objects)
 
 module _ (s : List ℕ) (w : Covered s) (d : Derivation (tokens s)) (n : List ℕ) (e : n ≡ normal s (syntax s d.tree)) (h : length n ≤ 65535) where
   -- The tokens of the normal text, and a tree of them.
-  words-said : Said (syntax s d.tree)
-  words-said = said s d (tokens_alone s) number_alone
+  words_said : Said (syntax s d.tree)
+  words_said = said s d (tokens_alone s) number_alone
 
   parts : ImplementationTokens s d
   parts = implementation_tokens s d
 
-  normal-parts : NormalTokens s n (parts.first ∷ (parts.mid ++ (parts.final ∷ []))) (syntax s d.tree) (all_values (syntax s d.tree) (syntax s d.tree).objects)
+  normal_parts : NormalTokens s n (parts.first ∷ (parts.mid ++ (parts.final ∷ []))) (syntax s d.tree) (all_values (syntax s d.tree) (syntax s d.tree).objects)
   unfolding normal
-  normal-parts =
+  normal_parts =
       subst (λ m. NormalTokens s m (parts.first ∷ (parts.mid ++ (parts.final ∷ []))) (syntax s d.tree) (all_values (syntax s d.tree) (syntax s d.tree).objects)) (sym e)
       (normal_tokens s parts.before parts.after parts.mid parts.first parts.final (syntax s d.tree) _ w.divides parts.whole parts.final-is
-      parts.span-is words-said.cpu words-said.objects)
+      parts.span-is words_said.cpu words_said.objects)
 
-  normal-tree : Planted s n d normal-parts.middle (normal-parts.heading ++ (normal-parts.middle ++ normal-parts.last))
-  normal-tree =
-      planted_text s n d parts words-said normal-parts.heading normal-parts.middle normal-parts.last normal-parts.heading-words
-      normal-parts.middle-words normal-parts.last-words
+  normal_tree : Planted s n d normal_parts.middle (normal_parts.heading ++ (normal_parts.middle ++ normal_parts.last))
+  normal_tree =
+      planted_text s n d parts words_said normal_parts.heading normal_parts.middle normal_parts.last normal_parts.heading-words
+      normal_parts.middle-words normal_parts.last-words
 
-  normal-derivation : Derivation (tokens n)
-  normal-derivation = record { tree = normal-tree.tree; leaves = normal-tree.leaves ∙ sym normal-parts.whole }
+  normal_derivation : Derivation (tokens n)
+  normal_derivation = record { tree = normal_tree.tree; leaves = normal_tree.leaves ∙ sym normal_parts.whole }
 
-  normal-words : each (plain_word n) (tokens n)
+  normal_words : each (plain_word n) (tokens n)
       ≡ version_words ++ (each (plain_word s) (implementation_leaves d.tree) ++ application_words (syntax s d.tree) (all_values (syntax s d.tree) (syntax s d.tree).objects))
-  normal-words =
-      ap (each (plain_word n)) normal-parts.whole
-      ∙ each_append (plain_word n) normal-parts.heading (normal-parts.middle ++ normal-parts.last)
-      ∙ ap₂ ◌++◌ normal-parts.heading-words
-      (each_append (plain_word n) normal-parts.middle normal-parts.last
-      ∙ ap₂ ◌++◌ (normal-parts.middle-words ∙ ap (each (plain_word s)) (sym parts.leaves-are)) normal-parts.last-words)
+  normal_words =
+      ap (each (plain_word n)) normal_parts.whole
+      ∙ each_append (plain_word n) normal_parts.heading (normal_parts.middle ++ normal_parts.last)
+      ∙ ap₂ ◌++◌ normal_parts.heading-words
+      (each_append (plain_word n) normal_parts.middle normal_parts.last
+      ∙ ap₂ ◌++◌ (normal_parts.middle-words ∙ ap (each (plain_word s)) (sym parts.leaves-are)) normal_parts.last-words)
 
-  normal-covered : Covered n
-  normal-covered = record {
+  normal_covered : Covered n
+  normal_covered = record {
     short = h;
-    divides = normal-parts.divides;
-    shallow = shallow_by_words n (tokens n) (subst (λ l. ShallowWords l) (sym normal-words) (normal_shallow s d w.shallow words-said));
+    divides = normal_parts.divides;
+    shallow = shallow_by_words n (tokens n) (subst (λ l. ShallowWords l) (sym normal_words) (normal_shallow s d w.shallow words_said));
   }
 
   -- What it means.
   module _ (t : Tables) (q : answer (syntax s d.tree) ≡ accepted t) where
-    same-meaning : MeansSame (syntax s d.tree) t
-    same-meaning = means_same s d t q
+    same_meaning : MeansSame (syntax s d.tree) t
+    same_meaning = means_same s d t q
 
-    accepted-back : Accepts (answer (syntax n normal-tree.tree)) same-meaning.back
-    accepted-back =
-        accepts same-meaning.back same-meaning.one-part (answer_unplaced (syntax n normal-tree.tree)) (ap answer normal-tree.syntax-is ∙ same-meaning.accepts)
+    accepted_back : Accepts (answer (syntax n normal_tree.tree)) same_meaning.back
+    accepted_back =
+        accepts same_meaning.back same_meaning.one-part (answer_unplaced (syntax n normal_tree.tree)) (ap answer normal_tree.syntax-is ∙ same_meaning.accepts)
 
-    lines-again : lines_of (syntax n normal-tree.tree) ≡ lines_of (syntax s d.tree)
+    lines_again : lines_of (syntax n normal_tree.tree) ≡ lines_of (syntax s d.tree)
     unfolding lines_of
-    lines-again = sym (application_unplaced (syntax n normal-tree.tree)) ∙ ap lines_of normal-tree.syntax-is ∙ same-meaning.lines
+    lines_again = sym (application_unplaced (syntax n normal_tree.tree)) ∙ ap lines_of normal_tree.syntax-is ∙ same_meaning.lines
 
-    copied-again : part n (syntax n normal-tree.tree).implementation ≡ part s (syntax s d.tree).implementation
-    copied-again =
-        ap (part n) normal-tree.span-is ∙ normal-parts.copied normal-tree.first normal-tree.final normal-tree.mid normal-tree.middle-is
+    copied_again : part n (syntax n normal_tree.tree).implementation ≡ part s (syntax s d.tree).implementation
+    copied_again =
+        ap (part n) normal_tree.span-is ∙ normal_parts.copied normal_tree.first normal_tree.final normal_tree.mid normal_tree.middle-is
 
-    normal-again : normal n (syntax n normal-tree.tree) ≡ n
+    normal_again : normal n (syntax n normal_tree.tree) ≡ n
     unfolding normal lines_of
-    normal-again =
-        ap₂ (λ i l. bytes_of "OIL_VERSION = \"2.5\";\n" ++ (i ++ (bytes_of "\n" ++ l))) copied-again lines-again ∙ sym e
+    normal_again =
+        ap₂ (λ i l. bytes_of "OIL_VERSION = \"2.5\";\n" ++ (i ++ (bytes_of "\n" ++ l))) copied_again lines_again ∙ sym e
 
-    reads-back-derived : reading n ≡ accepted accepted-back.placed
-    unfolding normal-derivation
-    reads-back-derived = reading_derived n normal-covered normal-derivation ∙ accepted-back.accepted-as
+    reads_back_derived : reading n ≡ accepted accepted_back.placed
+    unfolding normal_derivation
+    reads_back_derived = reading_derived n normal_covered normal_derivation ∙ accepted_back.accepted-as
 
-    stated_again : AllStated accepted-back.placed.values
-    stated_again = accepted-back.stated-as same-meaning.stated
+    stated_again : AllStated accepted_back.placed.values
+    stated_again = accepted_back.stated-as same_meaning.stated
 
-    same-again : bare accepted-back.placed ≡ bare t
-    same-again = accepted-back.same-as ∙ same-meaning.same
+    same_again : bare accepted_back.placed ≡ bare t
+    same_again = accepted_back.same-as ∙ same_meaning.same
 
     -- The words of the rows are those of the syntax, in either text.
-    row-words-again : words_of n accepted-back.placed ≡ words_of s t
-    row-words-again =
-        let f = syntax n normal-tree.tree in
-        ap (words_of n) (sym (accepted_tables f accepted-back.placed accepted-back.accepted-as)) ∙ names_there n normal-tree.tree
-        ∙ sym (names_unplaced f) ∙ ap names_of normal-tree.syntax-is ∙ same-meaning.names
+    row_words_again : words_of n accepted_back.placed ≡ words_of s t
+    row_words_again =
+        let f = syntax n normal_tree.tree in
+        ap (words_of n) (sym (accepted_tables f accepted_back.placed accepted_back.accepted-as)) ∙ names_there n normal_tree.tree
+        ∙ sym (names_unplaced f) ∙ ap names_of normal_tree.syntax-is ∙ same_meaning.names
         ∙ sym (names_there s d.tree) ∙ ap (words_of s) (accepted_tables (syntax s d.tree) t q)
 
     -- Nor do ranges change, which are copied with the implementation.
-    ranges-again : ranges_of n accepted-back.placed ≡ ranges_of s t
+    ranges_again : ranges_of n accepted_back.placed ≡ ranges_of s t
     unfolding ranges_of tables
-    ranges-again =
-        let f = syntax n normal-tree.tree in
-        ap (ranges_of n) (sym (accepted_tables f accepted-back.placed accepted-back.accepted-as))
-        ∙ sym (ranges_same s n d.tree normal-tree.tree
-        (subst₂ (λ a b. Copied s n a b) (sym parts.leaves-are) (sym normal-tree.leaves-are) normal-parts.at_offset))
+    ranges_again =
+        let f = syntax n normal_tree.tree in
+        ap (ranges_of n) (sym (accepted_tables f accepted_back.placed accepted_back.accepted-as))
+        ∙ sym (ranges_same s n d.tree normal_tree.tree
+        (subst₂ (λ a b. Copied s n a b) (sym parts.leaves-are) (sym normal_tree.leaves-are) normal_parts.at_offset))
         ∙ ap (ranges_of s) (accepted_tables (syntax s d.tree) t q)
 
-    own-normal : normal_text n ≡ n
-    unfolding normal-derivation
-    own-normal = normal_derived n normal-covered normal-derivation ∙ normal-again
+    own_normal : normal_text n ≡ n
+    unfolding normal_derivation
+    own_normal = normal_derived n normal_covered normal_derivation ∙ normal_again
 
 -- The syntax of a normal text.
 pub record NormalFile (n : List ℕ) (f : File) : Type 0 where
@@ -177,28 +177,28 @@ pub record NormalFile (n : List ℕ) (f : File) : Type 0 where
   pub restates : unplaced file ≡ restated_file f
 
 pub normal_file : (s : List ℕ) → Covered s → (d : Derivation (tokens s)) (n : List ℕ) → n ≡ normal s (syntax s d.tree) → length n ≤ 65535 → NormalFile n (syntax s d.tree)
-unfolding normal-derivation
+unfolding normal_derivation
 normal_file s w d n e h = record {
-  file = syntax n (normal-tree s w d n e h).tree;
-  parses = parse_derived n (normal-covered s w d n e h) (normal-derivation s w d n e h);
-  restates = (normal-tree s w d n e h).syntax-is;
+  file = syntax n (normal_tree s w d n e h).tree;
+  parses = parse_derived n (normal_covered s w d n e h) (normal_derivation s w d n e h);
+  restates = (normal_tree s w d n e h).syntax-is;
 }
 
 by_derivation : {s : List ℕ} {a : Answer} (t : Tables) → Answers s a → a ≡ accepted t → length (normal_text s) ≤ 65535 → ReadsBack s t (normal_text s)
 by_derivation t (too_long k) e h = absurd (let z : ◌≡◌ {A = Bool} false true = cc in false≢true z)
-by_derivation t (not-grammar a k m q) e h = absurd (let z : ◌≡◌ {A = Bool} false true = cc in false≢true z)
+by_derivation t (not_grammar a k m q) e h = absurd (let z : ◌≡◌ {A = Bool} false true = cc in false≢true z)
 by_derivation {s} t (meant w d) e h =
     let n = normal_text s in
     let i = normal_derived s w d in
     record {
-      back = (accepted-back s w d n i h t e).placed;
-      accepts = subst (λ a. TheAnswer n a) (reads-back-derived s w d n i h t e) (the_answer n);
+      back = (accepted_back s w d n i h t e).placed;
+      accepts = subst (λ a. TheAnswer n a) (reads_back_derived s w d n i h t e) (the_answer n);
       stated = stated_again s w d n i h t e;
-      same = same-again s w d n i h t e;
-      one-part = (accepted-back s w d n i h t e).parts-as;
-      words = row-words-again s w d n i h t e;
-      ranges = ranges-again s w d n i h t e;
-      again = subst (λ m. TheNormalText n m) (own-normal s w d n i h t e) (the_normal_text _ (answers n) (reads-back-derived s w d n i h t e));
+      same = same_again s w d n i h t e;
+      one_part = (accepted_back s w d n i h t e).parts-as;
+      words = row_words_again s w d n i h t e;
+      ranges = ranges_again s w d n i h t e;
+      again = subst (λ m. TheNormalText n m) (own_normal s w d n i h t e) (the_normal_text _ (answers n) (reads_back_derived s w d n i h t e));
     }
 
 -- "an accepted text written out in full reads back to the same values": for every accepted text whose normal text is at most 65,535 bytes.

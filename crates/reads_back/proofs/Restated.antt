@@ -9,7 +9,7 @@ use Rattle.token.specs.Words.{bytes_of}
 use Rattle.token.specs.Lexing.{lex_from, more, ended}
 use Rattle.token.specs.declared.Sort.{Sort as TokenSort}
 use mathlib.Core.Bool.{true}
-use Rattle.grammar.specs.Grammar.{Token, Class, matches, the, sg, numeral, quoted, word, sign, OIL-VERSION, CPU, AUTO, TRUE, FALSE, lbrace, rbrace, equals, semicolon, kind as a-kind, name as a_name, number as a_number, string as a_string, float as a_float}
+use Rattle.grammar.specs.Grammar.{Token, Class, matches, the, sg, numeral, quoted, word, sign, OIL-VERSION, CPU, AUTO, TRUE, FALSE, lbrace, rbrace, equals, semicolon, kind as a_kind, name as a_name, number as a_number, string as a_string, float as a_float}
 use Rattle.grammar.specs.Terminals.{class_of}
 use Rattle.meaning.specs.Syntax.{Word, absent, Statements, done, state, Object, File}
 use Rattle.meaning.specs.Actions.{zero_num, num_of_sort, float_of_sort, word_of, kind_of}
@@ -128,12 +128,12 @@ AllAlone (w ∷ ws) = Alone w × AllAlone ws
 -- The grammar has a word of the class c as a value, with braces where something is under it.
 pub data Stateable (c : Class) : Resolved → Type 0 where
   as_number : matches a_number c ≡ true → Stateable c end
-  as-string : matches a_string c ≡ true → Stateable c end
-  as-float : matches a_float c ≡ true → Stateable c end
-  as-auto : matches (the AUTO) c ≡ true → Stateable c end
-  as-name : {r : Resolved} → matches a_name c ≡ true → Stateable c r
-  as-true : {r : Resolved} → matches (the TRUE) c ≡ true → Stateable c r
-  as-false : {r : Resolved} → matches (the FALSE) c ≡ true → Stateable c r
+  as_string : matches a_string c ≡ true → Stateable c end
+  as_float : matches a_float c ≡ true → Stateable c end
+  as_auto : matches (the AUTO) c ≡ true → Stateable c end
+  as_name : {r : Resolved} → matches a_name c ≡ true → Stateable c r
+  as_true : {r : Resolved} → matches (the TRUE) c ≡ true → Stateable c r
+  as_false : {r : Resolved} → matches (the FALSE) c ≡ true → Stateable c r
 
 -- A name that stands alone.
 pub record Named (w : Word) : Type 0 where
@@ -153,7 +153,7 @@ SaidLines (resolved t us rest) = SaidTaken t us × SaidLines us × SaidLines res
 pub record SaidObject (x : Object) (r : Resolved) (i : ℕ) : Type 0 where
   pub row_is : x.row ≡ i
   pub word_alone : Alone (unplaced_word x.word)
-  pub word_class : matches a-kind x.word.class ≡ true
+  pub word_class : matches a_kind x.word.class ≡ true
   pub kind_is : kind_of x.word.class ≡ x.kind
   pub name : Named x.name
   pub lines : SaidLines r

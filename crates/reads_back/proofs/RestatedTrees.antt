@@ -3,12 +3,12 @@ use mathlib.Core.Path.{◌≡◌, refl, sym, ◌∙◌, ap, ap₂, subst, subst�
 use mathlib.Core.List.{List, [], ◌∷◌, ◌++◌, append_assoc, append-nil}
 use Prim.Native.Nat.{ℕ, suc, ◌+◌}
 use Rattle.token.specs.Words.{bytes_of}
-use Rattle.grammar.specs.Grammar.{Kind, word, CPU, matches, sg, rbrace, semicolon, Form, ◌·◌, ◌▸◌, ∎, D, application, objects, block, statements, no-D, application-is, no_object, an_object, an-object-with, no-statement, a_statement, statement-is, value-number, value-string, value-float, value-auto, value-name, value-true, value-false, no_block, a_block, value as value-rule}
+use Rattle.grammar.specs.Grammar.{Kind, word, CPU, matches, sg, rbrace, semicolon, Form, ◌·◌, ◌▸◌, ∎, D, application, objects, block, statements, no_D, application_is, no_object, an_object, an_object_with, no_statement, a_statement, statement_is, value_number, value_string, value_float, value_auto, value_name, value_true, value_false, no_block, a_block, value as value-rule}
 use Rattle.meaning.specs.Syntax.{Word, absent, through, state, Object, File, statements_in}
 use Rattle.meaning.specs.Actions.{kind_of, Application, Block, Parts, stating, means}
 use Rattle.meaning.specs.Resolving.{Resolved, end, resolved, all_values, how_many_values}
 use Rattle.meaning.proofs.Unplaced.{unplaced_word}
-use Rattle.reads_back.proofs.Restated.{given, opening, closing, equal_sign, stop, restated_word, closed_words, line_words, object_words, application_words, brace_after, restated, restated_object, restated_objects, Stateable, as_number, as-string, as-float, as-auto, as-name, as-true, as-false, SaidLines, SaidObjects, Said}
+use Rattle.reads_back.proofs.Restated.{given, opening, closing, equal_sign, stop, restated_word, closed_words, line_words, object_words, application_words, brace_after, restated, restated_object, restated_objects, Stateable, as_number, as_string, as_float, as_auto, as_name, as_true, as_false, SaidLines, SaidObjects, Said}
 use Rattle.reads_back.proofs.WordTrees.{WordTrees, word_nil, word_leaf, word_node}
 
 -- Statements ---------------------------------------------------------------------------------------------------------------------------------
@@ -36,7 +36,7 @@ closed_block (resolved t us rest) = ap (opening ∷◌) (append_assoc (line_word
 -- No D, and the semicolon.
 stop_tree : WordTrees (D ▸ sg semicolon · ∎) (stop ∷ []) (tt, (stop, tt))
 unfolding means matches given
-stop_tree = word_node no-D word_nil (word_leaf stop refl word_nil)
+stop_tree = word_node no_D word_nil (word_leaf stop refl word_nil)
 
 block_tree : (us : Resolved) → WordTrees (statements ▸ sg rbrace · ∎) (line_words us ++ (closing ∷ [])) (restated us, (closing, tt))
     → WordTrees (block ▸ ∎) (block_words us) (block_of us, tt)
@@ -49,13 +49,13 @@ block_tree (resolved t us rest) s =
 value_tree : {f : Form} {ws : List Word} {m : Parts f} (w : Word) (us : Resolved) → Stateable w.class us → WordTrees (block ▸ ∎) (block_words us) (block_of us, tt)
     → WordTrees f ws m → WordTrees (value-rule ▸ f) (w ∷ (block_words us ++ ws)) (record { word = w; block = block_of us }, m)
 unfolding means block_words block_of brace_after restated
-value_tree w end (as_number h) b more = word_node value-number (word_leaf w h word_nil) more
-value_tree w end (as-string h) b more = word_node value-string (word_leaf w h word_nil) more
-value_tree w end (as-float h) b more = word_node value-float (word_leaf w h word_nil) more
-value_tree w end (as-auto h) b more = word_node value-auto (word_leaf w h word_nil) more
-value_tree w us (as-name h) b more = word_node value-name (word_leaf w h b) more
-value_tree w us (as-true h) b more = word_node value-true (word_leaf w h b) more
-value_tree w us (as-false h) b more = word_node value-false (word_leaf w h b) more
+value_tree w end (as_number h) b more = word_node value_number (word_leaf w h word_nil) more
+value_tree w end (as_string h) b more = word_node value_string (word_leaf w h word_nil) more
+value_tree w end (as_float h) b more = word_node value_float (word_leaf w h word_nil) more
+value_tree w end (as_auto h) b more = word_node value_auto (word_leaf w h word_nil) more
+value_tree w us (as_name h) b more = word_node value_name (word_leaf w h b) more
+value_tree w us (as_true h) b more = word_node value_true (word_leaf w h b) more
+value_tree w us (as_false h) b more = word_node value_false (word_leaf w h b) more
 
 -- The words of a line and of those behind it.
 line_grouped : (a b c : Word) (us rest : Resolved) (ws : List Word)
@@ -66,7 +66,7 @@ line_grouped a b c us rest ws = ap₂ (λ x y. (a ∷ b ∷ c ∷ (x ++ y)) ++ w
 lines_tree : {f : Form} {ws : List Word} {m : Parts f} (r : Resolved) → SaidLines r → WordTrees f ws m
     → WordTrees (statements ▸ f) (line_words r ++ ws) (restated r, m)
 unfolding means matches given line_words restated stating block_of unplaced_word
-lines_tree end h more = word_node no-statement word_nil more
+lines_tree end h more = word_node no_statement word_nil more
 lines_tree {f} {ws} {m} (resolved t us rest) (h, hs, hr) more =
     let w = restated_word t.value t.word in
     let b = block_tree us (lines_tree us hs (word_leaf closing refl word_nil)) in
@@ -75,7 +75,7 @@ lines_tree {f} {ws} {m} (resolved t us rest) (h, hs, hr) more =
     (line_grouped (unplaced_word t.definition.name) equal_sign w us rest ws)
     (λ i k. state (record { number = k; name = unplaced_word t.definition.name; value = w; brace = brace_after us })
     (restated us (suc k)) (restated rest (suc k + restated_count us (suc k) i)))
-    (word_node a_statement (word_node statement-is (word_leaf (unplaced_word t.definition.name) h.name.class-is (word_leaf equal_sign refl v))
+    (word_node a_statement (word_node statement_is (word_leaf (unplaced_word t.definition.name) h.name.class-is (word_leaf equal_sign refl v))
     (lines_tree rest hr word_nil)) more)
 
 -- Objects ------------------------------------------------------------------------------------------------------------------------------------
@@ -114,7 +114,7 @@ objects_tree {f} {ws} {m} (x ∷ xs) (r ∷ rs) n (h, hs) more =
     (object_grouped (unplaced_word x.word) (unplaced_word x.name) (line_words r) (object_words xs rs) ws)
     (λ i n k. record { row = n; kind = kind_of x.word.class; word = unplaced_word x.word; name = unplaced_word x.name; block = absent; parts = 1; statements = restated r k }
     ∷ said_objects xs rs (suc n) (k + restated_count r k i))
-    (word_node an_object (word_node an-object-with (word_leaf (unplaced_word x.word) h.word-class (word_leaf (unplaced_word x.name) h.name.class-is
+    (word_node an_object (word_node an_object_with (word_leaf (unplaced_word x.word) h.word-class (word_leaf (unplaced_word x.name) h.name.class-is
     (word_leaf opening refl (lines_tree r h.lines (word_leaf closing refl stop_tree))))) (objects_tree xs rs (suc n) hs word_nil)) more)
 
 -- The application ----------------------------------------------------------------------------------------------------------------------------
@@ -131,5 +131,5 @@ application_tree f h =
     subst₂ (λ l (xs : List Object). WordTrees (application ▸ ∎) l (record { name = unplaced_word f.cpu; objects = xs }, tt))
     (append-nil (application_words f rs))
     (said_restated f.objects rs 0 0 h.objects)
-    (word_node application-is (word_leaf (given (word CPU) (bytes_of "CPU")) refl (word_leaf (unplaced_word f.cpu) h.cpu.class-is
+    (word_node application_is (word_leaf (given (word CPU) (bytes_of "CPU")) refl (word_leaf (unplaced_word f.cpu) h.cpu.class-is
     (word_leaf opening refl (objects_tree f.objects rs 0 h.objects (word_leaf closing refl stop_tree))))) word_nil)

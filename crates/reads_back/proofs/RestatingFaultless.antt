@@ -14,8 +14,8 @@ use Rattle.meaning.specs.Syntax.{Word, AttributeType, integer, string, boolean, 
 use Rattle.meaning.specs.Words.{among}
 use Rattle.meaning.specs.Faults.{Fault, faults_if}
 use Rattle.meaning.specs.Scopes.{Sort, a_number, a_string, a_truth, an_auto, a_no_default, a_name, a_float, sort_of, under, find_definition, heads, names, find_object, fits_number, fits_as, fits}
-use Rattle.meaning.specs.Defining.{range_faults, default_wrong, default_number, default_faults, defined_in, differs, name_faults, word_faults, scope-faults, value-faults}
-use Rattle.meaning.specs.Judging.{is_no_default, taken_by, taken, lacking, lacks, lacks-under, reference_faults, brace_faults, faults_as, own_faults, and_inside, judged, judge}
+use Rattle.meaning.specs.Defining.{range_faults, default_wrong, default_number, default_faults, defined_in, differs, name_faults, word_faults, scope_faults, value_faults}
+use Rattle.meaning.specs.Judging.{is_no_default, taken_by, taken, lacking, lacks, lacks_under, reference_faults, brace_faults, faults_as, own_faults, and_inside, judged, judge}
 use Rattle.meaning.proofs.Rooms.{nothing_front, nothing_back, not_faulty}
 use Rattle.reads_back.proofs.WordingClasses.{is_number}
 use Rattle.reads_back.proofs.RestatingScopes.{is_reference, Taking, numbered, told, referred}
@@ -30,10 +30,10 @@ some_fault e = let z : ◌≡◌ {A = Bool} false true = cc in false≢true z
 
 -- What no fault of a definition and those behind it says.
 pub record FreeDefinition (d : Definition) (vs : Values) (ds : Definitions) (others before : List Definition) : Type 0 where
-  pub inside : value-faults vs (is_enum d.type) [] [] ≡ []
+  pub inside : value_faults vs (is_enum d.type) [] [] ≡ []
   pub name : defined_in d.name before ≡ false
   pub default : default_faults d vs d.default ≡ []
-  pub rest : scope-faults ds others (before ++ (d ∷ [])) ≡ []
+  pub rest : scope_faults ds others (before ++ (d ∷ [])) ≡ []
 
 name_free : (d : Definition) (others before : List Definition) → name_faults d others before ≡ [] → defined_in d.name before ≡ false
 unfolding name_faults
@@ -43,43 +43,43 @@ name_free d others before e =
     not_faulty (defined_in d.name before) d.name 8 (nothing_front b c (nothing_back (faults_if (eqb d.row 512) d.name 7) (b ++ c) e))
 
 -- It holds where a scope has no fault.
-pub free_definition : (d : Definition) (vs : Values) (ds : Definitions) (others before : List Definition) → scope-faults (define d vs ds) others before ≡ []
+pub free_definition : (d : Definition) (vs : Values) (ds : Definitions) (others before : List Definition) → scope_faults (define d vs ds) others before ≡ []
     → FreeDefinition d vs ds others before
-unfolding scope-faults
+unfolding scope_faults
 free_definition d vs ds others before e =
     let a = range_faults d.type d.bounds in
-    let b = value-faults vs (is_enum d.type) [] [] in
+    let b = value_faults vs (is_enum d.type) [] [] in
     let c = name_faults d others before in
     let f = default_faults d vs d.default in
-    let r = scope-faults ds others (before ++ (d ∷ [])) in
+    let r = scope_faults ds others (before ++ (d ∷ [])) in
     let i = nothing_back a (b ++ (c ++ f)) (nothing_front (a ++ (b ++ (c ++ f))) r e) in
     let j = nothing_back b (c ++ f) i in
     record { inside = nothing_front b (c ++ f) i; name = name_free d others before (nothing_front c f j); default = nothing_back c f j; rest = nothing_back (a ++ (b ++ (c ++ f))) r e }
 
 -- The definitions under a value, and the values behind it.
-pub free_value : (w : Word) (e : ℕ) (us : Definitions) (vs : Values) (b : Bool) (before : List Word) (others : List Definition) → value-faults (value w e us vs) b before others ≡ []
-    → (scope-faults us others [] ≡ []) × (value-faults vs b (before ++ (w ∷ [])) (others ++ heads us) ≡ [])
-unfolding scope-faults
+pub free_value : (w : Word) (e : ℕ) (us : Definitions) (vs : Values) (b : Bool) (before : List Word) (others : List Definition) → value_faults (value w e us vs) b before others ≡ []
+    → (scope_faults us others [] ≡ []) × (value_faults vs b (before ++ (w ∷ [])) (others ++ heads us) ≡ [])
+unfolding scope_faults
 free_value w e us vs b before others h =
     let a = word_faults b e w before in
-    let c = scope-faults us others [] in
-    let r = value-faults vs b (before ++ (w ∷ [])) (others ++ heads us) in
+    let c = scope_faults us others [] in
+    let r = value_faults vs b (before ++ (w ∷ [])) (others ++ heads us) in
     (nothing_back a c (nothing_front (a ++ c) r h), nothing_back (a ++ c) r h)
 
 -- What must be stated ----------------------------------------------------------------------------------------------------------------------
 
 -- An attribute that is not stated lacks nothing,
 pub free_lack : (d : Definition) (vs : Values) (ds : Definitions) (ns : List Word) → lacks (define d vs ds) ns ≡ false → among d.name ns ≡ false
-    → lacking (taken d.default) d.list (λ t. lacks-under vs t) ≡ false
+    → lacking (taken d.default) d.list (λ t. lacks_under vs t) ≡ false
 unfolding lacks
 free_lack d vs ds ns e h =
-    let l = lacking (taken d.default) d.list (λ t. lacks-under vs t) in
+    let l = lacking (taken d.default) d.list (λ t. lacks_under vs t) in
     ap (λ b. both (not b) l) (sym h) ∙ neither_first (both (not (among d.name ns)) l) (lacks ds ns) e
 
 -- and neither do those behind it.
 pub free_lacks : (d : Definition) (vs : Values) (ds : Definitions) (ns : List Word) → lacks (define d vs ds) ns ≡ false → lacks ds ns ≡ false
 unfolding lacks
-free_lacks d vs ds ns e = neither_second (both (not (among d.name ns)) (lacking (taken d.default) d.list (λ t. lacks-under vs t))) (lacks ds ns) e
+free_lacks d vs ds ns e = neither_second (both (not (among d.name ns)) (lacking (taken d.default) d.list (λ t. lacks_under vs t))) (lacks ds ns) e
 
 -- An attribute without a default that is not stated is a list.
 pub free_list : (o : Option Word) (b : Bool) (f : Word → Bool) → lacking o b f ≡ false → o ≡ none → b ≡ true
@@ -157,15 +157,15 @@ stated_taking : (os : List Object) (x : Statement) (d : Definition) (vs : Values
 unfolding is_reference
 stated_taking os x d vs p e = go d.type refl e
   where
-    as-fit : is_reference d.type ≡ false → Taking os d vs x.value
-    as-fit r = fit_taking os d vs x.value p r (fits_free d.type os x d vs r e)
+    as_fit : is_reference d.type ≡ false → Taking os d vs x.value
+    as_fit r = fit_taking os d vs x.value p r (fits_free d.type os x d vs r e)
 
     go : (y : AttributeType) → d.type ≡ y → faults_as y os x (record { definition = d; values = vs }) ≡ [] → Taking os d vs x.value
-    go (integer i) q f = as-fit (ap is_reference q)
-    go string q f = as-fit (ap is_reference q)
-    go float q f = as-fit (ap is_reference q)
-    go boolean q f = as-fit (ap is_reference q)
-    go enum q f = as-fit (ap is_reference q)
+    go (integer i) q f = as_fit (ap is_reference q)
+    go string q f = as_fit (ap is_reference q)
+    go float q f = as_fit (ap is_reference q)
+    go boolean q f = as_fit (ap is_reference q)
+    go enum q f = as_fit (ap is_reference q)
     go (reference k) q f = refers_free os x d vs k p q f
 
 -- A default that is taken fits.
@@ -213,8 +213,8 @@ default_taking os d vs t p e q =
 pub record FreeStatement (os : List Object) (x : Statement) (inside : Statements) (d : Definition) (vs : Values) (l : List Word) : Type 0 where
   pub again : both (not d.list) (among x.name l) ≡ false
   pub taking : Taking os d vs x.value
-  pub lacks-none : lacks (under vs x.value) (names inside) ≡ false
-  pub judged-none : judge inside os (under vs x.value) [] ≡ []
+  pub lacks_none : lacks (under vs x.value) (names inside) ≡ false
+  pub judged_none : judge inside os (under vs x.value) [] ≡ []
 
 inside_free : (own : List Fault) (x : Statement) (us : Definitions) (ns : List Word) (k : Definitions → List Fault) → and_inside own x us ns k ≡ []
     → (own ≡ []) × ((lacks us ns ≡ false) × (k us ≡ []))
@@ -241,8 +241,8 @@ free_statement os x inside rest all d vs l p q e =
     record {
       again = not_faulty (both (not d.list) (among x.name l)) x.name 14 (nothing_front b c i.0);
       taking = stated_taking os x d vs p (nothing_back b c i.0);
-      lacks-none = i.1.0;
-      judged-none = i.1.1;
+      lacks_none = i.1.0;
+      judged_none = i.1.1;
     }
 
 -- The statements behind one have no fault.

@@ -15,7 +15,7 @@ use Rattle.meaning.specs.Words.{alike}
 use Rattle.meaning.specs.Kinds.{same_kind, fewest, most}
 use Rattle.meaning.specs.Faults.{faults_if}
 use Rattle.meaning.specs.Scopes.{of_kind, names}
-use Rattle.meaning.specs.Defining.{scope-faults, specified, spec_faults}
+use Rattle.meaning.specs.Defining.{scope_faults, specified, spec_faults}
 use Rattle.meaning.specs.Applying.{how_many, too_few, full, statement_faults, each_object, each_part, elsewhere, each_name}
 use Rattle.meaning.proofs.Numbering.{Counts, counts_more, object_numbers}
 use Rattle.meaning.specs.Judging.{lacks, judge, judge_object, judge_objects}
@@ -27,24 +27,24 @@ use Rattle.reads_back.proofs.Restated.{restated, restated_object, restated_objec
 use Rattle.reads_back.proofs.SameValues.{Same, SameAll, none_same, more_same, same_lines}
 use Rattle.reads_back.proofs.RestatingScopes.{whole, Settled}
 use Rattle.reads_back.proofs.RestatingValues.{SameObjects}
-use Rattle.reads_back.proofs.RestatingResolved.{restated-resolves}
-use Rattle.reads_back.proofs.RestatingJudged.{restated_lacks, restated-judged}
+use Rattle.reads_back.proofs.RestatingResolved.{restated_resolves}
+use Rattle.reads_back.proofs.RestatingJudged.{restated_lacks, restated_judged}
 use Rattle.reads_back.proofs.RestatingPlain.{AllPlain, none_plain, PlainSpecs, no_specs, more_specs}
 use Rattle.reads_back.proofs.RestatingSettled.{settle}
 use Rattle.reads_back.proofs.SameKindred.{Kindred, AllKindred, no_kindred, more_kindred, kindred_behind, kindred_many}
 
 -- The definitions of a kind ------------------------------------------------------------------------------------------------------------------
 
-kind_free : (k : Kind) (before xs : List Spec) → spec_faults before xs ≡ [] → scope-faults (of_kind k xs) [] [] ≡ []
-unfolding spec_faults of_kind scope-faults
+kind_free : (k : Kind) (before xs : List Spec) → spec_faults before xs ≡ [] → scope_faults (of_kind k xs) [] [] ≡ []
+unfolding spec_faults of_kind scope_faults
 kind_free k before [] e = refl
 kind_free k before (x ∷ xs) e =
     let a = faults_if (specified x before) x.word 8 in
-    let b = scope-faults x.definitions [] [] in
+    let b = scope_faults x.definitions [] [] in
     let r = spec_faults (before ++ (x ∷ [])) xs in
     go (same_kind k x.kind) (nothing_back a b (nothing_front (a ++ b) r e)) (kind_free k (before ++ (x ∷ [])) xs (nothing_back (a ++ b) r e))
   where
-    go : (b : Bool) → scope-faults x.definitions [] [] ≡ [] → scope-faults (of_kind k xs) [] [] ≡ [] → scope-faults (pick b x.definitions (of_kind k xs)) [] [] ≡ []
+    go : (b : Bool) → scope_faults x.definitions [] [] ≡ [] → scope_faults (of_kind k xs) [] [] ≡ [] → scope_faults (pick b x.definitions (of_kind k xs)) [] [] ≡ []
     go true p q = p
     go false p q = q
 
@@ -61,20 +61,20 @@ kind_plain k (more_specs {x} {xs} p q) = go (same_kind k x.kind) (kind_plain k q
 
 -- The resolved values of each object are settled.
 pub data SettledObjects (f : File) : List Object → Type 0 where
-  no-objects : SettledObjects f []
-  more-objects : {x : Object} {xs : List Object} → Settled f.objects [] (of_kind x.kind f.specs) (object_values f x) → SettledObjects f xs → SettledObjects f (x ∷ xs)
+  no_objects : SettledObjects f []
+  more_objects : {x : Object} {xs : List Object} → Settled f.objects [] (of_kind x.kind f.specs) (object_values f x) → SettledObjects f xs → SettledObjects f (x ∷ xs)
 
 -- So it is where no stage has a fault.
 pub settle_objects : (f : File) (xs : List Object) → spec_faults [] f.specs ≡ [] → PlainSpecs f.specs → judge_objects f xs ≡ [] → SettledObjects f xs
 unfolding judge_objects judge_object object_values
-settle_objects f [] e p j = no-objects
+settle_objects f [] e p j = no_objects
 settle_objects f (x ∷ xs) e p j =
     let ds = of_kind x.kind f.specs in
     let a = faults_if (lacks ds (names x.statements)) x.name 16 in
     let b = judge x.statements f.objects ds [] in
     let r = judge_objects f xs in
     let i = nothing_front (a ++ b) r j in
-    more-objects
+    more_objects
     (settle f.objects ds [] [] x.statements whole (kind_free x.kind [] f.specs e) (kind_plain x.kind p)
     (not_faulty (lacks ds (names x.statements)) x.name 16 (nothing_front a b i)) (nothing_back a b i))
     (settle_objects f xs e p (nothing_back (a ++ b) r j))
@@ -93,36 +93,36 @@ restated_kindred f (x ∷ xs) k = more_kindred (restated_kin x (object_values f 
 
 -- A file with the definitions of f and the objects os.
 module _ (f : File) (g : File) (specs-are : g.specs ≡ f.specs) (kin : SameObjects f.objects g.objects) where
-  restated-values : (x : Object) (r : Resolved) (k : ℕ) → Settled f.objects [] (of_kind x.kind f.specs) r → Same (object_values g (restated_object x r k)) r
+  restated_values : (x : Object) (r : Resolved) (k : ℕ) → Settled f.objects [] (of_kind x.kind f.specs) r → Same (object_values g (restated_object x r k)) r
   unfolding object_values restated_object
-  restated-values x r k s =
+  restated_values x r k s =
       subst (λ ss. Same (resolve (of_kind x.kind ss) g.objects (restated r k)) r) (sym specs-are)
-      (restated-resolves kin k s)
+      (restated_resolves kin k s)
 
   -- They resolve to the same values.
-  pub all-restated-values : {xs : List Object} (k : ℕ) → SettledObjects f xs → SameAll (all_values g (restated_objects xs (all_values f xs) k)) (all_values f xs)
+  pub all_restated_values : {xs : List Object} (k : ℕ) → SettledObjects f xs → SameAll (all_values g (restated_objects xs (all_values f xs) k)) (all_values f xs)
   unfolding all_values restated_objects
-  all-restated-values k no-objects = none_same
-  all-restated-values k (more-objects {x} {xs} s p) =
-      more_same (restated-values x (object_values f x) k s) (all-restated-values (k + how_many_values (object_values f x)) p)
+  all_restated_values k no_objects = none_same
+  all_restated_values k (more_objects {x} {xs} s p) =
+      more_same (restated_values x (object_values f x) k s) (all_restated_values (k + how_many_values (object_values f x)) p)
 
-  restated-object-judged : (x : Object) (r : Resolved) (k : ℕ) (ds : Definitions) → Settled f.objects [] ds r → judge_object g (restated_object x r k) ds ≡ []
+  restated_object_judged : (x : Object) (r : Resolved) (k : ℕ) (ds : Definitions) → Settled f.objects [] ds r → judge_object g (restated_object x r k) ds ≡ []
   unfolding judge_object restated_object faults_if
-  restated-object-judged x r k ds s =
-      ap₂ (λ b l. faults_if b (unplaced_word x.name) 16 ++ l) (restated_lacks k s) (restated-judged kin k s)
+  restated_object_judged x r k ds s =
+      ap₂ (λ b l. faults_if b (unplaced_word x.name) 16 ++ l) (restated_lacks k s) (restated_judged kin k s)
 
-  object-kind : (x : Object) (r : Resolved) (k : ℕ) → of_kind (restated_object x r k).kind g.specs ≡ of_kind x.kind f.specs
+  object_kind : (x : Object) (r : Resolved) (k : ℕ) → of_kind (restated_object x r k).kind g.specs ≡ of_kind x.kind f.specs
   unfolding restated_object
-  object-kind x r k = ap (of_kind x.kind) specs-are
+  object_kind x r k = ap (of_kind x.kind) specs-are
 
   -- They have no fault of 13 to 16 and 18.
-  pub restated-objects-judged : {xs : List Object} (k : ℕ) → SettledObjects f xs → judge_objects g (restated_objects xs (all_values f xs) k) ≡ []
+  pub restated_objects_judged : {xs : List Object} (k : ℕ) → SettledObjects f xs → judge_objects g (restated_objects xs (all_values f xs) k) ≡ []
   unfolding all_values restated_objects judge_objects
-  restated-objects-judged k no-objects = refl
-  restated-objects-judged k (more-objects {x} {xs} s p) =
+  restated_objects_judged k no_objects = refl
+  restated_objects_judged k (more_objects {x} {xs} s p) =
       let r = object_values f x in
-      ap₂ ◌++◌ (ap (judge_object g (restated_object x r k)) (object-kind x r k) ∙ restated-object-judged x r k (of_kind x.kind f.specs) s)
-      (restated-objects-judged (k + how_many_values r) p)
+      ap₂ ◌++◌ (ap (judge_object g (restated_object x r k)) (object_kind x r k) ∙ restated_object_judged x r k (of_kind x.kind f.specs) s)
+      (restated_objects_judged (k + how_many_values r) p)
 
 -- 11 and 17 ----------------------------------------------------------------------------------------------------------------------------
 

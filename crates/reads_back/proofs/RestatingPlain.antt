@@ -2,7 +2,7 @@
 use mathlib.Core.List.{List, [], ◌∷◌}
 use mathlib.Core.Option.{Option, none}
 use Prim.Native.Nat.{ℕ, suc}
-use Rattle.grammar.specs.Grammar.{Kind, Integer, Rule, Form, ◌▸◌, ∎, ◌⟶◌, Trees, nil, leaf, node, file, version, implementation, specs, spec, definitions, definition, attribute, D, P, auto, mark, integer_range, numbers, boolean_range, float_range, enumerator, enumerators, application, objects, object, block, statements, statement, default, own, file-is, version_is, implementation-is, no-spec, a-spec, spec_is, no-definition, a_definition, an-attribute, a_reference, an_integer, a_string, a_boolean, an_enum, a_float, reference-is, no-D, a-D, no-P, a-P, no-auto, with-auto, no-mark, a-mark, no-range, a-range, a-list, no_number, a_number, no-boolean-range, no-float-range, a-boolean-range, a-float-range, enumerator_is, no-enumerator, an_enumerator, no_default, a-default, own-auto, own-none, own-number, own-string, own-true, own-false, own_name, own-float, application-is, no_object, an_object, an-object-alone, an-object-with, no_block, a_block, no-statement, a_statement, statement-is, value-number, value-string, value-float, value-auto, value-name, value-true, value-false, reference as reference-rule, value as value-rule}
+use Rattle.grammar.specs.Grammar.{Kind, Integer, Rule, Form, ◌▸◌, ∎, ◌⟶◌, Trees, nil, leaf, node, file, version, implementation, specs, spec, definitions, definition, attribute, D, P, auto, mark, integer_range, numbers, boolean_range, float_range, enumerator, enumerators, application, objects, object, block, statements, statement, default, own, file_is, version_is, implementation_is, no_spec, a_spec, spec_is, no_definition, a_definition, an_attribute, a_reference, an_integer, a_string, a_boolean, an_enum, a_float, reference_is, no_D, a_D, no_P, a_P, no_auto, with_auto, no_mark, a_mark, no_range, a_range, a_list, no_number, a_number, no_boolean_range, no_float_range, a_boolean_range, a_float_range, enumerator_is, no_enumerator, an_enumerator, no_default, a_default, own_auto, own_none, own_number, own_string, own_true, own_false, own_name, own_float, application_is, no_object, an_object, an_object_alone, an_object_with, no_block, a_block, no_statement, a_statement, statement_is, value_number, value_string, value_float, value_auto, value_name, value_true, value_false, reference as reference-rule, value as value-rule}
 use Rattle.meaning.specs.Actions.{M, first_value, truths, defined, defining, specifying, means, meaning, syntax}
 use Rattle.meaning.specs.Syntax.{Word, AttributeType, integer, string, boolean, enum, float, reference, Definition, Definitions, no_more, define, Values, no_value, value, Defined, Spec}
 
@@ -96,15 +96,15 @@ All s (node {x} p us ts) = W x (means p (meaning s us)) × All s ts
 
 means_plain : {x : Rule} {g : Form} (s : List ℕ) (p : x ⟶ g) (us : Trees ◌⟶◌ g) → All s us → W x (means p (meaning s us))
 unfolding means meaning first_value truths defined defining specifying
-means_plain s file-is (node _ v (node _ i (node _ a nil))) h = h.1.0
+means_plain s file_is (node _ v (node _ i (node _ a nil))) h = h.1.0
 means_plain s version_is us h = tt
-means_plain s implementation-is (leaf _ _ (leaf _ _ (leaf _ _ (node _ ss r)))) h = h.0 0 0
-means_plain s no-spec nil h = λ n e. no_specs
-means_plain s a-spec (node _ x (node _ xs nil)) h = λ n e. more_specs (h.0 n e) (h.1.0 _ _)
+means_plain s implementation_is (leaf _ _ (leaf _ _ (leaf _ _ (node _ ss r)))) h = h.0 0 0
+means_plain s no_spec nil h = λ n e. no_specs
+means_plain s a_spec (node _ x (node _ xs nil)) h = λ n e. more_specs (h.0 n e) (h.1.0 _ _)
 means_plain s spec_is (leaf _ _ (leaf _ _ (node _ d r))) h = λ n e. h.0 n e
-means_plain s no-definition nil h = λ n e. none_plain
+means_plain s no_definition nil h = λ n e. none_plain
 means_plain s a_definition (node _ x (node _ xs nil)) h = λ n e. more_plain (h.0 n e).own (h.0 n e).under (h.1.0 _ _)
-means_plain s an-attribute (node _ x nil) h = h.0
+means_plain s an_attribute (node _ x nil) h = h.0
 means_plain s a_reference (node _ x nil) h = h.0
 means_plain s an_integer (leaf _ _ (node _ a (node _ r (leaf x _ (node _ k (node _ d b)))))) h = λ n e. record { own = plain_integer; under = none_under }
 means_plain s a_float (leaf _ _ (node _ a (node _ r (leaf x _ (node _ k (node _ d b)))))) h = λ n e. record { own = plain_float; under = none_under }
@@ -112,55 +112,55 @@ means_plain s a_string (leaf _ _ (node _ a (leaf x _ (node _ k (node _ d b))))) 
 means_plain s a_boolean (leaf _ _ (node _ a (node _ r (leaf x _ (node _ k (node _ d b)))))) h = λ n e. record { own = plain_boolean; under = h.1.0 n e }
 means_plain s an_enum (leaf _ _ (node _ a (leaf _ _ (node q v (node r vs (leaf _ _ (leaf x _ (node _ k (node _ d b))))))))) h = λ n e.
     record { own = plain_enum; under = more_under (h.1.0 n e) (h.1.1.0 _ _) }
-means_plain s reference-is (leaf _ _ (leaf x _ (node _ k b))) h = λ n e. record { own = plain_reference; under = none_under }
-means_plain s no-D us h = tt
-means_plain s a-D us h = tt
-means_plain s no-P nil h = λ n e. none_plain
-means_plain s a-P (leaf _ _ (node _ d (leaf _ _ nil))) h = h.0
-means_plain s no-auto us h = tt
-means_plain s with-auto us h = tt
-means_plain s no-mark us h = tt
-means_plain s a-mark us h = tt
-means_plain s no-range us h = tt
-means_plain s no-float-range us h = tt
-means_plain s a-range us h = tt
-means_plain s a-float-range us h = tt
-means_plain s a-list us h = tt
+means_plain s reference_is (leaf _ _ (leaf x _ (node _ k b))) h = λ n e. record { own = plain_reference; under = none_under }
+means_plain s no_D us h = tt
+means_plain s a_D us h = tt
+means_plain s no_P nil h = λ n e. none_plain
+means_plain s a_P (leaf _ _ (node _ d (leaf _ _ nil))) h = h.0
+means_plain s no_auto us h = tt
+means_plain s with_auto us h = tt
+means_plain s no_mark us h = tt
+means_plain s a_mark us h = tt
+means_plain s no_range us h = tt
+means_plain s no_float_range us h = tt
+means_plain s a_range us h = tt
+means_plain s a_float_range us h = tt
+means_plain s a_list us h = tt
 means_plain s no_number us h = tt
 means_plain s a_number us h = tt
-means_plain s no-boolean-range nil h = λ n e. none_under
-means_plain s a-boolean-range (leaf _ _ (leaf t _ (node _ us (node _ d (leaf _ _ (leaf f _ (node _ vs (node _ b c)))))))) h = λ n e.
+means_plain s no_boolean_range nil h = λ n e. none_under
+means_plain s a_boolean_range (leaf _ _ (leaf t _ (node _ us (node _ d (leaf _ _ (leaf f _ (node _ vs (node _ b c)))))))) h = λ n e.
     more_under (h.0 n e) (more_under (h.1.1.0 _ _) none_under)
 means_plain s enumerator_is (leaf w _ (node _ us (node _ d nil))) h = λ n e. h.0 n (suc e)
-means_plain s no-enumerator nil h = λ n e. none_under
+means_plain s no_enumerator nil h = λ n e. none_under
 means_plain s an_enumerator (leaf _ _ (node q v (node r vs nil))) h = λ n e. more_under (h.0 n e) (h.1.0 _ _)
 means_plain s no_default us h = tt
-means_plain s a-default us h = tt
-means_plain s own-auto us h = tt
-means_plain s own-none us h = tt
-means_plain s own-number us h = tt
-means_plain s own-string us h = tt
-means_plain s own-float us h = tt
-means_plain s own-true us h = tt
-means_plain s own-false us h = tt
+means_plain s a_default us h = tt
+means_plain s own_auto us h = tt
+means_plain s own_none us h = tt
+means_plain s own_number us h = tt
+means_plain s own_string us h = tt
+means_plain s own_float us h = tt
+means_plain s own_true us h = tt
+means_plain s own_false us h = tt
 means_plain s own_name us h = tt
-means_plain s application-is us h = tt
+means_plain s application_is us h = tt
 means_plain s no_object us h = tt
 means_plain s an_object us h = tt
-means_plain s an-object-alone us h = tt
-means_plain s an-object-with us h = tt
+means_plain s an_object_alone us h = tt
+means_plain s an_object_with us h = tt
 means_plain s no_block us h = tt
 means_plain s a_block us h = tt
-means_plain s no-statement us h = tt
+means_plain s no_statement us h = tt
 means_plain s a_statement us h = tt
-means_plain s statement-is us h = tt
-means_plain s value-number us h = tt
-means_plain s value-string us h = tt
-means_plain s value-float us h = tt
-means_plain s value-auto us h = tt
-means_plain s value-name us h = tt
-means_plain s value-true us h = tt
-means_plain s value-false us h = tt
+means_plain s statement_is us h = tt
+means_plain s value_number us h = tt
+means_plain s value_string us h = tt
+means_plain s value_float us h = tt
+means_plain s value_auto us h = tt
+means_plain s value_name us h = tt
+means_plain s value_true us h = tt
+means_plain s value_false us h = tt
 
 all_plain : {f : Form} (s : List ℕ) (ts : Trees ◌⟶◌ f) → All s ts
 all_plain s nil = tt

@@ -13,7 +13,7 @@ use Rattle.meaning.specs.Words.{choose, alike, among}
 use Rattle.meaning.specs.Scopes.{sort_of, under, names}
 use Rattle.meaning.specs.Defining.{defined_in}
 use Rattle.meaning.specs.Judging.{taken}
-use Rattle.meaning.specs.Resolving.{Value, number, truth, auto, string, float, enumerator, object, Taken, Resolved, resolved, valued, take_value, entries, default_entry, resolve, resolve-under, how_many_values}
+use Rattle.meaning.specs.Resolving.{Value, number, truth, auto, string, float, enumerator, object, Taken, Resolved, resolved, valued, take_value, entries, default_entry, resolve, resolve_under, how_many_values}
 use Rattle.meaning.specs.Normal.{written}
 use Rattle.meaning.proofs.Unplaced.{unplaced_word}
 use Rattle.meaning.proofs.Unders.{resolves_under}
@@ -103,18 +103,18 @@ mutual
   unfolding restated names among
 
   -- A name defined before is stated by none of the definitions behind.
-  other-names : {os : List Object} {before : List Definition} {ds : Definitions} {r : Resolved} (u : Word) (k : ℕ) → Settled os before ds r
+  other_names : {os : List Object} {before : List Definition} {ds : Definitions} {r : Resolved} (u : Word) (k : ℕ) → Settled os before ds r
       → defined_in u before ≡ true → among u (names (restated r k)) ≡ false
-  other-names u k settled e = refl
-  other-names u k (none_of {before} {d} n p q s) e = other-names u k s (defined_more u before d e)
-  other-names {os} u k (one_of {before} {d} {vs} {ds} {x} {t} {us} {r} n h s m) e =
-      other_name u h us r k (λ i. apart u d.name before e n i) (other-more u _ m n e)
+  other_names u k settled e = refl
+  other_names u k (none_of {before} {d} n p q s) e = other_names u k s (defined_more u before d e)
+  other_names {os} u k (one_of {before} {d} {vs} {ds} {x} {t} {us} {r} n h s m) e =
+      other_name u h us r k (λ i. apart u d.name before e n i) (other_more u _ m n e)
 
-  other-more : {os : List Object} {before : List Definition} {d : Definition} {vs : Values} {ds : Definitions} {r : Resolved} (u : Word) (k : ℕ) → More os before d vs ds r
+  other_more : {os : List Object} {before : List Definition} {d : Definition} {vs : Values} {ds : Definitions} {r : Resolved} (u : Word) (k : ℕ) → More os before d vs ds r
       → defined_in d.name before ≡ false → defined_in u before ≡ true → among u (names (restated r k)) ≡ false
-  other-more {os} u k (again {before} {d} {vs} {ds} {x} {t} {us} {r} l h s m) n e =
-      other_name u h us r k (λ i. apart u d.name before e n i) (other-more u _ m n e)
-  other-more u k (no_more_of {before} {d} s) n e = other-names u k s (defined_more u before d e)
+  other_more {os} u k (again {before} {d} {vs} {ds} {x} {t} {us} {r} l h s m) n e =
+      other_name u h us r k (λ i. apart u d.name before e n i) (other_more u _ m n e)
+  other_more u k (no_more_of {before} {d} s) n e = other_names u k s (defined_more u before d e)
 
 -- Resolving --------------------------------------------------------------------------------------------------------------------------------
 
@@ -156,11 +156,11 @@ module _ {os os' : List Object} (same-objects : SameObjects os os') where
       })
 
   -- The entry that the statement of a value gives.
-  same-entry : {d : Definition} {vs : Values} {t : Word} {x : Taken} (us r : Resolved) (k : ℕ) (f : Word → Statements → Resolved) (rest : Resolved) → Takes os d vs t x
+  same_entry : {d : Definition} {vs : Values} {t : Word} {x : Taken} (us r : Resolved) (k : ℕ) (f : Word → Statements → Resolved) (rest : Resolved) → Takes os d vs t x
       → Same (f (value_word os d vs t) (restated us (suc k))) us → Same (entries (restated r (suc k + how_many_values us)) os' d vs f rest) r
       → Same (entries (restated (resolved x us r) k) os' d vs f rest) (resolved x us r)
   unfolding entries choose restatement
-  same-entry {d} {vs} {t} {x} us r k f rest h p q =
+  same_entry {d} {vs} {t} {x} us r k f rest h p q =
       let e : alike (unplaced_word d.name) d.name ≡ true = bytes_alike _ d.name (restatement_name k os d vs t us) in
       subst (λ z. Same z (resolved x us r))
       (sym (ap (λ ss. entries ss os' d vs f rest) (restated_first h us r k)
@@ -170,7 +170,7 @@ module _ {os os' : List Object} (same-objects : SameObjects os os') where
 
   -- What is under it.
   same_under : {d : Definition} {vs : Values} {t : Word} {x : Taken} (us : Resolved) (k : ℕ) → Takes os d vs t x → Same (resolve (under vs t) os' (restated us k)) us
-      → Same (resolve-under vs os' (value_word os d vs t) (restated us k)) us
+      → Same (resolve_under vs os' (value_word os d vs t) (restated us k)) us
   same_under {d} {vs} {t} us k h p =
       subst (λ z. Same z us) (sym (resolves_under vs os' (value_word os d vs t) (restated us k) ∙ ap (λ ds. resolve ds os' (restated us k)) (under_kept d vs t h.taking))) p
 
@@ -178,18 +178,18 @@ module _ {os os' : List Object} (same-objects : SameObjects os os') where
       → resolve (define d vs ds) os' ss ≡ resolve ds os' ss
   unfolding resolve choose default_entry
   unstated d vs ds ss e q =
-      ap₂ (λ b o. choose b (λ _. entries ss os' d vs (λ t us. resolve-under vs os' t us) (resolve ds os' ss))
-      (λ _. default_entry o os' d vs (λ t us. resolve-under vs os' t us) (resolve ds os' ss))) e q
+      ap₂ (λ b o. choose b (λ _. entries ss os' d vs (λ t us. resolve_under vs os' t us) (resolve ds os' ss))
+      (λ _. default_entry o os' d vs (λ t us. resolve_under vs os' t us) (resolve ds os' ss))) e q
 
   is_stated : (d : Definition) (vs : Values) (ds : Definitions) (ss : Statements) → among d.name (names ss) ≡ true
-      → resolve (define d vs ds) os' ss ≡ entries ss os' d vs (λ t us. resolve-under vs os' t us) (resolve ds os' ss)
+      → resolve (define d vs ds) os' ss ≡ entries ss os' d vs (λ t us. resolve_under vs os' t us) (resolve ds os' ss)
   unfolding resolve choose
   is_stated d vs ds ss e =
-      ap (λ b. choose b (λ _. entries ss os' d vs (λ t us. resolve-under vs os' t us) (resolve ds os' ss))
-      (λ _. default_entry (taken d.default) os' d vs (λ t us. resolve-under vs os' t us) (resolve ds os' ss))) e
+      ap (λ b. choose b (λ _. entries ss os' d vs (λ t us. resolve_under vs os' t us) (resolve ds os' ss))
+      (λ _. default_entry (taken d.default) os' d vs (λ t us. resolve_under vs os' t us) (resolve ds os' ss))) e
 
-  not-among : (u : Word) (front back : Statements) → among u (names front) ≡ false → among u (names back) ≡ false → among u (names (then front back)) ≡ false
-  not-among u front back p q = ap (among u) (names_then front back) ∙ among_append u (names front) (names back) ∙ neither p q
+  not_among : (u : Word) (front back : Statements) → among u (names front) ≡ false → among u (names back) ≡ false → among u (names (then front back)) ≡ false
+  not_among u front back p q = ap (among u) (names_then front back) ∙ among_append u (names front) (names back) ∙ neither p q
 
   is_among : (u : Word) (front back : Statements) → among u (names back) ≡ true → among u (names (then front back)) ≡ true
   is_among u front back e = ap (among u) (names_then front back) ∙ among_behind u (names front) (names back) e
@@ -198,49 +198,49 @@ module _ {os os' : List Object} (same-objects : SameObjects os os') where
     unfolding resolve then names
 
     -- The statements of a scope's values, behind those of the definitions before, resolve to the same values.
-    resolve-restated : {before : List Definition} {ds : Definitions} {r : Resolved} → Settled os before ds r → (front : Statements) (k : ℕ) (ss : Statements)
+    resolve_restated : {before : List Definition} {ds : Definitions} {r : Resolved} → Settled os before ds r → (front : Statements) (k : ℕ) (ss : Statements)
         → Stated before (names front) → ss ≡ then front (restated r k) → Same (resolve ds os' ss) r
-    resolve-restated settled front k ss f e = same_end
-    resolve-restated {r} (none_of {before} {d} {vs} {ds} n l q s) front k ss f e =
+    resolve_restated settled front k ss f e = same_end
+    resolve_restated {r} (none_of {before} {d} {vs} {ds} n l q s) front k ss f e =
         subst (λ z. Same z r)
         (sym (unstated d vs ds ss
         (ap (λ z. among d.name (names z)) e
-        ∙ not-among d.name front (restated r k) (f d.name n) (other-names d.name k s (defined_self before d))) q))
-        (resolve-restated s front k ss (stated_more before d (names front) f) e)
-    resolve-restated (one_of {before} {d} {vs} {ds} {x = v} {t} {us} {r} n h s m) front k ss f e =
+        ∙ not_among d.name front (restated r k) (f d.name n) (other_names d.name k s (defined_self before d))) q))
+        (resolve_restated s front k ss (stated_more before d (names front) f) e)
+    resolve_restated (one_of {before} {d} {vs} {ds} {x = v} {t} {us} {r} n h s m) front k ss f e =
         let x = restatement k os d vs t us in
         let i = restated us (suc k) in
         let j = suc k + how_many_values us in
         let z = restated (resolved v us r) k in
-        let g : Word → Statements → Resolved = λ t us. resolve-under vs os' t us in
+        let g : Word → Statements → Resolved = λ t us. resolve_under vs os' t us in
         let rest = resolve ds os' ss in
         let q : ss ≡ then (one_more front x i) (restated r j) = e ∙ ap (then front) (restated_first h us r k) ∙ one_then front x i (restated r j) in
-        let y = same-entry us r k g rest h
-        (same_under us (suc k) h (resolve-restated s done (suc k) i (stated_none []) refl))
-        (more-restated m n (one_more front x i) j ss (stated_then before d front x i (restatement_name k os d vs t us) (stated_more before d (names front) f)) q) in
+        let y = same_entry us r k g rest h
+        (same_under us (suc k) h (resolve_restated s done (suc k) i (stated_none []) refl))
+        (more_restated m n (one_more front x i) j ss (stated_then before d front x i (restatement_name k os d vs t us) (stated_more before d (names front) f)) q) in
         subst (λ w. Same w (resolved v us r))
         (sym (is_stated d vs ds ss (ap (λ w. among d.name (names w)) e ∙ is_among d.name front z (states_it h us r k))
         ∙ ap (λ w. entries w os' d vs g rest) e
         ∙ entries_then front z os' d vs g rest
         ∙ entries_none front os' d vs g (entries z os' d vs g rest) (f d.name n))) y
 
-    more-restated : {before : List Definition} {d : Definition} {vs : Values} {ds : Definitions} {r : Resolved} → More os before d vs ds r → defined_in d.name before ≡ false
+    more_restated : {before : List Definition} {d : Definition} {vs : Values} {ds : Definitions} {r : Resolved} → More os before d vs ds r → defined_in d.name before ≡ false
         → (front : Statements) (k : ℕ) (ss : Statements) → Stated (before ++ (d ∷ [])) (names front) → ss ≡ then front (restated r k)
-        → Same (entries (restated r k) os' d vs (λ t us. resolve-under vs os' t us) (resolve ds os' ss)) r
-    more-restated (again {before} {d} {vs} {ds} {x = v} {t} {us} {r} l h s m) n front k ss f e =
+        → Same (entries (restated r k) os' d vs (λ t us. resolve_under vs os' t us) (resolve ds os' ss)) r
+    more_restated (again {before} {d} {vs} {ds} {x = v} {t} {us} {r} l h s m) n front k ss f e =
         let x = restatement k os d vs t us in
         let i = restated us (suc k) in
         let j = suc k + how_many_values us in
-        let g : Word → Statements → Resolved = λ t us. resolve-under vs os' t us in
+        let g : Word → Statements → Resolved = λ t us. resolve_under vs os' t us in
         let q : ss ≡ then (one_more front x i) (restated r j) = e ∙ ap (then front) (restated_first h us r k) ∙ one_then front x i (restated r j) in
-        same-entry us r k g (resolve ds os' ss) h
-        (same_under us (suc k) h (resolve-restated s done (suc k) i (stated_none []) refl))
-        (more-restated m n (one_more front x i) j ss (stated_then before d front x i (restatement_name k os d vs t us) f) q)
-    more-restated {r} (no_more_of {before} {d} {vs} {ds} s) n front k ss f e =
-        subst (λ z. Same z r) (sym (entries_none (restated r k) os' d vs (λ t us. resolve-under vs os' t us) (resolve ds os' ss) (other-names d.name k s (defined_self before d))))
-        (resolve-restated s front k ss f e)
+        same_entry us r k g (resolve ds os' ss) h
+        (same_under us (suc k) h (resolve_restated s done (suc k) i (stated_none []) refl))
+        (more_restated m n (one_more front x i) j ss (stated_then before d front x i (restatement_name k os d vs t us) f) q)
+    more_restated {r} (no_more_of {before} {d} {vs} {ds} s) n front k ss f e =
+        subst (λ z. Same z r) (sym (entries_none (restated r k) os' d vs (λ t us. resolve_under vs os' t us) (resolve ds os' ss) (other_names d.name k s (defined_self before d))))
+        (resolve_restated s front k ss f e)
 
   -- The statements of a scope's values resolve to the same values.
-  pub restated-resolves : {ds : Definitions} {r : Resolved} (k : ℕ) → Settled os [] ds r → Same (resolve ds os' (restated r k)) r
+  pub restated_resolves : {ds : Definitions} {r : Resolved} (k : ℕ) → Settled os [] ds r → Same (resolve ds os' (restated r k)) r
   unfolding then names
-  restated-resolves {r} k s = resolve-restated s done k (restated r k) (stated_none []) refl
+  restated_resolves {r} k s = resolve_restated s done k (restated r k) (stated_none []) refl

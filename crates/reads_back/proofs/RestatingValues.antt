@@ -68,29 +68,29 @@ unfolding fits unplaced_word
 fits_without d vs t = fits_as_without (sort_of t.class) d vs t
 
 module _ {os os' : List Object} (same-objects : SameObjects os os') where
-  named-without : (y : AttributeType) (vs : Values) (t : Word) → named y os' vs (unplaced_word t) ≡ named y os vs t
+  named_without : (y : AttributeType) (vs : Values) (t : Word) → named y os' vs (unplaced_word t) ≡ named y os vs t
   unfolding named
-  named-without (integer i) vs t = refl
-  named-without string vs t = refl
-  named-without float vs t = refl
-  named-without boolean vs t = refl
-  named-without enum vs t = ap (λ o. enumerator (number_or o)) (value_without vs t)
-  named-without (reference k) vs t = ap object (ap row_or (object_without k os' t) ∙ same-objects.row k t)
+  named_without (integer i) vs t = refl
+  named_without string vs t = refl
+  named_without float vs t = refl
+  named_without boolean vs t = refl
+  named_without enum vs t = ap (λ o. enumerator (number_or o)) (value_without vs t)
+  named_without (reference k) vs t = ap object (ap row_or (object_without k os' t) ∙ same-objects.row k t)
 
-  valued-without : (o : Sort) (d : Definition) (vs : Values) (t : Word) → valued o os' d vs (unplaced_word t) ≡ valued o os d vs t
+  valued_without : (o : Sort) (d : Definition) (vs : Values) (t : Word) → valued o os' d vs (unplaced_word t) ≡ valued o os d vs t
   unfolding valued unplaced_word
-  valued-without a_number d vs t = refl
-  valued-without a_string d vs t = refl
-  valued-without a_float d vs t = refl
-  valued-without a_truth d vs t = refl
-  valued-without an_auto d vs t = refl
-  valued-without a_no_default d vs t = refl
-  valued-without a_name d vs t = named-without d.type vs t
+  valued_without a_number d vs t = refl
+  valued_without a_string d vs t = refl
+  valued_without a_float d vs t = refl
+  valued_without a_truth d vs t = refl
+  valued_without an_auto d vs t = refl
+  valued_without a_no_default d vs t = refl
+  valued_without a_name d vs t = named_without d.type vs t
 
-  word-valued : (d : Definition) (vs : Values) (t : Word)
+  word_valued : (d : Definition) (vs : Values) (t : Word)
       → valued (sort_of (unplaced_word t).class) os' d vs (unplaced_word t) ≡ valued (sort_of t.class) os d vs t
   unfolding unplaced_word
-  word-valued d vs t = valued-without (sort_of t.class) d vs t
+  word_valued d vs t = valued_without (sort_of t.class) d vs t
 
 -- The written word -------------------------------------------------------------------------------------------------------------------------
 
@@ -168,9 +168,9 @@ pub value_kept : {os os' : List Object} → SameObjects os os' → (d : Definiti
 value_kept {os} {os'} h d vs t (numbered e r f v) =
     ap (λ w. valued (sort_of w.class) os' d vs w) (word_number os d vs t e)
     ∙ number_valued os os' d vs t ∙ ap (λ o. valued o os d vs t) (sym e)
-value_kept {os} {os'} h d vs t (told e r f) = ap (λ w. valued (sort_of w.class) os' d vs w) (word_kept os d vs t e) ∙ word-valued h d vs t
+value_kept {os} {os'} h d vs t (told e r f) = ap (λ w. valued (sort_of w.class) os' d vs w) (word_kept os d vs t e) ∙ word_valued h d vs t
 value_kept {os} {os'} h d vs t (referred y v e i) =
-    ap (λ w. valued (sort_of w.class) os' d vs w) (word_kept os d vs t (name_kept t e)) ∙ word-valued h d vs t
+    ap (λ w. valued (sort_of w.class) os' d vs w) (word_kept os d vs t (name_kept t e)) ∙ word_valued h d vs t
 
 -- Its faults -------------------------------------------------------------------------------------------------------------------------------
 

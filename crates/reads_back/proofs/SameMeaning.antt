@@ -35,7 +35,7 @@ use Rattle.reads_back.proofs.SameNames.{names_of, words_same, names_unplaced, ob
 use Rattle.reads_back.proofs.MergedAgain.{merge_names}
 use Rattle.reads_back.proofs.RestatingPlain.{PlainSpecs, syntax_plain}
 use Rattle.reads_back.proofs.SameKindred.{AllKindred, no_kindred, kindred_objects, kindred_counts, kindred_rows}
-use Rattle.reads_back.proofs.RestatingObjects.{SettledObjects, settle_objects, restated_kindred, all-restated-values, restated-objects-judged, kindred_few, restated_each, restated_parts_each, kindred_names, restated_lines}
+use Rattle.reads_back.proofs.RestatingObjects.{SettledObjects, settle_objects, restated_kindred, all_restated_values, restated_objects_judged, kindred_few, restated_each, restated_parts_each, kindred_names, restated_lines}
 
 -- Stages -------------------------------------------------------------------------------------------------------------------------------------
 
@@ -45,7 +45,7 @@ pub record NoFaults (f : File) (t : Tables) : Type 0 where
   pub objects : object_faults f ≡ []
   pub statements : statement_stage f ≡ []
   pub values : too_many (how_many_in_all (all_values f f.objects)) ≡ []
-  pub tables-are : tables f (all_values f f.objects) ≡ t
+  pub tables_are : tables f (all_values f f.objects) ≡ t
 
 passed : (fs : List Fault) (k : Unit {0} → Answer) (t : Tables) → unless (first fs) k ≡ accepted t → (fs ≡ []) × (k tt ≡ accepted t)
 unfolding unless
@@ -63,7 +63,7 @@ no_faults f t e =
     let p₂ = passed (object_faults f) _ t p₁.1 in
     let p₃ = passed (statement_stage f) _ t p₂.1 in
     let p₄ = passed (too_many (how_many_in_all (all_values f f.objects))) _ t p₃.1 in
-    record { definitions = p₁.0; objects = p₂.0; statements = p₃.0; values = p₄.0; tables-are = let q = p₄.1 in cc }
+    record { definitions = p₁.0; objects = p₂.0; statements = p₃.0; values = p₄.0; tables_are = let q = p₄.1 in cc }
 
 -- It is accepted with its tables.
 pub accepted_tables : (f : File) (t : Tables) → answer f ≡ accepted t → tables f (all_values f f.objects) ≡ t
@@ -112,29 +112,29 @@ unfolding kept_file
 kept_specs f = refl
 
 module _ (f : File) (s : SettledObjects f f.objects) where
-  statements-kept : statement_stage (kept_file f) ≡ []
+  statements_kept : statement_stage (kept_file f) ≡ []
   unfolding statement_stage kept_file
-  statements-kept = restated-objects-judged f (kept_file f) (kept_specs f) (kindred_objects (kept_kindred f)) 0 s
+  statements_kept = restated_objects_judged f (kept_file f) (kept_specs f) (kindred_objects (kept_kindred f)) 0 s
 
-  values-kept : SameAll (all_values (kept_file f) (kept_file f).objects) (all_values f f.objects)
+  values_kept : SameAll (all_values (kept_file f) (kept_file f).objects) (all_values f f.objects)
   unfolding kept_file
-  values-kept = all-restated-values f (kept_file f) (kept_specs f) (kindred_objects (kept_kindred f)) 0 s
+  values_kept = all_restated_values f (kept_file f) (kept_specs f) (kindred_objects (kept_kindred f)) 0 s
 
-  lines-kept : application_lines (kept_file f) (all_values (kept_file f) (kept_file f).objects) ≡ application_lines f (all_values f f.objects)
+  lines_kept : application_lines (kept_file f) (all_values (kept_file f) (kept_file f).objects) ≡ application_lines f (all_values f f.objects)
   unfolding application_lines kept_file
-  lines-kept = ap (λ l. bytes_of "CPU " ++ (f.cpu.bytes ++ (bytes_of " {\n" ++ (l ++ bytes_of "};\n")))) (restated_lines f.objects 0 values-kept)
+  lines_kept = ap (λ l. bytes_of "CPU " ++ (f.cpu.bytes ++ (bytes_of " {\n" ++ (l ++ bytes_of "};\n")))) (restated_lines f.objects 0 values_kept)
 
-  tables-kept : bare (tables (kept_file f) (all_values (kept_file f) (kept_file f).objects)) ≡ bare (tables f (all_values f f.objects))
+  tables_kept : bare (tables (kept_file f) (all_values (kept_file f) (kept_file f).objects)) ≡ bare (tables f (all_values f f.objects))
   unfolding bare tables kept_file unplaced_tables counts
-  tables-kept = tables_same refl refl (kindred_rows (kept_kindred f)) (all_same_rows 0 0 values-kept) (kindred_counts kinds (kept_kindred f))
+  tables_kept = tables_same refl refl (kindred_rows (kept_kindred f)) (all_same_rows 0 0 values_kept) (kindred_counts kinds (kept_kindred f))
 
-  stated-kept : AllStated (unplaced_tables (tables (kept_file f) (all_values (kept_file f) (kept_file f).objects))).values
+  stated_kept : AllStated (unplaced_tables (tables (kept_file f) (all_values (kept_file f) (kept_file f).objects))).values
   unfolding unplaced_tables tables
-  stated-kept = stated_unplaced _ (all_same_stated 0 0 values-kept)
+  stated_kept = stated_unplaced _ (all_same_stated 0 0 values_kept)
 
   names_kept : names_of (kept_file f) ≡ names_of f
   unfolding names_of kept_file
-  names_kept = words_same refl refl (objects_restated f f.objects 0) (all_same_names values-kept)
+  names_kept = words_same refl refl (objects_restated f f.objects 0) (all_same_names values_kept)
 
 -- Each object of the normal text has one part.
 alone_rows : (xs : List Object) (rs : List Resolved) (k : ℕ) → each (λ (r : ObjectRow). r.parts) (each unplaced_object_row (object_rows (restated_objects xs rs k)))
@@ -158,7 +158,7 @@ pub record MeansSame (f : File) (t : Tables) : Type 0 where
   pub accepts : answer (restated_file f) ≡ accepted back
   pub stated : AllStated back.values
   pub same : bare back ≡ bare t
-  pub one-part : each (λ (r : ObjectRow). r.parts) back.objects ≡ each (λ (r : ObjectRow). 1) back.objects
+  pub one_part : each (λ (r : ObjectRow). r.parts) back.objects ≡ each (λ (r : ObjectRow). 1) back.objects
   pub names : names_of (restated_file f) ≡ names_of f
   pub values : SameAll (all_values (kept_file f) (kept_file f).objects) (all_values f f.objects)
   pub lines : application_lines (restated_file f) (all_values (restated_file f) (restated_file f).objects) ≡ application_lines f (all_values f f.objects)
@@ -171,18 +171,18 @@ same_of f t mg c l p e =
     let s = settle_objects f f.objects (specs_free f n.definitions) p n.statements in
     let g = kept_file f in
     let rs = all_values g g.objects in
-    let many = all_same_many (values-kept f s) in
+    let many = all_same_many (values_kept f s) in
     let a = accepts_it g (definitions_kept f n.definitions) (objects_kept f mg c l n.objects (few_values (how_many_in_all (all_values f f.objects)) n.values))
-    (statements-kept f s) (ap too_many many ∙ n.values) in
+    (statements_kept f s) (ap too_many many ∙ n.values) in
     record {
       back = unplaced_tables (tables g rs);
       accepts = ap answer (sym (unplaced_kept f)) ∙ accepts_unplaced (tables g rs) (answer_unplaced g) a;
-      stated = stated-kept f s;
-      same = bare_unplaced (tables g rs) ∙ tables-kept f s ∙ ap bare n.tables-are;
-      one-part = alone_rows f.objects (all_values f f.objects) 0;
+      stated = stated_kept f s;
+      same = bare_unplaced (tables g rs) ∙ tables_kept f s ∙ ap bare n.tables-are;
+      one_part = alone_rows f.objects (all_values f f.objects) 0;
       names = ap names_of (sym (unplaced_kept f)) ∙ names_unplaced g ∙ names_kept f s;
-      values = values-kept f s;
-      lines = ap (λ z. application_lines z (all_values z z.objects)) (sym (unplaced_kept f)) ∙ application_unplaced g ∙ lines-kept f s;
+      values = values_kept f s;
+      lines = ap (λ z. application_lines z (all_values z z.objects)) (sym (unplaced_kept f)) ∙ application_unplaced g ∙ lines_kept f s;
     }
 
 no_fault : (l : List Fault) → l ≡ [] → first l ≡ none

@@ -8,7 +8,7 @@ use Rattle.meaning.specs.Syntax.{Word, Definition, Definitions, no_more, define,
 use Rattle.meaning.specs.Resolving.{Value, number, truth, auto, string, float, enumerator, object, Taken, Resolved, end, resolved, object_values, all_values, how_many_values}
 use Rattle.meaning.specs.Normal.{written}
 use Rattle.meaning.specs.Places.{each}
-use Rattle.meaning.proofs.Unplaced.{if_there, unplaced_word, unplaced_definition, unplaced-definitions, unplaced-values, unplaced_spec, unplaced_object, unplaced, unplaced_taken, unplaced_resolved, all_values_unplaced}
+use Rattle.meaning.proofs.Unplaced.{if_there, unplaced_word, unplaced_definition, unplaced_definitions, unplaced_values, unplaced_spec, unplaced_object, unplaced, unplaced_taken, unplaced_resolved, all_values_unplaced}
 use Rattle.reads_back.specs.ReadsBack.{unless_number, RowWords}
 use Rattle.reads_back.proofs.Restated.{restated_object, restated_objects}
 use Rattle.reads_back.proofs.SameValues.{SameTaken, Same, same_end, same_more, SameAll, none_same, more_same}
@@ -26,14 +26,14 @@ definition_names u d = u.bytes ∷ d.name.bytes ∷ d.word.bytes ∷ option_byte
 
 -- The definitions of a scope under the word u, in the order of their rows.
 unfoldable mutual
-  pub scope-names : Definitions → Word → List (List (List ℕ))
-  scope-names no_more u = []
-  scope-names (define d vs ds) u = scope-names-under vs ++ (definition_names u d ∷ scope-names ds u)
+  pub scope_names : Definitions → Word → List (List (List ℕ))
+  scope_names no_more u = []
+  scope_names (define d vs ds) u = scope_names_under vs ++ (definition_names u d ∷ scope_names ds u)
 
   -- The definitions under the values of a list.
-  pub scope-names-under : Values → List (List (List ℕ))
-  scope-names-under no_value = []
-  scope-names-under (value w e us vs) = scope-names us w ++ scope-names-under vs
+  pub scope_names_under : Values → List (List (List ℕ))
+  scope_names_under no_value = []
+  scope_names_under (value w e us vs) = scope_names us w ++ scope_names_under vs
 
 -- The word w of a list, if it is an enumerator.
 unfoldable pub enumerator_name : Bool → Word → List (List ℕ)
@@ -42,24 +42,24 @@ enumerator_name false w = []
 
 -- The enumerators of a scope, in the order of their rows.
 unfoldable mutual
-  pub enumerator-names : Definitions → List (List ℕ)
-  enumerator-names no_more = []
-  enumerator-names (define d vs ds) = enumerator-names-of vs (is_enum d.type) ++ enumerator-names ds
+  pub enumerator_names : Definitions → List (List ℕ)
+  enumerator_names no_more = []
+  enumerator_names (define d vs ds) = enumerator_names_of vs (is_enum d.type) ++ enumerator_names ds
 
   -- The values of a list, if they are enumerators, and those under them.
-  pub enumerator-names-of : Values → Bool → List (List ℕ)
-  enumerator-names-of no_value b = []
-  enumerator-names-of (value w e us vs) b = enumerator_name b w ++ (enumerator-names us ++ enumerator-names-of vs b)
+  pub enumerator_names_of : Values → Bool → List (List ℕ)
+  enumerator_names_of no_value b = []
+  enumerator_names_of (value w e us vs) b = enumerator_name b w ++ (enumerator_names us ++ enumerator_names_of vs b)
 
 -- The definitions of all kinds.
 unfoldable pub all_scope_names : List Spec → List (List (List ℕ))
 all_scope_names [] = []
-all_scope_names (x ∷ xs) = scope-names x.definitions x.word ++ all_scope_names xs
+all_scope_names (x ∷ xs) = scope_names x.definitions x.word ++ all_scope_names xs
 
 -- The enumerators of all kinds.
 unfoldable pub all_enumerator_names : List Spec → List (List ℕ)
 all_enumerator_names [] = []
-all_enumerator_names (x ∷ xs) = enumerator-names x.definitions ++ all_enumerator_names xs
+all_enumerator_names (x ∷ xs) = enumerator_names x.definitions ++ all_enumerator_names xs
 
 -- Of objects and values -------------------------------------------------------------------------------------------------------------------
 
@@ -103,15 +103,15 @@ definition_names_unplaced u d = ap (λ b. u.bytes ∷ d.name.bytes ∷ d.word.by
     go (some t) = refl
 
 mutual
-  unfolding scope-names unplaced-definitions
+  unfolding scope_names unplaced_definitions
 
-  scope-names-unplaced : (ds : Definitions) (u : Word) → scope-names (unplaced-definitions ds) (unplaced_word u) ≡ scope-names ds u
-  scope-names-unplaced no_more u = refl
-  scope-names-unplaced (define d vs ds) u = ap₂ ◌++◌ (under_unplaced vs) (ap₂ ◌∷◌ (definition_names_unplaced u d) (scope-names-unplaced ds u))
+  scope_names_unplaced : (ds : Definitions) (u : Word) → scope_names (unplaced_definitions ds) (unplaced_word u) ≡ scope_names ds u
+  scope_names_unplaced no_more u = refl
+  scope_names_unplaced (define d vs ds) u = ap₂ ◌++◌ (under_unplaced vs) (ap₂ ◌∷◌ (definition_names_unplaced u d) (scope_names_unplaced ds u))
 
-  under_unplaced : (vs : Values) → scope-names-under (unplaced-values vs) ≡ scope-names-under vs
+  under_unplaced : (vs : Values) → scope_names_under (unplaced_values vs) ≡ scope_names_under vs
   under_unplaced no_value = refl
-  under_unplaced (value w e us vs) = ap₂ ◌++◌ (scope-names-unplaced us w) (under_unplaced vs)
+  under_unplaced (value w e us vs) = ap₂ ◌++◌ (scope_names_unplaced us w) (under_unplaced vs)
 
 enumerator_name_unplaced : (b : Bool) (w : Word) → enumerator_name b (unplaced_word w) ≡ enumerator_name b w
 unfolding enumerator_name unplaced_word
@@ -119,25 +119,25 @@ enumerator_name_unplaced true w = refl
 enumerator_name_unplaced false w = refl
 
 mutual
-  unfolding enumerator-names unplaced-definitions unplaced_definition
+  unfolding enumerator_names unplaced_definitions unplaced_definition
 
-  enumerators-unplaced : (ds : Definitions) → enumerator-names (unplaced-definitions ds) ≡ enumerator-names ds
-  enumerators-unplaced no_more = refl
-  enumerators-unplaced (define d vs ds) = ap₂ ◌++◌ (list-unplaced vs (is_enum d.type)) (enumerators-unplaced ds)
+  enumerators_unplaced : (ds : Definitions) → enumerator_names (unplaced_definitions ds) ≡ enumerator_names ds
+  enumerators_unplaced no_more = refl
+  enumerators_unplaced (define d vs ds) = ap₂ ◌++◌ (list_unplaced vs (is_enum d.type)) (enumerators_unplaced ds)
 
-  list-unplaced : (vs : Values) (b : Bool) → enumerator-names-of (unplaced-values vs) b ≡ enumerator-names-of vs b
-  list-unplaced no_value b = refl
-  list-unplaced (value w e us vs) b = ap₂ ◌++◌ (enumerator_name_unplaced b w) (ap₂ ◌++◌ (enumerators-unplaced us) (list-unplaced vs b))
+  list_unplaced : (vs : Values) (b : Bool) → enumerator_names_of (unplaced_values vs) b ≡ enumerator_names_of vs b
+  list_unplaced no_value b = refl
+  list_unplaced (value w e us vs) b = ap₂ ◌++◌ (enumerator_name_unplaced b w) (ap₂ ◌++◌ (enumerators_unplaced us) (list_unplaced vs b))
 
 all_scopes_unplaced : (xs : List Spec) → all_scope_names (each unplaced_spec xs) ≡ all_scope_names xs
 unfolding all_scope_names each unplaced_spec
 all_scopes_unplaced [] = refl
-all_scopes_unplaced (x ∷ xs) = ap₂ ◌++◌ (scope-names-unplaced x.definitions x.word) (all_scopes_unplaced xs)
+all_scopes_unplaced (x ∷ xs) = ap₂ ◌++◌ (scope_names_unplaced x.definitions x.word) (all_scopes_unplaced xs)
 
 all_enumerators_unplaced : (xs : List Spec) → all_enumerator_names (each unplaced_spec xs) ≡ all_enumerator_names xs
 unfolding all_enumerator_names each unplaced_spec
 all_enumerators_unplaced [] = refl
-all_enumerators_unplaced (x ∷ xs) = ap₂ ◌++◌ (enumerators-unplaced x.definitions) (all_enumerators_unplaced xs)
+all_enumerators_unplaced (x ∷ xs) = ap₂ ◌++◌ (enumerators_unplaced x.definitions) (all_enumerators_unplaced xs)
 
 objects_unplaced : (xs : List Object) → object_names (each unplaced_object xs) ≡ object_names xs
 unfolding object_names each unplaced_object unplaced_word

@@ -5,7 +5,7 @@ use mathlib.Core.Bool.{Bool, true, false}
 use mathlib.Core.Option.{Option, none, some}
 use Prim.Native.Nat.{ℕ, suc, ◌+◌}
 use Rattle.meaning.specs.Merging.{merge}
-use Rattle.meaning.proofs.Merges.{In, in-here, in-there, merge_in, syntax_merged}
+use Rattle.meaning.proofs.Merges.{In, in_here, in_there, merge_in, syntax_merged}
 use Rattle.grammar.specs.Grammar.{Kind, file, ◌▸◌, ∎, ◌⟶◌, Trees}
 use Rattle.token.specs.Find.{pick}
 use Rattle.meaning.specs.Syntax.{Word, absent, span_of, span_or, Definition, Definitions, no_more, define, Values, no_value, value, Statements, done, state, Spec, Object, File, is_enum}
@@ -13,19 +13,19 @@ use Rattle.meaning.specs.Words.{alike, among, choose}
 use Rattle.meaning.specs.Kinds.{same_kind}
 use Rattle.meaning.specs.Scopes.{sort_of, of_kind, names}
 use Rattle.meaning.specs.Actions.{syntax}
-use Rattle.meaning.specs.Defining.{definition_row, definition-rows, definition-rows-under, enumerator_row, enumerator-rows, enumerator-rows-of, all_definition_rows, all_enumerator_rows}
+use Rattle.meaning.specs.Defining.{definition_row, definition_rows, definition_rows_under, enumerator_row, enumerator_rows, enumerator_rows_of, all_definition_rows, all_enumerator_rows}
 use Rattle.meaning.specs.Applying.{object_rows}
 use Rattle.meaning.specs.Judging.{is_no_default, taken_by, taken}
-use Rattle.meaning.specs.Resolving.{take_value, Resolved, end, resolved, entries, default_entry, resolve, resolve-under, object_values, all_values, Owner, of_object, of_value, value_row, how_many_values, value_rows, all_value_rows}
+use Rattle.meaning.specs.Resolving.{take_value, Resolved, end, resolved, entries, default_entry, resolve, resolve_under, object_values, all_values, Owner, of_object, of_value, value_row, how_many_values, value_rows, all_value_rows}
 use Rattle.meaning.specs.Normal.{part}
 use Rattle.meaning.specs.Answers.{tables}
 use Rattle.meaning.specs.Places.{each}
-use Rattle.meaning.proofs.Sites.{bound_words, option_words, definition-words, value-words, spec_words, statement_words, object_words, file_words}
+use Rattle.meaning.proofs.Sites.{bound_words, option_words, definition_words, value_words, spec_words, statement_words, object_words, file_words}
 use Rattle.meaning.proofs.Lookups.{InText, syntax_text}
 use Rattle.meaning.proofs.Unplaced.{each_append}
 use Rattle.reads_back.specs.ReadsBack.{definition_row_words, enumerator_row_word, object_row_words, unless_number, value_row_word, words_of}
 use Rattle.reads_back.proofs.SameWords.{by_choose}
-use Rattle.reads_back.proofs.SameNames.{option_bytes, definition_names, scope-names, scope-names-under, enumerator_name, enumerator-names, enumerator-names-of, all_scope_names, all_enumerator_names, object_names, value_names, all_value_names, names_of, words_same}
+use Rattle.reads_back.proofs.SameNames.{option_bytes, definition_names, scope_names, scope_names_under, enumerator_name, enumerator_names, enumerator_names_of, all_scope_names, all_enumerator_names, object_names, value_names, all_value_names, names_of, words_same}
 
 -- Parts of a text's words -----------------------------------------------------------------------------------------------------------------
 
@@ -41,25 +41,25 @@ parts s (w ∷ a) b h = let r = parts s a b h.1 in ((h.0, r.0), r.1)
 -- Those of a definition, and of the definitions behind it.
 pub record DefinitionText (s : List ℕ) (d : Definition) (vs : Values) (ds : Definitions) : Type 0 where
   pub word : There s d.word
-  pub values : InText s (value-words vs)
+  pub values : InText s (value_words vs)
   pub name : There s d.name
   pub default : InText s (option_words d.default)
-  pub rest : InText s (definition-words ds)
+  pub rest : InText s (definition_words ds)
 
-pub definition_text : (s : List ℕ) (d : Definition) (vs : Values) (ds : Definitions) → InText s (definition-words (define d vs ds)) → DefinitionText s d vs ds
-unfolding definition-words
+pub definition_text : (s : List ℕ) (d : Definition) (vs : Values) (ds : Definitions) → InText s (definition_words (define d vs ds)) → DefinitionText s d vs ds
+unfolding definition_words
 definition_text s d vs ds h =
     let w = d.name ∷ option_words d.default in
-    let a = parts s (d.word ∷ (bound_words d.bounds ++ (value-words vs ++ w))) (definition-words ds) h in
-    let b = parts s (bound_words d.bounds) (value-words vs ++ w) a.0.1 in
-    let c = parts s (value-words vs) w b.1 in
+    let a = parts s (d.word ∷ (bound_words d.bounds ++ (value_words vs ++ w))) (definition_words ds) h in
+    let b = parts s (bound_words d.bounds) (value_words vs ++ w) a.0.1 in
+    let c = parts s (value_words vs) w b.1 in
     record { word = a.0.0; values = c.0; name = c.1.0; default = c.1.1; rest = a.1 }
 
 -- Those of a value, of the definitions under it and of the values behind it.
-pub list_text : (s : List ℕ) (w : Word) (e : ℕ) (us : Definitions) (vs : Values) → InText s (value-words (value w e us vs))
-    → There s w × InText s (definition-words us) × InText s (value-words vs)
-unfolding value-words
-list_text s w e us vs h = let p = parts s (definition-words us) (value-words vs) h.1 in (h.0, p.0, p.1)
+pub list_text : (s : List ℕ) (w : Word) (e : ℕ) (us : Definitions) (vs : Values) → InText s (value_words (value w e us vs))
+    → There s w × InText s (definition_words us) × InText s (value_words vs)
+unfolding value_words
+list_text s w e us vs h = let p = parts s (definition_words us) (value_words vs) h.1 in (h.0, p.0, p.1)
 
 -- Rows of definitions and enumerators -----------------------------------------------------------------------------------------------------
 
@@ -76,21 +76,21 @@ row_names s u d vs ds p h =
     ∙ ap₂ (λ a b. u.bytes ∷ d.name.bytes ∷ a ∷ b ∷ []) (sym h.word) (default_there s d.default h.default)
 
 mutual
-  unfolding definition-rows scope-names each
+  unfolding definition_rows scope_names each
 
-  scope-there : (s : List ℕ) (ds : Definitions) (u : Word) → There s u → InText s (definition-words ds) → each (definition_row_words s) (definition-rows ds u) ≡ scope-names ds u
-  scope-there s no_more u p h = refl
-  scope-there s (define d vs ds) u p h =
+  scope_there : (s : List ℕ) (ds : Definitions) (u : Word) → There s u → InText s (definition_words ds) → each (definition_row_words s) (definition_rows ds u) ≡ scope_names ds u
+  scope_there s no_more u p h = refl
+  scope_there s (define d vs ds) u p h =
       let k = definition_text s d vs ds h in
-      each_append (definition_row_words s) (definition-rows-under vs) (definition_row u d ∷ definition-rows ds u)
-      ∙ ap₂ ◌++◌ (under-there s vs k.values) (ap₂ ◌∷◌ (row_names s u d vs ds p k) (scope-there s ds u p k.rest))
+      each_append (definition_row_words s) (definition_rows_under vs) (definition_row u d ∷ definition_rows ds u)
+      ∙ ap₂ ◌++◌ (under_there s vs k.values) (ap₂ ◌∷◌ (row_names s u d vs ds p k) (scope_there s ds u p k.rest))
 
-  under-there : (s : List ℕ) (vs : Values) → InText s (value-words vs) → each (definition_row_words s) (definition-rows-under vs) ≡ scope-names-under vs
-  under-there s no_value h = refl
-  under-there s (value w e us vs) h =
+  under_there : (s : List ℕ) (vs : Values) → InText s (value_words vs) → each (definition_row_words s) (definition_rows_under vs) ≡ scope_names_under vs
+  under_there s no_value h = refl
+  under_there s (value w e us vs) h =
       let k = list_text s w e us vs h in
-      each_append (definition_row_words s) (definition-rows us w) (definition-rows-under vs)
-      ∙ ap₂ ◌++◌ (scope-there s us w k.0 k.1) (under-there s vs k.2)
+      each_append (definition_row_words s) (definition_rows us w) (definition_rows_under vs)
+      ∙ ap₂ ◌++◌ (scope_there s us w k.0 k.1) (under_there s vs k.2)
 
 enumerator_there : (s : List ℕ) (b : Bool) (a : ℕ) (w : Word) → There s w → each (enumerator_row_word s) (enumerator_row b a w) ≡ enumerator_name b w
 unfolding enumerator_row_word enumerator_row enumerator_name each
@@ -98,39 +98,39 @@ enumerator_there s true a w p = ap (◌∷ []) (sym p)
 enumerator_there s false a w p = refl
 
 mutual
-  unfolding enumerator-rows enumerator-names each
+  unfolding enumerator_rows enumerator_names each
 
-  enumerators-there : (s : List ℕ) (ds : Definitions) → InText s (definition-words ds) → each (enumerator_row_word s) (enumerator-rows ds) ≡ enumerator-names ds
-  enumerators-there s no_more h = refl
-  enumerators-there s (define d vs ds) h =
+  enumerators_there : (s : List ℕ) (ds : Definitions) → InText s (definition_words ds) → each (enumerator_row_word s) (enumerator_rows ds) ≡ enumerator_names ds
+  enumerators_there s no_more h = refl
+  enumerators_there s (define d vs ds) h =
       let k = definition_text s d vs ds h in
-      each_append (enumerator_row_word s) (enumerator-rows-of vs (is_enum d.type) d.row) (enumerator-rows ds)
-      ∙ ap₂ ◌++◌ (list_there s vs (is_enum d.type) d.row k.values) (enumerators-there s ds k.rest)
+      each_append (enumerator_row_word s) (enumerator_rows_of vs (is_enum d.type) d.row) (enumerator_rows ds)
+      ∙ ap₂ ◌++◌ (list_there s vs (is_enum d.type) d.row k.values) (enumerators_there s ds k.rest)
 
-  list_there : (s : List ℕ) (vs : Values) (b : Bool) (a : ℕ) → InText s (value-words vs) → each (enumerator_row_word s) (enumerator-rows-of vs b a) ≡ enumerator-names-of vs b
+  list_there : (s : List ℕ) (vs : Values) (b : Bool) (a : ℕ) → InText s (value_words vs) → each (enumerator_row_word s) (enumerator_rows_of vs b a) ≡ enumerator_names_of vs b
   list_there s no_value b a h = refl
   list_there s (value w e us vs) b a h =
       let k = list_text s w e us vs h in
-      each_append (enumerator_row_word s) (enumerator_row b a w) (enumerator-rows us ++ enumerator-rows-of vs b a)
+      each_append (enumerator_row_word s) (enumerator_row b a w) (enumerator_rows us ++ enumerator_rows_of vs b a)
       ∙ ap₂ ◌++◌ (enumerator_there s b a w k.0)
-      (each_append (enumerator_row_word s) (enumerator-rows us) (enumerator-rows-of vs b a)
-      ∙ ap₂ ◌++◌ (enumerators-there s us k.1) (list_there s vs b a k.2))
+      (each_append (enumerator_row_word s) (enumerator_rows us) (enumerator_rows_of vs b a)
+      ∙ ap₂ ◌++◌ (enumerators_there s us k.1) (list_there s vs b a k.2))
 
 all_scopes_there : (s : List ℕ) (xs : List Spec) → InText s (spec_words xs) → each (definition_row_words s) (all_definition_rows xs) ≡ all_scope_names xs
 unfolding all_definition_rows all_scope_names each spec_words
 all_scopes_there s [] h = refl
 all_scopes_there s (x ∷ xs) h =
-    let k = parts s (definition-words x.definitions) (spec_words xs) h.1 in
-    each_append (definition_row_words s) (definition-rows x.definitions x.word) (all_definition_rows xs)
-    ∙ ap₂ ◌++◌ (scope-there s x.definitions x.word h.0 k.0) (all_scopes_there s xs k.1)
+    let k = parts s (definition_words x.definitions) (spec_words xs) h.1 in
+    each_append (definition_row_words s) (definition_rows x.definitions x.word) (all_definition_rows xs)
+    ∙ ap₂ ◌++◌ (scope_there s x.definitions x.word h.0 k.0) (all_scopes_there s xs k.1)
 
 all_enumerators_there : (s : List ℕ) (xs : List Spec) → InText s (spec_words xs) → each (enumerator_row_word s) (all_enumerator_rows xs) ≡ all_enumerator_names xs
 unfolding all_enumerator_rows all_enumerator_names each spec_words
 all_enumerators_there s [] h = refl
 all_enumerators_there s (x ∷ xs) h =
-    let k = parts s (definition-words x.definitions) (spec_words xs) h.1 in
-    each_append (enumerator_row_word s) (enumerator-rows x.definitions) (all_enumerator_rows xs)
-    ∙ ap₂ ◌++◌ (enumerators-there s x.definitions k.0) (all_enumerators_there s xs k.1)
+    let k = parts s (definition_words x.definitions) (spec_words xs) h.1 in
+    each_append (enumerator_row_word s) (enumerator_rows x.definitions) (all_enumerator_rows xs)
+    ∙ ap₂ ◌++◌ (enumerators_there s x.definitions k.0) (all_enumerators_there s xs k.1)
 
 -- Rows of objects and values --------------------------------------------------------------------------------------------------------------
 
@@ -151,31 +151,31 @@ module _ (s : List ℕ) (os : List Object) where
   abbrev Inner : (Word → Statements → Resolved) → Type 0
   Inner inner = (t : Word) (us : Statements) → InText s (statement_words us) → ValuesThere s (inner t us)
 
-  entries-there : (ss : Statements) (d : Definition) (vs : Values) (inner : Word → Statements → Resolved) (rest : Resolved)
+  entries_there : (ss : Statements) (d : Definition) (vs : Values) (inner : Word → Statements → Resolved) (rest : Resolved)
       → InText s (statement_words ss) → Inner inner → ValuesThere s rest → ValuesThere s (entries ss os d vs inner rest)
   unfolding entries choose statement_words take_value
-  entries-there done d vs inner rest h k r = r
-  entries-there (state x inside more) d vs inner rest h k r =
+  entries_there done d vs inner rest h k r = r
+  entries_there (state x inside more) d vs inner rest h k r =
       let p = parts s (option_words x.brace ++ statement_words inside) (statement_words more) h.1.1 in
       go (alike x.name d.name) (entries more os d vs inner rest)
       (k x.value inside (parts s (option_words x.brace) (statement_words inside) p.0).1)
-      (entries-there more d vs inner rest p.1 k r)
+      (entries_there more d vs inner rest p.1 k r)
     where
       go : (b : Bool) (l : Resolved) → ValuesThere s (inner x.value inside) → ValuesThere s l
           → ValuesThere s (choose b (λ _. resolved (take_value true os d vs x.value) (inner x.value inside) l) (λ _. l))
       go true l i j = (h.1.0, i, j)
       go false l i j = j
 
-  default-taken-there : (o : Option Word) (d : Definition) (vs : Values) (inner : Word → Statements → Resolved) (rest : Resolved)
+  default_taken_there : (o : Option Word) (d : Definition) (vs : Values) (inner : Word → Statements → Resolved) (rest : Resolved)
       → InText s (option_words o) → Inner inner → ValuesThere s rest → ValuesThere s (default_entry o os d vs inner rest)
   unfolding default_entry take_value option_words statement_words
-  default-taken-there none d vs inner rest h k r = r
-  default-taken-there (some t) d vs inner rest h k r = (h.0, k t done tt, r)
+  default_taken_there none d vs inner rest h k r = r
+  default_taken_there (some t) d vs inner rest h k r = (h.0, k t done tt, r)
 
-  taken-there : (o : Option Word) → InText s (option_words o) → InText s (option_words (taken o))
+  taken_there : (o : Option Word) → InText s (option_words o) → InText s (option_words (taken o))
   unfolding taken taken_by option_words
-  taken-there none h = tt
-  taken-there (some t) h = go (is_no_default (sort_of t.class))
+  taken_there none h = tt
+  taken_there (some t) h = go (is_no_default (sort_of t.class))
     where
       go : (b : Bool) → InText s (option_words (taken_by b t))
       go true = tt
@@ -185,30 +185,30 @@ module _ (s : List ℕ) (os : List Object) where
     unfolding resolve
 
     -- The words of what a scope resolves to.
-    pub resolve-there : (ds : Definitions) (ss : Statements) → InText s (definition-words ds) → InText s (statement_words ss) → ValuesThere s (resolve ds os ss)
-    resolve-there no_more ss h k = tt
-    resolve-there (define d vs ds) ss h k =
+    pub resolve_there : (ds : Definitions) (ss : Statements) → InText s (definition_words ds) → InText s (statement_words ss) → ValuesThere s (resolve ds os ss)
+    resolve_there no_more ss h k = tt
+    resolve_there (define d vs ds) ss h k =
         let p = definition_text s d vs ds h in
-        let r = resolve-there ds ss p.rest k in
-        let i : Inner (λ t us. resolve-under vs os t us) = λ t us j. resolve-under-there vs t us p.values j in
-        by_choose (ValuesThere s) (among d.name (names ss)) _ _ (λ _. entries-there ss d vs _ _ k i r)
-        (λ _. default-taken-there (taken d.default) d vs _ _ (taken-there d.default p.default) i r)
+        let r = resolve_there ds ss p.rest k in
+        let i : Inner (λ t us. resolve_under vs os t us) = λ t us j. resolve_under_there vs t us p.values j in
+        by_choose (ValuesThere s) (among d.name (names ss)) _ _ (λ _. entries_there ss d vs _ _ k i r)
+        (λ _. default_taken_there (taken d.default) d vs _ _ (taken_there d.default p.default) i r)
 
-    resolve-under-there : (vs : Values) (t : Word) (ss : Statements) → InText s (value-words vs) → InText s (statement_words ss) → ValuesThere s (resolve-under vs os t ss)
-    resolve-under-there no_value t ss h k = tt
-    resolve-under-there (value w e us vs) t ss h k =
+    resolve_under_there : (vs : Values) (t : Word) (ss : Statements) → InText s (value_words vs) → InText s (statement_words ss) → ValuesThere s (resolve_under vs os t ss)
+    resolve_under_there no_value t ss h k = tt
+    resolve_under_there (value w e us vs) t ss h k =
         let p = list_text s w e us vs h in
-        by_choose (ValuesThere s) (alike w t) _ _ (λ _. resolve-there us ss p.1 k) (λ _. resolve-under-there vs t ss p.2 k)
+        by_choose (ValuesThere s) (alike w t) _ _ (λ _. resolve_there us ss p.1 k) (λ _. resolve_under_there vs t ss p.2 k)
 
 -- The definitions of a kind are definitions of the text.
-pub kind_there : (s : List ℕ) (k : Kind) (xs : List Spec) → InText s (spec_words xs) → InText s (definition-words (of_kind k xs))
-unfolding of_kind spec_words definition-words
+pub kind_there : (s : List ℕ) (k : Kind) (xs : List Spec) → InText s (spec_words xs) → InText s (definition_words (of_kind k xs))
+unfolding of_kind spec_words definition_words
 kind_there s k [] h = tt
 kind_there s k (x ∷ xs) h =
-    let p = parts s (definition-words x.definitions) (spec_words xs) h.1 in
+    let p = parts s (definition_words x.definitions) (spec_words xs) h.1 in
     go (same_kind k x.kind) p.0 (kind_there s k xs p.1)
   where
-    go : (b : Bool) → InText s (definition-words x.definitions) → InText s (definition-words (of_kind k xs)) → InText s (definition-words (pick b x.definitions (of_kind k xs)))
+    go : (b : Bool) → InText s (definition_words x.definitions) → InText s (definition_words (of_kind k xs)) → InText s (definition_words (pick b x.definitions (of_kind k xs)))
     go true p q = p
     go false p q = q
 
@@ -228,17 +228,17 @@ all_values_there s f (x ∷ xs) o n h k =
     let p = parts s (statement_words x.statements) (object_words xs) k.1.1 in
     let r = object_values f x in
     each_append (value_row_word s) (value_rows r n (of_object o)) (all_value_rows (all_values f xs) (suc o) (n + how_many_values r))
-    ∙ ap₂ ◌++◌ (values_there s r n (of_object o) (resolve-there s f.objects (of_kind x.kind f.specs) x.statements (kind_there s x.kind f.specs h) p.0))
+    ∙ ap₂ ◌++◌ (values_there s r n (of_object o) (resolve_there s f.objects (of_kind x.kind f.specs) x.statements (kind_there s x.kind f.specs h) p.0))
     (all_values_there s f xs (suc o) (n + how_many_values r) h p.1)
 
 -- The words of the objects are words of their parts.
 one_text : (s : List ℕ) {w : Word} {l : List Word} → In w l → InText s l → w.bytes ≡ part s (span_of w)
-one_text s (in-here e) g = subst (λ (v : Word). v.bytes ≡ part s (span_of v)) e g.0
-one_text s (in-there h) g = one_text s h g.1
+one_text s (in_here e) g = subst (λ (v : Word). v.bytes ≡ part s (span_of v)) e g.0
+one_text s (in_there h) g = one_text s h g.1
 
 among_text : (s : List ℕ) (l m : List Word) → ((w : Word) → In w l → In w m) → InText s m → InText s l
 among_text s [] m f g = tt
-among_text s (w ∷ l) m f g = (one_text s (f w (in-here refl)) g, among_text s l m (λ v h. f v (in-there h)) g)
+among_text s (w ∷ l) m f g = (one_text s (f w (in_here refl)) g, among_text s l m (λ v h. f v (in_there h)) g)
 
 pub objects_text : (s : List ℕ) (t : Trees ◌⟶◌ (file ▸ ∎)) → InText s (object_words (syntax s t).parts) → InText s (object_words (syntax s t).objects)
 objects_text s t g =

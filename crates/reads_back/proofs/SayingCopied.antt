@@ -29,7 +29,7 @@ use Rattle.meaning.specs.Places.{each}
 use Rattle.meaning.proofs.Unplaced.{unplaced_word}
 use Rattle.reads_back.proofs.Restated.{plain_word}
 use Rattle.reads_back.proofs.SayingAlone.{fails_at}
-use Rattle.reads_back.proofs.SayingPieces.{lexeme_word, words-moved, words-kept, Says}
+use Rattle.reads_back.proofs.SayingPieces.{lexeme_word, words_moved, words_kept, Says}
 
 -- ---- the words of tokens that are found
 
@@ -103,23 +103,23 @@ pub record Copy (s : List ℕ) (im : List Token) (a : List ℕ) : Type 0 where
   pub finishes : last_end 0 says.tokens ≡ length a
   pub from : ℕ
   pub tokens_are : map token_of (map (moved from) says.tokens) ≡ im
-  pub bytes-are : take (length a) (drop from s) ≡ a
+  pub bytes_are : take (length a) (drop from s) ≡ a
 
 module _ (s : List ℕ) (p : ℕ) (ts : List Lexeme) (inside : p ≤ length s) (x : Slice s p ts) (q : ℕ) (r : Run s q p ts) where
-  slice-words : each (lexeme_word (bytes_between s p x.end)) x.tokens ≡ each (plain_word s) (map token_of ts)
-  slice-words =
+  slice_words : each (lexeme_word (bytes_between s p x.end)) x.tokens ≡ each (plain_word s) (map token_of ts)
+  slice_words =
       let n = x.end in
       let a = bytes_between s p n in
-      sym (words-kept a (drop n s) x.tokens (run_inside (a ++ drop n s) (length a) 0 x.tokens x.run))
+      sym (words_kept a (drop n s) x.tokens (run_inside (a ++ drop n s) (length a) 0 x.tokens x.run))
       ∙ ap (λ (u : List ℕ). each (lexeme_word u) x.tokens) (sym (halves s p n x.low x.high))
       ∙ sym
       (by_parts s p inside (λ (u : List ℕ) (d : ℕ). each (lexeme_word u) (map (moved d) x.tokens) ≡ each (lexeme_word (drop p s)) x.tokens)
-      (words-moved (take p s) (drop p s) x.tokens))
+      (words_moved (take p s) (drop p s) x.tokens))
       ∙ ap (each (lexeme_word s)) x.moved-are ∙ sym (run_words s q p ts r)
 
-  slice-copy : (l : List Token) (c : Token) → map token_of ts ≡ l ++ (c ∷ []) → matches (sg semicolon) c.class ≡ true → first_at ts ≡ p →
+  slice_copy : (l : List Token) (c : Token) → map token_of ts ≡ l ++ (c ∷ []) → matches (sg semicolon) c.class ≡ true → first_at ts ≡ p →
       Copy s (l ++ (c ∷ [])) (bytes_between s p x.end)
-  slice-copy l c e m f =
+  slice_copy l c e m f =
       let n = x.end in
       let a = bytes_between s p n in
       record {
@@ -127,13 +127,13 @@ module _ (s : List ℕ) (p : ℕ) (ts : List Lexeme) (inside : p ≤ length s) (
           tokens = x.tokens;
           piece = piece_run false a (drop n s) x.tokens x.run
               (λ b _. moved_last p b x.tokens (subst (LastEnds b) (sym x.moved-are) (stop_last ts l c b e m)));
-          words = slice-words ∙ ap (each (plain_word s)) e;
+          words = slice_words ∙ ap (each (plain_word s)) e;
         };
         starts = first_zero p x.tokens ts x.moved-are f;
         finishes = run_last (a ++ drop n s) (length a) 0 x.tokens x.run;
         from = p;
         tokens_are = ap (map token_of) x.moved-are ∙ e;
-        bytes-are = ap (take (length a)) (halves s p n x.low x.high) ∙ take-append_seam a (drop n s);
+        bytes_are = ap (take (length a)) (halves s p n x.low x.high) ∙ take-append_seam a (drop n s);
       }
 
 module _ (s : List ℕ) (q : ℕ) (us : List Lexeme) (i c : Token) (mid : List Token) (m : matches (sg semicolon) c.class ≡ true) where
@@ -154,4 +154,4 @@ module _ (s : List ℕ) (q : ℕ) (us : List Lexeme) (i c : Token) (mid : List T
       let place : p ≡ i.place = ap (λ (y : Token). y.place) same in
       let last : x.end ≡ c.place + c.length = sym x.last ∙ last_place (t ∷ ts) p (i ∷ mid) c e in
       subst (Copy s (i ∷ (mid ++ (c ∷ [])))) (ap₂ (λ (p n : ℕ). take (n - p) (drop p s)) place last)
-      (slice-copy s p (t ∷ ts) inside x r.end r.run (i ∷ mid) c e m refl)
+      (slice_copy s p (t ∷ ts) inside x r.end r.run (i ∷ mid) c e m refl)

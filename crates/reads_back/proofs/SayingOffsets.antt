@@ -17,8 +17,8 @@ use Rattle.meaning.specs.Normal.{part}
 pub record Offset (p q m : ℕ) (a b : Span) : Type 0 where
   pub behind : ℕ
   pub place_is : a.place ≡ p + behind
-  pub place-there : b.place ≡ q + behind
-  pub length-is : b.length ≡ a.length
+  pub place_there : b.place ≡ q + behind
+  pub length_is : b.length ≡ a.length
   pub inside : behind + a.length ≤ m
 
 -- Where a token lies.
@@ -27,16 +27,16 @@ token_span t = record { place = t.place; length = t.length }
 
 -- So it is for each token of two lists, and the classes are the same.
 pub data Offsets (p q m : ℕ) : List Token → List Token → Type 0 where
-  no-offset : Offsets p q m [] []
-  an-offset : {t u : Token} {ts us : List Token} → Offset p q m (token_span t) (token_span u) → u.class ≡ t.class → Offsets p q m ts us
+  no_offset : Offsets p q m [] []
+  an_offset : {t u : Token} {ts us : List Token} → Offset p q m (token_span t) (token_span u) → u.class ≡ t.class → Offsets p q m ts us
       → Offsets p q m (t ∷ ts) (u ∷ us)
 
 -- So it is for the tokens of a text of m bytes, moved by p and by q.
 pub moved_offsets : (p q m : ℕ) (ts : List Lexeme) → Inside m ts → Offsets p q m (map token_of (map (moved p) ts)) (map token_of (map (moved q) ts))
 unfolding token_span token_of moved
-moved_offsets p q m [] i = no-offset
+moved_offsets p q m [] i = no_offset
 moved_offsets p q m (t ∷ ts) i =
-    an-offset (record { behind = t.at; place_is = refl; place-there = refl; length-is = refl; inside = i.0 }) refl (moved_offsets p q m ts i.1)
+    an_offset (record { behind = t.at; place_is = refl; place_there = refl; length_is = refl; inside = i.0 }) refl (moved_offsets p q m ts i.1)
 
 -- The tokens us of the text n are the tokens ts of the text s at other places, with the bytes around them.
 pub record Copied (s n : List ℕ) (ts us : List Token) : Type 0 where

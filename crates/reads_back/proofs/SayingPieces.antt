@@ -27,22 +27,22 @@ lexeme_word s t = record { class = class_of t.sort; bytes = take t.len (drop t.a
 
 module _ (a b : List ℕ) where
   -- the words of b, with a in front
-  pub words-moved : (ts : List Lexeme) → each (lexeme_word (a ++ b)) (map (moved (length a)) ts) ≡ each (lexeme_word b) ts
+  pub words_moved : (ts : List Lexeme) → each (lexeme_word (a ++ b)) (map (moved (length a)) ts) ≡ each (lexeme_word b) ts
   unfolding each lexeme_word moved
-  words-moved [] = refl
-  words-moved (t ∷ ts) =
+  words_moved [] = refl
+  words_moved (t ∷ ts) =
       ap₂ (λ (v : List ℕ) (ws : List Word). record { class = class_of t.sort; bytes = take t.len v; number = num_of_sort t.sort; float = float_of_sort t.sort; place = 0; length = 0 } ∷ ws)
-      (drop-append-add a b t.at) (words-moved ts)
+      (drop-append-add a b t.at) (words_moved ts)
 
   -- the words of a, where b goes on
-  pub words-kept : (ts : List Lexeme) → Inside (length a) ts → each (lexeme_word (a ++ b)) ts ≡ each (lexeme_word a) ts
+  pub words_kept : (ts : List Lexeme) → Inside (length a) ts → each (lexeme_word (a ++ b)) ts ≡ each (lexeme_word a) ts
   unfolding each lexeme_word
-  words-kept [] i = refl
-  words-kept (t ∷ ts) i =
+  words_kept [] i = refl
+  words_kept (t ∷ ts) i =
       let h = i.0 in
       let l = length-drop t.at a in
       ap₂ (λ (v : List ℕ) (ws : List Word). record { class = class_of t.sort; bytes = v; number = num_of_sort t.sort; float = float_of_sort t.sort; place = 0; length = 0 } ∷ ws)
-      (ap (take t.len) (drop-append-le t.at a b (omega arith)) ∙ take-append-le t.len (drop t.at a) b (omega arith)) (words-kept ts i.1)
+      (ap (take t.len) (drop-append-le t.at a b (omega arith)) ∙ take-append-le t.len (drop t.at a) b (omega arith)) (words_kept ts i.1)
 
 -- ---- pieces
 
@@ -60,7 +60,7 @@ says_append {f} {g} {a} {b} e x y =
       piece = piece_append e x.piece y.piece;
       words =
           each_append (lexeme_word (a ++ b)) x.tokens (map (moved (length a)) y.tokens)
-          ∙ ap₂ (λ (u v : List Word). u ++ v) (words-kept a b x.tokens x.piece.inside ∙ x.words) (words-moved a b y.tokens ∙ y.words);
+          ∙ ap₂ (λ (u v : List Word). u ++ v) (words_kept a b x.tokens x.piece.inside ∙ x.words) (words_moved a b y.tokens ∙ y.words);
     }
 
 -- the empty text

@@ -26,7 +26,7 @@ use Rattle.meaning.specs.Normal.{part, application_lines}
 use Rattle.meaning.specs.Places.{each}
 use Rattle.reads_back.proofs.Restated.{version_words, application_words, plain_word, Named, SaidObjects}
 use Rattle.reads_back.proofs.SayingOffsets.{Offsets, moved_offsets, Copied}
-use Rattle.reads_back.proofs.SayingPieces.{words-moved, words-kept, Says}
+use Rattle.reads_back.proofs.SayingPieces.{words_moved, words_kept, Says}
 use Rattle.reads_back.proofs.SayingLines.{says_heading, says_application}
 use Rattle.reads_back.proofs.SayingCopied.{run_words, last_place, first_at, Copy, copy}
 
@@ -37,9 +37,9 @@ pub record NormalTokens (s n : List ℕ) (im : List Token) (f : File) (rs : List
   pub middle : List Token
   pub last : List Token
   pub whole : tokens n ≡ heading ++ (middle ++ last)
-  pub heading-words : each (plain_word n) heading ≡ version_words
-  pub middle-words : each (plain_word n) middle ≡ each (plain_word s) im
-  pub last-words : each (plain_word n) last ≡ application_words f rs
+  pub heading_words : each (plain_word n) heading ≡ version_words
+  pub middle_words : each (plain_word n) middle ≡ each (plain_word s) im
+  pub last_words : each (plain_word n) last ≡ application_words f rs
   -- the implementation is copied byte for byte, from its first token through its last
   pub copied : (i c : Token) (mid : List Token) → middle ≡ i ∷ (mid ++ (c ∷ [])) →
       part n (through (word_of n i) (word_of n c)) ≡ part s f.implementation
@@ -57,16 +57,16 @@ tokens_are (refused p) = refl
 
 module _ {a : List ℕ} {ts : List Lexeme} (x : Piece false a ts) (b : List ℕ) where
   -- its tokens, and then those of what goes on
-  pub piece-tokens : tokens_of (lex_from (a ++ b) 0) ≡ ts ++ map (moved (length a)) (tokens_of (lex_from b 0))
+  pub piece_tokens : tokens_of (lex_from (a ++ b) 0) ≡ ts ++ map (moved (length a)) (tokens_of (lex_from b 0))
   unfolding may_follow
-  piece-tokens =
+  piece_tokens =
       ap tokens_of (x.joined b refl) ∙ tokens_after ts (moved_all (length a) (lex_from b 0))
       ∙ ap (λ (us : List Lexeme). ts ++ us) (tokens_moved (length a) (lex_from b 0))
 
   -- both divide wholly if what goes on does
-  pub piece-divides : Divides b → Divides (a ++ b)
+  pub piece_divides : Divides b → Divides (a ++ b)
   unfolding may_follow
-  piece-divides d = subst Wholly (sym (x.joined b refl)) (divides_after ts (moved_all (length a) (lex_from b 0)) (divides_moved (length a) (lex_from b 0) d))
+  piece_divides d = subst Wholly (sym (x.joined b refl)) (divides_after ts (moved_all (length a) (lex_from b 0)) (divides_moved (length a) (lex_from b 0) d))
 
 empty : lex_from [] 0 ≡ ended 0
 unfolding lex_from lex_n step_at skip skip_n token_at
@@ -74,14 +74,14 @@ empty = refl
 
 module _ {a : List ℕ} {ts : List Lexeme} (x : Piece false a ts) where
   -- where nothing goes on, its tokens are all
-  pub all-tokens : tokens_of (lex_from a 0) ≡ ts
+  pub all_tokens : tokens_of (lex_from a 0) ≡ ts
   unfolding tokens_of
-  all-tokens =
-      ap (λ (u : List ℕ). tokens_of (lex_from u 0)) (sym (append-nil a)) ∙ piece-tokens x []
+  all_tokens =
+      ap (λ (u : List ℕ). tokens_of (lex_from u 0)) (sym (append-nil a)) ∙ piece_tokens x []
       ∙ ap (λ (l : Lexed). ts ++ map (moved (length a)) (tokens_of l)) empty ∙ append-nil ts
 
-  all-divides : Divides a
-  all-divides = subst Divides (append-nil a) (piece-divides x [] (subst Wholly (sym empty) tt))
+  all_divides : Divides a
+  all_divides = subst Divides (append-nil a) (piece_divides x [] (subst Wholly (sym empty) tt))
 
 -- ---- three pieces
 
@@ -106,14 +106,14 @@ module _ (s : List ℕ) (im : List Token) (f : File) (rs : List Resolved) (h a r
 
   lexemes : tokens_of (lex_from n 0) ≡ heads ++ (middles ++ lasts)
   lexemes =
-      piece-tokens x.piece (a ++ r)
+      piece_tokens x.piece (a ++ r)
       ∙ ap (λ (l : List Lexeme). heads ++ map (moved (length h)) l)
-      (piece-tokens y.says.piece r ∙ ap (λ (l : List Lexeme). y.says.tokens ++ map (moved (length a)) l) (all-tokens z.piece))
+      (piece_tokens y.says.piece r ∙ ap (λ (l : List Lexeme). y.says.tokens ++ map (moved (length a)) l) (all_tokens z.piece))
       ∙ ap (λ (l : List Lexeme). heads ++ l) (map-append (moved (length h)) y.says.tokens (map (moved (length a)) z.tokens))
 
-  copied-part : (i c : Token) (mid : List Token) → map token_of middles ≡ i ∷ (mid ++ (c ∷ [])) → part n (through (word_of n i) (word_of n c)) ≡ a
+  copied_part : (i c : Token) (mid : List Token) → map token_of middles ≡ i ∷ (mid ++ (c ∷ [])) → part n (through (word_of n i) (word_of n c)) ≡ a
   unfolding part through word_of
-  copied-part i c mid e =
+  copied_part i c mid e =
       let d = length h in
       let p : i.place ≡ d = sym (first_place d y.says.tokens i (mid ++ (c ∷ [])) e) ∙ ap (λ (k : ℕ). d + k) y.starts ∙ add-zero d in
       let q : c.place + c.length ≡ d + length a =
@@ -128,21 +128,21 @@ module _ (s : List ℕ) (im : List Token) (f : File) (rs : List Resolved) (h a r
       let k = leading n j.end middles lasts j.rest in
       let l = leading n k.end lasts [] (k.rest ∙ sym (append-nil lasts)) in
       record {
-        divides = piece-divides x.piece (a ++ r) (piece-divides y.says.piece r (all-divides z.piece));
+        divides = piece_divides x.piece (a ++ r) (piece_divides y.says.piece r (all_divides z.piece));
         heading = map token_of heads;
         middle = map token_of middles;
         last = map token_of lasts;
         whole =
             tokens_are (lex_from n 0) ∙ ap (map token_of) lexemes
             ∙ map-append token_of heads (middles ++ lasts) ∙ ap (λ (t : List Token). map token_of heads ++ t) (map-append token_of middles lasts);
-        heading-words = run_words n j.end 0 heads j.run ∙ words-kept h (a ++ r) heads x.piece.inside ∙ x.words;
-        middle-words =
-            run_words n k.end j.end middles k.run ∙ words-moved h (a ++ r) y.says.tokens
-            ∙ words-kept a r y.says.tokens y.says.piece.inside ∙ y.says.words;
-        last-words =
-            run_words n l.end k.end lasts l.run ∙ words-moved h (a ++ r) (map (moved (length a)) z.tokens)
-            ∙ words-moved a r z.tokens ∙ z.words;
-        copied = λ i c mid e. copied-part i c mid e ∙ same;
+        heading_words = run_words n j.end 0 heads j.run ∙ words_kept h (a ++ r) heads x.piece.inside ∙ x.words;
+        middle_words =
+            run_words n k.end j.end middles k.run ∙ words_moved h (a ++ r) y.says.tokens
+            ∙ words_kept a r y.says.tokens y.says.piece.inside ∙ y.says.words;
+        last_words =
+            run_words n l.end k.end lasts l.run ∙ words_moved h (a ++ r) (map (moved (length a)) z.tokens)
+            ∙ words_moved a r z.tokens ∙ z.words;
+        copied = λ i c mid e. copied_part i c mid e ∙ same;
         at_offset = record {
           from = y.from;
           to = length h;

@@ -6,11 +6,11 @@ use mathlib.Core.Option.{Option, none}
 use Prim.Native.Nat.{ℕ, suc, ◌+◌}
 use Rattle.reads_back.proofs.MergedAgain.{merge_unplaced}
 use Rattle.token.specs.Find.{bit}
-use Rattle.grammar.specs.Grammar.{Rule, rule, tok, Form, ◌⟶◌, file, version, implementation, specs, spec, definitions, definition, attribute, D, P, auto, mark, integer_range, numbers, boolean_range, float_range, enumerator, enumerators, application, objects, object, block, statements, statement, default, own, file-is, version_is, implementation-is, no-spec, a-spec, spec_is, no-definition, a_definition, an-attribute, a_reference, an_integer, a_string, a_boolean, an_enum, a_float, reference-is, no-D, a-D, no-P, a-P, no-auto, with-auto, no-mark, a-mark, no-range, a-range, a-list, no_number, a_number, no-boolean-range, no-float-range, a-boolean-range, a-float-range, enumerator_is, no-enumerator, an_enumerator, no_default, a-default, own-auto, own-none, own-number, own-string, own-true, own-false, own_name, own-float, application-is, no_object, an_object, an-object-alone, an-object-with, no_block, a_block, no-statement, a_statement, statement-is, value-number, value-string, value-float, value-auto, value-name, value-true, value-false, reference as reference-rule, value as value-rule}
-use Rattle.meaning.specs.Syntax.{Word, Span, absent, through, AttributeType, integer, string, boolean, enum, float, Bounds, no_bounds, Definitions, no_more, define, Values, no_value, Defined, Spec, Statements, done, state, definitions_in, definitions_under, is_enum, enumerators-in, enumerators-under, statements_in, value as a-value, reference as reference-to, Object}
+use Rattle.grammar.specs.Grammar.{Rule, rule, tok, Form, ◌⟶◌, file, version, implementation, specs, spec, definitions, definition, attribute, D, P, auto, mark, integer_range, numbers, boolean_range, float_range, enumerator, enumerators, application, objects, object, block, statements, statement, default, own, file_is, version_is, implementation_is, no_spec, a_spec, spec_is, no_definition, a_definition, an_attribute, a_reference, an_integer, a_string, a_boolean, an_enum, a_float, reference_is, no_D, a_D, no_P, a_P, no_auto, with_auto, no_mark, a_mark, no_range, a_range, a_list, no_number, a_number, no_boolean_range, no_float_range, a_boolean_range, a_float_range, enumerator_is, no_enumerator, an_enumerator, no_default, a_default, own_auto, own_none, own_number, own_string, own_true, own_false, own_name, own_float, application_is, no_object, an_object, an_object_alone, an_object_with, no_block, a_block, no_statement, a_statement, statement_is, value_number, value_string, value_float, value_auto, value_name, value_true, value_false, reference as reference-rule, value as value-rule}
+use Rattle.meaning.specs.Syntax.{Word, Span, absent, through, AttributeType, integer, string, boolean, enum, float, Bounds, no_bounds, Definitions, no_more, define, Values, no_value, Defined, Spec, Statements, done, state, definitions_in, definitions_under, is_enum, enumerators_in, enumerators_under, statements_in, value as a-value, reference as reference-to, Object}
 use Rattle.meaning.specs.Actions.{kind_of, integer_of, Implementation, Application, IntegerRange, BooleanRange, Enumerator, Block, ValueWithBlock, Stated, M, Parts, first_value, truths, defined, defining, specifying, stating, means}
 use Rattle.meaning.specs.Places.{each}
-use Rattle.meaning.proofs.Unplaced.{if_there, unplaced_word, unplaced_bounds, unplaced_definition, unplaced-definitions, unplaced-values, unplaced_defined, unplaced_spec, unplaced_statement, unplaced_statements, unplaced_object, unplaced}
+use Rattle.meaning.proofs.Unplaced.{if_there, unplaced_word, unplaced_bounds, unplaced_definition, unplaced_definitions, unplaced_values, unplaced_defined, unplaced_spec, unplaced_statement, unplaced_statements, unplaced_object, unplaced}
 
 -- What rules mean, unplaced ----------------------------------------------------------------------------------------------------------------
 
@@ -25,10 +25,10 @@ unfoldable pub bare_integer_range : IntegerRange → IntegerRange
 bare_integer_range r = record { span = absent; bounds = unplaced_bounds r.bounds }
 
 unfoldable pub bare_boolean_range : BooleanRange → BooleanRange
-bare_boolean_range r = record { span = absent; values = unplaced-values r.values }
+bare_boolean_range r = record { span = absent; values = unplaced_values r.values }
 
 unfoldable pub bare_enumerator : Enumerator → Enumerator
-bare_enumerator x = record { word = unplaced_word x.word; under = unplaced-definitions x.under }
+bare_enumerator x = record { word = unplaced_word x.word; under = unplaced_definitions x.under }
 
 unfoldable pub bare_block : Block → Block
 bare_block b = record { brace = if_there unplaced_word b.brace; inside = λ k. unplaced_statements (b.inside k) }
@@ -46,12 +46,12 @@ bare_M version m = unplaced_word m
 bare_M implementation m = bare_implementation m
 bare_M specs m = λ n e. each unplaced_spec (m n e)
 bare_M spec m = λ n e. unplaced_spec (m n e)
-bare_M definitions m = λ n e. unplaced-definitions (m n e)
+bare_M definitions m = λ n e. unplaced_definitions (m n e)
 bare_M definition m = λ n e. unplaced_defined (m n e)
 bare_M attribute m = λ n e. unplaced_defined (m n e)
 bare_M reference-rule m = λ n e. unplaced_defined (m n e)
 bare_M D m = m
-bare_M P m = λ n e. unplaced-definitions (m n e)
+bare_M P m = λ n e. unplaced_definitions (m n e)
 bare_M auto m = m
 bare_M mark m = m
 bare_M integer_range m = bare_integer_range m
@@ -59,7 +59,7 @@ bare_M float_range m = bare_integer_range m
 bare_M numbers m = each unplaced_word m
 bare_M boolean_range m = λ n e. bare_boolean_range (m n e)
 bare_M enumerator m = λ n e. bare_enumerator (m n e)
-bare_M enumerators m = λ n e. unplaced-values (m n e)
+bare_M enumerators m = λ n e. unplaced_values (m n e)
 bare_M application m = bare_application m
 bare_M objects m = λ n k. each unplaced_object (m n k)
 bare_M object m = λ n k. unplaced_object (m n k)
@@ -80,27 +80,27 @@ bare_parts (rule x ∷ f) (k, m) = (bare_M x k, bare_parts f m)
 
 -- As many definitions, enumerators and statements are in what is unplaced.
 mutual
-  unfolding definitions_in unplaced-definitions
+  unfolding definitions_in unplaced_definitions
 
-  definitions-in-unplaced : (ds : Definitions) → definitions_in (unplaced-definitions ds) ≡ definitions_in ds
-  definitions-in-unplaced no_more = refl
-  definitions-in-unplaced (define d vs ds) = ap₂ (λ a b. suc (a + b)) (definitions-under-unplaced vs) (definitions-in-unplaced ds)
+  definitions_in_unplaced : (ds : Definitions) → definitions_in (unplaced_definitions ds) ≡ definitions_in ds
+  definitions_in_unplaced no_more = refl
+  definitions_in_unplaced (define d vs ds) = ap₂ (λ a b. suc (a + b)) (definitions_under_unplaced vs) (definitions_in_unplaced ds)
 
-  definitions-under-unplaced : (vs : Values) → definitions_under (unplaced-values vs) ≡ definitions_under vs
-  definitions-under-unplaced no_value = refl
-  definitions-under-unplaced (a-value w e us vs) = ap₂ ◌+◌ (definitions-in-unplaced us) (definitions-under-unplaced vs)
+  definitions_under_unplaced : (vs : Values) → definitions_under (unplaced_values vs) ≡ definitions_under vs
+  definitions_under_unplaced no_value = refl
+  definitions_under_unplaced (a-value w e us vs) = ap₂ ◌+◌ (definitions_in_unplaced us) (definitions_under_unplaced vs)
 
 mutual
-  unfolding enumerators-in unplaced-definitions unplaced_definition
+  unfolding enumerators_in unplaced_definitions unplaced_definition
 
-  enumerators-in-unplaced : (ds : Definitions) → enumerators-in (unplaced-definitions ds) ≡ enumerators-in ds
-  enumerators-in-unplaced no_more = refl
-  enumerators-in-unplaced (define d vs ds) = ap₂ ◌+◌ (enumerators-under-unplaced vs (is_enum d.type)) (enumerators-in-unplaced ds)
+  enumerators_in_unplaced : (ds : Definitions) → enumerators_in (unplaced_definitions ds) ≡ enumerators_in ds
+  enumerators_in_unplaced no_more = refl
+  enumerators_in_unplaced (define d vs ds) = ap₂ ◌+◌ (enumerators_under_unplaced vs (is_enum d.type)) (enumerators_in_unplaced ds)
 
-  enumerators-under-unplaced : (vs : Values) (b : Bool) → enumerators-under (unplaced-values vs) b ≡ enumerators-under vs b
-  enumerators-under-unplaced no_value b = refl
-  enumerators-under-unplaced (a-value w e us vs) b =
-      ap₂ (λ m n. bit b + (m + n)) (enumerators-in-unplaced us) (enumerators-under-unplaced vs b)
+  enumerators_under_unplaced : (vs : Values) (b : Bool) → enumerators_under (unplaced_values vs) b ≡ enumerators_under vs b
+  enumerators_under_unplaced no_value b = refl
+  enumerators_under_unplaced (a-value w e us vs) b =
+      ap₂ (λ m n. bit b + (m + n)) (enumerators_in_unplaced us) (enumerators_under_unplaced vs b)
 
 statements_in_unplaced : (ss : Statements) → statements_in (unplaced_statements ss) ≡ statements_in ss
 unfolding statements_in unplaced_statements
@@ -110,40 +110,40 @@ statements_in_unplaced (state x inside rest) = ap₂ (λ a b. suc (a + b)) (stat
 -- The actions' parts -----------------------------------------------------------------------------------------------------------------------
 
 first_bare : (x : Enumerator) (n e : ℕ) (vs : ℕ → ℕ → Values)
-    → first_value (bare_enumerator x) n e (λ n e. unplaced-values (vs n e)) ≡ unplaced-values (first_value x n e vs)
-unfolding first_value bare_enumerator unplaced-values
+    → first_value (bare_enumerator x) n e (λ n e. unplaced_values (vs n e)) ≡ unplaced_values (first_value x n e vs)
+unfolding first_value bare_enumerator unplaced_values
 first_bare x n e vs =
-    ap₂ (λ a b. a-value (unplaced_word x.word) e (unplaced-definitions x.under) (unplaced-values (vs (n + a) (suc e + b))))
-    (definitions-in-unplaced x.under) (enumerators-in-unplaced x.under)
+    ap₂ (λ a b. a-value (unplaced_word x.word) e (unplaced_definitions x.under) (unplaced_values (vs (n + a) (suc e + b))))
+    (definitions_in_unplaced x.under) (enumerators_in_unplaced x.under)
 
 truths_bare : (t : Word) (us : ℕ → ℕ → Definitions) (f : Word) (vs : ℕ → ℕ → Definitions) (n e : ℕ)
-    → truths (unplaced_word t) (λ n e. unplaced-definitions (us n e)) (unplaced_word f) (λ n e. unplaced-definitions (vs n e)) n e
-    ≡ unplaced-values (truths t us f vs n e)
-unfolding truths unplaced-values
+    → truths (unplaced_word t) (λ n e. unplaced_definitions (us n e)) (unplaced_word f) (λ n e. unplaced_definitions (vs n e)) n e
+    ≡ unplaced_values (truths t us f vs n e)
+unfolding truths unplaced_values
 truths_bare t us f vs n e =
-    ap₂ (λ a b. a-value (unplaced_word t) 0 (unplaced-definitions (us n e)) (a-value (unplaced_word f) 0 (unplaced-definitions (vs (n + a) (e + b))) no_value))
-    (definitions-in-unplaced (us n e)) (enumerators-in-unplaced (us n e))
+    ap₂ (λ a b. a-value (unplaced_word t) 0 (unplaced_definitions (us n e)) (a-value (unplaced_word f) 0 (unplaced_definitions (vs (n + a) (e + b))) no_value))
+    (definitions_in_unplaced (us n e)) (enumerators_in_unplaced (us n e))
 
 defined_bare : (n : ℕ) (vs : Values) (y : AttributeType) (t : Word) (a : Bool) (r : Span) (b : Bounds) (x : Word) (l : Bool) (d : Option Word)
-    → defined n (unplaced-values vs) y (unplaced_word t) a absent (unplaced_bounds b) (unplaced_word x) l (if_there unplaced_word d)
+    → defined n (unplaced_values vs) y (unplaced_word t) a absent (unplaced_bounds b) (unplaced_word x) l (if_there unplaced_word d)
     ≡ unplaced_defined (defined n vs y t a r b x l d)
 unfolding defined unplaced_defined unplaced_definition
 defined_bare n vs y t a r b x l d =
-    ap (λ (k : ℕ). record { definition = record { row = n + k; type = y; word = unplaced_word t; auto = a; range = absent; bounds = unplaced_bounds b; name = unplaced_word x; list = l; default = if_there unplaced_word d }; values = unplaced-values vs })
-    (definitions-under-unplaced vs)
+    ap (λ (k : ℕ). record { definition = record { row = n + k; type = y; word = unplaced_word t; auto = a; range = absent; bounds = unplaced_bounds b; name = unplaced_word x; list = l; default = if_there unplaced_word d }; values = unplaced_values vs })
+    (definitions_under_unplaced vs)
 
 defining_bare : (x : Defined) (e : ℕ) (xs : ℕ → ℕ → Definitions)
-    → defining (unplaced_defined x) e (λ n e. unplaced-definitions (xs n e)) ≡ unplaced-definitions (defining x e xs)
-unfolding defining unplaced_defined unplaced-definitions unplaced_definition
+    → defining (unplaced_defined x) e (λ n e. unplaced_definitions (xs n e)) ≡ unplaced_definitions (defining x e xs)
+unfolding defining unplaced_defined unplaced_definitions unplaced_definition
 defining_bare x e xs =
-    ap (λ k. define (unplaced_definition x.definition) (unplaced-values x.values) (unplaced-definitions (xs (suc x.definition.row) (e + k))))
-    (enumerators-in-unplaced (define x.definition x.values no_more))
+    ap (λ k. define (unplaced_definition x.definition) (unplaced_values x.values) (unplaced_definitions (xs (suc x.definition.row) (e + k))))
+    (enumerators_in_unplaced (define x.definition x.values no_more))
 
 specifying_bare : (x : Spec) (n e : ℕ) (xs : ℕ → ℕ → List Spec)
     → specifying (unplaced_spec x) n e (λ n e. each unplaced_spec (xs n e)) ≡ each unplaced_spec (specifying x n e xs)
 unfolding specifying each unplaced_spec
 specifying_bare x n e xs =
-    ap₂ (λ a b. unplaced_spec x ∷ each unplaced_spec (xs (n + a) (e + b))) (definitions-in-unplaced x.definitions) (enumerators-in-unplaced x.definitions)
+    ap₂ (λ a b. unplaced_spec x ∷ each unplaced_spec (xs (n + a) (e + b))) (definitions_in_unplaced x.definitions) (enumerators_in_unplaced x.definitions)
 
 stating_bare : (x : Stated) (k : ℕ) (xs : ℕ → Statements)
     → stating (bare_stated x) k (λ m. unplaced_statements (xs m)) ≡ unplaced_statements (stating x k xs)
@@ -155,8 +155,8 @@ stating_bare x k xs =
 
 -- What a form means of unplaced parts is what it means, unplaced.
 pub means_bare : {x : Rule} {g : Form} (p : x ⟶ g) (m : Parts g) → means p (bare_parts g m) ≡ bare_M x (means p m)
-unfolding means bare_parts bare_M unplaced bare_implementation bare_application bare_integer_range bare_boolean_range bare_enumerator bare_block bare_value bare_stated each if_there through unplaced_word absent unplaced_bounds unplaced-values unplaced-definitions unplaced_spec unplaced_object unplaced_statement unplaced_statements
-means_bare file-is (v, (i, (a, u))) =
+unfolding means bare_parts bare_M unplaced bare_implementation bare_application bare_integer_range bare_boolean_range bare_enumerator bare_block bare_value bare_stated each if_there through unplaced_word absent unplaced_bounds unplaced_values unplaced_definitions unplaced_spec unplaced_object unplaced_statement unplaced_statements
+means_bare file_is (v, (i, (a, u))) =
     ap (λ (os : List Object). record {
       version = unplaced_word v;
       implementation = absent;
@@ -167,13 +167,13 @@ means_bare file-is (v, (i, (a, u))) =
       objects = os;
     }) (merge_unplaced a.objects)
 means_bare version_is (_, (_, (v, _))) = refl
-means_bare implementation-is m = refl
-means_bare no-spec m = refl
-means_bare a-spec (x, (xs, _)) = λ i n e. specifying_bare (x n e) n e xs i
+means_bare implementation_is m = refl
+means_bare no_spec m = refl
+means_bare a_spec (x, (xs, _)) = λ i n e. specifying_bare (x n e) n e xs i
 means_bare spec_is m = refl
-means_bare no-definition m = refl
+means_bare no_definition m = refl
 means_bare a_definition (x, (xs, _)) = λ i n e. defining_bare (x n e) e xs i
-means_bare an-attribute m = refl
+means_bare an_attribute m = refl
 means_bare a_reference m = refl
 means_bare an_integer (t, (a, (r, (x, (l, (d, _)))))) = λ i n e. defined_bare n no_value (integer (integer_of t.class)) t a r.span r.bounds x l d i
 means_bare a_float (t, (a, (r, (x, (l, (d, _)))))) = λ i n e. defined_bare n no_value float t a r.span r.bounds x l d i
@@ -183,53 +183,53 @@ means_bare an_enum (t, (a, (o, (v, (vs, (c, (x, (l, (d, _))))))))) =
     fun_ext (λ n. fun_ext (λ e.
     ap (λ q. defined n q enum (unplaced_word t) a absent no_bounds (unplaced_word x) l (if_there unplaced_word d)) (first_bare (v n e) n e vs)
     ∙ defined_bare n (first_value (v n e) n e vs) enum t a (through o c) no_bounds x l d))
-means_bare reference-is (t, (x, (l, _))) = λ i n e. defined_bare n no_value (reference-to (kind_of t.class)) t false absent no_bounds x l none i
-means_bare no-D m = refl
-means_bare a-D m = refl
-means_bare no-P m = refl
-means_bare a-P m = refl
-means_bare no-auto m = refl
-means_bare with-auto m = refl
-means_bare no-mark m = refl
-means_bare a-mark m = refl
-means_bare no-range m = refl
-means_bare no-float-range m = refl
-means_bare a-range m = refl
-means_bare a-float-range m = refl
-means_bare a-list m = refl
+means_bare reference_is (t, (x, (l, _))) = λ i n e. defined_bare n no_value (reference-to (kind_of t.class)) t false absent no_bounds x l none i
+means_bare no_D m = refl
+means_bare a_D m = refl
+means_bare no_P m = refl
+means_bare a_P m = refl
+means_bare no_auto m = refl
+means_bare with_auto m = refl
+means_bare no_mark m = refl
+means_bare a_mark m = refl
+means_bare no_range m = refl
+means_bare no_float_range m = refl
+means_bare a_range m = refl
+means_bare a_float_range m = refl
+means_bare a_list m = refl
 means_bare no_number m = refl
 means_bare a_number m = refl
-means_bare no-boolean-range m = refl
-means_bare a-boolean-range (o, (t, (us, (_, (_, (f, (vs, (_, (c, _))))))))) =
+means_bare no_boolean_range m = refl
+means_bare a_boolean_range (o, (t, (us, (_, (_, (f, (vs, (_, (c, _))))))))) =
     λ i n e. record { span = absent; values = truths_bare t us f vs n e i }
 means_bare enumerator_is m = refl
-means_bare no-enumerator m = refl
+means_bare no_enumerator m = refl
 means_bare an_enumerator (_, (v, (vs, _))) = λ i n e. first_bare (v n e) n e vs i
 means_bare no_default m = refl
-means_bare a-default m = refl
-means_bare own-auto m = refl
-means_bare own-none m = refl
-means_bare own-number m = refl
-means_bare own-string m = refl
-means_bare own-float m = refl
-means_bare own-true m = refl
-means_bare own-false m = refl
+means_bare a_default m = refl
+means_bare own_auto m = refl
+means_bare own_none m = refl
+means_bare own_number m = refl
+means_bare own_string m = refl
+means_bare own_float m = refl
+means_bare own_true m = refl
+means_bare own_false m = refl
 means_bare own_name m = refl
-means_bare application-is m = refl
+means_bare application_is m = refl
 means_bare no_object m = refl
 means_bare an_object (x, (xs, _)) =
     λ i n k. unplaced_object (x n k) ∷ each unplaced_object (xs (suc n) (k + statements_in_unplaced (x n k).statements i))
-means_bare an-object-alone m = refl
-means_bare an-object-with m = refl
+means_bare an_object_alone m = refl
+means_bare an_object_with m = refl
 means_bare no_block m = refl
 means_bare a_block m = refl
-means_bare no-statement m = refl
+means_bare no_statement m = refl
 means_bare a_statement (x, (xs, _)) = λ i k. stating_bare (x k) k xs i
-means_bare statement-is m = refl
-means_bare value-number m = refl
-means_bare value-string m = refl
-means_bare value-float m = refl
-means_bare value-auto m = refl
-means_bare value-name m = refl
-means_bare value-true m = refl
-means_bare value-false m = refl
+means_bare statement_is m = refl
+means_bare value_number m = refl
+means_bare value_string m = refl
+means_bare value_float m = refl
+means_bare value_auto m = refl
+means_bare value_name m = refl
+means_bare value_true m = refl
+means_bare value_false m = refl

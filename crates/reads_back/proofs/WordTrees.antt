@@ -41,14 +41,14 @@ record Parted (n : List ℕ) (ts : List Token) (us ws : List Word) : Type 0 wher
   before : List Token
   after : List Token
   whole : ts ≡ before ++ after
-  before-words : each (plain_word n) before ≡ us
-  after-words : each (plain_word n) after ≡ ws
+  before_words : each (plain_word n) before ≡ us
+  after_words : each (plain_word n) after ≡ ws
 
 -- Trees of the form f over the tokens ts of the text n, whose parts mean m.
 pub record PlantedAs (n : List ℕ) (f : Form) (ts : List Token) (m : Parts f) : Type 0 where
   pub tree : Trees ◌⟶◌ f
   pub leaves : tokens tree ≡ ts
-  pub meaning-is : bare_parts f (meaning n tree) ≡ m
+  pub meaning_is : bare_parts f (meaning n tree) ≡ m
 
 heads : {A : Type 0} {a b : A} {l m : List A} → a ∷ l ≡ b ∷ m → a ≡ b
 unfolding head_d
@@ -59,7 +59,7 @@ tails e = ap tail e
 
 parted : (n : List ℕ) (ts : List Token) (us ws : List Word) → each (plain_word n) ts ≡ us ++ ws → Parted n ts us ws
 unfolding each
-parted n ts [] ws e = record { before = []; after = ts; whole = refl; before-words = refl; after-words = e }
+parted n ts [] ws e = record { before = []; after = ts; whole = refl; before_words = refl; after_words = e }
 parted n [] (u ∷ us) ws e = let z : 0 ≡ length (u ∷ (us ++ ws)) = ap length e in absurd (omega arith)
 parted n (t ∷ ts) (u ∷ us) ws e =
     let r = parted n ts us ws (tails e) in
@@ -67,8 +67,8 @@ parted n (t ∷ ts) (u ∷ us) ws e =
       before = t ∷ r.before;
       after = r.after;
       whole = ap (t ∷◌) r.whole;
-      before-words = ap₂ ◌∷◌ (heads e) r.before-words;
-      after-words = r.after-words;
+      before_words = ap₂ ◌∷◌ (heads e) r.before-words;
+      after_words = r.after-words;
     }
 
 planted_leaf : {a : Terminal} {f : Form} {m : Parts f} (n : List ℕ) (t : Token) (ts : List Token) (w : Word) → matches a w.class ≡ true
@@ -77,7 +77,7 @@ unfolding tokens meaning bare_parts plain_word unplaced_word word_of
 planted_leaf {a} {f} n t ts w h e r = record {
   tree = leaf t (ap (λ (u : Word). matches a u.class) e ∙ h) r.tree;
   leaves = ap (t ∷◌) r.leaves;
-  meaning-is = ap₂ (λ u k. (u, k)) e r.meaning-is;
+  meaning_is = ap₂ (λ u k. (u, k)) e r.meaning-is;
 }
 
 planted_node : {x : Rule} {g f : Form} {m : Parts g} {k : Parts f} (n : List ℕ) (p : x ⟶ g) (us ts : List Token) → PlantedAs n g us m → PlantedAs n f ts k
@@ -86,13 +86,13 @@ unfolding tokens meaning bare_parts
 planted_node n p us ts r q = record {
   tree = node p r.tree q.tree;
   leaves = ap₂ ◌++◌ r.leaves q.leaves;
-  meaning-is = ap₂ (λ u v. (u, v)) (sym (means_bare p (meaning n r.tree)) ∙ ap (means p) r.meaning-is) q.meaning-is;
+  meaning_is = ap₂ (λ u v. (u, v)) (sym (means_bare p (meaning n r.tree)) ∙ ap (means p) r.meaning-is) q.meaning-is;
 }
 
 -- Where tokens have the words of trees, there are such trees over them.
 pub planted : {f : Form} {ws : List Word} {m : Parts f} → WordTrees f ws m → (n : List ℕ) (ts : List Token) → each (plain_word n) ts ≡ ws → PlantedAs n f ts m
 unfolding each tokens meaning bare_parts
-planted word_nil n [] e = record { tree = nil; leaves = refl; meaning-is = refl }
+planted word_nil n [] e = record { tree = nil; leaves = refl; meaning_is = refl }
 planted word_nil n (t ∷ ts) e = let z : length (each (plain_word n) (t ∷ ts)) ≡ 0 = ap length e in absurd (omega arith)
 planted (word_leaf {ws = ws} w h r) n [] e = let z : 0 ≡ length (w ∷ ws) = ap length e in absurd (omega arith)
 planted (word_leaf w h r) n (t ∷ ts) e = planted_leaf n t ts w h (heads e) (planted r n ts (tails e))

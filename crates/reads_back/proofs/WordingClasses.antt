@@ -60,13 +60,13 @@ numeral_is (sign s) h = absurd (false≢true h)
 
 -- The forms of a value: "a number, string, AUTO, or a name, TRUE or FALSE".
 pub data ValueForm (c : Class) : Type 0 where
-  number-form : matches number c ≡ true → ValueForm c
-  string-form : matches string c ≡ true → ValueForm c
+  number_form : matches number c ≡ true → ValueForm c
+  string_form : matches string c ≡ true → ValueForm c
   float_form : matches float c ≡ true → ValueForm c
-  auto-form : matches (the AUTO) c ≡ true → ValueForm c
-  name-form : matches name c ≡ true → ValueForm c
-  true-form : matches (the TRUE) c ≡ true → ValueForm c
-  false-form : matches (the FALSE) c ≡ true → ValueForm c
+  auto_form : matches (the AUTO) c ≡ true → ValueForm c
+  name_form : matches name c ≡ true → ValueForm c
+  true_form : matches (the TRUE) c ≡ true → ValueForm c
+  false_form : matches (the FALSE) c ≡ true → ValueForm c
 
 -- What a computation over all classes finds of those of which P holds.
 by_class : (P Q : Class → Bool) → ((k : Kind) (i : Integer) → all (λ c. either (not (P c)) (Q c)) (classes k i) ≡ true) → (c : Class) → P c ≡ true → Q c ≡ true

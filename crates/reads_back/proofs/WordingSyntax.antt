@@ -7,7 +7,7 @@ use Prim.Native.Nat.{ℕ, suc}
 use Rattle.token.specs.Find.{pick}
 use Rattle.meaning.specs.Words.{choose}
 use Rattle.meaning.specs.Merging.{then, same_object, used, continued, merged, merge_from, merge}
-use Rattle.grammar.specs.Grammar.{Token, tokens, matches, Rule, Form, ◌▸◌, ∎, ◌⟶◌, Trees, nil, leaf, node, file, version, implementation, specs, spec, definitions, definition, attribute, D, P, auto, mark, integer_range, numbers, boolean_range, float_range, enumerator, enumerators, application, objects, object, block, statements, statement, default, own, file-is, version_is, implementation-is, no-spec, a-spec, spec_is, no-definition, a_definition, an-attribute, a_reference, an_integer, a_string, a_boolean, an_enum, a_float, reference-is, no-D, a-D, no-P, a-P, no-auto, with-auto, no-mark, a-mark, no-range, a-range, a-list, no_number, a_number, no-boolean-range, no-float-range, a-boolean-range, a-float-range, enumerator_is, no-enumerator, an_enumerator, no_default, a-default, own-auto, own-none, own-number, own-string, own-true, own-false, own_name, own-float, application-is, no_object, an_object, an-object-alone, an-object-with, no_block, a_block, no-statement, a_statement, statement-is, value-number, value-string, value-float, value-auto, value-name, value-true, value-false, reference as reference-rule, value as value-rule, kind as a-kind}
+use Rattle.grammar.specs.Grammar.{Token, tokens, matches, Rule, Form, ◌▸◌, ∎, ◌⟶◌, Trees, nil, leaf, node, file, version, implementation, specs, spec, definitions, definition, attribute, D, P, auto, mark, integer_range, numbers, boolean_range, float_range, enumerator, enumerators, application, objects, object, block, statements, statement, default, own, file_is, version_is, implementation_is, no_spec, a_spec, spec_is, no_definition, a_definition, an_attribute, a_reference, an_integer, a_string, a_boolean, an_enum, a_float, reference_is, no_D, a_D, no_P, a_P, no_auto, with_auto, no_mark, a_mark, no_range, a_range, a_list, no_number, a_number, no_boolean_range, no_float_range, a_boolean_range, a_float_range, enumerator_is, no_enumerator, an_enumerator, no_default, a_default, own_auto, own_none, own_number, own_string, own_true, own_false, own_name, own_float, application_is, no_object, an_object, an_object_alone, an_object_with, no_block, a_block, no_statement, a_statement, statement_is, value_number, value_string, value_float, value_auto, value_name, value_true, value_false, reference as reference-rule, value as value-rule, kind as a_kind}
 use Rattle.meaning.specs.Syntax.{Word, Definition, Definitions, no_more, define, Values, no_value, value, Defined, Statement, Statements, done, state, Spec, Object, File}
 use Rattle.meaning.specs.Actions.{M, Enumerator, word_of, kind_of, first_value, truths, defined, defining, specifying, stating, means, meaning, syntax}
 use Rattle.meaning.specs.Scopes.{sort_of}
@@ -15,7 +15,7 @@ use Rattle.meaning.specs.Judging.{is_no_default, taken_by, taken}
 use Rattle.meaning.specs.Places.{each}
 use Rattle.meaning.proofs.Unplaced.{unplaced_word}
 use Rattle.reads_back.proofs.Restated.{plain_word, Alone, AllAlone, Named}
-use Rattle.reads_back.proofs.WordingClasses.{in_list, ValueForm, number-form, string-form, float_form, auto-form, name-form, true-form, false-form, name_within, true_within, false_within, none_taken}
+use Rattle.reads_back.proofs.WordingClasses.{in_list, ValueForm, number_form, string_form, float_form, auto_form, name_form, true_form, false_form, name_within, true_within, false_within, none_taken}
 
 -- The syntax --------------------------------------------------------------------------------------------------------------------------------
 
@@ -32,20 +32,20 @@ WordedOption (some t) = WordedValue t
 mutual
   -- Definitions at any depth: of each the name, the default if one is taken, and the values of its list.
   pub data Worded : Definitions → Type 0 where
-    worded-none : Worded no_more
-    worded-more : {d : Definition} {vs : Values} {ds : Definitions} → Named d.name → WordedOption (taken d.default) → WordedList vs → Worded ds
+    worded_none : Worded no_more
+    worded_more : {d : Definition} {vs : Values} {ds : Definitions} → Named d.name → WordedOption (taken d.default) → WordedList vs → Worded ds
         → Worded (define d vs ds)
 
   -- The values of a list are names, TRUE or FALSE.
   pub data WordedList : Values → Type 0 where
     list_none : WordedList no_value
-    list-more : {w : Word} {e : ℕ} {us : Definitions} {vs : Values} → Alone (unplaced_word w) → in_list w.class ≡ true → Worded us → WordedList vs
+    list_more : {w : Word} {e : ℕ} {us : Definitions} {vs : Values} → Alone (unplaced_word w) → in_list w.class ≡ true → Worded us → WordedList vs
         → WordedList (value w e us vs)
 
 -- A kind's word and its definitions.
 pub record WordedSpec (x : Spec) : Type 0 where
   pub word_alone : Alone (unplaced_word x.word)
-  pub word_class : matches a-kind x.word.class ≡ true
+  pub word_class : matches a_kind x.word.class ≡ true
   pub kind_is : kind_of x.word.class ≡ x.kind
   pub definitions : Worded x.definitions
 
@@ -63,7 +63,7 @@ pub data WordedStatements : Statements → Type 0 where
 -- An object: its kind's word, its name and its statements.
 pub record WordedObject (x : Object) : Type 0 where
   pub word_alone : Alone (unplaced_word x.word)
-  pub word_class : matches a-kind x.word.class ≡ true
+  pub word_class : matches a_kind x.word.class ≡ true
   pub kind_is : kind_of x.word.class ≡ x.kind
   pub name : Named x.name
   pub statements : WordedStatements x.statements
@@ -182,15 +182,15 @@ own_nothing t e = subst (λ b. WordedOption (taken_by b t)) (sym e) tt
 
 means_worded : {x : Rule} {g : Form} (s : List ℕ) (p : x ⟶ g) (us : Trees ◌⟶◌ g) → All s us → W x (means p (meaning s us))
 unfolding means meaning first_value truths defined defining specifying stating word_of taken
-means_worded s file-is (node _ v (node _ i (node q a nil))) h = record { cpu = h.1.1.0.0; specs = h.1.0; objects = worded_merge (means q (meaning s a)).objects h.1.1.0.1 }
+means_worded s file_is (node _ v (node _ i (node q a nil))) h = record { cpu = h.1.1.0.0; specs = h.1.0; objects = worded_merge (means q (meaning s a)).objects h.1.1.0.1 }
 means_worded s version_is us h = tt
-means_worded s implementation-is (leaf _ _ (leaf _ _ (leaf _ _ (node _ ss (leaf _ _ (node _ d (leaf _ _ nil))))))) h = h.1.1.1.0 0 0
-means_worded s no-spec nil h = λ n e. tt
-means_worded s a-spec (node _ x (node _ xs nil)) h = λ n e. (h.0 n e, h.1.0 _ _)
+means_worded s implementation_is (leaf _ _ (leaf _ _ (leaf _ _ (node _ ss (leaf _ _ (node _ d (leaf _ _ nil))))))) h = h.1.1.1.0 0 0
+means_worded s no_spec nil h = λ n e. tt
+means_worded s a_spec (node _ x (node _ xs nil)) h = λ n e. (h.0 n e, h.1.0 _ _)
 means_worded s spec_is (leaf t m (leaf _ _ (node _ d r))) h = λ n e. record { word_alone = h.0; word_class = m; kind_is = refl; definitions = h.1.1.0 n e }
-means_worded s no-definition nil h = λ n e. worded-none
-means_worded s a_definition (node _ x (node _ xs nil)) h = λ n e. worded-more (h.0 n e).name (h.0 n e).default (h.0 n e).values (h.1.0 _ _)
-means_worded s an-attribute (node _ x nil) h = h.0
+means_worded s no_definition nil h = λ n e. worded_none
+means_worded s a_definition (node _ x (node _ xs nil)) h = λ n e. worded_more (h.0 n e).name (h.0 n e).default (h.0 n e).values (h.1.0 _ _)
+means_worded s an_attribute (node _ x nil) h = h.0
 means_worded s a_reference (node _ x nil) h = h.0
 means_worded s an_integer (leaf _ _ (node _ a (node _ r (leaf x m (node _ k (node _ d b)))))) h = λ n e.
     record { name = record { alone = h.1.1.1.0; class_is = m }; default = h.1.1.1.1.1.0; values = list_none }
@@ -205,64 +205,64 @@ means_worded s an_enum (leaf _ _ (node _ a (leaf _ _ (node q v (node r vs (leaf 
     record {
       name = record { alone = h.1.1.1.1.1.1.0; class_is = m };
       default = h.1.1.1.1.1.1.1.1.0;
-      values = list-more y.alone y.class-is y.under (h.1.1.1.1.0 _ _);
+      values = list_more y.alone y.class-is y.under (h.1.1.1.1.0 _ _);
     }
-means_worded s reference-is (leaf _ _ (leaf x m (node _ k b))) h = λ n e.
+means_worded s reference_is (leaf _ _ (leaf x m (node _ k b))) h = λ n e.
     record { name = record { alone = h.1.0; class_is = m }; default = tt; values = list_none }
-means_worded s no-D us h = tt
-means_worded s a-D us h = tt
-means_worded s no-P nil h = λ n e. worded-none
-means_worded s a-P (leaf _ _ (node _ d (leaf _ _ nil))) h = h.1.0
-means_worded s no-auto us h = tt
-means_worded s with-auto us h = tt
-means_worded s no-mark us h = tt
-means_worded s a-mark us h = tt
-means_worded s no-range us h = tt
-means_worded s no-float-range us h = tt
-means_worded s a-range us h = tt
-means_worded s a-float-range us h = tt
-means_worded s a-list us h = tt
+means_worded s no_D us h = tt
+means_worded s a_D us h = tt
+means_worded s no_P nil h = λ n e. worded_none
+means_worded s a_P (leaf _ _ (node _ d (leaf _ _ nil))) h = h.1.0
+means_worded s no_auto us h = tt
+means_worded s with_auto us h = tt
+means_worded s no_mark us h = tt
+means_worded s a_mark us h = tt
+means_worded s no_range us h = tt
+means_worded s no_float_range us h = tt
+means_worded s a_range us h = tt
+means_worded s a_float_range us h = tt
+means_worded s a_list us h = tt
 means_worded s no_number us h = tt
 means_worded s a_number us h = tt
-means_worded s no-boolean-range nil h = λ n e. list_none
-means_worded s a-boolean-range (leaf _ _ (leaf t m (node _ us (node _ d (leaf _ _ (leaf f k (node _ vs (node _ b c)))))))) h = λ n e.
-    list-more h.1.0 (true_within t.class m).0 (h.1.1.0 _ _)
-    (list-more h.1.1.1.1.1.0 (false_within f.class k).0 (h.1.1.1.1.1.1.0 _ _) list_none)
+means_worded s no_boolean_range nil h = λ n e. list_none
+means_worded s a_boolean_range (leaf _ _ (leaf t m (node _ us (node _ d (leaf _ _ (leaf f k (node _ vs (node _ b c)))))))) h = λ n e.
+    list_more h.1.0 (true_within t.class m).0 (h.1.1.0 _ _)
+    (list_more h.1.1.1.1.1.0 (false_within f.class k).0 (h.1.1.1.1.1.1.0 _ _) list_none)
 means_worded s enumerator_is (leaf w m (node _ us (node _ d nil))) h = λ n e.
     record { alone = h.0; class_is = (name_within w.class m).0; under = h.1.0 n (suc e) }
-means_worded s no-enumerator nil h = λ n e. list_none
+means_worded s no_enumerator nil h = λ n e. list_none
 means_worded s an_enumerator (leaf _ _ (node q v (node r vs nil))) h = λ n e.
     let y = h.1.0 n e in
-    list-more y.alone y.class-is y.under (h.1.1.0 _ _)
+    list_more y.alone y.class-is y.under (h.1.1.0 _ _)
 means_worded s no_default nil h = tt
-means_worded s a-default (leaf _ _ (node _ d nil)) h = h.1.0
-means_worded s own-auto (leaf t m nil) h = own_value (word_of s t) h.0 (auto-form m)
-means_worded s own-none (leaf t m nil) h = own_nothing (word_of s t) (none_taken t.class m)
-means_worded s own-number (leaf t m nil) h = own_value (word_of s t) h.0 (number-form m)
-means_worded s own-string (leaf t m nil) h = own_value (word_of s t) h.0 (string-form m)
-means_worded s own-float (leaf t m nil) h = own_value (word_of s t) h.0 (float_form m)
-means_worded s own-true (leaf t m nil) h = own_value (word_of s t) h.0 (true-form m)
-means_worded s own-false (leaf t m nil) h = own_value (word_of s t) h.0 (false-form m)
-means_worded s own_name (leaf t m nil) h = own_value (word_of s t) h.0 (name-form m)
-means_worded s application-is (leaf _ _ (leaf x m (leaf _ _ (node _ os r)))) h = (record { alone = h.1.0; class_is = m }, h.1.1.1.0 0 0)
+means_worded s a_default (leaf _ _ (node _ d nil)) h = h.1.0
+means_worded s own_auto (leaf t m nil) h = own_value (word_of s t) h.0 (auto_form m)
+means_worded s own_none (leaf t m nil) h = own_nothing (word_of s t) (none_taken t.class m)
+means_worded s own_number (leaf t m nil) h = own_value (word_of s t) h.0 (number_form m)
+means_worded s own_string (leaf t m nil) h = own_value (word_of s t) h.0 (string_form m)
+means_worded s own_float (leaf t m nil) h = own_value (word_of s t) h.0 (float_form m)
+means_worded s own_true (leaf t m nil) h = own_value (word_of s t) h.0 (true_form m)
+means_worded s own_false (leaf t m nil) h = own_value (word_of s t) h.0 (false_form m)
+means_worded s own_name (leaf t m nil) h = own_value (word_of s t) h.0 (name_form m)
+means_worded s application_is (leaf _ _ (leaf x m (leaf _ _ (node _ os r)))) h = (record { alone = h.1.0; class_is = m }, h.1.1.1.0 0 0)
 means_worded s no_object nil h = λ n k. tt
 means_worded s an_object (node _ x (node _ xs nil)) h = λ n k. (h.0 n k, h.1.0 _ _)
-means_worded s an-object-alone (leaf t m (leaf x l r)) h = λ n k.
+means_worded s an_object_alone (leaf t m (leaf x l r)) h = λ n k.
     record { word_alone = h.0; word_class = m; kind_is = refl; name = record { alone = h.1.0; class_is = l }; statements = worded_done }
-means_worded s an-object-with (leaf t m (leaf x l (leaf _ _ (node _ ss (leaf _ _ r))))) h = λ n k.
+means_worded s an_object_with (leaf t m (leaf x l (leaf _ _ (node _ ss (leaf _ _ r))))) h = λ n k.
     record { word_alone = h.0; word_class = m; kind_is = refl; name = record { alone = h.1.0; class_is = l }; statements = h.1.1.1.0 k }
 means_worded s no_block nil h = λ k. worded_done
 means_worded s a_block (leaf _ _ (node _ ss r)) h = h.1.0
-means_worded s no-statement nil h = λ k. worded_done
+means_worded s no_statement nil h = λ k. worded_done
 means_worded s a_statement (node _ x (node _ xs nil)) h = λ k. worded_state (h.0 k).0 (h.0 k).1 (h.1.0 _)
-means_worded s statement-is (leaf x _ (leaf _ _ (node _ v r))) h = λ k. (h.1.1.0.0, h.1.1.0.1 (suc k))
-means_worded s value-number (leaf t m nil) h = (record { alone = h.0; form = number-form m }, λ k. worded_done)
-means_worded s value-string (leaf t m nil) h = (record { alone = h.0; form = string-form m }, λ k. worded_done)
-means_worded s value-float (leaf t m nil) h = (record { alone = h.0; form = float_form m }, λ k. worded_done)
-means_worded s value-auto (leaf t m nil) h = (record { alone = h.0; form = auto-form m }, λ k. worded_done)
-means_worded s value-name (leaf t m (node _ b nil)) h = (record { alone = h.0; form = name-form m }, h.1.0)
-means_worded s value-true (leaf t m (node _ b nil)) h = (record { alone = h.0; form = true-form m }, h.1.0)
-means_worded s value-false (leaf t m (node _ b nil)) h = (record { alone = h.0; form = false-form m }, h.1.0)
+means_worded s statement_is (leaf x _ (leaf _ _ (node _ v r))) h = λ k. (h.1.1.0.0, h.1.1.0.1 (suc k))
+means_worded s value_number (leaf t m nil) h = (record { alone = h.0; form = number_form m }, λ k. worded_done)
+means_worded s value_string (leaf t m nil) h = (record { alone = h.0; form = string_form m }, λ k. worded_done)
+means_worded s value_float (leaf t m nil) h = (record { alone = h.0; form = float_form m }, λ k. worded_done)
+means_worded s value_auto (leaf t m nil) h = (record { alone = h.0; form = auto_form m }, λ k. worded_done)
+means_worded s value_name (leaf t m (node _ b nil)) h = (record { alone = h.0; form = name_form m }, h.1.0)
+means_worded s value_true (leaf t m (node _ b nil)) h = (record { alone = h.0; form = true_form m }, h.1.0)
+means_worded s value_false (leaf t m (node _ b nil)) h = (record { alone = h.0; form = false_form m }, h.1.0)
 
 -- The parts of tokens that all stand alone.
 alone_parts : (s : List ℕ) (l m : List Token) → AllAlone (each (plain_word s) (l ++ m)) → AllAlone (each (plain_word s) l) × AllAlone (each (plain_word s) m)

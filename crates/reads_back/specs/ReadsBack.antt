@@ -97,7 +97,7 @@ pub record ReadsBack (s : List ℕ) (t : Tables) (n : List ℕ) : Type 0 where
   -- with the same definitions, enumerators, objects, resolved values and counts "but places, lengths and the stated mark", and numbers of parts,
   pub same : bare back ≡ bare t
   -- "read back, each number of parts is one",
-  pub one-part : each (λ (r : ObjectRow). r.parts) back.objects ≡ each (λ (r : ObjectRow). 1) back.objects
+  pub one_part : each (λ (r : ObjectRow). r.parts) back.objects ≡ each (λ (r : ObjectRow). 1) back.objects
   -- whose words have the same bytes,
   pub words : words_of n back ≡ words_of s t
   -- and whose ranges have the same bytes,

@@ -119,27 +119,27 @@ released_file f g (accepted t) e = ap (file_of f) e
 released_file f g (refused n p) e = absurd (false≢true (ap is_release e))
 
 module _ (s : List ℕ) (g : File) where
-  by-trees : (o : Option (Trees ◌⟶◌ (file ▸ ∎))) → release_of (by_tree s o) ≡ release g → ObjectsApart (contents g)
+  by_trees : (o : Option (Trees ◌⟶◌ (file ▸ ∎))) → release_of (by_tree s o) ≡ release g → ObjectsApart (contents g)
   unfolding release_of by_tree is_release
-  by-trees none e = absurd (false≢true (ap is_release e))
-  by-trees (some t) e = subst (λ (h : File). ObjectsApart (contents h)) (released_file (syntax s t) g (answer (syntax s t)) e) (syntax_apart s t)
+  by_trees none e = absurd (false≢true (ap is_release e))
+  by_trees (some t) e = subst (λ (h : File). ObjectsApart (contents h)) (released_file (syntax s t) g (answer (syntax s t)) e) (syntax_apart s t)
 
-  by-grammar : (a : GrammarAnswer) (t : Unit {0} → Option (Trees ◌⟶◌ (file ▸ ∎))) → release_of (after_grammar s a t) ≡ release g → ObjectsApart (contents g)
+  by_grammar : (a : GrammarAnswer) (t : Unit {0} → Option (Trees ◌⟶◌ (file ▸ ∎))) → release_of (after_grammar s a t) ≡ release g → ObjectsApart (contents g)
   unfolding release_of after_grammar is_release
-  by-grammar Passes t e = by-trees (t tt) e
-  by-grammar (NoToken p) t e = absurd (false≢true (ap is_release e))
-  by-grammar (NotAdmitted p) t e = absurd (false≢true (ap is_release e))
-  by-grammar (TooDeep p) t e = absurd (false≢true (ap is_release e))
+  by_grammar Passes t e = by_trees (t tt) e
+  by_grammar (NoToken p) t e = absurd (false≢true (ap is_release e))
+  by_grammar (NotAdmitted p) t e = absurd (false≢true (ap is_release e))
+  by_grammar (TooDeep p) t e = absurd (false≢true (ap is_release e))
 
-  pub accepted-apart : release_of (parse s) ≡ release g → ObjectsApart (contents g)
+  pub accepted_apart : release_of (parse s) ≡ release g → ObjectsApart (contents g)
   unfolding parse choose release_of is_release
-  accepted-apart e = by (ltb 65535 (length s)) e
+  accepted_apart e = by (ltb 65535 (length s)) e
     where
       by : (b : Bool)
           → release_of (choose b (λ _. not_parsed 2 0) (λ _. let l = lex_from s 0 in after_grammar s (run 0 (paper file ▸ ∎) (stream_of l)) (λ _. tree (tokens_in l)))) ≡ release g
           → ObjectsApart (contents g)
       by true q = absurd (false≢true (ap is_release q))
-      by false q = by-grammar (run 0 (paper file ▸ ∎) (stream_of (lex_from s 0))) (λ _. tree (tokens_in (lex_from s 0))) q
+      by false q = by_grammar (run 0 (paper file ▸ ∎) (stream_of (lex_from s 0))) (λ _. tree (tokens_in (lex_from s 0))) q
 
 -- Objects exchanged --------------------------------------------------------------------------------------------------------------------------
 
@@ -171,13 +171,13 @@ sound_exchange l y z m a = record { objects = apart_exchange l y z m a.objects; 
 -- THE THEOREMS -------------------------------------------------------------------------------------------------------------------------------
 
 pub sides_swap : SidesSwap
-sides_swap s t f g a b p = swapped f g (accepted-apart s f a) (accepted-apart t g b) p
+sides_swap s t f g a b p = swapped f g (accepted_apart s f a) (accepted_apart t g b) p
 
 pub total_same : TotalSame
-total_same s t f g a b = total_swapped f g (accepted-apart s f a) (accepted-apart t g b)
+total_same s t f g a b = total_swapped f g (accepted_apart s f a) (accepted_apart t g b)
 
 pub none_with_itself : NoneWithItself
-none_with_itself s f a = self_none f (accepted-apart s f a)
+none_with_itself s f a = self_none f (accepted_apart s f a)
 
 pub order_of_first : FirstOrder
 order_of_first p before y z behind xs = first_order p before y z behind xs
@@ -185,7 +185,7 @@ order_of_first p before y z behind xs = first_order p before y z behind xs
 pub order_of_second : SecondOrder
 unfolding differences
 order_of_second s t f g a b p before y z behind e =
-    let S = sound f (accepted-apart s f a) in
-    let T : Sound (before ++ (y ∷ z ∷ behind)) = subst Sound e (sound g (accepted-apart t g b)) in
+    let S = sound f (accepted_apart s f a) in
+    let T : Sound (before ++ (y ∷ z ∷ behind)) = subst Sound e (sound g (accepted_apart t g b)) in
     ap (λ (l : List Content). count p (of_contents (contents f) l)) e
     ∙ second_order p before y z behind (contents f) S T (sound_exchange before y z behind T)

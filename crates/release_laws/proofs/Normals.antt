@@ -17,7 +17,7 @@ use Rattle.meaning.specs.Actions.{syntax}
 use Rattle.meaning.specs.Resolving.{Value, number, truth, auto, string, float, enumerator, object, Taken, Resolved, end, resolved, object_values, all_values, how_many_values}
 use Rattle.meaning.specs.Normal.{written, normal}
 use Rattle.meaning.specs.Answers.{Tables, Answer, accepted, refused, answer}
-use Rattle.meaning.specs.Reading.{Answers, too_long, not-grammar, meant, Parsed, parsed, not_parsed, parse, answer_of_parsed, reading, normal_text}
+use Rattle.meaning.specs.Reading.{Answers, too_long, not_grammar, meant, Parsed, parsed, not_parsed, parse, answer_of_parsed, reading, normal_text}
 use Rattle.meaning.specs.Places.{each}
 use Rattle.meaning.proofs.Found.{parse_derived, normal_derived}
 use Rattle.meaning.proofs.Whole.{answers, one_answer}
@@ -31,9 +31,9 @@ use Rattle.comparing.specs.Contents.{Step, Placed, num_key, kind_of_type, counts
 use Rattle.comparing.specs.Differences.{Release, release, no_release, released, release_of, differences}
 use Rattle.comparing.proofs.Alikes.{both_of, step_keyed, object_keyed, value_keyed}
 use Rattle.comparing.proofs.Swaps.{sound}
-use Rattle.comparing.proofs.Sames.{Alike, none_alike, more-alike, SameValue, SameContent, alike-none}
+use Rattle.comparing.proofs.Sames.{Alike, none_alike, more_alike, SameValue, SameContent, alike_none}
 use Rattle.release_laws.specs.Statements.{Accepted, NormalSame, NoneWithNormal}
-use Rattle.release_laws.proofs.Accepted.{accepted-apart}
+use Rattle.release_laws.proofs.Accepted.{accepted_apart}
 
 -- Values that are alike but places and the stated mark ----------------------------------------------------------------------------------------
 
@@ -143,19 +143,19 @@ step_same t u b c m q =
 below_same : (s t : Step) (l k : List Placed) → same_step s t ≡ true → Alike SameValue l k → Alike SameValue (each (below s) l) (each (below t) k)
 unfolding each below same_path
 below_same s t [] [] e none_alike = none_alike
-below_same s t (v ∷ l) (w ∷ k) e (more-alike r a) =
-    more-alike (record { path = both_of (same_step s t) (same_path v.path w.path) e r.path; value = r.value }) (below_same s t l k e a)
+below_same s t (v ∷ l) (w ∷ k) e (more_alike r a) =
+    more_alike (record { path = both_of (same_step s t) (same_path v.path w.path) e r.path; value = r.value }) (below_same s t l k e a)
 
 append_alike : (a b c d : List Placed) → Alike SameValue a b → Alike SameValue c d → Alike SameValue (a ++ c) (b ++ d)
 append_alike [] [] c d none_alike q = q
-append_alike (x ∷ a) (y ∷ b) c d (more-alike r p) q = more-alike r (append_alike a b c d p q)
+append_alike (x ∷ a) (y ∷ b) c d (more_alike r p) q = more_alike r (append_alike a b c d p q)
 
 placed_same : {r q : Resolved} → SameTree r q → (n m : ℕ) (b c : List Word) → bytes_of b ≡ bytes_of c → Alike SameValue (placed r n b) (placed q m c)
 unfolding placed same_path same_value each
 placed_same same_none n m b c e = none_alike
 placed_same (same_some {t} {u} {a} {b} {c} {d} h p q) n m bs cs e =
     let st = step_same t u bs cs h e in
-    more-alike
+    more_alike
     (record { path = both_of (same_step (step_to t bs) (step_to u cs)) true st refl; value = value_keyed.from-keys t u h.counts })
     (append_alike (each (below (step_to t bs)) (placed a (suc n) [])) (each (below (step_to u cs)) (placed b (suc m) []))
     (placed c (suc n + how_many_values a) (t.definition.name ∷ bs)) (placed d (suc m + how_many_values b) (u.definition.name ∷ cs))
@@ -205,7 +205,7 @@ unfolding contents_of each
 contents_same no_names t n m = none_alike
 contents_same (more_names p q) no_trees n m = none_alike
 contents_same (more_names {x} {y} p q) (more_trees {a} {b} r t) n m =
-    more-alike
+    more_alike
     (record {
       object = object_keyed.from-keys (record { object = x; values = placed a n [] }) (record { object = y; values = placed b m [] }) (λ i. (kind_number (p.kind i), p.name i));
       values = placed_same r n m [] [] refl;
@@ -229,13 +229,13 @@ is_release (no_release n p) = false
 record Parses (s : List ℕ) (f : File) : Type 0 where
   tables : Tables
   is : parse s ≡ parsed f
-  answers-so : answer f ≡ accepted tables
+  answers_so : answer f ≡ accepted tables
 
 released_as : (g f : File) (a : Answer) → released g a ≡ release f → answer g ≡ a → (s : List ℕ) → parse s ≡ parsed g → Parses s f
 unfolding released file_of is_release
 released_as g f (accepted t) e q s p =
     let z : g ≡ f = ap (file_of g) e in
-    record { tables = t; is = p ∙ ap parsed z; answers-so = ap answer (sym z) ∙ q }
+    record { tables = t; is = p ∙ ap parsed z; answers_so = ap answer (sym z) ∙ q }
 released_as g f (refused n k) e q s p = absurd (false≢true (ap is_release e))
 
 parses : (s : List ℕ) (f : File) → Accepted s f → Parses s f
@@ -252,31 +252,31 @@ record Derives (s : List ℕ) : Type 0 where
 
 derives : {s : List ℕ} {a : Answer} (t : Tables) → Answers s a → a ≡ accepted t → Derives s
 derives t (too_long k) e = absurd (let z : ◌≡◌ {A = Bool} false true = cc in false≢true z)
-derives t (not-grammar a k m q) e = absurd (let z : ◌≡◌ {A = Bool} false true = cc in false≢true z)
+derives t (not_grammar a k m q) e = absurd (let z : ◌≡◌ {A = Bool} false true = cc in false≢true z)
 derives t (meant w d) e = record { covered = w; derivation = d }
 
 module _ (s : List ℕ) (f g : File) (t : Tables) (h : SameAll (all_values (kept_file f) (kept_file f).objects) (all_values f f.objects)) (e : unplaced g ≡ restated_file f) where
-  values-alike : SameTrees (all_values g g.objects) (all_values f f.objects)
+  values_alike : SameTrees (all_values g g.objects) (all_values f f.objects)
   unfolding unplaced
-  values-alike =
+  values_alike =
       let k = kept_file f in
       let a : each unplaced_resolved (all_values g g.objects) ≡ each unplaced_resolved (all_values k k.objects) =
       sym (all_values_unplaced g g.objects) ∙ ap (λ (z : File). all_values z z.objects) (e ∙ sym (unplaced_kept f)) ∙ all_values_unplaced k k.objects in
       trees_then (trees_back (unplaced_trees (all_values g g.objects)))
       (trees_then (subst (λ (l : List Resolved). SameTrees l (all_values k k.objects)) (sym a) (unplaced_trees (all_values k k.objects))) (same_trees h))
 
-  objects-alike : SameNames g.objects f.objects
+  objects_alike : SameNames g.objects f.objects
   unfolding unplaced restated_file
-  objects-alike =
+  objects_alike =
       let a : each unplaced_object g.objects ≡ restated_objects f.objects (all_values f f.objects) 0 = ap (λ (z : File). z.objects) e in
       names_then (names_back (unplaced_names g.objects)) (subst (λ (l : List Object). SameNames l f.objects) (sym a) (restated_names f f.objects 0))
 
-  contents-alike : Alike SameContent (contents f) (contents g)
+  contents_alike : Alike SameContent (contents f) (contents g)
   unfolding contents
-  contents-alike =
+  contents_alike =
       subst (λ (l : List Content). Alike SameContent l (contents_from g g.objects 0)) (sym (contents_are f f.objects 0))
       (subst (Alike SameContent (contents_of f.objects (all_values f f.objects) 0)) (sym (contents_are g g.objects 0))
-      (contents_same (names_back objects-alike) (trees_back values-alike) 0 0))
+      (contents_same (names_back objects_alike) (trees_back values_alike) 0 0))
 
 -- THE THEOREM.
 pub none_with_normal : NoneWithNormal
@@ -297,7 +297,7 @@ none_with_normal s f a n e h =
     record {
       file = g;
       accepted = accepted-again;
-      none = alike-none (contents f) (contents g) (sound f (accepted-apart s f a)) (sound g (accepted-apart n g accepted-again))
-          (contents-alike s f g p.tables (subst (λ (k : File). SameAll (all_values (kept_file k) (kept_file k).objects) (all_values k k.objects)) z M.values)
+      none = alike_none (contents f) (contents g) (sound f (accepted_apart s f a)) (sound g (accepted_apart n g accepted-again))
+          (contents_alike s f g p.tables (subst (λ (k : File). SameAll (all_values (kept_file k) (kept_file k).objects) (all_values k k.objects)) z M.values)
           (N.restates ∙ ap restated_file z));
     }

@@ -22,7 +22,7 @@ use Rattle.reading.specs.Results.{ReadsSpanned}
 use Rattle.reading.specs.declared.Answer.TheVariants.{Accepted, Refused}
 use Rattle.reading.specs.declared.Spanned.{Spanned}
 use Rattle.writing.specs.Promises.{Tables}
-use Rattle.writing.proofs.Calling.{given-whole, many-definitions, own-fits, reads-own, refused-reading}
+use Rattle.writing.proofs.Calling.{given_whole, many_definitions, own_fits, reads_own, refused_reading}
 use Rattle.comparing.specs.Lists.{the_first, each_of, overwrite}
 use Rattle.comparing.specs.Contents.{Placed, placed, same_value, Content, contents, same_object, same_path}
 use Rattle.comparing.specs.Differences.{Compared, compared, not_compared, Release, release, no_release, released, release_of, compare_releases, compare_texts, differences, told, record_of, records_of, met, of_first_value, of_second_value, of_pair, matched, of_first_object, of_second_object, of_contents, object_in_second, value_in_second, values_differ, Difference as Change}
@@ -35,8 +35,8 @@ use Rattle.comparing.proofs.Tellings.{told_list}
 use Rattle.releases.specs.Settings.{Located, AllLocated, Scene}
 use Rattle.releases.specs.Promises.{Counted, Stopped, Answered, all_told, refused_told, DifferencesTold, SecondRead, list_after, answer_for, Compares}
 use Rattle.releases.proofs.Scenes.{scene}
-use Rattle.releases.proofs.ByRules.{by-rules}
-use Rattle.releases.proofs.Telling.{One, this-one, later-one, found_one, one_located}
+use Rattle.releases.proofs.ByRules.{by_rules}
+use Rattle.releases.proofs.Telling.{One, this_one, later_one, found_one, one_located}
 
 -- Records ----------------------------------------------------------------------------------------------------------------------------------
 
@@ -70,7 +70,7 @@ pub compares_so : (s t : List ℕ) (l : List Difference) (f : Found) → Answere
 compares_so s t l f a =
     let i = so_list (compare_texts s t) f a l in
     let j = so_result (compare_texts s t) f a in
-    record { list = i; result = j; rules = by-rules s t l (overwrite (take (min f.total 64) f.records) l) f.compared i j }
+    record { list = i; result = j; rules = by_rules s t l (overwrite (take (min f.total 64) f.records) l) f.compared i j }
 
 -- Refused texts ----------------------------------------------------------------------------------------------------------------------------
 
@@ -93,20 +93,20 @@ full_room h =
     record { definitions = omega (arith, a); enumerators = omega (arith, b); objects = omega (arith, c); values = omega (arith, f) }
 
 module _ {s d e o v d₁ e₁ o₁ v₁ : List ℕ} {w : Spanned} (h : ReadsSpanned s d e o v d₁ e₁ o₁ v₁ w) (k : RoomSizes d e o v) where
-  refused-release : (n p : ℕ) → w.reading.answer ≡ Refused n p → release_of (parse s) ≡ no_release n p
+  refused_release : (n p : ℕ) → w.reading.answer ≡ Refused n p → release_of (parse s) ≡ no_release n p
   unfolding reading
-  refused-release n p i = released_refused (parse s) n p (refused-reading h (full_room k) n p i)
+  refused_release n p i = released_refused (parse s) n p (refused_reading h (full_room k) n p i)
 
-  pub first-stopped : (t : List ℕ) (n p : ℕ) (q : Found) → w.reading.answer ≡ Refused n p → Stopped 1 n p q → Answered (compare_texts s t) q
+  pub first_stopped : (t : List ℕ) (n p : ℕ) (q : Found) → w.reading.answer ≡ Refused n p → Stopped 1 n p q → Answered (compare_texts s t) q
   unfolding compare_texts
-  first-stopped t n p q i z =
-      subst (λ (c : Compared). Answered c q) (sym (ap (λ (a : Release). compare_releases a (release_of (parse t))) (refused-release n p i) ∙ first_refused (release_of (parse t)) n p)) (refused_told z)
+  first_stopped t n p q i z =
+      subst (λ (c : Compared). Answered c q) (sym (ap (λ (a : Release). compare_releases a (release_of (parse t))) (refused_release n p i) ∙ first_refused (release_of (parse t)) n p)) (refused_told z)
 
   -- The second text is s, the first is r.
-  pub second-stopped : (r d3 o3 v3 : List ℕ) (many m j : ℕ) (n p : ℕ) (q : Found) → w.reading.answer ≡ Refused n p → Stopped 2 n p q → SecondRead r d3 o3 v3 many m j s q
+  pub second_stopped : (r d3 o3 v3 : List ℕ) (many m j : ℕ) (n p : ℕ) (q : Found) → w.reading.answer ≡ Refused n p → Stopped 2 n p q → SecondRead r d3 o3 v3 many m j s q
   unfolding compare_texts compare_releases
-  second-stopped r d3 o3 v3 many m j n p q i z f e t a b c l =
-      subst (λ (c : Compared). Answered c q) (sym (ap₂ compare_releases e (refused-release n p i))) (refused_told z)
+  second_stopped r d3 o3 v3 many m j n p q i z f e t a b c l =
+      subst (λ (c : Compared). Answered c q) (sym (ap₂ compare_releases e (refused_release n p i))) (refused_told z)
 
   -- An accepted text -----------------------------------------------------------------------------------------------------------------------
 
@@ -115,8 +115,8 @@ module _ {s d e o v d₁ e₁ o₁ v₁ : List ℕ} {w : Spanned} (h : ReadsSpan
     pub is : release_of (parse s) ≡ release file
     pub tables : Tables s d₁ o₁ v₁ m n file
     pub many_is : many ≡ length (all_definition_rows file.specs)
-    pub few-definitions : many ≤ 512
-    pub few-objects : m ≤ 256
+    pub few_definitions : many ≤ 512
+    pub few_objects : m ≤ 256
     pub few_values : n ≤ 2048
 
   pub is_read : w.reading.answer ≡ Accepted → IsRead w.reading.definitions w.reading.objects w.reading.values
@@ -124,9 +124,9 @@ module _ {s d e o v d₁ e₁ o₁ v₁ : List ℕ} {w : Spanned} (h : ReadsSpan
   is_read i =
       let a = h.spans i in
       let f = a.file in
-      let g = (given-whole h i k).tables in
-      let fits = own-fits h i in
-      let many = many-definitions h i in
+      let g = (given_whole h i k).tables in
+      let fits = own_fits h i in
+      let many = many_definitions h i in
       let few = fits.definitions in
       let mo = g.many-objects in
       let fo = fits.objects in
@@ -134,11 +134,11 @@ module _ {s d e o v d₁ e₁ o₁ v₁ : List ℕ} {w : Spanned} (h : ReadsSpan
       let fv = fits.values in
       record {
         file = f;
-        is = ap release_of (parse_derived s a.covered a.situation.derivation ∙ ap parsed (sym a.situation.syntax-of)) ∙ ap (released f) (sym a.answered ∙ reads-own h i);
+        is = ap release_of (parse_derived s a.covered a.situation.derivation ∙ ap parsed (sym a.situation.syntax-of)) ∙ ap (released f) (sym a.answered ∙ reads_own h i);
         tables = g;
         many_is = many;
-        few-definitions = omega (arith, many, few);
-        few-objects = omega (arith, mo, fo);
+        few_definitions = omega (arith, many, few);
+        few_objects = omega (arith, mo, fo);
         few_values = omega (arith, mv, fv);
       }
 
@@ -158,8 +158,8 @@ unfolding each_of
 each_most F k c [] h g = omega arith
 each_most F k zero (x ∷ xs) h g = absurd (omega (arith, g))
 each_most F k (suc c) (x ∷ xs) h g =
-    let p = h x this-one in
-    let q = each_most F k c xs (λ y o. h y (later-one o)) (omega (arith, g)) in
+    let p = h x this_one in
+    let q = each_most F k c xs (λ y o. h y (later_one o)) (omega (arith, g)) in
     let e = length-append (F x) (each_of F xs) in
     let m = suc-mul c k in
     omega (arith, p, q, e, m)
@@ -196,27 +196,27 @@ values_few l =
     omega (arith, e, f)
 
 module _ {s d o v s2 d2 o2 v2 : List ℕ} {many m n many2 m2 n2 : ℕ} {f g : File} (S : Scene s d o v many m n f) (T : Scene s2 d2 o2 v2 many2 m2 n2 g) where
-  object-few : (x : Content) → One x (contents f) → length (of_first_object (contents g) x) ≤ 4096
+  object_few : (x : Content) → One x (contents f) → length (of_first_object (contents g) x) ≤ 4096
   unfolding of_first_object matched
-  object-few x a = by (the_first (same_object x) (contents g)) refl
+  object_few x a = by (the_first (same_object x) (contents g)) refl
     where
       by : (c : Option Content) → the_first (same_object x) (contents g) ≡ c → length (matched x c) ≤ 4096
       by none e = omega arith
       by (some y) e = pair_few x y (values_few (one_located a S.located)) (values_few (one_located (found_one (same_object x) (contents g) y e) T.located))
 
-  added-few : (y : Content) → length (of_second_object (contents f) y) ≤ 1
+  added_few : (y : Content) → length (of_second_object (contents f) y) ≤ 1
   unfolding of_second_object
-  added-few y = chosen_few (is_there (the_first (λ x. same_object x y) (contents f))) (object_in_second y.object)
+  added_few y = chosen_few (is_there (the_first (λ x. same_object x y) (contents f))) (object_in_second y.object)
 
-  pub total-few : length (differences f g) ≤ 1048832
+  pub total_few : length (differences f g) ≤ 1048832
   unfolding differences of_contents
-  total-few =
+  total_few =
       let c = S.count in
       let l = S.few in
       let c2 = T.count in
       let l2 = T.few in
-      let a = each_most (of_first_object (contents g)) 4096 256 (contents f) object-few (omega (arith, c, l)) in
-      let b = each_one (of_second_object (contents f)) added-few (contents g) in
+      let a = each_most (of_first_object (contents g)) 4096 256 (contents f) object_few (omega (arith, c, l)) in
+      let b = each_one (of_second_object (contents f)) added_few (contents g) in
       let e = length-append (each_of (of_first_object (contents g)) (contents f)) (each_of (of_second_object (contents f)) (contents g)) in
       omega (arith, a, b, e, c2, l2)
 
@@ -235,7 +235,7 @@ second_counted s d o v t d2 e2 o2 v2 d₂ e₂ o₂ v₂ w many m n found q sb s
     let u = told f g S T in
     let total = u.total in
     let long = records_length (differences f g) in
-    let few = total-few S T in
+    let few = total_few S T in
     let e : found.total ≡ length (differences f g) = omega (arith, total, long, few) in
     subst (λ (c : Compared). Answered c q) (sym (ap₂ compare_releases is r.is))
     (all_told (record { total = counted.total ∙ u.total; records = ap (take (min 64 (length (records_of (differences f g))))) counted.records ∙ u.records })

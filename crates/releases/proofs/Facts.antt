@@ -15,12 +15,12 @@ use Rattle.meaning.specs.Words.{alike, among, choose}
 use Rattle.meaning.specs.Scopes.{Sort, a_number, a_string, a_truth, an_auto, a_no_default, a_name, a_float, Under, names, sort_of}
 use Rattle.meaning.specs.Defining.{DefinitionRow, definition_row, all_definition_rows}
 use Rattle.meaning.specs.Judging.{is_no_default, taken_by, taken}
-use Rattle.meaning.specs.Resolving.{Value, Taken, Resolved, end, resolved, named, valued, take_value, entries, default_entry, resolve, resolve-under}
+use Rattle.meaning.specs.Resolving.{Value, Taken, Resolved, end, resolved, named, valued, take_value, entries, default_entry, resolve, resolve_under}
 use Rattle.meaning.specs.Cells.{type_code, definition_cells, definition_room}
 use Rattle.meaning.proofs.Rooms.{definition_width}
 use Rattle.meaning.proofs.Sites.{option_words}
 use Rattle.layout.specs.Kept.{Entry}
-use Rattle.blocks.specs.Blocks.{WordIn, StatementsIn, none_in, more-in}
+use Rattle.blocks.specs.Blocks.{WordIn, StatementsIn, none_in, more_in}
 use Rattle.blocks.proofs.Files.{AllIn}
 use Rattle.scopes.specs.Situations.{Situation, HasDefinition, this_definition, later_definition, HasValue, this_value, later_value, Stands, under_value, ScopeAt, no_scope, scope}
 use Rattle.scopes.specs.Given.{entry_rows}
@@ -28,36 +28,36 @@ use Rattle.scopes.proofs.Answering.{spec_rows}
 use Rattle.scopes.proofs.Descents.{row_of_definition}
 use Rattle.lookups.proofs.Standings.{words_definition, file_stands}
 use Rattle.writing.specs.Promises.{From}
-use Rattle.writing.proofs.Froms.{from_cell, from-append, from_room}
+use Rattle.writing.proofs.Froms.{from_cell, from_append, from_room}
 use Rattle.comparing.specs.Standing as st
 
 -- P holds of each of these values.
 pub data AllTaken (P : Taken → Type 0) : Resolved → Type 0 where
-  no-taken : AllTaken P end
-  more-taken : {t : Taken} {us rest : Resolved} → P t → AllTaken P us → AllTaken P rest → AllTaken P (resolved t us rest)
+  no_taken : AllTaken P end
+  more_taken : {t : Taken} {us rest : Resolved} → P t → AllTaken P us → AllTaken P rest → AllTaken P (resolved t us rest)
 
 -- Entries ----------------------------------------------------------------------------------------------------------------------------------
 
 module _ {s : List ℕ} (P : Taken → Type 0) (os : List Object) (x : Definition) (vs : Values) (h : (b : Bool) (w : Word) → WordIn s w → P (take_value b os x vs w)) (inner : Word → Statements → Resolved)
     (i : (t : Word) (us : Statements) → StatementsIn s us → AllTaken P (inner t us)) {rest : Resolved} (r : AllTaken P rest) where
-  entries-all : (ss : Statements) → StatementsIn s ss → AllTaken P (entries ss os x vs inner rest)
+  entries_all : (ss : Statements) → StatementsIn s ss → AllTaken P (entries ss os x vs inner rest)
   unfolding entries choose
-  entries-all done none_in = r
-  entries-all (state y inside more) (more-in n w b j k) = go (alike y.name x.name) (entries-all more k)
+  entries_all done none_in = r
+  entries_all (state y inside more) (more_in n w b j k) = go (alike y.name x.name) (entries_all more k)
     where
       go : (c : Bool) → AllTaken P (entries more os x vs inner rest)
           → AllTaken P (choose c (λ _. resolved (take_value true os x vs y.value) (inner y.value inside) (entries more os x vs inner rest)) (λ _. entries more os x vs inner rest))
-      go true a = more-taken (h true y.value w) (i y.value inside j) a
+      go true a = more_taken (h true y.value w) (i y.value inside j) a
       go false a = a
 
-  default-all : (o : Option Word) → AllIn s (option_words o) → AllTaken P (default_entry (taken o) os x vs inner rest)
+  default_all : (o : Option Word) → AllIn s (option_words o) → AllTaken P (default_entry (taken o) os x vs inner rest)
   unfolding default_entry taken taken_by option_words
-  default-all none a = r
-  default-all (some t) a = go (is_no_default (sort_of t.class))
+  default_all none a = r
+  default_all (some t) a = go (is_no_default (sort_of t.class))
     where
       go : (b : Bool) → AllTaken P (default_entry (taken_by b t) os x vs inner rest)
       go true = r
-      go false = more-taken (h false t a.0) (i t done none_in) r
+      go false = more_taken (h false t a.0) (i t done none_in) r
 
 -- Scopes -----------------------------------------------------------------------------------------------------------------------------------
 
@@ -67,37 +67,37 @@ module _ {s : List ℕ} {f : File} (t : Situation s f) (os : List Object) (P : T
   mutual
     unfolding resolve choose
 
-    resolve-all : (ds : Definitions) {u : Word} {es : Definitions} → Stands f.specs u es → ((x : Defined) → HasDefinition ds x → HasDefinition es x)
+    resolve_all : (ds : Definitions) {u : Word} {es : Definitions} → Stands f.specs u es → ((x : Defined) → HasDefinition ds x → HasDefinition es x)
         → (ss : Statements) → StatementsIn s ss → AllTaken P (resolve ds os ss)
-    resolve-all no_more p i ss w = no-taken
-    resolve-all (define x vs ds) p i ss w =
+    resolve_all no_more p i ss w = no_taken
+    resolve_all (define x vs ds) p i ss w =
         let q = i (record { definition = x; values = vs }) this_definition in
-        let rest = resolve-all ds p (λ y k. i y (later_definition k)) ss w in
-        let inner : (z : Word) (us : Statements) → StatementsIn s us → AllTaken P (resolve-under vs os z us) = λ z us k. under_all vs p q (λ y j. j) z us k in
+        let rest = resolve_all ds p (λ y k. i y (later_definition k)) ss w in
+        let inner : (z : Word) (us : Statements) → StatementsIn s us → AllTaken P (resolve_under vs os z us) = λ z us k. under_all vs p q (λ y j. j) z us k in
         either-all (among x.name (names ss))
-        (entries-all P os x vs (λ b z k. h _ _ _ p q b z k) (λ z us. resolve-under vs os z us) inner rest ss w)
-        (default-all P os x vs (λ b z k. h _ _ _ p q b z k) (λ z us. resolve-under vs os z us) inner rest x.default (words_definition q (file_stands t p).1).1.1)
+        (entries_all P os x vs (λ b z k. h _ _ _ p q b z k) (λ z us. resolve_under vs os z us) inner rest ss w)
+        (default_all P os x vs (λ b z k. h _ _ _ p q b z k) (λ z us. resolve_under vs os z us) inner rest x.default (words_definition q (file_stands t p).1).1.1)
       where
         either-all : (b : Bool) {y z : Resolved} → AllTaken P y → AllTaken P z → AllTaken P (choose b (λ _. y) (λ _. z))
         either-all true k l = k
         either-all false k l = l
 
     under_all : (vs : Values) {u : Word} {es : Definitions} {x : Defined} → Stands f.specs u es → HasDefinition es x
-        → ((y : Under) → HasValue vs y → HasValue x.values y) → (z : Word) (ss : Statements) → StatementsIn s ss → AllTaken P (resolve-under vs os z ss)
-    under_all no_value p q i z ss w = no-taken
+        → ((y : Under) → HasValue vs y → HasValue x.values y) → (z : Word) (ss : Statements) → StatementsIn s ss → AllTaken P (resolve_under vs os z ss)
+    under_all no_value p q i z ss w = no_taken
     under_all (value v n us vs) p q i z ss w =
-        go (alike v z) (resolve-all us (under_value p q (i (record { word = v; number = n; definitions = us }) this_value)) (λ y k. k) ss w)
+        go (alike v z) (resolve_all us (under_value p q (i (record { word = v; number = n; definitions = us }) this_value)) (λ y k. k) ss w)
         (under_all vs p q (λ y k. i y (later_value k)) z ss w)
       where
-        go : (b : Bool) → AllTaken P (resolve us os ss) → AllTaken P (resolve-under vs os z ss)
-            → AllTaken P (choose b (λ _. resolve us os ss) (λ _. resolve-under vs os z ss))
+        go : (b : Bool) → AllTaken P (resolve us os ss) → AllTaken P (resolve_under vs os z ss)
+            → AllTaken P (choose b (λ _. resolve us os ss) (λ _. resolve_under vs os z ss))
         go true k l = k
         go false k l = l
 
-  pub scope-all : {k : ℕ} {ds : Definitions} → ScopeAt f k ds → (ss : Statements) → StatementsIn s ss → AllTaken P (resolve ds os ss)
+  pub scope_all : {k : ℕ} {ds : Definitions} → ScopeAt f k ds → (ss : Statements) → StatementsIn s ss → AllTaken P (resolve ds os ss)
   unfolding resolve
-  scope-all no_scope ss w = no-taken
-  scope-all (scope {ds = ds} e p) ss w = resolve-all ds p (λ x k. k) ss w
+  scope_all no_scope ss w = no_taken
+  scope_all (scope {ds = ds} e p) ss w = resolve_all ds p (λ x k. k) ss w
 
 -- Facts ------------------------------------------------------------------------------------------------------------------------------------
 
@@ -136,17 +136,17 @@ nth_row {d} {n} k [] x rest a = let e : k ≡ k + 0 = omega arith in subst (λ (
 nth_row {d} {n} k (y ∷ front) x rest a =
     let e : (k + 1) + length front ≡ k + suc (length front) = omega arith in
     subst (λ (i : ℕ). From 13 definition_cells d n i (definition_row x.under x.definition ∷ entry_rows rest)) e
-    (nth_row (k + 1) front x rest (from-append 13 definition_cells definition_width (_ ∷ []) (entry_rows (front ++ (x ∷ rest))) refl a))
+    (nth_row (k + 1) front x rest (from_append 13 definition_cells definition_width (_ ∷ []) (entry_rows (front ++ (x ∷ rest))) refl a))
 
 module _ {s d : List ℕ} {f : File} (t : Situation s f) (h : d ≡ definition_room (all_definition_rows f.specs)) where
   abbrev rows : List DefinitionRow
   rows = all_definition_rows f.specs
 
   -- Every value that a definition takes.
-  definition-fact : (os : List Object) {u : Word} {ds : Definitions} {x : Defined} → Stands f.specs u ds → HasDefinition ds x → (b : Bool) (w : Word) → WordIn s w
+  definition_fact : (os : List Object) {u : Word} {ds : Definitions} {x : Defined} → Stands f.specs u ds → HasDefinition ds x → (b : Bool) (w : Word) → WordIn s w
       → Fact s d (length (all_definition_rows f.specs)) (take_value b os x.definition x.values w)
   unfolding row_name definition_room definition_cells definition_row span_of take_value
-  definition-fact os {u} {ds} {x} p q b w k =
+  definition_fact os {u} {ds} {x} p q b w k =
       let r = row_of_definition t p q in
       let n = (words_definition q (file_stands t p).1).1.0 in
       let a : From 13 definition_cells d (length rows) 0 rows = from_room 13 definition_cells (512 * 13) rows d (length rows) h refl in
@@ -167,5 +167,5 @@ module _ {s d : List ℕ} {f : File} (t : Situation s f) (h : d ≡ definition_r
         typed = valued_typed (sort_of w.class) os x.definition x.values w;
       }
 
-  pub all-facts : (os : List Object) {k : ℕ} {ds : Definitions} → ScopeAt f k ds → (ss : Statements) → StatementsIn s ss → AllTaken (Fact s d (length (all_definition_rows f.specs))) (resolve ds os ss)
-  all-facts os p ss w = scope-all t os (Fact s d (length (all_definition_rows f.specs))) (λ u ds x a q b z k. definition-fact os a q b z k) p ss w
+  pub all_facts : (os : List Object) {k : ℕ} {ds : Definitions} → ScopeAt f k ds → (ss : Statements) → StatementsIn s ss → AllTaken (Fact s d (length (all_definition_rows f.specs))) (resolve ds os ss)
+  all_facts os p ss w = scope_all t os (Fact s d (length (all_definition_rows f.specs))) (λ u ds x a q b z k. definition_fact os a q b z k) p ss w

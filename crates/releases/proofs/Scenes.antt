@@ -23,14 +23,14 @@ use Rattle.blocks.specs.Blocks.{WordIn}
 use Rattle.blocks.proofs.Files.{AllIn, in_front, in_back, objects_in, statements_in_text}
 use Rattle.scopes.proofs.Descents.{scope_of_kind}
 use Rattle.writing.specs.Promises.{From, Tables}
-use Rattle.writing.proofs.Froms.{from_cell, from-append, from_room}
+use Rattle.writing.proofs.Froms.{from_cell, from_append, from_room}
 use Rattle.comparing.specs.Contents.{Placed, placed, Content, contents_from, contents}
 use Rattle.comparing.specs.Keys.{row_float}
-use Rattle.comparing.specs.Standing.{Row, RowIs, TreeAt, no_rows, some-rows, ObjectIs, ObjectsAt, no-objects, some-objects}
+use Rattle.comparing.specs.Standing.{Row, RowIs, TreeAt, no_rows, some_rows, ObjectIs, ObjectsAt, no_objects, some_objects}
 use Rattle.releases.specs.Starts.{object_end, start_at}
-use Rattle.releases.specs.Settings.{Located, AllLocated, none-located, more-located, Scene}
+use Rattle.releases.specs.Settings.{Located, AllLocated, none_located, more_located, Scene}
 use Rattle.releases.proofs.Starting.{object_ends}
-use Rattle.releases.proofs.Facts.{AllTaken, no-taken, more-taken, Fact, all-facts}
+use Rattle.releases.proofs.Facts.{AllTaken, no_taken, more_taken, Fact, all_facts}
 
 -- Values -----------------------------------------------------------------------------------------------------------------------------------
 
@@ -59,20 +59,20 @@ module _ (s d v : List ℕ) (n many : ℕ) where
         name = p.name;
       }
 
-  pub tree-at : (x : Resolved) (k : ℕ) (o : Owner) (rest : List ValueRow) → owner_row o ≤ 65536 → k + how_many_values x ≤ 65536 → AllTaken (Fact s d many) x
+  pub tree_at : (x : Resolved) (k : ℕ) (o : Owner) (rest : List ValueRow) → owner_row o ≤ 65536 → k + how_many_values x ≤ 65536 → AllTaken (Fact s d many) x
       → From 9 value_cells v n k (value_rows x k o ++ rest) → TreeAt s d v many k o x
   unfolding value_rows how_many_values owner_row
-  tree-at end k o rest few all no-taken a = no_rows
-  tree-at (resolved t us r) k o rest few all (more-taken p q w) a =
+  tree_at end k o rest few all no_taken a = no_rows
+  tree_at (resolved t us r) k o rest few all (more_taken p q w) a =
       let under = value_rows us (suc k) (of_value k) in
       let behind = value_rows r (suc k + how_many_values us) o in
       let l = length_values us (suc k) (of_value k) in
       let b : From 9 value_cells v n k (value_row t o ∷ (under ++ (behind ++ rest))) =
       subst (From 9 value_cells v n k) (ap (λ (z : List ValueRow). value_row t o ∷ z) (append_assoc under behind rest)) a in
-      let c : From 9 value_cells v n (suc k) (under ++ (behind ++ rest)) = from-append 9 value_cells value_width (value_row t o ∷ []) (under ++ (behind ++ rest)) (sym (add-one k)) b in
-      let e : From 9 value_cells v n (suc k + how_many_values us) (behind ++ rest) = from-append 9 value_cells value_width under (behind ++ rest) (omega (arith, l)) c in
-      some-rows (row_is t o (under ++ (behind ++ rest)) k few p b) (tree-at us (suc k) (of_value k) (behind ++ rest) (omega (arith, all)) (omega (arith, all)) q c)
-      (tree-at r (suc k + how_many_values us) o rest few (omega (arith, all)) w e)
+      let c : From 9 value_cells v n (suc k) (under ++ (behind ++ rest)) = from_append 9 value_cells value_width (value_row t o ∷ []) (under ++ (behind ++ rest)) (sym (add-one k)) b in
+      let e : From 9 value_cells v n (suc k + how_many_values us) (behind ++ rest) = from_append 9 value_cells value_width under (behind ++ rest) (omega (arith, l)) c in
+      some_rows (row_is t o (under ++ (behind ++ rest)) k few p b) (tree_at us (suc k) (of_value k) (behind ++ rest) (omega (arith, all)) (omega (arith, all)) q c)
+      (tree_at r (suc k + how_many_values us) o rest few (omega (arith, all)) w e)
 
 -- Objects ----------------------------------------------------------------------------------------------------------------------------------
 
@@ -83,10 +83,10 @@ counts_tail : {n k : ℕ} {l : List ℕ} → Counts n (k ∷ l) → Counts (suc 
 counts_tail (counts_more e c) = c
 
 module _ (s o : List ℕ) (m : ℕ) (f : File) where
-  object-is : (x : Object) (rest : List ObjectRow) (i : ℕ) (ps : List Placed) → From 8 object_cells o m i (object_rows (x ∷ []) ++ rest) → WordIn s x.name → x.row ≡ i
+  object_is : (x : Object) (rest : List ObjectRow) (i : ℕ) (ps : List Placed) → From 8 object_cells o m i (object_rows (x ∷ []) ++ rest) → WordIn s x.name → x.row ≡ i
       → ObjectIs s o i (record { object = x; values = ps })
   unfolding object_rows object_cells span_of row_name
-  object-is x rest i ps a w e =
+  object_is x rest i ps a w e =
       let r : ObjectRow = record { kind = x.kind; word = span_of x.word; name = span_of x.name; block = x.block; parts = x.parts } in
       record {
         kind = from_cell 8 object_cells object_width r rest 0 (omega arith) a;
@@ -94,12 +94,12 @@ module _ (s o : List ℕ) (m : ℕ) (f : File) where
         row = e;
       }
 
-  pub objects-at : (xs : List Object) (i k : ℕ) → From 8 object_cells o m i (object_rows xs) → AllIn s (object_words xs) → Counts i (object_numbers xs) → ObjectsAt s o i (contents_from f xs k)
+  pub objects_at : (xs : List Object) (i k : ℕ) → From 8 object_cells o m i (object_rows xs) → AllIn s (object_words xs) → Counts i (object_numbers xs) → ObjectsAt s o i (contents_from f xs k)
   unfolding contents_from object_rows object_words object_numbers
-  objects-at [] i k a w c = no-objects
-  objects-at (x ∷ xs) i k a w c =
-      some-objects (object-is x (object_rows xs) i (placed (object_values f x) k []) a w.1.0 (counts_head c))
-      (objects-at xs (i + 1) (k + how_many_values (object_values f x)) (from-append 8 object_cells object_width (_ ∷ []) (object_rows xs) refl a)
+  objects_at [] i k a w c = no_objects
+  objects_at (x ∷ xs) i k a w c =
+      some_objects (object_is x (object_rows xs) i (placed (object_values f x) k []) a w.1.0 (counts_head c))
+      (objects_at xs (i + 1) (k + how_many_values (object_values f x)) (from_append 8 object_cells object_width (_ ∷ []) (object_rows xs) refl a)
       (in_back s (statement_words x.statements) (object_words xs) w.1.1) (subst (λ (z : ℕ). Counts z (object_numbers xs)) (sym (add-one i)) (counts_tail c)))
 
 -- A text -----------------------------------------------------------------------------------------------------------------------------------
@@ -111,7 +111,7 @@ module _ (s d o v : List ℕ) (m n : ℕ) (f : File) (t : Tables s d o v m n f) 
   located : (xs : List Object) (i k : ℕ) → From 8 object_cells o m i (object_rows xs) → AllIn s (object_words xs) → Counts i (object_numbers xs)
       → From 9 value_cells v n k (all_value_rows (all_values f xs) i k) → start_at v n i ≡ k → AllLocated s d o v n many (contents_from f xs k)
   unfolding contents_from object_rows object_words object_numbers all_values all_value_rows object_values start_at owner_row
-  located [] i k a w c b e = none-located
+  located [] i k a w c b e = none_located
   located (x ∷ xs) i k a w c b e =
       let r = object_values f x in
       let rest = all_value_rows (all_values f xs) (suc i) (k + how_many_values r) in
@@ -123,12 +123,12 @@ module _ (s d o v : List ℕ) (m n : ℕ) (f : File) (t : Tables s d o v m n f) 
       let head = counts_head c in
       let objects = a.count in
       let inside : i < 256 = omega (arith, objects, few) in
-      let facts = all-facts t.situation t.definitions f.objects (scope_of_kind f x.kind) x.statements (statements_in_text s x.statements (in_front s (statement_words x.statements) (object_words xs) w.1.1)) in
-      let tree : TreeAt s d v many k (of_object i) r = tree-at s d v n many r k (of_object i) rest (omega (arith, inside)) (omega (arith, all)) facts b in
+      let facts = all_facts t.situation t.definitions f.objects (scope_of_kind f x.kind) x.statements (statements_in_text s x.statements (in_front s (statement_words x.statements) (object_words xs) w.1.1)) in
+      let tree : TreeAt s d v many k (of_object i) r = tree_at s d v n many r k (of_object i) rest (omega (arith, inside)) (omega (arith, all)) facts b in
       let next : start_at v n (suc i) ≡ k + how_many_values r = ap (object_end v n i) e ∙ object_ends v n i k r (all_values f xs) b in
-      let behind : From 9 value_cells v n (k + how_many_values r) rest = from-append 9 value_cells value_width front rest (omega (arith, l)) b in
-      let own : ObjectIs s o i (record { object = x; values = placed r k [] }) = object-is s o m f x (object_rows xs) i (placed r k []) a w.1.0 head in
-      more-located
+      let behind : From 9 value_cells v n (k + how_many_values r) rest = from_append 9 value_cells value_width front rest (omega (arith, l)) b in
+      let own : ObjectIs s o i (record { object = x; values = placed r k [] }) = object_is s o m f x (object_rows xs) i (placed r k []) a w.1.0 head in
+      more_located
       (record {
         rows = r;
         from = k;
@@ -140,13 +140,13 @@ module _ (s d o v : List ℕ) (m n : ℕ) (f : File) (t : Tables s d o v m n f) 
         low = omega (arith, head, inside);
         own = subst (λ (z : ℕ). ObjectIs s o z (record { object = x; values = placed r k [] })) (sym head) own;
       })
-      (located xs (suc i) (k + how_many_values r) (from-append 8 object_cells object_width (_ ∷ []) (object_rows xs) (sym (add-one i)) a)
+      (located xs (suc i) (k + how_many_values r) (from_append 8 object_cells object_width (_ ∷ []) (object_rows xs) (sym (add-one i)) a)
       (in_back s (statement_words x.statements) (object_words xs) w.1.1) (counts_tail c) behind next)
 
-  contents-length : (xs : List Object) (k : ℕ) → length (contents_from f xs k) ≡ length (object_rows xs)
+  contents_length : (xs : List Object) (k : ℕ) → length (contents_from f xs k) ≡ length (object_rows xs)
   unfolding contents_from object_rows
-  contents-length [] k = refl
-  contents-length (x ∷ xs) k = ap suc (contents-length xs (k + how_many_values (object_values f x)))
+  contents_length [] k = refl
+  contents_length (x ∷ xs) k = ap suc (contents_length xs (k + how_many_values (object_values f x)))
 
   -- THE LAW: what the tables of an accepted text are.
   pub scene : ((i : ℕ) → get_or s i 0 < 256) → length s ≤ 18446744073709551616 → ((i : ℕ) → get_or d i 0 < 18446744073709551616) → many ≤ 512 → Scene s d o v many m n f
@@ -160,9 +160,9 @@ module _ (s d o v : List ℕ) (m n : ℕ) (f : File) (t : Tables s d o v m n f) 
         bytes = bytes;
         short = short;
         cells = cells;
-        objects = objects-at s o m f f.objects 0 0 os words numbers;
+        objects = objects_at s o m f f.objects 0 0 os words numbers;
         located = located f.objects 0 0 os words numbers vs refl;
-        count = t.many-objects ∙ sym (contents-length f.objects 0);
+        count = t.many-objects ∙ sym (contents_length f.objects 0);
         few = few;
-        few-definitions = defs;
+        few_definitions = defs;
       }

@@ -25,24 +25,24 @@ use Rattle.comparing.specs.Objecting.{FindsObject}
 use Rattle.comparing.specs.Naming.{Index}
 use Rattle.comparing.specs.Columns.{Holds, name_of}
 use Rattle.comparing.specs.Gathered.{Told, ToldMore, ToldAlso, pair_partners, pair_records}
-use Rattle.comparing.specs.Standing.{ObjectIs, ObjectsAt, no-objects, some-objects}
+use Rattle.comparing.specs.Standing.{ObjectIs, ObjectsAt, no_objects, some_objects}
 use Rattle.comparing.specs.declared.Difference.{Difference as Record}
 use Rattle.comparing.specs.declared.Found.{Found}
 use Rattle.comparing.proofs.Alikes.{keyed_flip, object_keyed}
 use Rattle.comparing.proofs.Hits.{Hit, no_hit, a_hit, object_hit}
 use Rattle.comparing.proofs.Recorded.{records_append}
 use Rattle.comparing.proofs.Pairing.{also_none, also_then}
-use Rattle.comparing.proofs.Closings.{pair-asked}
+use Rattle.comparing.proofs.Closings.{pair_asked}
 use Rattle.releases.specs.Starts.{start_at, one_more, first_row, many_rows}
-use Rattle.releases.specs.Settings.{Located, AllLocated, none-located, more-located, Scene, Made, Setting}
+use Rattle.releases.specs.Settings.{Located, AllLocated, none_located, more_located, Scene, Made, Setting}
 use Rattle.releases.specs.Promises.{pair_at, ObjectTold, FirstTold, ObjectAdded, SecondTold, BothTold, Fitting, Prepares, NamedTold, PreparedTold, DifferencesTold}
 
 -- Places in lists --------------------------------------------------------------------------------------------------------------------------
 
 -- x is one of a list.
 pub data One (x : Content) : List Content → Type 0 where
-  this-one : {xs : List Content} → One x (x ∷ xs)
-  later-one : {y : Content} {xs : List Content} → One x xs → One x (y ∷ xs)
+  this_one : {xs : List Content} → One x (x ∷ xs)
+  later_one : {y : Content} {xs : List Content} → One x xs → One x (y ∷ xs)
 
 pub found_one : (t : Content → Bool) (xs : List Content) (x : Content) → the_first t xs ≡ some x → One x xs
 unfolding the_first
@@ -50,23 +50,23 @@ found_one t [] x e = absurd (let z : ◌≡◌ {A = ℕ} 0 1 = cc in omega arith
 found_one t (y ∷ xs) x e = by (t y) (λ q. found_one t xs x q) e
   where
     by : (b : Bool) → (the_first t xs ≡ some x → One x xs) → pick b (some y) (the_first t xs) ≡ some x → One x (y ∷ xs)
-    by true h q = let z : y ≡ x = cc in subst (λ (w : Content). One w (y ∷ xs)) z this-one
-    by false h q = later-one (h q)
+    by true h q = let z : y ≡ x = cc in subst (λ (w : Content). One w (y ∷ xs)) z this_one
+    by false h q = later_one (h q)
 
 one_append : (x : Content) (a b : List Content) → One x b → One x (a ++ b)
 one_append x [] b h = h
-one_append x (y ∷ a) b h = later-one (one_append x a b h)
+one_append x (y ∷ a) b h = later_one (one_append x a b h)
 
 nth_one : {l : List Content} {i : ℕ} {x : Content} → Nth l i x → One x l
-nth_one {l} {i} {x} n = subst (One x) (sym n.whole) (one_append x n.front (x ∷ n.rest) this-one)
+nth_one {l} {i} {x} n = subst (One x) (sym n.whole) (one_append x n.front (x ∷ n.rest) this_one)
 
 pub one_located : {s d o v : List ℕ} {n many : ℕ} {x : Content} {xs : List Content} → One x xs → AllLocated s d o v n many xs → Located s d o v n many x
-one_located this-one (more-located a b) = a
-one_located (later-one h) (more-located a b) = one_located h b
+one_located this_one (more_located a b) = a
+one_located (later_one h) (more_located a b) = one_located h b
 
 objects_append : (s o : List ℕ) (k : ℕ) (a : List Content) (x : Content) (b : List Content) → ObjectsAt s o k (a ++ (x ∷ b)) → ObjectIs s o (k + length a) x
-objects_append s o k [] x b (some-objects h t) = let e : k ≡ k + 0 = omega arith in subst (λ (i : ℕ). ObjectIs s o i x) e h
-objects_append s o k (y ∷ a) x b (some-objects h t) =
+objects_append s o k [] x b (some_objects h t) = let e : k ≡ k + 0 = omega arith in subst (λ (i : ℕ). ObjectIs s o i x) e h
+objects_append s o k (y ∷ a) x b (some_objects h t) =
     let e : (k + 1) + length a ≡ k + suc (length a) = omega arith in subst (λ (i : ℕ). ObjectIs s o i x) e (objects_append s o (k + 1) a x b t)
 
 objects_nth : {s o : List ℕ} {xs : List Content} {i : ℕ} {x : Content} → ObjectsAt s o 0 xs → Nth xs i x → ObjectIs s o i x
@@ -76,8 +76,8 @@ objects_nth {s} {o} {xs} {i} {x} h n =
     subst (λ (j : ℕ). ObjectIs s o j x) e (objects_append s o 0 n.front x n.rest (subst (ObjectsAt s o 0) n.whole h))
 
 one_row : {s o : List ℕ} {k : ℕ} {x : Content} {xs : List Content} → One x xs → ObjectsAt s o k xs → x.object.row < k + length xs
-one_row this-one (some-objects h t) = let e = h.row in omega (arith, e)
-one_row (later-one a) (some-objects h t) = let r = one_row a t in omega (arith, r)
+one_row this_one (some_objects h t) = let e = h.row in omega (arith, e)
+one_row (later_one a) (some_objects h t) = let r = one_row a t in omega (arith, r)
 
 nth_low : {xs : List Content} {i : ℕ} {x : Content} → Nth xs i x → i < length xs
 nth_low {xs} {i} {x} n =
@@ -121,9 +121,9 @@ first_flip y (x ∷ xs) = ap₂ (λ (b : Bool) (r : Option Content). pick b (som
 
 module _ (st v : List ℕ) (n i k c : ℕ) (h : Holds (start_at v n) (length st) st) (inside : suc i < length st) (low : i < 256) (a : start_at v n i ≡ k) (b : start_at v n (suc i) ≡ k + c)
     (few : k + c ≤ 2048) where
-  one-is : one_more i ≡ suc i
+  one_is : one_more i ≡ suc i
   unfolding one_more
-  one-is = let z : min 65536 (i + 1) ≡ suc i = omega (arith, low) in z
+  one_is = let z : min 65536 (i + 1) ≡ suc i = omega (arith, low) in z
 
   least : (p : ℕ) → p ≤ 2048 → min p 2048 ≡ p
   least p q = omega arith
@@ -134,7 +134,7 @@ module _ (st v : List ℕ) (n i k c : ℕ) (h : Holds (start_at v n) (length st)
 
   next_is : first_row st (one_more i) ≡ k + c
   unfolding first_row
-  next_is = ap (λ (j : ℕ). min (get_or st j 0) 2048) one-is ∙ ap (λ (p : ℕ). min p 2048) (h.cell (suc i) inside ∙ b) ∙ least (k + c) few
+  next_is = ap (λ (j : ℕ). min (get_or st j 0) 2048) one_is ∙ ap (λ (p : ℕ). min p 2048) (h.cell (suc i) inside ∙ b) ∙ least (k + c) few
 
   many_is : many_rows st i ≡ c
   unfolding many_rows
@@ -166,10 +166,10 @@ module _ {s d o v h y st s2 d2 o2 v2 h2 y2 st2 : List ℕ} {m m2 : ℕ} {f g : F
       let M = many_is st v S.n i a.from (how_many_values r) S.made.starts i1 low s1 t1 a.few in
       let R2 = row_is st2 v2 S.n2 j b.from (how_many_values r2) S.made2.starts i2 low2 s3 t3 b.few in
       let M2 = many_is st2 v2 S.n2 j b.from (how_many_values r2) S.made2.starts i2 low2 s3 t3 b.few in
-      let O : one_more i ≡ suc x.object.row = one-is st v S.n i a.from (how_many_values r) S.made.starts i1 low s1 t1 a.few ∙ ap suc (sym e) in
-      let O2 : one_more j ≡ suc w.object.row = one-is st2 v2 S.n2 j b.from (how_many_values r2) S.made2.starts i2 low2 s3 t3 b.few ∙ ap suc (sym e2) in
+      let O : one_more i ≡ suc x.object.row = one_is st v S.n i a.from (how_many_values r) S.made.starts i1 low s1 t1 a.few ∙ ap suc (sym e) in
+      let O2 : one_more j ≡ suc w.object.row = one_is st2 v2 S.n2 j b.from (how_many_values r2) S.made2.starts i2 low2 s3 t3 b.few ∙ ap suc (sym e2) in
       (λ t. pair_records s d v s2 d2 v2 (pair_partners d v h (R t) (M t) d2 v2 h2 (R2 t) (M2 t)) (R t) (M t) (R2 t) (O t) (O2 t))
-      ∙ pair-asked s d S.x s2 d2 S.x2 v v2 h h2 x.object w.object r r2 a.from b.from x.object.row w.object.row
+      ∙ pair_asked s d S.x s2 d2 S.x2 v v2 h h2 x.object w.object r r2 a.from b.from x.object.row w.object.row
       (record { name = x.object.name; list = false; position = 0 }) S.first.bytes S.second.bytes S.first.short S.second.short S.made.definitions S.made2.definitions S.first.cells S.second.cells
       S.names S.names2 a.tree b.tree (omega (arith, q)) (omega (arith, q2))
       ∙ (λ t. records_of (of_pair (record { object = x.object; values = sym a.values t }) (record { object = w.object; values = sym b.values t })))
@@ -185,10 +185,10 @@ module _ {s d o v h y st s2 d2 o2 v2 h2 y2 st2 : List ℕ} {m m2 : ℕ} {f g : F
     hit : (r : Row) → FindsObject s o i s2 o2 y2 r → Hit (the_first (same_object x) (contents g)) r
     hit r t = hits s o s2 o2 y2 i m2 x (contents g) r own S.second.objects S.second.count S.second.few S.made2.objects S.indexed2 t
 
-    pub object-paired : (r : Row) (j : ℕ) (found q : Found) → FindsObject s o i s2 o2 y2 r → r ≡ At j → ToldAlso found (pair_at s d v h st s2 d2 v2 h2 st2 i j) q
+    pub object_paired : (r : Row) (j : ℕ) (found q : Found) → FindsObject s o i s2 o2 y2 r → r ≡ At j → ToldAlso found (pair_at s d v h st s2 d2 v2 h2 st2 i j) q
         → ToldAlso found (records_of (of_first_object (contents g) x)) q
     unfolding of_first_object matched
-    object-paired r j found q t e told =
+    object_paired r j found q t e told =
         let H = hit_some (hit r t) j e in
         let w = H.content in
         let one = found_one (same_object x) (contents g) w H.is in
@@ -226,17 +226,17 @@ module _ {s d o v h y st s2 d2 o2 v2 h2 y2 st2 : List ℕ} {m m2 : ℕ} {f g : F
         subst (λ (c : Option Content). Hit c r) (first_flip x (contents f))
         (hits s2 o2 s o y j m x (contents f) r own2 S.first.objects S.first.count S.first.few S.made.objects S.indexed t)
 
-    pub added-not : (r : Row) (k : ℕ) (found : Found) → FindsObject s2 o2 j s o y r → r ≡ At k → ToldAlso found (records_of (of_second_object (contents f) x)) found
+    pub added_not : (r : Row) (k : ℕ) (found : Found) → FindsObject s2 o2 j s o y r → r ≡ At k → ToldAlso found (records_of (of_second_object (contents f) x)) found
     unfolding of_second_object records_of is_there choose
-    added-not r k found t e ds p =
+    added_not r k found t e ds p =
         let H = hit_some (hit2 r t) k e in
         subst (λ (l : List Record). Told (ds ++ l) found)
         (ap (λ (c : Option Content). records_of (choose (is_there c) (λ _. []) (λ _. object_in_second x.object ∷ []))) (sym H.is)) (also_none found ds p)
 
-    pub added-alone : (r : Row) (n : ℕ) (found q : Found) → FindsObject s2 o2 j s o y r → r ≡ Nothing → n ≡ one_more j
+    pub added_alone : (r : Row) (n : ℕ) (found q : Found) → FindsObject s2 o2 j s o y r → r ≡ Nothing → n ≡ one_more j
         → ToldMore found (record { first_object = 0; second_object = n; first_value = 0; second_value = 0 }) q → ToldAlso found (records_of (of_second_object (contents f) x)) q
     unfolding of_second_object records_of record_of is_there choose one_more
-    added-alone r n found q t e k told ds p =
+    added_alone r n found q t e k told ds p =
         let a = inside2 in
         let b = S.second.few in
         let c = own2.row in
@@ -272,14 +272,14 @@ abbrev pub ToldSo : (F : Content → List Difference) (cs : List Content) (i : �
 ToldSo F cs i found all = (front rest : List Content) → cs ≡ front ++ rest → length front ≡ i → ToldAlso found (records_of (each_of F front)) all
 
 module _ (F : Content → List Difference) (cs : List Content) (found : Found) where
-  pub so-none : ToldSo F cs 0 found found
+  pub so_none : ToldSo F cs 0 found found
   unfolding each_of records_of
-  so-none [] rest e l = also_none found
-  so-none (x ∷ front) rest e l = absurd (omega (arith, l))
+  so_none [] rest e l = also_none found
+  so_none (x ∷ front) rest e l = absurd (omega (arith, l))
 
-  pub so-next : (i : ℕ) (all next : Found) → ToldSo F cs i found all → ((x : Content) → Nth cs i x → ToldAlso all (records_of (F x)) next) → ToldSo F cs (i + 1) found next
+  pub so_next : (i : ℕ) (all next : Found) → ToldSo F cs i found all → ((x : Content) → Nth cs i x → ToldAlso all (records_of (F x)) next) → ToldSo F cs (i + 1) found next
   unfolding each_of
-  so-next i all next h k front rest e l =
+  so_next i all next h k front rest e l =
       let r = snoc front i (omega (arith, l)) in
       let whole : cs ≡ r.front ++ (r.last ∷ rest) = e ∙ ap (λ (u : List Content). u ++ rest) r.is ∙ append_assoc r.front (r.last ∷ []) rest in
       let told = also_then found all next (records_of (each_of F r.front)) (records_of (F r.last)) (h r.front (r.last ∷ rest) whole r.long)
@@ -288,8 +288,8 @@ module _ (F : Content → List Difference) (cs : List Content) (found : Found) w
       (sym (ap (λ (u : List Content). records_of (each_of F u)) r.is ∙ ap records_of (each_append F r.front (r.last ∷ []) ∙ ap (λ (u : List Difference). each_of F r.front ++ u) (append-nil (F r.last)))
       ∙ records_append (each_of F r.front) (F r.last))) told
 
-  pub so-all : (i : ℕ) (all : Found) → ToldSo F cs i found all → i ≡ length cs → ToldAlso found (records_of (each_of F cs)) all
-  so-all i all h e = h cs [] (sym (append-nil cs)) (sym e)
+  pub so_all : (i : ℕ) (all : Found) → ToldSo F cs i found all → i ≡ length cs → ToldAlso found (records_of (each_of F cs)) all
+  so_all i all h e = h cs [] (sym (append-nil cs)) (sym e)
 
 -- Both.
 pub both_told : (s d o v h y st s2 d2 o2 v2 h2 y2 st2 : List ℕ) (m m2 : ℕ) (found all q : Found) → FirstTold s d o v h st s2 d2 o2 v2 h2 y2 st2 m found all → SecondTold s o y s2 o2 m2 all q
@@ -309,21 +309,21 @@ pub record FirstGoing (s d o v h st s2 d2 o2 v2 h2 y2 st2 : List ℕ) (m : ℕ) 
   pub told : (y : List ℕ) (m2 : ℕ) (f g : File) → Setting s d o v h y st s2 d2 o2 v2 h2 y2 st2 m m2 f g → ToldSo (of_first_object (contents g)) (contents f) i found all
 
 module _ (s d o v h st s2 d2 o2 v2 h2 y2 st2 : List ℕ) (m : ℕ) (found : Found) where
-  pub first-start : FirstGoing s d o v h st s2 d2 o2 v2 h2 y2 st2 m found found 0
-  first-start = record { inside = omega arith; told = λ y m2 f g S. so-none (of_first_object (contents g)) (contents f) found }
+  pub first_start : FirstGoing s d o v h st s2 d2 o2 v2 h2 y2 st2 m found found 0
+  first_start = record { inside = omega arith; told = λ y m2 f g S. so_none (of_first_object (contents g)) (contents f) found }
 
   pub first_next : (all next : Found) (i : ℕ) → FirstGoing s d o v h st s2 d2 o2 v2 h2 y2 st2 m found all i → i < m → ObjectTold s d o v h st s2 d2 o2 v2 h2 y2 st2 i all next
       → FirstGoing s d o v h st s2 d2 o2 v2 h2 y2 st2 m found next (i + 1)
   first_next all next i G l t = record {
     inside = omega (arith, l);
-    told = λ y m2 f g S. so-next (of_first_object (contents g)) (contents f) found i all next (G.told y m2 f g S) (λ x n. t y m m2 f g S x n);
+    told = λ y m2 f g S. so_next (of_first_object (contents g)) (contents f) found i all next (G.told y m2 f g S) (λ x n. t y m m2 f g S x n);
   }
 
-  pub first-end : (all : Found) (i : ℕ) → FirstGoing s d o v h st s2 d2 o2 v2 h2 y2 st2 m found all i → m ≤ i → FirstTold s d o v h st s2 d2 o2 v2 h2 y2 st2 m found all
-  first-end all i G l y m2 f g S =
+  pub first_end : (all : Found) (i : ℕ) → FirstGoing s d o v h st s2 d2 o2 v2 h2 y2 st2 m found all i → m ≤ i → FirstTold s d o v h st s2 d2 o2 v2 h2 y2 st2 m found all
+  first_end all i G l y m2 f g S =
       let a = G.inside in
       let c = S.first.count in
-      so-all (of_first_object (contents g)) (contents f) found i all (G.told y m2 f g S) (omega (arith, a, l, c))
+      so_all (of_first_object (contents g)) (contents f) found i all (G.told y m2 f g S) (omega (arith, a, l, c))
 
 -- The first j objects of the second text were told.
 pub record SecondGoing (s o y s2 o2 : List ℕ) (m2 : ℕ) (found all : Found) (j : ℕ) : Type 0 where
@@ -332,37 +332,37 @@ pub record SecondGoing (s o y s2 o2 : List ℕ) (m2 : ℕ) (found all : Found) (
       → ToldSo (of_second_object (contents f)) (contents g) j found all
 
 module _ (s o y s2 o2 : List ℕ) (m2 : ℕ) (found : Found) where
-  pub second-start : SecondGoing s o y s2 o2 m2 found found 0
-  second-start = record { inside = omega arith; told = λ d v h st d2 v2 h2 y2 st2 m f g S. so-none (of_second_object (contents f)) (contents g) found }
+  pub second_start : SecondGoing s o y s2 o2 m2 found found 0
+  second_start = record { inside = omega arith; told = λ d v h st d2 v2 h2 y2 st2 m f g S. so_none (of_second_object (contents f)) (contents g) found }
 
-  pub second-next : (all next : Found) (j : ℕ) → SecondGoing s o y s2 o2 m2 found all j → j < m2 → ObjectAdded s o y s2 o2 j all next → SecondGoing s o y s2 o2 m2 found next (j + 1)
-  second-next all next j G l t = record {
+  pub second_next : (all next : Found) (j : ℕ) → SecondGoing s o y s2 o2 m2 found all j → j < m2 → ObjectAdded s o y s2 o2 j all next → SecondGoing s o y s2 o2 m2 found next (j + 1)
+  second_next all next j G l t = record {
     inside = omega (arith, l);
     told = λ d v h st d2 v2 h2 y2 st2 m f g S.
-        so-next (of_second_object (contents f)) (contents g) found j all next (G.told d v h st d2 v2 h2 y2 st2 m f g S) (λ x n. t d v h st d2 v2 h2 y2 st2 m m2 f g S x n);
+        so_next (of_second_object (contents f)) (contents g) found j all next (G.told d v h st d2 v2 h2 y2 st2 m f g S) (λ x n. t d v h st d2 v2 h2 y2 st2 m m2 f g S x n);
   }
 
-  pub second-end : (all : Found) (j : ℕ) → SecondGoing s o y s2 o2 m2 found all j → m2 ≤ j → SecondTold s o y s2 o2 m2 found all
-  second-end all j G l d v h st d2 v2 h2 y2 st2 m f g S =
+  pub second_end : (all : Found) (j : ℕ) → SecondGoing s o y s2 o2 m2 found all j → m2 ≤ j → SecondTold s o y s2 o2 m2 found all
+  second_end all j G l d v h st d2 v2 h2 y2 st2 m f g S =
       let a = G.inside in
       let c = S.second.count in
-      so-all (of_second_object (contents f)) (contents g) found j all (G.told d v h st d2 v2 h2 y2 st2 m f g S) (omega (arith, a, l, c))
+      so_all (of_second_object (contents f)) (contents g) found j all (G.told d v h st d2 v2 h2 y2 st2 m f g S) (omega (arith, a, l, c))
 
 -- One object, by the cases of what was found.
 pub object_at : (s d o v h st s2 d2 o2 v2 h2 y2 st2 : List ℕ) (i j : ℕ) (r : Row) (found q : Found) → FindsObject s o i s2 o2 y2 r → r ≡ At j
     → ToldAlso found (pair_at s d v h st s2 d2 v2 h2 st2 i j) q → ObjectTold s d o v h st s2 d2 o2 v2 h2 y2 st2 i found q
-object_at s d o v h st s2 d2 o2 v2 h2 y2 st2 i j r found q t e told y m m2 f g S x n = object-paired S x i n r j found q t e told
+object_at s d o v h st s2 d2 o2 v2 h2 y2 st2 i j r found q t e told y m m2 f g S x n = object_paired S x i n r j found q t e told
 
 pub object_not : (s d o v h st s2 d2 o2 v2 h2 y2 st2 : List ℕ) (i k : ℕ) (r : Row) (found q : Found) → FindsObject s o i s2 o2 y2 r → r ≡ Nothing → k ≡ one_more i
     → ToldMore found (record { first_object = k; second_object = 0; first_value = 0; second_value = 0 }) q → ObjectTold s d o v h st s2 d2 o2 v2 h2 y2 st2 i found q
 object_not s d o v h st s2 d2 o2 v2 h2 y2 st2 i k r found q t e z told y m m2 f g S x n = object_alone S x i n r k found q t e z told
 
 pub added_at : (s o y s2 o2 : List ℕ) (j k : ℕ) (r : Row) (found : Found) → FindsObject s2 o2 j s o y r → r ≡ At k → ObjectAdded s o y s2 o2 j found found
-added_at s o y s2 o2 j k r found t e d v h st d2 v2 h2 y2 st2 m m2 f g S x n = added-not S x j n r k found t e
+added_at s o y s2 o2 j k r found t e d v h st d2 v2 h2 y2 st2 m m2 f g S x n = added_not S x j n r k found t e
 
 pub added_new : (s o y s2 o2 : List ℕ) (j k : ℕ) (r : Row) (found q : Found) → FindsObject s2 o2 j s o y r → r ≡ Nothing → k ≡ one_more j
     → ToldMore found (record { first_object = 0; second_object = k; first_value = 0; second_value = 0 }) q → ObjectAdded s o y s2 o2 j found q
-added_new s o y s2 o2 j k r found q t e z told d v h st d2 v2 h2 y2 st2 m m2 f g S x n = added-alone S x j n r k found q t e z told
+added_new s o y s2 o2 j k r found q t e z told d v h st d2 v2 h2 y2 st2 m m2 f g S x n = added_alone S x j n r k found q t e z told
 
 -- A pair by its rows.
 pub pair_at_rows : (s d v h st s2 d2 v2 h2 st2 : List ℕ) (i j r n r2 n2 x y : ℕ) (found q : Found) → r ≡ first_row st i → n ≡ many_rows st i → r2 ≡ first_row st2 j → n2 ≡ many_rows st2 j

@@ -28,6 +28,6 @@ pub data ComparesByRules (s t : List ℕ) (l l' : List Difference) (r : Result) 
   first_refused : (n p : ℕ) → TheAnswer s (refused n p) → Refuses 1 n p l l' r → ComparesByRules s t l l' r
   second_refused : (a : Tables) → TheAnswer s (accepted a) → (n p : ℕ) → TheAnswer t (refused n p) → Refuses 2 n p l l' r → ComparesByRules s t l l' r
   -- "Take two accepted texts"
-  both-accepted : (a b : Tables) → TheAnswer s (accepted a) → TheAnswer t (accepted b) → Derivation (tokens s) → Derivation (tokens t)
+  both_accepted : (a b : Tables) → TheAnswer s (accepted a) → TheAnswer t (accepted b) → Derivation (tokens s) → Derivation (tokens t)
       → ((d : Derivation (tokens s)) (e : Derivation (tokens t)) → Tells (differences (syntax s d.tree) (syntax t e.tree)) l l' r)
       → ComparesByRules s t l l' r

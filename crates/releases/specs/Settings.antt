@@ -22,8 +22,8 @@ pub record Located (s d o v : List ℕ) (n many : ℕ) (x : Content) : Type 0 wh
   pub own : ObjectIs s o x.object.row x
 
 pub data AllLocated (s d o v : List ℕ) (n many : ℕ) : List Content → Type 0 where
-  none-located : AllLocated s d o v n many []
-  more-located : {x : Content} {xs : List Content} → Located s d o v n many x → AllLocated s d o v n many xs → AllLocated s d o v n many (x ∷ xs)
+  none_located : AllLocated s d o v n many []
+  more_located : {x : Content} {xs : List Content} → Located s d o v n many x → AllLocated s d o v n many xs → AllLocated s d o v n many (x ∷ xs)
 
 -- The tables d, o, v of the text s, with so many rows of definitions, m of objects and n of values, are those of the file f.
 pub record Scene (s d o v : List ℕ) (many m n : ℕ) (f : File) : Type 0 where
@@ -34,7 +34,7 @@ pub record Scene (s d o v : List ℕ) (many m n : ℕ) (f : File) : Type 0 where
   pub located : AllLocated s d o v n many (contents f)
   pub count : m ≡ length (contents f)
   pub few : m ≤ 256
-  pub few-definitions : many ≤ 512
+  pub few_definitions : many ≤ 512
 
 -- With what is made of the tables: x is the index of the definitions, y that of the objects, st the first rows of the objects' values.
 pub record Made (s d o v : List ℕ) (n : ℕ) (x y st : List ℕ) : Type 0 where

@@ -33,8 +33,8 @@ use Rattle.lent_texts.specs.declared.Expanded.{Expanded}
 use Rattle.lent_texts.specs.declared.Refusal.{Refusal}
 use Rattle.lent_texts.specs.declared.Lent.{Lent}
 use Rattle.lent_texts.specs.declared.Lent.TheVariants.{Stopped, Text}
-use Rattle.lent_texts.proofs.Told.{refused_is, AtOnce, by-1, by-30, at_once, There, there, answered_refused, answered_accepted}
-use Rattle.releases_texts.specs.Comparing.{SideAnswer, short-rooms, by-rules, SideMemory, untouched, is-filled, SidesCompared, first_refused, second_refused, both-accepted, put, ListsTexts, ComparesTexts, side_in, told_in, ComparesExpanded, ListsExpanded, With, AnswersText, FirstOr, of_first, of-second}
+use Rattle.lent_texts.proofs.Told.{refused_is, AtOnce, by_1, by_30, at_once, There, there, answered_refused, answered_accepted}
+use Rattle.releases_texts.specs.Comparing.{SideAnswer, short_rooms, by_rules, SideMemory, untouched, is_filled, SidesCompared, first_refused, second_refused, both_accepted, put, ListsTexts, ComparesTexts, side_in, told_in, ComparesExpanded, ListsExpanded, With, AnswersText, FirstOr, of_first, of_second}
 
 -- ---- `side` and `compare_expanded`
 
@@ -66,19 +66,19 @@ module _ {s g : List ℕ} {e : Expanded} {t h : List ℕ} {f : Expanded} {q : Fo
   by_told : (r : Found) → r.total ≡ q.total → r.records ≡ q.records → r.compared ≡ told_in g e h f q.compared → ListsExpanded s g e t h f r
   by_told r i j z ds =
       record {
-        in-expanded = q.compared;
+        in_expanded = q.compared;
         rules = subst (λ (y : List Difference). ComparesByRules s t ds y q.compared) (same_put q r i j ds) (compares_so s t ds q w).rules;
         told = z;
       }
 
-  pub first-lists : {r : Found} {c : Result} → q.compared.which ≡ 1 → c ≡ side_in g e q.compared → With q c r → ListsExpanded s g e t h f r
-  first-lists {r} {c} i j k = by_told r k.total k.records (k.answer ∙ first_told g e h f q.compared c i j)
+  pub first_lists : {r : Found} {c : Result} → q.compared.which ≡ 1 → c ≡ side_in g e q.compared → With q c r → ListsExpanded s g e t h f r
+  first_lists {r} {c} i j k = by_told r k.total k.records (k.answer ∙ first_told g e h f q.compared c i j)
 
-  pub second-lists : {r : Found} {c : Result} → (q.compared.which ≡ 1 → ⊥) → q.compared.which ≡ 2 → c ≡ side_in h f q.compared → With q c r → ListsExpanded s g e t h f r
-  second-lists {r} {c} n i j k = by_told r k.total k.records (k.answer ∙ second_told g e h f q.compared c n i j)
+  pub second_lists : {r : Found} {c : Result} → (q.compared.which ≡ 1 → ⊥) → q.compared.which ≡ 2 → c ≡ side_in h f q.compared → With q c r → ListsExpanded s g e t h f r
+  second_lists {r} {c} n i j k = by_told r k.total k.records (k.answer ∙ second_told g e h f q.compared c n i j)
 
-  pub neither-lists : (q.compared.which ≡ 1 → ⊥) → (q.compared.which ≡ 2 → ⊥) → ListsExpanded s g e t h f q
-  neither-lists n i = by_told q refl refl (neither_told g e h f q.compared n i)
+  pub neither_lists : (q.compared.which ≡ 1 → ⊥) → (q.compared.which ≡ 2 → ⊥) → ListsExpanded s g e t h f q
+  neither_lists n i = by_told q refl refl (neither_told g e h f q.compared n i)
 
 -- ---- `answer_of` and `first_or`
 
@@ -113,7 +113,7 @@ first_refuses {s} {g} {e} {n} {k} {p} {r} {o = o} w q z v = refused_by s g e n k
 
 accepted_by : (s g : List ℕ) (e : Expanded) (n : ℕ) (o : Found) (x : Answer) → TheTextsAnswer s x → (reading_of x).answer ≡ a.Accepted → Halted 2 n 0 o → FirstOr s g e n o
 unfolding reading_of
-accepted_by s g e n o (accepted y) t q w = of-second y t w
+accepted_by s g e n o (accepted y) t q w = of_second y t w
 accepted_by s g e n o (refused i j) t q w = absurd (let w : ◌≡◌ {A = ℕ} 0 1 = cc in omega arith)
 
 pub first_accepts : {s g : List ℕ} {e : Expanded} {n : ℕ} {x : Given} {o : Found} → AnswersText s x → x ≡ a.Accepted → Halted 2 n 0 o → FirstOr s g e n o
@@ -123,12 +123,12 @@ first_accepts {s} {g} {e} {n} {o = o} w q v = accepted_by s g e n o w.answer w.r
 
 memory : {b l x g x' g' : List ℕ} {o : Lent} → ExpandsTexts b l x g x' g' o → SideMemory b l x g x' g'
 memory (lent.short-rooms h i j) = untouched h i j
-memory (lent.too_long h i j) = is-filled h j
-memory (lent.expands h i j) = is-filled h j
+memory (lent.too_long h i j) = is_filled h j
+memory (lent.expands h i j) = is_filled h j
 
 once : {b l x g x' g' : List ℕ} (n : ℕ) → AtOnce b l x g x' g' n → SideAnswer b l x g (refused n 0)
-once {b} {l} {x} {g} n (by-1 h i j k) = subst (λ (o : ℕ). SideAnswer b l x g (refused o 0)) (sym i) (short-rooms h)
-once {b} {l} {x} {g} n (by-30 h i _ k f) = subst (λ (o : ℕ). SideAnswer b l x g (refused o 0)) (sym i) (by-rules h k)
+once {b} {l} {x} {g} n (by_1 h i j k) = subst (λ (o : ℕ). SideAnswer b l x g (refused o 0)) (sym i) (short_rooms h)
+once {b} {l} {x} {g} n (by_30 h i _ k f) = subst (λ (o : ℕ). SideAnswer b l x g (refused o 0)) (sym i) (by_rules h k)
 
 -- ---- the public call
 
@@ -144,21 +144,21 @@ leaves : (k n p : ℕ) (q : Found) (ds : List Difference) → Halted k n p q →
 leaves k n p q ds w = record { list = put_stopped k n p q ds w; result = w.answer }
 
 module _ {b l x g x' g' c m y h y' h' : List ℕ} {o o₂ : Lent} (u : ExpandsTexts b l x g x' g' o) (u₂ : ExpandsTexts c m y h y' h' o₂) where
-  pub stopped-first : {q : Found} (n : ℕ) → o ≡ Stopped n → Halted 1 n 0 q → ListsTexts b l x g x' g' c m y h y' h' q
-  stopped-first {q} n z w =
+  pub stopped_first : {q : Found} (n : ℕ) → o ≡ Stopped n → Halted 1 n 0 q → ListsTexts b l x g x' g' c m y h y' h' q
+  stopped_first {q} n z w =
       record { first = memory u; second = memory u₂; rules = λ ds. first_refused n 0 (once n (at_once n u z)) (leaves 1 n 0 q ds w) }
 
   by_first : {e : Expanded} (n : ℕ) (q : Found) (ds : List Difference) → There b l x g x' g' e → AtOnce c m y h y' h' n → FirstOr (text b l) g' e n q →
       SidesCompared b l x g c m y h ds (put q ds) q.compared
   by_first {e} n q ds t k (of_first i p w z) =
       let v = refusal_in g' e i p in
-      first_refused v.number v.place (by-rules t.rooms (answered_refused i p t.holds w v refl)) (leaves 1 v.number v.place q ds z)
-  by_first n q ds t k (of-second i w z) =
-      second_refused (placed_tables (place_of b l) i) (by-rules t.rooms (answered_accepted i t.holds w)) n 0 (once n k) (leaves 2 n 0 q ds z)
+      first_refused v.number v.place (by_rules t.rooms (answered_refused i p t.holds w v refl)) (leaves 1 v.number v.place q ds z)
+  by_first n q ds t k (of_second i w z) =
+      second_refused (placed_tables (place_of b l) i) (by_rules t.rooms (answered_accepted i t.holds w)) n 0 (once n k) (leaves 2 n 0 q ds z)
 
-  pub stopped-second : {e : Expanded} {q : Found} (n : ℕ) → o ≡ Text e → o₂ ≡ Stopped n → FirstOr (take e.length x') g' e n q →
+  pub stopped_second : {e : Expanded} {q : Found} (n : ℕ) → o ≡ Text e → o₂ ≡ Stopped n → FirstOr (take e.length x') g' e n q →
       ListsTexts b l x g x' g' c m y h y' h' q
-  stopped-second {e} {q} n z z₂ w =
+  stopped_second {e} {q} n z z₂ w =
       let t = there e u z in
       record {
         first = memory u;
@@ -166,21 +166,21 @@ module _ {b l x g x' g' c m y h y' h' : List ℕ} {o o₂ : Lent} (u : ExpandsTe
         rules = λ ds. by_first n q ds t (at_once n u₂ z₂) (subst (λ (i : List ℕ). FirstOr i g' e n q) t.holds.bytes w);
       }
 
-  compared-by : {e f : Expanded} (ds ds' : List Difference) (q r : Result) → There b l x g x' g' e → There c m y h y' h' f → ComparesByRules (text b l) (text c m) ds ds' q →
+  compared_by : {e f : Expanded} (ds ds' : List Difference) (q r : Result) → There b l x g x' g' e → There c m y h y' h' f → ComparesByRules (text b l) (text c m) ds ds' q →
       r ≡ told_in g' e h' f q → SidesCompared b l x g c m y h ds ds' r
   unfolding told_in side_in
-  compared-by {e} {f} ds ds' q r t t₂ (releases.first-refused n p w k) z =
+  compared_by {e} {f} ds ds' q r t t₂ (releases.first-refused n p w k) z =
       let v = refusal_in g' e n p in
-      first_refused v.number v.place (by-rules t.rooms (answered_refused n p t.holds w v refl))
+      first_refused v.number v.place (by_rules t.rooms (answered_refused n p t.holds w v refl))
       (record { list = k.list; result = z ∙ ap (told_in g' e h' f) k.result })
-  compared-by {e} {f} ds ds' q r t t₂ (releases.second-refused i j n p w k) z =
+  compared_by {e} {f} ds ds' q r t t₂ (releases.second-refused i j n p w k) z =
       let v = refusal_in h' f n p in
-      second_refused (placed_tables (place_of b l) i) (by-rules t.rooms (answered_accepted i t.holds j)) v.number v.place
-      (by-rules t₂.rooms (answered_refused n p t₂.holds w v refl))
+      second_refused (placed_tables (place_of b l) i) (by_rules t.rooms (answered_accepted i t.holds j)) v.number v.place
+      (by_rules t₂.rooms (answered_refused n p t₂.holds w v refl))
       (record { list = k.list; result = z ∙ ap (told_in g' e h' f) k.result })
-  compared-by {e} {f} ds ds' q r t t₂ (releases.both-accepted i j w w₂ d d₂ k) z =
-      both-accepted (placed_tables (place_of b l) i) (placed_tables (place_of c m) j) (by-rules t.rooms (answered_accepted i t.holds w))
-      (by-rules t₂.rooms (answered_accepted j t₂.holds w₂)) d d₂
+  compared_by {e} {f} ds ds' q r t t₂ (releases.both-accepted i j w w₂ d d₂ k) z =
+      both_accepted (placed_tables (place_of b l) i) (placed_tables (place_of c m) j) (by_rules t.rooms (answered_accepted i t.holds w))
+      (by_rules t₂.rooms (answered_accepted j t₂.holds w₂)) d d₂
       (λ s s₂. let v = k s s₂ in record { list = v.list; result = z ∙ ap (told_in g' e h' f) v.result })
 
   both_by : {e f : Expanded} (q : Found) (ds : List Difference) → There b l x g x' g' e → There c m y h y' h' f →
@@ -189,11 +189,11 @@ module _ {b l x g x' g' c m y h y' h' : List ℕ} {o o₂ : Lent} (u : ExpandsTe
       let v : ComparesByRules (text b l) (text c m) ds (put q ds) w.in-expanded =
       subst (λ (i : List ℕ). ComparesByRules i (text c m) ds (put q ds) w.in-expanded) t.holds.bytes
       (subst (λ (i : List ℕ). ComparesByRules (take e.length x') i ds (put q ds) w.in-expanded) t₂.holds.bytes w.rules) in
-      compared-by ds (put q ds) w.in-expanded q.compared t t₂ v w.told
+      compared_by ds (put q ds) w.in-expanded q.compared t t₂ v w.told
 
-  pub both-there : {e f : Expanded} {q : Found} → o ≡ Text e → o₂ ≡ Text f → ListsExpanded (take e.length x') g' e (take f.length y') h' f q →
+  pub both_there : {e f : Expanded} {q : Found} → o ≡ Text e → o₂ ≡ Text f → ListsExpanded (take e.length x') g' e (take f.length y') h' f q →
       ListsTexts b l x g x' g' c m y h y' h' q
-  both-there {e} {f} {q} z z₂ w =
+  both_there {e} {f} {q} z z₂ w =
       record { first = memory u; second = memory u₂; rules = λ ds. both_by q ds (there e u z) (there f u₂ z₂) (w ds) }
 
 -- what was found, put into a list

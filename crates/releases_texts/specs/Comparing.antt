@@ -23,13 +23,13 @@ use Rattle.lent_texts.specs.declared.Expanded.{Expanded}
 -- A side, the texts of the buffer b with lengths l, where x and g are lent for the expanded text and its origins: its answer.
 pub data SideAnswer (b l x g : List ℕ) : Answer → Type 0 where
   -- 1, "lent tables too short", at 0
-  short-rooms : (Rooms x g → ⊥) → SideAnswer b l x g (refused 1 0)
-  by-rules : {a : Answer} → Rooms x g → TheAnswer b l a → SideAnswer b l x g a
+  short_rooms : (Rooms x g → ⊥) → SideAnswer b l x g (refused 1 0)
+  by_rules : {a : Answer} → Rooms x g → TheAnswer b l a → SideAnswer b l x g a
 
 -- What they hold afterwards, x' and g'. "Refusal 1 changes nothing."
 pub data SideMemory (b l x g x' g' : List ℕ) : Type 0 where
   untouched : (Rooms x g → ⊥) → x' ≡ x → g' ≡ g → SideMemory b l x g x' g'
-  is-filled : Rooms x g → Filled b l x g x' g' → SideMemory b l x g x' g'
+  is_filled : Rooms x g → Filled b l x g x' g' → SideMemory b l x g x' g'
 
 -- The sides b, l and c, m with the lent list ds, which is ds' afterwards; r is what is returned.
 pub data SidesCompared (b l x g c m y h : List ℕ) (ds ds' : List Difference) (r : Result) : Type 0 where
@@ -38,7 +38,7 @@ pub data SidesCompared (b l x g c m y h : List ℕ) (ds ds' : List Difference) (
   second_refused : (t : Tables) → SideAnswer b l x g (accepted t) → (n p : ℕ) → SideAnswer c m y h (refused n p) → Refuses 2 n p ds ds' r
       → SidesCompared b l x g c m y h ds ds' r
   -- "Take two accepted texts"
-  both-accepted : (t u : Tables) → SideAnswer b l x g (accepted t) → SideAnswer c m y h (accepted u) → Derivation (found b l) → Derivation (found c m)
+  both_accepted : (t u : Tables) → SideAnswer b l x g (accepted t) → SideAnswer c m y h (accepted u) → Derivation (found b l) → Derivation (found c m)
       → ((d : Derivation (found b l)) (e : Derivation (found c m)) → Tells (differences (syntax (text b l) d.tree) (syntax (text c m) e.tree)) ds ds' r)
       → SidesCompared b l x g c m y h ds ds' r
 
@@ -74,9 +74,9 @@ unfoldable pub told_in : List ℕ → Expanded → List ℕ → Expanded → Res
 told_in g e h f q = pick (eqb q.which 1) (side_in g e q) (pick (eqb q.which 2) (side_in h f q) q)
 
 pub record ComparesExpanded (s g : List ℕ) (e : Expanded) (t h : List ℕ) (f : Expanded) (ds ds' : List Difference) (r : Result) : Type 0 where
-  pub in-expanded : Result
-  pub rules : ComparesByRules s t ds ds' in-expanded
-  pub told : r ≡ told_in g e h f in-expanded
+  pub in_expanded : Result
+  pub rules : ComparesByRules s t ds ds' in_expanded
+  pub told : r ≡ told_in g e h f in_expanded
 
 abbrev pub ListsExpanded : (s g : List ℕ) → Expanded → (t h : List ℕ) → Expanded → Found → Type 0
 ListsExpanded s g e t h f q = (ds : List Difference) → ComparesExpanded s g e t h f ds (put q ds) q.compared
@@ -96,4 +96,4 @@ pub record AnswersText (s : List ℕ) (r : Given) : Type 0 where
 -- The first side's refusal, or n at 0 as the second's.
 pub data FirstOr (s g : List ℕ) (e : Expanded) (n : ℕ) (r : Found) : Type 0 where
   of_first : (k p : ℕ) → TheTextsAnswer s (refused k p) → Stopped 1 (refusal_in g e k p).number (refusal_in g e k p).place r → FirstOr s g e n r
-  of-second : (t : Tables) → TheTextsAnswer s (accepted t) → Stopped 2 n 0 r → FirstOr s g e n r
+  of_second : (t : Tables) → TheTextsAnswer s (accepted t) → Stopped 2 n 0 r → FirstOr s g e n r

@@ -16,7 +16,7 @@ use Rattle.meaning.specs.Resolving.{Resolved, end, resolved, of_value, take_valu
 use Rattle.meaning.specs.Cells.{owner_sort, owner_row, value_cells}
 use Rattle.meaning.proofs.Entries.{joins}
 use Rattle.layout.specs.Kept.{statement_cells, code_of}
-use Rattle.blocks.specs.Blocks.{WordIn, StatementsIn, more-in, BlockAt}
+use Rattle.blocks.specs.Blocks.{WordIn, StatementsIn, more_in, BlockAt}
 use Rattle.blocks.proofs.Ranges.{first_cell, inside_at}
 use Rattle.scopes.specs.Situations.{Situation, HasDefinition, this_definition, later_definition, ScopeAt}
 use Rattle.scopes.specs.Promises.{FindsWord}
@@ -25,7 +25,7 @@ use Rattle.resolving.specs.declared.Owner.{Owner as OwnerOf}
 use Rattle.scopes.specs.Given.{Attribute, Below}
 use Rattle.resolving.specs.Promises.{WordAt, PutValue, inner_of, one_entry, stated_entries, default_entries, Enters, EntersStated, ResolvesDefault, Resolves}
 use Rattle.scopes.proofs.Descents.{found_value, scope_under}
-use Rattle.lookups.proofs.Attributes.{read_at, reached, known, value_below, none-given, not_taken, default-word, nothing_at}
+use Rattle.lookups.proofs.Attributes.{read_at, reached, known, value_below, none_given, not_taken, default_word, nothing_at}
 use Rattle.resolving.proofs.Writes.{wrote_none, wrote_full, wrote_entry, wrote_same}
 use Rattle.meaning.proofs.Unders.{resolves_under}
 
@@ -62,14 +62,14 @@ block_at : {s st : List ℕ} {a b a' b' : ℕ} {us : Statements} → a' ≡ a �
 block_at {s} {st} {a} {b} {a'} {b'} {us} p q h = subst (λ i. BlockAt s st i b' us) (sym p) (subst (λ i. BlockAt s st a i us) (sym q) h)
 
 module _ {s d e o st v : List ℕ} {z : Sizes} {j stated at len code from till : ℕ} {w : OwnerOf} {n : ℕ} where
-  pub enter-full : 2048 < n → Enters s d e o st v z j stated at len code from till w n v n
-  enter-full h f x t us b ow g a wa bl own fl room = wrote_full v n (one_entry b f x t us) ow room.room h room.low
+  pub enter_full : 2048 < n → Enters s d e o st v z j stated at len code from till w n v n
+  enter_full h f x t us b ow g a wa bl own fl room = wrote_full v n (one_entry b f x t us) ow room.room h room.low
 
-  pub enter-more : {v₁ : List ℕ} {key : ℕ} {v₂ : List ℕ} {r : ℕ} → n ≤ 2048 → PutValue s d e o v z n w j stated at len code v₁
+  pub enter_more : {v₁ : List ℕ} {key : ℕ} {v₂ : List ℕ} {r : ℕ} → n ≤ 2048 → PutValue s d e o v z n w j stated at len code v₁
       → FindsWord s d e z.enumerators j at len key → Resolves s d e o st v₁ z j key from till (record { sort = 1; row = n }) (n + 1) v₂ r
       → Enters s d e o st v z j stated at len code from till w n v₂ r
   unfolding one_entry inner_of owner_sort owner_row
-  enter-more {v₁} {key} {v₂} {r} h put finds res f x t us b ow g a wa bl own fl room =
+  enter_more {v₁} {key} {v₂} {r} h put finds res f x t us b ow g a wa bl own fl room =
       let T = g.tables in
       let k = known T a in
       let lo = k.low in
@@ -88,7 +88,7 @@ module _ {s d e o st v : List ℕ} {z : Sizes} {j stated at len code from till :
 -- The values that a block states -------------------------------------------------------------------------------------------------------------
 
 value_in : {s : List ℕ} {y : Statement} {inside rest : Statements} → StatementsIn s (state y inside rest) → WordIn s y.value
-value_in (more-in n v p i r) = v
+value_in (more_in n v p i r) = v
 
 pub entries_none : (f : File) (x : Defined) → stated_entries f x done ≡ end
 unfolding stated_entries entries
@@ -118,10 +118,10 @@ entries_more f x y inside rest = by (alike y.name x.definition.name)
     by false = refl
 
 module _ {s d e o st v : List ℕ} {z : Sizes} {j k inner next : ℕ} {w : OwnerOf} {n : ℕ} where
-  pub stated-this : {at len code : ℕ} {v' : List ℕ} {r : ℕ} → at ≡ get_or st (k * 7 + 2) 0 → len ≡ get_or st (k * 7 + 3) 0 → code ≡ get_or st (k * 7 + 4) 0
+  pub stated_this : {at len code : ℕ} {v' : List ℕ} {r : ℕ} → at ≡ get_or st (k * 7 + 2) 0 → len ≡ get_or st (k * 7 + 3) 0 → code ≡ get_or st (k * 7 + 4) 0
       → Enters s d e o st v z j 1 at len code inner next w n v' r → EntersStated s d e o st v z j k inner next w n v' r
   unfolding statement_cells bit
-  stated-this {at} {len} {code} e₂ e₃ e₄ en f x y inside rest till ow g a b q i₁ i₂ own room =
+  stated_this {at} {len} {code} e₂ e₃ e₄ en f x y inside rest till ow g a b q i₁ i₂ own room =
       let vi = value_in b.words in
       let p : at ≡ y.value.place = e₂ ∙ first_cell b 2 (omega arith) in
       let l : len ≡ y.value.length = e₃ ∙ first_cell b 3 (omega arith) in
@@ -140,15 +140,15 @@ default_one f x t e = rw e
 
 module _ {s d e o st v : List ℕ} {z : Sizes} {j : ℕ} {w : OwnerOf} {n : ℕ} where
   pub default_none : {len : ℕ} → len ≡ get_or d (j * 19 + 11) 0 → len ≡ 0 → ResolvesDefault s d e o st v z j w n v n
-  default_none c h f x ow g a own room = wrote_same (default_end f x (none-given (known g.tables a) (sym c ∙ h))) (wrote_none v n ow room.low)
+  default_none c h f x ow g a own room = wrote_same (default_end f x (none_given (known g.tables a) (sym c ∙ h))) (wrote_none v n ow room.low)
 
-  pub default-not : {code : ℕ} → code ≡ get_or d (j * 19 + 18) 0 → code ≡ 4 → ResolvesDefault s d e o st v z j w n v n
-  default-not c h f x ow g a own room = wrote_same (default_end f x (not_taken (known g.tables a) (sym c ∙ h))) (wrote_none v n ow room.low)
+  pub default_not : {code : ℕ} → code ≡ get_or d (j * 19 + 18) 0 → code ≡ 4 → ResolvesDefault s d e o st v z j w n v n
+  default_not c h f x ow g a own room = wrote_same (default_end f x (not_taken (known g.tables a) (sym c ∙ h))) (wrote_none v n ow room.low)
 
   pub default_taken : {at len code : ℕ} {v' : List ℕ} {r : ℕ} → len ≡ get_or d (j * 19 + 11) 0 → (len ≡ 0 → ⊥) → code ≡ get_or d (j * 19 + 18) 0 → (code ≡ 4 → ⊥)
       → at ≡ get_or d (j * 19 + 10) 0 → Enters s d e o st v z j 0 at len code 0 0 w n v' r → ResolvesDefault s d e o st v z j w n v' r
   unfolding bit
   default_taken c₁ n₁ c₂ n₂ c₀ en f x ow g a own room =
-      let t = default-word (known g.tables a) (λ q. n₁ (c₁ ∙ q)) (λ q. n₂ (c₂ ∙ q)) in
+      let t = default_word (known g.tables a) (λ q. n₁ (c₁ ∙ q)) (λ q. n₂ (c₂ ∙ q)) in
       wrote_same (default_one f x t.word t.takes)
       (en f x t.word done false ow g a (word_at t.in-text (c₀ ∙ t.place) (c₁ ∙ t.length) (c₂ ∙ t.coded)) (nothing_at g) own refl room)

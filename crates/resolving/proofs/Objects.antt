@@ -18,13 +18,13 @@ use Rattle.resolving.specs.Written.{WroteAll}
 use Rattle.resolving.specs.Promises.{Resolves, ResolvesAll}
 use Rattle.layout.proofs.Codes.{kind_low}
 use Rattle.scopes.proofs.Descents.{scope_of_kind}
-use Rattle.lookups.proofs.Attributes.{stands-below, KeptObject, kept_object}
+use Rattle.lookups.proofs.Attributes.{stands_below, KeptObject, kept_object}
 use Rattle.resolving.proofs.Entrances.{none_below}
 use Rattle.resolving.proofs.Writes.{wrote_first, wrote_next, all_length}
 
 scope_below : {s d e o : List ℕ} {z : Sizes} {f : File} (k : ℕ) (ds : Definitions) → Tables s d e o z f → ScopeAt f k ds → Below z.definitions ds
 scope_below {z = z} zero no_more g no_scope = none_below z.definitions
-scope_below k ds g (scope e q) = stands-below g q
+scope_below k ds g (scope e q) = stands_below g q
 
 values_next : (f : File) (front : List Object) (x : Object) → all_values f (front ++ (x ∷ [])) ≡ all_values f front ++ (object_values f x ∷ [])
 unfolding all_values
@@ -73,12 +73,12 @@ here {s} {d} {e} {o} {st} {v} {z} {ps} {v₁} {n} {i} {f} h t g p l = by k.rest 
     by (x ∷ rest) w = record { front = k.front; object = x; rest = rest; whole = w; place = k.place; wrote = k.wrote; row_is = kept_object k.front x rest g w k.place }
 
 module _ {s d e o st v : List ℕ} {z : Sizes} {ps : List ℕ} where
-  pub does-start : Does s d e o st v z ps v 0 0
+  pub does_start : Does s d e o st v z ps v 0 0
   unfolding all_values
-  does-start f g p l = record { front = []; rest = f.objects; whole = refl; place = refl; wrote = wrote_first v }
+  does_start f g p l = record { front = []; rest = f.objects; whole = refl; place = refl; wrote = wrote_first v }
 
-  pub does-end : {v' : List ℕ} {n i : ℕ} → z.objects ≤ i → Does s d e o st v z ps v' n i → ResolvesAll s d e o st v z ps v' n
-  does-end {v'} {n} {i} h t f g p l = by k.rest k.whole
+  pub does_end : {v' : List ℕ} {n i : ℕ} → z.objects ≤ i → Does s d e o st v z ps v' n i → ResolvesAll s d e o st v z ps v' n
+  does_end {v'} {n} {i} h t f g p l = by k.rest k.whole
     where
       k : Doing f i v v' n
       k = t f g p l
@@ -93,17 +93,17 @@ module _ {s d e o st v : List ℕ} {z : Sizes} {ps : List ℕ} where
           absurd (omega arith)
 
   module _ {v₁ : List ℕ} {n i kind : ℕ} (h : i < z.objects) (c₀ : kind ≡ get_or o (i * 10 + 0) 0) (t : Does s d e o st v z ps v₁ n i) where
-    pub does-stop : 13 ≤ kind → ResolvesAll s d e o st v z ps v₁ n
-    does-stop lo f g p l =
+    pub does_stop : 13 ≤ kind → ResolvesAll s d e o st v z ps v₁ n
+    does_stop lo f g p l =
         let x = here h t g p l in
         let a = x.row_is.kind in
         let b = kind_low x.object.kind in
         absurd (omega arith)
 
-    pub does-more : {key from till : ℕ} {v₂ : List ℕ} {r : ℕ} → key ≡ get_or ps kind 0 → from ≡ get_or o (i * 10 + 8) 0 → till ≡ get_or o (i * 10 + 9) 0
+    pub does_more : {key from till : ℕ} {v₂ : List ℕ} {r : ℕ} → key ≡ get_or ps kind 0 → from ≡ get_or o (i * 10 + 8) 0 → till ≡ get_or o (i * 10 + 9) 0
         → Resolves s d e o st v₁ z z.definitions key from till (record { sort = 0; row = i }) n v₂ r → Does s d e o st v z ps v₂ r (i + 1)
     unfolding object_values owner_sort owner_row
-    does-more {key} {from} {till} {v₂} {r} c₁ c₂ c₃ res f g p l =
+    does_more {key} {from} {till} {v₂} {r} c₁ c₂ c₃ res f g p l =
         let x = here h t g p l in
         let y = x.object in
         let R = x.row_is in

@@ -27,23 +27,23 @@ use Rattle.scopes.specs.declared.Sizes.{Sizes}
 use Rattle.resolving.specs.declared.Owner.{Owner as OwnerOf}
 use Rattle.resolving.specs.Noted.{NotesTo, NamesRanked, Lent, Taken, NotesTaken, DefaultOwners, IsQuiet, Noted, Bare, no_default, not_taken, Quiet, elsewhere, silent, Defaults, Stirs, Elsewhere, NextUnder, Passes, NextRow}
 use Rattle.resolving.specs.Promises.{ResolvesDefault, ResolvesRow, Resolves, ResolvesAll}
-use Rattle.resolving.proofs.Turns.{row_other, row-default, Goes, goes-start, goes-more, goes_end}
-use Rattle.resolving.proofs.Namings.{words-noted}
-use Rattle.resolving.proofs.Entrances.{default_none, default-not}
+use Rattle.resolving.proofs.Turns.{row_other, row_default, Goes, goes_start, goes_more, goes_end}
+use Rattle.resolving.proofs.Namings.{words_noted}
+use Rattle.resolving.proofs.Entrances.{default_none, default_not}
 use Rattle.resolving.proofs.Writes.{wrote_full}
 
 -- Ranks ------------------------------------------------------------------------------------------------------------------------------------
 
 module _ {s d st rs rd : List ℕ} (h : NamesRanked s d st rs rd) (j m e : ℕ) where
-  pub finds-ranked : (F : List ℕ) (r : Found) → Firsts st rs m e F → RowStated s d 19 2 rd j st rs F m e r
+  pub finds_ranked : (F : List ℕ) (r : Found) → Firsts st rs m e F → RowStated s d 19 2 rd j st rs F m e r
       → FindsStated s st m e (get_or d (j * 19 + 2) 0) (get_or d (j * 19 + 3) 0) r
   unfolding RowStated
-  finds-ranked F r o f = f h.rank h.definitions h.statements o
+  finds_ranked F r o f = f h.rank h.definitions h.statements o
 
 -- The next statement that has the name of row j, where row a is the one after that of row k.
 module _ {s d st rs rd nx : List ℕ} (h : NamesRanked s d st rs rd) (l : Linked st rs nx) {j k a e : ℕ} where
-  pub finds-after : {r : Found} → Follows st nx k a e → StatedAfter s d 19 2 rd j st rs nx k a e r → FindsStated s st a e (get_or d (j * 19 + 2) 0) (get_or d (j * 19 + 3) 0) r
-  finds-after o f = f.finds h.rank h.definitions h.statements l o
+  pub finds_after : {r : Found} → Follows st nx k a e → StatedAfter s d 19 2 rd j st rs nx k a e r → FindsStated s st a e (get_or d (j * 19 + 2) 0) (get_or d (j * 19 + 3) 0) r
+  finds_after o f = f.finds h.rank h.definitions h.statements l o
 
 -- The row after a statement comes later.
 pub after_grows : (st : List ℕ) (i e next : ℕ) → next ≡ row_after st i e → i < e → i < next
@@ -124,9 +124,9 @@ row_none {s} {d} {st} {limit} {key} {from} {till} {j} {i} a b c p =
     record { low = omega arith; high = omega arith; passes = subst (Passes s d st key from till j) e p; here = λ l. absurd (omega arith) }
 
 module _ {s d e o st v : List ℕ} {z : Sizes} {j : ℕ} {w : OwnerOf} {n : ℕ} where
-  bare-default : Bare d j → ResolvesDefault s d e o st v z j w n v n
-  bare-default (no_default h) = default_none refl h
-  bare-default (not_taken h) = default-not refl h
+  bare_default : Bare d j → ResolvesDefault s d e o st v z j w n v n
+  bare_default (no_default h) = default_none refl h
+  bare_default (not_taken h) = default_not refl h
 
 module _ {s d e o st v : List ℕ} {z : Sizes} {j key from till : ℕ} {w : OwnerOf} {n : ℕ} where
   quiet_row : Quiet s d st key from till j → ResolvesRow s d e o st v z j key from till w n v n
@@ -134,7 +134,7 @@ module _ {s d e o st v : List ℕ} {z : Sizes} {j key from till : ℕ} {w : Owne
   quiet_row (silent b i) = by (ℕ_discrete (get_or d (j * 19 + 0) 0) key)
     where
       by : Dec (get_or d (j * 19 + 0) 0 ≡ key) → ResolvesRow s d e o st v z j key from till w n v n
-      by (yes q) = (row-default refl refl i refl (bare-default b)).resolves q
+      by (yes q) = (row_default refl refl i refl (bare_default b)).resolves q
       by (no q) = row_other q
 
 module _ {s d e o st v : List ℕ} {z : Sizes} {limit key from till : ℕ} {w : OwnerOf} {n : ℕ} where
@@ -142,16 +142,16 @@ module _ {s d e o st v : List ℕ} {z : Sizes} {limit key from till : ℕ} {w : 
       → Goes s d e o st v z limit key from till w n v₁ m r
   passing {v₁} {m} zero j r q l p g = let h : j ≡ r = omega arith in subst (λ i. Goes s d e o st v z limit key from till w n v₁ m i) h g
   passing (suc c) j r q l p g =
-      passing c (j + 1) r (omega arith) l (record { quiet = λ i a b. p.quiet i (omega arith) b }) (goes-more (omega arith) g (quiet_row (p.quiet j (omega arith) (omega arith))))
+      passing c (j + 1) r (omega arith) l (record { quiet = λ i a b. p.quiet i (omega arith) b }) (goes_more (omega arith) g (quiet_row (p.quiet j (omega arith) (omega arith))))
 
-  pub goes-pass : {v₁ : List ℕ} {m j r : ℕ} → NextRow s d st limit key from till j r → Goes s d e o st v z limit key from till w n v₁ m j
+  pub goes_pass : {v₁ : List ℕ} {m j r : ℕ} → NextRow s d st limit key from till j r → Goes s d e o st v z limit key from till w n v₁ m j
       → Goes s d e o st v z limit key from till w n v₁ m r
-  goes-pass {v₁} {m} {j} {r} x g = let l = x.low in passing (r - j) j r (omega arith) x.high x.passes g
+  goes_pass {v₁} {m} {j} {r} x g = let l = x.low in passing (r - j) j r (omega arith) x.high x.passes g
 
   -- A block is empty, and nothing under the word at key has a default that is taken.
-  pub resolves-quiet : {us : List ℕ} {r : Bool} → (key ≡ 0 → ⊥) → limit ≤ 512 → DefaultOwners d us → IsQuiet us key from till r → r ≡ true → Resolves s d e o st v z limit key from till w n v n
+  pub resolves_quiet : {us : List ℕ} {r : Bool} → (key ≡ 0 → ⊥) → limit ≤ 512 → DefaultOwners d us → IsQuiet us key from till r → r ≡ true → Resolves s d e o st v z limit key from till w n v n
   unfolding Tells
-  resolves-quiet {us} {r} nz l h q y = goes_end (omega arith) nz (goes-pass (record { low = omega arith; high = omega arith; passes = record { quiet = quiet }; here = λ c. absurd (omega arith) }) goes-start)
+  resolves_quiet {us} {r} nz l h q y = goes_end (omega arith) nz (goes_pass (record { low = omega arith; high = omega arith; passes = record { quiet = quiet }; here = λ c. absurd (omega arith) }) goes_start)
     where
       bare : (i : ℕ) → i < 512 → get_or d (i * 19 + 0) 0 ≡ key → Dec (get_or h.marks i 0 ≡ 0) → Bare d i
       bare i a c (yes g) = h.noted.cell i a g
@@ -164,11 +164,11 @@ module _ {s d e o st v : List ℕ} {z : Sizes} {limit key from till : ℕ} {w : 
           by (yes c) = silent (bare i (omega arith) c (ℕ_discrete (get_or h.marks i 0) 0)) (none_stated _ _ (q.empty y))
           by (no c) = elsewhere c
 
-  pub resolves-past : 512 < limit → Resolves s d e o st v z limit key from till w n v n
-  resolves-past h f ds ss ow g sc b lim bl own room = absurd (let k = g.tables.definitions-fit in omega arith)
+  pub resolves_past : 512 < limit → Resolves s d e o st v z limit key from till w n v n
+  resolves_past h f ds ss ow g sc b lim bl own room = absurd (let k = g.tables.definitions-fit in omega arith)
 
-  pub resolves-full : 2048 < n → Resolves s d e o st v z limit key from till w n v n
-  resolves-full h f ds ss ow g sc b lim bl own room = wrote_full v n (resolve ds f.objects ss) ow room.room h room.low
+  pub resolves_full : 2048 < n → Resolves s d e o st v z limit key from till w n v n
+  resolves_full h f ds ss ow g sc b lim bl own room = wrote_full v n (resolve ds f.objects ss) ow room.room h room.low
 
 -- What is noted ----------------------------------------------------------------------------------------------------------------------------
 
@@ -182,10 +182,10 @@ noted_all {s} {d} {e} {o} {st} {z} {x} {known} {words} {xe} {xo} {rs} {nx} {rd} 
     record {
       defaults = h.defaults;
       indexes = record {
-        defaults = words-noted z.enumerators words y (omega arith) w;
+        defaults = words_noted z.enumerators words y (omega arith) w;
         enumerators = y;
         objects = subst (λ l. Indexed s o 10 z.objects 0 3 l) (sym b) n.objects.index;
-        enumerators-fit = fe;
+        enumerators_fit = fe;
         objects_fit = h.few.objects;
       };
       ranks = record {
@@ -204,9 +204,9 @@ kept_long n rs = length-sets {A = ℕ} (replicate n 0) 0 (join rs) ∙ length-re
 
 module _ {s d e o st v : List ℕ} {z : Sizes} {ps : List ℕ} where
   -- The tables of a text have their sizes.
-  pub not-sized : (length d ≡ 9747 → z.definitions ≤ 512 → z.enumerators ≤ 1024 → z.objects ≤ 256 → ⊥) → ResolvesAll s d e o st v z ps v 0
+  pub not_sized : (length d ≡ 9747 → z.definitions ≤ 512 → z.enumerators ≤ 1024 → z.objects ≤ 256 → ⊥) → ResolvesAll s d e o st v z ps v 0
   unfolding kept_definitions
-  not-sized h f g p l =
+  not_sized h f g p l =
       absurd (h (ap length g.tables.in_definitions ∙ kept_long (513 * 19) (map_cells definition_cells (spec_entries f.specs))) g.tables.definitions-fit g.tables.enumerators-fit g.tables.objects-fit)
 
 -- The marks of the rows whose default is taken.
@@ -221,8 +221,8 @@ module _ (d : List ℕ) where
       by j h (yes r) g = subst (Bare d) (sym r) (e (sym (get_or-set_same ms i x 0 l) ∙ ap (λ k. get_or (set ms i x) k 0) (sym r) ∙ g))
       by j h (no r) g = n.cell j (omega (arith, r, h)) (sym (get_or-set_other ms i j x 0 r) ∙ g)
 
-  pub taken-past : (ms : List ℕ) (i n : ℕ) → n ≤ i → NotesTaken d i ms → NotesTaken d n ms
-  taken-past ms i n h o = record { cell = λ j k. o.cell j (omega arith) }
+  pub taken_past : (ms : List ℕ) (i n : ℕ) → n ≤ i → NotesTaken d i ms → NotesTaken d n ms
+  taken_past ms i n h o = record { cell = λ j k. o.cell j (omega arith) }
 
   pub taken_none : {c : ℕ} (i : ℕ) → c ≡ get_or d (i * 19 + 11) 0 → c ≡ 0 → Taken d i 0
   taken_none i e z g = no_default (sym e ∙ z)

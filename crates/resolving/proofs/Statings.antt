@@ -14,14 +14,14 @@ use Rattle.meaning.specs.Words.{alike}
 use Rattle.meaning.specs.Resolving.{Resolved, end, Owner}
 use Rattle.meaning.proofs.Entries.{joins}
 use Rattle.blocks.specs.Blocks.{BlockAt, row_after, first_stated, FindsStated}
-use Rattle.blocks.proofs.Ranges.{first-after, rest_at, is_stated}
+use Rattle.blocks.proofs.Ranges.{first_after, rest_at, is_stated}
 use Rattle.scopes.specs.declared.Sizes.{Sizes}
 use Rattle.resolving.specs.declared.Owner.{Owner as OwnerOf}
 use Rattle.scopes.specs.Given.{Given, Attribute}
 use Rattle.resolving.specs.Written.{Wrote, Owns}
 use Rattle.resolving.specs.Promises.{stated_entries, Room, EntersStated, ResolvesStated, ResolvesDefault, ResolvesUnder}
 use Rattle.lookups.proofs.Attributes.{name_at}
-use Rattle.resolving.proofs.Turns.{row-stated, row-default}
+use Rattle.resolving.proofs.Turns.{row_stated, row_default}
 use Rattle.resolving.proofs.Entrances.{entries_none, entries_other, entries_more}
 use Rattle.resolving.proofs.Writes.{wrote_length, wrote_none, wrote_joins, wrote_same, joins_end, joins_joins}
 use Rattle.scopes.proofs.Finding.{same_sym}
@@ -125,17 +125,17 @@ none_left f x done h b = entries_none f x
 none_left {till = till} {k = k} f x (state y inside rest) h b = absurd (let q = b.after in omega arith)
 
 module _ {s d e o st v : List ℕ} {z : Sizes} {j from till : ℕ} {w : OwnerOf} {n : ℕ} where
-  pub states-start : States s d e o st v z j from till w n v n from
+  pub states_start : States s d e o st v z j from till w n v n from
   unfolding joins
-  states-start f x ss ow g a b own room = record { left = ss; made = end; block = b; wrote = wrote_none v n ow room.low; whole = refl }
+  states_start f x ss ow g a b own room = record { left = ss; made = end; block = b; wrote = wrote_none v n ow room.low; whole = refl }
 
-  pub states-end : {v' : List ℕ} {m k : ℕ} → till ≤ k → States s d e o st v z j from till w n v' m k → ResolvesStated s d e o st v z j from till w n v' m
-  states-end h t f x ss ow g a b own room = let k = t f x ss ow g a b own room in states_done k (none_left f x k.left h k.block)
+  pub states_end : {v' : List ℕ} {m k : ℕ} → till ≤ k → States s d e o st v z j from till w n v' m k → ResolvesStated s d e o st v z j from till w n v' m
+  states_end h t f x ss ow g a b own room = let k = t f x ss ow g a b own room in states_done k (none_left f x k.left h k.block)
 
   module _ {at len : ℕ} (c₁ : at ≡ get_or d (j * 19 + 2) 0) (c₂ : len ≡ get_or d (j * 19 + 3) 0) {v₁ : List ℕ} {m k : ℕ} (t : States s d e o st v z j from till w n v₁ m k) where
     -- No statement left has the name,
-    pub states-none : {r : Found} → FindsStated s st k till at len r → r ≡ Nothing → ResolvesStated s d e o st v z j from till w n v₁ m
-    states-none finds p f x ss ow g a b own room =
+    pub states_none : {r : Found} → FindsStated s st k till at len r → r ≡ Nothing → ResolvesStated s d e o st v z j from till w n v₁ m
+    states_none finds p f x ss ow g a b own room =
         let K = t f x ss ow g a b own room in
         states_done K (no_match f x K.left k (sym p ∙ finds K.left x.definition.name K.block (name_at g.tables a at len c₁ c₂)))
 
@@ -146,21 +146,21 @@ module _ {s d e o st v : List ℕ} {z : Sizes} {j from till : ℕ} {w : OwnerOf}
         let K = t f x ss ow g a b own room in
         match f x K.left K.block (sym p ∙ finds K.left x.definition.name K.block (name_at g.tables a at len c₁ c₂))
 
-    pub states-out : {r : Found} {i : ℕ} → FindsStated s st k till at len r → r ≡ At i → (k ≤ i → till ≤ i) → ResolvesStated s d e o st v z j from till w n v₁ m
-    states-out finds p h f x ss ow g a b own room =
+    pub states_out : {r : Found} {i : ℕ} → FindsStated s st k till at len r → r ≡ At i → (k ≤ i → till ≤ i) → ResolvesStated s d e o st v z j from till w n v₁ m
+    states_out finds p h f x ss ow g a b own room =
         let M = matched finds p f x ss ow g a b own room in
         let l = h M.low in
         let u = M.high in
         absurd (omega arith)
 
-    pub states-more : {q : Found} {i next inner : ℕ} {v₂ : List ℕ} {r : ℕ} → FindsStated s st k till at len q → q ≡ At i → next ≡ row_after st i till → inner ≡ i + 1
+    pub states_more : {q : Found} {i next inner : ℕ} {v₂ : List ℕ} {r : ℕ} → FindsStated s st k till at len q → q ≡ At i → next ≡ row_after st i till → inner ≡ i + 1
         → EntersStated s d e o st v₁ z j i inner next w m v₂ r → States s d e o st v z j from till w n v₂ r next
     unfolding statements_in
-    states-more {q} {i} {next} {inner} {v₂} {r} finds p na ni en f x ss ow g a b own room =
+    states_more {q} {i} {next} {inner} {v₂} {r} finds p na ni en f x ss ow g a b own room =
         let K = t f x ss ow g a b own room in
         let M = matched finds p f x ss ow g a b own room in
         let y = M.statement in
-        let nx : next ≡ suc i + statements_in M.inside = na ∙ first-after M.block in
+        let nx : next ≡ suc i + statements_in M.inside = na ∙ first_after M.block in
         let l = wrote_length K.wrote in
         let c = K.wrote.count in
         let u = room.room in
@@ -179,7 +179,7 @@ module _ {s d e o st v : List ℕ} {z : Sizes} {j from till : ℕ} {w : OwnerOf}
   -- The attribute of a row is stated, or it is not.
   module _ {key : ℕ} {q : Found} {v' : List ℕ} {r : ℕ} (finds : FindsStated s st from till (get_or d (j * 19 + 2) 0) (get_or d (j * 19 + 3) 0) q) where
     pub row_found : {i : ℕ} → q ≡ At i → ResolvesStated s d e o st v z j from till w n v' r → ResolvesUnder s d e o st v z j key from till w n v' r
-    row_found p res = row-stated refl refl (is_stated _ _ finds) (ap is_found p) res
+    row_found p res = row_stated refl refl (is_stated _ _ finds) (ap is_found p) res
 
-    pub row-missing : q ≡ Nothing → ResolvesDefault s d e o st v z j w n v' r → ResolvesUnder s d e o st v z j key from till w n v' r
-    row-missing p res = row-default refl refl (is_stated _ _ finds) (ap is_found p) res
+    pub row_missing : q ≡ Nothing → ResolvesDefault s d e o st v z j w n v' r → ResolvesUnder s d e o st v z j key from till w n v' r
+    row_missing p res = row_default refl refl (is_stated _ _ finds) (ap is_found p) res

@@ -25,7 +25,7 @@ use Rattle.resolving.specs.Written.{Wrote, Owns}
 use Rattle.resolving.specs.Promises.{inner_of, stated_entries, default_entries, Room, ResolvesStated, ResolvesDefault, Left, Turn, ResolvesRow, ResolvesUnder, Resolves}
 use Rattle.scopes.proofs.Descents.{scope_facts}
 use Rattle.lookups.proofs.Standings.{file_stands}
-use Rattle.lookups.proofs.Attributes.{under-cell, name_at}
+use Rattle.lookups.proofs.Attributes.{under_cell, name_at}
 use Rattle.resolving.proofs.Writes.{wrote_none, wrote_length, wrote_joins, wrote_same, joins_end, joins_joins}
 
 -- A row of the loop ------------------------------------------------------------------------------------------------------------------------
@@ -171,7 +171,7 @@ contributed_default f x ss e = rw e
 
 row_place : {s d e o st : List ℕ} {z : Sizes} {j : ℕ} {f : File} {u : Word} {ds left : Definitions} (g : Given s d e o st z f) (l : Left f u ds j left) (h : j < z.definitions)
     → let p = peek l (let i = g.tables.definitions in omega arith) in get_or d (j * 19 + 0) 0 ≡ p.entry.under.place
-row_place g l h = let i = g.tables.definitions in under-cell g.tables (peek l (omega arith)).nth
+row_place g l h = let i = g.tables.definitions in under_cell g.tables (peek l (omega arith)).nth
 
 module _ {s d e o st v : List ℕ} {z : Sizes} {j key from till : ℕ} {w : OwnerOf} {n : ℕ} where
   -- Another scope's row.
@@ -190,9 +190,9 @@ module _ {s d e o st v : List ℕ} {z : Sizes} {j key from till : ℕ} {w : Owne
       }
 
   -- An attribute of the scope: stated, or not.
-  pub row-stated : {at len : ℕ} {q : Bool} {v' : List ℕ} {r : ℕ} → at ≡ get_or d (j * 19 + 2) 0 → len ≡ get_or d (j * 19 + 3) 0
+  pub row_stated : {at len : ℕ} {q : Bool} {v' : List ℕ} {r : ℕ} → at ≡ get_or d (j * 19 + 2) 0 → len ≡ get_or d (j * 19 + 3) 0
       → IsStated s st from till at len q → q ≡ true → ResolvesStated s d e o st v z j from till w n v' r → ResolvesUnder s d e o st v z j key from till w n v' r
-  row-stated {at} {len} a₁ a₂ is eq res = record {
+  row_stated {at} {len} a₁ a₂ is eq res = record {
     resolves = λ c f u ds left ss ow g p l h b own room.
         let i = g.tables.definitions in
         let k = peek l (omega arith) in
@@ -203,9 +203,9 @@ module _ {s d e o st v : List ℕ} {z : Sizes} {j key from till : ℕ} {w : Owne
         turn t (wrote_same (contributed_stated f y ss (sym m ∙ eq)) (res f y ss ow g a b own room));
   }
 
-  pub row-default : {at len : ℕ} {q : Bool} {v' : List ℕ} {r : ℕ} → at ≡ get_or d (j * 19 + 2) 0 → len ≡ get_or d (j * 19 + 3) 0
+  pub row_default : {at len : ℕ} {q : Bool} {v' : List ℕ} {r : ℕ} → at ≡ get_or d (j * 19 + 2) 0 → len ≡ get_or d (j * 19 + 3) 0
       → IsStated s st from till at len q → q ≡ false → ResolvesDefault s d e o st v z j w n v' r → ResolvesUnder s d e o st v z j key from till w n v' r
-  row-default {at} {len} a₁ a₂ is eq res = record {
+  row_default {at} {len} a₁ a₂ is eq res = record {
     resolves = λ c f u ds left ss ow g p l h b own room.
         let i = g.tables.definitions in
         let k = peek l (omega arith) in
@@ -233,14 +233,14 @@ Goes s d e o st v z limit key from till w n v' m j =
     → limit ≤ z.definitions → BlockAt s st from till ss → Owns w ow → Room v n → Going f u ds ss j v n ow v' m
 
 module _ {s d e o st v : List ℕ} {z : Sizes} {limit key from till : ℕ} {w : OwnerOf} {n : ℕ} where
-  pub goes-start : Goes s d e o st v z limit key from till w n v n 0
+  pub goes_start : Goes s d e o st v z limit key from till w n v n 0
   unfolding joins
-  goes-start f u ds ss ow g p q b lim bl own room =
+  goes_start f u ds ss ow g p q b lim bl own room =
       record { left = ds; made = end; goes_on = left_start g.tables.situation q; wrote = wrote_none v n ow room.low; whole = refl }
 
-  pub goes-more : {v₁ : List ℕ} {m j : ℕ} {v₂ : List ℕ} {r : ℕ} → j < limit → Goes s d e o st v z limit key from till w n v₁ m j
+  pub goes_more : {v₁ : List ℕ} {m j : ℕ} {v₂ : List ℕ} {r : ℕ} → j < limit → Goes s d e o st v z limit key from till w n v₁ m j
       → ResolvesRow s d e o st v₁ z j key from till w m v₂ r → Goes s d e o st v z limit key from till w n v₂ r (j + 1)
-  goes-more {v₁} {m} {j} h i row f u ds ss ow g p q b lim bl own room =
+  goes_more {v₁} {m} {j} h i row f u ds ss ow g p q b lim bl own room =
       let k = i f u ds ss ow g p q b lim bl own room in
       let l = wrote_length k.wrote in
       let c = k.wrote.count in
@@ -268,9 +268,9 @@ module _ {s d e o st v : List ℕ} {z : Sizes} {limit key from till : ℕ} {w : 
           wrote_same (sym (k.whole ∙ ap (λ ks. joins k.made (resolve ks f.objects ss)) e ∙ joins_end k.made)) k.wrote
 
   -- The place 0 is no word's.
-  pub resolves-none : key ≡ 0 → Resolves s d e o st v z limit key from till w n v n
+  pub resolves_none : key ≡ 0 → Resolves s d e o st v z limit key from till w n v n
   unfolding resolve
-  resolves-none e f ds ss ow g sc b lim bl own room = by key ds e sc
+  resolves_none e f ds ss ow g sc b lim bl own room = by key ds e sc
     where
       by : (k : ℕ) (ds : Definitions) → k ≡ 0 → ScopeAt f k ds → Wrote v n (resolve ds f.objects ss) ow v n
       by zero no_more z no_scope = wrote_none v n ow room.low

@@ -52,8 +52,8 @@ holds_number y n k h = record { sort = refl; negative = h.negative; amount = h.a
 -- The types by their codes.
 data Typed (t : AttributeType) (c : ℕ) : Type 0 where
   is_other : ((os : List Object) (vs : Values) (w : Word) → named t os vs w ≡ string-value) → (c ≡ 41 → ⊥) → (22 ≤ c → 34 < c) → Typed t c
-  an-enumeration : t ≡ enum → c ≡ 41 → Typed t c
-  a-kind : (k : Kind) → t ≡ reference k → c ≡ 22 + kind_number k → Typed t c
+  an_enumeration : t ≡ enum → c ≡ 41 → Typed t c
+  a_kind : (k : Kind) → t ≡ reference k → c ≡ 22 + kind_number k → Typed t c
 
 other_integer : (t : AttributeType) → (i : _) → t ≡ integer i → (os : List Object) (vs : Values) (w : Word) → named t os vs w ≡ string-value
 unfolding named
@@ -76,30 +76,30 @@ typed x vs n (an_integer i t c r) e = let l = integer_low i in is_other (other_i
 typed x vs n (a_string t c b) e = is_other (other_string x.definition.type t) (λ q. omega arith) (λ q. omega arith)
 typed x vs n (a_float t c b) e = is_other (other_float x.definition.type t) (λ q. omega arith) (λ q. omega arith)
 typed x vs n (a_boolean t c b v) e = is_other (other_boolean x.definition.type t) (λ q. omega arith) (λ q. omega arith)
-typed x vs n (an_enum t c b v) e = an-enumeration t (e ∙ c)
-typed x vs n (a_reference k t c b) e = a-kind k t (e ∙ c)
+typed x vs n (an_enum t c b v) e = an_enumeration t (e ∙ c)
+typed x vs n (a_reference k t c b) e = a_kind k t (e ∙ c)
 
 type_of : {s d e o : List ℕ} {z : Sizes} {j t : ℕ} {f : File} {x : Defined} → t ≡ get_or d (j * 19 + 12) 0 → Tables s d e o z f → Attribute f j x → Typed x.definition.type t
 type_of {t = t} {x = x} c g a = typed x x.values t (formed g a) (c ∙ (known g a).type-code)
 
 module _ {s d e o : List ℕ} {z : Sizes} {j at len t : ℕ} (c : t ≡ get_or d (j * 19 + 12) 0) where
   -- No enumeration and no reference.
-  pub named-string : (t ≡ 41 → ⊥) → (22 ≤ t → 34 < t) → NamedValue s d e o z j at len (held 3 0 0)
+  pub named_string : (t ≡ 41 → ⊥) → (22 ≤ t → 34 < t) → NamedValue s d e o z j at len (held 3 0 0)
   unfolding value_sort value_negative value_amount bit
-  named-string n₁ n₂ f x w g a r = by (type_of c g a)
+  named_string n₁ n₂ f x w g a r = by (type_of c g a)
     where
       by : Typed x.definition.type t → Holds (held 3 0 0) (named x.definition.type f.objects x.values w)
       by (is_other h i k) = subst (Holds (held 3 0 0)) (sym (h f.objects x.values w)) (record { sort = refl; negative = refl; amount = refl })
-      by (an-enumeration h i) = absurd (n₁ i)
-      by (a-kind k h i) = let l = kind_low k in let q = n₂ (omega arith) in absurd (omega arith)
+      by (an_enumeration h i) = absurd (n₁ i)
+      by (a_kind k h i) = let l = kind_low k in let q = n₂ (omega arith) in absurd (omega arith)
 
-  pub named-enumerator : {r : Found} {m : ℕ} → t ≡ 41 → FindsEnumerator s d e z.enumerators j at len r → m ≡ row_of r → NamedValue s d e o z j at len (held 4 0 m)
+  pub named_enumerator : {r : Found} {m : ℕ} → t ≡ 41 → FindsEnumerator s d e z.enumerators j at len r → m ≡ row_of r → NamedValue s d e o z j at len (held 4 0 m)
   unfolding number_found number_or row_of named value_sort value_negative value_amount bit is_enum
-  named-enumerator {r} {m} q finds k f x w g a h = by (type_of c g a)
+  named_enumerator {r} {m} q finds k f x w g a h = by (type_of c g a)
     where
-      value-is : (y : Option Under) → r ≡ number_found y → m ≡ number_or y
-      value-is none p = k ∙ ap row_of p
-      value-is (some u) p = k ∙ ap row_of p
+      value_is : (y : Option Under) → r ≡ number_found y → m ≡ number_or y
+      value_is none p = k ∙ ap row_of p
+      value_is (some u) p = k ∙ ap row_of p
 
       holds : x.definition.type ≡ enum → m ≡ number_or (find_value x.values w) → Holds (held 4 0 m) (named x.definition.type f.objects x.values w)
       holds p i = subst (λ y. Holds (held 4 0 m) (named y f.objects x.values w)) (sym p) (record { sort = refl; negative = refl; amount = i })
@@ -109,30 +109,30 @@ module _ {s d e o : List ℕ} {z : Sizes} {j at len t : ℕ} (c : t ≡ get_or d
 
       by : Typed x.definition.type t → Holds (held 4 0 m) (named x.definition.type f.objects x.values w)
       by (is_other _ i _) = absurd (i q)
-      by (an-enumeration p i) =
+      by (an_enumeration p i) =
           let K = known g a in
-          holds p (value-is (find_value x.values w) (finds f x w g.situation g.in_definitions g.in_enumerators K.row_of K.low (reached g x.values) (enum_is p) h.bytes))
-      by (a-kind y p i) = let l = kind_low y in absurd (omega arith)
+          holds p (value_is (find_value x.values w) (finds f x w g.situation g.in_definitions g.in_enumerators K.row_of K.low (reached g x.values) (enum_is p) h.bytes))
+      by (a_kind y p i) = let l = kind_low y in absurd (omega arith)
 
-  pub named-object : {r : Found} {m kind : ℕ} → (t ≡ 41 → ⊥) → 22 ≤ t → t ≤ 34 → kind ≡ t - 22 → FindsObject s o z.objects kind at len r → m ≡ row_of r
+  pub named_object : {r : Found} {m kind : ℕ} → (t ≡ 41 → ⊥) → 22 ≤ t → t ≤ 34 → kind ≡ t - 22 → FindsObject s o z.objects kind at len r → m ≡ row_of r
       → NamedValue s d e o z j at len (held 5 0 m)
   unfolding object_found row_or row_of named value_sort value_negative value_amount bit
-  named-object {r} {m} {kind} n₁ lo hi e finds k f x w g a h = by (type_of c g a)
+  named_object {r} {m} {kind} n₁ lo hi e finds k f x w g a h = by (type_of c g a)
     where
-      value-is : (y : Option Object) → r ≡ object_found y → m ≡ row_or y
-      value-is none p = k ∙ ap row_of p
-      value-is (some u) p = k ∙ ap row_of p
+      value_is : (y : Option Object) → r ≡ object_found y → m ≡ row_or y
+      value_is none p = k ∙ ap row_of p
+      value_is (some u) p = k ∙ ap row_of p
 
       holds : (y : Kind) → x.definition.type ≡ reference y → m ≡ row_or (find_object y f.objects w) → Holds (held 5 0 m) (named x.definition.type f.objects x.values w)
       holds y p i = subst (λ q. Holds (held 5 0 m) (named q f.objects x.values w)) (sym p) (record { sort = refl; negative = refl; amount = i })
 
       by : Typed x.definition.type t → Holds (held 5 0 m) (named x.definition.type f.objects x.values w)
       by (is_other _ _ i) = absurd (let q = i lo in omega arith)
-      by (an-enumeration p i) = absurd (n₁ i)
-      by (a-kind y p i) =
+      by (an_enumeration p i) = absurd (n₁ i)
+      by (a_kind y p i) =
           let n = g.objects-fit in
           let q : kind ≡ kind_number y = omega arith in
-          holds y p (value-is (find_object y f.objects w) (finds f y w g.situation g.in_objects g.objects (omega arith) q h.bytes))
+          holds y p (value_is (find_object y f.objects w) (finds f y w g.situation g.in_objects g.objects (omega arith) q h.bytes))
 
 -- Words ------------------------------------------------------------------------------------------------------------------------------------
 
@@ -146,47 +146,47 @@ by_sort : (f : File) (x : Defined) (t : Word) (q : Sort) {h : Held} → sort_of 
 by_sort f x t q {h} p k = subst (λ y. Holds h (valued y f.objects x.definition x.values t)) (sym p) k
 
 module _ {s d e o : List ℕ} {z : Sizes} {j at len code : ℕ} where
-  pub value-number : {h : Held} → code ≡ 43 → Holds h (number (num_of_step (step_at s at))) → ValueOf s d e o z j at len code h
+  pub value_number : {h : Held} → code ≡ 43 → Holds h (number (num_of_step (step_at s at))) → ValueOf s d e o z j at len code h
   unfolding sort_coded valued
-  value-number {h} c k f x t g a w = by_sort f x t a_number (sort_is w (ap sort_coded c)) (subst (λ y. Holds h (number y)) (sym w.read.number) k)
+  value_number {h} c k f x t g a w = by_sort f x t a_number (sort_is w (ap sort_coded c)) (subst (λ y. Holds h (number y)) (sym w.read.number) k)
 
-  pub value-string : code ≡ 44 → ValueOf s d e o z j at len code (held 3 0 0)
+  pub value_string : code ≡ 44 → ValueOf s d e o z j at len code (held 3 0 0)
   unfolding sort_coded valued value_sort value_negative value_amount bit
-  value-string c f x t g a w = by_sort f x t a_string (sort_is w (ap sort_coded c)) (record { sort = refl; negative = refl; amount = refl })
+  value_string c f x t g a w = by_sort f x t a_string (sort_is w (ap sort_coded c)) (record { sort = refl; negative = refl; amount = refl })
 
-  pub value-float : code ≡ 54 → ValueOf s d e o z j at len code (held 6 0 0)
+  pub value_float : code ≡ 54 → ValueOf s d e o z j at len code (held 6 0 0)
   unfolding sort_coded valued value_sort value_negative value_amount bit
-  value-float c f x t g a w = by_sort f x t float-sort (sort_is w (ap sort_coded c)) (record { sort = refl; negative = refl; amount = refl })
+  value_float c f x t g a w = by_sort f x t float-sort (sort_is w (ap sort_coded c)) (record { sort = refl; negative = refl; amount = refl })
 
-  pub value-true : code ≡ 1 → ValueOf s d e o z j at len code (held 1 0 1)
+  pub value_true : code ≡ 1 → ValueOf s d e o z j at len code (held 1 0 1)
   unfolding sort_coded valued value_sort value_negative value_amount bit code_of
-  value-true c f x t g a w =
+  value_true c f x t g a w =
       let b : is_true t.class ≡ true = (tells t.class).truth ∙ ap (λ n. eqb n 1) (w.coded ∙ c) in
       by_sort f x t a_truth (sort_is w (ap sort_coded c)) (record { sort = refl; negative = refl; amount = sym (ap bit b) })
 
-  pub value-false : code ≡ 2 → ValueOf s d e o z j at len code (held 1 0 0)
+  pub value_false : code ≡ 2 → ValueOf s d e o z j at len code (held 1 0 0)
   unfolding sort_coded valued value_sort value_negative value_amount bit code_of
-  value-false c f x t g a w =
+  value_false c f x t g a w =
       let b : is_true t.class ≡ false = (tells t.class).truth ∙ ap (λ n. eqb n 1) (w.coded ∙ c) in
       by_sort f x t a_truth (sort_is w (ap sort_coded c)) (record { sort = refl; negative = refl; amount = sym (ap bit b) })
 
-  pub value-auto : code ≡ 3 → ValueOf s d e o z j at len code (held 2 0 0)
+  pub value_auto : code ≡ 3 → ValueOf s d e o z j at len code (held 2 0 0)
   unfolding sort_coded valued value_sort value_negative value_amount bit
-  value-auto c f x t g a w = by_sort f x t an_auto (sort_is w (ap sort_coded c)) (record { sort = refl; negative = refl; amount = refl })
+  value_auto c f x t g a w = by_sort f x t an_auto (sort_is w (ap sort_coded c)) (record { sort = refl; negative = refl; amount = refl })
 
-  pub value-no-default : code ≡ 4 → ValueOf s d e o z j at len code (held 2 0 0)
+  pub value_no_default : code ≡ 4 → ValueOf s d e o z j at len code (held 2 0 0)
   unfolding sort_coded valued value_sort value_negative value_amount bit
-  value-no-default c f x t g a w = by_sort f x t a_no_default (sort_is w (ap sort_coded c)) (record { sort = refl; negative = refl; amount = refl })
+  value_no_default c f x t g a w = by_sort f x t a_no_default (sort_is w (ap sort_coded c)) (record { sort = refl; negative = refl; amount = refl })
 
-  pub value-name : {h : Held} → (code ≡ 43 → ⊥) → (code ≡ 44 → ⊥) → (code ≡ 1 → ⊥) → (code ≡ 2 → ⊥) → (code ≡ 3 → ⊥) → (code ≡ 4 → ⊥) → (code ≡ 54 → ⊥)
+  pub value_name : {h : Held} → (code ≡ 43 → ⊥) → (code ≡ 44 → ⊥) → (code ≡ 1 → ⊥) → (code ≡ 2 → ⊥) → (code ≡ 3 → ⊥) → (code ≡ 4 → ⊥) → (code ≡ 54 → ⊥)
       → NamedValue s d e o z j at len h → ValueOf s d e o z j at len code h
   unfolding valued
-  value-name h₁ h₂ h₃ h₄ h₅ h₆ h₇ k f x t g a w = by_sort f x t a_name (sort_is w (name_coded code h₁ h₂ h₃ h₄ h₅ h₆ h₇)) (k f x t g a w.read)
+  value_name h₁ h₂ h₃ h₄ h₅ h₆ h₇ k f x t g a w = by_sort f x t a_name (sort_is w (name_coded code h₁ h₂ h₃ h₄ h₅ h₆ h₇)) (k f x t g a w.read)
 
   -- The row of a value.
-  pub put-row : (v : List ℕ) (n : ℕ) (w : OwnerOf) (stated : ℕ) (h : Held) (v' : List ℕ) → ValueOf s d e o z j at len code h
+  pub put_row : (v : List ℕ) (n : ℕ) (w : OwnerOf) (stated : ℕ) (h : Held) (v' : List ℕ) → ValueOf s d e o z j at len code h
       → v' ≡ sets v (n * 9) (j ∷ w.sort ∷ w.row ∷ h.sort ∷ h.negative ∷ h.amount ∷ stated ∷ at ∷ len ∷ []) → PutValue s d e o v z n w j stated at len code v'
   unfolding value_cells value_row take_value span_of
-  put-row v n w stated h v' k p f x t b ow g a wa own fl =
+  put_row v n w stated h v' k p f x t b ow g a wa own fl =
       let q = k f x t g a wa in
       p ∙ ap (sets v (n * 9)) (nine (sym a.row) own.sort own.row q.sort q.negative q.amount fl (sym wa.place) (sym wa.length))

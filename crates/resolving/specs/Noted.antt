@@ -28,7 +28,7 @@ pub record Indexes (s d e o : List ℕ) (z : Sizes) (words xe xo : List ℕ) : T
   pub defaults : WordsNoted s d e z.enumerators words
   pub enumerators : Indexed s e 3 z.enumerators 0 1 xe
   pub objects : Indexed s o 10 z.objects 0 3 xo
-  pub enumerators-fit : z.enumerators ≤ 1024
+  pub enumerators_fit : z.enumerators ≤ 1024
   pub objects_fit : z.objects ≤ 256
 
 -- The names of statements and of definitions have their ranks; the table of definitions has 513 rows.

@@ -6,7 +6,7 @@ use Rattle.meaning.specs.Syntax.{Word, Definitions, Defined, Statement, Statemen
 use Rattle.meaning.specs.Words.{alike}
 use Rattle.meaning.specs.Scopes.{sort_of}
 use Rattle.meaning.specs.Judging.{taken}
-use Rattle.meaning.specs.Resolving.{Resolved, end, resolved, Owner, valued, named, take_value, entries, default_entry, resolve, resolve-under, value_row, all_values}
+use Rattle.meaning.specs.Resolving.{Resolved, end, resolved, Owner, valued, named, take_value, entries, default_entry, resolve, resolve_under, value_row, all_values}
 use Rattle.meaning.specs.Cells.{value_cells}
 use Rattle.meaning.specs.Joining.{joins}
 use Rattle.meaning.specs.Standing.{select, standing}
@@ -51,7 +51,7 @@ PutValue s d e o v z n w j stated at len code v' =
 
 -- What is under the value t of the attribute x, where the statements us are.
 unfoldable pub inner_of : File → Defined → Word → Statements → Resolved
-inner_of f x t us = resolve-under x.values f.objects t us
+inner_of f x t us = resolve_under x.values f.objects t us
 
 -- A value of the attribute x, stated or not, with what is under it.
 unfoldable pub one_entry : Bool → File → Defined → Word → Statements → Resolved

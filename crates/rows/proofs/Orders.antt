@@ -24,34 +24,34 @@ soonest a (f ∷ fs) = soonest (sooner a f) fs
 
 -- the cases of `before`
 module _ (a b : Fault) where
-  pub before-nones : a.number ≡ 0 → b.number ≡ 0 → before a b ≡ ltb b.place a.place
+  pub before_nones : a.number ≡ 0 → b.number ≡ 0 → before a b ≡ ltb b.place a.place
   unfolding before
-  before-nones x y = rw (eq-eqb a.number 0 x, eq-eqb b.number 0 y)
+  before_nones x y = rw (eq-eqb a.number 0 x, eq-eqb b.number 0 y)
 
-  pub before-none : a.number ≡ 0 → (b.number ≡ 0 → ⊥) → before a b ≡ false
+  pub before_none : a.number ≡ 0 → (b.number ≡ 0 → ⊥) → before a b ≡ false
   unfolding before
-  before-none x y = rw (eq-eqb a.number 0 x, ne_eqb b.number 0 y)
+  before_none x y = rw (eq-eqb a.number 0 x, ne_eqb b.number 0 y)
 
-  pub before-any : (a.number ≡ 0 → ⊥) → b.number ≡ 0 → before a b ≡ true
+  pub before_any : (a.number ≡ 0 → ⊥) → b.number ≡ 0 → before a b ≡ true
   unfolding before
-  before-any x y = rw (ne_eqb a.number 0 x, eq-eqb b.number 0 y)
+  before_any x y = rw (ne_eqb a.number 0 x, eq-eqb b.number 0 y)
 
   pub before_here : (a.number ≡ 0 → ⊥) → (b.number ≡ 0 → ⊥) → a.place ≡ b.place → before a b ≡ ltb a.number b.number
   unfolding before
   before_here x y e = rw (ne_eqb a.number 0 x, ne_eqb b.number 0 y, eq-eqb a.place b.place e)
 
-  pub before-apart : (a.number ≡ 0 → ⊥) → (b.number ≡ 0 → ⊥) → (a.place ≡ b.place → ⊥) → before a b ≡ ltb a.place b.place
+  pub before_apart : (a.number ≡ 0 → ⊥) → (b.number ≡ 0 → ⊥) → (a.place ≡ b.place → ⊥) → before a b ≡ ltb a.place b.place
   unfolding before
-  before-apart x y e = rw (ne_eqb a.number 0 x, ne_eqb b.number 0 y, ne_eqb a.place b.place e)
+  before_apart x y e = rw (ne_eqb a.number 0 x, ne_eqb b.number 0 y, ne_eqb a.place b.place e)
 
   -- the cases of `sooner`
-  pub sooner-second : before b a ≡ true → sooner a b ≡ b
+  pub sooner_second : before b a ≡ true → sooner a b ≡ b
   unfolding sooner
-  sooner-second e = rw e
+  sooner_second e = rw e
 
-  pub sooner-first : before b a ≡ false → sooner a b ≡ a
+  pub sooner_first : before b a ≡ false → sooner a b ≡ a
   unfolding sooner
-  sooner-first e = rw e
+  sooner_first e = rw e
 
 -- b does not answer rather than a
 data Keeps (a b : Fault) : Type 0 where
@@ -61,9 +61,9 @@ data Keeps (a b : Fault) : Type 0 where
   here : 0 < a.number → 0 < b.number → a.place ≡ b.place → a.number ≤ b.number → Keeps a b
 
 keeps_before : (a b : Fault) → Keeps a b → before b a ≡ false
-keeps_before a b (nones x y h) = before-nones b a y x ∙ le-ltb a.place b.place h
-keeps_before a b (any x y) = before-none b a y (λ e. absurd (omega arith))
-keeps_before a b (left x y h) = before-apart b a (λ e. omega arith) (λ e. omega arith) (λ e. omega arith) ∙ le-ltb b.place a.place (omega arith)
+keeps_before a b (nones x y h) = before_nones b a y x ∙ le-ltb a.place b.place h
+keeps_before a b (any x y) = before_none b a y (λ e. absurd (omega arith))
+keeps_before a b (left x y h) = before_apart b a (λ e. omega arith) (λ e. omega arith) (λ e. omega arith) ∙ le-ltb b.place a.place (omega arith)
 keeps_before a b (here x y e h) = before_here b a (λ e. omega arith) (λ e. omega arith) (sym e) ∙ le-ltb b.number a.number h
 
 equal : (a b : Fault) → a.number ≡ b.number → a.place ≡ b.place → a ≡ b
@@ -73,7 +73,7 @@ before_self : (a : Fault) → before a a ≡ false
 before_self a = by (ℕ_discrete a.number 0)
   where
     by : Dec (a.number ≡ 0) → before a a ≡ false
-    by (yes x) = before-nones a a x x ∙ le-ltb a.place a.place (omega arith)
+    by (yes x) = before_nones a a x x ∙ le-ltb a.place a.place (omega arith)
     by (no x) = before_here a a x x refl ∙ le-ltb a.number a.number (omega arith)
 
 is_fault_none : (a : Fault) → a.number ≡ 0 → is_fault a ≡ false
@@ -106,13 +106,13 @@ keeps_is a b (here x y e h) = rw (is_fault_any a x)
 
 -- a answers rather than b, or is b
 keeps_or : (a b : Fault) → Keeps a b → (before a b ≡ true) ⊎ (a ≡ b)
-keeps_or a b (any x y) = inl (before-any a b (λ e. omega arith) y)
-keeps_or a b (left x y h) = inl (before-apart a b (λ e. omega arith) (λ e. omega arith) (λ e. omega arith) ∙ lt-ltb a.place b.place h)
+keeps_or a b (any x y) = inl (before_any a b (λ e. omega arith) y)
+keeps_or a b (left x y h) = inl (before_apart a b (λ e. omega arith) (λ e. omega arith) (λ e. omega arith) ∙ lt-ltb a.place b.place h)
 keeps_or a b (nones x y h) = by (ℕ_discrete a.place b.place)
   where
     by : Dec (a.place ≡ b.place) → (before a b ≡ true) ⊎ (a ≡ b)
     by (yes e) = inr (equal a b (x ∙ sym y) e)
-    by (no d) = inl (before-nones a b x y ∙ lt-ltb b.place a.place (omega arith))
+    by (no d) = inl (before_nones a b x y ∙ lt-ltb b.place a.place (omega arith))
 keeps_or a b (here x y e h) = by (ℕ_discrete a.number b.number)
   where
     by : Dec (a.number ≡ b.number) → (before a b ≡ true) ⊎ (a ≡ b)
@@ -161,15 +161,15 @@ keeps_trans a b c (here x y d h) (left y' z k) = left x z (omega arith)
 keeps_trans a b c (here x y d h) (here y' z e k) = here x z (omega arith) (omega arith)
 
 keeps_first : (a b : Fault) → Keeps a b → sooner a b ≡ a
-keeps_first a b k = sooner-first a b (keeps_before a b k)
+keeps_first a b k = sooner_first a b (keeps_before a b k)
 
 keeps_second : (a b : Fault) → Keeps b a → sooner a b ≡ b
 unfolding sooner
-keeps_second a b k = ⊎_elim (λ e. rw e) (λ e. same-pick (before b a) e) (keeps_or b a k)
+keeps_second a b k = ⊎_elim (λ e. rw e) (λ e. same_pick (before b a) e) (keeps_or b a k)
   where
-    same-pick : (t : Bool) → b ≡ a → pick t b a ≡ b
-    same-pick true e = refl
-    same-pick false e = sym e
+    same_pick : (t : Bool) → b ≡ a → pick t b a ≡ b
+    same_pick true e = refl
+    same_pick false e = sym e
 
 module _ (a b : Fault) where
   pub sooner_comm : sooner a b ≡ sooner b a
@@ -204,8 +204,8 @@ module _ (a b : Fault) where
       (order a b)
 
   -- neither answers rather than it
-  pub sooner-before : before a (sooner a b) ≡ false
-  sooner-before =
+  pub sooner_before : before a (sooner a b) ≡ false
+  sooner_before =
       ⊎_elim
       (λ k. ap (before a) (keeps_first a b k) ∙ before_self a)
       (λ k. ap (before a) (keeps_second a b k) ∙ keeps_before b a k)
@@ -248,17 +248,17 @@ soonest_least a xs f ys =
     (soonest_append a xs (f ∷ ys)
     ∙ ap (λ (g : Fault). soonest g ys) (sooner_comm (soonest a xs) f)
     ∙ soonest_sooner f (soonest a xs) ys)
-    ∙ sooner-before f (soonest (soonest a xs) ys)
+    ∙ sooner_before f (soonest (soonest a xs) ys)
 
 -- a fault by a test
 module _ (t : Bool) (n p : ℕ) where
-  pub fault-if-true : t ≡ true → fault_if t n p ≡ record { number = n; place = p }
+  pub fault_if_true : t ≡ true → fault_if t n p ≡ record { number = n; place = p }
   unfolding fault_if
-  fault-if-true e = rw e
+  fault_if_true e = rw e
 
-  pub fault-if-false : t ≡ false → fault_if t n p ≡ none
+  pub fault_if_false : t ≡ false → fault_if t n p ≡ none
   unfolding fault_if
-  fault-if-false e = rw e
+  fault_if_false e = rw e
 
 -- the fault where something was found, and where nothing was
 pub found_some : (z : Found) (i n p : ℕ) → z ≡ At i → record { number = n; place = p } ≡ fault_if (is_found z) n p

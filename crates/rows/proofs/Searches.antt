@@ -11,7 +11,7 @@ use lib.ListN.{length, get_or}
 use lib.Dec.{eqb, ltb}
 use borrow.Author.Tests.{lt-ltb, le-ltb, ltb-true, ltb-false, eq-eqb, ne_eqb}
 use Rattle.token.specs.Find.{pick, either, find}
-use Rattle.token.proofs.Find.{find_past, find_here, find-next, find-low, find-holds, by_test, find-before}
+use Rattle.token.proofs.Find.{find_past, find_here, find_next, find_low, find_holds, by_test, find_before}
 use Rattle.rows.specs.declared.Found.{Found}
 use Rattle.rows.specs.declared.Found.TheVariants.{At, Nothing}
 use Rattle.rows.proofs.Walks.{first, any_of}
@@ -38,24 +38,24 @@ pub record FirstOf {R : Type 0} (p : R → Bool) (i : ℕ) (rs : List R) (j : �
 -- a loop at row i: what is left decides the whole
 
 module _ (t : ℕ → Bool) (n i : ℕ) where
-  pub find-stop : i < n → t i ≡ true → find_from t n i ≡ At i
+  pub find_stop : i < n → t i ≡ true → find_from t n i ≡ At i
   unfolding find_from found_below
-  find-stop h e = rw (find_here t n i h e, lt-ltb i n h)
+  find_stop h e = rw (find_here t n i h e, lt-ltb i n h)
 
   pub find_more : i < n → t i ≡ false → find_from t n i ≡ find_from t n (i + 1)
   unfolding find_from
-  find_more h e = ap (found_below n) (find-next t n i h e)
+  find_more h e = ap (found_below n) (find_next t n i h e)
 
-  pub find-end : n ≤ i → find_from t n i ≡ Nothing
+  pub find_end : n ≤ i → find_from t n i ≡ Nothing
   unfolding find_from found_below
-  find-end h = rw (find_past t n i h, le-ltb i n h)
+  find_end h = rw (find_past t n i h, le-ltb i n h)
 
 -- what is found is the first, and nothing means none
 
 module _ (t : ℕ → Bool) (n i : ℕ) where
   is_first : find t n i < n → IsFirst t n i (find t n i)
   is_first h =
-      record { low = find-low t n i; high = h; holds = find-holds t n i (omega (arith, find-low t n i)) h; fails = find-before t n i }
+      record { low = find_low t n i; high = h; holds = find_holds t n i (omega (arith, find_low t n i)) h; fails = find_before t n i }
 
   pub found_first : (j : ℕ) → find_from t n i ≡ At j → IsFirst t n i j
   unfolding find_from found_below row_of
@@ -64,12 +64,12 @@ module _ (t : ℕ → Bool) (n i : ℕ) where
       (λ h e. subst (IsFirst t n i) (ap row_of e) (is_first (ltb-true (find t n i) n h)))
       (λ h e. absurd (false≢true (ap is_found e)))
 
-  pub nothing-none : find_from t n i ≡ Nothing → (k : ℕ) → i ≤ k → k < n → t k ≡ false
+  pub nothing_none : find_from t n i ≡ Nothing → (k : ℕ) → i ≤ k → k < n → t k ≡ false
   unfolding find_from found_below
-  nothing-none =
+  nothing_none =
       by_test (λ (f : Found). f ≡ Nothing → (k : ℕ) → i ≤ k → k < n → t k ≡ false) (ltb (find t n i) n) (At (find t n i)) Nothing
       (λ h e. absurd (false≢true (sym (ap is_found e))))
-      (λ h e k a b. find-before t n i k a (omega (arith, ltb-false (find t n i) n h)))
+      (λ h e k a b. find_before t n i k a (omega (arith, ltb-false (find t n i) n h)))
 
   pub first_found : (j : ℕ) → IsFirst t n i j → find_from t n i ≡ At j
   unfolding find_from found_below
@@ -81,23 +81,23 @@ module _ (t : ℕ → Bool) (n i : ℕ) where
       by : Dec (find t n i < j) → Dec (j < find t n i) → find t n i ≡ j
       by (yes a) b =
           absurd
-          (clash (find t n i) (find-holds t n i (omega (arith, f.low, f.high)) (omega (arith, f.high))) (f.fails (find t n i) (find-low t n i) a))
-      by (no a) (yes b) = absurd (clash j f.holds (find-before t n i j f.low b))
+          (clash (find t n i) (find_holds t n i (omega (arith, f.low, f.high)) (omega (arith, f.high))) (f.fails (find t n i) (find_low t n i) a))
+      by (no a) (yes b) = absurd (clash j f.holds (find_before t n i j f.low b))
       by (no a) (no b) = omega arith
 
       same_place : find t n i ≡ j
       same_place = by (dec_lt (find t n i) j) (dec_lt j (find t n i))
 
-  pub none-nothing : ((k : ℕ) → i ≤ k → k < n → t k ≡ false) → find_from t n i ≡ Nothing
+  pub none_nothing : ((k : ℕ) → i ≤ k → k < n → t k ≡ false) → find_from t n i ≡ Nothing
   unfolding find_from found_below
-  none-nothing f =
+  none_nothing f =
       by_test (λ (g : Found). g ≡ Nothing) (ltb (find t n i) n) (At (find t n i)) Nothing
       (λ h. absurd (clash (ltb-true (find t n i) n h)))
       (λ h. refl)
     where
       clash : find t n i < n → ⊥
       clash h =
-          false≢true (sym (f (find t n i) (find-low t n i) h) ∙ find-holds t n i (omega (arith, find-low t n i)) h)
+          false≢true (sym (f (find t n i) (find_low t n i) h) ∙ find_holds t n i (omega (arith, find_low t n i)) h)
 
 -- a search over a list of rows: what is found is the first, and nothing means none
 
@@ -111,13 +111,13 @@ module _ {R : Type 0} (p : R → Bool) where
       by e true = refl
       by e false = e
 
-  pub first-nothing : (i : ℕ) (rs : List R) → first p At Nothing i rs ≡ Nothing → any_of p rs ≡ false
-  first-nothing i rs e = sym (first_any i rs) ∙ ap is_found e
+  pub first_nothing : (i : ℕ) (rs : List R) → first p At Nothing i rs ≡ Nothing → any_of p rs ≡ false
+  first_nothing i rs e = sym (first_any i rs) ∙ ap is_found e
 
   -- where the first row passes, and where the search goes on past it
-  here-first : (i : ℕ) (r : R) (rs : List R) (j : ℕ) → p r ≡ true → At i ≡ At j → FirstOf p i (r ∷ rs) j
+  here_first : (i : ℕ) (r : R) (rs : List R) (j : ℕ) → p r ≡ true → At i ≡ At j → FirstOf p i (r ∷ rs) j
   unfolding any_of row_of
-  here-first i r rs j h e = record { front = []; row = r; rest = rs; whole = refl; place = sym (ap row_of e) ∙ sym (add-zero i); holds = h; fails = refl }
+  here_first i r rs j h e = record { front = []; row = r; rest = rs; whole = refl; place = sym (ap row_of e) ∙ sym (add-zero i); holds = h; fails = refl }
 
   later_first : (i : ℕ) (r : R) (rs : List R) (j : ℕ) → p r ≡ false → FirstOf p (suc i) rs j → FirstOf p i (r ∷ rs) j
   unfolding any_of
@@ -137,7 +137,7 @@ module _ {R : Type 0} (p : R → Bool) where
   first_is i [] j = λ e. absurd (false≢true (ap is_found e))
   first_is i (r ∷ rs) j =
       by_test (λ (f : Found). f ≡ At j → FirstOf p i (r ∷ rs) j) (p r) (At i) (first p At Nothing (suc i) rs)
-      (λ h e. here-first i r rs j h e)
+      (λ h e. here_first i r rs j h e)
       (λ h e. later_first i r rs j h (first_is (suc i) rs j e))
 
 -- the lookup by key
@@ -147,20 +147,20 @@ module _ (l : List ℕ) (a b : ℕ) (e : a ≡ min (length l) b) where
   start_cell : (c : ℕ) → get_or l (a + c) 0 ≡ get_or l (b + c) 0
   start_cell c = ap (λ (k : ℕ). get_or l (k + c) 0) e ∙ cell_start l b c
 
-  pub key-start : (c k : ℕ) → has_key l a c k ≡ has_key l b c k
+  pub key_start : (c k : ℕ) → has_key l a c k ≡ has_key l b c k
   unfolding has_key
-  key-start c k = ap (λ (x : ℕ). eqb x k) (start_cell c)
+  key_start c k = ap (λ (x : ℕ). eqb x k) (start_cell c)
 
 -- the loop of `find_row` at row i, which begins at a
 module _ (l : List ℕ) (w n c k i : ℕ) where
-  pub row-stop : (a : ℕ) → i < n → a ≡ min (length l) (i * w) → get_or l (a + c) 0 ≡ k → find_row l w n c k i ≡ At i
+  pub row_stop : (a : ℕ) → i < n → a ≡ min (length l) (i * w) → get_or l (a + c) 0 ≡ k → find_row l w n c k i ≡ At i
   unfolding find_row has_key
-  row-stop a h e f = find-stop (λ j. has_key l (j * w) c k) n i h (sym (key-start l a (i * w) e c k) ∙ eq-eqb (get_or l (a + c) 0) k f)
+  row_stop a h e f = find_stop (λ j. has_key l (j * w) c k) n i h (sym (key_start l a (i * w) e c k) ∙ eq-eqb (get_or l (a + c) 0) k f)
 
   pub row_more : (a : ℕ) → i < n → a ≡ min (length l) (i * w) → (get_or l (a + c) 0 ≡ k → ⊥) → find_row l w n c k i ≡ find_row l w n c k (i + 1)
   unfolding find_row has_key
-  row_more a h e f = find_more (λ j. has_key l (j * w) c k) n i h (sym (key-start l a (i * w) e c k) ∙ ne_eqb (get_or l (a + c) 0) k f)
+  row_more a h e f = find_more (λ j. has_key l (j * w) c k) n i h (sym (key_start l a (i * w) e c k) ∙ ne_eqb (get_or l (a + c) 0) k f)
 
-  pub row-end : n ≤ i → find_row l w n c k i ≡ Nothing
+  pub row_end : n ≤ i → find_row l w n c k i ≡ Nothing
   unfolding find_row
-  row-end h = find-end (λ j. has_key l (j * w) c k) n i h
+  row_end h = find_end (λ j. has_key l (j * w) c k) n i h

@@ -19,13 +19,13 @@ module _ (e w r : ℕ) where
       let m : r * w ≡ r * 0 = ap (λ (k : ℕ). r * k) z in
       omega arith
 
-  pub start-past : 0 < w → e / w < r → e ≡ min e (r * w)
-  start-past h p =
+  pub start_past : 0 < w → e / w < r → e ≡ min e (r * w)
+  start_past h p =
       let m : e < r * w = (div-lt_iff_lt-mul h).0 p in
       omega arith
 
-  pub start-inside : 0 < w → r ≤ e / w → r * w ≤ e
-  start-inside h p = (le-div_iff_mul-le h).0 p
+  pub start_inside : 0 < w → r ≤ e / w → r * w ≤ e
+  start_inside h p = (le-div_iff_mul-le h).0 p
 
 -- a cell by a place that is no larger than the end
 at_most_lem : (l : List ℕ) (a c : ℕ) → Dec (length l ≤ a) → get_or l (min (length l) a + c) 0 ≡ get_or l (a + c) 0

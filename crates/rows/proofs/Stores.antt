@@ -45,14 +45,14 @@ part_sets_before l i (v ∷ vs) a n h = part_sets_before (set l i v) (suc i) vs 
 
 -- a loop that stores one cell a turn: what is left to store decides the whole
 module _ (l : List ℕ) (j : ℕ) (vs : List ℕ) (i : ℕ) where
-  pub stores-more : i < length vs → sets l j (drop i vs) ≡ sets (set l j (get_or vs i 0)) (j + 1) (drop (i + 1) vs)
-  stores-more h = rw (drop-cons vs i 0 h, add-one i, add-one j)
+  pub stores_more : i < length vs → sets l j (drop i vs) ≡ sets (set l j (get_or vs i 0)) (j + 1) (drop (i + 1) vs)
+  stores_more h = rw (drop-cons vs i 0 h, add-one i, add-one j)
 
-  pub stores-past : length l ≤ j → l ≡ sets l j (drop i vs)
-  stores-past h = sym (sets_out l j (drop i vs) h)
+  pub stores_past : length l ≤ j → l ≡ sets l j (drop i vs)
+  stores_past h = sym (sets_out l j (drop i vs) h)
 
-  pub stores-end : length vs ≤ i → l ≡ sets l j (drop i vs)
-  stores-end h = rw (drop_of_length-le vs h)
+  pub stores_end : length vs ≤ i → l ≡ sets l j (drop i vs)
+  stores_end h = rw (drop_of_length-le vs h)
 
 -- a loop that clears one cell a turn
 pub cleared : (l : List ℕ) (i : ℕ) → i ≡ length l → replicate i 0 ++ drop i l ≡ replicate (length l) 0

@@ -24,42 +24,42 @@ how_many_lem k (x ∷ xs) = pick (eqb x k) (how_many_lem k xs + 1) (how_many_lem
 
 -- the cases of `one_more`
 module _ (cs : List ℕ) (k : ℕ) where
-  pub one-more-past : length cs ≤ k → one_more cs k ≡ cs
+  pub one_more_past : length cs ≤ k → one_more cs k ≡ cs
   unfolding one_more
-  one-more-past h = rw (set_out cs k (get_or cs k 0 + 1) h) (by (ltb (get_or cs k 0) full))
+  one_more_past h = rw (set_out cs k (get_or cs k 0 + 1) h) (by (ltb (get_or cs k 0) full))
     where
       by : (t : Bool) → pick t cs cs ≡ cs
       by true = refl
       by false = refl
 
-  pub one-more-full : full ≤ get_or cs k 0 → one_more cs k ≡ cs
+  pub one_more_full : full ≤ get_or cs k 0 → one_more cs k ≡ cs
   unfolding one_more
-  one-more-full h = rw (le-ltb (get_or cs k 0) full h)
+  one_more_full h = rw (le-ltb (get_or cs k 0) full h)
 
-  pub one-more-next : get_or cs k 0 < full → one_more cs k ≡ set cs k (get_or cs k 0 + 1)
+  pub one_more_next : get_or cs k 0 < full → one_more cs k ≡ set cs k (get_or cs k 0 + 1)
   unfolding one_more
-  one-more-next h = rw (lt-ltb (get_or cs k 0) full h)
+  one_more_next h = rw (lt-ltb (get_or cs k 0) full h)
 
   -- one cell changes
-  by-full : (P : List ℕ → Type 0) → (get_or cs k 0 < full → P (set cs k (get_or cs k 0 + 1))) → (full ≤ get_or cs k 0 → P cs) → P (one_more cs k)
-  by-full P f g = by (dec_lt (get_or cs k 0) full)
+  by_full : (P : List ℕ → Type 0) → (get_or cs k 0 < full → P (set cs k (get_or cs k 0 + 1))) → (full ≤ get_or cs k 0 → P cs) → P (one_more cs k)
+  by_full P f g = by (dec_lt (get_or cs k 0) full)
     where
       by : Dec (get_or cs k 0 < full) → P (one_more cs k)
-      by (yes h) = rw (one-more-next h) (f h)
-      by (no h) = let h' : full ≤ get_or cs k 0 = omega arith in rw (one-more-full h') (g h')
+      by (yes h) = rw (one_more_next h) (f h)
+      by (no h) = let h' : full ≤ get_or cs k 0 = omega arith in rw (one_more_full h') (g h')
 
-  pub length-one-more : length (one_more cs k) ≡ length cs
-  length-one-more = by-full (λ (l : List ℕ). length l ≡ length cs) (λ h. length-set cs k (get_or cs k 0 + 1)) (λ h. refl)
+  pub length_one_more : length (one_more cs k) ≡ length cs
+  length_one_more = by_full (λ (l : List ℕ). length l ≡ length cs) (λ h. length-set cs k (get_or cs k 0 + 1)) (λ h. refl)
 
-  pub one-more-same : k < length cs → get_or cs k 0 ≤ full → get_or (one_more cs k) k 0 ≡ min full (get_or cs k 0 + 1)
-  one-more-same h b =
-      by-full (λ (l : List ℕ). get_or l k 0 ≡ min full (get_or cs k 0 + 1))
+  pub one_more_same : k < length cs → get_or cs k 0 ≤ full → get_or (one_more cs k) k 0 ≡ min full (get_or cs k 0 + 1)
+  one_more_same h b =
+      by_full (λ (l : List ℕ). get_or l k 0 ≡ min full (get_or cs k 0 + 1))
       (λ m. get_or-set_same cs k (get_or cs k 0 + 1) 0 h ∙ omega arith)
       (λ m. omega arith)
 
-  pub one-more-other : (j : ℕ) → (j ≡ k → ⊥) → get_or (one_more cs k) j 0 ≡ get_or cs j 0
-  one-more-other j d =
-      by-full (λ (l : List ℕ). get_or l j 0 ≡ get_or cs j 0) (λ h. get_or-set_other cs k j (get_or cs k 0 + 1) 0 d) (λ h. refl)
+  pub one_more_other : (j : ℕ) → (j ≡ k → ⊥) → get_or (one_more cs k) j 0 ≡ get_or cs j 0
+  one_more_other j d =
+      by_full (λ (l : List ℕ). get_or l j 0 ≡ get_or cs j 0) (λ h. get_or-set_other cs k j (get_or cs k 0 + 1) 0 d) (λ h. refl)
 
 how_many_none : (j : ℕ) → how_many_lem j [] ≡ 0
 unfolding how_many_lem
@@ -86,15 +86,15 @@ how_many_le j (k ∷ ks) = by (how_many_le j ks) (eqb k j)
 pub count_on_lem : (cs ks : List ℕ) (j : ℕ) → j < length cs → get_or cs j 0 ≤ full → get_or (count_on cs ks) j 0 ≡ min full (get_or cs j 0 + how_many_lem j ks)
 unfolding count_on
 count_on_lem cs [] j h b = omega (arith, how_many_none j)
-count_on_lem cs (k ∷ ks) j h b = by (count_on_lem (one_more cs k) ks j (omega (arith, length-one-more cs k))) (ℕ_discrete j k)
+count_on_lem cs (k ∷ ks) j h b = by (count_on_lem (one_more cs k) ks j (omega (arith, length_one_more cs k))) (ℕ_discrete j k)
   where
     by : (get_or (one_more cs k) j 0 ≤ full → get_or (count_on (one_more cs k) ks) j 0 ≡ min full (get_or (one_more cs k) j 0 + how_many_lem j ks))
         → Dec (j ≡ k) → get_or (count_on (one_more cs k) ks) j 0 ≡ min full (get_or cs j 0 + how_many_lem j (k ∷ ks))
     by rest (yes e) =
-        let o : get_or (one_more cs k) j 0 ≡ min full (get_or cs j 0 + 1) = rw e (one-more-same cs k (omega arith) (rw e at b)) in
+        let o : get_or (one_more cs k) j 0 ≡ min full (get_or cs j 0 + 1) = rw e (one_more_same cs k (omega arith) (rw e at b)) in
         omega (arith, rest (omega arith), how_many_here j k ks e)
     by rest (no d) =
-        let o : get_or (one_more cs k) j 0 ≡ get_or cs j 0 = one-more-other cs k j d in
+        let o : get_or (one_more cs k) j 0 ≡ get_or cs j 0 = one_more_other cs k j d in
         omega (arith, rest (omega arith), how_many_other j k ks d)
 
 pub blank : (n i : ℕ) → get_or {A = ℕ} (replicate n 0) i 0 ≡ 0

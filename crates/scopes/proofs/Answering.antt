@@ -23,8 +23,8 @@ use Rattle.meaning.specs.Syntax.{Word, span_of, Definition, Definitions, no_more
 use Rattle.meaning.specs.Words.{alike}
 use Rattle.meaning.specs.Normal.{part}
 use Rattle.meaning.specs.Scopes.{Under, find_definition, find_value, find_object}
-use Rattle.meaning.specs.Defining.{DefinitionRow, definition_row, definition-rows, definition-rows-under, all_definition_rows}
-use Rattle.meaning.proofs.Sites.{definition-words, statement_words, object_words}
+use Rattle.meaning.specs.Defining.{DefinitionRow, definition_row, definition_rows, definition_rows_under, all_definition_rows}
+use Rattle.meaning.proofs.Sites.{definition_words, statement_words, object_words}
 use Rattle.meaning.proofs.Numbering.{Counts, object_numbers}
 use Rattle.meaning.proofs.Standing.{Standing, standing_if, select, counts_head, counts_tail}
 use Rattle.meaning.proofs.Lookups.{InText, first_standing, row_under, finds_definition}
@@ -34,7 +34,7 @@ use Rattle.scopes.specs.Given.{entry_rows}
 use Rattle.scopes.proofs.Forms.{Some, Formed, an_integer, a_string, a_boolean, an_enum, a_float, a_reference}
 use Rattle.scopes.specs.Promises.{row_found, number_found, object_found, FindsDefinition, FindsObject}
 use Rattle.scopes.proofs.Goodness.{Good, Goods, good_back, object_good}
-use Rattle.scopes.proofs.Finding.{is_row, is_choice, is_object, first-front, none_first, none_chosen, first_one, found_one, found_below, find_in_definitions, find_in_enumerators, find_in_objects}
+use Rattle.scopes.proofs.Finding.{is_row, is_choice, is_object, first_front, none_first, none_chosen, first_one, found_one, found_below, find_in_definitions, find_in_enumerators, find_in_objects}
 use Rattle.scopes.proofs.Rooms.{choice_cell}
 use Rattle.scopes.proofs.Lists.{chosen}
 use Rattle.scopes.proofs.Descents.{In, here, there, whole, entry_facts, scope_facts}
@@ -47,15 +47,15 @@ rows_append [] b = refl
 rows_append (x ∷ a) b = ap (λ (l : List DefinitionRow). definition_row x.under x.definition ∷ l) (rows_append a b)
 
 mutual
-  unfolding entries definition-rows entry_rows
+  unfolding entries definition_rows entry_rows
 
-  rows_of : (ds : Definitions) (u : Word) (o : ℕ) → entry_rows (entries ds u o) ≡ definition-rows ds u
+  rows_of : (ds : Definitions) (u : Word) (o : ℕ) → entry_rows (entries ds u o) ≡ definition_rows ds u
   rows_of no_more u o = refl
   rows_of (define d vs ds) u o =
       rows_append (entries_under vs (list_key vs)) (record { under = u; outer = o; definition = d; values = vs } ∷ entries ds u o)
       ∙ ap₂ (λ (a b : List DefinitionRow). a ++ (definition_row u d ∷ b)) (rows_under vs (list_key vs)) (rows_of ds u o)
 
-  rows_under : (vs : Values) (o : ℕ) → entry_rows (entries_under vs o) ≡ definition-rows-under vs
+  rows_under : (vs : Values) (o : ℕ) → entry_rows (entries_under vs o) ≡ definition_rows_under vs
   rows_under no_value o = refl
   rows_under (value w e us vs) o = rows_append (entries us w o) (entries_under vs o) ∙ ap₂ ◌++◌ (rows_of us w o) (rows_under vs o)
 
@@ -119,7 +119,7 @@ in_scope {s} {f} key at len ds t k (scope {u} e p) q =
     search_rows s key at len t q 0 (spec_entries f.specs) (λ x m. (entry_facts k m).facts.name)
     ∙ ap (λ r. standing_found (first_standing s t (select key 0 r))) (spec_rows f.specs)
     ∙ ap (λ n. standing_found (first_standing s t (select n 0 R))) (sym e)
-    ∙ ap standing_found (finds_definition R u ds s t (texts s (definition-words ds) c.facts.good) c.scope)
+    ∙ ap standing_found (finds_definition R u ds s t (texts s (definition_words ds) c.facts.good) c.scope)
     ∙ found_standing u (find_definition ds t)
 
 pub finds_in_scope : (s d : List ℕ) (n key at len : ℕ) (r : Found) → r ≡ find_named s d 19 n 0 key 2 at len 0 → FindsDefinition s d n key at len r
@@ -145,7 +145,7 @@ in_list {s} {f} e x m at len t k i h b r q =
     let key = list_key x.values in
     let p = is_choice s key at len in
     find_in_enumerators f s e r.front r.rest m key at len h r.whole (sym r.many) r.room
-    ∙ sym (first-front p (λ j. true) 0 r.front r.rest (none_chosen s key at len r.rest r.free))
+    ∙ sym (first_front p (λ j. true) 0 r.front r.rest (none_chosen s key at len r.rest r.free))
     ∙ ap (first p At Nothing 0) (sym r.whole)
     ∙ (g.own b (some_values b g.formed)).number at len t q
 
@@ -160,7 +160,7 @@ word_in_list {s} {f} e x m at len j t v k i h b r q z y =
     let key = list_key x.values in
     let p = is_choice s key at len in
     let n : first p At Nothing 0 r.front ≡ At j =
-    sym (first-front p (λ j. true) 0 r.front r.rest (none_chosen s key at len r.rest r.free))
+    sym (first_front p (λ j. true) 0 r.front r.rest (none_chosen s key at len r.rest r.free))
     ∙ ap (first p At Nothing 0) (sym r.whole) ∙ o.number at len t q ∙ ap number_found z ∙ ap At (sym y) in
     let n₀ : first p At Nothing 0 (spec_choices f.specs) ≡ At j = o.number at len t q ∙ ap number_found z ∙ ap At (sym y) in
     let w : first_one p (spec_choices f.specs) ≡ some (record { list = key; word = v.word }) = o.word at len t q ∙ ap (chosen key) z in

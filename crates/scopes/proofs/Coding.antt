@@ -165,15 +165,15 @@ module _ (x : Sign) (b : ℕ) where
   unfoldable is_byte : Class → Type 0
   is_byte c = matches (sg x) c ≡ true → b ≡ byte x
 
-  step-byte : (n : ℕ) (y : Sign) (c : Class) → n ≡ byte y → is_byte c → is_byte (pick (eqb b n) (sign y) c)
+  step_byte : (n : ℕ) (y : Sign) (c : Class) → n ≡ byte y → is_byte c → is_byte (pick (eqb b n) (sign y) c)
   unfolding is_byte
-  step-byte n y c e h = by_test (λ (k : Class). matches (sg x) k ≡ true → b ≡ byte x) (eqb b n) (sign y) c (λ t m. eqb-true b n t ∙ e ∙ same_sign x y m) (λ t. h)
+  step_byte n y c e h = by_test (λ (k : Class). matches (sg x) k ≡ true → b ≡ byte x) (eqb b n) (sign y) c (λ t m. eqb-true b n t ∙ e ∙ same_sign x y m) (λ t. h)
 
-  sign-byte : is_byte (sign_of b)
+  sign_byte : is_byte (sign_of b)
   unfolding sign_of byte is_byte code
-  sign-byte =
-      step-byte 123 lbrace _ refl (step-byte 125 rbrace _ refl (step-byte 91 lsquare _ refl (step-byte 93 rsquare _ refl (step-byte 61 equals _ refl
-      (step-byte 59 semicolon _ refl (step-byte 58 colon _ refl (step-byte 44 comma _ refl (step-byte 46 dots other refl (λ m. absurd (no_sign x other (omega arith) m))))))))))
+  sign_byte =
+      step_byte 123 lbrace _ refl (step_byte 125 rbrace _ refl (step_byte 91 lsquare _ refl (step_byte 93 rsquare _ refl (step_byte 61 equals _ refl
+      (step_byte 59 semicolon _ refl (step_byte 58 colon _ refl (step_byte 44 comma _ refl (step_byte 46 dots other refl (λ m. absurd (no_sign x other (omega arith) m))))))))))
 
 -- No word is a sign.
 unfoldable low : Class → Bool
@@ -203,7 +203,7 @@ sort_sign x (WordToken c) a n m = absurd (no_sign x (get_or words c other) (word
 sort_sign x (Number b p) a n m = absurd (no_sign x numeral (omega arith) m)
 sort_sign x String a n m = absurd (no_sign x quoted (omega arith) m)
 sort_sign x (Float b p e) a n m = absurd (no_sign x floating (omega arith) m)
-sort_sign x (Punctuator b) a n m = sign-byte x b m
+sort_sign x (Punctuator b) a n m = sign_byte x b m
 
 sign_found : (x : Sign) (s : List ℕ) (p : ℕ) (t : Token) → StepTo s p t → matches (sg x) t.class ≡ true → SignAt s p (byte x) (t.place + t.length)
 unfolding token_of
@@ -222,13 +222,13 @@ module _ (s : List ℕ) (p : ℕ) (t : Token) (h : StepTo s p t) where
   unfolding byte
   lsquare_at m = sign_found lsquare s p t h m
 
-  pub rsquare-at : matches (sg rsquare) t.class ≡ true → SignAt s p 93 (t.place + t.length)
+  pub rsquare_at : matches (sg rsquare) t.class ≡ true → SignAt s p 93 (t.place + t.length)
   unfolding byte
-  rsquare-at m = sign_found rsquare s p t h m
+  rsquare_at m = sign_found rsquare s p t h m
 
-  pub dots-at : matches (sg dots) t.class ≡ true → SignAt s p 46 (t.place + t.length)
+  pub dots_at : matches (sg dots) t.class ≡ true → SignAt s p 46 (t.place + t.length)
   unfolding byte
-  dots-at m = sign_found dots s p t h m
+  dots_at m = sign_found dots s p t h m
 
   pub comma_at : matches (sg comma) t.class ≡ true → SignAt s p 44 (t.place + t.length)
   unfolding byte

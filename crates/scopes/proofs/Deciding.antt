@@ -25,42 +25,42 @@ use Rattle.scopes.proofs.Chains.{number_of_step}
 -- Items -------------------------------------------------------------------------------------------------------------------------------------
 
 module _ (k : Sort) (a n : ℕ) where
-  pub item-word : (c : ℕ) → k ≡ WordToken c → record { number = record { negative = false; amount = 0 }; sign = 0; at = a; next = n } ≡ item_of k a n
+  pub item_word : (c : ℕ) → k ≡ WordToken c → record { number = record { negative = false; amount = 0 }; sign = 0; at = a; next = n } ≡ item_of k a n
   unfolding item_of
-  item-word c e = sym (ap (λ (j : Sort). item_of j a n) e)
+  item_word c e = sym (ap (λ (j : Sort). item_of j a n) e)
 
-  pub item-numeral : (b : Bool) (m : ℕ) → k ≡ Number b m → record { number = record { negative = b; amount = m }; sign = 0; at = a; next = n } ≡ item_of k a n
+  pub item_numeral : (b : Bool) (m : ℕ) → k ≡ Number b m → record { number = record { negative = b; amount = m }; sign = 0; at = a; next = n } ≡ item_of k a n
   unfolding item_of
-  item-numeral b m e = sym (ap (λ (j : Sort). item_of j a n) e)
+  item_numeral b m e = sym (ap (λ (j : Sort). item_of j a n) e)
 
-  pub item-string : k ≡ String → record { number = record { negative = false; amount = 0 }; sign = 0; at = a; next = n } ≡ item_of k a n
+  pub item_string : k ≡ String → record { number = record { negative = false; amount = 0 }; sign = 0; at = a; next = n } ≡ item_of k a n
   unfolding item_of
-  item-string e = sym (ap (λ (j : Sort). item_of j a n) e)
+  item_string e = sym (ap (λ (j : Sort). item_of j a n) e)
 
-  pub item-sign : (b : ℕ) → k ≡ Punctuator b → record { number = record { negative = false; amount = 0 }; sign = b; at = a; next = n } ≡ item_of k a n
+  pub item_sign : (b : ℕ) → k ≡ Punctuator b → record { number = record { negative = false; amount = 0 }; sign = b; at = a; next = n } ≡ item_of k a n
   unfolding item_of
-  item-sign b e = sym (ap (λ (j : Sort). item_of j a n) e)
+  item_sign b e = sym (ap (λ (j : Sort). item_of j a n) e)
 
-  pub item-float : (b : Bool) (m e : ℕ) → k ≡ Float b m e → record { number = record { negative = false; amount = 0 }; sign = 0; at = a; next = n } ≡ item_of k a n
+  pub item_float : (b : Bool) (m e : ℕ) → k ≡ Float b m e → record { number = record { negative = false; amount = 0 }; sign = 0; at = a; next = n } ≡ item_of k a n
   unfolding item_of
-  item-float b m e q = sym (ap (λ (j : Sort). item_of j a n) q)
+  item_float b m e q = sym (ap (λ (j : Sort). item_of j a n) q)
 
 module _ (s : List ℕ) (p : ℕ) where
-  pub at-found : (t : Lexeme) (c : Cursor) (r : Item) → step_at s p ≡ Found t c → r ≡ item_of t.sort t.at c.at → r ≡ item_at s p
+  pub at_found : (t : Lexeme) (c : Cursor) (r : Item) → step_at s p ≡ Found t c → r ≡ item_of t.sort t.at c.at → r ≡ item_at s p
   unfolding item_at item_of_step
-  at-found t c r e h = h ∙ sym (ap item_of_step e)
+  at_found t c r e h = h ∙ sym (ap item_of_step e)
 
-  pub at-refused : (q : ℕ) → step_at s p ≡ Refused q → record { number = record { negative = false; amount = 0 }; sign = 0; at = q; next = q } ≡ item_at s p
+  pub at_refused : (q : ℕ) → step_at s p ≡ Refused q → record { number = record { negative = false; amount = 0 }; sign = 0; at = q; next = q } ≡ item_at s p
   unfolding item_at item_of_step
-  at-refused q e = sym (ap item_of_step e)
+  at_refused q e = sym (ap item_of_step e)
 
   pub at_end : (q : ℕ) → step_at s p ≡ End q → record { number = record { negative = false; amount = 0 }; sign = 0; at = q; next = q } ≡ item_at s p
   unfolding item_at item_of_step
   at_end q e = sym (ap item_of_step e)
 
-  pub at-number : (r : Item) → r ≡ item_at s p → num r.number ≡ num_of_step (step_at s p)
+  pub at_number : (r : Item) → r ≡ item_at s p → num r.number ≡ num_of_step (step_at s p)
   unfolding item_at
-  at-number r e = ap (λ (i : Item). num i.number) e ∙ number_of_step (step_at s p)
+  at_number r e = ap (λ (i : Item). num i.number) e ∙ number_of_step (step_at s p)
 
 -- Numbers -----------------------------------------------------------------------------------------------------------------------------------
 
@@ -187,17 +187,17 @@ width_fits w UINT64 e = (omega arith, omega arith)
 width_fits w INT64 e = (omega arith, omega arith)
 
 module _ (i : Integer) (n l : Num) (b : Bool) (w : ℕ) (e : b ≡ signed i) (h : w ≡ width i) (k : l ≡ least_of b w) where
-  least-is : l ≡ least_of (signed i) (width i)
-  least-is = k ∙ ap₂ least_of e h
+  least_is : l ≡ least_of (signed i) (width i)
+  least_is = k ∙ ap₂ least_of e h
 
-  pub type-both : (g : Num) (r : Bool) → num_at_most l n ≡ true → g ≡ greatest_of b w → r ≡ num_at_most n g → r ≡ in_type i n
+  pub type_both : (g : Num) (r : Bool) → num_at_most l n ≡ true → g ≡ greatest_of b w → r ≡ num_at_most n g → r ≡ in_type i n
   unfolding in_type
-  type-both g r t z q =
-      q ∙ ap (num_at_most n) (z ∙ ap₂ greatest_of e h) ∙ sym (ap (λ c. both c (num_at_most n (greatest_of (signed i) (width i)))) (ap (λ m. num_at_most m n) (sym least-is) ∙ t))
+  type_both g r t z q =
+      q ∙ ap (num_at_most n) (z ∙ ap₂ greatest_of e h) ∙ sym (ap (λ c. both c (num_at_most n (greatest_of (signed i) (width i)))) (ap (λ m. num_at_most m n) (sym least_is) ∙ t))
 
-  pub type-none : num_at_most l n ≡ false → false ≡ in_type i n
+  pub type_none : num_at_most l n ≡ false → false ≡ in_type i n
   unfolding in_type
-  type-none t = sym (ap (λ c. both c (num_at_most n (greatest_of (signed i) (width i)))) (ap (λ m. num_at_most m n) (sym least-is) ∙ t))
+  type_none t = sym (ap (λ c. both c (num_at_most n (greatest_of (signed i) (width i)))) (ap (λ m. num_at_most m n) (sym least_is) ∙ t))
 
 -- Each type has the numbers from 0 up to the greatest of INT32.
 pub small_in_type : (i : Integer) (n : Num) → n.amount ≤ 2147483647 → n.negative ≡ false → true ≡ in_type i n

@@ -21,9 +21,9 @@ use Rattle.meaning.proofs.Order.{Ordered, InOrder, sub_front, sub_all, ordered_s
 use Rattle.meaning.proofs.Settled.{text_ordered}
 use Rattle.meaning.specs.Merging.{merge}
 use Rattle.meaning.proofs.Merges.{syntax_merged}
-use Rattle.meaning.proofs.Sites.{bound_words, option_words, definition-words, value-words, spec_words, object_words}
-use Rattle.meaning.proofs.Numbering.{numbered, Counts, N, definition-numbers, numbers-under, spec_numbers}
-use Rattle.meaning.proofs.Standing.{Scope, Deep, deep_more, DeepValues, more-values, DeepSpecs, more_specs, scopes, counts_back, counts_head}
+use Rattle.meaning.proofs.Sites.{bound_words, option_words, definition_words, value_words, spec_words, object_words}
+use Rattle.meaning.proofs.Numbering.{numbered, Counts, N, definition_numbers, numbers_under, spec_numbers}
+use Rattle.meaning.proofs.Standing.{Scope, Deep, deep_more, DeepValues, more_values, DeepSpecs, more_specs, scopes, counts_back, counts_head}
 use Rattle.layout.specs.Kept.{Entry, list_key, entries, entries_under, spec_entries, spec_choices, kind_place}
 use Rattle.scopes.specs.Situations.{Situation, HasDefinition, this_definition, later_definition, HasValue, this_value, later_value, HasSpec, this_spec, later_spec, Stands, under_kind, under_value, ScopeAt, no_scope, scope, Nth, RowOf, ReadAt}
 use Rattle.scopes.proofs.Forms.{Some, Formed, AllFormed, more_formed, AllFormedUnder, more_under}
@@ -48,23 +48,23 @@ rows_append [] b = refl
 rows_append (x ∷ a) b = ap (λ (l : List ℕ). x.definition.row ∷ l) (rows_append a b)
 
 mutual
-  unfolding entries definition-numbers rows_of
+  unfolding entries definition_numbers rows_of
 
-  entry-numbers : (ds : Definitions) (u : Word) (o : ℕ) → rows_of (entries ds u o) ≡ definition-numbers ds
-  entry-numbers no_more u o = refl
-  entry-numbers (define d vs ds) u o =
+  entry_numbers : (ds : Definitions) (u : Word) (o : ℕ) → rows_of (entries ds u o) ≡ definition_numbers ds
+  entry_numbers no_more u o = refl
+  entry_numbers (define d vs ds) u o =
       rows_append (entries_under vs (list_key vs)) (record { under = u; outer = o; definition = d; values = vs } ∷ entries ds u o)
-      ∙ ap₂ (λ (a b : List ℕ). a ++ (d.row ∷ b)) (numbers-of-under vs (list_key vs)) (entry-numbers ds u o)
+      ∙ ap₂ (λ (a b : List ℕ). a ++ (d.row ∷ b)) (numbers_of_under vs (list_key vs)) (entry_numbers ds u o)
 
-  numbers-of-under : (vs : Values) (o : ℕ) → rows_of (entries_under vs o) ≡ numbers-under vs
-  numbers-of-under no_value o = refl
-  numbers-of-under (value w e us vs) o =
-      rows_append (entries us w o) (entries_under vs o) ∙ ap₂ ◌++◌ (entry-numbers us w o) (numbers-of-under vs o)
+  numbers_of_under : (vs : Values) (o : ℕ) → rows_of (entries_under vs o) ≡ numbers_under vs
+  numbers_of_under no_value o = refl
+  numbers_of_under (value w e us vs) o =
+      rows_append (entries us w o) (entries_under vs o) ∙ ap₂ ◌++◌ (entry_numbers us w o) (numbers_of_under vs o)
 
 spec_entry_numbers : (xs : List Spec) → rows_of (spec_entries xs) ≡ spec_numbers xs
 unfolding spec_entries spec_numbers rows_of
 spec_entry_numbers [] = refl
-spec_entry_numbers (x ∷ xs) = rows_append (entries x.definitions x.word 0) (spec_entries xs) ∙ ap₂ ◌++◌ (entry-numbers x.definitions x.word 0) (spec_entry_numbers xs)
+spec_entry_numbers (x ∷ xs) = rows_append (entries x.definitions x.word 0) (spec_entries xs) ∙ ap₂ ◌++◌ (entry_numbers x.definitions x.word 0) (spec_entry_numbers xs)
 
 -- An entry's number is its place.
 pub rows_length : (a : List Entry) → length (rows_of a) ≡ length a
@@ -101,14 +101,14 @@ pub record Facts (s : List ℕ) (f : File) (u : Word) (o : ℕ) (ds : Definition
   pub deep : Deep (all_definition_rows f.specs) ds
   pub lists : lists.Deep s (spec_choices f.specs) ds
   pub formed : AllFormed s ds
-  pub good : Goods s (definition-words ds)
+  pub good : Goods s (definition_words ds)
   pub within : Within (spec_entries f.specs) (entries ds u o)
 
 pub record ValueFacts (s : List ℕ) (f : File) (o : ℕ) (vs : Values) : Type 0 where
   pub deep : DeepValues (all_definition_rows f.specs) vs
   pub lists : lists.DeepValues s (spec_choices f.specs) vs
   pub formed : AllFormedUnder s vs
-  pub good : Goods s (value-words vs)
+  pub good : Goods s (value_words vs)
   pub within : Within (spec_entries f.specs) (entries_under vs o)
 
 -- What is known of a definition that stands under a word.
@@ -124,18 +124,18 @@ pub record DefinitionFacts (s : List ℕ) (f : File) (u : Word) (o : ℕ) (x : D
 
 this_facts : (s : List ℕ) (f : File) (u : Word) (o : ℕ) (d : Definition) (vs : Values) (ds : Definitions) → Facts s f u o (define d vs ds)
     → DefinitionFacts s f u o (record { definition = d; values = vs })
-unfolding entries definition-words
+unfolding entries definition_words
 this_facts s f u o d vs ds k = by k.deep k.lists k.formed
   where
     w : List Word
     w = d.name ∷ option_words d.default
 
-    g : Goods s (value-words vs ++ (d.name ∷ option_words d.default))
-    g = good_back s (bound_words d.bounds) (value-words vs ++ (d.name ∷ option_words d.default))
-        (good_front s (bound_words d.bounds ++ (value-words vs ++ (d.name ∷ option_words d.default))) (definition-words ds) k.good.1)
+    g : Goods s (value_words vs ++ (d.name ∷ option_words d.default))
+    g = good_back s (bound_words d.bounds) (value_words vs ++ (d.name ∷ option_words d.default))
+        (good_front s (bound_words d.bounds ++ (value_words vs ++ (d.name ∷ option_words d.default))) (definition_words ds) k.good.1)
 
     n : Goods s (d.name ∷ option_words d.default)
-    n = good_back s (value-words vs) (d.name ∷ option_words d.default) g
+    n = good_back s (value_words vs) (d.name ∷ option_words d.default) g
 
     by : Deep (all_definition_rows f.specs) (define d vs ds) → lists.Deep s (spec_choices f.specs) (define d vs ds) → AllFormed s (define d vs ds)
         → DefinitionFacts s f u o (record { definition = d; values = vs })
@@ -150,7 +150,7 @@ this_facts s f u o d vs ds k = by k.deep k.lists k.formed
             deep = a;
             lists = q;
             formed = i;
-            good = good_front s (value-words vs) (d.name ∷ option_words d.default) g;
+            good = good_front s (value_words vs) (d.name ∷ option_words d.default) g;
             within = within_front (entries_under vs (list_key vs)) (record { under = u; outer = o; definition = d; values = vs } ∷ entries ds u o) k.within;
           };
           rest = entries ds u o;
@@ -158,7 +158,7 @@ this_facts s f u o d vs ds k = by k.deep k.lists k.formed
         }
 
 later_facts : (s : List ℕ) (f : File) (u : Word) (o : ℕ) (d : Definition) (vs : Values) (ds : Definitions) → Facts s f u o (define d vs ds) → Facts s f u o ds
-unfolding entries definition-words
+unfolding entries definition_words
 later_facts s f u o d vs ds k = by k.deep k.lists k.formed
   where
     by : Deep (all_definition_rows f.specs) (define d vs ds) → lists.Deep s (spec_choices f.specs) (define d vs ds) → AllFormed s (define d vs ds) → Facts s f u o ds
@@ -167,7 +167,7 @@ later_facts s f u o d vs ds k = by k.deep k.lists k.formed
           deep = b;
           lists = r;
           formed = j;
-          good = good_back s (bound_words d.bounds ++ (value-words vs ++ (d.name ∷ option_words d.default))) (definition-words ds) k.good.1;
+          good = good_back s (bound_words d.bounds ++ (value_words vs ++ (d.name ∷ option_words d.default))) (definition_words ds) k.good.1;
           within = within_back (record { under = u; outer = o; definition = d; values = vs } ∷ []) (entries ds u o)
               (within_back (entries_under vs (list_key vs)) (record { under = u; outer = o; definition = d; values = vs } ∷ entries ds u o) k.within);
         }
@@ -179,19 +179,19 @@ definition_facts {s} {f} {u} {o} (later_definition {d} {vs} {ds} h) k = definiti
 -- A value's scope.
 value_facts : {s : List ℕ} {f : File} {o : ℕ} {vs : Values} {v : Under} → HasValue vs v → ValueFacts s f o vs
     → Facts s f v.word o v.definitions × Scope (all_definition_rows f.specs) v.word v.definitions
-unfolding entries value-words
+unfolding entries value_words
 value_facts {s} {f} {o} (this_value {w} {e} {us} {vs}) k = by k.deep k.lists k.formed
   where
     by : DeepValues (all_definition_rows f.specs) (value w e us vs) → lists.DeepValues s (spec_choices f.specs) (value w e us vs) → AllFormedUnder s (value w e us vs)
         → Facts s f w o us × Scope (all_definition_rows f.specs) w us
-    by (more-values a b c) (lists.more-values p q) (more_under h i) =
-        (record { deep = b; lists = p; formed = h; good = good_front s (definition-words us) (value-words vs) k.good.1; within = within_front (entries us w o) (entries_under vs o) k.within }, a)
+    by (more_values a b c) (lists.more-values p q) (more_under h i) =
+        (record { deep = b; lists = p; formed = h; good = good_front s (definition_words us) (value_words vs) k.good.1; within = within_front (entries us w o) (entries_under vs o) k.within }, a)
 value_facts {s} {f} {o} (later_value {w} {e} {us} {vs} {x} h) k = value_facts h (by k.deep k.lists k.formed)
   where
     by : DeepValues (all_definition_rows f.specs) (value w e us vs) → lists.DeepValues s (spec_choices f.specs) (value w e us vs) → AllFormedUnder s (value w e us vs)
         → ValueFacts s f o vs
-    by (more-values a b c) (lists.more-values p q) (more_under h i) =
-        record { deep = c; lists = q; formed = i; good = good_back s (definition-words us) (value-words vs) k.good.1; within = within_back (entries us w o) (entries_under vs o) k.within }
+    by (more_values a b c) (lists.more-values p q) (more_under h i) =
+        record { deep = c; lists = q; formed = i; good = good_back s (definition_words us) (value_words vs) k.good.1; within = within_back (entries us w o) (entries_under vs o) k.within }
 
 -- The specs.
 pub record SpecFacts (s : List ℕ) (f : File) (xs : List Spec) : Type 0 where
@@ -209,12 +209,12 @@ spec_facts {s} {f} (this_spec {x} {xs}) k = by k.deep k.lists
     by : DeepSpecs (all_definition_rows f.specs) (x ∷ xs) → lists.DeepSpecs s (spec_choices f.specs) (x ∷ xs)
         → Facts s f x.word 0 x.definitions × Scope (all_definition_rows f.specs) x.word x.definitions
     by (more_specs a b c) (lists.more-specs p q) =
-        (record { deep = b; lists = p; formed = k.formed.0; good = good_front s (definition-words x.definitions) (spec_words xs) k.good.1; within = within_front (entries x.definitions x.word 0) (spec_entries xs) k.within }, a)
+        (record { deep = b; lists = p; formed = k.formed.0; good = good_front s (definition_words x.definitions) (spec_words xs) k.good.1; within = within_front (entries x.definitions x.word 0) (spec_entries xs) k.within }, a)
 spec_facts {s} {f} (later_spec {x} {y} {xs} h) k = spec_facts h (by k.deep k.lists)
   where
     by : DeepSpecs (all_definition_rows f.specs) (y ∷ xs) → lists.DeepSpecs s (spec_choices f.specs) (y ∷ xs) → SpecFacts s f xs
     by (more_specs a b c) (lists.more-specs p q) =
-        record { deep = c; lists = q; formed = k.formed.1; good = good_back s (definition-words y.definitions) (spec_words xs) k.good.1; within = within_back (entries y.definitions y.word 0) (spec_entries xs) k.within }
+        record { deep = c; lists = q; formed = k.formed.1; good = good_back s (definition_words y.definitions) (spec_words xs) k.good.1; within = within_back (entries y.definitions y.word 0) (spec_entries xs) k.within }
 
 -- The text ------------------------------------------------------------------------------------------------------------------------------------
 
@@ -264,12 +264,12 @@ spec_run {s} {f} k = ends (spec_words f.specs) 1 (ordered_sub (sub_front (sub_al
 spec_word : {s : List ℕ} {xs : List Spec} {x : Spec} → HasSpec xs x → Goods s (spec_words xs) → Good s x.word
 unfolding spec_words
 spec_word this_spec g = g.0
-spec_word {s} (later_spec {y = y} {xs} h) g = spec_word h (good_back s (definition-words y.definitions) (spec_words xs) g.1)
+spec_word {s} (later_spec {y = y} {xs} h) g = spec_word h (good_back s (definition_words y.definitions) (spec_words xs) g.1)
 
-pub value_word : {s : List ℕ} {vs : Values} {v : Under} → HasValue vs v → Goods s (value-words vs) → Good s v.word
-unfolding value-words
+pub value_word : {s : List ℕ} {vs : Values} {v : Under} → HasValue vs v → Goods s (value_words vs) → Good s v.word
+unfolding value_words
 value_word this_value g = g.0
-value_word {s} (later_value {us = us} {vs} h) g = value_word h (good_back s (definition-words us) (value-words vs) g.1)
+value_word {s} (later_value {us = us} {vs} h) g = value_word h (good_back s (definition_words us) (value_words vs) g.1)
 
 -- A scope of the text, with the key of the list that its word is a value of.
 pub record ScopeFacts (s : List ℕ) (f : File) (u : Word) (ds : Definitions) : Type 0 where
@@ -333,17 +333,17 @@ pub nth_in : {l : List Entry} {j : ℕ} {x : Entry} → Nth l j x → In x l
 nth_in {x = x} n = subst (In x) (sym n.whole) (in_back x n.front (x ∷ n.rest) (here refl))
 
 data Either (x : Entry) (a b : List Entry) : Type 0 where
-  in-first : In x a → Either x a b
-  in-second : In x b → Either x a b
+  in_first : In x a → Either x a b
+  in_second : In x b → Either x a b
 
 in_either : (x : Entry) (a b : List Entry) → In x (a ++ b) → Either x a b
-in_either x [] b m = in-second m
-in_either x (y ∷ a) b (here e) = in-first (here e)
+in_either x [] b m = in_second m
+in_either x (y ∷ a) b (here e) = in_first (here e)
 in_either x (y ∷ a) b (there m) = by (in_either x a b m)
   where
     by : Either x a b → Either x (y ∷ a) b
-    by (in-first n) = in-first (there n)
-    by (in-second n) = in-second n
+    by (in_first n) = in_first (there n)
+    by (in_second n) = in_second n
 
 pub record Origin (xs : List Spec) (x : Entry) : Type 0 where
   pub definitions : Definitions
@@ -351,13 +351,13 @@ pub record Origin (xs : List Spec) (x : Entry) : Type 0 where
   pub has : HasDefinition definitions (record { definition = x.definition; values = x.values })
 
 by_two : (xs : List Spec) (x : Entry) (a b : List Entry) → (In x a → Origin xs x) → (In x b → Origin xs x) → Either x a b → Origin xs x
-by_two xs x a b f g (in-first m) = f m
-by_two xs x a b f g (in-second m) = g m
+by_two xs x a b f g (in_first m) = f m
+by_two xs x a b f g (in_second m) = g m
 
 by_either : (xs : List Spec) (x : Entry) (a : List Entry) (y : Entry) (b : List Entry) → (In x a → Origin xs x) → Origin xs y → (In x b → Origin xs x) → Either x a (y ∷ b) → Origin xs x
-by_either xs x a y b f o g (in-first m) = f m
-by_either xs x a y b f o g (in-second (here e)) = subst (Origin xs) e o
-by_either xs x a y b f o g (in-second (there m)) = g m
+by_either xs x a y b f o g (in_first m) = f m
+by_either xs x a y b f o g (in_second (here e)) = subst (Origin xs) e o
+by_either xs x a y b f o g (in_second (there m)) = g m
 
 mutual
   unfolding entries
@@ -367,17 +367,17 @@ mutual
   origin xs x ds₀ no_more u o p lift m = absurd (in_none m)
   origin xs x ds₀ (define d vs ds) u o p lift m =
       by_either xs x (entries_under vs (list_key vs)) (record { under = u; outer = o; definition = d; values = vs }) (entries ds u o)
-      (λ n. origin-under xs x vs (list_key vs) (λ v h. under_value p (lift (record { definition = d; values = vs }) this_definition) h) n)
+      (λ n. origin_under xs x vs (list_key vs) (λ v h. under_value p (lift (record { definition = d; values = vs }) this_definition) h) n)
       (record { definitions = ds₀; stands = p; has = lift (record { definition = d; values = vs }) this_definition })
       (λ n. origin xs x ds₀ ds u o p (λ y h. lift y (later_definition h)) n)
       (in_either x (entries_under vs (list_key vs)) (record { under = u; outer = o; definition = d; values = vs } ∷ entries ds u o) m)
 
-  origin-under : (xs : List Spec) (x : Entry) (vs : Values) (o : ℕ) → ((v : Under) → HasValue vs v → Stands xs v.word v.definitions) → In x (entries_under vs o) → Origin xs x
-  origin-under xs x no_value o st m = absurd (in_none m)
-  origin-under xs x (value w e us vs) o st m =
+  origin_under : (xs : List Spec) (x : Entry) (vs : Values) (o : ℕ) → ((v : Under) → HasValue vs v → Stands xs v.word v.definitions) → In x (entries_under vs o) → Origin xs x
+  origin_under xs x no_value o st m = absurd (in_none m)
+  origin_under xs x (value w e us vs) o st m =
       by_two xs x (entries us w o) (entries_under vs o)
       (λ n. origin xs x us us w o (st (record { word = w; number = e; definitions = us }) this_value) (λ y h. h) n)
-      (λ n. origin-under xs x vs o (λ v h. st v (later_value h)) n)
+      (λ n. origin_under xs x vs o (λ v h. st v (later_value h)) n)
       (in_either x (entries us w o) (entries_under vs o) m)
 
 origin_specs : (all : List Spec) (x : Entry) (xs : List Spec) → ((y : Spec) → HasSpec xs y → HasSpec all y) → In x (spec_entries xs) → Origin all x

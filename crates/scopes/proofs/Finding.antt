@@ -16,7 +16,7 @@ use Rattle.token.proofs.Bytes.{neither_first, neither_second, eqb_sym}
 use Rattle.rows.specs.declared.Found.TheVariants.{At, Nothing}
 use Rattle.rows.proofs.Walks.{first, any_of}
 use Rattle.rows.specs.Search.{find_from, has_key, is_named, find_named}
-use Rattle.rows.proofs.Searches.{find-stop, find_more, find-end, first_is}
+use Rattle.rows.proofs.Searches.{find_stop, find_more, find_end, first_is}
 use Rattle.meaning.specs.Syntax.{Object, File}
 use Rattle.meaning.specs.Kinds.{kind_number}
 use Rattle.layout.specs.Kept.{Entry, Choice, spec_entries, spec_choices, kept_definitions, kept_enumerators, kept, kept_objects, definition_cells, choice_cells, object_cells, object_rows}
@@ -39,7 +39,7 @@ module _ {R : Type 0} (p : R → Bool) (t : ℕ → Bool) where
   pub seek : (i : ℕ) (xs : List R) → ((a : List R) (x : R) (b : List R) → xs ≡ a ++ (x ∷ b) → t (i + length a) ≡ p x)
       → find_from t (i + length xs) i ≡ first p At Nothing i xs
   unfolding first
-  seek i [] h = find-end t (i + 0) i (omega arith)
+  seek i [] h = find_end t (i + 0) i (omega arith)
   seek i (x ∷ xs) h =
       by (p x) (let e : i ≡ i + 0 = omega arith in ap t e ∙ h [] x xs refl)
       (let n : i + suc (length xs) ≡ suc i + length xs = omega arith in
@@ -48,12 +48,12 @@ module _ {R : Type 0} (p : R → Bool) (t : ℕ → Bool) where
     where
       by : (b : Bool) → t i ≡ b → find_from t (i + suc (length xs)) (suc i) ≡ first p At Nothing (suc i) xs
           → find_from t (i + suc (length xs)) i ≡ pick b (At i) (first p At Nothing (suc i) xs)
-      by true e rest = find-stop t (i + suc (length xs)) i (omega arith) e
+      by true e rest = find_stop t (i + suc (length xs)) i (omega arith) e
       by false e rest = find_more t (i + suc (length xs)) i (omega arith) e ∙ ap (find_from t (i + suc (length xs))) (add-one i) ∙ rest
 
   -- Rows from the first on.
-  pub seek-all : (xs : List R) → ((a : List R) (x : R) (b : List R) → xs ≡ a ++ (x ∷ b) → t (length a) ≡ p x) → find_from t (length xs) 0 ≡ first p At Nothing 0 xs
-  seek-all xs h =
+  pub seek_all : (xs : List R) → ((a : List R) (x : R) (b : List R) → xs ≡ a ++ (x ∷ b) → t (length a) ≡ p x) → find_from t (length xs) 0 ≡ first p At Nothing 0 xs
+  seek_all xs h =
       let e : length xs ≡ 0 + length xs = omega arith in
       ap (λ (k : ℕ). find_from t k 0) e ∙ seek 0 xs (λ a x b g. let z : 0 + length a ≡ length a = omega arith in ap t z ∙ h a x b g)
 
@@ -67,10 +67,10 @@ module _ {R : Type 0} (p : R → Bool) (t : ℕ → Bool) where
       by false e h = h e
 
   -- Where none of those behind passes, they may be left out.
-  pub first-front : (i : ℕ) (xs ys : List R) → any_of p ys ≡ false → first p At Nothing i (xs ++ ys) ≡ first p At Nothing i xs
+  pub first_front : (i : ℕ) (xs ys : List R) → any_of p ys ≡ false → first p At Nothing i (xs ++ ys) ≡ first p At Nothing i xs
   unfolding first
-  first-front i [] ys e = none_first i ys e
-  first-front i (x ∷ xs) ys e = ap (pick (p x) (At i)) (first-front (suc i) xs ys e)
+  first_front i [] ys e = none_first i ys e
+  first_front i (x ∷ xs) ys e = ap (pick (p x) (At i)) (first_front (suc i) xs ys e)
 
 -- The first that passes.
 module _ {R : Type 0} (p : R → Bool) where
@@ -78,10 +78,10 @@ module _ {R : Type 0} (p : R → Bool) where
   first_one [] = none
   first_one (x ∷ xs) = let r = first_one xs in pick (p x) (some x) r
 
-  pub none-one : (xs : List R) → any_of p xs ≡ false → first_one xs ≡ none
+  pub none_one : (xs : List R) → any_of p xs ≡ false → first_one xs ≡ none
   unfolding first_one any_of
-  none-one [] e = refl
-  none-one (x ∷ xs) e = ap (λ b. pick b (some x) (first_one xs)) (neither_first (p x) (any_of p xs) e) ∙ none-one xs (neither_second (p x) (any_of p xs) e)
+  none_one [] e = refl
+  none_one (x ∷ xs) e = ap (λ b. pick b (some x) (first_one xs)) (neither_first (p x) (any_of p xs) e) ∙ none_one xs (neither_second (p x) (any_of p xs) e)
 
   pub one_append : (xs ys : List R) → any_of p xs ≡ false → first_one (xs ++ ys) ≡ first_one ys
   unfolding first_one any_of
@@ -137,7 +137,7 @@ pub find_in_definitions : (f : File) (s d : List ℕ) (front rest : List Entry) 
 unfolding find_named is_row definition_cells
 find_in_definitions f s d front rest n key at len e w k h =
     ap (λ (m : ℕ). find_from (λ j. is_named s d (j * 19) 0 key 2 3 at len) m 0) k
-    ∙ seek-all (is_row s key at len) (λ j. is_named s d (j * 19) 0 key 2 3 at len) front (λ a x b g.
+    ∙ seek_all (is_row s key at len) (λ j. is_named s d (j * 19) 0 key 2 3 at len) front (λ a x b g.
     let q = nth_front rest w a x b g in
     let l = below_front front a x b g in
     named_cells s d (length a * 19) 0 key 2 3 at len x.under.place x.definition.name.place x.definition.name.length
@@ -150,7 +150,7 @@ pub find_in_enumerators : (f : File) (s e : List ℕ) (front rest : List Choice)
 unfolding find_named is_choice choice_cells
 find_in_enumerators f s e front rest n key at len t w k h =
     ap (λ (m : ℕ). find_from (λ j. is_named s e (j * 3) 0 key 1 2 at len) m 0) k
-    ∙ seek-all (is_choice s key at len) (λ j. is_named s e (j * 3) 0 key 1 2 at len) front (λ a x b g.
+    ∙ seek_all (is_choice s key at len) (λ j. is_named s e (j * 3) 0 key 1 2 at len) front (λ a x b g.
     let q = nth_front rest w a x b g in
     let l = below_front front a x b g in
     named_cells s e (length a * 3) 0 key 1 2 at len x.list x.word.place x.word.length
@@ -164,7 +164,7 @@ pub find_in_rows : (room : ℕ) (os : List Object) (s o : List ℕ) (front rest 
 unfolding find_named is_object object_cells
 find_in_rows room os s o front rest n key at len e w k h =
     ap (λ (m : ℕ). find_from (λ j. is_named s o (j * 10) 0 key 3 4 at len) m 0) k
-    ∙ seek-all (is_object s key at len) (λ j. is_named s o (j * 10) 0 key 3 4 at len) front (λ a x b g.
+    ∙ seek_all (is_object s key at len) (λ j. is_named s o (j * 10) 0 key 3 4 at len) front (λ a x b g.
     let q = nth_front rest w a x b g in
     let l = below_front front a x b g in
     named_cells s o (length a * 10) 0 key 3 4 at len (kind_number x.kind) x.name.place x.name.length

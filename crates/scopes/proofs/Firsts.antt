@@ -16,7 +16,7 @@ use Rattle.rows.specs.Order as order
 use Rattle.rows.proofs.Orders as orders
 use Rattle.meaning.specs.Syntax.{Word}
 use Rattle.meaning.specs.Faults.{Fault, faults_if, ahead, sooner, first}
-use Rattle.meaning.proofs.Sooner.{Le, left_of, not-above, Lt, left, below, ahead_le, not_ahead, first_append, le_trans, le_same}
+use Rattle.meaning.proofs.Sooner.{Le, left_of, not_above, Lt, left, below, ahead_le, not_ahead, first_append, le_trans, le_same}
 use Rattle.scopes.specs.Promises.{fault_of}
 use Rattle.scopes.specs.Listing.{each}
 
@@ -60,14 +60,14 @@ if_in false t n e = absurd (false≢true e)
 -- The first of all ---------------------------------------------------------------------------------------------------------------------------
 
 pub le_refl : (a : Fault) → Le a a
-le_refl a = not-above refl (omega arith)
+le_refl a = not_above refl (omega arith)
 
 lt_le : {a b : Fault} → Lt a b → Le a b
 lt_le (left h) = left_of h
-lt_le (below e h) = not-above e (omega arith)
+lt_le (below e h) = not_above e (omega arith)
 
 data Least (l : List Fault) : Option Fault → Type 0 where
-  no-least : length l ≡ 0 → Least l none
+  no_least : length l ≡ 0 → Least l none
   least : {a : Fault} → Has a l → ((g : Fault) → Has g l → Le a g) → Least l (some a)
 
 head_least : (f : Fault) (fs : List Fault) → ((g : Fault) → Has g fs → Le f g) → (g : Fault) → Has g (f ∷ fs) → Le f g
@@ -84,12 +84,12 @@ least_pick f a fs false e h k = least (there h) (tail_least a f fs (lt_le (not_a
 
 first_more : (f : Fault) (fs : List Fault) (o : Option Fault) → Least fs o → Least (f ∷ fs) (sooner (some f) o)
 unfolding sooner
-first_more f fs none (no-least e) = least (here refl) (head_least f fs (λ g m. absurd (has_some m e)))
+first_more f fs none (no_least e) = least (here refl) (head_least f fs (λ g m. absurd (has_some m e)))
 first_more f fs (some a) (least h k) = least_pick f a fs (ahead f a) refl h k
 
 first_least : (l : List Fault) → Least l (first l)
 unfolding first
-first_least [] = no-least refl
+first_least [] = no_least refl
 first_least (f ∷ fs) = first_more f fs (first fs) (first_least fs)
 
 -- Some fault of m is not behind g.
@@ -106,8 +106,8 @@ covered_by h i l = record { cover = h; has = i; le = l }
 
 same_least : (l m : List Fault) → ((g : Fault) → Has g m → Covered g l) → ((g : Fault) → Has g l → Covered g m) → (o r : Option Fault) → Least l o → Least m r → o ≡ r
 same_least l m p q none none x y = refl
-same_least l m p q none (some b) (no-least e) (least h k) = absurd (has_some (p b h).has e)
-same_least l m p q (some a) none (least h k) (no-least e) = absurd (has_some (q a h).has e)
+same_least l m p q none (some b) (no_least e) (least h k) = absurd (has_some (p b h).has e)
+same_least l m p q (some a) none (least h k) (no_least e) = absurd (has_some (q a h).has e)
 same_least l m p q (some a) (some b) (least h k) (least i j) =
     let c = p b i in
     let d = q a h in
@@ -152,7 +152,7 @@ code a = record { number = a.number; place = a.place }
 before_le : (a b : Fault) → 0 < a.number → 0 < b.number → Le a b → order.before (code b) (code a) ≡ false
 unfolding code
 before_le a b x y (left_of h) = orders.before-apart (code b) (code a) (λ e. omega arith) (λ e. omega arith) (λ e. omega arith) ∙ le-ltb b.place a.place (omega arith)
-before_le a b x y (not-above e h) = orders.before_here (code b) (code a) (λ e. omega arith) (λ e. omega arith) (sym e) ∙ le-ltb b.number a.number h
+before_le a b x y (not_above e h) = orders.before_here (code b) (code a) (λ e. omega arith) (λ e. omega arith) (sym e) ∙ le-ltb b.number a.number h
 
 before_lt : (a b : Fault) → 0 < a.number → 0 < b.number → Lt b a → order.before (code b) (code a) ≡ true
 unfolding code
@@ -202,10 +202,10 @@ module _ {A : Type 0} (F : List A → A → List Fault) where
   unfolding each
   each_snoc a x = each_append [] a (x ∷ []) ∙ ap (λ (l : List Fault). each F [] a ++ l) (append-nil (F a x))
 
-  pub real-each : ((p : List A) (x : A) → Real (F p x)) → (p l : List A) → Real (each F p l)
+  pub real_each : ((p : List A) (x : A) → Real (F p x)) → (p l : List A) → Real (each F p l)
   unfolding each
-  real-each r p [] = real_none
-  real-each r p (x ∷ l) = real_append (F p x) (each F (p ++ (x ∷ [])) l) (r p x) (real-each r (p ++ (x ∷ [])) l)
+  real_each r p [] = real_none
+  real_each r p (x ∷ l) = real_append (F p x) (each F (p ++ (x ∷ [])) l) (r p x) (real_each r (p ++ (x ∷ [])) l)
 
   -- The row that a fault is found at.
   pub record From (l : List A) (g : Fault) : Type 0 where

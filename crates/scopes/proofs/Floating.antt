@@ -19,55 +19,55 @@ use Rattle.meaning.specs.Faults.{faults_if, first}
 use Rattle.meaning.specs.Defining.{low_faults}
 use Rattle.scopes.specs.declared.Item.{Item}
 use Rattle.scopes.specs.Items.{item_at}
-use Rattle.scopes.specs.Ranges.{FloatsAt, floats-none, floats-two}
+use Rattle.scopes.specs.Ranges.{FloatsAt, floats_none, floats_two}
 use Rattle.scopes.specs.Promises.{fault_of, InFloats, LowFault}
 use Rattle.scopes.proofs.Ranging.{fault_if_is}
 
 -- What is no float is 0.
 module _ (k : Sort) where
-  pub none-word : (c : ℕ) → k ≡ WordToken c → record { negative = false; amount = 0 * 10 ^ 0 } ≡ float_of_sort k
+  pub none_word : (c : ℕ) → k ≡ WordToken c → record { negative = false; amount = 0 * 10 ^ 0 } ≡ float_of_sort k
   unfolding float_of_sort zero_num
-  none-word c e = sym (ap float_of_sort e)
+  none_word c e = sym (ap float_of_sort e)
 
   pub none_number : (b : Bool) (m : ℕ) → k ≡ Number b m → record { negative = false; amount = 0 * 10 ^ 0 } ≡ float_of_sort k
   unfolding float_of_sort zero_num
   none_number b m e = sym (ap float_of_sort e)
 
-  pub none-string : k ≡ String → record { negative = false; amount = 0 * 10 ^ 0 } ≡ float_of_sort k
+  pub none_string : k ≡ String → record { negative = false; amount = 0 * 10 ^ 0 } ≡ float_of_sort k
   unfolding float_of_sort zero_num
-  none-string e = sym (ap float_of_sort e)
+  none_string e = sym (ap float_of_sort e)
 
-  pub none-sign : (b : ℕ) → k ≡ Punctuator b → record { negative = false; amount = 0 * 10 ^ 0 } ≡ float_of_sort k
+  pub none_sign : (b : ℕ) → k ≡ Punctuator b → record { negative = false; amount = 0 * 10 ^ 0 } ≡ float_of_sort k
   unfolding float_of_sort zero_num
-  none-sign b e = sym (ap float_of_sort e)
+  none_sign b e = sym (ap float_of_sort e)
 
   pub float_is : (b : Bool) (m e : ℕ) → k ≡ Float b m e → record { negative = b; amount = m * 10 ^ e } ≡ float_of_sort k
   unfolding float_of_sort
   float_is b m e q = sym (ap float_of_sort q)
 
 module _ (s : List ℕ) (p : ℕ) where
-  pub at-found : (t : Lexeme) (c : Cursor) (r : Num) → step_at s p ≡ Found t c → r ≡ float_of_sort t.sort → r ≡ float_of_step (step_at s p)
+  pub at_found : (t : Lexeme) (c : Cursor) (r : Num) → step_at s p ≡ Found t c → r ≡ float_of_sort t.sort → r ≡ float_of_step (step_at s p)
   unfolding float_of_step
-  at-found t c r e h = h ∙ sym (ap float_of_step e)
+  at_found t c r e h = h ∙ sym (ap float_of_step e)
 
-  pub at-refused : (q : ℕ) → step_at s p ≡ Refused q → record { negative = false; amount = 0 * 10 ^ 0 } ≡ float_of_step (step_at s p)
+  pub at_refused : (q : ℕ) → step_at s p ≡ Refused q → record { negative = false; amount = 0 * 10 ^ 0 } ≡ float_of_step (step_at s p)
   unfolding float_of_step zero_num
-  at-refused q e = sym (ap float_of_step e)
+  at_refused q e = sym (ap float_of_step e)
 
   pub at_end : (q : ℕ) → step_at s p ≡ End q → record { negative = false; amount = 0 * 10 ^ 0 } ≡ float_of_step (step_at s p)
   unfolding float_of_step zero_num
   at_end q e = sym (ap float_of_step e)
 
   -- Ranges.
-  pub floats-zero : (n : Num) → p ≡ 0 → InFloats s p n true
+  pub floats_zero : (n : Num) → p ≡ 0 → InFloats s p n true
   unfolding in_float_bounds
-  floats-zero n e b (floats-none i) = refl
-  floats-zero n e b (floats-two h o a t c) = absurd (h e)
+  floats_zero n e b (floats_none i) = refl
+  floats_zero n e b (floats_two h o a t c) = absurd (h e)
 
-  pub low-zero : p ≡ 0 → LowFault s p no_fault
+  pub low_zero : p ≡ 0 → LowFault s p no_fault
   unfolding low_faults first fault_of
-  low-zero e b (floats-none j) = refl
-  low-zero e b (floats-two h o a t c) = absurd (h e)
+  low_zero e b (floats_none j) = refl
+  low_zero e b (floats_two h o a t c) = absurd (h e)
 
   module _ (h : p ≡ 0 → ⊥) (o a z : Item) (e : o ≡ item_at s p) (g : a ≡ item_at s o.next) (k : z ≡ item_at s a.next) (x y : Num)
       (u : x ≡ float_of_step (step_at s o.next)) (v : y ≡ float_of_step (step_at s z.next)) where
@@ -81,8 +81,8 @@ module _ (s : List ℕ) (p : ℕ) where
       high-float : y ≡ high.float
 
     ends : (b : Bounds) → FloatsAt s p b → Ends b
-    ends b (floats-none i) = absurd (h i)
-    ends b (floats-two {q = q} {r} {t = t} n c m w d) =
+    ends b (floats_none i) = absurd (h i)
+    ends b (floats_two {q = q} {r} {t = t} n c m w d) =
         let i : o.next ≡ q = ap (λ (i : Item). i.next) e ∙ c.next in
         let j : a ≡ item_at s q = g ∙ ap (item_at s) i in
         let l : z ≡ item_at s r = k ∙ ap (item_at s) (ap (λ (i : Item). i.next) j ∙ m.next) in
@@ -96,22 +96,22 @@ module _ (s : List ℕ) (p : ℕ) where
           high-float = v ∙ ap (λ (n : ℕ). float_of_step (step_at s n)) f ∙ d.float;
         }
 
-    pub floats-in : (n : Num) (c r : Bool) → c ≡ num_at_most x n → c ≡ true → r ≡ num_at_most n y → InFloats s p n r
+    pub floats_in : (n : Num) (c r : Bool) → c ≡ num_at_most x n → c ≡ true → r ≡ num_at_most n y → InFloats s p n r
     unfolding in_float_bounds
-    floats-in n c r q t w b d =
+    floats_in n c r q t w b d =
         let i = ends b d in
         w ∙ ap (num_at_most n) i.high-float
         ∙ sym (ap (in_float_bounds n) i.bounds ∙ ap (λ f. both f (num_at_most n i.high.float)) (ap (λ m. num_at_most m n) (sym i.low_float) ∙ sym q ∙ t))
 
-    pub floats-below : (n : Num) (c : Bool) → c ≡ num_at_most x n → c ≡ false → InFloats s p n false
+    pub floats_below : (n : Num) (c : Bool) → c ≡ num_at_most x n → c ≡ false → InFloats s p n false
     unfolding in_float_bounds
-    floats-below n c q t b d =
+    floats_below n c q t b d =
         let i = ends b d in
         sym (ap (in_float_bounds n) i.bounds ∙ ap (λ f. both f (num_at_most n i.high.float)) (ap (λ m. num_at_most m n) (sym i.low_float) ∙ sym q ∙ t))
 
-    pub low-is : (c : Bool) (r : Fault) → c ≡ num_at_most x y → r ≡ fault_if (not c) 21 a.at → LowFault s p r
+    pub low_is : (c : Bool) (r : Fault) → c ≡ num_at_most x y → r ≡ fault_if (not c) 21 a.at → LowFault s p r
     unfolding low_faults
-    low-is c r q f b d =
+    low_is c r q f b d =
         let i = ends b d in
         f ∙ fault_if_is (not c) i.low a.at i.low-place
         ∙ sym (ap (λ b. fault_of (first (low_faults b))) i.bounds

@@ -4,17 +4,17 @@ use mathlib.Core.List.{List, [], ◌∷◌, ◌++◌, append_assoc}
 use mathlib.Core.Bool.{true}
 use Prim.Native.Nat.{ℕ, suc, ◌+◌, ◌<◌}
 use native.Mathlib.Omega.{arith}
-use Rattle.grammar.specs.Grammar.{Token, tokens, matches, sg, rsquare, lsquare, dots, comma, STRING, BOOLEAN, ENUM, FLOAT, Rule, Form, ◌▸◌, ∎, ◌⟶◌, Trees, nil, leaf, node, file, version, implementation, specs, spec, definitions, definition, attribute, D, P, auto, mark, integer_range, numbers, boolean_range, float_range, enumerator, enumerators, application, objects, object, block, statements, statement, default, own, file-is, version_is, implementation-is, no-spec, a-spec, spec_is, no-definition, a_definition, an-attribute, a_reference, an_integer, a_string, a_boolean, an_enum, a_float, reference-is, no-D, a-D, no-P, a-P, no-auto, with-auto, no-mark, a-mark, no-range, a-range, a-list, no_number, a_number, no-boolean-range, no-float-range, a-boolean-range, a-float-range, enumerator_is, no-enumerator, an_enumerator, no_default, a-default, own-auto, own-none, own-number, own-string, own-true, own-false, own_name, own-float, application-is, no_object, an_object, an-object-alone, an-object-with, no_block, a_block, no-statement, a_statement, statement-is, value-number, value-string, value-float, value-auto, value-name, value-true, value-false, reference as reference-rule, value as value-rule}
+use Rattle.grammar.specs.Grammar.{Token, tokens, matches, sg, rsquare, lsquare, dots, comma, STRING, BOOLEAN, ENUM, FLOAT, Rule, Form, ◌▸◌, ∎, ◌⟶◌, Trees, nil, leaf, node, file, version, implementation, specs, spec, definitions, definition, attribute, D, P, auto, mark, integer_range, numbers, boolean_range, float_range, enumerator, enumerators, application, objects, object, block, statements, statement, default, own, file_is, version_is, implementation_is, no_spec, a_spec, spec_is, no_definition, a_definition, an_attribute, a_reference, an_integer, a_string, a_boolean, an_enum, a_float, reference_is, no_D, a_D, no_P, a_P, no_auto, with_auto, no_mark, a_mark, no_range, a_range, a_list, no_number, a_number, no_boolean_range, no_float_range, a_boolean_range, a_float_range, enumerator_is, no_enumerator, an_enumerator, no_default, a_default, own_auto, own_none, own_number, own_string, own_true, own_false, own_name, own_float, application_is, no_object, an_object, an_object_alone, an_object_with, no_block, a_block, no_statement, a_statement, statement_is, value_number, value_string, value_float, value_auto, value_name, value_true, value_false, reference as reference-rule, value as value-rule}
 use Rattle.meaning.specs.Actions.{M, word_of, kind_of, integer_of, first_value, truths, defined, defining, specifying, means, meaning, syntax}
 use Rattle.meaning.specs.Syntax.{Word, absent, through, from_to, one_of, Defined, Spec}
 use Rattle.layout.specs.Kept.{code_of, given_number}
 use Rattle.scopes.specs.Situations.{ReadAt}
 use Rattle.scopes.specs.Items.{item_at}
-use Rattle.scopes.specs.Ranges.{SignAt, Listed, listed-none, listed_more, RangeAt, FloatsAt, range_none, floats-none, range-two, floats-two, range-list}
+use Rattle.scopes.specs.Ranges.{SignAt, Listed, listed_none, listed_more, RangeAt, FloatsAt, range_none, floats_none, range_two, floats_two, range_list}
 use Rattle.scopes.proofs.Forms.{Truths, no_truths, both_truths, at_least_one, Formed, AllFormed, none_formed, more_formed, AllFormedUnder, none_under, more_under}
 use Rattle.scopes.proofs.Forms as forms
 use Rattle.scopes.proofs.Chains.{StepTo, Chain, step_on, step_self, step_number, step_float, step_read, chain_front, chain_back}
-use Rattle.scopes.proofs.Coding.{given_is, integer_is, type_is, lsquare_at, rsquare-at, dots-at, comma_at}
+use Rattle.scopes.proofs.Coding.{given_is, integer_is, type_is, lsquare_at, rsquare_at, dots_at, comma_at}
 
 abbrev pub FormedSpecs : List ℕ → List Spec → Type 0
 FormedSpecs s [] = Unit {0}
@@ -75,26 +75,26 @@ range_of_two : (s : List ℕ) (p : ℕ) (o a t b c : Token) → 0 < p → Chain 
     → matches (sg dots) t.class ≡ true → RangeAt s o.place (from_to (word_of s a) (word_of s b))
 range_of_two s p o a t b c h k m n =
     let x = self s p o h k.0 in
-    range-two x.0 (lsquare_at s o.place o x.1 m) (step_number s (o.place + o.length) a k.1.0)
-    (dots-at s (a.place + a.length) t k.1.1.0 n) (step_number s (t.place + t.length) b k.1.1.1.0)
+    range_two x.0 (lsquare_at s o.place o x.1 m) (step_number s (o.place + o.length) a k.1.0)
+    (dots_at s (a.place + a.length) t k.1.1.0 n) (step_number s (t.place + t.length) b k.1.1.1.0)
 
 floats_of_two : (s : List ℕ) (p : ℕ) (o a t b c : Token) → 0 < p → Chain s p (o ∷ a ∷ t ∷ b ∷ c ∷ []) → matches (sg lsquare) o.class ≡ true
     → matches (sg dots) t.class ≡ true → FloatsAt s o.place (from_to (word_of s a) (word_of s b))
 floats_of_two s p o a t b c h k m n =
     let x = self s p o h k.0 in
-    floats-two x.0 (lsquare_at s o.place o x.1 m) (step_float s (o.place + o.length) a k.1.0)
-    (dots-at s (a.place + a.length) t k.1.1.0 n) (step_float s (t.place + t.length) b k.1.1.1.0)
+    floats_two x.0 (lsquare_at s o.place o x.1 m) (step_float s (o.place + o.length) a k.1.0)
+    (dots_at s (a.place + a.length) t k.1.1.0 n) (step_float s (t.place + t.length) b k.1.1.1.0)
 
 range_of_list : (s : List ℕ) (p : ℕ) (o a : Token) (l : List Token) (ws : List Word) → 0 < p → Chain s p (o ∷ a ∷ l) → matches (sg lsquare) o.class ≡ true
     → (Listed s (a.place + a.length) ws × ((item_at s (a.place + a.length)).sign ≡ 46 → ⊥)) → RangeAt s o.place (one_of (word_of s a ∷ ws))
 range_of_list s p o a l ws h k m n =
     let x = self s p o h k.0 in
-    range-list x.0 (lsquare_at s o.place o x.1 m) (step_number s (o.place + o.length) a k.1.0) n.1 n.0
+    range_list x.0 (lsquare_at s o.place o x.1 m) (step_number s (o.place + o.length) a k.1.0) n.1 n.0
 
 no_numbers : (s : List ℕ) (p : ℕ) (c : Token) → matches (sg rsquare) c.class ≡ true → Chain s p (c ∷ []) → Listed s p [] × ((item_at s p).sign ≡ 46 → ⊥)
 no_numbers s p c m k =
-    let x = rsquare-at s p c k.0 m in
-    (listed-none (not_two x (λ e. omega arith)), not_two x (λ e. omega arith))
+    let x = rsquare_at s p c k.0 m in
+    (listed_none (not_two x (λ e. omega arith)), not_two x (λ e. omega arith))
 
 more_numbers : (s : List ℕ) (p : ℕ) (x a : Token) (l : List Token) (ws : List Word) → Chain s p (x ∷ a ∷ l) → matches (sg comma) x.class ≡ true
     → (Listed s (a.place + a.length) ws × ((item_at s (a.place + a.length)).sign ≡ 46 → ⊥)) → Listed s p (word_of s a ∷ ws) × ((item_at s p).sign ≡ 46 → ⊥)
@@ -119,15 +119,15 @@ inside s q t a b c k =
 
 means_formed : {x : Rule} {g : Form} (s : List ℕ) (p : x ⟶ g) (us : Trees ◌⟶◌ g) → All s us → (q : ℕ) → Chain s q (tokens us) → W s x (means p (meaning s us)) (tokens us)
 unfolding means meaning tokens first_value truths defined defining specifying through absent word_of code_of given_number
-means_formed s file-is (node _ v (node _ i (node _ a nil))) h q c = h.1.0
+means_formed s file_is (node _ v (node _ i (node _ a nil))) h q c = h.1.0
 means_formed s version_is us h q c = tt
-means_formed s implementation-is (leaf _ _ (leaf _ _ (leaf _ _ (node _ ss r)))) h q c = h.0 0 0
-means_formed s no-spec nil h q c = λ n e. tt
-means_formed s a-spec (node _ x (node _ xs nil)) h q c = λ n e. (h.0 n e, h.1.0 _ _)
+means_formed s implementation_is (leaf _ _ (leaf _ _ (leaf _ _ (node _ ss r)))) h q c = h.0 0 0
+means_formed s no_spec nil h q c = λ n e. tt
+means_formed s a_spec (node _ x (node _ xs nil)) h q c = λ n e. (h.0 n e, h.1.0 _ _)
 means_formed s spec_is (leaf _ _ (leaf _ _ (node _ d r))) h q c = λ n e. h.0 n e
-means_formed s no-definition nil h q c = λ n e. none_formed
+means_formed s no_definition nil h q c = λ n e. none_formed
 means_formed s a_definition (node _ x (node _ xs nil)) h q c = λ n e. more_formed (h.0 n e).formed (h.0 n e).typed (h.0 n e).under (h.1.0 _ _)
-means_formed s an-attribute (node _ x nil) h q c = λ n e. h.0 n e
+means_formed s an_attribute (node _ x nil) h q c = λ n e. h.0 n e
 means_formed s a_reference (node _ x nil) h q c = λ n e. h.0 n e
 means_formed s an_integer (leaf t m (node _ a (node _ r (leaf x _ (node _ k (node _ d b)))))) h q c = λ n e.
     let i = inside s q t (tokens a) (tokens r) (x ∷ (tokens k ++ (tokens d ++ tokens b))) c in
@@ -141,59 +141,59 @@ means_formed s a_boolean (leaf t m (node _ a (node _ r (leaf x _ (node _ k (node
     record { formed = forms.a-boolean refl (given_is BOOLEAN t.class m) refl (h.1.0 n e).0; typed = step_read s q t c.0; under = (h.1.0 n e).1 }
 means_formed s an_enum (leaf t m (node _ a (leaf _ _ (node o v (node r vs (leaf _ _ (leaf x _ (node _ k (node _ d b))))))))) h q c = λ n e.
     record { formed = forms.an_enum refl (given_is ENUM t.class m) refl at_least_one; typed = step_read s q t c.0; under = more_under (h.1.0 n e) (h.1.1.0 _ _) }
-means_formed s reference-is (leaf t m (leaf x _ (node _ k b))) h q c = λ n e.
+means_formed s reference_is (leaf t m (leaf x _ (node _ k b))) h q c = λ n e.
     record { formed = forms.a-reference (kind_of t.class) refl (type_is t.class m) refl; typed = step_read s q t c.0; under = none_under }
-means_formed s no-D nil h q c = tt
-means_formed s a-D us h q c = tt
-means_formed s no-P nil h q c = λ n e. none_formed
-means_formed s a-P (leaf _ _ (node _ d (leaf _ _ nil))) h q c = λ n e. h.0 n e
-means_formed s no-auto us h q c = tt
-means_formed s with-auto us h q c = tt
-means_formed s no-mark us h q c = tt
-means_formed s a-mark us h q c = tt
-means_formed s no-range nil h q c = λ p l k. range_none refl
-means_formed s no-float-range nil h q c = λ p l k. floats-none refl
-means_formed s a-range (leaf o m (leaf a _ (leaf t n (leaf b _ (leaf z _ nil))))) h q c = λ p l k. range_of_two s p o a t b z l k m n
-means_formed s a-float-range (leaf o m (leaf a _ (leaf t n (leaf b _ (leaf z _ nil))))) h q c = λ p l k. floats_of_two s p o a t b z l k m n
-means_formed s a-list (leaf o m (leaf a _ (node _ ns (leaf z n nil)))) h q c = λ p l k.
+means_formed s no_D nil h q c = tt
+means_formed s a_D us h q c = tt
+means_formed s no_P nil h q c = λ n e. none_formed
+means_formed s a_P (leaf _ _ (node _ d (leaf _ _ nil))) h q c = λ n e. h.0 n e
+means_formed s no_auto us h q c = tt
+means_formed s with_auto us h q c = tt
+means_formed s no_mark us h q c = tt
+means_formed s a_mark us h q c = tt
+means_formed s no_range nil h q c = λ p l k. range_none refl
+means_formed s no_float_range nil h q c = λ p l k. floats_none refl
+means_formed s a_range (leaf o m (leaf a _ (leaf t n (leaf b _ (leaf z _ nil))))) h q c = λ p l k. range_of_two s p o a t b z l k m n
+means_formed s a_float_range (leaf o m (leaf a _ (leaf t n (leaf b _ (leaf z _ nil))))) h q c = λ p l k. floats_of_two s p o a t b z l k m n
+means_formed s a_list (leaf o m (leaf a _ (node _ ns (leaf z n nil)))) h q c = λ p l k.
     range_of_list s p o a (tokens ns ++ (z ∷ [])) _ l k m (h.0 (a.place + a.length) z n k.1.1)
 means_formed s no_number nil h q c = λ p z n k. no_numbers s p z n k
 means_formed s a_number (leaf x m (leaf a _ (node _ ns nil))) h q c = λ p z n k.
     let e : (tokens ns ++ []) ++ (z ∷ []) ≡ tokens ns ++ (z ∷ []) = append_assoc (tokens ns) [] (z ∷ []) in
     more_numbers s p x a ((tokens ns ++ []) ++ (z ∷ [])) _ k m (h.0 (a.place + a.length) z n (subst (λ l. Chain s (a.place + a.length) l) e k.1.1))
-means_formed s no-boolean-range nil h q c = λ n e. (no_truths, none_under)
-means_formed s a-boolean-range (leaf _ _ (leaf t _ (node _ us (node _ d (leaf _ _ (leaf f _ (node _ vs (node _ b r)))))))) h q c = λ n e.
+means_formed s no_boolean_range nil h q c = λ n e. (no_truths, none_under)
+means_formed s a_boolean_range (leaf _ _ (leaf t _ (node _ us (node _ d (leaf _ _ (leaf f _ (node _ vs (node _ b r)))))))) h q c = λ n e.
     (both_truths, more_under (h.0 n e) (more_under (h.1.1.0 _ _) none_under))
 means_formed s enumerator_is (leaf w _ (node _ us (node _ d nil))) h q c = λ n e. h.0 n (suc e)
-means_formed s no-enumerator nil h q c = λ n e. none_under
+means_formed s no_enumerator nil h q c = λ n e. none_under
 means_formed s an_enumerator (leaf _ _ (node o v (node r vs nil))) h q c = λ n e. more_under (h.0 n e) (h.1.0 _ _)
 means_formed s no_default us h q c = tt
-means_formed s a-default us h q c = tt
-means_formed s own-auto us h q c = tt
-means_formed s own-none us h q c = tt
-means_formed s own-number us h q c = tt
-means_formed s own-string us h q c = tt
-means_formed s own-float us h q c = tt
-means_formed s own-true us h q c = tt
-means_formed s own-false us h q c = tt
+means_formed s a_default us h q c = tt
+means_formed s own_auto us h q c = tt
+means_formed s own_none us h q c = tt
+means_formed s own_number us h q c = tt
+means_formed s own_string us h q c = tt
+means_formed s own_float us h q c = tt
+means_formed s own_true us h q c = tt
+means_formed s own_false us h q c = tt
 means_formed s own_name us h q c = tt
-means_formed s application-is us h q c = tt
+means_formed s application_is us h q c = tt
 means_formed s no_object us h q c = tt
 means_formed s an_object us h q c = tt
-means_formed s an-object-alone us h q c = tt
-means_formed s an-object-with us h q c = tt
+means_formed s an_object_alone us h q c = tt
+means_formed s an_object_with us h q c = tt
 means_formed s no_block us h q c = tt
 means_formed s a_block us h q c = tt
-means_formed s no-statement us h q c = tt
+means_formed s no_statement us h q c = tt
 means_formed s a_statement us h q c = tt
-means_formed s statement-is us h q c = tt
-means_formed s value-number us h q c = tt
-means_formed s value-string us h q c = tt
-means_formed s value-float us h q c = tt
-means_formed s value-auto us h q c = tt
-means_formed s value-name us h q c = tt
-means_formed s value-true us h q c = tt
-means_formed s value-false us h q c = tt
+means_formed s statement_is us h q c = tt
+means_formed s value_number us h q c = tt
+means_formed s value_string us h q c = tt
+means_formed s value_float us h q c = tt
+means_formed s value_auto us h q c = tt
+means_formed s value_name us h q c = tt
+means_formed s value_true us h q c = tt
+means_formed s value_false us h q c = tt
 
 all_formed : {f : Form} (s : List ℕ) (ts : Trees ◌⟶◌ f) (p : ℕ) → Chain s p (tokens ts) → All s ts
 unfolding tokens

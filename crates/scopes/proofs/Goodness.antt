@@ -9,7 +9,7 @@ use Rattle.meaning.specs.Normal.{part}
 use Rattle.meaning.specs.Actions.{word_of, syntax}
 use Rattle.meaning.specs.Syntax.{Word, span_of, Object, File}
 use Rattle.meaning.specs.Merging.{merge}
-use Rattle.meaning.proofs.Merges.{In, in-here, in-there, merge_in}
+use Rattle.meaning.proofs.Merges.{In, in_here, in_there, merge_in}
 use Rattle.meaning.proofs.Order.{Ordered, InOrder, Sub, sub_nil, keep, drop, sub_front, sub_all, ordered_sub, ordered_from}
 use Rattle.meaning.proofs.Sites.{spec_words, object_words, file_words}
 use Rattle.meaning.proofs.Leaves.{words, leaves_words, leaves_in_order, words_leaves}
@@ -96,12 +96,12 @@ part_good s f h = (good_back s (spec_words f.specs) (f.cpu ∷ object_words f.pa
 
 -- The words of the objects are words of their parts.
 one_good : (s : List ℕ) {w : Word} {l : List Word} → In w l → Goods s l → Good s w
-one_good s (in-here e) g = subst (Good s) e g.0
-one_good s (in-there h) g = one_good s h g.1
+one_good s (in_here e) g = subst (Good s) e g.0
+one_good s (in_there h) g = one_good s h g.1
 
 in_good : (s : List ℕ) (l m : List Word) → ((w : Word) → In w l → In w m) → Goods s m → Goods s l
 in_good s [] m f g = tt
-in_good s (w ∷ l) m f g = (one_good s (f w (in-here refl)) g, in_good s l m (λ v h. f v (in-there h)) g)
+in_good s (w ∷ l) m f g = (one_good s (f w (in_here refl)) g, in_good s l m (λ v h. f v (in_there h)) g)
 
 pub object_good : (s : List ℕ) (f : File) → f.objects ≡ merge f.parts → Goods s (later_words f) → Goods s (object_words f.objects)
 object_good s f e h =

@@ -25,7 +25,7 @@ use Rattle.meaning.specs.Defining.{outside, bound_faults}
 use Rattle.meaning.proofs.Order.{InOrder, ordered_from}
 use Rattle.scopes.specs.declared.Item.{Item}
 use Rattle.scopes.specs.Items.{num, item_of_step, item_at}
-use Rattle.scopes.specs.Ranges.{NumberAt, SignAt, Listed, listed-none, listed_more, RangeAt, range_none, range-two, range-list}
+use Rattle.scopes.specs.Ranges.{NumberAt, SignAt, Listed, listed_none, listed_more, RangeAt, range_none, range_two, range_list}
 use Rattle.scopes.specs.Promises.{fault_of, IsListed, InRange, ListFault, BoundFault}
 use Rattle.scopes.proofs.Chains.{item_at_lem, item_next}
 
@@ -89,20 +89,20 @@ module _ (s : List ℕ) (n : Num) (from : ℕ) where
   listed_start ws l = record { left = ws; listed = l; whole = refl }
 
   module _ (at : ℕ) (k : Seeking s n from at) where
-    pub listed-stop : (x : Item) → x ≡ item_at s at → (x.sign ≡ 44 → ⊥) → IsListed s from n false
+    pub listed_stop : (x : Item) → x ≡ item_at s at → (x.sign ≡ 44 → ⊥) → IsListed s from n false
     unfolding among_numbers
-    listed-stop x e h ws l = by (k ws l).listed ∙ sym (k ws l).whole
+    listed_stop x e h ws l = by (k ws l).listed ∙ sym (k ws l).whole
       where
         by : {us : List Word} → Listed s at us → false ≡ among_numbers n us
-        by (listed-none z) = refl
+        by (listed_none z) = refl
         by (listed_more z w r) = absurd (h (ap (λ (i : Item). i.sign) e ∙ z.sign))
 
-    pub listed-end : length s ≤ at → IsListed s from n false
+    pub listed_end : length s ≤ at → IsListed s from n false
     unfolding among_numbers
-    listed-end h ws l = by (k ws l).listed ∙ sym (k ws l).whole
+    listed_end h ws l = by (k ws l).listed ∙ sym (k ws l).whole
       where
         by : {us : List Word} → Listed s at us → false ≡ among_numbers n us
-        by (listed-none z) = refl
+        by (listed_none z) = refl
         by (listed_more z w r) = absurd (let a = sign_on s at (λ y. let b = z.sign in omega (arith, b, y)) in omega (arith, a))
 
     module _ (x y : Item) (e : x ≡ item_at s at) (h : x.sign ≡ 44) (g : y ≡ item_at s x.next) (b : Bool) (q : b ≡ equal n (num y.number)) where
@@ -117,7 +117,7 @@ module _ (s : List ℕ) (n : Num) (from : ℕ) where
       listed-hit t ws l = by (k ws l).listed ∙ sym (k ws l).whole
         where
           by : {us : List Word} → Listed s at us → true ≡ among_numbers n us
-          by (listed-none z) = absurd (z (ap (λ (i : Item). i.sign) (sym e) ∙ h))
+          by (listed_none z) = absurd (z (ap (λ (i : Item). i.sign) (sym e) ∙ h))
           by (listed_more {ws = rest} z v r) = sym (ap (λ c. either c (among_numbers n rest)) ((number_is z v).0 ∙ t))
 
       pub listed-on : b ≡ false → Seeking s n from y.next
@@ -125,18 +125,18 @@ module _ (s : List ℕ) (n : Num) (from : ℕ) where
       listed-on t ws l = by (k ws l).listed (k ws l).whole
         where
           by : {us : List Word} → Listed s at us → among_numbers n ws ≡ among_numbers n us → Left s n y.next ws
-          by (listed-none z) o = absurd (z (ap (λ (i : Item). i.sign) (sym e) ∙ h))
+          by (listed_none z) o = absurd (z (ap (λ (i : Item). i.sign) (sym e) ∙ h))
           by (listed_more {ws = rest} z v r) o =
               record { left = rest; listed = subst (λ c. Listed s c rest) (sym (number_is z v).1) r; whole = o ∙ ap (λ c. either c (among_numbers n rest)) ((number_is z v).0 ∙ t) }
 
 -- Ranges ------------------------------------------------------------------------------------------------------------------------------------
 
 module _ (s : List ℕ) (p : ℕ) where
-  pub range-zero : (n : Num) → p ≡ 0 → InRange s p n true
+  pub range_zero : (n : Num) → p ≡ 0 → InRange s p n true
   unfolding in_bounds
-  range-zero n e b (range_none i) = refl
-  range-zero n e b (range-two h o a t c) = absurd (h e)
-  range-zero n e b (range-list h o a t l) = absurd (h e)
+  range_zero n e b (range_none i) = refl
+  range_zero n e b (range_two h o a t c) = absurd (h e)
+  range_zero n e b (range_list h o a t l) = absurd (h e)
 
   module _ (h : p ≡ 0 → ⊥) (o a z : Item) (e : o ≡ item_at s p) (g : a ≡ item_at s o.next) (k : z ≡ item_at s a.next) where
     -- The two bounds.
@@ -162,7 +162,7 @@ module _ (s : List ℕ) (p : ℕ) where
 
     two : (y : Item) (b : Bounds) → z.sign ≡ 46 → y ≡ item_at s z.next → RangeAt s p b → Two y b
     two y b t v (range_none i) = absurd (h i)
-    two y b t v (range-two {q = q} {r} {t = q₂} n x m w u) =
+    two y b t v (range_two {q = q} {r} {t = q₂} n x m w u) =
         let i : a ≡ item_at s q = g ∙ ap (item_at s) (ap (λ (i : Item). i.next) e ∙ x.next) in
         let j : z ≡ item_at s r = k ∙ ap (item_at s) (ap (λ (i : Item). i.next) i ∙ m.next) in
         let l : y ≡ item_at s q₂ = v ∙ ap (item_at s) (ap (λ (i : Item). i.next) j ∙ w.next) in
@@ -181,18 +181,18 @@ module _ (s : List ℕ) (p : ℕ) where
           high-place = ap (λ (i : Item). i.at) l ∙ u.place;
           order = omega (arith, c, d, f, a₁, a₂);
         }
-    two y b t v (range-list {q = q} {r} n x m w l) =
+    two y b t v (range_list {q = q} {r} n x m w l) =
         let i : a ≡ item_at s q = g ∙ ap (item_at s) (ap (λ (i : Item). i.next) e ∙ x.next) in
         let j : z ≡ item_at s r = k ∙ ap (item_at s) (ap (λ (i : Item). i.next) i ∙ m.next) in
         absurd (w (ap (λ (i : Item). i.sign) (sym j) ∙ t))
 
     many : (b : Bounds) → (z.sign ≡ 46 → ⊥) → RangeAt s p b → Many b
     many b t (range_none i) = absurd (h i)
-    many b t (range-two {q = q} {r} n x m w u) =
+    many b t (range_two {q = q} {r} n x m w u) =
         let i : a ≡ item_at s q = g ∙ ap (item_at s) (ap (λ (i : Item). i.next) e ∙ x.next) in
         let j : z ≡ item_at s r = k ∙ ap (item_at s) (ap (λ (i : Item). i.next) i ∙ m.next) in
         absurd (t (ap (λ (i : Item). i.sign) j ∙ w.sign))
-    many b t (range-list {q = q} {r} {ws = ws} n x m w l) =
+    many b t (range_list {q = q} {r} {ws = ws} n x m w l) =
         let i : a ≡ item_at s q = g ∙ ap (item_at s) (ap (λ (i : Item). i.next) e ∙ x.next) in
         let j : a.next ≡ r = ap (λ (i : Item). i.next) i ∙ m.next in
         let c = m.long in
@@ -221,9 +221,9 @@ module _ (s : List ℕ) (p : ℕ) where
           sym (ap (in_bounds n) x.bounds ∙ ap (λ f. both f (num_at_most n x.high.number)) (ap (λ m. num_at_most m n) (sym x.low-number) ∙ sym q ∙ u))
 
       module _ (t : z.sign ≡ 46 → ⊥) (c : Bool) (q : c ≡ equal n (num a.number)) where
-        pub in-first : c ≡ true → InRange s p n true
+        pub in_first : c ≡ true → InRange s p n true
         unfolding in_bounds among_numbers
-        in-first u b d =
+        in_first u b d =
             let x = many b t d in
             sym (ap (in_bounds n) x.bounds ∙ ap (λ f. either f (among_numbers n x.tail)) (ap (equal n) (sym x.number) ∙ sym q ∙ u))
 
@@ -284,7 +284,7 @@ first_in i w ws e = ap (λ b. first (faults_if (not b) w 21 ++ outside i ws)) e
 
 -- Numbers listed are in order.
 listed_order : (s : List ℕ) (p : ℕ) (ws : List Word) → Listed s p ws → InOrder p ws
-listed_order s p [] (listed-none z) = tt
+listed_order s p [] (listed_none z) = tt
 listed_order s p (w ∷ ws) (listed_more {q = q} {r} z v l) =
     let a = sign_on s p (λ d. let f = z.sign in omega (arith, f, d)) in
     let b = z.next in
@@ -303,24 +303,24 @@ abbrev pub SeekingOut : List ℕ → Integer → (from at : ℕ) → Type 0
 SeekingOut s i from at = (ws : List Word) → Listed s from ws → LeftOut s i at ws
 
 module _ (s : List ℕ) (i : Integer) (from : ℕ) where
-  pub out-start : SeekingOut s i from from
-  out-start ws l = record { left = ws; listed = l; whole = refl }
+  pub out_start : SeekingOut s i from from
+  out_start ws l = record { left = ws; listed = l; whole = refl }
 
   module _ (at : ℕ) (k : SeekingOut s i from at) where
-    pub out-stop : (x : Item) → x ≡ item_at s at → (x.sign ≡ 44 → ⊥) → ListFault s i from no_fault
+    pub out_stop : (x : Item) → x ≡ item_at s at → (x.sign ≡ 44 → ⊥) → ListFault s i from no_fault
     unfolding outside first fault_of
-    out-stop x e h ws l = by (k ws l).listed ∙ sym (ap fault_of (k ws l).whole)
+    out_stop x e h ws l = by (k ws l).listed ∙ sym (ap fault_of (k ws l).whole)
       where
         by : {us : List Word} → Listed s at us → no_fault ≡ fault_of (first (outside i us))
-        by (listed-none z) = refl
+        by (listed_none z) = refl
         by (listed_more z w r) = absurd (h (ap (λ (y : Item). y.sign) e ∙ z.sign))
 
-    pub out-end : length s ≤ at → ListFault s i from no_fault
+    pub out_end : length s ≤ at → ListFault s i from no_fault
     unfolding outside first fault_of
-    out-end h ws l = by (k ws l).listed ∙ sym (ap fault_of (k ws l).whole)
+    out_end h ws l = by (k ws l).listed ∙ sym (ap fault_of (k ws l).whole)
       where
         by : {us : List Word} → Listed s at us → no_fault ≡ fault_of (first (outside i us))
-        by (listed-none z) = refl
+        by (listed_none z) = refl
         by (listed_more z w r) = absurd (let a = sign_on s at (λ y. let b = z.sign in omega (arith, b, y)) in omega (arith, a))
 
     module _ (x y : Item) (e : x ≡ item_at s at) (h : x.sign ≡ 44) (g : y ≡ item_at s x.next) (b : Bool) (q : b ≡ in_type i (num y.number)) where
@@ -335,7 +335,7 @@ module _ (s : List ℕ) (i : Integer) (from : ℕ) where
       out-hit t ws l = by (k ws l).listed ∙ sym (ap fault_of (k ws l).whole)
         where
           by : {us : List Word} → Listed s at us → record { number = 21; place = y.at } ≡ fault_of (first (outside i us))
-          by (listed-none z) = absurd (z (ap (λ (j : Item). j.sign) (sym e) ∙ h))
+          by (listed_none z) = absurd (z (ap (λ (j : Item). j.sign) (sym e) ∙ h))
           by (listed_more {r = r₁} {w = w} {ws = rest} z v r) =
               let m = v.long in
               ap (λ (n : ℕ). record { number = 21; place = n }) (found-is z v).1.1
@@ -345,26 +345,26 @@ module _ (s : List ℕ) (i : Integer) (from : ℕ) where
       out-on t ws l = by (k ws l).listed (k ws l).whole
         where
           by : {us : List Word} → Listed s at us → first (outside i ws) ≡ first (outside i us) → LeftOut s i y.next ws
-          by (listed-none z) o = absurd (z (ap (λ (j : Item). j.sign) (sym e) ∙ h))
+          by (listed_none z) o = absurd (z (ap (λ (j : Item). j.sign) (sym e) ∙ h))
           by (listed_more {w = w} {ws = rest} z v r) o =
               record { left = rest; listed = subst (λ c. Listed s c rest) (sym (found-is z v).1.0) r; whole = o ∙ first_in i w rest ((found-is z v).0 ∙ t) }
 
 -- The faults of two bounds in order.
 module _ (i : Integer) (a b : Word) (l : a.place < b.place) where
-  both-ten : Ten a.place (first (outside i (a ∷ b ∷ [])))
-  both-ten = outside_ten i (a ∷ b ∷ []) a.place (omega arith, (omega arith, tt))
+  both_ten : Ten a.place (first (outside i (a ∷ b ∷ [])))
+  both_ten = outside_ten i (a ∷ b ∷ []) a.place (omega arith, (omega arith, tt))
 
-  two-crossed : num_at_most a.number b.number ≡ false → first (bound_faults i (from_to a b)) ≡ some (record { place = a.place; number = 21 })
+  two_crossed : num_at_most a.number b.number ≡ false → first (bound_faults i (from_to a b)) ≡ some (record { place = a.place; number = 21 })
   unfolding bound_faults faults_if first
-  two-crossed e = ap (λ c. first (faults_if (not c) a 21 ++ outside i (a ∷ b ∷ []))) e ∙ ten_first a.place (first (outside i (a ∷ b ∷ []))) both-ten
+  two_crossed e = ap (λ c. first (faults_if (not c) a 21 ++ outside i (a ∷ b ∷ []))) e ∙ ten_first a.place (first (outside i (a ∷ b ∷ []))) both_ten
 
-  two-straight : num_at_most a.number b.number ≡ true → first (bound_faults i (from_to a b)) ≡ first (outside i (a ∷ b ∷ []))
+  two_straight : num_at_most a.number b.number ≡ true → first (bound_faults i (from_to a b)) ≡ first (outside i (a ∷ b ∷ []))
   unfolding bound_faults faults_if
-  two-straight e = ap (λ c. first (faults_if (not c) a 21 ++ outside i (a ∷ b ∷ []))) e
+  two_straight e = ap (λ c. first (faults_if (not c) a 21 ++ outside i (a ∷ b ∷ []))) e
 
-  high-fault : (t : Bool) → in_type i b.number ≡ t → first (outside i (b ∷ [])) ≡ first (faults_if (not t) b 21)
+  high_fault : (t : Bool) → in_type i b.number ≡ t → first (outside i (b ∷ [])) ≡ first (faults_if (not t) b 21)
   unfolding outside
-  high-fault t e = ap (λ c. first (faults_if (not c) b 21 ++ [])) e ∙ ap first (append-nil (faults_if (not t) b 21))
+  high_fault t e = ap (λ c. first (faults_if (not c) b 21 ++ [])) e ∙ ap first (append-nil (faults_if (not t) b 21))
 
 pub fault_if_is : (t : Bool) (w : Word) (p : ℕ) → p ≡ w.place → fault_if t 21 p ≡ fault_of (first (faults_if t w 21))
 unfolding fault_if fault_of first sooner faults_if
@@ -372,11 +372,11 @@ fault_if_is true w p e = ap (λ (n : ℕ). record { number = 21; place = n }) e
 fault_if_is false w p e = refl
 
 module _ (s : List ℕ) (i : Integer) (p : ℕ) where
-  pub bound-zero : p ≡ 0 → BoundFault s i p no_fault
+  pub bound_zero : p ≡ 0 → BoundFault s i p no_fault
   unfolding bound_faults first fault_of
-  bound-zero e b (range_none j) = refl
-  bound-zero e b (range-two h o a t c) = absurd (h e)
-  bound-zero e b (range-list h o a t l) = absurd (h e)
+  bound_zero e b (range_none j) = refl
+  bound_zero e b (range_two h o a t c) = absurd (h e)
+  bound_zero e b (range_list h o a t l) = absurd (h e)
 
   module _ (h : p ≡ 0 → ⊥) (o a z : Item) (e : o ≡ item_at s p) (g : a ≡ item_at s o.next) (k : z ≡ item_at s a.next) where
     module _ (y : Item) (t : z.sign ≡ 46) (v : y ≡ item_at s z.next) (c : Bool) (q : c ≡ num_at_most (num a.number) (num y.number)) where
@@ -386,7 +386,7 @@ module _ (s : List ℕ) (i : Integer) (p : ℕ) where
           let x = two s p h o a z e g k y b t v d in
           ap (λ (n : ℕ). record { number = 21; place = n }) x.low-place
           ∙ sym (ap (λ b. fault_of (first (bound_faults i b))) x.bounds
-          ∙ ap fault_of (two-crossed i x.low x.high x.order (sym (ap₂ num_at_most x.low-number x.high-number) ∙ sym q ∙ u)))
+          ∙ ap fault_of (two_crossed i x.low x.high x.order (sym (ap₂ num_at_most x.low-number x.high-number) ∙ sym q ∙ u)))
 
       module _ (u : c ≡ true) (c₁ : Bool) (q₁ : c₁ ≡ in_type i (num a.number)) where
         pub bound-low : c₁ ≡ false → BoundFault s i p (record { number = 21; place = a.at })
@@ -396,7 +396,7 @@ module _ (s : List ℕ) (i : Integer) (p : ℕ) where
             let w = x.order in
             ap (λ (n : ℕ). record { number = 21; place = n }) x.low-place
             ∙ sym (ap (λ b. fault_of (first (bound_faults i b))) x.bounds
-            ∙ ap fault_of (two-straight i x.low x.high x.order (sym (ap₂ num_at_most x.low-number x.high-number) ∙ sym q ∙ u)
+            ∙ ap fault_of (two_straight i x.low x.high x.order (sym (ap₂ num_at_most x.low-number x.high-number) ∙ sym q ∙ u)
             ∙ first_out i x.low (x.high ∷ []) (omega arith, tt) (ap (in_type i) (sym x.low-number) ∙ sym q₁ ∙ u₁)))
 
         pub bound-high : (c₂ : Bool) (r : Fault) → c₁ ≡ true → c₂ ≡ in_type i (num y.number) → r ≡ fault_if (not c₂) 21 y.at → BoundFault s i p r
@@ -404,9 +404,9 @@ module _ (s : List ℕ) (i : Integer) (p : ℕ) where
             let x = two s p h o a z e g k y b t v d in
             f ∙ fault_if_is (not c₂) x.high y.at x.high-place
             ∙ sym (ap (λ b. fault_of (first (bound_faults i b))) x.bounds
-            ∙ ap fault_of (two-straight i x.low x.high x.order (sym (ap₂ num_at_most x.low-number x.high-number) ∙ sym q ∙ u)
+            ∙ ap fault_of (two_straight i x.low x.high x.order (sym (ap₂ num_at_most x.low-number x.high-number) ∙ sym q ∙ u)
             ∙ first_in i x.low (x.high ∷ []) (ap (in_type i) (sym x.low-number) ∙ sym q₁ ∙ u₁)
-            ∙ high-fault i x.low x.high x.order c₂ (ap (in_type i) (sym x.high-number) ∙ sym q₂)))
+            ∙ high_fault i x.low x.high x.order c₂ (ap (in_type i) (sym x.high-number) ∙ sym q₂)))
 
     module _ (t : z.sign ≡ 46 → ⊥) (c : Bool) (q : c ≡ in_type i (num a.number)) where
       pub bound-first : c ≡ false → BoundFault s i p (record { number = 21; place = a.at })

@@ -7,7 +7,7 @@ use lib.ListN.{length, get_or, length-append}
 use Rattle.meaning.specs.Syntax.{Object, File, statements_in, Values, no_value, value, is_enum}
 use Rattle.layout.specs.Kept.{Entry, Choice, definition_cells, choice_cells, object_cells, object_rows, spec_entries, spec_choices, map_cells, kept, kept_definitions, kept_enumerators, kept_objects, Wide, truth_cells, default_code}
 use Rattle.scopes.specs.Situations.{Nth}
-use Rattle.layout.proofs.Lengths.{map_append, length-map, wide-map, definition_wide, object_wide}
+use Rattle.layout.proofs.Lengths.{map_append, length_map, wide_map, definition_wide, object_wide}
 use Rattle.layout.proofs.Cells.{cell_kept}
 use mathlib.Core.Bool.{Bool, true, false}
 
@@ -58,19 +58,19 @@ kept_cell n w j c rs r h q l m =
 
 -- Rows made of a list, one of each element.
 module _ {A : Type 0} (g : A → List ℕ) (w : ℕ) (wide : (x : A) → length (g x) ≡ w) where
-  map-nth : {xs : List A} {j : ℕ} {x : A} → Nth xs j x → Nth (map_cells g xs) j (g x)
+  map_nth : {xs : List A} {j : ℕ} {x : A} → Nth xs j x → Nth (map_cells g xs) j (g x)
   unfolding map_cells
-  map-nth {x = x} q =
-      record { front = map_cells g q.front; rest = map_cells g q.rest; whole = ap (map_cells g) q.whole ∙ map_append g q.front (x ∷ q.rest); place = length-map g q.front ∙ q.place }
+  map_nth {x = x} q =
+      record { front = map_cells g q.front; rest = map_cells g q.rest; whole = ap (map_cells g) q.whole ∙ map_append g q.front (x ∷ q.rest); place = length_map g q.front ∙ q.place }
 
-  pub map-cell : (n j c : ℕ) (xs : List A) (x : A) → Nth xs j x → c < w → j * w + c < n → get_or (kept n (map_cells g xs)) (j * w + c) 0 ≡ get_or (g x) c 0
-  map-cell n j c xs x q l m = kept_cell n w j c (map_cells g xs) (g x) (wide-map g w wide xs) (map-nth q) l m
+  pub map_cell : (n j c : ℕ) (xs : List A) (x : A) → Nth xs j x → c < w → j * w + c < n → get_or (kept n (map_cells g xs)) (j * w + c) 0 ≡ get_or (g x) c 0
+  map_cell n j c xs x q l m = kept_cell n w j c (map_cells g xs) (g x) (wide_map g w wide xs) (map_nth q) l m
 
 pub definition_cell : (f : File) (d : List ℕ) (j c : ℕ) (x : Entry) → d ≡ kept_definitions f → Nth (spec_entries f.specs) j x → j < 513 → c < 19
     → get_or d (j * 19 + c) 0 ≡ get_or (definition_cells x) c 0
 unfolding kept_definitions
 definition_cell f d j c x e q h l =
-    ap (λ (t : List ℕ). get_or t (j * 19 + c) 0) e ∙ map-cell definition_cells 19 definition_wide (513 * 19) j c (spec_entries f.specs) x q l (omega arith)
+    ap (λ (t : List ℕ). get_or t (j * 19 + c) 0) e ∙ map_cell definition_cells 19 definition_wide (513 * 19) j c (spec_entries f.specs) x q l (omega arith)
 
 -- The last cell is the code of the default.
 last_truth : (b : Bool) (vs : Values) (k : ℕ) → get_or (truth_cells b vs ++ (k ∷ [])) 3 0 ≡ k
@@ -90,7 +90,7 @@ pub choice_cell : (f : File) (e : List ℕ) (j c : ℕ) (x : Choice) → e ≡ k
     → get_or e (j * 3 + c) 0 ≡ get_or (choice_cells x) c 0
 unfolding kept_enumerators choice_cells
 choice_cell f e j c x t q h l =
-    ap (λ (t : List ℕ). get_or t (j * 3 + c) 0) t ∙ map-cell choice_cells 3 (λ y. choice_wide y) (1025 * 3) j c (spec_choices f.specs) x q l (omega arith)
+    ap (λ (t : List ℕ). get_or t (j * 3 + c) 0) t ∙ map_cell choice_cells 3 (λ y. choice_wide y) (1025 * 3) j c (spec_choices f.specs) x q l (omega arith)
   where
     choice_wide : (y : Choice) → length (choice_cells y) ≡ 3
     choice_wide y = refl

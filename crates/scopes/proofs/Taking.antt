@@ -23,7 +23,7 @@ use Rattle.meaning.specs.Actions.{num_of_step, float_of_step}
 use Rattle.meaning.specs.Words.{alike, in_type, in_bounds, in_float_bounds}
 use Rattle.meaning.specs.Scopes.{Under, find_value, Sort, a_number, a_truth, an_auto, a_no_default, a_name, a_float as float-sort, is_string, is_boolean, fits_number, fits_float, fits_as, fits, a_string as string-sort}
 use Rattle.meaning.specs.Defining.{range_faults, bound_faults, low_faults}
-use Rattle.meaning.proofs.Sites.{value-words, definition-words}
+use Rattle.meaning.proofs.Sites.{value_words, definition_words}
 use Rattle.layout.specs.Kept.{Entry, list_key, truth_cells, default_code, definition_cells, code_of, kept_definitions}
 use Rattle.layout.proofs.Codes.{kind_low, integer_low}
 use Rattle.scopes.specs.Items.{integer_coded}
@@ -55,22 +55,22 @@ module _ (f : File) (d : List ℕ) (j : ℕ) (x : Defined) (h : d ≡ kept_defin
   unfolding definition_cells
   auto_cell = definition_cell f d j 7 (entry f j x r) h r.nth l (omega arith)
 
-  pub range-cell : get_or d (j * 19 + 8) 0 ≡ x.definition.range.place
+  pub range_cell : get_or d (j * 19 + 8) 0 ≡ x.definition.range.place
   unfolding definition_cells
-  range-cell = definition_cell f d j 8 (entry f j x r) h r.nth l (omega arith)
+  range_cell = definition_cell f d j 8 (entry f j x r) h r.nth l (omega arith)
 
   module _ (b : is_enum x.definition.type ≡ false) where
-    pub size-cell : get_or d (j * 19 + 15) 0 ≡ get_or (truth_cells false x.values ++ (default_code x.definition.default ∷ [])) 0 0
+    pub size_cell : get_or d (j * 19 + 15) 0 ≡ get_or (truth_cells false x.values ++ (default_code x.definition.default ∷ [])) 0 0
     unfolding definition_cells
-    size-cell = definition_cell f d j 15 (entry f j x r) h r.nth l (omega arith) ∙ ap (λ c. get_or (truth_cells c x.values ++ (default_code x.definition.default ∷ [])) 0 0) b
+    size_cell = definition_cell f d j 15 (entry f j x r) h r.nth l (omega arith) ∙ ap (λ c. get_or (truth_cells c x.values ++ (default_code x.definition.default ∷ [])) 0 0) b
 
-    pub second-cell : get_or d (j * 19 + 16) 0 ≡ get_or (truth_cells false x.values ++ (default_code x.definition.default ∷ [])) 1 0
+    pub second_cell : get_or d (j * 19 + 16) 0 ≡ get_or (truth_cells false x.values ++ (default_code x.definition.default ∷ [])) 1 0
     unfolding definition_cells
-    second-cell = definition_cell f d j 16 (entry f j x r) h r.nth l (omega arith) ∙ ap (λ c. get_or (truth_cells c x.values ++ (default_code x.definition.default ∷ [])) 1 0) b
+    second_cell = definition_cell f d j 16 (entry f j x r) h r.nth l (omega arith) ∙ ap (λ c. get_or (truth_cells c x.values ++ (default_code x.definition.default ∷ [])) 1 0) b
 
-    pub size2-cell : get_or d (j * 19 + 17) 0 ≡ get_or (truth_cells false x.values ++ (default_code x.definition.default ∷ [])) 2 0
+    pub size2_cell : get_or d (j * 19 + 17) 0 ≡ get_or (truth_cells false x.values ++ (default_code x.definition.default ∷ [])) 2 0
     unfolding definition_cells
-    size2-cell = definition_cell f d j 17 (entry f j x r) h r.nth l (omega arith) ∙ ap (λ c. get_or (truth_cells c x.values ++ (default_code x.definition.default ∷ [])) 2 0) b
+    size2_cell = definition_cell f d j 17 (entry f j x r) h r.nth l (omega arith) ∙ ap (λ c. get_or (truth_cells c x.values ++ (default_code x.definition.default ∷ [])) 2 0) b
 
 row_facts : {s : List ℕ} {f : File} {j : ℕ} {x : Defined} → (k : Situation s f) → (r : RowOf f j x) → DefinitionFacts s f r.under (entry_facts k (nth_in r.nth)).scope.outer x
 row_facts k r = (entry_facts k (nth_in r.nth)).facts
@@ -85,31 +85,31 @@ coded UINT64 = refl
 coded INT64 = refl
 
 module _ {s : List ℕ} {d : Definition} where
-  pub coded-boolean : {vs : Values} → Formed s d vs → code_of d.word ≡ 40 → d.type ≡ boolean
-  coded-boolean (an_integer i t c r) e = let a = integer_low i in absurd (omega arith)
-  coded-boolean (a_string t c b) e = absurd (omega arith)
-  coded-boolean (a_float t c g) e = absurd (omega arith)
-  coded-boolean (a_boolean t c b v) e = t
-  coded-boolean (an_enum t c b v) e = absurd (omega arith)
-  coded-boolean (a_reference k t c b) e = let a = kind_low k in absurd (omega arith)
+  pub coded_boolean : {vs : Values} → Formed s d vs → code_of d.word ≡ 40 → d.type ≡ boolean
+  coded_boolean (an_integer i t c r) e = let a = integer_low i in absurd (omega arith)
+  coded_boolean (a_string t c b) e = absurd (omega arith)
+  coded_boolean (a_float t c g) e = absurd (omega arith)
+  coded_boolean (a_boolean t c b v) e = t
+  coded_boolean (an_enum t c b v) e = absurd (omega arith)
+  coded_boolean (a_reference k t c b) e = let a = kind_low k in absurd (omega arith)
 
-  pub coded-enum : {vs : Values} → Formed s d vs → code_of d.word ≡ 41 → is_enum d.type ≡ true
+  pub coded_enum : {vs : Values} → Formed s d vs → code_of d.word ≡ 41 → is_enum d.type ≡ true
   unfolding is_enum
-  coded-enum (an_integer i t c r) e = let a = integer_low i in absurd (omega arith)
-  coded-enum (a_string t c b) e = absurd (omega arith)
-  coded-enum (a_float t c g) e = absurd (omega arith)
-  coded-enum (a_boolean t c b v) e = absurd (omega arith)
-  coded-enum (an_enum t c b v) e = ap is_enum t
-  coded-enum (a_reference k t c b) e = let a = kind_low k in absurd (omega arith)
+  coded_enum (an_integer i t c r) e = let a = integer_low i in absurd (omega arith)
+  coded_enum (a_string t c b) e = absurd (omega arith)
+  coded_enum (a_float t c g) e = absurd (omega arith)
+  coded_enum (a_boolean t c b v) e = absurd (omega arith)
+  coded_enum (an_enum t c b v) e = ap is_enum t
+  coded_enum (a_reference k t c b) e = let a = kind_low k in absurd (omega arith)
 
-  coded-other : {vs : Values} → Formed s d vs → (code_of d.word ≡ 41 → ⊥) → is_enum d.type ≡ false
+  coded_other : {vs : Values} → Formed s d vs → (code_of d.word ≡ 41 → ⊥) → is_enum d.type ≡ false
   unfolding is_enum
-  coded-other (an_integer i t c r) e = ap is_enum t
-  coded-other (a_string t c b) e = ap is_enum t
-  coded-other (a_float t c g) e = ap is_enum t
-  coded-other (a_boolean t c b v) e = ap is_enum t
-  coded-other (an_enum t c b v) e = absurd (e c)
-  coded-other (a_reference k t c b) e = ap is_enum t
+  coded_other (an_integer i t c r) e = ap is_enum t
+  coded_other (a_string t c b) e = ap is_enum t
+  coded_other (a_float t c g) e = ap is_enum t
+  coded_other (a_boolean t c b v) e = ap is_enum t
+  coded_other (an_enum t c b v) e = absurd (e c)
+  coded_other (a_reference k t c b) e = ap is_enum t
 
   coded_none : {vs : Values} → Formed s d vs → (code_of d.word ≡ 40 → ⊥) → (code_of d.word ≡ 41 → ⊥) → vs ≡ no_value
   coded_none (an_integer i t c r) e g = refl
@@ -119,88 +119,88 @@ module _ {s : List ℕ} {d : Definition} where
   coded_none (an_enum t c b v) e g = absurd (g c)
   coded_none (a_reference k t c b) e g = refl
 
-  string-test : {vs : Values} → Formed s d vs → eqb (code_of d.word) 39 ≡ is_string d.type
+  string_test : {vs : Values} → Formed s d vs → eqb (code_of d.word) 39 ≡ is_string d.type
   unfolding is_string
-  string-test (an_integer i t c r) = let a = integer_low i in ne_eqb (code_of d.word) 39 (λ e. omega arith) ∙ sym (ap is_string t)
-  string-test (a_string t c b) = eq-eqb (code_of d.word) 39 c ∙ sym (ap is_string t)
-  string-test (a_boolean t c b v) = ne_eqb (code_of d.word) 39 (λ e. omega arith) ∙ sym (ap is_string t)
-  string-test (an_enum t c b v) = ne_eqb (code_of d.word) 39 (λ e. omega arith) ∙ sym (ap is_string t)
-  string-test (a_float t c g) = ne_eqb (code_of d.word) 39 (λ e. omega arith) ∙ sym (ap is_string t)
-  string-test (a_reference k t c b) = let a = kind_low k in ne_eqb (code_of d.word) 39 (λ e. omega arith) ∙ sym (ap is_string t)
+  string_test (an_integer i t c r) = let a = integer_low i in ne_eqb (code_of d.word) 39 (λ e. omega arith) ∙ sym (ap is_string t)
+  string_test (a_string t c b) = eq-eqb (code_of d.word) 39 c ∙ sym (ap is_string t)
+  string_test (a_boolean t c b v) = ne_eqb (code_of d.word) 39 (λ e. omega arith) ∙ sym (ap is_string t)
+  string_test (an_enum t c b v) = ne_eqb (code_of d.word) 39 (λ e. omega arith) ∙ sym (ap is_string t)
+  string_test (a_float t c g) = ne_eqb (code_of d.word) 39 (λ e. omega arith) ∙ sym (ap is_string t)
+  string_test (a_reference k t c b) = let a = kind_low k in ne_eqb (code_of d.word) 39 (λ e. omega arith) ∙ sym (ap is_string t)
 
-  boolean-test : {vs : Values} → Formed s d vs → eqb (code_of d.word) 40 ≡ is_boolean d.type
+  boolean_test : {vs : Values} → Formed s d vs → eqb (code_of d.word) 40 ≡ is_boolean d.type
   unfolding is_boolean
-  boolean-test (an_integer i t c r) = let a = integer_low i in ne_eqb (code_of d.word) 40 (λ e. omega arith) ∙ sym (ap is_boolean t)
-  boolean-test (a_string t c b) = ne_eqb (code_of d.word) 40 (λ e. omega arith) ∙ sym (ap is_boolean t)
-  boolean-test (a_float t c g) = ne_eqb (code_of d.word) 40 (λ e. omega arith) ∙ sym (ap is_boolean t)
-  boolean-test (a_boolean t c b v) = eq-eqb (code_of d.word) 40 c ∙ sym (ap is_boolean t)
-  boolean-test (an_enum t c b v) = ne_eqb (code_of d.word) 40 (λ e. omega arith) ∙ sym (ap is_boolean t)
-  boolean-test (a_reference k t c b) = let a = kind_low k in ne_eqb (code_of d.word) 40 (λ e. omega arith) ∙ sym (ap is_boolean t)
+  boolean_test (an_integer i t c r) = let a = integer_low i in ne_eqb (code_of d.word) 40 (λ e. omega arith) ∙ sym (ap is_boolean t)
+  boolean_test (a_string t c b) = ne_eqb (code_of d.word) 40 (λ e. omega arith) ∙ sym (ap is_boolean t)
+  boolean_test (a_float t c g) = ne_eqb (code_of d.word) 40 (λ e. omega arith) ∙ sym (ap is_boolean t)
+  boolean_test (a_boolean t c b v) = eq-eqb (code_of d.word) 40 c ∙ sym (ap is_boolean t)
+  boolean_test (an_enum t c b v) = ne_eqb (code_of d.word) 40 (λ e. omega arith) ∙ sym (ap is_boolean t)
+  boolean_test (a_reference k t c b) = let a = kind_low k in ne_eqb (code_of d.word) 40 (λ e. omega arith) ∙ sym (ap is_boolean t)
 
-  the-truths : {vs : Values} → Formed s d vs → d.type ≡ boolean → Truths vs
+  the_truths : {vs : Values} → Formed s d vs → d.type ≡ boolean → Truths vs
   unfolding is_boolean
-  the-truths (an_integer i t c r) e = absurd (false≢true (sym (ap is_boolean t) ∙ ap is_boolean e))
-  the-truths (a_string t c b) e = absurd (false≢true (sym (ap is_boolean t) ∙ ap is_boolean e))
-  the-truths (a_float t c g) e = absurd (false≢true (sym (ap is_boolean t) ∙ ap is_boolean e))
-  the-truths (a_boolean t c b v) e = v
-  the-truths (an_enum t c b v) e = absurd (false≢true (sym (ap is_boolean t) ∙ ap is_boolean e))
-  the-truths (a_reference k t c b) e = absurd (false≢true (sym (ap is_boolean t) ∙ ap is_boolean e))
+  the_truths (an_integer i t c r) e = absurd (false≢true (sym (ap is_boolean t) ∙ ap is_boolean e))
+  the_truths (a_string t c b) e = absurd (false≢true (sym (ap is_boolean t) ∙ ap is_boolean e))
+  the_truths (a_float t c g) e = absurd (false≢true (sym (ap is_boolean t) ∙ ap is_boolean e))
+  the_truths (a_boolean t c b v) e = v
+  the_truths (an_enum t c b v) e = absurd (false≢true (sym (ap is_boolean t) ∙ ap is_boolean e))
+  the_truths (a_reference k t c b) e = absurd (false≢true (sym (ap is_boolean t) ∙ ap is_boolean e))
 
 -- TRUE and FALSE ----------------------------------------------------------------------------------------------------------------------------
 
 module _ (s : List ℕ) (n at len : ℕ) (t : Word) (q : t.bytes ≡ part_of s at len) where
-  truth-is : (w : Word) (a b : ℕ) (c : Bool) → Good s w → a ≡ w.place → b ≡ w.length → same (part_of s a b) (part_of s at len) ≡ c → alike w t ≡ c
+  truth_is : (w : Word) (a b : ℕ) (c : Bool) → Good s w → a ≡ w.place → b ≡ w.length → same (part_of s a b) (part_of s at len) ≡ c → alike w t ≡ c
   unfolding alike
-  truth-is w a b c g e h k = ap₂ same (g.read.bytes ∙ sym (ap₂ (part_of s) e h)) q ∙ k
+  truth_is w a b c g e h k = ap₂ same (g.read.bytes ∙ sym (ap₂ (part_of s) e h)) q ∙ k
 
-  first-truth : (vs : Values) → Truths vs → Goods s (value-words vs) → (a b : ℕ) → a ≡ list_key vs → b ≡ get_or (truth_cells false vs ++ (n ∷ [])) 0 0
+  first_truth : (vs : Values) → Truths vs → Goods s (value_words vs) → (a b : ℕ) → a ≡ list_key vs → b ≡ get_or (truth_cells false vs ++ (n ∷ [])) 0 0
       → same (part_of s a b) (part_of s at len) ≡ true → a ≡ place_found (find_value vs t)
-  unfolding list_key truth_cells find_value place_found value-words
-  first-truth no_value no_truths g a b e h k = e
-  first-truth (value w i us (value v j ws no_value)) both_truths g a b e h k = e ∙ sym (ap (λ c. place_found (pick c (some (record { word = w; number = i; definitions = us })) (find_value (value v j ws no_value) t))) (truth-is w a b true g.0 e h k))
+  unfolding list_key truth_cells find_value place_found value_words
+  first_truth no_value no_truths g a b e h k = e
+  first_truth (value w i us (value v j ws no_value)) both_truths g a b e h k = e ∙ sym (ap (λ c. place_found (pick c (some (record { word = w; number = i; definitions = us })) (find_value (value v j ws no_value) t))) (truth_is w a b true g.0 e h k))
 
-  second-truth : (vs : Values) → Truths vs → Goods s (value-words vs) → (a b a₂ b₂ : ℕ) → a ≡ list_key vs → b ≡ get_or (truth_cells false vs ++ (n ∷ [])) 0 0
+  second_truth : (vs : Values) → Truths vs → Goods s (value_words vs) → (a b a₂ b₂ : ℕ) → a ≡ list_key vs → b ≡ get_or (truth_cells false vs ++ (n ∷ [])) 0 0
       → a₂ ≡ get_or (truth_cells false vs ++ (n ∷ [])) 1 0 → b₂ ≡ get_or (truth_cells false vs ++ (n ∷ [])) 2 0
       → same (part_of s a b) (part_of s at len) ≡ false → same (part_of s a₂ b₂) (part_of s at len) ≡ true → a₂ ≡ place_found (find_value vs t)
-  unfolding list_key truth_cells find_value place_found value-words
-  second-truth no_value no_truths g a b a₂ b₂ e h e₂ h₂ k k₂ = e₂
-  second-truth (value w i us (value v j ws no_value)) both_truths g a b a₂ b₂ e h e₂ h₂ k k₂ =
-      e₂ ∙ sym (ap (λ c. place_found (pick c (some (record { word = w; number = i; definitions = us })) (find_value (value v j ws no_value) t))) (truth-is w a b false g.0 e h k)
-      ∙ ap (λ c. place_found (pick c (some (record { word = v; number = j; definitions = ws })) none)) (truth-is v a₂ b₂ true (good_back s (definition-words us) (value-words (value v j ws no_value)) g.1).0 e₂ h₂ k₂))
+  unfolding list_key truth_cells find_value place_found value_words
+  second_truth no_value no_truths g a b a₂ b₂ e h e₂ h₂ k k₂ = e₂
+  second_truth (value w i us (value v j ws no_value)) both_truths g a b a₂ b₂ e h e₂ h₂ k k₂ =
+      e₂ ∙ sym (ap (λ c. place_found (pick c (some (record { word = w; number = i; definitions = us })) (find_value (value v j ws no_value) t))) (truth_is w a b false g.0 e h k)
+      ∙ ap (λ c. place_found (pick c (some (record { word = v; number = j; definitions = ws })) none)) (truth_is v a₂ b₂ true (good_back s (definition_words us) (value_words (value v j ws no_value)) g.1).0 e₂ h₂ k₂))
 
-  no_truth : (vs : Values) → Truths vs → Goods s (value-words vs) → (a b a₂ b₂ : ℕ) → a ≡ list_key vs → b ≡ get_or (truth_cells false vs ++ (n ∷ [])) 0 0
+  no_truth : (vs : Values) → Truths vs → Goods s (value_words vs) → (a b a₂ b₂ : ℕ) → a ≡ list_key vs → b ≡ get_or (truth_cells false vs ++ (n ∷ [])) 0 0
       → a₂ ≡ get_or (truth_cells false vs ++ (n ∷ [])) 1 0 → b₂ ≡ get_or (truth_cells false vs ++ (n ∷ [])) 2 0
       → same (part_of s a b) (part_of s at len) ≡ false → same (part_of s a₂ b₂) (part_of s at len) ≡ false → 0 ≡ place_found (find_value vs t)
-  unfolding list_key truth_cells find_value place_found value-words
+  unfolding list_key truth_cells find_value place_found value_words
   no_truth no_value no_truths g a b a₂ b₂ e h e₂ h₂ k k₂ = refl
   no_truth (value w i us (value v j ws no_value)) both_truths g a b a₂ b₂ e h e₂ h₂ k k₂ =
-      sym (ap (λ c. place_found (pick c (some (record { word = w; number = i; definitions = us })) (find_value (value v j ws no_value) t))) (truth-is w a b false g.0 e h k)
-      ∙ ap (λ c. place_found (pick c (some (record { word = v; number = j; definitions = ws })) none)) (truth-is v a₂ b₂ false (good_back s (definition-words us) (value-words (value v j ws no_value)) g.1).0 e₂ h₂ k₂))
+      sym (ap (λ c. place_found (pick c (some (record { word = w; number = i; definitions = us })) (find_value (value v j ws no_value) t))) (truth_is w a b false g.0 e h k)
+      ∙ ap (λ c. place_found (pick c (some (record { word = v; number = j; definitions = ws })) none)) (truth_is v a₂ b₂ false (good_back s (definition_words us) (value_words (value v j ws no_value)) g.1).0 e₂ h₂ k₂))
 
 not_enum : (y : AttributeType) → y ≡ boolean → is_enum y ≡ false
 unfolding is_enum
 not_enum y e = ap is_enum e
 
 module _ (s d : List ℕ) (j at len a b : ℕ) (e : a ≡ get_or d (j * 19 + 14) 0) (h : b ≡ get_or d (j * 19 + 15) 0) where
-  pub truth-one : (r : Bool) → r ≡ same (part_of s a b) (part_of s at len) → r ≡ true → FindsTruth s d j at len a
-  truth-one r z k f x t st hd row l y q =
+  pub truth_one : (r : Bool) → r ≡ same (part_of s a b) (part_of s at len) → r ≡ true → FindsTruth s d j at len a
+  truth_one r z k f x t st hd row l y q =
       let g = row_facts st row in
-      first-truth s _ at len t q x.values (the-truths g.formed y) g.values.good a b
-      (e ∙ key_cell f d j x hd row l) (h ∙ size-cell f d j x hd row l (not_enum x.definition.type y)) (sym z ∙ k)
+      first_truth s _ at len t q x.values (the_truths g.formed y) g.values.good a b
+      (e ∙ key_cell f d j x hd row l) (h ∙ size_cell f d j x hd row l (not_enum x.definition.type y)) (sym z ∙ k)
 
   module _ (a₂ b₂ : ℕ) (e₂ : a₂ ≡ get_or d (j * 19 + 16) 0) (h₂ : b₂ ≡ get_or d (j * 19 + 17) 0) where
-    pub truth-two : (r r₂ : Bool) → r ≡ same (part_of s a b) (part_of s at len) → r ≡ false → r₂ ≡ same (part_of s a₂ b₂) (part_of s at len) → r₂ ≡ true → FindsTruth s d j at len a₂
-    truth-two r r₂ z k z₂ k₂ f x t st hd row l y q =
+    pub truth_two : (r r₂ : Bool) → r ≡ same (part_of s a b) (part_of s at len) → r ≡ false → r₂ ≡ same (part_of s a₂ b₂) (part_of s at len) → r₂ ≡ true → FindsTruth s d j at len a₂
+    truth_two r r₂ z k z₂ k₂ f x t st hd row l y q =
         let g = row_facts st row in
-        second-truth s _ at len t q x.values (the-truths g.formed y) g.values.good a b a₂ b₂
-        (e ∙ key_cell f d j x hd row l) (h ∙ size-cell f d j x hd row l (not_enum x.definition.type y)) (e₂ ∙ second-cell f d j x hd row l (not_enum x.definition.type y)) (h₂ ∙ size2-cell f d j x hd row l (not_enum x.definition.type y))
+        second_truth s _ at len t q x.values (the_truths g.formed y) g.values.good a b a₂ b₂
+        (e ∙ key_cell f d j x hd row l) (h ∙ size_cell f d j x hd row l (not_enum x.definition.type y)) (e₂ ∙ second_cell f d j x hd row l (not_enum x.definition.type y)) (h₂ ∙ size2_cell f d j x hd row l (not_enum x.definition.type y))
         (sym z ∙ k) (sym z₂ ∙ k₂)
 
-    pub truth-none : (r r₂ : Bool) → r ≡ same (part_of s a b) (part_of s at len) → r ≡ false → r₂ ≡ same (part_of s a₂ b₂) (part_of s at len) → r₂ ≡ false → FindsTruth s d j at len 0
-    truth-none r r₂ z k z₂ k₂ f x t st hd row l y q =
+    pub truth_none : (r r₂ : Bool) → r ≡ same (part_of s a b) (part_of s at len) → r ≡ false → r₂ ≡ same (part_of s a₂ b₂) (part_of s at len) → r₂ ≡ false → FindsTruth s d j at len 0
+    truth_none r r₂ z k z₂ k₂ f x t st hd row l y q =
         let g = row_facts st row in
-        no_truth s _ at len t q x.values (the-truths g.formed y) g.values.good a b a₂ b₂
-        (e ∙ key_cell f d j x hd row l) (h ∙ size-cell f d j x hd row l (not_enum x.definition.type y)) (e₂ ∙ second-cell f d j x hd row l (not_enum x.definition.type y)) (h₂ ∙ size2-cell f d j x hd row l (not_enum x.definition.type y))
+        no_truth s _ at len t q x.values (the_truths g.formed y) g.values.good a b a₂ b₂
+        (e ∙ key_cell f d j x hd row l) (h ∙ size_cell f d j x hd row l (not_enum x.definition.type y)) (e₂ ∙ second_cell f d j x hd row l (not_enum x.definition.type y)) (h₂ ∙ size2_cell f d j x hd row l (not_enum x.definition.type y))
         (sym z ∙ k) (sym z₂ ∙ k₂)
 
 -- Values of a list --------------------------------------------------------------------------------------------------------------------------
@@ -211,13 +211,13 @@ finds_enumerator s d e m j at len key r h z f x t st hd he row l rch b q =
     ∙ in_list e (entry f j x row) m at len t st (nth_in row.nth) he b rch q
 
 module _ (s d e : List ℕ) (m j at len c : ℕ) (h : c ≡ get_or d (j * 19 + 12) 0) where
-  pub word-truth : (r : ℕ) → c ≡ 40 → FindsTruth s d j at len r → FindsWord s d e m j at len r
-  word-truth r k g f x t st hd he row l rch q =
-      g f x t st hd row l (coded-boolean (row_facts st row).formed (sym (h ∙ code_cell f d j x hd row l) ∙ k)) q
+  pub word_truth : (r : ℕ) → c ≡ 40 → FindsTruth s d j at len r → FindsWord s d e m j at len r
+  word_truth r k g f x t st hd he row l rch q =
+      g f x t st hd row l (coded_boolean (row_facts st row).formed (sym (h ∙ code_cell f d j x hd row l) ∙ k)) q
 
-  pub word-nothing : (c ≡ 40 → ⊥) → (c ≡ 41 → ⊥) → FindsWord s d e m j at len 0
+  pub word_nothing : (c ≡ 40 → ⊥) → (c ≡ 41 → ⊥) → FindsWord s d e m j at len 0
   unfolding find_value place_found
-  word-nothing n n₂ f x t st hd he row l rch q =
+  word_nothing n n₂ f x t st hd he row l rch q =
       let z = h ∙ code_cell f d j x hd row l in
       sym (ap (λ vs. place_found (find_value vs t)) (coded_none (row_facts st row).formed (λ y. n (z ∙ y)) (λ y. n₂ (z ∙ y))))
 
@@ -225,7 +225,7 @@ module _ (s d e : List ℕ) (m j at len c : ℕ) (h : c ≡ get_or d (j * 19 + 1
     pub word_none : z ≡ Nothing → FindsWord s d e m j at len 0
     unfolding number_found place_found
     word_none y f x t st hd he row l rch q =
-        by (find_value x.values t) (sym y ∙ g f x t st hd he row l rch (coded-enum (row_facts st row).formed (sym (h ∙ code_cell f d j x hd row l) ∙ k)) q)
+        by (find_value x.values t) (sym y ∙ g f x t st hd he row l rch (coded_enum (row_facts st row).formed (sym (h ∙ code_cell f d j x hd row l) ∙ k)) q)
       where
         by : (o : Option Under) → Nothing ≡ number_found o → 0 ≡ place_found o
         by none p = refl
@@ -234,7 +234,7 @@ module _ (s d e : List ℕ) (m j at len c : ℕ) (h : c ≡ get_or d (j * 19 + 1
     pub word_some : (i r : ℕ) → z ≡ At i → r ≡ get_or e (i * 3 + 1) 0 → FindsWord s d e m j at len r
     unfolding number_found place_found
     word_some i r y w f x t st hd he row l rch q =
-        let b = coded-enum (row_facts st row).formed (sym (h ∙ code_cell f d j x hd row l) ∙ k) in
+        let b = coded_enum (row_facts st row).formed (sym (h ∙ code_cell f d j x hd row l) ∙ k) in
         by (find_value x.values t) (sym y ∙ g f x t st hd he row l rch b q)
         (λ v p n. w ∙ word_in_list e (entry f j x row) m at len i t v st (nth_in row.nth) he b rch q p n) refl
       where
@@ -258,61 +258,61 @@ module _ {s : List ℕ} {d : Definition} (n : Num) where
   fits_below (an_enum t c b v) h = absurd (omega arith)
   fits_below (a_reference k t c b) h = sym (ap (λ y. fits_number y d.bounds n) t)
 
-  fits-above : {vs : Values} → Formed s d vs → 38 < code_of d.word → false ≡ fits_number d.type d.bounds n
+  fits_above : {vs : Values} → Formed s d vs → 38 < code_of d.word → false ≡ fits_number d.type d.bounds n
   unfolding fits_number
-  fits-above (an_integer i t c r) h = let a = integer_low i in absurd (omega arith)
-  fits-above (a_string t c b) h = sym (ap (λ y. fits_number y d.bounds n) t)
-  fits-above (a_float t c g) h = sym (ap (λ y. fits_number y d.bounds n) t)
-  fits-above (a_boolean t c b v) h = sym (ap (λ y. fits_number y d.bounds n) t)
-  fits-above (an_enum t c b v) h = sym (ap (λ y. fits_number y d.bounds n) t)
-  fits-above (a_reference k t c b) h = sym (ap (λ y. fits_number y d.bounds n) t)
+  fits_above (an_integer i t c r) h = let a = integer_low i in absurd (omega arith)
+  fits_above (a_string t c b) h = sym (ap (λ y. fits_number y d.bounds n) t)
+  fits_above (a_float t c g) h = sym (ap (λ y. fits_number y d.bounds n) t)
+  fits_above (a_boolean t c b v) h = sym (ap (λ y. fits_number y d.bounds n) t)
+  fits_above (an_enum t c b v) h = sym (ap (λ y. fits_number y d.bounds n) t)
+  fits_above (a_reference k t c b) h = sym (ap (λ y. fits_number y d.bounds n) t)
 
-  fits-between : {vs : Values} → Formed s d vs → 35 ≤ code_of d.word → code_of d.word ≤ 38 → (r : Bool)
+  fits_between : {vs : Values} → Formed s d vs → 35 ≤ code_of d.word → code_of d.word ≤ 38 → (r : Bool)
       → (RangeAt s d.range.place d.bounds → r ≡ both (in_type (integer_coded (code_of d.word)) n) (in_bounds n d.bounds)) → r ≡ fits_number d.type d.bounds n
   unfolding fits_number
-  fits-between (an_integer i t c g) h l r k =
+  fits_between (an_integer i t c g) h l r k =
       k g ∙ ap (λ y. both (in_type y n) (in_bounds n d.bounds)) (ap integer_coded c ∙ coded i) ∙ sym (ap (λ y. fits_number y d.bounds n) t)
-  fits-between (a_string t c b) h l r k = absurd (omega arith)
-  fits-between (a_float t c g) h l r k = absurd (omega arith)
-  fits-between (a_boolean t c b v) h l r k = absurd (omega arith)
-  fits-between (an_enum t c b v) h l r k = absurd (omega arith)
-  fits-between (a_reference z t c b) h l r k = let a = kind_low z in absurd (omega arith)
+  fits_between (a_string t c b) h l r k = absurd (omega arith)
+  fits_between (a_float t c g) h l r k = absurd (omega arith)
+  fits_between (a_boolean t c b v) h l r k = absurd (omega arith)
+  fits_between (an_enum t c b v) h l r k = absurd (omega arith)
+  fits_between (a_reference z t c b) h l r k = let a = kind_low z in absurd (omega arith)
 
 module _ (s d : List ℕ) (j at c : ℕ) (h : c ≡ get_or d (j * 19 + 12) 0) where
   pub number_below : c < 35 → TakesNumber s d j at false
   number_below k f x st hd row l =
       fits_below (num_of_step (step_at s at)) (row_facts st row).formed (let z = h ∙ code_cell f d j x hd row l in omega arith)
 
-  pub number-above : 38 < c → TakesNumber s d j at false
-  number-above k f x st hd row l =
-      fits-above (num_of_step (step_at s at)) (row_facts st row).formed (let z = h ∙ code_cell f d j x hd row l in omega arith)
+  pub number_above : 38 < c → TakesNumber s d j at false
+  number_above k f x st hd row l =
+      fits_above (num_of_step (step_at s at)) (row_facts st row).formed (let z = h ∙ code_cell f d j x hd row l in omega arith)
 
   module _ (lo : 35 ≤ c) (hi : c ≤ 38) (n : Num) (y : n ≡ num_of_step (step_at s at)) where
     pub number_in : (p : ℕ) (r t : Bool) → t ≡ in_type (integer_coded c) n → t ≡ true → p ≡ get_or d (j * 19 + 8) 0 → InRange s p n r → TakesNumber s d j at r
     number_in p r t k u q g f x st hd row l =
         let z = h ∙ code_cell f d j x hd row l in
-        fits-between (num_of_step (step_at s at)) (row_facts st row).formed (omega arith) (omega arith) r
-        (λ w. g x.definition.bounds (subst (λ a. RangeAt s a x.definition.bounds) (sym (q ∙ range-cell f d j x hd row l)) w)
+        fits_between (num_of_step (step_at s at)) (row_facts st row).formed (omega arith) (omega arith) r
+        (λ w. g x.definition.bounds (subst (λ a. RangeAt s a x.definition.bounds) (sym (q ∙ range_cell f d j x hd row l)) w)
         ∙ ap (λ m. in_bounds m x.definition.bounds) y
         ∙ sym (ap (λ b. both b (in_bounds (num_of_step (step_at s at)) x.definition.bounds)) (sym (ap₂ (λ a m. in_type (integer_coded a) m) z y) ∙ sym k ∙ u)))
 
-    pub number-out : (t : Bool) → t ≡ in_type (integer_coded c) n → t ≡ false → TakesNumber s d j at false
-    number-out t k u f x st hd row l =
+    pub number_out : (t : Bool) → t ≡ in_type (integer_coded c) n → t ≡ false → TakesNumber s d j at false
+    number_out t k u f x st hd row l =
         let z = h ∙ code_cell f d j x hd row l in
-        fits-between (num_of_step (step_at s at)) (row_facts st row).formed (omega arith) (omega arith) false
+        fits_between (num_of_step (step_at s at)) (row_facts st row).formed (omega arith) (omega arith) false
         (λ w. sym (ap (λ b. both b (in_bounds (num_of_step (step_at s at)) x.definition.bounds)) (sym (ap₂ (λ a m. in_type (integer_coded a) m) z y) ∙ sym k ∙ u)))
 
 -- Floats ------------------------------------------------------------------------------------------------------------------------------------
 
 module _ {s : List ℕ} {d : Definition} (n : Num) where
-  float-other : {vs : Values} → Formed s d vs → (code_of d.word ≡ 42 → ⊥) → false ≡ fits_float d.type d.bounds n
+  float_other : {vs : Values} → Formed s d vs → (code_of d.word ≡ 42 → ⊥) → false ≡ fits_float d.type d.bounds n
   unfolding fits_float
-  float-other (an_integer i t c r) h = sym (ap (λ y. fits_float y d.bounds n) t)
-  float-other (a_string t c b) h = sym (ap (λ y. fits_float y d.bounds n) t)
-  float-other (a_boolean t c b v) h = sym (ap (λ y. fits_float y d.bounds n) t)
-  float-other (an_enum t c b v) h = sym (ap (λ y. fits_float y d.bounds n) t)
-  float-other (a_float t c g) h = absurd (h c)
-  float-other (a_reference k t c b) h = sym (ap (λ y. fits_float y d.bounds n) t)
+  float_other (an_integer i t c r) h = sym (ap (λ y. fits_float y d.bounds n) t)
+  float_other (a_string t c b) h = sym (ap (λ y. fits_float y d.bounds n) t)
+  float_other (a_boolean t c b v) h = sym (ap (λ y. fits_float y d.bounds n) t)
+  float_other (an_enum t c b v) h = sym (ap (λ y. fits_float y d.bounds n) t)
+  float_other (a_float t c g) h = absurd (h c)
+  float_other (a_reference k t c b) h = sym (ap (λ y. fits_float y d.bounds n) t)
 
   float_is : {vs : Values} → Formed s d vs → code_of d.word ≡ 42 → (r : Bool) → (FloatsAt s d.range.place d.bounds → r ≡ in_float_bounds n d.bounds)
       → r ≡ fits_float d.type d.bounds n
@@ -325,14 +325,14 @@ module _ {s : List ℕ} {d : Definition} (n : Num) where
   float_is (a_reference z t c b) h r k = let a = kind_low z in absurd (omega arith)
 
 module _ (s d : List ℕ) (j at c : ℕ) (h : c ≡ get_or d (j * 19 + 12) 0) where
-  pub float-none : (c ≡ 42 → ⊥) → TakesFloat s d j at false
-  float-none k f x st hd row l =
-      float-other (float_of_step (step_at s at)) (row_facts st row).formed (λ e. k (h ∙ code_cell f d j x hd row l ∙ e))
+  pub float_none : (c ≡ 42 → ⊥) → TakesFloat s d j at false
+  float_none k f x st hd row l =
+      float_other (float_of_step (step_at s at)) (row_facts st row).formed (λ e. k (h ∙ code_cell f d j x hd row l ∙ e))
 
   pub float_in : c ≡ 42 → (n : Num) → n ≡ float_of_step (step_at s at) → (p : ℕ) (r : Bool) → p ≡ get_or d (j * 19 + 8) 0 → InFloats s p n r → TakesFloat s d j at r
   float_in k n y p r q g f x st hd row l =
       float_is (float_of_step (step_at s at)) (row_facts st row).formed (sym (h ∙ code_cell f d j x hd row l) ∙ k) r
-      (λ w. g x.definition.bounds (subst (λ a. FloatsAt s a x.definition.bounds) (sym (q ∙ range-cell f d j x hd row l)) w)
+      (λ w. g x.definition.bounds (subst (λ a. FloatsAt s a x.definition.bounds) (sym (q ∙ range_cell f d j x hd row l)) w)
       ∙ ap (λ m. in_float_bounds m x.definition.bounds) y)
 
 -- Words -------------------------------------------------------------------------------------------------------------------------------------
@@ -357,30 +357,30 @@ takes_floating s d j at code u r k g e m len w f x t st hd he row l rch rd c =
     of_sort x.definition x.values t code float-sort r c (rw k) (g f x st hd row l ∙ ap (fits_float x.definition.type x.definition.bounds) (sym rd.float))
 
 module _ (d : List ℕ) (j code u : ℕ) where
-  pub takes-3 : (a : ℕ) → code ≡ 3 → a ≡ get_or d (j * 19 + 7) 0 → TakesWord d j code u (eqb a 1)
+  pub takes_3 : (a : ℕ) → code ≡ 3 → a ≡ get_or d (j * 19 + 7) 0 → TakesWord d j code u (eqb a 1)
   unfolding fits_as sort_coded
-  takes-3 a k h n₁ n₀ s at e m len w f x t st hd he row l rch rd c =
+  takes_3 a k h n₁ n₀ s at e m len w f x t st hd he row l rch rd c =
       of_sort x.definition x.values t code an_auto (eqb a 1) c (rw k) (bit_test x.definition.auto a (h ∙ auto_cell f d j x hd row l))
 
-  pub takes-4 : code ≡ 4 → TakesWord d j code u false
+  pub takes_4 : code ≡ 4 → TakesWord d j code u false
   unfolding fits_as sort_coded
-  takes-4 k n₁ n₀ s at e m len w f x t st hd he row l rch rd c = of_sort x.definition x.values t code a_no_default false c (rw k) refl
+  takes_4 k n₁ n₀ s at e m len w f x t st hd he row l rch rd c = of_sort x.definition x.values t code a_no_default false c (rw k) refl
 
   module _ (y : ℕ) (h : y ≡ get_or d (j * 19 + 12) 0) where
-    pub takes-quoted : code ≡ 44 → TakesWord d j code u (eqb y 39)
+    pub takes_quoted : code ≡ 44 → TakesWord d j code u (eqb y 39)
     unfolding fits_as sort_coded
-    takes-quoted k n₁ n₀ s at e m len w f x t st hd he row l rch rd c =
-        of_sort x.definition x.values t code string-sort (eqb y 39) c (rw k) (ap (λ n. eqb n 39) (h ∙ code_cell f d j x hd row l) ∙ string-test (row_facts st row).formed)
+    takes_quoted k n₁ n₀ s at e m len w f x t st hd he row l rch rd c =
+        of_sort x.definition x.values t code string-sort (eqb y 39) c (rw k) (ap (λ n. eqb n 39) (h ∙ code_cell f d j x hd row l) ∙ string_test (row_facts st row).formed)
 
-    pub takes-1 : code ≡ 1 → TakesWord d j code u (eqb y 40)
+    pub takes_1 : code ≡ 1 → TakesWord d j code u (eqb y 40)
     unfolding fits_as sort_coded
-    takes-1 k n₁ n₀ s at e m len w f x t st hd he row l rch rd c =
-        of_sort x.definition x.values t code a_truth (eqb y 40) c (rw k) (ap (λ n. eqb n 40) (h ∙ code_cell f d j x hd row l) ∙ boolean-test (row_facts st row).formed)
+    takes_1 k n₁ n₀ s at e m len w f x t st hd he row l rch rd c =
+        of_sort x.definition x.values t code a_truth (eqb y 40) c (rw k) (ap (λ n. eqb n 40) (h ∙ code_cell f d j x hd row l) ∙ boolean_test (row_facts st row).formed)
 
-    pub takes-2 : code ≡ 2 → TakesWord d j code u (eqb y 40)
+    pub takes_2 : code ≡ 2 → TakesWord d j code u (eqb y 40)
     unfolding fits_as sort_coded
-    takes-2 k n₁ n₀ s at e m len w f x t st hd he row l rch rd c =
-        of_sort x.definition x.values t code a_truth (eqb y 40) c (rw k) (ap (λ n. eqb n 40) (h ∙ code_cell f d j x hd row l) ∙ boolean-test (row_facts st row).formed)
+    takes_2 k n₁ n₀ s at e m len w f x t st hd he row l rch rd c =
+        of_sort x.definition x.values t code a_truth (eqb y 40) c (rw k) (ap (λ n. eqb n 40) (h ∙ code_cell f d j x hd row l) ∙ boolean_test (row_facts st row).formed)
 
     module _ (n₂ : code ≡ 3 → ⊥) (n₃ : code ≡ 4 → ⊥) (n₄ : code ≡ 44 → ⊥) (n₅ : code ≡ 1 → ⊥) (n₆ : code ≡ 2 → ⊥) where
       name-sort : (code ≡ 43 → ⊥) → (code ≡ 54 → ⊥) → sort_coded code ≡ a_name
@@ -390,7 +390,7 @@ module _ (d : List ℕ) (j code u : ℕ) where
       unfolding fits_as
       takes-other k n₁ n₀ s at e m len w f x t st hd he row l rch rd c =
           of_sort x.definition x.values t code a_name false c (name-sort n₁ n₀)
-          (sym (ap (λ b. both b (is_there (find_value x.values t))) (coded-other (row_facts st row).formed (λ z. k (h ∙ code_cell f d j x hd row l ∙ z)))))
+          (sym (ap (λ b. both b (is_there (find_value x.values t))) (coded_other (row_facts st row).formed (λ z. k (h ∙ code_cell f d j x hd row l ∙ z)))))
 
       pub takes_name : y ≡ 41 → TakesWord d j code u (not (eqb u 0))
       unfolding fits_as place_found is_there
@@ -398,7 +398,7 @@ module _ (d : List ℕ) (j code u : ℕ) where
           let a = row_facts st row in
           of_sort x.definition x.values t code a_name (not (eqb u 0)) c (name-sort n₁ n₀)
           (by (find_value x.values t) refl (w f x t st hd he row l rch rd.bytes) (λ v p. (value_word (found_value x.values t p) a.values.good).later)
-          ∙ sym (ap (λ b. both b (is_there (find_value x.values t))) (coded-enum a.formed (sym (h ∙ code_cell f d j x hd row l) ∙ k))))
+          ∙ sym (ap (λ b. both b (is_there (find_value x.values t))) (coded_enum a.formed (sym (h ∙ code_cell f d j x hd row l) ∙ k))))
         where
           by : (o : Option Under) → find_value x.values t ≡ o → u ≡ place_found o → ((v : Under) → find_value x.values t ≡ some v → 0 < v.word.place) → not (eqb u 0) ≡ is_there o
           by none p q i = ap not (eq-eqb u 0 q)
@@ -407,58 +407,58 @@ module _ (d : List ℕ) (j code u : ℕ) where
 -- 21 at the bounds --------------------------------------------------------------------------------------------------------------------------
 
 module _ {s : List ℕ} {d : Definition} where
-  no-range : {vs : Values} → Formed s d vs → ((i : Integer) → code_of d.word ≡ integer_code i → ⊥) → (code_of d.word ≡ 42 → ⊥) → range_faults d.type d.bounds ≡ []
+  no_range : {vs : Values} → Formed s d vs → ((i : Integer) → code_of d.word ≡ integer_code i → ⊥) → (code_of d.word ≡ 42 → ⊥) → range_faults d.type d.bounds ≡ []
   unfolding range_faults
-  no-range (an_integer i t c r) h g = absurd (h i c)
-  no-range (a_float t c r) h g = absurd (g c)
-  no-range (a_string t c b) h g = ap (λ y. range_faults y d.bounds) t
-  no-range (a_boolean t c b v) h g = ap (λ y. range_faults y d.bounds) t
-  no-range (an_enum t c b v) h g = ap (λ y. range_faults y d.bounds) t
-  no-range (a_reference k t c b) h g = ap (λ y. range_faults y d.bounds) t
+  no_range (an_integer i t c r) h g = absurd (h i c)
+  no_range (a_float t c r) h g = absurd (g c)
+  no_range (a_string t c b) h g = ap (λ y. range_faults y d.bounds) t
+  no_range (a_boolean t c b v) h g = ap (λ y. range_faults y d.bounds) t
+  no_range (an_enum t c b v) h g = ap (λ y. range_faults y d.bounds) t
+  no_range (a_reference k t c b) h g = ap (λ y. range_faults y d.bounds) t
 
-  a-range : {vs : Values} → Formed s d vs → 35 ≤ code_of d.word → code_of d.word ≤ 38 → (r : Fault)
+  a_range : {vs : Values} → Formed s d vs → 35 ≤ code_of d.word → code_of d.word ≤ 38 → (r : Fault)
       → (RangeAt s d.range.place d.bounds → r ≡ fault_of (first (bound_faults (integer_coded (code_of d.word)) d.bounds))) → r ≡ fault_of (first (range_faults d.type d.bounds))
   unfolding range_faults
-  a-range (an_integer i t c g) h l r k =
+  a_range (an_integer i t c g) h l r k =
       k g ∙ ap (λ y. fault_of (first (bound_faults y d.bounds))) (ap integer_coded c ∙ coded i) ∙ sym (ap (λ y. fault_of (first (range_faults y d.bounds))) t)
-  a-range (a_string t c b) h l r k = absurd (omega arith)
-  a-range (a_float t c g) h l r k = absurd (omega arith)
-  a-range (a_boolean t c b v) h l r k = absurd (omega arith)
-  a-range (an_enum t c b v) h l r k = absurd (omega arith)
-  a-range (a_reference z t c b) h l r k = let a = kind_low z in absurd (omega arith)
+  a_range (a_string t c b) h l r k = absurd (omega arith)
+  a_range (a_float t c g) h l r k = absurd (omega arith)
+  a_range (a_boolean t c b v) h l r k = absurd (omega arith)
+  a_range (an_enum t c b v) h l r k = absurd (omega arith)
+  a_range (a_reference z t c b) h l r k = let a = kind_low z in absurd (omega arith)
 
-  floats-range : {vs : Values} → Formed s d vs → code_of d.word ≡ 42 → (r : Fault)
+  floats_range : {vs : Values} → Formed s d vs → code_of d.word ≡ 42 → (r : Fault)
       → (FloatsAt s d.range.place d.bounds → r ≡ fault_of (first (low_faults d.bounds))) → r ≡ fault_of (first (range_faults d.type d.bounds))
   unfolding range_faults
-  floats-range (an_integer i t c g) h r k = let a = integer_low i in absurd (omega arith)
-  floats-range (a_string t c b) h r k = absurd (omega arith)
-  floats-range (a_boolean t c b v) h r k = absurd (omega arith)
-  floats-range (an_enum t c b v) h r k = absurd (omega arith)
-  floats-range (a_float t c g) h r k = k g ∙ sym (ap (λ y. fault_of (first (range_faults y d.bounds))) t)
-  floats-range (a_reference z t c b) h r k = let a = kind_low z in absurd (omega arith)
+  floats_range (an_integer i t c g) h r k = let a = integer_low i in absurd (omega arith)
+  floats_range (a_string t c b) h r k = absurd (omega arith)
+  floats_range (a_boolean t c b v) h r k = absurd (omega arith)
+  floats_range (an_enum t c b v) h r k = absurd (omega arith)
+  floats_range (a_float t c g) h r k = k g ∙ sym (ap (λ y. fault_of (first (range_faults y d.bounds))) t)
+  floats_range (a_reference z t c b) h r k = let a = kind_low z in absurd (omega arith)
 
 module _ (s d : List ℕ) (j c : ℕ) (h : c ≡ get_or d (j * 19 + 12) 0) where
-  pub range-below : c < 35 → RangeFault s d j (record { number = 0; place = 0 })
+  pub range_below : c < 35 → RangeFault s d j (record { number = 0; place = 0 })
   unfolding first fault_of
-  range-below k f x st hd row l =
+  range_below k f x st hd row l =
       let z = h ∙ code_cell f d j x hd row l in
-      sym (ap (λ y. fault_of (first y)) (no-range (row_facts st row).formed (λ i e. let a = integer_low i in omega arith) (λ e. omega arith)))
+      sym (ap (λ y. fault_of (first y)) (no_range (row_facts st row).formed (λ i e. let a = integer_low i in omega arith) (λ e. omega arith)))
 
-  pub range-above : 38 < c → (c ≡ 42 → ⊥) → RangeFault s d j (record { number = 0; place = 0 })
+  pub range_above : 38 < c → (c ≡ 42 → ⊥) → RangeFault s d j (record { number = 0; place = 0 })
   unfolding first fault_of
-  range-above k n f x st hd row l =
+  range_above k n f x st hd row l =
       let z = h ∙ code_cell f d j x hd row l in
-      sym (ap (λ y. fault_of (first y)) (no-range (row_facts st row).formed (λ i e. let a = integer_low i in omega arith) (λ e. n (z ∙ e))))
+      sym (ap (λ y. fault_of (first y)) (no_range (row_facts st row).formed (λ i e. let a = integer_low i in omega arith) (λ e. n (z ∙ e))))
 
-  pub range-float : c ≡ 42 → (p : ℕ) (r : Fault) → p ≡ get_or d (j * 19 + 8) 0 → LowFault s p r → RangeFault s d j r
-  range-float k p r q g f x st hd row l =
+  pub range_float : c ≡ 42 → (p : ℕ) (r : Fault) → p ≡ get_or d (j * 19 + 8) 0 → LowFault s p r → RangeFault s d j r
+  range_float k p r q g f x st hd row l =
       let z = h ∙ code_cell f d j x hd row l in
-      floats-range (row_facts st row).formed (sym z ∙ k) r
-      (λ w. g x.definition.bounds (subst (λ a. FloatsAt s a x.definition.bounds) (sym (q ∙ range-cell f d j x hd row l)) w))
+      floats_range (row_facts st row).formed (sym z ∙ k) r
+      (λ w. g x.definition.bounds (subst (λ a. FloatsAt s a x.definition.bounds) (sym (q ∙ range_cell f d j x hd row l)) w))
 
-  pub range-between : 35 ≤ c → c ≤ 38 → (p : ℕ) (r : Fault) → p ≡ get_or d (j * 19 + 8) 0 → BoundFault s (integer_coded c) p r → RangeFault s d j r
-  range-between lo hi p r q g f x st hd row l =
+  pub range_between : 35 ≤ c → c ≤ 38 → (p : ℕ) (r : Fault) → p ≡ get_or d (j * 19 + 8) 0 → BoundFault s (integer_coded c) p r → RangeFault s d j r
+  range_between lo hi p r q g f x st hd row l =
       let z = h ∙ code_cell f d j x hd row l in
-      a-range (row_facts st row).formed (omega arith) (omega arith) r
-      (λ w. g x.definition.bounds (subst (λ a. RangeAt s a x.definition.bounds) (sym (q ∙ range-cell f d j x hd row l)) w)
+      a_range (row_facts st row).formed (omega arith) (omega arith) r
+      (λ w. g x.definition.bounds (subst (λ a. RangeAt s a x.definition.bounds) (sym (q ∙ range_cell f d j x hd row l)) w)
       ∙ ap (λ a. fault_of (first (bound_faults (integer_coded a) x.definition.bounds))) z)

@@ -18,14 +18,14 @@ pub record Tables (s d e o : List ℕ) (z : Sizes) (f : File) : Type 0 where
   pub enumerators : z.enumerators ≡ length (spec_choices f.specs)
   pub objects : z.objects ≡ length f.objects
   pub definitions_fit : z.definitions ≤ 512
-  pub enumerators-fit : z.enumerators ≤ 1024
+  pub enumerators_fit : z.enumerators ≤ 1024
   pub objects_fit : z.objects ≤ 256
 
 -- And its statements are in the table st.
 pub record Given (s d e o st : List ℕ) (z : Sizes) (f : File) : Type 0 where
   pub tables : Tables s d e o z f
   pub in_statements : st ≡ kept_statements f
-  pub statements-fit : statement_count f.objects ≤ 2048
+  pub statements_fit : statement_count f.objects ≤ 2048
 
 -- The places of the kinds' words.
 pub record Places (f : File) (ps : List ℕ) : Type 0 where

@@ -19,14 +19,14 @@ pub record SignAt (s : List ℕ) (p b q : ℕ) : Type 0 where
 
 -- From p on: numbers, before each of them a comma, and then no comma.
 pub data Listed (s : List ℕ) : ℕ → List Word → Type 0 where
-  listed-none : {p : ℕ} → ((item_at s p).sign ≡ 44 → ⊥) → Listed s p []
+  listed_none : {p : ℕ} → ((item_at s p).sign ≡ 44 → ⊥) → Listed s p []
   listed_more : {p q r : ℕ} {w : Word} {ws : List Word} → SignAt s p 44 q → NumberAt s q w r → Listed s r ws → Listed s p (w ∷ ws)
 
 -- The bounds of the range whose `[` stands at p; 0 for no range.
 pub data RangeAt (s : List ℕ) : ℕ → Bounds → Type 0 where
   range_none : {p : ℕ} → p ≡ 0 → RangeAt s p no_bounds
-  range-two : {p q r t u : ℕ} {a b : Word} → (p ≡ 0 → ⊥) → SignAt s p 91 q → NumberAt s q a r → SignAt s r 46 t → NumberAt s t b u → RangeAt s p (from_to a b)
-  range-list : {p q r : ℕ} {a : Word} {ws : List Word} → (p ≡ 0 → ⊥) → SignAt s p 91 q → NumberAt s q a r → ((item_at s r).sign ≡ 46 → ⊥) → Listed s r ws
+  range_two : {p q r t u : ℕ} {a b : Word} → (p ≡ 0 → ⊥) → SignAt s p 91 q → NumberAt s q a r → SignAt s r 46 t → NumberAt s t b u → RangeAt s p (from_to a b)
+  range_list : {p q r : ℕ} {a : Word} {ws : List Word} → (p ≡ 0 → ⊥) → SignAt s p 91 q → NumberAt s q a r → ((item_at s r).sign ≡ 46 → ⊥) → Listed s r ws
       → RangeAt s p (one_of (a ∷ ws))
 
 -- The float w is what is found at p, and q is the place after it.
@@ -37,5 +37,5 @@ pub record FloatAt (s : List ℕ) (p : ℕ) (w : Word) (q : ℕ) : Type 0 where
 
 -- The bounds of the range of floats whose `[` stands at p; 0 for no range.
 pub data FloatsAt (s : List ℕ) : ℕ → Bounds → Type 0 where
-  floats-none : {p : ℕ} → p ≡ 0 → FloatsAt s p no_bounds
-  floats-two : {p q r t u : ℕ} {a b : Word} → (p ≡ 0 → ⊥) → SignAt s p 91 q → FloatAt s q a r → SignAt s r 46 t → FloatAt s t b u → FloatsAt s p (from_to a b)
+  floats_none : {p : ℕ} → p ≡ 0 → FloatsAt s p no_bounds
+  floats_two : {p q r t u : ℕ} {a b : Word} → (p ≡ 0 → ⊥) → SignAt s p 91 q → FloatAt s q a r → SignAt s r 46 t → FloatAt s t b u → FloatsAt s p (from_to a b)

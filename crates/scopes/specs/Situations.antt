@@ -11,7 +11,7 @@ use Rattle.layout.specs.Kept.{Choice, spec_entries, spec_choices, list_key}
 -- f is the syntax of the text s.
 pub record Situation (s : List ℕ) (f : File) : Type 0 where
   pub derivation : Derivation (tokens s)
-  pub syntax-of : f ≡ syntax s derivation.tree
+  pub syntax_of : f ≡ syntax s derivation.tree
 
 -- Standing ---------------------------------------------------------------------------------------------------------------------------------
 

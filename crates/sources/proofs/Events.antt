@@ -24,27 +24,27 @@ use Rattle.sources.proofs.Tellings.{four, told}
 use Rattle.sources.proofs.Stops.{LineFits, StopOk, stop_ok}
 
 module _ (b l s o : List ℕ) (i : Line) where
-  pub include-open : (n f t m : ℕ) → find_name b l (bytes_between s i.from i.to) ≡ Present n f t → m ≡ get_or o n 0 → m ≡ 1 → Stops 27 i.hash ≡ include_of b l s o i
+  pub include_open : (n f t m : ℕ) → find_name b l (bytes_between s i.from i.to) ≡ Present n f t → m ≡ get_or o n 0 → m ≡ 1 → Stops 27 i.hash ≡ include_of b l s o i
   unfolding include_of
-  include-open n f t m e g h = rw (e, ← g, h)
+  include_open n f t m e g h = rw (e, ← g, h)
 
-  pub include-is : (n f t m : ℕ) → find_name b l (bytes_between s i.from i.to) ≡ Present n f t → m ≡ get_or o n 0 → (m ≡ 1 → ⊥) →
+  pub include_is : (n f t m : ℕ) → find_name b l (bytes_between s i.from i.to) ≡ Present n f t → m ≡ get_or o n 0 → (m ≡ 1 → ⊥) →
       Includes (record { number = n; from = f; to = t; hash = i.hash; start = i.start; after = i.after }) ≡ include_of b l s o i
   unfolding include_of
-  include-is n f t m e g h = rw (e, ← g, ne_eqb m 1 h)
+  include_is n f t m e g h = rw (e, ← g, ne_eqb m 1 h)
 
-  pub include-absent : find_name b l (bytes_between s i.from i.to) ≡ Absent → Stops 28 i.hash ≡ include_of b l s o i
+  pub include_absent : find_name b l (bytes_between s i.from i.to) ≡ Absent → Stops 28 i.hash ≡ include_of b l s o i
   unfolding include_of
-  include-absent e = rw e
+  include_absent e = rw e
 
 module _ (b l s o : List ℕ) (p : ℕ) where
-  pub event-stop : (n q : ℕ) → stop_at s p ≡ At n q → Stops n q ≡ event_at b l s o p
+  pub event_stop : (n q : ℕ) → stop_at s p ≡ At n q → Stops n q ≡ event_at b l s o p
   unfolding event_at
-  event-stop n q e = rw e
+  event_stop n q e = rw e
 
-  pub event-line : (i : Line) → stop_at s p ≡ AtLine i → include_of b l s o i ≡ event_at b l s o p
+  pub event_line : (i : Line) → stop_at s p ≡ AtLine i → include_of b l s o i ≡ event_at b l s o p
   unfolding event_at
-  event-line i e = rw e
+  event_line i e = rw e
 
 -- ---- what is found lies inside
 

@@ -11,7 +11,7 @@ use Rattle.token.specs.Find.{both, byte}
 use Rattle.token.specs.Bytes.{find_byte}
 use Rattle.token.specs.Words.{bytes_of, same}
 use Rattle.token.specs.Tokens.{bytes_between}
-use Rattle.token.proofs.Find.{by_test, find-high}
+use Rattle.token.proofs.Find.{by_test, find_high}
 use Rattle.token.proofs.Bytes.{both_true, both_false, byte_low}
 use Rattle.token.proofs.Codes.{different}
 use Rattle.sources.specs.Lines.{aside, closing, quoted, named}
@@ -21,49 +21,49 @@ use Rattle.sources.specs.declared.Name.TheVariants.{Is, Not}
 
 pub byte_high : (b : ℕ) (s : List ℕ) (p : ℕ) → p ≤ length s → find_byte b s p ≤ length s
 unfolding find_byte
-byte_high b s p h = find-high (λ i. eqb (byte s i) b) (length s) p h
+byte_high b s p h = find_high (λ i. eqb (byte s i) b) (length s) p h
 
 module _ (l : List ℕ) (o b : ℕ) where
-  pub closing-open : (c : ℕ) → c ≡ find_byte b l (o + 1) → length l ≤ c → Not ≡ closing l o b
+  pub closing_open : (c : ℕ) → c ≡ find_byte b l (o + 1) → length l ≤ c → Not ≡ closing l o b
   unfolding closing
-  closing-open c e h = rw (← e, le-ltb c (length l) h)
+  closing_open c e h = rw (← e, le-ltb c (length l) h)
 
-  pub closing-more : (c n : ℕ) → c ≡ find_byte b l (o + 1) → c < length l → n ≡ aside l (c + 1) → (n ≡ length l → ⊥) → Not ≡ closing l o b
+  pub closing_more : (c n : ℕ) → c ≡ find_byte b l (o + 1) → c < length l → n ≡ aside l (c + 1) → (n ≡ length l → ⊥) → Not ≡ closing l o b
   unfolding closing
-  closing-more c n e h f g = rw (← e, lt-ltb c (length l) h, ← f, ne_eqb n (length l) g)
+  closing_more c n e h f g = rw (← e, lt-ltb c (length l) h, ← f, ne_eqb n (length l) g)
 
-  pub closing-is : (c n : ℕ) → c ≡ find_byte b l (o + 1) → c < length l → n ≡ aside l (c + 1) → n ≡ length l → Is (o + 1) c ≡ closing l o b
+  pub closing_is : (c n : ℕ) → c ≡ find_byte b l (o + 1) → c < length l → n ≡ aside l (c + 1) → n ≡ length l → Is (o + 1) c ≡ closing l o b
   unfolding closing
-  closing-is c n e h f g = rw (← e, lt-ltb c (length l) h, ← f, eq-eqb n (length l) g)
+  closing_is c n e h f g = rw (← e, lt-ltb c (length l) h, ← f, eq-eqb n (length l) g)
 
 module _ (l : List ℕ) (o : ℕ) where
-  pub quoted-past : length l ≤ o → Not ≡ quoted l o
+  pub quoted_past : length l ≤ o → Not ≡ quoted l o
   unfolding quoted
-  quoted-past h = rw (get_or-eq_default l 0 h)
+  quoted_past h = rw (get_or-eq_default l 0 h)
 
-  pub quoted-quote : byte l o ≡ 34 → closing l o 34 ≡ quoted l o
+  pub quoted_quote : byte l o ≡ 34 → closing l o 34 ≡ quoted l o
   unfolding quoted
-  quoted-quote e = rw e
+  quoted_quote e = rw e
 
-  pub quoted-angle : (byte l o ≡ 34 → ⊥) → byte l o ≡ 60 → closing l o 62 ≡ quoted l o
+  pub quoted_angle : (byte l o ≡ 34 → ⊥) → byte l o ≡ 60 → closing l o 62 ≡ quoted l o
   unfolding quoted
-  quoted-angle n e = rw (ne_eqb (byte l o) 34 n, eq-eqb (byte l o) 60 e)
+  quoted_angle n e = rw (ne_eqb (byte l o) 34 n, eq-eqb (byte l o) 60 e)
 
-  pub quoted-none : (byte l o ≡ 34 → ⊥) → (byte l o ≡ 60 → ⊥) → Not ≡ quoted l o
+  pub quoted_none : (byte l o ≡ 34 → ⊥) → (byte l o ≡ 60 → ⊥) → Not ≡ quoted l o
   unfolding quoted
-  quoted-none n m = rw (ne_eqb (byte l o) 34 n, ne_eqb (byte l o) 60 m)
+  quoted_none n m = rw (ne_eqb (byte l o) 34 n, ne_eqb (byte l o) 60 m)
 
 module _ (l : List ℕ) (h : ℕ) where
-  pub named-elsewhere : (a : ℕ) → a ≡ aside l 0 → (a ≡ h → ⊥) → Not ≡ named l h
+  pub named_elsewhere : (a : ℕ) → a ≡ aside l 0 → (a ≡ h → ⊥) → Not ≡ named l h
   unfolding named
-  named-elsewhere a e n = rw (← e, ne_eqb a h n)
+  named_elsewhere a e n = rw (← e, ne_eqb a h n)
 
   pub named_other : same (bytes_between l h (h + 8)) (bytes_of "#include") ≡ false → Not ≡ named l h
   unfolding named
   named_other e = rw (e, both_false (eqb (aside l 0) h))
 
-  pub named-short : length l - h < 8 → Not ≡ named l h
-  named-short k =
+  pub named_short : length l - h < 8 → Not ≡ named l h
+  named_short k =
       let e : h + 8 - h ≡ 8 = omega arith in
       let n = length-drop h l in
       named_other (different (bytes_between l h (h + 8)) (bytes_of "#include")
@@ -71,9 +71,9 @@ module _ (l : List ℕ) (h : ℕ) where
       let y = length-take (h + 8 - h) (drop h l) in
       omega arith))
 
-  pub named-is : (a q : ℕ) → a ≡ aside l 0 → a ≡ h → same (bytes_between l h (h + 8)) (bytes_of "#include") ≡ true → q ≡ aside l (h + 8) → quoted l q ≡ named l h
+  pub named_is : (a q : ℕ) → a ≡ aside l 0 → a ≡ h → same (bytes_between l h (h + 8)) (bytes_of "#include") ≡ true → q ≡ aside l (h + 8) → quoted l q ≡ named l h
   unfolding named
-  named-is a q e f g k = rw (← e, eq-eqb a h f, g, ← k)
+  named_is a q e f g k = rw (← e, eq-eqb a h f, g, ← k)
 
 -- the name lies on the line
 -- a name in a line of n bytes, from k on at the earliest, with its closing byte behind it

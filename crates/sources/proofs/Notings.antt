@@ -18,7 +18,7 @@ use Rattle.token.proofs.Find.{by_test}
 use Rattle.sources.specs.Lines.{line_start, whole_to, named, line_by, line_of, hash_at, after_token, stop_n, stop_at}
 use Rattle.sources.specs.Texts.{told_well, find_from, find_name, include_by, include_of, event_by, event_at}
 use Rattle.sources.specs.Numbering.{span_from, span_of}
-use Rattle.sources.specs.Notes.{cell_for, packed, note_of, none_open, open_by, event_back, Noted, ends, goes, AllNoted}
+use Rattle.sources.specs.Notes.{cell_for, packed, note_of, none_open_lem, open_by, event_back, Noted, ends, goes, AllNoted}
 use Rattle.sources.specs.Promises.{AsksFrom, NotesText}
 use Rattle.sources.specs.declared.Name.{Name}
 use Rattle.sources.specs.declared.Name.TheVariants.{Is, Not}
@@ -38,21 +38,21 @@ use Rattle.sources.proofs.Numberings.{span_ok}
 -- ---- four numbers in one
 
 module _ (k a h e : ℕ) (i : a ≤ 65535) (j : h ≤ 65535) (m : e ≤ 65535) where
-  pack-number : packed k a h e / 281474976710656 ≡ k
+  pack_number : packed k a h e / 281474976710656 ≡ k
   unfolding packed
-  pack-number = omega arith
+  pack_number = omega arith
 
-  pack-start : packed k a h e / 4294967296 % 65536 ≡ a
+  pack_start : packed k a h e / 4294967296 % 65536 ≡ a
   unfolding packed
-  pack-start = omega arith
+  pack_start = omega arith
 
-  pack-hash : packed k a h e / 65536 % 65536 ≡ h
+  pack_hash : packed k a h e / 65536 % 65536 ≡ h
   unfolding packed
-  pack-hash = omega arith
+  pack_hash = omega arith
 
-  pack-after : packed k a h e % 65536 ≡ e
+  pack_after : packed k a h e % 65536 ≡ e
   unfolding packed
-  pack-after = omega arith
+  pack_after = omega arith
 
 -- ---- the number of a fault is small
 
@@ -153,7 +153,7 @@ abbrev reopened : List ℕ → Event → Event
 reopened o (Stops n q) = Stops n q
 reopened o (Includes i) = pick (eqb (get_or o i.number 0) 1) (Stops 27 i.hash) (Includes i)
 
-none_open_lem : (n : ℕ) → get_or none_open n 0 ≡ 0
+none_open_lem : (n : ℕ) → get_or none_open_lem n 0 ≡ 0
 none_open_lem zero = refl
 none_open_lem (suc zero) = refl
 none_open_lem (suc (suc zero)) = refl
@@ -164,18 +164,18 @@ none_open_lem (suc (suc (suc (suc (suc (suc zero)))))) = refl
 none_open_lem (suc (suc (suc (suc (suc (suc (suc zero))))))) = refl
 none_open_lem (suc (suc (suc (suc (suc (suc (suc (suc n)))))))) = refl
 
-hit_reopened : (o : List ℕ) (i : Line) (h : Hit) → include_by o i h ≡ reopened o (include_by none_open i h)
+hit_reopened : (o : List ℕ) (i : Line) (h : Hit) → include_by o i h ≡ reopened o (include_by none_open_lem i h)
 hit_reopened o i (Present n f t) =
     sym (ap (λ (m : ℕ). reopened o (pick (eqb m 1) (Stops 27 i.hash)
     (Includes (record { number = n; from = f; to = t; hash = i.hash; start = i.start; after = i.after })))) (none_open_lem n))
 hit_reopened o i Absent = refl
 
-stop_reopened : (b l s o : List ℕ) (x : Stop) → event_by b l s o x ≡ reopened o (event_by b l s none_open x)
+stop_reopened : (b l s o : List ℕ) (x : Stop) → event_by b l s o x ≡ reopened o (event_by b l s none_open_lem x)
 unfolding include_of
 stop_reopened b l s o (At n q) = refl
 stop_reopened b l s o (AtLine i) = hit_reopened o i (find_name b l (bytes_between s i.from i.to))
 
-event_reopened : (b l s o : List ℕ) (p : ℕ) → event_at b l s o p ≡ reopened o (event_at b l s none_open p)
+event_reopened : (b l s o : List ℕ) (p : ℕ) → event_at b l s o p ≡ reopened o (event_at b l s none_open_lem p)
 unfolding event_at
 event_reopened b l s o p = stop_reopened b l s o (stop_at s p)
 
@@ -185,52 +185,52 @@ back_stop : (l o : List ℕ) (n q : ℕ) → n ≤ 65535 → q ≤ 65535 → eve
 unfolding event_back note_of
 back_stop l o n q h k =
     let z : 0 ≤ 65535 = omega arith in
-    rw (pack-number 8 0 n q z h k, pack-hash 8 0 n q z h k, pack-after 8 0 n q z h k)
+    rw (pack_number 8 0 n q z h k, pack_hash 8 0 n q z h k, pack_after 8 0 n q z h k)
 
 back_line : (l o : List ℕ) (i : Include) → i.number < 8 → i.start ≤ 65535 → i.hash ≤ 65535 → i.after ≤ 65535 →
     span_of l i.number ≡ Present i.number i.from i.to → event_back l o (note_of (Includes i)) ≡ reopened o (Includes i)
 unfolding event_back note_of
 back_line l o i h a k e f =
     let k' = i.number in
-    rw (pack-number i.number i.start i.hash i.after a k e, lt-leb 8 i.number h, f, pack-hash i.number i.start i.hash i.after a k e, pack-start i.number i.start i.hash i.after a k e, pack-after i.number i.start i.hash i.after a k e)
+    rw (pack_number i.number i.start i.hash i.after a k e, lt-leb 8 i.number h, f, pack_hash i.number i.start i.hash i.after a k e, pack_start i.number i.start i.hash i.after a k e, pack_after i.number i.start i.hash i.after a k e)
 
 module _ (b l t : List ℕ) (k : ℕ) (s o : List ℕ) where
-  pub noted-event : (p : ℕ) → told_well b l ≡ true → length s ≤ 65535 → p ≤ length s → Noted b l t k s p →
+  pub noted_event : (p : ℕ) → told_well b l ≡ true → length s ≤ 65535 → p ≤ length s → Noted b l t k s p →
       event_back l o (get_or t (cell_for k p) 0) ≡ event_at b l s o p
-  noted-event p w h j (ends _ n q e g) =
-      let u : n ≤ 29 = subst LowEvent e (low_event b l s none_open p) in
-      let v : (p ≤ q) × (q ≤ length s) = subst (EventOk b s p) e (event_ok b l s none_open p w j) in
+  noted_event p w h j (ends _ n q e g) =
+      let u : n ≤ 29 = subst LowEvent e (low_event b l s none_open_lem p) in
+      let v : (p ≤ q) × (q ≤ length s) = subst (EventOk b s p) e (event_ok b l s none_open_lem p w j) in
       let v' = v.1 in
       ap (event_back l o) g ∙ back_stop l o n q (omega arith) (omega arith) ∙ sym (event_reopened b l s o p ∙ ap (reopened o) e)
-  noted-event p w h j (goes _ i e g r) =
-      let v : IncludeFits b s p i = subst (EventOk b s p) e (event_ok b l s none_open p w j) in
+  noted_event p w h j (goes _ i e g r) =
+      let v : IncludeFits b s p i = subst (EventOk b s p) e (event_ok b l s none_open_lem p w j) in
       let f = v.hash in
       let a = v.after in
       let z = v.last in
       ap (event_back l o) g
-      ∙ back_line l o i v.number (omega arith) (omega arith) (omega arith) (subst (EventNumber l) e (event_number b l s none_open p))
+      ∙ back_line l o i v.number (omega arith) (omega arith) (omega arith) (subst (EventNumber l) e (event_number b l s none_open_lem p))
       ∙ sym (event_reopened b l s o p ∙ ap (reopened o) e)
 
-  not_line : (p n q : ℕ) (i : Include) → event_at b l s none_open p ≡ Stops n q → event_at b l s o p ≡ Includes i → ⊥
+  not_line : (p n q : ℕ) (i : Include) → event_at b l s none_open_lem p ≡ Stops n q → event_at b l s o p ≡ Includes i → ⊥
   not_line p n q i e f =
       let w : Stops n q ≡ Includes i = sym (event_reopened b l s o p ∙ ap (reopened o) e) ∙ f in
       let z : ◌≡◌ {A = ℕ} 0 1 = cc in
       omega arith
 
-  same_line : (p : ℕ) (j i : Include) → event_at b l s none_open p ≡ Includes j → event_at b l s o p ≡ Includes i → j ≡ i
+  same_line : (p : ℕ) (j i : Include) → event_at b l s none_open_lem p ≡ Includes j → event_at b l s o p ≡ Includes i → j ≡ i
   same_line p j i e f = by (eqb (get_or o j.number 0) 1) (sym (event_reopened b l s o p ∙ ap (reopened o) e) ∙ f)
     where
       by : (x : Bool) → pick x (Stops 27 j.hash) (Includes j) ≡ Includes i → j ≡ i
       by true g = absurd (let z : ◌≡◌ {A = ℕ} 0 1 = cc in omega arith)
       by false g = cc
 
-  pub noted-next : (p : ℕ) (i : Include) → event_at b l s o p ≡ Includes i → Noted b l t k s p → Noted b l t k s i.after
-  noted-next p i f (ends _ n q e g) = absurd (not_line p n q i e f)
-  noted-next p i f (goes _ j e g r) = subst (λ (x : Include). Noted b l t k s x.after) (same_line p j i e f) r
+  pub noted_next : (p : ℕ) (i : Include) → event_at b l s o p ≡ Includes i → Noted b l t k s p → Noted b l t k s i.after
+  noted_next p i f (ends _ n q e g) = absurd (not_line p n q i e f)
+  noted_next p i f (goes _ j e g r) = subst (λ (x : Include). Noted b l t k s x.after) (same_line p j i e f) r
 
 pub event_is : (b l t : List ℕ) (k : ℕ) (s o : List ℕ) (p : ℕ) (r x : Event) → told_well b l ≡ true → AsksFrom b l t s k p →
     r ≡ event_back l o (get_or t (cell_for k p) 0) → r ≡ x → event_at b l s o p ≡ x
-event_is b l t k s o p r x w a e f = sym (noted-event b l t k s o p w a.short a.inside a.noted) ∙ sym e ∙ f
+event_is b l t k s o p r x w a e f = sym (noted_event b l t k s o p w a.short a.inside a.noted) ∙ sym e ∙ f
 
 include_span : (b l s o : List ℕ) (p : ℕ) (i : Include) → event_at b l s o p ≡ Includes i → span_of l i.number ≡ Present i.number i.from i.to
 include_span b l s o p i e = subst (EventNumber l) e (event_number b l s o p)
@@ -250,19 +250,19 @@ inner_asks b l t s o p i w a h e =
     record { short = span_length b l i.number i.number i.from i.to w z; inside = omega arith; noted = a.each i.number i.from i.to h z }
 
 module _ (b l s : List ℕ) (p : ℕ) (w : told_well b l ≡ true) (h : length s ≤ 65535) (j : p ≤ length s) where
-  pub stop-small : (n q : ℕ) → event_at b l s none_open p ≡ Stops n q → (n ≤ 65535) × (q ≤ 65535)
-  stop-small n q e =
-      let u : n ≤ 29 = subst LowEvent e (low_event b l s none_open p) in
-      let v : (p ≤ q) × (q ≤ length s) = subst (EventOk b s p) e (event_ok b l s none_open p w j) in
+  pub stop_small : (n q : ℕ) → event_at b l s none_open_lem p ≡ Stops n q → (n ≤ 65535) × (q ≤ 65535)
+  stop_small n q e =
+      let u : n ≤ 29 = subst LowEvent e (low_event b l s none_open_lem p) in
+      let v : (p ≤ q) × (q ≤ length s) = subst (EventOk b s p) e (event_ok b l s none_open_lem p w j) in
       let v' = v.1 in
       (omega arith, omega arith)
 
-  pub line-fits : (i : Include) → event_at b l s none_open p ≡ Includes i → IncludeFits b s p i
-  line-fits i e = subst (EventOk b s p) e (event_ok b l s none_open p w j)
+  pub line_fits : (i : Include) → event_at b l s none_open_lem p ≡ Includes i → IncludeFits b s p i
+  line_fits i e = subst (EventOk b s p) e (event_ok b l s none_open_lem p w j)
 
-  pub line_small : (i : Include) → event_at b l s none_open p ≡ Includes i → (i.number ≤ 8) × ((i.start ≤ 65535) × ((i.hash ≤ 65535) × (i.after ≤ 65535)))
+  pub line_small : (i : Include) → event_at b l s none_open_lem p ≡ Includes i → (i.number ≤ 8) × ((i.start ≤ 65535) × ((i.hash ≤ 65535) × (i.after ≤ 65535)))
   line_small i e =
-      let v = line-fits i e in
+      let v = line_fits i e in
       let n = v.number in
       let f = v.hash in
       let a = v.after in
@@ -274,7 +274,7 @@ module _ (b l s : List ℕ) (p : ℕ) (w : told_well b l ≡ true) (h : length s
 -- from its start up to p
 pub data UpTo (b l t : List ℕ) (k : ℕ) (s : List ℕ) : ℕ → Type 0 where
   start : (p : ℕ) → p ≡ 0 → UpTo b l t k s p
-  next : (p q : ℕ) (i : Include) → event_at b l s none_open p ≡ Includes i → get_or t (cell_for k p) 0 ≡ note_of (Includes i) → q ≡ i.after → p + 10 ≤ q →
+  next : (p q : ℕ) (i : Include) → event_at b l s none_open_lem p ≡ Includes i → get_or t (cell_for k p) 0 ≡ note_of (Includes i) → q ≡ i.after → p + 10 ≤ q →
       UpTo b l t k s p → UpTo b l t k s q
 
 -- nothing below m is changed
@@ -323,17 +323,17 @@ module _ (b l s : List ℕ) (k : ℕ) (t₀ t : List ℕ) (p c v : ℕ) (room : 
   front : UpTo b l (set t c v) k s p
   front = up_to_set b l t k s c v p (omega arith) u
 
-  pub note-ends : (n q : ℕ) → event_at b l s none_open p ≡ Stops n q → v ≡ packed 8 0 n q → NotesText b l s k t₀ (set t c v)
+  pub note_ends : (n q : ℕ) → event_at b l s none_open_lem p ≡ Stops n q → v ≡ packed 8 0 n q → NotesText b l s k t₀ (set t c v)
   unfolding note_of
-  note-ends n q e f = record { noted = up_to_noted b l (set t c v) k s p front (ends p n q e (here ∙ f)); kept = λ j h. kept.same j h }
+  note_ends n q e f = record { noted = up_to_noted b l (set t c v) k s p front (ends p n q e (here ∙ f)); kept = λ j h. kept.same j h }
 
-  pub note-goes : (i : Include) → event_at b l s none_open p ≡ Includes i → v ≡ packed i.number i.start i.hash i.after → p + 10 ≤ i.after →
+  pub note_goes : (i : Include) → event_at b l s none_open_lem p ≡ Includes i → v ≡ packed i.number i.start i.hash i.after → p + 10 ≤ i.after →
       UpTo b l (set t c v) k s i.after
   unfolding note_of
-  note-goes i e f h = next p i.after i e (here ∙ f) refl h front
+  note_goes i e f h = next p i.after i e (here ∙ f) refl h front
 
-  pub note-kept : Below (k * 6554) t₀ (set t c v)
-  note-kept = kept
+  pub note_kept : Below (k * 6554) t₀ (set t c v)
+  note_kept = kept
 
 -- ---- how all texts are noted
 
@@ -344,15 +344,15 @@ noted_kept b l t t' k s m p w h j e f (ends _ n q x y) =
     ends p n q x (f (cell_for k p) (omega arith) ∙ y)
 noted_kept b l t t' k s m p w h j e f (goes _ i x y r) =
     let c = cell_high k p (omega arith) in
-    let v : IncludeFits b s p i = subst (EventOk b s p) x (event_ok b l s none_open p w j) in
+    let v : IncludeFits b s p i = subst (EventOk b s p) x (event_ok b l s none_open_lem p w j) in
     goes p i x (f (cell_for k p) (omega arith) ∙ y) (noted_kept b l t t' k s m i.after w h v.last e f r)
 
 pub all_none : (b l t : List ℕ) → AllNoted b l t 0
 all_none b l t = record { each = λ k f e h. absurd (omega arith) }
 
 module _ (b l t : List ℕ) (k : ℕ) (w : told_well b l ≡ true) (a : AllNoted b l t k) where
-  pub all-absent : span_of l k ≡ Absent → AllNoted b l t (k + 1)
-  all-absent h =
+  pub all_absent : span_of l k ≡ Absent → AllNoted b l t (k + 1)
+  all_absent h =
       record { each = λ i f e g z. split i k (λ y. a.each i f e y z) (λ y. absurd (not-absent i f e y g z)) }
     where
       not-absent : (i f e : ℕ) → k ≤ i → i < k + 1 → span_of l i ≡ Present i f e → ⊥
@@ -362,8 +362,8 @@ module _ (b l t : List ℕ) (k : ℕ) (w : told_well b l ≡ true) (a : AllNoted
           let u : ◌≡◌ {A = ℕ} 0 1 = cc in
           omega arith
 
-  pub all-next : (n f e : ℕ) (t' : List ℕ) → span_of l k ≡ Present n f e → NotesText b l (bytes_between b f e) k t t' → AllNoted b l t' (k + 1)
-  all-next n f e t' h u =
+  pub all_next : (n f e : ℕ) (t' : List ℕ) → span_of l k ≡ Present n f e → NotesText b l (bytes_between b f e) k t t' → AllNoted b l t' (k + 1)
+  all_next n f e t' h u =
       record { each = λ i x y g z. split i k (λ v. old i x y v z) (λ v. new i x y v g z) }
     where
       old : (i x y : ℕ) → i < k → span_of l i ≡ Present i x y → Noted b l t' i (bytes_between b x y) 0
@@ -395,16 +395,16 @@ module _ (l o : List ℕ) (c : ℕ) where
     unfolding event_back
     by_span x e = rw (lt-leb 8 (c / 281474976710656) h, e)
 
-    pub back-absent : span_of l (c / 281474976710656) ≡ Absent → Stops 28 (c / 65536 % 65536) ≡ event_back l o c
-    back-absent e = by_span Absent e
+    pub back_absent : span_of l (c / 281474976710656) ≡ Absent → Stops 28 (c / 65536 % 65536) ≡ event_back l o c
+    back_absent e = by_span Absent e
 
-    pub back-open : (n f t m : ℕ) → span_of l (c / 281474976710656) ≡ Present n f t → m ≡ get_or o n 0 → m ≡ 1 → Stops 27 (c / 65536 % 65536) ≡ event_back l o c
-    back-open n f t m e g k =
+    pub back_open : (n f t m : ℕ) → span_of l (c / 281474976710656) ≡ Present n f t → m ≡ get_or o n 0 → m ≡ 1 → Stops 27 (c / 65536 % 65536) ≡ event_back l o c
+    back_open n f t m e g k =
         sym (ap (λ (x : Bool). pick x (Stops 27 (c / 65536 % 65536)) (Includes (record { number = n; from = f; to = t; hash = c / 65536 % 65536; start = c / 4294967296 % 65536; after = c % 65536 }))) (eq-eqb (get_or o n 0) 1 (sym g ∙ k))) ∙ by_span (Present n f t) e
 
-    pub back-include : (n f t m : ℕ) → span_of l (c / 281474976710656) ≡ Present n f t → m ≡ get_or o n 0 → (m ≡ 1 → ⊥) →
+    pub back_include : (n f t m : ℕ) → span_of l (c / 281474976710656) ≡ Present n f t → m ≡ get_or o n 0 → (m ≡ 1 → ⊥) →
         Includes (record { number = n; from = f; to = t; hash = c / 65536 % 65536; start = c / 4294967296 % 65536; after = c % 65536 }) ≡ event_back l o c
-    back-include n f t m e g k =
+    back_include n f t m e g k =
         sym (ap (λ (x : Bool). pick x (Stops 27 (c / 65536 % 65536)) (Includes (record { number = n; from = f; to = t; hash = c / 65536 % 65536; start = c / 4294967296 % 65536; after = c % 65536 }))) (ne_eqb (get_or o n 0) 1 (λ y. k (g ∙ y)))) ∙ by_span (Present n f t) e
 
 pub at_note : (l o t : List ℕ) (c k p : ℕ) (r : Event) → c ≡ cell_for k p → r ≡ event_back l o (get_or t c 0) → r ≡ event_back l o (get_or t (cell_for k p) 0)

@@ -18,13 +18,13 @@ module _ (n a : ℕ) (l : List ℕ) (i k : ℕ) where
   opened : i + 1 < length l → span_from n a (drop i l) k ≡ span_from n a (get_or l i 0 ∷ get_or l (i + 1) 0 ∷ drop (i + 2) l) k
   opened h = ap (λ (x : List ℕ). span_from n a x k) (two [] 0 l i h)
 
-  pub span-here : i + 1 < length l → k ≡ 0 → span_from n a (drop i l) k ≡ Present n (a + get_or l i 0) (a + get_or l i 0 + get_or l (i + 1) 0)
+  pub span_here : i + 1 < length l → k ≡ 0 → span_from n a (drop i l) k ≡ Present n (a + get_or l i 0) (a + get_or l i 0 + get_or l (i + 1) 0)
   unfolding span_from
-  span-here h e = opened h ∙ ap (span_from n a (get_or l i 0 ∷ get_or l (i + 1) 0 ∷ drop (i + 2) l)) e
+  span_here h e = opened h ∙ ap (span_from n a (get_or l i 0 ∷ get_or l (i + 1) 0 ∷ drop (i + 2) l)) e
 
-  pub span-on : i + 1 < length l → (k ≡ 0 → ⊥) → span_from n a (drop i l) k ≡ span_from n (a + get_or l i 0 + get_or l (i + 1) 0) (drop (i + 2) l) (k - 1)
+  pub span_on : i + 1 < length l → (k ≡ 0 → ⊥) → span_from n a (drop i l) k ≡ span_from n (a + get_or l i 0 + get_or l (i + 1) 0) (drop (i + 2) l) (k - 1)
   unfolding span_from
-  span-on h e =
+  span_on h e =
       let z : k ≡ suc (k - 1) = omega arith in
       opened h ∙ ap (span_from n a (get_or l i 0 ∷ get_or l (i + 1) 0 ∷ drop (i + 2) l)) z
 
@@ -61,26 +61,26 @@ span_ok b l k n f t u e = subst (SpanOk b) e (span_fits b k 0 l k (omega arith) 
 -- ---- texts
 
 module _ (b l : List ℕ) (k : ℕ) where
-  pub text-there : (n f t : ℕ) → told_well b l ≡ true → span_of l k ≡ Present n f t → bytes_between b f t ≡ text_bytes b l k
+  pub text_there : (n f t : ℕ) → told_well b l ≡ true → span_of l k ≡ Present n f t → bytes_between b f t ≡ text_bytes b l k
   unfolding text_bytes bytes_at
-  text-there n f t w e = sym (ap (λ (u : Bool). bytes_if u b (span_of l k)) w ∙ ap (bytes_at b) e)
+  text_there n f t w e = sym (ap (λ (u : Bool). bytes_if u b (span_of l k)) w ∙ ap (bytes_at b) e)
 
-  pub start-there : (n f t : ℕ) → told_well b l ≡ true → span_of l k ≡ Present n f t → text_start b l k ≡ f
+  pub start_there : (n f t : ℕ) → told_well b l ≡ true → span_of l k ≡ Present n f t → text_start b l k ≡ f
   unfolding text_start start_at
-  start-there n f t w e = ap (λ (u : Bool). start_if u (span_of l k)) w ∙ ap start_at e
+  start_there n f t w e = ap (λ (u : Bool). start_if u (span_of l k)) w ∙ ap start_at e
 
-  pub text-absent : told_well b l ≡ true → span_of l k ≡ Absent → [] ≡ text_bytes b l k
+  pub text_absent : told_well b l ≡ true → span_of l k ≡ Absent → [] ≡ text_bytes b l k
   unfolding text_bytes bytes_at
-  text-absent w e = sym (ap (λ (u : Bool). bytes_if u b (span_of l k)) w ∙ ap (bytes_at b) e)
+  text_absent w e = sym (ap (λ (u : Bool). bytes_if u b (span_of l k)) w ∙ ap (bytes_at b) e)
 
-  pub start-absent : told_well b l ≡ true → span_of l k ≡ Absent → text_start b l k ≡ 0
+  pub start_absent : told_well b l ≡ true → span_of l k ≡ Absent → text_start b l k ≡ 0
   unfolding text_start start_at
-  start-absent w e = ap (λ (u : Bool). start_if u (span_of l k)) w ∙ ap start_at e
+  start_absent w e = ap (λ (u : Bool). start_if u (span_of l k)) w ∙ ap start_at e
 
-  pub text-untold : told_well b l ≡ false → [] ≡ text_bytes b l k
+  pub text_untold : told_well b l ≡ false → [] ≡ text_bytes b l k
   unfolding text_bytes
-  text-untold w = sym (ap (λ (u : Bool). bytes_if u b (span_of l k)) w)
+  text_untold w = sym (ap (λ (u : Bool). bytes_if u b (span_of l k)) w)
 
-  pub start-untold : told_well b l ≡ false → text_start b l k ≡ 0
+  pub start_untold : told_well b l ≡ false → text_start b l k ≡ 0
   unfolding text_start
-  start-untold w = ap (λ (u : Bool). start_if u (span_of l k)) w
+  start_untold w = ap (λ (u : Bool). start_if u (span_of l k)) w

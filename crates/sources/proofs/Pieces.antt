@@ -95,13 +95,13 @@ unfolding included
 event_same b k s p g f h (Stops n q) o e = refl
 event_same b k s p g f h (Includes i) o e =
     let z : f i.after ≡ h i.after = e i.after (omega arith) o.last in
-    by-fault (eqb (g i).number 0) z
+    by_fault (eqb (g i).number 0) z
   where
-    by-fault : (t : Bool) → f i.after ≡ h i.after →
+    by_fault : (t : Bool) → f i.after ≡ h i.after →
         onto_part k s p i.start (included_by t (origin k i.hash) (length s - i.after) (g i) f i.after)
         ≡ onto_part k s p i.start (included_by t (origin k i.hash) (length s - i.after) (g i) h i.after)
-    by-fault true z = ap (λ (y : Piece). onto_part k s p i.start (onto (g i).bytes (g i).origins (onto_end (origin k i.hash) y))) z
-    by-fault false z = refl
+    by_fault true z = ap (λ (y : Piece). onto_part k s p i.start (onto (g i).bytes (g i).origins (onto_end (origin k i.hash) y))) z
+    by_fault false z = refl
 
 walks_same : (n m : ℕ) (b l : List ℕ) (k : ℕ) (s o : List ℕ) (g : Include → Piece) (p : ℕ) → told_well b l ≡ true → p ≤ length s →
     length s < p + n → length s < p + m → walk_n n b l k s o g p ≡ walk_n m b l k s o g p
@@ -139,8 +139,8 @@ expand_law (suc d) b l k s o h =
 -- ---- the steps of the code
 
 module _ (b l : List ℕ) (k : ℕ) (s o : List ℕ) (d p : ℕ) where
-  pub stop-piece : (n q : ℕ) → told_well b l ≡ true → p ≤ length s → event_at b l s o p ≡ Stops n q → stopped k s p n q ≡ walk b l k s o (inner d b l o) p
-  stop-piece n q t h e =
+  pub stop_piece : (n q : ℕ) → told_well b l ≡ true → p ≤ length s → event_at b l s o p ≡ Stops n q → stopped k s p n q ≡ walk b l k s o (inner d b l o) p
+  stop_piece n q t h e =
       sym (walk_law b l k s o (inner d b l o) p t h ∙ ap (after_event k s p (inner d b l o) (walk b l k s o (inner d b l o))) e)
 
   pub line_piece : (i : Include) → told_well b l ≡ true → p ≤ length s → event_at b l s o p ≡ Includes i →
@@ -148,8 +148,8 @@ module _ (b l : List ℕ) (k : ℕ) (s o : List ℕ) (d p : ℕ) where
   line_piece i t h e =
       sym (walk_law b l k s o (inner d b l o) p t h ∙ ap (after_event k s p (inner d b l o) (walk b l k s o (inner d b l o))) e)
 
-  pub include-fits : (i : Include) → told_well b l ≡ true → p ≤ length s → event_at b l s o p ≡ Includes i → IncludeFits b s p i
-  include-fits i t h e = subst (EventOk b s p) e (event_ok b l s o p t h)
+  pub include_fits : (i : Include) → told_well b l ≡ true → p ≤ length s → event_at b l s o p ≡ Includes i → IncludeFits b s p i
+  include_fits i t h e = subst (EventOk b s p) e (event_ok b l s o p t h)
 
-  pub stop-fits : (n q : ℕ) → told_well b l ≡ true → p ≤ length s → event_at b l s o p ≡ Stops n q → (p ≤ q) × (q ≤ length s)
-  stop-fits n q t h e = subst (EventOk b s p) e (event_ok b l s o p t h)
+  pub stop_fits : (n q : ℕ) → told_well b l ≡ true → p ≤ length s → event_at b l s o p ≡ Stops n q → (p ≤ q) × (q ≤ length s)
+  stop_fits n q t h e = subst (EventOk b s p) e (event_ok b l s o p t h)

@@ -31,9 +31,9 @@ use Rattle.sources.specs.declared.Fill.{Fill}
 use Rattle.sources.specs.declared.Expansion.{Expansion}
 use Rattle.sources.proofs.Singles.{fill_short}
 use Rattle.sources.proofs.Tellings.{Fits}
-use Rattle.sources.proofs.Stops.{stop_law, stop-end, hash-other, length_between}
-use Rattle.sources.proofs.Pieces.{expand_law, stop-piece}
-use Rattle.sources.proofs.Fillings.{rest-fills}
+use Rattle.sources.proofs.Stops.{stop_law, stop_end, hash_other, length_between}
+use Rattle.sources.proofs.Pieces.{expand_law, stop_piece}
+use Rattle.sources.proofs.Fillings.{rest_fills}
 use Rattle.sources.proofs.Wholes.{expands, main_fits}
 
 -- ---- whether a byte stands in a text
@@ -74,14 +74,14 @@ module _ (s : List ℕ) (e : holds 35 s ≡ false) where
   plain_step p (Found t c) f k = k t c f
   plain_step p (Refused q) f k =
       let o = bad_fits s p q f in
-      subst Plainly (hash-other s p q (none_there 35 s e q o.1)) (inr refl)
+      subst Plainly (hash_other s p q (none_there 35 s e q o.1)) (inr refl)
   plain_step p (End n) f k = inl refl
 
-  plain-stops : (n p : ℕ) → length s < p + n → Plainly (stop_at s p)
-  plain-stops zero p h = subst Plainly (sym (stop-end s p (length s) (step_past s p (omega arith)))) (inl refl)
-  plain-stops (suc n) p h =
+  plain_stops : (n p : ℕ) → length s < p + n → Plainly (stop_at s p)
+  plain_stops zero p h = subst Plainly (sym (stop_end s p (length s) (step_past s p (omega arith)))) (inl refl)
+  plain_stops (suc n) p h =
       subst Plainly (sym (stop_law s p))
-      (plain_step p (step_at s p) refl (λ t c f. let o = found_fits s p t c f in plain-stops n c.at (omega arith)))
+      (plain_step p (step_at s p) refl (λ t c f. let o = found_fits s p t c f in plain_stops n c.at (omega arith)))
 
 -- ---- its expansion is the text itself
 
@@ -105,7 +105,7 @@ by_stop b l (At n q) t i j e w =
       place = q;
       which = w;
       event = f;
-      is = expand_law 8 b l 0 (main_text b l) main_open (λ z. omega arith) ∙ sym (stop-piece b l 0 (main_text b l) main_open 7 0 n q t (omega arith) f);
+      is = expand_law 8 b l 0 (main_text b l) main_open (λ z. omega arith) ∙ sym (stop_piece b l 0 (main_text b l) main_open 7 0 n q t (omega arith) f);
       size = i;
       short = j;
     }
@@ -124,7 +124,7 @@ plain_piece b l e =
     let y = f.name in
     let z = f.text in
     let n = length_between b (get_or l 0 0) (get_or l 0 0 + get_or l 1 0) (omega arith) in
-    by_stop b l (stop_at (main_text b l) 0) t (omega arith) f.short refl (plain-stops (main_text b l) h (suc (length (main_text b l))) 0 (omega arith))
+    by_stop b l (stop_at (main_text b l) 0) t (omega arith) f.short refl (plain_stops (main_text b l) h (suc (length (main_text b l))) 0 (omega arith))
 
 pub plain_told : (b l : List ℕ) (a : Bool) → told_well b l ≡ true → a ≡ holds 35 (bytes_between b (get_or l 0 0) (get_or l 0 0 + get_or l 1 0)) → not a ≡ is_plain b l
 unfolding is_plain main_text
@@ -154,7 +154,7 @@ copies b l o g n m o' g' r e i j u =
     let v : Puts s 0 (length s) 0 (take n o) (take m g) 0 o' g' r = subst (λ (k : ℕ). Puts s 0 k 0 (take n o) (take m g) 0 o' g' r) (sym z) u in
     let f = fill_by 65535 w.number (0 + (w.place - 0)) r r in
     let x : Fills 65535 (expand_n 8 b l 0 s main_open) (take n o) (take m g) 0 o' g' f =
-    subst (λ (k : Piece). Fills 65535 k (take n o) (take m g) 0 o' g' f) (sym w.is) (rest-fills 65535 s 0 0 w.number w.place (take n o) (take m g) 0 o' g' r f v refl) in
+    subst (λ (k : Piece). Fills 65535 k (take n o) (take m g) 0 o' g' f) (sym w.is) (rest_fills 65535 s 0 0 w.number w.place (take n o) (take m g) 0 o' g' r f v refl) in
     let y = expands 65535 b l o g n m o' g' f w.told i j x in
     let k : r ≡ length s = let q = v.next in omega arith in
     record {

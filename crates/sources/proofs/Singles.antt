@@ -11,7 +11,7 @@ use lib.Dec.{ltb, eqb}
 use borrow.Author.Tests.{lt-ltb, le-ltb, eq-eqb, ne_eqb, ltb-true, ltb-false}
 use Rattle.token.specs.Find.{pick, byte}
 use Rattle.token.specs.declared.Step.{Step}
-use Rattle.rows.proofs.Stores.{sets_out, stores-more, stores-past, stores-end}
+use Rattle.rows.proofs.Stores.{sets_out, stores_more, stores_past, stores_end}
 use Rattle.token.specs.Tokens.{step_at}
 use Rattle.sources.specs.Lines.{is_aside, line_start, is_end, whole_to, after_line}
 use Rattle.sources.specs.Expanding.{up_from, is_too_long, fill_by}
@@ -83,13 +83,13 @@ from_start l a x =
 
 -- a loop that stores as many bytes as fit, from a place on
 module _ (l : List ℕ) (a : ℕ) (x : List ℕ) (i : ℕ) where
-  pub store-more : i < length x → sets l (a + i) (drop i x) ≡ sets (set l (a + i) (get_or x i 0)) (a + (i + 1)) (drop (i + 1) x)
-  store-more h =
+  pub store_more : i < length x → sets l (a + i) (drop i x) ≡ sets (set l (a + i) (get_or x i 0)) (a + (i + 1)) (drop (i + 1) x)
+  store_more h =
       let e : a + i + 1 ≡ a + (i + 1) = omega arith in
-      stores-more l (a + i) x i h ∙ ap (λ (k : ℕ). sets (set l (a + i) (get_or x i 0)) k (drop (i + 1) x)) e
+      stores_more l (a + i) x i h ∙ ap (λ (k : ℕ). sets (set l (a + i) (get_or x i 0)) k (drop (i + 1) x)) e
 
-  pub store-end : min (length x) (length l - a) ≤ i → l ≡ sets l (a + i) (drop i x)
-  store-end h = split i (length x) (λ k. stores-past l (a + i) x i (omega arith)) (λ k. stores-end l (a + i) x i k)
+  pub store_end : min (length x) (length l - a) ≤ i → l ≡ sets l (a + i) (drop i x)
+  store_end h = split i (length x) (λ k. stores_past l (a + i) x i (omega arith)) (λ k. stores_end l (a + i) x i k)
 
 -- a loop that counts up, as far as the cells reach
 module _ (l : List ℕ) (a f i n : ℕ) where
@@ -107,8 +107,8 @@ module _ (l : List ℕ) (a f i n : ℕ) where
       let e : n - i ≡ 0 = omega arith in
       rw e
 
-  pub up-end : min n (length l - a) ≤ i → l ≡ sets l (a + i) (up_from (f + i) (n - i))
-  up-end h = split i n (λ k. sym (sets_out l (a + i) (up_from (f + i) (n - i)) (omega arith))) (λ k. up_done k)
+  pub up_end : min n (length l - a) ≤ i → l ≡ sets l (a + i) (up_from (f + i) (n - i))
+  up_end h = split i n (λ k. sym (sets_out l (a + i) (up_from (f + i) (n - i)) (omega arith))) (λ k. up_done k)
 
 pub up_start : (l : List ℕ) (a f n : ℕ) → sets l (a + 0) (up_from (f + 0) (n - 0)) ≡ sets l a (up_from f n)
 up_start l a f n =

@@ -40,48 +40,48 @@ length_between s a e h =
     omega arith
 
 module _ (s : List ℕ) (p h : ℕ) where
-  pub line-late : (a : ℕ) → a ≡ line_start s h → a < p → At 29 h ≡ line_of s p h
+  pub line_late : (a : ℕ) → a ≡ line_start s h → a < p → At 29 h ≡ line_of s p h
   unfolding line_of
-  line-late a e k = rw (← e, lt-leb p a k)
+  line_late a e k = rw (← e, lt-leb p a k)
 
-  pub line-reached : (a : ℕ) → a ≡ line_start s h → whole_to (take a s) p ≡ false → At 29 h ≡ line_of s p h
+  pub line_reached : (a : ℕ) → a ≡ line_start s h → whole_to (take a s) p ≡ false → At 29 h ≡ line_of s p h
   unfolding line_of
-  line-reached a e k = rw (← e, k, both_false (leb p a))
+  line_reached a e k = rw (← e, k, both_false (leb p a))
 
-  pub line-named : (a e z f t : ℕ) → a ≡ line_start s h → p ≤ a → whole_to (take a s) p ≡ true → e ≡ find_byte 10 s h →
+  pub line_named : (a e z f t : ℕ) → a ≡ line_start s h → p ≤ a → whole_to (take a s) p ≡ true → e ≡ find_byte 10 s h →
       named (bytes_between s a e) (h - a) ≡ Is f t → z ≡ after_line s e →
       AtLine (record { hash = h; start = a; from = a + f; to = a + t; after = z }) ≡ line_of s p h
   unfolding line_of
-  line-named a e z f t i j k m n o = rw (← i, le-leb p a j, k, ← m, n, o)
+  line_named a e z f t i j k m n o = rw (← i, le-leb p a j, k, ← m, n, o)
 
-  pub line-unnamed : (a e : ℕ) → a ≡ line_start s h → p ≤ a → whole_to (take a s) p ≡ true → e ≡ find_byte 10 s h →
+  pub line_unnamed : (a e : ℕ) → a ≡ line_start s h → p ≤ a → whole_to (take a s) p ≡ true → e ≡ find_byte 10 s h →
       named (bytes_between s a e) (h - a) ≡ Not → At 29 h ≡ line_of s p h
   unfolding line_of
-  line-unnamed a e i j k m n = rw (← i, le-leb p a j, k, ← m, n)
+  line_unnamed a e i j k m n = rw (← i, le-leb p a j, k, ← m, n)
 
-  pub hash-is : byte s h ≡ 35 → line_of s p h ≡ hash_at s p h
+  pub hash_is : byte s h ≡ 35 → line_of s p h ≡ hash_at s p h
   unfolding hash_at
-  hash-is e = rw (eq-eqb (byte s h) 35 e)
+  hash_is e = rw (eq-eqb (byte s h) 35 e)
 
-  pub hash-other : (byte s h ≡ 35 → ⊥) → At 3 h ≡ hash_at s p h
+  pub hash_other : (byte s h ≡ 35 → ⊥) → At 3 h ≡ hash_at s p h
   unfolding hash_at
-  hash-other e = rw (ne_eqb (byte s h) 35 e)
+  hash_other e = rw (ne_eqb (byte s h) 35 e)
 
 -- ---- the name on an include line
 
 module _ (s : List ℕ) (h : ℕ) where
-  pub name-past : length s ≤ h → Not ≡ name_at s h
+  pub name_past : length s ≤ h → Not ≡ name_at s h
   unfolding name_at
-  name-past k = rw (le-ltb h (length s) k)
+  name_past k = rw (le-ltb h (length s) k)
 
-  pub name-there : (a e f t : ℕ) → h < length s → a ≡ line_start s h → e ≡ find_byte 10 s h → named (bytes_between s a e) (h - a) ≡ Is f t →
+  pub name_there : (a e f t : ℕ) → h < length s → a ≡ line_start s h → e ≡ find_byte 10 s h → named (bytes_between s a e) (h - a) ≡ Is f t →
       Is (a + f) (a + t) ≡ name_at s h
   unfolding name_at moved_name
-  name-there a e f t k i m n = rw (lt-ltb h (length s) k, ← i, ← m, n)
+  name_there a e f t k i m n = rw (lt-ltb h (length s) k, ← i, ← m, n)
 
-  pub name-none : (a e : ℕ) → h < length s → a ≡ line_start s h → e ≡ find_byte 10 s h → named (bytes_between s a e) (h - a) ≡ Not → Not ≡ name_at s h
+  pub name_none : (a e : ℕ) → h < length s → a ≡ line_start s h → e ≡ find_byte 10 s h → named (bytes_between s a e) (h - a) ≡ Not → Not ≡ name_at s h
   unfolding name_at moved_name
-  name-none a e k i m n = rw (lt-ltb h (length s) k, ← i, ← m, n)
+  name_none a e k i m n = rw (lt-ltb h (length s) k, ← i, ← m, n)
 
 -- ---- by steps
 
@@ -113,14 +113,14 @@ stop_law s p =
     enough (length s - p) (suc (length s - c.at)) s c.at (omega arith) (omega arith))
 
 module _ (s : List ℕ) (p : ℕ) where
-  pub stop-found : (t : Token) (c : Cursor) → step_at s p ≡ Found t c → stop_at s p ≡ stop_at s c.at
-  stop-found t c e = stop_law s p ∙ ap (λ (r : Step). after_token r s p (stop_at s)) e
+  pub stop_found : (t : Token) (c : Cursor) → step_at s p ≡ Found t c → stop_at s p ≡ stop_at s c.at
+  stop_found t c e = stop_law s p ∙ ap (λ (r : Step). after_token r s p (stop_at s)) e
 
-  pub stop-refused : (q : ℕ) → step_at s p ≡ Refused q → stop_at s p ≡ hash_at s p q
-  stop-refused q e = stop_law s p ∙ ap (λ (r : Step). after_token r s p (stop_at s)) e
+  pub stop_refused : (q : ℕ) → step_at s p ≡ Refused q → stop_at s p ≡ hash_at s p q
+  stop_refused q e = stop_law s p ∙ ap (λ (r : Step). after_token r s p (stop_at s)) e
 
-  pub stop-end : (n : ℕ) → step_at s p ≡ End n → stop_at s p ≡ At 0 (length s)
-  stop-end n e = stop_law s p ∙ ap (λ (r : Step). after_token r s p (stop_at s)) e
+  pub stop_end : (n : ℕ) → step_at s p ≡ End n → stop_at s p ≡ At 0 (length s)
+  stop_end n e = stop_law s p ∙ ap (λ (r : Step). after_token r s p (stop_at s)) e
 
 -- ---- where it stops
 

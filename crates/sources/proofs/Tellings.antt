@@ -31,37 +31,37 @@ module _ (b : List ℕ) (a : ℕ) (l : List ℕ) (i : ℕ) where
       let e : length l ≤ suc i = omega arith in
       drop-cons l i 0 (omega arith) ∙ ap (λ (x : List ℕ). get_or l i 0 ∷ x) (drop_of_length-le l e)
 
-  pub fit-end : length l ≤ i → fitting b a (drop i l) ≡ true
+  pub fit_end : length l ≤ i → fitting b a (drop i l) ≡ true
   unfolding fitting
-  fit-end h = ap (fitting b a) (drop_of_length-le l h)
+  fit_end h = ap (fitting b a) (drop_of_length-le l h)
 
-  pub fit-one : i + 1 ≡ length l → fitting b a (drop i l) ≡ false
+  pub fit_one : i + 1 ≡ length l → fitting b a (drop i l) ≡ false
   unfolding fitting
-  fit-one h = ap (fitting b a) (one h)
+  fit_one h = ap (fitting b a) (one h)
 
   opened : i + 1 < length l → fitting b a (drop i l) ≡ both (leb (get_or l i 0) (length b - a)) (both (leb (get_or l (i + 1) 0) (length b - (a + get_or l i 0))) (both (leb (get_or l (i + 1) 0) 65535) (fitting b (a + get_or l i 0 + get_or l (i + 1) 0) (drop (i + 2) l))))
   unfolding fitting
   opened h = ap (fitting b a) (two h)
 
-  pub fit-name : i + 1 < length l → length b - a < get_or l i 0 → fitting b a (drop i l) ≡ false
-  fit-name h k = opened h ∙ rw (lt-leb (get_or l i 0) (length b - a) k)
+  pub fit_name : i + 1 < length l → length b - a < get_or l i 0 → fitting b a (drop i l) ≡ false
+  fit_name h k = opened h ∙ rw (lt-leb (get_or l i 0) (length b - a) k)
 
-  pub fit-text : i + 1 < length l → length b - (a + get_or l i 0) < get_or l (i + 1) 0 → fitting b a (drop i l) ≡ false
-  fit-text h k = opened h ∙ rw (lt-leb (get_or l (i + 1) 0) (length b - (a + get_or l i 0)) k) (both_false (leb (get_or l i 0) (length b - a)))
+  pub fit_text : i + 1 < length l → length b - (a + get_or l i 0) < get_or l (i + 1) 0 → fitting b a (drop i l) ≡ false
+  fit_text h k = opened h ∙ rw (lt-leb (get_or l (i + 1) 0) (length b - (a + get_or l i 0)) k) (both_false (leb (get_or l i 0) (length b - a)))
 
-  pub fit-long : i + 1 < length l → get_or l i 0 ≤ length b - a → get_or l (i + 1) 0 ≤ length b - (a + get_or l i 0) → 65535 < get_or l (i + 1) 0 → fitting b a (drop i l) ≡ false
-  fit-long h j k m =
+  pub fit_long : i + 1 < length l → get_or l i 0 ≤ length b - a → get_or l (i + 1) 0 ≤ length b - (a + get_or l i 0) → 65535 < get_or l (i + 1) 0 → fitting b a (drop i l) ≡ false
+  fit_long h j k m =
       opened h
       ∙ rw (le-leb (get_or l i 0) (length b - a) j, le-leb (get_or l (i + 1) 0) (length b - (a + get_or l i 0)) k, lt-leb (get_or l (i + 1) 0) 65535 m)
 
-  pub fit-more : i + 1 < length l → get_or l i 0 ≤ length b - a → get_or l (i + 1) 0 ≤ length b - (a + get_or l i 0) → get_or l (i + 1) 0 ≤ 65535 → fitting b a (drop i l) ≡ fitting b (a + get_or l i 0 + get_or l (i + 1) 0) (drop (i + 2) l)
-  fit-more h j k m =
+  pub fit_more : i + 1 < length l → get_or l i 0 ≤ length b - a → get_or l (i + 1) 0 ≤ length b - (a + get_or l i 0) → get_or l (i + 1) 0 ≤ 65535 → fitting b a (drop i l) ≡ fitting b (a + get_or l i 0 + get_or l (i + 1) 0) (drop (i + 2) l)
+  fit_more h j k m =
       opened h
       ∙ rw (le-leb (get_or l i 0) (length b - a) j, le-leb (get_or l (i + 1) 0) (length b - (a + get_or l i 0)) k, le-leb (get_or l (i + 1) 0) 65535 m)
 
   -- what is known of a name and a text that lie in the buffer
   pub record Fits : Type 0 where
-    pub two-left : i + 1 < length l
+    pub two_left : i + 1 < length l
     pub name : get_or l i 0 ≤ length b - a
     pub text : get_or l (i + 1) 0 ≤ length b - (a + get_or l i 0)
     pub short : get_or l (i + 1) 0 ≤ 65535
@@ -85,11 +85,11 @@ module _ (b : List ℕ) (a : ℕ) (l : List ℕ) (i : ℕ) where
   fits g e =
       let h : i + 1 < length l =
       ⊎_elim
-      (λ (z : suc i ≡ length l). let y : i + 1 ≡ length l = omega arith in absurd (false≢true (sym (fit-one b a l i y) ∙ e)))
+      (λ (z : suc i ≡ length l). let y : i + 1 ≡ length l = omega arith in absurd (false≢true (sym (fit_one b a l i y) ∙ e)))
       (λ (z : suc i < length l). omega arith) (eq-or-lt_of_le g) in
       let f = four (leb (get_or l i 0) (length b - a)) (leb (get_or l (i + 1) 0) (length b - (a + get_or l i 0))) (leb (get_or l (i + 1) 0) 65535) (fitting b (a + get_or l i 0 + get_or l (i + 1) 0) (drop (i + 2) l)) (sym (opened b a l i h) ∙ e) in
       record {
-        two-left = h;
+        two_left = h;
         name = leb-true (get_or l i 0) (length b - a) f.first;
         text = leb-true (get_or l (i + 1) 0) (length b - (a + get_or l i 0)) f.second;
         short = leb-true (get_or l (i + 1) 0) 65535 f.third;
@@ -105,8 +105,8 @@ module _ (b : List ℕ) (k a : ℕ) (l : List ℕ) (i : ℕ) (w : List ℕ) wher
   pub find_here : i + 1 < length l → same (bytes_between b a (a + get_or l i 0)) w ≡ true → find_from b k a (drop i l) w ≡ Present k (a + get_or l i 0) (a + get_or l i 0 + get_or l (i + 1) 0)
   find_here h e = found h ∙ rw e
 
-  pub find-on : i + 1 < length l → same (bytes_between b a (a + get_or l i 0)) w ≡ false → find_from b k a (drop i l) w ≡ find_from b (k + 1) (a + get_or l i 0 + get_or l (i + 1) 0) (drop (i + 2) l) w
-  find-on h e = found h ∙ rw (e, add-one k)
+  pub find_on : i + 1 < length l → same (bytes_between b a (a + get_or l i 0)) w ≡ false → find_from b k a (drop i l) w ≡ find_from b (k + 1) (a + get_or l i 0 + get_or l (i + 1) 0) (drop (i + 2) l) w
+  find_on h e = found h ∙ rw (e, add-one k)
 
   pub find_none : length l ≤ i → find_from b k a (drop i l) w ≡ Absent
   unfolding find_from

@@ -12,7 +12,7 @@ use Rattle.token.specs.Find.{byte}
 use Rattle.token.specs.Tokens.{bytes_between}
 use Rattle.token.specs.Lexing.{Lexed, more, ended, refused, Divides, lex_from}
 use Rattle.token.proofs.Sequences.{tokens_of, after_all}
-use Rattle.token.proofs.Steps.{step_past, lex-end}
+use Rattle.token.proofs.Steps.{step_past, lex_end}
 use Rattle.locality.proofs.Shift.{moved_all}
 use Rattle.sources.specs.Lines.{stop_at}
 use Rattle.sources.specs.Texts.{told_well, event_at}
@@ -25,7 +25,7 @@ use Rattle.sources.proofs.Events.{IncludeFits, EventOk, event_ok}
 use Rattle.sources.proofs.Stops.{length_between}
 use Rattle.sources.proofs.Pieces.{walk_law}
 use Rattle.sources_laws.specs.Lexings.{EndsAs}
-use Rattle.sources_laws.proofs.Outcomes.{Outcome, at_end, at-bad, outcome, LineSays, HashSays, hash_says}
+use Rattle.sources_laws.proofs.Outcomes.{Outcome, at_end, at_bad, outcome, LineSays, HashSays, hash_says}
 use Rattle.sources_laws.proofs.Fronts.{line_front, line_feed}
 use Rattle.sources_laws.proofs.Joined.{text_joined, lines_joined, feed_joined}
 use Rattle.sources_laws.proofs.Expanded.{expand_lexes, EventSays, event_says}
@@ -36,7 +36,7 @@ wholly q (ended n) e = tt
 wholly q (refused p) e = absurd (e.0 refl)
 
 none : EndsAs 0 0 (lex_from [] 0)
-none = subst (EndsAs 0 0) (sym (lex-end [] 0 0 (step_past [] 0 (omega arith)))) refl
+none = subst (EndsAs 0 0) (sym (lex_end [] 0 0 (step_past [] 0 (omega arith)))) refl
 
 -- an LF stands before an include line, unless it is the first
 before_line : (s : List ℕ) (p : ℕ) (i : Line) → stop_at s p ≡ AtLine i → 0 < i.start → byte s (i.start - 1) ≡ 10
@@ -44,7 +44,7 @@ before_line s p i e h = by (outcome s p)
   where
     by : Outcome s p (stop_at s p) → byte s (i.start - 1) ≡ 10
     by (at_end last m r f g) = absurd (let w : AtLine i ≡ At 0 (length s) = sym e ∙ g in let z : ◌≡◌ {A = ℕ} 0 1 = cc in omega arith)
-    by (at-bad last q r f g) =
+    by (at_bad last q r f g) =
         let u : LineSays s last q i = subst (HashSays s last q) (sym g ∙ e) (hash_says s last q) in
         let m = u.start in
         subst (λ (k : ℕ). byte s (k - 1) ≡ 10) (sym m) (line_feed s q (omega arith))
@@ -56,8 +56,8 @@ module _ (b l s o : List ℕ) (p : ℕ) (i : Include) (t : told_well b l ≡ tru
   says : EventSays s p (Includes i)
   says = subst (EventSays s p) e (event_says b l s o p)
 
-  front-divides : Divides (lex_from (bytes_between s p i.start) 0)
-  front-divides =
+  front_divides : Divides (lex_from (bytes_between s p i.start) 0)
+  front_divides =
       let u = fits in
       let v = says in
       let st : i.start ≡ v.0.start = v.2 in
@@ -66,8 +66,8 @@ module _ (b l s o : List ℕ) (p : ℕ) (i : Include) (t : told_well b l ≡ tru
       (subst (λ (x : List ℕ). EndsAs 0 (length (bytes_between s p i.start) + 0) (lex_from x 0)) (append-nil {A = ℕ} (bytes_between s p i.start))
       (subst (λ (m : ℕ). EndsAs 0 (length (bytes_between s p m) + 0) (lex_from (bytes_between s p m ++ []) 0)) (sym st) w))
 
-  front-feed : 0 < length (bytes_between s p i.start) → byte (bytes_between s p i.start) (length (bytes_between s p i.start) - 1) ≡ 10
-  front-feed k =
+  front_feed : 0 < length (bytes_between s p i.start) → byte (bytes_between s p i.start) (length (bytes_between s p i.start) - 1) ≡ 10
+  front_feed k =
       let u = fits in
       let v = says in
       let x = u.hash in
@@ -81,9 +81,9 @@ module _ (b l s o : List ℕ) (p : ℕ) (i : Include) (t : told_well b l ≡ tru
       ∙ get_or-drop p s (length (bytes_between s p i.start) - 1) 0
       ∙ ap (byte s) m ∙ f
 
-  front-joined : (c : List ℕ) → lex_from (bytes_between s p i.start ++ c) 0
+  front_joined : (c : List ℕ) → lex_from (bytes_between s p i.start ++ c) 0
       ≡ after_all (tokens_of (lex_from (bytes_between s p i.start) 0)) (moved_all (length (bytes_between s p i.start)) (lex_from c 0))
-  front-joined c = lines_joined (bytes_between s p i.start) c front-divides front-feed
+  front_joined c = lines_joined (bytes_between s p i.start) c front_divides front_feed
 
 whole_bytes : (k : ℕ) (s : List ℕ) (p m c n : ℕ) (x : Piece) (w : ℕ → Piece) (q : ℕ) → x.number ≡ 0 →
     (onto_part k s p m (included c n x w q)).bytes ≡ bytes_between s p m ++ (x.bytes ++ (10 ∷ (w q).bytes))
@@ -114,7 +114,7 @@ include_tokens d b l k s o p i t h e n =
     let w = walk b l k s o (inner d b l o) in
     ap (λ (y : Piece). lex_from y.bytes 0) (walk_law b l k s o (inner d b l o) p t h ∙ ap (after_event k s p (inner d b l o) w) e)
     ∙ ap (λ (y : List ℕ). lex_from y 0) (whole_bytes k s p i.start (origin k i.hash) (length s - i.after) x w i.after n)
-    ∙ front-joined b l s o p i t h e (x.bytes ++ (10 ∷ (w i.after).bytes))
+    ∙ front_joined b l s o p i t h e (x.bytes ++ (10 ∷ (w i.after).bytes))
     ∙ ap (λ (y : Lexed). after_all (tokens_of (lex_from (bytes_between s p i.start) 0)) (moved_all (length (bytes_between s p i.start)) y))
     (text_joined x.bytes (w i.after).bytes (inner_divides d b l o i t n)
     ∙ ap (λ (y : Lexed). after_all (tokens_of (lex_from x.bytes 0)) (moved_all (length x.bytes) y)) (feed_joined (w i.after).bytes))
@@ -129,4 +129,4 @@ fault_tokens d b l k s o p i t h e n =
     let w = walk b l k s o (inner d b l o) in
     ap (λ (y : Piece). lex_from y.bytes 0) (walk_law b l k s o (inner d b l o) p t h ∙ ap (after_event k s p (inner d b l o) w) e)
     ∙ ap (λ (y : List ℕ). lex_from y 0) (fault_bytes k s p i.start (origin k i.hash) (length s - i.after) x w i.after n)
-    ∙ front-joined b l s o p i t h e x.bytes
+    ∙ front_joined b l s o p i t h e x.bytes

@@ -63,13 +63,13 @@ unfolding included
 event_same b k s o p f g v w (Stops n q) h e y z = refl
 event_same b k s o p f g v w (Includes i) h e y z =
     ap (λ (u : Piece). onto_part k s p i.start (included_by (eqb u.number 0) (origin k i.hash) (length s - i.after) u v i.after)) (y i h.number e)
-    ∙ by-fault (eqb (g i).number 0) (z i.after h.last)
+    ∙ by_fault (eqb (g i).number 0) (z i.after h.last)
   where
-    by-fault : (t : Bool) → v i.after ≡ w i.after →
+    by_fault : (t : Bool) → v i.after ≡ w i.after →
         onto_part k s p i.start (included_by t (origin k i.hash) (length s - i.after) (g i) v i.after)
         ≡ onto_part k s p i.start (included_by t (origin k i.hash) (length s - i.after) (g i) w i.after)
-    by-fault true u = ap (λ (y : Piece). onto_part k s p i.start (onto (g i).bytes (g i).origins (onto_end (origin k i.hash) y))) u
-    by-fault false u = refl
+    by_fault true u = ap (λ (y : Piece). onto_part k s p i.start (onto (g i).bytes (g i).origins (onto_end (origin k i.hash) y))) u
+    by_fault false u = refl
 
 walk_same : (n : ℕ) (b l : List ℕ) (k : ℕ) (s o : List ℕ) (f g : Include → Piece) (p : ℕ) → told_well b l ≡ true → p ≤ length s →
     ((i : Include) → i.number < 8 → (get_or o i.number 0 ≡ 1 → ⊥) → f i ≡ g i) → walk_n n b l k s o f p ≡ walk_n n b l k s o g p

@@ -15,7 +15,7 @@ use Rattle.token.specs.Tokens.{bytes_between}
 use Rattle.token.specs.Lexing.{lex_from}
 use Rattle.token.proofs.Sequences.{after_all}
 use Rattle.token.proofs.Find.{by_test}
-use Rattle.token.proofs.Steps.{step_past, lex-end}
+use Rattle.token.proofs.Steps.{step_past, lex_end}
 use Rattle.locality.proofs.Pieces.{piece_blank, may_follow}
 use Rattle.sources.specs.Lines.{stop_at}
 use Rattle.sources.specs.Texts.{told_well, find_name, include_by, include_of, event_by, event_at}
@@ -90,7 +90,7 @@ nothing_ok : LexOk nothing
 unfolding nothing
 nothing_ok =
     record {
-      ends = subst (EndsAs 0 0) (sym (lex-end [] 0 0 (step_past [] 0 (omega arith)))) refl;
+      ends = subst (EndsAs 0 0) (sym (lex_end [] 0 0 (step_past [] 0 (omega arith)))) refl;
       feeds = λ z b n i e. let k : i ≡ 0 + i = omega arith in subst (λ (j : ℕ). EndsAs n j (lex_from (10 ∷ b) 0)) k e;
     }
 

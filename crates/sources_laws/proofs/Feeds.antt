@@ -23,14 +23,14 @@ use Rattle.token.specs.declared.Power.{Power}
 use Rattle.token.specs.declared.Power.TheVariants.{Times, None}
 use Rattle.token.specs.declared.Amount.{Amount}
 use Rattle.token.specs.declared.Amount.TheVariants.{Is, Not}
-use Rattle.token.proofs.Find.{by_test, find-before, find-next, find-low}
+use Rattle.token.proofs.Find.{by_test, find_before, find_next, find_low}
 use Rattle.token.proofs.Bytes.{both_second, either_true}
 use Rattle.token.proofs.Decimals.{dotted_inside}
 use Rattle.token.proofs.Steps.{found_fits}
-use Rattle.locality.proofs.Forms.{number-form, step-form}
+use Rattle.locality.proofs.Forms.{number_form, step_form}
 use Rattle.locality.proofs.Front.{ends}
-use Rattle.locality.proofs.Join.{ends_more, found-ends}
-use Rattle.locality.proofs.Skipping.{Bare, plain, lone, unended, plain_step, lone-step, unended-step, Skips, here, on, gap_step, skips_step, stop}
+use Rattle.locality.proofs.Join.{ends_more, found_ends}
+use Rattle.locality.proofs.Skipping.{Bare, plain, lone, unended, plain_step, lone_step, unended_step, Skips, here, on, gap_step, skips_step, stop}
 use Rattle.sources.proofs.Singles.{split}
 
 -- an LF ends every token
@@ -48,7 +48,7 @@ word_last : (s : List ℕ) (q : ℕ) → q < word_end s q → byte s (word_end s
 unfolding word_end is_word_byte
 word_last s q h e =
     let t : ℕ → Bool = λ i. not (is_word_byte (byte s i)) in
-    let k = find-before t (length s) q (word_end s q - 1) (omega arith) (omega arith) in
+    let k = find_before t (length s) q (word_end s q - 1) (omega arith) (omega arith) in
     false≢true (ap is_word_byte (sym e) ∙ not-false (is_word_byte (byte s (word_end s q - 1))) k)
 
 abbrev LastOk : List ℕ → Step → Type 0
@@ -63,7 +63,7 @@ word_ok s q = λ h e b. absurd (word_last s q h e)
 whole_long : (s : List ℕ) (p q : ℕ) → q < word_end s q → LastOk s (whole_at s p q)
 unfolding whole_at found
 whole_long s p q h =
-    number-form (eqb (byte s p) 45) (ltb p q) (limit_of (eqb (byte s p) 45)) (λ (f : ℕ → ℕ → Step). LastOk s (f p (word_end s q)))
+    number_form (eqb (byte s p) 45) (ltb p q) (limit_of (eqb (byte s p) 45)) (λ (f : ℕ → ℕ → Step). LastOk s (f p (word_end s q)))
     (λ m _ k e b. absurd (word_last s q h e)) tt (bytes_between s q (word_end s q))
 
 whole_none : (s : List ℕ) (p q : ℕ) → word_end s q ≤ q → LastOk s (whole_at s p q)
@@ -82,8 +82,8 @@ unfolding word_end is_word_byte
 digit_on s p h e =
     let t : ℕ → Bool = λ i. not (is_word_byte (byte s i)) in
     let z : is_word_byte (byte s p) ≡ true = ap (either (is_letter (byte s p))) e ∙ either_true (is_letter (byte s p)) in
-    let n = find-next t (length s) p h (ap not z) in
-    let l = find-low t (length s) (p + 1) in
+    let n = find_next t (length s) p h (ap not z) in
+    let l = find_low t (length s) (p + 1) in
     omega arith
 
 abbrev PowerLast : List ℕ → Power → Type 0
@@ -141,7 +141,7 @@ ends_any s p t c e =
     let l = o.long in
     let n = o.next in
     subst (LastOk s) e
-    (step-form s (LastOk s) (λ q h. word_ok s q) (λ q h. number_ok s q q) (λ q h. number_ok s q (q + 1)) (λ q e h f b. refl) (λ m q e h f b. refl) (λ q. tt) tt p)
+    (step_form s (LastOk s) (λ q h. word_ok s q) (λ q h. number_ok s q q) (λ q h. number_ok s q (q + 1)) (λ q e h f b. refl) (λ m q e h f b. refl) (λ q. tt) tt p)
     (omega arith)
 
 -- ---- a token of a text in a longer one, where an LF stands at the seam
@@ -168,7 +168,7 @@ behind_feed k (x ∷ z ∷ y) b e f g = ends_more k (x ∷ z ∷ y) b (omega ari
 pub feed_next : (a b : List ℕ) (t : Token) (c : Cursor) (r : ℕ) → step_at a r ≡ Found t c → ends t.sort (drop c.at (a ++ (10 ∷ b))) ≡ true
 feed_next a b t c r e =
     let o = found_fits a r t c e in
-    ap (ends t.sort) (drop-append-le c.at a (10 ∷ b) o.inside) ∙ before_feed t.sort (drop c.at a) b (found-ends a r t c e)
+    ap (ends t.sort) (drop-append-le c.at a (10 ∷ b) o.inside) ∙ before_feed t.sort (drop c.at a) b (found_ends a r t c e)
 
 -- a text is empty or ends with an LF
 pub feed_last : (a b : List ℕ) → (0 < length a → byte a (length a - 1) ≡ 10) → (t : Token) (c : Cursor) (r : ℕ) → step_at a r ≡ Found t c →
@@ -180,7 +180,7 @@ feed_last a b f t c r e =
     let i = o.inside in
     let m = length-drop c.at a in
     ap (ends t.sort) (drop-append-le c.at a b o.inside)
-    ∙ behind_feed t.sort (drop c.at a) b (found-ends a r t c e)
+    ∙ behind_feed t.sort (drop c.at a) b (found_ends a r t c e)
     (λ z.
     let y : c.at ≡ length a = omega arith in
     ends_any a r t c e (subst (λ (k : ℕ). byte a (k - 1) ≡ 10) (sym y) (f (omega arith))) b)
@@ -198,7 +198,7 @@ NotEnd (End n) = ⊥
 whole_not : (s : List ℕ) (p q : ℕ) → NotEnd (whole_at s p q)
 unfolding whole_at found
 whole_not s p q =
-    number-form (eqb (byte s p) 45) (ltb p q) (limit_of (eqb (byte s p) 45)) (λ (f : ℕ → ℕ → Step). NotEnd (f p (word_end s q)))
+    number_form (eqb (byte s p) 45) (ltb p q) (limit_of (eqb (byte s p) 45)) (λ (f : ℕ → ℕ → Step). NotEnd (f p (word_end s q)))
     (λ m _. tt) tt (bytes_between s q (word_end s q))
 
 float_not : (minus : Bool) (v : Amount) (w : Power) (n p : ℕ) → NotEnd (float_of minus v w n p)
@@ -235,8 +235,8 @@ token_not s p h = rw (lt-ltb p (length s) h) (class_not s p (class_of (byte s p)
 
 bare_not : (s : List ℕ) (p : ℕ) → p < length s → Bare s p → NotEnd (step_at s p)
 bare_not s p h (plain e) = subst NotEnd (sym (plain_step s p e)) (token_not s p h)
-bare_not s p h (lone e f g) = subst NotEnd (sym (lone-step s p e f g)) (token_not s p h)
-bare_not s p h (unended e f g k) = subst NotEnd (sym (unended-step s p e f g k)) tt
+bare_not s p h (lone e f g) = subst NotEnd (sym (lone_step s p e f g)) (token_not s p h)
+bare_not s p h (unended e f g k) = subst NotEnd (sym (unended_step s p e f g k)) tt
 
 skips_high : (s : List ℕ) (m p : ℕ) → p ≤ length s → Skips s m p → m ≤ length s
 skips_high s m p h (here _ e) = omega arith

@@ -14,7 +14,7 @@ use Rattle.token.specs.Tokens.{bytes_between, step_at}
 use Rattle.token.specs.Lexing.{lex_from}
 use Rattle.token.specs.declared.Step.{Step}
 use Rattle.token.specs.declared.Step.TheVariants.{Found, Refused, End}
-use Rattle.token.proofs.Find.{by_test, find-before}
+use Rattle.token.proofs.Find.{by_test, find_before}
 use Rattle.token.proofs.Bytes.{both_second, pair_inside}
 use Rattle.token.proofs.Steps.{found_fits}
 use Rattle.sources.specs.Lines.{line_start, is_end, whole_to, stop_at}
@@ -23,9 +23,9 @@ use Rattle.sources.specs.declared.Stop.TheVariants.{At, Line as AtLine}
 use Rattle.sources.proofs.Singles.{split}
 use Rattle.sources_laws.specs.Lexings.{EndsAs}
 use Rattle.sources_laws.proofs.Feeds.{feed_last, end_skips}
-use Rattle.sources_laws.proofs.Longer.{Parted, skips-longer}
+use Rattle.sources_laws.proofs.Longer.{Parted, skips_longer}
 use Rattle.sources_laws.proofs.Ends.{Run, run_low, run_ends, skips_lex, ends_drop, ends_rest, run_longer, run_shorter}
-use Rattle.sources_laws.proofs.Outcomes.{Outcome, at_end, at-bad, outcome, LineSays, HashSays, hash_says}
+use Rattle.sources_laws.proofs.Outcomes.{Outcome, at_end, at_bad, outcome, LineSays, HashSays, hash_says}
 
 -- a line begins at the text's start, or after an LF
 pub line_feed : (s : List ℕ) (q : ℕ) → 0 < line_start s q → byte s (line_start s q - 1) ≡ 10
@@ -67,7 +67,7 @@ parted u b f r t e =
     let g = f (omega arith) in
     split (r + 2) (length u)
     (λ l.
-    let w = find-before (λ i. eqb (byte u i) 10) (length u) (r + 2) (length u - 1) (omega arith) (omega arith) in
+    let w = find_before (λ i. eqb (byte u i) 10) (length u) (r + 2) (length u - 1) (omega arith) (omega arith) in
     absurd (false≢true (sym w ∙ eq-eqb (byte u (length u - 1)) 10 g)))
     (λ l.
     let z : r + 1 ≡ length u - 1 = omega arith in
@@ -94,12 +94,12 @@ module _ (s b : List ℕ) (p m last : ℕ) (inside : m ≤ length s) (after : la
   unfolding whole_to
   unfolded = whole
 
-  on-to : lex_from (take m s ++ b) last ≡ lex_from (take m s ++ b) (length (take m s))
-  on-to =
+  on_to : lex_from (take m s ++ b) last ≡ lex_from (take m s ++ b) (length (take m s))
+  on_to =
       let n = size in
       let k = is_end_lem (step_at (take m s) last) unfolded in
       skips_lex (take m s ++ b) (length (take m s)) last
-      (skips-longer (take m s) b (parted (take m s) b last_byte) (length (take m s)) last (end_skips (take m s) last k.0 (omega arith) k.1))
+      (skips_longer (take m s) b (parted (take m s) b last_byte) (length (take m s)) last (end_skips (take m s) last k.0 (omega arith) k.1))
 
   pub front : (n j : ℕ) → EndsAs n j (lex_from b 0) → EndsAs n (length (bytes_between s p m) + j) (lex_from (bytes_between s p m ++ b) 0)
   front n j e =
@@ -113,7 +113,7 @@ module _ (s b : List ℕ) (p m last : ℕ) (inside : m ≤ length s) (after : la
       subst (λ (x : List ℕ). EndsAs n (length (bytes_between s p m) + j) (lex_from x 0)) (drop-append-le p (take m s) b (omega arith) ∙ ap (λ (x : List ℕ). x ++ b) d)
       (ends_drop (take m s ++ b) p n (length (bytes_between s p m) + j) (omega arith)
       (run_ends (take m s ++ b) n (p + (length (bytes_between s p m) + j)) last p runs
-      (subst (EndsAs n (p + (length (bytes_between s p m) + j))) (sym on-to)
+      (subst (EndsAs n (p + (length (bytes_between s p m) + j))) (sym on_to)
       (subst (λ (i : ℕ). EndsAs n i (lex_from (take m s ++ b) (length (take m s)))) (sym w) (ends_rest (take m s) b n j e)))))
 
 -- what stands before an include line
@@ -123,7 +123,7 @@ line_front s p i h e b n j k = by (outcome s p)
   where
     by : Outcome s p (stop_at s p) → EndsAs n (length (bytes_between s p i.start) + j) (lex_from (bytes_between s p i.start ++ b) 0)
     by (at_end last m r f g) = absurd (let w : AtLine i ≡ At 0 (length s) = sym e ∙ g in let z : ◌≡◌ {A = ℕ} 0 1 = cc in omega arith)
-    by (at-bad last q r f g) =
+    by (at_bad last q r f g) =
         let u : LineSays s last q i = subst (HashSays s last q) (sym g ∙ e) (hash_says s last q) in
         let m : i.start ≡ line_start s q = u.start in
         subst (λ (x : ℕ). EndsAs n (length (bytes_between s p x) + j) (lex_from (bytes_between s p x ++ b) 0)) (sym m)

@@ -10,7 +10,7 @@ use lib.Seq.{take_all}
 use borrow.Author.Tests.{le-leb, le-ltb, ne_eqb}
 use Rattle.token.specs.Tokens.{bytes_between}
 use Rattle.token.specs.Lexing.{Lexed, more, ended, refused as stopped-at, Divides as Wholly, lex_from}
-use Rattle.token.proofs.Steps.{lex-found, lex-bad}
+use Rattle.token.proofs.Steps.{lex_found, lex_bad}
 use Rattle.grammar.specs.Grammar.{file, ◌▸◌, ∎, ◌⟶◌, Trees}
 use Rattle.grammar.specs.Terminals.{tokens_in}
 use Rattle.grammar.specs.Stage.{Divides, StopsAt, passes, no_token, Answers as StageAnswers}
@@ -26,24 +26,24 @@ use Rattle.sources.specs.Texts.{fitting, told_well}
 use Rattle.sources.specs.Expanding.{Piece, up_from, origin, stopped, after_event, walk, expand_n, inner, main_open, main_text, expanded, fill_of, expansion_if, expansion_within, expansion_of}
 use Rattle.sources.specs.declared.Stop.TheVariants.{At}
 use Rattle.sources.proofs.Singles.{fill_short}
-use Rattle.sources.proofs.Events.{event-stop}
+use Rattle.sources.proofs.Events.{event_stop}
 use Rattle.sources.proofs.Pieces.{walk_law, expand_law}
 use Rattle.sources_laws.proofs.Ends.{Run, stay, go}
-use Rattle.sources_laws.proofs.Outcomes.{Outcome, at_end, at-bad, outcome}
+use Rattle.sources_laws.proofs.Outcomes.{Outcome, at_end, at_bad, outcome}
 use Rattle.sources_reading.specs.Answering.{text, alone, numbered, parse_if, sources_parse, sources_answer}
 
 -- ---- nothing stops it but its end
 
 run_wholly : (s : List ℕ) (q p : ℕ) → Run s q p → Wholly (lex_from s p) → Wholly (lex_from s q)
 run_wholly s q p (stay _ e) d = subst (λ (i : ℕ). Wholly (lex_from s i)) e d
-run_wholly s q p (go _ t c e r) d = run_wholly s q c.at r (subst Wholly (lex-found s p t c e) d)
+run_wholly s q p (go _ t c e r) d = run_wholly s q c.at r (subst Wholly (lex_found s p t c e) d)
 
 stops : (s : List ℕ) → Wholly (lex_from s 0) → stop_at s 0 ≡ At 0 (length s)
 stops s d = by (outcome s 0)
   where
     by : Outcome s 0 (stop_at s 0) → stop_at s 0 ≡ At 0 (length s)
     by (at_end last n r e g) = g
-    by (at-bad last q r e g) = absurd (subst Wholly (lex-bad s last q e) (run_wholly s last 0 r d))
+    by (at_bad last q r e g) = absurd (subst Wholly (lex_bad s last q e) (run_wholly s last 0 r d))
 
 pub told_alone : (s : List ℕ) → length s ≤ 65535 → told_well s (alone s) ≡ true
 unfolding told_well fitting
@@ -70,7 +70,7 @@ alone_piece s h d =
     ∙ expand_law 8 s (alone s) 0 s main_open (λ (z : 8 ≡ 0). absurd (omega arith))
     ∙ walk_law s (alone s) 0 s main_open (inner (8 - 1) s (alone s) main_open) 0 t (omega arith)
     ∙ ap (after_event 0 s 0 (inner (8 - 1) s (alone s) main_open) (walk s (alone s) 0 s main_open (inner (8 - 1) s (alone s) main_open)))
-    (sym (event-stop s (alone s) s main_open 0 0 (length s) (stops s d)))
+    (sym (event_stop s (alone s) s main_open 0 0 (length s) (stops s d)))
 
 pub alone_bytes : (s : List ℕ) → length s ≤ 65535 → Divides s → (expanded s (alone s)).bytes ≡ s
 unfolding stopped

@@ -31,7 +31,7 @@ use Rattle.sources.specs.Expanding.{expanded, expansion_if, expansion_within, ex
 use Rattle.sources.proofs.Singles.{split, fill_long}
 use Rattle.sources_laws.specs.Lexings.{EndsAs, Lexes}
 use Rattle.sources_laws.proofs.Expanded.{expanded_lexes}
-use Rattle.sources_reading.specs.Answering.{Answers, too_long, at-fault, not-admitted, ends-early, too-deep, meant, text, found, numbered, parse_if, sources_parse, sources_answer, LentTextsAnswered}
+use Rattle.sources_reading.specs.Answering.{Answers, too_long, at_fault, not_admitted, ends_early, too_deep, meant, text, found, numbered, parse_if, sources_parse, sources_answer, LentTextsAnswered}
 
 -- ---- texts that are not refused by 30
 
@@ -104,16 +104,16 @@ by_stage b l n w x e (passes v q d) =
 by_stage b l n w x e (no_token p t q g) =
     let u = ends_stops _ _ p (lex_from (text b l) 0) x t in
     subst (Answers b l) (sym (given_refused b l (NoToken p) w.short e (λ z. absurd (let y : ◌≡◌ {A = ℕ} 0 1 = cc in omega arith))))
-    (subst (λ (i : ℕ). Answers b l (refused (expanded b l).number i)) (sym u.1) (at-fault n u.0 q g))
+    (subst (λ (i : ℕ). Answers b l (refused (expanded b l).number i)) (sym u.1) (at_fault n u.0 q g))
 by_stage b l n w x e (Stage.not-admitted f t r i q g h) =
     subst (Answers b l) (sym (given_refused b l (NotAdmitted t.place) w.short e (λ z. absurd (let y : ◌≡◌ {A = ℕ} 0 1 = cc in omega arith))))
-    (not-admitted n f t r i q g h)
+    (not_admitted n f t r i q g h)
 by_stage b l n w x e (Stage.ends-early v q g h) =
     subst (Answers b l) (sym (given_refused b l (NotAdmitted (length (text b l))) w.short e (λ z. absurd (let y : ◌≡◌ {A = ℕ} 0 1 = cc in omega arith))))
-    (ends-early n (ends_wholly _ _ (lex_from (text b l) 0) x v) q g h)
+    (ends_early n (ends_wholly _ _ (lex_from (text b l) 0) x v) q g h)
 by_stage b l n w x e (Stage.too-deep f t r i q g h j) =
     subst (Answers b l) (sym (given_refused b l (TooDeep t.place) w.short e (λ z. absurd (let y : ◌≡◌ {A = ℕ} 0 1 = cc in omega arith))))
-    (too-deep n f t r i q g h j)
+    (too_deep n f t r i q g h j)
 
 pub lexed : (b l : List ℕ) → told_well b l ≡ true → EndsAs (expanded b l).number (expanded b l).place (lex_from (text b l) 0)
 unfolding Lexes
@@ -157,15 +157,15 @@ by_answer b l a n t z = is_given b l n ∙ given_refused b l a (within b l n).sh
 pub one_answer : {b l : List ℕ} {a : Answer} → Answers b l a → sources_answer b l ≡ a
 unfolding number_of place_of answer_of_parsed sources_answer sources_parse
 one_answer {b} {l} (too_long h) = ap (λ (t : Bool). answer_of_parsed (parse_if t b l)) (eq-eqb (expansion_of b l).number 30 h)
-one_answer {b} {l} (at-fault n z q g) =
+one_answer {b} {l} (at_fault n z q g) =
     by_answer b l (NoToken (expanded b l).place) n
     (no_token (expanded b l).place (to_stops _ _ (lex_from (text b l) 0) (lexed b l (within b l n).told) z) q g) (λ z. absurd (let y : ◌≡◌ {A = ℕ} 0 1 = cc in omega arith))
-one_answer {b} {l} (not-admitted n f t r i q g h) =
+one_answer {b} {l} (not_admitted n f t r i q g h) =
     by_answer b l (NotAdmitted t.place) n (Stage.not-admitted f t r i q g h) (λ z. absurd (let y : ◌≡◌ {A = ℕ} 0 1 = cc in omega arith))
-one_answer {b} {l} (ends-early n z q g h) =
+one_answer {b} {l} (ends_early n z q g h) =
     by_answer b l (NotAdmitted (length (text b l))) n (Stage.ends-early (to_wholly _ _ (lex_from (text b l) 0) (lexed b l (within b l n).told) z) q g h)
     (λ z. absurd (let y : ◌≡◌ {A = ℕ} 0 1 = cc in omega arith))
-one_answer {b} {l} (too-deep n f t r i q g h j) =
+one_answer {b} {l} (too_deep n f t r i q g h j) =
     by_answer b l (TooDeep t.place) n (Stage.too-deep f t r i q g h j) (λ z. absurd (let y : ◌≡◌ {A = ℕ} 0 1 = cc in omega arith))
 one_answer {b} {l} (meant n z q d) =
     is_given b l n

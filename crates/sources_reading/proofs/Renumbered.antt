@@ -37,11 +37,11 @@ later_unless (some f) next h k = h
 
 of_many : (n : ℕ) → Numbered (too_many n)
 unfolding too_many choose
-of_many n = by-choice (ltb 2048 n)
+of_many n = by_choice (ltb 2048 n)
   where
-    by-choice : (b : Bool) → Numbered (choose b (λ _. record { place = 0; number = 19 } ∷ []) (λ _. []))
-    by-choice true = a_fault {f = record { place = 0; number = 19 }} (omega arith) no_fault
-    by-choice false = no_fault
+    by_choice : (b : Bool) → Numbered (choose b (λ _. record { place = 0; number = 19 } ∷ []) (λ _. []))
+    by_choice true = a_fault {f = record { place = 0; number = 19 }} (omega arith) no_fault
+    by_choice false = no_fault
 
 later : (f : File) → Later (answer f)
 unfolding answer

@@ -28,16 +28,16 @@ pub data Answers (b l : List ℕ) : Answer → Type 0 where
   -- 30
   too_long : (expansion_of b l).number ≡ 30 → Answers b l (refused 30 0)
   -- 3, 27, 28, 29: the first of them, and before it no 4 and no 5
-  at-fault : ((expansion_of b l).number ≡ 30 → ⊥) → ((expanded b l).number ≡ 0 → ⊥) → Shallow (found b l) → Begins (found b l) →
+  at_fault : ((expansion_of b l).number ≡ 30 → ⊥) → ((expanded b l).number ≡ 0 → ⊥) → Shallow (found b l) → Begins (found b l) →
       Answers b l (refused (expanded b l).number (expanded b l).place)
   -- 4, at a token
-  not-admitted : ((expansion_of b l).number ≡ 30 → ⊥) → (f : List Token) (t : Token) (r : List Token) → found b l ≡ f ++ (t ∷ r) → Shallow f → Begins f →
+  not_admitted : ((expansion_of b l).number ≡ 30 → ⊥) → (f : List Token) (t : Token) (r : List Token) → found b l ≡ f ++ (t ∷ r) → Shallow f → Begins f →
       (Begins (f ++ (t ∷ [])) → ⊥) → Answers b l (refused 4 t.place)
   -- 4, at the end, where there is no fault of 3 and 27 to 29
-  ends-early : ((expansion_of b l).number ≡ 30 → ⊥) → (expanded b l).number ≡ 0 → Shallow (found b l) → Begins (found b l) → (Derivation (found b l) → ⊥) →
+  ends_early : ((expansion_of b l).number ≡ 30 → ⊥) → (expanded b l).number ≡ 0 → Shallow (found b l) → Begins (found b l) → (Derivation (found b l) → ⊥) →
       Answers b l (refused 4 (length (text b l)))
   -- 5
-  too-deep : ((expansion_of b l).number ≡ 30 → ⊥) → (f : List Token) (t : Token) (r : List Token) → found b l ≡ f ++ (t ∷ r) → Shallow f →
+  too_deep : ((expansion_of b l).number ≡ 30 → ⊥) → (f : List Token) (t : Token) (r : List Token) → found b l ≡ f ++ (t ∷ r) → Shallow f →
       Begins (f ++ (t ∷ [])) → matches (sg lbrace) t.class ≡ true → opens f ≡ closes f + 16 → Answers b l (refused 5 t.place)
   -- 6 to 19, or accepted: by the derivation of the expanded tokens
   meant : ((expansion_of b l).number ≡ 30 → ⊥) → (expanded b l).number ≡ 0 → Shallow (found b l) → (d : Derivation (found b l)) →

@@ -25,13 +25,13 @@ use Rattle.layout.proofs.Codes.{kind_low}
 use Rattle.scopes.specs.Given.{Places}
 use Rattle.walk.specs.Whole.{Rooms, Whole}
 use Rattle.walk.specs.declared.Walked.{Walked}
-use Rattle.reading.specs.Rules.{ReadsByRules, short-tables, by-rules}
+use Rattle.reading.specs.Rules.{ReadsByRules, short_tables, by_rules}
 use Rattle.reading.specs.Results.{reading_of}
 use Rattle.reading.specs.Decisions.{grammar_fault, KeptParts}
 use Rattle.reading.specs.declared.Answer.{Answer as Given}
 use Rattle.reading.specs.declared.Answer.TheVariants.{Accepted, Refused}
 use Rattle.reading.specs.declared.Reading.{Reading}
-use Rattle.reading.proofs.Arriving.{blank, Arrived, arrived, refused-early, reading_is}
+use Rattle.reading.proofs.Arriving.{blank, Arrived, arrived, refused_early, reading_is}
 use Rattle.walk.proofs.Placing.{each_place}
 use Rattle.reading.proofs.Settling.{Fitting, fitting}
 use Rattle.standard.specs.Asking.{Finding, asked, findings, foremost}
@@ -61,8 +61,8 @@ full_room =
     record { definitions = omega (arith, a); enumerators = omega (arith, b); objects = omega (arith, e); values = omega (arith, g) }
 
 by_answer : {s d e o v d' e' o' v' : List ℕ} {r : Reading} → ReadsByRules s d e o v d' e' o' v' r → FullRoom d e o v → AnswersText s r.answer
-by_answer (short-tables h q u) k = absurd (h k)
-by_answer (by-rules k a t q m) k' = ap (λ (x : Reading). x.answer) (q ∙ ap reading_of (sym (one_answer t.given)))
+by_answer (short_tables h q u) k = absurd (h k)
+by_answer (by_rules k a t q m) k' = ap (λ (x : Reading). x.answer) (q ∙ ap reading_of (sym (one_answer t.given)))
 
 pub answers_text : {s d' e' o' v' : List ℕ} {r : Reading} → ReadsByRules s (replicate 6656 0) (replicate 3072 0) (replicate 2048 0) (replicate 18432 0) d' e' o' v' r → AnswersText s r.answer
 answers_text h = by_answer h full_room
@@ -127,7 +127,7 @@ passes s y w h l t e = by (eqb (number_of (answer_of w.look)) 0) refl
     by : (b : Bool) → eqb (number_of (answer_of w.look)) 0 ≡ b → number_of (answer_of w.look) ≡ 0
     by true q = eqb-true _ 0 q
     by false q =
-        let g = refused-early s blank y w h l (grammar_fault (answer_of w.look)) refl (eqb-false _ 0 q) in
+        let g = refused_early s blank y w h l (grammar_fault (answer_of w.look)) refl (eqb-false _ 0 q) in
         absurd (let v = sym g ∙ e in let z : ◌≡◌ {A = Bool} false true = cc in false≢true z)
 
 places_of : {f : File} {s : List ℕ} {y : Rooms} {w : Walked} → KeptParts s y w f → Places f w.places
@@ -168,7 +168,7 @@ check_walked s y w n g rs ws v r h m e₁ e₂ e₃ k q t e =
       definitions = k₁;
       enumerators = k₂;
       definitions_fit = omega (arith, F₁, k₁);
-      enumerators-fit = omega (arith, F₂, k₂);
+      enumerators_fit = omega (arith, F₂, k₂);
       name = N.0;
       named = N.1;
       places = places_of K;

@@ -63,12 +63,12 @@ not_wider : (t : AttributeType) (b : Bounds) (ws : Values) (c : Bounds) (vs : Va
 unfolding wider
 not_wider (integer i) b ws c vs f h = let k = f i refl in numbers ((within_exactly i b c k.0 k.1).0 (is_true (within i b c) h))
 not_wider string b ws c vs f h = strings
-not_wider boolean b ws c vs f h = its_list (only-is' (has_list ws) (has_list vs) h)
+not_wider boolean b ws c vs f h = its_list (only_is' (has_list ws) (has_list vs) h)
   where
-    only-is' : (a e : Bool) → both a (not e) ≡ false → a ≡ true → e ≡ true
-    only-is' true true h k = refl
-    only-is' true false h k = sym h
-    only-is' false e h k = absurd (false≢true k)
+    only_is' : (a e : Bool) → both a (not e) ≡ false → a ≡ true → e ≡ true
+    only_is' true true h k = refl
+    only_is' true false h k = sym h
+    only_is' false e h k = absurd (false≢true k)
 not_wider enum b ws c vs f h = words ((words_exactly ws vs).0 (is_true (words_in ws vs) h))
 not_wider float b ws c vs f h = floats
 not_wider (reference k) b ws c vs f h = references
@@ -77,11 +77,11 @@ wider_not : (t : AttributeType) (b : Bounds) (ws : Values) (c : Bounds) (vs : Va
 unfolding wider
 wider_not _ b ws c vs f (numbers {i} h) = let k = f i refl in false_not (within i b c) ((within_exactly i b c k.0 k.1).1 h)
 wider_not _ b ws c vs f (words h) = false_not (words_in ws vs) ((words_exactly ws vs).1 h)
-wider_not _ b ws c vs f (its_list h) = is-list (has_list ws) (has_list vs) h
+wider_not _ b ws c vs f (its_list h) = is_list (has_list ws) (has_list vs) h
   where
-    is-list : (a e : Bool) → (a ≡ true → e ≡ true) → both a (not e) ≡ false
-    is-list true e h = false_not e (h refl)
-    is-list false e h = refl
+    is_list : (a e : Bool) → (a ≡ true → e ≡ true) → both a (not e) ≡ false
+    is_list true e h = false_not e (h refl)
+    is_list false e h = refl
 wider_not _ b ws c vs f strings = refl
 wider_not _ b ws c vs f floats = refl
 wider_not _ b ws c vs f references = refl

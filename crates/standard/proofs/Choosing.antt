@@ -16,7 +16,7 @@ use Rattle.grammar.specs.Grammar.{ordinary}
 use Rattle.rows.specs.declared.Found.{Found}
 use Rattle.rows.specs.declared.Found.TheVariants.{At, Nothing}
 use Rattle.rows.specs.Search.{has_key, find_from, is_found}
-use Rattle.rows.proofs.Searches.{find-stop, find_more, find-end, IsFirst, found_first, nothing-none}
+use Rattle.rows.proofs.Searches.{find_stop, find_more, find_end, IsFirst, found_first, nothing_none}
 use Rattle.meaning.specs.Syntax.{Word, Values, no_value, value, Defined, File, is_enum}
 use Rattle.meaning.specs.Words.{alike}
 use Rattle.meaning.specs.Scopes.{Under, find_value}
@@ -37,19 +37,19 @@ abbrev is_that : (g ws b : List ℕ) → ℕ → Bool
 is_that g ws b k = same (part_of g (get_or ws (k * 2 + 0) 0) (get_or ws (k * 2 + 1) 0)) b
 
 module _ (g ws b : List ℕ) (a z k : ℕ) (inv : find_word g ws z b k ≡ find_word g ws z b a) where
-  pub word-here : (p n : ℕ) (q : List ℕ) (r : Bool) → k < z → p ≡ get_or ws (k * 2 + 0) 0 → n ≡ get_or ws (k * 2 + 1) 0 → q ≡ part_of g p n → r ≡ same q b → r ≡ true → true ≡ is_word g ws a z b
+  pub word_here : (p n : ℕ) (q : List ℕ) (r : Bool) → k < z → p ≡ get_or ws (k * 2 + 0) 0 → n ≡ get_or ws (k * 2 + 1) 0 → q ≡ part_of g p n → r ≡ same q b → r ≡ true → true ≡ is_word g ws a z b
   unfolding is_word find_word
-  word-here p n q r h e i c t v =
-      sym (ap is_found (sym inv ∙ find-stop (is_that g ws b) z k h (sym (t ∙ ap (λ l. same l b) (c ∙ ap₂ (part_of g) e i)) ∙ v)))
+  word_here p n q r h e i c t v =
+      sym (ap is_found (sym inv ∙ find_stop (is_that g ws b) z k h (sym (t ∙ ap (λ l. same l b) (c ∙ ap₂ (part_of g) e i)) ∙ v)))
 
   pub word_on : (p n : ℕ) (q : List ℕ) (r : Bool) → k < z → p ≡ get_or ws (k * 2 + 0) 0 → n ≡ get_or ws (k * 2 + 1) 0 → q ≡ part_of g p n → r ≡ same q b → r ≡ false
       → find_word g ws z b (k + 1) ≡ find_word g ws z b a
   unfolding find_word
   word_on p n q r h e i c t v = sym (find_more (is_that g ws b) z k h (sym (t ∙ ap (λ l. same l b) (c ∙ ap₂ (part_of g) e i)) ∙ v)) ∙ inv
 
-  pub word-past : z ≤ k → false ≡ is_word g ws a z b
+  pub word_past : z ≤ k → false ≡ is_word g ws a z b
   unfolding is_word find_word
-  word-past h = sym (ap is_found (sym inv ∙ find-end (is_that g ws b) z k h))
+  word_past h = sym (ap is_found (sym inv ∙ find_end (is_that g ws b) z k h))
 
 module _ (s e g ws : List ℕ) (a z key i : ℕ) where
   pub other_key : (get_or e (i * 3 + 0) 0 ≡ key → ⊥) → false ≡ is_extra s e g ws a z key i
@@ -63,17 +63,17 @@ module _ (s e g ws : List ℕ) (a z key i : ℕ) where
       ∙ sym (ap (λ d. both d (not (is_word g ws a z (part_of s (get_or e (i * 3 + 1) 0) (get_or e (i * 3 + 2) 0))))) (eq-eqb (get_or e (i * 3 + 0) 0) key h))
 
 module _ (s e g ws : List ℕ) (a z key m i : ℕ) (inv : find_extra s e g ws a z key m i ≡ find_extra s e g ws a z key m 0) (b : Bool) (q : b ≡ is_extra s e g ws a z key i) where
-  pub extra-here : i < m → b ≡ true → true ≡ has_extra s e g ws a z key m
+  pub extra_here : i < m → b ≡ true → true ≡ has_extra s e g ws a z key m
   unfolding has_extra find_extra
-  extra-here h t = sym (ap is_found (sym inv ∙ find-stop (is_extra s e g ws a z key) m i h (sym q ∙ t)))
+  extra_here h t = sym (ap is_found (sym inv ∙ find_stop (is_extra s e g ws a z key) m i h (sym q ∙ t)))
 
-  pub extra-on : i < m → b ≡ false → find_extra s e g ws a z key m (i + 1) ≡ find_extra s e g ws a z key m 0
+  pub extra_on : i < m → b ≡ false → find_extra s e g ws a z key m (i + 1) ≡ find_extra s e g ws a z key m 0
   unfolding find_extra
-  extra-on h t = sym (find_more (is_extra s e g ws a z key) m i h (sym q ∙ t)) ∙ inv
+  extra_on h t = sym (find_more (is_extra s e g ws a z key) m i h (sym q ∙ t)) ∙ inv
 
 pub extra_past : (s e g ws : List ℕ) (a z key m i : ℕ) → find_extra s e g ws a z key m i ≡ find_extra s e g ws a z key m 0 → m ≤ i → false ≡ has_extra s e g ws a z key m
 unfolding has_extra find_extra
-extra_past s e g ws a z key m i inv h = sym (ap is_found (sym inv ∙ find-end (is_extra s e g ws a z key) m i h))
+extra_past s e g ws a z key m i inv h = sym (ap is_found (sym inv ∙ find_end (is_extra s e g ws a z key) m i h))
 
 -- Lists ---------------------------------------------------------------------------------------------------------------------------------------
 
@@ -124,28 +124,28 @@ there_found (some v) h f = f v refl
 
 module _ {s d e : List ℕ} {f : File} {x : Defined} {j m : ℕ} (st : Situation s f) (hd : d ≡ kept_definitions f) (he : e ≡ kept_enumerators f) (row : RowOf f j x) (l : j < 513)
     (rc : Reached f m x.values) (en : is_enum x.definition.type ≡ true) where
-  choice-is : (at len : ℕ) (t : Word) → t.bytes ≡ part_of s at len → find_choice s e m (get_or d (j * 19 + 14) 0) (part_of s at len) 0 ≡ number_found (find_value x.values t)
-  choice-is at len t q = choice_finds s d e m j at len f x t st hd he row l rc en q
+  choice_is : (at len : ℕ) (t : Word) → t.bytes ≡ part_of s at len → find_choice s e m (get_or d (j * 19 + 14) 0) (part_of s at len) 0 ≡ number_found (find_value x.values t)
+  choice_is at len t q = choice_finds s d e m j at len f x t st hd he row l rc en q
 
-  choice-none : (at len : ℕ) (t : Word) → t.bytes ≡ part_of s at len → find_value x.values t ≡ none → (i : ℕ) → i < m
+  choice_none : (at len : ℕ) (t : Word) → t.bytes ≡ part_of s at len → find_value x.values t ≡ none → (i : ℕ) → i < m
       → is_choice s e (get_or d (j * 19 + 14) 0) i (part_of s at len) ≡ false
   unfolding find_choice number_found
-  choice-none at len t q n i h =
-      nothing-none (λ k. is_choice s e (get_or d (j * 19 + 14) 0) k (part_of s at len)) m 0 (choice-is at len t q ∙ ap number_found n) i (omega arith) h
+  choice_none at len t q n i h =
+      nothing_none (λ k. is_choice s e (get_or d (j * 19 + 14) 0) k (part_of s at len)) m 0 (choice_is at len t q ∙ ap number_found n) i (omega arith) h
 
-  choice-found : (at len : ℕ) (t : Word) {v : Under} → t.bytes ≡ part_of s at len → find_value x.values t ≡ some v
+  choice_found : (at len : ℕ) (t : Word) {v : Under} → t.bytes ≡ part_of s at len → find_value x.values t ≡ some v
       → IsFirst (λ k. is_choice s e (get_or d (j * 19 + 14) 0) k (part_of s at len)) m 0 v.number
   unfolding find_choice number_found
-  choice-found at len t {v} q n =
-      found_first (λ k. is_choice s e (get_or d (j * 19 + 14) 0) k (part_of s at len)) m 0 v.number (choice-is at len t q ∙ ap number_found n)
+  choice_found at len t {v} q n =
+      found_first (λ k. is_choice s e (get_or d (j * 19 + 14) 0) k (part_of s at len)) m 0 v.number (choice_is at len t q ∙ ap number_found n)
 
-  choice-own : (key i : ℕ) → has_key e (i * 3) 0 key ≡ true → is_choice s e key i (part_of s (get_or e (i * 3 + 1) 0) (get_or e (i * 3 + 2) 0)) ≡ true
+  choice_own : (key i : ℕ) → has_key e (i * 3) 0 key ≡ true → is_choice s e key i (part_of s (get_or e (i * 3 + 1) 0) (get_or e (i * 3 + 2) 0)) ≡ true
   unfolding is_choice
-  choice-own key i h = ap₂ both h (same_self (part_of s (get_or e (i * 3 + 1) 0) (get_or e (i * 3 + 2) 0)))
+  choice_own key i h = ap₂ both h (same_self (part_of s (get_or e (i * 3 + 1) 0) (get_or e (i * 3 + 2) 0)))
 
-  choice-key : (i at len : ℕ) → is_choice s e (get_or d (j * 19 + 14) 0) i (part_of s at len) ≡ true → has_key e (i * 3) 0 (get_or d (j * 19 + 14) 0) ≡ true
+  choice_key : (i at len : ℕ) → is_choice s e (get_or d (j * 19 + 14) 0) i (part_of s at len) ≡ true → has_key e (i * 3) 0 (get_or d (j * 19 + 14) 0) ≡ true
   unfolding is_choice
-  choice-key i at len h = both_left (has_key e (i * 3) 0 (get_or d (j * 19 + 14) 0)) (same (part_of s (get_or e (i * 3 + 1) 0) (get_or e (i * 3 + 2) 0)) (part_of s at len)) h
+  choice_key i at len h = both_left (has_key e (i * 3) 0 (get_or d (j * 19 + 14) 0)) (same (part_of s (get_or e (i * 3 + 1) 0) (get_or e (i * 3 + 2) 0)) (part_of s at len)) h
 
   choice_part : (i at len : ℕ) → is_choice s e (get_or d (j * 19 + 14) 0) i (part_of s at len) ≡ true → part_of s (get_or e (i * 3 + 1) 0) (get_or e (i * 3 + 2) 0) ≡ part_of s at len
   unfolding is_choice
@@ -153,17 +153,17 @@ module _ {s d e : List ℕ} {f : File} {x : Defined} {j m : ℕ} (st : Situation
       same_equal _ _ (both_right (has_key e (i * 3) 0 (get_or d (j * 19 + 14) 0)) (same (part_of s (get_or e (i * 3 + 1) 0) (get_or e (i * 3 + 2) 0)) (part_of s at len)) h)
 
   module _ (g ws : List ℕ) (a z : ℕ) (W : Values) (hw : (t : Word) → is_word g ws a z t.bytes ≡ is_there (find_value W t)) where
-    extra-not : (i : ℕ) → has_key e (i * 3) 0 (get_or d (j * 19 + 14) 0) ≡ true → is_extra s e g ws a z (get_or d (j * 19 + 14) 0) i ≡ false
+    extra_not : (i : ℕ) → has_key e (i * 3) 0 (get_or d (j * 19 + 14) 0) ≡ true → is_extra s e g ws a z (get_or d (j * 19 + 14) 0) i ≡ false
         → is_word g ws a z (part_of s (get_or e (i * 3 + 1) 0) (get_or e (i * 3 + 2) 0)) ≡ true
     unfolding is_extra
-    extra-not i k h =
+    extra_not i k h =
         is_true (is_word g ws a z (part_of s (get_or e (i * 3 + 1) 0) (get_or e (i * 3 + 2) 0)))
         (sym (ap (λ c. both c (not (is_word g ws a z (part_of s (get_or e (i * 3 + 1) 0) (get_or e (i * 3 + 2) 0))))) k) ∙ h)
 
     -- A row that is extra is a value whose word is not there.
-    row-extra : (i : ℕ) → i < m → is_extra s e g ws a z (get_or d (j * 19 + 14) 0) i ≡ true → words_in W x.values ≡ false
+    row_extra : (i : ℕ) → i < m → is_extra s e g ws a z (get_or d (j * 19 + 14) 0) i ≡ true → words_in W x.values ≡ false
     unfolding is_extra
-    row-extra i h k = by (find_value x.values t) refl
+    row_extra i h k = by (find_value x.values t) refl
       where
         b : List ℕ
         b = part_of s (get_or e (i * 3 + 1) 0) (get_or e (i * 3 + 2) 0)
@@ -186,8 +186,8 @@ module _ {s d e : List ℕ} {f : File} {x : Defined} {j m : ℕ} (st : Situation
             (both_right (has_key e (i * 3) 0 (get_or d (j * 19 + 14) 0)) (not (is_word g ws a z (part_of s (get_or e (i * 3 + 1) 0) (get_or e (i * 3 + 2) 0)))) k)
 
         by : (o : Option Under) → find_value x.values t ≡ o → words_in W x.values ≡ false
-        by none q = absurd (false≢true (sym (choice-none (get_or e (i * 3 + 1) 0) (get_or e (i * 3 + 2) 0) t refl q i h)
-            ∙ choice-own (get_or d (j * 19 + 14) 0) i k₁))
+        by none q = absurd (false≢true (sym (choice_none (get_or e (i * 3 + 1) 0) (get_or e (i * 3 + 2) 0) t refl q i h)
+            ∙ choice_own (get_or d (j * 19 + 14) 0) i k₁))
         by (some v) q =
             words_not W x.values (found_value x.values t q)
             (ap is_there (find_alike W v.word t (value_bytes x.values t q)) ∙ sym (hw t) ∙ k₂)
@@ -199,16 +199,16 @@ module _ {s d e : List ℕ} {f : File} {x : Defined} {j m : ℕ} (st : Situation
         by : (v : Under) → HasValue x.values v → (u : Under) → find_value x.values v.word ≡ some u → is_there (find_value W v.word) ≡ true
         by v i u q =
             let w = value_word i (entry_facts st (nth_in row.nth)).facts.values.good in
-            let c = choice-found v.word.place v.word.length v.word w.read.bytes q in
+            let c = choice_found v.word.place v.word.length v.word w.read.bytes q in
             sym (hw v.word) ∙ ap (is_word g ws a z) w.read.bytes ∙ sym (ap (is_word g ws a z) (choice_part u.number v.word.place v.word.length c.holds))
-            ∙ extra-not u.number (choice-key u.number v.word.place v.word.length c.holds) (h u.number c.high)
+            ∙ extra_not u.number (choice_key u.number v.word.place v.word.length c.holds) (h u.number c.high)
 
-    pub extra-is : has_extra s e g ws a z (get_or d (j * 19 + 14) 0) m ≡ not (words_in W x.values)
+    pub extra_is : has_extra s e g ws a z (get_or d (j * 19 + 14) 0) m ≡ not (words_in W x.values)
     unfolding has_extra find_extra
-    extra-is = by (find_from (is_extra s e g ws a z (get_or d (j * 19 + 14) 0)) m 0) refl
+    extra_is = by (find_from (is_extra s e g ws a z (get_or d (j * 19 + 14) 0)) m 0) refl
       where
         by : (r : Found) → find_from (is_extra s e g ws a z (get_or d (j * 19 + 14) 0)) m 0 ≡ r → is_found r ≡ not (words_in W x.values)
         by (At i) q =
             let c = found_first (is_extra s e g ws a z (get_or d (j * 19 + 14) 0)) m 0 i q in
-            sym (ap not (row-extra i c.high c.holds))
-        by Nothing q = sym (ap not (no_extra (λ i h. nothing-none (is_extra s e g ws a z (get_or d (j * 19 + 14) 0)) m 0 q i (omega arith) h)))
+            sym (ap not (row_extra i c.high c.holds))
+        by Nothing q = sym (ap not (no_extra (λ i h. nothing_none (is_extra s e g ws a z (get_or d (j * 19 + 14) 0)) m 0 q i (omega arith) h)))

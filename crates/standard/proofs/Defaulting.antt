@@ -47,24 +47,24 @@ default_is s x p c g e h = by x.definition.default refl g e h
     }
 
 module _ (d : List ℕ) (j has p : ℕ) (e : p ≡ get_or d (j * 19 + 10) 0) where
-  row-default : (s : List ℕ) (f : File) (x : Defined) (c : ℕ) → Situation s f → d ≡ kept_definitions f → RowOf f j x → j < 513 → c ≡ get_or d (j * 19 + 18) 0 → Default x p c
+  row_default : (s : List ℕ) (f : File) (x : Defined) (c : ℕ) → Situation s f → d ≡ kept_definitions f → RowOf f j x → j < 513 → c ≡ get_or d (j * 19 + 18) 0 → Default x p c
   unfolding definition_cells
-  row-default s f x c k h r l q =
+  row_default s f x c k h r l q =
       let E : Entry = record { under = r.under; outer = r.outer; definition = x.definition; values = x.values } in
       default_is s x p c (entry_facts k (nth_in r.nth)).facts.default (e ∙ definition_cell f d j 10 E h r.nth l (omega arith)) (q ∙ default_cell f d j E h r.nth l)
 
-  only-not : (a b : Bool) → b ≡ false → only_where a b ≡ false
+  only_not : (a b : Bool) → b ≡ false → only_where a b ≡ false
   unfolding only_where
-  only-not true b h = ap (only_where true) h
-  only-not false b h = ap (only_where false) h
+  only_not true b h = ap (only_where true) h
+  only_not false b h = ap (only_where false) h
 
   pub default_none : p ≡ 0 → DefaultDiffers d j has false
   default_none z s f x w k h r l q =
-      sym (only-not (has_default w.definition) (has_default x.definition) ((row-default s f x (get_or d (j * 19 + 18) 0) k h r l refl).not_there z))
+      sym (only_not (has_default w.definition) (has_default x.definition) ((row_default s f x (get_or d (j * 19 + 18) 0) k h r l refl).not_there z))
 
   module _ (c : ℕ) (g : c ≡ get_or d (j * 19 + 18) 0) where
-    pub default-not : c ≡ 4 → DefaultDiffers d j has false
-    default-not z s f x w k h r l q = sym (only-not (has_default w.definition) (has_default x.definition) ((row-default s f x c k h r l g).no_default z))
+    pub default_not : c ≡ 4 → DefaultDiffers d j has false
+    default_not z s f x w k h r l q = sym (only_not (has_default w.definition) (has_default x.definition) ((row_default s f x c k h r l g).no_default z))
 
     module _ (z : p ≡ 0 → ⊥) (y : c ≡ 4 → ⊥) where
       bits-one : (a : Bool) → bit a ≡ 1 → a ≡ true
@@ -79,8 +79,8 @@ module _ (d : List ℕ) (j has p : ℕ) (e : p ≡ get_or d (j * 19 + 10) 0) whe
 
       pub default-too : has ≡ 1 → DefaultDiffers d j has false
       unfolding only_where
-      default-too v s f x w k h r l q = sym (ap₂ only_where (bits-one (has_default w.definition) (sym q ∙ v)) ((row-default s f x c k h r l g).there z y))
+      default-too v s f x w k h r l q = sym (ap₂ only_where (bits-one (has_default w.definition) (sym q ∙ v)) ((row_default s f x c k h r l g).there z y))
 
       pub default-new : (has ≡ 1 → ⊥) → DefaultDiffers d j has true
       unfolding only_where
-      default-new v s f x w k h r l q = sym (ap₂ only_where (bits-other (has_default w.definition) (λ o. v (q ∙ o))) ((row-default s f x c k h r l g).there z y))
+      default-new v s f x w k h r l q = sym (ap₂ only_where (bits-other (has_default w.definition) (λ o. v (q ∙ o))) ((row_default s f x c k h r l g).there z y))

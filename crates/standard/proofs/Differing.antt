@@ -14,7 +14,7 @@ use Rattle.grammar.proofs.Uniqueness.{none≢some}
 use Rattle.rows.specs.declared.Fault.{Fault}
 use Rattle.rows.specs.declared.Found.{Found}
 use Rattle.rows.specs.declared.Found.TheVariants.{At, Nothing}
-use Rattle.rows.specs.Search.{is_found, row_of}
+use Rattle.rows.specs.Search.{was_found, row_of}
 use Rattle.meaning.specs.Syntax.{Word, Definitions, Defined, File}
 use Rattle.meaning.specs.Cells.{type_code}
 use Rattle.meaning.specs.Scopes.{find_definition}
@@ -56,19 +56,19 @@ module _ (g rs ws s d e : List ℕ) (m i j code list auto : ℕ) (q₁ : code �
       (either (not (same_truth a.wanted.definition.list x.definition.list)) (only_where a.wanted.definition.auto x.definition.auto))
   shape_is f x a st hd row l ri = h₁ s f x a.wanted st hd row l (q₁ ∙ ri.type) (q₂ ∙ ri.list) (q₃ ∙ ri.auto)
 
-  pub shape-other : b ≡ true → Differs g rs ws s d e m i j true
+  pub shape_other : b ≡ true → Differs g rs ws s d e m i j true
   unfolding differs
-  shape-other t f x a st hd he row l rc ri = sym (first_three (not (eqb (type_code a.wanted.definition.type) (type_code x.definition.type))) (not (same_truth a.wanted.definition.list x.definition.list)) (only_where a.wanted.definition.auto x.definition.auto)
+  shape_other t f x a st hd he row l rc ri = sym (first_three (not (eqb (type_code a.wanted.definition.type) (type_code x.definition.type))) (not (same_truth a.wanted.definition.list x.definition.list)) (only_where a.wanted.definition.auto x.definition.auto)
       (either (only_where (has_default a.wanted.definition) (has_default x.definition))
       (wider a.wanted.definition.type a.wanted.definition.bounds a.wanted.values x.definition.bounds x.values))
       (sym (shape_is f x a st hd row l ri) ∙ t))
 
   module _ (t : b ≡ false) (has : ℕ) (q₄ : has ≡ get_or rs (i * 14 + 6) 0) (c : Bool) (h₂ : DefaultDiffers d j has c) where
-    after-shape : (f : File) (x : Defined) (a : Asked) → Situation s f → d ≡ kept_definitions f → RowOf f j x → j < 513 → RowIs g rs ws i a
+    after_shape : (f : File) (x : Defined) (a : Asked) → Situation s f → d ≡ kept_definitions f → RowOf f j x → j < 513 → RowIs g rs ws i a
         → differs a.wanted x
         ≡ either c (wider a.wanted.definition.type a.wanted.definition.bounds a.wanted.values x.definition.bounds x.values)
     unfolding differs
-    after-shape f x a st hd row l ri =
+    after_shape f x a st hd row l ri =
         not_three (not (eqb (type_code a.wanted.definition.type) (type_code x.definition.type))) (not (same_truth a.wanted.definition.list x.definition.list)) (only_where a.wanted.definition.auto x.definition.auto)
         (either (only_where (has_default a.wanted.definition) (has_default x.definition))
         (wider a.wanted.definition.type a.wanted.definition.bounds a.wanted.values x.definition.bounds x.values))
@@ -76,22 +76,22 @@ module _ (g rs ws s d e : List ℕ) (m i j code list auto : ℕ) (q₁ : code �
         ∙ ap (λ z. either z (wider a.wanted.definition.type a.wanted.definition.bounds a.wanted.values x.definition.bounds x.values))
         (sym (h₂ s f x a.wanted st hd row l (q₄ ∙ ri.default)))
 
-    pub default-other : c ≡ true → Differs g rs ws s d e m i j true
-    default-other v f x a st hd he row l rc ri =
-        sym (after-shape f x a st hd row l ri ∙ ap (λ z. either z (wider a.wanted.definition.type a.wanted.definition.bounds a.wanted.values x.definition.bounds x.values)) v)
+    pub default_other : c ≡ true → Differs g rs ws s d e m i j true
+    default_other v f x a st hd he row l rc ri =
+        sym (after_shape f x a st hd row l ri ∙ ap (λ z. either z (wider a.wanted.definition.type a.wanted.definition.bounds a.wanted.values x.definition.bounds x.values)) v)
 
-    pub wider-decides : c ≡ false → (r : Bool) → Wider g rs ws s d e m i j r → Differs g rs ws s d e m i j r
-    wider-decides v r w f x a st hd he row l rc ri =
+    pub wider_decides : c ≡ false → (r : Bool) → Wider g rs ws s d e m i j r → Differs g rs ws s d e m i j r
+    wider_decides v r w f x a st hd he row l rc ri =
         w f x a st hd he row l rc ri (eqb-true _ _ (not_first (eqb (type_code a.wanted.definition.type) (type_code x.definition.type)) (not (same_truth a.wanted.definition.list x.definition.list)) (only_where a.wanted.definition.auto x.definition.auto)
         (sym (shape_is f x a st hd row l ri) ∙ t)))
-        ∙ sym (after-shape f x a st hd row l ri ∙ ap (λ z. either z (wider a.wanted.definition.type a.wanted.definition.bounds a.wanted.values x.definition.bounds x.values)) v)
+        ∙ sym (after_shape f x a st hd row l ri ∙ ap (λ z. either z (wider a.wanted.definition.type a.wanted.definition.bounds a.wanted.values x.definition.bounds x.values)) v)
 
 -- One attribute ----------------------------------------------------------------------------------------------------------------------------------
 
 none_of : (o : Option Defined) → Nothing ≡ row_found o → o ≡ none
 unfolding row_found
 none_of none e = refl
-none_of (some x) e = absurd (false≢true (ap is_found e))
+none_of (some x) e = absurd (false≢true (ap was_found e))
 
 -- What a lookup that finds row j has found.
 record Hit (f : File) (ds : Definitions) (t : Word) (j : ℕ) : Type 0 where
@@ -102,7 +102,7 @@ record Hit (f : File) (ds : Definitions) (t : Word) (j : ℕ) : Type 0 where
 
 standing_row : {s : List ℕ} {f : File} {key : ℕ} {ds : Definitions} (t : Word) (j : ℕ) → Situation s f → ScopeAt f key ds → (o : Option Defined) → find_definition ds t ≡ o → At j ≡ row_found o → Hit f ds t j
 unfolding row_found find_definition row_of
-standing_row t j k sc none c e = absurd (false≢true (sym (ap is_found e)))
+standing_row t j k sc none c e = absurd (false≢true (sym (ap was_found e)))
 standing_row t j k no_scope (some y) c e = absurd (none≢some c)
 standing_row {f = f} {ds = ds} t j k (scope {u = u} h p) (some y) c e =
     let w : j ≡ y.definition.row = ap row_of e in
@@ -114,18 +114,18 @@ unfolding definition_cells
 name_cell {f} {d} {j} {x} hd row l = definition_cell f d j 2 (record { under = row.under; outer = row.outer; definition = x.definition; values = x.values }) hd row.nth l (omega arith)
 
 module _ (g rs ws s d e : List ℕ) (x : Known) (i : ℕ) (u : Owner) (o : Owns g rs s d e x i u) where
-  by-scope : (r : Fault) → ((f : File) (a : Asked) → Knows s d e x f → RowIs g rs ws i a → (v : Scope) → ScopeIs f v u → r ≡ fault_told (in_scope a.wanted (some v)))
+  by_scope : (r : Fault) → ((f : File) (a : Asked) → Knows s d e x f → RowIs g rs ws i a → (v : Scope) → ScopeIs f v u → r ≡ fault_told (in_scope a.wanted (some v)))
       → (u.word ≡ 0 → ⊥) → Finds g rs ws s d e x i r
   unfolding finding
-  by-scope r h n f a k ri = by (along (scope_of f a.kind) a.path) (o ws f a k ri)
+  by_scope r h n f a k ri = by (along (scope_of f a.kind) a.path) (o ws f a k ri)
     where
       by : (y : Option Scope) → Reaches f y u → r ≡ fault_told (in_scope a.wanted y)
       by _ (nowhere z) = absurd (n z)
       by _ (reaches {u = v} z) = h f a k ri v z
 
-  pub not-asked : u.word ≡ 0 → Finds g rs ws s d e x i (record { number = 0; place = 0 })
+  pub not_asked : u.word ≡ 0 → Finds g rs ws s d e x i (record { number = 0; place = 0 })
   unfolding finding in_scope fault_told
-  not-asked n f a k ri = by (along (scope_of f a.kind) a.path) (o ws f a k ri)
+  not_asked n f a k ri = by (along (scope_of f a.kind) a.path) (o ws f a k ri)
     where
       by : (y : Option Scope) → Reaches f y u → record { number = 0; place = 0 } ≡ fault_told (in_scope a.wanted y)
       by _ (nowhere z) = refl
@@ -139,9 +139,9 @@ module _ (g rs ws s d e : List ℕ) (x : Known) (i : ℕ) (u : Owner) (o : Owns 
         hz f v.definitions a.wanted.definition.name k.situation k.in_definitions k.definitions (omega (arith, l)) y.at
         (ri.name ∙ sym (hb ∙ ap₂ (part_of g) e₁ e₂))
 
-    pub is-absent : z ≡ Nothing → Finds g rs ws s d e x i (record { number = 25; place = u.word })
+    pub is_absent : z ≡ Nothing → Finds g rs ws s d e x i (record { number = 25; place = u.word })
     unfolding in_scope found finding_if fault_told
-    is-absent t = by-scope _ (λ f a k ri v y.
+    is_absent t = by_scope _ (λ f a k ri v y.
         let c = none_of (find_definition v.definitions a.wanted.definition.name) (sym t ∙ looked_up f a k ri v y) in
         ap (λ (p : ℕ). record { number = 25; place = p }) (sym y.word) ∙ sym (ap (λ (q : Option Defined). fault_told (found v.word a.wanted q)) c)) n
 
@@ -165,9 +165,9 @@ module _ (g rs ws s d e : List ℕ) (x : Known) (i : ℕ) (u : Owner) (o : Owns 
 
       pub is-different : c ≡ true → (p : ℕ) → p ≡ get_or d (j * 19 + 2) 0 → Finds g rs ws s d e x i (record { number = 26; place = p })
       unfolding finding_if fault_told
-      is-different v p q = by-scope _ (λ f a k ri w y.
+      is-different v p q = by_scope _ (λ f a k ri w y.
           ap (λ (r : ℕ). record { number = 26; place = r }) q ∙ sym (was_found f a k ri w y ∙ ap (λ (b' : Bool). fault_told (finding_if b' (get_or d (j * 19 + 2) 0) 26 a.wanted.definition.row)) v)) n
 
       pub is_same : c ≡ false → Finds g rs ws s d e x i (record { number = 0; place = 0 })
       unfolding finding_if fault_told
-      is_same v = by-scope _ (λ f a k ri w y. sym (was_found f a k ri w y ∙ ap (λ (b' : Bool). fault_told (finding_if b' (get_or d (j * 19 + 2) 0) 26 a.wanted.definition.row)) v)) n
+      is_same v = by_scope _ (λ f a k ri w y. sym (was_found f a k ri w y ∙ ap (λ (b' : Bool). fault_told (finding_if b' (get_or d (j * 19 + 2) 0) 26 a.wanted.definition.row)) v)) n

@@ -15,7 +15,7 @@ use Rattle.standard.specs.Section.{standard}
 use Rattle.standard.specs.Conforming.{Asks, of_kind, under}
 use Rattle.standard.proofs.Members.{Has, here, later}
 use Rattle.standard.proofs.Ways.{reached}
-use Rattle.standard.proofs.Owning.{KindCase, no_kind, a-kind, kind_case}
+use Rattle.standard.proofs.Owning.{KindCase, no_kind, a_kind, kind_case}
 use Rattle.standard.proofs.Numbers.{Faultless, ListedProper}
 use Rattle.standard.proofs.Sound.{listed_proper}
 use Rattle.standard.proofs.Ranged.{range_is}
@@ -29,7 +29,7 @@ data Rooted (f : File) (u : Scope) : Type 0 where
 of_spec : (f : File) (k : Kind) → KindCase k f.specs → Rooted f (scope_of f k)
 unfolding scope_of scope_or
 of_spec f k (no_kind g i) = subst (λ (o : Option Spec). Rooted f (scope_or f.implementation_name o)) (sym g) (empty refl)
-of_spec f k (a-kind y g i j) = subst (λ (o : Option Spec). Rooted f (scope_or f.implementation_name o)) (sym g) (stands (under_kind i))
+of_spec f k (a_kind y g i j) = subst (λ (o : Option Spec). Rooted f (scope_or f.implementation_name o)) (sym g) (stands (under_kind i))
 
 in_rooted : {f : File} {u : Scope} {d : Defined} {z : Under} (n w : Word) → Rooted f u → find_definition u.definitions n ≡ some d → find_value d.values w ≡ some z
     → Rooted f (record { word = z.word; definitions = z.definitions })

@@ -3,7 +3,7 @@ use mathlib.Core.Path.{◌≡◌, sym, ◌∙◌, ap, subst}
 use mathlib.Core.List.{List, [], ◌∷◌, ◌++◌}
 use Prim.Native.Nat.{ℕ, ◌+◌, ◌<◌}
 use native.Mathlib.Omega.{arith}
-use Rattle.grammar.specs.Grammar.{Token, file, ◌▸◌, ∎, ◌⟶◌, Trees, nil, leaf, node, tokens, file-is, implementation-is}
+use Rattle.grammar.specs.Grammar.{Token, file, ◌▸◌, ∎, ◌⟶◌, Trees, nil, leaf, node, tokens, file_is, implementation_is}
 use Rattle.grammar.specs.Terminals.{token_of}
 use Rattle.meaning.specs.Syntax.{through, File}
 use Rattle.meaning.specs.Actions.{word_of, means, meaning, syntax}
@@ -28,7 +28,7 @@ record Behind (s : List ℕ) (f : File) : Type 0 where
 
 tree_behind : (s : List ℕ) (t : Trees ◌⟶◌ (file ▸ ∎)) → Chain s 0 (tokens t) → Behind s (syntax s t)
 unfolding syntax meaning means tokens through word_of
-tree_behind s (node file-is (node v vs (node implementation-is (leaf i _ (leaf x _ (leaf b _ (node p us (leaf e _ (node q ds (leaf c _ nil))))))) ts)) nil) k =
+tree_behind s (node file_is (node v vs (node implementation_is (leaf i _ (leaf x _ (leaf b _ (node p us (leaf e _ (node q ds (leaf c _ nil))))))) ts)) nil) k =
     let l = e ∷ (tokens ds ++ (c ∷ [])) in
     let m = i ∷ x ∷ b ∷ (tokens us ++ l) in
     let k₁ = chain_back s 0 (tokens vs) (m ++ tokens ts) (chain_front s 0 (tokens vs ++ (m ++ tokens ts)) [] k) in

@@ -18,16 +18,16 @@ has_right [] h = h
 has_right (y ∷ a) h = later (has_right a h)
 
 pub data Split {A : Type 0} (x : A) (a b : List A) : Type 0 where
-  on-left : Has x a → Split x a b
-  on-right : Has x b → Split x a b
+  on_left : Has x a → Split x a b
+  on_right : Has x b → Split x a b
 
 split_later : {A : Type 0} {x y : A} {a b : List A} → Split x a b → Split x (y ∷ a) b
-split_later (on-left h) = on-left (later h)
-split_later (on-right h) = on-right h
+split_later (on_left h) = on_left (later h)
+split_later (on_right h) = on_right h
 
 pub has_split : {A : Type 0} {x : A} (a b : List A) → Has x (a ++ b) → Split x a b
-has_split [] b h = on-right h
-has_split (y ∷ a) b here = on-left here
+has_split [] b h = on_right h
+has_split (y ∷ a) b here = on_left here
 has_split (y ∷ a) b (later h) = split_later (has_split a b h)
 
 pub no_cons : {A : Type 0} (x : A) (l : List A) → x ∷ l ≡ [] → ⊥
@@ -54,8 +54,8 @@ pub split_by : {A R : Type 0} {x : A} (a b : List A) → Has x (a ++ b) → (Has
 split_by {R = R} {x = x} a b h f g = by (has_split a b h)
   where
     by : Split x a b → R
-    by (on-left m) = f m
-    by (on-right m) = g m
+    by (on_left m) = f m
+    by (on_right m) = g m
 
 pub first_or : {A R : Type 0} {x y : A} {l : List A} → Has x (y ∷ l) → (y ≡ x → R) → (Has x l → R) → R
 first_or here f g = f refl

@@ -15,13 +15,13 @@ use Rattle.rows.specs.declared.Found.{Found}
 use Rattle.rows.specs.declared.Found.TheVariants.{At, Nothing}
 use Rattle.rows.proofs.Walks.{first, any_of}
 use Rattle.rows.specs.Search.{find_from, has_key}
-use Rattle.rows.proofs.Searches.{find-stop, find_more, find-end}
+use Rattle.rows.proofs.Searches.{find_stop, find_more, find_end}
 use Rattle.meaning.proofs.Unplaced.{if_there}
 use Rattle.meaning.specs.Syntax.{Word, span_of, Definitions, Defined, File}
 use Rattle.meaning.specs.Normal.{part}
 use Rattle.meaning.specs.Scopes.{find_definition}
 use Rattle.meaning.specs.Defining.{definition_row, all_definition_rows}
-use Rattle.meaning.proofs.Sites.{definition-words}
+use Rattle.meaning.proofs.Sites.{definition_words}
 use Rattle.meaning.proofs.Standing.{Standing, standing_if, select}
 use Rattle.meaning.proofs.Lookups.{InText, first_standing, row_under, finds_definition}
 use Rattle.layout.specs.Kept.{Entry, spec_entries, kept_definitions, definition_cells}
@@ -29,7 +29,7 @@ use Rattle.scopes.specs.Situations.{Situation, ScopeAt, no_scope, scope}
 use Rattle.scopes.specs.Given.{entry_rows}
 use Rattle.scopes.specs.Promises.{row_found}
 use Rattle.scopes.proofs.Goodness.{Good, Goods}
-use Rattle.scopes.proofs.Finding.{seek-all, none_first, nth_front, below_front}
+use Rattle.scopes.proofs.Finding.{seek_all, none_first, nth_front, below_front}
 use Rattle.scopes.proofs.Rooms.{definition_cell}
 use Rattle.scopes.proofs.Answering.{spec_rows}
 use Rattle.scopes.proofs.Descents.{In, here, there, entry_facts, scope_facts}
@@ -52,7 +52,7 @@ its_key s d key i b p n h e g = rw (h, e, g, eq-eqb key key refl)
 
 pub attribute_stop : (s d : List ℕ) (n key : ℕ) (b : List ℕ) (i : ℕ) → i < n → is_attribute s d key i b ≡ true → find_attribute s d n key b i ≡ At i
 unfolding find_attribute
-attribute_stop s d n key b i h e = find-stop (λ j. is_attribute s d key j b) n i h e
+attribute_stop s d n key b i h e = find_stop (λ j. is_attribute s d key j b) n i h e
 
 pub attribute_more : (s d : List ℕ) (n key : ℕ) (b : List ℕ) (i : ℕ) → i < n → is_attribute s d key i b ≡ false → find_attribute s d n key b i ≡ find_attribute s d n key b (i + 1)
 unfolding find_attribute
@@ -60,7 +60,7 @@ attribute_more s d n key b i h e = find_more (λ j. is_attribute s d key j b) n 
 
 pub attribute_end : (s d : List ℕ) (n key : ℕ) (b : List ℕ) (i : ℕ) → n ≤ i → find_attribute s d n key b i ≡ Nothing
 unfolding find_attribute
-attribute_end s d n key b i h = find-end (λ j. is_attribute s d key j b) n i h
+attribute_end s d n key b i h = find_end (λ j. is_attribute s d key j b) n i h
 
 -- The rows of a scope --------------------------------------------------------------------------------------------------------------------------
 
@@ -77,7 +77,7 @@ find_in_rows : (f : File) (s d : List ℕ) (n key : ℕ) (b : List ℕ) → d �
 unfolding find_attribute is_row definition_cells
 find_in_rows f s d n key b e k h =
     ap (λ (m : ℕ). find_from (λ j. is_attribute s d key j b) m 0) k
-    ∙ seek-all (is_row s key b) (λ j. is_attribute s d key j b) (spec_entries f.specs) (λ a x c g.
+    ∙ seek_all (is_row s key b) (λ j. is_attribute s d key j b) (spec_entries f.specs) (λ a x c g.
     let q = nth_front [] (sym (append-nil (spec_entries f.specs))) a x c g in
     let l = below_front (spec_entries f.specs) a x c g in
     attribute_cells s d key (length a) b x.under.place x.definition.name.place x.definition.name.length
@@ -136,7 +136,7 @@ in_scope {s} {f} key n ds t k (scope {u} e p) q =
     search_rows s key n t q 0 (spec_entries f.specs) (λ x m. (entry_facts k m).facts.name)
     ∙ ap (λ r. standing_found (first_standing s t (select key 0 r))) (spec_rows f.specs)
     ∙ ap (λ m. standing_found (first_standing s t (select m 0 R))) (sym e)
-    ∙ ap standing_found (finds_definition R u ds s t (texts s (definition-words ds) c.facts.good) c.scope)
+    ∙ ap standing_found (finds_definition R u ds s t (texts s (definition_words ds) c.facts.good) c.scope)
     ∙ found_standing u (find_definition ds t)
 
 pub finds_attribute : (s d : List ℕ) (n key : ℕ) (b : List ℕ) (r : Found) → r ≡ find_attribute s d n key b 0 → FindsAttribute s d n key b r

@@ -19,10 +19,10 @@ use Rattle.meaning.specs.Words.{num_at_most, in_type}
 use Rattle.meaning.specs.Actions.{num_of_sort, num_of_step, zero_num}
 use Rattle.meaning.specs.Faults.{Fault, faults_if, first}
 use Rattle.meaning.specs.Scopes.{heads}
-use Rattle.meaning.specs.Defining.{outside, bound_faults, range_faults, default_faults, name_faults, word_faults, scope-faults, value-faults, specified, spec_faults, definition_faults}
+use Rattle.meaning.specs.Defining.{outside, bound_faults, range_faults, default_faults, name_faults, word_faults, scope_faults, value_faults, specified, spec_faults, definition_faults}
 use Rattle.meaning.specs.Answers.{Answer, Tables, accepted, unless, answer}
 use Rattle.meaning.proofs.Rooms.{not_faulty, no_first}
-use Rattle.meaning.proofs.Sites.{bound_words, option_words, definition-words, value-words}
+use Rattle.meaning.proofs.Sites.{bound_words, option_words, definition_words, value_words}
 use Rattle.scopes.specs.Situations.{Situation, HasDefinition, this_definition, later_definition, HasValue, this_value, later_value, HasSpec, this_spec, later_spec, Stands, under_kind, under_value}
 use Rattle.scopes.proofs.Goodness.{Good, Goods, good_front, good_back}
 use Rattle.scopes.proofs.Descents.{scope_facts}
@@ -79,44 +79,44 @@ faultless s i (one_of ts) g e = all_of s i ts g e
 record Clean (ds : Definitions) : Type 0 where
   others : List Definition
   before : List Definition
-  clean : scope-faults ds others before ≡ []
+  clean : scope_faults ds others before ≡ []
 
-range_clean : {ds : Definitions} {x : Defined} (o b : List Definition) → HasDefinition ds x → scope-faults ds o b ≡ [] → range_faults x.definition.type x.definition.bounds ≡ []
-unfolding scope-faults
+range_clean : {ds : Definitions} {x : Defined} (o b : List Definition) → HasDefinition ds x → scope_faults ds o b ≡ [] → range_faults x.definition.type x.definition.bounds ≡ []
+unfolding scope_faults
 range_clean o b (this_definition {d} {vs} {ds}) e =
     let rf = range_faults d.type d.bounds in
-    let vf = value-faults vs (is_enum d.type) [] [] in
+    let vf = value_faults vs (is_enum d.type) [] [] in
     let nf = name_faults d o b ++ default_faults d vs d.default in
-    none_left rf (vf ++ nf) (none_left (rf ++ (vf ++ nf)) (scope-faults ds o (b ++ (d ∷ []))) e)
+    none_left rf (vf ++ nf) (none_left (rf ++ (vf ++ nf)) (scope_faults ds o (b ++ (d ∷ []))) e)
 range_clean o b (later_definition {d} {vs} {ds} h) e =
     let rf = range_faults d.type d.bounds in
-    let vf = value-faults vs (is_enum d.type) [] [] in
+    let vf = value_faults vs (is_enum d.type) [] [] in
     let nf = name_faults d o b ++ default_faults d vs d.default in
-    range_clean o (b ++ (d ∷ [])) h (none_right (rf ++ (vf ++ nf)) (scope-faults ds o (b ++ (d ∷ []))) e)
+    range_clean o (b ++ (d ∷ [])) h (none_right (rf ++ (vf ++ nf)) (scope_faults ds o (b ++ (d ∷ []))) e)
 
-values_of : {ds : Definitions} {x : Defined} (o b : List Definition) → HasDefinition ds x → scope-faults ds o b ≡ [] → value-faults x.values (is_enum x.definition.type) [] [] ≡ []
-unfolding scope-faults
+values_of : {ds : Definitions} {x : Defined} (o b : List Definition) → HasDefinition ds x → scope_faults ds o b ≡ [] → value_faults x.values (is_enum x.definition.type) [] [] ≡ []
+unfolding scope_faults
 values_of o b (this_definition {d} {vs} {ds}) e =
     let rf = range_faults d.type d.bounds in
-    let vf = value-faults vs (is_enum d.type) [] [] in
+    let vf = value_faults vs (is_enum d.type) [] [] in
     let nf = name_faults d o b ++ default_faults d vs d.default in
-    none_left vf nf (none_right rf (vf ++ nf) (none_left (rf ++ (vf ++ nf)) (scope-faults ds o (b ++ (d ∷ []))) e))
+    none_left vf nf (none_right rf (vf ++ nf) (none_left (rf ++ (vf ++ nf)) (scope_faults ds o (b ++ (d ∷ []))) e))
 values_of o b (later_definition {d} {vs} {ds} h) e =
     let rf = range_faults d.type d.bounds in
-    let vf = value-faults vs (is_enum d.type) [] [] in
+    let vf = value_faults vs (is_enum d.type) [] [] in
     let nf = name_faults d o b ++ default_faults d vs d.default in
-    values_of o (b ++ (d ∷ [])) h (none_right (rf ++ (vf ++ nf)) (scope-faults ds o (b ++ (d ∷ []))) e)
+    values_of o (b ++ (d ∷ [])) h (none_right (rf ++ (vf ++ nf)) (scope_faults ds o (b ++ (d ∷ []))) e)
 
-value_clean : {vs : Values} {v : _} (c : Bool) (b : List Word) (o : List Definition) → HasValue vs v → value-faults vs c b o ≡ [] → Clean v.definitions
-unfolding scope-faults
+value_clean : {vs : Values} {v : _} (c : Bool) (b : List Word) (o : List Definition) → HasValue vs v → value_faults vs c b o ≡ [] → Clean v.definitions
+unfolding scope_faults
 value_clean c b o (this_value {w} {e} {us} {vs}) h =
     record {
       others = o;
       before = [];
-      clean = none_right (word_faults c e w b) (scope-faults us o []) (none_left (word_faults c e w b ++ scope-faults us o []) (value-faults vs c (b ++ (w ∷ [])) (o ++ heads us)) h);
+      clean = none_right (word_faults c e w b) (scope_faults us o []) (none_left (word_faults c e w b ++ scope_faults us o []) (value_faults vs c (b ++ (w ∷ [])) (o ++ heads us)) h);
     }
 value_clean c b o (later_value {w} {e} {us} {vs} i) h =
-    value_clean c (b ++ (w ∷ [])) (o ++ heads us) i (none_right (word_faults c e w b ++ scope-faults us o []) (value-faults vs c (b ++ (w ∷ [])) (o ++ heads us)) h)
+    value_clean c (b ++ (w ∷ [])) (o ++ heads us) i (none_right (word_faults c e w b ++ scope_faults us o []) (value_faults vs c (b ++ (w ∷ [])) (o ++ heads us)) h)
 
 spec_clean : {xs : List Spec} {x : Spec} (b : List Spec) → HasSpec xs x → spec_faults b xs ≡ [] → Clean x.definitions
 unfolding spec_faults
@@ -124,11 +124,11 @@ spec_clean b (this_spec {x} {xs}) h =
     record {
       others = [];
       before = [];
-      clean = none_right (faults_if (specified x b) x.word 8) (scope-faults x.definitions [] [])
-          (none_left (faults_if (specified x b) x.word 8 ++ scope-faults x.definitions [] []) (spec_faults (b ++ (x ∷ [])) xs) h);
+      clean = none_right (faults_if (specified x b) x.word 8) (scope_faults x.definitions [] [])
+          (none_left (faults_if (specified x b) x.word 8 ++ scope_faults x.definitions [] []) (spec_faults (b ++ (x ∷ [])) xs) h);
     }
 spec_clean b (later_spec {x} {y} {xs} i) h =
-    spec_clean (b ++ (y ∷ [])) i (none_right (faults_if (specified y b) y.word 8 ++ scope-faults y.definitions [] []) (spec_faults (b ++ (y ∷ [])) xs) h)
+    spec_clean (b ++ (y ∷ [])) i (none_right (faults_if (specified y b) y.word 8 ++ scope_faults y.definitions [] []) (spec_faults (b ++ (y ∷ [])) xs) h)
 
 stands_clean : {xs : List Spec} {u : Word} {ds : Definitions} → spec_faults [] xs ≡ [] → Stands xs u ds → Clean ds
 stands_clean e (under_kind h) = spec_clean [] h e
@@ -136,14 +136,14 @@ stands_clean e (under_value {x = x} p h v) =
     let k = stands_clean e p in
     value_clean (is_enum x.definition.type) [] [] v (values_of k.others k.before h k.clean)
 
-bounds_good : (s : List ℕ) {ds : Definitions} {x : Defined} → HasDefinition ds x → Goods s (definition-words ds) → Goods s (bound_words x.definition.bounds)
-unfolding definition-words
+bounds_good : (s : List ℕ) {ds : Definitions} {x : Defined} → HasDefinition ds x → Goods s (definition_words ds) → Goods s (bound_words x.definition.bounds)
+unfolding definition_words
 bounds_good s (this_definition {d} {vs} {ds}) g =
-    let r = value-words vs ++ (d.name ∷ option_words d.default) in
-    good_front s (bound_words d.bounds) r (good_front s (bound_words d.bounds ++ r) (definition-words ds) g.1)
+    let r = value_words vs ++ (d.name ∷ option_words d.default) in
+    good_front s (bound_words d.bounds) r (good_front s (bound_words d.bounds ++ r) (definition_words ds) g.1)
 bounds_good s (later_definition {d} {vs} {ds} h) g =
-    let r = value-words vs ++ (d.name ∷ option_words d.default) in
-    bounds_good s h (good_back s (bound_words d.bounds ++ r) (definition-words ds) g.1)
+    let r = value_words vs ++ (d.name ∷ option_words d.default) in
+    bounds_good s h (good_back s (bound_words d.bounds ++ r) (definition_words ds) g.1)
 
 pub unless_none : (o : Option Fault) (k : Unit {0} → Answer) (t : Tables) → unless o k ≡ accepted t → (o ≡ none) × (k tt ≡ accepted t)
 unfolding unless

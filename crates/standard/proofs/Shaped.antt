@@ -73,19 +73,19 @@ shape_differs_lem d j c l a r z s f x w k e row h hc hl ha =
 
 -- The answers of the code.
 module _ (d : List ℕ) (j c l a y : ℕ) (e : y ≡ get_or d (j * 19 + 12) 0) where
-  pub other-type : (y ≡ c → ⊥) → true ≡ shape_differs d j c l a
+  pub other_type : (y ≡ c → ⊥) → true ≡ shape_differs d j c l a
   unfolding shape_differs
-  other-type h = rw (sym e, ne_eqb c y (λ g. h (sym g)))
+  other_type h = rw (sym e, ne_eqb c y (λ g. h (sym g)))
 
   module _ (h : y ≡ c) (y₂ : ℕ) (e₂ : y₂ ≡ get_or d (j * 19 + 6) 0) where
-    pub other-mark : (y₂ ≡ l → ⊥) → true ≡ shape_differs d j c l a
+    pub other_mark : (y₂ ≡ l → ⊥) → true ≡ shape_differs d j c l a
     unfolding shape_differs
-    other-mark k = rw (sym e, h, eq-eqb c c refl, sym e₂, ne_eqb l y₂ (λ g. k (sym g)))
+    other_mark k = rw (sym e, h, eq-eqb c c refl, sym e₂, ne_eqb l y₂ (λ g. k (sym g)))
 
     module _ (k : y₂ ≡ l) (y₃ : ℕ) (e₃ : y₃ ≡ get_or d (j * 19 + 7) 0) where
-      pub no-auto : (y₃ ≡ 1 → ⊥) → false ≡ shape_differs d j c l a
+      pub no_auto : (y₃ ≡ 1 → ⊥) → false ≡ shape_differs d j c l a
       unfolding shape_differs
-      no-auto g = rw (sym e, h, eq-eqb c c refl, sym e₂, k, eq-eqb l l refl, sym e₃, ne_eqb y₃ 1 g)
+      no_auto g = rw (sym e, h, eq-eqb c c refl, sym e₂, k, eq-eqb l l refl, sym e₃, ne_eqb y₃ 1 g)
 
       pub auto-new : y₃ ≡ 1 → a ≡ 0 → true ≡ shape_differs d j c l a
       unfolding shape_differs

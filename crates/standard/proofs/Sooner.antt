@@ -7,14 +7,14 @@ use Rattle.standard.specs.Findings.{sooner}
 use Rattle.standard.specs.declared.Told.{Told}
 
 module _ (x : Fault) (i : ℕ) (b : Told) where
-  pub nothing-new : x.number ≡ 0 → b ≡ sooner x i b
+  pub nothing_new : x.number ≡ 0 → b ≡ sooner x i b
   unfolding sooner
-  nothing-new h = rw (eq-eqb x.number 0 h)
+  nothing_new h = rw (eq-eqb x.number 0 h)
 
   module _ (h₁ : x.number ≡ 0 → ⊥) where
-    pub first-new : b.number ≡ 0 → record { number = x.number; place = x.place; attribute = i } ≡ sooner x i b
+    pub first_new : b.number ≡ 0 → record { number = x.number; place = x.place; attribute = i } ≡ sooner x i b
     unfolding sooner
-    first-new h = rw (ne_eqb x.number 0 h₁, eq-eqb b.number 0 h)
+    first_new h = rw (ne_eqb x.number 0 h₁, eq-eqb b.number 0 h)
 
     module _ (h₂ : b.number ≡ 0 → ⊥) where
       pub left-new : x.place < b.place → record { number = x.number; place = x.place; attribute = i } ≡ sooner x i b

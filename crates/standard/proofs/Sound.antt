@@ -14,7 +14,7 @@ use Rattle.token.specs.Tokens.{part_of}
 use Rattle.token.proofs.Codes.{same_equal}
 use Rattle.grammar.specs.Grammar.{Integer}
 use Rattle.rows.specs.Search.{is_found}
-use Rattle.rows.proofs.Searches.{find-stop, find_more, find-end}
+use Rattle.rows.proofs.Searches.{find_stop, find_more, find_end}
 use Rattle.meaning.specs.Syntax.{Num, Word, AttributeType, integer, string, boolean, enum, float, reference, Bounds, no_bounds, from_to, one_of, Definition, Values, no_value, value, Spec}
 use Rattle.meaning.specs.Words.{alike, num_at_most, equal, among_numbers, in_bounds}
 use Rattle.meaning.specs.Kinds.{kind_number}
@@ -26,7 +26,7 @@ use Rattle.standard.specs.Section.{section, standard}
 use Rattle.standard.specs.Rows.{rows_written, words_written}
 use Rattle.standard.specs.Spans.{one, two, one_or_two, all_one_or_two, within_one_two}
 use Rattle.standard.specs.Choices.{find_word, is_word}
-use Rattle.standard.specs.Findings.{PathIs, no_step, one-step, Restricted, RowIs, RowsAre}
+use Rattle.standard.specs.Findings.{PathIs, no_step, one_step, Restricted, RowIs, RowsAre}
 use Rattle.standard.proofs.Everything.{rules}
 use Rattle.standard.proofs.Sections.{is_standard, written}
 use Rattle.standard.specs.Conforming.{Proper}
@@ -152,7 +152,7 @@ value_there (value w e us vs) t = by (same w.bytes t.bytes) (value_there vs t)
 
 word_there : (n a z : ℕ) (b : List ℕ) → z ≡ a + n → is_word section words_written a z b ≡ any_same b (words_from n a)
 unfolding is_word find_word any_same words_from
-word_there zero a z b e = ap is_found (find-end (λ k. same (part_of section (get_or words_written (k * 2 + 0) 0) (get_or words_written (k * 2 + 1) 0)) b) z a (omega (arith, e)))
+word_there zero a z b e = ap is_found (find_end (λ k. same (part_of section (get_or words_written (k * 2 + 0) 0) (get_or words_written (k * 2 + 1) 0)) b) z a (omega (arith, e)))
 word_there (suc n) a z b e =
     by (same (part_of section (get_or words_written (a * 2 + 0) 0) (get_or words_written (a * 2 + 1) 0)) b) refl
     (word_there n (a + 1) z b (omega (arith, e)))
@@ -160,7 +160,7 @@ word_there (suc n) a z b e =
     by : (r : Bool) → same (part_of section (get_or words_written (a * 2 + 0) 0) (get_or words_written (a * 2 + 1) 0)) b ≡ r
         → is_found (find_word section words_written z b (a + 1)) ≡ any_same b (words_from n (a + 1))
         → is_found (find_word section words_written z b a) ≡ either r (any_same b (words_from n (a + 1)))
-    by true h ih = ap is_found (find-stop (λ k. same (part_of section (get_or words_written (k * 2 + 0) 0) (get_or words_written (k * 2 + 1) 0)) b) z a (omega (arith, e)) h)
+    by true h ih = ap is_found (find_stop (λ k. same (part_of section (get_or words_written (k * 2 + 0) 0) (get_or words_written (k * 2 + 1) 0)) b) z a (omega (arith, e)) h)
     by false h ih = ap is_found (find_more (λ k. same (part_of section (get_or words_written (k * 2 + 0) 0) (get_or words_written (k * 2 + 1) 0)) b) z a (omega (arith, e)) h) ∙ ih
 
 same_lists : (a b : List (List ℕ)) → same_words a b ≡ true → a ≡ b
@@ -187,37 +187,37 @@ or_none true = refl
 or_none false = refl
 
 module _ (t u : Word) (e : t.number ≡ one) (h : u.number ≡ two) where
-  among-is : (n : Num) → among_numbers n (t ∷ (u ∷ [])) ≡ one_or_two n
+  among_is : (n : Num) → among_numbers n (t ∷ (u ∷ [])) ≡ one_or_two n
   unfolding among_numbers one_or_two
-  among-is n = ap₂ (λ (a b : Num). either (equal n a) (either (equal n b) false)) e h ∙ ap (either (equal n one)) (or_none (equal n two))
+  among_is n = ap₂ (λ (a b : Num). either (equal n a) (either (equal n b) false)) e h ∙ ap (either (equal n one)) (or_none (equal n two))
 
   all_are : (ws : List Word) → all_in (one_of (t ∷ (u ∷ []))) ws ≡ all_one_or_two ws
   unfolding all_in in_bounds all_one_or_two
   all_are [] = refl
-  all_are (w ∷ ws) = ap₂ both (among-is w.number) (all_are ws)
+  all_are (w ∷ ws) = ap₂ both (among_is w.number) (all_are ws)
 
-  one-next : among_numbers (next t.number) (t ∷ (u ∷ [])) ≡ true
+  one_next : among_numbers (next t.number) (t ∷ (u ∷ [])) ≡ true
   unfolding next one_or_two equal num_at_most
-  one-next = ap (λ (n : Num). among_numbers (next n) (t ∷ (u ∷ []))) e ∙ among-is (next one)
+  one_next = ap (λ (n : Num). among_numbers (next n) (t ∷ (u ∷ []))) e ∙ among_is (next one)
 
-  two-next : among_numbers (next u.number) (t ∷ (u ∷ [])) ≡ false
+  two_next : among_numbers (next u.number) (t ∷ (u ∷ [])) ≡ false
   unfolding next one_or_two equal num_at_most
-  two-next = ap (λ (n : Num). among_numbers (next n) (t ∷ (u ∷ []))) h ∙ among-is (next two)
+  two_next = ap (λ (n : Num). among_numbers (next n) (t ∷ (u ∷ []))) h ∙ among_is (next two)
 
   -- A number that is 1 or 2 is at most 2.
-  low-is : (n : Num) → one_or_two n ≡ true → num_at_most n two ≡ true
+  low_is : (n : Num) → one_or_two n ≡ true → num_at_most n two ≡ true
   unfolding one_or_two num_at_most
-  low-is n k = by (equal n one) (equal n two) refl refl k
+  low_is n k = by (equal n one) (equal n two) refl refl k
     where
       by : (a b : Bool) → equal n one ≡ a → equal n two ≡ b → either a b ≡ true → num_at_most n two ≡ true
       by true b p q k = ap (λ (m : Num). num_at_most m two) (equal_same n one p)
       by false true p q k = ap (λ (m : Num). num_at_most m two) (equal_same n two q)
       by false false p q k = absurd (false≢true k)
 
-  from-to-is : (low high : Num) → spans (one_of (t ∷ (u ∷ []))) low high ≡ both (one_or_two low) (num_at_most high two)
+  from_to_is : (low high : Num) → spans (one_of (t ∷ (u ∷ []))) low high ≡ both (one_or_two low) (num_at_most high two)
   unfolding spans followed
-  from-to-is low high =
-      ap (λ (b : Bool). both b (followed low high (t ∷ (u ∷ [])) (t ∷ (u ∷ [])))) (among-is low)
+  from_to_is low high =
+      ap (λ (b : Bool). both b (followed low high (t ∷ (u ∷ [])) (t ∷ (u ∷ [])))) (among_is low)
       ∙ by (one_or_two low) refl
     where
       last : (x k : Bool) → both (either x true) (both (either (not (both true (not k))) false) true) ≡ k
@@ -230,33 +230,33 @@ module _ (t u : Word) (e : t.number ≡ one) (h : u.number ≡ two) where
       by false k = refl
       by true k =
           ap₂ (λ (a b : Bool). both (either (not (both (num_at_most low t.number) (not (num_at_most high t.number)))) a)
-          (both (either (not (both (num_at_most low u.number) (not (num_at_most high u.number)))) b) true)) one-next two-next
+          (both (either (not (both (num_at_most low u.number) (not (num_at_most high u.number)))) b) true)) one_next two_next
           ∙ ap (λ (n : Num). both (either (not (both (num_at_most low t.number) (not (num_at_most high t.number)))) true)
           (both (either (not (both (num_at_most low n) (not (num_at_most high n)))) false) true)) h
           ∙ ap (λ (b : Bool). both (either (not (both (num_at_most low t.number) (not (num_at_most high t.number)))) true)
-          (both (either (not (both b (not (num_at_most high two)))) false) true)) (low-is low k)
+          (both (either (not (both b (not (num_at_most high two)))) false) true)) (low_is low k)
           ∙ last (not (both (num_at_most low t.number) (not (num_at_most high t.number)))) (num_at_most high two)
 
   restricted : (i : Integer) → within i (one_of (t ∷ (u ∷ []))) no_bounds ≡ false → (c : Bounds) → within i (one_of (t ∷ (u ∷ []))) c ≡ within_one_two c
   unfolding within within_one_two
   restricted i k no_bounds = k
-  restricted i k (from_to a b) = from-to-is a.number b.number
+  restricted i k (from_to a b) = from_to_is a.number b.number
   restricted i k (one_of ws) = all_are ws
 
 free_within : (k : Integer) (c : Bounds) → within k no_bounds c ≡ true
 unfolding within spans all_in in_bounds
 free_within k no_bounds = refl
 free_within k (from_to a b) = refl
-free_within k (one_of ts) = all-free ts
+free_within k (one_of ts) = all_free ts
   where
-    all-free : (ws : List Word) → all_in no_bounds ws ≡ true
-    all-free [] = refl
-    all-free (w ∷ ws) = all-free ws
+    all_free : (ws : List Word) → all_in no_bounds ws ≡ true
+    all_free [] = refl
+    all_free (w ∷ ws) = all_free ws
 
 -- What the bounds of an attribute are, by the cell c.
 record Bounded (c : ℕ) (d : Definition) : Type 0 where
   free : c ≡ 0 → (k : Integer) (b : Bounds) → within k d.bounds b ≡ true
-  restricted-to : (c ≡ 0 → ⊥) → Restricted d
+  restricted_to : (c ≡ 0 → ⊥) → Restricted d
 
 one_two_is : (ts : List Word) → one_two ts ≡ true → {R : Type 0} → ((t u : Word) → ts ≡ t ∷ (u ∷ []) → t.number ≡ one → u.number ≡ two → R) → R
 unfolding one_two
@@ -287,14 +287,14 @@ unfolding bounds_sound
 bounded c d h = by d.bounds refl h
   where
     by : (b : Bounds) → d.bounds ≡ b → bounds_sound c d.type b ≡ true → Bounded c d
-    by no_bounds e h = record { free = λ z k b. ap (λ (y : Bounds). within k y b) e ∙ free_within k b; restricted-to = λ z. absurd (z (eqb-true c 0 h)) }
+    by no_bounds e h = record { free = λ z k b. ap (λ (y : Bounds). within k y b) e ∙ free_within k b; restricted_to = λ z. absurd (z (eqb-true c 0 h)) }
     by (from_to a b) e h = absurd (false≢true h)
     by (one_of ts) e h =
         let n = is_false (eqb c 0) (both_left (not (eqb c 0)) (both (one_two ts) (all_wider d.type (one_of ts))) h) in
         let r = both_right (not (eqb c 0)) (both (one_two ts) (all_wider d.type (one_of ts))) h in
         record {
           free = λ z. absurd (eqb-false c 0 n z);
-          restricted-to = λ z.
+          restricted_to = λ z.
               one_two_is ts (both_left (one_two ts) (all_wider d.type (one_of ts)) r)
               (λ t u p q o. wider_all d ts t u d.type refl e p q o (both_right (one_two ts) (all_wider d.type (one_of ts)) r));
         }
@@ -307,7 +307,7 @@ path_is i (p ∷ []) h =
     let a = same p.attribute.bytes (part_of_lem (cell i 7) (cell i 8)) in
     let b = same p.value.bytes (part_of_lem (cell i 9) (cell i 10)) in
     let r = both_right n (both a b) h in
-    one-step (λ z. eqb-false (cell i 8) 0 (is_false (eqb (cell i 8) 0) (both_left n (both a b) h)) z) (same_equal _ _ (both_left a b r)) (same_equal _ _ (both_right a b r))
+    one_step (λ z. eqb-false (cell i 8) 0 (is_false (eqb (cell i 8) 0) (both_left n (both a b) h)) z) (same_equal _ _ (both_left a b r)) (same_equal _ _ (both_right a b r))
 path_is i (p ∷ (q ∷ ps)) h = absurd (false≢true h)
 
 -- One by one.

@@ -19,11 +19,11 @@ use Rattle.scopes.proofs.Rooms.{nth_low}
 use Rattle.scopes.proofs.Descents.{row_of_definition, found_definition, found_value}
 use Rattle.standard.specs.Asking.{into_value, into_list, into}
 use Rattle.standard.specs.Naming.{FindsAttribute, FindsValue}
-use Rattle.standard.specs.Descending.{Entered, nothing-asked, entered, StepsInto}
+use Rattle.standard.specs.Descending.{Entered, nothing_asked, entered, StepsInto}
 
 none_none : (f : File) (o : Option Defined) (w : Word) → Nothing ≡ row_found o → Entered f (into_list o w) 0
 unfolding row_found into_list
-none_none f none w e = nothing-asked
+none_none f none w e = nothing_asked
 none_none f (some x) w e = absurd (false≢true (ap is_found e))
 
 pub steps_none : (s d e : List ℕ) (n m key : ℕ) (a b : List ℕ) (z : Found) → FindsAttribute s d n key a z → z ≡ Nothing → StepsInto s d e n m key a b 0
@@ -44,7 +44,7 @@ standing_word t (scope {u = u} h p) e g = g u p
 enters : (f : File) (y : Defined) (w : Word) (r : ℕ) {u : Word} {ds : Definitions} → Stands f.specs u ds → HasDefinition ds y → (o : Option Under) → find_value y.values w ≡ o
     → r ≡ place_found o → Entered f (into_value o) r
 unfolding place_found into_value
-enters f y w r p h none e g = subst (Entered f none) (sym g) nothing-asked
+enters f y w r p h none e g = subst (Entered f none) (sym g) nothing_asked
 enters f y w r p h (some v) e g = entered (sym g) (under_value p h (found_value y.values w e))
 
 pub steps_some : (s d e : List ℕ) (n m key : ℕ) (a b : List ℕ) (z : Found) (j r : ℕ) → FindsAttribute s d n key a z → z ≡ At j → FindsValue s d e m j b r → StepsInto s d e n m key a b r

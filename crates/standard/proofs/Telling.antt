@@ -20,7 +20,7 @@ use Rattle.standard.specs.declared.Known.{Known}
 use Rattle.standard.specs.declared.Told.{Told}
 use Rattle.standard.proofs.Members.{Has, here, later, split_by, has_none}
 use Rattle.standard.proofs.Theorem.{le_of, of_le, least_told}
-use Rattle.standard.proofs.Sooner.{nothing-new, first-new, left-new, left-old, smaller-new, smaller-old, before-new, before-old}
+use Rattle.standard.proofs.Sooner.{nothing_new, first_new, left-new, left-old, smaller-new, smaller-old, before-new, before-old}
 use Rattle.standard.proofs.Sound.{asked_many}
 
 -- One attribute has one finding at most ------------------------------------------------------------------------------------------------------------
@@ -65,21 +65,21 @@ foremost_number f l {y} e = numbered f l (least_told (findings_of f l) y e).is_o
 -- What is sooner -----------------------------------------------------------------------------------------------------------------------------------
 
 module _ (x y : Finding) where
-  pick-new : NotBehind x y → as_told (some x) ≡ as_told (some (pick (not_behind x y) x y))
-  pick-new h = ap (λ (c : Bool). as_told (some (pick c x y))) (sym (of_le x y h))
+  pick_new : NotBehind x y → as_told (some x) ≡ as_told (some (pick (not_behind x y) x y))
+  pick_new h = ap (λ (c : Bool). as_told (some (pick c x y))) (sym (of_le x y h))
 
-  pick-old : (NotBehind x y → ⊥) → as_told (some y) ≡ as_told (some (pick (not_behind x y) x y))
-  pick-old h = by (not_behind x y) refl
+  pick_old : (NotBehind x y → ⊥) → as_told (some y) ≡ as_told (some (pick (not_behind x y) x y))
+  pick_old h = by (not_behind x y) refl
     where
       by : (c : Bool) → not_behind x y ≡ c → as_told (some y) ≡ as_told (some (pick c x y))
       by true e = absurd (h (le_of x y e))
       by false e = refl
 
-  two-findings : 0 < x.number → 0 < y.number
+  two_findings : 0 < x.number → 0 < y.number
       → sooner (record { number = x.number; place = x.place }) x.attribute (record { number = y.number; place = y.place; attribute = y.attribute })
       ≡ as_told (some (pick (not_behind x y) x y))
   unfolding as_told
-  two-findings h k = by (dec_lt x.place y.place) (dec_lt y.place x.place) (dec_lt x.number y.number) (dec_lt y.number x.number) (dec_lt y.attribute x.attribute)
+  two_findings h k = by (dec_lt x.place y.place) (dec_lt y.place x.place) (dec_lt x.number y.number) (dec_lt y.number x.number) (dec_lt y.attribute x.attribute)
     where
       p : x.number ≡ 0 → ⊥
       p e = omega (arith, h, e)
@@ -90,39 +90,39 @@ module _ (x y : Finding) where
       by : Dec (x.place < y.place) → Dec (y.place < x.place) → Dec (x.number < y.number) → Dec (y.number < x.number) → Dec (y.attribute < x.attribute)
           → sooner (record { number = x.number; place = x.place }) x.attribute (record { number = y.number; place = y.place; attribute = y.attribute })
           ≡ as_told (some (pick (not_behind x y) x y))
-      by (yes l) m n o v = sym (left-new _ _ _ p q l) ∙ pick-new (left_of l)
-      by (no l) (yes m) n o v = sym (left-old _ _ _ p q (omega arith) m) ∙ pick-old (λ z. not_left z m)
+      by (yes l) m n o v = sym (left-new _ _ _ p q l) ∙ pick_new (left_of l)
+      by (no l) (yes m) n o v = sym (left-old _ _ _ p q (omega arith) m) ∙ pick_old (λ z. not_left z m)
         where
           not_left : NotBehind x y → y.place < x.place → ⊥
           not_left (left_of z) m = omega (arith, z, m)
           not_left (smaller z w) m = omega (arith, z, m)
           not_left (not_after z w t) m = omega (arith, z, m)
-      by (no l) (no m) (yes n) o v = sym (smaller-new _ _ _ p q (omega arith) (omega arith) n) ∙ pick-new (smaller (omega arith) n)
-      by (no l) (no m) (no n) (yes o) v = sym (smaller-old _ _ _ p q (omega arith) (omega arith) (omega arith) o) ∙ pick-old (λ z. not-smaller z l m o)
+      by (no l) (no m) (yes n) o v = sym (smaller-new _ _ _ p q (omega arith) (omega arith) n) ∙ pick_new (smaller (omega arith) n)
+      by (no l) (no m) (no n) (yes o) v = sym (smaller-old _ _ _ p q (omega arith) (omega arith) (omega arith) o) ∙ pick_old (λ z. not-smaller z l m o)
         where
           not-smaller : NotBehind x y → (x.place < y.place → ⊥) → (y.place < x.place → ⊥) → y.number < x.number → ⊥
           not-smaller (left_of z) l m o = l z
           not-smaller (smaller z w) l m o = omega (arith, w, o)
           not-smaller (not_after z w t) l m o = omega (arith, w, o)
-      by (no l) (no m) (no n) (no o) (yes v) = sym (before-old _ _ _ p q (omega arith) (omega arith) (omega arith) (omega arith) v) ∙ pick-old (λ z. not-before z l n v)
+      by (no l) (no m) (no n) (no o) (yes v) = sym (before-old _ _ _ p q (omega arith) (omega arith) (omega arith) (omega arith) v) ∙ pick_old (λ z. not-before z l n v)
         where
           not-before : NotBehind x y → (x.place < y.place → ⊥) → (x.number < y.number → ⊥) → y.attribute < x.attribute → ⊥
           not-before (left_of z) l n v = l z
           not-before (smaller z w) l n v = n w
           not-before (not_after z w t) l n v = omega (arith, t, v)
       by (no l) (no m) (no n) (no o) (no v) =
-          sym (before-new _ _ _ p q (omega arith) (omega arith) (omega arith) (omega arith) (omega arith)) ∙ pick-new (not_after (omega arith) (omega arith) (omega arith))
+          sym (before-new _ _ _ p q (omega arith) (omega arith) (omega arith) (omega arith) (omega arith)) ∙ pick_new (not_after (omega arith) (omega arith) (omega arith))
 
 sooner_is : (x : Finding) (o : Option Finding) → 0 < x.number → ((y : Finding) → o ≡ some y → 0 < y.number)
     → sooner (record { number = x.number; place = x.place }) x.attribute (as_told o) ≡ as_told (earlier (some x) o)
 unfolding as_told earlier
-sooner_is x none h k = sym (first-new (record { number = x.number; place = x.place }) x.attribute _ (λ e. omega (arith, h, e)) refl)
-sooner_is x (some y) h k = two-findings x y h (k y refl)
+sooner_is x none h k = sym (first_new (record { number = x.number; place = x.place }) x.attribute _ (λ e. omega (arith, h, e)) refl)
+sooner_is x (some y) h k = two_findings x y h (k y refl)
 
 -- One more attribute.
 step_told : (n : ℕ) (l r : List Finding) → Single n l → ((y : Finding) → foremost r ≡ some y → 0 < y.number) → sooner (fault_told l) n (as_told (foremost r)) ≡ as_told (foremost (l ++ r))
 unfolding fault_told foremost
-step_told n l r nothing k = sym (nothing-new _ _ _ refl)
+step_told n l r nothing k = sym (nothing_new _ _ _ refl)
 step_told n l r (single {x} e h) k = ap (λ (i : ℕ). sooner (record { number = x.number; place = x.place }) i (as_told (foremost r))) (sym e) ∙ sooner_is x (foremost r) h k
 
 -- The loop -------------------------------------------------------------------------------------------------------------------------------------------
@@ -149,9 +149,9 @@ pub record Telling (g rs ws s d e : List ℕ) (x : Known) (i : ℕ) (r : Told) :
   pub tells : TellsFrom g rs ws s d e x i r
 
 module _ (g rs ws s d e : List ℕ) (x : Known) where
-  told-next : (i j : ℕ) (b c : Told) (t : Fault) → i ≤ 36 → 0 < i → j ≡ i - 1 → TellsFrom g rs ws s d e x i b → Finds g rs ws s d e x j t → c ≡ sooner t j b → TellsFrom g rs ws s d e x j c
+  told_next : (i j : ℕ) (b c : Told) (t : Fault) → i ≤ 36 → 0 < i → j ≡ i - 1 → TellsFrom g rs ws s d e x i b → Finds g rs ws s d e x j t → c ≡ sooner t j b → TellsFrom g rs ws s d e x j c
   unfolding findings_of
-  told-next i j b c t l p q h w v f k r =
+  told_next i j b c t l p q h w v f k r =
       let m : j < length (asked standard) = let z = asked_many in omega (arith, z, l, p, q) in
       let o : i ≡ suc j = omega (arith, p, q) in
       nth_drop (asked standard) j m (λ a n y.
@@ -162,19 +162,19 @@ module _ (g rs ws s d e : List ℕ) (x : Known) where
       ∙ step_told j (finding f a) rest (subst (λ (m' : ℕ). Single m' (finding f a)) z.number (single_finding f a)) (λ y' e'. foremost_number f (drop (suc j) (asked standard)) e')
       ∙ sym (ap (λ (l' : List Asked). as_told (foremost (findings_of f l'))) y))
 
-  told-last : (i : ℕ) (b : Told) → i ≤ 0 → TellsFrom g rs ws s d e x i b → TellsForemost g rs ws s d e x b
+  told_last : (i : ℕ) (b : Told) → i ≤ 0 → TellsFrom g rs ws s d e x i b → TellsForemost g rs ws s d e x b
   unfolding findings
-  told-last i b l h f k r = h f k r ∙ ap (λ (i' : ℕ). as_told (foremost (findings_of f (drop i' (asked standard))))) (zero_is i l)
+  told_last i b l h f k r = h f k r ∙ ap (λ (i' : ℕ). as_told (foremost (findings_of f (drop i' (asked standard))))) (zero_is i l)
     where
       zero_is : (n : ℕ) → n ≤ 0 → n ≡ 0
       zero_is n h = omega (arith, h)
 
-  pub tell-start : Telling g rs ws s d e x 36 (record { number = 0; place = 0; attribute = 0 })
+  pub tell_start : Telling g rs ws s d e x 36 (record { number = 0; place = 0; attribute = 0 })
   unfolding as_told foremost findings_of
-  tell-start = record { few = omega arith; tells = λ f k h. sym (ap (λ (l : List Asked). as_told (foremost (findings_of f l))) (drop_all (asked standard) 36 (let z = asked_many in omega (arith, z)))) }
+  tell_start = record { few = omega arith; tells = λ f k h. sym (ap (λ (l : List Asked). as_told (foremost (findings_of f l))) (drop_all (asked standard) 36 (let z = asked_many in omega (arith, z)))) }
 
-  pub tell-step : (i j : ℕ) (b c : Told) (t : Fault) → 0 < i → j ≡ i - 1 → Telling g rs ws s d e x i b → Finds g rs ws s d e x j t → c ≡ sooner t j b → Telling g rs ws s d e x j c
-  tell-step i j b c t p q h w v = record { few = let l = h.few in omega (arith, l, q); tells = told-next i j b c t h.few p q h.tells w v }
+  pub tell_step : (i j : ℕ) (b c : Told) (t : Fault) → 0 < i → j ≡ i - 1 → Telling g rs ws s d e x i b → Finds g rs ws s d e x j t → c ≡ sooner t j b → Telling g rs ws s d e x j c
+  tell_step i j b c t p q h w v = record { few = let l = h.few in omega (arith, l, q); tells = told_next i j b c t h.few p q h.tells w v }
 
-  pub tell-end : (i : ℕ) (b : Told) → i ≤ 0 → Telling g rs ws s d e x i b → TellsForemost g rs ws s d e x b
-  tell-end i b l h = told-last i b l h.tells
+  pub tell_end : (i : ℕ) (b : Told) → i ≤ 0 → Telling g rs ws s d e x i b → TellsForemost g rs ws s d e x b
+  tell_end i b l h = told_last i b l h.tells

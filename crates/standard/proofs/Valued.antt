@@ -15,13 +15,13 @@ use Rattle.token.proofs.Codes.{same_equal}
 use Rattle.rows.specs.declared.Found.{Found}
 use Rattle.rows.specs.declared.Found.TheVariants.{At, Nothing}
 use Rattle.rows.specs.Search.{find_from, find_named, is_named, has_key}
-use Rattle.rows.proofs.Searches.{find-stop, find_more, find-end, found_first}
+use Rattle.rows.proofs.Searches.{find_stop, find_more, find_end, found_first}
 use Rattle.meaning.specs.Syntax.{Word, Values, no_value, value}
 use Rattle.meaning.specs.Words.{alike}
 use Rattle.meaning.specs.Scopes.{Under, find_value}
 use Rattle.scopes.specs.Promises.{place_found, FindsWord, FindsTruth, FindsEnumerator}
 use Rattle.scopes.proofs.Descents.{nth_in, entry_facts, found_value, value_word}
-use Rattle.scopes.proofs.Taking.{truth-one, truth-two, truth-none, finds_enumerator, word-truth, word-nothing, word_none, word_some}
+use Rattle.scopes.proofs.Taking.{truth_one, truth_two, truth_none, finds_enumerator, word_truth, word_nothing, word_none, word_some}
 use Rattle.standard.specs.Naming.{is_choice, find_choice, truth_named, FindsValue}
 use Rattle.standard.proofs.Truths.{both_right}
 
@@ -55,9 +55,9 @@ truth_finds s d j at len = by (same (part_of s a b) (part_of s at len)) (same (p
 
     by : (p q : Bool) → p ≡ same (part_of s (get_or d (j * 19 + 14) 0) (get_or d (j * 19 + 15) 0)) (part_of s at len) → q ≡ same (part_of s (get_or d (j * 19 + 16) 0) (get_or d (j * 19 + 17) 0)) (part_of s at len)
         → FindsTruth s d j at len (pick p (get_or d (j * 19 + 14) 0) (pick q (get_or d (j * 19 + 16) 0) 0))
-    by true q e g = truth-one s d j at len _ _ refl refl true e refl
-    by false true e g = truth-two s d j at len _ _ refl refl _ _ refl refl false true e refl g refl
-    by false false e g = truth-none s d j at len _ _ refl refl _ _ refl refl false false e refl g refl
+    by true q e g = truth_one s d j at len _ _ refl refl true e refl
+    by false true e g = truth_two s d j at len _ _ refl refl _ _ refl refl false true e refl g refl
+    by false false e g = truth_none s d j at len _ _ refl refl _ _ refl refl false false e refl g refl
 
 pub choice_finds : (s d e : List ℕ) (m j at len : ℕ) → FindsEnumerator s d e m j at len (find_choice s e m (get_or d (j * 19 + 14) 0) (part_of s at len) 0)
 unfolding find_choice is_choice find_named is_named
@@ -74,9 +74,9 @@ word_finds s d e m j at len = by (eqb (get_or d (j * 19 + 12) 0) 40) (eqb (get_o
   where
     by : (p q : Bool) → eqb (get_or d (j * 19 + 12) 0) 40 ≡ p → eqb (get_or d (j * 19 + 12) 0) 41 ≡ q
         → FindsWord s d e m j at len (pick p (truth_named s d j (part_of s at len)) (pick q (choice_word e (find_choice s e m (get_or d (j * 19 + 14) 0) (part_of s at len) 0)) 0))
-    by true q h g = word-truth s d e m j at len (get_or d (j * 19 + 12) 0) refl _ (eqb-true _ 40 h) (truth_finds s d j at len)
+    by true q h g = word_truth s d e m j at len (get_or d (j * 19 + 12) 0) refl _ (eqb-true _ 40 h) (truth_finds s d j at len)
     by false true h g = choice_word_finds s d e m j at len (eqb-true _ 41 g) _ (choice_finds s d e m j at len)
-    by false false h g = word-nothing s d e m j at len (get_or d (j * 19 + 12) 0) refl (eqb-false _ 40 h) (eqb-false _ 41 g)
+    by false false h g = word_nothing s d e m j at len (get_or d (j * 19 + 12) 0) refl (eqb-false _ 40 h) (eqb-false _ 41 g)
 
 -- Any bytes ------------------------------------------------------------------------------------------------------------------------------------
 
@@ -162,7 +162,7 @@ its_list s e key i b p n h k g = rw (h, k, g, eq-eqb key key refl)
 
 pub choice_stop : (s e : List ℕ) (n key : ℕ) (b : List ℕ) (i : ℕ) → i < n → is_choice s e key i b ≡ true → find_choice s e n key b i ≡ At i
 unfolding find_choice
-choice_stop s e n key b i h k = find-stop (λ j. is_choice s e key j b) n i h k
+choice_stop s e n key b i h k = find_stop (λ j. is_choice s e key j b) n i h k
 
 pub choice_more : (s e : List ℕ) (n key : ℕ) (b : List ℕ) (i : ℕ) → i < n → is_choice s e key i b ≡ false → find_choice s e n key b i ≡ find_choice s e n key b (i + 1)
 unfolding find_choice
@@ -170,7 +170,7 @@ choice_more s e n key b i h k = find_more (λ j. is_choice s e key j b) n i h k
 
 pub choice_end : (s e : List ℕ) (n key : ℕ) (b : List ℕ) (i : ℕ) → n ≤ i → find_choice s e n key b i ≡ Nothing
 unfolding find_choice
-choice_end s e n key b i h = find-end (λ j. is_choice s e key j b) n i h
+choice_end s e n key b i h = find_end (λ j. is_choice s e key j b) n i h
 
 -- The answers of truth_named, by the parts p and q of the two words.
 pub true_named : (s d : List ℕ) (j : ℕ) (b : List ℕ) (a n : ℕ) → a ≡ get_or d (j * 19 + 14) 0 → n ≡ get_or d (j * 19 + 15) 0 → same (part_of s a n) b ≡ true → a ≡ truth_named s d j b

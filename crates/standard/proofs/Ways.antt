@@ -70,13 +70,13 @@ pub into_off : (u : Scope) (n w : Word) {v : Scope} → into u (step n w) ≡ so
 unfolding into into_list into_value
 into_off u n w {v} e = by (find_definition u.definitions n) refl e
   where
-    of-list : (d : Defined) → find_definition u.definitions n ≡ some d → (o : Option Under) → find_value d.values w ≡ o → into_value o ≡ some v → Entered u n w v
-    of-list d g none h k = absurd (none≢some k)
-    of-list d g (some z) h k = record { definition = d; value = z; there = g; listed = h; scope_is = some_is k }
+    of_list : (d : Defined) → find_definition u.definitions n ≡ some d → (o : Option Under) → find_value d.values w ≡ o → into_value o ≡ some v → Entered u n w v
+    of_list d g none h k = absurd (none≢some k)
+    of_list d g (some z) h k = record { definition = d; value = z; there = g; listed = h; scope_is = some_is k }
 
     by : (o : Option Defined) → find_definition u.definitions n ≡ o → into_list o w ≡ some v → Entered u n w v
     by none g k = absurd (none≢some k)
-    by (some d) g k = of-list d g (find_value d.values w) refl k
+    by (some d) g k = of_list d g (find_value d.values w) refl k
 
 -- All that the trees ask for is on the list ----------------------------------------------------------------------------------------------------
 
@@ -110,18 +110,18 @@ mutual
   deep_in (define d vs ds) k p a v y h i j =
       let w = way k p (record { definition = d; values = vs }) in
       split_by (asked_under vs k p d.name) (w ∷ asked_in ds k p) h
-      (λ m. has_left (w ∷ asked_in ds k p) (deep-under vs k p d.name a v y m i j))
+      (λ m. has_left (w ∷ asked_in ds k p) (deep_under vs k p d.name a v y m i j))
       (λ m. first_or m
       (λ e. at_itself d vs ds k p a v y e i j)
       (λ n. has_right (asked_under vs k p d.name) (later (deep_in ds k p a v y n i j))))
 
-  deep-under : (vs : Values) (k : Kind) (p : List Step) (n : Word) (a : Asked) (v : Under) (y : Defined) → Has a (asked_under vs k p n) → HasValue a.wanted.values v
+  deep_under : (vs : Values) (k : Kind) (p : List Step) (n : Word) (a : Asked) (v : Under) (y : Defined) → Has a (asked_under vs k p n) → HasValue a.wanted.values v
       → HasDefinition v.definitions y → Has (below a v y) (asked_under vs k p n)
-  deep-under no_value k p n a v y h i j = absurd (has_none h refl)
-  deep-under (value w e us vs) k p n a v y h i j =
+  deep_under no_value k p n a v y h i j = absurd (has_none h refl)
+  deep_under (value w e us vs) k p n a v y h i j =
       split_by (asked_in us k (p ++ (step n w ∷ []))) (asked_under vs k p n) h
       (λ m. has_left (asked_under vs k p n) (deep_in us k (p ++ (step n w ∷ [])) a v y m i j))
-      (λ m. has_right (asked_in us k (p ++ (step n w ∷ []))) (deep-under vs k p n a v y m i j))
+      (λ m. has_right (asked_in us k (p ++ (step n w ∷ []))) (deep_under vs k p n a v y m i j))
 
 asked_spec : (gs : List Spec) {g : Spec} {x : Defined} → HasSpec gs g → HasDefinition g.definitions x → Has (way g.kind [] x) (asked gs)
 unfolding asked
@@ -162,9 +162,9 @@ module _ (gs : List Spec) (f : File) where
   abbrev Due : Kind → List Step → Defined → Type 0
   Due k p x = (u : Scope) → along (scope_of f k) p ≡ some u → Asks gs f x u
 
-  due-under : (k : Kind) (p : List Step) (x y : Defined) (v : Under) → HasValue x.values v → HasDefinition v.definitions y → Due k p x
+  due_under : (k : Kind) (p : List Step) (x y : Defined) (v : Under) → HasValue x.values v → HasDefinition v.definitions y → Due k p x
       → Due k (p ++ (step x.definition.name v.word ∷ [])) y
-  due-under k p x y v h j t u e =
+  due_under k p x y v h j t u e =
       let b = along_off (scope_of f k) p (step x.definition.name v.word) e in
       let n = into_off b.scope x.definition.name v.word b.enters in
       subst (Asks gs f y) n.scope-is (under (t b.scope b.leads) n.there h n.listed j)
@@ -172,36 +172,36 @@ module _ (gs : List Spec) (f : File) where
   mutual
     unfolding asked_in
 
-    in-due : (ds : Definitions) (k : Kind) (p : List Step) (a : Asked) → ((x : Defined) → HasDefinition ds x → Due k p x) → Has a (asked_in ds k p) → Due a.kind a.path a.wanted
-    in-due no_more k p a t h = absurd (has_none h refl)
-    in-due (define d vs ds) k p a t h =
+    in_due : (ds : Definitions) (k : Kind) (p : List Step) (a : Asked) → ((x : Defined) → HasDefinition ds x → Due k p x) → Has a (asked_in ds k p) → Due a.kind a.path a.wanted
+    in_due no_more k p a t h = absurd (has_none h refl)
+    in_due (define d vs ds) k p a t h =
         let x : Defined = record { definition = d; values = vs } in
         split_by (asked_under vs k p d.name) (way k p x ∷ asked_in ds k p) h
-        (λ m. under-due vs k p x a (t x this_definition) (λ v i. i) m)
+        (λ m. under_due vs k p x a (t x this_definition) (λ v i. i) m)
         (λ m. first_or m
         (λ e. subst (λ (b : Asked). Due b.kind b.path b.wanted) e (t x this_definition))
-        (λ n. in-due ds k p a (λ y i. t y (later_definition i)) n))
+        (λ n. in_due ds k p a (λ y i. t y (later_definition i)) n))
 
-    under-due : (vs : Values) (k : Kind) (p : List Step) (x : Defined) (a : Asked) → Due k p x → ((v : Under) → HasValue vs v → HasValue x.values v)
+    under_due : (vs : Values) (k : Kind) (p : List Step) (x : Defined) (a : Asked) → Due k p x → ((v : Under) → HasValue vs v → HasValue x.values v)
         → Has a (asked_under vs k p x.definition.name) → Due a.kind a.path a.wanted
-    under-due no_value k p x a t i h = absurd (has_none h refl)
-    under-due (value w e us vs) k p x a t i h =
+    under_due no_value k p x a t i h = absurd (has_none h refl)
+    under_due (value w e us vs) k p x a t i h =
         let v : Under = record { word = w; number = e; definitions = us } in
         split_by (asked_in us k (p ++ (step x.definition.name w ∷ []))) (asked_under vs k p x.definition.name) h
-        (λ m. in-due us k (p ++ (step x.definition.name w ∷ [])) a (λ y j. due-under k p x y v (i v this_value) j t) m)
-        (λ m. under-due vs k p x a t (λ z j. i z (later_value j)) m)
+        (λ m. in_due us k (p ++ (step x.definition.name w ∷ [])) a (λ y j. due_under k p x y v (i v this_value) j t) m)
+        (λ m. under_due vs k p x a t (λ z j. i z (later_value j)) m)
 
-  first-due : (g : Spec) (x : Defined) → HasSpec gs g → HasDefinition g.definitions x → Due g.kind [] x
+  first_due : (g : Spec) (x : Defined) → HasSpec gs g → HasDefinition g.definitions x → Due g.kind [] x
   unfolding along
-  first-due g x h i u e = subst (Asks gs f x) (some_is e) (of_kind h i)
+  first_due g x h i u e = subst (Asks gs f x) (some_is e) (of_kind h i)
 
-  spec-due : (hs : List Spec) → ((g : Spec) → HasSpec hs g → HasSpec gs g) → (a : Asked) → Has a (asked hs) → Due a.kind a.path a.wanted
+  spec_due : (hs : List Spec) → ((g : Spec) → HasSpec hs g → HasSpec gs g) → (a : Asked) → Has a (asked hs) → Due a.kind a.path a.wanted
   unfolding asked
-  spec-due [] t a h = absurd (has_none h refl)
-  spec-due (g ∷ hs) t a h =
+  spec_due [] t a h = absurd (has_none h refl)
+  spec_due (g ∷ hs) t a h =
       split_by (asked_in g.definitions g.kind []) (asked hs) h
-      (λ m. in-due g.definitions g.kind [] a (λ x i. first-due g x (t g this_spec) i) m)
-      (λ m. spec-due hs (λ x i. t x (later_spec i)) a m)
+      (λ m. in_due g.definitions g.kind [] a (λ x i. first_due g x (t g this_spec) i) m)
+      (λ m. spec_due hs (λ x i. t x (later_spec i)) a m)
 
   pub due : (a : Asked) → Has a (asked gs) → (u : Scope) → along (scope_of f a.kind) a.path ≡ some u → Asks gs f a.wanted u
-  due a h u e = spec-due gs (λ g i. i) a h u e
+  due a h u e = spec_due gs (λ g i. i) a h u e

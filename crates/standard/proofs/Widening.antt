@@ -11,7 +11,7 @@ use Rattle.token.specs.Find.{both}
 use Rattle.grammar.specs.Grammar.{Integer, UINT32, INT32, UINT64, INT64}
 use Rattle.meaning.specs.Syntax.{AttributeType, integer, string, boolean, enum, float, reference, Bounds, Definition, Values, no_value, value, Defined, File, is_enum}
 use Rattle.meaning.specs.Cells.{integer_code, type_code}
-use Rattle.meaning.proofs.Sites.{value-words}
+use Rattle.meaning.proofs.Sites.{value_words}
 use Rattle.layout.proofs.Codes.{kind_low}
 use Rattle.layout.specs.Kept.{kept_definitions, definition_cells, list_key}
 use Rattle.scopes.specs.Situations.{Situation, RowOf}
@@ -24,7 +24,7 @@ use Rattle.standard.specs.Asking.{has_list, within, wider}
 use Rattle.standard.specs.Choices.{has_extra}
 use Rattle.standard.specs.Spans.{WithinOneTwo}
 use Rattle.standard.specs.Findings.{Wider}
-use Rattle.standard.proofs.Choosing.{extra-is}
+use Rattle.standard.proofs.Choosing.{extra_is}
 use Rattle.standard.proofs.Types.{enum_coded, boolean_coded}
 
 -- Types by their codes -------------------------------------------------------------------------------------------------------------------------
@@ -45,8 +45,8 @@ ranged (an_enum t c r v) n e a b = absurd (let q = sym (ap type_code t) ∙ e in
 ranged (a_float t c r) n e a b = absurd (let q = sym (ap type_code t) ∙ e in omega (arith, q, b))
 ranged (a_reference k t c r) n e a b = absurd (let q = sym (ap type_code t) ∙ e in let l = kind_low k in omega (arith, q, a, l))
 
-list_there : (s : List ℕ) (vs : Values) → Goods s (value-words vs) → has_list vs ≡ not (eqb (list_key vs) 0)
-unfolding has_list list_key value-words
+list_there : (s : List ℕ) (vs : Values) → Goods s (value_words vs) → has_list vs ≡ not (eqb (list_key vs) 0)
+unfolding has_list list_key value_words
 list_there s no_value g = refl
 list_there s (value w e us vs) g = let l = g.0.later in sym (ap not (ne_eqb w.place 0 (λ z. omega (arith, l, z))))
 
@@ -57,15 +57,15 @@ module _ {s d : List ℕ} {f : File} {x : Defined} {j : ℕ} (st : Situation s f
   unfolding definition_cells
   key_cell = definition_cell f d j 14 (record { under = row.under; outer = row.outer; definition = x.definition; values = x.values }) hd row.nth l (omega arith)
 
-  range-cell : get_or d (j * 19 + 8) 0 ≡ x.definition.range.place
+  range_cell : get_or d (j * 19 + 8) 0 ≡ x.definition.range.place
   unfolding definition_cells
-  range-cell = definition_cell f d j 8 (record { under = row.under; outer = row.outer; definition = x.definition; values = x.values }) hd row.nth l (omega arith)
+  range_cell = definition_cell f d j 8 (record { under = row.under; outer = row.outer; definition = x.definition; values = x.values }) hd row.nth l (omega arith)
 
-  formed-row : Formed s x.definition x.values
-  formed-row = (entry_facts st (nth_in row.nth)).facts.formed
+  formed_row : Formed s x.definition x.values
+  formed_row = (entry_facts st (nth_in row.nth)).facts.formed
 
-  listed-row : has_list x.values ≡ not (eqb (get_or d (j * 19 + 14) 0) 0)
-  listed-row = list_there s x.values (entry_facts st (nth_in row.nth)).facts.values.good ∙ ap (λ n. not (eqb n 0)) (sym key_cell)
+  listed_row : has_list x.values ≡ not (eqb (get_or d (j * 19 + 14) 0) 0)
+  listed_row = list_there s x.values (entry_facts st (nth_in row.nth)).facts.values.good ∙ ap (λ n. not (eqb n 0)) (sym key_cell)
 
 -- The answers of `wider` -------------------------------------------------------------------------------------------------------------------------
 
@@ -89,35 +89,35 @@ module _ (g rs ws s d e : List ℕ) (m i j code first end key : ℕ) (q₁ : cod
       let w = enum_coded a.wanted.definition.type (sym (q₁ ∙ ri.type) ∙ c) in
       let v = enum_coded x.definition.type (sym tc ∙ sym (q₁ ∙ ri.type) ∙ c) in
       h ∙ ap (λ n. has_extra s e g ws first end n m) q₄ ∙ ap₂ (λ n o. has_extra s e g ws n o (get_or d (j * 19 + 14) 0) m) q₂ q₃
-      ∙ extra-is st hd he row l (rc x.values) (ap is_enum v) g ws (get_or rs (i * 14 + 12) 0) (get_or rs (i * 14 + 13) 0) a.wanted.values ri.words
+      ∙ extra_is st hd he row l (rc x.values) (ap is_enum v) g ws (get_or rs (i * 14 + 12) 0) (get_or rs (i * 14 + 13) 0) a.wanted.values ri.words
       ∙ sym (wider_as a.wanted.definition.bounds x.definition.bounds a.wanted.values x.values w)
 
   module _ (n₁ : code ≡ 41 → ⊥) where
-    pub no-list : code ≡ 40 → first ≡ end → Wider g rs ws s d e m i j false
+    pub no_list : code ≡ 40 → first ≡ end → Wider g rs ws s d e m i j false
     unfolding wider
-    no-list c z f x a st hd he row l rc ri tc =
+    no_list c z f x a st hd he row l rc ri tc =
         let w = boolean_coded a.wanted.definition.type (sym (q₁ ∙ ri.type) ∙ c) in
         sym (wider_as a.wanted.definition.bounds x.definition.bounds a.wanted.values x.values w
         ∙ ap (λ b. both b (not (has_list x.values))) (ri.listed ∙ ap not (eq-eqb (get_or rs (i * 14 + 12) 0) (get_or rs (i * 14 + 13) 0) (sym q₂ ∙ z ∙ q₃))))
 
-    a-list : code ≡ 40 → (first ≡ end → ⊥) → (r : Bool) → r ≡ eqb key 0 → Wider g rs ws s d e m i j r
+    a_list : code ≡ 40 → (first ≡ end → ⊥) → (r : Bool) → r ≡ eqb key 0 → Wider g rs ws s d e m i j r
     unfolding wider
-    a-list c z r h f x a st hd he row l rc ri tc =
+    a_list c z r h f x a st hd he row l rc ri tc =
         let w = boolean_coded a.wanted.definition.type (sym (q₁ ∙ ri.type) ∙ c) in
         h ∙ sym (twice (eqb key 0))
         ∙ sym (wider_as a.wanted.definition.bounds x.definition.bounds a.wanted.values x.values w
         ∙ ap₂ (λ b o. both b (not o)) (ri.listed ∙ ap not (ne_eqb (get_or rs (i * 14 + 12) 0) (get_or rs (i * 14 + 13) 0) (λ v. z (q₂ ∙ v ∙ sym q₃))))
-        (listed-row st hd row l ∙ ap (λ n. not (eqb n 0)) (sym q₄)))
+        (listed_row st hd row l ∙ ap (λ n. not (eqb n 0)) (sym q₄)))
       where
         twice : (b : Bool) → not (not b) ≡ b
         twice true = refl
         twice false = refl
 
-    pub list-missing : code ≡ 40 → (first ≡ end → ⊥) → key ≡ 0 → Wider g rs ws s d e m i j true
-    list-missing c z y f x a st hd he row l rc ri tc = a-list c z true (sym (eq-eqb key 0 y)) f x a st hd he row l rc ri tc
+    pub list_missing : code ≡ 40 → (first ≡ end → ⊥) → key ≡ 0 → Wider g rs ws s d e m i j true
+    list_missing c z y f x a st hd he row l rc ri tc = a_list c z true (sym (eq-eqb key 0 y)) f x a st hd he row l rc ri tc
 
-    pub list-given : code ≡ 40 → (first ≡ end → ⊥) → (key ≡ 0 → ⊥) → Wider g rs ws s d e m i j false
-    list-given c z y f x a st hd he row l rc ri tc = a-list c z false (sym (ne_eqb key 0 y)) f x a st hd he row l rc ri tc
+    pub list_given : code ≡ 40 → (first ≡ end → ⊥) → (key ≡ 0 → ⊥) → Wider g rs ws s d e m i j false
+    list_given c z y f x a st hd he row l rc ri tc = a_list c z false (sym (ne_eqb key 0 y)) f x a st hd he row l rc ri tc
 
     module _ (n₂ : code ≡ 40 → ⊥) (u : ℕ) (q₅ : u ≡ get_or rs (i * 14 + 11) 0) where
       pub unrestricted : u ≡ 0 → Wider g rs ws s d e m i j false
@@ -125,14 +125,14 @@ module _ (g rs ws s d e : List ℕ) (m i j code first end key : ℕ) (q₁ : cod
           sym (not_whole a.wanted.definition.type a.wanted.definition.bounds x.definition.bounds a.wanted.values x.values
           (λ v. n₁ (q₁ ∙ ri.type ∙ v)) (λ v. n₂ (q₁ ∙ ri.type ∙ v)) (λ k. ri.free (sym q₅ ∙ z) k x.definition.bounds))
 
-      pub restricted-to : (u ≡ 0 → ⊥) → (p : ℕ) (r : Bool) → p ≡ get_or d (j * 19 + 8) 0 → WithinOneTwo s p r → Wider g rs ws s d e m i j (not r)
+      pub restricted_to : (u ≡ 0 → ⊥) → (p : ℕ) (r : Bool) → p ≡ get_or d (j * 19 + 8) 0 → WithinOneTwo s p r → Wider g rs ws s d e m i j (not r)
       unfolding wider type_code
-      restricted-to z p r o h f x a st hd he row l rc ri tc =
+      restricted_to z p r o h f x a st hd he row l rc ri tc =
           let R = ri.restricted (λ v. z (q₅ ∙ v)) in
           let b = integer_bounds R.width in
           let b₀ = b.0 in
           let b₁ = b.1 in
           let c : type_code x.definition.type ≡ integer_code R.width = sym tc ∙ ap type_code R.type in
-          let t = ranged (formed-row st hd row l) (integer_code R.width) c b₀ b₁ in
-          ap not (h x.definition.bounds (subst (λ n. RangeAt s n x.definition.bounds) (sym (o ∙ range-cell st hd row l)) t) ∙ sym (R.within-is x.definition.bounds))
+          let t = ranged (formed_row st hd row l) (integer_code R.width) c b₀ b₁ in
+          ap not (h x.definition.bounds (subst (λ n. RangeAt s n x.definition.bounds) (sym (o ∙ range_cell st hd row l)) t) ∙ sym (R.within-is x.definition.bounds))
           ∙ sym (wider_as a.wanted.definition.bounds x.definition.bounds a.wanted.values x.values R.type)

@@ -8,7 +8,7 @@ use Rattle.standard.specs.Asking.{Step, Scope, into}
 
 -- The scope that is entered is that of the word at a place; 0 where nothing is asked.
 pub data Entered (f : File) : Option Scope → ℕ → Type 0 where
-  nothing-asked : Entered f none 0
+  nothing_asked : Entered f none 0
   entered : {u : Scope} {p : ℕ} → u.word.place ≡ p → Stands f.specs u.word u.definitions → Entered f (some u) p
 
 -- From the scope of the word at key, by the attribute and the value with the bytes a and b.

@@ -30,7 +30,7 @@ pub record Knows (s d e : List ℕ) (x : Known) (f : File) : Type 0 where
   pub definitions : x.definitions ≡ length (spec_entries f.specs)
   pub enumerators : x.enumerators ≡ length (spec_choices f.specs)
   pub definitions_fit : x.definitions ≤ 512
-  pub enumerators-fit : x.enumerators ≤ 1024
+  pub enumerators_fit : x.enumerators ≤ 1024
   pub name : x.name ≡ f.implementation_name.place
   pub named : 0 < x.name
   pub places : Places f x.places
@@ -38,7 +38,7 @@ pub record Knows (s d e : List ℕ) (x : Known) (f : File) : Type 0 where
 -- The step that leads down by the cells of row i, if any.
 pub data PathIs (g rs : List ℕ) (i : ℕ) : List Step → Type 0 where
   no_step : get_or rs (i * 14 + 8) 0 ≡ 0 → PathIs g rs i []
-  one-step : {p : Step} → (get_or rs (i * 14 + 8) 0 ≡ 0 → ⊥) → p.attribute.bytes ≡ part_of g (get_or rs (i * 14 + 7) 0) (get_or rs (i * 14 + 8) 0)
+  one_step : {p : Step} → (get_or rs (i * 14 + 8) 0 ≡ 0 → ⊥) → p.attribute.bytes ≡ part_of g (get_or rs (i * 14 + 7) 0) (get_or rs (i * 14 + 8) 0)
       → p.value.bytes ≡ part_of g (get_or rs (i * 14 + 9) 0) (get_or rs (i * 14 + 10) 0) → PathIs g rs i (p ∷ [])
 
 -- An integer attribute that takes 1 and 2.

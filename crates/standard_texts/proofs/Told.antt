@@ -18,7 +18,7 @@ use Rattle.lent_texts.specs.declared.Expanded.{Expanded}
 use Rattle.lent_texts.specs.declared.Refusal.{Refusal}
 use Rattle.lent_texts.specs.declared.Lent.{Lent}
 use Rattle.lent_texts.specs.declared.Lent.TheVariants.{Stopped, Text}
-use Rattle.lent_texts.proofs.Told.{AtOnce, by-1, by-30, at_once, There, there, answered_refused, answered_accepted}
+use Rattle.lent_texts.proofs.Told.{AtOnce, by_1, by_30, at_once, There, there, answered_refused, answered_accepted}
 use Rattle.standard_texts.specs.Checking.{placed_checked, ChecksTexts, told_in, ChecksExpanded}
 use Rattle.standard_texts.specs.Checking as specs
 
@@ -28,23 +28,23 @@ pub refuses_expanded : {s g : List ℕ} {e : Expanded} {a : Checked} {n q : ℕ}
     ChecksExpanded s g e (c.Refused r.number r.place)
 unfolding told_in
 refuses_expanded {g = g} {e = e} {a = a} h i j =
-    record { in-expanded = a; rules = h; told = ap (λ (y : Refusal). c.Refused y.number y.place) j ∙ ap (told_in g e) (sym i) }
+    record { in_expanded = a; rules = h; told = ap (λ (y : Refusal). c.Refused y.number y.place) j ∙ ap (told_in g e) (sym i) }
 
 pub nothing_expanded : {s g : List ℕ} {e : Expanded} {a : Checked} → ChecksByRules s a → a ≡ c.NothingWrong → ChecksExpanded s g e c.NothingWrong
 unfolding told_in
-nothing_expanded {g = g} {e = e} {a = a} h i = record { in-expanded = a; rules = h; told = ap (told_in g e) (sym i) }
+nothing_expanded {g = g} {e = e} {a = a} h i = record { in_expanded = a; rules = h; told = ap (told_in g e) (sym i) }
 
 pub wrong_expanded : {s g : List ℕ} {e : Expanded} {a : Checked} {n q k q' : ℕ} → ChecksByRules s a → a ≡ c.Wrong n q k → q' ≡ place_in g e.length e.main q →
     ChecksExpanded s g e (c.Wrong n q' k)
 unfolding told_in
 wrong_expanded {g = g} {e = e} {a = a} {n} {q} {k} h i j =
-    record { in-expanded = a; rules = h; told = ap (λ (y : ℕ). c.Wrong n y k) j ∙ ap (told_in g e) (sym i) }
+    record { in_expanded = a; rules = h; told = ap (λ (y : ℕ). c.Wrong n y k) j ∙ ap (told_in g e) (sym i) }
 
 -- ---- the public call
 
 once : {b l x g x' g' : List ℕ} (n : ℕ) → AtOnce b l x g x' g' n → ChecksTexts b l x g x' g' (c.Refused n 0)
-once n (by-1 h i j k) = specs.short-rooms h (ap (λ (o : ℕ). c.Refused o 0) i) j k
-once n (by-30 h i _ k f) = specs.refuses h f 30 0 k (ap (λ (o : ℕ). c.Refused o 0) i)
+once n (by_1 h i j k) = specs.short-rooms h (ap (λ (o : ℕ). c.Refused o 0) i) j k
+once n (by_30 h i _ k f) = specs.refuses h f 30 0 k (ap (λ (o : ℕ). c.Refused o 0) i)
 
 pub stopped_checks : {b l x g x' g' : List ℕ} {r : Lent} (n : ℕ) → ExpandsTexts b l x g x' g' r → r ≡ Stopped n → ChecksTexts b l x g x' g' (c.Refused n 0)
 stopped_checks n u q = once n (at_once n u q)

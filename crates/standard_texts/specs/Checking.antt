@@ -23,7 +23,7 @@ placed_checked f (c.Wrong n q a) = c.Wrong n (f q) a
 -- what is returned.
 pub data ChecksTexts (b l x g x' g' : List ℕ) (r : Checked) : Type 0 where
   -- 1, "lent tables too short", at 0. "Refusal 1 changes nothing."
-  short-rooms : (Rooms x g → ⊥) → r ≡ c.Refused 1 0 → x' ≡ x → g' ≡ g → ChecksTexts b l x g x' g' r
+  short_rooms : (Rooms x g → ⊥) → r ≡ c.Refused 1 0 → x' ≡ x → g' ≡ g → ChecksTexts b l x g x' g' r
   -- "another gives its refusal"
   refuses : Rooms x g → Filled b l x g x' g' → (n q : ℕ) → TheAnswer b l (refused n q) → r ≡ c.Refused n q → ChecksTexts b l x g x' g' r
   -- "a question over an accepted text": "leftmost is by expanded order"
@@ -40,6 +40,6 @@ told_in g e c.NothingWrong = c.NothingWrong
 told_in g e (c.Wrong n q a) = c.Wrong n (place_in g e.length e.main q) a
 
 pub record ChecksExpanded (s g : List ℕ) (e : Expanded) (r : Checked) : Type 0 where
-  pub in-expanded : Checked
-  pub rules : ChecksByRules s in-expanded
-  pub told : r ≡ told_in g e in-expanded
+  pub in_expanded : Checked
+  pub rules : ChecksByRules s in_expanded
+  pub told : r ≡ told_in g e in_expanded

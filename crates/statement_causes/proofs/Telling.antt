@@ -26,7 +26,7 @@ use Rattle.rows.specs.Search.{find_row, find_from, has_key}
 use Rattle.rows.specs.Order.{is_fault}
 use Rattle.rows.proofs.Orders.{is_one, is_none}
 use Rattle.rows.proofs.Walks.{first as first_row, any_of}
-use Rattle.rows.proofs.Searches.{first_is, first-nothing as no_row}
+use Rattle.rows.proofs.Searches.{first_is, first_nothing as no_row}
 use Rattle.meaning.specs.Merging.{then}
 use Rattle.meaning.specs.Syntax.{Word, Defined, Statements, done, state, Object, File, statements_in}
 use Rattle.meaning.specs.Words.{alike, choose}
@@ -40,13 +40,13 @@ use Rattle.meaning.specs.Reading.{Parsed, parsed, not_parsed, after_grammar, par
 use Rattle.meaning.proofs.Found.{run_answers, parse_derived}
 use Rattle.layout.specs.Kept.{Entry, definition_cells, statement_cells}
 use Rattle.blocks.specs.Blocks.{BlockAt, first_stated, FindsStated}
-use Rattle.blocks.proofs.Ranges.{first_cell, first-name, rest_at, back_at}
+use Rattle.blocks.proofs.Ranges.{first_cell, first_name, rest_at, back_at}
 use Rattle.scopes.specs.Situations.{ScopeAt}
 use Rattle.scopes.specs.Given.{Given, Attribute as AttributeAt, Places}
 use Rattle.scopes.specs.Promises.{FindsDefinition}
 use Rattle.scopes.specs.declared.Sizes.{Sizes}
 use Rattle.scopes.proofs.Rooms.{definition_cell}
-use Rattle.scopes.proofs.Finding.{seek-all}
+use Rattle.scopes.proofs.Finding.{seek_all}
 use Rattle.lookups.specs.Names.{Names}
 use Rattle.lookups.proofs.Attributes.{known, kept_object}
 use Rattle.judging.proofs.Judgements.{row_nothing, row_found_as, looked_up, stated_as}
@@ -55,8 +55,8 @@ use Rattle.reading.specs.declared.Decision.{Decision}
 use Rattle.reading.proofs.Settling.{given, places}
 use Rattle.reading.proofs.Derived.{Derived}
 use Rattle.statement_causes.specs.Sites.{Site, site_of, site_at, attribute_of, first_place, first_of}
-use Rattle.statement_causes.specs.Tellings.{Defines, AttributeIs, no-attribute, an-attribute, ScopeIs, no-site, a-site, object_at, owner_by, owner_at, MissingAt, an-owner, ToldOf, Tells}
-use Rattle.statement_causes.specs.Promises.{Looked, SpotAt, SpotIs, no-spot, a-spot, SeeksAll, RowTold, TellsAttribute, TellsFirst, MissesObject, MissesInside, MissesAt, TellsRows, TellsKept}
+use Rattle.statement_causes.specs.Tellings.{Defines, AttributeIs, no_attribute, an_attribute, ScopeIs, no_site, a_site, object_at, owner_by, owner_at, MissingAt, an_owner, ToldOf, Tells}
+use Rattle.statement_causes.specs.Promises.{Looked, SpotAt, SpotIs, no_spot, a_spot, SeeksAll, RowTold, TellsAttribute, TellsFirst, MissesObject, MissesInside, MissesAt, TellsRows, TellsKept}
 use Rattle.statement_causes.specs.declared.Spot.{Spot}
 use Rattle.statement_causes.specs.declared.Attribute.{Attribute}
 use Rattle.statement_causes.specs.declared.Told.{Told}
@@ -72,11 +72,11 @@ defines {d = d} {f = f} {j} {x} c a t =
     record {
       found = t.found;
       name_place = t.name-place ∙ cell 2 (omega arith);
-      name-length = t.name-length ∙ cell 3 (omega arith);
-      type-place = t.type-place ∙ cell 4 (omega arith);
-      type-length = t.type-length ∙ cell 5 (omega arith);
+      name_length = t.name-length ∙ cell 3 (omega arith);
+      type_place = t.type-place ∙ cell 4 (omega arith);
+      type_length = t.type-length ∙ cell 5 (omega arith);
       type_code = t.type-code ∙ cell 12 (omega arith);
-      range-place = t.range-place ∙ cell 8 (omega arith);
+      range_place = t.range-place ∙ cell 8 (omega arith);
       range_length = t.range_length ∙ cell 9 (omega arith);
       auto = t.auto ∙ cell 7 (omega arith);
     }
@@ -88,26 +88,26 @@ own_block {s} {st} {t = t} {q} y =
     subst (λ u. BlockAt s st u t.end ss) (sym y.row) (back_at q.before ss y.block)
 
 module _ (s d e st : List ℕ) (z : Sizes) (t : Spot) (r : Attribute) where
-  pub attribute-none : t.found ≡ false → r.found ≡ false → TellsAttribute s d e st z t r
+  pub attribute_none : t.found ≡ false → r.found ≡ false → TellsAttribute s d e st z t r
   unfolding attribute_of
-  attribute-none h l o f none c (no-spot y) = no-attribute l
-  attribute-none h l o f (some q) c (a-spot y) = absurd (false≢true (sym h ∙ y.found))
+  attribute_none h l o f none c (no_spot y) = no_attribute l
+  attribute_none h l o f (some q) c (a_spot y) = absurd (false≢true (sym h ∙ y.found))
 
   module _ (h : t.found ≡ true) (name size : ℕ) (pn : name ≡ get_or st (t.row * 7 + 0) 0) (ps : size ≡ get_or st (t.row * 7 + 1) 0) where
-    pub attribute-undefined : FindsDefinition s d z.definitions t.key name size Nothing → r.found ≡ false → TellsAttribute s d e st z t r
+    pub attribute_undefined : FindsDefinition s d z.definitions t.key name size Nothing → r.found ≡ false → TellsAttribute s d e st z t r
     unfolding attribute_of
-    attribute-undefined g l o f none c (no-spot y) = no-attribute l
-    attribute-undefined g l o f (some q) c (a-spot y) =
+    attribute_undefined g l o f none c (no_spot y) = no_attribute l
+    attribute_undefined g l o f (some q) c (a_spot y) =
         let i = row_nothing (find_definition q.scope q.statement.name) (looked_up Nothing pn ps c y.scope (own_block y) g) in
-        subst (AttributeIs r) (sym i) (no-attribute l)
+        subst (AttributeIs r) (sym i) (no_attribute l)
 
-    pub attribute-defined : (j : ℕ) → FindsDefinition s d z.definitions t.key name size (At j) → RowTold d j r → TellsAttribute s d e st z t r
+    pub attribute_defined : (j : ℕ) → FindsDefinition s d z.definitions t.key name size (At j) → RowTold d j r → TellsAttribute s d e st z t r
     unfolding attribute_of stated_as
-    attribute-defined j g l o f none c (no-spot y) = absurd (false≢true (sym y ∙ h))
-    attribute-defined j g l o f (some q) c (a-spot y) =
+    attribute_defined j g l o f none c (no_spot y) = absurd (false≢true (sym y ∙ h))
+    attribute_defined j g l o f (some q) c (a_spot y) =
         let i = row_found_as (find_definition q.scope q.statement.name) j (looked_up (At j) pn ps c y.scope (own_block y) g) in
         let a = stated_as j i.defined c y.scope (own_block y) i.is i.row in
-        subst (AttributeIs r) (sym i.is) (an-attribute (defines c a.attribute l))
+        subst (AttributeIs r) (sym i.is) (an_attribute (defines c a.attribute l))
 
 -- The first statement -------------------------------------------------------------------------------------------------------------------------
 
@@ -128,8 +128,8 @@ place_by {s} {st} (state x inside rest) m e t b = by (alike t x.name) (place_by 
 module _ (s st : List ℕ) (t : Spot) where
   pub first_none : t.found ≡ false → TellsFirst s st t 0
   unfolding first_of
-  first_none h f none (no-spot y) = refl
-  first_none h f (some q) (a-spot y) = absurd (false≢true (sym h ∙ y.found))
+  first_none h f none (no_spot y) = refl
+  first_none h f (some q) (a_spot y) = absurd (false≢true (sym h ∙ y.found))
 
   module _ (h : t.found ≡ true) (name size : ℕ) (pn : name ≡ get_or st (t.row * 7 + 0) 0) (ps : size ≡ get_or st (t.row * 7 + 1) 0) (r : Found)
       (g : FindsStated s st t.from t.end name size r) where
@@ -139,18 +139,18 @@ module _ (s st : List ℕ) (t : Spot) where
         let ss = then q.before (state q.statement q.inside q.rest) in
         let b = own_block y in
         let n : q.statement.name.bytes ≡ part_of s name size =
-        (first-name b).bytes ∙ sym (ap₂ (part_of s) (pn ∙ first_cell b 0 (omega arith)) (ps ∙ first_cell b 1 (omega arith))) in
+        (first_name b).bytes ∙ sym (ap₂ (part_of s) (pn ∙ first_cell b 0 (omega arith)) (ps ∙ first_cell b 1 (omega arith))) in
         ap (place_of st) (g ss q.statement.name y.block n) ∙ place_by ss t.from t.end q.statement.name y.block
 
-    pub first-nothing : r ≡ Nothing → TellsFirst s st t 0
+    pub first_nothing : r ≡ Nothing → TellsFirst s st t 0
     unfolding place_of
-    first-nothing i f none (no-spot y) = absurd (false≢true (sym y ∙ h))
-    first-nothing i f (some q) (a-spot y) = sym (ap (place_of st) i) ∙ first_by f q y
+    first_nothing i f none (no_spot y) = absurd (false≢true (sym y ∙ h))
+    first_nothing i f (some q) (a_spot y) = sym (ap (place_of st) i) ∙ first_by f q y
 
     pub first_found : (k p : ℕ) → r ≡ At k → p ≡ get_or st (k * 7 + 0) 0 → TellsFirst s st t p
     unfolding place_of
-    first_found k p i l f none (no-spot y) = absurd (false≢true (sym y ∙ h))
-    first_found k p i l f (some q) (a-spot y) = l ∙ sym (ap (place_of st) i) ∙ first_by f q y
+    first_found k p i l f none (no_spot y) = absurd (false≢true (sym y ∙ h))
+    first_found k p i l f (some q) (a_spot y) = l ∙ sym (ap (place_of st) i) ∙ first_by f q y
 
 -- The owner -----------------------------------------------------------------------------------------------------------------------------------
 
@@ -174,29 +174,29 @@ row_at : {s d e o st : List ℕ} {z : Sizes} {f : File} (p : ℕ) → Given s d 
 unfolding find_row has_key named_at
 row_at {o = o} {f = f} p c =
     ap (λ (m : ℕ). find_from (λ j. has_key o (j * 10) 3 p) m 0) c.tables.objects
-    ∙ seek-all (named_at p) (λ j. has_key o (j * 10) 3 p) f.objects (λ a x b g. ap (λ (i : ℕ). eqb i p) (kept_object a x b c g refl).name)
+    ∙ seek_all (named_at p) (λ j. has_key o (j * 10) 3 p) f.objects (λ a x b g. ap (λ (i : ℕ). eqb i p) (kept_object a x b c g refl).name)
 
 module _ (s d e o st : List ℕ) (z : Sizes) (ps : List ℕ) (t : Spot) (p r : ℕ) where
-  pub owner-object : (i : ℕ) → find_row o 10 z.objects 3 p 0 ≡ At i → MissesObject s d e o st z ps i r → MissesAt s d e o st z ps t p r
+  pub owner_object : (i : ℕ) → find_row o 10 z.objects 3 p 0 ≡ At i → MissesObject s d e o st z ps i r → MissesAt s d e o st z ps t p r
   unfolding owner_at owner_by
-  owner-object i g w f c pl q =
+  owner_object i g w f c pl q =
       let y = first_is (named_at p) 0 f.objects i (sym (row_at p c) ∙ g) in
       let pl₁ = y.place in
       let h = ap (object_at p) y.whole ∙ object_hit p y.front y.row y.rest y.fails y.holds in
       let l : length y.front ≡ i = omega (arith, pl₁) in
-      subst (λ x. MissingAt r (owner_by f x (site_at f p))) (sym h) (an-owner (w f y.front y.row y.rest c pl y.whole l))
+      subst (λ x. MissingAt r (owner_by f x (site_at f p))) (sym h) (an_owner (w f y.front y.row y.rest c pl y.whole l))
 
-  pub owner-value : find_row o 10 z.objects 3 p 0 ≡ Nothing → MissesInside s d e st z t r → MissesAt s d e o st z ps t p r
+  pub owner_value : find_row o 10 z.objects 3 p 0 ≡ Nothing → MissesInside s d e st z t r → MissesAt s d e o st z ps t p r
   unfolding owner_at owner_by
-  owner-value g w f c pl q =
+  owner_value g w f c pl q =
       let h = object_none p f.objects (no_row (named_at p) 0 f.objects (sym (row_at p c) ∙ g)) in
       subst (λ x. MissingAt r (owner_by f x (site_at f p))) (sym h) (w o f (site_at f p) c q)
 
 -- The whole -----------------------------------------------------------------------------------------------------------------------------------
 
 scope_is : {s st : List ℕ} {f : File} {t : Spot} {q : Option Site} → SpotIs s st f t q → ScopeIs f t.key q
-scope_is (no-spot y) = no-site
-scope_is (a-spot y) = a-site y.scope
+scope_is (no_spot y) = no_site
+scope_is (a_spot y) = a_site y.scope
 
 pub tells_rows : (s d e o st : List ℕ) (z : Sizes) (ps : List ℕ) (p : ℕ) (t : Spot) (a : Attribute) (i m : ℕ) → SeeksAll s d e o st z ps p t → TellsAttribute s d e st z t a
     → TellsFirst s st t i → MissesAt s d e o st z ps t p m → TellsRows s d e o st z ps p (record { scope = t.key; attribute = a; first = i; missing = m })
@@ -210,17 +210,17 @@ looked n a b c = let m = n.named (record { definitions = a; enumerators = b; obj
 
 module _ {s : List ℕ} {y : Merged} {w : Decision} (z : Sizes) (p : ℕ) (r : Told) (a : z.definitions ≡ w.walked.definitions) (b : z.enumerators ≡ w.walked.enumerators)
     (c : z.objects ≡ w.objects) where
-  pub tells-kept : TellsRows s y.definitions y.enumerators y.objects y.statements z w.walked.places p r → TellsKept s y w p r
-  tells-kept h t = h t.file (given t.kept t.no-definition-fault t.no-object-fault z a b c) (places t.kept)
+  pub tells_kept : TellsRows s y.definitions y.enumerators y.objects y.statements z w.walked.places p r → TellsKept s y w p r
+  tells_kept h t = h t.file (given t.kept t.no-definition-fault t.no-object-fault z a b c) (places t.kept)
 
-  pub kept-few-definitions : 512 < z.definitions → TellsKept s y w p r
-  kept-few-definitions h t = let l = (given t.kept t.no-definition-fault t.no-object-fault z a b c).tables.definitions-fit in absurd (omega (arith, h, l))
+  pub kept_few_definitions : 512 < z.definitions → TellsKept s y w p r
+  kept_few_definitions h t = let l = (given t.kept t.no-definition-fault t.no-object-fault z a b c).tables.definitions-fit in absurd (omega (arith, h, l))
 
-  pub kept-few-enumerators : 1024 < z.enumerators → TellsKept s y w p r
-  kept-few-enumerators h t = let l = (given t.kept t.no-definition-fault t.no-object-fault z a b c).tables.enumerators-fit in absurd (omega (arith, h, l))
+  pub kept_few_enumerators : 1024 < z.enumerators → TellsKept s y w p r
+  kept_few_enumerators h t = let l = (given t.kept t.no-definition-fault t.no-object-fault z a b c).tables.enumerators-fit in absurd (omega (arith, h, l))
 
-  pub kept-few-objects : 256 < z.objects → TellsKept s y w p r
-  kept-few-objects h t = let l = (given t.kept t.no-definition-fault t.no-object-fault z a b c).tables.objects-fit in absurd (omega (arith, h, l))
+  pub kept_few_objects : 256 < z.objects → TellsKept s y w p r
+  kept_few_objects h t = let l = (given t.kept t.no-definition-fault t.no-object-fault z a b c).tables.objects-fit in absurd (omega (arith, h, l))
 
 -- What is parsed is derived.
 not_parsed_here : {A : Type 0} {n p : ℕ} {f : File} → ◌≡◌ {A = Parsed} (not_parsed n p) (parsed f) → A
@@ -245,29 +245,29 @@ module _ (s : List ℕ) (f : File) (e : parse s ≡ parsed f) where
   by_length true h i = not_parsed_here i
   by_length false h i = by_stage (ltb-false 65535 (length s) h) _ (run_answers s) i
 
-  parsed-derived : Derived s
+  parsed_derived : Derived s
   unfolding parse
-  parsed-derived = by_length (ltb 65535 (length s)) refl e
+  parsed_derived = by_length (ltb 65535 (length s)) refl e
 
-  own-syntax : (d : Derivation (tokens s)) → f ≡ syntax s d.tree
-  own-syntax d = same_file (sym e ∙ parse_derived s parsed-derived.covered d)
+  own_syntax : (d : Derivation (tokens s)) → f ≡ syntax s d.tree
+  own_syntax d = same_file (sym e ∙ parse_derived s parsed_derived.covered d)
 
-  no-stage-fault : first (definition_faults f) ≡ none → first (object_faults f) ≡ none → stage_fault f ≡ none
+  no_stage_fault : first (definition_faults f) ≡ none → first (object_faults f) ≡ none → stage_fault f ≡ none
   unfolding stage_fault or_else
-  no-stage-fault h k = ap₂ or_else h k
+  no_stage_fault h k = ap₂ or_else h k
 
 pub tells_long : (s : List ℕ) (p : ℕ) (r : Told) → 65535 < length s → Tells s p r
 tells_long s p r h l f e a b = absurd (omega (arith, h, l))
 
 module _ {s : List ℕ} {y : Merged} {w : Decision} (p : ℕ) (r : Told) (h : Decides s (replicate 9747 0) (replicate 3075 0) (replicate 2570 0) (replicate 14343 0) y w) where
-  pub tells-refused : is_fault w.fault ≡ true → Tells s p r
-  tells-refused i l f e a b =
+  pub tells_refused : is_fault w.fault ≡ true → Tells s p r
+  tells_refused i l f e a b =
       let d = h.decided l refl refl refl refl in
-      let t = parsed-derived s f e in
-      absurd (d.stopped (is_one w.fault i) t.covered t.derivation (ap stage_fault (sym (own-syntax s f e t.derivation)) ∙ no-stage-fault s f e a b))
+      let t = parsed_derived s f e in
+      absurd (d.stopped (is_one w.fault i) t.covered t.derivation (ap stage_fault (sym (own_syntax s f e t.derivation)) ∙ no_stage_fault s f e a b))
 
-  pub tells-passed : is_fault w.fault ≡ false → TellsKept s y w p r → Tells s p r
-  tells-passed i k l f e a b =
+  pub tells_passed : is_fault w.fault ≡ false → TellsKept s y w p r → Tells s p r
+  tells_passed i k l f e a b =
       let t = (h.decided l refl refl refl refl).passes (is_none w.fault i) in
-      let g : f ≡ t.file = own-syntax s f e t.kept.situation.derivation ∙ sym t.kept.situation.syntax-of in
+      let g : f ≡ t.file = own_syntax s f e t.kept.situation.derivation ∙ sym t.kept.situation.syntax-of in
       subst (λ (q : File). ToldOf q p r) (sym g) (k t)

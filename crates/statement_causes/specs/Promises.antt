@@ -43,8 +43,8 @@ pub record SpotAt (s st : List ℕ) (f : File) (r : Spot) (q : Site) : Type 0 wh
   pub row : r.row ≡ r.from + statements_in q.before
 
 pub data SpotIs (s st : List ℕ) (f : File) (r : Spot) : Option Site → Type 0 where
-  no-spot : r.found ≡ false → SpotIs s st f r none
-  a-spot : {q : Site} → SpotAt s st f r q → SpotIs s st f r (some q)
+  no_spot : r.found ≡ false → SpotIs s st f r none
+  a_spot : {q : Site} → SpotAt s st f r q → SpotIs s st f r (some q)
 
 -- The statement of a block, or of one in its braces, that is touched at p.
 abbrev pub Seeks : (s d e st : List ℕ) → Sizes → (key m n p : ℕ) → Spot → Type 0
@@ -67,11 +67,11 @@ SeeksAll s d e o st z ps p r = (f : File) → Given s d e o st z f → Places f 
 pub record RowTold (d : List ℕ) (j : ℕ) (r : Attribute) : Type 0 where
   pub found : r.found ≡ true
   pub name_place : r.name ≡ get_or d (j * 19 + 2) 0
-  pub name-length : r.name_len ≡ get_or d (j * 19 + 3) 0
-  pub type-place : r.word ≡ get_or d (j * 19 + 4) 0
-  pub type-length : r.word_len ≡ get_or d (j * 19 + 5) 0
+  pub name_length : r.name_len ≡ get_or d (j * 19 + 3) 0
+  pub type_place : r.word ≡ get_or d (j * 19 + 4) 0
+  pub type_length : r.word_len ≡ get_or d (j * 19 + 5) 0
   pub type_code : r.code ≡ get_or d (j * 19 + 12) 0
-  pub range-place : r.range ≡ get_or d (j * 19 + 8) 0
+  pub range_place : r.range ≡ get_or d (j * 19 + 8) 0
   pub range_length : r.range_len ≡ get_or d (j * 19 + 9) 0
   pub auto : r.auto ≡ get_or d (j * 19 + 7) 0
 

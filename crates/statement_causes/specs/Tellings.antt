@@ -22,22 +22,22 @@ use Rattle.statement_causes.specs.declared.Told.{Told}
 pub record Defines (x : Defined) (r : Attribute) : Type 0 where
   pub found : r.found ≡ true
   pub name_place : r.name ≡ x.definition.name.place
-  pub name-length : r.name_len ≡ x.definition.name.length
-  pub type-place : r.word ≡ x.definition.word.place
-  pub type-length : r.word_len ≡ x.definition.word.length
+  pub name_length : r.name_len ≡ x.definition.name.length
+  pub type_place : r.word ≡ x.definition.word.place
+  pub type_length : r.word_len ≡ x.definition.word.length
   pub type_code : r.code ≡ code_of x.definition.word
-  pub range-place : r.range ≡ x.definition.range.place
+  pub range_place : r.range ≡ x.definition.range.place
   pub range_length : r.range_len ≡ x.definition.range.length
   pub auto : r.auto ≡ bit x.definition.auto
 
 pub data AttributeIs (r : Attribute) : Option Defined → Type 0 where
-  no-attribute : r.found ≡ false → AttributeIs r none
-  an-attribute : {x : Defined} → Defines x r → AttributeIs r (some x)
+  no_attribute : r.found ≡ false → AttributeIs r none
+  an_attribute : {x : Defined} → Defines x r → AttributeIs r (some x)
 
 -- The word at the place k is that of the statement's scope: a kind's, or a value's; 0 where it has no scope.
 pub data ScopeIs (f : File) (k : ℕ) : Option Site → Type 0 where
-  no-site : ScopeIs f k none
-  a-site : {q : Site} → ScopeAt f k q.scope → ScopeIs f k (some q)
+  no_site : ScopeIs f k none
+  a_site : {q : Site} → ScopeAt f k q.scope → ScopeIs f k (some q)
 
 -- What the owner there lacks ------------------------------------------------------------------------------------------------------------------
 
@@ -74,8 +74,8 @@ unfoldable pub owner_at : File → ℕ → Option Owner
 owner_at f p = owner_by f (object_at p f.objects) (site_at f p)
 
 pub data MissingAt (r : ℕ) : Option Owner → Type 0 where
-  no-owner : r ≡ 0 → MissingAt r none
-  an-owner : {o : Owner} → Missing o.scope o.stated r → MissingAt r (some o)
+  no_owner : r ≡ 0 → MissingAt r none
+  an_owner : {o : Owner} → Missing o.scope o.stated r → MissingAt r (some o)
 
 -- All of it -----------------------------------------------------------------------------------------------------------------------------------
 

@@ -15,10 +15,10 @@ module _ {w w₁ w₂ w' : List ℕ} {r : Reading} (x : w₁ ≡ sets w 1 (sizes
     cells = z ∙ (ap (λ l. sets l 0 (place_of a ∷ [])) (y ∙ ap (λ l. sets l 5 r.counts) x) ∙ ap (λ b. sets (sets (sets w 1 (sizes r)) 5 r.counts) 0 (place_of b ∷ [])) (sym i));
   }
 
-  pub tells-accepted : r.answer ≡ Accepted → w' ≡ sets w₂ 0 (0 ∷ []) → ReadingTold r w w' 0
+  pub tells_accepted : r.answer ≡ Accepted → w' ≡ sets w₂ 0 (0 ∷ []) → ReadingTold r w w' 0
   unfolding number_of place_of
-  tells-accepted = telling Accepted
+  tells_accepted = telling Accepted
 
-  pub tells-refused : {n p : ℕ} → r.answer ≡ Refused n p → w' ≡ sets w₂ 0 (p ∷ []) → ReadingTold r w w' n
+  pub tells_refused : {n p : ℕ} → r.answer ≡ Refused n p → w' ≡ sets w₂ 0 (p ∷ []) → ReadingTold r w w' n
   unfolding number_of place_of
-  tells-refused {n} {p} = telling (Refused n p)
+  tells_refused {n} {p} = telling (Refused n p)

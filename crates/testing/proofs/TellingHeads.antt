@@ -12,10 +12,10 @@ module _ {s w w' : List ℕ} {r : Answer} (h : Heads s r) where
   telling : (a : Answer) → r ≡ a → w' ≡ sets w 0 (cells_of a) → HeadsTold s w w' (number_of a)
   telling a e t = record { answer = a; heads = subst (Heads s) e h; number = refl; told = t }
 
-  pub tells-heading : {p n q m : ℕ} → r ≡ VersionAndName p n q m → w' ≡ sets w 0 (p ∷ n ∷ q ∷ m ∷ []) → HeadsTold s w w' 0
+  pub tells_heading : {p n q m : ℕ} → r ≡ VersionAndName p n q m → w' ≡ sets w 0 (p ∷ n ∷ q ∷ m ∷ []) → HeadsTold s w w' 0
   unfolding number_of cells_of
-  tells-heading {p} {n} {q} {m} = telling (VersionAndName p n q m)
+  tells_heading {p} {n} {q} {m} = telling (VersionAndName p n q m)
 
-  pub tells-no-heading : {n p : ℕ} → r ≡ Refused n p → w' ≡ sets w 0 (p ∷ []) → HeadsTold s w w' n
+  pub tells_no_heading : {n p : ℕ} → r ≡ Refused n p → w' ≡ sets w 0 (p ∷ []) → HeadsTold s w w' n
   unfolding number_of cells_of
-  tells-no-heading {n} {p} = telling (Refused n p)
+  tells_no_heading {n} {p} = telling (Refused n p)

@@ -19,13 +19,13 @@ module _ (P : Answer → Type 0) (w w' : List ℕ) (r : Answer) (h : P r) where
   telling : (a : Answer) → r ≡ a → w' ≡ sets w 0 (cells_of a) → HeadsSet P w w' (number_of a)
   telling a e t = record { answer = r; heads = h; number = ap number_of (sym e); told = t ∙ ap (λ x. sets w 0 (cells_of x)) (sym e) }
 
-  pub tells-front : {p n q m : ℕ} → r ≡ VersionAndName p n q m → w' ≡ sets w 0 (p ∷ n ∷ q ∷ m ∷ []) → HeadsSet P w w' 0
+  pub tells_front : {p n q m : ℕ} → r ≡ VersionAndName p n q m → w' ≡ sets w 0 (p ∷ n ∷ q ∷ m ∷ []) → HeadsSet P w w' 0
   unfolding number_of cells_of
-  tells-front {p} {n} {q} {m} = telling (VersionAndName p n q m)
+  tells_front {p} {n} {q} {m} = telling (VersionAndName p n q m)
 
-  pub tells-no-front : {n p : ℕ} → r ≡ Refused n p → w' ≡ sets w 0 (p ∷ []) → HeadsSet P w w' n
+  pub tells_no_front : {n p : ℕ} → r ≡ Refused n p → w' ≡ sets w 0 (p ∷ []) → HeadsSet P w w' n
   unfolding number_of cells_of
-  tells-no-front {n} {p} = telling (Refused n p)
+  tells_no_front {n} {p} = telling (Refused n p)
 
 pub tells_checks : (P : Checked → Type 0) (w w' : List ℕ) (a : Checked) (x : Case) → P a → x ≡ checked_case a → w' ≡ sets w 0 (x.first ∷ x.second ∷ []) → ChecksSet P w w' x.number
 tells_checks P w w' a x h q t =

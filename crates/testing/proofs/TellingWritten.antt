@@ -16,10 +16,10 @@ module _ {w w₁ w' : List ℕ} {r : Written} (x : w₁ ≡ sets w 1 (r.length �
     cells = z ∙ (ap (λ m. sets m 0 (place_of a ∷ [])) x ∙ ap (λ b. sets (sets w 1 (r.length ∷ [])) 0 (place_of b ∷ [])) (sym i));
   }
 
-  pub tells-written : r.answer ≡ Accepted → w' ≡ sets w₁ 0 (0 ∷ []) → WritingTold r w w' 0
+  pub tells_written : r.answer ≡ Accepted → w' ≡ sets w₁ 0 (0 ∷ []) → WritingTold r w w' 0
   unfolding number_of place_of
-  tells-written = telling Accepted
+  tells_written = telling Accepted
 
-  pub tells-not-written : {n p : ℕ} → r.answer ≡ Refused n p → w' ≡ sets w₁ 0 (p ∷ []) → WritingTold r w w' n
+  pub tells_not_written : {n p : ℕ} → r.answer ≡ Refused n p → w' ≡ sets w₁ 0 (p ∷ []) → WritingTold r w w' n
   unfolding number_of place_of
-  tells-not-written {n} {p} = telling (Refused n p)
+  tells_not_written {n} {p} = telling (Refused n p)

@@ -14,7 +14,7 @@ use borrow.Author.Tests.{lt-ltb, le-ltb, le-leb, lt-leb, eq-eqb, ne_eqb, ltb-tru
 use Rattle.token.specs.Find.{pick, both, either, byte}
 use Rattle.token.specs.Bytes.{Class, letter, digit, blank, plus_minus, quote, punctuator, dot, slash, other, class_of, class_code, is_letter, is_digit, is_blank, is_plus_minus, is_punctuator, is_word_byte, pair_at, word_end, find_byte}
 use Rattle.token.proofs.Tables.{up_to, below}
-use Rattle.token.proofs.Find.{find-low, find-high}
+use Rattle.token.proofs.Find.{find_low, find_high}
 
 -- ---- two tests together
 
@@ -68,49 +68,49 @@ eqb_sym a b = by (ℕ_discrete a b)
 -- ---- the tests of a byte, one after the other
 
 module _ (b : ℕ) where
-  pub letter-small : 97 ≤ b → leb b 122 ≡ is_letter b
-  letter-small h =
+  pub letter_small : 97 ≤ b → leb b 122 ≡ is_letter b
+  letter_small h =
       rw (le-leb 65 b (omega arith), lt-leb b 90 (omega arith), le-leb 97 b h, ne_eqb b 95 (λ e. omega arith)) (sym (either_false (leb b 122)))
 
-  pub letter-capital : 65 ≤ b → b < 97 → (b ≡ 95 → ⊥) → leb b 90 ≡ is_letter b
-  letter-capital h l f = rw (le-leb 65 b h, lt-leb 97 b l, ne_eqb b 95 f) (sym (either_false (leb b 90)))
+  pub letter_capital : 65 ≤ b → b < 97 → (b ≡ 95 → ⊥) → leb b 90 ≡ is_letter b
+  letter_capital h l f = rw (le-leb 65 b h, lt-leb 97 b l, ne_eqb b 95 f) (sym (either_false (leb b 90)))
 
-  pub letter-low : b < 65 → false ≡ is_letter b
-  letter-low h = rw (lt-leb 65 b h, lt-leb 97 b (omega arith), ne_eqb b 95 (λ e. omega arith))
+  pub letter_low : b < 65 → false ≡ is_letter b
+  letter_low h = rw (lt-leb 65 b h, lt-leb 97 b (omega arith), ne_eqb b 95 (λ e. omega arith))
 
-  pub digit-high : 48 ≤ b → leb b 57 ≡ is_digit b
-  digit-high h = rw (le-leb 48 b h)
+  pub digit_high : 48 ≤ b → leb b 57 ≡ is_digit b
+  digit_high h = rw (le-leb 48 b h)
 
   pub digit_low : b < 48 → false ≡ is_digit b
   digit_low h = rw (lt-leb 48 b h)
 
-  pub word-letter : is_letter b ≡ true → true ≡ is_word_byte b
+  pub word_letter : is_letter b ≡ true → true ≡ is_word_byte b
   unfolding is_word_byte
-  word-letter e = rw e
+  word_letter e = rw e
 
-  pub word-digit : is_letter b ≡ false → is_digit b ≡ is_word_byte b
+  pub word_digit : is_letter b ≡ false → is_digit b ≡ is_word_byte b
   unfolding is_word_byte
-  word-digit e = rw e
+  word_digit e = rw e
 
-  pub blank-high : 9 ≤ b → (b ≡ 32 → ⊥) → leb b 13 ≡ is_blank b
-  blank-high h f = rw (le-leb 9 b h, ne_eqb b 32 f) (sym (either_false (leb b 13)))
+  pub blank_high : 9 ≤ b → (b ≡ 32 → ⊥) → leb b 13 ≡ is_blank b
+  blank_high h f = rw (le-leb 9 b h, ne_eqb b 32 f) (sym (either_false (leb b 13)))
 
-  pub blank-low : b < 9 → false ≡ is_blank b
-  blank-low h = rw (lt-leb 9 b h, ne_eqb b 32 (λ e. omega arith))
+  pub blank_low : b < 9 → false ≡ is_blank b
+  blank_low h = rw (lt-leb 9 b h, ne_eqb b 32 (λ e. omega arith))
 
-  pub punctuator-brackets : OneOf (91 ∷ 93 ∷ 123 ∷ 125 ∷ []) b → true ≡ is_punctuator b
-  punctuator-brackets (inl e) = sym (ap is_punctuator e)
-  punctuator-brackets (inr (inl e)) = sym (ap is_punctuator e)
-  punctuator-brackets (inr (inr (inl e))) = sym (ap is_punctuator e)
-  punctuator-brackets (inr (inr (inr e))) = sym (ap is_punctuator e)
+  pub punctuator_brackets : OneOf (91 ∷ 93 ∷ 123 ∷ 125 ∷ []) b → true ≡ is_punctuator b
+  punctuator_brackets (inl e) = sym (ap is_punctuator e)
+  punctuator_brackets (inr (inl e)) = sym (ap is_punctuator e)
+  punctuator_brackets (inr (inr (inl e))) = sym (ap is_punctuator e)
+  punctuator_brackets (inr (inr (inr e))) = sym (ap is_punctuator e)
 
-  pub punctuator-stop : OneOf (59 ∷ 61 ∷ []) b → true ≡ is_punctuator b
-  punctuator-stop (inl e) = sym (ap is_punctuator e)
-  punctuator-stop (inr e) = sym (ap is_punctuator e)
+  pub punctuator_stop : OneOf (59 ∷ 61 ∷ []) b → true ≡ is_punctuator b
+  punctuator_stop (inl e) = sym (ap is_punctuator e)
+  punctuator_stop (inr e) = sym (ap is_punctuator e)
 
-  pub punctuator-comma : OneOf (44 ∷ 58 ∷ []) b → true ≡ is_punctuator b
-  punctuator-comma (inl e) = sym (ap is_punctuator e)
-  punctuator-comma (inr e) = sym (ap is_punctuator e)
+  pub punctuator_comma : OneOf (44 ∷ 58 ∷ []) b → true ≡ is_punctuator b
+  punctuator_comma (inl e) = sym (ap is_punctuator e)
+  punctuator_comma (inr e) = sym (ap is_punctuator e)
 
   pub punctuator_none : (OneOf (91 ∷ 93 ∷ 123 ∷ 125 ∷ []) b → ⊥) → (OneOf (59 ∷ 61 ∷ []) b → ⊥) → (OneOf (44 ∷ 58 ∷ []) b → ⊥) →
       false ≡ is_punctuator b
@@ -142,43 +142,43 @@ class_unless t v all b h e f =
     (subst (λ (n : ℕ). T (eqb (class_code (class_of b)) n)) f (eqb_refl (class_code (class_of b))))
 
 module _ (b : ℕ) where
-  pub class-no-blank : b < 256 → is_blank b ≡ false → class_code (class_of b) ≡ 2 → ⊥
+  pub class_no_blank : b < 256 → is_blank b ≡ false → class_code (class_of b) ≡ 2 → ⊥
   unfolding class_of
-  class-no-blank = class_unless is_blank 2 tt b
+  class_no_blank = class_unless is_blank 2 tt b
 
-  pub class-slash : b ≡ 47 → 7 ≡ class_code (class_of b)
+  pub class_slash : b ≡ 47 → 7 ≡ class_code (class_of b)
   unfolding class_of
-  class-slash e = sym (ap (λ (n : ℕ). class_code (class_of n)) e)
+  class_slash e = sym (ap (λ (n : ℕ). class_code (class_of n)) e)
 
-  pub class-no-slash : b < 256 → (b ≡ 47 → ⊥) → class_code (class_of b) ≡ 7 → ⊥
+  pub class_no_slash : b < 256 → (b ≡ 47 → ⊥) → class_code (class_of b) ≡ 7 → ⊥
   unfolding class_of
-  class-no-slash h f = class_unless (λ n. eqb n 47) 7 tt b h (ne_eqb b 47 f)
+  class_no_slash h f = class_unless (λ n. eqb n 47) 7 tt b h (ne_eqb b 47 f)
 
-  pub class-letter : b < 256 → is_letter b ≡ true → 0 ≡ class_code (class_of b)
+  pub class_letter : b < 256 → is_letter b ≡ true → 0 ≡ class_code (class_of b)
   unfolding class_of
-  class-letter = class_when is_letter 0 tt b
+  class_letter = class_when is_letter 0 tt b
 
-  pub class-digit : b < 256 → is_digit b ≡ true → 1 ≡ class_code (class_of b)
+  pub class_digit : b < 256 → is_digit b ≡ true → 1 ≡ class_code (class_of b)
   unfolding class_of
-  class-digit = class_when is_digit 1 tt b
+  class_digit = class_when is_digit 1 tt b
 
-  pub class-blank : b < 256 → is_blank b ≡ true → 2 ≡ class_code (class_of b)
+  pub class_blank : b < 256 → is_blank b ≡ true → 2 ≡ class_code (class_of b)
   unfolding class_of
-  class-blank = class_when is_blank 2 tt b
+  class_blank = class_when is_blank 2 tt b
 
-  pub class-punctuator : b < 256 → is_punctuator b ≡ true → 5 ≡ class_code (class_of b)
+  pub class_punctuator : b < 256 → is_punctuator b ≡ true → 5 ≡ class_code (class_of b)
   unfolding class_of
-  class-punctuator = class_when is_punctuator 5 tt b
+  class_punctuator = class_when is_punctuator 5 tt b
 
-  pub class-sign : OneOf (43 ∷ 45 ∷ []) b → 3 ≡ class_code (class_of b)
+  pub class_sign : OneOf (43 ∷ 45 ∷ []) b → 3 ≡ class_code (class_of b)
   unfolding class_of
-  class-sign (inl e) = sym (ap (λ (n : ℕ). class_code (class_of n)) e)
-  class-sign (inr e) = sym (ap (λ (n : ℕ). class_code (class_of n)) e)
+  class_sign (inl e) = sym (ap (λ (n : ℕ). class_code (class_of n)) e)
+  class_sign (inr e) = sym (ap (λ (n : ℕ). class_code (class_of n)) e)
 
-  pub class-other : is_letter b ≡ false → is_digit b ≡ false → is_blank b ≡ false → is_punctuator b ≡ false →
+  pub class_other : is_letter b ≡ false → is_digit b ≡ false → is_blank b ≡ false → is_punctuator b ≡ false →
       (OneOf (43 ∷ 45 ∷ []) b → ⊥) → (b ≡ 34 → ⊥) → (b ≡ 46 → ⊥) → (b ≡ 47 → ⊥) → 8 ≡ class_code (class_of b)
   unfolding class_of
-  class-other l d k m s q o f =
+  class_other l d k m s q o f =
       rw
       (l, d, k, ne_eqb b 43 (λ e. s (inl e)), ne_eqb b 45 (λ e. s (inr e)), ne_eqb b 34 q, m, ne_eqb b 46 o, ne_eqb b 47 f)
 
@@ -203,17 +203,17 @@ word_byte b = low_two (is_letter b) (is_digit b) (is_blank b) (is_plus_minus b) 
 -- ---- two bytes
 
 module _ (s : List ℕ) (p a b : ℕ) where
-  pub pair-short : length s ≤ p + 1 → pair_at s p a b ≡ false
+  pub pair_short : length s ≤ p + 1 → pair_at s p a b ≡ false
   unfolding pair_at
-  pair-short h = rw (le-ltb (p + 1) (length s) h)
+  pair_short h = rw (le-ltb (p + 1) (length s) h)
 
-  pub pair-other : (byte s p ≡ a → ⊥) → pair_at s p a b ≡ false
+  pub pair_other : (byte s p ≡ a → ⊥) → pair_at s p a b ≡ false
   unfolding pair_at
-  pair-other h = rw (ne_eqb (byte s p) a h) (both_false (ltb (p + 1) (length s)))
+  pair_other h = rw (ne_eqb (byte s p) a h) (both_false (ltb (p + 1) (length s)))
 
-  pub pair-second : p + 1 < length s → byte s p ≡ a → pair_at s p a b ≡ eqb (byte s (p + 1)) b
+  pub pair_second : p + 1 < length s → byte s p ≡ a → pair_at s p a b ≡ eqb (byte s (p + 1)) b
   unfolding pair_at
-  pair-second h e = rw (lt-ltb (p + 1) (length s) h, eq-eqb (byte s p) a e)
+  pair_second h e = rw (lt-ltb (p + 1) (length s) h, eq-eqb (byte s p) a e)
 
   pub pair_inside : pair_at s p a b ≡ true → p + 1 < length s
   unfolding pair_at
@@ -254,12 +254,12 @@ class_past s p h = ap class_of (get_or-eq_default s 0 h)
 module _ (s : List ℕ) (p : ℕ) where
   pub word_low : p ≤ word_end s p
   unfolding word_end
-  word_low = find-low (λ i. not (is_word_byte (byte s i))) (length s) p
+  word_low = find_low (λ i. not (is_word_byte (byte s i))) (length s) p
 
-  pub word-high : p ≤ length s → word_end s p ≤ length s
+  pub word_high : p ≤ length s → word_end s p ≤ length s
   unfolding word_end
-  word-high h = find-high (λ i. not (is_word_byte (byte s i))) (length s) p h
+  word_high h = find_high (λ i. not (is_word_byte (byte s i))) (length s) p h
 
   pub byte_low : (b : ℕ) → p ≤ find_byte b s p
   unfolding find_byte
-  byte_low b = find-low (λ i. eqb (byte s i) b) (length s) p
+  byte_low b = find_low (λ i. eqb (byte s i) b) (length s) p

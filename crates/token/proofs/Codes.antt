@@ -97,11 +97,11 @@ module _ (w : List ℕ) where
   unfolding code_of Listed
   none f = ⊎_elim (λ e. e) (λ l. absurd (f l.0 l.1 l.2)) (listed 1 known w)
 
-  pub code-empty : length w ≡ 0 → code_of w ≡ 0
-  code-empty h = none (λ j l e. let n = long j l in let m = ap length e in omega arith)
+  pub code_empty : length w ≡ 0 → code_of w ≡ 0
+  code_empty h = none (λ j l e. let n = long j l in let m = ap length e in omega arith)
 
-  pub code-long : 20 ≤ length w → code_of w ≡ 0
-  code-long h = none (λ j l e. let n = short j l in let m = ap length e in omega arith)
+  pub code_long : 20 ≤ length w → code_of w ≡ 0
+  code_long h = none (λ j l e. let n = short j l in let m = ap length e in omega arith)
 
   module _ (k : ℕ) (h : k ≡ candidate_of (slot_of w)) where
     -- the candidate of a known word is its own code
@@ -111,8 +111,8 @@ module _ (w : List ℕ) where
         h ∙ ap (λ (v : List ℕ). candidate_of (slot_of v)) e
         ∙ eqb→eq _ (j + 1) (below (λ i. eqb (candidate_of (slot_of (get_or known i []))) (i + 1)) 42 tt j l)
 
-    pub code-no-candidate : k ≡ 0 → code_of w ≡ 0
-    code-no-candidate z = none (λ j l e. let m = own j l e in omega arith)
+    pub code_no_candidate : k ≡ 0 → code_of w ≡ 0
+    code_no_candidate z = none (λ j l e. let m = own j l e in omega arith)
 
     pub code_other : same w (get_or known (k - 1) []) ≡ false → code_of w ≡ 0
     code_other f =

@@ -18,50 +18,50 @@ use Rattle.token.specs.declared.Amount.{Amount}
 use Rattle.token.specs.declared.Amount.TheVariants.{Is, Not}
 use Rattle.token.specs.declared.Power.{Power}
 use Rattle.token.specs.declared.Power.TheVariants.{Times, None}
-use Rattle.token.proofs.Find.{by_test, find-low, find-high}
-use Rattle.token.proofs.Bytes.{both_false, both_true, both_second, word_low, word-high}
+use Rattle.token.proofs.Find.{by_test, find_low, find_high}
+use Rattle.token.proofs.Bytes.{both_false, both_true, both_second, word_low, word_high}
 use Rattle.token.proofs.Values.{was_is}
 
 -- ---- tests of bytes
 
 module _ (b : ℕ) where
-  pub sign-plus : b ≡ 43 → true ≡ is_plus_minus b
-  sign-plus e = sym (ap is_plus_minus e)
+  pub sign_plus : b ≡ 43 → true ≡ is_plus_minus b
+  sign_plus e = sym (ap is_plus_minus e)
 
-  pub sign-minus : (b ≡ 43 → ⊥) → eqb b 45 ≡ is_plus_minus b
-  sign-minus f = rw (ne_eqb b 43 f)
+  pub sign_minus : (b ≡ 43 → ⊥) → eqb b 45 ≡ is_plus_minus b
+  sign_minus f = rw (ne_eqb b 43 f)
 
-  pub mark-large : b ≡ 69 → true ≡ is_exponent_mark b
-  mark-large e = sym (ap is_exponent_mark e)
+  pub mark_large : b ≡ 69 → true ≡ is_exponent_mark b
+  mark_large e = sym (ap is_exponent_mark e)
 
-  pub mark-small : (b ≡ 69 → ⊥) → eqb b 101 ≡ is_exponent_mark b
-  mark-small f = rw (ne_eqb b 69 f)
+  pub mark_small : (b ≡ 69 → ⊥) → eqb b 101 ≡ is_exponent_mark b
+  mark_small f = rw (ne_eqb b 69 f)
 
 module _ (s : List ℕ) (p : ℕ) where
-  pub dotted-short : length s ≤ p + 1 → is_dotted s p ≡ false
+  pub dotted_short : length s ≤ p + 1 → is_dotted s p ≡ false
   unfolding is_dotted
-  dotted-short h = ap (λ (n : ℕ). both (eqb (byte s p) 46) (is_digit n)) (get_or-eq_default s 0 h) ∙ both_false (eqb (byte s p) 46)
+  dotted_short h = ap (λ (n : ℕ). both (eqb (byte s p) 46) (is_digit n)) (get_or-eq_default s 0 h) ∙ both_false (eqb (byte s p) 46)
 
-  pub dotted-other : (byte s p ≡ 46 → ⊥) → is_dotted s p ≡ false
+  pub dotted_other : (byte s p ≡ 46 → ⊥) → is_dotted s p ≡ false
   unfolding is_dotted
-  dotted-other f = rw (ne_eqb (byte s p) 46 f)
+  dotted_other f = rw (ne_eqb (byte s p) 46 f)
 
-  pub dotted-digit : byte s p ≡ 46 → is_dotted s p ≡ is_digit (byte s (p + 1))
+  pub dotted_digit : byte s p ≡ 46 → is_dotted s p ≡ is_digit (byte s (p + 1))
   unfolding is_dotted
-  dotted-digit e = rw (eq-eqb (byte s p) 46 e)
+  dotted_digit e = rw (eq-eqb (byte s p) 46 e)
 
 module _ (s : List ℕ) (x r : ℕ) where
-  pub signed-past : length s ≤ r → is_signed s x r ≡ false
+  pub signed_past : length s ≤ r → is_signed s x r ≡ false
   unfolding is_signed
-  signed-past h = ap (λ (n : ℕ). both (eqb (x + 1) r) (is_plus_minus n)) (get_or-eq_default s 0 h) ∙ both_false (eqb (x + 1) r)
+  signed_past h = ap (λ (n : ℕ). both (eqb (x + 1) r) (is_plus_minus n)) (get_or-eq_default s 0 h) ∙ both_false (eqb (x + 1) r)
 
   pub signed_other : (x + 1 ≡ r → ⊥) → is_signed s x r ≡ false
   unfolding is_signed
   signed_other f = rw (ne_eqb (x + 1) r f)
 
-  pub signed-here : x + 1 ≡ r → is_signed s x r ≡ is_plus_minus (byte s r)
+  pub signed_here : x + 1 ≡ r → is_signed s x r ≡ is_plus_minus (byte s r)
   unfolding is_signed
-  signed-here e = rw (eq-eqb (x + 1) r e)
+  signed_here e = rw (eq-eqb (x + 1) r e)
 
 -- a sign stands inside the text
 pub signed_inside : (s : List ℕ) (x r : ℕ) → is_signed s x r ≡ true → r < length s
@@ -69,7 +69,7 @@ signed_inside s x r e = by (dec_lt r (length s))
   where
     by : Dec (r < length s) → r < length s
     by (yes h) = h
-    by (no f) = absurd (let z = signed-past s x r (omega arith) in false≢true (sym z ∙ e))
+    by (no f) = absurd (let z = signed_past s x r (omega arith) in false≢true (sym z ∙ e))
 
 -- a dot and a digit stand inside the text
 pub dotted_inside : (s : List ℕ) (p : ℕ) → is_dotted s p ≡ true → p + 1 < length s
@@ -77,18 +77,18 @@ dotted_inside s p e = by (dec_lt (p + 1) (length s))
   where
     by : Dec (p + 1 < length s) → p + 1 < length s
     by (yes h) = h
-    by (no f) = absurd (let z = dotted-short s p (omega arith) in false≢true (sym z ∙ e))
+    by (no f) = absurd (let z = dotted_short s p (omega arith) in false≢true (sym z ∙ e))
 
 -- ---- the first e or E
 
 module _ (s : List ℕ) (e p : ℕ) where
-  pub mark-low : p ≤ find_mark s e p
+  pub mark_low : p ≤ find_mark s e p
   unfolding find_mark
-  mark-low = find-low (λ i. is_exponent_mark (byte s i)) e p
+  mark_low = find_low (λ i. is_exponent_mark (byte s i)) e p
 
-  pub mark-high : p ≤ e → find_mark s e p ≤ e
+  pub mark_high : p ≤ e → find_mark s e p ≤ e
   unfolding find_mark
-  mark-high h = find-high (λ i. is_exponent_mark (byte s i)) e p h
+  mark_high h = find_high (λ i. is_exponent_mark (byte s i)) e p h
 
 -- ---- digits
 
@@ -96,60 +96,60 @@ no_is : {A : Type 0} (n : ℕ) → ◌≡◌ {A = Amount} Not (Is n) → A
 no_is n e = absurd (let z : ◌≡◌ {A = ℕ} 0 1 = cc in omega arith)
 
 module _ (b max a : ℕ) (w : List ℕ) (n : ℕ) where
-  digits-limit : digits_after b max a w ≡ Is n → n ≤ max
+  digits_limit : digits_after b max a w ≡ Is n → n ≤ max
   unfolding digits_after
-  digits-limit =
+  digits_limit =
       by_test (λ (v : Amount). v ≡ Is n → n ≤ max) (all_digits b w) _ Not
       (λ _ e. let z = was_is max (value_after b a w) n e in omega arith)
       (λ _ e. no_is n e)
 
 module _ (max a : ℕ) (w : List ℕ) where
-  pub some-none : length w ≡ 0 → some_digits max a w ≡ Not
+  pub some_none : length w ≡ 0 → some_digits max a w ≡ Not
   unfolding some_digits
-  some-none e = rw (eq-eqb (length w) 0 e)
+  some_none e = rw (eq-eqb (length w) 0 e)
 
   pub some_is : (length w ≡ 0 → ⊥) → some_digits max a w ≡ digits_after 10 max a w
   unfolding some_digits
   some_is f = rw (ne_eqb (length w) 0 f)
 
-  pub some-limit : (n : ℕ) → some_digits max a w ≡ Is n → n ≤ max
+  pub some_limit : (n : ℕ) → some_digits max a w ≡ Is n → n ≤ max
   unfolding some_digits
-  some-limit n =
+  some_limit n =
       by_test (λ (v : Amount). v ≡ Is n → n ≤ max) (eqb (length w) 0) Not _
       (λ _ e. no_is n e)
-      (λ _ e. digits-limit 10 max a w n e)
+      (λ _ e. digits_limit 10 max a w n e)
 
 module _ (v w : List ℕ) where
-  pub mantissa-long : 18 < length v + length w → mantissa_of v w ≡ Not
+  pub mantissa_long : 18 < length v + length w → mantissa_of v w ≡ Not
   unfolding mantissa_of
-  mantissa-long h = rw (lt-leb (length v + length w) 18 h)
+  mantissa_long h = rw (lt-leb (length v + length w) 18 h)
 
-  pub mantissa-is : (a : ℕ) → length v + length w ≤ 18 → some_digits 999999999999999999 0 v ≡ Is a
+  pub mantissa_is : (a : ℕ) → length v + length w ≤ 18 → some_digits 999999999999999999 0 v ≡ Is a
       → mantissa_of v w ≡ some_digits 999999999999999999 a w
   unfolding mantissa_of digits_behind
-  mantissa-is a h e = rw (le-leb (length v + length w) 18 h, e)
+  mantissa_is a h e = rw (le-leb (length v + length w) 18 h, e)
 
-  pub mantissa-not : length v + length w ≤ 18 → some_digits 999999999999999999 0 v ≡ Not → mantissa_of v w ≡ Not
+  pub mantissa_not : length v + length w ≤ 18 → some_digits 999999999999999999 0 v ≡ Not → mantissa_of v w ≡ Not
   unfolding mantissa_of digits_behind
-  mantissa-not h e = rw (le-leb (length v + length w) 18 h, e)
+  mantissa_not h e = rw (le-leb (length v + length w) 18 h, e)
 
-  behind-limit : (x : Amount) (m : ℕ) → digits_behind x w ≡ Is m → m ≤ 999999999999999999
+  behind_limit : (x : Amount) (m : ℕ) → digits_behind x w ≡ Is m → m ≤ 999999999999999999
   unfolding digits_behind
-  behind-limit (Is a) m e = some-limit 999999999999999999 a w m e
-  behind-limit Not m e = no_is m e
+  behind_limit (Is a) m e = some_limit 999999999999999999 a w m e
+  behind_limit Not m e = no_is m e
 
   -- a mantissa has at most eighteen digits
-  pub mantissa-fits : (m : ℕ) → mantissa_of v w ≡ Is m → (length v + length w ≤ 18) × (m ≤ 999999999999999999)
+  pub mantissa_fits : (m : ℕ) → mantissa_of v w ≡ Is m → (length v + length w ≤ 18) × (m ≤ 999999999999999999)
   unfolding mantissa_of
-  mantissa-fits m =
+  mantissa_fits m =
       by_test (λ (x : Amount). x ≡ Is m → (length v + length w ≤ 18) × (m ≤ 999999999999999999)) (leb (length v + length w) 18) _ Not
-      (λ t e. (leb-true (length v + length w) 18 t, behind-limit (some_digits 999999999999999999 0 v) m e))
+      (λ t e. (leb-true (length v + length w) 18 t, behind_limit (some_digits 999999999999999999 0 v) m e))
       (λ _ e. no_is m e)
 
 -- the digits behind the dot are at most eighteen
 pub fraction_short : (s v : List ℕ) (d x m : ℕ) → d ≤ x → x ≤ length s → mantissa_of v (take (x - d) (drop d s)) ≡ Is m → x - d ≤ 18
 fraction_short s v d x m h l e =
-    let z = mantissa-fits v (take (x - d) (drop d s)) m e in
+    let z = mantissa_fits v (take (x - d) (drop d s)) m e in
     let n : length (take (x - d) (drop d s)) ≡ x - d = length-take-le (x - d) (drop d s) (rw (length-drop d s) (omega arith)) in
     omega arith
 
@@ -168,14 +168,14 @@ module _ (s : List ℕ) (x r : ℕ) where
   unfolding power_at
   power_none e = rw (eq-eqb x r e)
 
-  pub power-signed : (x ≡ r → ⊥) → is_signed s x r ≡ true → (e : ℕ) → e ≡ word_end s (r + 1)
+  pub power_signed : (x ≡ r → ⊥) → is_signed s x r ≡ true → (e : ℕ) → e ≡ word_end s (r + 1)
       → power_at s x r ≡ power_of (eqb (byte s r) 45) (some_digits 64 0 (take (e - (r + 1)) (drop (r + 1) s))) e
   unfolding power_at
-  power-signed f t e h = rw (ne_eqb x r f, t, h)
+  power_signed f t e h = rw (ne_eqb x r f, t, h)
 
-  pub power-unsigned : (x ≡ r → ⊥) → is_signed s x r ≡ false → power_at s x r ≡ power_of false (some_digits 64 0 (take (r - (x + 1)) (drop (x + 1) s))) r
+  pub power_unsigned : (x ≡ r → ⊥) → is_signed s x r ≡ false → power_at s x r ≡ power_of false (some_digits 64 0 (take (r - (x + 1)) (drop (x + 1) s))) r
   unfolding power_at
-  power-unsigned f t = rw (ne_eqb x r f, t)
+  power_unsigned f t = rw (ne_eqb x r f, t)
 
 -- an exponent is at most 64, and the float ends at or behind r and inside the text
 abbrev pub PowerOk : List ℕ → ℕ → Power → Type 0
@@ -184,7 +184,7 @@ PowerOk s r None = Unit {0}
 
 power_of_ok : (s : List ℕ) (r : ℕ) (b : Bool) (w : List ℕ) (e : ℕ) → r ≤ e → e ≤ length s → (v : Amount) → some_digits 64 0 w ≡ v → PowerOk s r (power_of b v e)
 unfolding power_of
-power_of_ok s r b w e h l (Is m) q = (some-limit 64 0 w m q, h, l)
+power_of_ok s r b w e h l (Is m) q = (some_limit 64 0 w m q, h, l)
 power_of_ok s r b w e h l Not q = tt
 
 pub power_ok : (s : List ℕ) (x r : ℕ) → r ≤ length s → PowerOk s r (power_at s x r)
@@ -196,7 +196,7 @@ power_ok s x r l =
     let i = signed_inside s x r t in
     let h = word_low s (r + 1) in
     power_of_ok s r (eqb (byte s r) 45) (take (word_end s (r + 1) - (r + 1)) (drop (r + 1) s)) (word_end s (r + 1)) (omega arith)
-    (word-high s (r + 1) (omega arith)) (some_digits 64 0 (take (word_end s (r + 1) - (r + 1)) (drop (r + 1) s))) refl)
+    (word_high s (r + 1) (omega arith)) (some_digits 64 0 (take (word_end s (r + 1) - (r + 1)) (drop (r + 1) s))) refl)
     (λ _. power_of_ok s r false (take (r - (x + 1)) (drop (x + 1) s)) r (omega arith) l (some_digits 64 0 (take (r - (x + 1)) (drop (x + 1) s))) refl))
 
 pub power_fits : (s : List ℕ) (x r : ℕ) → r ≤ length s → (b : Bool) (m e : ℕ) → power_at s x r ≡ Times b m e → (m ≤ 64) × (r ≤ e) × (e ≤ length s)

@@ -16,26 +16,26 @@ use Rattle.token.specs.declared.Gap.{Gap}
 use Rattle.token.specs.declared.Gap.TheVariants.{Nothing, Past, Unended}
 use Rattle.token.specs.declared.Skip.{Skip}
 use Rattle.token.specs.declared.Skip.TheVariants.{At, Open}
-use Rattle.token.proofs.Find.{by_test, find-low, find-high, find-holds}
+use Rattle.token.proofs.Find.{by_test, find_low, find_high, find_holds}
 use Rattle.token.proofs.Bytes.{pair_inside, class_is, class_past}
 
 module _ (s : List ℕ) (p : ℕ) where
-  pub comment-line : pair_at s p 47 47 ≡ true → comment_at s p ≡ Past (find_byte 10 s (p + 2))
+  pub comment_line : pair_at s p 47 47 ≡ true → comment_at s p ≡ Past (find_byte 10 s (p + 2))
   unfolding comment_at
-  comment-line e = rw e
+  comment_line e = rw e
 
-  pub comment-block : pair_at s p 47 47 ≡ false → pair_at s p 47 42 ≡ true → find_close s (p + 2) < length s →
+  pub comment_block : pair_at s p 47 47 ≡ false → pair_at s p 47 42 ≡ true → find_close s (p + 2) < length s →
       comment_at s p ≡ Past (find_close s (p + 2) + 2)
   unfolding comment_at
-  comment-block e f h = rw (e, f, lt-ltb (find_close s (p + 2)) (length s) h)
+  comment_block e f h = rw (e, f, lt-ltb (find_close s (p + 2)) (length s) h)
 
-  pub comment-open : pair_at s p 47 47 ≡ false → pair_at s p 47 42 ≡ true → length s ≤ find_close s (p + 2) → comment_at s p ≡ Unended
+  pub comment_open : pair_at s p 47 47 ≡ false → pair_at s p 47 42 ≡ true → length s ≤ find_close s (p + 2) → comment_at s p ≡ Unended
   unfolding comment_at
-  comment-open e f h = rw (e, f, le-ltb (find_close s (p + 2)) (length s) h)
+  comment_open e f h = rw (e, f, le-ltb (find_close s (p + 2)) (length s) h)
 
-  pub comment-none : pair_at s p 47 47 ≡ false → pair_at s p 47 42 ≡ false → comment_at s p ≡ Nothing
+  pub comment_none : pair_at s p 47 47 ≡ false → pair_at s p 47 42 ≡ false → comment_at s p ≡ Nothing
   unfolding comment_at
-  comment-none e f = rw (e, f)
+  comment_none e f = rw (e, f)
 
 -- the gap at a place, by the number of its byte's class
 no_gap : (c : Class) (s : List ℕ) (p : ℕ) → (class_code c ≡ 2 → ⊥) → (class_code c ≡ 7 → ⊥) → gap_of c s p ≡ Nothing
@@ -51,22 +51,22 @@ no_gap slash s p f g = absurd (g refl)
 no_gap other s p f g = refl
 
 module _ (s : List ℕ) (p : ℕ) where
-  pub gap-past : length s ≤ p → gap_at s p ≡ Nothing
+  pub gap_past : length s ≤ p → gap_at s p ≡ Nothing
   unfolding gap_at gap_of
-  gap-past h = rw (class_past s p h)
+  gap_past h = rw (class_past s p h)
 
   module _ (k : ℕ) (e : k ≡ class_code (class_of (byte s p))) where
-    pub gap-blank : k ≡ 2 → gap_at s p ≡ Past (p + 1)
+    pub gap_blank : k ≡ 2 → gap_at s p ≡ Past (p + 1)
     unfolding gap_at gap_of
-    gap-blank h = rw (class_is (byte s p) 2 (sym h ∙ e))
+    gap_blank h = rw (class_is (byte s p) 2 (sym h ∙ e))
 
-    pub gap-slash : k ≡ 7 → gap_at s p ≡ comment_at s p
+    pub gap_slash : k ≡ 7 → gap_at s p ≡ comment_at s p
     unfolding gap_at gap_of
-    gap-slash h = rw (class_is (byte s p) 7 (sym h ∙ e))
+    gap_slash h = rw (class_is (byte s p) 7 (sym h ∙ e))
 
-    pub gap-none : (k ≡ 2 → ⊥) → (k ≡ 7 → ⊥) → gap_at s p ≡ Nothing
+    pub gap_none : (k ≡ 2 → ⊥) → (k ≡ 7 → ⊥) → gap_at s p ≡ Nothing
     unfolding gap_at
-    gap-none f g = no_gap (class_of (byte s p)) s p (λ h. f (e ∙ h)) (λ h. g (e ∙ h))
+    gap_none f g = no_gap (class_of (byte s p)) s p (λ h. f (e ∙ h)) (λ h. g (e ∙ h))
 
 -- ---- a gap goes on, and stays in the text
 
@@ -83,7 +83,7 @@ comment_ok s p =
     by_test (GapOk p n) (pair_at s p 47 47) _ _
     (λ e.
     let h : p + 1 < n = pair_inside s p 47 47 e in
-    (omega (arith, find-low (λ i. eqb (byte s i) 10) n (p + 2)), find-high (λ i. eqb (byte s i) 10) n (p + 2) (omega arith)))
+    (omega (arith, find_low (λ i. eqb (byte s i) 10) n (p + 2)), find_high (λ i. eqb (byte s i) 10) n (p + 2) (omega arith)))
     (λ _.
     by_test (GapOk p n) (pair_at s p 47 42) _ Nothing
     (λ e.
@@ -91,8 +91,8 @@ comment_ok s p =
     by_test (GapOk p n) (ltb (find close n (p + 2)) n) _ _
     (λ l.
     let f : find close n (p + 2) < n = ltb-true _ _ l in
-    let g : find close n (p + 2) + 1 < n = pair_inside s (find close n (p + 2)) 42 47 (find-holds close n (p + 2) (omega arith) f) in
-    (omega (arith, find-low close n (p + 2)), omega arith))
+    let g : find close n (p + 2) + 1 < n = pair_inside s (find close n (p + 2)) 42 47 (find_holds close n (p + 2) (omega arith) f) in
+    (omega (arith, find_low close n (p + 2)), omega arith))
     (λ _. omega arith))
     (λ _. tt))
 
@@ -111,7 +111,7 @@ in_text other s p h = tt
 here_or_past : (s : List ℕ) (p : ℕ) → Dec (p < length s) → GapOk p (length s) (gap_at s p)
 unfolding gap_at
 here_or_past s p (yes h) = in_text (class_of (byte s p)) s p h
-here_or_past s p (no h) = subst (GapOk p (length s)) (sym (gap-past s p (omega arith))) tt
+here_or_past s p (no h) = subst (GapOk p (length s)) (sym (gap_past s p (omega arith))) tt
 
 pub gap_ok : (s : List ℕ) (p : ℕ) → GapOk p (length s) (gap_at s p)
 gap_ok s p = here_or_past s p (dec_lt p (length s))
@@ -129,7 +129,7 @@ after_same p f h Unended e = refl
 none_after : (s : List ℕ) (p n : ℕ) → length s ≤ p → At p ≡ skip_n n s p
 unfolding skip_n
 none_after s p zero h = refl
-none_after s p (suc n) h = rw (gap-past s p h)
+none_after s p (suc n) h = rw (gap_past s p h)
 
 enough : (n m : ℕ) (s : List ℕ) (p : ℕ) → length s ≤ p + n → length s ≤ p + m → skip_n n s p ≡ skip_n m s p
 unfolding skip_n
@@ -147,11 +147,11 @@ skip_law s p =
     ∙ after_same p (skip_n (length s) s) (skip s) (gap_at s p) (λ q e. enough (length s) (length s - q) s q (omega arith) (omega arith))
 
 module _ (s : List ℕ) (p : ℕ) where
-  pub skip-past : (q : ℕ) → gap_at s p ≡ Past q → skip s p ≡ skip s q
-  skip-past q e = skip_law s p ∙ ap (λ (g : Gap). after_gap g p (skip s)) e
+  pub skip_past : (q : ℕ) → gap_at s p ≡ Past q → skip s p ≡ skip s q
+  skip_past q e = skip_law s p ∙ ap (λ (g : Gap). after_gap g p (skip s)) e
 
-  pub skip-open : gap_at s p ≡ Unended → skip s p ≡ Open p
-  skip-open e = skip_law s p ∙ ap (λ (g : Gap). after_gap g p (skip s)) e
+  pub skip_open : gap_at s p ≡ Unended → skip s p ≡ Open p
+  skip_open e = skip_law s p ∙ ap (λ (g : Gap). after_gap g p (skip s)) e
 
-  pub skip-here : gap_at s p ≡ Nothing → skip s p ≡ At p
-  skip-here e = skip_law s p ∙ ap (λ (g : Gap). after_gap g p (skip s)) e
+  pub skip_here : gap_at s p ≡ Nothing → skip s p ≡ At p
+  skip_here e = skip_law s p ∙ ap (λ (g : Gap). after_gap g p (skip s)) e

@@ -24,9 +24,9 @@ use Rattle.token.specs.declared.Power.TheVariants.{Times, None}
 use Rattle.token.proofs.Bytes.{class_at, class_is, both_false}
 
 module _ (s : List ℕ) (p : ℕ) where
-  pub word-is : (e k : ℕ) → e ≡ word_end s p → k ≡ code_of (bytes_between s p e) → found (Word k) p e ≡ word_at s p
+  pub word_is : (e k : ℕ) → e ≡ word_end s p → k ≡ code_of (bytes_between s p e) → found (Word k) p e ≡ word_at s p
   unfolding word_at
-  word-is e k f g = rw (← f, g)
+  word_is e k f g = rw (← f, g)
 
   module _ (q e max : ℕ) (f : e ≡ word_end s q) (g : max ≡ limit_of (eqb (byte s p) 45)) where
     pub number_is : (n : Bool) (m : ℕ) → numeral (ltb p q) max (bytes_between s q e) ≡ Is m → n ≡ is_negative (eqb (byte s p) 45) m →
@@ -34,97 +34,97 @@ module _ (s : List ℕ) (p : ℕ) where
     unfolding whole_at
     number_is n m h k = rw (← f, ← g, h, k)
 
-    pub number-bad : numeral (ltb p q) max (bytes_between s q e) ≡ Not → Refused p ≡ whole_at s p q
+    pub number_bad : numeral (ltb p q) max (bytes_between s q e) ≡ Not → Refused p ≡ whole_at s p q
     unfolding whole_at
-    number-bad h = rw (← f, ← g, h)
+    number_bad h = rw (← f, ← g, h)
 
   module _ (q d r x : ℕ) (f : r ≡ word_end s (d + 1)) (g : x ≡ find_mark s r (d + 1)) where
-    float-by : float_by s p q d r x ≡ float_at s p q d
+    float_by_lem : float_by s p q d r x ≡ float_at s p q d
     unfolding float_at
-    float-by = rw (g, f)
+    float_by_lem = rw (g, f)
 
     pub float_is : (v : Amount) (w : Power) (m : ℕ) (b : Bool) (y e : ℕ) → v ≡ mantissa_of (bytes_between s q d) (bytes_between s (d + 1) x) → w ≡ power_at s x r
         → v ≡ Is m → w ≡ Times b y e → (n : Bool) → n ≡ is_negative (eqb (byte s p) 45) m → (k : ℕ) → k ≡ scale_of b y (x - (d + 1))
         → found (Float n m k) p e ≡ float_at s p q d
     unfolding float_by
-    float_is v w m b y e h i j o n t k u = rw (t, u) (sym (rw (← h, ← i, j, o)) ∙ float-by)
+    float_is v w m b y e h i j o n t k u = rw (t, u) (sym (rw (← h, ← i, j, o)) ∙ float_by_lem)
 
-    pub float-no-power : (v : Amount) (w : Power) (m : ℕ) → v ≡ mantissa_of (bytes_between s q d) (bytes_between s (d + 1) x) → w ≡ power_at s x r
+    pub float_no_power : (v : Amount) (w : Power) (m : ℕ) → v ≡ mantissa_of (bytes_between s q d) (bytes_between s (d + 1) x) → w ≡ power_at s x r
         → v ≡ Is m → w ≡ None → Refused p ≡ float_at s p q d
     unfolding float_by
-    float-no-power v w m h i j o = sym (rw (← h, ← i, j, o)) ∙ float-by
+    float_no_power v w m h i j o = sym (rw (← h, ← i, j, o)) ∙ float_by_lem
 
-    pub float-no-digits : (v : Amount) → v ≡ mantissa_of (bytes_between s q d) (bytes_between s (d + 1) x) → v ≡ Not → Refused p ≡ float_at s p q d
+    pub float_no_digits : (v : Amount) → v ≡ mantissa_of (bytes_between s q d) (bytes_between s (d + 1) x) → v ≡ Not → Refused p ≡ float_at s p q d
     unfolding float_by
-    float-no-digits v h j = sym (rw (← h, j) (none_of (power_at s x r))) ∙ float-by
+    float_no_digits v h j = sym (rw (← h, j) (none_of (power_at s x r))) ∙ float_by_lem
       where
         none_of : (w : Power) → float_of (eqb (byte s p) 45) Not w (x - (d + 1)) p ≡ Refused p
         none_of (Times b y e) = refl
         none_of None = refl
 
-  pub number-float : (q e : ℕ) → e ≡ word_end s q → is_dotted s e ≡ true → number_at s p q ≡ float_at s p q e
+  pub number_float : (q e : ℕ) → e ≡ word_end s q → is_dotted s e ≡ true → number_at s p q ≡ float_at s p q e
   unfolding number_at number_by
-  number-float q e f t = ap (λ (b : Bool). number_by b s p q) (ap (is_dotted s) (sym f) ∙ t) ∙ ap (float_at s p q) (sym f)
+  number_float q e f t = ap (λ (b : Bool). number_by b s p q) (ap (is_dotted s) (sym f) ∙ t) ∙ ap (float_at s p q) (sym f)
 
-  pub number-whole : (q e : ℕ) → e ≡ word_end s q → is_dotted s e ≡ false → number_at s p q ≡ whole_at s p q
+  pub number_whole : (q e : ℕ) → e ≡ word_end s q → is_dotted s e ≡ false → number_at s p q ≡ whole_at s p q
   unfolding number_at number_by
-  number-whole q e f t = ap (λ (b : Bool). number_by b s p q) (ap (is_dotted s) (sym f) ∙ t)
+  number_whole q e f t = ap (λ (b : Bool). number_by b s p q) (ap (is_dotted s) (sym f) ∙ t)
 
-  pub string-is : (e : ℕ) → e ≡ find_byte 34 s (p + 1) → e < length s → found String p (e + 1) ≡ string_at s p
+  pub string_is : (e : ℕ) → e ≡ find_byte 34 s (p + 1) → e < length s → found String p (e + 1) ≡ string_at s p
   unfolding string_at
-  string-is e f h = rw (← f, lt-ltb e (length s) h)
+  string_is e f h = rw (← f, lt-ltb e (length s) h)
 
-  pub string-bad : (e : ℕ) → e ≡ find_byte 34 s (p + 1) → length s ≤ e → Refused p ≡ string_at s p
+  pub string_bad : (e : ℕ) → e ≡ find_byte 34 s (p + 1) → length s ≤ e → Refused p ≡ string_at s p
   unfolding string_at
-  string-bad e f h = rw (← f, le-ltb e (length s) h)
+  string_bad e f h = rw (← f, le-ltb e (length s) h)
 
-  pub dots-is : pair_at s p 46 46 ≡ true → found (Punctuator 46) p (p + 2) ≡ dots_at s p
+  pub dots_is : pair_at s p 46 46 ≡ true → found (Punctuator 46) p (p + 2) ≡ dots_at s p
   unfolding dots_at
-  dots-is e = rw e
+  dots_is e = rw e
 
-  pub dots-bad : pair_at s p 46 46 ≡ false → Refused p ≡ dots_at s p
+  pub dots_bad : pair_at s p 46 46 ≡ false → Refused p ≡ dots_at s p
   unfolding dots_at
-  dots-bad e = rw e
+  dots_bad e = rw e
 
   pub token_end : length s ≤ p → token_at s p ≡ End (length s)
   unfolding token_at
   token_end h = rw (le-ltb p (length s) h)
 
-  pub token-class : (k : ℕ) → p < length s → k ≡ class_code (class_of (byte s p)) → token_at s p ≡ token_of (class_at k) s p
+  pub token_class : (k : ℕ) → p < length s → k ≡ class_code (class_of (byte s p)) → token_at s p ≡ token_of (class_at k) s p
   unfolding token_at
-  token-class k h e = rw (lt-ltb p (length s) h, class_is (byte s p) k e)
+  token_class k h e = rw (lt-ltb p (length s) h, class_is (byte s p) k e)
 
-  pub step-token : (q : ℕ) → skip s p ≡ At q → step_at s p ≡ token_at s q
+  pub step_token : (q : ℕ) → skip s p ≡ At q → step_at s p ≡ token_at s q
   unfolding step_at
-  step-token q e = ap (after_skip s) e
+  step_token q e = ap (after_skip s) e
 
-  pub step-open : (q : ℕ) → skip s p ≡ Open q → step_at s p ≡ Refused q
+  pub step_open : (q : ℕ) → skip s p ≡ Open q → step_at s p ≡ Refused q
   unfolding step_at
-  step-open q e = ap (after_skip s) e
+  step_open q e = ap (after_skip s) e
 
   pub part_inside : (n : ℕ) → p ≤ length s → n ≤ length s - p → part_of s p n ≡ take n (drop p s)
   unfolding part_of
   part_inside n h k = rw (le-leb p (length s) h, le-leb n (length s - p) k)
 
-  pub part-long : (n : ℕ) → length s - p < n → part_of s p n ≡ []
+  pub part_long : (n : ℕ) → length s - p < n → part_of s p n ≡ []
   unfolding part_of
-  part-long n h = rw (lt-leb n (length s - p) h, both_false (leb p (length s)))
+  part_long n h = rw (lt-leb n (length s - p) h, both_false (leb p (length s)))
 
-  pub part-past : (n : ℕ) → length s < p → part_of s p n ≡ []
+  pub part_past : (n : ℕ) → length s < p → part_of s p n ≡ []
   unfolding part_of
-  part-past n h = rw (lt-leb p (length s) h)
+  part_past n h = rw (lt-leb p (length s) h)
 
   pub place_inside : (n : ℕ) → p ≤ length s → n ≤ length s - p → p ≡ part_place s p n
   unfolding part_place
   place_inside n h k = rw (le-leb p (length s) h, le-leb n (length s - p) k)
 
-  pub place-long : (n : ℕ) → length s - p < n → 0 ≡ part_place s p n
+  pub place_long : (n : ℕ) → length s - p < n → 0 ≡ part_place s p n
   unfolding part_place
-  place-long n h = rw (lt-leb n (length s - p) h, both_false (leb p (length s)))
+  place_long n h = rw (lt-leb n (length s - p) h, both_false (leb p (length s)))
 
-  pub place-past : (n : ℕ) → length s < p → 0 ≡ part_place s p n
+  pub place_past : (n : ℕ) → length s < p → 0 ≡ part_place s p n
   unfolding part_place
-  place-past n h = rw (lt-leb p (length s) h)
+  place_past n h = rw (lt-leb p (length s) h)
 
 no_token : (c : Class) (s : List ℕ) (p : ℕ) → (class_code c ≡ 0 → ⊥) → (class_code c ≡ 1 → ⊥) → (class_code c ≡ 3 → ⊥) →
     (class_code c ≡ 4 → ⊥) → (class_code c ≡ 5 → ⊥) → (class_code c ≡ 6 → ⊥) → token_of c s p ≡ Refused p

@@ -29,13 +29,13 @@ use Rattle.token.specs.declared.Skip.{Skip}
 use Rattle.token.specs.declared.Skip.TheVariants.{At, Open}
 use Rattle.token.specs.declared.Amount.{Amount}
 use Rattle.token.specs.declared.Amount.TheVariants.{Is, Not}
-use Rattle.token.proofs.Find.{by_test, find-next, find-low}
-use Rattle.token.proofs.Bytes.{word_byte, word_low, word-high, byte_low, pair_inside}
+use Rattle.token.proofs.Find.{by_test, find_next, find_low}
+use Rattle.token.proofs.Bytes.{word_byte, word_low, word_high, byte_low, pair_inside}
 use Rattle.token.specs.declared.Power.{Power}
 use Rattle.token.specs.declared.Power.TheVariants.{Times, None}
 use Rattle.token.proofs.Decimals.{PowerOk, power_ok, dotted_inside}
-use Rattle.token.proofs.Gaps.{GapOk, gap_ok, gap-past, skip-here, skip-open}
-use Rattle.token.proofs.Lexemes.{token_end, step-token, step-open}
+use Rattle.token.proofs.Gaps.{GapOk, gap_ok, gap_past, skip_here, skip_open}
+use Rattle.token.proofs.Lexemes.{token_end, step_token, step_open}
 
 -- ---- skipping
 
@@ -56,7 +56,7 @@ by_gap s p k f Unended e o = (omega arith, o, e)
 
 skip_n_lem : (n : ℕ) (s : List ℕ) (p : ℕ) → length s ≤ p + n → SkipOk s p (skip_n n s p)
 unfolding skip_n
-skip_n_lem zero s p h = (omega arith, gap-past s p (omega arith))
+skip_n_lem zero s p h = (omega arith, gap_past s p (omega arith))
 skip_n_lem (suc n) s p h = by_gap s p (skip_n n s) (λ q l _. skip_n_lem n s q (omega arith)) (gap_at s p) refl (gap_ok s p)
 
 pub skip_ok : (s : List ℕ) (p : ℕ) → SkipOk s p (skip s p)
@@ -80,8 +80,8 @@ word_goes_on : (s : List ℕ) (p : ℕ) → p < length s → class_code (class_o
 unfolding word_end
 word_goes_on s p h k =
     let t : ℕ → Bool = λ i. not (is_word_byte (byte s i)) in
-    let n = find-next t (length s) p h (ap not (word_byte (byte s p) ∙ lt-ltb (class_code (class_of (byte s p))) 2 k)) in
-    let l = find-low t (length s) (p + 1) in
+    let n = find_next t (length s) p h (ap not (word_byte (byte s p) ∙ lt-ltb (class_code (class_of (byte s p))) 2 k)) in
+    let l = find_low t (length s) (p + 1) in
     omega arith
 
 number_ok : (s : List ℕ) (p e : ℕ) (m : Bool) (v : Amount) → p < e → e ≤ length s → TokenOk s p (number_of m v p e)
@@ -104,7 +104,7 @@ float_ok : (s : List ℕ) (p q d : ℕ) → p < d → d + 1 < length s → Token
 unfolding float_at float_by
 float_ok s p q d h l =
     let i = word_low s (d + 1) in
-    let k = word-high s (d + 1) (omega arith) in
+    let k = word_high s (d + 1) (omega arith) in
     let x = find_mark s (word_end s (d + 1)) (d + 1) in
     float_of_ok s p (word_end s (d + 1)) (omega arith) k (eqb (byte s p) 45) (x - (d + 1)) (mantissa_of (bytes_between s q d) (bytes_between s (d + 1) x))
     (power_at s x (word_end s (d + 1))) (power_ok s x (word_end s (d + 1)) k)
@@ -139,12 +139,12 @@ dots_ok s p h =
 class_ok : (s : List ℕ) (p : ℕ) → p < length s → (c : Class) → class_of (byte s p) ≡ c → TokenOk s p (token_of c s p)
 unfolding token_of word_at
 class_ok s p h letter e =
-    found_ok s _ p (word_end s p) (word_goes_on s p h (rw e (omega arith))) (word-high s p (omega arith))
-class_ok s p h digit e = number_at_ok s p p (word_goes_on s p h (rw e (omega arith))) (word-high s p (omega arith))
+    found_ok s _ p (word_end s p) (word_goes_on s p h (rw e (omega arith))) (word_high s p (omega arith))
+class_ok s p h digit e = number_at_ok s p p (word_goes_on s p h (rw e (omega arith))) (word_high s p (omega arith))
 class_ok s p h blank e = (refl, h)
 class_ok s p h plus_minus e =
     let l = word_low s (p + 1) in
-    number_at_ok s p (p + 1) (omega arith) (word-high s (p + 1) (omega arith))
+    number_at_ok s p (p + 1) (omega arith) (word_high s (p + 1) (omega arith))
 class_ok s p h quote e = string_ok s p h
 class_ok s p h punctuator e = found_ok s _ p (p + 1) (omega arith) (omega arith)
 class_ok s p h dot e = dots_ok s p h
@@ -197,7 +197,7 @@ end_fits s p n e = subst (StepOk s p) e (step_ok s p)
 again : (s : List ℕ) (p : ℕ) (t : Token) (c : Cursor) (k : Skip) → SkipOk s p k → after_skip s k ≡ Found t c → step_at s t.at ≡ Found t c
 again s p t c (At q) o e =
     let place : t.at ≡ q = (subst (TokenOk s q) e (token_ok s q)).0 in
-    ap (step_at s) place ∙ step-token s q q (skip-here s q o.1) ∙ e
+    ap (step_at s) place ∙ step_token s q q (skip_here s q o.1) ∙ e
 again s p t c (Open q) o e = absurd (let z : ◌≡◌ {A = ℕ} 0 1 = cc in omega arith)
 
 -- a step from a token's own place finds the token again
@@ -208,10 +208,10 @@ step_again s p t c e = again s p t c (skip s p) (skip_ok s p) e
 bad_place : (s : List ℕ) (p q : ℕ) (k : Skip) → SkipOk s p k → after_skip s k ≡ Refused q → step_at s q ≡ Refused q
 bad_place s p q (At r) o e =
     let place : r ≡ q = (subst (TokenOk s r) e (token_ok s r)).0 in
-    ap (step_at s) (sym place) ∙ step-token s r r (skip-here s r o.1) ∙ e
+    ap (step_at s) (sym place) ∙ step_token s r r (skip_here s r o.1) ∙ e
 bad_place s p q (Open r) o e =
     let place : r ≡ q = cc in
-    ap (step_at s) (sym place) ∙ step-open s r r (skip-open s r o.2) ∙ e
+    ap (step_at s) (sym place) ∙ step_open s r r (skip_open s r o.2) ∙ e
 
 -- a step from the place of a refusal is refused again
 pub bad_again : (s : List ℕ) (p q : ℕ) → step_at s p ≡ Refused q → step_at s q ≡ Refused q
@@ -220,7 +220,7 @@ bad_again s p q e = bad_place s p q (skip s p) (skip_ok s p) e
 
 -- at the end of the text and past it there is no token
 pub step_past : (s : List ℕ) (p : ℕ) → length s ≤ p → step_at s p ≡ End (length s)
-step_past s p h = step-token s p p (skip-here s p (gap-past s p h)) ∙ token_end s p h
+step_past s p h = step_token s p p (skip_here s p (gap_past s p h)) ∙ token_end s p h
 
 -- ---- all steps
 
@@ -252,15 +252,15 @@ lex_law s p =
     enough (length s - p) (suc (length s - c.at)) s c.at (omega arith) (omega arith))
 
 module _ (s : List ℕ) (p : ℕ) where
-  pub lex-found : (t : Token) (c : Cursor) → step_at s p ≡ Found t c → lex_from s p ≡ more t (lex_from s c.at)
-  lex-found t c e = lex_law s p ∙ ap (λ (r : Step). after_step r (lex_from s)) e
+  pub lex_found : (t : Token) (c : Cursor) → step_at s p ≡ Found t c → lex_from s p ≡ more t (lex_from s c.at)
+  lex_found t c e = lex_law s p ∙ ap (λ (r : Step). after_step r (lex_from s)) e
 
-  pub lex-bad : (q : ℕ) → step_at s p ≡ Refused q → lex_from s p ≡ refused q
-  lex-bad q e = lex_law s p ∙ ap (λ (r : Step). after_step r (lex_from s)) e
+  pub lex_bad : (q : ℕ) → step_at s p ≡ Refused q → lex_from s p ≡ refused q
+  lex_bad q e = lex_law s p ∙ ap (λ (r : Step). after_step r (lex_from s)) e
 
-  pub lex-end : (n : ℕ) → step_at s p ≡ End n → lex_from s p ≡ ended n
-  lex-end n e = lex_law s p ∙ ap (λ (r : Step). after_step r (lex_from s)) e
+  pub lex_end : (n : ℕ) → step_at s p ≡ End n → lex_from s p ≡ ended n
+  lex_end n e = lex_law s p ∙ ap (λ (r : Step). after_step r (lex_from s)) e
 
 -- the tokens from a token's own place on are those from where the step to it began
 pub lex_again : (s : List ℕ) (p : ℕ) (t : Token) (c : Cursor) → step_at s p ≡ Found t c → lex_from s t.at ≡ lex_from s p
-lex_again s p t c e = lex-found s t.at t c (step_again s p t c e) ∙ sym (lex-found s p t c e)
+lex_again s p t c e = lex_found s t.at t c (step_again s p t c e) ∙ sym (lex_found s p t c e)

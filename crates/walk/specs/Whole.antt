@@ -40,12 +40,12 @@ pub record Tells (f : File) (x y : Rooms) (r : Walked) : Type 0 where
   pub enumerators : r.enumerators ≡ min 65536 (length (spec_choices f.specs))
   pub parts : r.parts ≡ min 65536 (length f.parts)
   pub statements : r.statements ≡ min 65536 (statement_count f.parts)
-  pub definition-rows : length (spec_entries f.specs) ≤ 65536
+  pub definition_rows : length (spec_entries f.specs) ≤ 65536
       → y.definitions ≡ sets x.definitions 0 (join (map_cells definition_cells (spec_entries f.specs)))
-  pub enumerator-rows : length (spec_choices f.specs) ≤ 65536
+  pub enumerator_rows : length (spec_choices f.specs) ≤ 65536
       → y.enumerators ≡ sets x.enumerators 0 (join (map_cells choice_cells (spec_choices f.specs)))
-  pub part-table : length f.parts ≤ 65536 → statement_count f.parts ≤ 65536 → y.parts ≡ sets x.parts 0 (join (object_rows f.parts 0))
-  pub statement-table : statement_count f.parts ≤ 65536 → y.statements ≡ sets x.statements 0 (join (all_statement_rows f.parts 0))
+  pub part_table : length f.parts ≤ 65536 → statement_count f.parts ≤ 65536 → y.parts ≡ sets x.parts 0 (join (object_rows f.parts 0))
+  pub statement_table : statement_count f.parts ≤ 65536 → y.statements ≡ sets x.statements 0 (join (all_statement_rows f.parts 0))
   pub places : r.places ≡ kind_places f.specs
   pub again : r.again ≡ again_place [] f.specs
   pub counted : length f.parts ≤ 65536 → r.counts ≡ counts f.parts

@@ -19,16 +19,16 @@ use Rattle.meaning.proofs.Whole.{answers, the_answer, the_normal_text}
 use Rattle.reading.specs.Results.{reading_of, rooms_of, table_after}
 use Rattle.reading.specs.Demand.{Demand-3}
 use Rattle.reading.specs.declared.Answer.TheVariants.{Accepted, Refused}
-use Rattle.reading.proofs.ByRules.{full-enough, enough-full}
+use Rattle.reading.proofs.ByRules.{full_enough, enough_full}
 use Rattle.reading.proofs.Demand.{reading_demand_3}
 use Rattle.writing.specs.Results.{written_of, output_after, asked, Writes}
-use Rattle.writing.specs.Rules.{WritesByRules, short-tables, refuses, longer, writes}
+use Rattle.writing.specs.Rules.{WritesByRules, short_tables, refuses, longer, writes}
 use Rattle.writing.specs.declared.Written.{Written}
 
 -- Where grammar passes, it passes with refusal 20 too.
 still_passes : (s : List ℕ) → Demand-3 s Accepted → Demand-3 s (Refused 20 0)
 still_passes s q = record {
-  passes-exactly = λ w. ((λ _. (q.passes-exactly w).0 tt), (λ _. omega arith));
+  passes_exactly = λ w. ((λ _. (q.passes-exactly w).0 tt), (λ _. omega arith));
   one_derivation = q.one-derivation;
   refusal = λ w k. absurd (k (omega arith));
 }
@@ -38,21 +38,21 @@ module _ {s d e o v l d' e' o' v' l' : List ℕ} {r : Written} (k : Writes s d e
   room = enough (rooms_of d e o v)
 
   -- The answer of the call, by the rooms and the reading.
-  asked-short : room ≡ false → asked s d e o v l ≡ refused 1 0
+  asked_short : room ≡ false → asked s d e o v l ≡ refused 1 0
   unfolding asked call choose
-  asked-short q = ap (λ b. choose b (λ _. output_asked (some (length l)) (normal_text s) (reading s)) (λ _. refused 1 0)) q
+  asked_short q = ap (λ b. choose b (λ _. output_asked (some (length l)) (normal_text s) (reading s)) (λ _. refused 1 0)) q
 
-  asked-as : room ≡ true → (a : Meant) → reading s ≡ a → asked s d e o v l ≡ output_asked (some (length l)) (normal_text s) a
+  asked_as : room ≡ true → (a : Meant) → reading s ≡ a → asked s d e o v l ≡ output_asked (some (length l)) (normal_text s) a
   unfolding asked call choose
-  asked-as q a p =
+  asked_as q a p =
       ap (λ b. choose b (λ _. output_asked (some (length l)) (normal_text s) (reading s)) (λ _. refused 1 0)) q
       ∙ ap (output_asked (some (length l)) (normal_text s)) p
 
   -- The tables, the result and the output, where that answer is a.
   module _ (a : Meant) (z : asked s d e o v l ≡ a) where
-    in-rooms : room ≡ true → InRooms (rooms_after a) d e o v d' e' o' v'
+    in_rooms : room ≡ true → InRooms (rooms_after a) d e o v d' e' o' v'
     unfolding table_after
-    in-rooms q = record {
+    in_rooms q = record {
       definitions = k.definitions ∙ ap₂ (λ (b : Bool) (y : Meant). table_after b (rooms_after y).definitions 6656 d) q z;
       enumerators = k.enumerators ∙ ap₂ (λ (b : Bool) (y : Meant). table_after b (rooms_after y).enumerators 3072 e) q z;
       objects = k.objects ∙ ap₂ (λ (b : Bool) (y : Meant). table_after b (rooms_after y).objects 2048 o) q z;
@@ -68,30 +68,30 @@ module _ {s d e o v l d' e' o' v' l' : List ℕ} {r : Written} (k : Writes s d e
       values = k.values ∙ ap₂ (λ (b : Bool) (y : Meant). table_after b (rooms_after y).values 18432 v) q z;
     }
 
-    result-is : r ≡ written_of (normal_text s) a
-    result-is = k.result ∙ ap (written_of (normal_text s)) z
+    result_is : r ≡ written_of (normal_text s) a
+    result_is = k.result ∙ ap (written_of (normal_text s)) z
 
-    output-is : l' ≡ output_after (normal_text s) l a
-    output-is = k.output ∙ ap (output_after (normal_text s) l) z
+    output_is : l' ≡ output_after (normal_text s) l a
+    output_is = k.output ∙ ap (output_after (normal_text s) l) z
 
   -- An accepted text, whose normal text fits or not.
   by_length : room ≡ true → (t : Tables) → reading s ≡ accepted t → (b : Bool) → ltb (length l) (length (normal_text s)) ≡ b
       → WritesByRules s d e o v l d' e' o' v' l' r × Demand-3 s r.answer
   unfolding output_asked too_short written_of output_after reading_of
   by_length q t p true h =
-      let z : asked s d e o v l ≡ refused 20 0 = asked-as q (accepted t) p ∙ ap (λ b. pick b (refused 20 0) (accepted t)) h in
+      let z : asked s d e o v l ≡ refused 20 0 = asked_as q (accepted t) p ∙ ap (λ b. pick b (refused 20 0) (accepted t)) h in
       let i = subst (λ a. TheAnswer s a) p (the_answer s) in
-      let g = result-is (refused 20 0) z in (
-        longer (enough-full q) t i (normal_text s) (the_normal_text t (answers s) p) (ltb-true (length l) (length (normal_text s)) h)
-            g (in-rooms (refused 20 0) z q) (output-is (refused 20 0) z),
+      let g = result_is (refused 20 0) z in (
+        longer (enough_full q) t i (normal_text s) (the_normal_text t (answers s) p) (ltb-true (length l) (length (normal_text s)) h)
+            g (in_rooms (refused 20 0) z q) (output_is (refused 20 0) z),
         subst (λ a. Demand-3 s a) (sym (ap (λ (x : Written). x.answer) g)) (still_passes s (subst (λ a. Demand-3 s (reading_of a).answer) p (reading_demand_3 s))),
       )
   by_length q t p false h =
-      let z : asked s d e o v l ≡ accepted t = asked-as q (accepted t) p ∙ ap (λ b. pick b (refused 20 0) (accepted t)) h in
+      let z : asked s d e o v l ≡ accepted t = asked_as q (accepted t) p ∙ ap (λ b. pick b (refused 20 0) (accepted t)) h in
       let i = subst (λ a. TheAnswer s a) p (the_answer s) in
-      let g = result-is (accepted t) z in (
-        writes (enough-full q) t i (normal_text s) (the_normal_text t (answers s) p) (ltb-false (length l) (length (normal_text s)) h)
-            g (in-rooms (accepted t) z q) (output-is (accepted t) z),
+      let g = result_is (accepted t) z in (
+        writes (enough_full q) t i (normal_text s) (the_normal_text t (answers s) p) (ltb-false (length l) (length (normal_text s)) h)
+            g (in_rooms (accepted t) z q) (output_is (accepted t) z),
         subst (λ a. Demand-3 s a) (sym (ap (λ (x : Written). x.answer) g)) (subst (λ a. Demand-3 s (reading_of a).answer) p (reading_demand_3 s)),
       )
 
@@ -99,28 +99,28 @@ module _ {s d e o v l d' e' o' v' l' : List ℕ} {r : Written} (k : Writes s d e
   unfolding output_asked written_of output_after reading_of
   by_reading q (accepted t) p = by_length q t p (ltb (length l) (length (normal_text s))) refl
   by_reading q (refused n m) p =
-      let z : asked s d e o v l ≡ refused n m = asked-as q (refused n m) p in
-      let g = result-is (refused n m) z in (
-        refuses (enough-full q) n m (subst (λ a. TheAnswer s a) p (the_answer s)) g (in-rooms (refused n m) z q) (output-is (refused n m) z),
+      let z : asked s d e o v l ≡ refused n m = asked_as q (refused n m) p in
+      let g = result_is (refused n m) z in (
+        refuses (enough_full q) n m (subst (λ a. TheAnswer s a) p (the_answer s)) g (in_rooms (refused n m) z q) (output_is (refused n m) z),
         subst (λ a. Demand-3 s a) (sym (ap (λ (x : Written). x.answer) g)) (subst (λ a. Demand-3 s (reading_of a).answer) p (reading_demand_3 s)),
       )
 
   -- What `Writes` says is what the rules say.
-  pub writes-by-rules : WritesByRules s d e o v l d' e' o' v' l' r
+  pub writes_by_rules : WritesByRules s d e o v l d' e' o' v' l' r
   unfolding written_of output_after
-  writes-by-rules = go room refl
+  writes_by_rules = go room refl
     where
       go : (b : Bool) → room ≡ b → WritesByRules s d e o v l d' e' o' v' l' r
       go true q = (by_reading q (reading s) refl).0
       go false q =
-          let z = asked-short q in
-          short-tables (λ f. false≢true (sym q ∙ full-enough f)) (result-is (refused 1 0) z) (untouched (refused 1 0) z q) (output-is (refused 1 0) z)
+          let z = asked_short q in
+          short_tables (λ f. false≢true (sym q ∙ full_enough f)) (result_is (refused 1 0) z) (untouched (refused 1 0) z q) (output_is (refused 1 0) z)
 
   -- Demand 3, for tables of full room.
-  pub full-demand-3 : FullRoom d e o v → Demand-3 s r.answer
-  full-demand-3 f = (by_reading (full-enough f) (reading s) refl).1
+  pub full_demand_3 : FullRoom d e o v → Demand-3 s r.answer
+  full_demand_3 f = (by_reading (full_enough f) (reading s) refl).1
 
 -- The clauses of `write`: from the first, the others.
 pub and_rules : {s d e o v l d' e' o' v' l' : List ℕ} {r : Written} → Writes s d e o v l d' e' o' v' l' r
     → Writes s d e o v l d' e' o' v' l' r × (WritesByRules s d e o v l d' e' o' v' l' r × (FullRoom d e o v → Demand-3 s r.answer))
-and_rules k = (k, (writes-by-rules k, full-demand-3 k))
+and_rules k = (k, (writes_by_rules k, full_demand_3 k))

@@ -27,8 +27,8 @@ use Rattle.reading.specs.declared.Reading.{Reading}
 use Rattle.reading.specs.declared.Spanned.{Spanned}
 use Rattle.meaning.specs.Rules.{FullRoom}
 use Rattle.reading.specs.Decisions.{RoomSizes}
-use Rattle.reading.proofs.ByRules.{full-enough}
-use Rattle.reading.proofs.Lending.{call-enough}
+use Rattle.reading.proofs.ByRules.{full_enough}
+use Rattle.reading.proofs.Lending.{call_enough}
 use Rattle.reading.proofs.Settling.{blank_room}
 use Rattle.writing.specs.Promises.{Given, PutOut, fits, too_long, PutsOut}
 use Rattle.writing.specs.Results.{written_of, output_after, asked, Writes}
@@ -116,12 +116,12 @@ after_same false x y n l h = refl
 module _ {s d e o v d₁ e₁ o₁ v₁ : List ℕ} {w : Spanned} (h : ReadsSpanned s d e o v d₁ e₁ o₁ v₁ w) where
   -- A refused text -------------------------------------------------------------------------------------------------------------------------
 
-  pub refused-writes : (n p : ℕ) → w.reading.answer ≡ Refused n p → (l : List ℕ) → Writes s d e o v l d₁ e₁ o₁ v₁ l (record { answer = Refused n p; length = 0 })
+  pub refused_writes : (n p : ℕ) → w.reading.answer ≡ Refused n p → (l : List ℕ) → Writes s d e o v l d₁ e₁ o₁ v₁ l (record { answer = Refused n p; length = 0 })
   unfolding asked call written_of output_after
-  refused-writes n p i l =
+  refused_writes n p i l =
       let c : call (rooms_of d e o v) none s ≡ refused n p = is_refused _ n p (sym (ap (λ (x : Reading). x.answer) h.reads.result) ∙ i) in
       let z : asked s d e o v l ≡ refused n p = asked_refused (length l) (normal_text s) (enough (rooms_of d e o v)) (reading s) n p c in
-      let q : enough (rooms_of d e o v) ≡ true → reading s ≡ asked s d e o v l = λ b. sym (call-enough s d e o v b) ∙ c ∙ sym z in
+      let q : enough (rooms_of d e o v) ≡ true → reading s ≡ asked s d e o v l = λ b. sym (call_enough s d e o v b) ∙ c ∙ sym z in
       record {
         result = ap (written_of (normal_text s)) (sym z);
         definitions = h.reads.definitions ∙ after_same (enough (rooms_of d e o v)) _ _ 6656 d (λ b. ap (λ (a : Meant). (rooms_after a).definitions) (q b));
@@ -132,9 +132,9 @@ module _ {s d e o v d₁ e₁ o₁ v₁ : List ℕ} {w : Spanned} (h : ReadsSpan
       }
 
   -- Where the tables are long enough, it is refused so by the rules.
-  pub refused-reading : FullRoom d e o v → (n p : ℕ) → w.reading.answer ≡ Refused n p → reading s ≡ refused n p
-  refused-reading k n p i =
-      sym (call-enough s d e o v (full-enough k)) ∙ is_refused _ n p (sym (ap (λ (x : Reading). x.answer) h.reads.result) ∙ i)
+  pub refused_reading : FullRoom d e o v → (n p : ℕ) → w.reading.answer ≡ Refused n p → reading s ≡ refused n p
+  refused_reading k n p i =
+      sym (call_enough s d e o v (full_enough k)) ∙ is_refused _ n p (sym (ap (λ (x : Reading). x.answer) h.reads.result) ∙ i)
 
   -- An accepted text -----------------------------------------------------------------------------------------------------------------------
 
@@ -148,171 +148,171 @@ module _ {s d e o v d₁ e₁ o₁ v₁ : List ℕ} {w : Spanned} (h : ReadsSpan
     pub called : IsAccepted (call (rooms_of d e o v) none s)
     called = is_accepted _ (sym (ap (λ (x : Reading). x.answer) h.reads.result) ∙ i)
 
-    pub all-enough : enough (rooms_of d e o v) ≡ true
+    pub all_enough : enough (rooms_of d e o v) ≡ true
     unfolding call
-    all-enough = enough_by (enough (rooms_of d e o v)) (output_asked none (normal_text s) (reading s)) called.rows called.is
+    all_enough = enough_by (enough (rooms_of d e o v)) (output_asked none (normal_text s) (reading s)) called.rows called.is
 
-    pub reads-own : reading s ≡ accepted own
-    reads-own =
-        let a = sym (call-enough s d e o v all-enough) ∙ called.is in
+    pub reads_own : reading s ≡ accepted own
+    reads_own =
+        let a = sym (call_enough s d e o v all_enough) ∙ called.is in
         a ∙ ap accepted (sym (own_rows file called.rows (sym (h.spans i).answered ∙ a)))
 
-    pub own-fits : Fits own
-    own-fits =
+    pub own_fits : Fits own
+    own_fits =
         let t = (h.spans i).situation in
-        accepted_fits s t.derivation.tree own (sym (ap answer t.syntax-of) ∙ sym (h.spans i).answered ∙ reads-own)
+        accepted_fits s t.derivation.tree own (sym (ap answer t.syntax-of) ∙ sym (h.spans i).answered ∙ reads_own)
 
-    abbrev pub definitions-room : List ℕ
-    definitions-room = definition_room (all_definition_rows file.specs)
+    abbrev pub definitions_room : List ℕ
+    definitions_room = definition_room (all_definition_rows file.specs)
 
-    pub definitions-are : d₁ ≡ definitions-room ++ drop 6656 d
+    pub definitions_are : d₁ ≡ definitions_room ++ drop 6656 d
     unfolding table_after rooms_after tables
-    definitions-are = h.reads.definitions ∙ ap₂ (λ (b : Bool) (a : Meant). table_after b (rooms_after a).definitions 6656 d) all-enough reads-own
+    definitions_are = h.reads.definitions ∙ ap₂ (λ (b : Bool) (a : Meant). table_after b (rooms_after a).definitions 6656 d) all_enough reads_own
 
-    pub definitions-wide : length definitions-room ≡ 6656
+    pub definitions_wide : length definitions_room ≡ 6656
     unfolding tables
-    definitions-wide = (rooms_full own own-fits).0
+    definitions_wide = (rooms_full own own_fits).0
 
-    pub definitions-long : 6656 ≤ length d₁
-    definitions-long = let a = ap length definitions-are in let b = length-append definitions-room (drop 6656 d) in let c = definitions-wide in omega (arith, a, b, c)
+    pub definitions_long : 6656 ≤ length d₁
+    definitions_long = let a = ap length definitions_are in let b = length-append definitions_room (drop 6656 d) in let c = definitions_wide in omega (arith, a, b, c)
 
-    pub definitions-front : 6656 ≡ length (take 6656 d₁)
-    definitions-front = sym (length-take-le 6656 d₁ definitions-long)
+    pub definitions_front : 6656 ≡ length (take 6656 d₁)
+    definitions_front = sym (length-take-le 6656 d₁ definitions_long)
 
-    abbrev pub enumerators-room : List ℕ
-    enumerators-room = enumerator_room (all_enumerator_rows file.specs)
+    abbrev pub enumerators_room : List ℕ
+    enumerators_room = enumerator_room (all_enumerator_rows file.specs)
 
-    pub enumerators-are : e₁ ≡ enumerators-room ++ drop 3072 e
+    pub enumerators_are : e₁ ≡ enumerators_room ++ drop 3072 e
     unfolding table_after rooms_after tables
-    enumerators-are = h.reads.enumerators ∙ ap₂ (λ (b : Bool) (a : Meant). table_after b (rooms_after a).enumerators 3072 e) all-enough reads-own
+    enumerators_are = h.reads.enumerators ∙ ap₂ (λ (b : Bool) (a : Meant). table_after b (rooms_after a).enumerators 3072 e) all_enough reads_own
 
-    pub enumerators-wide : length enumerators-room ≡ 3072
+    pub enumerators_wide : length enumerators_room ≡ 3072
     unfolding tables
-    enumerators-wide = (rooms_full own own-fits).1
+    enumerators_wide = (rooms_full own own_fits).1
 
-    pub enumerators-long : 3072 ≤ length e₁
-    enumerators-long = let a = ap length enumerators-are in let b = length-append enumerators-room (drop 3072 e) in let c = enumerators-wide in omega (arith, a, b, c)
+    pub enumerators_long : 3072 ≤ length e₁
+    enumerators_long = let a = ap length enumerators_are in let b = length-append enumerators_room (drop 3072 e) in let c = enumerators_wide in omega (arith, a, b, c)
 
-    pub enumerators-front : 3072 ≡ length (take 3072 e₁)
-    enumerators-front = sym (length-take-le 3072 e₁ enumerators-long)
+    pub enumerators_front : 3072 ≡ length (take 3072 e₁)
+    enumerators_front = sym (length-take-le 3072 e₁ enumerators_long)
 
-    abbrev pub objects-room : List ℕ
-    objects-room = object_room (object_rows file.objects)
+    abbrev pub objects_room : List ℕ
+    objects_room = object_room (object_rows file.objects)
 
-    pub objects_are : o₁ ≡ objects-room ++ drop 2048 o
+    pub objects_are : o₁ ≡ objects_room ++ drop 2048 o
     unfolding table_after rooms_after tables
-    objects_are = h.reads.objects ∙ ap₂ (λ (b : Bool) (a : Meant). table_after b (rooms_after a).objects 2048 o) all-enough reads-own
+    objects_are = h.reads.objects ∙ ap₂ (λ (b : Bool) (a : Meant). table_after b (rooms_after a).objects 2048 o) all_enough reads_own
 
-    pub objects-wide : length objects-room ≡ 2048
+    pub objects_wide : length objects_room ≡ 2048
     unfolding tables
-    objects-wide = (rooms_full own own-fits).2
+    objects_wide = (rooms_full own own_fits).2
 
-    pub objects-long : 2048 ≤ length o₁
-    objects-long = let a = ap length objects_are in let b = length-append objects-room (drop 2048 o) in let c = objects-wide in omega (arith, a, b, c)
+    pub objects_long : 2048 ≤ length o₁
+    objects_long = let a = ap length objects_are in let b = length-append objects_room (drop 2048 o) in let c = objects_wide in omega (arith, a, b, c)
 
-    pub objects-front : 2048 ≡ length (take 2048 o₁)
-    objects-front = sym (length-take-le 2048 o₁ objects-long)
+    pub objects_front : 2048 ≡ length (take 2048 o₁)
+    objects_front = sym (length-take-le 2048 o₁ objects_long)
 
-    abbrev pub values-room : List ℕ
-    values-room = value_room (all_value_rows (all_values file file.objects) 0 0)
+    abbrev pub values_room : List ℕ
+    values_room = value_room (all_value_rows (all_values file file.objects) 0 0)
 
-    pub values-are : v₁ ≡ values-room ++ drop 18432 v
+    pub values_are : v₁ ≡ values_room ++ drop 18432 v
     unfolding table_after rooms_after tables
-    values-are = h.reads.values ∙ ap₂ (λ (b : Bool) (a : Meant). table_after b (rooms_after a).values 18432 v) all-enough reads-own
+    values_are = h.reads.values ∙ ap₂ (λ (b : Bool) (a : Meant). table_after b (rooms_after a).values 18432 v) all_enough reads_own
 
-    pub values-wide : length values-room ≡ 18432
+    pub values_wide : length values_room ≡ 18432
     unfolding tables
-    values-wide = (rooms_full own own-fits).3
+    values_wide = (rooms_full own own_fits).3
 
-    pub values-long : 18432 ≤ length v₁
-    values-long = let a = ap length values-are in let b = length-append values-room (drop 18432 v) in let c = values-wide in omega (arith, a, b, c)
+    pub values_long : 18432 ≤ length v₁
+    values_long = let a = ap length values_are in let b = length-append values_room (drop 18432 v) in let c = values_wide in omega (arith, a, b, c)
 
-    pub values-front : 18432 ≡ length (take 18432 v₁)
-    values-front = sym (length-take-le 18432 v₁ values-long)
+    pub values_front : 18432 ≡ length (take 18432 v₁)
+    values_front = sym (length-take-le 18432 v₁ values_long)
 
     pub given : Given s (take 6656 d₁) (take 2048 o₁) (take 18432 v₁) w file
     unfolding reading_of tables
     given =
         let a = h.spans i in
-        let r : w.reading ≡ reading_of (accepted own) = h.reads.result ∙ ap reading_of (call-enough s d e o v all-enough ∙ reads-own) in
+        let r : w.reading ≡ reading_of (accepted own) = h.reads.result ∙ ap reading_of (call_enough s d e o v all_enough ∙ reads_own) in
         record {
           tables = record {
             situation = a.situation;
-            definitions = room_is 6656 definitions-room d d₁ definitions-are definitions-wide;
-            objects = room_is 2048 objects-room o o₁ objects_are objects-wide;
-            values = room_is 18432 values-room v v₁ values-are values-wide;
-            many-objects = ap (λ (x : Reading). x.objects) r;
-            many-values = ap (λ (x : Reading). x.values) r;
+            definitions = room_is 6656 definitions_room d d₁ definitions_are definitions_wide;
+            objects = room_is 2048 objects_room o o₁ objects_are objects_wide;
+            values = room_is 18432 values_room v v₁ values_are values_wide;
+            many_objects = ap (λ (x : Reading). x.objects) r;
+            many_values = ap (λ (x : Reading). x.values) r;
           };
           spans = record {
-            implementation-at = sym a.implementation.0;
-            implementation-long = sym a.implementation.1;
-            cpu-at = sym a.cpu.0;
-            cpu-long = sym a.cpu.1;
+            implementation_at = sym a.implementation.0;
+            implementation_long = sym a.implementation.1;
+            cpu_at = sym a.cpu.0;
+            cpu_long = sym a.cpu.1;
           };
         }
 
     -- Tables that are no longer than their rooms hold the rows whole.
-    pub given-whole : RoomSizes d e o v → Given s d₁ o₁ v₁ w file
-    given-whole k =
+    pub given_whole : RoomSizes d e o v → Given s d₁ o₁ v₁ w file
+    given_whole k =
         let g = given in
         record {
           tables = record {
             situation = g.tables.situation;
-            definitions = room_whole 6656 definitions-room d d₁ definitions-are definitions-wide k.definitions;
-            objects = room_whole 2048 objects-room o o₁ objects_are objects-wide k.objects;
-            values = room_whole 18432 values-room v v₁ values-are values-wide k.values;
-            many-objects = g.tables.many-objects;
-            many-values = g.tables.many-values;
+            definitions = room_whole 6656 definitions_room d d₁ definitions_are definitions_wide k.definitions;
+            objects = room_whole 2048 objects_room o o₁ objects_are objects_wide k.objects;
+            values = room_whole 18432 values_room v v₁ values_are values_wide k.values;
+            many_objects = g.tables.many-objects;
+            many_values = g.tables.many-values;
           };
           spans = g.spans;
         }
 
-    pub enumerators-whole : RoomSizes d e o v → e₁ ≡ enumerators-room
-    enumerators-whole k = room_whole 3072 enumerators-room e e₁ enumerators-are enumerators-wide k.enumerators
+    pub enumerators_whole : RoomSizes d e o v → e₁ ≡ enumerators_room
+    enumerators_whole k = room_whole 3072 enumerators_room e e₁ enumerators_are enumerators_wide k.enumerators
 
     -- How many rows of definitions and of enumerators there are.
-    pub many-definitions : w.reading.definitions ≡ length (all_definition_rows file.specs)
+    pub many_definitions : w.reading.definitions ≡ length (all_definition_rows file.specs)
     unfolding reading_of tables
-    many-definitions = ap (λ (x : Reading). x.definitions) (h.reads.result ∙ ap reading_of (call-enough s d e o v all-enough ∙ reads-own))
+    many_definitions = ap (λ (x : Reading). x.definitions) (h.reads.result ∙ ap reading_of (call_enough s d e o v all_enough ∙ reads_own))
 
-    pub many-enumerators : w.reading.enumerators ≡ length (all_enumerator_rows file.specs)
+    pub many_enumerators : w.reading.enumerators ≡ length (all_enumerator_rows file.specs)
     unfolding reading_of tables
-    many-enumerators = ap (λ (x : Reading). x.enumerators) (h.reads.result ∙ ap reading_of (call-enough s d e o v all-enough ∙ reads-own))
+    many_enumerators = ap (λ (x : Reading). x.enumerators) (h.reads.result ∙ ap reading_of (call_enough s d e o v all_enough ∙ reads_own))
 
-    pub text-is : normal s file ≡ normal_text s
-    text-is = let a = h.spans i in ap (normal s) a.situation.syntax-of ∙ sym (normal_derived s a.covered a.situation.derivation)
+    pub text_is : normal s file ≡ normal_text s
+    text_is = let a = h.spans i in ap (normal s) a.situation.syntax-of ∙ sym (normal_derived s a.covered a.situation.derivation)
 
     asked_is : (l : List ℕ) → asked s d e o v l ≡ output_asked (some (length l)) (normal_text s) (accepted own)
     unfolding asked call choose
     asked_is l =
-        ap (λ (b : Bool). choose b (λ _. output_asked (some (length l)) (normal_text s) (reading s)) (λ _. refused 1 0)) all-enough
-        ∙ ap (output_asked (some (length l)) (normal_text s)) reads-own
+        ap (λ (b : Bool). choose b (λ _. output_asked (some (length l)) (normal_text s) (reading s)) (λ _. refused 1 0)) all_enough
+        ∙ ap (output_asked (some (length l)) (normal_text s)) reads_own
 
-    pub accepted-writes : (l d₂ e₂ o₂ v₂ l₂ : List ℕ) (r : Written) → PutsOut s (take 6656 d₁) (take 3072 e₁) (take 2048 o₁) (take 18432 v₁) w l d₂ e₂ o₂ v₂ l₂ r
+    pub accepted_writes : (l d₂ e₂ o₂ v₂ l₂ : List ℕ) (r : Written) → PutsOut s (take 6656 d₁) (take 3072 e₁) (take 2048 o₁) (take 18432 v₁) w l d₂ e₂ o₂ v₂ l₂ r
         → Writes s d e o v l (d₂ ++ drop 6656 d₁) (e₂ ++ drop 3072 e₁) (o₂ ++ drop 2048 o₁) (v₂ ++ drop 18432 v₁) l₂ r
     unfolding written_of output_after table_after rooms_after definition_room enumerator_room object_room value_room tables
-    accepted-writes l d₂ e₂ o₂ v₂ l₂ r p = by (p file given)
+    accepted_writes l d₂ e₂ o₂ v₂ l₂ r p = by (p file given)
       where
         by : PutOut (normal s file) (take 6656 d₁) (take 3072 e₁) (take 2048 o₁) (take 18432 v₁) l d₂ e₂ o₂ v₂ l₂ r
             → Writes s d e o v l (d₂ ++ drop 6656 d₁) (e₂ ++ drop 3072 e₁) (o₂ ++ drop 2048 o₁) (v₂ ++ drop 18432 v₁) l₂ r
         by (fits k a b c g m q) =
-            let z : asked s d e o v l ≡ accepted own = asked_is l ∙ asked_fits (length l) (normal_text s) own (subst (λ (x : List ℕ). length x ≤ length l) text-is k) in
+            let z : asked s d e o v l ≡ accepted own = asked_is l ∙ asked_fits (length l) (normal_text s) own (subst (λ (x : List ℕ). length x ≤ length l) text_is k) in
             record {
-              result = q ∙ ap (λ (x : List ℕ). record { answer = Accepted; length = length x }) text-is ∙ ap (written_of (normal_text s)) (sym z);
-              definitions = kept 6656 definitions-room d d₁ definitions-are definitions-wide d₂ a ∙ ap₂ (λ (b : Bool) (y : Meant). table_after b (rooms_after y).definitions 6656 d) (sym all-enough) (sym z);
-              enumerators = kept 3072 enumerators-room e e₁ enumerators-are enumerators-wide e₂ b ∙ ap₂ (λ (b : Bool) (y : Meant). table_after b (rooms_after y).enumerators 3072 e) (sym all-enough) (sym z);
-              objects = kept 2048 objects-room o o₁ objects_are objects-wide o₂ c ∙ ap₂ (λ (b : Bool) (y : Meant). table_after b (rooms_after y).objects 2048 o) (sym all-enough) (sym z);
-              values = kept 18432 values-room v v₁ values-are values-wide v₂ g ∙ ap₂ (λ (b : Bool) (y : Meant). table_after b (rooms_after y).values 18432 v) (sym all-enough) (sym z);
-              output = m ∙ ap (λ (x : List ℕ). x ++ drop (length x) l) text-is ∙ ap (output_after (normal_text s) l) (sym z);
+              result = q ∙ ap (λ (x : List ℕ). record { answer = Accepted; length = length x }) text_is ∙ ap (written_of (normal_text s)) (sym z);
+              definitions = kept 6656 definitions_room d d₁ definitions_are definitions_wide d₂ a ∙ ap₂ (λ (b : Bool) (y : Meant). table_after b (rooms_after y).definitions 6656 d) (sym all_enough) (sym z);
+              enumerators = kept 3072 enumerators_room e e₁ enumerators_are enumerators_wide e₂ b ∙ ap₂ (λ (b : Bool) (y : Meant). table_after b (rooms_after y).enumerators 3072 e) (sym all_enough) (sym z);
+              objects = kept 2048 objects_room o o₁ objects_are objects_wide o₂ c ∙ ap₂ (λ (b : Bool) (y : Meant). table_after b (rooms_after y).objects 2048 o) (sym all_enough) (sym z);
+              values = kept 18432 values_room v v₁ values_are values_wide v₂ g ∙ ap₂ (λ (b : Bool) (y : Meant). table_after b (rooms_after y).values 18432 v) (sym all_enough) (sym z);
+              output = m ∙ ap (λ (x : List ℕ). x ++ drop (length x) l) text_is ∙ ap (output_after (normal_text s) l) (sym z);
             }
         by (too_long k a b c g m q) =
-            let z : asked s d e o v l ≡ refused 20 0 = asked_is l ∙ asked_long (length l) (normal_text s) own (subst (λ (x : List ℕ). length l < length x) text-is k) in
+            let z : asked s d e o v l ≡ refused 20 0 = asked_is l ∙ asked_long (length l) (normal_text s) own (subst (λ (x : List ℕ). length l < length x) text_is k) in
             record {
               result = q ∙ ap (written_of (normal_text s)) (sym z);
-              definitions = cleared 6656 definitions-room d d₁ definitions-are definitions-wide definition_cells d₂ a ∙ ap₂ (λ (b : Bool) (y : Meant). table_after b (rooms_after y).definitions 6656 d) (sym all-enough) (sym z);
-              enumerators = cleared 3072 enumerators-room e e₁ enumerators-are enumerators-wide enumerator_cells e₂ b ∙ ap₂ (λ (b : Bool) (y : Meant). table_after b (rooms_after y).enumerators 3072 e) (sym all-enough) (sym z);
-              objects = cleared 2048 objects-room o o₁ objects_are objects-wide object_cells o₂ c ∙ ap₂ (λ (b : Bool) (y : Meant). table_after b (rooms_after y).objects 2048 o) (sym all-enough) (sym z);
-              values = cleared 18432 values-room v v₁ values-are values-wide value_cells v₂ g ∙ ap₂ (λ (b : Bool) (y : Meant). table_after b (rooms_after y).values 18432 v) (sym all-enough) (sym z);
+              definitions = cleared 6656 definitions_room d d₁ definitions_are definitions_wide definition_cells d₂ a ∙ ap₂ (λ (b : Bool) (y : Meant). table_after b (rooms_after y).definitions 6656 d) (sym all_enough) (sym z);
+              enumerators = cleared 3072 enumerators_room e e₁ enumerators_are enumerators_wide enumerator_cells e₂ b ∙ ap₂ (λ (b : Bool) (y : Meant). table_after b (rooms_after y).enumerators 3072 e) (sym all_enough) (sym z);
+              objects = cleared 2048 objects_room o o₁ objects_are objects_wide object_cells o₂ c ∙ ap₂ (λ (b : Bool) (y : Meant). table_after b (rooms_after y).objects 2048 o) (sym all_enough) (sym z);
+              values = cleared 18432 values_room v v₁ values_are values_wide value_cells v₂ g ∙ ap₂ (λ (b : Bool) (y : Meant). table_after b (rooms_after y).values 18432 v) (sym all_enough) (sym z);
               output = m ∙ ap (output_after (normal_text s) l) (sym z);
             }

@@ -30,18 +30,18 @@ digits_high : (n : ℕ) → n < 2 ^ 64 → 10 ≤ n → digits_in 20 (n / 10) ++
 digits_high n h k = ap (λ (t : List ℕ). t ++ ((48 + n % 10) ∷ [])) (digits_more 18 (n / 10) (omega arith)) ∙ sym (digits_next 19 n k)
 
 module _ {l : List ℕ} {a : ℕ} {l' : List ℕ} {b : ℕ} where
-  pub wrote-digit : (n : ℕ) → n < 10 → Wrote l a ((48 + n) ∷ []) l' b → Wrote l a (digits_in 20 n) l' b
-  wrote-digit n h w = wrote_as (digits_low n h) w
+  pub wrote_digit : (n : ℕ) → n < 10 → Wrote l a ((48 + n) ∷ []) l' b → Wrote l a (digits_in 20 n) l' b
+  wrote_digit n h w = wrote_as (digits_low n h) w
 
-  pub wrote-digits : {l₁ : List ℕ} {c : ℕ} (n : ℕ) → n < 2 ^ 64 → 10 ≤ n → Wrote l a (digits_in 20 (n / 10)) l₁ c → Wrote l₁ c ((48 + n % 10) ∷ []) l' b
+  pub wrote_digits : {l₁ : List ℕ} {c : ℕ} (n : ℕ) → n < 2 ^ 64 → 10 ≤ n → Wrote l a (digits_in 20 (n / 10)) l₁ c → Wrote l₁ c ((48 + n % 10) ∷ []) l' b
       → Wrote l a (digits_in 20 n) l' b
-  wrote-digits n h k u w = wrote_as (digits_high n h k) (wrote_then u w)
+  wrote_digits n h k u w = wrote_as (digits_high n h k) (wrote_then u w)
 
-  pub wrote-negative : {l₁ : List ℕ} {c : ℕ} (q : Bool) (n : ℕ) → q ≡ true → Wrote l a (45 ∷ []) l₁ c → Wrote l₁ c (digits_in 20 n) l' b
+  pub wrote_negative : {l₁ : List ℕ} {c : ℕ} (q : Bool) (n : ℕ) → q ≡ true → Wrote l a (45 ∷ []) l₁ c → Wrote l₁ c (digits_in 20 n) l' b
       → Wrote l a (decimal (record { negative = q; amount = n })) l' b
   unfolding decimal minus
-  wrote-negative q n e u w = wrote_as (rw e) (wrote_then u w)
+  wrote_negative q n e u w = wrote_as (rw e) (wrote_then u w)
 
-  pub wrote-positive : (q : Bool) (n : ℕ) → q ≡ false → Wrote l a (digits_in 20 n) l' b → Wrote l a (decimal (record { negative = q; amount = n })) l' b
+  pub wrote_positive : (q : Bool) (n : ℕ) → q ≡ false → Wrote l a (digits_in 20 n) l' b → Wrote l a (decimal (record { negative = q; amount = n })) l' b
   unfolding decimal minus
-  wrote-positive q n e w = wrote_as (rw e) w
+  wrote_positive q n e w = wrote_as (rw e) w

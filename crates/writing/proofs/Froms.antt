@@ -28,8 +28,8 @@ module _ {R : Type 0} (w : ℕ) (f : R → List ℕ) (h : (r : R) → length (f 
       ∙ get_or-append (f x) (cells f xs) 0 c q
 
   -- The rows behind some.
-  pub from-append : {t : List ℕ} {n k m : ℕ} (xs ys : List R) → m ≡ k + length xs → From w f t n k (xs ++ ys) → From w f t n m ys
-  from-append {t} {n} {k} {m} xs ys e a =
+  pub from_append : {t : List ℕ} {n k m : ℕ} (xs ys : List R) → m ≡ k + length xs → From w f t n k (xs ++ ys) → From w f t n m ys
+  from_append {t} {n} {k} {m} xs ys e a =
       let c = a.count in
       let l = length-append xs ys in
       record {

@@ -22,9 +22,9 @@ use Rattle.meaning.proofs.Rooms.{value_width}
 use Rattle.meaning.proofs.Entries.{length_values}
 use Rattle.blocks.specs.Blocks.{WordIn}
 use Rattle.writing.specs.Lines.{value_at, head_at, owned}
-use Rattle.writing.specs.Promises.{From, AllTold, more-told, Earlier, Ends, ends, ends-before, Laid, LaidLine}
-use Rattle.writing.proofs.Owners.{owned-row, owned_inside}
-use Rattle.writing.proofs.Froms.{from_cell, from-append}
+use Rattle.writing.specs.Promises.{From, AllTold, more_told, Earlier, Ends, ends, ends_before, Laid, LaidLine}
+use Rattle.writing.proofs.Owners.{owned_row, owned_inside}
+use Rattle.writing.proofs.Froms.{from_cell, from_append}
 
 -- Owners -----------------------------------------------------------------------------------------------------------------------------------
 
@@ -37,13 +37,13 @@ same_owner (of_value i) (of_value j) e q = ap of_value q
 
 module _ (v : List ℕ) (n k sort row : ℕ) (o : Owner) (p : owner_sort o ≡ sort) (q : owner_row o ≡ row) where
   -- The first row, if it is o's, is found to be,
-  pub is-owned : (x : ValueRow) (xs : List ValueRow) → From 9 value_cells v n k (x ∷ xs) → x.owner ≡ o → owned v n k sort row ≡ true
+  pub is_owned : (x : ValueRow) (xs : List ValueRow) → From 9 value_cells v n k (x ∷ xs) → x.owner ≡ o → owned v n k sort row ≡ true
   unfolding value_cells
-  is-owned x xs a e =
+  is_owned x xs a e =
       let c = a.count in
       let f : owner_sort x.owner ≡ cell_of v 9 k 1 = sym (from_cell 9 value_cells value_width x xs 1 (omega arith) a) in
       let g : owner_row x.owner ≡ cell_of v 9 k 2 = sym (from_cell 9 value_cells value_width x xs 2 (omega arith) a) in
-      sym (owned-row v n k sort row (owner_sort x.owner) (owner_row x.owner) (omega arith) f (ap owner_sort e ∙ p) g)
+      sym (owned_row v n k sort row (owner_sort x.owner) (owner_row x.owner) (omega arith) f (ap owner_sort e ∙ p) g)
       ∙ eq-eqb (owner_row x.owner) row (ap owner_row e ∙ q)
 
   -- and where the rows end for o, none is.
@@ -53,7 +53,7 @@ module _ (v : List ℕ) (n k sort row : ℕ) (o : Owner) (p : owner_sort o ≡ s
       let c = a.count in
       let h = owned_inside v n k sort row t in
       omega arith
-  none_owned i (x ∷ xs) a (ends-before d b) t =
+  none_owned i (x ∷ xs) a (ends_before d b) t =
       let u = both_second (ltb k n) (both (eqb (cell_of v 9 k 1) sort) (eqb (cell_of v 9 k 2) row)) t in
       let f : cell_of v 9 k 1 ≡ sort = eqb-true (cell_of v 9 k 1) sort (both_true (eqb (cell_of v 9 k 1) sort) (eqb (cell_of v 9 k 2) row) u) in
       let g : cell_of v 9 k 2 ≡ row = eqb-true (cell_of v 9 k 2) row (both_second (eqb (cell_of v 9 k 1) sort) (eqb (cell_of v 9 k 2) row) u) in
@@ -64,14 +64,14 @@ module _ (v : List ℕ) (n k sort row : ℕ) (o : Owner) (p : owner_sort o ≡ s
 
 ends_on : {i j : ℕ} {o : Owner} {rest : List ValueRow} → i ≤ j → Ends i o rest → Ends j o rest
 ends_on h ends = ends
-ends_on h (ends-before d b) = ends-before d (λ m k. b m (omega arith))
+ends_on h (ends_before d b) = ends_before d (λ m k. b m (omega arith))
 
 -- What stands behind the values under row k ends them.
 ends_under : (k m : ℕ) (o : Owner) (r : Resolved) (rest : List ValueRow) → Earlier k o → Ends k o rest → Ends (suc k) (of_value k) (value_rows r m o ++ rest)
 unfolding value_rows value_row
 ends_under k m o end [] h ends = ends
-ends_under k m o end (x ∷ xs) h (ends-before d b) = ends-before (b k (omega arith)) (λ j i. b j (omega arith))
-ends_under k m o (resolved t us r) rest h e = ends-before (h k (omega arith)) (λ j i. h j (omega arith))
+ends_under k m o end (x ∷ xs) h (ends_before d b) = ends_before (b k (omega arith)) (λ j i. b j (omega arith))
+ends_under k m o (resolved t us r) rest h e = ends_before (h k (omega arith)) (λ j i. h j (omega arith))
 
 module _ {s d v : List ℕ} {n k sort row : ℕ} {o : Owner} {t : Taken} {us r : Resolved} {rest : List ValueRow} where
   apart : Laid s d v n k sort row o (resolved t us r) rest
@@ -81,17 +81,17 @@ module _ {s d v : List ℕ} {n k sort row : ℕ} {o : Owner} {t : Taken} {us r :
       subst (From 9 value_cells v n k) (ap (λ (l : List ValueRow). value_row t o ∷ l) (append_assoc (value_rows us (suc k) (of_value k)) (value_rows r (suc k + how_many_values us) o) rest))
       a.rows
 
-  pub laid-line : Laid s d v n k sort row o (resolved t us r) rest → LaidLine s d v n k t o us (value_rows r (suc k + how_many_values us) o ++ rest)
-  laid-line a = go a.told
+  pub laid_line : Laid s d v n k sort row o (resolved t us r) rest → LaidLine s d v n k t o us (value_rows r (suc k + how_many_values us) o ++ rest)
+  laid_line a = go a.told
     where
       go : AllTold s d (resolved t us r) → LaidLine s d v n k t o us (value_rows r (suc k + how_many_values us) o ++ rest)
-      go (more-told x y z) = record { rows = apart a; ends = ends_under k (suc k + how_many_values us) o r rest a.earlier a.ends; told = x; under = y }
+      go (more_told x y z) = record { rows = apart a; ends = ends_under k (suc k + how_many_values us) o r rest a.earlier a.ends; told = x; under = y }
 
   pub laid_next : Laid s d v n k sort row o (resolved t us r) rest → (m : ℕ) → m ≡ suc k + how_many_values us → Laid s d v n m sort row o r rest
   laid_next a m e = go a.told
     where
       go : AllTold s d (resolved t us r) → Laid s d v n m sort row o r rest
-      go (more-told x y z) =
+      go (more_told x y z) =
           let l = length_values us (suc k) (of_value k) in
           let h = a.earlier in
           record {
@@ -99,7 +99,7 @@ module _ {s d v : List ℕ} {n k sort row : ℕ} {o : Owner} {t : Taken} {us r :
             of_row = a.of_row;
             earlier = λ j i. h j (omega (arith, e, i));
             rows = subst (λ (i : ℕ). From 9 value_cells v n m (value_rows r i o ++ rest)) (sym e)
-                (from-append 9 value_cells value_width (value_row t o ∷ value_rows us (suc k) (of_value k)) (value_rows r (suc k + how_many_values us) o ++ rest) (omega (arith, e, l)) (apart a));
+                (from_append 9 value_cells value_width (value_row t o ∷ value_rows us (suc k) (of_value k)) (value_rows r (suc k + how_many_values us) o ++ rest) (omega (arith, e, l)) (apart a));
             ends = ends_on (omega (arith, e)) a.ends;
             told = z;
           }
@@ -114,7 +114,7 @@ laid_under {s} {d} {v} {n} {k} {o} {t} {us} {rest} a =
       of_row = refl;
       earlier = λ m i q. let z : k ≡ m = ap owner_row q in omega (arith, z, i);
       rows = subst (λ (i : ℕ). From 9 value_cells v n (k + 1) (value_rows us i (of_value k) ++ rest)) e
-          (from-append 9 value_cells value_width (value_row t o ∷ []) (value_rows us (suc k) (of_value k) ++ rest) refl a.rows);
+          (from_append 9 value_cells value_width (value_row t o ∷ []) (value_rows us (suc k) (of_value k) ++ rest) refl a.rows);
       ends = ends_on (omega arith) a.ends;
       told = a.under;
     }
@@ -139,16 +139,16 @@ shown s (enumerator e) t h = sym h.bytes
 shown s (object e) t h = sym h.bytes
 
 module _ {s d v : List ℕ} {n k : ℕ} {o : Owner} {t : Taken} {us : Resolved} {rest : List ValueRow} (a : LaidLine s d v n k t o us rest) where
-  cell-is : (c : ℕ) → c < 9 → cell_of v 9 k c ≡ get_or (value_cells (value_row t o)) c 0
-  cell-is c h = from_cell 9 value_cells value_width (value_row t o) (value_rows us (suc k) (of_value k) ++ rest) c h a.rows
+  cell_is : (c : ℕ) → c < 9 → cell_of v 9 k c ≡ get_or (value_cells (value_row t o)) c 0
+  cell_is c h = from_cell 9 value_cells value_width (value_row t o) (value_rows us (suc k) (of_value k) ++ rest) c h a.rows
 
-  value-is : value_at s v k ≡ written t.value t.word
+  value_is : value_at s v k ≡ written t.value t.word
   unfolding value_at row_name value_cells value_row span_of
-  value-is =
-      rw (cell-is 3 (omega arith), cell-is 4 (omega arith), cell-is 5 (omega arith), cell-is 7 (omega arith), cell-is 8 (omega arith))
+  value_is =
+      rw (cell_is 3 (omega arith), cell_is 4 (omega arith), cell_is 5 (omega arith), cell_is 7 (omega arith), cell_is 8 (omega arith))
       (shown s t.value t.word a.told.word)
 
   -- Its name and value.
   pub head_is : head_at s d v k ≡ t.definition.name.bytes ++ (bytes_of " = " ++ written t.value t.word)
   unfolding head_at value_cells value_row
-  head_is = ap₂ (λ (x y : List ℕ). x ++ (bytes_of " = " ++ y)) (ap (λ (j : ℕ). row_name s d 13 2 j) (cell-is 0 (omega arith)) ∙ a.told.name) value-is
+  head_is = ap₂ (λ (x y : List ℕ). x ++ (bytes_of " = " ++ y)) (ap (λ (j : ℕ). row_name s d 13 2 j) (cell_is 0 (omega arith)) ∙ a.told.name) value_is

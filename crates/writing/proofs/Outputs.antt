@@ -18,9 +18,9 @@ module _ {s d o v : List ℕ} {w : Spanned} {l l' : List ℕ} {r : ℕ}
   measures f g = let e = (h.puts f g.tables g.spans).next in omega (arith, e)
 
   -- It fits.
-  pub puts-out : (e : List ℕ) (n : ℕ) → length l < cap → n ≤ length l → Measures s d o v w n
+  pub puts_out : (e : List ℕ) (n : ℕ) → length l < cap → n ≤ length l → Measures s d o v w n
       → PutsOut s d e o v w l d e o v l' (record { answer = Accepted; length = r })
-  puts-out e n b k m f g =
+  puts_out e n b k m f g =
       let x = h.puts f g.tables g.spans in
       let q = m f g in
       let y = x.next in

@@ -11,17 +11,17 @@ use Rattle.token.proofs.Bytes.{both_false, both_true}
 use Rattle.writing.specs.Lines.{owned}
 
 module _ (v : List ℕ) (n k sort row : ℕ) where
-  pub owned-past : n ≤ k → false ≡ owned v n k sort row
+  pub owned_past : n ≤ k → false ≡ owned v n k sort row
   unfolding owned
-  owned-past h = rw (le-ltb k n h)
+  owned_past h = rw (le-ltb k n h)
 
-  pub owned-other : (a : ℕ) → a ≡ cell_of v 9 k 1 → (a ≡ sort → ⊥) → false ≡ owned v n k sort row
+  pub owned_other : (a : ℕ) → a ≡ cell_of v 9 k 1 → (a ≡ sort → ⊥) → false ≡ owned v n k sort row
   unfolding owned
-  owned-other a e h = let f : eqb (cell_of v 9 k 1) sort ≡ false = ne_eqb (cell_of v 9 k 1) sort (λ q. h (e ∙ q)) in rw f (sym (both_false (ltb k n)))
+  owned_other a e h = let f : eqb (cell_of v 9 k 1) sort ≡ false = ne_eqb (cell_of v 9 k 1) sort (λ q. h (e ∙ q)) in rw f (sym (both_false (ltb k n)))
 
-  pub owned-row : (a b : ℕ) → k < n → a ≡ cell_of v 9 k 1 → a ≡ sort → b ≡ cell_of v 9 k 2 → eqb b row ≡ owned v n k sort row
+  pub owned_row : (a b : ℕ) → k < n → a ≡ cell_of v 9 k 1 → a ≡ sort → b ≡ cell_of v 9 k 2 → eqb b row ≡ owned v n k sort row
   unfolding owned
-  owned-row a b h e q f =
+  owned_row a b h e q f =
       let g : eqb (cell_of v 9 k 1) sort ≡ true = eq-eqb (cell_of v 9 k 1) sort (sym e ∙ q) in
       rw (lt-ltb k n h, g) (ap (λ (c : ℕ). eqb c row) f)
 

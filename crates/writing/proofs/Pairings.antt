@@ -18,10 +18,10 @@ use Rattle.meaning.proofs.Rooms.{object_width, value_width}
 use Rattle.meaning.proofs.Entries.{length_values}
 use Rattle.writing.specs.Wrote.{cap, Wrote}
 use Rattle.writing.specs.Lines.{opening_at, object_line}
-use Rattle.writing.specs.Promises.{From, Ends, ends, ends-before, PutsLines, LaidObject, PutsObject, Pairs, a_pair, LaidAll, PutsObjects}
+use Rattle.writing.specs.Promises.{From, Ends, ends, ends_before, PutsLines, LaidObject, PutsObject, Pairs, a_pair, LaidAll, PutsObjects}
 use Rattle.writing.specs.declared.Spot.{Spot}
-use Rattle.writing.proofs.Writes.{wrote_length, wrote-low, wrote_then, wrote_as, wrote_none}
-use Rattle.writing.proofs.Froms.{from_cell, from-append}
+use Rattle.writing.proofs.Writes.{wrote_length, wrote_low, wrote_then, wrote_as, wrote_none}
+use Rattle.writing.proofs.Froms.{from_cell, from_append}
 
 -- One object -------------------------------------------------------------------------------------------------------------------------------
 
@@ -37,7 +37,7 @@ puts_object {i = i} q h p z =
     record {
       size = wrote_length z ∙ p.size ∙ wrote_length h;
       puts = λ x y rest a.
-          let r = p.puts (wrote-low h) (of_object i) y rest a.laid in
+          let r = p.puts (wrote_low h) (of_object i) y rest a.laid in
           record { wrote = wrote_as (object_line_is x y a) (wrote_then h (wrote_then r.wrote z)); next = r.next };
     }
 
@@ -52,7 +52,7 @@ objects_end : (ys : List Resolved) (k i j m : ℕ) → i < j → Ends k (of_obje
 unfolding all_value_rows value_rows value_row owner_row
 objects_end [] k i j m h = ends
 objects_end (end ∷ ys) k i j m h = objects_end ys k i (suc j) (m + how_many_values end) (omega arith)
-objects_end (resolved t us r ∷ ys) k i j m h = ends-before (λ (e : of_object j ≡ of_object i). let z : j ≡ i = ap owner_row e in omega arith) (λ n g. not_value j n)
+objects_end (resolved t us r ∷ ys) k i j m h = ends_before (λ (e : of_object j ≡ of_object i). let z : j ≡ i = ap owner_row e in omega arith) (λ n g. not_value j n)
 
 module _ {s d o v : List ℕ} {m n i k : ℕ} {x : Object} {xs : List Object} {y : Resolved} {ys : List Resolved} where
   row_cell_lem : LaidAll s d o v m n i k (x ∷ xs) (y ∷ ys) → (c : ℕ) → c < 8
@@ -60,9 +60,9 @@ module _ {s d o v : List ℕ} {m n i k : ℕ} {x : Object} {xs : List Object} {y
   unfolding object_rows
   row_cell_lem a c h = from_cell 8 object_cells object_width _ (object_rows xs) c h a.objects
 
-  pub laid-object : LaidAll s d o v m n i k (x ∷ xs) (y ∷ ys) → LaidObject s d o v n i k x y (all_value_rows ys (suc i) (k + how_many_values y))
+  pub laid_object : LaidAll s d o v m n i k (x ∷ xs) (y ∷ ys) → LaidObject s d o v n i k x y (all_value_rows ys (suc i) (k + how_many_values y))
   unfolding row_name object_cells span_of all_value_rows owner_sort owner_row
-  laid-object a = go a.pairs
+  laid_object a = go a.pairs
     where
       go : Pairs s d (x ∷ xs) (y ∷ ys) → LaidObject s d o v n i k x y (all_value_rows ys (suc i) (k + how_many_values y))
       go (a_pair w u t p) =
@@ -79,19 +79,19 @@ module _ {s d o v : List ℕ} {m n i k : ℕ} {x : Object} {xs : List Object} {y
             };
           }
 
-  pub laid-later : LaidAll s d o v m n i k (x ∷ xs) (y ∷ ys) → (h : ℕ) → h ≡ k + how_many_values y → LaidAll s d o v m n (i + 1) h xs ys
+  pub laid_later : LaidAll s d o v m n i k (x ∷ xs) (y ∷ ys) → (h : ℕ) → h ≡ k + how_many_values y → LaidAll s d o v m n (i + 1) h xs ys
   unfolding object_rows all_value_rows
-  laid-later a h e = go a.pairs
+  laid_later a h e = go a.pairs
     where
       go : Pairs s d (x ∷ xs) (y ∷ ys) → LaidAll s d o v m n (i + 1) h xs ys
       go (a_pair w u t p) =
           let l = length_values y k (of_object i) in
           let z : suc i ≡ i + 1 = sym (add-one i) in
           record {
-            objects = from-append 8 object_cells object_width (_ ∷ []) (object_rows xs) refl a.objects;
+            objects = from_append 8 object_cells object_width (_ ∷ []) (object_rows xs) refl a.objects;
             values = subst (λ (j : ℕ). From 9 value_cells v n h (all_value_rows ys j h)) z
                 (subst (λ (j : ℕ). From 9 value_cells v n h (all_value_rows ys (suc i) j)) (sym e)
-                (from-append 9 value_cells value_width (value_rows y k (of_object i)) (all_value_rows ys (suc i) (k + how_many_values y)) (omega (arith, e, l)) a.values));
+                (from_append 9 value_cells value_width (value_rows y k (of_object i)) (all_value_rows ys (suc i) (k + how_many_values y)) (omega (arith, e, l)) a.values));
             pairs = p;
           }
 
@@ -99,11 +99,11 @@ module _ {s d o v : List ℕ} {m n i k : ℕ} {x : Object} {xs : List Object} {y
 
 -- At object i and row k: the objects and values that are left are still to be written.
 pub record LeftObjects (s d o v : List ℕ) (m n : ℕ) (l : List ℕ) (at i k : ℕ) (l₁ : List ℕ) (e : ℕ) (xs : List Object) (ys : List Resolved) : Type 0 where
-  pub written-lines : List ℕ
+  pub written_lines : List ℕ
   pub objects : List Object
   pub values : List Resolved
-  pub whole : written-lines ++ object_lines objects values ≡ object_lines xs ys
-  pub wrote : Wrote l at written-lines l₁ e
+  pub whole : written_lines ++ object_lines objects values ≡ object_lines xs ys
+  pub wrote : Wrote l at written_lines l₁ e
   pub laid : LaidAll s d o v m n i k objects values
 
 pub record GoingObjects (s d o v : List ℕ) (m n : ℕ) (l : List ℕ) (at i k : ℕ) (l₁ : List ℕ) (e : ℕ) : Type 0 where
@@ -114,34 +114,34 @@ pub objects_start : (s d o v : List ℕ) (m n : ℕ) (l : List ℕ) (at : ℕ) �
 objects_start s d o v m n l at h =
     record {
       size = refl;
-      left = λ b xs ys a. record { written-lines = []; objects = xs; values = ys; whole = refl; wrote = wrote_none l at h b; laid = a };
+      left = λ b xs ys a. record { written_lines = []; objects = xs; values = ys; whole = refl; wrote = wrote_none l at h b; laid = a };
     }
 
 module _ {s d o v : List ℕ} {m n : ℕ} {l : List ℕ} {at i k : ℕ} {l₁ : List ℕ} {e : ℕ} (g : GoingObjects s d o v m n l at i k l₁ e) where
-  pub objects-more : {l₂ : List ℕ} {q : Spot} → i < m → PutsObject s d o v n i k l₁ e l₂ q → GoingObjects s d o v m n l at (i + 1) q.next l₂ q.place
+  pub objects_more : {l₂ : List ℕ} {q : Spot} → i < m → PutsObject s d o v n i k l₁ e l₂ q → GoingObjects s d o v m n l at (i + 1) q.next l₂ q.place
   unfolding object_lines object_line object_rows
-  objects-more {l₂} {q} h p = record { size = p.size ∙ g.size; left = λ c xs ys a. by xs ys (g.left c xs ys a) }
+  objects_more {l₂} {q} h p = record { size = p.size ∙ g.size; left = λ c xs ys a. by xs ys (g.left c xs ys a) }
     where
       by-object : (xs : List Object) (ys : List Resolved) (bs : List ℕ) (us : List Object) (vs : List Resolved) → bs ++ object_lines us vs ≡ object_lines xs ys
           → Wrote l at bs l₁ e → LaidAll s d o v m n i k us vs → Pairs s d us vs → LeftObjects s d o v m n l at (i + 1) q.next l₂ q.place xs ys
       by-object xs ys bs [] vs f w a c = absurd (let j = a.objects.count in omega arith)
       by-object xs ys bs (x ∷ us) (y ∷ vs) f w a c =
-          let z = p.puts x y (all_value_rows vs (suc i) (k + how_many_values y)) (laid-object a) in
+          let z = p.puts x y (all_value_rows vs (suc i) (k + how_many_values y)) (laid_object a) in
           record {
-            written-lines = bs ++ object_line x y;
+            written_lines = bs ++ object_line x y;
             objects = us;
             values = vs;
             whole = simp append_assoc f;
             wrote = wrote_then w z.wrote;
-            laid = laid-later a q.next z.next;
+            laid = laid_later a q.next z.next;
           }
 
       by : (xs : List Object) (ys : List Resolved) → LeftObjects s d o v m n l at i k l₁ e xs ys → LeftObjects s d o v m n l at (i + 1) q.next l₂ q.place xs ys
       by xs ys a = by-object xs ys a.written-lines a.objects a.values a.whole a.wrote a.laid a.laid.pairs
 
-  pub objects-done : m ≤ i → PutsObjects s d o v m n l at l₁ e
+  pub objects_done : m ≤ i → PutsObjects s d o v m n l at l₁ e
   unfolding object_lines object_rows
-  objects-done h = record { size = g.size; puts = λ c xs ys a. by xs ys (g.left c xs ys a) }
+  objects_done h = record { size = g.size; puts = λ c xs ys a. by xs ys (g.left c xs ys a) }
     where
       by-object : (xs : List Object) (ys : List Resolved) (bs : List ℕ) (us : List Object) (vs : List Resolved) → bs ++ object_lines us vs ≡ object_lines xs ys
           → Wrote l at bs l₁ e → From 8 object_cells o m i (object_rows us) → Wrote l at (object_lines xs ys) l₁ e

@@ -6,7 +6,7 @@ use native.Mathlib.Omega.{arith}
 use lib.ListN.{length}
 use Rattle.token.specs.Tokens.{part_of}
 use Rattle.token.proofs.Steps.{found_fits}
-use Rattle.grammar.specs.Grammar.{Token, file, ◌▸◌, ∎, ◌⟶◌, Trees, nil, leaf, node, tokens, file-is, implementation-is}
+use Rattle.grammar.specs.Grammar.{Token, file, ◌▸◌, ∎, ◌⟶◌, Trees, nil, leaf, node, tokens, file_is, implementation_is}
 use Rattle.grammar.specs.Terminals.{token_of}
 use Rattle.meaning.specs.Syntax.{through, File}
 use Rattle.meaning.specs.Actions.{word_of, means, meaning, syntax}
@@ -28,7 +28,7 @@ step_inside s p t h =
 
 tree_inside : (s : List ℕ) (t : Trees ◌⟶◌ (file ▸ ∎)) → Chain s 0 (tokens t) → (syntax s t).implementation.place + (syntax s t).implementation.length ≤ length s
 unfolding syntax meaning means tokens through word_of
-tree_inside s (node file-is (node v vs (node implementation-is (leaf i _ (leaf x _ (leaf b _ (node p us (leaf e _ (node q ds (leaf c _ nil))))))) ts)) nil) k =
+tree_inside s (node file_is (node v vs (node implementation_is (leaf i _ (leaf x _ (leaf b _ (node p us (leaf e _ (node q ds (leaf c _ nil))))))) ts)) nil) k =
     let l = e ∷ (tokens ds ++ (c ∷ [])) in
     let m = i ∷ x ∷ b ∷ (tokens us ++ l) in
     let k₁ = chain_back s 0 (tokens vs) (m ++ tokens ts) (chain_front s 0 (tokens vs ++ (m ++ tokens ts)) [] k) in
@@ -49,8 +49,8 @@ module _ {s : List ℕ} {f : File} (t : Situation s f) where
   unfolding part
   implementation_part = part_inside s f.implementation.place f.implementation.length inside
 
-  pub cpu-part : part_of s f.cpu.place f.cpu.length ≡ f.cpu.bytes
+  pub cpu_part : part_of s f.cpu.place f.cpu.length ≡ f.cpu.bytes
   unfolding words_of
-  cpu-part =
+  cpu_part =
       let w : AllIn s (words_of f) = subst (λ (g : File). AllIn s (words_of g)) (sym t.syntax-of) (file_in s t.derivation) in
       sym (in_back s (spec_words f.specs) (f.cpu ∷ object_words f.parts) w).0.bytes

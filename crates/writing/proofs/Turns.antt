@@ -12,8 +12,8 @@ use Rattle.writing.specs.Wrote.{cap, Wrote}
 use Rattle.writing.specs.Lines.{head_at, owned, line}
 use Rattle.writing.specs.Promises.{Laid, Puts, PutsLine, PutsLines}
 use Rattle.writing.specs.declared.Spot.{Spot}
-use Rattle.writing.proofs.Writes.{wrote_length, wrote-low, wrote_then, wrote_as, wrote_none}
-use Rattle.writing.proofs.Layings.{is-owned, none_owned, laid-line, laid_next, laid_under, head_is}
+use Rattle.writing.proofs.Writes.{wrote_length, wrote_low, wrote_then, wrote_as, wrote_none}
+use Rattle.writing.proofs.Layings.{is_owned, none_owned, laid_line, laid_next, laid_under, head_is}
 
 -- One value --------------------------------------------------------------------------------------------------------------------------------
 
@@ -31,7 +31,7 @@ none_under : {s d v : List ℕ} {n i sort row : ℕ} {o : Owner} (us : Resolved)
 unfolding value_rows value_row
 none_under end a e = refl
 none_under {v = v} {n} {i} {sort} {row} {o} (resolved t us r) {rest} a e =
-    absurd (false≢true (sym e ∙ is-owned v n i sort row o a.of-sort a.of_row (value_row t o) _ a.rows refl))
+    absurd (false≢true (sym e ∙ is_owned v n i sort row o a.of-sort a.of_row (value_row t o) _ a.rows refl))
 
 closed_some : {s d v : List ℕ} {n i sort row : ℕ} {o : Owner} (us : Resolved) {rest : List ValueRow} (ls : List ℕ) → Laid s d v n i sort row o us rest
     → owned v n i sort row ≡ true → bytes_of " {\n" ++ (ls ++ bytes_of "};\n") ≡ closed us ls
@@ -56,16 +56,16 @@ module _ {s d v : List ℕ} {n k : ℕ} {l : List ℕ} {at : ℕ} {l₁ : List �
       }
 
   -- or something is.
-  pub puts-block : {l₂ l₃ l₄ : List ℕ} {b c : ℕ} (q : Spot) → owned v n (k + 1) 1 k ≡ true → Wrote l₁ a (bytes_of " {\n") l₂ b → PutsLines s d v n (k + 1) 1 k l₂ b l₃ q
+  pub puts_block : {l₂ l₃ l₄ : List ℕ} {b c : ℕ} (q : Spot) → owned v n (k + 1) 1 k ≡ true → Wrote l₁ a (bytes_of " {\n") l₂ b → PutsLines s d v n (k + 1) 1 k l₂ b l₃ q
       → Wrote l₃ q.place (bytes_of "};\n") l₄ c → PutsLine s d v n k l at l₄ (record { next = q.next; place = c })
-  puts-block q e w p z =
+  puts_block q e w p z =
       let m = p.onward in
       record {
         size = wrote_length z ∙ p.size ∙ wrote_length w ∙ wrote_length h;
         onward = omega (arith, m);
         puts = λ t o us rest x.
             let y = laid_under x in
-            let r = p.puts (wrote-low w) (of_value k) us rest y in
+            let r = p.puts (wrote_low w) (of_value k) us rest y in
             let i = r.next in
             record {
               wrote = wrote_as (line_is t us (head_at s d v k) (bytes_of " {\n" ++ (lines us ++ bytes_of "};\n")) (head_is x) (closed_some us (lines us) y e))
@@ -78,10 +78,10 @@ module _ {s d v : List ℕ} {n k : ℕ} {l : List ℕ} {at : ℕ} {l₁ : List �
 
 -- At row k: the values `left` are still to be written.
 pub record Left (s d v : List ℕ) (n i sort row : ℕ) (l : List ℕ) (at k : ℕ) (l₁ : List ℕ) (e : ℕ) (o : Owner) (x : Resolved) (rest : List ValueRow) : Type 0 where
-  pub written-lines : List ℕ
+  pub written_lines : List ℕ
   pub left : Resolved
-  pub whole : written-lines ++ lines left ≡ lines x
-  pub wrote : Wrote l at written-lines l₁ e
+  pub whole : written_lines ++ lines left ≡ lines x
+  pub wrote : Wrote l at written_lines l₁ e
   pub count : k + how_many_values left ≡ i + how_many_values x
   pub laid : Laid s d v n k sort row o left rest
 
@@ -95,7 +95,7 @@ going_start s d v n i sort row l at h =
     record {
       size = refl;
       onward = omega arith;
-      left = λ b o x rest a. record { written-lines = []; left = x; whole = refl; wrote = wrote_none l at h b; count = refl; laid = a };
+      left = λ b o x rest a. record { written_lines = []; left = x; whole = refl; wrote = wrote_none l at h b; count = refl; laid = a };
     }
 
 module _ {s d v : List ℕ} {n i sort row : ℕ} {l : List ℕ} {at k : ℕ} {l₁ : List ℕ} {e : ℕ} (g : Going s d v n i sort row l at k l₁ e) where
@@ -110,10 +110,10 @@ module _ {s d v : List ℕ} {n i sort row : ℕ} {l : List ℕ} {at k : ℕ} {l�
           → k + how_many_values r ≡ i + how_many_values x → Laid s d v n k sort row o r rest → Left s d v n i sort row l at q.next l₂ q.place o x rest
       by_value o x rest bs end f w c y = absurd (none_owned v n k sort row o y.of-sort y.of_row k rest y.rows y.ends t)
       by_value o x rest bs (resolved u us r) f w c y =
-          let z = p.puts u o us (value_rows r (suc k + how_many_values us) o ++ rest) (laid-line y) in
+          let z = p.puts u o us (value_rows r (suc k + how_many_values us) o ++ rest) (laid_line y) in
           let m = z.next in
           record {
-            written-lines = bs ++ line u us;
+            written_lines = bs ++ line u us;
             left = r;
             whole = simp append_assoc f;
             wrote = wrote_then w z.wrote;

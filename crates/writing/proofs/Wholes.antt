@@ -11,10 +11,10 @@ use Rattle.meaning.specs.Cells.{object_cells, value_cells, object_room, value_ro
 use Rattle.meaning.specs.Normal.{application_lines, normal}
 use Rattle.writing.specs.Wrote.{Wrote}
 use Rattle.writing.specs.Promises.{LaidAll, PutsObjects, Tables, PutsApplication, WritesNormal}
-use Rattle.writing.proofs.Writes.{wrote_length, wrote-low, wrote_then, wrote_as}
+use Rattle.writing.proofs.Writes.{wrote_length, wrote_low, wrote_then, wrote_as}
 use Rattle.writing.proofs.Froms.{from_room}
-use Rattle.writing.proofs.Telling.{file-pairs}
-use Rattle.writing.proofs.Spans.{implementation_part, cpu-part}
+use Rattle.writing.proofs.Telling.{file_pairs}
+use Rattle.writing.proofs.Spans.{implementation_part, cpu_part}
 
 laid_all : {s d o v : List ℕ} {m n : ℕ} {f : File} → Tables s d o v m n f → LaidAll s d o v m n 0 0 f.objects (all_values f f.objects)
 unfolding object_room value_room
@@ -22,7 +22,7 @@ laid_all {s} {d} {o} {v} {m} {n} {f} t =
     record {
       objects = from_room 8 object_cells (256 * 8) (object_rows f.objects) o m t.objects t.many-objects;
       values = from_room 9 value_cells (2048 * 9) (all_value_rows (all_values f f.objects) 0 0) v n t.values t.many-values;
-      pairs = file-pairs t.situation t.definitions;
+      pairs = file_pairs t.situation t.definitions;
     }
 
 pub puts_application : {s d o v : List ℕ} {m n cpu size : ℕ} {l l₁ l₂ l₃ l₄ l₅ : List ℕ} {at a b c e r : ℕ} → Wrote l at (bytes_of "CPU ") l₁ a → Wrote l₁ a (part_of s cpu size) l₂ b
@@ -32,8 +32,8 @@ puts_application {s} w x y p z =
     record {
       same = wrote_length z ∙ p.size ∙ wrote_length y ∙ wrote_length x ∙ wrote_length w;
       puts = λ f t i j.
-          let q = p.puts (wrote-low y) f.objects (all_values f f.objects) (laid_all t) in
-          let g = ap₂ (part_of s) i j ∙ cpu-part t.situation in
+          let q = p.puts (wrote_low y) f.objects (all_values f f.objects) (laid_all t) in
+          let g = ap₂ (part_of s) i j ∙ cpu_part t.situation in
           wrote_then w (wrote_then (wrote_as g x) (wrote_then y (wrote_then q z)));
     }
 

@@ -19,8 +19,8 @@ module _ {l : List ℕ} {a : ℕ} {xs l₁ : List ℕ} {b : ℕ} where
   pub wrote_length : Wrote l a xs l₁ b → length l₁ ≡ length l
   wrote_length w = ap length w.bytes ∙ length-sets l a xs
 
-  pub wrote-low : Wrote l a xs l₁ b → b ≤ cap
-  wrote-low w = let e = w.next in omega arith
+  pub wrote_low : Wrote l a xs l₁ b → b ≤ cap
+  wrote_low w = let e = w.next in omega arith
 
   -- One run of bytes behind another.
   pub wrote_then : {ys l₂ : List ℕ} {c : ℕ} → Wrote l a xs l₁ b → Wrote l₁ b ys l₂ c → Wrote l a (xs ++ ys) l₂ c

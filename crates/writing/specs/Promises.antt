@@ -37,8 +37,8 @@ pub record Told (s d : List ℕ) (t : Taken) : Type 0 where
 
 -- So it is for all of these values.
 pub data AllTold (s d : List ℕ) : Resolved → Type 0 where
-  end-told : AllTold s d end
-  more-told : {t : Taken} {us rest : Resolved} → Told s d t → AllTold s d us → AllTold s d rest → AllTold s d (resolved t us rest)
+  end_told : AllTold s d end
+  more_told : {t : Taken} {us rest : Resolved} → Told s d t → AllTold s d us → AllTold s d rest → AllTold s d (resolved t us rest)
 
 -- The owner o is no value from row i on.
 abbrev pub Earlier : ℕ → Owner → Type 0
@@ -47,7 +47,7 @@ Earlier i o = (m : ℕ) → i ≤ m → o ≡ of_value m → ⊥
 -- The first of these rows, if there is one, is neither o's nor that of a value from row i on.
 pub data Ends (i : ℕ) (o : Owner) : List ValueRow → Type 0 where
   ends : Ends i o []
-  ends-before : {x : ValueRow} {xs : List ValueRow} → (x.owner ≡ o → ⊥) → Earlier i x.owner → Ends i o (x ∷ xs)
+  ends_before : {x : ValueRow} {xs : List ValueRow} → (x.owner ≡ o → ⊥) → Earlier i x.owner → Ends i o (x ∷ xs)
 
 -- Values -----------------------------------------------------------------------------------------------------------------------------------
 
@@ -99,7 +99,7 @@ pub record PutsObject (s d o v : List ℕ) (n i k : ℕ) (l : List ℕ) (at : �
 
 -- Objects, each with its values; their words are in the text.
 pub data Pairs (s d : List ℕ) : List Object → List Resolved → Type 0 where
-  no-pair : Pairs s d [] []
+  no_pair : Pairs s d [] []
   a_pair : {x : Object} {xs : List Object} {y : Resolved} {ys : List Resolved} → WordIn s x.word → WordIn s x.name → AllTold s d y → Pairs s d xs ys
       → Pairs s d (x ∷ xs) (y ∷ ys)
 
@@ -122,8 +122,8 @@ pub record Tables (s d o v : List ℕ) (m n : ℕ) (f : File) : Type 0 where
   pub definitions : d ≡ definition_room (all_definition_rows f.specs)
   pub objects : o ≡ object_room (object_rows f.objects)
   pub values : v ≡ value_room (all_value_rows (all_values f f.objects) 0 0)
-  pub many-objects : m ≡ length (object_rows f.objects)
-  pub many-values : n ≡ length (all_value_rows (all_values f f.objects) 0 0)
+  pub many_objects : m ≡ length (object_rows f.objects)
+  pub many_values : n ≡ length (all_value_rows (all_values f f.objects) 0 0)
 
 -- `put_application`: the lines of the application, where the CPU's name has this place and length.
 pub record PutsApplication (s d o v : List ℕ) (m n cpu size : ℕ) (l : List ℕ) (at : ℕ) (l' : List ℕ) (r : ℕ) : Type 0 where
@@ -133,10 +133,10 @@ pub record PutsApplication (s d o v : List ℕ) (m n cpu size : ℕ) (l : List �
 
 -- The spans of the implementation and of the CPU's name are those of f.
 pub record Spans (f : File) (from long cpu size : ℕ) : Type 0 where
-  pub implementation-at : from ≡ f.implementation.place
-  pub implementation-long : long ≡ f.implementation.length
-  pub cpu-at : cpu ≡ f.cpu.place
-  pub cpu-long : size ≡ f.cpu.length
+  pub implementation_at : from ≡ f.implementation.place
+  pub implementation_long : long ≡ f.implementation.length
+  pub cpu_at : cpu ≡ f.cpu.place
+  pub cpu_long : size ≡ f.cpu.length
 
 -- `write_normal`: the whole normal text, from the front of the output on.
 pub record WritesNormal (s d o v : List ℕ) (m n from long cpu size : ℕ) (l l' : List ℕ) (r : ℕ) : Type 0 where

@@ -11,7 +11,7 @@ use Rattle.writing.specs.declared.Written.{Written}
 -- afterwards; r is what is returned.
 pub data WritesByRules (s d e o v l d' e' o' v' l' : List ℕ) (r : Written) : Type 0 where
   -- 1, "lent tables too short", at 0. "Refusal 1 changes nothing."
-  short-tables : (FullRoom d e o v → ⊥)
+  short_tables : (FullRoom d e o v → ⊥)
       → r ≡ record { answer = Refused 1 0; length = 0 } → Untouched d e o v d' e' o' v' → l' ≡ l
       → WritesByRules s d e o v l d' e' o' v' l' r
   -- 2 to 19 and 21 to 24: the rules refuse the text. The table rooms are zero; "No refusal touches the output".

@@ -44,9 +44,9 @@ pub record FillsOutput (b l x g o x' g' d' e' v' w' o' : List ℕ) (r : Written)
 -- enumerators, objects, values), o is the lent output; x' to o' is what they hold afterwards; r is what is returned.
 pub data WritesTexts (b l x g d e v w o x' g' d' e' v' w' o' : List ℕ) (r : Written) : Type 0 where
   -- 1, "lent tables too short", at 0. "Refusal 1 changes nothing."
-  short-tables : (FullRooms x g d e v w → ⊥) → r ≡ record { answer = Refused 1 0; length = 0 } → x' ≡ x → g' ≡ g → Untouched d e v w d' e' v' w' → o' ≡ o →
+  short_tables : (FullRooms x g d e v w → ⊥) → r ≡ record { answer = Refused 1 0; length = 0 } → x' ≡ x → g' ≡ g → Untouched d e v w d' e' v' w' → o' ≡ o →
       WritesTexts b l x g d e v w o x' g' d' e' v' w' o' r
   -- Else the one answer of the rules to the texts, and what comes of it; "Memory past the stated room is unchanged."
-  by-rules : FullRooms x g d e v w → (d₁ e₁ v₁ w₁ : List ℕ) → FillsOutput b l x g o x' g' d₁ e₁ v₁ w₁ o' r →
+  by_rules : FullRooms x g d e v w → (d₁ e₁ v₁ w₁ : List ℕ) → FillsOutput b l x g o x' g' d₁ e₁ v₁ w₁ o' r →
       d' ≡ d₁ ++ drop 6656 d → e' ≡ e₁ ++ drop 3072 e → v' ≡ v₁ ++ drop 2048 v → w' ≡ w₁ ++ drop 18432 w →
       WritesTexts b l x g d e v w o x' g' d' e' v' w' o' r

@@ -1,4 +1,4 @@
-use Rattle.attribute_values.proofs.Copying.{copy-nothing, copy-found}
+use Rattle.attribute_values.proofs.Copying.{copy_nothing, copy_found}
 use borrow.Author.Rules.{rules}
 use Rattle.attribute_values.proofs.copy_found.Statement.{statement}
 use Rattle.attribute_values.proofs.copy_found.Tie as tie
@@ -19,10 +19,10 @@ same_length : tie.Need-same-length
 same_length c = search rules
 
 returns : tie.Need-returns
-returns c = copy-found _ _ _ _ _ c.before.before.before.before.before.found.given.1 c.before.before.copy-row.ensures
+returns c = copy_found _ _ _ _ _ c.before.before.before.before.before.found.given.1 c.before.before.copy-row.ensures
 
 returns-2 : tie.Need-returns-2
-returns-2 c = copy-nothing _ _ _ _ (c.enum_told.given.1)
+returns-2 c = copy_nothing _ _ _ _ (c.enum_told.given.1)
 
 pub copy-found-spec : {M : Type 1} → statement M
 copy-found-spec =

@@ -1,5 +1,5 @@
 use borrow.Author.Rules.{rules}
-use Rattle.attribute_values.proofs.Accepting.{value-refused, value-accepted}
+use Rattle.attribute_values.proofs.Accepting.{value_refused, value_accepted}
 use Rattle.attribute_values.proofs.ByRules.{values_rules}
 use Rattle.attribute_values.proofs.value.Statement.{statement}
 use Rattle.attribute_values.proofs.value.Tie as tie
@@ -49,13 +49,13 @@ copy-found-requires : tie.Need-copy-found-requires
 copy-found-requires c κs = search rules
 
 returns : tie.Need-returns
-returns c = values_rules (value-refused (c.before.before.before.before.before.before.before.before.read-spanned.ensures.0) _ _ _ _ _ _ (c.before.answer.given.1))
+returns c = values_rules (value_refused (c.before.before.before.before.before.before.before.before.read-spanned.ensures.0) _ _ _ _ _ _ (c.before.answer.given.1))
 
 same_length : tie.Need-same-length
 same_length c = search rules
 
 returns-2 : tie.Need-returns-2
-returns-2 c = values_rules (value-accepted (c.before.before.before.before.before.before.before.before.before.before.before.before.before.before.before.before.read-spanned.ensures.0) _ _ _ _ (c.before.before.before.before.before.before.before.before.before.enum_told.given.1) _ c.before.before.before.before.before.find-row.ensures c.before.before.copy-found.ensures)
+returns-2 c = values_rules (value_accepted (c.before.before.before.before.before.before.before.before.before.before.before.before.before.before.before.before.read-spanned.ensures.0) _ _ _ _ (c.before.before.before.before.before.before.before.before.before.enum_told.given.1) _ c.before.before.before.before.before.find-row.ensures c.before.before.copy-found.ensures)
 
 pub value_spec : {M : Type 1} → statement M
 value_spec =

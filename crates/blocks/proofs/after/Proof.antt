@@ -1,7 +1,7 @@
 -- `blocks::after` meets its contract.
 -- Assumes nothing.
 use native.Mathlib.Omega.{arith}
-use Rattle.blocks.proofs.Ranges.{after-back, after_past, after_next}
+use Rattle.blocks.proofs.Ranges.{after_back, after_past, after_next}
 use borrow.Author.Rules.{rules}
 use Rattle.blocks.proofs.after.Statement.{statement}
 use Rattle.blocks.proofs.after.Tie as tie
@@ -13,7 +13,7 @@ cell-of-requires : tie.Need-cell-of-requires
 cell-of-requires c κs = search rules
 
 returns : tie.Need-returns
-returns c = after-back _ _ _ c.before.cell-of.result c.before.cell-of.ensures (omega arith)
+returns c = after_back _ _ _ c.before.cell-of.result c.before.cell-of.ensures (omega arith)
 
 returns-2 : tie.Need-returns-2
 returns-2 c = after_past _ _ _ c.before.before.cell-of.result c.before.before.cell-of.ensures (omega arith)

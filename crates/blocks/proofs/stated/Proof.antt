@@ -1,6 +1,6 @@
 -- `blocks::stated` meets its contract.
 -- Assumes nothing.
-use Rattle.blocks.proofs.Ranges.{Looking, looking_start, looking-stop, looking-more, looking-end, after_later, after_inside}
+use Rattle.blocks.proofs.Ranges.{Looking, looking_start, looking_stop, looking_more, looking_end, after_later, after_inside}
 use Rattle.token.specs.Tokens.{part_of}
 use Rattle.token.specs.Words.{same}
 use native.Mathlib.Omega.{arith}
@@ -33,7 +33,7 @@ same-part-requires : tie.Need-same-part-requires invariant_loop decreases_loop
 same-part-requires c κs = tt
 
 returns : tie.Need-returns invariant_loop decreases_loop
-returns c = looking-stop _ _ _ _ _ c.before.before.before.before.before.loop.invariant (omega arith) (sym (ap₂ (λ p n. same (part_of c.before.before.before.before.before.before.before.before.args.text.now c.before.before.before.before.before.before.before.before.args.at c.before.before.before.before.before.before.before.before.args.len) (part_of c.before.before.before.before.before.before.before.before.args.text.now p n)) c.before.before.before.cell-of.ensures c.before.before.cell-of2.ensures) ∙ sym c.before.same-part.ensures ∙ c.if1.true)
+returns c = looking_stop _ _ _ _ _ c.before.before.before.before.before.loop.invariant (omega arith) (sym (ap₂ (λ p n. same (part_of c.before.before.before.before.before.before.before.before.args.text.now c.before.before.before.before.before.before.before.before.args.at c.before.before.before.before.before.before.before.before.args.len) (part_of c.before.before.before.before.before.before.before.before.args.text.now p n)) c.before.before.before.cell-of.ensures c.before.before.cell-of2.ensures) ∙ sym c.before.same-part.ensures ∙ c.if1.true)
 
 after-requires : tie.Need-after-requires invariant_loop decreases_loop
 after-requires c κs = tt
@@ -42,10 +42,10 @@ loop_less : tie.Need-loop-smaller invariant_loop decreases_loop
 loop_less c = omega (arith, c.after.ensures, after_later c.before.before.before.before.before.before.before.before.before.args.st.now c.before.before.before.before.before.before.loop.k c.before.before.before.before.before.before.before.before.before.args.end (omega arith), after_inside c.before.before.before.before.before.before.before.before.before.args.st.now c.before.before.before.before.before.before.loop.k c.before.before.before.before.before.before.before.before.before.args.end)
 
 loop_again : tie.Need-loop-preserved invariant_loop decreases_loop
-loop_again c = subst (λ n. Looking c.before.before.before.before.before.before.before.before.before.args.text.now c.before.before.before.before.before.before.before.before.before.args.st.now c.before.before.before.before.before.before.before.before.before.args.from c.before.before.before.before.before.before.before.before.before.args.end c.before.before.before.before.before.before.before.before.before.args.at c.before.before.before.before.before.before.before.before.before.args.len n) (sym c.after.ensures) (looking-more _ _ _ _ _ c.before.before.before.before.before.before.loop.invariant (omega arith) (sym (ap₂ (λ p n. same (part_of c.before.before.before.before.before.before.before.before.before.args.text.now c.before.before.before.before.before.before.before.before.before.args.at c.before.before.before.before.before.before.before.before.before.args.len) (part_of c.before.before.before.before.before.before.before.before.before.args.text.now p n)) c.before.before.before.before.cell-of.ensures c.before.before.before.cell-of2.ensures) ∙ sym c.before.before.same-part.ensures ∙ c.before.if1.false))
+loop_again c = subst (λ n. Looking c.before.before.before.before.before.before.before.before.before.args.text.now c.before.before.before.before.before.before.before.before.before.args.st.now c.before.before.before.before.before.before.before.before.before.args.from c.before.before.before.before.before.before.before.before.before.args.end c.before.before.before.before.before.before.before.before.before.args.at c.before.before.before.before.before.before.before.before.before.args.len n) (sym c.after.ensures) (looking_more _ _ _ _ _ c.before.before.before.before.before.before.loop.invariant (omega arith) (sym (ap₂ (λ p n. same (part_of c.before.before.before.before.before.before.before.before.before.args.text.now c.before.before.before.before.before.before.before.before.before.args.at c.before.before.before.before.before.before.before.before.before.args.len) (part_of c.before.before.before.before.before.before.before.before.before.args.text.now p n)) c.before.before.before.before.cell-of.ensures c.before.before.before.cell-of2.ensures) ∙ sym c.before.before.same-part.ensures ∙ c.before.if1.false))
 
 returns-2 : tie.Need-returns-2 invariant_loop decreases_loop
-returns-2 c = looking-end _ _ _ _ _ c.before.loop.invariant (omega arith)
+returns-2 c = looking_end _ _ _ _ _ c.before.loop.invariant (omega arith)
 
 pub stated-spec : {M : Type 1} → statement M
 stated-spec =

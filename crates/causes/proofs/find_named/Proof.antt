@@ -3,7 +3,7 @@ use native.Mathlib.Omega.{arith}
 use Prim.Native.Nat.{◌-◌}
 use mathlib.Core.Path.{◌≡◌, refl, sym, ◌∙◌}
 use Rattle.rows.specs.Search.{find_named}
-use Rattle.causes.proofs.Rows.{find_here, find-on, find_none}
+use Rattle.causes.proofs.Rows.{find_here, find_on, find_none}
 use Rattle.causes.proofs.find_named.Statement.{statement}
 use Rattle.causes.proofs.find_named.Tie as tie
 use Rattle.causes.proofs.find_named.Reads as reads
@@ -32,7 +32,7 @@ loop_less : tie.Need-loop-smaller invariant_loop decreases_loop
 loop_less c = omega arith
 
 loop_again : tie.Need-loop-preserved invariant_loop decreases_loop
-loop_again c = sym (find-on _ _ _ _ _ _ _ _ _ c.before.before.before.loop.i (omega arith) (sym c.before.is-named.ensures ∙ c.if1.false)) ∙ c.before.before.before.loop.invariant
+loop_again c = sym (find_on _ _ _ _ _ _ _ _ _ c.before.before.before.loop.i (omega arith) (sym c.before.is-named.ensures ∙ c.if1.false)) ∙ c.before.before.before.loop.invariant
 
 returns-2 : tie.Need-returns-2 invariant_loop decreases_loop
 returns-2 c = sym (find_none _ _ _ _ _ _ _ _ _ c.before.loop.i (omega arith)) ∙ c.before.loop.invariant

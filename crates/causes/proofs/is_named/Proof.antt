@@ -1,4 +1,4 @@
-use Rattle.causes.proofs.Rows.{named_other, named-same}
+use Rattle.causes.proofs.Rows.{named_other, named_same}
 use borrow.Author.Rules.{rules}
 use Rattle.causes.proofs.is_named.Statement.{statement}
 use Rattle.causes.proofs.is_named.Tie as tie
@@ -27,7 +27,7 @@ same-part-requires : tie.Need-same-part-requires
 same-part-requires c κs = search rules
 
 returns-2 : tie.Need-returns-2
-returns-2 c = named-same _ _ _ _ _ _ _ _ _ _ _ _ _ _ c.before.before.before.before.before.cell-of.ensures c.before.before.before.before.if1.false c.before.before.before.place_after.ensures c.before.before.cell-of2.ensures c.before.cell-of3.ensures c.same-part.ensures
+returns-2 c = named_same _ _ _ _ _ _ _ _ _ _ _ _ _ _ c.before.before.before.before.before.cell-of.ensures c.before.before.before.before.if1.false c.before.before.before.place_after.ensures c.before.before.cell-of2.ensures c.before.cell-of3.ensures c.same-part.ensures
 
 pub is-named-spec : {M : Type 1} → statement M
 is-named-spec =

@@ -89,8 +89,8 @@ by_test false f g = g refl
 below : (k n : ℕ) → ltb k n ≡ true → k < n
 below k n e = ltb→lt k n (subst Holds (sym e) tt)
 
-not-below : (k n : ℕ) → ltb k n ≡ false → k < n → ⊥
-not-below k n e l = subst Holds e (lt→ltb k n l)
+not_below : (k n : ℕ) → ltb k n ≡ false → k < n → ⊥
+not_below k n e l = subst Holds e (lt→ltb k n l)
 
 none_yet : (n : ℕ) → 0 ≡ n - n
 none_yet n = omega arith
@@ -299,7 +299,7 @@ module _ {M : Type 1} {𝓤 : Ura M} (𝓛 : Logic 𝓤) (mem : Memory → SProp
         again ! ◌<◌ (I l₀ l₁ l₂ l₃ l₄ l₅ l₆ l₇ l₈ l₉ l₁₀) t (t - 1) (falls n t (below (n - t) n e')))))))))))))))
         (λ e'. rewrite ! 11 (λ (y : Bool). ‵ (fat full_share ty_bool l₆ 0 (vbool y))) e' refl $ leaves_loop ! (load ! (from ! (stop !)) (look ! 11 refl)) $
         exec ! 𝓣.C 𝓣.Λ (En l₀ l₁ l₂ l₃ l₄ l₅ l₆ l₇ l₈ l₉ l₁₀) (rest l₀ l₁ l₂ l₃ l₄ l₅ l₆ l₇ l₈ l₉ l₁₀) (at_ret (En l₀ l₁ l₂ l₃ l₄ l₅ l₆ l₇ l₈ l₉ l₁₀) Post) $
-        rewrite ! 0 (λ (l : List Difference). ‵ ((MutSlice (named 0) κ T.the_row).own_val (x γ l) (s ∷ []))) (overwrite_end h.records ys (min h.total 64) t (all_done n t (not-below (n - t) n e'))) refl $
+        rewrite ! 0 (λ (l : List Difference). ‵ ((MutSlice (named 0) κ T.the_row).own_val (x γ l) (s ∷ []))) (overwrite_end h.records ys (min h.total 64) t (all_done n t (not_below (n - t) n e'))) refl $
         assigns ! (of_opd ! (unit_lit !)) (from ! (stop !)) (init ! 23 refl (tt, tt)) $
         returns ! (look ! 23 refl) $ forget ! 11 refl $ forget ! 13 refl $ forget ! 15 refl $ forget ! 17 refl $ forget ! 19 refl $ forget ! 21 refl $ forget ! 23 refl $
         move ! (23 ∷ 24 ∷ []) $ free1 ! $ move ! (21 ∷ 22 ∷ []) $ free1 ! $ move ! (19 ∷ 20 ∷ []) $ free1 ! $ move ! (17 ∷ 18 ∷ []) $ free1 ! $ move ! (15 ∷ 16 ∷ []) $ free1 ! $ move ! (13 ∷ 14 ∷ []) $ free1 ! $

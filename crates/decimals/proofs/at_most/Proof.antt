@@ -1,4 +1,4 @@
-use Rattle.decimals.proofs.Powers.{power-left, nothing_most, above, not_more}
+use Rattle.decimals.proofs.Powers.{power_left, nothing_most, above, not_more}
 use mathlib.Core.Path.{sym, ◌∙◌}
 use native.Mathlib.Omega.{arith}
 use borrow.Author.Rules.{rules}
@@ -12,7 +12,7 @@ scaled-at-most-requires : tie.Need-scaled-at-most-requires
 scaled-at-most-requires c κs = search rules
 
 returns : tie.Need-returns
-returns c = c.scaled-at-most.ensures ∙ power-left _ _ _ _ c.before.if1.true
+returns c = c.scaled-at-most.ensures ∙ power_left _ _ _ _ c.before.if1.true
 
 returns-2 : tie.Need-returns-2
 returns-2 c = nothing_most _ _ _ _ c.if2.true

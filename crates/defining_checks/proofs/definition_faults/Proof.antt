@@ -1,7 +1,7 @@
 -- `definition_faults` meets its contract: the room for the index is large enough. Assumes nothing.
 use Prim.Native.Nat.{◌≤◌}
 use native.Mathlib.Omega.{arith}
-use Rattle.indexes.proofs.Throughs.{room-long, room_fits}
+use Rattle.indexes.proofs.Throughs.{room_long, room_fits}
 use borrow.Author.Rules.{rules}
 use Rattle.defining_checks.proofs.definition_faults.Statement.{statement}
 use Rattle.defining_checks.proofs.definition_faults.Tie as tie
@@ -17,7 +17,7 @@ array-borrow-prefix-x : tie.Need-array-borrow-prefix-x
 array-borrow-prefix-x c = search rules
 
 slice-aggregate-indexed-faults : tie.Need-slice-aggregate-indexed-faults
-slice-aggregate-indexed-faults c = let h : c.before.least-of.result ≤ 1025 = omega arith in room-long _ _ h
+slice-aggregate-indexed-faults c = let h : c.before.least-of.result ≤ 1025 = omega arith in room_long _ _ h
 
 slice-aggregate-indexed-faults-2 : tie.Need-slice-aggregate-indexed-faults-2
 slice-aggregate-indexed-faults-2 c = search rules

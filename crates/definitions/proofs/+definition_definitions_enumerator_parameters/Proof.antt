@@ -1,10 +1,10 @@
 use native.Mathlib.Omega.{arith}
 use borrow.Author.Rules.{rules}
-use Rattle.definitions.proofs.Acts.{tables, typed_plain, typed_list, reference-defined, integer-defined, float-defined, string-defined, truths-none, truths-there, boolean-defined, enum-defined, parameters-none, parameters-there, enumerator_there, definition-none, definitions-on, definitions-gone, enumerators-on, then, ValueRows}
+use Rattle.definitions.proofs.Acts.{tables, typed_plain, typed_list, reference_defined, integer_defined, float_defined, string_defined, truths_none, truths_there, boolean_defined, enum_defined, parameters_none, parameters_there, enumerator_there, definition_none, definitions_on, definitions_gone, enumerators_on, then, ValueRows}
 use Rattle.definitions.specs.Rows.{Fill, Rows}
 use Rattle.filling.proofs.Filling.{going, Going}
-use Rattle.grammar.proofs.Rules.{comma-less, lsquare-taken, enumerators-item, definition-no, definitions-less, twice-less, twice-one-less, comma-one-less}
-use Rattle.grammar.proofs.Terminals.{rbrace-is, lsquare-is, rsquare-is, true-is, false-is, comma-is}
+use Rattle.grammar.proofs.Rules.{comma_less, lsquare_taken, enumerators_item, definition_no, definitions_less, twice_less, twice_one_less, comma_one_less}
+use Rattle.grammar.proofs.Terminals.{rbrace_is, lsquare_is, rsquare_is, true_is, false_is, comma_is}
 use Rattle.grammar.proofs.Meeting.{◌⊳◌, went_on}
 use Rattle.grammar.specs.Readers.{left, sort_at}
 use Rattle.grammar.specs.Grammar.{definitions, enumerators}
@@ -154,7 +154,7 @@ definition-same-length t c = c.before.before.before.named.ensures.does.size
 
 definition-returns : (t : ℕ) → definition-lts.Need-returns (definition-claims t) (definition_at t) definition.Post definition-Inv-loop definition-μ-loop
 unfolding sort_at
-definition-returns t c = boolean-defined _ c.before.before.before.before.before.before.before.before.before.before.before.if1.true c.before.before.before.before.before.before.before.before.before.before.advance.ensures c.before.before.before.before.before.before.before.before.before.auto.ensures (truths-none c.before.before.before.before.before.before.before.before.before.before.before.before.before.before.before.args.a c.before.before.before.before.before.before.if2.true c.before.before.before.before.before.head.ensures) (typed_plain c.before.before.before.before.before.before.before.before.before.before.before.before.before.before.before.args.a c.before.before.before.before.before.head.ensures) c.before.before.before.named.ensures
+definition-returns t c = boolean_defined _ c.before.before.before.before.before.before.before.before.before.before.before.if1.true c.before.before.before.before.before.before.before.before.before.before.advance.ensures c.before.before.before.before.before.before.before.before.before.auto.ensures (truths_none c.before.before.before.before.before.before.before.before.before.before.before.before.before.before.before.args.a c.before.before.before.before.before.before.if2.true c.before.before.before.before.before.head.ensures) (typed_plain c.before.before.before.before.before.before.before.before.before.before.before.before.before.before.before.args.a c.before.before.before.before.before.head.ensures) c.before.before.before.named.ensures
 
 definition-advance-requires-2 : (t : ℕ) → definition-lts.Need-advance-requires-2 (definition-claims t) (definition_at t) definition.Post definition-Inv-loop definition-μ-loop
 definition-advance-requires-2 t c κs = search rules
@@ -166,7 +166,7 @@ definition-length-requires : (t : ℕ) → definition-lts.Need-length-requires (
 definition-length-requires t c κs = search rules
 
 definition-parameters-requires : (t : ℕ) → definition-lts.Need-parameters-requires (definition-claims t) (definition_at t) definition.Post definition-Inv-loop definition-μ-loop
-definition-parameters-requires t c κs = (twice-less _ 40 tt c.before.before.before.before.before.before.before.before.before.before.before.before.before.before.requires.0 c.before.before.before.before.before.before.before.before.before.before.if1.true c.before.before.before.before.before.before.before.before.before.advance.ensures (c.before.before.before.before.before.before.before.before.auto.ensures.meets ⊳ lsquare-taken c.before.before.before.before.before.if2.false c.before.before.before.before.advance2.ensures ⊳ true-is c.before.before.before.expect.ensures), tt)
+definition-parameters-requires t c κs = (twice_less _ 40 tt c.before.before.before.before.before.before.before.before.before.before.before.before.before.before.requires.0 c.before.before.before.before.before.before.before.before.before.before.if1.true c.before.before.before.before.before.before.before.before.before.advance.ensures (c.before.before.before.before.before.before.before.before.auto.ensures.meets ⊳ lsquare_taken c.before.before.before.before.before.if2.false c.before.before.before.before.advance2.ensures ⊳ true_is c.before.before.before.expect.ensures), tt)
 
 definition-description-requires : (t : ℕ) → definition-lts.Need-description-requires (definition-claims t) (definition_at t) definition.Post definition-Inv-loop definition-μ-loop
 definition-description-requires t c κs = search rules
@@ -181,7 +181,7 @@ definition-length-requires-2 : (t : ℕ) → definition-lts.Need-length-requires
 definition-length-requires-2 t c κs = search rules
 
 definition-parameters-requires-2 : (t : ℕ) → definition-lts.Need-parameters-requires-2 (definition-claims t) (definition_at t) definition.Post definition-Inv-loop definition-μ-loop
-definition-parameters-requires-2 t c κs = (twice-less _ 40 tt c.before.before.before.before.before.before.before.before.before.before.before.before.before.before.before.before.before.before.before.before.before.before.before.before.before.requires.0 c.before.before.before.before.before.before.before.before.before.before.before.before.before.before.before.before.before.before.before.before.before.if1.true c.before.before.before.before.before.before.before.before.before.before.before.before.before.before.before.before.before.before.before.before.advance.ensures (c.before.before.before.before.before.before.before.before.before.before.before.before.before.before.before.before.before.before.before.auto.ensures.meets ⊳ lsquare-taken c.before.before.before.before.before.before.before.before.before.before.before.before.before.before.before.before.if2.false c.before.before.before.before.before.before.before.before.before.before.before.before.before.before.before.advance2.ensures ⊳ true-is c.before.before.before.before.before.before.before.before.before.before.before.before.before.before.expect.ensures ⊳ c.before.before.before.before.before.before.before.before.before.before.parameters.ensures.fills.meets ⊳ c.before.before.before.before.before.description.ensures ⊳ comma-is c.before.before.before.before.expect2.ensures ⊳ false-is c.before.before.before.expect3.ensures), tt)
+definition-parameters-requires-2 t c κs = (twice_less _ 40 tt c.before.before.before.before.before.before.before.before.before.before.before.before.before.before.before.before.before.before.before.before.before.before.before.before.before.requires.0 c.before.before.before.before.before.before.before.before.before.before.before.before.before.before.before.before.before.before.before.before.before.if1.true c.before.before.before.before.before.before.before.before.before.before.before.before.before.before.before.before.before.before.before.before.advance.ensures (c.before.before.before.before.before.before.before.before.before.before.before.before.before.before.before.before.before.before.before.auto.ensures.meets ⊳ lsquare_taken c.before.before.before.before.before.before.before.before.before.before.before.before.before.before.before.before.if2.false c.before.before.before.before.before.before.before.before.before.before.before.before.before.before.before.advance2.ensures ⊳ true_is c.before.before.before.before.before.before.before.before.before.before.before.before.before.before.expect.ensures ⊳ c.before.before.before.before.before.before.before.before.before.before.parameters.ensures.fills.meets ⊳ c.before.before.before.before.before.description.ensures ⊳ comma_is c.before.before.before.before.expect2.ensures ⊳ false_is c.before.before.before.expect3.ensures), tt)
 
 definition-description-requires-2 : (t : ℕ) → definition-lts.Need-description-requires-2 (definition-claims t) (definition_at t) definition.Post definition-Inv-loop definition-μ-loop
 definition-description-requires-2 t c κs = search rules
@@ -206,7 +206,7 @@ definition-same-length-3 t c = c.before.before.before.before.before.before.befor
 
 definition-returns-2 : (t : ℕ) → definition-lts.Need-returns-2 (definition-claims t) (definition_at t) definition.Post definition-Inv-loop definition-μ-loop
 unfolding sort_at
-definition-returns-2 t c = boolean-defined _ c.before.before.before.before.before.before.before.before.before.before.before.before.before.before.before.before.before.before.before.before.before.before.before.before.before.before.before.before.before.before.before.before.before.before.before.if1.true c.before.before.before.before.before.before.before.before.before.before.before.before.before.before.before.before.before.before.before.before.before.before.before.before.before.before.before.before.before.before.before.before.before.before.advance.ensures c.before.before.before.before.before.before.before.before.before.before.before.before.before.before.before.before.before.before.before.before.before.before.before.before.before.before.before.before.before.before.before.before.before.auto.ensures (truths-there c.before.before.before.before.before.before.before.before.before.before.before.before.before.before.before.before.before.before.before.before.before.before.before.before.before.before.before.before.before.before.before.before.before.before.before.before.before.before.before.args.a c.before.before.before.before.before.before.before.before.before.before.before.before.before.before.before.before.before.before.before.before.before.before.before.before.before.before.before.before.before.before.if2.false c.before.before.before.before.before.before.before.before.before.before.before.before.before.before.before.before.before.before.before.before.before.before.before.before.before.before.before.before.before.advance2.ensures (true-is c.before.before.before.before.before.before.before.before.before.before.before.before.before.before.before.before.before.before.before.before.before.before.before.before.before.before.before.before.expect.ensures) c.before.before.before.before.before.before.before.before.before.before.before.before.before.before.before.before.before.before.before.before.before.before.before.before.before.before.before.length.ensures c.before.before.before.before.before.before.before.before.before.before.before.before.before.before.before.before.before.before.before.before.before.before.before.before.parameters.ensures c.before.before.before.before.before.before.before.before.before.before.before.before.before.before.before.before.before.before.before.description.ensures (comma-is c.before.before.before.before.before.before.before.before.before.before.before.before.before.before.before.before.before.before.expect2.ensures) (false-is c.before.before.before.before.before.before.before.before.before.before.before.before.before.before.before.before.before.expect3.ensures) c.before.before.before.before.before.before.before.before.before.before.before.before.before.before.before.before.length2.ensures c.before.before.before.before.before.before.before.before.before.before.before.before.before.parameters2.ensures c.before.before.before.before.before.before.before.before.description2.ensures (rsquare-is c.before.before.before.before.before.before.before.expect4.ensures) c.before.before.before.before.before.before.through.ensures c.before.before.before.before.before.with-list.ensures) (typed_list c.before.before.before.before.before.before.before.before.before.before.before.before.before.before.before.before.before.before.before.before.before.before.before.before.before.before.before.before.before.before.before.before.before.before.before.before.before.before.before.args.a c.before.before.before.before.before.with-list.ensures) c.before.before.before.named2.ensures
+definition-returns-2 t c = boolean_defined _ c.before.before.before.before.before.before.before.before.before.before.before.before.before.before.before.before.before.before.before.before.before.before.before.before.before.before.before.before.before.before.before.before.before.before.before.if1.true c.before.before.before.before.before.before.before.before.before.before.before.before.before.before.before.before.before.before.before.before.before.before.before.before.before.before.before.before.before.before.before.before.before.before.advance.ensures c.before.before.before.before.before.before.before.before.before.before.before.before.before.before.before.before.before.before.before.before.before.before.before.before.before.before.before.before.before.before.before.before.before.auto.ensures (truths_there c.before.before.before.before.before.before.before.before.before.before.before.before.before.before.before.before.before.before.before.before.before.before.before.before.before.before.before.before.before.before.before.before.before.before.before.before.before.before.before.args.a c.before.before.before.before.before.before.before.before.before.before.before.before.before.before.before.before.before.before.before.before.before.before.before.before.before.before.before.before.before.before.if2.false c.before.before.before.before.before.before.before.before.before.before.before.before.before.before.before.before.before.before.before.before.before.before.before.before.before.before.before.before.before.advance2.ensures (true_is c.before.before.before.before.before.before.before.before.before.before.before.before.before.before.before.before.before.before.before.before.before.before.before.before.before.before.before.before.expect.ensures) c.before.before.before.before.before.before.before.before.before.before.before.before.before.before.before.before.before.before.before.before.before.before.before.before.before.before.before.length.ensures c.before.before.before.before.before.before.before.before.before.before.before.before.before.before.before.before.before.before.before.before.before.before.before.before.parameters.ensures c.before.before.before.before.before.before.before.before.before.before.before.before.before.before.before.before.before.before.before.description.ensures (comma_is c.before.before.before.before.before.before.before.before.before.before.before.before.before.before.before.before.before.before.expect2.ensures) (false_is c.before.before.before.before.before.before.before.before.before.before.before.before.before.before.before.before.before.expect3.ensures) c.before.before.before.before.before.before.before.before.before.before.before.before.before.before.before.before.length2.ensures c.before.before.before.before.before.before.before.before.before.before.before.before.before.parameters2.ensures c.before.before.before.before.before.before.before.before.description2.ensures (rsquare_is c.before.before.before.before.before.before.before.expect4.ensures) c.before.before.before.before.before.before.through.ensures c.before.before.before.before.before.with-list.ensures) (typed_list c.before.before.before.before.before.before.before.before.before.before.before.before.before.before.before.before.before.before.before.before.before.before.before.before.before.before.before.before.before.before.before.before.before.before.before.before.before.before.before.args.a c.before.before.before.before.before.with-list.ensures) c.before.before.before.named2.ensures
 
 definition-advance-requires-3 : (t : ℕ) → definition-lts.Need-advance-requires-3 (definition-claims t) (definition_at t) definition.Post definition-Inv-loop definition-μ-loop
 definition-advance-requires-3 t c κs = search rules
@@ -218,7 +218,7 @@ definition-expect-requires-5 : (t : ℕ) → definition-lts.Need-expect-requires
 definition-expect-requires-5 t c κs = search rules
 
 definition-enumerator-requires : (t : ℕ) → definition-lts.Need-enumerator-requires (definition-claims t) (definition_at t) definition.Post definition-Inv-loop definition-μ-loop
-definition-enumerator-requires t c κs = (twice-one-less _ 41 tt c.before.before.before.before.before.before.before.before.before.before.before.requires.0 c.before.before.before.before.before.before.if3.true c.before.before.before.before.before.advance3.ensures (c.before.before.before.before.auto2.ensures.meets ⊳ lsquare-is c.before.before.expect5.ensures), tt)
+definition-enumerator-requires t c κs = (twice_one_less _ 41 tt c.before.before.before.before.before.before.before.before.before.before.before.requires.0 c.before.before.before.before.before.before.if3.true c.before.before.before.before.before.advance3.ensures (c.before.before.before.before.auto2.ensures.meets ⊳ lsquare_is c.before.before.expect5.ensures), tt)
 
 definition-loop-holds : (t : ℕ) → definition-lts.Need-loop-init (definition-claims t) (definition_at t) definition.Post definition-Inv-loop definition-μ-loop
 definition-loop-holds t c = going tables enumerators (ValueRows _)
@@ -227,13 +227,13 @@ definition-advance-requires-4 : (t : ℕ) → definition-lts.Need-advance-requir
 definition-advance-requires-4 t c κs = search rules
 
 definition-enumerator-requires-2 : (t : ℕ) → definition-lts.Need-enumerator-requires-2 (definition-claims t) (definition_at t) definition.Post definition-Inv-loop definition-μ-loop
-definition-enumerator-requires-2 t c κs = (comma-one-less _ (twice-less _ 41 tt c.before.before.before.before.before.before.before.before.before.before.before.before.before.before.before.before.before.before.before.before.before.before.before.requires.0 c.before.before.before.before.before.before.before.before.before.before.before.before.before.before.before.before.before.before.if3.true c.before.before.before.before.before.before.before.before.before.before.before.before.before.before.before.before.before.advance3.ensures (c.before.before.before.before.before.before.before.before.before.before.before.before.before.before.before.before.auto2.ensures.meets ⊳ lsquare-is c.before.before.before.before.before.before.before.before.before.before.before.before.before.before.expect5.ensures ⊳ c.before.before.before.before.before.before.before.before.before.before.before.enumerator.ensures.fills.meets)) c.before.before.before.before.before.loop.invariant.still c.before.before.before.if4.true c.before.before.advance4.ensures, tt)
+definition-enumerator-requires-2 t c κs = (comma_one_less _ (twice_less _ 41 tt c.before.before.before.before.before.before.before.before.before.before.before.before.before.before.before.before.before.before.before.before.before.before.before.requires.0 c.before.before.before.before.before.before.before.before.before.before.before.before.before.before.before.before.before.before.if3.true c.before.before.before.before.before.before.before.before.before.before.before.before.before.before.before.before.before.advance3.ensures (c.before.before.before.before.before.before.before.before.before.before.before.before.before.before.before.before.auto2.ensures.meets ⊳ lsquare_is c.before.before.before.before.before.before.before.before.before.before.before.before.before.before.expect5.ensures ⊳ c.before.before.before.before.before.before.before.before.before.before.before.enumerator.ensures.fills.meets)) c.before.before.before.before.before.loop.invariant.still c.before.before.before.if4.true c.before.before.advance4.ensures, tt)
 
 definition-loop-less : (t : ℕ) → definition-lts.Need-loop-smaller (definition-claims t) (definition_at t) definition.Post definition-Inv-loop definition-μ-loop
-definition-loop-less t c = comma-less c.before.before.before.before.before.before.before.before.before.if4.true (enumerators-item c.before.before.before.before.before.before.before.before.before.if4.true c.before.before.before.before.before.before.before.before.advance4.ensures c.before.before.before.before.before.enumerator2.ensures.fills.meets)
+definition-loop-less t c = comma_less c.before.before.before.before.before.before.before.before.before.if4.true (enumerators_item c.before.before.before.before.before.before.before.before.before.if4.true c.before.before.before.before.before.before.before.before.advance4.ensures c.before.before.before.before.before.enumerator2.ensures.fills.meets)
 
 definition-loop-again : (t : ℕ) → definition-lts.Need-loop-preserved (definition-claims t) (definition_at t) definition.Post definition-Inv-loop definition-μ-loop
-definition-loop-again t c = enumerators-on _ c.before.before.before.before.before.before.before.before.before.before.before.loop.invariant c.before.before.before.before.before.before.before.before.before.if4.true c.before.before.before.before.before.before.before.before.advance4.ensures c.before.before.before.before.before.enumerator2.ensures
+definition-loop-again t c = enumerators_on _ c.before.before.before.before.before.before.before.before.before.before.before.loop.invariant c.before.before.before.before.before.before.before.before.before.if4.true c.before.before.before.before.before.before.before.before.advance4.ensures c.before.before.before.before.before.enumerator2.ensures
 
 definition-expect-requires-6 : (t : ℕ) → definition-lts.Need-expect-requires-6 (definition-claims t) (definition_at t) definition.Post definition-Inv-loop definition-μ-loop
 definition-expect-requires-6 t c κs = search rules
@@ -255,7 +255,7 @@ definition-same-length-5 t c = c.before.before.before.before.before.before.befor
 
 definition-returns-3 : (t : ℕ) → definition-lts.Need-returns-3 (definition-claims t) (definition_at t) definition.Post definition-Inv-loop definition-μ-loop
 unfolding sort_at
-definition-returns-3 t c = enum-defined _ c.before.before.before.before.before.before.before.before.before.before.before.before.before.before.before.before.before.before.before.before.before.before.before.if3.true c.before.before.before.before.before.before.before.before.before.before.before.before.before.before.before.before.before.before.before.before.before.before.advance3.ensures c.before.before.before.before.before.before.before.before.before.before.before.before.before.before.before.before.before.before.before.before.before.auto2.ensures (lsquare-is c.before.before.before.before.before.before.before.before.before.before.before.before.before.before.before.before.before.before.before.expect5.ensures) c.before.before.before.before.before.before.before.before.before.before.before.before.before.before.before.before.enumerator.ensures c.before.before.before.before.before.before.before.before.before.before.loop.invariant c.before.before.before.before.before.before.before.before.if4.false (rsquare-is c.before.before.before.before.before.before.before.expect6.ensures) c.before.before.before.before.before.before.through2.ensures c.before.before.before.before.before.with-list2.ensures c.before.before.before.named3.ensures
+definition-returns-3 t c = enum_defined _ c.before.before.before.before.before.before.before.before.before.before.before.before.before.before.before.before.before.before.before.before.before.before.before.if3.true c.before.before.before.before.before.before.before.before.before.before.before.before.before.before.before.before.before.before.before.before.before.before.advance3.ensures c.before.before.before.before.before.before.before.before.before.before.before.before.before.before.before.before.before.before.before.before.before.auto2.ensures (lsquare_is c.before.before.before.before.before.before.before.before.before.before.before.before.before.before.before.before.before.before.before.expect5.ensures) c.before.before.before.before.before.before.before.before.before.before.before.before.before.before.before.before.enumerator.ensures c.before.before.before.before.before.before.before.before.before.before.loop.invariant c.before.before.before.before.before.before.before.before.if4.false (rsquare_is c.before.before.before.before.before.before.before.expect6.ensures) c.before.before.before.before.before.before.through2.ensures c.before.before.before.before.before.with-list2.ensures c.before.before.before.named3.ensures
 
 definition-advance-requires-5 : (t : ℕ) → definition-lts.Need-advance-requires-5 (definition-claims t) (definition_at t) definition.Post definition-Inv-loop definition-μ-loop
 definition-advance-requires-5 t c κs = search rules
@@ -267,7 +267,7 @@ definition-same-length-6 : (t : ℕ) → definition-lts.Need-same-length-6 (defi
 definition-same-length-6 t c = c.before.before.before.string.ensures.does.size
 
 definition-returns-4 : (t : ℕ) → definition-lts.Need-returns-4 (definition-claims t) (definition_at t) definition.Post definition-Inv-loop definition-μ-loop
-definition-returns-4 t c = string-defined _ c.before.before.before.before.before.before.if5.true c.before.before.before.before.before.advance5.ensures c.before.before.before.string.ensures
+definition-returns-4 t c = string_defined _ c.before.before.before.before.before.before.if5.true c.before.before.before.before.before.advance5.ensures c.before.before.before.string.ensures
 
 definition-is-integer-requires : (t : ℕ) → definition-lts.Need-is-integer-requires (definition-claims t) (definition_at t) definition.Post definition-Inv-loop definition-μ-loop
 definition-is-integer-requires t c κs = search rules
@@ -282,7 +282,7 @@ definition-same-length-7 : (t : ℕ) → definition-lts.Need-same-length-7 (defi
 definition-same-length-7 t c = c.before.before.before.integer.ensures.does.size
 
 definition-returns-5 : (t : ℕ) → definition-lts.Need-returns-5 (definition-claims t) (definition_at t) definition.Post definition-Inv-loop definition-μ-loop
-definition-returns-5 t c = integer-defined _ (sym c.before.before.before.before.before.before.before.is-integer.ensures ∙ c.before.before.before.before.before.before.if6.true) c.before.before.before.before.before.advance6.ensures c.before.before.before.integer.ensures
+definition-returns-5 t c = integer_defined _ (sym c.before.before.before.before.before.before.before.is-integer.ensures ∙ c.before.before.before.before.before.before.if6.true) c.before.before.before.before.before.advance6.ensures c.before.before.before.integer.ensures
 
 definition-is-type-requires : (t : ℕ) → definition-lts.Need-is-type-requires (definition-claims t) (definition_at t) definition.Post definition-Inv-loop definition-μ-loop
 definition-is-type-requires t c κs = search rules
@@ -297,7 +297,7 @@ definition-same-length-8 : (t : ℕ) → definition-lts.Need-same-length-8 (defi
 definition-same-length-8 t c = c.before.before.before.reference.ensures.does.size
 
 definition-returns-6 : (t : ℕ) → definition-lts.Need-returns-6 (definition-claims t) (definition_at t) definition.Post definition-Inv-loop definition-μ-loop
-definition-returns-6 t c = reference-defined _ (sym c.before.before.before.before.before.before.before.is-type.ensures ∙ c.before.before.before.before.before.before.if7.true) c.before.before.before.before.before.advance7.ensures c.before.before.before.reference.ensures
+definition-returns-6 t c = reference_defined _ (sym c.before.before.before.before.before.before.before.is-type.ensures ∙ c.before.before.before.before.before.before.if7.true) c.before.before.before.before.before.advance7.ensures c.before.before.before.reference.ensures
 
 definition-advance-requires-8 : (t : ℕ) → definition-lts.Need-advance-requires-8 (definition-claims t) (definition_at t) definition.Post definition-Inv-loop definition-μ-loop
 definition-advance-requires-8 t c κs = search rules
@@ -309,13 +309,13 @@ definition-same-length-9 : (t : ℕ) → definition-lts.Need-same-length-9 (defi
 definition-same-length-9 t c = c.before.before.before.float.ensures.does.size
 
 definition-returns-7 : (t : ℕ) → definition-lts.Need-returns-7 (definition-claims t) (definition_at t) definition.Post definition-Inv-loop definition-μ-loop
-definition-returns-7 t c = float-defined _ c.before.before.before.before.before.before.if8.true c.before.before.before.before.before.advance8.ensures c.before.before.before.float.ensures
+definition-returns-7 t c = float_defined _ c.before.before.before.before.before.before.if8.true c.before.before.before.before.before.advance8.ensures c.before.before.before.float.ensures
 
 definition-refuse-requires : (t : ℕ) → definition-lts.Need-refuse-requires (definition-claims t) (definition_at t) definition.Post definition-Inv-loop definition-μ-loop
 definition-refuse-requires t c κs = search rules
 
 definition-returns-8 : (t : ℕ) → definition-lts.Need-returns-8 (definition-claims t) (definition_at t) definition.Post definition-Inv-loop definition-μ-loop
-definition-returns-8 t c = definition-none _ (definition-no c.before.before.before.before.before.before.before.before.if1.false c.before.before.before.before.before.before.before.if3.false c.before.before.before.before.before.before.if5.false (sym c.before.before.before.before.before.is-integer.ensures ∙ c.before.before.before.before.if6.false) (sym c.before.before.before.is-type.ensures ∙ c.before.before.if7.false) c.before.if8.false c.refuse.ensures) c.refuse.ensures
+definition-returns-8 t c = definition_none _ (definition_no c.before.before.before.before.before.before.before.before.if1.false c.before.before.before.before.before.before.before.if3.false c.before.before.before.before.before.before.if5.false (sym c.before.before.before.before.before.is-integer.ensures ∙ c.before.before.before.before.if6.false) (sym c.before.before.before.is-type.ensures ∙ c.before.before.if7.false) c.before.if8.false c.refuse.ensures) c.refuse.ensures
 
 abbrev definitions-Inv-loop : definitions-lts.invariant-loop
 definitions-Inv-loop text d₀ e₀ n m under a₀ i₀ j₀ d e a i j = Going then Fill definitions (Rows under) text a₀ a ((d₀, i₀), (e₀, j₀)) ((d, i), (e, j))
@@ -341,10 +341,10 @@ definitions-definition-requires : (t : ℕ) → definitions-lts.Need-definition-
 definitions-definition-requires t c κs = let z = c.before.before.before.before.loop.invariant.still in (omega arith, tt)
 
 definitions-loop-less : (t : ℕ) → definitions-lts.Need-loop-smaller (definitions-claims t) (definitions-at t) definitions.Post definitions-Inv-loop definitions-μ-loop
-definitions-loop-less t c = definitions-less (sym c.before.before.before.before.before.before.before.before.before.is-definition.ensures ∙ c.before.before.before.before.before.before.before.before.if1.true) c.before.before.before.before.before.definition.ensures.fills.meets
+definitions-loop-less t c = definitions_less (sym c.before.before.before.before.before.before.before.before.before.is-definition.ensures ∙ c.before.before.before.before.before.before.before.before.if1.true) c.before.before.before.before.before.definition.ensures.fills.meets
 
 definitions-loop-again : (t : ℕ) → definitions-lts.Need-loop-preserved (definitions-claims t) (definitions-at t) definitions.Post definitions-Inv-loop definitions-μ-loop
-definitions-loop-again t c = definitions-on _ c.before.before.before.before.before.before.before.before.before.before.loop.invariant (sym c.before.before.before.before.before.before.before.before.before.is-definition.ensures ∙ c.before.before.before.before.before.before.before.before.if1.true) c.before.before.before.before.before.definition.ensures
+definitions-loop-again t c = definitions_on _ c.before.before.before.before.before.before.before.before.before.before.loop.invariant (sym c.before.before.before.before.before.before.before.before.before.is-definition.ensures ∙ c.before.before.before.before.before.before.before.before.if1.true) c.before.before.before.before.before.definition.ensures
 
 definitions-same-length : (t : ℕ) → definitions-lts.Need-same-length (definitions-claims t) (definitions-at t) definitions.Post definitions-Inv-loop definitions-μ-loop
 definitions-same-length t c = c.before.before.loop.invariant.does.0.size
@@ -353,7 +353,7 @@ definitions-same-length-2 : (t : ℕ) → definitions-lts.Need-same-length-2 (de
 definitions-same-length-2 t c = c.before.before.loop.invariant.does.1.size
 
 definitions-returns : (t : ℕ) → definitions-lts.Need-returns (definitions-claims t) (definitions-at t) definitions.Post definitions-Inv-loop definitions-μ-loop
-definitions-returns t c = definitions-gone _ c.before.before.loop.invariant (sym c.before.is-definition.ensures ∙ c.if1.false)
+definitions-returns t c = definitions_gone _ c.before.before.loop.invariant (sym c.before.is-definition.ensures ∙ c.if1.false)
 
 abbrev enumerator-claims : ℕ → enumerator-lts.Claims
 enumerator-claims t = (
@@ -412,7 +412,7 @@ parameters-claims t = (
 )
 
 parameters-returns : (t : ℕ) → parameters-lts.Need-returns (parameters-claims t) (parameters-at t) parameters.Post
-parameters-returns t c = parameters-none _ c.if1.true
+parameters-returns t c = parameters_none _ c.if1.true
 
 parameters-advance-requires : (t : ℕ) → parameters-lts.Need-advance-requires (parameters-claims t) (parameters-at t) parameters.Post
 parameters-advance-requires t c κs = search rules
@@ -430,7 +430,7 @@ parameters-same-length-2 : (t : ℕ) → parameters-lts.Need-same-length-2 (para
 parameters-same-length-2 t c = c.before.before.before.before.before.definitions.ensures.does.1.size
 
 parameters-returns-2 : (t : ℕ) → parameters-lts.Need-returns-2 (parameters-claims t) (parameters-at t) parameters.Post
-parameters-returns-2 t c = parameters-there _ c.before.before.before.before.before.before.before.before.before.if1.false c.before.before.before.before.before.before.before.before.advance.ensures c.before.before.before.before.before.definitions.ensures (rbrace-is c.expect.ensures)
+parameters-returns-2 t c = parameters_there _ c.before.before.before.before.before.before.before.before.before.if1.false c.before.before.before.before.before.before.before.before.advance.ensures c.before.before.before.before.before.definitions.ensures (rbrace_is c.expect.ensures)
 
 pub +definition-definitions-enumerator-parameters-spec : {M : Type 1} → statement M
 +definition-definitions-enumerator-parameters-spec =

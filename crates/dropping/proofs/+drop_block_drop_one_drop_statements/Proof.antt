@@ -1,7 +1,7 @@
 -- `dropping::drop_block`, `dropping::drop_one` and `dropping::drop_statements` meet their contracts: the rows of a block in braces are fewer.
 -- Assumes nothing.
-use Rattle.dropping.proofs.Droppings.{Dropping, dropping-start, dropping-step, dropping-end, block_empty, one_alone, one_inside, one_kept, one-marked}
-use Rattle.lookups.proofs.Blocks.{firsts-empty, firsts-none}
+use Rattle.dropping.proofs.Droppings.{Dropping, dropping_start, dropping_step, dropping_end, block_empty, one_alone, one_inside, one_kept, one_marked}
+use Rattle.lookups.proofs.Blocks.{firsts_empty, firsts_none}
 use Rattle.blocks.proofs.Ranges.{after_later, after_inside}
 use lib.ListN.{length}
 use Prim.Native.Nat.{◌+◌, ◌*◌, ◌-◌, ◌≤◌}
@@ -87,7 +87,7 @@ drop-block-slice-aggregate-drop-statements : (t : ℕ) → drop-block-lts.Need-s
 drop-block-slice-aggregate-drop-statements t c = search rules
 
 drop-block-drop-statements-requires : (t : ℕ) → drop-block-lts.Need-drop-statements-requires (drop-block-claims t) (drop-block-at t) drop_block.Post
-drop-block-drop-statements-requires t c κs = (omega (arith, c.before.before.before.before.before.before.before.before.before.before.before.before.requires.0), (c.before.before.before.before.before.before.before.before.before.before.before.before.requires.1, firsts-empty _ _ _ _ _ refl))
+drop-block-drop-statements-requires t c κs = (omega (arith, c.before.before.before.before.before.before.before.before.before.before.before.before.requires.0), (c.before.before.before.before.before.before.before.before.before.before.before.before.requires.1, firsts_empty _ _ _ _ _ refl))
 
 drop-block-same-length : (t : ℕ) → drop-block-lts.Need-same-length (drop-block-claims t) (drop-block-at t) drop_block.Post
 drop-block-same-length t c = omega (arith, c.before.before.drop-statements.auto)
@@ -99,7 +99,7 @@ drop-block-slice-aggregate-firsts : (t : ℕ) → drop-block-lts.Need-slice-aggr
 drop-block-slice-aggregate-firsts t c = search rules
 
 drop-block-firsts-requires : (t : ℕ) → drop-block-lts.Need-firsts-requires (drop-block-claims t) (drop-block-at t) drop_block.Post
-drop-block-firsts-requires t c κs = firsts-none _ _ _ _ 64
+drop-block-firsts-requires t c κs = firsts_none _ _ _ _ 64
 
 drop-block-slice-aggregate-drop-statements-2 : (t : ℕ) → drop-block-lts.Need-slice-aggregate-drop-statements-2 (drop-block-claims t) (drop-block-at t) drop_block.Post
 drop-block-slice-aggregate-drop-statements-2 t c = search rules
@@ -117,7 +117,7 @@ drop-block-slice-aggregate-firsts-2 : (t : ℕ) → drop-block-lts.Need-slice-ag
 drop-block-slice-aggregate-firsts-2 t c = search rules
 
 drop-block-firsts-requires-2 : (t : ℕ) → drop-block-lts.Need-firsts-requires-2 (drop-block-claims t) (drop-block-at t) drop_block.Post
-drop-block-firsts-requires-2 t c κs = firsts-none _ _ _ _ 513
+drop-block-firsts-requires-2 t c κs = firsts_none _ _ _ _ 513
 
 drop-block-slice-aggregate-drop-statements-3 : (t : ℕ) → drop-block-lts.Need-slice-aggregate-drop-statements-3 (drop-block-claims t) (drop-block-at t) drop_block.Post
 drop-block-slice-aggregate-drop-statements-3 t c = search rules
@@ -185,7 +185,7 @@ drop-one-same-length-3 : (t : ℕ) → drop-one-lts.Need-same-length-3 (drop-one
 drop-one-same-length-3 t c = omega (arith, c.before.before.mark.auto)
 
 drop-one-returns-4 : (t : ℕ) → drop-one-lts.Need-returns-4 (drop-one-claims t) (drop-one-at t) drop-one.Post
-drop-one-returns-4 t c = one-marked _ _ _ _ _ _ _ _ _ _ _ c.before.before.before.before.before.before.before.before.before.verdict-on.result c.before.before.before.before.before.before.before.before.before.verdict-on.ensures _ _ c.before.before.before.before.cell-of.result c.before.before.before.before.cell-of.ensures c.before.before.before.before.before.before.before.if2.false (omega (arith, c.before.before.before.before.before.if3.false)) c.before.before.mark.ensures
+drop-one-returns-4 t c = one_marked _ _ _ _ _ _ _ _ _ _ _ c.before.before.before.before.before.before.before.before.before.verdict-on.result c.before.before.before.before.before.before.before.before.before.verdict-on.ensures _ _ c.before.before.before.before.cell-of.result c.before.before.before.before.cell-of.ensures c.before.before.before.before.before.before.before.if2.false (omega (arith, c.before.before.before.before.before.if3.false)) c.before.before.mark.ensures
 
 abbrev drop-statements-claims : ℕ → drop-statements-lts.Claims
 drop-statements-claims t = (
@@ -202,7 +202,7 @@ abbrev drop-statements-μ-loop : drop-statements-lts.decreases-loop
 drop-statements-μ-loop text d e o st names first known z key from end marks₀ k₀ marks k = end - k
 
 drop-statements-loop-holds : (t : ℕ) → drop-statements-lts.Need-loop-init (drop-statements-claims t) (drop-statements-at t) drop-statements.Post drop-statements-Inv-loop drop-statements-μ-loop
-drop-statements-loop-holds t c = (omega arith, refl, dropping-start _ _ _ _ _ _ _ _ _ _)
+drop-statements-loop-holds t c = (omega arith, refl, dropping_start _ _ _ _ _ _ _ _ _ _)
 
 drop-statements-after-requires : (t : ℕ) → drop-statements-lts.Need-after-requires (drop-statements-claims t) (drop-statements-at t) drop-statements.Post drop-statements-Inv-loop drop-statements-μ-loop
 drop-statements-after-requires t c κs = tt
@@ -214,13 +214,13 @@ drop-statements-loop-less : (t : ℕ) → drop-statements-lts.Need-loop-smaller 
 drop-statements-loop-less t c = omega (arith, c.before.before.before.before.after.ensures, after_later (c.before.before.before.before.before.before.before.before.before.before.before.before.before.before.before.before.args.st.now) (c.before.before.before.before.before.before.loop.k) (c.before.before.before.before.before.before.before.before.before.before.before.before.before.before.before.before.args.end) (c.before.before.before.before.before.loop-test.true), after_inside (c.before.before.before.before.before.before.before.before.before.before.before.before.before.before.before.before.args.st.now) (c.before.before.before.before.before.before.loop.k) (c.before.before.before.before.before.before.before.before.before.before.before.before.before.before.before.before.args.end))
 
 drop-statements-loop-again : (t : ℕ) → drop-statements-lts.Need-loop-preserved (drop-statements-claims t) (drop-statements-at t) drop-statements.Post drop-statements-Inv-loop drop-statements-μ-loop
-drop-statements-loop-again t c = (omega (arith, c.before.before.before.before.after.ensures, after_later (c.before.before.before.before.before.before.before.before.before.before.before.before.before.before.before.before.args.st.now) (c.before.before.before.before.before.before.loop.k) (c.before.before.before.before.before.before.before.before.before.before.before.before.before.before.before.before.args.end) (c.before.before.before.before.before.loop-test.true), (c.before.before.before.before.before.before.loop.invariant).0), omega (arith, c.before.before.drop-one.auto, (c.before.before.before.before.before.before.loop.invariant).1), dropping-step _ _ _ _ _ _ _ _ _ (c.before.before.before.before.before.before.loop.k) (c.before.before.before.before.after.result) _ _ _ (c.before.before.before.before.after.ensures) (c.before.before.before.before.before.loop-test.true) (c.before.before.drop-one.ensures) (c.before.before.before.before.before.before.loop.invariant).2)
+drop-statements-loop-again t c = (omega (arith, c.before.before.before.before.after.ensures, after_later (c.before.before.before.before.before.before.before.before.before.before.before.before.before.before.before.before.args.st.now) (c.before.before.before.before.before.before.loop.k) (c.before.before.before.before.before.before.before.before.before.before.before.before.before.before.before.before.args.end) (c.before.before.before.before.before.loop-test.true), (c.before.before.before.before.before.before.loop.invariant).0), omega (arith, c.before.before.drop-one.auto, (c.before.before.before.before.before.before.loop.invariant).1), dropping_step _ _ _ _ _ _ _ _ _ (c.before.before.before.before.before.before.loop.k) (c.before.before.before.before.after.result) _ _ _ (c.before.before.before.before.after.ensures) (c.before.before.before.before.before.loop-test.true) (c.before.before.drop-one.ensures) (c.before.before.before.before.before.before.loop.invariant).2)
 
 drop-statements-same-length : (t : ℕ) → drop-statements-lts.Need-same-length (drop-statements-claims t) (drop-statements-at t) drop-statements.Post drop-statements-Inv-loop drop-statements-μ-loop
 drop-statements-same-length t c = (c.before.loop.invariant).1
 
 drop-statements-returns : (t : ℕ) → drop-statements-lts.Need-returns (drop-statements-claims t) (drop-statements-at t) drop-statements.Post drop-statements-Inv-loop drop-statements-μ-loop
-drop-statements-returns t c = dropping-end _ _ _ _ _ _ _ _ _ (c.before.loop.k) _ _ (c.loop-test.false) (c.before.loop.invariant).2
+drop-statements-returns t c = dropping_end _ _ _ _ _ _ _ _ _ (c.before.loop.k) _ _ (c.loop-test.false) (c.before.loop.invariant).2
 
 pub +drop-block-drop-one-drop-statements-spec : {M : Type 1} → statement M
 +drop-block-drop-one-drop-statements-spec =

@@ -1,4 +1,4 @@
-use Rattle.dropping.proofs.Droppings.{alone-undefined, alone-again, alone-kept}
+use Rattle.dropping.proofs.Droppings.{alone_undefined, alone_again, alone_kept}
 use Rattle.scopes.specs.Promises.{FindsDefinition}
 use mathlib.Core.Path.{refl, subst}
 use borrow.Author.Rules.{rules}
@@ -33,7 +33,7 @@ same_length : tie.Need-same-length
 same_length c = search rules
 
 returns : tie.Need-returns
-returns c = alone-undefined _ _ _ _ _ _ _ _ _ _ c.before.before.before.before.before.before.before.before.cell-of.result c.before.before.before.before.before.before.before.cell-of2.result c.before.before.before.before.before.before.before.before.cell-of.ensures c.before.before.before.before.before.before.before.cell-of2.ensures _ _ (subst (λ r. FindsDefinition c.before.before.before.before.before.before.before.before.before.before.before.before.before.before.before.before.before.args.text.now c.before.before.before.before.before.before.before.before.before.before.before.before.before.before.before.before.before.args.d.now c.before.before.before.before.before.before.before.before.before.before.before.before.before.before.before.before.before.args.z.definitions c.before.before.before.before.before.before.before.before.before.before.before.before.before.before.before.before.before.args.key c.before.before.before.before.before.before.before.before.cell-of.result c.before.before.before.before.before.before.before.cell-of2.result r) c.before.before.before.before.enum_told.given.1 c.before.before.before.before.before.before.find-definition.ensures) c.before.before.mark.ensures
+returns c = alone_undefined _ _ _ _ _ _ _ _ _ _ c.before.before.before.before.before.before.before.before.cell-of.result c.before.before.before.before.before.before.before.cell-of2.result c.before.before.before.before.before.before.before.before.cell-of.ensures c.before.before.before.before.before.before.before.cell-of2.ensures _ _ (subst (λ r. FindsDefinition c.before.before.before.before.before.before.before.before.before.before.before.before.before.before.before.before.before.args.text.now c.before.before.before.before.before.before.before.before.before.before.before.before.before.before.before.before.before.args.d.now c.before.before.before.before.before.before.before.before.before.before.before.before.before.before.before.before.before.args.z.definitions c.before.before.before.before.before.before.before.before.before.before.before.before.before.before.before.before.before.args.key c.before.before.before.before.before.before.before.before.cell-of.result c.before.before.before.before.before.before.before.cell-of2.result r) c.before.before.before.before.enum_told.given.1 c.before.before.before.before.before.before.find-definition.ensures) c.before.before.mark.ensures
 
 again-requires : tie.Need-again-requires
 again-requires c κs = search rules
@@ -45,10 +45,10 @@ same_length_2 : tie.Need-same-length-2
 same_length_2 c = search rules
 
 returns-2 : tie.Need-returns-2
-returns-2 c = alone-again _ _ _ _ _ _ _ _ _ _ c.before.before.before.before.before.before.before.before.before.before.before.cell-of.result c.before.before.before.before.before.before.before.before.before.before.cell-of2.result c.before.before.before.before.before.before.before.before.before.before.before.cell-of.ensures c.before.before.before.before.before.before.before.before.before.before.cell-of2.ensures _ _ _ c.before.before.before.before.before.again.result (subst (λ r. FindsDefinition c.before.before.before.before.before.before.before.before.before.before.before.before.before.before.before.before.before.before.before.before.args.text.now c.before.before.before.before.before.before.before.before.before.before.before.before.before.before.before.before.before.before.before.before.args.d.now c.before.before.before.before.before.before.before.before.before.before.before.before.before.before.before.before.before.before.before.before.args.z.definitions c.before.before.before.before.before.before.before.before.before.before.before.before.before.before.before.before.before.before.before.before.args.key c.before.before.before.before.before.before.before.before.before.before.before.cell-of.result c.before.before.before.before.before.before.before.before.before.before.cell-of2.result r) c.before.before.before.before.before.before.before.j.given.1 c.before.before.before.before.before.before.before.before.before.find-definition.ensures) c.before.before.before.before.before.again.ensures c.before.before.before.before.if1.true c.before.before.mark2.ensures
+returns-2 c = alone_again _ _ _ _ _ _ _ _ _ _ c.before.before.before.before.before.before.before.before.before.before.before.cell-of.result c.before.before.before.before.before.before.before.before.before.before.cell-of2.result c.before.before.before.before.before.before.before.before.before.before.before.cell-of.ensures c.before.before.before.before.before.before.before.before.before.before.cell-of2.ensures _ _ _ c.before.before.before.before.before.again.result (subst (λ r. FindsDefinition c.before.before.before.before.before.before.before.before.before.before.before.before.before.before.before.before.before.before.before.before.args.text.now c.before.before.before.before.before.before.before.before.before.before.before.before.before.before.before.before.before.before.before.before.args.d.now c.before.before.before.before.before.before.before.before.before.before.before.before.before.before.before.before.before.before.before.before.args.z.definitions c.before.before.before.before.before.before.before.before.before.before.before.before.before.before.before.before.before.before.before.before.args.key c.before.before.before.before.before.before.before.before.before.before.before.cell-of.result c.before.before.before.before.before.before.before.before.before.before.cell-of2.result r) c.before.before.before.before.before.before.before.j.given.1 c.before.before.before.before.before.before.before.before.before.find-definition.ensures) c.before.before.before.before.before.again.ensures c.before.before.before.before.if1.true c.before.before.mark2.ensures
 
 returns-3 : tie.Need-returns-3
-returns-3 c = alone-kept _ _ _ _ _ _ _ _ _ _ c.before.before.before.before.before.before.before.cell-of.result c.before.before.before.before.before.before.cell-of2.result c.before.before.before.before.before.before.before.cell-of.ensures c.before.before.before.before.before.before.cell-of2.ensures _ _ _ c.before.again.result (subst (λ r. FindsDefinition c.before.before.before.before.before.before.before.before.before.before.before.before.before.before.before.before.args.text.now c.before.before.before.before.before.before.before.before.before.before.before.before.before.before.before.before.args.d.now c.before.before.before.before.before.before.before.before.before.before.before.before.before.before.before.before.args.z.definitions c.before.before.before.before.before.before.before.before.before.before.before.before.before.before.before.before.args.key c.before.before.before.before.before.before.before.cell-of.result c.before.before.before.before.before.before.cell-of2.result r) c.before.before.before.j.given.1 c.before.before.before.before.before.find-definition.ensures) c.before.again.ensures c.if1.false refl
+returns-3 c = alone_kept _ _ _ _ _ _ _ _ _ _ c.before.before.before.before.before.before.before.cell-of.result c.before.before.before.before.before.before.cell-of2.result c.before.before.before.before.before.before.before.cell-of.ensures c.before.before.before.before.before.before.cell-of2.ensures _ _ _ c.before.again.result (subst (λ r. FindsDefinition c.before.before.before.before.before.before.before.before.before.before.before.before.before.before.before.before.args.text.now c.before.before.before.before.before.before.before.before.before.before.before.before.before.before.before.before.args.d.now c.before.before.before.before.before.before.before.before.before.before.before.before.before.before.before.before.args.z.definitions c.before.before.before.before.before.before.before.before.before.before.before.before.before.before.before.before.args.key c.before.before.before.before.before.before.before.cell-of.result c.before.before.before.before.before.before.cell-of2.result r) c.before.before.before.j.given.1 c.before.before.before.before.before.find-definition.ensures) c.before.again.ensures c.if1.false refl
 
 pub drop-alone-spec : {M : Type 1} → statement M
 drop-alone-spec =

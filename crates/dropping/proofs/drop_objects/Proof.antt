@@ -1,4 +1,4 @@
-use Rattle.dropping.proofs.Droppings.{DroppingObjects, objects_start, objects-more, objects_end}
+use Rattle.dropping.proofs.Droppings.{DroppingObjects, objects_start, objects_more, objects_end}
 use lib.ListN.{length}
 use Prim.Native.Nat.{◌-◌}
 use mathlib.Core.Path.{◌≡◌, refl}
@@ -28,7 +28,7 @@ loop_less : tie.Need-loop-smaller invariant_loop decreases_loop
 loop_less c = omega arith
 
 loop_again : tie.Need-loop-preserved invariant_loop decreases_loop
-loop_again c = (omega (arith, c.before.before.drop-object.auto, (c.before.before.before.before.before.before.loop.invariant).0), objects-more _ _ _ _ _ _ (c.before.before.before.before.before.before.before.before.before.before.before.before.before.before.before.before.args.places.now) (c.before.before.before.before.before.before.loop.i) _ _ _ (omega arith) (c.before.before.drop-object.ensures) (c.before.before.before.before.before.before.loop.invariant).1)
+loop_again c = (omega (arith, c.before.before.drop-object.auto, (c.before.before.before.before.before.before.loop.invariant).0), objects_more _ _ _ _ _ _ (c.before.before.before.before.before.before.before.before.before.before.before.before.before.before.before.before.args.places.now) (c.before.before.before.before.before.before.loop.i) _ _ _ (omega arith) (c.before.before.drop-object.ensures) (c.before.before.before.before.before.before.loop.invariant).1)
 
 same_length : tie.Need-same-length invariant_loop decreases_loop
 same_length c = (c.before.before.loop.invariant).0

@@ -1,4 +1,4 @@
-use Rattle.expecting.proofs.Verdicts.{refuses, refuses-by}
+use Rattle.expecting.proofs.Verdicts.{refuses, refuses_by}
 use Rattle.grammar.specs.declared.Answer.TheVariants.{Passes, NoToken, NotAdmitted, TooDeep}
 use mathlib.Core.Bool.{false}
 use mathlib.Core.Path.{refl}
@@ -26,19 +26,19 @@ enum-told-3 c = search rules
 
 returns : tie.Need-returns
 unfolding refuses
-returns c = refuses-by _ _ c.before.before.stage.ensures.0 false Passes c.enum_told.given.1 refl
+returns c = refuses_by _ _ c.before.before.stage.ensures.0 false Passes c.enum_told.given.1 refl
 
 returns-2 : tie.Need-returns-2
 unfolding refuses
-returns-2 c = refuses-by _ _ c.before.before.stage.ensures.0 false (NoToken _) c.enum-told2.given.1 refl
+returns-2 c = refuses_by _ _ c.before.before.stage.ensures.0 false (NoToken _) c.enum-told2.given.1 refl
 
 returns-3 : tie.Need-returns-3
 unfolding refuses
-returns-3 c = refuses-by _ _ c.before.before.before.stage.ensures.0 _ (NotAdmitted _) c.before.p.given.1 refl
+returns-3 c = refuses_by _ _ c.before.before.before.stage.ensures.0 _ (NotAdmitted _) c.before.p.given.1 refl
 
 returns-4 : tie.Need-returns-4
 unfolding refuses
-returns-4 c = refuses-by _ _ c.before.before.stage.ensures.0 false (TooDeep _) c.enum-told3.given.1 refl
+returns-4 c = refuses_by _ _ c.before.before.stage.ensures.0 false (TooDeep _) c.enum-told3.given.1 refl
 
 pub is-refused-spec : {M : Type 1} → statement M
 is-refused-spec =

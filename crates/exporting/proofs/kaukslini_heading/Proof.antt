@@ -1,5 +1,5 @@
 use borrow.Author.Rules.{rules}
-use Rattle.exporting.proofs.Headings.{heading-thirty, heading-rules}
+use Rattle.exporting.proofs.Headings.{heading_thirty, heading_rules}
 use Rattle.exporting.proofs.kaukslini_heading.Statement.{statement}
 use Rattle.exporting.proofs.kaukslini_heading.Tie as tie
 use Rattle.exporting.proofs.kaukslini_heading.Reads as reads
@@ -11,13 +11,13 @@ fault-of-requires : tie.Need-fault-of-requires
 fault-of-requires c κs = search rules
 
 returns : tie.Need-returns
-returns c = heading-thirty _ _ c.before.fault-of.ensures c.if1.true
+returns c = heading_thirty _ _ c.before.fault-of.ensures c.if1.true
 
 heading-alone-requires : tie.Need-heading-alone-requires
 heading-alone-requires c κs = search rules
 
 returns-2 : tie.Need-returns-2
-returns-2 c = heading-rules _ _ c.before.before.fault-of.ensures c.before.if1.false c.heading-alone.ensures
+returns-2 c = heading_rules _ _ c.before.before.fault-of.ensures c.before.if1.false c.heading-alone.ensures
 
 pub kaukslini-heading-spec : {M : Type 1} → statement M
 kaukslini-heading-spec =

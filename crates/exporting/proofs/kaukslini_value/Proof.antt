@@ -1,5 +1,5 @@
 use borrow.Author.Rules.{rules}
-use Rattle.exporting.proofs.Calling.{value-thirty, value-rules}
+use Rattle.exporting.proofs.Calling.{value_thirty, value_rules}
 use Rattle.exporting.proofs.kaukslini_value.Statement.{statement}
 use Rattle.exporting.proofs.kaukslini_value.Tie as tie
 use Rattle.exporting.proofs.kaukslini_value.Reads as reads
@@ -12,7 +12,7 @@ fault-of-requires : tie.Need-fault-of-requires
 fault-of-requires c κs = search rules
 
 returns : tie.Need-returns
-returns c = value-thirty _ _ c.before.fault-of.ensures c.if1.true
+returns c = value_thirty _ _ c.before.fault-of.ensures c.if1.true
 
 value-requires : tie.Need-value-requires
 value-requires c κs = search rules
@@ -24,7 +24,7 @@ same_length : tie.Need-same-length
 same_length c = search rules
 
 returns-2 : tie.Need-returns-2
-returns-2 c = value-rules _ _ c.before.before.before.before.before.before.fault-of.ensures c.before.before.before.before.before.if1.false (c.before.before.before.value.ensures.1) c.value-told.ensures
+returns-2 c = value_rules _ _ c.before.before.before.before.before.before.fault-of.ensures c.before.before.before.before.before.if1.false (c.before.before.before.value.ensures.1) c.value-told.ensures
 
 pub kaukslini-value-spec : {M : Type 1} → statement M
 kaukslini-value-spec =

@@ -1,5 +1,5 @@
 use borrow.Author.Rules.{rules}
-use Rattle.exporting.proofs.Telling.{normal-refused, normal-written}
+use Rattle.exporting.proofs.Telling.{normal_refused, normal_written}
 use Rattle.exporting.proofs.write_alone.Statement.{statement}
 use Rattle.exporting.proofs.write_alone.Tie as tie
 use Rattle.exporting.proofs.write_alone.Reads as reads
@@ -35,13 +35,13 @@ same_length : tie.Need-same-length
 same_length c = search rules
 
 returns : tie.Need-returns
-returns c = normal-refused (c.before.before.before.before.before.before.before.before.before.before.write.ensures.1.0) _ _ (c.before.before.answer.given.1) _ c.refusal.ensures
+returns c = normal_refused (c.before.before.before.before.before.before.before.before.before.before.write.ensures.1.0) _ _ (c.before.before.answer.given.1) _ c.refusal.ensures
 
 same_length_2 : tie.Need-same-length-2
 same_length_2 c = search rules
 
 returns-2 : tie.Need-returns-2
-returns-2 c = normal-written (c.before.before.before.before.before.before.before.before.write.ensures.1.0) (c.enum_told.given.1)
+returns-2 c = normal_written (c.before.before.before.before.before.before.before.before.write.ensures.1.0) (c.enum_told.given.1)
 
 pub write-alone-spec : {M : Type 1} → statement M
 write-alone-spec =

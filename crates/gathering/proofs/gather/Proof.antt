@@ -1,6 +1,6 @@
 use native.Mathlib.Omega.{arith}
 use mathlib.Core.Path.{refl, sym, ◌∙◌}
-use Rattle.gathering.proofs.Shapes.{main_told, one_inside, front_kept, short-bytes, short_lengths, short-origins, none_told, one_counted, zero_kept, came}
+use Rattle.gathering.proofs.Shapes.{main_told, one_inside, front_kept, short_bytes, short_lengths, short_origins, none_told, one_counted, zero_kept, came}
 use borrow.Author.Rules.{rules}
 use Rattle.gathering.proofs.gather.Statement.{statement}
 use Rattle.gathering.proofs.gather.Tie as tie
@@ -11,13 +11,13 @@ use Rattle.gathering.proofs.add_all.Reads as add-all-reads
 use Rattle.gathering.proofs.read_text.Reads as read-text-reads
 
 returns : tie.Need-returns
-returns c = ((omega arith, refl), λ w. short-bytes w (omega arith))
+returns c = ((omega arith, refl), λ w. short_bytes w (omega arith))
 
 returns-2 : tie.Need-returns-2
 returns-2 c = ((omega arith, refl), λ w. short_lengths w (omega arith))
 
 returns-3 : tie.Need-returns-3
-returns-3 c = ((omega arith, refl), λ w. short-origins w (omega arith))
+returns-3 c = ((omega arith, refl), λ w. short_origins w (omega arith))
 
 slice-write-lengths : tie.Need-slice-write-lengths
 slice-write-lengths c = search rules

@@ -1,7 +1,7 @@
 use native.Mathlib.Omega.{arith}
 use mathlib.Core.Path.{refl, sym, ◌∙◌}
 use lib.Seq.{length-take-le}
-use Rattle.gathering.proofs.Shapes.{main_told, one_inside, front_kept, short-bytes, short_lengths, short-origins}
+use Rattle.gathering.proofs.Shapes.{main_told, one_inside, front_kept, short_bytes, short_lengths, short_origins}
 use borrow.Author.Rules.{rules}
 use Rattle.gathering.proofs.gather_text.Statement.{statement}
 use Rattle.gathering.proofs.gather_text.Tie as tie
@@ -12,13 +12,13 @@ use Rattle.gathering.proofs.store.Reads as store-reads
 use Rattle.rows.proofs.cells.least_of.Reads as least-of-reads
 
 returns : tie.Need-returns
-returns c = ((omega arith, refl), λ w. short-bytes w (omega arith))
+returns c = ((omega arith, refl), λ w. short_bytes w (omega arith))
 
 returns-2 : tie.Need-returns-2
 returns-2 c = ((omega arith, refl), λ w. short_lengths w (omega arith))
 
 returns-3 : tie.Need-returns-3
-returns-3 c = ((omega arith, refl), λ w. short-origins w (omega arith))
+returns-3 c = ((omega arith, refl), λ w. short_origins w (omega arith))
 
 least-of-requires : tie.Need-least-of-requires
 least-of-requires c κs = search rules

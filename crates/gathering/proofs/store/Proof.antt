@@ -2,7 +2,7 @@ use Prim.Native.Nat.{◌≤◌, ◌-◌}
 use mathlib.Core.Path.{◌≡◌, refl, sym, ◌∙◌}
 use lib.ListN.{length, drop, length-set}
 use lib.Seq.{sets}
-use Rattle.rows.proofs.Stores.{stores-more, stores-past, stores-end}
+use Rattle.rows.proofs.Stores.{stores_more, stores_past, stores_end}
 use native.Mathlib.Omega.{arith}
 use Rattle.gathering.proofs.store.Statement.{statement}
 use Rattle.gathering.proofs.store.Tie as tie
@@ -22,7 +22,7 @@ same_length : tie.Need-same-length invariant_loop decreases_loop
 same_length c = c.before.before.loop.invariant.1
 
 returns : tie.Need-returns invariant_loop decreases_loop
-returns c = stores-past _ (c.before.before.loop.j) _ (c.before.before.loop.i) (omega arith) ∙ c.before.before.loop.invariant.2
+returns c = stores_past _ (c.before.before.loop.j) _ (c.before.before.loop.i) (omega arith) ∙ c.before.before.loop.invariant.2
 
 shared-slice-read-out : tie.Need-shared-slice-read-out invariant_loop decreases_loop
 shared-slice-read-out c = omega arith
@@ -40,13 +40,13 @@ loop_less : tie.Need-loop-smaller invariant_loop decreases_loop
 loop_less c = omega arith
 
 loop_again : tie.Need-loop-preserved invariant_loop decreases_loop
-loop_again c = (omega arith, simp length-set c.before.before.before.loop.invariant.1, sym (stores-more _ (c.before.before.before.loop.j) _ (c.before.before.before.loop.i) (omega arith)) ∙ c.before.before.before.loop.invariant.2)
+loop_again c = (omega arith, simp length-set c.before.before.before.loop.invariant.1, sym (stores_more _ (c.before.before.before.loop.j) _ (c.before.before.before.loop.i) (omega arith)) ∙ c.before.before.before.loop.invariant.2)
 
 same_length_2 : tie.Need-same-length-2 invariant_loop decreases_loop
 same_length_2 c = c.before.loop.invariant.1
 
 returns-2 : tie.Need-returns-2 invariant_loop decreases_loop
-returns-2 c = stores-end _ (c.before.loop.j) _ (c.before.loop.i) (omega arith) ∙ c.before.loop.invariant.2
+returns-2 c = stores_end _ (c.before.loop.j) _ (c.before.loop.i) (omega arith) ∙ c.before.loop.invariant.2
 
 pub store_spec : {M : Type 1} → statement M
 store_spec =

@@ -1,5 +1,5 @@
 use native.Mathlib.Omega.{arith}
-use Rattle.heading.proofs.Told.{ahead, string-fits, name_fits, told, told-3, told-4, told-5}
+use Rattle.heading.proofs.Told.{ahead, string_fits, name_fits, told, told_3, told_4, told_5}
 use Rattle.heading.specs.Headings.{too_long}
 use Rattle.heading.proofs.Promises.{q_7}
 use borrow.Author.Rules.{rules}
@@ -38,13 +38,13 @@ expect-name-requires : tie.Need-expect-name-requires
 expect-name-requires c κs = search rules
 
 add-place : tie.Need-overflow-add-place
-add-place c = let w = string-fits (ahead c.before.before.before.before.before.before.before.before.before.look_at.ensures c.before.before.before.before.before.before.before.before.expect.ensures c.before.before.before.before.before.before.before.expect2.ensures c.before.before.before.before.before.before.expect3.ensures c.before.before.before.before.before.finish.ensures c.before.before.before.before.expect4.ensures c.before.before.before.expect-name.ensures) c.before.if2.true in let l = c.before.before.before.before.before.before.before.before.before.before.if1.false in let x = w.0 in let y = w.1 in omega (arith, x, y, l)
+add-place c = let w = string_fits (ahead c.before.before.before.before.before.before.before.before.before.look_at.ensures c.before.before.before.before.before.before.before.before.expect.ensures c.before.before.before.before.before.before.before.expect2.ensures c.before.before.before.before.before.before.expect3.ensures c.before.before.before.before.before.finish.ensures c.before.before.before.before.expect4.ensures c.before.before.before.expect-name.ensures) c.before.if2.true in let l = c.before.before.before.before.before.before.before.before.before.before.if1.false in let x = w.0 in let y = w.1 in omega (arith, x, y, l)
 
 sub-length : tie.Need-overflow-sub-length
-sub-length c = let w = string-fits (ahead c.before.before.before.before.before.before.before.before.before.before.look_at.ensures c.before.before.before.before.before.before.before.before.before.expect.ensures c.before.before.before.before.before.before.before.before.expect2.ensures c.before.before.before.before.before.before.before.expect3.ensures c.before.before.before.before.before.before.finish.ensures c.before.before.before.before.before.expect4.ensures c.before.before.before.before.expect-name.ensures) c.before.before.if2.true in let x = w.0 in omega (arith, x)
+sub-length c = let w = string_fits (ahead c.before.before.before.before.before.before.before.before.before.before.look_at.ensures c.before.before.before.before.before.before.before.before.before.expect.ensures c.before.before.before.before.before.before.before.before.expect2.ensures c.before.before.before.before.before.before.before.expect3.ensures c.before.before.before.before.before.before.finish.ensures c.before.before.before.before.before.expect4.ensures c.before.before.before.before.expect-name.ensures) c.before.before.if2.true in let x = w.0 in omega (arith, x)
 
 sub-length-2 : tie.Need-overflow-sub-length-2
-sub-length-2 c = let w = string-fits (ahead c.before.before.before.before.before.before.before.before.before.before.look_at.ensures c.before.before.before.before.before.before.before.before.before.expect.ensures c.before.before.before.before.before.before.before.before.expect2.ensures c.before.before.before.before.before.before.before.expect3.ensures c.before.before.before.before.before.before.finish.ensures c.before.before.before.before.before.expect4.ensures c.before.before.before.before.expect-name.ensures) c.before.before.if2.true in let x = w.0 in omega (arith, x)
+sub-length-2 c = let w = string_fits (ahead c.before.before.before.before.before.before.before.before.before.before.look_at.ensures c.before.before.before.before.before.before.before.before.before.expect.ensures c.before.before.before.before.before.before.before.before.expect2.ensures c.before.before.before.before.before.before.before.expect3.ensures c.before.before.before.before.before.before.finish.ensures c.before.before.before.before.before.expect4.ensures c.before.before.before.before.expect-name.ensures) c.before.before.if2.true in let x = w.0 in omega (arith, x)
 
 sub-name-length : tie.Need-overflow-sub-name-length
 sub-name-length c = name_fits (ahead c.before.before.before.before.before.before.before.before.before.before.before.look_at.ensures c.before.before.before.before.before.before.before.before.before.before.expect.ensures c.before.before.before.before.before.before.before.before.before.expect2.ensures c.before.before.before.before.before.before.before.before.expect3.ensures c.before.before.before.before.before.before.before.finish.ensures c.before.before.before.before.before.before.expect4.ensures c.before.before.before.before.before.expect-name.ensures) c.before.before.before.if2.true
@@ -56,13 +56,13 @@ refuse-requires : tie.Need-refuse-requires
 refuse-requires c κs = search rules
 
 returns-3 : tie.Need-returns-3
-returns-3 c = let e = told-3 (ahead c.before.before.before.before.before.before.before.before.before.before.before.look_at.ensures c.before.before.before.before.before.before.before.before.before.before.expect.ensures c.before.before.before.before.before.before.before.before.before.expect2.ensures c.before.before.before.before.before.before.before.before.expect3.ensures c.before.before.before.before.before.before.before.finish.ensures c.before.before.before.before.before.before.expect4.ensures c.before.before.before.before.before.expect-name.ensures) c.before.before.before.if2.false _ c.before.before.refuse.ensures c.before.before.before.before.before.before.before.before.before.before.before.before.if1.false c.if3.true in (e, q_7 _ _ e)
+returns-3 c = let e = told_3 (ahead c.before.before.before.before.before.before.before.before.before.before.before.look_at.ensures c.before.before.before.before.before.before.before.before.before.before.expect.ensures c.before.before.before.before.before.before.before.before.before.expect2.ensures c.before.before.before.before.before.before.before.before.expect3.ensures c.before.before.before.before.before.before.before.finish.ensures c.before.before.before.before.before.before.expect4.ensures c.before.before.before.before.before.expect-name.ensures) c.before.before.before.if2.false _ c.before.before.refuse.ensures c.before.before.before.before.before.before.before.before.before.before.before.before.if1.false c.if3.true in (e, q_7 _ _ e)
 
 returns-4 : tie.Need-returns-4
-returns-4 c = let e = told-4 (ahead c.before.before.before.before.before.before.before.before.before.before.before.before.before.look_at.ensures c.before.before.before.before.before.before.before.before.before.before.before.before.expect.ensures c.before.before.before.before.before.before.before.before.before.before.before.expect2.ensures c.before.before.before.before.before.before.before.before.before.before.expect3.ensures c.before.before.before.before.before.before.before.before.before.finish.ensures c.before.before.before.before.before.before.before.before.expect4.ensures c.before.before.before.before.before.before.before.expect-name.ensures) c.before.before.before.before.before.if2.false _ c.before.before.before.before.refuse.ensures c.before.before.before.before.before.before.before.before.before.before.before.before.before.before.if1.false c.if4.true in (e, q_7 _ _ e)
+returns-4 c = let e = told_4 (ahead c.before.before.before.before.before.before.before.before.before.before.before.before.before.look_at.ensures c.before.before.before.before.before.before.before.before.before.before.before.before.expect.ensures c.before.before.before.before.before.before.before.before.before.before.before.expect2.ensures c.before.before.before.before.before.before.before.before.before.before.expect3.ensures c.before.before.before.before.before.before.before.before.before.finish.ensures c.before.before.before.before.before.before.before.before.expect4.ensures c.before.before.before.before.before.before.before.expect-name.ensures) c.before.before.before.before.before.if2.false _ c.before.before.before.before.refuse.ensures c.before.before.before.before.before.before.before.before.before.before.before.before.before.before.if1.false c.if4.true in (e, q_7 _ _ e)
 
 returns-5 : tie.Need-returns-5
-returns-5 c = let e = told-5 (ahead c.before.before.before.before.before.before.before.before.before.before.before.before.before.look_at.ensures c.before.before.before.before.before.before.before.before.before.before.before.before.expect.ensures c.before.before.before.before.before.before.before.before.before.before.before.expect2.ensures c.before.before.before.before.before.before.before.before.before.before.expect3.ensures c.before.before.before.before.before.before.before.before.before.finish.ensures c.before.before.before.before.before.before.before.before.expect4.ensures c.before.before.before.before.before.before.before.expect-name.ensures) c.before.before.before.before.before.if2.false _ c.before.before.before.before.refuse.ensures c.before.before.before.before.before.before.before.before.before.before.before.before.before.before.if1.false c.before.before.if3.false c.if4.false in (e, q_7 _ _ e)
+returns-5 c = let e = told_5 (ahead c.before.before.before.before.before.before.before.before.before.before.before.before.before.look_at.ensures c.before.before.before.before.before.before.before.before.before.before.before.before.expect.ensures c.before.before.before.before.before.before.before.before.before.before.before.expect2.ensures c.before.before.before.before.before.before.before.before.before.before.expect3.ensures c.before.before.before.before.before.before.before.before.before.finish.ensures c.before.before.before.before.before.before.before.before.expect4.ensures c.before.before.before.before.before.before.before.expect-name.ensures) c.before.before.before.before.before.if2.false _ c.before.before.before.before.refuse.ensures c.before.before.before.before.before.before.before.before.before.before.before.before.before.before.if1.false c.before.before.if3.false c.if4.false in (e, q_7 _ _ e)
 
 pub heading-spec : {M : Type 1} → statement M
 heading-spec =

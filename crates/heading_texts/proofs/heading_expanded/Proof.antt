@@ -5,7 +5,7 @@ use Rattle.heading_texts.proofs.heading_expanded.Tie as tie
 use Rattle.heading_texts.proofs.heading_expanded.Reads as reads
 use Rattle.heading_texts.proofs.heading_expanded.Lts as lts
 use Rattle.heading.proofs.heading.Reads as heading-reads
-use Rattle.lent_texts.proofs.refused.Reads as refused-reads
+use Rattle.lent_texts.proofs.refused.Reads as refused_reads
 use Rattle.placing.proofs.place_in.Reads as place-in-reads
 
 heading-requires : tie.Need-heading-requires

@@ -1,5 +1,5 @@
-use Rattle.implementation.proofs.Implementing.{implementation-there}
-use Rattle.grammar.proofs.Terminals.{implementation-is, lbrace-is, rbrace-is, semicolon-is}
+use Rattle.implementation.proofs.Implementing.{implementation_there}
+use Rattle.grammar.proofs.Terminals.{implementation_is, lbrace_is, rbrace_is, semicolon_is}
 use borrow.Author.Rules.{rules}
 use Rattle.implementation.proofs.implementation.Statement.{statement}
 use Rattle.implementation.proofs.implementation.Tie as tie
@@ -42,7 +42,7 @@ same_length_2 : tie.Need-same-length-2
 same_length_2 c = search rules
 
 returns : tie.Need-returns
-returns c = implementation-there (implementation-is c.before.before.before.before.before.before.before.before.before.before.before.before.before.before.before.expect.ensures) c.before.before.before.before.before.before.before.before.before.before.before.before.before.before.expect-name.ensures (lbrace-is c.before.before.before.before.before.before.before.before.before.before.before.before.before.expect2.ensures) c.before.before.before.before.before.before.before.before.before.before.specs.ensures (rbrace-is c.before.before.before.before.before.expect3.ensures) c.before.before.before.before.description.ensures (semicolon-is c.before.before.before.expect4.ensures) c.before.before.through.ensures
+returns c = implementation_there (implementation_is c.before.before.before.before.before.before.before.before.before.before.before.before.before.before.before.expect.ensures) c.before.before.before.before.before.before.before.before.before.before.before.before.before.before.expect-name.ensures (lbrace_is c.before.before.before.before.before.before.before.before.before.before.before.before.before.expect2.ensures) c.before.before.before.before.before.before.before.before.before.before.specs.ensures (rbrace_is c.before.before.before.before.before.expect3.ensures) c.before.before.before.before.description.ensures (semicolon_is c.before.before.before.expect4.ensures) c.before.before.through.ensures
 
 pub implementation-spec : {M : Type 1} → statement M
 implementation-spec =

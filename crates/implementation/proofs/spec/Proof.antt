@@ -1,5 +1,5 @@
-use Rattle.implementation.proofs.Implementing.{spec-there}
-use Rattle.grammar.proofs.Terminals.{lbrace-is}
+use Rattle.implementation.proofs.Implementing.{spec_there}
+use Rattle.grammar.proofs.Terminals.{lbrace_is}
 use borrow.Author.Rules.{rules}
 use Rattle.implementation.proofs.spec.Statement.{statement}
 use Rattle.implementation.proofs.spec.Tie as tie
@@ -33,7 +33,7 @@ same_length_2 : tie.Need-same-length-2
 same_length_2 c = search rules
 
 returns : tie.Need-returns
-returns c = spec-there c.before.before.before.before.before.before.before.before.before.before.length.ensures c.before.before.before.before.before.before.before.before.before.expect-kind.ensures (lbrace-is c.before.before.before.before.before.before.before.before.expect.ensures) c.before.before.before.before.before.definitions.ensures c.close.ensures
+returns c = spec_there c.before.before.before.before.before.before.before.before.before.before.length.ensures c.before.before.before.before.before.before.before.before.before.expect-kind.ensures (lbrace_is c.before.before.before.before.before.before.before.before.expect.ensures) c.before.before.before.before.before.definitions.ensures c.close.ensures
 
 pub spec-spec : {M : Type 1} → statement M
 spec-spec =

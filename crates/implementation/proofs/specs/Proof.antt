@@ -1,9 +1,9 @@
 use Rattle.std.proofs.Common.{rules, sym, ◌∙◌}
-use Rattle.implementation.proofs.Implementing.{all, specs-on, specs-gone, beside}
+use Rattle.implementation.proofs.Implementing.{all, specs_on, specs_gone, beside}
 use Rattle.implementation.proofs.Noting.{noted}
 use Rattle.implementation.specs.Places.{FillAll, AllRows}
 use Rattle.filling.proofs.Filling.{going, Going}
-use Rattle.grammar.proofs.Rules.{kind-less}
+use Rattle.grammar.proofs.Rules.{kind_less}
 use Rattle.grammar.specs.Readers.{left}
 use Rattle.grammar.specs.Grammar.{specs}
 use Rattle.implementation.proofs.specs.Statement.{statement}
@@ -53,10 +53,10 @@ spec_requires : tie.Need-spec-requires invariant_loop decreases_loop
 spec_requires c κs = search rules
 
 loop_less : tie.Need-loop-smaller invariant_loop decreases_loop
-loop_less c = kind-less (sym c.before.before.before.before.before.before.before.before.before.before.before.before.before.before.before.is-kind.ensures ∙ c.before.before.before.before.before.before.before.before.before.before.before.before.before.before.if1.true) c.before.before.before.before.before.spec.ensures.fills.meets
+loop_less c = kind_less (sym c.before.before.before.before.before.before.before.before.before.before.before.before.before.before.before.is-kind.ensures ∙ c.before.before.before.before.before.before.before.before.before.before.before.before.before.before.if1.true) c.before.before.before.before.before.spec.ensures.fills.meets
 
 loop_again : tie.Need-loop-preserved invariant_loop decreases_loop
-loop_again c = specs-on c.before.before.before.before.before.before.before.before.before.before.before.before.before.before.before.before.loop.invariant (sym c.before.before.before.before.before.before.before.before.before.before.before.before.before.before.before.is-kind.ensures ∙ c.before.before.before.before.before.before.before.before.before.before.before.before.before.before.if1.true) c.before.before.before.before.before.before.before.before.before.before.before.before.before.kind-number.ensures (noted _ _ (record { marks = c.before.before.before.before.before.before.before.before.before.before.before.before.before.before.before.before.loop.marks; places = c.before.before.before.before.before.before.before.before.before.before.before.before.before.before.before.before.loop.places; again = c.before.before.before.before.before.before.before.before.before.before.before.before.before.before.before.before.loop.again; found = c.before.before.before.before.before.before.before.before.before.before.before.before.before.before.before.before.loop.found }) c.before.before.before.before.before.before.before.before.before.before.before.before.cell.ensures c.before.before.before.before.before.before.before.before.before.before.before.with-place.ensures c.before.before.before.before.before.before.before.before.before.before.again-at.ensures c.before.before.before.before.before.before.before.before.before.found-by.ensures c.before.before.before.before.before.before.before.before.with_cell.ensures) c.before.before.before.before.before.spec.ensures
+loop_again c = specs_on c.before.before.before.before.before.before.before.before.before.before.before.before.before.before.before.before.loop.invariant (sym c.before.before.before.before.before.before.before.before.before.before.before.before.before.before.before.is-kind.ensures ∙ c.before.before.before.before.before.before.before.before.before.before.before.before.before.before.if1.true) c.before.before.before.before.before.before.before.before.before.before.before.before.before.kind-number.ensures (noted _ _ (record { marks = c.before.before.before.before.before.before.before.before.before.before.before.before.before.before.before.before.loop.marks; places = c.before.before.before.before.before.before.before.before.before.before.before.before.before.before.before.before.loop.places; again = c.before.before.before.before.before.before.before.before.before.before.before.before.before.before.before.before.loop.again; found = c.before.before.before.before.before.before.before.before.before.before.before.before.before.before.before.before.loop.found }) c.before.before.before.before.before.before.before.before.before.before.before.before.cell.ensures c.before.before.before.before.before.before.before.before.before.before.before.with-place.ensures c.before.before.before.before.before.before.before.before.before.before.again-at.ensures c.before.before.before.before.before.before.before.before.before.found-by.ensures c.before.before.before.before.before.before.before.before.with_cell.ensures) c.before.before.before.before.before.spec.ensures
 
 same_length : tie.Need-same-length invariant_loop decreases_loop
 same_length c = c.before.before.loop.invariant.does.1.0.size
@@ -65,7 +65,7 @@ same_length_2 : tie.Need-same-length-2 invariant_loop decreases_loop
 same_length_2 c = c.before.before.loop.invariant.does.1.1.size
 
 returns : tie.Need-returns invariant_loop decreases_loop
-returns c = specs-gone c.before.before.loop.invariant (sym c.before.is-kind.ensures ∙ c.if1.false)
+returns c = specs_gone c.before.before.loop.invariant (sym c.before.is-kind.ensures ∙ c.if1.false)
 
 pub specs_spec : {M : Type 1} → statement M
 specs_spec =

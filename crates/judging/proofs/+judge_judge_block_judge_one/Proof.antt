@@ -6,8 +6,8 @@ use mathlib.Core.Path.{refl, sym, ◌∙◌, subst}
 use Prim.Native.Nat.{◌+◌, ◌*◌, ◌-◌, ◌≤◌}
 use Rattle.scopes.specs.Promises.{FindsDefinition}
 use Rattle.blocks.proofs.Ranges.{after_later, after_inside}
-use Rattle.judging.proofs.Judgements.{Judging, judging-start, judging-step, judging-end, block_by, block_empty, one-undefined, one-fault, one_inside, under_at}
-use Rattle.lookups.proofs.Blocks.{firsts-empty, firsts-none}
+use Rattle.judging.proofs.Judgements.{Judging, judging_start, judging_step, judging_end, block_by, block_empty, one_undefined, one_fault, one_inside, under_at}
+use Rattle.lookups.proofs.Blocks.{firsts_empty, firsts_none}
 use Prim.Native.Nat.{ℕ, ◌<◌}
 use borrow.Fn.Kinds.{In}
 use borrow.Fn.PlainCycle.{Measures, is, falls, and}
@@ -79,7 +79,7 @@ judge-claims t = (
 )
 
 judge-loop-holds : (t : ℕ) → judge-lts.Need-loop-init (judge-claims t) (judge_at t) judge.Post judge-Inv-loop judge-μ-loop
-judge-loop-holds t c = (omega arith, judging-start _ _ _ _ _ _ _ _ _ _)
+judge-loop-holds t c = (omega arith, judging_start _ _ _ _ _ _ _ _ _ _)
 
 judge-after-requires : (t : ℕ) → judge-lts.Need-after-requires (judge-claims t) (judge_at t) judge.Post judge-Inv-loop judge-μ-loop
 judge-after-requires t c κs = tt
@@ -94,10 +94,10 @@ judge-loop-less : (t : ℕ) → judge-lts.Need-loop-smaller (judge-claims t) (ju
 judge-loop-less t c = omega (arith, c.before.before.after.ensures, after_later c.before.before.before.before.before.before.before.before.before.before.before.before.before.args.st.now c.before.before.before.before.loop.k c.before.before.before.before.before.before.before.before.before.before.before.before.before.args.end c.before.before.before.loop-test.true, after_inside c.before.before.before.before.before.before.before.before.before.before.before.before.before.args.st.now c.before.before.before.before.loop.k c.before.before.before.before.before.before.before.before.before.before.before.before.before.args.end)
 
 judge-loop-again : (t : ℕ) → judge-lts.Need-loop-preserved (judge-claims t) (judge_at t) judge.Post judge-Inv-loop judge-μ-loop
-judge-loop-again t c = (omega (arith, c.before.before.after.ensures, after_later c.before.before.before.before.before.before.before.before.before.before.before.before.before.args.st.now c.before.before.before.before.loop.k c.before.before.before.before.before.before.before.before.before.before.before.before.before.args.end c.before.before.before.loop-test.true, c.before.before.before.before.loop.invariant.0), judging-step _ _ _ _ _ _ _ _ _ _ c.before.before.before.before.loop.k c.before.before.after.result c.before.before.before.before.loop.best c.before.judge-one.result c.sooner.result c.before.before.after.ensures c.sooner.ensures c.before.before.before.loop-test.true c.before.judge-one.ensures c.before.before.before.before.loop.invariant.1)
+judge-loop-again t c = (omega (arith, c.before.before.after.ensures, after_later c.before.before.before.before.before.before.before.before.before.before.before.before.before.args.st.now c.before.before.before.before.loop.k c.before.before.before.before.before.before.before.before.before.before.before.before.before.args.end c.before.before.before.loop-test.true, c.before.before.before.before.loop.invariant.0), judging_step _ _ _ _ _ _ _ _ _ _ c.before.before.before.before.loop.k c.before.before.after.result c.before.before.before.before.loop.best c.before.judge-one.result c.sooner.result c.before.before.after.ensures c.sooner.ensures c.before.before.before.loop-test.true c.before.judge-one.ensures c.before.before.before.before.loop.invariant.1)
 
 judge-returns : (t : ℕ) → judge-lts.Need-returns (judge-claims t) (judge_at t) judge.Post judge-Inv-loop judge-μ-loop
-judge-returns t c = judging-end _ _ _ _ _ _ _ _ _ _ c.before.loop.k c.before.loop.best c.loop-test.false c.before.loop.invariant.1
+judge-returns t c = judging_end _ _ _ _ _ _ _ _ _ _ c.before.loop.k c.before.loop.best c.loop-test.false c.before.loop.invariant.1
 
 abbrev judge-block-claims : ℕ → judge-block-lts.Claims
 judge-block-claims t = (
@@ -115,7 +115,7 @@ judge-block-slice-aggregate-lack-fault : (t : ℕ) → judge-block-lts.Need-slic
 judge-block-slice-aggregate-lack-fault t c = search rules
 
 judge-block-lack-fault-requires : (t : ℕ) → judge-block-lts.Need-lack-fault-requires (judge-block-claims t) (judge-block-at t) judge-block.Post
-judge-block-lack-fault-requires t c κs = (c.before.before.before.before.before.before.before.before.before.requires.1.named.ranks, firsts-empty _ _ _ _ _ refl, c.before.before.before.before.before.before.before.before.before.requires.1.owners)
+judge-block-lack-fault-requires t c κs = (c.before.before.before.before.before.before.before.before.before.requires.1.named.ranks, firsts_empty _ _ _ _ _ refl, c.before.before.before.before.before.before.before.before.before.requires.1.owners)
 
 judge-block-returns : (t : ℕ) → judge-block-lts.Need-returns (judge-block-claims t) (judge-block-at t) judge-block.Post
 judge-block-returns t c = block_empty _ _ _ _ _ _ _ _ _ _ _ c.lack-fault.result c.before.before.if1.true c.lack-fault.ensures
@@ -127,13 +127,13 @@ judge-block-slice-aggregate-lack-fault-2 : (t : ℕ) → judge-block-lts.Need-sl
 judge-block-slice-aggregate-lack-fault-2 t c = search rules
 
 judge-block-lack-fault-requires-2 : (t : ℕ) → judge-block-lts.Need-lack-fault-requires-2 (judge-block-claims t) (judge-block-at t) judge-block.Post
-judge-block-lack-fault-requires-2 t c κs = (c.before.before.before.before.before.before.before.before.before.before.requires.1.named.ranks, firsts-empty _ _ _ _ _ refl, c.before.before.before.before.before.before.before.before.before.before.requires.1.owners)
+judge-block-lack-fault-requires-2 t c κs = (c.before.before.before.before.before.before.before.before.before.before.requires.1.named.ranks, firsts_empty _ _ _ _ _ refl, c.before.before.before.before.before.before.before.before.before.before.requires.1.owners)
 
 judge-block-slice-aggregate-judge : (t : ℕ) → judge-block-lts.Need-slice-aggregate-judge (judge-block-claims t) (judge-block-at t) judge-block.Post
 judge-block-slice-aggregate-judge t c = search rules
 
 judge-block-judge-requires : (t : ℕ) → judge-block-lts.Need-judge-requires (judge-block-claims t) (judge-block-at t) judge-block.Post
-judge-block-judge-requires t c κs = (omega (arith, c.before.before.before.before.before.before.before.before.before.before.before.before.requires.0), (c.before.before.before.before.before.before.before.before.before.before.before.before.requires.1, firsts-empty _ _ _ _ _ refl))
+judge-block-judge-requires t c κs = (omega (arith, c.before.before.before.before.before.before.before.before.before.before.before.before.requires.0), (c.before.before.before.before.before.before.before.before.before.before.before.before.requires.1, firsts_empty _ _ _ _ _ refl))
 
 judge-block-sooner-requires : (t : ℕ) → judge-block-lts.Need-sooner-requires (judge-block-claims t) (judge-block-at t) judge-block.Post
 judge-block-sooner-requires t c κs = tt
@@ -145,7 +145,7 @@ judge-block-slice-aggregate-firsts : (t : ℕ) → judge-block-lts.Need-slice-ag
 judge-block-slice-aggregate-firsts t c = search rules
 
 judge-block-firsts-requires : (t : ℕ) → judge-block-lts.Need-firsts-requires (judge-block-claims t) (judge-block-at t) judge-block.Post
-judge-block-firsts-requires t c κs = firsts-none _ _ _ _ 64
+judge-block-firsts-requires t c κs = firsts_none _ _ _ _ 64
 
 judge-block-slice-aggregate-lack-fault-3 : (t : ℕ) → judge-block-lts.Need-slice-aggregate-lack-fault-3 (judge-block-claims t) (judge-block-at t) judge-block.Post
 judge-block-slice-aggregate-lack-fault-3 t c = search rules
@@ -169,7 +169,7 @@ judge-block-slice-aggregate-firsts-2 : (t : ℕ) → judge-block-lts.Need-slice-
 judge-block-slice-aggregate-firsts-2 t c = search rules
 
 judge-block-firsts-requires-2 : (t : ℕ) → judge-block-lts.Need-firsts-requires-2 (judge-block-claims t) (judge-block-at t) judge-block.Post
-judge-block-firsts-requires-2 t c κs = firsts-none _ _ _ _ 513
+judge-block-firsts-requires-2 t c κs = firsts_none _ _ _ _ 513
 
 judge-block-slice-aggregate-lack-fault-4 : (t : ℕ) → judge-block-lts.Need-slice-aggregate-lack-fault-4 (judge-block-claims t) (judge-block-at t) judge-block.Post
 judge-block-slice-aggregate-lack-fault-4 t c = search rules
@@ -221,7 +221,7 @@ judge-one-enum-told : (t : ℕ) → judge-one-lts.Need-enum-told (judge-one-clai
 judge-one-enum-told t c = search rules
 
 judge-one-returns : (t : ℕ) → judge-one-lts.Need-returns (judge-one-claims t) (judge-one-at t) judge-one.Post
-judge-one-returns t c = one-undefined _ _ _ _ _ _ _ _ _ _ _ _ c.before.before.before.before.cell-of.result c.before.before.before.cell-of2.result c.before.before.before.before.cell-of.ensures c.before.before.before.cell-of2.ensures (subst (λ r. FindsDefinition c.before.before.before.before.before.before.before.before.before.before.before.before.before.args.text.now c.before.before.before.before.before.before.before.before.before.before.before.before.before.args.d.now c.before.before.before.before.before.before.before.before.before.before.before.before.before.args.z.definitions c.before.before.before.before.before.before.before.before.before.before.before.before.before.args.key c.before.before.before.before.cell-of.result c.before.before.before.cell-of2.result r) c.enum_told.given.1 c.before.before.find-definition.ensures)
+judge-one-returns t c = one_undefined _ _ _ _ _ _ _ _ _ _ _ _ c.before.before.before.before.cell-of.result c.before.before.before.cell-of2.result c.before.before.before.before.cell-of.ensures c.before.before.before.cell-of2.ensures (subst (λ r. FindsDefinition c.before.before.before.before.before.before.before.before.before.before.before.before.before.args.text.now c.before.before.before.before.before.before.before.before.before.before.before.before.before.args.d.now c.before.before.before.before.before.before.before.before.before.before.before.before.before.args.z.definitions c.before.before.before.before.before.before.before.before.before.before.before.before.before.args.key c.before.before.before.before.cell-of.result c.before.before.before.cell-of2.result r) c.enum_told.given.1 c.before.before.find-definition.ensures)
 
 judge-one-cell-of-requires-3 : (t : ℕ) → judge-one-lts.Need-cell-of-requires-3 (judge-one-claims t) (judge-one-at t) judge-one.Post
 judge-one-cell-of-requires-3 t c κs = tt
@@ -239,7 +239,7 @@ judge-one-is-fault-requires : (t : ℕ) → judge-one-lts.Need-is-fault-requires
 judge-one-is-fault-requires t c κs = tt
 
 judge-one-returns-2 : (t : ℕ) → judge-one-lts.Need-returns-2 (judge-one-claims t) (judge-one-at t) judge-one.Post
-judge-one-returns-2 t c = one-fault _ _ _ _ _ _ _ _ _ _ _ _ c.before.before.before.before.before.before.before.before.before.before.before.cell-of.result c.before.before.before.before.before.before.before.before.before.before.cell-of2.result c.before.before.before.before.before.before.before.before.before.before.before.cell-of.ensures c.before.before.before.before.before.before.before.before.before.before.cell-of2.ensures _ c.before.before.own-fault.result (subst (λ r. FindsDefinition c.before.before.before.before.before.before.before.before.before.before.before.before.before.before.before.before.before.before.before.before.args.text.now c.before.before.before.before.before.before.before.before.before.before.before.before.before.before.before.before.before.before.before.before.args.d.now c.before.before.before.before.before.before.before.before.before.before.before.before.before.before.before.before.before.before.before.before.args.z.definitions c.before.before.before.before.before.before.before.before.before.before.before.before.before.before.before.before.before.before.before.before.args.key c.before.before.before.before.before.before.before.before.before.before.before.cell-of.result c.before.before.before.before.before.before.before.before.before.before.cell-of2.result r) c.before.before.before.before.before.before.before.j.given.1 c.before.before.before.before.before.before.before.before.before.find-definition.ensures) c.before.before.own-fault.ensures (sym c.before.is-fault.ensures ∙ c.if1.true)
+judge-one-returns-2 t c = one_fault _ _ _ _ _ _ _ _ _ _ _ _ c.before.before.before.before.before.before.before.before.before.before.before.cell-of.result c.before.before.before.before.before.before.before.before.before.before.cell-of2.result c.before.before.before.before.before.before.before.before.before.before.before.cell-of.ensures c.before.before.before.before.before.before.before.before.before.before.cell-of2.ensures _ c.before.before.own-fault.result (subst (λ r. FindsDefinition c.before.before.before.before.before.before.before.before.before.before.before.before.before.before.before.before.before.before.before.before.args.text.now c.before.before.before.before.before.before.before.before.before.before.before.before.before.before.before.before.before.before.before.before.args.d.now c.before.before.before.before.before.before.before.before.before.before.before.before.before.before.before.before.before.before.before.before.args.z.definitions c.before.before.before.before.before.before.before.before.before.before.before.before.before.before.before.before.before.before.before.before.args.key c.before.before.before.before.before.before.before.before.before.before.before.cell-of.result c.before.before.before.before.before.before.before.before.before.before.cell-of2.result r) c.before.before.before.before.before.before.before.j.given.1 c.before.before.before.before.before.before.before.before.before.find-definition.ensures) c.before.before.own-fault.ensures (sym c.before.is-fault.ensures ∙ c.if1.true)
 
 judge-one-add-judge-block : (t : ℕ) → judge-one-lts.Need-overflow-add-judge-block (judge-one-claims t) (judge-one-at t) judge-one.Post
 judge-one-add-judge-block t c = omega (arith, c.before.before.before.before.before.before.before.before.before.before.before.before.before.before.before.before.before.before.before.before.requires.1, c.before.before.before.before.before.before.before.before.before.before.before.before.before.before.before.before.before.before.before.before.ranges.next)

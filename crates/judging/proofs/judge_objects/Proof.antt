@@ -1,6 +1,6 @@
 -- `judging::judge_objects` meets its contract.
 -- Assumes nothing.
-use Rattle.judging.proofs.Judgements.{JudgingObjects, objects_start, objects-step, objects_end}
+use Rattle.judging.proofs.Judgements.{JudgingObjects, objects_start, objects_step, objects_end}
 use Prim.Native.Nat.{◌-◌}
 use native.Mathlib.Omega.{arith}
 use Rattle.judging.proofs.judge_objects.Statement.{statement}
@@ -28,7 +28,7 @@ loop_less : tie.Need-loop-smaller invariant_loop decreases_loop
 loop_less c = omega arith
 
 loop_again : tie.Need-loop-preserved invariant_loop decreases_loop
-loop_again c = objects-step _ _ _ _ _ c.before.before.before.before.before.before.before.before.before.before.before.before.before.args.known.now _ c.before.before.before.before.before.before.before.before.before.before.before.before.before.args.places.now c.before.before.before.before.loop.i c.before.before.before.before.loop.best c.before.judge-object.result c.sooner.result c.sooner.ensures (omega arith) c.before.judge-object.ensures c.before.before.before.before.loop.invariant
+loop_again c = objects_step _ _ _ _ _ c.before.before.before.before.before.before.before.before.before.before.before.before.before.args.known.now _ c.before.before.before.before.before.before.before.before.before.before.before.before.before.args.places.now c.before.before.before.before.loop.i c.before.before.before.before.loop.best c.before.judge-object.result c.sooner.result c.sooner.ensures (omega arith) c.before.judge-object.ensures c.before.before.before.before.loop.invariant
 
 returns : tie.Need-returns invariant_loop decreases_loop
 returns c = objects_end _ _ _ _ _ c.before.before.before.before.before.before.before.before.before.before.before.args.known.now _ c.before.before.before.before.before.before.before.before.before.before.before.args.places.now c.before.before.loop.i c.before.before.loop.best (omega arith) c.before.before.loop.invariant

@@ -1,4 +1,4 @@
-use Rattle.lent_texts.proofs.Told.{short_expands, long_expands, two-told, small-number, text-expands}
+use Rattle.lent_texts.proofs.Told.{short_expands, long_expands, two_told, small_number, text_expands}
 use native.Mathlib.Omega.{arith}
 use borrow.Author.Rules.{rules}
 use Rattle.lent_texts.proofs.expand.Statement.{statement}
@@ -26,10 +26,10 @@ returns-3 : tie.Need-returns-3
 returns-3 c = long_expands _ _ _ _ _ _ _ c.before.before.before.before.before.before.expand.ensures (omega arith) (omega arith) c.if3.true
 
 cast-t13 : tie.Need-overflow-cast-t13
-cast-t13 c = let h = small-number _ _ _ _ _ _ _ c.before.before.before.before.before.before.before.expand.ensures (omega arith) (omega arith) c.before.if3.false in omega arith
+cast-t13 c = let h = small_number _ _ _ _ _ _ _ c.before.before.before.before.before.before.before.expand.ensures (omega arith) (omega arith) c.before.if3.false in omega arith
 
 shared-slice-read-t7 : tie.Need-shared-slice-read-t7
-shared-slice-read-t7 c = let h = two-told _ _ _ _ _ _ _ c.before.before.before.before.before.before.before.before.expand.ensures (omega arith) (omega arith) c.before.before.if3.false in omega arith
+shared-slice-read-t7 c = let h = two_told _ _ _ _ _ _ _ c.before.before.before.before.before.before.before.before.expand.ensures (omega arith) (omega arith) c.before.before.if3.false in omega arith
 
 same-length-3 : tie.Need-same-length-3
 same-length-3 c = search rules
@@ -38,7 +38,7 @@ same-length-4 : tie.Need-same-length-4
 same-length-4 c = search rules
 
 returns-4 : tie.Need-returns-4
-returns-4 c = text-expands _ _ _ _ _ _ _ c.before.before.before.before.before.before.before.before.expand.ensures (omega arith) (omega arith) c.before.before.if3.false
+returns-4 c = text_expands _ _ _ _ _ _ _ c.before.before.before.before.before.before.before.before.expand.ensures (omega arith) (omega arith) c.before.before.if3.false
 
 pub expand-spec : {M : Type 1} → statement M
 expand-spec =

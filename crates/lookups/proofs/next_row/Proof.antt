@@ -1,12 +1,12 @@
 -- `lookups::next_row` meets its contract.
 -- Assumes nothing.
 use native.Mathlib.Omega.{arith}
-use Rattle.lookups.proofs.Blocks.{next-back, next_past, next_inside}
+use Rattle.lookups.proofs.Blocks.{next_back, next_past, next_inside}
 use Rattle.lookups.proofs.next_row.Statement.{statement}
 use Rattle.lookups.proofs.next_row.Tie as tie
 
 returns : tie.Need-returns
-returns c = next-back _ _ _ (omega arith)
+returns c = next_back _ _ _ (omega arith)
 
 returns-2 : tie.Need-returns-2
 returns-2 c = next_past _ _ _ (omega arith)

@@ -1,4 +1,4 @@
-use Rattle.lookups.proofs.Blocks.{noted-past, noted_here, noted-not}
+use Rattle.lookups.proofs.Blocks.{noted_past, noted_here, noted_not}
 use borrow.Author.Rules.{rules}
 use Rattle.lookups.proofs.note_first.Statement.{statement}
 use Rattle.lookups.proofs.note_first.Tie as tie
@@ -6,7 +6,7 @@ use Rattle.lookups.proofs.note_first.Reads as reads
 use Rattle.lookups.proofs.note_first.Lts as lts
 
 returns : tie.Need-returns
-returns c = noted-past _ _ _ _ c.if1.true
+returns c = noted_past _ _ _ _ c.if1.true
 
 mul-if2 : tie.Need-overflow-mul-if2
 mul-if2 c = search rules
@@ -27,7 +27,7 @@ returns-2 : tie.Need-returns-2
 returns-2 c = noted_here _ _ _ _ c.if2.true
 
 returns-3 : tie.Need-returns-3
-returns-3 c = noted-not _ _ _ _ c.if2.false
+returns-3 c = noted_not _ _ _ _ c.if2.false
 
 pub note-first-spec : {M : Type 1} → statement M
 note-first-spec =

@@ -1,7 +1,7 @@
 -- `lookups::note_ranks` meets its contract.
 -- Assumes nothing.
 use native.Mathlib.Omega.{arith}
-use Rattle.lookups.proofs.Notes.{noted-none, noted_more, noted_all, NotesRanksTo}
+use Rattle.lookups.proofs.Notes.{noted_none, noted_more, noted_all, NotesRanksTo}
 use lib.ListN.{length, length-set}
 use mathlib.Core.Path.{◌≡◌, refl}
 use Prim.Native.Nat.{◌≤◌, ◌-◌, ◌*◌, min}
@@ -18,7 +18,7 @@ place-after-requires : tie.Need-place-after-requires invariant_loop decreases_lo
 place-after-requires c κs = tt
 
 loop_holds : tie.Need-loop-init invariant_loop decreases_loop
-loop_holds c = (omega arith, refl, omega arith, noted-none _ _ _ _ _ _ _)
+loop_holds c = (omega arith, refl, omega arith, noted_none _ _ _ _ _ _ _)
 
 cell_requires : tie.Need-cell-requires invariant_loop decreases_loop
 cell_requires c κs = tt

@@ -1,5 +1,5 @@
 use native.Mathlib.Omega.{arith}
-use Rattle.lookups.proofs.Blocks.{row-searched, row_none, row-ranked}
+use Rattle.lookups.proofs.Blocks.{row_searched, row_none, row_ranked}
 use borrow.Author.Rules.{rules}
 use Rattle.lookups.proofs.row_stated.Statement.{statement}
 use Rattle.lookups.proofs.row_stated.Tie as tie
@@ -17,7 +17,7 @@ searched-requires : tie.Need-searched-requires
 searched-requires c κs = search rules
 
 returns : tie.Need-returns
-returns c = row-searched _ _ _ _ _ _ _ _ _ _ _ _ c.searched.ensures
+returns c = row_searched _ _ _ _ _ _ _ _ _ _ _ _ c.searched.ensures
 
 mul-rank : tie.Need-overflow-mul-rank
 mul-rank c = search rules
@@ -50,7 +50,7 @@ stated-requires : tie.Need-stated-requires
 stated-requires c κs = search rules
 
 returns-3 : tie.Need-returns-3
-returns-3 c = row-ranked _ _ _ _ _ _ _ _ _ _ _ _ _ _ _ c.before.before.before.before.place_after.ensures c.before.before.before.row-start.ensures c.before.before.cell.ensures c.before.cell2.ensures _ _ _ (omega arith) c.before.before.before.before.before.before.before.start.ensures c.before.before.before.before.before.before.skip.ensures c.stated.ensures
+returns-3 c = row_ranked _ _ _ _ _ _ _ _ _ _ _ _ _ _ _ c.before.before.before.before.place_after.ensures c.before.before.before.row-start.ensures c.before.before.cell.ensures c.before.cell2.ensures _ _ _ (omega arith) c.before.before.before.before.before.before.before.start.ensures c.before.before.before.before.before.before.skip.ensures c.stated.ensures
 
 pub row-stated-spec : {M : Type 1} → statement M
 row-stated-spec =

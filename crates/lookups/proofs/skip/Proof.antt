@@ -1,4 +1,4 @@
-use Rattle.lookups.proofs.Blocks.{next_later, skips-none, skips-more}
+use Rattle.lookups.proofs.Blocks.{next_later, skips_none, skips_more}
 use Rattle.lookups.specs.Ranks.{Skips}
 use native.Mathlib.Omega.{arith}
 use lib.ListN.{length}
@@ -23,7 +23,7 @@ least-requires-2 : tie.Need-least-requires-2 invariant_loop decreases_loop
 least-requires-2 c κs = tt
 
 loop_holds : tie.Need-loop-init invariant_loop decreases_loop
-loop_holds c = ((omega (arith, c.before.least.ensures, c.least2.ensures), omega (arith, c.before.least.ensures, c.least2.ensures), omega (arith, c.before.least.ensures, c.least2.ensures)), skips-none _ _ _ _ _)
+loop_holds c = ((omega (arith, c.before.least.ensures, c.least2.ensures), omega (arith, c.before.least.ensures, c.least2.ensures), omega (arith, c.before.least.ensures, c.least2.ensures)), skips_none _ _ _ _ _)
 
 mul-if1 : tie.Need-overflow-mul-if1 invariant_loop decreases_loop
 mul-if1 c = omega arith
@@ -53,7 +53,7 @@ loop_less : tie.Need-loop-smaller invariant_loop decreases_loop
 loop_less c = omega (arith, next_later c.before.before.before.before.before.before.before.before.before.before.args.st.now c.before.before.before.before.before.loop.k c.before.before.before.before.before.before.before.before.before.before.args.end _ c.next_row.ensures (omega arith))
 
 loop_again : tie.Need-loop-preserved invariant_loop decreases_loop
-loop_again c = (c.before.before.before.before.before.loop.invariant.0, skips-more _ _ _ _ _ _ _ c.before.before.before.before.before.loop.invariant.1 (omega arith) (omega arith) c.before.before.if1.false c.next_row.ensures)
+loop_again c = (c.before.before.before.before.before.loop.invariant.0, skips_more _ _ _ _ _ _ _ c.before.before.before.before.before.loop.invariant.1 (omega arith) (omega arith) c.before.before.if1.false c.next_row.ensures)
 
 returns-2 : tie.Need-returns-2 invariant_loop decreases_loop
 returns-2 c = c.before.loop.invariant.1

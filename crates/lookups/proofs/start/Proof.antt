@@ -1,4 +1,4 @@
-use Rattle.lookups.proofs.Blocks.{start-noted, start_first}
+use Rattle.lookups.proofs.Blocks.{start_noted, start_first}
 use borrow.Author.Rules.{rules}
 use Rattle.lookups.proofs.start.Statement.{statement}
 use Rattle.lookups.proofs.start.Tie as tie
@@ -12,7 +12,7 @@ shared-slice-read-result : tie.Need-shared-slice-read-result
 shared-slice-read-result c = search rules
 
 returns : tie.Need-returns
-returns c = start-noted _ _ _ c.before.if1.true
+returns c = start_noted _ _ _ c.before.if1.true
 
 returns-2 : tie.Need-returns-2
 returns-2 c = start_first _ _ _ c.if1.false

@@ -1,5 +1,5 @@
 use Rattle.masks.proofs.ByRules.{checks_rules}
-use Rattle.masks.proofs.Accepting.{check_refused, check-accepted}
+use Rattle.masks.proofs.Accepting.{check_refused, check_accepted}
 use borrow.Author.Rules.{rules}
 use Rattle.masks.proofs.check_masks.Statement.{statement}
 use Rattle.masks.proofs.check_masks.Tie as tie
@@ -45,7 +45,7 @@ returns : tie.Need-returns
 returns c = checks_rules (check_refused c.before.before.before.before.before.before.before.before.read-spanned.ensures.0 _ _ c.before.answer.given.1 _)
 
 returns-2 : tie.Need-returns-2
-returns-2 c = checks_rules (check-accepted c.before.before.before.before.before.before.before.before.before.before.before.read-spanned.ensures.0 c.before.before.before.before.enum_told.given.1 _ _ c.check-read.ensures)
+returns-2 c = checks_rules (check_accepted c.before.before.before.before.before.before.before.before.before.before.before.read-spanned.ensures.0 c.before.before.before.before.enum_told.given.1 _ _ c.check-read.ensures)
 
 pub check-masks-spec : {M : Type 1} → statement M
 check-masks-spec =

@@ -1,5 +1,5 @@
 use borrow.Author.Tests.{not-true, not-false}
-use Rattle.masks.proofs.Calls.{check-not, check-so}
+use Rattle.masks.proofs.Calls.{check_not, check_so}
 use borrow.Author.Rules.{rules}
 use Rattle.masks.proofs.check_read.Statement.{statement}
 use Rattle.masks.proofs.check_read.Tie as tie
@@ -15,13 +15,13 @@ defines-mask-requires : tie.Need-defines-mask-requires
 defines-mask-requires c κs = search rules
 
 returns : tie.Need-returns
-returns c = check-not _ c.before.defines-mask.ensures (not-true _ c.if1.true) _
+returns c = check_not _ c.before.defines-mask.ensures (not-true _ c.if1.true) _
 
 check-rows-requires : tie.Need-check-rows-requires
 check-rows-requires c κs = search rules
 
 returns-2 : tie.Need-returns-2
-returns-2 c = check-so _ c.before.before.defines-mask.ensures (not-false _ c.before.if1.false) _ _ c.check-rows.ensures
+returns-2 c = check_so _ c.before.before.defines-mask.ensures (not-false _ c.before.if1.false) _ _ c.check-rows.ensures
 
 pub check-read-spec : {M : Type 1} → statement M
 check-read-spec =

@@ -1,4 +1,4 @@
-use Rattle.masks.proofs.Calls.{other_length, too-many-events, found-checked, cleared, array_wide}
+use Rattle.masks.proofs.Calls.{other_length, too_many_events, found_checked, cleared, array_wide}
 use borrow.Author.Rules.{rules}
 use Rattle.masks.proofs.check_rows.Statement.{statement}
 use Rattle.masks.proofs.check_rows.Tie as tie
@@ -20,7 +20,7 @@ returns : tie.Need-returns
 returns c = other_length array_wide c.before.before.event-rows.ensures _ c.if1.true
 
 returns-2 : tie.Need-returns-2
-returns-2 c = too-many-events array_wide c.before.before.before.event-rows.ensures _ _ c.if2.true
+returns-2 c = too_many_events array_wide c.before.before.before.event-rows.ensures _ _ c.if2.true
 
 slice-aggregate-mark-all : tie.Need-slice-aggregate-mark-all
 slice-aggregate-mark-all c = search rules
@@ -53,7 +53,7 @@ verdict-requires : tie.Need-verdict-requires
 verdict-requires c κs = search rules
 
 returns-3 : tie.Need-returns-3
-returns-3 c = found-checked array_wide c.before.before.before.before.before.before.before.before.before.before.before.before.before.before.before.event-rows.ensures _ _ _ cleared c.before.before.before.before.before.before.before.before.before.before.mark-all.ensures c.before.before.before.before.before.before.fill-given.ensures c.before.before.before.before.before.before.before.before.before.before.before.before.before.if1.false c.before.first-breaking.ensures c.verdict.ensures
+returns-3 c = found_checked array_wide c.before.before.before.before.before.before.before.before.before.before.before.before.before.before.before.event-rows.ensures _ _ _ cleared c.before.before.before.before.before.before.before.before.before.before.mark-all.ensures c.before.before.before.before.before.before.fill-given.ensures c.before.before.before.before.before.before.before.before.before.before.before.before.before.if1.false c.before.first-breaking.ensures c.verdict.ensures
 
 pub check-rows-spec : {M : Type 1} → statement M
 check-rows-spec =

@@ -1,5 +1,5 @@
 use Rattle.masks.proofs.ByRules.{plans_rules}
-use Rattle.masks.proofs.Accepting.{plan_refused, plan-accepted}
+use Rattle.masks.proofs.Accepting.{plan_refused, plan_accepted}
 use borrow.Author.Rules.{rules}
 use Rattle.masks.proofs.plan_masks.Statement.{statement}
 use Rattle.masks.proofs.plan_masks.Tie as tie
@@ -48,7 +48,7 @@ same_length : tie.Need-same-length
 same_length c = search rules
 
 returns-2 : tie.Need-returns-2
-returns-2 c = plans_rules (plan-accepted c.before.before.before.before.before.before.before.before.before.before.before.before.before.before.read-spanned.ensures.0 c.before.before.before.before.before.before.before.enum_told.given.1 _ _ _ c.before.before.plan-read.ensures)
+returns-2 c = plans_rules (plan_accepted c.before.before.before.before.before.before.before.before.before.before.before.before.before.before.read-spanned.ensures.0 c.before.before.before.before.before.before.before.enum_told.given.1 _ _ _ c.before.before.plan-read.ensures)
 
 pub plan-masks-spec : {M : Type 1} → statement M
 plan-masks-spec =

@@ -1,5 +1,5 @@
 use borrow.Author.Tests.{not-true, not-false}
-use Rattle.masks.proofs.Calls.{plan-not, plan-so}
+use Rattle.masks.proofs.Calls.{plan_not, plan_so}
 use borrow.Author.Rules.{rules}
 use Rattle.masks.proofs.plan_read.Statement.{statement}
 use Rattle.masks.proofs.plan_read.Tie as tie
@@ -15,7 +15,7 @@ defines-mask-requires : tie.Need-defines-mask-requires
 defines-mask-requires c κs = search rules
 
 returns : tie.Need-returns
-returns c = plan-not _ c.before.defines-mask.ensures (not-true _ c.if1.true) _
+returns c = plan_not _ c.before.defines-mask.ensures (not-true _ c.if1.true) _
 
 plan-rows-requires : tie.Need-plan-rows-requires
 plan-rows-requires c κs = search rules
@@ -24,7 +24,7 @@ same_length : tie.Need-same-length
 same_length c = search rules
 
 returns-2 : tie.Need-returns-2
-returns-2 c = plan-so _ c.before.before.before.before.before.defines-mask.ensures (not-false _ c.before.before.before.before.if1.false) _ _ _ c.before.before.plan-rows.ensures
+returns-2 c = plan_so _ c.before.before.before.before.before.defines-mask.ensures (not-false _ c.before.before.before.before.if1.false) _ _ _ c.before.before.plan-rows.ensures
 
 pub plan-read-spec : {M : Type 1} → statement M
 plan-read-spec =

@@ -1,5 +1,5 @@
 use mathlib.Core.Path.{sym}
-use Rattle.masks.proofs.Calls.{list-short, too-many-planned, handed_out, cleared, array_wide, front_long, front_within}
+use Rattle.masks.proofs.Calls.{list_short, too_many_planned, handed_out, cleared, array_wide, front_long, front_within}
 use borrow.Author.Rules.{rules}
 use Rattle.masks.proofs.plan_rows.Statement.{statement}
 use Rattle.masks.proofs.plan_rows.Tie as tie
@@ -17,10 +17,10 @@ event-rows-requires : tie.Need-event-rows-requires
 event-rows-requires c κs = search rules
 
 returns : tie.Need-returns
-returns c = list-short array_wide c.before.before.event-rows.ensures _ c.if1.true
+returns c = list_short array_wide c.before.before.event-rows.ensures _ c.if1.true
 
 returns-2 : tie.Need-returns-2
-returns-2 c = too-many-planned array_wide c.before.before.before.event-rows.ensures _ _ _ c.if2.true
+returns-2 c = too_many_planned array_wide c.before.before.before.event-rows.ensures _ _ _ c.if2.true
 
 slice-aggregate-mark-all : tie.Need-slice-aggregate-mark-all
 slice-aggregate-mark-all c = search rules

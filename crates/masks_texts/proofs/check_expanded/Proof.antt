@@ -4,7 +4,7 @@ use Rattle.masks_texts.proofs.check_expanded.Statement.{statement}
 use Rattle.masks_texts.proofs.check_expanded.Tie as tie
 use Rattle.masks_texts.proofs.check_expanded.Reads as reads
 use Rattle.masks_texts.proofs.check_expanded.Lts as lts
-use Rattle.lent_texts.proofs.refused.Reads as refused-reads
+use Rattle.lent_texts.proofs.refused.Reads as refused_reads
 use Rattle.masks.proofs.check_masks.Reads as check-masks-reads
 
 check-masks-requires : tie.Need-check-masks-requires

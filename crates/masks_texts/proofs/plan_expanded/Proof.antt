@@ -4,7 +4,7 @@ use Rattle.masks_texts.proofs.plan_expanded.Statement.{statement}
 use Rattle.masks_texts.proofs.plan_expanded.Tie as tie
 use Rattle.masks_texts.proofs.plan_expanded.Reads as reads
 use Rattle.masks_texts.proofs.plan_expanded.Lts as lts
-use Rattle.lent_texts.proofs.refused.Reads as refused-reads
+use Rattle.lent_texts.proofs.refused.Reads as refused_reads
 use Rattle.masks.proofs.plan_masks.Reads as plan-masks-reads
 
 plan-masks-requires : tie.Need-plan-masks-requires

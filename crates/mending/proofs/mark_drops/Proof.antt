@@ -1,4 +1,4 @@
-use Rattle.mending.proofs.Wholes.{long_stops, fault-stops, kept-marks}
+use Rattle.mending.proofs.Wholes.{long_stops, fault_stops, kept_marks}
 use mathlib.Core.Path.{sym, ◌∙◌}
 use borrow.Author.Rules.{rules}
 use Rattle.mending.proofs.mark_drops.Statement.{statement}
@@ -28,7 +28,7 @@ is-fault-requires : tie.Need-is-fault-requires
 is-fault-requires c κs = search rules
 
 returns-2 : tie.Need-returns-2
-returns-2 c = fault-stops c.before.before.before.before.before.before.before.before.before.before.before.before.if1.false c.before.before.before.before.before.before.before.decide.ensures (sym c.before.is-fault.ensures ∙ c.if2.true)
+returns-2 c = fault_stops c.before.before.before.before.before.before.before.before.before.before.before.before.if1.false c.before.before.before.before.before.before.before.decide.ensures (sym c.before.is-fault.ensures ∙ c.if2.true)
 
 slice-aggregate-drop-kept : tie.Need-slice-aggregate-drop-kept
 slice-aggregate-drop-kept c = search rules
@@ -49,7 +49,7 @@ same_length : tie.Need-same-length
 same_length c = search rules
 
 returns-3 : tie.Need-returns-3
-returns-3 c = kept-marks c.before.before.before.before.before.before.before.before.before.before.before.before.before.before.before.before.before.before.before.before.if1.false c.before.before.before.before.before.before.before.before.before.before.before.before.before.before.before.decide.ensures (sym c.before.before.before.before.before.before.before.before.before.is-fault.ensures ∙ c.before.before.before.before.before.before.before.before.if2.false) c.before.before.drop-kept.ensures
+returns-3 c = kept_marks c.before.before.before.before.before.before.before.before.before.before.before.before.before.before.before.before.before.before.before.before.if1.false c.before.before.before.before.before.before.before.before.before.before.before.before.before.before.before.decide.ensures (sym c.before.before.before.before.before.before.before.before.before.is-fault.ensures ∙ c.before.before.before.before.before.before.before.before.if2.false) c.before.before.drop-kept.ensures
 
 pub mark-drops-spec : {M : Type 1} → statement M
 mark-drops-spec =

@@ -1,4 +1,4 @@
-use Rattle.mending.proofs.Wholes.{mends_refused, mends-not, mends-done}
+use Rattle.mending.proofs.Wholes.{mends_refused, mends_not, mends_done}
 use Rattle.mending.proofs.Judged.{mends_rules}
 use mathlib.Core.Path.{sym, ◌∙◌}
 use borrow.Author.Rules.{rules}
@@ -56,7 +56,7 @@ put-out-requires : tie.Need-put-out-requires
 put-out-requires c κs = search rules
 
 returns-2 : tie.Need-returns-2
-returns-2 c = mends_rules (mends-not c.before.before.before.before.before.before.before.before.before.before.before.before.before.before.before.mark-drops.ensures (sym c.before.before.before.before.before.before.before.before.before.before.before.before.before.is-fault.ensures ∙ c.before.before.before.before.before.before.before.before.before.before.before.before.if1.false) c.before.before.before.before.before.before.before.before.before.put-mended.ensures c.before.before.before.before.before.before.part.ensures.0 c.before.before.before.before.before.answer-to.ensures _ _ _ _ _ c.before.before.before.answer.given.1 c.refusal-back.ensures)
+returns-2 c = mends_rules (mends_not c.before.before.before.before.before.before.before.before.before.before.before.before.before.before.before.mark-drops.ensures (sym c.before.before.before.before.before.before.before.before.before.before.before.before.before.is-fault.ensures ∙ c.before.before.before.before.before.before.before.before.before.before.before.before.if1.false) c.before.before.before.before.before.before.before.before.before.put-mended.ensures c.before.before.before.before.before.before.part.ensures.0 c.before.before.before.before.before.answer-to.ensures _ _ _ _ _ c.before.before.before.answer.given.1 c.refusal-back.ensures)
 
 same_length : tie.Need-same-length
 same_length c = search rules
@@ -65,7 +65,7 @@ same_length_2 : tie.Need-same-length-2
 same_length_2 c = search rules
 
 returns-3 : tie.Need-returns-3
-returns-3 c = mends_rules (mends-done c.before.before.before.before.before.before.before.before.before.before.before.before.before.before.before.before.before.before.before.before.mark-drops.ensures (sym c.before.before.before.before.before.before.before.before.before.before.before.before.before.before.before.before.before.before.is-fault.ensures ∙ c.before.before.before.before.before.before.before.before.before.before.before.before.before.before.before.before.before.if1.false) c.before.before.before.before.before.before.before.before.before.before.before.before.before.before.put-mended.ensures c.before.before.before.before.before.before.before.before.before.before.before.part.ensures.0 c.before.before.before.before.before.before.before.before.before.before.answer-to.ensures _ _ _ c.before.before.before.before.before.before.before.before.enum_told.given.1 c.before.before.before.before.put-out.ensures)
+returns-3 c = mends_rules (mends_done c.before.before.before.before.before.before.before.before.before.before.before.before.before.before.before.before.before.before.before.before.mark-drops.ensures (sym c.before.before.before.before.before.before.before.before.before.before.before.before.before.before.before.before.before.before.is-fault.ensures ∙ c.before.before.before.before.before.before.before.before.before.before.before.before.before.before.before.before.before.if1.false) c.before.before.before.before.before.before.before.before.before.before.before.before.before.before.put-mended.ensures c.before.before.before.before.before.before.before.before.before.before.before.part.ensures.0 c.before.before.before.before.before.before.before.before.before.before.answer-to.ensures _ _ _ c.before.before.before.before.before.before.before.before.enum_told.given.1 c.before.before.before.before.put-out.ensures)
 
 pub mend-spec : {M : Type 1} → statement M
 mend-spec =

@@ -1,4 +1,4 @@
-use Rattle.mending_texts.proofs.Told.{refused-expanded, not-mended-expanded, done-expanded}
+use Rattle.mending_texts.proofs.Told.{refused_expanded, not_mended_expanded, done_expanded}
 use borrow.Author.Rules.{rules}
 use Rattle.mending_texts.proofs.mend_expanded.Statement.{statement}
 use Rattle.mending_texts.proofs.mend_expanded.Tie as tie
@@ -30,7 +30,7 @@ same_length_2 : tie.Need-same-length-2
 same_length_2 c = search rules
 
 returns : tie.Need-returns
-returns c = refused-expanded c.before.before.before.before.before.before.before.before.mend.ensures.1 c.before.before.answer.given.1 c.refused.ensures
+returns c = refused_expanded c.before.before.before.before.before.before.before.before.mend.ensures.1 c.before.before.answer.given.1 c.refused.ensures
 
 same-length-3 : tie.Need-same-length-3
 same-length-3 c = search rules
@@ -39,7 +39,7 @@ same-length-4 : tie.Need-same-length-4
 same-length-4 c = search rules
 
 returns-2 : tie.Need-returns-2
-returns-2 c = not-mended-expanded c.before.before.before.before.before.before.before.before.mend.ensures.1 c.before.before.answer2.given.1 c.place-refused.ensures
+returns-2 c = not_mended_expanded c.before.before.before.before.before.before.before.before.mend.ensures.1 c.before.before.answer2.given.1 c.place-refused.ensures
 
 same-length-5 : tie.Need-same-length-5
 same-length-5 c = search rules
@@ -48,7 +48,7 @@ same-length-6 : tie.Need-same-length-6
 same-length-6 c = search rules
 
 returns-3 : tie.Need-returns-3
-returns-3 c = done-expanded c.before.before.before.before.before.before.before.mend.ensures.1 c.before.answer3.given.1
+returns-3 c = done_expanded c.before.before.before.before.before.before.before.mend.ensures.1 c.before.answer3.given.1
 
 pub mend-expanded-spec : {M : Type 1} → statement M
 mend-expanded-spec =

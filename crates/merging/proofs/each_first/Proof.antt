@@ -1,6 +1,6 @@
 use Rattle.merging.proofs.Turns.{each_start, each_more, each_end}
 use Rattle.merging.specs.Parts.{first_rows}
-use Rattle.indexes.proofs.Throughs.{through, through-one, through-two}
+use Rattle.indexes.proofs.Throughs.{through, through_one, through_two}
 use Rattle.indexes.specs.Indexing.{Through, By}
 use lib.Seq.{sets}
 use lib.ListN.{length}
@@ -40,13 +40,13 @@ loop_less : tie.Need-loop-smaller invariant_loop decreases_loop
 loop_less c = omega arith
 
 loop_again : tie.Need-loop-preserved invariant_loop decreases_loop
-loop_again c = (omega arith, through-two (omega arith) (λ k h. each_more _ _ _ _ _ _ _ (c.before.before.before.before.before.before.before.loop.j) _ (omega arith) c.before.before.put-cells.ensures h k) (c.before.before.before.before.before.before.before.loop.invariant.1) c.before.before.before.before.before.first_part.ensures)
+loop_again c = (omega arith, through_two (omega arith) (λ k h. each_more _ _ _ _ _ _ _ (c.before.before.before.before.before.before.before.loop.j) _ (omega arith) c.before.before.put-cells.ensures h k) (c.before.before.before.before.before.before.before.loop.invariant.1) c.before.before.before.before.before.first_part.ensures)
 
 same_length : tie.Need-same-length invariant_loop decreases_loop
 same_length c = omega arith
 
 returns : tie.Need-returns invariant_loop decreases_loop
-returns c = through-one (each_end _ _ _ _ _ _ (c.before.loop.j) (omega arith)) (c.before.loop.invariant.1)
+returns c = through_one (each_end _ _ _ _ _ _ (c.before.loop.j) (omega arith)) (c.before.loop.invariant.1)
 
 pub each-first-spec : {M : Type 1} → statement M
 each-first-spec =

@@ -1,5 +1,5 @@
-use Rattle.merging.proofs.Turns.{first_found, first-nothing}
-use Rattle.indexes.proofs.Throughs.{through-one, through_found}
+use Rattle.merging.proofs.Turns.{first_found, first_nothing}
+use Rattle.indexes.proofs.Throughs.{through_one, through_found}
 use borrow.Author.Rules.{rules}
 use Rattle.merging.proofs.first_part.Statement.{statement}
 use Rattle.merging.proofs.first_part.Tie as tie
@@ -27,10 +27,10 @@ enum_told : tie.Need-enum-told
 enum_told c = search rules
 
 returns : tie.Need-returns
-returns c = through-one (first_found _ _ _ _ c.before.before.before.before.before.before.cell-of.ensures c.before.before.before.before.before.cell-of2.ensures c.before.before.before.before.cell-of3.ensures c.before.i.given.1) (through_found _ _ _ _ _ _ _ _ _ _ _ c.before.before.before.find-before.ensures)
+returns c = through_one (first_found _ _ _ _ c.before.before.before.before.before.before.cell-of.ensures c.before.before.before.before.before.cell-of2.ensures c.before.before.before.before.cell-of3.ensures c.before.i.given.1) (through_found _ _ _ _ _ _ _ _ _ _ _ c.before.before.before.find-before.ensures)
 
 returns-2 : tie.Need-returns-2
-returns-2 c = through-one (first-nothing _ _ _ _ c.before.before.before.before.before.cell-of.ensures c.before.before.before.before.cell-of2.ensures c.before.before.before.cell-of3.ensures c.enum_told.given.1) (through_found _ _ _ _ _ _ _ _ _ _ _ c.before.before.find-before.ensures)
+returns-2 c = through_one (first_nothing _ _ _ _ c.before.before.before.before.before.cell-of.ensures c.before.before.before.before.cell-of2.ensures c.before.before.before.cell-of3.ensures c.enum_told.given.1) (through_found _ _ _ _ _ _ _ _ _ _ _ c.before.before.find-before.ensures)
 
 pub first-part-spec : {M : Type 1} → statement M
 first-part-spec =

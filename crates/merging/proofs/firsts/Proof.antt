@@ -1,4 +1,4 @@
-use Rattle.indexes.proofs.Throughs.{room-long, room_fits}
+use Rattle.indexes.proofs.Throughs.{room_long, room_fits}
 use native.Mathlib.Omega.{arith}
 use Prim.Native.Nat.{◌≤◌}
 use borrow.Author.Rules.{rules}
@@ -15,7 +15,7 @@ array-borrow-prefix-x : tie.Need-array-borrow-prefix-x
 array-borrow-prefix-x c = search rules
 
 slice-aggregate-indexed-firsts : tie.Need-slice-aggregate-indexed-firsts
-slice-aggregate-indexed-firsts c = let h : c.before.before.before.before.args.n ≤ 513 = omega arith in room-long _ _ h
+slice-aggregate-indexed-firsts c = let h : c.before.before.before.before.args.n ≤ 513 = omega arith in room_long _ _ h
 
 slice-aggregate-indexed-firsts-2 : tie.Need-slice-aggregate-indexed-firsts-2
 slice-aggregate-indexed-firsts-2 c = search rules

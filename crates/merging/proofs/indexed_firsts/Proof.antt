@@ -1,4 +1,4 @@
-use Rattle.indexes.proofs.Throughs.{through-made}
+use Rattle.indexes.proofs.Throughs.{through_made}
 use borrow.Author.Rules.{rules}
 use Rattle.merging.proofs.indexed_firsts.Statement.{statement}
 use Rattle.merging.proofs.indexed_firsts.Tie as tie
@@ -23,7 +23,7 @@ same-length-3 : tie.Need-same-length-3
 same-length-3 c = search rules
 
 returns : tie.Need-returns
-returns c = through-made _ _ _ _ _ _ _ _ _ c.before.before.before.before.before.before.before.before.before.before.before.before.before.before.before.before.before.requires c.before.before.before.before.before.before.before.before.before.index.ensures c.before.before.Each-first.ensures
+returns c = through_made _ _ _ _ _ _ _ _ _ c.before.before.before.before.before.before.before.before.before.before.before.before.before.before.before.before.before.requires c.before.before.before.before.before.before.before.before.before.index.ensures c.before.before.Each-first.ensures
 
 pub indexed-firsts-spec : {M : Type 1} → statement M
 indexed-firsts-spec =

@@ -1,10 +1,10 @@
 use native.Mathlib.Omega.{arith}
 use borrow.Author.Rules.{rules}
-use Rattle.object_parts.proofs.Stated.{lines, statements-on, statements-gone, block_none, block-there, value-true-there, value-false-there, value-name-there, value-number-there, value-string-there, value-float-there, value-auto-there, value_none, statement-there, then}
+use Rattle.object_parts.proofs.Stated.{lines, statements_on, statements_gone, block_none, block_there, value_true_there, value_false_there, value_name_there, value_number_there, value_string_there, value_float_there, value_auto_there, value_none, statement_there, then}
 use Rattle.object_parts.specs.Rows.{Fill, StatementRows}
 use Rattle.filling.proofs.Filling.{going, Going}
-use Rattle.grammar.proofs.Rules.{name-taken, name-less, value-no}
-use Rattle.grammar.proofs.Terminals.{rbrace-is, equals-is}
+use Rattle.grammar.proofs.Rules.{name_taken, name_less, value_no}
+use Rattle.grammar.proofs.Terminals.{rbrace_is, equals_is}
 use Rattle.grammar.proofs.Meeting.{went_on}
 use Rattle.grammar.specs.Readers.{left}
 use Rattle.grammar.specs.Grammar.{statements}
@@ -101,7 +101,7 @@ block-same-length : (t : ℕ) → block-lts.Need-same-length (block-claims t) (b
 block-same-length t c = c.before.before.before.statements.ensures.does.1.size
 
 block-returns-2 : (t : ℕ) → block-lts.Need-returns-2 (block-claims t) (block_at t) block.Post
-block-returns-2 t c = block-there c.before.before.before.before.before.before.if1.false c.before.before.before.before.before.advance.ensures c.before.before.before.statements.ensures (rbrace-is c.expect.ensures)
+block-returns-2 t c = block_there c.before.before.before.before.before.before.if1.false c.before.before.before.before.before.advance.ensures c.before.before.before.statements.ensures (rbrace_is c.expect.ensures)
 
 abbrev statement-claims : ℕ → statement-lts.Claims
 statement-claims t = (
@@ -131,7 +131,7 @@ statement-next-requires : (t : ℕ) → statement-lts.Need-next-requires (statem
 statement-next-requires t c κs = search rules
 
 statement-value-requires : (t : ℕ) → statement-lts.Need-value-requires (statement-claims t) (statement-at t) statement'.Post
-statement-value-requires t c κs = let m = c.before.before.before.expect-name.ensures in let n = equals-is c.before.before.expect.ensures in (omega arith, tt)
+statement-value-requires t c κs = let m = c.before.before.before.expect-name.ensures in let n = equals_is c.before.before.expect.ensures in (omega arith, tt)
 
 statement-length-requires : (t : ℕ) → statement-lts.Need-length-requires (statement-claims t) (statement-at t) statement'.Post
 statement-length-requires t c κs = search rules
@@ -155,7 +155,7 @@ statement-same-length : (t : ℕ) → statement-lts.Need-same-length (statement-
 statement-same-length t c = search rules
 
 statement-returns : (t : ℕ) → statement-lts.Need-returns (statement-claims t) (statement-at t) statement'.Post
-statement-returns t c = statement-there _ c.before.before.before.before.before.before.before.before.before.before.before.before.before.before.expect-name.ensures (equals-is c.before.before.before.before.before.before.before.before.before.before.before.before.before.expect.ensures) c.before.before.before.before.before.before.before.before.before.before.before.before.next.ensures c.before.before.before.before.before.before.before.before.before.before.value.ensures c.before.before.before.before.before.before.before.length.ensures c.before.before.before.before.before.before.length2.ensures c.before.before.before.put-row.ensures c.finish.ensures
+statement-returns t c = statement_there _ c.before.before.before.before.before.before.before.before.before.before.before.before.before.before.expect-name.ensures (equals_is c.before.before.before.before.before.before.before.before.before.before.before.before.before.expect.ensures) c.before.before.before.before.before.before.before.before.before.before.before.before.next.ensures c.before.before.before.before.before.before.before.before.before.before.value.ensures c.before.before.before.before.before.before.before.length.ensures c.before.before.before.before.before.before.length2.ensures c.before.before.before.put-row.ensures c.finish.ensures
 
 abbrev statements-Inv-loop : statements-lts.invariant-loop
 statements-Inv-loop text s₀ m a₀ i₀ s a i = Going then Fill statements StatementRows text a₀ a (s₀, i₀) (s, i)
@@ -181,16 +181,16 @@ statements-statement-requires : (t : ℕ) → statements-lts.Need-statement-requ
 statements-statement-requires t c κs = let z = c.before.before.before.loop.invariant.still in (omega arith, tt)
 
 statements-loop-less : (t : ℕ) → statements-lts.Need-loop-smaller (statements-claims t) (statements-at t) statements.Post statements-Inv-loop statements-μ-loop
-statements-loop-less t c = name-less (sym c.before.before.before.before.before.before.is_name.ensures ∙ c.before.before.before.before.before.if1.true) c.before.before.before.statement.ensures.fills.meets
+statements-loop-less t c = name_less (sym c.before.before.before.before.before.before.is_name.ensures ∙ c.before.before.before.before.before.if1.true) c.before.before.before.statement.ensures.fills.meets
 
 statements-loop-again : (t : ℕ) → statements-lts.Need-loop-preserved (statements-claims t) (statements-at t) statements.Post statements-Inv-loop statements-μ-loop
-statements-loop-again t c = statements-on c.before.before.before.before.before.before.before.loop.invariant (sym c.before.before.before.before.before.before.is_name.ensures ∙ c.before.before.before.before.before.if1.true) c.before.before.before.statement.ensures
+statements-loop-again t c = statements_on c.before.before.before.before.before.before.before.loop.invariant (sym c.before.before.before.before.before.before.is_name.ensures ∙ c.before.before.before.before.before.if1.true) c.before.before.before.statement.ensures
 
 statements-same-length : (t : ℕ) → statements-lts.Need-same-length (statements-claims t) (statements-at t) statements.Post statements-Inv-loop statements-μ-loop
 statements-same-length t c = c.before.before.loop.invariant.does.1.size
 
 statements-returns : (t : ℕ) → statements-lts.Need-returns (statements-claims t) (statements-at t) statements.Post statements-Inv-loop statements-μ-loop
-statements-returns t c = statements-gone c.before.before.loop.invariant (sym c.before.is_name.ensures ∙ c.if1.false)
+statements-returns t c = statements_gone c.before.before.loop.invariant (sym c.before.is_name.ensures ∙ c.if1.false)
 
 abbrev value-claims : ℕ → value-lts.Claims
 value-claims t = (
@@ -208,19 +208,19 @@ value-advance-requires : (t : ℕ) → value-lts.Need-advance-requires (value-cl
 value-advance-requires t c κs = search rules
 
 value-returns : (t : ℕ) → value-lts.Need-returns (value-claims t) (value_at t) value.Post
-value-returns t c = value-number-there c.before.if1.true c.advance.ensures
+value-returns t c = value_number_there c.before.if1.true c.advance.ensures
 
 value-advance-requires-2 : (t : ℕ) → value-lts.Need-advance-requires-2 (value-claims t) (value_at t) value.Post
 value-advance-requires-2 t c κs = search rules
 
 value-returns-2 : (t : ℕ) → value-lts.Need-returns-2 (value-claims t) (value_at t) value.Post
-value-returns-2 t c = value-string-there c.before.if2.true c.advance2.ensures
+value-returns-2 t c = value_string_there c.before.if2.true c.advance2.ensures
 
 value-advance-requires-3 : (t : ℕ) → value-lts.Need-advance-requires-3 (value-claims t) (value_at t) value.Post
 value-advance-requires-3 t c κs = search rules
 
 value-returns-3 : (t : ℕ) → value-lts.Need-returns-3 (value-claims t) (value_at t) value.Post
-value-returns-3 t c = value-auto-there c.before.if3.true c.advance3.ensures
+value-returns-3 t c = value_auto_there c.before.if3.true c.advance3.ensures
 
 value-advance-requires-4 : (t : ℕ) → value-lts.Need-advance-requires-4 (value-claims t) (value_at t) value.Post
 value-advance-requires-4 t c κs = search rules
@@ -232,7 +232,7 @@ value-same-length : (t : ℕ) → value-lts.Need-same-length (value-claims t) (v
 value-same-length t c = c.before.before.block.ensures.does.1.size
 
 value-returns-4 : (t : ℕ) → value-lts.Need-returns-4 (value-claims t) (value_at t) value.Post
-value-returns-4 t c = value-true-there _ c.before.before.before.before.before.if4.true c.before.before.before.before.advance4.ensures c.before.before.block.ensures
+value-returns-4 t c = value_true_there _ c.before.before.before.before.before.if4.true c.before.before.before.before.advance4.ensures c.before.before.block.ensures
 
 value-advance-requires-5 : (t : ℕ) → value-lts.Need-advance-requires-5 (value-claims t) (value_at t) value.Post
 value-advance-requires-5 t c κs = search rules
@@ -244,7 +244,7 @@ value-same-length-2 : (t : ℕ) → value-lts.Need-same-length-2 (value-claims t
 value-same-length-2 t c = c.before.before.block2.ensures.does.1.size
 
 value-returns-5 : (t : ℕ) → value-lts.Need-returns-5 (value-claims t) (value_at t) value.Post
-value-returns-5 t c = value-false-there _ c.before.before.before.before.before.if5.true c.before.before.before.before.advance5.ensures c.before.before.block2.ensures
+value-returns-5 t c = value_false_there _ c.before.before.before.before.before.if5.true c.before.before.before.before.advance5.ensures c.before.before.block2.ensures
 
 value-is-name-requires : (t : ℕ) → value-lts.Need-is-name-requires (value-claims t) (value_at t) value.Post
 value-is-name-requires t c κs = search rules
@@ -253,25 +253,25 @@ value-advance-requires-6 : (t : ℕ) → value-lts.Need-advance-requires-6 (valu
 value-advance-requires-6 t c κs = search rules
 
 value-block-requires-3 : (t : ℕ) → value-lts.Need-block-requires-3 (value-claims t) (value_at t) value.Post
-value-block-requires-3 t c κs = let h = sym c.before.before.before.is_name.ensures ∙ c.before.before.if6.true in let w = name-less h (name-taken h c.before.advance6.ensures) in (omega arith, tt)
+value-block-requires-3 t c κs = let h = sym c.before.before.before.is_name.ensures ∙ c.before.before.if6.true in let w = name_less h (name_taken h c.before.advance6.ensures) in (omega arith, tt)
 
 value-same-length-3 : (t : ℕ) → value-lts.Need-same-length-3 (value-claims t) (value_at t) value.Post
 value-same-length-3 t c = c.before.before.block3.ensures.does.1.size
 
 value-returns-6 : (t : ℕ) → value-lts.Need-returns-6 (value-claims t) (value_at t) value.Post
-value-returns-6 t c = value-name-there _ (sym c.before.before.before.before.before.before.is_name.ensures ∙ c.before.before.before.before.before.if6.true) c.before.before.before.before.advance6.ensures c.before.before.block3.ensures
+value-returns-6 t c = value_name_there _ (sym c.before.before.before.before.before.before.is_name.ensures ∙ c.before.before.before.before.before.if6.true) c.before.before.before.before.advance6.ensures c.before.before.block3.ensures
 
 value-advance-requires-7 : (t : ℕ) → value-lts.Need-advance-requires-7 (value-claims t) (value_at t) value.Post
 value-advance-requires-7 t c κs = search rules
 
 value-returns-7 : (t : ℕ) → value-lts.Need-returns-7 (value-claims t) (value_at t) value.Post
-value-returns-7 t c = value-float-there c.before.if7.true c.advance7.ensures
+value-returns-7 t c = value_float_there c.before.if7.true c.advance7.ensures
 
 value-refuse-requires : (t : ℕ) → value-lts.Need-refuse-requires (value-claims t) (value_at t) value.Post
 value-refuse-requires t c κs = search rules
 
 value-returns-8 : (t : ℕ) → value-lts.Need-returns-8 (value-claims t) (value_at t) value.Post
-value-returns-8 t c = value_none (value-no c.before.before.before.before.before.before.before.before.if1.false c.before.before.before.before.before.before.before.if2.false c.before.before.before.before.before.before.if3.false c.before.before.before.before.before.if4.false c.before.before.before.before.if5.false (sym c.before.before.before.is_name.ensures ∙ c.before.before.if6.false) c.before.if7.false c.refuse.ensures) c.refuse.ensures
+value-returns-8 t c = value_none (value_no c.before.before.before.before.before.before.before.before.if1.false c.before.before.before.before.before.before.before.if2.false c.before.before.before.before.before.before.if3.false c.before.before.before.before.before.if4.false c.before.before.before.before.if5.false (sym c.before.before.before.is_name.ensures ∙ c.before.before.if6.false) c.before.if7.false c.refuse.ensures) c.refuse.ensures
 
 pub +block-statement-statements-value-spec : {M : Type 1} → statement M
 +block-statement-statements-value-spec =

@@ -1,5 +1,5 @@
-use Rattle.object_parts.proofs.Applied.{part-alone, part-with}
-use Rattle.grammar.proofs.Terminals.{rbrace-is}
+use Rattle.object_parts.proofs.Applied.{part_alone, part_with}
+use Rattle.grammar.proofs.Terminals.{rbrace_is}
 use borrow.Author.Rules.{rules}
 use Rattle.object_parts.proofs.part.Statement.{statement}
 use Rattle.object_parts.proofs.part.Tie as tie
@@ -48,7 +48,7 @@ same_length : tie.Need-same-length
 same_length c = search rules
 
 returns : tie.Need-returns
-returns c = part-alone c.before.before.before.before.before.before.before.before.before.before.before.before.before.kind-number.ensures c.before.before.before.before.before.before.before.before.before.before.before.before.expect-kind.ensures c.before.before.before.before.before.before.before.before.before.before.before.expect-name.ensures c.before.before.before.before.before.before.before.before.before.before.length.ensures c.before.before.before.before.before.before.before.before.before.length2.ensures c.before.before.before.before.before.before.before.before.next.ensures c.before.before.before.before.before.before.if1.true c.before.before.before.put-row.ensures c.finish.ensures
+returns c = part_alone c.before.before.before.before.before.before.before.before.before.before.before.before.before.kind-number.ensures c.before.before.before.before.before.before.before.before.before.before.before.before.expect-kind.ensures c.before.before.before.before.before.before.before.before.before.before.before.expect-name.ensures c.before.before.before.before.before.before.before.before.before.before.length.ensures c.before.before.before.before.before.before.before.before.before.length2.ensures c.before.before.before.before.before.before.before.before.next.ensures c.before.before.before.before.before.before.if1.true c.before.before.before.put-row.ensures c.finish.ensures
 
 advance-requires : tie.Need-advance-requires
 advance-requires c κs = search rules
@@ -78,7 +78,7 @@ same-length-3 : tie.Need-same-length-3
 same-length-3 c = search rules
 
 returns-2 : tie.Need-returns-2
-returns-2 c = part-with c.before.before.before.before.before.before.before.before.before.before.before.before.before.before.before.before.before.before.before.before.before.kind-number.ensures c.before.before.before.before.before.before.before.before.before.before.before.before.before.before.before.before.before.before.before.before.expect-kind.ensures c.before.before.before.before.before.before.before.before.before.before.before.before.before.before.before.before.before.before.before.expect-name.ensures c.before.before.before.before.before.before.before.before.before.before.before.before.before.before.before.before.before.before.length.ensures c.before.before.before.before.before.before.before.before.before.before.before.before.before.before.before.before.before.length2.ensures c.before.before.before.before.before.before.before.before.before.before.before.before.before.before.before.before.next.ensures c.before.before.before.before.before.before.before.before.before.before.before.before.before.before.if1.false c.before.before.before.before.before.before.before.before.before.before.before.before.before.advance.ensures c.before.before.before.before.before.before.before.before.before.before.before.statements.ensures c.before.before.before.before.before.before.before.through.ensures c.before.before.before.before.put-row2.ensures (rbrace-is c.before.expect.ensures) c.finish2.ensures
+returns-2 c = part_with c.before.before.before.before.before.before.before.before.before.before.before.before.before.before.before.before.before.before.before.before.before.kind-number.ensures c.before.before.before.before.before.before.before.before.before.before.before.before.before.before.before.before.before.before.before.before.expect-kind.ensures c.before.before.before.before.before.before.before.before.before.before.before.before.before.before.before.before.before.before.before.expect-name.ensures c.before.before.before.before.before.before.before.before.before.before.before.before.before.before.before.before.before.before.length.ensures c.before.before.before.before.before.before.before.before.before.before.before.before.before.before.before.before.before.length2.ensures c.before.before.before.before.before.before.before.before.before.before.before.before.before.before.before.before.next.ensures c.before.before.before.before.before.before.before.before.before.before.before.before.before.before.if1.false c.before.before.before.before.before.before.before.before.before.before.before.before.before.advance.ensures c.before.before.before.before.before.before.before.before.before.before.before.statements.ensures c.before.before.before.before.before.before.before.through.ensures c.before.before.before.before.put-row2.ensures (rbrace_is c.before.expect.ensures) c.finish2.ensures
 
 pub part-spec : {M : Type 1} → statement M
 part-spec =

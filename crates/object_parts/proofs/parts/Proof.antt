@@ -1,8 +1,8 @@
 use borrow.Author.Rules.{rules}
-use Rattle.object_parts.proofs.Applied.{all, parts-on, parts-gone, beside}
+use Rattle.object_parts.proofs.Applied.{all, parts_on, parts_gone, beside}
 use Rattle.object_parts.specs.Rows.{FillAll, AllRows}
 use Rattle.filling.proofs.Filling.{going, Going}
-use Rattle.grammar.proofs.Rules.{kind-less}
+use Rattle.grammar.proofs.Rules.{kind_less}
 use Rattle.grammar.specs.Readers.{left}
 use Rattle.grammar.specs.Grammar.{objects}
 use mathlib.Core.Path.{sym, ◌∙◌}
@@ -37,10 +37,10 @@ part-requires : tie.Need-part-requires invariant_loop decreases_loop
 part-requires c κs = search rules
 
 loop_less : tie.Need-loop-smaller invariant_loop decreases_loop
-loop_less c = kind-less (sym c.before.before.before.before.before.before.before.before.before.before.before.is-kind.ensures ∙ c.before.before.before.before.before.before.before.before.before.before.if1.true) c.before.before.before.before.before.part.ensures.fills.meets
+loop_less c = kind_less (sym c.before.before.before.before.before.before.before.before.before.before.before.is-kind.ensures ∙ c.before.before.before.before.before.before.before.before.before.before.if1.true) c.before.before.before.before.before.part.ensures.fills.meets
 
 loop_again : tie.Need-loop-preserved invariant_loop decreases_loop
-loop_again c = parts-on c.before.before.before.before.before.before.before.before.before.before.before.before.loop.invariant (sym c.before.before.before.before.before.before.before.before.before.before.before.is-kind.ensures ∙ c.before.before.before.before.before.before.before.before.before.before.if1.true) c.before.before.before.before.before.before.before.before.before.kind-number.ensures c.before.before.before.before.before.before.before.before.one_more.ensures c.before.before.before.before.before.part.ensures
+loop_again c = parts_on c.before.before.before.before.before.before.before.before.before.before.before.before.loop.invariant (sym c.before.before.before.before.before.before.before.before.before.before.before.is-kind.ensures ∙ c.before.before.before.before.before.before.before.before.before.before.if1.true) c.before.before.before.before.before.before.before.before.before.kind-number.ensures c.before.before.before.before.before.before.before.before.one_more.ensures c.before.before.before.before.before.part.ensures
 
 same_length : tie.Need-same-length invariant_loop decreases_loop
 same_length c = c.before.before.loop.invariant.does.1.size
@@ -49,7 +49,7 @@ same_length_2 : tie.Need-same-length-2 invariant_loop decreases_loop
 same_length_2 c = c.before.before.loop.invariant.does.1.lines.1.size
 
 returns : tie.Need-returns invariant_loop decreases_loop
-returns c = parts-gone c.before.before.loop.invariant (sym c.before.is-kind.ensures ∙ c.if1.false)
+returns c = parts_gone c.before.before.loop.invariant (sym c.before.is-kind.ensures ∙ c.if1.false)
 
 pub parts-spec : {M : Type 1} → statement M
 parts-spec =

@@ -1,5 +1,5 @@
 use native.Mathlib.Omega.{arith}
-use Rattle.placing.proofs.Rowwise.{place_none, place-some, inside}
+use Rattle.placing.proofs.Rowwise.{place_none, place_some, inside}
 use mathlib.Core.Path.{sym, ◌∙◌}
 use borrow.Author.Rules.{rules}
 use Rattle.placing.proofs.place_at.Statement.{statement}
@@ -37,7 +37,7 @@ same_length_2 : tie.Need-same-length-2
 same_length_2 c = search rules
 
 returns-2 : tie.Need-returns-2
-returns-2 c = place-some _ _ _ _ (λ z. c.before.before.if1.false (c.before.before.before.cell.ensures ∙ z)) c.IsPlace-in.ensures
+returns-2 c = place_some _ _ _ _ (λ z. c.before.before.if1.false (c.before.before.before.cell.ensures ∙ z)) c.IsPlace-in.ensures
 
 pub place-at-spec : {M : Type 1} → statement M
 place-at-spec =

@@ -1,5 +1,5 @@
 use native.Mathlib.Omega.{arith}
-use Rattle.placing.proofs.Rowwise.{first_row, row_next, column-start, column-next, column_end}
+use Rattle.placing.proofs.Rowwise.{first_row, row_next, column_start, column_next, column_end}
 use Rattle.placing.specs.Columns.{place_column}
 use Rattle.placing.specs.Placed.{place_in}
 use lib.ListN.{length}
@@ -18,7 +18,7 @@ abbrev decreases_loop : tie.decreases-loop
 decreases_loop table₀ width column rows origins size main i₀ at₀ table i at = rows - i
 
 loop_holds : tie.Need-loop-init invariant_loop decreases_loop
-loop_holds c = (omega arith, omega arith, sym (first_row _ _), refl, column-start _ _ _ _)
+loop_holds c = (omega arith, omega arith, sym (first_row _ _), refl, column_start _ _ _ _)
 
 place-at-requires : tie.Need-place-at-requires invariant_loop decreases_loop
 place-at-requires c κs = tt
@@ -33,7 +33,7 @@ loop_less : tie.Need-loop-smaller invariant_loop decreases_loop
 loop_less c = omega arith
 
 loop_again : tie.Need-loop-preserved invariant_loop decreases_loop
-loop_again c = (omega arith, omega arith, ap (λ (k : ℕ). k + c.before.before.before.before.before.before.before.before.args.width) c.before.before.before.before.before.loop.invariant.2 ∙ row_next _ _ _, omega arith, column-next _ _ _ _ _ _ _ _ c.before.before.before.before.before.loop.invariant.2 c.before.before.before.before.before.loop.invariant.4 c.before.before.place_at.ensures)
+loop_again c = (omega arith, omega arith, ap (λ (k : ℕ). k + c.before.before.before.before.before.before.before.before.args.width) c.before.before.before.before.before.loop.invariant.2 ∙ row_next _ _ _, omega arith, column_next _ _ _ _ _ _ _ _ c.before.before.before.before.before.loop.invariant.2 c.before.before.before.before.before.loop.invariant.4 c.before.before.place_at.ensures)
 
 same_length : tie.Need-same-length invariant_loop decreases_loop
 same_length c = omega arith

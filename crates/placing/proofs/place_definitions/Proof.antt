@@ -1,4 +1,4 @@
-use Rattle.placing.proofs.Rowwise.{columns-five}
+use Rattle.placing.proofs.Rowwise.{columns_five}
 use borrow.Author.Rules.{rules}
 use Rattle.placing.proofs.place_definitions.Statement.{statement}
 use Rattle.placing.proofs.place_definitions.Tie as tie
@@ -25,7 +25,7 @@ same_length : tie.Need-same-length
 same_length c = search rules
 
 returns : tie.Need-returns
-returns c = columns-five _ _ _ _ _ _ _ _ _ _ _ _ _ _ c.before.before.before.before.before.before.before.before.before.before.before.before.before.before.before.before.before.before.place-column.ensures c.before.before.before.before.before.before.before.before.before.before.before.before.before.before.place-column2.ensures c.before.before.before.before.before.before.before.before.before.before.place-column3.ensures c.before.before.before.before.before.before.place-column4.ensures c.before.before.place-column5.ensures
+returns c = columns_five _ _ _ _ _ _ _ _ _ _ _ _ _ _ c.before.before.before.before.before.before.before.before.before.before.before.before.before.before.before.before.before.before.place-column.ensures c.before.before.before.before.before.before.before.before.before.before.before.before.before.before.place-column2.ensures c.before.before.before.before.before.before.before.before.before.before.place-column3.ensures c.before.before.before.before.before.before.place-column4.ensures c.before.before.place-column5.ensures
 
 pub place-definitions-spec : {M : Type 1} → statement M
 place-definitions-spec =

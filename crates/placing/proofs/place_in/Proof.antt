@@ -1,4 +1,4 @@
-use Rattle.placing.proofs.Rowwise.{place-lent, place_end}
+use Rattle.placing.proofs.Rowwise.{place_lent, place_end}
 use borrow.Author.Rules.{rules}
 use Rattle.placing.proofs.place_in.Statement.{statement}
 use Rattle.placing.proofs.place_in.Tie as tie
@@ -10,7 +10,7 @@ get-requires : tie.Need-get-requires
 get-requires c κs = search rules
 
 returns : tie.Need-returns
-returns c = place-lent _ _ _ _ _ c.before.if1.true c.get.ensures
+returns c = place_lent _ _ _ _ _ c.before.if1.true c.get.ensures
 
 returns-2 : tie.Need-returns-2
 returns-2 c = place_end _ _ _ _ c.if1.false

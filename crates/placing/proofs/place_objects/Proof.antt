@@ -1,4 +1,4 @@
-use Rattle.placing.proofs.Rowwise.{columns-three}
+use Rattle.placing.proofs.Rowwise.{columns_three}
 use borrow.Author.Rules.{rules}
 use Rattle.placing.proofs.place_objects.Statement.{statement}
 use Rattle.placing.proofs.place_objects.Tie as tie
@@ -19,7 +19,7 @@ same_length : tie.Need-same-length
 same_length c = search rules
 
 returns : tie.Need-returns
-returns c = columns-three _ _ _ _ _ _ _ _ _ _ c.before.before.before.before.before.before.before.before.before.before.place-column.ensures c.before.before.before.before.before.before.place-column2.ensures c.before.before.place-column3.ensures
+returns c = columns_three _ _ _ _ _ _ _ _ _ _ c.before.before.before.before.before.before.before.before.before.before.place-column.ensures c.before.before.before.before.before.before.place-column2.ensures c.before.before.place-column3.ensures
 
 pub place-objects-spec : {M : Type 1} → statement M
 place-objects-spec =

@@ -1,4 +1,4 @@
-use Rattle.placing.proofs.Rowwise.{places-tables}
+use Rattle.placing.proofs.Rowwise.{places_tables}
 use borrow.Author.Rules.{rules}
 use Rattle.placing.proofs.place_tables.Statement.{statement}
 use Rattle.placing.proofs.place_tables.Tie as tie
@@ -33,7 +33,7 @@ same-length-4 : tie.Need-same-length-4
 same-length-4 c = search rules
 
 returns : tie.Need-returns
-returns c = places-tables _ _ _ _ _ _ _ _ _ c.before.before.before.before.before.before.before.before.before.before.before.before.before.before.place-definitions.ensures c.before.before.before.before.before.before.before.before.before.before.place-column.ensures c.before.before.before.before.before.before.place-objects.ensures c.before.before.place-column2.ensures
+returns c = places_tables _ _ _ _ _ _ _ _ _ c.before.before.before.before.before.before.before.before.before.before.before.before.before.before.place-definitions.ensures c.before.before.before.before.before.before.before.before.before.before.place-column.ensures c.before.before.before.before.before.before.place-objects.ensures c.before.before.place-column2.ensures
 
 pub place-tables-spec : {M : Type 1} → statement M
 place-tables-spec =

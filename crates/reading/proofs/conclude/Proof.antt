@@ -1,4 +1,4 @@
-use Rattle.reading.proofs.Finishing.{concludes-refused, concludes-settled}
+use Rattle.reading.proofs.Finishing.{concludes_refused, concludes_settled}
 use mathlib.Core.Path.{refl, sym, ◌∙◌}
 use borrow.Author.Rules.{rules}
 use Rattle.reading.proofs.conclude.Statement.{statement}
@@ -33,7 +33,7 @@ same_length : tie.Need-same-length
 same_length c = search rules
 
 returns : tie.Need-returns
-returns c = concludes-refused _ _ _ _ refl refl refl _ c.before.before.before.before.before.before.judge-all.ensures.0 _ _ _ _ _ c.before.before.before.before.before.before.judge-all.ensures.1.1 _ (sym c.before.before.is-fault.ensures ∙ c.before.if1.true) c.refusal.ensures
+returns c = concludes_refused _ _ _ _ refl refl refl _ c.before.before.before.before.before.before.judge-all.ensures.0 _ _ _ _ _ c.before.before.before.before.before.before.judge-all.ensures.1.1 _ (sym c.before.before.is-fault.ensures ∙ c.before.if1.true) c.refusal.ensures
 
 slice-aggregate-settle : tie.Need-slice-aggregate-settle
 slice-aggregate-settle c = search rules
@@ -54,7 +54,7 @@ same-length-5 : tie.Need-same-length-5
 same-length-5 c = search rules
 
 returns-2 : tie.Need-returns-2
-returns-2 c = concludes-settled _ _ _ _ refl refl refl _ c.before.before.before.before.before.before.before.before.before.before.before.before.before.before.before.before.before.before.before.judge-all.ensures.0 _ _ _ _ _ c.before.before.before.before.before.before.before.before.before.before.before.before.before.before.before.before.before.before.before.judge-all.ensures.1.1 _ _ _ _ _ (sym c.before.before.before.before.before.before.before.before.before.before.before.before.before.before.before.is-fault.ensures ∙ c.before.before.before.before.before.before.before.before.before.before.before.before.before.before.if1.false) c.before.before.before.before.before.before.before.before.settle.ensures
+returns-2 c = concludes_settled _ _ _ _ refl refl refl _ c.before.before.before.before.before.before.before.before.before.before.before.before.before.before.before.before.before.before.before.judge-all.ensures.0 _ _ _ _ _ c.before.before.before.before.before.before.before.before.before.before.before.before.before.before.before.before.before.before.before.judge-all.ensures.1.1 _ _ _ _ _ (sym c.before.before.before.before.before.before.before.before.before.before.before.before.before.before.before.is-fault.ensures ∙ c.before.before.before.before.before.before.before.before.before.before.before.before.before.before.if1.false) c.before.before.before.before.before.before.before.before.settle.ensures
 
 pub conclude-spec : {M : Type 1} → statement M
 conclude-spec =

@@ -1,4 +1,4 @@
-use Rattle.reading.proofs.Deciding.{by_first, by-second, by_third}
+use Rattle.reading.proofs.Deciding.{by_first, by_second, by_third}
 use mathlib.Core.Path.{sym, ◌∙◌}
 use borrow.Author.Rules.{rules}
 use Rattle.reading.proofs.stages.Statement.{statement}
@@ -37,7 +37,7 @@ is-fault-requires-2 : tie.Need-is-fault-requires-2
 is-fault-requires-2 c κs = search rules
 
 returns-2 : tie.Need-returns-2
-returns-2 c = by-second _ _ _ _ c.before.before.before.before.before.before.before.before.before.before.definition-faults.ensures (sym c.before.before.before.before.before.before.before.before.before.is-fault.ensures ∙ c.before.before.before.before.before.before.before.before.if1.false) _ _ c.before.before.before.before.before.before.before.least-of.ensures c.before.before.before.before.before.before.firsts.ensures _ c.before.before.before.object-faults.ensures _ _ _ _ _ _ (sym c.before.is-fault2.ensures ∙ c.if2.true)
+returns-2 c = by_second _ _ _ _ c.before.before.before.before.before.before.before.before.before.before.definition-faults.ensures (sym c.before.before.before.before.before.before.before.before.before.is-fault.ensures ∙ c.before.before.before.before.before.before.before.before.if1.false) _ _ c.before.before.before.before.before.before.before.least-of.ensures c.before.before.before.before.before.before.firsts.ensures _ c.before.before.before.object-faults.ensures _ _ _ _ _ _ (sym c.before.is-fault2.ensures ∙ c.if2.true)
 
 slice-aggregate-merge : tie.Need-slice-aggregate-merge
 slice-aggregate-merge c = search rules

@@ -1,5 +1,5 @@
 use native.Mathlib.Omega.{arith}
-use Rattle.reading_texts.proofs.Told.{thirty-fills, room-inside, two-told, small-number, read-fills}
+use Rattle.reading_texts.proofs.Told.{thirty_fills, room_inside, two_told, small_number, read_fills}
 use lib.Seq.{length-take-le}
 use mathlib.Core.Path.{sym, refl}
 use borrow.Author.Rules.{rules}
@@ -49,19 +49,19 @@ same-length-6 : tie.Need-same-length-6
 same-length-6 c = search rules
 
 returns : tie.Need-returns
-returns c = thirty-fills _ _ _ _ _ _ _ c.before.before.before.before.before.before.before.before.before.before.before.before.before.before.before.before.before.before.before.before.before.before.before.expand-to-read.ensures _ _ _ _ _ _ _ _ _ c.before.before.before.before.before.before.before.before.before.before.before.before.before.before.before.before.before.if1.true c.before.before.before.before.before.before.before.before.before.before.before.before.before.before.before.before.before.before.before.before.before.before.before.before.before.before.before.before.before.before.before.before.before.before.requires.1.1 c.before.before.before.before.before.before.before.before.before.before.before.before.before.before.before.clear.ensures c.before.before.before.before.before.before.before.before.before.before.before.clear2.ensures c.before.before.before.before.before.before.before.clear3.ensures c.before.before.before.clear4.ensures c.refusal.ensures
+returns c = thirty_fills _ _ _ _ _ _ _ c.before.before.before.before.before.before.before.before.before.before.before.before.before.before.before.before.before.before.before.before.before.before.before.expand-to-read.ensures _ _ _ _ _ _ _ _ _ c.before.before.before.before.before.before.before.before.before.before.before.before.before.before.before.before.before.if1.true c.before.before.before.before.before.before.before.before.before.before.before.before.before.before.before.before.before.before.before.before.before.before.before.before.before.before.before.before.before.before.before.before.before.before.requires.1.1 c.before.before.before.before.before.before.before.before.before.before.before.before.before.before.before.clear.ensures c.before.before.before.before.before.before.before.before.before.before.before.clear2.ensures c.before.before.before.before.before.before.before.clear3.ensures c.before.before.before.clear4.ensures c.refusal.ensures
 
 shared-slice-read-main : tie.Need-shared-slice-read-main
-shared-slice-read-main c = let h = two-told _ _ _ _ _ _ _ c.before.before.before.before.before.before.before.expand-to-read.ensures c.before.before.before.before.before.before.before.before.before.before.before.before.before.before.before.before.before.before.requires.0 c.before.before.before.before.before.before.before.before.before.before.before.before.before.before.before.before.before.before.requires.1.0 c.before.if1.false in omega arith
+shared-slice-read-main c = let h = two_told _ _ _ _ _ _ _ c.before.before.before.before.before.before.before.expand-to-read.ensures c.before.before.before.before.before.before.before.before.before.before.before.before.before.before.before.before.before.before.requires.0 c.before.before.before.before.before.before.before.before.before.before.before.before.before.before.before.before.before.before.requires.1.0 c.before.if1.false in omega arith
 
 slice-reshare-prefix-read-expanded : tie.Need-slice-reshare-prefix-read-expanded
-slice-reshare-prefix-read-expanded c = room-inside _ _ _ _ _ _ _ c.before.before.before.before.before.before.before.expand-to-read.ensures c.before.before.before.before.before.before.before.before.before.before.before.before.before.before.before.before.before.before.requires.0 c.before.before.before.before.before.before.before.before.before.before.before.before.before.before.before.before.before.before.requires.1.0 c.before.if1.false
+slice-reshare-prefix-read-expanded c = room_inside _ _ _ _ _ _ _ c.before.before.before.before.before.before.before.expand-to-read.ensures c.before.before.before.before.before.before.before.before.before.before.before.before.before.before.before.before.before.before.requires.0 c.before.before.before.before.before.before.before.before.before.before.before.before.before.before.before.before.before.before.requires.1.0 c.before.if1.false
 
 slice-aggregate-read-expanded : tie.Need-slice-aggregate-read-expanded
-slice-aggregate-read-expanded c = sym (length-take-le _ _ (room-inside _ _ _ _ _ _ _ c.before.before.before.before.before.before.before.before.expand-to-read.ensures c.before.before.before.before.before.before.before.before.before.before.before.before.before.before.before.before.before.before.before.requires.0 c.before.before.before.before.before.before.before.before.before.before.before.before.before.before.before.before.before.before.before.requires.1.0 c.before.before.if1.false))
+slice-aggregate-read-expanded c = sym (length-take-le _ _ (room_inside _ _ _ _ _ _ _ c.before.before.before.before.before.before.before.before.expand-to-read.ensures c.before.before.before.before.before.before.before.before.before.before.before.before.before.before.before.before.before.before.before.requires.0 c.before.before.before.before.before.before.before.before.before.before.before.before.before.before.before.before.before.before.before.requires.1.0 c.before.before.if1.false))
 
 cast-read-expanded : tie.Need-overflow-cast-read-expanded
-cast-read-expanded c = let h = small-number _ _ _ _ _ _ _ c.before.before.before.before.before.before.before.before.before.before.expand-to-read.ensures c.before.before.before.before.before.before.before.before.before.before.before.before.before.before.before.before.before.before.before.before.before.requires.0 c.before.before.before.before.before.before.before.before.before.before.before.before.before.before.before.before.before.before.before.before.before.requires.1.0 c.before.before.before.before.if1.false in omega arith
+cast-read-expanded c = let h = small_number _ _ _ _ _ _ _ c.before.before.before.before.before.before.before.before.before.before.expand-to-read.ensures c.before.before.before.before.before.before.before.before.before.before.before.before.before.before.before.before.before.before.before.before.before.requires.0 c.before.before.before.before.before.before.before.before.before.before.before.before.before.before.before.before.before.before.before.before.before.requires.1.0 c.before.before.before.before.if1.false in omega arith
 
 read-expanded-requires : tie.Need-read-expanded-requires
 read-expanded-requires c κs = search rules
@@ -85,7 +85,7 @@ same-length-12 : tie.Need-same-length-12
 same-length-12 c = search rules
 
 returns-2 : tie.Need-returns-2
-returns-2 c = read-fills _ _ _ _ _ _ _ c.before.before.before.before.before.before.before.before.before.before.before.before.before.before.before.before.before.before.before.before.before.before.before.expand-to-read.ensures c.before.before.before.before.before.before.before.before.before.before.before.before.before.before.before.before.before.before.before.before.before.before.before.before.before.before.before.before.before.before.before.before.before.before.requires.0 c.before.before.before.before.before.before.before.before.before.before.before.before.before.before.before.before.before.before.before.before.before.before.before.before.before.before.before.before.before.before.before.before.before.before.requires.1.0 c.before.before.before.before.before.before.before.before.before.before.before.before.before.before.before.before.before.if1.false _ refl c.before.before.before.before.before.before.before.before.read-expanded.ensures
+returns-2 c = read_fills _ _ _ _ _ _ _ c.before.before.before.before.before.before.before.before.before.before.before.before.before.before.before.before.before.before.before.before.before.before.before.expand-to-read.ensures c.before.before.before.before.before.before.before.before.before.before.before.before.before.before.before.before.before.before.before.before.before.before.before.before.before.before.before.before.before.before.before.before.before.before.requires.0 c.before.before.before.before.before.before.before.before.before.before.before.before.before.before.before.before.before.before.before.before.before.before.before.before.before.before.before.before.before.before.before.before.before.before.requires.1.0 c.before.before.before.before.before.before.before.before.before.before.before.before.before.before.before.before.before.if1.false _ refl c.before.before.before.before.before.before.before.before.read-expanded.ensures
 
 pub fill_spec : {M : Type 1} → statement M
 fill_spec =

@@ -1,4 +1,4 @@
-use Rattle.reading_texts.proofs.Told.{ruled_of, accepted-reads, refused-reads}
+use Rattle.reading_texts.proofs.Told.{ruled_of, accepted_reads, refused_reads}
 use borrow.Author.Rules.{rules}
 use Rattle.reading_texts.proofs.read_expanded.Statement.{statement}
 use Rattle.reading_texts.proofs.read_expanded.Tie as tie
@@ -44,7 +44,7 @@ same-length-4 : tie.Need-same-length-4
 same-length-4 c = search rules
 
 returns : tie.Need-returns
-returns c = refused-reads _ _ _ _ _ _ _ _ _ (ruled_of c.before.before.before.before.before.before.before.before.before.before.before.before.before.before.before.before.before.before.before.before.before.before.before.before.before.requires c.before.before.before.before.before.before.before.before.before.before.before.before.before.before.read.ensures.1.0) c.before.before.before.before.answer.given.1 c.before.before.renumbered.ensures c.before.place-refused.ensures c.refusal.ensures
+returns c = refused_reads _ _ _ _ _ _ _ _ _ (ruled_of c.before.before.before.before.before.before.before.before.before.before.before.before.before.before.before.before.before.before.before.before.before.before.before.before.before.requires c.before.before.before.before.before.before.before.before.before.before.before.before.before.before.read.ensures.1.0) c.before.before.before.before.answer.given.1 c.before.before.renumbered.ensures c.before.place-refused.ensures c.refusal.ensures
 
 same-length-5 : tie.Need-same-length-5
 same-length-5 c = search rules
@@ -59,7 +59,7 @@ same-length-8 : tie.Need-same-length-8
 same-length-8 c = search rules
 
 returns-2 : tie.Need-returns-2
-returns-2 c = accepted-reads _ _ _ _ (ruled_of c.before.before.before.before.before.before.before.before.before.before.before.before.before.before.before.before.before.before.before.before.before.before.before.before.before.before.before.before.before.before.before.before.before.before.requires c.before.before.before.before.before.before.before.before.before.before.before.before.before.before.before.before.before.before.before.before.before.before.before.read.ensures.1.0) c.before.before.before.before.before.before.before.before.before.before.before.before.before.enum_told.given.1 c.before.before.before.before.before.before.before.before.place-tables.ensures
+returns-2 c = accepted_reads _ _ _ _ (ruled_of c.before.before.before.before.before.before.before.before.before.before.before.before.before.before.before.before.before.before.before.before.before.before.before.before.before.before.before.before.before.before.before.before.before.before.requires c.before.before.before.before.before.before.before.before.before.before.before.before.before.before.before.before.before.before.before.before.before.before.before.read.ensures.1.0) c.before.before.before.before.before.before.before.before.before.before.before.before.before.enum_told.given.1 c.before.before.before.before.before.before.before.before.place-tables.ensures
 
 pub read-expanded-spec : {M : Type 1} → statement M
 read-expanded-spec =

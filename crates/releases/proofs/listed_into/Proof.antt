@@ -1,4 +1,4 @@
-use Rattle.releases.proofs.Answering.{first-stopped, first_accepted}
+use Rattle.releases.proofs.Answering.{first_stopped, first_accepted}
 use mathlib.Core.Path.{◌≡◌, refl, sym, ◌∙◌}
 use borrow.Author.Rules.{rules}
 use Rattle.releases.proofs.listed_into.Statement.{statement}
@@ -37,7 +37,7 @@ same-length-4 : tie.Need-same-length-4
 same-length-4 c = search rules
 
 returns : tie.Need-returns
-returns c = first-stopped (c.before.before.before.before.before.before.before.before.before.before.before.before.before.read-spanned.ensures.0) (c.before.before.before.before.before.before.before.before.before.before.before.before.before.before.before.before.before.before.before.before.before.before.before.before.before.before.before.before.requires.0) _ _ _ _ (c.before.before.answer.given.1) c.stopped.ensures
+returns c = first_stopped (c.before.before.before.before.before.before.before.before.before.before.before.before.before.read-spanned.ensures.0) (c.before.before.before.before.before.before.before.before.before.before.before.before.before.before.before.before.before.before.before.before.before.before.before.before.before.before.before.before.requires.0) _ _ _ _ (c.before.before.answer.given.1) c.stopped.ensures
 
 same-length-5 : tie.Need-same-length-5
 same-length-5 c = search rules

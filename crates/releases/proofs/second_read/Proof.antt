@@ -1,5 +1,5 @@
 use native.Mathlib.Omega.{arith}
-use Rattle.releases.proofs.Answering.{second-stopped, second_counted}
+use Rattle.releases.proofs.Answering.{second_stopped, second_counted}
 use mathlib.Core.Path.{◌≡◌, refl, sym, ◌∙◌}
 use borrow.Author.Rules.{rules}
 use Rattle.releases.proofs.second_read.Statement.{statement}
@@ -42,7 +42,7 @@ same-length-4 : tie.Need-same-length-4
 same-length-4 c = search rules
 
 returns : tie.Need-returns
-returns c = second-stopped (c.before.before.before.before.before.before.before.before.before.before.before.before.before.read-spanned.ensures.0) c.before.before.before.before.before.before.before.before.before.before.before.before.before.before.before.before.before.before.before.before.before.before.before.before.before.before.before.requires _ _ _ _ _ _ _ _ _ _ (c.before.before.answer.given.1) c.stopped.ensures
+returns c = second_stopped (c.before.before.before.before.before.before.before.before.before.before.before.before.before.read-spanned.ensures.0) c.before.before.before.before.before.before.before.before.before.before.before.before.before.before.before.before.before.before.before.before.before.before.before.before.before.before.before.requires _ _ _ _ _ _ _ _ _ _ (c.before.before.answer.given.1) c.stopped.ensures
 
 same-length-5 : tie.Need-same-length-5
 same-length-5 c = search rules

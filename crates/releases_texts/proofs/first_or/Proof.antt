@@ -4,7 +4,7 @@ use Rattle.releases_texts.proofs.first_or.Statement.{statement}
 use Rattle.releases_texts.proofs.first_or.Tie as tie
 use Rattle.releases_texts.proofs.first_or.Reads as reads
 use Rattle.releases_texts.proofs.first_or.Lts as lts
-use Rattle.lent_texts.proofs.refused.Reads as refused-reads
+use Rattle.lent_texts.proofs.refused.Reads as refused_reads
 use Rattle.releases_texts.proofs.answer_of.Reads as answer-of-reads
 use Rattle.releases_texts.proofs.stopped.Reads as stopped-reads
 

@@ -1,4 +1,4 @@
-use Rattle.releases_texts.proofs.Told.{first-lists, second-lists, neither-lists}
+use Rattle.releases_texts.proofs.Told.{first_lists, second_lists, neither_lists}
 use borrow.Author.Rules.{rules}
 use Rattle.releases_texts.proofs.listed_expanded.Statement.{statement}
 use Rattle.releases_texts.proofs.listed_expanded.Tie as tie
@@ -42,7 +42,7 @@ same-length-8 : tie.Need-same-length-8
 same-length-8 c = search rules
 
 returns : tie.Need-returns
-returns c = first-lists c.before.before.before.before.before.before.before.before.before.before.before.before.before.before.before.before.before.before.before.before.before.listed-into.ensures c.before.before.if1.true c.before.side.ensures c.with.ensures
+returns c = first_lists c.before.before.before.before.before.before.before.before.before.before.before.before.before.before.before.before.before.before.before.before.before.listed-into.ensures c.before.before.if1.true c.before.side.ensures c.with.ensures
 
 side-requires-2 : tie.Need-side-requires-2
 side-requires-2 c κs = search rules
@@ -75,7 +75,7 @@ same-length-16 : tie.Need-same-length-16
 same-length-16 c = search rules
 
 returns-2 : tie.Need-returns-2
-returns-2 c = second-lists c.before.before.before.before.before.before.before.before.before.before.before.before.before.before.before.before.before.before.before.before.before.before.before.listed-into.ensures c.before.before.before.before.if1.false c.before.before.if2.true c.before.side2.ensures c.with2.ensures
+returns-2 c = second_lists c.before.before.before.before.before.before.before.before.before.before.before.before.before.before.before.before.before.before.before.before.before.before.before.listed-into.ensures c.before.before.before.before.if1.false c.before.before.if2.true c.before.side2.ensures c.with2.ensures
 
 same-length-17 : tie.Need-same-length-17
 same-length-17 c = search rules
@@ -102,7 +102,7 @@ same-length-24 : tie.Need-same-length-24
 same-length-24 c = search rules
 
 returns-3 : tie.Need-returns-3
-returns-3 c = neither-lists c.before.before.before.before.before.before.before.before.before.before.before.before.before.before.before.before.before.before.before.before.before.listed-into.ensures c.before.before.if1.false c.if2.false
+returns-3 c = neither_lists c.before.before.before.before.before.before.before.before.before.before.before.before.before.before.before.before.before.before.before.before.before.listed-into.ensures c.before.before.if1.false c.if2.false
 
 pub listed-expanded-spec : {M : Type 1} → statement M
 listed-expanded-spec =

@@ -1,7 +1,7 @@
 use mathlib.Core.Path.{sym}
 use lib.Seq.{length-take-le}
 use Rattle.lent_texts.proofs.Told.{inside}
-use Rattle.releases_texts.proofs.Told.{stopped-first, stopped-second, both-there}
+use Rattle.releases_texts.proofs.Told.{stopped_first, stopped_second, both_there}
 use borrow.Author.Rules.{rules}
 use Rattle.releases_texts.proofs.listed_into.Statement.{statement}
 use Rattle.releases_texts.proofs.listed_into.Tie as tie
@@ -70,7 +70,7 @@ same-length-4 : tie.Need-same-length-4
 same-length-4 c = search rules
 
 returns : tie.Need-returns
-returns c = stopped-first c.before.before.before.before.before.before.before.before.before.before.before.before.before.before.before.expand.ensures c.before.before.before.before.before.before.before.before.expand2.ensures _ c.before.before.one.given.1 c.stopped.ensures
+returns c = stopped_first c.before.before.before.before.before.before.before.before.before.before.before.before.before.before.before.expand.ensures c.before.before.before.before.before.before.before.before.expand2.ensures _ c.before.before.one.given.1 c.stopped.ensures
 
 same-length-5 : tie.Need-same-length-5
 same-length-5 c = search rules
@@ -85,7 +85,7 @@ same-length-8 : tie.Need-same-length-8
 same-length-8 c = search rules
 
 returns-2 : tie.Need-returns-2
-returns-2 c = stopped-second c.before.before.before.before.before.before.before.before.before.before.before.before.before.before.before.before.before.before.before.before.expand.ensures c.before.before.before.before.before.before.before.before.before.before.before.before.before.expand2.ensures _ c.before.before.before.before.before.before.before.one2.given.1 c.before.before.before.before.two.given.1 c.first-or.ensures
+returns-2 c = stopped_second c.before.before.before.before.before.before.before.before.before.before.before.before.before.before.before.before.before.before.before.before.expand.ensures c.before.before.before.before.before.before.before.before.before.before.before.before.before.expand2.ensures _ c.before.before.before.before.before.before.before.one2.given.1 c.before.before.before.before.two.given.1 c.first-or.ensures
 
 same-length-9 : tie.Need-same-length-9
 same-length-9 c = c.before.before.before.before.before.before.before.before.before.before.before.before.before.before.before.before.before.before.before.before.before.before.before.before.before.before.before.before.before.before.before.before.before.before.before.before.before.before.before.before.before.before.before.before.before.before.expand.auto.1.1.0
@@ -124,7 +124,7 @@ same-length-20 : tie.Need-same-length-20
 same-length-20 c = search rules
 
 returns-3 : tie.Need-returns-3
-returns-3 c = both-there c.before.before.before.before.before.before.before.before.before.before.before.before.before.before.before.before.before.before.before.before.before.before.before.before.before.before.before.before.before.before.before.before.before.before.before.before.before.before.before.before.before.before.before.before.before.before.expand.ensures c.before.before.before.before.before.before.before.before.before.before.before.before.before.before.before.before.before.before.before.before.before.before.before.before.before.before.before.before.before.before.before.before.before.before.before.before.before.before.before.expand2.ensures c.before.before.before.before.before.before.before.before.before.before.before.before.before.before.before.before.before.before.before.before.before.before.before.before.before.before.before.before.before.before.before.before.before.one2.given.1 c.before.before.before.before.before.before.before.before.before.before.before.before.before.before.before.before.before.before.before.before.before.before.before.before.before.before.before.before.before.before.two2.given.1 c.before.before.before.before.before.before.before.before.before.before.before.before.before.before.before.before.listed-expanded.ensures
+returns-3 c = both_there c.before.before.before.before.before.before.before.before.before.before.before.before.before.before.before.before.before.before.before.before.before.before.before.before.before.before.before.before.before.before.before.before.before.before.before.before.before.before.before.before.before.before.before.before.before.before.expand.ensures c.before.before.before.before.before.before.before.before.before.before.before.before.before.before.before.before.before.before.before.before.before.before.before.before.before.before.before.before.before.before.before.before.before.before.before.before.before.before.before.expand2.ensures c.before.before.before.before.before.before.before.before.before.before.before.before.before.before.before.before.before.before.before.before.before.before.before.before.before.before.before.before.before.before.before.before.before.one2.given.1 c.before.before.before.before.before.before.before.before.before.before.before.before.before.before.before.before.before.before.before.before.before.before.before.before.before.before.before.before.before.before.two2.given.1 c.before.before.before.before.before.before.before.before.before.before.before.before.before.before.before.before.listed-expanded.ensures
 
 pub listed-into-spec : {M : Type 1} → statement M
 listed-into-spec =

@@ -1,6 +1,6 @@
 use Rattle.token.proofs.Bytes.{byte_low}
 use Rattle.sources.proofs.Namings.{byte_high, named_ok}
-use Rattle.sources.proofs.Stops.{line_low, name-past, name-there, name-none, length_between}
+use Rattle.sources.proofs.Stops.{line_low, name_past, name_there, name_none, length_between}
 use native.Mathlib.Omega.{arith}
 use mathlib.Core.Path.{sym, ◌∙◌}
 use borrow.Author.Rules.{rules}
@@ -13,7 +13,7 @@ use Rattle.sources.proofs.scan.find_byte.Reads as find-byte-reads
 use Rattle.sources.proofs.scan.line_start.Reads as line-start-reads
 
 returns : tie.Need-returns
-returns c = name-past _ _ (omega arith)
+returns c = name_past _ _ (omega arith)
 
 line-start-requires : tie.Need-line-start-requires
 line-start-requires c κs = search rules
@@ -49,10 +49,10 @@ enum_told : tie.Need-enum-told
 enum_told c = search rules
 
 returns-2 : tie.Need-returns-2
-returns-2 c = name-there _ _ _ _ _ _ (omega arith) c.before.before.before.before.before.before.line-start.ensures c.before.before.before.before.before.find-byte.ensures (sym c.before.before.before.named.ensures ∙ c.before.from.given.1)
+returns-2 c = name_there _ _ _ _ _ _ (omega arith) c.before.before.before.before.before.before.line-start.ensures c.before.before.before.before.before.find-byte.ensures (sym c.before.before.before.named.ensures ∙ c.before.from.given.1)
 
 returns-3 : tie.Need-returns-3
-returns-3 c = name-none _ _ _ _ (omega arith) c.before.before.before.before.before.line-start.ensures c.before.before.before.before.find-byte.ensures (sym c.before.before.named.ensures ∙ c.enum_told.given.1)
+returns-3 c = name_none _ _ _ _ (omega arith) c.before.before.before.before.before.line-start.ensures c.before.before.before.before.find-byte.ensures (sym c.before.before.named.ensures ∙ c.enum_told.given.1)
 
 pub name-at-spec : {M : Type 1} → statement M
 name-at-spec =

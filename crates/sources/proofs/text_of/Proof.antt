@@ -1,4 +1,4 @@
-use Rattle.sources.proofs.Numberings.{span_ok, text-there, start-there, text-absent, start-absent, text-untold, start-untold}
+use Rattle.sources.proofs.Numberings.{span_ok, text_there, start_there, text_absent, start_absent, text_untold, start_untold}
 use Rattle.sources.proofs.Tellings.{told}
 use native.Mathlib.Omega.{arith}
 use mathlib.Core.Path.{refl, sym, ◌∙◌}
@@ -38,13 +38,13 @@ slice-aggregate-result-2 : tie.Need-slice-aggregate-result-2
 slice-aggregate-result-2 c = search rules
 
 returns : tie.Need-returns
-returns c = let q = start-there _ _ _ _ _ _ (sym c.before.before.before.before.before.before.told-well.ensures ∙ c.before.before.before.before.before.if1.true) (sym c.before.before.before.before.span_of.ensures ∙ c.before.before.from.given.1) in (text-there _ _ _ _ _ _ (sym c.before.before.before.before.before.before.told-well.ensures ∙ c.before.before.before.before.before.if1.true) (sym c.before.before.before.before.span_of.ensures ∙ c.before.before.from.given.1), (refl, omega (arith, q)))
+returns c = let q = start_there _ _ _ _ _ _ (sym c.before.before.before.before.before.before.told-well.ensures ∙ c.before.before.before.before.before.if1.true) (sym c.before.before.before.before.span_of.ensures ∙ c.before.before.from.given.1) in (text_there _ _ _ _ _ _ (sym c.before.before.before.before.before.before.told-well.ensures ∙ c.before.before.before.before.before.if1.true) (sym c.before.before.before.before.span_of.ensures ∙ c.before.before.from.given.1), (refl, omega (arith, q)))
 
 returns-2 : tie.Need-returns-2
-returns-2 c = let q = start-absent _ _ _ (sym c.before.before.before.before.before.told-well.ensures ∙ c.before.before.before.before.if1.true) (sym c.before.before.before.span_of.ensures ∙ c.before.enum_told.given.1) in (text-absent _ _ _ (sym c.before.before.before.before.before.told-well.ensures ∙ c.before.before.before.before.if1.true) (sym c.before.before.before.span_of.ensures ∙ c.before.enum_told.given.1), (refl, omega (arith, q)))
+returns-2 c = let q = start_absent _ _ _ (sym c.before.before.before.before.before.told-well.ensures ∙ c.before.before.before.before.if1.true) (sym c.before.before.before.span_of.ensures ∙ c.before.enum_told.given.1) in (text_absent _ _ _ (sym c.before.before.before.before.before.told-well.ensures ∙ c.before.before.before.before.if1.true) (sym c.before.before.before.span_of.ensures ∙ c.before.enum_told.given.1), (refl, omega (arith, q)))
 
 returns-3 : tie.Need-returns-3
-returns-3 c = let q = start-untold _ _ c.before.before.before.before.before.args.number (sym c.before.before.told-well.ensures ∙ c.before.if1.false) in (text-untold _ _ _ (sym c.before.before.told-well.ensures ∙ c.before.if1.false), (refl, omega (arith, q)))
+returns-3 c = let q = start_untold _ _ c.before.before.before.before.before.args.number (sym c.before.before.told-well.ensures ∙ c.before.if1.false) in (text_untold _ _ _ (sym c.before.before.told-well.ensures ∙ c.before.if1.false), (refl, omega (arith, q)))
 
 pub text-of-spec : {M : Type 1} → statement M
 text-of-spec =

@@ -4,7 +4,7 @@ use Rattle.standard_texts.proofs.check_expanded.Statement.{statement}
 use Rattle.standard_texts.proofs.check_expanded.Tie as tie
 use Rattle.standard_texts.proofs.check_expanded.Reads as reads
 use Rattle.standard_texts.proofs.check_expanded.Lts as lts
-use Rattle.lent_texts.proofs.refused.Reads as refused-reads
+use Rattle.lent_texts.proofs.refused.Reads as refused_reads
 use Rattle.placing.proofs.place_in.Reads as place-in-reads
 use Rattle.standard.proofs.check_standard.Reads as check-standard-reads
 

@@ -4,7 +4,7 @@ use native.Mathlib.Omega.{arith}
 use Prim.Native.Nat.{◌+◌, ◌*◌, ◌-◌, ◌≤◌}
 use Rattle.statement_causes.specs.Promises.{MissesRow}
 use Rattle.blocks.specs.Blocks.{IsStated}
-use Rattle.statement_causes.proofs.Missings.{Over, misses-nowhere, over-start, over_none, over-stop, over-more, over-end, found_low, found_high, row-stated, row-no-size, row-no-default, row-default}
+use Rattle.statement_causes.proofs.Missings.{Over, misses_nowhere, over_start, over_none, over_stop, over_more, over_end, found_low, found_high, row_stated, row_no_size, row_no_default, row_default}
 use Prim.Native.Nat.{ℕ, ◌<◌}
 use borrow.Fn.Kinds.{In}
 use borrow.Fn.PlainCycle.{Measures, is, falls, and}
@@ -54,7 +54,7 @@ missing-returns : (t : ℕ) → missing-lts.Need-returns (
   missing-of-below t,
   missing-of.Post,
 ) (missing_at t) missing.Post missing-Inv-loop missing-μ-loop
-missing-returns t c = misses-nowhere _ _ _ _ _ _ _ _ _ c.if1.true
+missing-returns t c = misses_nowhere _ _ _ _ _ _ _ _ _ c.if1.true
 
 missing-loop-holds : (t : ℕ) → missing-lts.Need-loop-init (
   find-row-reads.Asked,
@@ -62,7 +62,7 @@ missing-loop-holds : (t : ℕ) → missing-lts.Need-loop-init (
   missing-of-below t,
   missing-of.Post,
 ) (missing_at t) missing.Post missing-Inv-loop missing-μ-loop
-missing-loop-holds t c = over-start _ _ _ _ _ 0 _ _ _
+missing-loop-holds t c = over_start _ _ _ _ _ 0 _ _ _
 
 missing-find-row-requires : (t : ℕ) → missing-lts.Need-find-row-requires (
   find-row-reads.Asked,
@@ -110,7 +110,7 @@ missing-returns-3 : (t : ℕ) → missing-lts.Need-returns-3 (
   missing-of-below t,
   missing-of.Post,
 ) (missing_at t) missing.Post missing-Inv-loop missing-μ-loop
-missing-returns-3 t c = over-stop _ _ _ _ _ _ _ _ _ (c.before.before.before.before.before.before.before.loop.i) _ (c.before.missing-of.result) (sym c.before.before.before.before.before.find-row.ensures ∙ c.before.before.before.j.given.1) c.before.missing-of.ensures c.if2.true c.before.before.before.before.before.before.before.before.if1.false
+missing-returns-3 t c = over_stop _ _ _ _ _ _ _ _ _ (c.before.before.before.before.before.before.before.loop.i) _ (c.before.missing-of.result) (sym c.before.before.before.before.before.find-row.ensures ∙ c.before.before.before.j.given.1) c.before.missing-of.ensures c.if2.true c.before.before.before.before.before.before.before.before.if1.false
 
 missing-add-i : (t : ℕ) → missing-lts.Need-overflow-add-i (
   find-row-reads.Asked,
@@ -134,7 +134,7 @@ missing-loop-again : (t : ℕ) → missing-lts.Need-loop-preserved (
   missing-of-below t,
   missing-of.Post,
 ) (missing_at t) missing.Post missing-Inv-loop missing-μ-loop
-missing-loop-again t c = over-more _ _ _ _ _ _ _ _ _ (c.before.before.before.before.before.before.before.loop.i) _ (c.before.missing-of.result) (sym c.before.before.before.before.before.find-row.ensures ∙ c.before.before.before.j.given.1) c.before.missing-of.ensures c.if2.false c.before.before.before.before.before.before.before.loop.invariant
+missing-loop-again t c = over_more _ _ _ _ _ _ _ _ _ (c.before.before.before.before.before.before.before.loop.i) _ (c.before.missing-of.result) (sym c.before.before.before.before.before.find-row.ensures ∙ c.before.before.before.j.given.1) c.before.missing-of.ensures c.if2.false c.before.before.before.before.before.before.before.loop.invariant
 
 missing-returns-4 : (t : ℕ) → missing-lts.Need-returns-4 (
   find-row-reads.Asked,
@@ -142,7 +142,7 @@ missing-returns-4 : (t : ℕ) → missing-lts.Need-returns-4 (
   missing-of-below t,
   missing-of.Post,
 ) (missing_at t) missing.Post missing-Inv-loop missing-μ-loop
-missing-returns-4 t c = over-end _ _ _ _ _ _ _ _ _ (c.before.loop.i) c.before.before.if1.false c.loop-test.false c.before.loop.invariant
+missing-returns-4 t c = over_end _ _ _ _ _ _ _ _ _ (c.before.loop.i) c.before.before.if1.false c.loop-test.false c.before.loop.invariant
 
 missing-of-cell-of-requires : (t : ℕ) → missing-of-lts.Need-cell-of-requires (
   cell-of-reads.Asked,
@@ -198,7 +198,7 @@ missing-of-returns : (t : ℕ) → missing-of-lts.Need-returns (
   missing-below t,
   missing.Post,
 ) (missing-of-at t) missing-of.Post
-missing-of-returns t c = row-stated _ _ _ _ _ _ _ _ (c.before.before.before.cell-of.result) (c.before.before.cell-of2.result) c.before.before.before.cell-of.ensures c.before.before.cell-of2.ensures (subst (λ b. IsStated c.before.before.before.before.before.before.before.before.before.args.text.now c.before.before.before.before.before.before.before.before.before.args.st.now (c.before.before.before.before.before.before.before.before.before.args.from) (c.before.before.before.before.before.before.before.before.before.args.end) (c.before.before.before.cell-of.result) (c.before.before.cell-of2.result) b) c.if1.true c.before.is-stated.ensures)
+missing-of-returns t c = row_stated _ _ _ _ _ _ _ _ (c.before.before.before.cell-of.result) (c.before.before.cell-of2.result) c.before.before.before.cell-of.ensures c.before.before.cell-of2.ensures (subst (λ b. IsStated c.before.before.before.before.before.before.before.before.before.args.text.now c.before.before.before.before.before.before.before.before.before.args.st.now (c.before.before.before.before.before.before.before.before.before.args.from) (c.before.before.before.before.before.before.before.before.before.args.end) (c.before.before.before.cell-of.result) (c.before.before.cell-of2.result) b) c.if1.true c.before.is-stated.ensures)
 
 missing-of-cell-of-requires-3 : (t : ℕ) → missing-of-lts.Need-cell-of-requires-3 (
   cell-of-reads.Asked,
@@ -240,7 +240,7 @@ missing-of-returns-2 : (t : ℕ) → missing-of-lts.Need-returns-2 (
   missing-below t,
   missing.Post,
 ) (missing-of-at t) missing-of.Post
-missing-of-returns-2 t c = subst (λ r. MissesRow c.before.before.before.before.before.before.before.before.before.before.before.before.args.text.now c.before.before.before.before.before.before.before.before.before.before.before.before.args.d.now c.before.before.before.before.before.before.before.before.before.before.before.before.args.e.now c.before.before.before.before.before.before.before.before.before.before.before.before.args.st.now (c.before.before.before.before.before.before.before.before.before.before.before.before.args.z) (c.before.before.before.before.before.before.before.before.before.before.before.before.args.j) (c.before.before.before.before.before.before.before.before.before.before.before.before.args.from) (c.before.before.before.before.before.before.before.before.before.before.before.before.args.end) r) (sym c.single-place.ensures) (row-no-size _ _ _ _ _ _ _ _ (c.before.before.before.before.before.before.cell-of.result) (c.before.before.before.before.before.cell-of2.result) c.before.before.before.before.before.before.cell-of.ensures c.before.before.before.before.before.cell-of2.ensures (subst (λ b. IsStated c.before.before.before.before.before.before.before.before.before.before.before.before.args.text.now c.before.before.before.before.before.before.before.before.before.before.before.before.args.st.now (c.before.before.before.before.before.before.before.before.before.before.before.before.args.from) (c.before.before.before.before.before.before.before.before.before.before.before.before.args.end) (c.before.before.before.before.before.before.cell-of.result) (c.before.before.before.before.before.cell-of2.result) b) c.before.before.before.if1.false c.before.before.before.before.is-stated.ensures) (sym c.before.before.cell-of3.ensures ∙ c.before.if2.true))
+missing-of-returns-2 t c = subst (λ r. MissesRow c.before.before.before.before.before.before.before.before.before.before.before.before.args.text.now c.before.before.before.before.before.before.before.before.before.before.before.before.args.d.now c.before.before.before.before.before.before.before.before.before.before.before.before.args.e.now c.before.before.before.before.before.before.before.before.before.before.before.before.args.st.now (c.before.before.before.before.before.before.before.before.before.before.before.before.args.z) (c.before.before.before.before.before.before.before.before.before.before.before.before.args.j) (c.before.before.before.before.before.before.before.before.before.before.before.before.args.from) (c.before.before.before.before.before.before.before.before.before.before.before.before.args.end) r) (sym c.single-place.ensures) (row_no_size _ _ _ _ _ _ _ _ (c.before.before.before.before.before.before.cell-of.result) (c.before.before.before.before.before.cell-of2.result) c.before.before.before.before.before.before.cell-of.ensures c.before.before.before.before.before.cell-of2.ensures (subst (λ b. IsStated c.before.before.before.before.before.before.before.before.before.before.before.before.args.text.now c.before.before.before.before.before.before.before.before.before.before.before.before.args.st.now (c.before.before.before.before.before.before.before.before.before.before.before.before.args.from) (c.before.before.before.before.before.before.before.before.before.before.before.before.args.end) (c.before.before.before.before.before.before.cell-of.result) (c.before.before.before.before.before.cell-of2.result) b) c.before.before.before.if1.false c.before.before.before.before.is-stated.ensures) (sym c.before.before.cell-of3.ensures ∙ c.before.if2.true))
 
 missing-of-cell-of-requires-4 : (t : ℕ) → missing-of-lts.Need-cell-of-requires-4 (
   cell-of-reads.Asked,
@@ -282,7 +282,7 @@ missing-of-returns-3 : (t : ℕ) → missing-of-lts.Need-returns-3 (
   missing-below t,
   missing.Post,
 ) (missing-of-at t) missing-of.Post
-missing-of-returns-3 t c = subst (λ r. MissesRow c.before.before.before.before.before.before.before.before.before.before.before.before.before.before.args.text.now c.before.before.before.before.before.before.before.before.before.before.before.before.before.before.args.d.now c.before.before.before.before.before.before.before.before.before.before.before.before.before.before.args.e.now c.before.before.before.before.before.before.before.before.before.before.before.before.before.before.args.st.now (c.before.before.before.before.before.before.before.before.before.before.before.before.before.before.args.z) (c.before.before.before.before.before.before.before.before.before.before.before.before.before.before.args.j) (c.before.before.before.before.before.before.before.before.before.before.before.before.before.before.args.from) (c.before.before.before.before.before.before.before.before.before.before.before.before.before.before.args.end) r) (sym c.single-place2.ensures) (row-no-default _ _ _ _ _ _ _ _ (c.before.before.before.before.before.before.before.before.cell-of.result) (c.before.before.before.before.before.before.before.cell-of2.result) c.before.before.before.before.before.before.before.before.cell-of.ensures c.before.before.before.before.before.before.before.cell-of2.ensures (subst (λ b. IsStated c.before.before.before.before.before.before.before.before.before.before.before.before.before.before.args.text.now c.before.before.before.before.before.before.before.before.before.before.before.before.before.before.args.st.now (c.before.before.before.before.before.before.before.before.before.before.before.before.before.before.args.from) (c.before.before.before.before.before.before.before.before.before.before.before.before.before.before.args.end) (c.before.before.before.before.before.before.before.before.cell-of.result) (c.before.before.before.before.before.before.before.cell-of2.result) b) c.before.before.before.before.before.if1.false c.before.before.before.before.before.before.is-stated.ensures) (sym c.before.before.cell-of4.ensures ∙ c.before.if3.true))
+missing-of-returns-3 t c = subst (λ r. MissesRow c.before.before.before.before.before.before.before.before.before.before.before.before.before.before.args.text.now c.before.before.before.before.before.before.before.before.before.before.before.before.before.before.args.d.now c.before.before.before.before.before.before.before.before.before.before.before.before.before.before.args.e.now c.before.before.before.before.before.before.before.before.before.before.before.before.before.before.args.st.now (c.before.before.before.before.before.before.before.before.before.before.before.before.before.before.args.z) (c.before.before.before.before.before.before.before.before.before.before.before.before.before.before.args.j) (c.before.before.before.before.before.before.before.before.before.before.before.before.before.before.args.from) (c.before.before.before.before.before.before.before.before.before.before.before.before.before.before.args.end) r) (sym c.single-place2.ensures) (row_no_default _ _ _ _ _ _ _ _ (c.before.before.before.before.before.before.before.before.cell-of.result) (c.before.before.before.before.before.before.before.cell-of2.result) c.before.before.before.before.before.before.before.before.cell-of.ensures c.before.before.before.before.before.before.before.cell-of2.ensures (subst (λ b. IsStated c.before.before.before.before.before.before.before.before.before.before.before.before.before.before.args.text.now c.before.before.before.before.before.before.before.before.before.before.before.before.before.before.args.st.now (c.before.before.before.before.before.before.before.before.before.before.before.before.before.before.args.from) (c.before.before.before.before.before.before.before.before.before.before.before.before.before.before.args.end) (c.before.before.before.before.before.before.before.before.cell-of.result) (c.before.before.before.before.before.before.before.cell-of2.result) b) c.before.before.before.before.before.if1.false c.before.before.before.before.before.before.is-stated.ensures) (sym c.before.before.cell-of4.ensures ∙ c.before.if3.true))
 
 missing-of-cell-of-requires-5 : (t : ℕ) → missing-of-lts.Need-cell-of-requires-5 (
   cell-of-reads.Asked,
@@ -338,7 +338,7 @@ missing-of-returns-4 : (t : ℕ) → missing-of-lts.Need-returns-4 (
   missing-below t,
   missing.Post,
 ) (missing-of-at t) missing-of.Post
-missing-of-returns-4 t c = row-default _ _ _ _ _ _ _ _ (c.before.before.before.before.before.before.before.before.before.before.cell-of.result) (c.before.before.before.before.before.before.before.before.before.cell-of2.result) c.before.before.before.before.before.before.before.before.before.before.cell-of.ensures c.before.before.before.before.before.before.before.before.before.cell-of2.ensures (subst (λ b. IsStated c.before.before.before.before.before.before.before.before.before.before.before.before.before.before.before.before.args.text.now c.before.before.before.before.before.before.before.before.before.before.before.before.before.before.before.before.args.st.now (c.before.before.before.before.before.before.before.before.before.before.before.before.before.before.before.before.args.from) (c.before.before.before.before.before.before.before.before.before.before.before.before.before.before.before.before.args.end) (c.before.before.before.before.before.before.before.before.before.before.cell-of.result) (c.before.before.before.before.before.before.before.before.before.cell-of2.result) b) c.before.before.before.before.before.before.before.if1.false c.before.before.before.before.before.before.before.before.is-stated.ensures) (c.before.before.cell-of5.result) (c.before.before.before.before.before.before.cell-of3.result) (c.before.word-under.result) (c.missing.result) c.before.before.cell-of5.ensures c.before.before.before.before.before.before.cell-of3.ensures c.before.before.before.before.before.if2.false (λ y. c.before.before.before.if3.false (c.before.before.before.before.cell-of4.ensures ∙ y)) c.before.word-under.ensures c.missing.ensures
+missing-of-returns-4 t c = row_default _ _ _ _ _ _ _ _ (c.before.before.before.before.before.before.before.before.before.before.cell-of.result) (c.before.before.before.before.before.before.before.before.before.cell-of2.result) c.before.before.before.before.before.before.before.before.before.before.cell-of.ensures c.before.before.before.before.before.before.before.before.before.cell-of2.ensures (subst (λ b. IsStated c.before.before.before.before.before.before.before.before.before.before.before.before.before.before.before.before.args.text.now c.before.before.before.before.before.before.before.before.before.before.before.before.before.before.before.before.args.st.now (c.before.before.before.before.before.before.before.before.before.before.before.before.before.before.before.before.args.from) (c.before.before.before.before.before.before.before.before.before.before.before.before.before.before.before.before.args.end) (c.before.before.before.before.before.before.before.before.before.before.cell-of.result) (c.before.before.before.before.before.before.before.before.before.cell-of2.result) b) c.before.before.before.before.before.before.before.if1.false c.before.before.before.before.before.before.before.before.is-stated.ensures) (c.before.before.cell-of5.result) (c.before.before.before.before.before.before.cell-of3.result) (c.before.word-under.result) (c.missing.result) c.before.before.cell-of5.ensures c.before.before.before.before.before.before.cell-of3.ensures c.before.before.before.before.before.if2.false (λ y. c.before.before.before.if3.false (c.before.before.before.before.cell-of4.ensures ∙ y)) c.before.word-under.ensures c.missing.ensures
 
 pub +missing-missing-of-spec : {M : Type 1} → statement M
 +missing-missing-of-spec = close μ-missing μ-missing-of (λ t. missing-lts.spec (

@@ -2,7 +2,7 @@ use mathlib.Core.Path.{refl, sym, ◌∙◌}
 use native.Mathlib.Omega.{arith}
 use Prim.Native.Nat.{◌-◌, ◌≤◌}
 use Rattle.blocks.proofs.Ranges.{after_later, after_inside}
-use Rattle.statement_causes.proofs.Seeking.{Seeking, seeking_start, seeking-stop, seeking-inside, seeking-more, seeking-end}
+use Rattle.statement_causes.proofs.Seeking.{Seeking, seeking_start, seeking_stop, seeking-inside, seeking-more, seeking_end}
 use Prim.Native.Nat.{ℕ, ◌<◌}
 use borrow.Fn.Kinds.{In}
 use borrow.Fn.PlainCycle.{Measures, is, falls, and}
@@ -64,7 +64,7 @@ seek-returns : (t : ℕ) → seek-lts.Need-returns (
   seek-below t,
   seek.Post,
 ) (seek-at t) seek.Post seek-Inv-loop seek-μ-loop
-seek-returns t c = seeking-stop _ _ _ _ _ _ _ _ _ (c.before.before.before.loop.k) c.before.before.loop-test.true c.before.before.before.loop.invariant.1 (sym c.before.touches.ensures ∙ c.if1.true)
+seek-returns t c = seeking_stop _ _ _ _ _ _ _ _ _ (c.before.before.before.loop.k) c.before.before.loop-test.true c.before.before.before.loop.invariant.1 (sym c.before.touches.ensures ∙ c.if1.true)
 
 seek-after-requires : (t : ℕ) → seek-lts.Need-after-requires (
   touches-reads.Asked,
@@ -160,7 +160,7 @@ seek-returns-3 : (t : ℕ) → seek-lts.Need-returns-3 (
   seek-below t,
   seek.Post,
 ) (seek-at t) seek.Post seek-Inv-loop seek-μ-loop
-seek-returns-3 t c = seeking-end _ _ _ _ _ _ _ _ _ (c.before.loop.k) _ c.loop-test.false refl c.before.loop.invariant.1
+seek-returns-3 t c = seeking_end _ _ _ _ _ _ _ _ _ (c.before.loop.k) _ c.loop-test.false refl c.before.loop.invariant.1
 
 pub +seek-spec : {M : Type 1} → statement M
 +seek-spec = close μ-seek λ t. seek-lts.spec (

@@ -1,6 +1,6 @@
 use mathlib.Core.Path.{sym, ◌∙◌}
 use Rattle.statement_causes.proofs.Seeking.{turned_true, turned_false}
-use Rattle.statement_causes.proofs.Telling.{first_none, first-nothing, first_found}
+use Rattle.statement_causes.proofs.Telling.{first_none, first_nothing, first_found}
 use borrow.Author.Rules.{rules}
 use Rattle.statement_causes.proofs.first_of.Statement.{statement}
 use Rattle.statement_causes.proofs.first_of.Tie as tie
@@ -28,7 +28,7 @@ enum_told : tie.Need-enum-told
 enum_told c = search rules
 
 returns-2 : tie.Need-returns-2
-returns-2 c = first-nothing _ _ (c.before.before.before.before.before.before.before.before.before.args.spot) (turned_false _ c.before.before.before.before.before.if1.false) (c.before.before.before.before.cell-of.result) (c.before.before.before.cell-of2.result) c.before.before.before.before.cell-of.ensures c.before.before.before.cell-of2.ensures (c.before.before.stated.result) c.before.before.stated.ensures c.enum_told.given.1
+returns-2 c = first_nothing _ _ (c.before.before.before.before.before.before.before.before.before.args.spot) (turned_false _ c.before.before.before.before.before.if1.false) (c.before.before.before.before.cell-of.result) (c.before.before.before.cell-of2.result) c.before.before.before.before.cell-of.ensures c.before.before.before.cell-of2.ensures (c.before.before.stated.result) c.before.before.stated.ensures c.enum_told.given.1
 
 cell-of-requires-3 : tie.Need-cell-of-requires-3
 cell-of-requires-3 c κs = search rules

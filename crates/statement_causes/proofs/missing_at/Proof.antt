@@ -1,5 +1,5 @@
 use mathlib.Core.Path.{sym, ◌∙◌}
-use Rattle.statement_causes.proofs.Telling.{owner-object, owner-value}
+use Rattle.statement_causes.proofs.Telling.{owner_object, owner_value}
 use borrow.Author.Rules.{rules}
 use Rattle.statement_causes.proofs.missing_at.Statement.{statement}
 use Rattle.statement_causes.proofs.missing_at.Tie as tie
@@ -22,13 +22,13 @@ missing-inside-requires : tie.Need-missing-inside-requires
 missing-inside-requires c κs = search rules
 
 returns : tie.Need-returns
-returns c = owner-value _ _ _ _ _ _ c.before.before.before.before.before.before.before.before.before.before.before.args.places.now (c.before.before.before.before.before.before.before.before.before.before.before.args.spot) (c.before.before.before.before.before.before.before.before.before.before.before.args.place) (c.missing-inside.result) (sym c.before.before.before.find-row.ensures ∙ c.before.enum_told.given.1) c.missing-inside.ensures
+returns c = owner_value _ _ _ _ _ _ c.before.before.before.before.before.before.before.before.before.before.before.args.places.now (c.before.before.before.before.before.before.before.before.before.before.before.args.spot) (c.before.before.before.before.before.before.before.before.before.before.before.args.place) (c.missing-inside.result) (sym c.before.before.before.find-row.ensures ∙ c.before.enum_told.given.1) c.missing-inside.ensures
 
 missing-object-requires : tie.Need-missing-object-requires
 missing-object-requires c κs = search rules
 
 returns-2 : tie.Need-returns-2
-returns-2 c = owner-object _ _ _ _ _ _ c.before.before.before.before.before.before.before.before.before.before.before.before.args.places.now (c.before.before.before.before.before.before.before.before.before.before.before.before.args.spot) (c.before.before.before.before.before.before.before.before.before.before.before.before.args.place) (c.missing-object.result) _ (sym c.before.before.before.before.find-row.ensures ∙ c.before.before.i.given.1) c.missing-object.ensures
+returns-2 c = owner_object _ _ _ _ _ _ c.before.before.before.before.before.before.before.before.before.before.before.before.args.places.now (c.before.before.before.before.before.before.before.before.before.before.before.before.args.spot) (c.before.before.before.before.before.before.before.before.before.before.before.before.args.place) (c.missing-object.result) _ (sym c.before.before.before.before.find-row.ensures ∙ c.before.before.i.given.1) c.missing-object.ensures
 
 pub missing-at-spec : {M : Type 1} → statement M
 missing-at-spec =

@@ -1,7 +1,7 @@
 use mathlib.Core.Path.{refl}
 use native.Mathlib.Omega.{arith}
 use Prim.Native.Nat.{◌-◌}
-use Rattle.statement_causes.proofs.Seeking.{SeekingObjects, objects_start, objects-stop, objects-more, objects_end}
+use Rattle.statement_causes.proofs.Seeking.{SeekingObjects, objects_start, objects_stop, objects_more, objects_end}
 use Rattle.statement_causes.proofs.seek_all.Statement.{statement}
 use Rattle.statement_causes.proofs.seek_all.Tie as tie
 use Rattle.statement_causes.proofs.seek_all.Reads as reads
@@ -21,7 +21,7 @@ seek-object-requires : tie.Need-seek-object-requires invariant_loop decreases_lo
 seek-object-requires c κs = c.before.before.before.before.before.before.before.before.before.before.requires
 
 returns : tie.Need-returns invariant_loop decreases_loop
-returns c = objects-stop _ _ _ _ _ _ c.before.before.before.before.before.before.before.before.before.before.before.before.args.places.now (c.before.before.before.before.before.before.before.before.before.before.before.before.args.place) (c.before.before.before.before.loop.i) (c.before.seek-object.result) c.before.before.if1.true c.before.seek-object.ensures c.before.before.before.before.loop.invariant c.if2.true
+returns c = objects_stop _ _ _ _ _ _ c.before.before.before.before.before.before.before.before.before.before.before.before.args.places.now (c.before.before.before.before.before.before.before.before.before.before.before.before.args.place) (c.before.before.before.before.loop.i) (c.before.seek-object.result) c.before.before.if1.true c.before.seek-object.ensures c.before.before.before.before.loop.invariant c.if2.true
 
 add-i : tie.Need-overflow-add-i invariant_loop decreases_loop
 add-i c = omega arith
@@ -30,7 +30,7 @@ loop_less : tie.Need-loop-smaller invariant_loop decreases_loop
 loop_less c = omega arith
 
 loop_again : tie.Need-loop-preserved invariant_loop decreases_loop
-loop_again c = objects-more _ _ _ _ _ _ c.before.before.before.before.before.before.before.before.before.before.before.before.args.places.now (c.before.before.before.before.before.before.before.before.before.before.before.before.args.place) (c.before.before.before.before.loop.i) (c.before.seek-object.result) c.before.before.if1.true c.before.seek-object.ensures c.before.before.before.before.loop.invariant c.if2.false
+loop_again c = objects_more _ _ _ _ _ _ c.before.before.before.before.before.before.before.before.before.before.before.before.args.places.now (c.before.before.before.before.before.before.before.before.before.before.before.before.args.place) (c.before.before.before.before.loop.i) (c.before.seek-object.result) c.before.before.if1.true c.before.seek-object.ensures c.before.before.before.before.loop.invariant c.if2.false
 
 returns-2 : tie.Need-returns-2 invariant_loop decreases_loop
 returns-2 c = objects_end _ _ _ _ _ _ c.before.before.before.before.before.before.before.before.before.before.args.places.now (c.before.before.before.before.before.before.before.before.before.before.args.place) (c.before.before.loop.i) _ c.if1.false refl c.before.before.loop.invariant

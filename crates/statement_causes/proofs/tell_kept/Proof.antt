@@ -1,6 +1,6 @@
 use mathlib.Core.Path.{refl}
 use native.Mathlib.Omega.{arith}
-use Rattle.statement_causes.proofs.Telling.{looked, tells-kept, kept-few-definitions, kept-few-enumerators, kept-few-objects}
+use Rattle.statement_causes.proofs.Telling.{looked, tells_kept, kept_few_definitions, kept_few_enumerators, kept_few_objects}
 use borrow.Author.Rules.{rules}
 use Rattle.statement_causes.proofs.tell_kept.Statement.{statement}
 use Rattle.statement_causes.proofs.tell_kept.Tie as tie
@@ -14,19 +14,19 @@ nothing-requires : tie.Need-nothing-requires
 nothing-requires c κs = search rules
 
 returns : tie.Need-returns
-returns c = kept-few-definitions _ _ _ refl refl refl c.before.if1.true
+returns c = kept_few_definitions _ _ _ refl refl refl c.before.if1.true
 
 nothing-requires-2 : tie.Need-nothing-requires-2
 nothing-requires-2 c κs = search rules
 
 returns-2 : tie.Need-returns-2
-returns-2 c = kept-few-enumerators _ _ _ refl refl refl c.before.if2.true
+returns-2 c = kept_few_enumerators _ _ _ refl refl refl c.before.if2.true
 
 nothing-requires-3 : tie.Need-nothing-requires-3
 nothing-requires-3 c κs = search rules
 
 returns-3 : tie.Need-returns-3
-returns-3 c = kept-few-objects _ _ _ refl refl refl c.before.if3.true
+returns-3 c = kept_few_objects _ _ _ refl refl refl c.before.if3.true
 
 slice-aggregate-note : tie.Need-slice-aggregate-note
 slice-aggregate-note c = search rules
@@ -41,7 +41,7 @@ tell-rows-requires : tie.Need-tell-rows-requires
 tell-rows-requires c κs = looked c.before.before.note.ensures (omega (arith, c.before.before.before.before.before.before.before.before.if1.false)) (omega (arith, c.before.before.before.before.before.before.if2.false)) (omega (arith, c.before.before.before.before.if3.false))
 
 returns-4 : tie.Need-returns-4
-returns-4 c = tells-kept _ _ _ refl refl refl c.tell-rows.ensures
+returns-4 c = tells_kept _ _ _ refl refl refl c.tell-rows.ensures
 
 pub tell-kept-spec : {M : Type 1} → statement M
 tell-kept-spec =

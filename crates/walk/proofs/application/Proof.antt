@@ -1,5 +1,5 @@
-use Rattle.walk.proofs.Filing.{application-there}
-use Rattle.grammar.proofs.Terminals.{cpu-is, lbrace-is}
+use Rattle.walk.proofs.Filing.{application_there}
+use Rattle.grammar.proofs.Terminals.{cpu_is, lbrace_is}
 use borrow.Author.Rules.{rules}
 use Rattle.walk.proofs.application.Statement.{statement}
 use Rattle.walk.proofs.application.Tie as tie
@@ -36,7 +36,7 @@ same_length_2 : tie.Need-same-length-2
 same_length_2 c = search rules
 
 returns : tie.Need-returns
-returns c = application-there (cpu-is c.before.before.before.before.before.before.before.before.before.before.before.before.expect.ensures) c.before.before.before.before.before.before.before.before.before.before.before.expect-name.ensures (lbrace-is c.before.before.before.before.before.before.before.before.before.before.expect2.ensures) c.before.before.before.before.before.before.before.parts.ensures c.before.before.close.ensures c.before.length.ensures
+returns c = application_there (cpu_is c.before.before.before.before.before.before.before.before.before.before.before.before.expect.ensures) c.before.before.before.before.before.before.before.before.before.before.before.expect-name.ensures (lbrace_is c.before.before.before.before.before.before.before.before.before.before.expect2.ensures) c.before.before.before.before.before.before.before.parts.ensures c.before.before.close.ensures c.before.length.ensures
 
 pub application-spec : {M : Type 1} → statement M
 application-spec =

@@ -1,5 +1,5 @@
-use Rattle.walk.proofs.Filing.{version-there}
-use Rattle.grammar.proofs.Terminals.{oil-version-is, equals-is, string-is}
+use Rattle.walk.proofs.Filing.{version_there}
+use Rattle.grammar.proofs.Terminals.{oil_version_is, equals_is, string_is}
 use borrow.Author.Rules.{rules}
 use Rattle.walk.proofs.version.Statement.{statement}
 use Rattle.walk.proofs.version.Tie as tie
@@ -25,7 +25,7 @@ length-requires : tie.Need-length-requires
 length-requires c κs = search rules
 
 returns : tie.Need-returns
-returns c = version-there (oil-version-is c.before.before.before.before.expect.ensures) (equals-is c.before.before.before.expect2.ensures) (string-is c.before.before.expect3.ensures) c.before.finish.ensures c.length.ensures
+returns c = version_there (oil_version_is c.before.before.before.before.expect.ensures) (equals_is c.before.before.before.expect2.ensures) (string_is c.before.before.expect3.ensures) c.before.finish.ensures c.length.ensures
 
 pub version-spec : {M : Type 1} → statement M
 version-spec =

@@ -1,4 +1,4 @@
-use Rattle.walk.proofs.Filing.{file-there}
+use Rattle.walk.proofs.Filing.{file_there}
 use borrow.Author.Rules.{rules}
 use Rattle.walk.proofs.walk.Statement.{statement}
 use Rattle.walk.proofs.walk.Tie as tie
@@ -34,7 +34,7 @@ same-length-4 : tie.Need-same-length-4
 same-length-4 c = search rules
 
 returns : tie.Need-returns
-returns c = file-there c.before.before.before.before.before.before.before.before.before.before.before.before.before.before.before.before.before.before.look_at.ensures c.before.before.before.before.before.before.before.before.before.before.before.before.before.before.before.before.before.version.ensures c.before.before.before.before.before.before.before.before.before.before.before.before.before.before.implementation.ensures c.before.before.before.before.before.before.before.application.ensures
+returns c = file_there c.before.before.before.before.before.before.before.before.before.before.before.before.before.before.before.before.before.before.look_at.ensures c.before.before.before.before.before.before.before.before.before.before.before.before.before.before.before.before.before.version.ensures c.before.before.before.before.before.before.before.before.before.before.before.before.before.before.implementation.ensures c.before.before.before.before.before.before.before.application.ensures
 
 pub walk-spec : {M : Type 1} → statement M
 walk-spec =

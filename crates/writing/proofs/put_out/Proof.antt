@@ -1,4 +1,4 @@
-use Rattle.writing.proofs.Outputs.{puts-out, puts_none}
+use Rattle.writing.proofs.Outputs.{puts_out, puts_none}
 use native.Mathlib.Omega.{arith}
 use borrow.Author.Rules.{rules}
 use Rattle.writing.proofs.put_out.Statement.{statement}
@@ -55,7 +55,7 @@ same-length-8 : tie.Need-same-length-8
 same-length-8 c = search rules
 
 returns-2 : tie.Need-returns-2
-returns-2 c = puts-out c.before.before.write-normal.ensures _ _ (omega (arith, c.before.before.before.before.before.before.before.before.before.before.before.before.before.before.before.before.before.before.before.well-formed)) (omega arith) c.before.before.before.before.before.before.before.before.before.normal-length.ensures
+returns-2 c = puts_out c.before.before.write-normal.ensures _ _ (omega (arith, c.before.before.before.before.before.before.before.before.before.before.before.before.before.before.before.before.before.before.before.well-formed)) (omega arith) c.before.before.before.before.before.before.before.before.before.normal-length.ensures
 
 pub put-out-spec : {M : Type 1} → statement M
 put-out-spec =

@@ -1,4 +1,4 @@
-use Rattle.writing.proofs.Calling.{refused-writes, definitions-long, enumerators-long, objects-long, values-long, definitions-front, enumerators-front, objects-front, values-front, lent_length, accepted-writes}
+use Rattle.writing.proofs.Calling.{refused_writes, definitions_long, enumerators_long, objects_long, values_long, definitions_front, enumerators_front, objects_front, values_front, lent_length, accepted_writes}
 use Rattle.writing.proofs.ByRules.{and_rules}
 use borrow.Author.Rules.{rules}
 use Rattle.writing.proofs.write.Statement.{statement}
@@ -18,28 +18,28 @@ enum_told : tie.Need-enum-told
 enum_told c = search rules
 
 slice-relend-prefix-put-out : tie.Need-slice-relend-prefix-put-out
-slice-relend-prefix-put-out c = definitions-long c.before.before.before.before.before.before.before.before.before.before.before.read-spanned.ensures.0 c.enum_told.given.1
+slice-relend-prefix-put-out c = definitions_long c.before.before.before.before.before.before.before.before.before.before.before.read-spanned.ensures.0 c.enum_told.given.1
 
 slice-aggregate-put-out : tie.Need-slice-aggregate-put-out
-slice-aggregate-put-out c = definitions-front c.before.before.before.before.before.before.before.before.before.before.before.before.read-spanned.ensures.0 c.before.enum_told.given.1
+slice-aggregate-put-out c = definitions_front c.before.before.before.before.before.before.before.before.before.before.before.before.read-spanned.ensures.0 c.before.enum_told.given.1
 
 slice-relend-prefix-put-out-2 : tie.Need-slice-relend-prefix-put-out-2
-slice-relend-prefix-put-out-2 c = enumerators-long c.before.before.before.before.before.before.before.before.before.before.before.before.read-spanned.ensures.0 c.before.enum_told.given.1
+slice-relend-prefix-put-out-2 c = enumerators_long c.before.before.before.before.before.before.before.before.before.before.before.before.read-spanned.ensures.0 c.before.enum_told.given.1
 
 slice-aggregate-put-out-2 : tie.Need-slice-aggregate-put-out-2
-slice-aggregate-put-out-2 c = enumerators-front c.before.before.before.before.before.before.before.before.before.before.before.before.before.read-spanned.ensures.0 c.before.before.enum_told.given.1
+slice-aggregate-put-out-2 c = enumerators_front c.before.before.before.before.before.before.before.before.before.before.before.before.before.read-spanned.ensures.0 c.before.before.enum_told.given.1
 
 slice-relend-prefix-put-out-3 : tie.Need-slice-relend-prefix-put-out-3
-slice-relend-prefix-put-out-3 c = objects-long c.before.before.before.before.before.before.before.before.before.before.before.before.before.read-spanned.ensures.0 c.before.before.enum_told.given.1
+slice-relend-prefix-put-out-3 c = objects_long c.before.before.before.before.before.before.before.before.before.before.before.before.before.read-spanned.ensures.0 c.before.before.enum_told.given.1
 
 slice-aggregate-put-out-3 : tie.Need-slice-aggregate-put-out-3
-slice-aggregate-put-out-3 c = objects-front c.before.before.before.before.before.before.before.before.before.before.before.before.before.before.read-spanned.ensures.0 c.before.before.before.enum_told.given.1
+slice-aggregate-put-out-3 c = objects_front c.before.before.before.before.before.before.before.before.before.before.before.before.before.before.read-spanned.ensures.0 c.before.before.before.enum_told.given.1
 
 slice-relend-prefix-put-out-4 : tie.Need-slice-relend-prefix-put-out-4
-slice-relend-prefix-put-out-4 c = values-long c.before.before.before.before.before.before.before.before.before.before.before.before.before.before.read-spanned.ensures.0 c.before.before.before.enum_told.given.1
+slice-relend-prefix-put-out-4 c = values_long c.before.before.before.before.before.before.before.before.before.before.before.before.before.before.read-spanned.ensures.0 c.before.before.before.enum_told.given.1
 
 slice-aggregate-put-out-4 : tie.Need-slice-aggregate-put-out-4
-slice-aggregate-put-out-4 c = values-front c.before.before.before.before.before.before.before.before.before.before.before.before.before.before.before.read-spanned.ensures.0 c.before.before.before.before.enum_told.given.1
+slice-aggregate-put-out-4 c = values_front c.before.before.before.before.before.before.before.before.before.before.before.before.before.before.before.read-spanned.ensures.0 c.before.before.before.before.enum_told.given.1
 
 put-out-requires : tie.Need-put-out-requires
 put-out-requires c κs = search rules
@@ -57,7 +57,7 @@ same-length-4 : tie.Need-same-length-4
 same-length-4 c = search rules
 
 returns : tie.Need-returns
-returns c = and_rules (refused-writes c.before.before.before.before.before.before.before.before.before.before.before.before.read-spanned.ensures.0 _ _ c.before.answer.given.1 _)
+returns c = and_rules (refused_writes c.before.before.before.before.before.before.before.before.before.before.before.before.read-spanned.ensures.0 _ _ c.before.answer.given.1 _)
 
 same-length-5 : tie.Need-same-length-5
 same-length-5 c = lent_length 6656 c.before.before.before.before.before.before.before.before.before.before.before.before.before.before.before.before.before.before.before.before.before.before.before.before.before.before.before.before.before.before.before.before.before.before.before.before.before.before.args.definitions.now c.before.before.before.before.before.before.before.before.before.before.before.before.before.before.before.before.before.before.before.before.before.before.before.before.before.before.before.read-spanned.new.1.0 c.before.before.before.before.before.before.before.before.before.before.put-out.new.1.0 c.before.before.before.before.before.before.before.before.before.before.put-out.auto.1.0 c.before.before.before.before.before.before.before.before.before.before.before.before.before.before.before.before.before.before.before.before.before.before.before.before.before.before.before.read-spanned.auto.1.0
@@ -75,7 +75,7 @@ same-length-9 : tie.Need-same-length-9
 same-length-9 c = search rules
 
 returns-2 : tie.Need-returns-2
-returns-2 c = and_rules (accepted-writes c.before.before.before.before.before.before.before.before.before.before.before.before.before.before.before.before.before.before.before.before.before.before.before.before.before.before.before.read-spanned.ensures.0 c.before.before.before.before.before.before.before.before.before.before.before.before.before.before.before.before.enum_told.given.1 _ _ _ _ _ _ _ c.before.before.before.before.before.before.before.before.before.before.put-out.ensures)
+returns-2 c = and_rules (accepted_writes c.before.before.before.before.before.before.before.before.before.before.before.before.before.before.before.before.before.before.before.before.before.before.before.before.before.before.before.read-spanned.ensures.0 c.before.before.before.before.before.before.before.before.before.before.before.before.before.before.before.before.enum_told.given.1 _ _ _ _ _ _ _ c.before.before.before.before.before.before.before.before.before.before.put-out.ensures)
 
 pub write_spec : {M : Type 1} → statement M
 write_spec =

@@ -1,6 +1,6 @@
 use native.Mathlib.Omega.{arith}
-use Rattle.writing_texts.proofs.Told.{thirty-writes, write-fills}
-use Rattle.reading_texts.proofs.Told.{room-inside, two-told, small-number}
+use Rattle.writing_texts.proofs.Told.{thirty_writes, write_fills}
+use Rattle.reading_texts.proofs.Told.{room_inside, two_told, small_number}
 use lib.Seq.{length-take-le}
 use mathlib.Core.Path.{sym, refl}
 use borrow.Author.Rules.{rules}
@@ -50,19 +50,19 @@ same-length-6 : tie.Need-same-length-6
 same-length-6 c = search rules
 
 returns : tie.Need-returns
-returns c = thirty-writes _ _ _ _ _ _ _ c.before.before.before.before.before.before.before.before.before.before.before.before.before.before.before.before.before.before.before.before.before.before.before.expand-to-read.ensures _ _ _ _ _ _ _ _ _ _ c.before.before.before.before.before.before.before.before.before.before.before.before.before.before.before.before.before.if1.true c.before.before.before.before.before.before.before.before.before.before.before.before.before.before.before.before.before.before.before.before.before.before.before.before.before.before.before.before.before.before.before.before.before.before.before.requires.1.1 c.before.before.before.before.before.before.before.before.before.before.before.before.before.before.before.clear.ensures c.before.before.before.before.before.before.before.before.before.before.before.clear2.ensures c.before.before.before.before.before.before.before.clear3.ensures c.before.before.before.clear4.ensures c.refusal.ensures
+returns c = thirty_writes _ _ _ _ _ _ _ c.before.before.before.before.before.before.before.before.before.before.before.before.before.before.before.before.before.before.before.before.before.before.before.expand-to-read.ensures _ _ _ _ _ _ _ _ _ _ c.before.before.before.before.before.before.before.before.before.before.before.before.before.before.before.before.before.if1.true c.before.before.before.before.before.before.before.before.before.before.before.before.before.before.before.before.before.before.before.before.before.before.before.before.before.before.before.before.before.before.before.before.before.before.before.requires.1.1 c.before.before.before.before.before.before.before.before.before.before.before.before.before.before.before.clear.ensures c.before.before.before.before.before.before.before.before.before.before.before.clear2.ensures c.before.before.before.before.before.before.before.clear3.ensures c.before.before.before.clear4.ensures c.refusal.ensures
 
 shared-slice-read-main : tie.Need-shared-slice-read-main
-shared-slice-read-main c = let h = two-told _ _ _ _ _ _ _ c.before.before.before.before.before.before.before.expand-to-read.ensures c.before.before.before.before.before.before.before.before.before.before.before.before.before.before.before.before.before.before.before.requires.0 c.before.before.before.before.before.before.before.before.before.before.before.before.before.before.before.before.before.before.before.requires.1.0 c.before.if1.false in omega arith
+shared-slice-read-main c = let h = two_told _ _ _ _ _ _ _ c.before.before.before.before.before.before.before.expand-to-read.ensures c.before.before.before.before.before.before.before.before.before.before.before.before.before.before.before.before.before.before.before.requires.0 c.before.before.before.before.before.before.before.before.before.before.before.before.before.before.before.before.before.before.before.requires.1.0 c.before.if1.false in omega arith
 
 slice-reshare-prefix-write-expanded : tie.Need-slice-reshare-prefix-write-expanded
-slice-reshare-prefix-write-expanded c = room-inside _ _ _ _ _ _ _ c.before.before.before.before.before.before.before.expand-to-read.ensures c.before.before.before.before.before.before.before.before.before.before.before.before.before.before.before.before.before.before.before.requires.0 c.before.before.before.before.before.before.before.before.before.before.before.before.before.before.before.before.before.before.before.requires.1.0 c.before.if1.false
+slice-reshare-prefix-write-expanded c = room_inside _ _ _ _ _ _ _ c.before.before.before.before.before.before.before.expand-to-read.ensures c.before.before.before.before.before.before.before.before.before.before.before.before.before.before.before.before.before.before.before.requires.0 c.before.before.before.before.before.before.before.before.before.before.before.before.before.before.before.before.before.before.before.requires.1.0 c.before.if1.false
 
 slice-aggregate-write-expanded : tie.Need-slice-aggregate-write-expanded
-slice-aggregate-write-expanded c = sym (length-take-le _ _ (room-inside _ _ _ _ _ _ _ c.before.before.before.before.before.before.before.before.expand-to-read.ensures c.before.before.before.before.before.before.before.before.before.before.before.before.before.before.before.before.before.before.before.before.requires.0 c.before.before.before.before.before.before.before.before.before.before.before.before.before.before.before.before.before.before.before.before.requires.1.0 c.before.before.if1.false))
+slice-aggregate-write-expanded c = sym (length-take-le _ _ (room_inside _ _ _ _ _ _ _ c.before.before.before.before.before.before.before.before.expand-to-read.ensures c.before.before.before.before.before.before.before.before.before.before.before.before.before.before.before.before.before.before.before.before.requires.0 c.before.before.before.before.before.before.before.before.before.before.before.before.before.before.before.before.before.before.before.before.requires.1.0 c.before.before.if1.false))
 
 cast-write-expanded : tie.Need-overflow-cast-write-expanded
-cast-write-expanded c = let h = small-number _ _ _ _ _ _ _ c.before.before.before.before.before.before.before.before.before.before.expand-to-read.ensures c.before.before.before.before.before.before.before.before.before.before.before.before.before.before.before.before.before.before.before.before.before.before.requires.0 c.before.before.before.before.before.before.before.before.before.before.before.before.before.before.before.before.before.before.before.before.before.before.requires.1.0 c.before.before.before.before.if1.false in omega arith
+cast-write-expanded c = let h = small_number _ _ _ _ _ _ _ c.before.before.before.before.before.before.before.before.before.before.expand-to-read.ensures c.before.before.before.before.before.before.before.before.before.before.before.before.before.before.before.before.before.before.before.before.before.before.requires.0 c.before.before.before.before.before.before.before.before.before.before.before.before.before.before.before.before.before.before.before.before.before.before.requires.1.0 c.before.before.before.before.if1.false in omega arith
 
 write-expanded-requires : tie.Need-write-expanded-requires
 write-expanded-requires c κs = search rules
@@ -89,7 +89,7 @@ same-length-13 : tie.Need-same-length-13
 same-length-13 c = search rules
 
 returns-2 : tie.Need-returns-2
-returns-2 c = write-fills _ _ _ _ _ _ _ c.before.before.before.before.before.before.before.before.before.before.before.before.before.before.before.before.before.before.before.before.before.before.before.before.before.before.expand-to-read.ensures c.before.before.before.before.before.before.before.before.before.before.before.before.before.before.before.before.before.before.before.before.before.before.before.before.before.before.before.before.before.before.before.before.before.before.before.before.before.before.requires.0 c.before.before.before.before.before.before.before.before.before.before.before.before.before.before.before.before.before.before.before.before.before.before.before.before.before.before.before.before.before.before.before.before.before.before.before.before.before.before.requires.1.0 c.before.before.before.before.before.before.before.before.before.before.before.before.before.before.before.before.before.before.before.before.if1.false _ refl c.before.before.before.before.before.before.before.before.before.before.write-expanded.ensures
+returns-2 c = write_fills _ _ _ _ _ _ _ c.before.before.before.before.before.before.before.before.before.before.before.before.before.before.before.before.before.before.before.before.before.before.before.before.before.before.expand-to-read.ensures c.before.before.before.before.before.before.before.before.before.before.before.before.before.before.before.before.before.before.before.before.before.before.before.before.before.before.before.before.before.before.before.before.before.before.before.before.before.before.requires.0 c.before.before.before.before.before.before.before.before.before.before.before.before.before.before.before.before.before.before.before.before.before.before.before.before.before.before.before.before.before.before.before.before.before.before.before.before.before.before.requires.1.0 c.before.before.before.before.before.before.before.before.before.before.before.before.before.before.before.before.before.before.before.before.if1.false _ refl c.before.before.before.before.before.before.before.before.before.before.write-expanded.ensures
 
 pub fill_spec : {M : Type 1} → statement M
 fill_spec =

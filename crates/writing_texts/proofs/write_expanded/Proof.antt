@@ -1,4 +1,4 @@
-use Rattle.writing_texts.proofs.Told.{refused-writes, accepted-writes}
+use Rattle.writing_texts.proofs.Told.{refused_writes, accepted_writes}
 use mathlib.Core.Path.{refl}
 use borrow.Author.Rules.{rules}
 use Rattle.writing_texts.proofs.write_expanded.Statement.{statement}
@@ -48,7 +48,7 @@ same-length-5 : tie.Need-same-length-5
 same-length-5 c = search rules
 
 returns : tie.Need-returns
-returns c = refused-writes _ _ _ _ _ _ _ _ c.before.before.before.before.before.before.before.before.before.before.before.before.before.before.before.before.before.before.before.before.before.before.before.before.before.before.before.before.before.requires c.before.before.before.before.before.before.before.before.before.before.before.before.before.before.before.before.write.ensures.1.0 c.before.before.before.before.answer.given.1 c.before.before.renumbered.ensures c.before.place-refused.ensures c.refusal.ensures
+returns c = refused_writes _ _ _ _ _ _ _ _ c.before.before.before.before.before.before.before.before.before.before.before.before.before.before.before.before.before.before.before.before.before.before.before.before.before.before.before.before.before.requires c.before.before.before.before.before.before.before.before.before.before.before.before.before.before.before.before.write.ensures.1.0 c.before.before.before.before.answer.given.1 c.before.before.renumbered.ensures c.before.place-refused.ensures c.refusal.ensures
 
 same-length-6 : tie.Need-same-length-6
 same-length-6 c = search rules
@@ -66,7 +66,7 @@ same-length-10 : tie.Need-same-length-10
 same-length-10 c = search rules
 
 returns-2 : tie.Need-returns-2
-returns-2 c = accepted-writes _ _ _ _ c.before.before.before.before.before.before.before.before.before.before.before.before.before.before.before.before.before.before.before.before.before.before.before.before.before.before.before.before.before.before.before.before.before.before.before.before.before.before.requires c.before.before.before.before.before.before.before.before.before.before.before.before.before.before.before.before.before.before.before.before.before.before.before.before.before.write.ensures.1.0 c.before.before.before.before.before.before.before.before.before.before.before.before.before.enum_told.given.1 c.before.before.before.before.before.before.before.before.place-tables.ensures
+returns-2 c = accepted_writes _ _ _ _ c.before.before.before.before.before.before.before.before.before.before.before.before.before.before.before.before.before.before.before.before.before.before.before.before.before.before.before.before.before.before.before.before.before.before.before.before.before.before.requires c.before.before.before.before.before.before.before.before.before.before.before.before.before.before.before.before.before.before.before.before.before.before.before.before.before.write.ensures.1.0 c.before.before.before.before.before.before.before.before.before.before.before.before.before.enum_told.given.1 c.before.before.before.before.before.before.before.before.place-tables.ensures
 
 pub write-expanded-spec : {M : Type 1} → statement M
 write-expanded-spec =

@@ -1,7 +1,7 @@
 -- `amounts::asking::takes_float` meets its contract.
 -- Assumes nothing.
 use mathlib.Core.Path.{refl}
-use Rattle.scopes.proofs.Taking.{float-none, float_in}
+use Rattle.scopes.proofs.Taking.{float_none, float_in}
 use borrow.Author.Rules.{rules}
 use Rattle.amounts.proofs.asking.takes_float.Statement.{statement}
 use Rattle.amounts.proofs.asking.takes_float.Tie as tie
@@ -15,7 +15,7 @@ cell-of-requires : tie.Need-cell-of-requires
 cell-of-requires c κs = search rules
 
 returns : tie.Need-returns
-returns c = float-none _ _ _ _ _ c.before.cell-of.ensures c.if1.true
+returns c = float_none _ _ _ _ _ c.before.cell-of.ensures c.if1.true
 
 float-at-requires : tie.Need-float-at-requires
 float-at-requires c κs = search rules

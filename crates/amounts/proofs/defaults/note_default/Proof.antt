@@ -1,6 +1,6 @@
 -- `amounts::defaults::note_default` meets its contract.
 -- Assumes nothing.
-use Rattle.amounts.proofs.Remembering.{default-put}
+use Rattle.amounts.proofs.Remembering.{default_put}
 use borrow.Author.Rules.{rules}
 use Rattle.amounts.proofs.defaults.note_default.Statement.{statement}
 use Rattle.amounts.proofs.defaults.note_default.Tie as tie
@@ -42,7 +42,7 @@ same_length : tie.Need-same-length
 same_length c = search rules
 
 returns-3 : tie.Need-returns-3
-returns-3 c = default-put _ c.before.before.before.before.before.before.before.before.before.before.before.before.before.before.args.d.now c.before.before.before.before.before.before.before.before.before.before.before.before.before.before.args.t.now c.before.before.before.before.before.before.before.before.before.before.before.before.before.before.args.j c.before.before.before.before.before.before.before.before.before.before.if1.false c.before.before.before.before.before.before.number_at.result _ c.before.before.before.before.before.before.before.cell-of2.ensures c.before.before.before.before.before.before.number_at.ensures _ c.before.before.before.before.before.sign_of.ensures _ c.before.before.put-cells.ensures
+returns-3 c = default_put _ c.before.before.before.before.before.before.before.before.before.before.before.before.before.before.args.d.now c.before.before.before.before.before.before.before.before.before.before.before.before.before.before.args.t.now c.before.before.before.before.before.before.before.before.before.before.before.before.before.before.args.j c.before.before.before.before.before.before.before.before.before.before.if1.false c.before.before.before.before.before.before.number_at.result _ c.before.before.before.before.before.before.before.cell-of2.ensures c.before.before.before.before.before.before.number_at.ensures _ c.before.before.before.before.before.sign_of.ensures _ c.before.before.put-cells.ensures
 
 pub note-default-spec : {M : Type 1} → statement M
 note-default-spec =

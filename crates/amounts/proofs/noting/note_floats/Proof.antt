@@ -1,6 +1,6 @@
 -- `amounts::noting::note_floats` meets its contract: no other row changes.
 -- Assumes nothing.
-use Rattle.amounts.proofs.Rowwise.{row_same, row-floats}
+use Rattle.amounts.proofs.Rowwise.{row_same, row_floats}
 use borrow.Author.Rules.{rules}
 use Rattle.amounts.proofs.noting.note_floats.Statement.{statement}
 use Rattle.amounts.proofs.noting.note_floats.Tie as tie
@@ -58,7 +58,7 @@ same_length : tie.Need-same-length
 same_length c = search rules
 
 returns-3 : tie.Need-returns-3
-returns-3 c = row-floats _ c.before.before.before.before.before.before.before.before.before.before.before.before.before.before.before.before.before.before.args.d.now c.before.before.before.before.before.before.before.before.before.before.before.before.before.before.before.before.before.before.args.j _ c.before.before.before.before.before.before.before.before.before.before.before.before.before.cell-of.ensures c.before.before.before.before.before.before.before.before.before.before.before.before.if2.false _ _ _ c.before.before.before.before.before.before.before.before.before.before.before.item-at.ensures c.before.before.before.before.before.before.before.before.before.before.item-at2.ensures c.before.before.before.before.before.before.before.before.before.item-at3.ensures _ _ c.before.before.before.before.before.before.before.before.Float-at.ensures c.before.before.before.before.before.before.before.float-at2.ensures c.before.before.before.before.before.before.before.before.before.before.before.before.before.before.before.before.before.before.args.t.now c.before.before.before.before.before.before.before.before.before.before.before.before.before.before.if1.false c.before.before.before.before.before.before.before.before.Float-at.result.digits c.before.before.before.before.before.before.scale_of.result c.before.before.before.before.before.before.before.float-at2.result.digits c.before.before.before.before.before.scale-of2.result c.before.before.before.before.before.before.scale_of.ensures c.before.before.before.before.before.scale-of2.ensures _ c.before.before.put-cells.ensures
+returns-3 c = row_floats _ c.before.before.before.before.before.before.before.before.before.before.before.before.before.before.before.before.before.before.args.d.now c.before.before.before.before.before.before.before.before.before.before.before.before.before.before.before.before.before.before.args.j _ c.before.before.before.before.before.before.before.before.before.before.before.before.before.cell-of.ensures c.before.before.before.before.before.before.before.before.before.before.before.before.if2.false _ _ _ c.before.before.before.before.before.before.before.before.before.before.before.item-at.ensures c.before.before.before.before.before.before.before.before.before.before.item-at2.ensures c.before.before.before.before.before.before.before.before.before.item-at3.ensures _ _ c.before.before.before.before.before.before.before.before.Float-at.ensures c.before.before.before.before.before.before.before.float-at2.ensures c.before.before.before.before.before.before.before.before.before.before.before.before.before.before.before.before.before.before.args.t.now c.before.before.before.before.before.before.before.before.before.before.before.before.before.before.if1.false c.before.before.before.before.before.before.before.before.Float-at.result.digits c.before.before.before.before.before.before.scale_of.result c.before.before.before.before.before.before.before.float-at2.result.digits c.before.before.before.before.before.scale-of2.result c.before.before.before.before.before.before.scale_of.ensures c.before.before.before.before.before.scale-of2.ensures _ c.before.before.put-cells.ensures
 
 pub note-floats-spec : {M : Type 1} → statement M
 note-floats-spec =

@@ -2,7 +2,7 @@
 -- Assumes nothing.
 use mathlib.Core.Path.{refl}
 use native.Mathlib.Omega.{arith}
-use Rattle.amounts.proofs.Rowwise.{row_same, row-two, row_none, row_list, end-inside}
+use Rattle.amounts.proofs.Rowwise.{row_same, row-two, row_none, row_list, end_inside}
 use borrow.Author.Rules.{rules}
 use Rattle.amounts.proofs.noting.note_row.Statement.{statement}
 use Rattle.amounts.proofs.noting.note_row.Tie as tie
@@ -79,7 +79,7 @@ returns-5 : tie.Need-returns-5
 returns-5 c = row_none _ _ _ _ c.before.before.before.before.before.before.before.before.before.before.before.before.before.before.before.before.before.cell-of.ensures c.before.before.before.before.before.before.before.before.before.before.before.before.before.before.before.before.if2.false _ _ _ c.before.before.before.before.before.before.before.before.before.before.before.before.before.before.before.item-at.ensures c.before.before.before.before.before.before.before.before.before.before.before.before.before.before.item-at2.ensures c.before.before.before.before.before.before.before.before.before.before.before.before.before.item-at3.ensures _ _ c.before.before.before.before.before.before.before.before.before.before.before.before.before.before.before.before.before.before.if1.false _ _ c.before.before.before.before.before.before.before.before.is_Signed.ensures c.before.before.before.before.before.before.before.before.before.cell-of2.ensures c.before.before.before.before.before.before.before.before.before.before.before.if3.false _ _ c.before.before.before.before.before.put-sorted.ensures c.before.before.before.before.before.before.before.before.before.before.if4.false
 
 add-end : tie.Need-overflow-add-end
-add-end c = omega (arith, c.before.before.before.before.before.before.before.before.before.before.before.before.before.before.before.before.before.before.before.before.before.before.before.well-formed, end-inside _ c.before.before.before.before.before.before.before.before.before.before.before.before.before.before.before.before.before.before.before.before.before.before.before.args.d.now c.before.before.before.before.before.before.before.before.before.before.before.before.before.before.before.before.before.before.before.before.before.before.before.args.j _ c.before.before.before.before.before.before.before.before.before.before.before.before.before.before.before.before.before.cell-of.ensures c.before.before.before.before.before.before.before.before.before.before.before.before.before.before.before.before.if2.false _ _ _ c.before.before.before.before.before.before.before.before.before.before.before.before.before.before.before.item-at.ensures c.before.before.before.before.before.before.before.before.before.before.before.before.before.before.item-at2.ensures c.before.before.before.before.before.before.before.before.before.before.before.before.before.item-at3.ensures c.before.before.before.before.before.before.before.before.before.before.before.before.before.before.before.before.before.before.before.before.before.before.before.args.t.now c.before.before.before.before.before.before.before.before.before.before.before.before.before.before.before.before.before.before.before.before.before.before.before.args.used c.before.before.before.before.before.before.before.before.before.before.before.before.before.before.before.before.before.before.if1.false _ _ c.before.before.before.before.before.before.before.before.is_Signed.ensures c.before.before.before.before.before.before.before.before.before.cell-of2.ensures c.before.before.before.before.before.before.before.before.before.before.before.if3.false _ _ c.before.before.before.before.before.put-sorted.ensures c.before.before.before.before.before.before.before.before.before.before.if4.false)
+add-end c = omega (arith, c.before.before.before.before.before.before.before.before.before.before.before.before.before.before.before.before.before.before.before.before.before.before.before.well-formed, end_inside _ c.before.before.before.before.before.before.before.before.before.before.before.before.before.before.before.before.before.before.before.before.before.before.before.args.d.now c.before.before.before.before.before.before.before.before.before.before.before.before.before.before.before.before.before.before.before.before.before.before.before.args.j _ c.before.before.before.before.before.before.before.before.before.before.before.before.before.before.before.before.before.cell-of.ensures c.before.before.before.before.before.before.before.before.before.before.before.before.before.before.before.before.if2.false _ _ _ c.before.before.before.before.before.before.before.before.before.before.before.before.before.before.before.item-at.ensures c.before.before.before.before.before.before.before.before.before.before.before.before.before.before.item-at2.ensures c.before.before.before.before.before.before.before.before.before.before.before.before.before.item-at3.ensures c.before.before.before.before.before.before.before.before.before.before.before.before.before.before.before.before.before.before.before.before.before.before.before.args.t.now c.before.before.before.before.before.before.before.before.before.before.before.before.before.before.before.before.before.before.before.before.before.before.before.args.used c.before.before.before.before.before.before.before.before.before.before.before.before.before.before.before.before.before.before.if1.false _ _ c.before.before.before.before.before.before.before.before.is_Signed.ensures c.before.before.before.before.before.before.before.before.before.cell-of2.ensures c.before.before.before.before.before.before.before.before.before.before.before.if3.false _ _ c.before.before.before.before.before.put-sorted.ensures c.before.before.before.before.before.before.before.before.before.before.if4.false)
 
 mul-put-cells : tie.Need-overflow-mul-put-cells
 mul-put-cells c = search rules

@@ -1,4 +1,4 @@
-use Rattle.amounts.proofs.Rowwise.{no_room, in-rise}
+use Rattle.amounts.proofs.Rowwise.{no_room, in_rise}
 use lib.Seq.{length-take-le}
 use mathlib.Core.Path.{sym}
 use native.Mathlib.Omega.{arith}
@@ -52,7 +52,7 @@ same-length-4 : tie.Need-same-length-4
 same-length-4 c = search rules
 
 returns-3 : tie.Need-returns-3
-returns-3 c = in-rise _ _ _ _ _ _ _ c.before.before.before.before.before.before.before.before.before.before.before.before.before.put-keys.ensures _ _ (omega (arith, c.before.before.before.before.before.before.before.if2.false)) c.before.before.before.before.sort.ensures
+returns-3 c = in_rise _ _ _ _ _ _ _ c.before.before.before.before.before.before.before.before.before.before.before.before.before.put-keys.ensures _ _ (omega (arith, c.before.before.before.before.before.before.before.if2.false)) c.before.before.before.before.sort.ensures
 
 pub put-sorted-spec : {M : Type 1} → statement M
 put-sorted-spec =

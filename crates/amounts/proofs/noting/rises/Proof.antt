@@ -1,6 +1,6 @@
 use native.Mathlib.Omega.{arith}
 use borrow.Author.Rules.{rules}
-use Rattle.amounts.proofs.Rises.{Left, left_start, left-more, left_end, falls}
+use Rattle.amounts.proofs.Rises.{Left, left_start, left_more, left_end, falls}
 use lib.ListN.{length}
 use Prim.Native.Nat.{◌-◌}
 use Rattle.amounts.proofs.noting.rises.Statement.{statement}
@@ -39,7 +39,7 @@ loop_less : tie.Need-loop-smaller invariant_loop decreases_loop
 loop_less c = omega arith
 
 loop_again : tie.Need-loop-preserved invariant_loop decreases_loop
-loop_again c = left-more _ _ _ (omega arith) (omega arith) c.before.before.before.before.loop.invariant
+loop_again c = left_more _ _ _ (omega arith) (omega arith) c.before.before.before.before.loop.invariant
 
 returns-2 : tie.Need-returns-2 invariant_loop decreases_loop
 returns-2 c = left_end _ _ _ (omega arith) c.before.loop.invariant

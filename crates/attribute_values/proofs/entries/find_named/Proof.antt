@@ -1,5 +1,5 @@
 use native.Mathlib.Omega.{arith}
-use Rattle.attribute_values.proofs.Seeking.{loop-stop, loop-other, loop-pass, loop-done}
+use Rattle.attribute_values.proofs.Seeking.{loop_stop, loop_other, loop_pass, loop_done}
 use Rattle.attribute_values.specs.Rows.{named_at, picked_at, seek}
 use borrow.Author.Tests.{not-true, not-false}
 use Prim.Native.Nat.{◌-◌, ◌≤◌}
@@ -30,13 +30,13 @@ loop_less : tie.Need-loop-smaller invariant_loop decreases_loop
 loop_less c = omega arith
 
 loop_again : tie.Need-loop-preserved invariant_loop decreases_loop
-loop_again c = (omega (arith, c.before.before.before.loop.invariant.0), loop-pass _ _ (c.before.before.before.before.before.before.before.before.before.args.e) (c.before.before.before.loop.k) (c.before.before.before.loop.n) _ (c.before.before.before.loop.invariant.1) (omega arith) (sym c.before.is-named.ensures ∙ not-true _ c.if1.true))
+loop_again c = (omega (arith, c.before.before.before.loop.invariant.0), loop_pass _ _ (c.before.before.before.before.before.before.before.before.before.args.e) (c.before.before.before.loop.k) (c.before.before.before.loop.n) _ (c.before.before.before.loop.invariant.1) (omega arith) (sym c.before.is-named.ensures ∙ not-true _ c.if1.true))
 
 is-picked-requires : tie.Need-is-picked-requires invariant_loop decreases_loop
 is-picked-requires c κs = tt
 
 returns : tie.Need-returns invariant_loop decreases_loop
-returns c = loop-stop _ _ (c.before.before.before.before.before.before.before.before.before.before.before.args.e) (c.before.before.before.before.before.loop.k) (c.before.before.before.before.before.loop.n) _ (c.before.before.before.before.before.loop.invariant.1) (omega arith) (sym c.before.before.before.is-named.ensures ∙ not-false _ c.before.before.if1.false) (sym c.before.is-picked.ensures ∙ c.if2.true)
+returns c = loop_stop _ _ (c.before.before.before.before.before.before.before.before.before.before.before.args.e) (c.before.before.before.before.before.loop.k) (c.before.before.before.before.before.loop.n) _ (c.before.before.before.before.before.loop.invariant.1) (omega arith) (sym c.before.before.before.is-named.ensures ∙ not-false _ c.before.before.if1.false) (sym c.before.is-picked.ensures ∙ c.if2.true)
 
 add-k-2 : tie.Need-overflow-add-k-2 invariant_loop decreases_loop
 add-k-2 c = omega arith
@@ -48,10 +48,10 @@ loop-less-2 : tie.Need-loop-smaller-2 invariant_loop decreases_loop
 loop-less-2 c = omega arith
 
 loop-again-2 : tie.Need-loop-preserved-2 invariant_loop decreases_loop
-loop-again-2 c = (omega (arith, c.before.before.before.before.before.loop.invariant.0), loop-other _ _ (c.before.before.before.before.before.before.before.before.before.before.before.args.e) (c.before.before.before.before.before.loop.k) (c.before.before.before.before.before.loop.n) _ (c.before.before.before.before.before.loop.invariant.1) (omega arith) (sym c.before.before.before.is-named.ensures ∙ not-false _ c.before.before.if1.false) (sym c.before.is-picked.ensures ∙ c.if2.false))
+loop-again-2 c = (omega (arith, c.before.before.before.before.before.loop.invariant.0), loop_other _ _ (c.before.before.before.before.before.before.before.before.before.before.before.args.e) (c.before.before.before.before.before.loop.k) (c.before.before.before.before.before.loop.n) _ (c.before.before.before.before.before.loop.invariant.1) (omega arith) (sym c.before.before.before.is-named.ensures ∙ not-false _ c.before.before.if1.false) (sym c.before.is-picked.ensures ∙ c.if2.false))
 
 returns-2 : tie.Need-returns-2 invariant_loop decreases_loop
-returns-2 c = loop-done _ _ (c.before.before.before.before.before.before.before.args.e) (c.before.loop.k) (c.before.loop.n) _ (c.before.loop.invariant.1) (omega arith)
+returns-2 c = loop_done _ _ (c.before.before.before.before.before.before.before.args.e) (c.before.loop.k) (c.before.loop.n) _ (c.before.loop.invariant.1) (omega arith)
 
 pub find-named-spec : {M : Type 1} → statement M
 find-named-spec =

@@ -1,6 +1,6 @@
 use native.Mathlib.Omega.{arith}
 use borrow.Author.Rules.{rules}
-use Rattle.attribute_values.proofs.Stepping.{found_low, found_high, path-lost, path-end, path-on, entry-below}
+use Rattle.attribute_values.proofs.Stepping.{found_low, found_high, path_lost, path_end, path_on, entry_below}
 use Rattle.attribute_values.specs.Rows.{by_steps_at}
 use Rattle.attribute_values.specs.Paths.{steps}
 use lib.ListN.{length, drop}
@@ -44,22 +44,22 @@ enum_told : tie.Need-enum-told invariant_loop decreases_loop
 enum_told c = search rules
 
 returns : tie.Need-returns invariant_loop decreases_loop
-returns c = path-lost _ _ _ _ (c.before.before.before.before.before.before.before.before.before.before.args.path.now) (c.before.before.before.before.before.loop.at) (c.before.before.before.before.before.loop.from) (c.before.before.before.before.before.loop.sort) (c.before.before.before.before.before.loop.row) (c.before.before.before.before.before.loop.invariant.0) _ c.before.before.before.before.find-byte.ensures _ (c.before.before.before.before.before.loop.invariant.1) (sym (c.enum_told.given.1) ∙ c.before.before.find-entry.ensures)
+returns c = path_lost _ _ _ _ (c.before.before.before.before.before.before.before.before.before.before.args.path.now) (c.before.before.before.before.before.loop.at) (c.before.before.before.before.before.loop.from) (c.before.before.before.before.before.loop.sort) (c.before.before.before.before.before.loop.row) (c.before.before.before.before.before.loop.invariant.0) _ c.before.before.before.before.find-byte.ensures _ (c.before.before.before.before.before.loop.invariant.1) (sym (c.enum_told.given.1) ∙ c.before.before.find-entry.ensures)
 
 returns-2 : tie.Need-returns-2 invariant_loop decreases_loop
-returns-2 c = path-end _ _ _ _ (c.before.before.before.before.before.before.before.before.before.before.before.before.args.path.now) (c.before.before.before.before.before.before.before.loop.at) (c.before.before.before.before.before.before.before.loop.from) (c.before.before.before.before.before.before.before.loop.sort) (c.before.before.before.before.before.before.before.loop.row) (c.before.before.before.before.before.before.before.loop.invariant.0) _ c.before.before.before.before.before.before.find-byte.ensures _ (c.before.before.before.before.before.before.before.loop.invariant.1) _ (sym (c.before.before.k.given.1) ∙ c.before.before.before.before.find-entry.ensures) c.if1.true
+returns-2 c = path_end _ _ _ _ (c.before.before.before.before.before.before.before.before.before.before.before.before.args.path.now) (c.before.before.before.before.before.before.before.loop.at) (c.before.before.before.before.before.before.before.loop.from) (c.before.before.before.before.before.before.before.loop.sort) (c.before.before.before.before.before.before.before.loop.row) (c.before.before.before.before.before.before.before.loop.invariant.0) _ c.before.before.before.before.before.before.find-byte.ensures _ (c.before.before.before.before.before.before.before.loop.invariant.1) _ (sym (c.before.before.k.given.1) ∙ c.before.before.before.before.find-entry.ensures) c.if1.true
 
 add_at : tie.Need-overflow-add-at invariant_loop decreases_loop
 add_at c = omega arith
 
 add-from : tie.Need-overflow-add-from invariant_loop decreases_loop
-add-from c = omega (arith, entry-below _ _ _ _ _ _ _ _ _ (sym (c.before.before.k.given.1) ∙ c.before.before.before.before.find-entry.ensures))
+add-from c = omega (arith, entry_below _ _ _ _ _ _ _ _ _ (sym (c.before.before.k.given.1) ∙ c.before.before.before.before.find-entry.ensures))
 
 loop_less : tie.Need-loop-smaller invariant_loop decreases_loop
 loop_less c = omega (arith, c.before.before.before.before.before.before.find-byte.ensures, found_low 46 (c.before.before.before.before.before.before.before.before.before.before.before.before.args.path.now) (c.before.before.before.before.before.before.before.loop.at))
 
 loop_again : tie.Need-loop-preserved invariant_loop decreases_loop
-loop_again c = (omega arith, path-on _ _ _ _ (c.before.before.before.before.before.before.before.before.before.before.before.before.args.path.now) (c.before.before.before.before.before.before.before.loop.at) (c.before.before.before.before.before.before.before.loop.from) (c.before.before.before.before.before.before.before.loop.sort) (c.before.before.before.before.before.before.before.loop.row) (c.before.before.before.before.before.before.before.loop.invariant.0) _ c.before.before.before.before.before.before.find-byte.ensures _ (c.before.before.before.before.before.before.before.loop.invariant.1) _ (sym (c.before.before.k.given.1) ∙ c.before.before.before.before.find-entry.ensures) c.if1.false)
+loop_again c = (omega arith, path_on _ _ _ _ (c.before.before.before.before.before.before.before.before.before.before.before.before.args.path.now) (c.before.before.before.before.before.before.before.loop.at) (c.before.before.before.before.before.before.before.loop.from) (c.before.before.before.before.before.before.before.loop.sort) (c.before.before.before.before.before.before.before.loop.row) (c.before.before.before.before.before.before.before.loop.invariant.0) _ c.before.before.before.before.before.before.find-byte.ensures _ (c.before.before.before.before.before.before.before.loop.invariant.1) _ (sym (c.before.before.k.given.1) ∙ c.before.before.before.before.find-entry.ensures) c.if1.false)
 
 pub find-value-spec : {M : Type 1} → statement M
 find-value-spec =

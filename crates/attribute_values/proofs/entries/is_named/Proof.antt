@@ -1,4 +1,4 @@
-use Rattle.attribute_values.proofs.Reading.{other-sort, other_row, own_row}
+use Rattle.attribute_values.proofs.Reading.{other_sort, other_row, own_row}
 use borrow.Author.Rules.{rules}
 use Rattle.attribute_values.proofs.entries.is_named.Statement.{statement}
 use Rattle.attribute_values.proofs.entries.is_named.Tie as tie
@@ -12,7 +12,7 @@ cell-of-requires : tie.Need-cell-of-requires
 cell-of-requires c κs = search rules
 
 returns : tie.Need-returns
-returns c = other-sort _ _ _ _ _ _ _ _ c.before.cell-of.ensures c.if1.true
+returns c = other_sort _ _ _ _ _ _ _ _ c.before.cell-of.ensures c.if1.true
 
 cell-of-requires-2 : tie.Need-cell-of-requires-2
 cell-of-requires-2 c κs = search rules

@@ -1,6 +1,6 @@
 use native.Mathlib.Omega.{arith}
 use Rattle.attribute_values.specs.Rows.{called_at}
-use Rattle.rows.proofs.Searches.{find-stop, find_more, find-end}
+use Rattle.rows.proofs.Searches.{find_stop, find_more, find_end}
 use Rattle.rows.specs.Search.{find_from}
 use Prim.Native.Nat.{◌-◌}
 use mathlib.Core.Path.{◌≡◌, refl, sym, ◌∙◌}
@@ -23,7 +23,7 @@ is-called-requires : tie.Need-is-called-requires invariant_loop decreases_loop
 is-called-requires c κs = tt
 
 returns : tie.Need-returns invariant_loop decreases_loop
-returns c = sym (find-stop _ _ (c.before.before.before.loop.i) (omega arith) (sym c.before.is-called.ensures ∙ c.if1.true)) ∙ c.before.before.before.loop.invariant
+returns c = sym (find_stop _ _ (c.before.before.before.loop.i) (omega arith) (sym c.before.is-called.ensures ∙ c.if1.true)) ∙ c.before.before.before.loop.invariant
 
 add-i : tie.Need-overflow-add-i invariant_loop decreases_loop
 add-i c = omega arith
@@ -35,7 +35,7 @@ loop_again : tie.Need-loop-preserved invariant_loop decreases_loop
 loop_again c = sym (find_more _ _ (c.before.before.before.loop.i) (omega arith) (sym c.before.is-called.ensures ∙ c.if1.false)) ∙ c.before.before.before.loop.invariant
 
 returns-2 : tie.Need-returns-2 invariant_loop decreases_loop
-returns-2 c = sym (find-end _ _ (c.before.loop.i) (omega arith)) ∙ c.before.loop.invariant
+returns-2 c = sym (find_end _ _ (c.before.loop.i) (omega arith)) ∙ c.before.loop.invariant
 
 pub find-object-spec : {M : Type 1} → statement M
 find-object-spec =

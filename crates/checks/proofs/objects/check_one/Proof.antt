@@ -1,4 +1,4 @@
-use Rattle.checks.proofs.Applications.{met-old, met-new}
+use Rattle.checks.proofs.Applications.{met_old, met_new}
 use native.Mathlib.Omega.{arith}
 use mathlib.Core.Path.{sym, ◌∙◌}
 use borrow.Author.Rules.{rules}
@@ -17,7 +17,7 @@ get-requires : tie.Need-get-requires
 get-requires c κs = search rules
 
 returns : tie.Need-returns
-returns c = (omega arith, λ s n f N h M. met-old N h M (λ e. c.if1.true (c.before.get.ensures ∙ e)))
+returns c = (omega arith, λ s n f N h M. met_old N h M (λ e. c.if1.true (c.before.get.ensures ∙ e)))
 
 cell-of-requires : tie.Need-cell-of-requires
 cell-of-requires c κs = search rules
@@ -44,7 +44,7 @@ add-t13 : tie.Need-overflow-add-t13
 add-t13 c = search rules
 
 returns-2 : tie.Need-returns-2
-returns-2 c = (omega arith, λ s n f N h M. met-new N h M (sym c.before.before.before.before.before.before.before.before.get.ensures ∙ c.before.before.before.before.before.before.before.if1.false) c.before.before.before.before.before.before.cell-of.ensures c.before.before.before.before.before.cell-of2.ensures c.before.before.before.before.fault-if.ensures c.before.before.before.too_many.ensures c.before.before.sooner.ensures c.before.sooner2.ensures c.one_more.ensures)
+returns-2 c = (omega arith, λ s n f N h M. met_new N h M (sym c.before.before.before.before.before.before.before.before.get.ensures ∙ c.before.before.before.before.before.before.before.if1.false) c.before.before.before.before.before.before.cell-of.ensures c.before.before.before.before.before.cell-of2.ensures c.before.before.before.before.fault-if.ensures c.before.before.before.too_many.ensures c.before.before.sooner.ensures c.before.sooner2.ensures c.one_more.ensures)
 
 pub check-one-spec : {M : Type 1} → statement M
 check-one-spec =

@@ -4,7 +4,7 @@ use Prim.Native.Nat.{ℕ, ◌-◌, ◌≤◌}
 use native.Mathlib.Omega.{arith}
 use Rattle.meaning.specs.Syntax.{File}
 use Rattle.checks.specs.Promises.{Titled, Unclashed}
-use Rattle.checks.proofs.Names.{clear_start, name-clash, name-clear, clear_end}
+use Rattle.checks.proofs.Names.{clear_start, name_clash, name_clear, clear_end}
 use Rattle.checks.proofs.objects.name_fault.Statement.{statement}
 use Rattle.checks.proofs.objects.name_fault.Tie as tie
 use Rattle.checks.proofs.objects.name_fault.Reads as reads
@@ -34,7 +34,7 @@ cell-of-requires-3 : tie.Need-cell-of-requires-3 invariant_loop decreases_loop
 cell-of-requires-3 c κs = search rules
 
 returns : tie.Need-returns invariant_loop decreases_loop
-returns c = λ s f N. name-clash N (omega arith) (c.before.before.before.before.before.before.loop.invariant.1 s f N) _ _ _ _ c.before.before.before.before.get.ensures c.before.before.before.cell-of.ensures c.before.before.cell-of2.ensures c.before.if1.true c.cell-of3.ensures
+returns c = λ s f N. name_clash N (omega arith) (c.before.before.before.before.before.before.loop.invariant.1 s f N) _ _ _ _ c.before.before.before.before.get.ensures c.before.before.before.cell-of.ensures c.before.before.cell-of2.ensures c.before.if1.true c.cell-of3.ensures
 
 add-j : tie.Need-overflow-add-j invariant_loop decreases_loop
 add-j c = omega arith
@@ -43,7 +43,7 @@ loop_less : tie.Need-loop-smaller invariant_loop decreases_loop
 loop_less c = omega arith
 
 loop_again : tie.Need-loop-preserved invariant_loop decreases_loop
-loop_again c = (omega arith, λ s f N. name-clear N (omega arith) (c.before.before.before.before.before.loop.invariant.1 s f N) _ _ _ c.before.before.before.get.ensures c.before.before.cell-of.ensures c.before.cell-of2.ensures c.if1.false)
+loop_again c = (omega arith, λ s f N. name_clear N (omega arith) (c.before.before.before.before.before.loop.invariant.1 s f N) _ _ _ c.before.before.before.get.ensures c.before.before.cell-of.ensures c.before.cell-of2.ensures c.if1.false)
 
 returns-2 : tie.Need-returns-2 invariant_loop decreases_loop
 returns-2 c = λ s f N. clear_end (omega arith) (omega arith) (c.before.loop.invariant.1 s f N)

@@ -1,6 +1,6 @@
 -- `comparing::columns::few_columns` meets its contract.
 -- Assumes nothing.
-use Rattle.indexes.proofs.Throughs.{room-long}
+use Rattle.indexes.proofs.Throughs.{room_long}
 use Rattle.comparing.proofs.Lined.{roomy_of, orderable_of}
 use borrow.Author.Rules.{rules}
 use native.Mathlib.Omega.{arith}
@@ -11,25 +11,25 @@ array-borrow-prefix-names : tie.Need-array-borrow-prefix-names
 array-borrow-prefix-names c = search rules
 
 slice-aggregate-object-columns : tie.Need-slice-aggregate-object-columns
-slice-aggregate-object-columns c = room-long _ _ c.before.before.before.before.before.before.before.requires.1
+slice-aggregate-object-columns c = room_long _ _ c.before.before.before.before.before.before.before.requires.1
 
 array-borrow-prefix-places : tie.Need-array-borrow-prefix-places
 array-borrow-prefix-places c = search rules
 
 slice-aggregate-object-columns-2 : tie.Need-slice-aggregate-object-columns-2
-slice-aggregate-object-columns-2 c = room-long _ _ c.before.before.before.before.before.before.before.before.requires.1
+slice-aggregate-object-columns-2 c = room_long _ _ c.before.before.before.before.before.before.before.before.requires.1
 
 array-borrow-prefix-x : tie.Need-array-borrow-prefix-x
 array-borrow-prefix-x c = search rules
 
 slice-aggregate-object-columns-3 : tie.Need-slice-aggregate-object-columns-3
-slice-aggregate-object-columns-3 c = room-long _ _ c.before.before.before.before.before.before.before.before.before.before.requires.1
+slice-aggregate-object-columns-3 c = room_long _ _ c.before.before.before.before.before.before.before.before.before.before.requires.1
 
 slice-aggregate-object-columns-4 : tie.Need-slice-aggregate-object-columns-4
 slice-aggregate-object-columns-4 c = search rules
 
 object-columns-requires : tie.Need-object-columns-requires
-object-columns-requires c κs = let p = c.before.before.before.before.before.before.before.before.before.before.before.requires.1 in (roomy_of _ _ _ _ _ c.before.before.before.before.before.before.before.before.before.before.before.requires.0 (room-long _ _ c.before.before.before.before.before.before.before.before.before.before.before.requires.1) (room-long _ _ c.before.before.before.before.before.before.before.before.before.before.before.requires.1), orderable_of _ _ _ (room-long _ _ c.before.before.before.before.before.before.before.before.before.before.before.requires.1) (omega (arith, p)))
+object-columns-requires c κs = let p = c.before.before.before.before.before.before.before.before.before.before.before.requires.1 in (roomy_of _ _ _ _ _ c.before.before.before.before.before.before.before.before.before.before.before.requires.0 (room_long _ _ c.before.before.before.before.before.before.before.before.before.before.before.requires.1) (room_long _ _ c.before.before.before.before.before.before.before.before.before.before.before.requires.1), orderable_of _ _ _ (room_long _ _ c.before.before.before.before.before.before.before.before.before.before.before.requires.1) (omega (arith, p)))
 
 same_length : tie.Need-same-length
 same_length c = search rules

@@ -1,6 +1,6 @@
 -- `comparing::couples::couple_few` meets its contract.
 -- Assumes nothing.
-use Rattle.indexes.proofs.Throughs.{room-long}
+use Rattle.indexes.proofs.Throughs.{room_long}
 use Rattle.comparing.proofs.Lined.{coupling, coupled_long, orderable_of}
 use borrow.Author.Rules.{rules}
 use native.Mathlib.Omega.{arith}
@@ -11,7 +11,7 @@ array-borrow-prefix-cells : tie.Need-array-borrow-prefix-cells
 array-borrow-prefix-cells c = search rules
 
 slice-aggregate-couple : tie.Need-slice-aggregate-couple
-slice-aggregate-couple c = room-long _ _ c.before.before.before.before.before.before.before.before.before.before.before.requires.2.0
+slice-aggregate-couple c = room_long _ _ c.before.before.before.before.before.before.before.before.before.before.before.requires.2.0
 
 slice-aggregate-couple-2 : tie.Need-slice-aggregate-couple-2
 slice-aggregate-couple-2 c = search rules
@@ -20,19 +20,19 @@ array-borrow-prefix-ps : tie.Need-array-borrow-prefix-ps
 array-borrow-prefix-ps c = search rules
 
 slice-aggregate-couple-3 : tie.Need-slice-aggregate-couple-3
-slice-aggregate-couple-3 c = room-long _ _ c.before.before.before.before.before.before.before.before.before.before.before.before.before.requires.2.1
+slice-aggregate-couple-3 c = room_long _ _ c.before.before.before.before.before.before.before.before.before.before.before.before.before.requires.2.1
 
 array-borrow-prefix-back : tie.Need-array-borrow-prefix-back
 array-borrow-prefix-back c = search rules
 
 slice-aggregate-couple-4 : tie.Need-slice-aggregate-couple-4
-slice-aggregate-couple-4 c = room-long _ _ c.before.before.before.before.before.before.before.before.before.before.before.before.before.before.requires.2.0
+slice-aggregate-couple-4 c = room_long _ _ c.before.before.before.before.before.before.before.before.before.before.before.before.before.before.requires.2.0
 
 couple-requires : tie.Need-couple-requires
-couple-requires c κs = let p = c.before.before.before.before.before.before.before.before.before.before.before.before.before.before.requires.2.0 in (coupling _ _ _ _ _ _ _ _ c.before.before.before.before.before.before.before.before.before.before.before.before.before.before.requires.0.0 c.before.before.before.before.before.before.before.before.before.before.before.before.before.before.requires.0.1 c.before.before.before.before.before.before.before.before.before.before.before.before.before.before.requires.1 (room-long _ _ c.before.before.before.before.before.before.before.before.before.before.before.before.before.before.requires.2.1) (room-long _ _ c.before.before.before.before.before.before.before.before.before.before.before.before.before.before.requires.2.0), orderable_of _ _ _ (room-long _ _ c.before.before.before.before.before.before.before.before.before.before.before.before.before.before.requires.2.0) (omega (arith, p)))
+couple-requires c κs = let p = c.before.before.before.before.before.before.before.before.before.before.before.before.before.before.requires.2.0 in (coupling _ _ _ _ _ _ _ _ c.before.before.before.before.before.before.before.before.before.before.before.before.before.before.requires.0.0 c.before.before.before.before.before.before.before.before.before.before.before.before.before.before.requires.0.1 c.before.before.before.before.before.before.before.before.before.before.before.before.before.before.requires.1 (room_long _ _ c.before.before.before.before.before.before.before.before.before.before.before.before.before.before.requires.2.1) (room_long _ _ c.before.before.before.before.before.before.before.before.before.before.before.before.before.before.requires.2.0), orderable_of _ _ _ (room_long _ _ c.before.before.before.before.before.before.before.before.before.before.before.before.before.before.requires.2.0) (omega (arith, p)))
 
 returns : tie.Need-returns
-returns c = coupled_long _ _ _ _ _ _ _ _ _ _ _ _ _ _ _ (room-long _ _ c.before.before.before.before.before.before.before.before.before.before.before.before.before.before.before.before.before.before.before.requires.2.0) c.before.before.before.before.couple.ensures
+returns c = coupled_long _ _ _ _ _ _ _ _ _ _ _ _ _ _ _ (room_long _ _ c.before.before.before.before.before.before.before.before.before.before.before.before.before.before.before.before.before.before.before.requires.2.0) c.before.before.before.before.couple.ensures
 
 pub couple-few-spec : {M : Type 1} → statement M
 couple-few-spec =

@@ -3,7 +3,7 @@
 use mathlib.Core.Path.{◌≡◌, sym, ◌∙◌}
 use Prim.Native.Nat.{◌-◌}
 use native.Mathlib.Omega.{arith}
-use Rattle.comparing.proofs.Pairing.{Gathering, gathering_start, gathering-next, gathering_end}
+use Rattle.comparing.proofs.Pairing.{Gathering, gathering_start, gathering_next, gathering_end}
 use Rattle.comparing.proofs.pairs.first_values.Statement.{statement}
 use Rattle.comparing.proofs.pairs.first_values.Tie as tie
 use Rattle.comparing.proofs.pairs.first_values.Reads as reads
@@ -43,7 +43,7 @@ loop_less c = omega arith
 
 -- src/pairs.rt:69:5
 loop_again : tie.Need-loop-preserved invariant_loop decreases_loop
-loop_again c = let l = c.before.before.before in gathering-next _ _ _ _ _ _ _ _ _ _ _ _ l.loop.all c.one-first.result l.loop.k _ l.loop.invariant (omega arith) c.before.get.ensures c.one-first.ensures
+loop_again c = let l = c.before.before.before in gathering_next _ _ _ _ _ _ _ _ _ _ _ _ l.loop.all c.one-first.result l.loop.k _ l.loop.invariant (omega arith) c.before.get.ensures c.one-first.ensures
 
 -- src/pairs.rt:50:1
 returns : tie.Need-returns invariant_loop decreases_loop

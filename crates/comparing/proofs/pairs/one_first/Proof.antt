@@ -1,7 +1,7 @@
 -- `comparing::pairs::one_first` meets its contract.
 -- Assumes nothing.
 use mathlib.Core.Path.{◌≡◌, sym, ◌∙◌}
-use Rattle.comparing.proofs.Pairing.{also-alone, also-same, also-both}
+use Rattle.comparing.proofs.Pairing.{also_alone, also_same, also_both}
 use borrow.Author.Rules.{rules}
 use Rattle.comparing.proofs.pairs.one_first.Statement.{statement}
 use Rattle.comparing.proofs.pairs.one_first.Tie as tie
@@ -20,7 +20,7 @@ and-one-requires c κs = search rules
 
 -- src/pairs.rt:35:9
 returns : tie.Need-returns
-returns c = also-alone _ _ _ _ _ _ _ _ _ _ _ _ c.before.if1.true c.and_one.ensures
+returns c = also_alone _ _ _ _ _ _ _ _ _ _ _ _ c.before.if1.true c.and_one.ensures
 
 -- src/pairs.rt:37:59
 sub-same-value : tie.Need-overflow-sub-same-value
@@ -32,7 +32,7 @@ same-value-requires c κs = search rules
 
 -- src/pairs.rt:38:9
 returns-2 : tie.Need-returns-2
-returns-2 c = also-same _ _ _ _ _ _ _ _ _ _ _ _ c.before.before.if1.false c.before.same-value.ensures c.if2.true
+returns-2 c = also_same _ _ _ _ _ _ _ _ _ _ _ _ c.before.before.if1.false c.before.same-value.ensures c.if2.true
 
 -- src/pairs.rt:43:22
 add-t17 : tie.Need-overflow-add-t17
@@ -44,7 +44,7 @@ and-one-requires-2 c κs = search rules
 
 -- src/pairs.rt:12:1
 returns-3 : tie.Need-returns-3
-returns-3 c = also-both _ _ _ _ _ _ _ _ _ _ _ _ _ c.before.before.before.if1.false c.before.before.same-value.ensures c.before.if2.false c.and-one2.ensures
+returns-3 c = also_both _ _ _ _ _ _ _ _ _ _ _ _ _ c.before.before.before.if1.false c.before.before.same-value.ensures c.before.if2.false c.and-one2.ensures
 
 pub one-first-spec : {M : Type 1} → statement M
 one-first-spec =

@@ -1,4 +1,4 @@
-use Rattle.comparing.proofs.Seconds.{second-alone, second-met}
+use Rattle.comparing.proofs.Seconds.{second_alone, second_met}
 use borrow.Author.Rules.{rules}
 use Rattle.comparing.proofs.pairs.one_second.Statement.{statement}
 use Rattle.comparing.proofs.pairs.one_second.Tie as tie
@@ -13,10 +13,10 @@ and-one-requires : tie.Need-and-one-requires
 and-one-requires c κs = search rules
 
 returns : tie.Need-returns
-returns c = second-alone _ _ _ _ _ _ c.before.if1.true c.and_one.ensures
+returns c = second_alone _ _ _ _ _ _ c.before.if1.true c.and_one.ensures
 
 returns-2 : tie.Need-returns-2
-returns-2 c = second-met _ _ _ _ _ c.if1.false
+returns-2 c = second_met _ _ _ _ _ c.if1.false
 
 pub one-second-spec : {M : Type 1} → statement M
 one-second-spec = tie.close (tie.spec add-t8 and-one-requires returns returns-2)

@@ -2,7 +2,7 @@ use native.Mathlib.Omega.{arith}
 use mathlib.Core.Path.{refl}
 use Prim.Native.Nat.{◌-◌}
 use lib.ListN.{length}
-use Rattle.comparing.proofs.Seconds.{Seconding, seconding-start, seconding-next, seconding-end}
+use Rattle.comparing.proofs.Seconds.{Seconding, seconding_start, seconding_next, seconding_end}
 use Rattle.comparing.proofs.pairs.second_values.Statement.{statement}
 use Rattle.comparing.proofs.pairs.second_values.Tie as tie
 use Rattle.comparing.proofs.pairs.second_values.Reads as reads
@@ -16,7 +16,7 @@ abbrev decreases_loop : tie.decreases-loop
 decreases_loop r ps x y all₀ k₀ all k = length ps - k
 
 loop_holds : tie.Need-loop-init invariant_loop decreases_loop
-loop_holds c = seconding-start _ _ _ _ _ c.before.requires
+loop_holds c = seconding_start _ _ _ _ _ c.before.requires
 
 mul-one-second : tie.Need-overflow-mul-one-second invariant_loop decreases_loop
 mul-one-second c = omega arith
@@ -37,10 +37,10 @@ loop_less : tie.Need-loop-smaller invariant_loop decreases_loop
 loop_less c = omega arith
 
 loop_again : tie.Need-loop-preserved invariant_loop decreases_loop
-loop_again c = seconding-next _ _ _ _ _ c.before.before.before.loop.all c.one-second.result c.before.before.before.loop.k _ c.before.before.before.loop.invariant (omega arith) refl c.one-second.ensures
+loop_again c = seconding_next _ _ _ _ _ c.before.before.before.loop.all c.one-second.result c.before.before.before.loop.k _ c.before.before.before.loop.invariant (omega arith) refl c.one-second.ensures
 
 returns : tie.Need-returns invariant_loop decreases_loop
-returns c = seconding-end _ _ _ _ _ _ c.before.loop.k c.before.loop.invariant (omega arith)
+returns c = seconding_end _ _ _ _ _ _ c.before.loop.k c.before.loop.invariant (omega arith)
 
 pub second-values-spec : {M : Type 1} → statement M
 second-values-spec =

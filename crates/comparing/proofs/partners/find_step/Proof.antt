@@ -1,6 +1,6 @@
 -- `comparing::partners::find_step` meets its contract: of the rows that are asked for, the first is that of the cell at the place.
 -- Assumes nothing.
-use Rattle.comparing.proofs.Sought.{finds_past, finds-other, finds-there}
+use Rattle.comparing.proofs.Sought.{finds_past, finds_other, finds_there}
 use native.Mathlib.Omega.{arith}
 use Rattle.comparing.proofs.partners.find_step.Statement.{statement}
 use Rattle.comparing.proofs.partners.find_step.Tie as tie
@@ -24,13 +24,13 @@ shared-slice-read-c : tie.Need-shared-slice-read-c
 shared-slice-read-c c = omega arith
 
 returns-2 : tie.Need-returns-2
-returns-2 c = finds-other _ _ _ _ _ c.before.before.before.before.key_of.ensures c.before.before.before.first-place.ensures c.before.before.if1.false c.if2.true
+returns-2 c = finds_other _ _ _ _ _ c.before.before.before.before.key_of.ensures c.before.before.before.first-place.ensures c.before.before.if1.false c.if2.true
 
 add-result : tie.Need-overflow-add-result
 add-result c = omega arith
 
 returns-3 : tie.Need-returns-3
-returns-3 c = finds-there _ _ _ _ _ c.before.before.before.before.key_of.ensures c.before.before.before.first-place.ensures c.before.before.if1.false c.if2.false
+returns-3 c = finds_there _ _ _ _ _ c.before.before.before.before.key_of.ensures c.before.before.before.first-place.ensures c.before.before.if1.false c.if2.false
 
 pub find-step-spec : {M : Type 1} → statement M
 find-step-spec =

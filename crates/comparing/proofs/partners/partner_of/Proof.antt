@@ -1,6 +1,6 @@
 -- `comparing::partners::partner_of` meets its contract.
 -- Assumes nothing.
-use Rattle.comparing.proofs.Partnering.{found-top, found_none, found-under}
+use Rattle.comparing.proofs.Partnering.{found_top, found_none, found_under}
 use native.Mathlib.Omega.{arith}
 use Rattle.comparing.proofs.partners.partner_of.Statement.{statement}
 use Rattle.comparing.proofs.partners.partner_of.Tie as tie
@@ -9,7 +9,7 @@ find-step-requires : tie.Need-find-step-requires
 find-step-requires c κs = tt
 
 returns : tie.Need-returns
-returns c = found-top _ _ _ _ _ c.before.if1.true c.find-step.ensures
+returns c = found_top _ _ _ _ _ c.before.if1.true c.find-step.ensures
 
 sub-get : tie.Need-overflow-sub-get
 sub-get c = omega arith
@@ -24,7 +24,7 @@ find-step-requires-2 : tie.Need-find-step-requires-2
 find-step-requires-2 c κs = tt
 
 returns-3 : tie.Need-returns-3
-returns-3 c = found-under _ _ _ _ _ _ (omega arith) c.before.before.get.ensures c.before.if2.false c.find-step2.ensures
+returns-3 c = found_under _ _ _ _ _ _ (omega arith) c.before.before.get.ensures c.before.if2.false c.find-step2.ensures
 
 pub partner-of-spec : {M : Type 1} → statement M
 partner-of-spec =

@@ -1,6 +1,6 @@
 -- `comparing::positions::position_of` meets its contract: of the rows before that are asked for, the last is that of the cell before the place.
 -- Assumes nothing.
-use Rattle.comparing.proofs.Sought.{placed_past, placed_other, placed-there, small_found}
+use Rattle.comparing.proofs.Sought.{placed_past, placed_other, placed_there, small_found}
 use native.Mathlib.Omega.{arith}
 use Rattle.comparing.proofs.positions.position_of.Statement.{statement}
 use Rattle.comparing.proofs.positions.position_of.Tie as tie
@@ -39,7 +39,7 @@ add-result : tie.Need-overflow-add-result
 add-result c = let g = small_found c.before.before.before.before.before.before.before.before.args.before.now _ _ c.before.before.before.before.before.before.before.before.requires.0 c.get.ensures in omega (arith, g)
 
 returns-3 : tie.Need-returns-3
-returns-3 c = let z = c.before.before.before.if1.false in placed-there _ _ _ _ _ _ c.before.before.before.before.before.before.before.before.requires.0 c.before.before.before.before.before.before.before.before.requires.1 c.before.before.before.before.before.key_of.ensures c.before.before.before.before.first-place.ensures _ c.get.ensures (omega (arith, z)) c.before.if2.false
+returns-3 c = let z = c.before.before.before.if1.false in placed_there _ _ _ _ _ _ c.before.before.before.before.before.before.before.before.requires.0 c.before.before.before.before.before.before.before.before.requires.1 c.before.before.before.before.before.key_of.ensures c.before.before.before.before.first-place.ensures _ c.get.ensures (omega (arith, z)) c.before.if2.false
 
 pub position-of-spec : {M : Type 1} → statement M
 position-of-spec =

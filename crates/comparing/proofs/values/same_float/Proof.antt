@@ -1,4 +1,4 @@
-use Rattle.comparing.proofs.Countings.{floats-apart, floats_equal}
+use Rattle.comparing.proofs.Countings.{floats_apart, floats_equal}
 use borrow.Author.Tests.{not-true, not-false}
 use mathlib.Core.Path.{refl, sym, ◌∙◌}
 use borrow.Author.Rules.{rules}
@@ -26,7 +26,7 @@ at-most-requires : tie.Need-at-most-requires
 at-most-requires c κs = search rules
 
 returns : tie.Need-returns
-returns c = floats-apart _ _ _ _ _ _ _ _ _ _ c.before.before.before.before.before.cell-of.ensures c.before.before.before.cell-of2.ensures c.before.before.before.before.Float-at.ensures c.before.before.float-at2.ensures (sym c.before.at-most.ensures ∙ not-true _ c.if1.true)
+returns c = floats_apart _ _ _ _ _ _ _ _ _ _ c.before.before.before.before.before.cell-of.ensures c.before.before.before.cell-of2.ensures c.before.before.before.before.Float-at.ensures c.before.before.float-at2.ensures (sym c.before.at-most.ensures ∙ not-true _ c.if1.true)
 
 at-most-requires-2 : tie.Need-at-most-requires-2
 at-most-requires-2 c κs = search rules

@@ -2,7 +2,7 @@
 -- Assumes nothing.
 use mathlib.Core.Path.{◌≡◌, refl, sym, ◌∙◌, ap, ap₂}
 use borrow.Author.Tests.{not-true, not-false}
-use Rattle.comparing.proofs.Countings.{sorts-differ, signs-differ, number-keys, truth-keys, auto-keys, reference-keys, float-keys, word-keys}
+use Rattle.comparing.proofs.Countings.{sorts_differ, signs_differ, number_keys, truth_keys, auto_keys, reference_keys, float_keys, word_keys}
 use borrow.Author.Rules.{rules}
 use Rattle.comparing.proofs.values.same_value.Statement.{statement}
 use Rattle.comparing.proofs.values.same_value.Tie as tie
@@ -18,7 +18,7 @@ same-cell-requires : tie.Need-same-cell-requires
 same-cell-requires c κs = search rules
 
 returns : tie.Need-returns
-returns c = sorts-differ _ _ _ _ _ _ _ _ (sym c.before.same-cell.ensures ∙ not-true _ c.if1.true)
+returns c = sorts_differ _ _ _ _ _ _ _ _ (sym c.before.same-cell.ensures ∙ not-true _ c.if1.true)
 
 cell-of-requires : tie.Need-cell-of-requires
 cell-of-requires c κs = search rules
@@ -27,40 +27,40 @@ same-cell-requires-2 : tie.Need-same-cell-requires-2
 same-cell-requires-2 c κs = search rules
 
 returns-2 : tie.Need-returns-2
-returns-2 c = let t = c.before.before in let e = t.before.before in signs-differ _ _ _ _ _ _ _ _ (sym e.before.same-cell.ensures ∙ not-false _ e.if1.false) (sym t.before.cell-of.ensures ∙ t.if2.true) (sym c.before.same-cell2.ensures ∙ not-true _ c.if3.true)
+returns-2 c = let t = c.before.before in let e = t.before.before in signs_differ _ _ _ _ _ _ _ _ (sym e.before.same-cell.ensures ∙ not-false _ e.if1.false) (sym t.before.cell-of.ensures ∙ t.if2.true) (sym c.before.same-cell2.ensures ∙ not-true _ c.if3.true)
 
 same-cell-requires-3 : tie.Need-same-cell-requires-3
 same-cell-requires-3 c κs = search rules
 
 returns-3 : tie.Need-returns-3
-returns-3 c = let s = c.before in let t = s.before.before in let e = t.before.before in number-keys _ _ _ _ _ _ _ _ _ (sym e.before.same-cell.ensures ∙ not-false _ e.if1.false) (sym t.before.cell-of.ensures ∙ t.if2.true) (sym s.before.same-cell2.ensures ∙ not-false _ s.if3.false) c.same-cell3.ensures
+returns-3 c = let s = c.before in let t = s.before.before in let e = t.before.before in number_keys _ _ _ _ _ _ _ _ _ (sym e.before.same-cell.ensures ∙ not-false _ e.if1.false) (sym t.before.cell-of.ensures ∙ t.if2.true) (sym s.before.same-cell2.ensures ∙ not-false _ s.if3.false) c.same-cell3.ensures
 
 same-cell-requires-4 : tie.Need-same-cell-requires-4
 same-cell-requires-4 c κs = search rules
 
 returns-4 : tie.Need-returns-4
-returns-4 c = let s = c.before in let t = s.before in let e = t.before.before in truth-keys _ _ _ _ _ _ _ _ _ (sym e.before.same-cell.ensures ∙ not-false _ e.if1.false) (sym t.before.cell-of.ensures ∙ s.if4.true) c.same-cell4.ensures
+returns-4 c = let s = c.before in let t = s.before in let e = t.before.before in truth_keys _ _ _ _ _ _ _ _ _ (sym e.before.same-cell.ensures ∙ not-false _ e.if1.false) (sym t.before.cell-of.ensures ∙ s.if4.true) c.same-cell4.ensures
 
 returns-5 : tie.Need-returns-5
-returns-5 c = let t = c.before.before in let e = t.before.before in auto-keys _ _ _ _ _ _ _ _ (sym e.before.same-cell.ensures ∙ not-false _ e.if1.false) (sym t.before.cell-of.ensures ∙ c.if5.true)
+returns-5 c = let t = c.before.before in let e = t.before.before in auto_keys _ _ _ _ _ _ _ _ (sym e.before.same-cell.ensures ∙ not-false _ e.if1.false) (sym t.before.cell-of.ensures ∙ c.if5.true)
 
 same-reference-requires : tie.Need-same-reference-requires
 same-reference-requires c κs = search rules
 
 returns-6 : tie.Need-returns-6
-returns-6 c = let s = c.before in let t = s.before.before.before in let e = t.before.before in reference-keys _ _ _ _ _ _ _ _ _ (sym e.before.same-cell.ensures ∙ not-false _ e.if1.false) (sym t.before.cell-of.ensures ∙ s.if6.true) c.same-reference.ensures
+returns-6 c = let s = c.before in let t = s.before.before.before in let e = t.before.before in reference_keys _ _ _ _ _ _ _ _ _ (sym e.before.same-cell.ensures ∙ not-false _ e.if1.false) (sym t.before.cell-of.ensures ∙ s.if6.true) c.same-reference.ensures
 
 same-float-requires : tie.Need-same-float-requires
 same-float-requires c κs = search rules
 
 returns-7 : tie.Need-returns-7
-returns-7 c = float-keys _ _ _ _ _ _ _ _ _ (sym c.before.before.before.before.before.before.before.before.same-cell.ensures ∙ not-false _ c.before.before.before.before.before.before.before.if1.false) (sym c.before.before.before.before.before.before.cell-of.ensures ∙ c.before.if7.true) c.same_float.ensures
+returns-7 c = float_keys _ _ _ _ _ _ _ _ _ (sym c.before.before.before.before.before.before.before.before.same-cell.ensures ∙ not-false _ c.before.before.before.before.before.before.before.if1.false) (sym c.before.before.before.before.before.before.cell-of.ensures ∙ c.before.if7.true) c.same_float.ensures
 
 same-word-requires : tie.Need-same-word-requires
 same-word-requires c κs = search rules
 
 returns-8 : tie.Need-returns-8
-returns-8 c = word-keys _ _ _ _ _ _ _ _ _ (sym c.before.before.before.before.before.before.before.before.same-cell.ensures ∙ not-false _ c.before.before.before.before.before.before.before.if1.false) (λ z. c.before.before.before.before.before.if2.false (c.before.before.before.before.before.before.cell-of.ensures ∙ z)) (λ z. c.before.before.before.before.if4.false (c.before.before.before.before.before.before.cell-of.ensures ∙ z)) (λ z. c.before.before.before.if5.false (c.before.before.before.before.before.before.cell-of.ensures ∙ z)) (λ z. c.before.before.if6.false (c.before.before.before.before.before.before.cell-of.ensures ∙ z)) (λ z. c.before.if7.false (c.before.before.before.before.before.before.cell-of.ensures ∙ z)) c.same_word.ensures
+returns-8 c = word_keys _ _ _ _ _ _ _ _ _ (sym c.before.before.before.before.before.before.before.before.same-cell.ensures ∙ not-false _ c.before.before.before.before.before.before.before.if1.false) (λ z. c.before.before.before.before.before.if2.false (c.before.before.before.before.before.before.cell-of.ensures ∙ z)) (λ z. c.before.before.before.before.if4.false (c.before.before.before.before.before.before.cell-of.ensures ∙ z)) (λ z. c.before.before.before.if5.false (c.before.before.before.before.before.before.cell-of.ensures ∙ z)) (λ z. c.before.before.if6.false (c.before.before.before.before.before.before.cell-of.ensures ∙ z)) (λ z. c.before.if7.false (c.before.before.before.before.before.before.cell-of.ensures ∙ z)) c.same_word.ensures
 
 pub same-value-spec : {M : Type 1} → statement M
 same-value-spec =

@@ -1,4 +1,4 @@
-use Rattle.copying.proofs.Stretches.{cells-start, cells-turn, cells-past, cells-end}
+use Rattle.copying.proofs.Stretches.{cells_start, cells_turn, cells_past, cells_end}
 use Rattle.copying.specs.Copies.{cells_from}
 use lib.Seq.{sets}
 use lib.ListN.{length, length-set}
@@ -18,13 +18,13 @@ abbrev decreases_loop : tie.decreases-loop
 decreases_loop from at count to₀ place i₀ j₀ to i j = count - i
 
 loop_holds : tie.Need-loop-init invariant_loop decreases_loop
-loop_holds c = (refl, cells-start _ _ _ _ _)
+loop_holds c = (refl, cells_start _ _ _ _ _)
 
 same_length : tie.Need-same-length invariant_loop decreases_loop
 same_length c = c.before.before.loop.invariant.0
 
 returns : tie.Need-returns invariant_loop decreases_loop
-returns c = cells-past _ _ c.before.before.loop.j c.before.before.before.before.before.args.at c.before.before.before.before.before.args.count c.before.before.loop.i (omega arith) ∙ c.before.before.loop.invariant.1
+returns c = cells_past _ _ c.before.before.loop.j c.before.before.before.before.before.args.at c.before.before.before.before.before.args.count c.before.before.loop.i (omega arith) ∙ c.before.before.loop.invariant.1
 
 cell_requires : tie.Need-cell-requires invariant_loop decreases_loop
 cell_requires c κs = tt
@@ -45,13 +45,13 @@ loop_less : tie.Need-loop-smaller invariant_loop decreases_loop
 loop_less c = omega arith
 
 loop_again : tie.Need-loop-preserved invariant_loop decreases_loop
-loop_again c = (simp length-set c.before.before.before.loop.invariant.0, cells-turn _ _ c.before.before.before.loop.j c.before.before.before.before.before.before.args.at c.before.before.before.before.before.before.args.count c.before.before.before.loop.i _ _ (omega arith) c.cell.ensures c.before.before.before.loop.invariant.1)
+loop_again c = (simp length-set c.before.before.before.loop.invariant.0, cells_turn _ _ c.before.before.before.loop.j c.before.before.before.before.before.before.args.at c.before.before.before.before.before.before.args.count c.before.before.before.loop.i _ _ (omega arith) c.cell.ensures c.before.before.before.loop.invariant.1)
 
 same_length_2 : tie.Need-same-length-2 invariant_loop decreases_loop
 same_length_2 c = c.before.loop.invariant.0
 
 returns-2 : tie.Need-returns-2 invariant_loop decreases_loop
-returns-2 c = cells-end _ _ c.before.loop.j c.before.before.before.before.args.at c.before.before.before.before.args.count c.before.loop.i (omega arith) ∙ c.before.loop.invariant.1
+returns-2 c = cells_end _ _ c.before.loop.j c.before.before.before.before.args.at c.before.before.before.before.args.count c.before.loop.i (omega arith) ∙ c.before.loop.invariant.1
 
 pub copy-cells-spec : {M : Type 1} → statement M
 copy-cells-spec =

@@ -1,5 +1,5 @@
 -- `definitions::again` meets its contract: it finds through the index. Assumes nothing.
-use Rattle.indexes.proofs.Throughs.{through-one, through_found}
+use Rattle.indexes.proofs.Throughs.{through_one, through_found}
 use Rattle.defining_checks.proofs.Naming.{again_found}
 use borrow.Author.Rules.{rules}
 use Rattle.defining_checks.proofs.definitions.again.Statement.{statement}
@@ -22,7 +22,7 @@ find-before-requires : tie.Need-find-before-requires
 find-before-requires c κs = search rules
 
 returns : tie.Need-returns
-returns c = through-one (again_found _ _ _ _ _ _ _ c.before.before.before.cell-of.ensures c.before.before.cell-of2.ensures c.before.cell-of3.ensures) (through_found _ _ _ _ _ _ _ _ _ _ _ c.find-before.ensures)
+returns c = through_one (again_found _ _ _ _ _ _ _ c.before.before.before.cell-of.ensures c.before.before.cell-of2.ensures c.before.cell-of3.ensures) (through_found _ _ _ _ _ _ _ _ _ _ _ c.find-before.ensures)
 
 pub again_spec : {M : Type 1} → statement M
 again_spec =

@@ -4,7 +4,7 @@ use Prim.Native.Nat.{◌-◌, ◌≤◌}
 use Rattle.indexes.specs.Indexing.{Through, ByTwo}
 use Rattle.defining_checks.specs.Promises.{RowsFault}
 use Rattle.defining_checks.proofs.Turns.{rows_start, rows_more, rows_end}
-use Rattle.indexes.proofs.Throughs.{through, through-one, through-two}
+use Rattle.indexes.proofs.Throughs.{through, through_one, through_two}
 use Rattle.defining_checks.proofs.definitions.each_fault.Statement.{statement}
 use Rattle.defining_checks.proofs.definitions.each_fault.Tie as tie
 use Rattle.defining_checks.proofs.definitions.each_fault.Reads as reads
@@ -34,10 +34,10 @@ loop_less : tie.Need-loop-smaller invariant_loop decreases_loop
 loop_less c = omega arith
 
 loop_again : tie.Need-loop-preserved invariant_loop decreases_loop
-loop_again c = (omega arith, through-two (omega arith) (λ h k. rows_more _ _ _ _ _ _ c.before.before.before.loop.j c.before.before.before.loop.best _ _ h k c.sooner.ensures) c.before.before.before.loop.invariant.1 c.before.row-fault.ensures)
+loop_again c = (omega arith, through_two (omega arith) (λ h k. rows_more _ _ _ _ _ _ c.before.before.before.loop.j c.before.before.before.loop.best _ _ h k c.sooner.ensures) c.before.before.before.loop.invariant.1 c.before.row-fault.ensures)
 
 returns : tie.Need-returns invariant_loop decreases_loop
-returns c = through-one (rows_end _ _ _ _ _ _ c.before.loop.j _ _ c.before.loop.invariant.0 (omega arith)) c.before.loop.invariant.1
+returns c = through_one (rows_end _ _ _ _ _ _ c.before.loop.j _ _ c.before.loop.invariant.0 (omega arith)) c.before.loop.invariant.1
 
 pub each-fault-spec : {M : Type 1} → statement M
 each-fault-spec =

@@ -1,5 +1,5 @@
 use native.Mathlib.Omega.{arith}
-use Rattle.indexes.proofs.Throughs.{through-both}
+use Rattle.indexes.proofs.Throughs.{through_both}
 use borrow.Author.Rules.{rules}
 use Rattle.defining_checks.proofs.definitions.indexed_fault.Statement.{statement}
 use Rattle.defining_checks.proofs.definitions.indexed_fault.Tie as tie
@@ -27,7 +27,7 @@ same-length-3 : tie.Need-same-length-3
 same-length-3 c = search rules
 
 returns : tie.Need-returns
-returns c = let f = c.before.before.before.before.before.before.before.before.before.before.before.before.before.before.before.before.before.before.before.before.before.before.before.before.requires in let g = f.1 in let e = g.index in let h = g.beside in through-both _ _ _ _ _ _ _ _ _ f.0 c.before.before.before.before.before.before.before.before.before.before.before.before.before.before.index.ensures _ _ _ _ (omega arith) (omega arith) c.before.before.before.before.before.before.before.index2.ensures c.each-fault.ensures
+returns c = let f = c.before.before.before.before.before.before.before.before.before.before.before.before.before.before.before.before.before.before.before.before.before.before.before.before.requires in let g = f.1 in let e = g.index in let h = g.beside in through_both _ _ _ _ _ _ _ _ _ f.0 c.before.before.before.before.before.before.before.before.before.before.before.before.before.before.index.ensures _ _ _ _ (omega arith) (omega arith) c.before.before.before.before.before.before.before.index2.ensures c.each-fault.ensures
 
 pub indexed-fault-spec : {M : Type 1} → statement M
 indexed-fault-spec =

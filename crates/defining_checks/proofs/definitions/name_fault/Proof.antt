@@ -1,7 +1,7 @@
 -- `definitions::name_fault` meets its contract: 8 comes before 9, which is sought where there is no 8. Assumes nothing.
 use native.Mathlib.Omega.{arith}
-use Rattle.indexes.proofs.Throughs.{through-one, through-two, through-first, through-second}
-use Rattle.defining_checks.proofs.Turns.{name-again, name_new}
+use Rattle.indexes.proofs.Throughs.{through_one, through_two, through_first, through_second}
+use Rattle.defining_checks.proofs.Turns.{name_again, name_new}
 use borrow.Author.Rules.{rules}
 use Rattle.defining_checks.proofs.definitions.name_fault.Statement.{statement}
 use Rattle.defining_checks.proofs.definitions.name_fault.Tie as tie
@@ -38,10 +38,10 @@ sooner-requires-2 : tie.Need-sooner-requires-2
 sooner-requires-2 c κs = search rules
 
 returns : tie.Need-returns
-returns c = through-one (name-again _ _ _ _ _ c.before.before.before.before.before.cell-of.ensures c.before.before.before.before.fault-if.ensures _ _ _ c.before.enum_told.given.1 c.sooner.ensures) (through-first c.before.before.before.again.ensures)
+returns c = through_one (name_again _ _ _ _ _ c.before.before.before.before.before.cell-of.ensures c.before.before.before.before.fault-if.ensures _ _ _ c.before.enum_told.given.1 c.sooner.ensures) (through_first c.before.before.before.again.ensures)
 
 returns-2 : tie.Need-returns-2
-returns-2 c = through-two (omega arith) (name_new _ _ _ _ _ c.before.before.before.before.before.before.cell-of.ensures c.before.before.before.before.before.fault-if.ensures _ _ _ c.before.before.enum-told2.given.1 c.sooner2.ensures) (through-first c.before.before.before.before.again.ensures) (through-second c.before.type-fault.ensures)
+returns-2 c = through_two (omega arith) (name_new _ _ _ _ _ c.before.before.before.before.before.before.cell-of.ensures c.before.before.before.before.before.fault-if.ensures _ _ _ c.before.before.enum-told2.given.1 c.sooner2.ensures) (through_first c.before.before.before.before.again.ensures) (through_second c.before.type-fault.ensures)
 
 pub name-fault-spec : {M : Type 1} → statement M
 name-fault-spec =

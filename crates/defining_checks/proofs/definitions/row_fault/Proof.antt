@@ -1,6 +1,6 @@
 -- `definitions::row_fault` meets its contract: the faults of its three parts. Assumes nothing.
 use Rattle.defining_checks.proofs.Turns.{row_all}
-use Rattle.indexes.proofs.Throughs.{through-one}
+use Rattle.indexes.proofs.Throughs.{through_one}
 use borrow.Author.Rules.{rules}
 use Rattle.defining_checks.proofs.definitions.row_fault.Statement.{statement}
 use Rattle.defining_checks.proofs.definitions.row_fault.Tie as tie
@@ -27,7 +27,7 @@ sooner-requires-2 : tie.Need-sooner-requires-2
 sooner-requires-2 c κs = search rules
 
 returns : tie.Need-returns
-returns c = through-one (λ h. row_all _ _ _ _ _ _ _ _ _ _ _ _ c.before.before.before.before.range-fault.ensures h c.before.before.default-fault.ensures c.before.sooner.ensures c.sooner2.ensures) c.before.before.before.name-fault.ensures
+returns c = through_one (λ h. row_all _ _ _ _ _ _ _ _ _ _ _ _ c.before.before.before.before.range-fault.ensures h c.before.before.default-fault.ensures c.before.sooner.ensures c.sooner2.ensures) c.before.before.before.name-fault.ensures
 
 pub row-fault-spec : {M : Type 1} → statement M
 row-fault-spec =

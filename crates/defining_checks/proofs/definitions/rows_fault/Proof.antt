@@ -1,5 +1,5 @@
 use native.Mathlib.Omega.{arith}
-use Rattle.indexes.proofs.Throughs.{room-long, room_fits}
+use Rattle.indexes.proofs.Throughs.{room_long, room_fits}
 use borrow.Author.Rules.{rules}
 use Rattle.defining_checks.proofs.definitions.rows_fault.Statement.{statement}
 use Rattle.defining_checks.proofs.definitions.rows_fault.Tie as tie
@@ -11,13 +11,13 @@ array-borrow-prefix-x : tie.Need-array-borrow-prefix-x
 array-borrow-prefix-x c = search rules
 
 slice-aggregate-indexed-fault : tie.Need-slice-aggregate-indexed-fault
-slice-aggregate-indexed-fault c = room-long _ _ c.before.before.before.before.before.requires
+slice-aggregate-indexed-fault c = room_long _ _ c.before.before.before.before.before.requires
 
 array-borrow-prefix-y : tie.Need-array-borrow-prefix-y
 array-borrow-prefix-y c = search rules
 
 slice-aggregate-indexed-fault-2 : tie.Need-slice-aggregate-indexed-fault-2
-slice-aggregate-indexed-fault-2 c = room-long _ _ c.before.before.before.before.before.before.requires
+slice-aggregate-indexed-fault-2 c = room_long _ _ c.before.before.before.before.before.before.requires
 
 slice-aggregate-indexed-fault-3 : tie.Need-slice-aggregate-indexed-fault-3
 slice-aggregate-indexed-fault-3 c = search rules

@@ -3,8 +3,8 @@ use native.Mathlib.Omega.{arith}
 use Prim.Native.Nat.{◌-◌, ◌≤◌}
 use Rattle.indexes.specs.Indexing.{Through, By}
 use Rattle.defining_checks.specs.Promises.{EnumeratorsFault}
-use Rattle.defining_checks.proofs.Turns.{choices-start, choices-more, choices-end}
-use Rattle.indexes.proofs.Throughs.{through, through-one, through-two}
+use Rattle.defining_checks.proofs.Turns.{choices_start, choices_more, choices_end}
+use Rattle.indexes.proofs.Throughs.{through, through_one, through_two}
 use Rattle.defining_checks.proofs.enumerators.rows_fault.Statement.{statement}
 use Rattle.defining_checks.proofs.enumerators.rows_fault.Tie as tie
 use Rattle.defining_checks.proofs.enumerators.rows_fault.Reads as reads
@@ -19,7 +19,7 @@ abbrev decreases_loop : tie.decreases-loop
 decreases_loop text e n x best₀ j₀ best j = n - j
 
 loop_holds : tie.Need-loop-init invariant_loop decreases_loop
-loop_holds c = (omega arith, through (choices-start _ _))
+loop_holds c = (omega arith, through (choices_start _ _))
 
 row-fault-requires : tie.Need-row-fault-requires invariant_loop decreases_loop
 row-fault-requires c κs = tt
@@ -34,10 +34,10 @@ loop_less : tie.Need-loop-smaller invariant_loop decreases_loop
 loop_less c = omega arith
 
 loop_again : tie.Need-loop-preserved invariant_loop decreases_loop
-loop_again c = (omega arith, through-two (omega arith) (λ h k. choices-more _ _ c.before.before.before.loop.j c.before.before.before.loop.best _ _ h k c.sooner.ensures) c.before.before.before.loop.invariant.1 c.before.row-fault.ensures)
+loop_again c = (omega arith, through_two (omega arith) (λ h k. choices_more _ _ c.before.before.before.loop.j c.before.before.before.loop.best _ _ h k c.sooner.ensures) c.before.before.before.loop.invariant.1 c.before.row-fault.ensures)
 
 returns : tie.Need-returns invariant_loop decreases_loop
-returns c = through-one (choices-end _ _ c.before.loop.j _ _ c.before.loop.invariant.0 (omega arith)) c.before.loop.invariant.1
+returns c = through_one (choices_end _ _ c.before.loop.j _ _ c.before.loop.invariant.0 (omega arith)) c.before.loop.invariant.1
 
 pub rows-fault-spec : {M : Type 1} → statement M
 rows-fault-spec =

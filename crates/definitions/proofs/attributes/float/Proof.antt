@@ -1,4 +1,4 @@
-use Rattle.definitions.proofs.Leaves.{float-walks}
+use Rattle.definitions.proofs.Leaves.{float_walks}
 use Rattle.grammar.specs.Readers.{sort_at}
 use borrow.Author.Rules.{rules}
 use Rattle.definitions.proofs.attributes.float.Statement.{statement}
@@ -27,7 +27,7 @@ same_length c = search rules
 
 returns : tie.Need-returns
 unfolding sort_at
-returns c = float-walks _ c.before.before.before.before.before.before.before.before.before.args.t c.before.before.before.before.before.before.auto.ensures c.before.before.before.before.before.float-range.ensures c.before.before.before.before.head.ensures c.before.before.named.ensures
+returns c = float_walks _ c.before.before.before.before.before.before.before.before.before.args.t c.before.before.before.before.before.before.auto.ensures c.before.before.before.before.before.float-range.ensures c.before.before.before.before.head.ensures c.before.before.named.ensures
 
 pub float-spec : {M : Type 1} → statement M
 float-spec =

@@ -1,4 +1,4 @@
-use Rattle.definitions.proofs.Leaves.{float-range-none, float-range-there}
+use Rattle.definitions.proofs.Leaves.{float_range_none, float_range_there}
 use borrow.Author.Rules.{rules}
 use Rattle.definitions.proofs.attributes.float_range.Statement.{statement}
 use Rattle.definitions.proofs.attributes.float_range.Tie as tie
@@ -9,7 +9,7 @@ use Rattle.grammar.proofs.lookahead.advance.Reads as advance-reads
 use Rattle.grammar.proofs.lookahead.expect.Reads as expect-reads
 
 returns : tie.Need-returns
-returns c = float-range-none c.if1.true
+returns c = float_range_none c.if1.true
 
 advance-requires : tie.Need-advance-requires
 advance-requires c κs = search rules
@@ -30,7 +30,7 @@ through-requires : tie.Need-through-requires
 through-requires c κs = search rules
 
 returns-2 : tie.Need-returns-2
-returns-2 c = float-range-there c.before.before.before.before.before.before.if1.false c.before.before.before.before.before.advance.ensures c.before.before.before.before.expect.ensures c.before.before.before.expect2.ensures c.before.before.expect3.ensures c.before.expect4.ensures c.through.ensures
+returns-2 c = float_range_there c.before.before.before.before.before.before.if1.false c.before.before.before.before.before.advance.ensures c.before.before.before.before.expect.ensures c.before.before.before.expect2.ensures c.before.before.expect3.ensures c.before.expect4.ensures c.through.ensures
 
 pub float-range-spec : {M : Type 1} → statement M
 float-range-spec =

@@ -1,4 +1,4 @@
-use Rattle.definitions.proofs.Leaves.{integer-walks}
+use Rattle.definitions.proofs.Leaves.{integer_walks}
 use Rattle.grammar.specs.Readers.{sort_at}
 use borrow.Author.Rules.{rules}
 use Rattle.definitions.proofs.attributes.integer.Statement.{statement}
@@ -27,7 +27,7 @@ same_length c = search rules
 
 returns : tie.Need-returns
 unfolding sort_at
-returns c = integer-walks _ c.before.before.before.before.before.before.before.before.before.args.t c.before.before.before.before.before.before.auto.ensures c.before.before.before.before.before.range.ensures c.before.before.before.before.head.ensures c.before.before.named.ensures
+returns c = integer_walks _ c.before.before.before.before.before.before.before.before.before.args.t c.before.before.before.before.before.before.auto.ensures c.before.before.before.before.before.range.ensures c.before.before.before.before.head.ensures c.before.before.named.ensures
 
 pub integer-spec : {M : Type 1} → statement M
 integer-spec =

@@ -1,4 +1,4 @@
-use Rattle.definitions.proofs.Leaves.{range_none, range-there}
+use Rattle.definitions.proofs.Leaves.{range_none, range_there}
 use borrow.Author.Rules.{rules}
 use Rattle.definitions.proofs.attributes.range.Statement.{statement}
 use Rattle.definitions.proofs.attributes.range.Tie as tie
@@ -28,7 +28,7 @@ through-requires : tie.Need-through-requires
 through-requires c κs = search rules
 
 returns-2 : tie.Need-returns-2
-returns-2 c = range-there c.before.before.before.before.before.if1.false c.before.before.before.before.advance.ensures c.before.before.before.expect.ensures c.before.before.span.ensures c.before.expect2.ensures c.through.ensures
+returns-2 c = range_there c.before.before.before.before.before.if1.false c.before.before.before.before.advance.ensures c.before.before.before.expect.ensures c.before.before.span.ensures c.before.expect2.ensures c.through.ensures
 
 pub range-spec : {M : Type 1} → statement M
 range-spec =

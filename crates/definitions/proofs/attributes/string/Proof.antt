@@ -1,4 +1,4 @@
-use Rattle.definitions.proofs.Leaves.{string-walks}
+use Rattle.definitions.proofs.Leaves.{string_walks}
 use Rattle.grammar.specs.Readers.{sort_at}
 use borrow.Author.Rules.{rules}
 use Rattle.definitions.proofs.attributes.string.Statement.{statement}
@@ -23,7 +23,7 @@ same_length c = search rules
 
 returns : tie.Need-returns
 unfolding sort_at
-returns c = string-walks _ c.before.before.before.before.before.before.before.before.args.t c.before.before.before.before.before.auto.ensures c.before.before.before.before.head.ensures c.before.before.named.ensures
+returns c = string_walks _ c.before.before.before.before.before.before.before.before.args.t c.before.before.before.before.before.auto.ensures c.before.before.before.before.head.ensures c.before.before.named.ensures
 
 pub string-spec : {M : Type 1} → statement M
 string-spec = tie.close (tie.spec auto-requires head-requires named-requires same_length returns)

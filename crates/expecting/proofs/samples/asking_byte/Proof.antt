@@ -1,5 +1,5 @@
 use mathlib.Core.Path.{◌∙◌}
-use Rattle.expecting.proofs.Laying.{byte-before, byte-feed, byte-behind}
+use Rattle.expecting.proofs.Laying.{byte_before, byte_feed, byte_behind}
 use borrow.Author.Rules.{rules}
 use Rattle.expecting.proofs.samples.asking_byte.Statement.{statement}
 use Rattle.expecting.proofs.samples.asking_byte.Tie as tie
@@ -11,10 +11,10 @@ shared-slice-read-result : tie.Need-shared-slice-read-result
 shared-slice-read-result c = search rules
 
 returns : tie.Need-returns
-returns c = byte-before _ _ _ c.before.before.before.requires.0 c.before.before.before.requires.1 _ c.before.if1.true
+returns c = byte_before _ _ _ c.before.before.before.requires.0 c.before.before.before.requires.1 _ c.before.if1.true
 
 returns-2 : tie.Need-returns-2
-returns-2 c = byte-feed _ _ _ c.before.before.before.requires.0 c.before.before.before.requires.1 _ c.if2.true
+returns-2 c = byte_feed _ _ _ c.before.before.before.requires.0 c.before.before.before.requires.1 _ c.if2.true
 
 sub-sample-byte : tie.Need-overflow-sub-sample-byte
 sub-sample-byte c = search rules
@@ -23,7 +23,7 @@ sample-byte-requires : tie.Need-sample-byte-requires
 sample-byte-requires c κs = search rules
 
 returns-3 : tie.Need-returns-3
-returns-3 c = c.sample-byte.ensures ∙ byte-behind _ _ _ c.before.before.before.before.requires.0 c.before.before.before.before.requires.1 _ c.before.before.if1.false c.before.if2.false
+returns-3 c = c.sample-byte.ensures ∙ byte_behind _ _ _ c.before.before.before.before.requires.0 c.before.before.before.before.requires.1 _ c.before.before.if1.false c.before.if2.false
 
 pub asking-byte-spec : {M : Type 1} → statement M
 asking-byte-spec =

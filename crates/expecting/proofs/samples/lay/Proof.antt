@@ -3,7 +3,7 @@ use lib.ListN.{length, length-set}
 use Prim.Native.Nat.{◌≤◌, ◌+◌, ◌-◌}
 use mathlib.Core.Path.{◌≡◌, refl}
 use Rattle.expecting.specs.Samples.{asking}
-use Rattle.expecting.proofs.Laying.{Laid, laid_none, laid_more, laid_front, asking-long}
+use Rattle.expecting.proofs.Laying.{Laid, laid_none, laid_more, laid_front, asking_long}
 use Rattle.expecting.proofs.samples.lay.Statement.{statement}
 use Rattle.expecting.proofs.samples.lay.Tie as tie
 use Rattle.expecting.proofs.samples.lay.Reads as reads
@@ -41,7 +41,7 @@ same_length : tie.Need-same-length invariant_loop decreases_loop
 same_length c = c.before.loop.invariant.1
 
 returns : tie.Need-returns invariant_loop decreases_loop
-returns c = laid_front 0 (omega (arith, c.before.loop.invariant.1, c.before.before.before.before.requires.1)) (asking-long _ _ _ c.before.before.before.before.requires.0 c.before.before.before.before.requires.2) (omega arith) (c.before.loop.invariant.2)
+returns c = laid_front 0 (omega (arith, c.before.loop.invariant.1, c.before.before.before.before.requires.1)) (asking_long _ _ _ c.before.before.before.before.requires.0 c.before.before.before.before.requires.2) (omega arith) (c.before.loop.invariant.2)
 
 pub lay-spec : {M : Type 1} → statement M
 lay-spec =

@@ -1,6 +1,6 @@
 -- `explaining::bounds::outside_type` meets its contract: the tests tell the case of the type's code.
 -- Assumes nothing.
-use Rattle.explaining.proofs.TypeWords.{type-below, type-above, type-inside}
+use Rattle.explaining.proofs.TypeWords.{type_below, type_above, type_inside}
 use borrow.Author.Rules.{rules}
 use Rattle.explaining.proofs.bounds.outside_type.Statement.{statement}
 use Rattle.explaining.proofs.bounds.outside_type.Tie as tie
@@ -14,10 +14,10 @@ type-before-requires : tie.Need-type-before-requires
 type-before-requires c κs = search rules
 
 returns : tie.Need-returns
-returns c = type-below _ _ _ c.before.type-before.ensures c.if1.true
+returns c = type_below _ _ _ c.before.type-before.ensures c.if1.true
 
 returns-2 : tie.Need-returns-2
-returns-2 c = type-above _ _ _ c.before.before.type-before.ensures c.if2.true
+returns-2 c = type_above _ _ _ c.before.before.type-before.ensures c.if2.true
 
 number-at-requires : tie.Need-number-at-requires
 number-at-requires c κs = search rules
@@ -29,7 +29,7 @@ in-type-requires : tie.Need-in-type-requires
 in-type-requires c κs = search rules
 
 returns-3 : tie.Need-returns-3
-returns-3 c = type-inside _ _ _ c.before.before.before.before.type-before.ensures _ _ c.before.before.before.if1.false c.before.before.if2.false c.before.number_at.ensures c.in-type.ensures
+returns-3 c = type_inside _ _ _ c.before.before.before.before.type-before.ensures _ _ c.before.before.before.if1.false c.before.before.if2.false c.before.number_at.ensures c.in-type.ensures
 
 pub outside-type-spec : {M : Type 1} → statement M
 outside-type-spec =

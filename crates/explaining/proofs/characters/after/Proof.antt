@@ -1,4 +1,4 @@
-use Rattle.explaining.proofs.Letters.{after_none, after-bad, after-low, after-high, after_on}
+use Rattle.explaining.proofs.Letters.{after_none, after_bad, after_low, after-high, after_on}
 use borrow.Author.Rules.{rules}
 use Rattle.explaining.proofs.characters.after.Statement.{statement}
 use Rattle.explaining.proofs.characters.after.Tie as tie
@@ -16,13 +16,13 @@ returns : tie.Need-returns
 returns c = after_none _ _ c.before.if1.true _ c.begun.ensures
 
 returns-2 : tie.Need-returns-2
-returns-2 c = after-bad _ _ c.before.if1.false c.if2.true
+returns-2 c = after_bad _ _ c.before.if1.false c.if2.true
 
 lowest-requires : tie.Need-lowest-requires
 lowest-requires c κs = search rules
 
 returns-3 : tie.Need-returns-3
-returns-3 c = after-low _ _ c.before.before.before.if1.false c.before.before.if2.false _ c.before.lowest.ensures c.if3.true
+returns-3 c = after_low _ _ c.before.before.before.if1.false c.before.before.if2.false _ c.before.lowest.ensures c.if3.true
 
 highest-requires : tie.Need-highest-requires
 highest-requires c κs = search rules

@@ -1,4 +1,4 @@
-use Rattle.explaining.proofs.Letters.{are-utf-8, are-bytes}
+use Rattle.explaining.proofs.Letters.{are_utf_8, are_bytes}
 use borrow.Author.Rules.{rules}
 use Rattle.explaining.proofs.characters.characters.Statement.{statement}
 use Rattle.explaining.proofs.characters.characters.Tie as tie
@@ -14,10 +14,10 @@ count-requires : tie.Need-count-requires
 count-requires c κs = search rules
 
 returns : tie.Need-returns
-returns c = are-utf-8 _ _ c.before.before.state.ensures c.before.if1.true _ c.count.ensures
+returns c = are_utf_8 _ _ c.before.before.state.ensures c.before.if1.true _ c.count.ensures
 
 returns-2 : tie.Need-returns-2
-returns-2 c = are-bytes _ _ c.before.state.ensures c.if1.false
+returns-2 c = are_bytes _ _ c.before.state.ensures c.if1.false
 
 pub characters-spec : {M : Type 1} → statement M
 characters-spec = tie.close (tie.spec state-requires count-requires returns returns-2)

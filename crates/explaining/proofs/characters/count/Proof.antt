@@ -1,6 +1,6 @@
 -- `explaining::characters::count` meets its contract: what is counted and what is left to count are the whole.
 -- Assumes nothing.
-use Rattle.explaining.proofs.Letters.{start-most, starts_more, starts_end}
+use Rattle.explaining.proofs.Letters.{start_most, starts_more, starts_end}
 use Rattle.explaining.specs.Characters.{starts}
 use lib.ListN.{length, drop, get_or}
 use borrow.Author.Rules.{rules}
@@ -26,7 +26,7 @@ start-requires : tie.Need-start-requires invariant_loop decreases_loop
 start-requires c κs = search rules
 
 add-n : tie.Need-overflow-add-n invariant_loop decreases_loop
-add-n c = omega (arith, start-most (get_or c.before.before.before.before.before.args.bytes.now c.before.before.before.loop.i 0))
+add-n c = omega (arith, start_most (get_or c.before.before.before.before.before.args.bytes.now c.before.before.before.loop.i 0))
 
 add-i : tie.Need-overflow-add-i invariant_loop decreases_loop
 add-i c = omega arith
@@ -35,7 +35,7 @@ loop_less : tie.Need-loop-smaller invariant_loop decreases_loop
 loop_less c = omega arith
 
 loop_again : tie.Need-loop-preserved invariant_loop decreases_loop
-loop_again c = (omega (arith, start-most (get_or c.before.before.before.before.before.args.bytes.now c.before.before.before.loop.i 0)), omega (arith, starts_more c.before.before.before.before.before.args.bytes.now c.before.before.before.loop.i (omega arith)))
+loop_again c = (omega (arith, start_most (get_or c.before.before.before.before.before.args.bytes.now c.before.before.before.loop.i 0)), omega (arith, starts_more c.before.before.before.before.before.args.bytes.now c.before.before.before.loop.i (omega arith)))
 
 returns : tie.Need-returns invariant_loop decreases_loop
 returns c = omega (arith, starts_end c.before.before.before.args.bytes.now c.before.loop.i (omega arith))

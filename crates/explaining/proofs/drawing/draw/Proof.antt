@@ -1,5 +1,5 @@
 use mathlib.Core.Path.{◌∙◌}
-use Rattle.explaining.proofs.Glyphs.{drawn-shown, drawn-before, drawn-marked}
+use Rattle.explaining.proofs.Glyphs.{drawn_shown, drawn_before, drawn_marked}
 use borrow.Author.Rules.{rules}
 use Rattle.explaining.proofs.drawing.draw.Statement.{statement}
 use Rattle.explaining.proofs.drawing.draw.Tie as tie
@@ -27,13 +27,13 @@ under-requires-2 : tie.Need-under-requires-2
 under-requires-2 c κs = search rules
 
 returns : tie.Need-returns
-returns c = c.shown.ensures ∙ drawn-shown _ _ c.before.enum_told.given.1
+returns c = c.shown.ensures ∙ drawn_shown _ _ c.before.enum_told.given.1
 
 returns-2 : tie.Need-returns-2
-returns-2 c = c.under.ensures ∙ drawn-before _ _ c.before.enum-told2.given.1
+returns-2 c = c.under.ensures ∙ drawn_before _ _ c.before.enum-told2.given.1
 
 returns-3 : tie.Need-returns-3
-returns-3 c = c.under2.ensures ∙ drawn-marked _ _ c.before.enum-told3.given.1
+returns-3 c = c.under2.ensures ∙ drawn_marked _ _ c.before.enum-told3.given.1
 
 pub draw-spec : {M : Type 1} → statement M
 draw-spec =

@@ -1,6 +1,6 @@
 -- `explaining::drawing::draw_line` meets its contract: its four runs are the line shown.
 -- Assumes nothing.
-use Rattle.explaining.proofs.Stores.{line-written, line-long}
+use Rattle.explaining.proofs.Stores.{line_written, line_long}
 use borrow.Author.Rules.{rules}
 use Rattle.explaining.proofs.drawing.draw_line.Statement.{statement}
 use Rattle.explaining.proofs.drawing.draw_line.Tie as tie
@@ -42,7 +42,7 @@ same_length : tie.Need-same-length
 same_length c = search rules
 
 returns : tie.Need-returns
-returns c = (line-written _ _ c.before.before.before.before.before.before.before.before.before.before.before.before.before.before.before.before.before.before.before.requires _ _ _ _ _ c.before.before.before.before.before.before.before.before.before.before.before.before.before.before.before.put-dots.ensures c.before.before.before.before.before.before.before.before.before.before.put.ensures c.before.before.before.before.before.before.put-dots2.ensures c.before.before.put_byte.ensures, line-long _ _ c.before.before.before.before.before.before.before.before.before.before.before.before.before.before.before.before.before.before.before.requires)
+returns c = (line_written _ _ c.before.before.before.before.before.before.before.before.before.before.before.before.before.before.before.before.before.before.before.requires _ _ _ _ _ c.before.before.before.before.before.before.before.before.before.before.before.before.before.before.before.put-dots.ensures c.before.before.before.before.before.before.before.before.before.before.put.ensures c.before.before.before.before.before.before.put-dots2.ensures c.before.before.put_byte.ensures, line_long _ _ c.before.before.before.before.before.before.before.before.before.before.before.before.before.before.before.before.before.before.before.requires)
 
 pub draw-line-spec : {M : Type 1} → statement M
 draw-line-spec =

@@ -1,5 +1,5 @@
 use native.Mathlib.Omega.{arith}
-use Rattle.explaining.proofs.Stores.{mark_written, mark-end, marked-is}
+use Rattle.explaining.proofs.Stores.{mark_written, mark_end, marked_is}
 use borrow.Author.Rules.{rules}
 use Rattle.explaining.proofs.drawing.draw_mark.Statement.{statement}
 use Rattle.explaining.proofs.drawing.draw_mark.Tie as tie
@@ -76,7 +76,7 @@ same_length : tie.Need-same-length
 same_length c = search rules
 
 returns : tie.Need-returns
-returns c = let n = marked-is _ _ (c.before.before.before.before.before.before.before.before.before.before.before.before.before.before.before.before.before.before.before.before.before.before.before.before.before.before.requires.0) _ _ _ c.before.before.before.before.before.before.before.before.before.before.before.before.before.before.before.before.before.before.before.before.before.before.before.least-of.ensures c.before.before.before.before.before.before.before.before.before.before.before.before.before.before.before.before.before.before.before.before.before.before.less.ensures in (mark_written _ _ (c.before.before.before.before.before.before.before.before.before.before.before.before.before.before.before.before.before.before.before.before.before.before.before.before.before.before.requires.0) _ _ _ _ _ _ _ _ _ _ n c.before.before.before.before.before.before.before.part.ensures.0 c.before.before.before.before.before.before.before.before.before.before.before.before.before.before.before.before.before.before.before.before.put-dots.ensures c.before.before.before.before.before.before.before.before.before.before.before.before.before.before.before.put.ensures c.before.before.before.before.before.before.before.before.before.before.before.put_byte.ensures c.before.before.before.before.before.before.put2.ensures c.before.before.put-byte2.ensures, mark-end _ _ (c.before.before.before.before.before.before.before.before.before.before.before.before.before.before.before.before.before.before.before.before.before.before.before.before.before.before.requires.0) _ _ _ n)
+returns c = let n = marked_is _ _ (c.before.before.before.before.before.before.before.before.before.before.before.before.before.before.before.before.before.before.before.before.before.before.before.before.before.before.requires.0) _ _ _ c.before.before.before.before.before.before.before.before.before.before.before.before.before.before.before.before.before.before.before.before.before.before.before.least-of.ensures c.before.before.before.before.before.before.before.before.before.before.before.before.before.before.before.before.before.before.before.before.before.before.less.ensures in (mark_written _ _ (c.before.before.before.before.before.before.before.before.before.before.before.before.before.before.before.before.before.before.before.before.before.before.before.before.before.before.requires.0) _ _ _ _ _ _ _ _ _ _ n c.before.before.before.before.before.before.before.part.ensures.0 c.before.before.before.before.before.before.before.before.before.before.before.before.before.before.before.before.before.before.before.before.put-dots.ensures c.before.before.before.before.before.before.before.before.before.before.before.before.before.before.before.put.ensures c.before.before.before.before.before.before.before.before.before.before.before.put_byte.ensures c.before.before.before.before.before.before.put2.ensures c.before.before.put-byte2.ensures, mark_end _ _ (c.before.before.before.before.before.before.before.before.before.before.before.before.before.before.before.before.before.before.before.before.before.before.before.before.before.before.requires.0) _ _ _ n)
 
 pub draw-mark-spec : {M : Type 1} → statement M
 draw-mark-spec =

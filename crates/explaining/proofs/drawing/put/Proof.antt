@@ -5,7 +5,7 @@ use mathlib.Core.Path.{◌≡◌, refl, sym, ◌∙◌}
 use mathlib.Core.List.{map}
 use lib.ListN.{length, drop, length-set}
 use lib.Seq.{sets}
-use Rattle.explaining.proofs.Stores.{puts-more, puts-past, puts-end}
+use Rattle.explaining.proofs.Stores.{puts_more, puts_past, puts_end}
 use Rattle.explaining.specs.Pictures.{drawn}
 use borrow.Author.Rules.{rules}
 use native.Mathlib.Omega.{arith}
@@ -25,7 +25,7 @@ same_length : tie.Need-same-length invariant_loop decreases_loop
 same_length c = c.before.before.loop.invariant.1
 
 returns : tie.Need-returns invariant_loop decreases_loop
-returns c = puts-past _ c.before.before.loop.j _ _ c.before.before.loop.i (omega arith) ∙ c.before.before.loop.invariant.2
+returns c = puts_past _ c.before.before.loop.j _ _ c.before.before.loop.i (omega arith) ∙ c.before.before.loop.invariant.2
 
 shared-slice-read-draw : tie.Need-shared-slice-read-draw invariant_loop decreases_loop
 shared-slice-read-draw c = omega arith
@@ -46,13 +46,13 @@ loop_less : tie.Need-loop-smaller invariant_loop decreases_loop
 loop_less c = omega arith
 
 loop_again : tie.Need-loop-preserved invariant_loop decreases_loop
-loop_again c = (omega arith, simp length-set c.before.before.before.before.loop.invariant.1, sym (puts-more _ c.before.before.before.before.loop.j _ _ c.before.before.before.before.loop.i _ c.draw.ensures (omega arith)) ∙ c.before.before.before.before.loop.invariant.2)
+loop_again c = (omega arith, simp length-set c.before.before.before.before.loop.invariant.1, sym (puts_more _ c.before.before.before.before.loop.j _ _ c.before.before.before.before.loop.i _ c.draw.ensures (omega arith)) ∙ c.before.before.before.before.loop.invariant.2)
 
 same_length_2 : tie.Need-same-length-2 invariant_loop decreases_loop
 same_length_2 c = c.before.loop.invariant.1
 
 returns-2 : tie.Need-returns-2 invariant_loop decreases_loop
-returns-2 c = puts-end _ c.before.loop.j _ _ c.before.loop.i (omega arith) ∙ c.before.loop.invariant.2
+returns-2 c = puts_end _ c.before.loop.j _ _ c.before.loop.i (omega arith) ∙ c.before.loop.invariant.2
 
 pub put_spec : {M : Type 1} → statement M
 put_spec =

@@ -1,5 +1,5 @@
 use native.Mathlib.Omega.{arith}
-use Rattle.explaining.proofs.Starts.{start-low, column_is, column_most}
+use Rattle.explaining.proofs.Starts.{start_low, column_is, column_most}
 use borrow.Author.Rules.{rules}
 use Rattle.explaining.proofs.lines.column_of.Statement.{statement}
 use Rattle.explaining.proofs.lines.column_of.Tie as tie
@@ -12,10 +12,10 @@ line-start-requires : tie.Need-line-start-requires
 line-start-requires c κs = search rules
 
 sub-characters : tie.Need-overflow-sub-characters
-sub-characters c = omega (arith, start-low c.before.before.args.text.now c.before.before.args.at)
+sub-characters c = omega (arith, start_low c.before.before.args.text.now c.before.before.args.at)
 
 part-characters-start : tie.Need-slice-bounds-characters-start
-part-characters-start c = omega (arith, start-low c.before.before.args.text.now c.before.before.args.at)
+part-characters-start c = omega (arith, start_low c.before.before.args.text.now c.before.before.args.at)
 
 part-characters-end : tie.Need-slice-bounds-characters-end
 part-characters-end c = search rules

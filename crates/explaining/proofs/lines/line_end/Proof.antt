@@ -1,6 +1,6 @@
 -- `explaining::lines::line_end` meets its contract: the line of each place passed ends where the place's own does.
 -- Assumes nothing.
-use Rattle.explaining.proofs.Ends.{end-here, end-next, end_past}
+use Rattle.explaining.proofs.Ends.{end_here, end_next, end_past}
 use Rattle.explaining.specs.Places.{line_end}
 use lib.ListN.{length}
 use native.Mathlib.Omega.{arith}
@@ -22,7 +22,7 @@ shared-slice-read-if1 : tie.Need-shared-slice-read-if1 invariant_loop decreases_
 shared-slice-read-if1 c = omega arith
 
 returns : tie.Need-returns invariant_loop decreases_loop
-returns c = sym (end-here _ c.before.before.before.loop.i (omega arith) c.if1.true) ∙ c.before.before.before.loop.invariant
+returns c = sym (end_here _ c.before.before.before.loop.i (omega arith) c.if1.true) ∙ c.before.before.before.loop.invariant
 
 add-i : tie.Need-overflow-add-i invariant_loop decreases_loop
 add-i c = omega arith
@@ -31,7 +31,7 @@ loop_less : tie.Need-loop-smaller invariant_loop decreases_loop
 loop_less c = omega arith
 
 loop_again : tie.Need-loop-preserved invariant_loop decreases_loop
-loop_again c = sym (end-next _ c.before.before.before.loop.i (omega arith) c.if1.false) ∙ c.before.before.before.loop.invariant
+loop_again c = sym (end_next _ c.before.before.before.loop.i (omega arith) c.if1.false) ∙ c.before.before.before.loop.invariant
 
 returns-2 : tie.Need-returns-2 invariant_loop decreases_loop
 returns-2 c = sym (end_past _ c.before.loop.i (omega arith)) ∙ c.before.loop.invariant

@@ -1,6 +1,6 @@
 -- `explaining::lines::line_start` meets its contract: the line of each place passed starts where the place's own does.
 -- Assumes nothing.
-use Rattle.explaining.proofs.Starts.{start-here, start_back, start_none}
+use Rattle.explaining.proofs.Starts.{start_here, start_back, start_none}
 use Rattle.explaining.specs.Places.{line_start}
 use native.Mathlib.Omega.{arith}
 use mathlib.Core.Path.{◌≡◌, refl, ◌∙◌, sym}
@@ -24,7 +24,7 @@ shared-slice-read-if1 : tie.Need-shared-slice-read-if1 invariant_loop decreases_
 shared-slice-read-if1 c = omega arith
 
 returns : tie.Need-returns invariant_loop decreases_loop
-returns c = sym (start-here _ c.before.before.before.loop.i (omega arith) c.if1.true) ∙ c.before.before.before.loop.invariant.1
+returns c = sym (start_here _ c.before.before.before.loop.i (omega arith) c.if1.true) ∙ c.before.before.before.loop.invariant.1
 
 sub-i : tie.Need-overflow-sub-i invariant_loop decreases_loop
 sub-i c = omega arith

@@ -1,7 +1,7 @@
 -- `explaining::window::window_from` meets its contract: the tests tell which place is the window's start.
 -- Assumes nothing.
 use mathlib.Core.Path.{◌∙◌}
-use Rattle.explaining.proofs.Frames.{from_start, from-short, from-near, from_last}
+use Rattle.explaining.proofs.Frames.{from_start, from_short, from_near, from_last}
 use native.Mathlib.Omega.{arith}
 use borrow.Author.Rules.{rules}
 use Rattle.explaining.proofs.window.window_from.Statement.{statement}
@@ -17,10 +17,10 @@ returns : tie.Need-returns
 returns c = from_start _ c.before.before.before.args.end c.before.before.before.args.at (omega arith)
 
 returns-2 : tie.Need-returns-2
-returns-2 c = from-short _ c.before.before.before.before.args.end c.before.before.before.before.args.at (omega arith)
+returns-2 c = from_short _ c.before.before.before.before.args.end c.before.before.before.before.args.at (omega arith)
 
 returns-3 : tie.Need-returns-3
-returns-3 c = c.before.before.before.before.less.ensures ∙ from-near _ c.before.before.before.before.before.args.end c.before.before.before.before.before.args.at (omega arith) (omega arith)
+returns-3 c = c.before.before.before.before.less.ensures ∙ from_near _ c.before.before.before.before.before.args.end c.before.before.before.before.before.args.at (omega arith) (omega arith)
 
 returns-4 : tie.Need-returns-4
 returns-4 c = c.before.before.before.less2.ensures ∙ from_last _ c.before.before.before.before.before.args.end c.before.before.before.before.before.args.at (omega arith) (omega arith)

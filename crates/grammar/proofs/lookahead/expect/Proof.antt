@@ -1,4 +1,4 @@
-use Rattle.grammar.proofs.Lookaheads.{expected-is, expected-no}
+use Rattle.grammar.proofs.Lookaheads.{expected_is, expected_no}
 use mathlib.Core.Path.{◌∙◌}
 use borrow.Author.Rules.{rules}
 use Rattle.grammar.proofs.lookahead.expect.Statement.{statement}
@@ -12,13 +12,13 @@ advance-requires : tie.Need-advance-requires
 advance-requires c κs = search rules
 
 returns : tie.Need-returns
-returns c = c.advance.ensures ∙ expected-is _ _ _ c.before.if1.true
+returns c = c.advance.ensures ∙ expected_is _ _ _ c.before.if1.true
 
 refuse-requires : tie.Need-refuse-requires
 refuse-requires c κs = search rules
 
 returns-2 : tie.Need-returns-2
-returns-2 c = c.refuse.ensures ∙ expected-no _ _ _ c.before.if1.false
+returns-2 c = c.refuse.ensures ∙ expected_no _ _ _ c.before.if1.false
 
 pub expect-spec : {M : Type 1} → statement M
 expect-spec = tie.close (tie.spec advance-requires returns refuse-requires returns-2)

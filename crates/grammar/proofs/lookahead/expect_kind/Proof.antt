@@ -1,4 +1,4 @@
-use Rattle.grammar.proofs.Rules.{kind-taken, kind-no}
+use Rattle.grammar.proofs.Rules.{kind_taken, kind_no}
 use mathlib.Core.Path.{sym, ◌∙◌}
 use borrow.Author.Rules.{rules}
 use Rattle.grammar.proofs.lookahead.expect_kind.Statement.{statement}
@@ -16,13 +16,13 @@ advance-requires : tie.Need-advance-requires
 advance-requires c κs = search rules
 
 returns : tie.Need-returns
-returns c = kind-taken (sym c.before.before.is-kind.ensures ∙ c.before.if1.true) c.advance.ensures
+returns c = kind_taken (sym c.before.before.is-kind.ensures ∙ c.before.if1.true) c.advance.ensures
 
 refuse-requires : tie.Need-refuse-requires
 refuse-requires c κs = search rules
 
 returns-2 : tie.Need-returns-2
-returns-2 c = kind-no (sym c.before.before.is-kind.ensures ∙ c.before.if1.false) c.refuse.ensures
+returns-2 c = kind_no (sym c.before.before.is-kind.ensures ∙ c.before.if1.false) c.refuse.ensures
 
 pub expect-kind-spec : {M : Type 1} → statement M
 expect-kind-spec =

@@ -1,4 +1,4 @@
-use Rattle.grammar.proofs.Lookaheads.{look-found, look-bad, look-end}
+use Rattle.grammar.proofs.Lookaheads.{look_found, look_bad, look_end}
 use mathlib.Core.Path.{sym, ◌∙◌}
 use borrow.Author.Rules.{rules}
 use Rattle.grammar.proofs.lookahead.look_at.Statement.{statement}
@@ -24,13 +24,13 @@ enum-known-n : tie.Need-enum-known-n
 enum-known-n c = search rules
 
 returns : tie.Need-returns
-returns c = look-found _ _ _ _ _ _ (sym c.before.before.before.before.step.ensures ∙ c.before.before.t.given.1) c.code_of.ensures
+returns c = look_found _ _ _ _ _ _ (sym c.before.before.before.before.step.ensures ∙ c.before.before.t.given.1) c.code_of.ensures
 
 returns-2 : tie.Need-returns-2
-returns-2 c = look-bad _ _ _ _ (sym c.before.before.before.step.ensures ∙ c.before.p.given.1)
+returns-2 c = look_bad _ _ _ _ (sym c.before.before.before.step.ensures ∙ c.before.p.given.1)
 
 returns-3 : tie.Need-returns-3
-returns-3 c = look-end _ _ _ _ (sym c.before.before.before.step.ensures ∙ c.before.n.given.1)
+returns-3 c = look_end _ _ _ _ (sym c.before.before.before.step.ensures ∙ c.before.n.given.1)
 
 pub look-at-spec : {M : Type 1} → statement M
 look-at-spec =

@@ -1,4 +1,4 @@
-use Rattle.grammar.proofs.Terminals.{rbrace-is}
+use Rattle.grammar.proofs.Terminals.{rbrace_is}
 use Rattle.grammar.proofs.Meeting.{◌⊳◌}
 use borrow.Author.Rules.{rules}
 use Rattle.grammar.proofs.parts.close.Statement.{statement}
@@ -15,7 +15,7 @@ finish-requires : tie.Need-finish-requires
 finish-requires c κs = search rules
 
 returns : tie.Need-returns
-returns c = rbrace-is c.before.expect.ensures ⊳ c.finish.ensures
+returns c = rbrace_is c.before.expect.ensures ⊳ c.finish.ensures
 
 pub close_spec : {M : Type 1} → statement M
 close_spec = tie.close (tie.spec expect-requires finish-requires returns)

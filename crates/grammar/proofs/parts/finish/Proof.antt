@@ -1,4 +1,4 @@
-use Rattle.grammar.proofs.Terminals.{semicolon-is}
+use Rattle.grammar.proofs.Terminals.{semicolon_is}
 use Rattle.grammar.proofs.Meeting.{◌⊳◌}
 use borrow.Author.Rules.{rules}
 use Rattle.grammar.proofs.parts.finish.Statement.{statement}
@@ -15,7 +15,7 @@ expect-requires : tie.Need-expect-requires
 expect-requires c κs = search rules
 
 returns : tie.Need-returns
-returns c = c.before.description.ensures ⊳ semicolon-is c.expect.ensures
+returns c = c.before.description.ensures ⊳ semicolon_is c.expect.ensures
 
 pub finish_spec : {M : Type 1} → statement M
 finish_spec = tie.close (tie.spec description-requires expect-requires returns)

@@ -1,5 +1,5 @@
 use borrow.Author.Rules.{rules}
-use Rattle.grammar.proofs.Rules.{number-item, comma-less, numbers-again, numbers-done}
+use Rattle.grammar.proofs.Rules.{number_item, comma_less, numbers_again, numbers_done}
 use Rattle.grammar.proofs.Meeting.{still, Still}
 use Rattle.grammar.specs.Readers.{left}
 use Rattle.grammar.specs.Grammar.{numbers}
@@ -26,13 +26,13 @@ expect-requires : tie.Need-expect-requires invariant_loop decreases_loop
 expect-requires c κs = search rules
 
 loop_less : tie.Need-loop-smaller invariant_loop decreases_loop
-loop_less c = comma-less c.before.before.if1.true (number-item c.before.before.if1.true c.before.advance.ensures c.expect.ensures)
+loop_less c = comma_less c.before.before.if1.true (number_item c.before.before.if1.true c.before.advance.ensures c.expect.ensures)
 
 loop_again : tie.Need-loop-preserved invariant_loop decreases_loop
-loop_again c = numbers-again c.before.before.before.before.loop.invariant c.before.before.if1.true (number-item c.before.before.if1.true c.before.advance.ensures c.expect.ensures)
+loop_again c = numbers_again c.before.before.before.before.loop.invariant c.before.before.if1.true (number_item c.before.before.if1.true c.before.advance.ensures c.expect.ensures)
 
 returns : tie.Need-returns invariant_loop decreases_loop
-returns c = numbers-done c.before.before.loop.invariant c.if1.false
+returns c = numbers_done c.before.before.loop.invariant c.if1.false
 
 pub numbers-spec : {M : Type 1} → statement M
 numbers-spec =

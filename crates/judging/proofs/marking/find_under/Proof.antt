@@ -1,5 +1,5 @@
-use Rattle.judging.proofs.Finding.{under-stop, under_more}
-use Rattle.rows.proofs.Searches.{row-end}
+use Rattle.judging.proofs.Finding.{under_stop, under_more}
+use Rattle.rows.proofs.Searches.{row_end}
 use Rattle.rows.specs.Search.{find_row}
 use native.Mathlib.Omega.{arith}
 use lib.ListN.{length}
@@ -30,7 +30,7 @@ returns-2 : tie.Need-returns-2 invariant_loop decreases_loop
 returns-2 c = c.find-row2.ensures
 
 returns-3 : tie.Need-returns-3 invariant_loop decreases_loop
-returns-3 c = sym (row-end _ _ _ _ _ _ c.if3.true)
+returns-3 c = sym (row_end _ _ _ _ _ _ c.if3.true)
 
 mul-p : tie.Need-overflow-mul-p invariant_loop decreases_loop
 mul-p c = omega arith
@@ -45,7 +45,7 @@ shared-slice-read-if4 : tie.Need-shared-slice-read-if4 invariant_loop decreases_
 shared-slice-read-if4 c = omega arith
 
 returns-4 : tie.Need-returns-4 invariant_loop decreases_loop
-returns-4 c = sym (under-stop _ _ _ c.before.before.before.loop.k c.before.before.before.loop.p (omega arith) c.before.before.before.loop.invariant.0 c.before.before.before.loop.invariant.1 c.before.before.before.loop.invariant.2 c.if4.true) ∙ c.before.before.before.loop.invariant.4
+returns-4 c = sym (under_stop _ _ _ c.before.before.before.loop.k c.before.before.before.loop.p (omega arith) c.before.before.before.loop.invariant.0 c.before.before.before.loop.invariant.1 c.before.before.before.loop.invariant.2 c.if4.true) ∙ c.before.before.before.loop.invariant.4
 
 add-p : tie.Need-overflow-add-p invariant_loop decreases_loop
 add-p c = omega arith
@@ -60,7 +60,7 @@ loop_again : tie.Need-loop-preserved invariant_loop decreases_loop
 loop_again c = (c.before.before.before.loop.invariant.0, c.before.before.before.loop.invariant.1, omega arith, omega arith, sym (under_more _ _ _ c.before.before.before.loop.k c.before.before.before.loop.p (omega arith) c.before.before.before.loop.invariant.0 c.before.before.before.loop.invariant.1 c.before.before.before.loop.invariant.2 c.if4.false) ∙ c.before.before.before.loop.invariant.4)
 
 returns-5 : tie.Need-returns-5 invariant_loop decreases_loop
-returns-5 c = sym (row-end _ _ _ _ _ c.before.loop.k (omega arith)) ∙ c.before.loop.invariant.4
+returns-5 c = sym (row_end _ _ _ _ _ c.before.loop.k (omega arith)) ∙ c.before.loop.invariant.4
 
 pub find-under-spec : {M : Type 1} → statement M
 find-under-spec =

@@ -1,6 +1,6 @@
 -- `judging::marking::lacks` meets its contract.
 -- Assumes nothing.
-use Rattle.judging.proofs.Lacking.{Passed, passed_start, passed-stop, passed-more, passed_none, passed_end, found_low, found_high}
+use Rattle.judging.proofs.Lacking.{Passed, passed_start, passed_stop, passed_more, passed_none, passed_end, found_low, found_high}
 use Rattle.judging.specs.Promises.{LacksRow}
 use Prim.Native.Nat.{◌-◌}
 use mathlib.Core.Path.{sym, ◌∙◌, subst}
@@ -38,7 +38,7 @@ lacks-row-requires : tie.Need-lacks-row-requires invariant_loop decreases_loop
 lacks-row-requires c κs = c.before.before.before.before.before.before.before.before.before.before.before.before.requires
 
 returns-2 : tie.Need-returns-2 invariant_loop decreases_loop
-returns-2 c = passed-stop _ _ _ _ _ _ _ _ _ _ (sym c.before.before.before.before.before.find-under.ensures ∙ c.before.before.before.j.given.1) (subst (λ b. LacksRow c.before.before.before.before.before.before.before.before.before.before.before.before.before.before.args.text.now c.before.before.before.before.before.before.before.before.before.before.before.before.before.before.args.d.now c.before.before.before.before.before.before.before.before.before.before.before.before.before.before.args.st.now c.before.before.before.before.before.before.before.before.before.before.before.before.before.before.args.missing.now c.before.before.before.j.given.0.0 c.before.before.before.before.before.before.before.before.before.before.before.before.before.before.args.from c.before.before.before.before.before.before.before.before.before.before.before.before.before.before.args.end b) c.if1.true c.before.lacks-row.ensures)
+returns-2 c = passed_stop _ _ _ _ _ _ _ _ _ _ (sym c.before.before.before.before.before.find-under.ensures ∙ c.before.before.before.j.given.1) (subst (λ b. LacksRow c.before.before.before.before.before.before.before.before.before.before.before.before.before.before.args.text.now c.before.before.before.before.before.before.before.before.before.before.before.before.before.before.args.d.now c.before.before.before.before.before.before.before.before.before.before.before.before.before.before.args.st.now c.before.before.before.before.before.before.before.before.before.before.before.before.before.before.args.missing.now c.before.before.before.j.given.0.0 c.before.before.before.before.before.before.before.before.before.before.before.before.before.before.args.from c.before.before.before.before.before.before.before.before.before.before.before.before.before.before.args.end b) c.if1.true c.before.lacks-row.ensures)
 
 add-i : tie.Need-overflow-add-i invariant_loop decreases_loop
 add-i c = omega (arith, found_high _ _ _ _ _ (sym c.before.before.before.before.before.find-under.ensures ∙ c.before.before.before.j.given.1))
@@ -47,7 +47,7 @@ loop_less : tie.Need-loop-smaller invariant_loop decreases_loop
 loop_less c = omega (arith, found_low _ _ _ _ _ (sym c.before.before.before.before.before.find-under.ensures ∙ c.before.before.before.j.given.1), found_high _ _ _ _ _ (sym c.before.before.before.before.before.find-under.ensures ∙ c.before.before.before.j.given.1))
 
 loop_again : tie.Need-loop-preserved invariant_loop decreases_loop
-loop_again c = passed-more _ _ _ _ _ _ _ _ _ _ (sym c.before.before.before.before.before.find-under.ensures ∙ c.before.before.before.j.given.1) (subst (λ b. LacksRow c.before.before.before.before.before.before.before.before.before.before.before.before.before.before.args.text.now c.before.before.before.before.before.before.before.before.before.before.before.before.before.before.args.d.now c.before.before.before.before.before.before.before.before.before.before.before.before.before.before.args.st.now c.before.before.before.before.before.before.before.before.before.before.before.before.before.before.args.missing.now c.before.before.before.j.given.0.0 c.before.before.before.before.before.before.before.before.before.before.before.before.before.before.args.from c.before.before.before.before.before.before.before.before.before.before.before.before.before.before.args.end b) c.if1.false c.before.lacks-row.ensures) c.before.before.before.before.before.before.before.loop.invariant
+loop_again c = passed_more _ _ _ _ _ _ _ _ _ _ (sym c.before.before.before.before.before.find-under.ensures ∙ c.before.before.before.j.given.1) (subst (λ b. LacksRow c.before.before.before.before.before.before.before.before.before.before.before.before.before.before.args.text.now c.before.before.before.before.before.before.before.before.before.before.before.before.before.before.args.d.now c.before.before.before.before.before.before.before.before.before.before.before.before.before.before.args.st.now c.before.before.before.before.before.before.before.before.before.before.before.before.before.before.args.missing.now c.before.before.before.j.given.0.0 c.before.before.before.before.before.before.before.before.before.before.before.before.before.before.args.from c.before.before.before.before.before.before.before.before.before.before.before.before.before.before.args.end b) c.if1.false c.before.lacks-row.ensures) c.before.before.before.before.before.before.before.loop.invariant
 
 returns-3 : tie.Need-returns-3 invariant_loop decreases_loop
 returns-3 c = passed_end _ _ _ _ _ _ _ _ c.before.loop.i (omega arith) c.before.loop.invariant

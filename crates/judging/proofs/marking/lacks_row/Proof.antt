@@ -1,5 +1,5 @@
 use mathlib.Core.Path.{sym, ◌∙◌}
-use Rattle.judging.proofs.Lacking.{row-unmarked, row-marked}
+use Rattle.judging.proofs.Lacking.{row_unmarked, row_marked}
 use borrow.Author.Rules.{rules}
 use Rattle.judging.proofs.marking.lacks_row.Statement.{statement}
 use Rattle.judging.proofs.marking.lacks_row.Tie as tie
@@ -12,13 +12,13 @@ get-requires : tie.Need-get-requires
 get-requires c κs = search rules
 
 returns : tie.Need-returns
-returns c = λ n key f u ds ss o h k. row-unmarked o c.before.before.before.before.before.before.before.before.args.i h (sym c.before.get.ensures ∙ c.if1.true)
+returns c = λ n key f u ds ss o h k. row_unmarked o c.before.before.before.before.before.before.before.before.args.i h (sym c.before.get.ensures ∙ c.if1.true)
 
 is-stated-requires : tie.Need-is-stated-requires
 is-stated-requires c κs = search rules
 
 returns-2 : tie.Need-returns-2
-returns-2 c = λ n key f u ds ss o h k. row-marked o c.before.before.before.before.before.before.before.before.before.args.i c.is-stated.result h k (λ q. c.before.if1.false (c.before.before.get.ensures ∙ q)) c.is-stated.ensures
+returns-2 c = λ n key f u ds ss o h k. row_marked o c.before.before.before.before.before.before.before.before.before.args.i c.is-stated.result h k (λ q. c.before.if1.false (c.before.before.get.ensures ∙ q)) c.is-stated.ensures
 
 pub lacks-row-spec : {M : Type 1} → statement M
 lacks-row-spec = tie.close (tie.spec get-requires returns is-stated-requires returns-2)

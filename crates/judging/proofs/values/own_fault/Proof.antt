@@ -2,7 +2,7 @@
 -- Assumes nothing.
 use mathlib.Core.Path.{◌∙◌, ap}
 use Rattle.rows.specs.Order.{sooner as sooner-of}
-use Rattle.judging.proofs.Judgements.{own-by}
+use Rattle.judging.proofs.Judgements.{own_by}
 use borrow.Author.Rules.{rules}
 use Rattle.judging.proofs.values.own_fault.Statement.{statement}
 use Rattle.judging.proofs.values.own_fault.Tie as tie
@@ -30,7 +30,7 @@ sooner-requires : tie.Need-sooner-requires
 sooner-requires c κs = search rules
 
 returns : tie.Need-returns
-returns c = λ f x y b a h q. c.sooner.ensures ∙ ap (λ g. sooner-of g c.before.value-fault.result) c.before.before.fault-if.ensures ∙ own-by a c.before.before.before.before.cell-of.result c.before.before.before.again.result c.before.value-fault.result b c.before.before.before.before.cell-of.ensures (c.before.before.before.again.ensures f x y b a h q) (c.before.value-fault.ensures f x y a)
+returns c = λ f x y b a h q. c.sooner.ensures ∙ ap (λ g. sooner-of g c.before.value-fault.result) c.before.before.fault-if.ensures ∙ own_by a c.before.before.before.before.cell-of.result c.before.before.before.again.result c.before.value-fault.result b c.before.before.before.before.cell-of.ensures (c.before.before.before.again.ensures f x y b a h q) (c.before.value-fault.ensures f x y a)
 
 pub own-fault-spec : {M : Type 1} → statement M
 own-fault-spec =

@@ -1,6 +1,6 @@
 -- `judging::values::reference_fault` meets its contract.
 -- Assumes nothing.
-use Rattle.judging.proofs.Judgements.{reference-no-name, reference-nothing, reference-object}
+use Rattle.judging.proofs.Judgements.{reference_no_name, reference_nothing, reference_object}
 use Rattle.scopes.specs.Promises.{FindsObject}
 use mathlib.Core.Path.{sym, ◌∙◌, subst}
 use borrow.Author.Rules.{rules}
@@ -12,7 +12,7 @@ is-name-requires : tie.Need-is-name-requires
 is-name-requires c κs = search rules
 
 returns : tie.Need-returns
-returns c = reference-no-name _ _ _ _ _ _ c.before.before.before.before.before.args.code (sym c.before.is_name.ensures ∙ not-true _ c.if1.true)
+returns c = reference_no_name _ _ _ _ _ _ c.before.before.before.before.before.args.code (sym c.before.is_name.ensures ∙ not-true _ c.if1.true)
 
 find-object-requires : tie.Need-find-object-requires
 find-object-requires c κs = search rules
@@ -24,10 +24,10 @@ enum-told-2 : tie.Need-enum-told-2
 enum-told-2 c = search rules
 
 returns-2 : tie.Need-returns-2
-returns-2 c = reference-nothing _ _ _ _ _ _ c.before.before.before.before.before.before.before.before.args.code (sym c.before.before.before.before.is_name.ensures ∙ not-false _ c.before.before.before.if1.false) (subst (λ r. FindsObject c.before.before.before.before.before.before.before.before.args.text.now c.before.before.before.before.before.before.before.before.args.o.now c.before.before.before.before.before.before.before.before.args.objects c.before.before.before.before.before.before.before.before.args.kind c.before.before.before.before.before.before.before.before.args.at c.before.before.before.before.before.before.before.before.args.len r) c.enum-told2.given.1 c.before.before.find-object.ensures)
+returns-2 c = reference_nothing _ _ _ _ _ _ c.before.before.before.before.before.before.before.before.args.code (sym c.before.before.before.before.is_name.ensures ∙ not-false _ c.before.before.before.if1.false) (subst (λ r. FindsObject c.before.before.before.before.before.before.before.before.args.text.now c.before.before.before.before.before.before.before.before.args.o.now c.before.before.before.before.before.before.before.before.args.objects c.before.before.before.before.before.before.before.before.args.kind c.before.before.before.before.before.before.before.before.args.at c.before.before.before.before.before.before.before.before.args.len r) c.enum-told2.given.1 c.before.before.find-object.ensures)
 
 returns-3 : tie.Need-returns-3
-returns-3 c = reference-object _ _ _ _ _ _ c.before.before.before.before.before.before.before.before.args.code _ (sym c.before.before.before.before.is_name.ensures ∙ not-false _ c.before.before.before.if1.false) (subst (λ r. FindsObject c.before.before.before.before.before.before.before.before.args.text.now c.before.before.before.before.before.before.before.before.args.o.now c.before.before.before.before.before.before.before.before.args.objects c.before.before.before.before.before.before.before.before.args.kind c.before.before.before.before.before.before.before.before.args.at c.before.before.before.before.before.before.before.before.args.len r) c.enum_told.given.1 c.before.before.find-object.ensures)
+returns-3 c = reference_object _ _ _ _ _ _ c.before.before.before.before.before.before.before.before.args.code _ (sym c.before.before.before.before.is_name.ensures ∙ not-false _ c.before.before.before.if1.false) (subst (λ r. FindsObject c.before.before.before.before.before.before.before.before.args.text.now c.before.before.before.before.before.before.before.before.args.o.now c.before.before.before.before.before.before.before.before.args.objects c.before.before.before.before.before.before.before.before.args.kind c.before.before.before.before.before.before.before.before.args.at c.before.before.before.before.before.before.before.before.args.len r) c.enum_told.given.1 c.before.before.find-object.ensures)
 
 pub reference-fault-spec : {M : Type 1} → statement M
 reference-fault-spec =

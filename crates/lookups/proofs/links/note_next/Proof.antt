@@ -1,7 +1,7 @@
 use Prim.Native.Nat.{ℕ, ◌+◌, ◌-◌, ◌≤◌}
 use native.Mathlib.Omega.{arith}
 use borrow.Author.Rules.{rules}
-use Rattle.lookups.proofs.Linking.{LinkedFrom, linking-start, links-row, links-all, next_by, next_low}
+use Rattle.lookups.proofs.Linking.{LinkedFrom, linking_start, links_row, links_all, next_by, next_low}
 use Rattle.lookups.specs.Links.{ahead}
 use lib.ListN.{length, replicate}
 use mathlib.Core.Path.{◌≡◌, refl, ap, ◌∙◌}
@@ -27,7 +27,7 @@ clear-requires : tie.Need-clear-requires invariant_loop decreases_loop
 clear-requires c κs = search rules
 
 loop_holds : tie.Need-loop-init invariant_loop decreases_loop
-loop_holds c = (refl, (omega arith, linking-start _ _ _ _ refl (c.before.before.clear.ensures ∙ ap (λ (i : ℕ). replicate i 0) c.before.before.before.before.before.before.before.requires)))
+loop_holds c = (refl, (omega arith, linking_start _ _ _ _ refl (c.before.before.clear.ensures ∙ ap (λ (i : ℕ). replicate i 0) c.before.before.before.before.before.before.before.requires)))
 
 sub-i : tie.Need-overflow-sub-i invariant_loop decreases_loop
 sub-i c = omega arith
@@ -48,7 +48,7 @@ same_length : tie.Need-same-length invariant_loop decreases_loop
 same_length c = let a = c.before.before.before.before.before.before.before.before.loop.invariant.1.1.size in let b = c.before.before.before.before.before.before.before.before.before.before.before.before.before.before.before.before.requires in omega (arith, a, b)
 
 returns : tie.Need-returns invariant_loop decreases_loop
-returns c = links-all _ _ _ _ _ c.before.before.before.before.before.before.before.before.loop.invariant.1.1
+returns c = links_all _ _ _ _ _ c.before.before.before.before.before.before.before.before.loop.invariant.1.1
 
 get-requires : tie.Need-get-requires invariant_loop decreases_loop
 get-requires c κs = search rules
@@ -75,13 +75,13 @@ loop_less : tie.Need-loop-smaller invariant_loop decreases_loop
 loop_less c = omega arith
 
 loop_again : tie.Need-loop-preserved invariant_loop decreases_loop
-loop_again c = let q : c.before.before.before.before.before.before.before.before.pass.result ≡ c.before.before.before.before.before.before.before.before.before.before.before.next_row.result = omega arith in let e : (c.before.before.before.before.before.before.before.before.before.before.before.before.before.before.loop.k - 1) + 1 ≡ c.before.before.before.before.before.before.before.before.before.before.before.before.before.before.loop.k = omega arith in (omega (arith, c.before.put.auto, c.before.before.before.before.before.before.before.before.pass.auto, c.before.before.before.before.before.before.before.before.before.before.before.before.before.before.loop.invariant.0), (omega (arith, c.before.before.before.before.before.before.before.before.before.before.before.before.before.before.loop.invariant.1.0), links-row _ _ _ _ _ c.before.before.before.before.before.before.before.before.before.before.before.before.before.before.loop.invariant.1.1 _ _ _ _ _ _ _ e c.before.before.before.before.before.before.before.before.before.before.before.before.before.before.loop.invariant.1.0 (c.before.before.before.before.before.before.before.before.pass.ensures ∙ ap (λ (x : ℕ). ahead (c.before.before.before.before.before.before.before.before.before.before.before.before.before.before.before.before.before.before.before.before.before.before.args.st.now) (c.before.before.before.before.before.before.before.before.before.before.before.before.before.before.before.before.before.before.before.before.before.before.args.h.now) x) q) (next_by (c.before.before.before.before.before.before.before.before.before.before.before.before.before.before.before.before.before.before.before.before.before.before.args.st.now) _ _ _ _ c.before.before.before.before.before.before.before.before.before.before.before.before.cell-of.ensures c.before.before.before.before.before.before.before.before.before.before.before.next_row.ensures) c.before.before.before.before.before.get.ensures c.before.before.before.get2.ensures refl c.before.put.ensures))
+loop_again c = let q : c.before.before.before.before.before.before.before.before.pass.result ≡ c.before.before.before.before.before.before.before.before.before.before.before.next_row.result = omega arith in let e : (c.before.before.before.before.before.before.before.before.before.before.before.before.before.before.loop.k - 1) + 1 ≡ c.before.before.before.before.before.before.before.before.before.before.before.before.before.before.loop.k = omega arith in (omega (arith, c.before.put.auto, c.before.before.before.before.before.before.before.before.pass.auto, c.before.before.before.before.before.before.before.before.before.before.before.before.before.before.loop.invariant.0), (omega (arith, c.before.before.before.before.before.before.before.before.before.before.before.before.before.before.loop.invariant.1.0), links_row _ _ _ _ _ c.before.before.before.before.before.before.before.before.before.before.before.before.before.before.loop.invariant.1.1 _ _ _ _ _ _ _ e c.before.before.before.before.before.before.before.before.before.before.before.before.before.before.loop.invariant.1.0 (c.before.before.before.before.before.before.before.before.pass.ensures ∙ ap (λ (x : ℕ). ahead (c.before.before.before.before.before.before.before.before.before.before.before.before.before.before.before.before.before.before.before.before.before.before.args.st.now) (c.before.before.before.before.before.before.before.before.before.before.before.before.before.before.before.before.before.before.before.before.before.before.args.h.now) x) q) (next_by (c.before.before.before.before.before.before.before.before.before.before.before.before.before.before.before.before.before.before.before.before.before.before.args.st.now) _ _ _ _ c.before.before.before.before.before.before.before.before.before.before.before.before.cell-of.ensures c.before.before.before.before.before.before.before.before.before.before.before.next_row.ensures) c.before.before.before.before.before.get.ensures c.before.before.before.get2.ensures refl c.before.put.ensures))
 
 same_length_2 : tie.Need-same-length-2 invariant_loop decreases_loop
 same_length_2 c = let a = c.before.loop.invariant.1.1.size in let b = c.before.before.before.before.before.before.before.before.before.requires in omega (arith, a, b)
 
 returns-2 : tie.Need-returns-2 invariant_loop decreases_loop
-returns-2 c = links-all _ _ _ _ _ c.before.loop.invariant.1.1
+returns-2 c = links_all _ _ _ _ _ c.before.loop.invariant.1.1
 
 pub note-next-spec : {M : Type 1} → statement M
 note-next-spec =

@@ -2,7 +2,7 @@ use Prim.Native.Nat.{◌-◌, ◌<◌}
 use native.Mathlib.Omega.{arith}
 use borrow.Author.Rules.{rules}
 use Rattle.lookups.proofs.Blocks.{next_later}
-use Rattle.lookups.proofs.Linking.{passes-row, next_by}
+use Rattle.lookups.proofs.Linking.{passes_row, next_by}
 use Rattle.lookups.specs.Links.{Passing}
 use lib.ListN.{length}
 use mathlib.Core.Path.{◌≡◌, refl}
@@ -44,7 +44,7 @@ loop_less : tie.Need-loop-smaller invariant_loop decreases_loop
 loop_less c = let i : (c.before.before.before.before.before.before.before.before.before.loop.p) < length (c.before.before.before.before.before.before.before.before.before.before.before.before.before.before.args.h.now) = omega (arith, c.before.before.before.before.before.before.before.before.before.before.before.before.before.before.requires.0) in let l = next_later (c.before.before.before.before.before.before.before.before.before.before.before.before.before.before.args.st.now) _ _ _ (next_by (c.before.before.before.before.before.before.before.before.before.before.before.before.before.before.args.st.now) _ _ _ _ c.before.cell-of.ensures c.next_row.ensures) i in omega (arith, l)
 
 loop_again : tie.Need-loop-preserved invariant_loop decreases_loop
-loop_again c = (omega (arith, c.before.before.before.before.put.auto, c.before.before.before.before.before.before.before.before.before.loop.invariant.0), passes-row _ _ _ _ _ _ _ _ _ c.before.before.before.before.before.before.before.before.before.loop.invariant.1 (omega (arith, c.before.before.before.before.before.before.before.before.before.before.before.before.before.before.requires.0)) c.before.before.before.before.before.before.before.get.ensures c.before.before.before.before.before.before.get2.ensures c.before.before.before.before.put.ensures (next_by (c.before.before.before.before.before.before.before.before.before.before.before.before.before.before.args.st.now) _ _ _ _ c.before.cell-of.ensures c.next_row.ensures))
+loop_again c = (omega (arith, c.before.before.before.before.put.auto, c.before.before.before.before.before.before.before.before.before.loop.invariant.0), passes_row _ _ _ _ _ _ _ _ _ c.before.before.before.before.before.before.before.before.before.loop.invariant.1 (omega (arith, c.before.before.before.before.before.before.before.before.before.before.before.before.before.before.requires.0)) c.before.before.before.before.before.before.before.get.ensures c.before.before.before.before.before.before.get2.ensures c.before.before.before.before.put.ensures (next_by (c.before.before.before.before.before.before.before.before.before.before.before.before.before.before.args.st.now) _ _ _ _ c.before.cell-of.ensures c.next_row.ensures))
 
 same_length : tie.Need-same-length invariant_loop decreases_loop
 same_length c = c.before.loop.invariant.0

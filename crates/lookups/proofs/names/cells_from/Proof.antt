@@ -1,6 +1,6 @@
 -- `lookups::names::cells_from` meets its contract.
 -- Assumes nothing.
-use Rattle.lookups.proofs.Naming.{part-past, part-rest, part-within}
+use Rattle.lookups.proofs.Naming.{part_past, part_rest, part_within}
 use borrow.Author.Rules.{rules}
 use Rattle.lookups.proofs.names.cells_from.Statement.{statement}
 use Rattle.lookups.proofs.names.cells_from.Tie as tie
@@ -39,13 +39,13 @@ part-result-end-2 : tie.Need-slice-bounds-result-end-2
 part-result-end-2 c = search rules
 
 returns : tie.Need-returns
-returns c = let a = c.before.before.args in part-past a.t.now a.at a.n c.before.if1.true
+returns c = let a = c.before.before.args in part_past a.t.now a.at a.n c.before.if1.true
 
 returns-2 : tie.Need-returns-2
-returns-2 c = let a = c.before.before.before.args in part-rest a.t.now a.at a.n c.before.if2.true
+returns-2 c = let a = c.before.before.before.args in part_rest a.t.now a.at a.n c.before.if2.true
 
 returns-3 : tie.Need-returns-3
-returns-3 c = let a = c.before.before.before.args in part-within a.t.now a.at a.n
+returns-3 c = let a = c.before.before.before.args in part_within a.t.now a.at a.n
 
 pub cells-from-spec : {M : Type 1} → statement M
 cells-from-spec =

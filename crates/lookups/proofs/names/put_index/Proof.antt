@@ -1,6 +1,6 @@
 -- `lookups::names::put_index` meets its contract.
 -- Assumes nothing.
-use Rattle.lookups.proofs.Naming.{puts-index, lent_count}
+use Rattle.lookups.proofs.Naming.{puts_index, lent_count}
 use native.Mathlib.Omega.{arith}
 use borrow.Author.Rules.{rules}
 use Rattle.lookups.proofs.names.put_index.Statement.{statement}
@@ -31,7 +31,7 @@ same_length_2 : tie.Need-same-length-2
 same_length_2 c = search rules
 
 returns : tie.Need-returns
-returns c = puts-index _ _ _ _ c.before.before.before.before.before.before.before.before.before.before.before.requires (omega arith) _ _ _ _ _ _ (lent_count _ _ _ c.before.before.before.before.before.before.before.before.before.before.before.requires) c.before.before.before.before.index.ensures
+returns c = puts_index _ _ _ _ c.before.before.before.before.before.before.before.before.before.before.before.requires (omega arith) _ _ _ _ _ _ (lent_count _ _ _ c.before.before.before.before.before.before.before.before.before.before.before.requires) c.before.before.before.before.index.ensures
 
 pub put-index-spec : {M : Type 1} → statement M
 put-index-spec =

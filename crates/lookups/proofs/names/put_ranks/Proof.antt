@@ -1,5 +1,5 @@
 use native.Mathlib.Omega.{arith}
-use Rattle.lookups.proofs.Naming.{puts-ranks}
+use Rattle.lookups.proofs.Naming.{puts_ranks}
 use borrow.Author.Rules.{rules}
 use Rattle.lookups.proofs.names.put_ranks.Statement.{statement}
 use Rattle.lookups.proofs.names.put_ranks.Tie as tie
@@ -29,7 +29,7 @@ same_length : tie.Need-same-length
 same_length c = search rules
 
 returns : tie.Need-returns
-returns c = puts-ranks _ _ _ _ c.before.before.before.before.before.before.before.before.before.requires (omega arith) _ _ _ _ _ _ c.before.before.note-ranks.ensures
+returns c = puts_ranks _ _ _ _ c.before.before.before.before.before.before.before.before.before.requires (omega arith) _ _ _ _ _ _ c.before.before.note-ranks.ensures
 
 pub put-ranks-spec : {M : Type 1} → statement M
 put-ranks-spec =

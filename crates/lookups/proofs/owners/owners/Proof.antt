@@ -1,6 +1,6 @@
 use native.Mathlib.Omega.{arith}
 use mathlib.Core.Path.{refl}
-use Rattle.lookups.proofs.Owning.{owners-sorted}
+use Rattle.lookups.proofs.Owning.{owners_sorted}
 use borrow.Author.Rules.{rules}
 use Rattle.lookups.proofs.owners.owners.Statement.{statement}
 use Rattle.lookups.proofs.owners.owners.Tie as tie
@@ -25,7 +25,7 @@ sort-requires : tie.Need-sort-requires
 sort-requires c κs = search rules
 
 returns : tie.Need-returns
-returns c = owners-sorted _ _ _ _ _ _ refl (search rules) (omega arith) c.before.before.before.before.before.before.note-owners.ensures c.before.before.sort.ensures
+returns c = owners_sorted _ _ _ _ _ _ refl (search rules) (omega arith) c.before.before.before.before.before.before.note-owners.ensures c.before.before.sort.ensures
 
 pub owners-spec : {M : Type 1} → statement M
 owners-spec =

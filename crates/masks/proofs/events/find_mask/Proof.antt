@@ -3,7 +3,7 @@ use Rattle.rows.specs.Search.{find_from}
 use Prim.Native.Nat.{◌-◌}
 use mathlib.Core.Path.{◌≡◌, sym, ◌∙◌, refl}
 use native.Mathlib.Omega.{arith}
-use Rattle.masks.proofs.Storing.{seek_stop, seek-more, seek-end}
+use Rattle.masks.proofs.Storing.{seek_stop, seek_more, seek_end}
 use Rattle.masks.proofs.events.find_mask.Statement.{statement}
 use Rattle.masks.proofs.events.find_mask.Tie as tie
 use Rattle.masks.proofs.events.find_mask.Reads as reads
@@ -32,10 +32,10 @@ loop_less : tie.Need-loop-smaller invariant_loop decreases_loop
 loop_less c = omega arith
 
 loop_again : tie.Need-loop-preserved invariant_loop decreases_loop
-loop_again c = seek-more _ _ c.before.before.before.loop.k (omega arith) (sym c.before.is-mask.ensures ∙ c.if1.false) c.before.before.before.loop.invariant
+loop_again c = seek_more _ _ c.before.before.before.loop.k (omega arith) (sym c.before.is-mask.ensures ∙ c.if1.false) c.before.before.before.loop.invariant
 
 returns-2 : tie.Need-returns-2 invariant_loop decreases_loop
-returns-2 c = seek-end _ _ c.before.loop.k (omega arith) c.before.loop.invariant
+returns-2 c = seek_end _ _ c.before.loop.k (omega arith) c.before.loop.invariant
 
 pub find-mask-spec : {M : Type 1} → statement M
 find-mask-spec =

@@ -1,4 +1,4 @@
-use Rattle.masks.proofs.Storing.{mask-inner, mask-of-other, mask-named}
+use Rattle.masks.proofs.Storing.{mask_inner, mask_of_other, mask_named}
 use borrow.Author.Rules.{rules}
 use Rattle.masks.proofs.events.is_mask.Statement.{statement}
 use Rattle.masks.proofs.events.is_mask.Tie as tie
@@ -12,13 +12,13 @@ cell-of-requires : tie.Need-cell-of-requires
 cell-of-requires c κs = search rules
 
 returns : tie.Need-returns
-returns c = mask-inner _ _ _ _ _ _ c.before.cell-of.ensures c.if1.true
+returns c = mask_inner _ _ _ _ _ _ c.before.cell-of.ensures c.if1.true
 
 cell-of-requires-2 : tie.Need-cell-of-requires-2
 cell-of-requires-2 c κs = search rules
 
 returns-2 : tie.Need-returns-2
-returns-2 c = mask-of-other _ _ _ _ _ _ c.before.before.before.cell-of.ensures _ c.before.before.if1.false c.before.cell-of2.ensures c.if2.true
+returns-2 c = mask_of_other _ _ _ _ _ _ c.before.before.before.cell-of.ensures _ c.before.before.if1.false c.before.cell-of2.ensures c.if2.true
 
 cell-of-requires-3 : tie.Need-cell-of-requires-3
 cell-of-requires-3 c κs = search rules
@@ -39,7 +39,7 @@ same-bytes-requires : tie.Need-same-bytes-requires
 same-bytes-requires c κs = search rules
 
 returns-3 : tie.Need-returns-3
-returns-3 c = mask-named _ _ _ _ _ _ c.before.before.before.before.before.before.before.before.before.cell-of.ensures _ _ _ _ _ _ c.before.before.before.before.before.before.before.before.if1.false c.before.before.before.before.before.before.before.cell-of2.ensures c.before.before.before.before.before.before.if2.false c.before.before.before.before.before.cell-of3.ensures c.before.before.before.before.cell-of4.ensures c.before.before.before.cell-of5.ensures c.before.before.part.ensures.0 c.same_bytes.ensures
+returns-3 c = mask_named _ _ _ _ _ _ c.before.before.before.before.before.before.before.before.before.cell-of.ensures _ _ _ _ _ _ c.before.before.before.before.before.before.before.before.if1.false c.before.before.before.before.before.before.before.cell-of2.ensures c.before.before.before.before.before.before.if2.false c.before.before.before.before.before.cell-of3.ensures c.before.before.before.before.cell-of4.ensures c.before.before.before.cell-of5.ensures c.before.before.part.ensures.0 c.same_bytes.ensures
 
 pub is-mask-spec : {M : Type 1} → statement M
 is-mask-spec =

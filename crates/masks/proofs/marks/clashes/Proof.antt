@@ -3,7 +3,7 @@ use Rattle.masks.specs.Masks.{beside}
 use Prim.Native.Nat.{◌-◌}
 use mathlib.Core.Path.{◌≡◌, sym, ◌∙◌}
 use native.Mathlib.Omega.{arith}
-use Rattle.masks.proofs.Looping.{beside-start, beside-stop, beside-more, beside_end}
+use Rattle.masks.proofs.Looping.{beside_start, beside_stop, beside_more, beside_end}
 use Rattle.masks.proofs.marks.clashes.Statement.{statement}
 use Rattle.masks.proofs.marks.clashes.Tie as tie
 use Rattle.masks.proofs.marks.clashes.Reads as reads
@@ -17,13 +17,13 @@ abbrev decreases_loop : tie.decreases-loop
 decreases_loop marks rows c i p list t₀ t = c - t
 
 loop_holds : tie.Need-loop-init invariant_loop decreases_loop
-loop_holds c = beside-start _ _ _ _ _ _
+loop_holds c = beside_start _ _ _ _ _ _
 
 meets-in-requires : tie.Need-meets-in-requires invariant_loop decreases_loop
 meets-in-requires c κs = omega arith
 
 returns : tie.Need-returns invariant_loop decreases_loop
-returns c = beside-stop _ _ _ _ _ _ c.before.before.before.loop.t (omega arith) (sym c.before.meets-in.ensures ∙ c.if1.true) c.before.before.before.loop.invariant
+returns c = beside_stop _ _ _ _ _ _ c.before.before.before.loop.t (omega arith) (sym c.before.meets-in.ensures ∙ c.if1.true) c.before.before.before.loop.invariant
 
 add-t : tie.Need-overflow-add-t invariant_loop decreases_loop
 add-t c = omega arith
@@ -32,7 +32,7 @@ loop_less : tie.Need-loop-smaller invariant_loop decreases_loop
 loop_less c = omega arith
 
 loop_again : tie.Need-loop-preserved invariant_loop decreases_loop
-loop_again c = beside-more _ _ _ _ _ _ c.before.before.before.loop.t (omega arith) (sym c.before.meets-in.ensures ∙ c.if1.false) c.before.before.before.loop.invariant
+loop_again c = beside_more _ _ _ _ _ _ c.before.before.before.loop.t (omega arith) (sym c.before.meets-in.ensures ∙ c.if1.false) c.before.before.before.loop.invariant
 
 returns-2 : tie.Need-returns-2 invariant_loop decreases_loop
 returns-2 c = beside_end _ _ _ _ _ _ c.before.loop.t (omega arith) c.before.loop.invariant

@@ -6,7 +6,7 @@ use lib.ListN.{length, drop}
 use Prim.Native.Nat.{ℕ, ◌-◌}
 use mathlib.Core.Path.{◌≡◌, refl}
 use native.Mathlib.Omega.{arith}
-use Rattle.masks.proofs.Looping.{gather-turn, gather-end}
+use Rattle.masks.proofs.Looping.{gather_turn, gather_end}
 use Rattle.masks.proofs.marks.gather.Statement.{statement}
 use Rattle.masks.proofs.marks.gather.Tie as tie
 use Rattle.masks.proofs.marks.gather.Reads as reads
@@ -38,10 +38,10 @@ loop_less : tie.Need-loop-smaller invariant_loop decreases_loop
 loop_less c = omega arith
 
 loop_again : tie.Need-loop-preserved invariant_loop decreases_loop
-loop_again c = gather-turn _ _ _ _ c.before.before.before.loop.b _ c.before.before.before.loop.j (omega arith) c.gather-one.ensures c.before.before.before.loop.invariant
+loop_again c = gather_turn _ _ _ _ c.before.before.before.loop.b _ c.before.before.before.loop.j (omega arith) c.gather-one.ensures c.before.before.before.loop.invariant
 
 returns : tie.Need-returns invariant_loop decreases_loop
-returns c = gather-end _ _ _ _ _ c.before.loop.j (omega arith) c.before.loop.invariant
+returns c = gather_end _ _ _ _ _ c.before.loop.j (omega arith) c.before.loop.invariant
 
 pub gather-spec : {M : Type 1} → statement M
 gather-spec =

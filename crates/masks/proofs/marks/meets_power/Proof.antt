@@ -4,7 +4,7 @@ use lib.ListN.{length, drop}
 use Prim.Native.Nat.{◌-◌}
 use mathlib.Core.Path.{◌≡◌, refl, sym, ◌∙◌}
 use native.Mathlib.Omega.{arith}
-use Rattle.masks.proofs.Looping.{meets-stop, meets-more, meets-end}
+use Rattle.masks.proofs.Looping.{meets_stop, meets_more, meets_end}
 use Rattle.masks.proofs.marks.meets_power.Statement.{statement}
 use Rattle.masks.proofs.marks.meets_power.Tie as tie
 use Rattle.masks.proofs.marks.meets_power.Reads as reads
@@ -30,7 +30,7 @@ is-met-requires : tie.Need-is-met-requires invariant_loop decreases_loop
 is-met-requires c κs = omega arith
 
 returns : tie.Need-returns invariant_loop decreases_loop
-returns c = meets-stop _ _ _ _ c.before.before.before.before.loop.j (omega arith) (sym c.before.is-met.ensures ∙ c.if1.true) c.before.before.before.before.loop.invariant
+returns c = meets_stop _ _ _ _ c.before.before.before.before.loop.j (omega arith) (sym c.before.is-met.ensures ∙ c.if1.true) c.before.before.before.before.loop.invariant
 
 add-j : tie.Need-overflow-add-j invariant_loop decreases_loop
 add-j c = omega arith
@@ -39,10 +39,10 @@ loop_less : tie.Need-loop-smaller invariant_loop decreases_loop
 loop_less c = omega arith
 
 loop_again : tie.Need-loop-preserved invariant_loop decreases_loop
-loop_again c = meets-more _ _ _ _ c.before.before.before.before.loop.j (omega arith) (sym c.before.is-met.ensures ∙ c.if1.false) c.before.before.before.before.loop.invariant
+loop_again c = meets_more _ _ _ _ c.before.before.before.before.loop.j (omega arith) (sym c.before.is-met.ensures ∙ c.if1.false) c.before.before.before.before.loop.invariant
 
 returns-2 : tie.Need-returns-2 invariant_loop decreases_loop
-returns-2 c = meets-end _ _ _ _ c.before.loop.j (omega arith) c.before.loop.invariant
+returns-2 c = meets_end _ _ _ _ c.before.loop.j (omega arith) c.before.loop.invariant
 
 pub meets-power-spec : {M : Type 1} → statement M
 meets-power-spec =

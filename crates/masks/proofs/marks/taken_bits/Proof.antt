@@ -5,7 +5,7 @@ use Rattle.token.specs.Find.{either}
 use Prim.Native.Nat.{ℕ, ◌-◌}
 use mathlib.Core.Path.{◌≡◌}
 use native.Mathlib.Omega.{arith}
-use Rattle.masks.proofs.Looping.{taken_start, taken-turn, taken-end}
+use Rattle.masks.proofs.Looping.{taken_start, taken_turn, taken_end}
 use Rattle.masks.proofs.marks.taken_bits.Statement.{statement}
 use Rattle.masks.proofs.marks.taken_bits.Tie as tie
 use Rattle.masks.proofs.marks.taken_bits.Reads as reads
@@ -31,10 +31,10 @@ loop_less : tie.Need-loop-smaller invariant_loop decreases_loop
 loop_less c = omega arith
 
 loop_again : tie.Need-loop-preserved invariant_loop decreases_loop
-loop_again c = taken-turn _ _ _ _ _ c.before.before.loop.b _ c.before.before.loop.t (omega arith) c.gather-in.ensures c.before.before.loop.invariant
+loop_again c = taken_turn _ _ _ _ _ c.before.before.loop.b _ c.before.before.loop.t (omega arith) c.gather-in.ensures c.before.before.loop.invariant
 
 returns : tie.Need-returns invariant_loop decreases_loop
-returns c = taken-end _ _ _ _ _ _ c.before.loop.t (omega arith) c.before.loop.invariant
+returns c = taken_end _ _ _ _ _ _ c.before.loop.t (omega arith) c.before.loop.invariant
 
 pub taken-bits-spec : {M : Type 1} → statement M
 taken-bits-spec =

@@ -1,4 +1,4 @@
-use Rattle.masks.proofs.Plannables.{under-other, other-type, a-list, by_name}
+use Rattle.masks.proofs.Plannables.{under_other, other_type, a_list, by_name}
 use borrow.Author.Rules.{rules}
 use Rattle.masks.proofs.members.is_mask_row.Statement.{statement}
 use Rattle.masks.proofs.members.is_mask_row.Tie as tie
@@ -12,19 +12,19 @@ cell-of-requires : tie.Need-cell-of-requires
 cell-of-requires c κs = search rules
 
 returns : tie.Need-returns
-returns c = under-other _ _ _ _ _ c.before.cell-of.ensures c.if1.true
+returns c = under_other _ _ _ _ _ c.before.cell-of.ensures c.if1.true
 
 cell-of-requires-2 : tie.Need-cell-of-requires-2
 cell-of-requires-2 c κs = search rules
 
 returns-2 : tie.Need-returns-2
-returns-2 c = other-type _ _ _ _ _ c.before.before.before.cell-of.ensures c.before.before.if1.false _ c.before.cell-of2.ensures c.if2.true
+returns-2 c = other_type _ _ _ _ _ c.before.before.before.cell-of.ensures c.before.before.if1.false _ c.before.cell-of2.ensures c.if2.true
 
 cell-of-requires-3 : tie.Need-cell-of-requires-3
 cell-of-requires-3 c κs = search rules
 
 returns-3 : tie.Need-returns-3
-returns-3 c = a-list _ _ _ _ _ c.before.before.before.before.before.cell-of.ensures c.before.before.before.before.if1.false _ _ c.before.before.before.cell-of2.ensures c.before.before.if2.false c.before.cell-of3.ensures c.if3.true
+returns-3 c = a_list _ _ _ _ _ c.before.before.before.before.before.cell-of.ensures c.before.before.before.before.if1.false _ _ c.before.before.before.cell-of2.ensures c.before.before.if2.false c.before.cell-of3.ensures c.if3.true
 
 cell-of-requires-4 : tie.Need-cell-of-requires-4
 cell-of-requires-4 c κs = search rules

@@ -1,5 +1,5 @@
 use native.Mathlib.Omega.{arith}
-use Rattle.masks.proofs.Markings.{no-task, no-reference, no_room, no-column, marked}
+use Rattle.masks.proofs.Markings.{no_task, no_reference, no_room, no_column, marked}
 use borrow.Author.Rules.{rules}
 use Rattle.masks.proofs.members.mark_one.Statement.{statement}
 use Rattle.masks.proofs.members.mark_one.Tie as tie
@@ -11,13 +11,13 @@ cell-of-requires : tie.Need-cell-of-requires
 cell-of-requires c κs = search rules
 
 returns : tie.Need-returns
-returns c = no-task _ _ _ _ _ _ c.before.cell-of.ensures c.if1.true
+returns c = no_task _ _ _ _ _ _ c.before.cell-of.ensures c.if1.true
 
 cell-of-requires-2 : tie.Need-cell-of-requires-2
 cell-of-requires-2 c κs = search rules
 
 returns-2 : tie.Need-returns-2
-returns-2 c = no-reference _ _ _ _ _ _ c.before.cell-of2.ensures c.if2.true
+returns-2 c = no_reference _ _ _ _ _ _ c.before.cell-of2.ensures c.if2.true
 
 cell-of-requires-3 : tie.Need-cell-of-requires-3
 cell-of-requires-3 c κs = search rules
@@ -26,7 +26,7 @@ returns-3 : tie.Need-returns-3
 returns-3 c = no_room _ _ _ _ _ c.if3.true
 
 returns-4 : tie.Need-returns-4
-returns-4 c = no-column _ _ _ _ _ _ c.before.before.cell-of3.ensures c.if4.true
+returns-4 c = no_column _ _ _ _ _ _ c.before.before.cell-of3.ensures c.if4.true
 
 mul-marks : tie.Need-overflow-mul-marks
 mul-marks c = search rules

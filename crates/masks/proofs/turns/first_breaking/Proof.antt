@@ -5,7 +5,7 @@ use Prim.Native.Nat.{◌-◌}
 use borrow.Author.Tests.{not-true, not-false}
 use native.Mathlib.Omega.{arith}
 use mathlib.Core.Path.{◌≡◌, sym, ◌∙◌}
-use Rattle.masks.proofs.Rules.{left, left_start, left-stop, left-more, left_end}
+use Rattle.masks.proofs.Rules.{left, left_start, left_stop, left_more, left_end}
 use Rattle.masks.proofs.turns.first_breaking.Statement.{statement}
 use Rattle.masks.proofs.turns.first_breaking.Tie as tie
 use Rattle.masks.proofs.turns.first_breaking.Reads as reads
@@ -31,7 +31,7 @@ keeps-rule-requires : tie.Need-keeps-rule-requires invariant_loop decreases_loop
 keeps-rule-requires c κs = tt
 
 returns : tie.Need-returns invariant_loop decreases_loop
-returns c = left-stop _ _ _ c.before.before.before.before.loop.i _ (omega arith) (sym c.before.keeps-rule.ensures ∙ not-true _ c.if1.true) c.before.before.before.before.loop.invariant
+returns c = left_stop _ _ _ c.before.before.before.before.loop.i _ (omega arith) (sym c.before.keeps-rule.ensures ∙ not-true _ c.if1.true) c.before.before.before.before.loop.invariant
 
 add-i : tie.Need-overflow-add-i invariant_loop decreases_loop
 add-i c = omega arith
@@ -40,7 +40,7 @@ loop_less : tie.Need-loop-smaller invariant_loop decreases_loop
 loop_less c = omega arith
 
 loop_again : tie.Need-loop-preserved invariant_loop decreases_loop
-loop_again c = left-more _ _ _ c.before.before.before.before.loop.i _ (omega arith) (sym c.before.keeps-rule.ensures ∙ not-false _ c.if1.false) c.before.before.before.before.loop.invariant
+loop_again c = left_more _ _ _ c.before.before.before.before.loop.i _ (omega arith) (sym c.before.keeps-rule.ensures ∙ not-false _ c.if1.false) c.before.before.before.before.loop.invariant
 
 returns-2 : tie.Need-returns-2 invariant_loop decreases_loop
 returns-2 c = left_end _ _ _ c.before.loop.i _ (omega arith) c.before.loop.invariant

@@ -1,5 +1,5 @@
 use native.Mathlib.Omega.{arith}
-use Rattle.rows.proofs.Stores.{stores-more, stores-end}
+use Rattle.rows.proofs.Stores.{stores_more, stores_end}
 use lib.Seq.{sets}
 use lib.ListN.{length, drop, length-set}
 use mathlib.Core.Path.{◌≡◌, refl, sym, ◌∙◌}
@@ -37,13 +37,13 @@ loop_less : tie.Need-loop-smaller invariant_loop decreases_loop
 loop_less c = omega arith
 
 loop_again : tie.Need-loop-preserved invariant_loop decreases_loop
-loop_again c = (omega arith, simp length-set c.before.before.loop.invariant.1, sym (stores-more _ c.before.before.loop.i _ c.before.before.loop.i (omega arith)) ∙ c.before.before.loop.invariant.2)
+loop_again c = (omega arith, simp length-set c.before.before.loop.invariant.1, sym (stores_more _ c.before.before.loop.i _ c.before.before.loop.i (omega arith)) ∙ c.before.before.loop.invariant.2)
 
 same_length : tie.Need-same-length invariant_loop decreases_loop
 same_length c = c.before.loop.invariant.1
 
 returns : tie.Need-returns invariant_loop decreases_loop
-returns c = stores-end _ c.before.loop.i _ c.before.loop.i (omega arith) ∙ c.before.loop.invariant.2
+returns c = stores_end _ c.before.loop.i _ c.before.loop.i (omega arith) ∙ c.before.loop.invariant.2
 
 pub put-masks-spec : {M : Type 1} → statement M
 put-masks-spec =

@@ -1,5 +1,5 @@
 use native.Mathlib.Omega.{arith}
-use Rattle.masks.proofs.Rules.{turn-given, turn-auto, turn-full}
+use Rattle.masks.proofs.Rules.{turn_given, turn_auto, turn_full}
 use borrow.Author.Rules.{rules}
 use Rattle.masks.proofs.turns.take_turn.Statement.{statement}
 use Rattle.masks.proofs.turns.take_turn.Tie as tie
@@ -14,7 +14,7 @@ cell-of-requires : tie.Need-cell-of-requires
 cell-of-requires c κs = search rules
 
 returns : tie.Need-returns
-returns c = turn-given _ _ _ _ _ c.before.cell-of.ensures c.if1.true
+returns c = turn_given _ _ _ _ _ c.before.cell-of.ensures c.if1.true
 
 taken-bits-requires : tie.Need-taken-bits-requires
 taken-bits-requires c κs = search rules
@@ -35,13 +35,13 @@ same_length : tie.Need-same-length
 same_length c = search rules
 
 returns-2 : tie.Need-returns-2
-returns-2 c = turn-auto _ _ _ _ _ c.before.before.before.before.before.before.cell-of.ensures c.before.before.before.before.before.if1.false _ _ _ c.before.before.before.taken-bits.ensures c.before.before.lowest-zero.ensures c.before.if2.true c.power.ensures
+returns-2 c = turn_auto _ _ _ _ _ c.before.before.before.before.before.before.cell-of.ensures c.before.before.before.before.before.if1.false _ _ _ c.before.before.before.taken-bits.ensures c.before.before.lowest-zero.ensures c.before.if2.true c.power.ensures
 
 same_length_2 : tie.Need-same-length-2
 same_length_2 c = search rules
 
 returns-3 : tie.Need-returns-3
-returns-3 c = turn-full _ _ _ _ _ c.before.before.before.before.before.cell-of.ensures c.before.before.before.before.if1.false _ _ c.before.before.taken-bits.ensures c.before.lowest-zero.ensures (omega arith)
+returns-3 c = turn_full _ _ _ _ _ c.before.before.before.before.before.cell-of.ensures c.before.before.before.before.if1.false _ _ c.before.before.taken-bits.ensures c.before.lowest-zero.ensures (omega arith)
 
 pub take-turn-spec : {M : Type 1} → statement M
 take-turn-spec =

@@ -5,7 +5,7 @@ use Prim.Native.Nat.{◌-◌}
 use borrow.Author.Tests.{not-true, not-false}
 use native.Mathlib.Omega.{arith}
 use mathlib.Core.Path.{◌≡◌, refl}
-use Rattle.masks.proofs.Rules.{turns_start, turns_more, turns-stop, turns-end}
+use Rattle.masks.proofs.Rules.{turns_start, turns_more, turns_stop, turns_end}
 use Rattle.masks.proofs.turns.take_turns.Statement.{statement}
 use Rattle.masks.proofs.turns.take_turns.Tie as tie
 use Rattle.masks.proofs.turns.take_turns.Reads as reads
@@ -28,7 +28,7 @@ same_length : tie.Need-same-length invariant_loop decreases_loop
 same_length c = omega arith
 
 returns : tie.Need-returns invariant_loop decreases_loop
-returns c = turns-stop _ _ _ _ _ _ c.before.before.before.before.before.before.loop.i _ (omega arith) c.before.before.before.take-turn.ensures (not-true _ c.if1.true) c.before.before.before.before.before.before.loop.invariant.1
+returns c = turns_stop _ _ _ _ _ _ c.before.before.before.before.before.before.loop.i _ (omega arith) c.before.before.before.take-turn.ensures (not-true _ c.if1.true) c.before.before.before.before.before.before.loop.invariant.1
 
 add-i : tie.Need-overflow-add-i invariant_loop decreases_loop
 add-i c = omega arith
@@ -43,7 +43,7 @@ same_length_2 : tie.Need-same-length-2 invariant_loop decreases_loop
 same_length_2 c = omega arith
 
 returns-2 : tie.Need-returns-2 invariant_loop decreases_loop
-returns-2 c = turns-end _ _ _ _ _ c.before.loop.i (omega arith) c.before.loop.invariant.1
+returns-2 c = turns_end _ _ _ _ _ c.before.loop.i (omega arith) c.before.loop.invariant.1
 
 pub take-turns-spec : {M : Type 1} → statement M
 take-turns-spec =

@@ -1,5 +1,5 @@
 use borrow.Author.Rules.{rules}
-use Rattle.mending.proofs.Endings.{Ending, ending_start, ending-past, ending-bad, ending-none, ending-found, ending-on}
+use Rattle.mending.proofs.Endings.{Ending, ending_start, ending_past, ending_bad, ending_none, ending-found, ending-on}
 use Rattle.token.proofs.Steps.{found_fits}
 use native.Mathlib.Omega.{arith}
 use lib.ListN.{length}
@@ -51,16 +51,16 @@ enum_told : tie.Need-enum-told invariant_loop decreases_loop
 enum_told c = search rules
 
 returns-2 : tie.Need-returns-2 invariant_loop decreases_loop
-returns-2 c = ending-bad c.before.before.before.before.loop.invariant c.before.before.before.loop-test.true _ (sym c.before.before.step.ensures ∙ c.enum_told.given.1)
+returns-2 c = ending_bad c.before.before.before.before.loop.invariant c.before.before.before.loop-test.true _ (sym c.before.before.step.ensures ∙ c.enum_told.given.1)
 
 enum-told-2 : tie.Need-enum-told-2 invariant_loop decreases_loop
 enum-told-2 c = search rules
 
 returns-3 : tie.Need-returns-3 invariant_loop decreases_loop
-returns-3 c = ending-none c.before.before.before.before.loop.invariant c.before.before.before.loop-test.true _ (sym c.before.before.step.ensures ∙ c.enum-told2.given.1)
+returns-3 c = ending_none c.before.before.before.before.loop.invariant c.before.before.before.loop-test.true _ (sym c.before.before.step.ensures ∙ c.enum-told2.given.1)
 
 returns-4 : tie.Need-returns-4 invariant_loop decreases_loop
-returns-4 c = ending-past c.before.loop.invariant c.loop-test.false
+returns-4 c = ending_past c.before.loop.invariant c.loop-test.false
 
 pub statement-end-spec : {M : Type 1} → statement M
 statement-end-spec =

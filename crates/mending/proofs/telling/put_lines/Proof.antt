@@ -1,7 +1,7 @@
 use mathlib.Core.Path.{◌∙◌}
 use Rattle.writing.proofs.Writes.{wrote_length}
 use borrow.Author.Rules.{rules}
-use Rattle.mending.proofs.Piecing.{Saying, saying_start, saying-size, saying-past, saying-on, next_after}
+use Rattle.mending.proofs.Piecing.{Saying, saying_start, saying_size, saying_past, saying_on, next_after}
 use native.Mathlib.Omega.{arith}
 use lib.ListN.{length}
 use Prim.Native.Nat.{◌-◌}
@@ -38,13 +38,13 @@ loop_less : tie.Need-loop-smaller invariant_loop decreases_loop
 loop_less c = omega (arith, next_after _ _ _ _ c.before.before.before.before.before.loop-test.true c.next.ensures, c.before.before.before.before.before.loop-test.true)
 
 loop_again : tie.Need-loop-preserved invariant_loop decreases_loop
-loop_again c = saying-on c.before.before.before.before.before.before.loop.invariant c.before.before.before.before.before.loop-test.true c.next.ensures c.before.before.before.put-line-at.ensures
+loop_again c = saying_on c.before.before.before.before.before.before.loop.invariant c.before.before.before.before.before.loop-test.true c.next.ensures c.before.before.before.put-line-at.ensures
 
 same_length : tie.Need-same-length invariant_loop decreases_loop
-same_length c = saying-size c.before.loop.invariant ∙ wrote_length c.before.before.before.before.put-bytes.ensures
+same_length c = saying_size c.before.loop.invariant ∙ wrote_length c.before.before.before.before.put-bytes.ensures
 
 returns : tie.Need-returns invariant_loop decreases_loop
-returns c = saying-past c.before.loop.invariant c.loop-test.false c.before.before.before.before.put-bytes.ensures
+returns c = saying_past c.before.loop.invariant c.loop-test.false c.before.before.before.before.put-bytes.ensures
 
 pub put-lines-spec : {M : Type 1} → statement M
 put-lines-spec =

@@ -1,4 +1,4 @@
-use Rattle.mending.proofs.Piecing.{left-dropped, left_none, left-kept}
+use Rattle.mending.proofs.Piecing.{left_dropped, left_none, left_kept}
 use borrow.Author.Rules.{rules}
 use Rattle.mending.proofs.walking.left_after.Statement.{statement}
 use Rattle.mending.proofs.walking.left_after.Tie as tie
@@ -10,7 +10,7 @@ mark-at-requires : tie.Need-mark-at-requires
 mark-at-requires c κs = search rules
 
 returns : tie.Need-returns
-returns c = left-dropped _ _ _ _ c.before.mark-at.ensures c.if1.true
+returns c = left_dropped _ _ _ _ c.before.mark-at.ensures c.if1.true
 
 returns-2 : tie.Need-returns-2
 returns-2 c = left_none _ _ _ _ c.before.before.mark-at.ensures c.before.if1.false c.if2.true
@@ -19,7 +19,7 @@ sub-result : tie.Need-overflow-sub-result
 sub-result c = search rules
 
 returns-3 : tie.Need-returns-3
-returns-3 c = left-kept _ _ _ _ c.before.before.mark-at.ensures c.before.if1.false
+returns-3 c = left_kept _ _ _ _ c.before.before.mark-at.ensures c.before.if1.false
 
 pub left-after-spec : {M : Type 1} → statement M
 left-after-spec = tie.close (tie.spec mark-at-requires returns returns-2 sub-result returns-3)

@@ -1,5 +1,5 @@
 use borrow.Author.Rules.{rules}
-use Rattle.mending.proofs.Piecing.{Seeking, seeking_start, seeking-past, seeking-found, seeking-on, next_after}
+use Rattle.mending.proofs.Piecing.{Seeking, seeking_start, seeking_past, seeking_found, seeking-on, next_after}
 use native.Mathlib.Omega.{arith}
 use lib.ListN.{length}
 use Prim.Native.Nat.{◌-◌}
@@ -24,7 +24,7 @@ is-here-requires : tie.Need-is-here-requires invariant_loop decreases_loop
 is-here-requires c κs = search rules
 
 returns : tie.Need-returns invariant_loop decreases_loop
-returns c = seeking-found c.before.before.before.loop.invariant c.before.before.loop-test.true _ c.before.is-here.ensures c.if1.true
+returns c = seeking_found c.before.before.before.loop.invariant c.before.before.loop-test.true _ c.before.is-here.ensures c.if1.true
 
 left-after-requires : tie.Need-left-after-requires invariant_loop decreases_loop
 left-after-requires c κs = search rules
@@ -39,7 +39,7 @@ loop_again : tie.Need-loop-preserved invariant_loop decreases_loop
 loop_again c = seeking-on c.before.before.before.before.before.loop.invariant c.before.before.before.before.loop-test.true _ c.before.before.before.is-here.ensures c.before.before.if1.false _ _ c.before.left_after.ensures c.next.ensures
 
 returns-2 : tie.Need-returns-2 invariant_loop decreases_loop
-returns-2 c = seeking-past c.before.loop.invariant c.loop-test.false
+returns-2 c = seeking_past c.before.loop.invariant c.loop-test.false
 
 pub place-back-spec : {M : Type 1} → statement M
 place-back-spec =

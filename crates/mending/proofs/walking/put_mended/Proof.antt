@@ -1,5 +1,5 @@
 use borrow.Author.Rules.{rules}
-use Rattle.mending.proofs.Piecing.{Copying, copying_start, copying-past, copying-on, next_after}
+use Rattle.mending.proofs.Piecing.{Copying, copying_start, copying_past, copying_on, next_after}
 use native.Mathlib.Omega.{arith}
 use lib.ListN.{length}
 use Prim.Native.Nat.{◌-◌}
@@ -29,13 +29,13 @@ loop_less : tie.Need-loop-smaller invariant_loop decreases_loop
 loop_less c = omega (arith, next_after _ _ _ _ c.before.before.before.before.before.loop-test.true c.next.ensures, c.before.before.before.before.before.loop-test.true)
 
 loop_again : tie.Need-loop-preserved invariant_loop decreases_loop
-loop_again c = copying-on c.before.before.before.before.before.before.loop.invariant c.before.before.before.before.before.loop-test.true _ c.next.ensures _ _ c.before.before.before.put-kept.ensures
+loop_again c = copying_on c.before.before.before.before.before.before.loop.invariant c.before.before.before.before.before.loop-test.true _ c.next.ensures _ _ c.before.before.before.put-kept.ensures
 
 same_length : tie.Need-same-length invariant_loop decreases_loop
 same_length c = c.before.loop.invariant.size
 
 returns : tie.Need-returns invariant_loop decreases_loop
-returns c = copying-past c.before.loop.invariant c.loop-test.false
+returns c = copying_past c.before.loop.invariant c.loop-test.false
 
 pub put-mended-spec : {M : Type 1} → statement M
 put-mended-spec =

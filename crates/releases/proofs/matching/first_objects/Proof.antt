@@ -1,5 +1,5 @@
 use native.Mathlib.Omega.{arith}
-use Rattle.releases.proofs.Telling.{FirstGoing, first-start, first_next, first-end}
+use Rattle.releases.proofs.Telling.{FirstGoing, first_start, first_next, first_end}
 use Prim.Native.Nat.{◌-◌}
 use mathlib.Core.Path.{◌≡◌, refl, sym, ◌∙◌}
 use Rattle.releases.proofs.matching.first_objects.Statement.{statement}
@@ -15,7 +15,7 @@ abbrev decreases_loop : tie.decreases-loop
 decreases_loop first d o v h st m second d2 o2 v2 h2 y2 st2 all₀ i₀ all i = m - i
 
 loop_holds : tie.Need-loop-init invariant_loop decreases_loop
-loop_holds c = first-start _ _ _ _ _ _ _ _ _ _ _ _ _ _ _
+loop_holds c = first_start _ _ _ _ _ _ _ _ _ _ _ _ _ _ _
 
 one-object-requires : tie.Need-one-object-requires invariant_loop decreases_loop
 one-object-requires c κs = omega arith
@@ -30,7 +30,7 @@ loop_again : tie.Need-loop-preserved invariant_loop decreases_loop
 loop_again c = first_next _ _ _ _ _ _ _ _ _ _ _ _ _ _ _ (c.before.before.loop.all) (c.one-object.result) (c.before.before.loop.i) (c.before.before.loop.invariant) (omega arith) c.one-object.ensures
 
 returns : tie.Need-returns invariant_loop decreases_loop
-returns c = first-end _ _ _ _ _ _ _ _ _ _ _ _ _ _ _ _ (c.before.loop.i) (c.before.loop.invariant) (omega arith)
+returns c = first_end _ _ _ _ _ _ _ _ _ _ _ _ _ _ _ _ (c.before.loop.i) (c.before.loop.invariant) (omega arith)
 
 pub first-objects-spec : {M : Type 1} → statement M
 first-objects-spec =

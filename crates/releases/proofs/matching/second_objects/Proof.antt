@@ -1,5 +1,5 @@
 use native.Mathlib.Omega.{arith}
-use Rattle.releases.proofs.Telling.{SecondGoing, second-start, second-next, second-end}
+use Rattle.releases.proofs.Telling.{SecondGoing, second_start, second_next, second_end}
 use Prim.Native.Nat.{◌-◌}
 use Rattle.releases.proofs.matching.second_objects.Statement.{statement}
 use Rattle.releases.proofs.matching.second_objects.Tie as tie
@@ -14,7 +14,7 @@ abbrev decreases_loop : tie.decreases-loop
 decreases_loop first o y second o2 m all₀ j₀ all j = m - j
 
 loop_holds : tie.Need-loop-init invariant_loop decreases_loop
-loop_holds c = second-start _ _ _ _ _ _ _
+loop_holds c = second_start _ _ _ _ _ _ _
 
 one-added-requires : tie.Need-one-added-requires invariant_loop decreases_loop
 one-added-requires c κs = omega arith
@@ -26,10 +26,10 @@ loop_less : tie.Need-loop-smaller invariant_loop decreases_loop
 loop_less c = omega arith
 
 loop_again : tie.Need-loop-preserved invariant_loop decreases_loop
-loop_again c = second-next _ _ _ _ _ _ _ (c.before.before.loop.all) (c.one-added.result) (c.before.before.loop.j) (c.before.before.loop.invariant) (omega arith) c.one-added.ensures
+loop_again c = second_next _ _ _ _ _ _ _ (c.before.before.loop.all) (c.one-added.result) (c.before.before.loop.j) (c.before.before.loop.invariant) (omega arith) c.one-added.ensures
 
 returns : tie.Need-returns invariant_loop decreases_loop
-returns c = second-end _ _ _ _ _ _ _ _ (c.before.loop.j) (c.before.loop.invariant) (omega arith)
+returns c = second_end _ _ _ _ _ _ _ _ (c.before.loop.j) (c.before.loop.invariant) (omega arith)
 
 pub second-objects-spec : {M : Type 1} → statement M
 second-objects-spec =

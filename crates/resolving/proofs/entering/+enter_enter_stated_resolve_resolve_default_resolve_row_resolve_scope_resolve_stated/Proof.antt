@@ -1,12 +1,12 @@
 use borrow.Author.Rules.{rules}
-use Rattle.lookups.proofs.Blocks.{firsts-empty, firsts-none}
+use Rattle.lookups.proofs.Blocks.{firsts_empty, firsts_none}
 use Rattle.rows.specs.declared.Found.TheVariants.{At}
 use Rattle.blocks.specs.Blocks.{FindsStated}
-use Rattle.resolving.proofs.Passing.{after_grows, finds-ranked, finds-after, goes-pass, resolves-past, resolves-full, resolves-quiet}
-use Rattle.resolving.proofs.Namings.{word-is}
-use Rattle.resolving.proofs.Statings.{States, states-start, states-none, states-out, states-more, states-end, finds_at, row_found, row-missing}
-use Rattle.resolving.proofs.Entrances.{enter-full, enter-more, stated-this, default_none, default-not, default_taken}
-use Rattle.resolving.proofs.Turns.{Goes, goes-start, goes-more, goes_end, resolves-none}
+use Rattle.resolving.proofs.Passing.{after_grows, finds_ranked, finds_after, goes_pass, resolves_past, resolves_full, resolves_quiet}
+use Rattle.resolving.proofs.Namings.{word_is}
+use Rattle.resolving.proofs.Statings.{States, states_start, states_none, states_out, states_more, states_end, finds_at, row_found, row_missing}
+use Rattle.resolving.proofs.Entrances.{enter_full, enter_more, stated_this, default_none, default_not, default_taken}
+use Rattle.resolving.proofs.Turns.{Goes, goes_start, goes_more, goes_end, resolves_none}
 use native.Mathlib.Omega.{arith}
 use mathlib.Core.Path.{◌≡◌, refl}
 use Prim.Native.Nat.{◌+◌, ◌-◌, ◌*◌, ◌≤◌}
@@ -160,7 +160,7 @@ enter-returns : (t : ℕ) → enter-lts.Need-returns (
   resolve-below t,
   resolve.Post,
 ) (enter-at t) enter.Post
-enter-returns t c = enter-full c.if1.true
+enter-returns t c = enter_full c.if1.true
 
 enter-put-value-requires : (t : ℕ) → enter-lts.Need-put-value-requires (
   put-value-reads.Asked,
@@ -220,7 +220,7 @@ enter-returns-2 : (t : ℕ) → enter-lts.Need-returns-2 (
   resolve-below t,
   resolve.Post,
 ) (enter-at t) enter.Post
-enter-returns-2 t c = enter-more (omega arith) c.before.before.before.before.before.before.before.put-value.ensures (word-is c.before.before.before.before.before.before.before.before.before.before.before.before.before.before.before.before.before.before.before.before.before.before.before.before.requires.1.indexes c.before.before.before.before.word_of.ensures) c.before.before.resolve.ensures
+enter-returns-2 t c = enter_more (omega arith) c.before.before.before.before.before.before.before.put-value.ensures (word_is c.before.before.before.before.before.before.before.before.before.before.before.before.before.before.before.before.before.before.before.before.before.before.before.before.requires.1.indexes c.before.before.before.before.word_of.ensures) c.before.before.resolve.ensures
 
 enter-stated-cell-of-requires : (t : ℕ) → enter-stated-lts.Need-cell-of-requires (
   cell-of-reads.Asked,
@@ -268,7 +268,7 @@ enter-stated-returns : (t : ℕ) → enter-stated-lts.Need-returns (
   enter-below t,
   enter.Post,
 ) (enter-stated-at t) enter-stated.Post
-enter-stated-returns t c = stated-this c.before.before.before.before.before.before.cell-of.ensures c.before.before.before.before.before.cell-of2.ensures c.before.before.before.before.cell-of3.ensures c.before.before.enter.ensures
+enter-stated-returns t c = stated_this c.before.before.before.before.before.before.cell-of.ensures c.before.before.before.before.before.cell-of2.ensures c.before.before.before.before.cell-of3.ensures c.before.before.enter.ensures
 
 resolve-returns : (t : ℕ) → resolve-lts.Need-returns (
   is-quiet-reads.Asked,
@@ -278,7 +278,7 @@ resolve-returns : (t : ℕ) → resolve-lts.Need-returns (
   firsts-reads.Asked,
   firsts-reads.Learnt,
 ) (resolve-at t) resolve.Post
-resolve-returns t c = resolves-none c.if1.true
+resolve-returns t c = resolves_none c.if1.true
 
 resolve-returns-2 : (t : ℕ) → resolve-lts.Need-returns-2 (
   is-quiet-reads.Asked,
@@ -288,7 +288,7 @@ resolve-returns-2 : (t : ℕ) → resolve-lts.Need-returns-2 (
   firsts-reads.Asked,
   firsts-reads.Learnt,
 ) (resolve-at t) resolve.Post
-resolve-returns-2 t c = resolves-past (omega arith)
+resolve-returns-2 t c = resolves_past (omega arith)
 
 resolve-returns-3 : (t : ℕ) → resolve-lts.Need-returns-3 (
   is-quiet-reads.Asked,
@@ -298,7 +298,7 @@ resolve-returns-3 : (t : ℕ) → resolve-lts.Need-returns-3 (
   firsts-reads.Asked,
   firsts-reads.Learnt,
 ) (resolve-at t) resolve.Post
-resolve-returns-3 t c = resolves-full (omega arith)
+resolve-returns-3 t c = resolves_full (omega arith)
 
 resolve-is-quiet-requires : (t : ℕ) → resolve-lts.Need-is-quiet-requires (
   is-quiet-reads.Asked,
@@ -318,7 +318,7 @@ resolve-returns-4 : (t : ℕ) → resolve-lts.Need-returns-4 (
   firsts-reads.Asked,
   firsts-reads.Learnt,
 ) (resolve-at t) resolve.Post
-resolve-returns-4 t c = resolves-quiet c.before.before.before.before.if1.false (omega arith) c.before.before.before.before.before.before.before.before.before.before.before.before.before.before.before.before.before.before.before.requires.1.owners c.before.is-quiet.ensures c.if4.true
+resolve-returns-4 t c = resolves_quiet c.before.before.before.before.if1.false (omega arith) c.before.before.before.before.before.before.before.before.before.before.before.before.before.before.before.before.before.before.before.requires.1.owners c.before.is-quiet.ensures c.if4.true
 
 resolve-slice-aggregate-resolve-scope : (t : ℕ) → resolve-lts.Need-slice-aggregate-resolve-scope (
   is-quiet-reads.Asked,
@@ -338,7 +338,7 @@ resolve-resolve-scope-requires : (t : ℕ) → resolve-lts.Need-resolve-scope-re
   firsts-reads.Asked,
   firsts-reads.Learnt,
 ) (resolve-at t) resolve.Post
-resolve-resolve-scope-requires t c κs = (omega (arith, c.before.before.before.before.before.before.before.before.before.before.before.before.before.before.before.before.before.before.before.before.before.before.requires.0), (omega (arith, c.before.before.before.before.before.before.before.if1.false), (omega (arith, c.before.before.before.before.before.before.if2.false), (c.before.before.before.before.before.before.before.before.before.before.before.before.before.before.before.before.before.before.before.before.before.before.requires.1, firsts-empty _ _ _ _ _ refl))))
+resolve-resolve-scope-requires t c κs = (omega (arith, c.before.before.before.before.before.before.before.before.before.before.before.before.before.before.before.before.before.before.before.before.before.before.requires.0), (omega (arith, c.before.before.before.before.before.before.before.if1.false), (omega (arith, c.before.before.before.before.before.before.if2.false), (c.before.before.before.before.before.before.before.before.before.before.before.before.before.before.before.before.before.before.before.before.before.before.requires.1, firsts_empty _ _ _ _ _ refl))))
 
 resolve-same-length : (t : ℕ) → resolve-lts.Need-same-length (
   is-quiet-reads.Asked,
@@ -378,7 +378,7 @@ resolve-firsts-requires : (t : ℕ) → resolve-lts.Need-firsts-requires (
   firsts-reads.Asked,
   firsts-reads.Learnt,
 ) (resolve-at t) resolve.Post
-resolve-firsts-requires t c κs = firsts-none _ _ _ _ 64
+resolve-firsts-requires t c κs = firsts_none _ _ _ _ 64
 
 resolve-slice-aggregate-resolve-scope-2 :
     (t : ℕ) → resolve-lts.Need-slice-aggregate-resolve-scope-2 (
@@ -439,7 +439,7 @@ resolve-firsts-requires-2 : (t : ℕ) → resolve-lts.Need-firsts-requires-2 (
   firsts-reads.Asked,
   firsts-reads.Learnt,
 ) (resolve-at t) resolve.Post
-resolve-firsts-requires-2 t c κs = firsts-none _ _ _ _ 513
+resolve-firsts-requires-2 t c κs = firsts_none _ _ _ _ 513
 
 resolve-slice-aggregate-resolve-scope-3 :
     (t : ℕ) → resolve-lts.Need-slice-aggregate-resolve-scope-3 (
@@ -512,7 +512,7 @@ resolve-default-returns-2 : (t : ℕ) → resolve-default-lts.Need-returns-2 (
   enter-below t,
   enter.Post,
 ) (resolve-default-at t) resolve-default.Post
-resolve-default-returns-2 t c = default-not c.before.cell-of2.ensures c.if2.true
+resolve-default-returns-2 t c = default_not c.before.cell-of2.ensures c.if2.true
 
 resolve-default-cell-of-requires-3 : (t : ℕ) → resolve-default-lts.Need-cell-of-requires-3 (
   cell-of-reads.Asked,
@@ -604,7 +604,7 @@ resolve-row-returns : (t : ℕ) → resolve-row-lts.Need-returns (
   resolve-stated-below t,
   resolve-stated.Post,
 ) (resolve-row-at t) resolve-row.Post
-resolve-row-returns t c = row-missing (finds-ranked c.before.before.before.before.before.before.before.before.before.before.before.before.before.before.before.before.before.before.before.before.before.before.requires.1.0.ranks _ _ _ _ _ c.before.before.before.before.before.before.before.before.before.before.before.before.before.before.before.before.before.before.before.before.before.before.requires.1.1 c.before.before.before.before.before.before.row-stated.ensures) c.before.before.before.before.enum_told.given.1 c.before.before.resolve-default.ensures
+resolve-row-returns t c = row_missing (finds_ranked c.before.before.before.before.before.before.before.before.before.before.before.before.before.before.before.before.before.before.before.before.before.before.requires.1.0.ranks _ _ _ _ _ c.before.before.before.before.before.before.before.before.before.before.before.before.before.before.before.before.before.before.before.before.before.before.requires.1.1 c.before.before.before.before.before.before.row-stated.ensures) c.before.before.before.before.enum_told.given.1 c.before.before.resolve-default.ensures
 
 resolve-row-resolve-stated-requires : (t : ℕ) → resolve-row-lts.Need-resolve-stated-requires (
   row-stated-reads.Asked,
@@ -614,7 +614,7 @@ resolve-row-resolve-stated-requires : (t : ℕ) → resolve-row-lts.Need-resolve
   resolve-stated-below t,
   resolve-stated.Post,
 ) (resolve-row-at t) resolve-row.Post
-resolve-row-resolve-stated-requires t c κs = (omega arith, (c.before.before.before.before.before.before.before.before.before.before.before.before.before.before.before.before.before.before.before.before.requires.1.0, finds_at _ _ (finds-ranked c.before.before.before.before.before.before.before.before.before.before.before.before.before.before.before.before.before.before.before.before.requires.1.0.ranks _ _ _ _ _ c.before.before.before.before.before.before.before.before.before.before.before.before.before.before.before.before.before.before.before.before.requires.1.1 c.before.before.before.before.row-stated.ensures) c.before.before.k.given.1))
+resolve-row-resolve-stated-requires t c κs = (omega arith, (c.before.before.before.before.before.before.before.before.before.before.before.before.before.before.before.before.before.before.before.before.requires.1.0, finds_at _ _ (finds_ranked c.before.before.before.before.before.before.before.before.before.before.before.before.before.before.before.before.before.before.before.before.requires.1.0.ranks _ _ _ _ _ c.before.before.before.before.before.before.before.before.before.before.before.before.before.before.before.before.before.before.before.before.requires.1.1 c.before.before.before.before.row-stated.ensures) c.before.before.k.given.1))
 
 resolve-row-same-length-2 : (t : ℕ) → resolve-row-lts.Need-same-length-2 (
   row-stated-reads.Asked,
@@ -634,7 +634,7 @@ resolve-row-returns-2 : (t : ℕ) → resolve-row-lts.Need-returns-2 (
   resolve-stated-below t,
   resolve-stated.Post,
 ) (resolve-row-at t) resolve-row.Post
-resolve-row-returns-2 t c = row_found (finds-ranked c.before.before.before.before.before.before.before.before.before.before.before.before.before.before.before.before.before.before.before.before.before.before.before.requires.1.0.ranks _ _ _ _ _ c.before.before.before.before.before.before.before.before.before.before.before.before.before.before.before.before.before.before.before.before.before.before.before.requires.1.1 c.before.before.before.before.before.before.before.row-stated.ensures) c.before.before.before.before.before.k.given.1 c.before.before.resolve-stated.ensures
+resolve-row-returns-2 t c = row_found (finds_ranked c.before.before.before.before.before.before.before.before.before.before.before.before.before.before.before.before.before.before.before.before.before.before.before.requires.1.0.ranks _ _ _ _ _ c.before.before.before.before.before.before.before.before.before.before.before.before.before.before.before.before.before.before.before.before.before.before.before.requires.1.1 c.before.before.before.before.before.before.before.row-stated.ensures) c.before.before.before.before.before.k.given.1 c.before.before.resolve-stated.ensures
 
 abbrev resolve-scope-Inv-loop : resolve-scope-lts.invariant-loop
 resolve-scope-Inv-loop text d e o st known noted xe xo rs nx rd owners first v₀ z limit key from end w n m₀ j₀ v m j = (length v ≡ length v₀) × ((j ≤ limit) × ((j < limit → get_or d (j * 19 + 0) 0 ≡ key) × Goes text d e o st v₀ z limit key from end w n v m j))
@@ -656,7 +656,7 @@ resolve-scope-loop-holds : (t : ℕ) → resolve-scope-lts.Need-loop-init (
   resolve-row-below t,
   resolve-row.Post,
 ) (resolve-scope-at t) resolve-scope.Post resolve-scope-Inv-loop resolve-scope-μ-loop
-resolve-scope-loop-holds t c = (refl, (c.next_row.ensures.high, (c.next_row.ensures.here, goes-pass c.next_row.ensures goes-start)))
+resolve-scope-loop-holds t c = (refl, (c.next_row.ensures.high, (c.next_row.ensures.here, goes_pass c.next_row.ensures goes_start)))
 
 resolve-scope-resolve-row-requires : (t : ℕ) → resolve-scope-lts.Need-resolve-row-requires (
   next-row-reads.Asked,
@@ -696,7 +696,7 @@ resolve-scope-loop-again : (t : ℕ) → resolve-scope-lts.Need-loop-preserved (
   resolve-row-below t,
   resolve-row.Post,
 ) (resolve-scope-at t) resolve-scope.Post resolve-scope-Inv-loop resolve-scope-μ-loop
-resolve-scope-loop-again t c = (omega arith, (c.next-row2.ensures.high, (c.next-row2.ensures.here, goes-pass c.next-row2.ensures (goes-more (omega arith) c.before.before.before.before.before.before.loop.invariant.1.1.1 (c.before.before.before.resolve-row.ensures.resolves (c.before.before.before.before.before.before.loop.invariant.1.1.0 (omega arith)))))))
+resolve-scope-loop-again t c = (omega arith, (c.next-row2.ensures.high, (c.next-row2.ensures.here, goes_pass c.next-row2.ensures (goes_more (omega arith) c.before.before.before.before.before.before.loop.invariant.1.1.1 (c.before.before.before.resolve-row.ensures.resolves (c.before.before.before.before.before.before.loop.invariant.1.1.0 (omega arith)))))))
 
 resolve-scope-same-length : (t : ℕ) → resolve-scope-lts.Need-same-length (
   next-row-reads.Asked,
@@ -728,7 +728,7 @@ resolve-stated-loop-holds : (t : ℕ) → resolve-stated-lts.Need-loop-init (
   stated-after-reads.Asked,
   stated-after-reads.Learnt,
 ) (resolve-stated-at t) resolve-stated.Post resolve-stated-Inv-loop resolve-stated-μ-loop
-resolve-stated-loop-holds t c = (refl, (states-start, c.before.before.before.before.before.before.before.before.before.before.before.before.before.before.requires.1.1))
+resolve-stated-loop-holds t c = (refl, (states_start, c.before.before.before.before.before.before.before.before.before.before.before.before.before.before.requires.1.1))
 
 resolve-stated-same-length : (t : ℕ) → resolve-stated-lts.Need-same-length (
   after-reads.Asked,
@@ -748,7 +748,7 @@ resolve-stated-returns : (t : ℕ) → resolve-stated-lts.Need-returns (
   stated-after-reads.Asked,
   stated-after-reads.Learnt,
 ) (resolve-stated-at t) resolve-stated.Post resolve-stated-Inv-loop resolve-stated-μ-loop
-resolve-stated-returns t c = states-out refl refl c.before.before.loop.invariant.1.0 c.before.before.loop.invariant.1.1 refl (λ q. omega arith)
+resolve-stated-returns t c = states_out refl refl c.before.before.loop.invariant.1.0 c.before.before.loop.invariant.1.1 refl (λ q. omega arith)
 
 resolve-stated-same-length-2 : (t : ℕ) → resolve-stated-lts.Need-same-length-2 (
   after-reads.Asked,
@@ -768,7 +768,7 @@ resolve-stated-returns-2 : (t : ℕ) → resolve-stated-lts.Need-returns-2 (
   stated-after-reads.Asked,
   stated-after-reads.Learnt,
 ) (resolve-stated-at t) resolve-stated.Post resolve-stated-Inv-loop resolve-stated-μ-loop
-resolve-stated-returns-2 t c = states-out refl refl c.before.before.before.loop.invariant.1.0 c.before.before.before.loop.invariant.1.1 refl (λ q. omega arith)
+resolve-stated-returns-2 t c = states_out refl refl c.before.before.before.loop.invariant.1.0 c.before.before.before.loop.invariant.1.1 refl (λ q. omega arith)
 
 resolve-stated-after-requires : (t : ℕ) → resolve-stated-lts.Need-after-requires (
   after-reads.Asked,
@@ -848,7 +848,7 @@ resolve-stated-returns-3 : (t : ℕ) → resolve-stated-lts.Need-returns-3 (
   stated-after-reads.Asked,
   stated-after-reads.Learnt,
 ) (resolve-stated-at t) resolve-stated.Post resolve-stated-Inv-loop resolve-stated-μ-loop
-resolve-stated-returns-3 t c = states-none refl refl (states-more refl refl c.before.before.before.before.before.before.before.before.before.before.before.loop.invariant.1.0 c.before.before.before.before.before.before.before.before.before.before.before.loop.invariant.1.1 refl c.before.before.before.before.before.before.before.after.ensures refl c.before.before.before.before.before.enter-stated.ensures) (finds-after c.before.before.before.before.before.before.before.before.before.before.before.before.before.before.before.before.before.before.before.before.before.before.before.before.before.before.requires.1.0.ranks c.before.before.before.before.before.before.before.before.before.before.before.before.before.before.before.before.before.before.before.before.before.before.before.before.before.before.requires.1.0.links (record { inside = λ q. omega arith; after = λ q. c.before.before.before.before.before.before.before.after.ensures }) c.before.before.stated-after.ensures) c.enum_told.given.1
+resolve-stated-returns-3 t c = states_none refl refl (states_more refl refl c.before.before.before.before.before.before.before.before.before.before.before.loop.invariant.1.0 c.before.before.before.before.before.before.before.before.before.before.before.loop.invariant.1.1 refl c.before.before.before.before.before.before.before.after.ensures refl c.before.before.before.before.before.enter-stated.ensures) (finds_after c.before.before.before.before.before.before.before.before.before.before.before.before.before.before.before.before.before.before.before.before.before.before.before.before.before.before.requires.1.0.ranks c.before.before.before.before.before.before.before.before.before.before.before.before.before.before.before.before.before.before.before.before.before.before.before.before.before.before.requires.1.0.links (record { inside = λ q. omega arith; after = λ q. c.before.before.before.before.before.before.before.after.ensures }) c.before.before.stated-after.ensures) c.enum_told.given.1
 
 resolve-stated-loop-less : (t : ℕ) → resolve-stated-lts.Need-loop-smaller (
   after-reads.Asked,
@@ -868,7 +868,7 @@ resolve-stated-loop-again : (t : ℕ) → resolve-stated-lts.Need-loop-preserved
   stated-after-reads.Asked,
   stated-after-reads.Learnt,
 ) (resolve-stated-at t) resolve-stated.Post resolve-stated-Inv-loop resolve-stated-μ-loop
-resolve-stated-loop-again t c = (omega arith, (states-more refl refl c.before.before.before.before.before.before.before.before.before.before.before.before.loop.invariant.1.0 c.before.before.before.before.before.before.before.before.before.before.before.before.loop.invariant.1.1 refl c.before.before.before.before.before.before.before.before.after.ensures refl c.before.before.before.before.before.before.enter-stated.ensures, finds_at _ _ (finds-after c.before.before.before.before.before.before.before.before.before.before.before.before.before.before.before.before.before.before.before.before.before.before.before.before.before.before.before.requires.1.0.ranks c.before.before.before.before.before.before.before.before.before.before.before.before.before.before.before.before.before.before.before.before.before.before.before.before.before.before.before.requires.1.0.links (record { inside = λ q. omega arith; after = λ q. c.before.before.before.before.before.before.before.before.after.ensures }) c.before.before.before.stated-after.ensures) c.before.following.given.1))
+resolve-stated-loop-again t c = (omega arith, (states_more refl refl c.before.before.before.before.before.before.before.before.before.before.before.before.loop.invariant.1.0 c.before.before.before.before.before.before.before.before.before.before.before.before.loop.invariant.1.1 refl c.before.before.before.before.before.before.before.before.after.ensures refl c.before.before.before.before.before.before.enter-stated.ensures, finds_at _ _ (finds_after c.before.before.before.before.before.before.before.before.before.before.before.before.before.before.before.before.before.before.before.before.before.before.before.before.before.before.before.requires.1.0.ranks c.before.before.before.before.before.before.before.before.before.before.before.before.before.before.before.before.before.before.before.before.before.before.before.before.before.before.before.requires.1.0.links (record { inside = λ q. omega arith; after = λ q. c.before.before.before.before.before.before.before.before.after.ensures }) c.before.before.before.stated-after.ensures) c.before.following.given.1))
 
 resolve-stated-same-length-4 : (t : ℕ) → resolve-stated-lts.Need-same-length-4 (
   after-reads.Asked,
@@ -888,7 +888,7 @@ resolve-stated-returns-4 : (t : ℕ) → resolve-stated-lts.Need-returns-4 (
   stated-after-reads.Asked,
   stated-after-reads.Learnt,
 ) (resolve-stated-at t) resolve-stated.Post resolve-stated-Inv-loop resolve-stated-μ-loop
-resolve-stated-returns-4 t c = states-end (omega arith) c.before.loop.invariant.1.0
+resolve-stated-returns-4 t c = states_end (omega arith) c.before.loop.invariant.1.0
 
 pub +enter-enter-stated-resolve-resolve-default-resolve-row-resolve-scope-resolve-stated-spec :
     {M : Type 1} → statement M

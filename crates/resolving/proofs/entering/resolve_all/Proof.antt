@@ -1,7 +1,7 @@
 use Rattle.lookups.specs.Names.{FewRows}
 use native.Mathlib.Omega.{arith}
 use borrow.Author.Rules.{rules}
-use Rattle.resolving.proofs.Passing.{not-sized}
+use Rattle.resolving.proofs.Passing.{not_sized}
 use lib.Seq.{length-take-le}
 use mathlib.Core.Path.{refl, sym}
 use Rattle.resolving.proofs.entering.resolve_all.Statement.{statement}
@@ -13,16 +13,16 @@ use Rattle.resolving.proofs.entering.resolve_noted.Reads as resolve-noted-reads
 use Rattle.resolving.proofs.scanning.default_owners.Reads as default-owners-reads
 
 returns : tie.Need-returns
-returns c = not-sized (λ a y b e. c.if1.true a)
+returns c = not_sized (λ a y b e. c.if1.true a)
 
 returns-2 : tie.Need-returns-2
-returns-2 c = not-sized (λ a y b e. omega arith)
+returns-2 c = not_sized (λ a y b e. omega arith)
 
 returns-3 : tie.Need-returns-3
-returns-3 c = not-sized (λ a y b e. omega arith)
+returns-3 c = not_sized (λ a y b e. omega arith)
 
 returns-4 : tie.Need-returns-4
-returns-4 c = not-sized (λ a y b e. omega arith)
+returns-4 c = not_sized (λ a y b e. omega arith)
 
 slice-aggregate-note-defaults : tie.Need-slice-aggregate-note-defaults
 slice-aggregate-note-defaults c = search rules

@@ -5,7 +5,7 @@ use Prim.Native.Nat.{◌-◌}
 use mathlib.Core.Path.{◌≡◌, refl}
 use borrow.Author.Rules.{rules}
 use native.Mathlib.Omega.{arith}
-use Rattle.resolving.proofs.Objects.{Does, does-start, does-end, does-stop, does-more}
+use Rattle.resolving.proofs.Objects.{Does, does_start, does_end, does_stop, does_more}
 use Rattle.resolving.proofs.entering.resolve_objects.Statement.{statement}
 use Rattle.resolving.proofs.entering.resolve_objects.Tie as tie
 use Rattle.resolving.proofs.entering.resolve_objects.Reads as reads
@@ -20,7 +20,7 @@ abbrev decreases_loop : tie.decreases-loop
 decreases_loop text d e o st known noted xe xo rs nx rd owners v₀ z places n₀ i₀ v n i = z.objects - i
 
 loop_holds : tie.Need-loop-init invariant_loop decreases_loop
-loop_holds c = (refl, does-start)
+loop_holds c = (refl, does_start)
 
 cell-of-requires : tie.Need-cell-of-requires invariant_loop decreases_loop
 cell-of-requires c κs = tt
@@ -29,7 +29,7 @@ same_length : tie.Need-same-length invariant_loop decreases_loop
 same_length c = c.before.before.before.before.loop.invariant.0
 
 returns : tie.Need-returns invariant_loop decreases_loop
-returns c = does-stop (omega arith) c.before.cell-of.ensures c.before.before.before.before.loop.invariant.1 (omega arith)
+returns c = does_stop (omega arith) c.before.cell-of.ensures c.before.before.before.before.loop.invariant.1 (omega arith)
 
 mul-key : tie.Need-overflow-mul-key invariant_loop decreases_loop
 mul-key c = search rules
@@ -53,13 +53,13 @@ loop_less : tie.Need-loop-smaller invariant_loop decreases_loop
 loop_less c = omega arith
 
 loop_again : tie.Need-loop-preserved invariant_loop decreases_loop
-loop_again c = (omega arith, does-more (omega arith) c.before.before.before.before.before.before.before.cell-of.ensures c.before.before.before.before.before.before.before.before.before.before.loop.invariant.1 refl c.before.before.before.before.before.cell-of2.ensures c.before.before.before.before.cell-of3.ensures c.before.before.resolve.ensures)
+loop_again c = (omega arith, does_more (omega arith) c.before.before.before.before.before.before.before.cell-of.ensures c.before.before.before.before.before.before.before.before.before.before.loop.invariant.1 refl c.before.before.before.before.before.cell-of2.ensures c.before.before.before.before.cell-of3.ensures c.before.before.resolve.ensures)
 
 same_length_2 : tie.Need-same-length-2 invariant_loop decreases_loop
 same_length_2 c = c.before.before.loop.invariant.0
 
 returns-2 : tie.Need-returns-2 invariant_loop decreases_loop
-returns-2 c = does-end (omega arith) c.before.before.loop.invariant.1
+returns-2 c = does_end (omega arith) c.before.before.loop.invariant.1
 
 pub resolve-objects-spec : {M : Type 1} → statement M
 resolve-objects-spec =

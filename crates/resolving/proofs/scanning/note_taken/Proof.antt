@@ -2,7 +2,7 @@ use native.Mathlib.Omega.{arith}
 use mathlib.Core.Path.{◌≡◌, refl}
 use Prim.Native.Nat.{◌-◌}
 use lib.ListN.{length, length-set}
-use Rattle.resolving.proofs.Passing.{taken_start, taken_more, taken-past}
+use Rattle.resolving.proofs.Passing.{taken_start, taken_more, taken_past}
 use Rattle.resolving.specs.Noted.{NotesTaken}
 use Rattle.resolving.proofs.scanning.note_taken.Statement.{statement}
 use Rattle.resolving.proofs.scanning.note_taken.Tie as tie
@@ -41,7 +41,7 @@ same_length : tie.Need-same-length invariant_loop decreases_loop
 same_length c = c.before.loop.invariant.0
 
 returns : tie.Need-returns invariant_loop decreases_loop
-returns c = taken-past _ _ c.before.loop.i _ (omega arith) c.before.loop.invariant.1
+returns c = taken_past _ _ c.before.loop.i _ (omega arith) c.before.loop.invariant.1
 
 pub note-taken-spec : {M : Type 1} → statement M
 note-taken-spec =

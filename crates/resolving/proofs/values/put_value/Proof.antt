@@ -1,6 +1,6 @@
 -- `resolving::values::put_value` meets its contract.
 -- Assumes nothing.
-use Rattle.resolving.proofs.Valuing.{put-row}
+use Rattle.resolving.proofs.Valuing.{put_row}
 use borrow.Author.Rules.{rules}
 use Rattle.resolving.proofs.values.put_value.Statement.{statement}
 use Rattle.resolving.proofs.values.put_value.Tie as tie
@@ -25,7 +25,7 @@ same_length : tie.Need-same-length
 same_length c = search rules
 
 returns : tie.Need-returns
-returns c = put-row _ _ _ _ _ _ c.before.before.before.before.before.value_of.ensures c.before.before.put-cells.ensures
+returns c = put_row _ _ _ _ _ _ c.before.before.before.before.before.value_of.ensures c.before.before.put-cells.ensures
 
 pub put-value-spec : {M : Type 1} → statement M
 put-value-spec =

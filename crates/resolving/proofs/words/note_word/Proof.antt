@@ -1,6 +1,6 @@
 -- `resolving::words::note_word` meets its contract.
 -- Assumes nothing.
-use Rattle.resolving.proofs.Namings.{notes-none, notes-found}
+use Rattle.resolving.proofs.Namings.{notes_none, notes_found}
 use borrow.Author.Rules.{rules}
 use Rattle.resolving.proofs.words.note_word.Statement.{statement}
 use Rattle.resolving.proofs.words.note_word.Tie as tie
@@ -25,16 +25,16 @@ enum_told : tie.Need-enum-told
 enum_told c = search rules
 
 returns : tie.Need-returns
-returns c = notes-none
+returns c = notes_none
 
 returns-2 : tie.Need-returns-2
-returns-2 c = notes-none
+returns-2 c = notes_none
 
 add-result : tie.Need-overflow-add-result
 add-result c = search rules
 
 returns-3 : tie.Need-returns-3
-returns-3 c = notes-found _ _ _ _ c.before.before.before.before.before.before.cell-of.ensures c.before.before.before.before.before.cell-of2.ensures c.before.before.before.before.find-enumerator.ensures c.before.before.i.given.1
+returns-3 c = notes_found _ _ _ _ c.before.before.before.before.before.before.cell-of.ensures c.before.before.before.before.before.cell-of2.ensures c.before.before.before.before.find-enumerator.ensures c.before.before.i.given.1
 
 pub note-word-spec : {M : Type 1} → statement M
 note-word-spec =

@@ -5,7 +5,7 @@ use Prim.Native.Nat.{◌≤◌, ◌-◌}
 use mathlib.Core.Path.{◌≡◌, refl}
 use native.Mathlib.Omega.{arith}
 use Rattle.resolving.specs.Noted.{NotesTo}
-use Rattle.resolving.proofs.Namings.{notes-start, notes-more, notes-all}
+use Rattle.resolving.proofs.Namings.{notes_start, notes_more, notes_all}
 use Rattle.resolving.proofs.words.note_words.Statement.{statement}
 use Rattle.resolving.proofs.words.note_words.Tie as tie
 use Rattle.resolving.proofs.words.note_words.Reads as reads
@@ -19,7 +19,7 @@ abbrev decreases_loop : tie.decreases-loop
 decreases_loop text d e x t₀ i₀ t i = length t₀ - i
 
 loop_holds : tie.Need-loop-init invariant_loop decreases_loop
-loop_holds c = (omega arith, (refl, notes-start))
+loop_holds c = (omega arith, (refl, notes_start))
 
 note-word-requires : tie.Need-note-word-requires invariant_loop decreases_loop
 note-word-requires c κs = tt
@@ -37,13 +37,13 @@ loop_less : tie.Need-loop-smaller invariant_loop decreases_loop
 loop_less c = omega arith
 
 loop_again : tie.Need-loop-preserved invariant_loop decreases_loop
-loop_again c = (simp length-set (omega arith), (simp length-set c.before.before.loop.invariant.1.0, notes-more c.before.before.loop.invariant.1.1 (omega arith) c.note-word.ensures))
+loop_again c = (simp length-set (omega arith), (simp length-set c.before.before.loop.invariant.1.0, notes_more c.before.before.loop.invariant.1.1 (omega arith) c.note-word.ensures))
 
 same_length : tie.Need-same-length invariant_loop decreases_loop
 same_length c = c.before.loop.invariant.1.0
 
 returns : tie.Need-returns invariant_loop decreases_loop
-returns c = notes-all c.before.loop.invariant.1.1 (omega arith)
+returns c = notes_all c.before.loop.invariant.1.1 (omega arith)
 
 pub note-words-spec : {M : Type 1} → statement M
 note-words-spec =

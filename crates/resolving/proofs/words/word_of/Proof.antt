@@ -1,6 +1,6 @@
 -- `resolving::words::word_of` meets its contract: by the attribute's type.
 -- Assumes nothing.
-use Rattle.resolving.proofs.Namings.{word-looked, word-nothing, word_found}
+use Rattle.resolving.proofs.Namings.{word_looked, word_nothing, word_found}
 use borrow.Author.Rules.{rules}
 use Rattle.resolving.proofs.words.word_of.Statement.{statement}
 use Rattle.resolving.proofs.words.word_of.Tie as tie
@@ -17,7 +17,7 @@ word-under-requires : tie.Need-word-under-requires
 word-under-requires c κs = search rules
 
 returns : tie.Need-returns
-returns c = word-looked c.word-under.ensures
+returns c = word_looked c.word-under.ensures
 
 enumerator-of-requires : tie.Need-enumerator-of-requires
 enumerator-of-requires c κs = search rules
@@ -29,7 +29,7 @@ enum_told : tie.Need-enum-told
 enum_told c = search rules
 
 returns-2 : tie.Need-returns-2
-returns-2 c = word-nothing c.before.before.before.before.cell-of.ensures c.before.before.before.if1.false c.before.before.enumerator-of.ensures c.enum_told.given.1
+returns-2 c = word_nothing c.before.before.before.before.cell-of.ensures c.before.before.before.if1.false c.before.before.enumerator-of.ensures c.enum_told.given.1
 
 cell-of-requires-2 : tie.Need-cell-of-requires-2
 cell-of-requires-2 c κs = search rules

@@ -1,7 +1,7 @@
 -- `rows::cells::put_cells` meets its contract: what is left to store decides the whole.
 -- Assumes nothing.
 use native.Mathlib.Omega.{arith}
-use Rattle.rows.proofs.Stores.{stores-more, stores-past, stores-end}
+use Rattle.rows.proofs.Stores.{stores_more, stores_past, stores_end}
 use lib.Seq.{sets}
 use lib.ListN.{length, drop, length-set}
 use mathlib.Core.Path.{◌≡◌, refl, sym, ◌∙◌}
@@ -24,7 +24,7 @@ same_length : tie.Need-same-length invariant_loop decreases_loop
 same_length c = c.before.before.loop.invariant.1
 
 returns : tie.Need-returns invariant_loop decreases_loop
-returns c = stores-past _ c.before.before.loop.j _ c.before.before.loop.i (omega arith) ∙ c.before.before.loop.invariant.2
+returns c = stores_past _ c.before.before.loop.j _ c.before.before.loop.i (omega arith) ∙ c.before.before.loop.invariant.2
 
 mul-t : tie.Need-overflow-mul-t invariant_loop decreases_loop
 mul-t c = omega arith
@@ -48,13 +48,13 @@ loop_less : tie.Need-loop-smaller invariant_loop decreases_loop
 loop_less c = omega arith
 
 loop_again : tie.Need-loop-preserved invariant_loop decreases_loop
-loop_again c = (omega arith, simp length-set c.before.before.before.loop.invariant.1, sym (stores-more _ c.before.before.before.loop.j _ c.before.before.before.loop.i (omega arith)) ∙ c.before.before.before.loop.invariant.2)
+loop_again c = (omega arith, simp length-set c.before.before.before.loop.invariant.1, sym (stores_more _ c.before.before.before.loop.j _ c.before.before.before.loop.i (omega arith)) ∙ c.before.before.before.loop.invariant.2)
 
 same_length_2 : tie.Need-same-length-2 invariant_loop decreases_loop
 same_length_2 c = c.before.loop.invariant.1
 
 returns-2 : tie.Need-returns-2 invariant_loop decreases_loop
-returns-2 c = stores-end _ c.before.loop.j _ c.before.loop.i (omega arith) ∙ c.before.loop.invariant.2
+returns-2 c = stores_end _ c.before.loop.j _ c.before.loop.i (omega arith) ∙ c.before.loop.invariant.2
 
 pub put-cells-spec : {M : Type 1} → statement M
 put-cells-spec =

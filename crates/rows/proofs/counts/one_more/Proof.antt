@@ -1,7 +1,7 @@
 -- `rows::counts::one_more` meets its contract: at each `return` the tests that led there say which case of `one_more` holds.
 -- Assumes nothing.
 use native.Mathlib.Omega.{arith}
-use Rattle.rows.proofs.Tallies.{one-more-past, one-more-full, one-more-next}
+use Rattle.rows.proofs.Tallies.{one_more_past, one_more_full, one_more_next}
 use mathlib.Core.Path.{sym}
 use borrow.Author.Rules.{rules}
 use Rattle.rows.proofs.counts.one_more.Statement.{statement}
@@ -10,7 +10,7 @@ use Rattle.rows.proofs.counts.one_more.Reads as reads
 use Rattle.rows.proofs.counts.one_more.Lts as lts
 
 returns : tie.Need-returns
-returns c = sym (one-more-past _ _ (omega arith))
+returns c = sym (one_more_past _ _ (omega arith))
 
 mul-if2 : tie.Need-overflow-mul-if2
 mul-if2 c = search rules
@@ -19,7 +19,7 @@ array-read-if2 : tie.Need-array-read-if2
 array-read-if2 c = search rules
 
 returns-2 : tie.Need-returns-2
-returns-2 c = sym (one-more-full _ _ c.if2.true)
+returns-2 c = sym (one_more_full _ _ c.if2.true)
 
 mul-c : tie.Need-overflow-mul-c
 mul-c c = search rules
@@ -37,7 +37,7 @@ array-write-c : tie.Need-array-write-c
 array-write-c c = search rules
 
 returns-3 : tie.Need-returns-3
-returns-3 c = sym (one-more-next _ _ (omega arith))
+returns-3 c = sym (one_more_next _ _ (omega arith))
 
 pub one-more-spec : {M : Type 1} → statement M
 one-more-spec =

@@ -1,7 +1,7 @@
 -- `rows::finding::find_row` meets its contract: searching from i on gives what searching from the start does.
 -- Assumes nothing.
 use native.Mathlib.Omega.{arith}
-use Rattle.rows.proofs.Searches.{row-stop, row_more, row-end}
+use Rattle.rows.proofs.Searches.{row_stop, row_more, row_end}
 use Rattle.rows.proofs.Starts.{start_next}
 use Rattle.rows.specs.Search.{find_row}
 use lib.ListN.{length}
@@ -31,7 +31,7 @@ cell_requires : tie.Need-cell-requires invariant_loop decreases_loop
 cell_requires c κs = tt
 
 returns : tie.Need-returns invariant_loop decreases_loop
-returns c = sym (row-stop _ _ _ _ _ c.before.before.before.loop.i c.before.before.before.loop.at (omega arith) c.before.before.before.loop.invariant.0 (sym c.before.cell.ensures ∙ c.if1.true)) ∙ c.before.before.before.loop.invariant.1
+returns c = sym (row_stop _ _ _ _ _ c.before.before.before.loop.i c.before.before.before.loop.at (omega arith) c.before.before.before.loop.invariant.0 (sym c.before.cell.ensures ∙ c.if1.true)) ∙ c.before.before.before.loop.invariant.1
 
 place-after-requires : tie.Need-place-after-requires invariant_loop decreases_loop
 place-after-requires c κs = tt
@@ -46,7 +46,7 @@ loop_again : tie.Need-loop-preserved invariant_loop decreases_loop
 loop_again c = (c.place_after.ensures ∙ ap (λ k. min (length c.before.before.before.before.before.before.before.args.t.now) (k + c.before.before.before.before.before.before.before.args.width)) c.before.before.before.before.loop.invariant.0 ∙ start_next _ _ c.before.before.before.before.loop.i, sym (row_more _ _ _ _ _ c.before.before.before.before.loop.i c.before.before.before.before.loop.at (omega arith) c.before.before.before.before.loop.invariant.0 (λ e. c.before.if1.false (c.before.before.cell.ensures ∙ e))) ∙ c.before.before.before.before.loop.invariant.1)
 
 returns-2 : tie.Need-returns-2 invariant_loop decreases_loop
-returns-2 c = sym (row-end _ _ _ _ _ c.before.loop.i (omega arith)) ∙ c.before.loop.invariant.1
+returns-2 c = sym (row_end _ _ _ _ _ c.before.loop.i (omega arith)) ∙ c.before.loop.invariant.1
 
 pub find-row-spec : {M : Type 1} → statement M
 find-row-spec =

@@ -1,7 +1,7 @@
 use mathlib.Core.Path.{sym, ◌∙◌}
-use Rattle.rows.proofs.Orders.{fault-if-true, fault-if-false}
+use Rattle.rows.proofs.Orders.{fault_if_true, fault_if_false}
 use borrow.Author.Tests.{not-true, not-false}
-use Rattle.scopes.proofs.Ranging.{bound-zero, bound-crossed, bound-low, bound-high, bound-first, bound-rest}
+use Rattle.scopes.proofs.Ranging.{bound_zero, bound-crossed, bound-low, bound-high, bound-first, bound-rest}
 use borrow.Author.Rules.{rules}
 use Rattle.scopes.proofs.bounds.bound_fault.Statement.{statement}
 use Rattle.scopes.proofs.bounds.bound_fault.Tie as tie
@@ -14,7 +14,7 @@ use Rattle.scopes.proofs.numbers.in_type.Reads as in-type-reads
 use Rattle.scopes.proofs.numbers.item_at.Reads as item-at-reads
 
 returns : tie.Need-returns
-returns c = bound-zero _ _ _ c.if1.true
+returns c = bound_zero _ _ _ c.if1.true
 
 item-at-requires : tie.Need-item-at-requires
 item-at-requires c κs = search rules
@@ -53,10 +53,10 @@ wrong-bound-requires-3 : tie.Need-wrong-bound-requires-3
 wrong-bound-requires-3 c κs = search rules
 
 returns-4 : tie.Need-returns-4
-returns-4 c = bound-high _ _ _ c.before.before.before.before.before.before.before.before.before.before.before.before.before.if1.false _ _ _ c.before.before.before.before.before.before.before.before.before.before.before.before.item-at.ensures c.before.before.before.before.before.before.before.before.before.before.before.item-at2.ensures c.before.before.before.before.before.before.before.before.before.before.item-at3.ensures _ c.before.before.before.before.before.before.before.before.if2.true c.before.before.before.before.before.before.before.item-at4.ensures _ c.before.before.before.before.before.before.at-most.ensures (not-false _ c.before.before.before.before.before.if3.false) _ c.before.before.before.before.in-type.ensures _ _ (not-false _ c.before.before.before.if4.false) c.before.before.in-type2.ensures (c.wrong-bound3.ensures ∙ sym (fault-if-true _ _ _ c.before.if5.true))
+returns-4 c = bound-high _ _ _ c.before.before.before.before.before.before.before.before.before.before.before.before.before.if1.false _ _ _ c.before.before.before.before.before.before.before.before.before.before.before.before.item-at.ensures c.before.before.before.before.before.before.before.before.before.before.before.item-at2.ensures c.before.before.before.before.before.before.before.before.before.before.item-at3.ensures _ c.before.before.before.before.before.before.before.before.if2.true c.before.before.before.before.before.before.before.item-at4.ensures _ c.before.before.before.before.before.before.at-most.ensures (not-false _ c.before.before.before.before.before.if3.false) _ c.before.before.before.before.in-type.ensures _ _ (not-false _ c.before.before.before.if4.false) c.before.before.in-type2.ensures (c.wrong-bound3.ensures ∙ sym (fault_if_true _ _ _ c.before.if5.true))
 
 returns-5 : tie.Need-returns-5
-returns-5 c = bound-high _ _ _ c.before.before.before.before.before.before.before.before.before.before.before.before.if1.false _ _ _ c.before.before.before.before.before.before.before.before.before.before.before.item-at.ensures c.before.before.before.before.before.before.before.before.before.before.item-at2.ensures c.before.before.before.before.before.before.before.before.before.item-at3.ensures _ c.before.before.before.before.before.before.before.if2.true c.before.before.before.before.before.before.item-at4.ensures _ c.before.before.before.before.before.at-most.ensures (not-false _ c.before.before.before.before.if3.false) _ c.before.before.before.in-type.ensures _ _ (not-false _ c.before.before.if4.false) c.before.in-type2.ensures (sym (fault-if-false _ _ _ c.if5.false))
+returns-5 c = bound-high _ _ _ c.before.before.before.before.before.before.before.before.before.before.before.before.if1.false _ _ _ c.before.before.before.before.before.before.before.before.before.before.before.item-at.ensures c.before.before.before.before.before.before.before.before.before.before.item-at2.ensures c.before.before.before.before.before.before.before.before.before.item-at3.ensures _ c.before.before.before.before.before.before.before.if2.true c.before.before.before.before.before.before.item-at4.ensures _ c.before.before.before.before.before.at-most.ensures (not-false _ c.before.before.before.before.if3.false) _ c.before.before.before.in-type.ensures _ _ (not-false _ c.before.before.if4.false) c.before.in-type2.ensures (sym (fault_if_false _ _ _ c.if5.false))
 
 in-type-requires-3 : tie.Need-in-type-requires-3
 in-type-requires-3 c κs = search rules

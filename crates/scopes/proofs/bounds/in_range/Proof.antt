@@ -1,4 +1,4 @@
-use Rattle.scopes.proofs.Ranging.{range-zero, in_two, below_two, in-first, in_rest}
+use Rattle.scopes.proofs.Ranging.{range_zero, in_two, below_two, in_first, in_rest}
 use borrow.Author.Rules.{rules}
 use Rattle.scopes.proofs.bounds.in_range.Statement.{statement}
 use Rattle.scopes.proofs.bounds.in_range.Tie as tie
@@ -10,7 +10,7 @@ use Rattle.scopes.proofs.numbers.equal.Reads as equal-reads
 use Rattle.scopes.proofs.numbers.item_at.Reads as item-at-reads
 
 returns : tie.Need-returns
-returns c = range-zero _ _ _ c.if1.true
+returns c = range_zero _ _ _ c.if1.true
 
 item-at-requires : tie.Need-item-at-requires
 item-at-requires c κs = search rules
@@ -40,7 +40,7 @@ equal-requires : tie.Need-equal-requires
 equal-requires c κs = search rules
 
 returns-4 : tie.Need-returns-4
-returns-4 c = in-first _ _ c.before.before.before.before.before.before.before.if1.false _ _ _ c.before.before.before.before.before.before.item-at.ensures c.before.before.before.before.before.item-at2.ensures c.before.before.before.before.item-at3.ensures _ c.before.before.if2.false _ c.before.equal.ensures c.if4.true
+returns-4 c = in_first _ _ c.before.before.before.before.before.before.before.if1.false _ _ _ c.before.before.before.before.before.before.item-at.ensures c.before.before.before.before.before.item-at2.ensures c.before.before.before.before.item-at3.ensures _ c.before.before.if2.false _ c.before.equal.ensures c.if4.true
 
 is-listed-requires : tie.Need-is-listed-requires
 is-listed-requires c κs = search rules

@@ -3,7 +3,7 @@ use borrow.Author.Rules.{rules}
 use lib.ListN.{length}
 use Prim.Native.Nat.{◌-◌}
 use Rattle.scopes.specs.Items.{num}
-use Rattle.scopes.proofs.Ranging.{Seeking, listed_start, listed-stop, listed-hit, listed-on, listed-end, turn_on}
+use Rattle.scopes.proofs.Ranging.{Seeking, listed_start, listed_stop, listed-hit, listed-on, listed_end, turn_on}
 use Rattle.scopes.proofs.bounds.is_listed.Statement.{statement}
 use Rattle.scopes.proofs.bounds.is_listed.Tie as tie
 use Rattle.scopes.proofs.bounds.is_listed.Reads as reads
@@ -25,7 +25,7 @@ comma-at-requires : tie.Need-comma-at-requires invariant_loop decreases_loop
 comma-at-requires c κs = search rules
 
 returns : tie.Need-returns invariant_loop decreases_loop
-returns c = listed-stop _ _ _ _ c.before.before.before.before.loop.invariant _ c.before.before.comma-at.ensures c.if1.true
+returns c = listed_stop _ _ _ _ c.before.before.before.before.loop.invariant _ c.before.before.comma-at.ensures c.if1.true
 
 item-at-requires : tie.Need-item-at-requires invariant_loop decreases_loop
 item-at-requires c κs = search rules
@@ -43,7 +43,7 @@ loop_again : tie.Need-loop-preserved invariant_loop decreases_loop
 loop_again c = listed-on _ _ _ _ c.before.before.before.before.before.before.before.loop.invariant _ _ c.before.before.before.before.before.comma-at.ensures c.before.before.before.if1.false c.before.before.item-at.ensures _ c.before.equal.ensures c.if2.false
 
 returns-3 : tie.Need-returns-3 invariant_loop decreases_loop
-returns-3 c = listed-end _ _ _ _ c.before.loop.invariant c.loop-test.false
+returns-3 c = listed_end _ _ _ _ c.before.loop.invariant c.loop-test.false
 
 pub is-listed-spec : {M : Type 1} → statement M
 is-listed-spec =

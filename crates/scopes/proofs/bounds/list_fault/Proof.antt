@@ -5,7 +5,7 @@ use lib.ListN.{length}
 use Prim.Native.Nat.{◌-◌}
 use borrow.Author.Tests.{not-true, not-false}
 use Rattle.scopes.specs.Items.{integer_coded}
-use Rattle.scopes.proofs.Ranging.{SeekingOut, out-start, out-stop, out-hit, out-on, out-end, turn_on}
+use Rattle.scopes.proofs.Ranging.{SeekingOut, out_start, out_stop, out-hit, out-on, out_end, turn_on}
 use Rattle.scopes.proofs.bounds.list_fault.Statement.{statement}
 use Rattle.scopes.proofs.bounds.list_fault.Tie as tie
 use Rattle.scopes.proofs.bounds.list_fault.Reads as reads
@@ -22,13 +22,13 @@ abbrev decreases_loop : tie.decreases-loop
 decreases_loop text code from at₀ at = length text - at
 
 loop_holds : tie.Need-loop-init invariant_loop decreases_loop
-loop_holds c = out-start _ _ _
+loop_holds c = out_start _ _ _
 
 comma-at-requires : tie.Need-comma-at-requires invariant_loop decreases_loop
 comma-at-requires c κs = search rules
 
 returns : tie.Need-returns invariant_loop decreases_loop
-returns c = out-stop _ _ _ _ c.before.before.before.before.loop.invariant _ c.before.before.comma-at.ensures c.if1.true
+returns c = out_stop _ _ _ _ c.before.before.before.before.loop.invariant _ c.before.before.comma-at.ensures c.if1.true
 
 item-at-requires : tie.Need-item-at-requires invariant_loop decreases_loop
 item-at-requires c κs = search rules
@@ -49,7 +49,7 @@ loop_again : tie.Need-loop-preserved invariant_loop decreases_loop
 loop_again c = out-on _ _ _ _ c.before.before.before.before.before.before.before.loop.invariant _ _ c.before.before.before.before.before.comma-at.ensures c.before.before.before.if1.false c.before.before.item-at.ensures _ c.before.in-type.ensures (not-false _ c.if2.false)
 
 returns-3 : tie.Need-returns-3 invariant_loop decreases_loop
-returns-3 c = out-end _ _ _ _ c.before.loop.invariant c.loop-test.false
+returns-3 c = out_end _ _ _ _ c.before.loop.invariant c.loop-test.false
 
 pub list-fault-spec : {M : Type 1} → statement M
 list-fault-spec =

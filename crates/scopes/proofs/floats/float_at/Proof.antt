@@ -1,4 +1,4 @@
-use Rattle.scopes.proofs.Floating.{at-found, at-refused, at_end}
+use Rattle.scopes.proofs.Floating.{at_found, at_refused, at_end}
 use mathlib.Core.Path.{sym, ◌∙◌}
 use borrow.Author.Rules.{rules}
 use Rattle.scopes.proofs.floats.float_at.Statement.{statement}
@@ -24,10 +24,10 @@ enum-told-2 : tie.Need-enum-told-2
 enum-told-2 c = search rules
 
 returns : tie.Need-returns
-returns c = at-found _ _ _ _ _ (sym c.before.before.before.before.step.ensures ∙ c.before.before.t.given.1) c.float_of.ensures
+returns c = at_found _ _ _ _ _ (sym c.before.before.before.before.step.ensures ∙ c.before.before.t.given.1) c.float_of.ensures
 
 returns-2 : tie.Need-returns-2
-returns-2 c = at-refused _ _ _ (sym c.before.before.step.ensures ∙ c.enum_told.given.1)
+returns-2 c = at_refused _ _ _ (sym c.before.before.step.ensures ∙ c.enum_told.given.1)
 
 returns-3 : tie.Need-returns-3
 returns-3 c = at_end _ _ _ (sym c.before.before.step.ensures ∙ c.enum-told2.given.1)

@@ -1,4 +1,4 @@
-use Rattle.scopes.proofs.Floating.{none-word, none_number, none-string, none-sign, float_is}
+use Rattle.scopes.proofs.Floating.{none_word, none_number, none_string, none_sign, float_is}
 use borrow.Author.Rules.{rules}
 use Rattle.scopes.proofs.floats.float_of.Statement.{statement}
 use Rattle.scopes.proofs.floats.float_of.Tie as tie
@@ -21,16 +21,16 @@ enum-known-sort : tie.Need-enum-known-sort
 enum-known-sort c = search rules
 
 returns : tie.Need-returns
-returns c = none-word _ _ c.enum_told.given.1
+returns c = none_word _ _ c.enum_told.given.1
 
 returns-2 : tie.Need-returns-2
 returns-2 c = none_number _ _ _ c.enum-told2.given.1
 
 returns-3 : tie.Need-returns-3
-returns-3 c = none-string _ c.enum-told3.given.1
+returns-3 c = none_string _ c.enum-told3.given.1
 
 returns-4 : tie.Need-returns-4
-returns-4 c = none-sign _ _ c.enum-told4.given.1
+returns-4 c = none_sign _ _ c.enum-told4.given.1
 
 returns-5 : tie.Need-returns-5
 returns-5 c = float_is _ _ _ _ c.before.sort.given.1

@@ -1,6 +1,6 @@
 use mathlib.Core.Path.{sym, ◌∙◌}
-use Rattle.rows.proofs.Orders.{fault-if-true, fault-if-false}
-use Rattle.scopes.proofs.Floating.{low-zero, low-is}
+use Rattle.rows.proofs.Orders.{fault_if_true, fault_if_false}
+use Rattle.scopes.proofs.Floating.{low_zero, low_is}
 use borrow.Author.Rules.{rules}
 use Rattle.scopes.proofs.floats.low_fault.Statement.{statement}
 use Rattle.scopes.proofs.floats.low_fault.Tie as tie
@@ -12,7 +12,7 @@ use Rattle.scopes.proofs.floats.float_at.Reads as float-at-reads
 use Rattle.scopes.proofs.numbers.item_at.Reads as item-at-reads
 
 returns : tie.Need-returns
-returns c = low-zero _ _ c.if1.true
+returns c = low_zero _ _ c.if1.true
 
 item-at-requires : tie.Need-item-at-requires
 item-at-requires c κs = search rules
@@ -36,10 +36,10 @@ wrong-bound-requires : tie.Need-wrong-bound-requires
 wrong-bound-requires c κs = search rules
 
 returns-2 : tie.Need-returns-2
-returns-2 c = low-is _ _ c.before.before.before.before.before.before.before.before.if1.false _ _ _ c.before.before.before.before.before.before.before.item-at.ensures c.before.before.before.before.before.before.item-at2.ensures c.before.before.before.before.before.item-at3.ensures _ _ c.before.before.before.before.Float-at.ensures c.before.before.before.float-at2.ensures _ _ c.before.before.at-most.ensures (c.wrong-bound.ensures ∙ sym (fault-if-true _ _ _ c.before.if2.true))
+returns-2 c = low_is _ _ c.before.before.before.before.before.before.before.before.if1.false _ _ _ c.before.before.before.before.before.before.before.item-at.ensures c.before.before.before.before.before.before.item-at2.ensures c.before.before.before.before.before.item-at3.ensures _ _ c.before.before.before.before.Float-at.ensures c.before.before.before.float-at2.ensures _ _ c.before.before.at-most.ensures (c.wrong-bound.ensures ∙ sym (fault_if_true _ _ _ c.before.if2.true))
 
 returns-3 : tie.Need-returns-3
-returns-3 c = low-is _ _ c.before.before.before.before.before.before.before.if1.false _ _ _ c.before.before.before.before.before.before.item-at.ensures c.before.before.before.before.before.item-at2.ensures c.before.before.before.before.item-at3.ensures _ _ c.before.before.before.Float-at.ensures c.before.before.float-at2.ensures _ _ c.before.at-most.ensures (sym (fault-if-false _ _ _ c.if2.false))
+returns-3 c = low_is _ _ c.before.before.before.before.before.before.before.if1.false _ _ _ c.before.before.before.before.before.before.item-at.ensures c.before.before.before.before.before.item-at2.ensures c.before.before.before.before.item-at3.ensures _ _ c.before.before.before.Float-at.ensures c.before.before.float-at2.ensures _ _ c.before.at-most.ensures (sym (fault_if_false _ _ _ c.if2.false))
 
 pub low-fault-spec : {M : Type 1} → statement M
 low-fault-spec =

@@ -1,4 +1,4 @@
-use Rattle.scopes.proofs.Taking.{range-below, range-above, range-float, range-between}
+use Rattle.scopes.proofs.Taking.{range_below, range_above, range_float, range_between}
 use borrow.Author.Rules.{rules}
 use Rattle.scopes.proofs.lookups.range_fault.Statement.{statement}
 use Rattle.scopes.proofs.lookups.range_fault.Tie as tie
@@ -12,7 +12,7 @@ cell-of-requires : tie.Need-cell-of-requires
 cell-of-requires c κs = search rules
 
 returns : tie.Need-returns
-returns c = range-below _ _ _ _ c.before.cell-of.ensures c.if1.true
+returns c = range_below _ _ _ _ c.before.cell-of.ensures c.if1.true
 
 cell-of-requires-2 : tie.Need-cell-of-requires-2
 cell-of-requires-2 c κs = search rules
@@ -21,10 +21,10 @@ low-fault-requires : tie.Need-low-fault-requires
 low-fault-requires c κs = search rules
 
 returns-2 : tie.Need-returns-2
-returns-2 c = range-float _ _ _ _ c.before.before.before.before.before.cell-of.ensures c.before.before.if3.true _ _ c.before.cell-of2.ensures c.low-fault.ensures
+returns-2 c = range_float _ _ _ _ c.before.before.before.before.before.cell-of.ensures c.before.before.if3.true _ _ c.before.cell-of2.ensures c.low-fault.ensures
 
 returns-3 : tie.Need-returns-3
-returns-3 c = range-above _ _ _ _ c.before.before.before.cell-of.ensures c.before.if2.true c.if3.false
+returns-3 c = range_above _ _ _ _ c.before.before.before.cell-of.ensures c.before.if2.true c.if3.false
 
 cell-of-requires-3 : tie.Need-cell-of-requires-3
 cell-of-requires-3 c κs = search rules
@@ -33,7 +33,7 @@ bound-fault-requires : tie.Need-bound-fault-requires
 bound-fault-requires c κs = search rules
 
 returns-4 : tie.Need-returns-4
-returns-4 c = range-between _ _ _ _ c.before.before.before.before.cell-of.ensures c.before.before.before.if1.false c.before.before.if2.false _ _ c.before.cell-of3.ensures c.bound-fault.ensures
+returns-4 c = range_between _ _ _ _ c.before.before.before.before.cell-of.ensures c.before.before.before.if1.false c.before.before.if2.false _ _ c.before.cell-of3.ensures c.bound-fault.ensures
 
 pub range-fault-spec : {M : Type 1} → statement M
 range-fault-spec =

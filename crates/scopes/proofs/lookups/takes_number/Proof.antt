@@ -1,4 +1,4 @@
-use Rattle.scopes.proofs.Taking.{number_below, number-above, number_in, number-out}
+use Rattle.scopes.proofs.Taking.{number_below, number_above, number_in, number_out}
 use borrow.Author.Rules.{rules}
 use Rattle.scopes.proofs.lookups.takes_number.Statement.{statement}
 use Rattle.scopes.proofs.lookups.takes_number.Tie as tie
@@ -16,7 +16,7 @@ returns : tie.Need-returns
 returns c = number_below _ _ _ _ _ c.before.cell-of.ensures c.if1.true
 
 returns-2 : tie.Need-returns-2
-returns-2 c = number-above _ _ _ _ _ c.before.before.cell-of.ensures c.if2.true
+returns-2 c = number_above _ _ _ _ _ c.before.before.cell-of.ensures c.if2.true
 
 number-at-requires : tie.Need-number-at-requires
 number-at-requires c κs = search rules
@@ -34,7 +34,7 @@ returns-3 : tie.Need-returns-3
 returns-3 c = number_in _ _ _ _ _ c.before.before.before.before.before.before.before.cell-of.ensures c.before.before.before.before.before.before.if1.false c.before.before.before.before.before.if2.false _ c.before.before.before.before.number_at.ensures _ _ _ c.before.before.before.in-type.ensures c.before.before.if3.true c.before.cell-of2.ensures c.in-range.ensures
 
 returns-4 : tie.Need-returns-4
-returns-4 c = number-out _ _ _ _ _ c.before.before.before.before.before.cell-of.ensures c.before.before.before.before.if1.false c.before.before.before.if2.false _ c.before.before.number_at.ensures _ c.before.in-type.ensures c.if3.false
+returns-4 c = number_out _ _ _ _ _ c.before.before.before.before.before.cell-of.ensures c.before.before.before.before.if1.false c.before.before.before.if2.false _ c.before.before.number_at.ensures _ c.before.in-type.ensures c.if3.false
 
 pub takes-number-spec : {M : Type 1} → statement M
 takes-number-spec =

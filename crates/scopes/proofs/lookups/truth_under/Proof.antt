@@ -1,4 +1,4 @@
-use Rattle.scopes.proofs.Taking.{truth-one, truth-two, truth-none}
+use Rattle.scopes.proofs.Taking.{truth_one, truth_two, truth_none}
 use borrow.Author.Rules.{rules}
 use Rattle.scopes.proofs.lookups.truth_under.Statement.{statement}
 use Rattle.scopes.proofs.lookups.truth_under.Tie as tie
@@ -17,7 +17,7 @@ same-part-requires : tie.Need-same-part-requires
 same-part-requires c κs = search rules
 
 returns : tie.Need-returns
-returns c = truth-one _ _ _ _ _ _ _ c.before.before.before.cell-of.ensures c.before.before.cell-of2.ensures _ c.before.same-part.ensures c.if1.true
+returns c = truth_one _ _ _ _ _ _ _ c.before.before.before.cell-of.ensures c.before.before.cell-of2.ensures _ c.before.same-part.ensures c.if1.true
 
 cell-of-requires-3 : tie.Need-cell-of-requires-3
 cell-of-requires-3 c κs = search rules
@@ -29,10 +29,10 @@ same-part-requires-2 : tie.Need-same-part-requires-2
 same-part-requires-2 c κs = search rules
 
 returns-2 : tie.Need-returns-2
-returns-2 c = truth-two _ _ _ _ _ _ _ c.before.before.before.before.before.before.before.cell-of.ensures c.before.before.before.before.before.before.cell-of2.ensures _ _ c.before.before.before.cell-of3.ensures c.before.before.cell-of4.ensures _ _ c.before.before.before.before.before.same-part.ensures c.before.before.before.before.if1.false c.before.same-part2.ensures c.if2.true
+returns-2 c = truth_two _ _ _ _ _ _ _ c.before.before.before.before.before.before.before.cell-of.ensures c.before.before.before.before.before.before.cell-of2.ensures _ _ c.before.before.before.cell-of3.ensures c.before.before.cell-of4.ensures _ _ c.before.before.before.before.before.same-part.ensures c.before.before.before.before.if1.false c.before.same-part2.ensures c.if2.true
 
 returns-3 : tie.Need-returns-3
-returns-3 c = truth-none _ _ _ _ _ _ _ c.before.before.before.before.before.before.before.cell-of.ensures c.before.before.before.before.before.before.cell-of2.ensures _ _ c.before.before.before.cell-of3.ensures c.before.before.cell-of4.ensures _ _ c.before.before.before.before.before.same-part.ensures c.before.before.before.before.if1.false c.before.same-part2.ensures c.if2.false
+returns-3 c = truth_none _ _ _ _ _ _ _ c.before.before.before.before.before.before.before.cell-of.ensures c.before.before.before.before.before.before.cell-of2.ensures _ _ c.before.before.before.cell-of3.ensures c.before.before.cell-of4.ensures _ _ c.before.before.before.before.before.same-part.ensures c.before.before.before.before.if1.false c.before.same-part2.ensures c.if2.false
 
 pub truth-under-spec : {M : Type 1} → statement M
 truth-under-spec =

@@ -1,5 +1,5 @@
 use mathlib.Core.Path.{sym, ◌∙◌}
-use Rattle.scopes.proofs.Deciding.{width_fits, type-both, type-none}
+use Rattle.scopes.proofs.Deciding.{width_fits, type_both, type_none}
 use borrow.Author.Rules.{rules}
 use Rattle.scopes.proofs.numbers.is_between.Statement.{statement}
 use Rattle.scopes.proofs.numbers.is_between.Tie as tie
@@ -30,10 +30,10 @@ at-most-requires-2 : tie.Need-at-most-requires-2
 at-most-requires-2 c κs = search rules
 
 returns : tie.Need-returns
-returns c = type-both _ _ _ _ _ c.before.before.before.before.before.before.is_Signed.ensures c.before.before.before.before.before.width_of_lem.ensures c.before.before.before.before.least-of.ensures _ _ (sym c.before.before.before.at-most.ensures ∙ c.before.before.if1.true) c.before.greatest-of.ensures c.at-most2.ensures
+returns c = type_both _ _ _ _ _ c.before.before.before.before.before.before.is_Signed.ensures c.before.before.before.before.before.width_of_lem.ensures c.before.before.before.before.least-of.ensures _ _ (sym c.before.before.before.at-most.ensures ∙ c.before.before.if1.true) c.before.greatest-of.ensures c.at-most2.ensures
 
 returns-2 : tie.Need-returns-2
-returns-2 c = type-none _ _ _ _ _ c.before.before.before.before.is_Signed.ensures c.before.before.before.width_of_lem.ensures c.before.before.least-of.ensures (sym c.before.at-most.ensures ∙ c.if1.false)
+returns-2 c = type_none _ _ _ _ _ c.before.before.before.before.is_Signed.ensures c.before.before.before.width_of_lem.ensures c.before.before.least-of.ensures (sym c.before.at-most.ensures ∙ c.if1.false)
 
 pub is-between-spec : {M : Type 1} → statement M
 is-between-spec =

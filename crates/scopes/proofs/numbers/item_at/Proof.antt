@@ -1,5 +1,5 @@
 use mathlib.Core.Path.{sym, ◌∙◌}
-use Rattle.scopes.proofs.Deciding.{at-found, at-refused, at_end}
+use Rattle.scopes.proofs.Deciding.{at_found, at_refused, at_end}
 use borrow.Author.Rules.{rules}
 use Rattle.scopes.proofs.numbers.item_at.Statement.{statement}
 use Rattle.scopes.proofs.numbers.item_at.Tie as tie
@@ -24,10 +24,10 @@ enum-known-n : tie.Need-enum-known-n
 enum-known-n c = search rules
 
 returns : tie.Need-returns
-returns c = at-found _ _ _ _ _ (sym c.before.before.before.before.step.ensures ∙ c.before.before.t.given.1) c.item_of.ensures
+returns c = at_found _ _ _ _ _ (sym c.before.before.before.before.step.ensures ∙ c.before.before.t.given.1) c.item_of.ensures
 
 returns-2 : tie.Need-returns-2
-returns-2 c = at-refused _ _ _ (sym c.before.before.before.step.ensures ∙ c.before.p.given.1)
+returns-2 c = at_refused _ _ _ (sym c.before.before.before.step.ensures ∙ c.before.p.given.1)
 
 returns-3 : tie.Need-returns-3
 returns-3 c = at_end _ _ _ (sym c.before.before.before.step.ensures ∙ c.before.n.given.1)

@@ -1,4 +1,4 @@
-use Rattle.scopes.proofs.Deciding.{item-word, item-numeral, item-string, item-sign, item-float}
+use Rattle.scopes.proofs.Deciding.{item_word, item_numeral, item_string, item_sign, item_float}
 use borrow.Author.Rules.{rules}
 use Rattle.scopes.proofs.numbers.item_of.Statement.{statement}
 use Rattle.scopes.proofs.numbers.item_of.Tie as tie
@@ -21,19 +21,19 @@ enum-told-3 : tie.Need-enum-told-3
 enum-told-3 c = search rules
 
 returns : tie.Need-returns
-returns c = item-word _ _ _ _ c.enum_told.given.1
+returns c = item_word _ _ _ _ c.enum_told.given.1
 
 returns-2 : tie.Need-returns-2
-returns-2 c = item-numeral _ _ _ _ _ c.before.sort.given.1
+returns-2 c = item_numeral _ _ _ _ _ c.before.sort.given.1
 
 returns-3 : tie.Need-returns-3
-returns-3 c = item-string _ _ _ c.enum-told2.given.1
+returns-3 c = item_string _ _ _ c.enum-told2.given.1
 
 returns-4 : tie.Need-returns-4
-returns-4 c = item-sign _ _ _ _ c.before.sort2.given.1
+returns-4 c = item_sign _ _ _ _ c.before.sort2.given.1
 
 returns-5 : tie.Need-returns-5
-returns-5 c = item-float _ _ _ _ _ _ c.enum-told3.given.1
+returns-5 c = item_float _ _ _ _ _ _ c.enum-told3.given.1
 
 pub item-of-spec : {M : Type 1} → statement M
 item-of-spec =

@@ -1,4 +1,4 @@
-use Rattle.scopes.proofs.Deciding.{at-number}
+use Rattle.scopes.proofs.Deciding.{at_number}
 use borrow.Author.Rules.{rules}
 use Rattle.scopes.proofs.numbers.number_at.Statement.{statement}
 use Rattle.scopes.proofs.numbers.number_at.Tie as tie
@@ -10,7 +10,7 @@ item-at-requires : tie.Need-item-at-requires
 item-at-requires c κs = search rules
 
 returns : tie.Need-returns
-returns c = at-number _ _ _ c.before.item-at.ensures
+returns c = at_number _ _ _ c.before.item-at.ensures
 
 pub number-at-spec : {M : Type 1} → statement M
 number-at-spec = tie.close (tie.spec item-at-requires returns)

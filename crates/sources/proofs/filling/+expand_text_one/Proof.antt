@@ -3,10 +3,10 @@ use native.Mathlib.Omega.{arith}
 use lib.ListN.{length}
 use mathlib.Core.Path.{◌≡◌, refl, sym, ◌∙◌}
 use Prim.Native.Nat.{◌+◌, ◌-◌, ◌*◌, ◌≤◌}
-use Rattle.sources.proofs.Fillings.{expand-none, goes_none, goes_then, stepped, finished, loop-done, stop-done, front-done, text-steps, text-done, done, puts-bytes, puts-origins, inner-fills, filled-whole, fill-total}
-use Rattle.sources.proofs.Notings.{event_is, inner_asks, noted-next}
+use Rattle.sources.proofs.Fillings.{expand_none, goes_none, goes_then, stepped, finished, loop_done, stop_done, front-done, text-steps, text-done, done, puts_bytes, puts_origins, inner_fills, filled_whole, fill_total}
+use Rattle.sources.proofs.Notings.{event_is, inner_asks, noted_next}
 use Rattle.sources.proofs.Tellings.{told}
-use Rattle.sources.proofs.Pieces.{stop-fits, include-fits}
+use Rattle.sources.proofs.Pieces.{stop_fits, include_fits}
 use Rattle.sources.specs.Promises.{Goes, AsksFrom}
 use Rattle.sources.specs.Expanding.{origin, walk, inner}
 use Prim.Native.Nat.{ℕ, ◌<◌}
@@ -71,7 +71,7 @@ expand-text-returns : (t : ℕ) → expand-text-lts.Need-returns (
   one_below t,
   one.Post,
 ) (expand-text-at t) expand-text.Post expand-text-Inv-loop expand-text-μ-loop
-expand-text-returns t c = expand-none _ _ _ _ _ _ _ _ _ _ _ c.before.if1.true c.before.before.before.before.before.before.before.before.before.requires.1.0.place c.fill.ensures
+expand-text-returns t c = expand_none _ _ _ _ _ _ _ _ _ _ _ c.before.if1.true c.before.before.before.before.before.before.before.before.before.requires.1.0.place c.fill.ensures
 
 expand-text-sub-t18 : (t : ℕ) → expand-text-lts.Need-overflow-sub-t18 (
   fill-reads.Asked,
@@ -151,7 +151,7 @@ expand-text-returns-2 : (t : ℕ) → expand-text-lts.Need-returns-2 (
   one_below t,
   one.Post,
 ) (expand-text-at t) expand-text.Post expand-text-Inv-loop expand-text-μ-loop
-expand-text-returns-2 t c = loop-done _ _ _ _ _ _ _ _ _ _ _ _ _ _ _ _ _ c.before.before.before.before.before.before.before.before.before.before.before.before.if1.false c.before.before.before.before.before.before.before.before.before.before.loop.invariant.3 (finished _ _ _ _ _ _ _ _ _ _ _ _ c.before.before.before.before.before.before.before.one.ensures c.before.f.given.1)
+expand-text-returns-2 t c = loop_done _ _ _ _ _ _ _ _ _ _ _ _ _ _ _ _ _ c.before.before.before.before.before.before.before.before.before.before.before.before.if1.false c.before.before.before.before.before.before.before.before.before.before.loop.invariant.3 (finished _ _ _ _ _ _ _ _ _ _ _ _ c.before.before.before.before.before.before.before.one.ensures c.before.f.given.1)
 
 one-event-noted-requires : (t : ℕ) → one-lts.Need-event-noted-requires (
   event-noted-reads.Asked,
@@ -223,7 +223,7 @@ one-sub-fill : (t : ℕ) → one-lts.Need-overflow-sub-fill (
   line-end-reads.Asked,
   line-end-reads.Learnt,
 ) (one_at t) one.Post
-one-sub-fill t c = (stop-fits _ _ 0 _ _ 0 _ _ _ c.before.before.before.before.before.before.before.before.before.before.before.before.before.before.before.before.before.requires.1.0.told c.before.before.before.before.before.before.before.before.before.before.before.before.before.before.before.before.before.requires.1.1.inside (event_is _ _ _ _ _ _ _ _ _ c.before.before.before.before.before.before.before.before.before.before.before.before.before.before.before.before.before.requires.1.0.told c.before.before.before.before.before.before.before.before.before.before.before.before.before.before.before.before.before.requires.1.1 c.before.before.before.before.before.before.before.before.before.before.event-noted.ensures c.before.before.before.before.before.before.before.before.fault.given.1)).0
+one-sub-fill t c = (stop_fits _ _ 0 _ _ 0 _ _ _ c.before.before.before.before.before.before.before.before.before.before.before.before.before.before.before.before.before.requires.1.0.told c.before.before.before.before.before.before.before.before.before.before.before.before.before.before.before.before.before.requires.1.1.inside (event_is _ _ _ _ _ _ _ _ _ c.before.before.before.before.before.before.before.before.before.before.before.before.before.before.before.before.before.requires.1.0.told c.before.before.before.before.before.before.before.before.before.before.before.before.before.before.before.before.before.requires.1.1 c.before.before.before.before.before.before.before.before.before.before.event-noted.ensures c.before.before.before.before.before.before.before.before.fault.given.1)).0
 
 one-add-fill : (t : ℕ) → one-lts.Need-overflow-add-fill (
   event-noted-reads.Asked,
@@ -241,7 +241,7 @@ one-add-fill : (t : ℕ) → one-lts.Need-overflow-add-fill (
   line-end-reads.Asked,
   line-end-reads.Learnt,
 ) (one_at t) one.Post
-one-add-fill t c = let o = stop-fits _ _ 0 _ _ 0 _ _ _ c.before.before.before.before.before.before.before.before.before.before.before.before.before.before.before.before.before.requires.1.0.told c.before.before.before.before.before.before.before.before.before.before.before.before.before.before.before.before.before.requires.1.1.inside (event_is _ _ _ _ _ _ _ _ _ c.before.before.before.before.before.before.before.before.before.before.before.before.before.before.before.before.before.requires.1.0.told c.before.before.before.before.before.before.before.before.before.before.before.before.before.before.before.before.before.requires.1.1 c.before.before.before.before.before.before.before.before.before.before.event-noted.ensures c.before.before.before.before.before.before.before.before.fault.given.1) in let p = c.before.before.before.before.before.before.before.before.before.before.before.before.before.before.before.before.before.requires.1.0.place in let l = c.before.before.before.before.before.before.before.before.before.before.before.before.before.before.before.before.before.requires.1.0.limit in let s = c.before.before.before.before.before.before.before.before.before.before.before.before.before.before.before.before.before.requires.1.1.short in omega arith
+one-add-fill t c = let o = stop_fits _ _ 0 _ _ 0 _ _ _ c.before.before.before.before.before.before.before.before.before.before.before.before.before.before.before.before.before.requires.1.0.told c.before.before.before.before.before.before.before.before.before.before.before.before.before.before.before.before.before.requires.1.1.inside (event_is _ _ _ _ _ _ _ _ _ c.before.before.before.before.before.before.before.before.before.before.before.before.before.before.before.before.before.requires.1.0.told c.before.before.before.before.before.before.before.before.before.before.before.before.before.before.before.before.before.requires.1.1 c.before.before.before.before.before.before.before.before.before.before.event-noted.ensures c.before.before.before.before.before.before.before.before.fault.given.1) in let p = c.before.before.before.before.before.before.before.before.before.before.before.before.before.before.before.before.before.requires.1.0.place in let l = c.before.before.before.before.before.before.before.before.before.before.before.before.before.before.before.before.before.requires.1.0.limit in let s = c.before.before.before.before.before.before.before.before.before.before.before.before.before.before.before.before.before.requires.1.1.short in omega arith
 
 one-fill-requires : (t : ℕ) → one-lts.Need-fill-requires (
   event-noted-reads.Asked,
@@ -313,7 +313,7 @@ one-put-requires-2 : (t : ℕ) → one-lts.Need-put-requires-2 (
   line-end-reads.Asked,
   line-end-reads.Learnt,
 ) (one_at t) one.Post
-one-put-requires-2 t c κs = let n = include-fits _ _ 0 _ _ 0 _ _ c.before.before.before.before.before.before.before.before.before.before.before.before.before.requires.1.0.told c.before.before.before.before.before.before.before.before.before.before.before.before.before.requires.1.1.inside (event_is _ _ _ _ _ _ _ _ _ c.before.before.before.before.before.before.before.before.before.before.before.before.before.requires.1.0.told c.before.before.before.before.before.before.before.before.before.before.before.before.before.requires.1.1 c.before.before.before.before.before.before.event-noted.ensures c.before.before.before.before.i.given.1) in let p = c.before.before.before.before.before.before.before.before.before.before.before.before.before.requires.1.0.place in let l = c.before.before.before.before.before.before.before.before.before.before.before.before.before.requires.1.0.limit in (n.first, (omega arith, (c.before.before.before.before.before.before.before.before.before.before.before.before.before.requires.1.0.number, omega (arith, p, l))))
+one-put-requires-2 t c κs = let n = include_fits _ _ 0 _ _ 0 _ _ c.before.before.before.before.before.before.before.before.before.before.before.before.before.requires.1.0.told c.before.before.before.before.before.before.before.before.before.before.before.before.before.requires.1.1.inside (event_is _ _ _ _ _ _ _ _ _ c.before.before.before.before.before.before.before.before.before.before.before.before.before.requires.1.0.told c.before.before.before.before.before.before.before.before.before.before.before.before.before.requires.1.1 c.before.before.before.before.before.before.event-noted.ensures c.before.before.before.before.i.given.1) in let p = c.before.before.before.before.before.before.before.before.before.before.before.before.before.requires.1.0.place in let l = c.before.before.before.before.before.before.before.before.before.before.before.before.before.requires.1.0.limit in (n.first, (omega arith, (c.before.before.before.before.before.before.before.before.before.before.before.before.before.requires.1.0.number, omega (arith, p, l))))
 
 one-too-long-requires : (t : ℕ) → one-lts.Need-too-long-requires (
   event-noted-reads.Asked,
@@ -403,7 +403,7 @@ one-sub-expand-text : (t : ℕ) → one-lts.Need-overflow-sub-expand-text (
   line-end-reads.Asked,
   line-end-reads.Learnt,
 ) (one_at t) one.Post
-one-sub-expand-text t c = (include-fits _ _ 0 _ _ 0 _ _ c.before.before.before.before.before.before.before.before.before.before.before.before.before.before.before.before.before.before.before.requires.1.0.told c.before.before.before.before.before.before.before.before.before.before.before.before.before.before.before.before.before.before.before.requires.1.1.inside (event_is _ _ _ _ _ _ _ _ _ c.before.before.before.before.before.before.before.before.before.before.before.before.before.before.before.before.before.before.before.requires.1.0.told c.before.before.before.before.before.before.before.before.before.before.before.before.before.before.before.before.before.before.before.requires.1.1 c.before.before.before.before.before.before.before.before.before.before.before.before.event-noted.ensures c.before.before.before.before.before.before.before.before.before.before.i.given.1)).low
+one-sub-expand-text t c = (include_fits _ _ 0 _ _ 0 _ _ c.before.before.before.before.before.before.before.before.before.before.before.before.before.before.before.before.before.before.before.requires.1.0.told c.before.before.before.before.before.before.before.before.before.before.before.before.before.before.before.before.before.before.before.requires.1.1.inside (event_is _ _ _ _ _ _ _ _ _ c.before.before.before.before.before.before.before.before.before.before.before.before.before.before.before.before.before.before.before.requires.1.0.told c.before.before.before.before.before.before.before.before.before.before.before.before.before.before.before.before.before.before.before.requires.1.1 c.before.before.before.before.before.before.before.before.before.before.before.before.event-noted.ensures c.before.before.before.before.before.before.before.before.before.before.i.given.1)).low
 
 one-part-expand-text-start : (t : ℕ) → one-lts.Need-slice-bounds-expand-text-start (
   event-noted-reads.Asked,
@@ -421,7 +421,7 @@ one-part-expand-text-start : (t : ℕ) → one-lts.Need-slice-bounds-expand-text
   line-end-reads.Asked,
   line-end-reads.Learnt,
 ) (one_at t) one.Post
-one-part-expand-text-start t c = let n = include-fits _ _ 0 _ _ 0 _ _ c.before.before.before.before.before.before.before.before.before.before.before.before.before.before.before.before.before.before.before.requires.1.0.told c.before.before.before.before.before.before.before.before.before.before.before.before.before.before.before.before.before.before.before.requires.1.1.inside (event_is _ _ _ _ _ _ _ _ _ c.before.before.before.before.before.before.before.before.before.before.before.before.before.before.before.before.before.before.before.requires.1.0.told c.before.before.before.before.before.before.before.before.before.before.before.before.before.before.before.before.before.before.before.requires.1.1 c.before.before.before.before.before.before.before.before.before.before.before.before.event-noted.ensures c.before.before.before.before.before.before.before.before.before.before.i.given.1) in omega arith
+one-part-expand-text-start t c = let n = include_fits _ _ 0 _ _ 0 _ _ c.before.before.before.before.before.before.before.before.before.before.before.before.before.before.before.before.before.before.before.requires.1.0.told c.before.before.before.before.before.before.before.before.before.before.before.before.before.before.before.before.before.before.before.requires.1.1.inside (event_is _ _ _ _ _ _ _ _ _ c.before.before.before.before.before.before.before.before.before.before.before.before.before.before.before.before.before.before.before.requires.1.0.told c.before.before.before.before.before.before.before.before.before.before.before.before.before.before.before.before.before.before.before.requires.1.1 c.before.before.before.before.before.before.before.before.before.before.before.before.event-noted.ensures c.before.before.before.before.before.before.before.before.before.before.i.given.1) in omega arith
 
 one-part-expand-text-end : (t : ℕ) → one-lts.Need-slice-bounds-expand-text-end (
   event-noted-reads.Asked,
@@ -439,7 +439,7 @@ one-part-expand-text-end : (t : ℕ) → one-lts.Need-slice-bounds-expand-text-e
   line-end-reads.Asked,
   line-end-reads.Learnt,
 ) (one_at t) one.Post
-one-part-expand-text-end t c = let n = include-fits _ _ 0 _ _ 0 _ _ c.before.before.before.before.before.before.before.before.before.before.before.before.before.before.before.before.before.before.before.requires.1.0.told c.before.before.before.before.before.before.before.before.before.before.before.before.before.before.before.before.before.before.before.requires.1.1.inside (event_is _ _ _ _ _ _ _ _ _ c.before.before.before.before.before.before.before.before.before.before.before.before.before.before.before.before.before.before.before.requires.1.0.told c.before.before.before.before.before.before.before.before.before.before.before.before.before.before.before.before.before.before.before.requires.1.1 c.before.before.before.before.before.before.before.before.before.before.before.before.event-noted.ensures c.before.before.before.before.before.before.before.before.before.before.i.given.1) in omega arith
+one-part-expand-text-end t c = let n = include_fits _ _ 0 _ _ 0 _ _ c.before.before.before.before.before.before.before.before.before.before.before.before.before.before.before.before.before.before.before.requires.1.0.told c.before.before.before.before.before.before.before.before.before.before.before.before.before.before.before.before.before.before.before.requires.1.1.inside (event_is _ _ _ _ _ _ _ _ _ c.before.before.before.before.before.before.before.before.before.before.before.before.before.before.before.before.before.before.before.requires.1.0.told c.before.before.before.before.before.before.before.before.before.before.before.before.before.before.before.before.before.before.before.requires.1.1 c.before.before.before.before.before.before.before.before.before.before.before.before.event-noted.ensures c.before.before.before.before.before.before.before.before.before.before.i.given.1) in omega arith
 
 one-expand-text-requires : (t : ℕ) → one-lts.Need-expand-text-requires (
   event-noted-reads.Asked,
@@ -457,7 +457,7 @@ one-expand-text-requires : (t : ℕ) → one-lts.Need-expand-text-requires (
   line-end-reads.Asked,
   line-end-reads.Learnt,
 ) (one_at t) one.Post
-one-expand-text-requires t c κs = let n = include-fits _ _ 0 _ _ 0 _ _ c.before.before.before.before.before.before.before.before.before.before.before.before.before.before.before.before.before.before.before.before.before.before.requires.1.0.told c.before.before.before.before.before.before.before.before.before.before.before.before.before.before.before.before.before.before.before.before.before.before.requires.1.1.inside (event_is _ _ _ _ _ _ _ _ _ c.before.before.before.before.before.before.before.before.before.before.before.before.before.before.before.before.before.before.before.before.before.before.requires.1.0.told c.before.before.before.before.before.before.before.before.before.before.before.before.before.before.before.before.before.before.before.before.before.before.requires.1.1 c.before.before.before.before.before.before.before.before.before.before.before.before.before.before.before.event-noted.ensures c.before.before.before.before.before.before.before.before.before.before.before.before.before.i.given.1) in let q = c.before.before.before.before.before.before.before.before.before.before.before.before.before.before.before.before.before.before.before.before.before.before.requires.1.0 in (omega arith, (record { told = q.told; number = n.number; limit = q.limit; bytes = puts-bytes _ c.before.before.before.before.before.before.before.before.put2.ensures q.bytes; origins = puts-origins _ c.before.before.before.before.before.before.before.before.put2.ensures q.origins; place = c.before.before.before.if1.false; notes = q.notes; noted = q.noted }, inner_asks _ _ _ _ _ _ _ q.told q.noted n.number (event_is _ _ _ _ _ _ _ _ _ c.before.before.before.before.before.before.before.before.before.before.before.before.before.before.before.before.before.before.before.before.before.before.requires.1.0.told c.before.before.before.before.before.before.before.before.before.before.before.before.before.before.before.before.before.before.before.before.before.before.requires.1.1 c.before.before.before.before.before.before.before.before.before.before.before.before.before.before.before.event-noted.ensures c.before.before.before.before.before.before.before.before.before.before.before.before.before.i.given.1)))
+one-expand-text-requires t c κs = let n = include_fits _ _ 0 _ _ 0 _ _ c.before.before.before.before.before.before.before.before.before.before.before.before.before.before.before.before.before.before.before.before.before.before.requires.1.0.told c.before.before.before.before.before.before.before.before.before.before.before.before.before.before.before.before.before.before.before.before.before.before.requires.1.1.inside (event_is _ _ _ _ _ _ _ _ _ c.before.before.before.before.before.before.before.before.before.before.before.before.before.before.before.before.before.before.before.before.before.before.requires.1.0.told c.before.before.before.before.before.before.before.before.before.before.before.before.before.before.before.before.before.before.before.before.before.before.requires.1.1 c.before.before.before.before.before.before.before.before.before.before.before.before.before.before.before.event-noted.ensures c.before.before.before.before.before.before.before.before.before.before.before.before.before.i.given.1) in let q = c.before.before.before.before.before.before.before.before.before.before.before.before.before.before.before.before.before.before.before.before.before.before.requires.1.0 in (omega arith, (record { told = q.told; number = n.number; limit = q.limit; bytes = puts_bytes _ c.before.before.before.before.before.before.before.before.put2.ensures q.bytes; origins = puts_origins _ c.before.before.before.before.before.before.before.before.put2.ensures q.origins; place = c.before.before.before.if1.false; notes = q.notes; noted = q.noted }, inner_asks _ _ _ _ _ _ _ q.told q.noted n.number (event_is _ _ _ _ _ _ _ _ _ c.before.before.before.before.before.before.before.before.before.before.before.before.before.before.before.before.before.before.before.before.before.before.requires.1.0.told c.before.before.before.before.before.before.before.before.before.before.before.before.before.before.before.before.before.before.before.before.before.before.requires.1.1 c.before.before.before.before.before.before.before.before.before.before.before.before.before.before.before.event-noted.ensures c.before.before.before.before.before.before.before.before.before.before.before.before.before.i.given.1)))
 
 one-mul-line-end : (t : ℕ) → one-lts.Need-overflow-mul-line-end (
   event-noted-reads.Asked,
@@ -493,7 +493,7 @@ one-add-line-end : (t : ℕ) → one-lts.Need-overflow-add-line-end (
   line-end-reads.Asked,
   line-end-reads.Learnt,
 ) (one_at t) one.Post
-one-add-line-end t c = let n = c.before.before.before.before.before.before.before.before.before.before.before.before.before.before.before.before.before.before.before.before.before.before.before.before.before.before.before.before.before.before.before.requires.1.0.number in let i = include-fits _ _ 0 _ _ 0 _ _ c.before.before.before.before.before.before.before.before.before.before.before.before.before.before.before.before.before.before.before.before.before.before.before.before.before.before.before.before.before.before.before.requires.1.0.told c.before.before.before.before.before.before.before.before.before.before.before.before.before.before.before.before.before.before.before.before.before.before.before.before.before.before.before.before.before.before.before.requires.1.1.inside (event_is _ _ _ _ _ _ _ _ _ c.before.before.before.before.before.before.before.before.before.before.before.before.before.before.before.before.before.before.before.before.before.before.before.before.before.before.before.before.before.before.before.requires.1.0.told c.before.before.before.before.before.before.before.before.before.before.before.before.before.before.before.before.before.before.before.before.before.before.before.before.before.before.before.before.before.before.before.requires.1.1 c.before.before.before.before.before.before.before.before.before.before.before.before.before.before.before.before.before.before.before.before.before.before.before.before.event-noted.ensures c.before.before.before.before.before.before.before.before.before.before.before.before.before.before.before.before.before.before.before.before.before.before.i.given.1) in let s = c.before.before.before.before.before.before.before.before.before.before.before.before.before.before.before.before.before.before.before.before.before.before.before.before.before.before.before.before.before.before.before.requires.1.1.short in omega (arith, n, i.after, i.last, s)
+one-add-line-end t c = let n = c.before.before.before.before.before.before.before.before.before.before.before.before.before.before.before.before.before.before.before.before.before.before.before.before.before.before.before.before.before.before.before.requires.1.0.number in let i = include_fits _ _ 0 _ _ 0 _ _ c.before.before.before.before.before.before.before.before.before.before.before.before.before.before.before.before.before.before.before.before.before.before.before.before.before.before.before.before.before.before.before.requires.1.0.told c.before.before.before.before.before.before.before.before.before.before.before.before.before.before.before.before.before.before.before.before.before.before.before.before.before.before.before.before.before.before.before.requires.1.1.inside (event_is _ _ _ _ _ _ _ _ _ c.before.before.before.before.before.before.before.before.before.before.before.before.before.before.before.before.before.before.before.before.before.before.before.before.before.before.before.before.before.before.before.requires.1.0.told c.before.before.before.before.before.before.before.before.before.before.before.before.before.before.before.before.before.before.before.before.before.before.before.before.before.before.before.before.before.before.before.requires.1.1 c.before.before.before.before.before.before.before.before.before.before.before.before.before.before.before.before.before.before.before.before.before.before.before.before.event-noted.ensures c.before.before.before.before.before.before.before.before.before.before.before.before.before.before.before.before.before.before.before.before.before.before.i.given.1) in let s = c.before.before.before.before.before.before.before.before.before.before.before.before.before.before.before.before.before.before.before.before.before.before.before.before.before.before.before.before.before.before.before.requires.1.1.short in omega (arith, n, i.after, i.last, s)
 
 one-line-end-requires : (t : ℕ) → one-lts.Need-line-end-requires (
   event-noted-reads.Asked,
@@ -511,7 +511,7 @@ one-line-end-requires : (t : ℕ) → one-lts.Need-line-end-requires (
   line-end-reads.Asked,
   line-end-reads.Learnt,
 ) (one_at t) one.Post
-one-line-end-requires t c κs = let n = c.before.before.before.before.before.before.before.before.before.before.before.before.before.before.before.before.before.before.before.before.before.before.before.before.before.before.before.before.before.before.before.before.before.requires.1.0.number in let i = include-fits _ _ 0 _ _ 0 _ _ c.before.before.before.before.before.before.before.before.before.before.before.before.before.before.before.before.before.before.before.before.before.before.before.before.before.before.before.before.before.before.before.before.before.requires.1.0.told c.before.before.before.before.before.before.before.before.before.before.before.before.before.before.before.before.before.before.before.before.before.before.before.before.before.before.before.before.before.before.before.before.before.requires.1.1.inside (event_is _ _ _ _ _ _ _ _ _ c.before.before.before.before.before.before.before.before.before.before.before.before.before.before.before.before.before.before.before.before.before.before.before.before.before.before.before.before.before.before.before.before.before.requires.1.0.told c.before.before.before.before.before.before.before.before.before.before.before.before.before.before.before.before.before.before.before.before.before.before.before.before.before.before.before.before.before.before.before.before.before.requires.1.1 c.before.before.before.before.before.before.before.before.before.before.before.before.before.before.before.before.before.before.before.before.before.before.before.before.before.before.event-noted.ensures c.before.before.before.before.before.before.before.before.before.before.before.before.before.before.before.before.before.before.before.before.before.before.before.before.i.given.1) in let s = c.before.before.before.before.before.before.before.before.before.before.before.before.before.before.before.before.before.before.before.before.before.before.before.before.before.before.before.before.before.before.before.before.before.requires.1.1.short in let w = filled-whole _ _ _ _ c.before.before.before.before.before.before.before.before.before.before.expand-text.ensures.result c.before.before.before.before.if2.true in (c.before.before.before.before.before.before.before.before.before.before.before.before.before.before.before.before.before.before.before.before.before.before.before.before.before.before.before.before.before.before.before.before.before.requires.1.0.limit, (omega (arith, w.end, w.room), omega (arith, n, i.after, i.last, s)))
+one-line-end-requires t c κs = let n = c.before.before.before.before.before.before.before.before.before.before.before.before.before.before.before.before.before.before.before.before.before.before.before.before.before.before.before.before.before.before.before.before.before.requires.1.0.number in let i = include_fits _ _ 0 _ _ 0 _ _ c.before.before.before.before.before.before.before.before.before.before.before.before.before.before.before.before.before.before.before.before.before.before.before.before.before.before.before.before.before.before.before.before.before.requires.1.0.told c.before.before.before.before.before.before.before.before.before.before.before.before.before.before.before.before.before.before.before.before.before.before.before.before.before.before.before.before.before.before.before.before.before.requires.1.1.inside (event_is _ _ _ _ _ _ _ _ _ c.before.before.before.before.before.before.before.before.before.before.before.before.before.before.before.before.before.before.before.before.before.before.before.before.before.before.before.before.before.before.before.before.before.requires.1.0.told c.before.before.before.before.before.before.before.before.before.before.before.before.before.before.before.before.before.before.before.before.before.before.before.before.before.before.before.before.before.before.before.before.before.requires.1.1 c.before.before.before.before.before.before.before.before.before.before.before.before.before.before.before.before.before.before.before.before.before.before.before.before.before.before.event-noted.ensures c.before.before.before.before.before.before.before.before.before.before.before.before.before.before.before.before.before.before.before.before.before.before.before.before.i.given.1) in let s = c.before.before.before.before.before.before.before.before.before.before.before.before.before.before.before.before.before.before.before.before.before.before.before.before.before.before.before.before.before.before.before.before.before.requires.1.1.short in let w = filled_whole _ _ _ _ c.before.before.before.before.before.before.before.before.before.before.expand-text.ensures.result c.before.before.before.before.if2.true in (c.before.before.before.before.before.before.before.before.before.before.before.before.before.before.before.before.before.before.before.before.before.before.before.before.before.before.before.before.before.before.before.before.before.requires.1.0.limit, (omega (arith, w.end, w.room), omega (arith, n, i.after, i.last, s)))
 
 one-same-length-3 : (t : ℕ) → one-lts.Need-same-length-3 (
   event-noted-reads.Asked,
@@ -566,7 +566,7 @@ one-returns-2 : (t : ℕ) → one-lts.Need-returns-2 (
   line-end-reads.Learnt,
 ) (one_at t) one.Post
 unfolding origin
-one-returns-2 t c = text-steps _ _ _ _ _ _ _ _ _ _ _ _ c.before.before.before.before.before.before.before.before.before.before.before.before.before.before.before.before.before.before.before.before.before.before.before.before.before.before.before.before.before.before.before.before.before.before.before.before.before.before.requires.1.0.told c.before.before.before.before.before.before.before.before.before.before.before.before.before.before.before.before.before.before.before.before.before.before.before.before.before.before.before.before.before.before.before.before.before.before.before.before.before.before.requires.1.1.inside (event_is _ _ _ _ _ _ _ _ _ c.before.before.before.before.before.before.before.before.before.before.before.before.before.before.before.before.before.before.before.before.before.before.before.before.before.before.before.before.before.before.before.before.before.before.before.before.before.before.requires.1.0.told c.before.before.before.before.before.before.before.before.before.before.before.before.before.before.before.before.before.before.before.before.before.before.before.before.before.before.before.before.before.before.before.before.before.before.before.before.before.before.requires.1.1 c.before.before.before.before.before.before.before.before.before.before.before.before.before.before.before.before.before.before.before.before.before.before.before.before.before.before.before.before.before.before.before.event-noted.ensures c.before.before.before.before.before.before.before.before.before.before.before.before.before.before.before.before.before.before.before.before.before.before.before.before.before.before.before.before.before.i.given.1) _ _ _ _ _ _ _ _ _ _ c.before.before.before.before.before.before.before.before.before.before.before.before.before.before.before.before.before.before.before.before.before.before.before.before.put2.ensures c.before.before.before.before.before.before.before.before.before.before.before.before.before.before.before.before.before.before.before.if1.false (inner-fills _ _ _ _ _ _ _ _ _ _ _ _ _ c.before.before.before.before.before.before.before.before.before.before.before.before.before.before.before.before.before.before.before.before.before.before.before.before.before.before.before.opened.ensures c.before.before.before.before.before.before.before.before.before.before.before.before.before.before.before.expand-text.ensures) c.before.before.before.before.before.before.before.before.before.if2.true c.before.before.before.before.before.before.before.before.before.before.before.before.before.before.before.before.before.before.before.before.before.before.before.before.before.before.before.before.before.before.before.before.before.before.before.before.before.before.requires.1.0.bytes c.before.before.before.before.before.before.before.before.before.before.before.before.before.before.before.before.before.before.before.before.before.before.before.before.before.before.before.before.before.before.before.before.before.before.before.before.before.before.requires.1.0.origins (noted-next _ _ _ _ _ _ _ _ (event_is _ _ _ _ _ _ _ _ _ c.before.before.before.before.before.before.before.before.before.before.before.before.before.before.before.before.before.before.before.before.before.before.before.before.before.before.before.before.before.before.before.before.before.before.before.before.before.before.requires.1.0.told c.before.before.before.before.before.before.before.before.before.before.before.before.before.before.before.before.before.before.before.before.before.before.before.before.before.before.before.before.before.before.before.before.before.before.before.before.before.before.requires.1.1 c.before.before.before.before.before.before.before.before.before.before.before.before.before.before.before.before.before.before.before.before.before.before.before.before.before.before.before.before.before.before.before.event-noted.ensures c.before.before.before.before.before.before.before.before.before.before.before.before.before.before.before.before.before.before.before.before.before.before.before.before.before.before.before.before.before.i.given.1) c.before.before.before.before.before.before.before.before.before.before.before.before.before.before.before.before.before.before.before.before.before.before.before.before.before.before.before.before.before.before.before.before.before.before.before.before.before.before.requires.1.1.noted) c.before.before.before.before.line-end.ensures
+one-returns-2 t c = text-steps _ _ _ _ _ _ _ _ _ _ _ _ c.before.before.before.before.before.before.before.before.before.before.before.before.before.before.before.before.before.before.before.before.before.before.before.before.before.before.before.before.before.before.before.before.before.before.before.before.before.before.requires.1.0.told c.before.before.before.before.before.before.before.before.before.before.before.before.before.before.before.before.before.before.before.before.before.before.before.before.before.before.before.before.before.before.before.before.before.before.before.before.before.before.requires.1.1.inside (event_is _ _ _ _ _ _ _ _ _ c.before.before.before.before.before.before.before.before.before.before.before.before.before.before.before.before.before.before.before.before.before.before.before.before.before.before.before.before.before.before.before.before.before.before.before.before.before.before.requires.1.0.told c.before.before.before.before.before.before.before.before.before.before.before.before.before.before.before.before.before.before.before.before.before.before.before.before.before.before.before.before.before.before.before.before.before.before.before.before.before.before.requires.1.1 c.before.before.before.before.before.before.before.before.before.before.before.before.before.before.before.before.before.before.before.before.before.before.before.before.before.before.before.before.before.before.before.event-noted.ensures c.before.before.before.before.before.before.before.before.before.before.before.before.before.before.before.before.before.before.before.before.before.before.before.before.before.before.before.before.before.i.given.1) _ _ _ _ _ _ _ _ _ _ c.before.before.before.before.before.before.before.before.before.before.before.before.before.before.before.before.before.before.before.before.before.before.before.before.put2.ensures c.before.before.before.before.before.before.before.before.before.before.before.before.before.before.before.before.before.before.before.if1.false (inner_fills _ _ _ _ _ _ _ _ _ _ _ _ _ c.before.before.before.before.before.before.before.before.before.before.before.before.before.before.before.before.before.before.before.before.before.before.before.before.before.before.before.opened.ensures c.before.before.before.before.before.before.before.before.before.before.before.before.before.before.before.expand-text.ensures) c.before.before.before.before.before.before.before.before.before.if2.true c.before.before.before.before.before.before.before.before.before.before.before.before.before.before.before.before.before.before.before.before.before.before.before.before.before.before.before.before.before.before.before.before.before.before.before.before.before.before.requires.1.0.bytes c.before.before.before.before.before.before.before.before.before.before.before.before.before.before.before.before.before.before.before.before.before.before.before.before.before.before.before.before.before.before.before.before.before.before.before.before.before.before.requires.1.0.origins (noted_next _ _ _ _ _ _ _ _ (event_is _ _ _ _ _ _ _ _ _ c.before.before.before.before.before.before.before.before.before.before.before.before.before.before.before.before.before.before.before.before.before.before.before.before.before.before.before.before.before.before.before.before.before.before.before.before.before.before.requires.1.0.told c.before.before.before.before.before.before.before.before.before.before.before.before.before.before.before.before.before.before.before.before.before.before.before.before.before.before.before.before.before.before.before.before.before.before.before.before.before.before.requires.1.1 c.before.before.before.before.before.before.before.before.before.before.before.before.before.before.before.before.before.before.before.before.before.before.before.before.before.before.before.before.before.before.before.event-noted.ensures c.before.before.before.before.before.before.before.before.before.before.before.before.before.before.before.before.before.before.before.before.before.before.before.before.before.before.before.before.before.i.given.1) c.before.before.before.before.before.before.before.before.before.before.before.before.before.before.before.before.before.before.before.before.before.before.before.before.before.before.before.before.before.before.before.before.before.before.before.before.before.before.requires.1.1.noted) c.before.before.before.before.line-end.ensures
 
 one-add-fill-2 : (t : ℕ) → one-lts.Need-overflow-add-fill-2 (
   event-noted-reads.Asked,
@@ -584,7 +584,7 @@ one-add-fill-2 : (t : ℕ) → one-lts.Need-overflow-add-fill-2 (
   line-end-reads.Asked,
   line-end-reads.Learnt,
 ) (one_at t) one.Post
-one-add-fill-2 t c = let n = fill-total _ _ _ _ c.before.before.before.before.before.before.before.expand-text.ensures.result in let l = c.before.before.before.before.before.before.before.before.before.before.before.before.before.before.before.before.before.before.before.before.before.before.before.before.before.before.before.before.before.before.requires.1.0.limit in omega (arith, n, l)
+one-add-fill-2 t c = let n = fill_total _ _ _ _ c.before.before.before.before.before.before.before.expand-text.ensures.result in let l = c.before.before.before.before.before.before.before.before.before.before.before.before.before.before.before.before.before.before.before.before.before.before.before.before.before.before.before.before.before.before.requires.1.0.limit in omega (arith, n, l)
 
 one-sub-fill-2 : (t : ℕ) → one-lts.Need-overflow-sub-fill-2 (
   event-noted-reads.Asked,
@@ -602,7 +602,7 @@ one-sub-fill-2 : (t : ℕ) → one-lts.Need-overflow-sub-fill-2 (
   line-end-reads.Asked,
   line-end-reads.Learnt,
 ) (one_at t) one.Post
-one-sub-fill-2 t c = (include-fits _ _ 0 _ _ 0 _ _ c.before.before.before.before.before.before.before.before.before.before.before.before.before.before.before.before.before.before.before.before.before.before.before.before.before.before.before.before.before.before.before.requires.1.0.told c.before.before.before.before.before.before.before.before.before.before.before.before.before.before.before.before.before.before.before.before.before.before.before.before.before.before.before.before.before.before.before.requires.1.1.inside (event_is _ _ _ _ _ _ _ _ _ c.before.before.before.before.before.before.before.before.before.before.before.before.before.before.before.before.before.before.before.before.before.before.before.before.before.before.before.before.before.before.before.requires.1.0.told c.before.before.before.before.before.before.before.before.before.before.before.before.before.before.before.before.before.before.before.before.before.before.before.before.before.before.before.before.before.before.before.requires.1.1 c.before.before.before.before.before.before.before.before.before.before.before.before.before.before.before.before.before.before.before.before.before.before.before.before.event-noted.ensures c.before.before.before.before.before.before.before.before.before.before.before.before.before.before.before.before.before.before.before.before.before.before.i.given.1)).last
+one-sub-fill-2 t c = (include_fits _ _ 0 _ _ 0 _ _ c.before.before.before.before.before.before.before.before.before.before.before.before.before.before.before.before.before.before.before.before.before.before.before.before.before.before.before.before.before.before.before.requires.1.0.told c.before.before.before.before.before.before.before.before.before.before.before.before.before.before.before.before.before.before.before.before.before.before.before.before.before.before.before.before.before.before.before.requires.1.1.inside (event_is _ _ _ _ _ _ _ _ _ c.before.before.before.before.before.before.before.before.before.before.before.before.before.before.before.before.before.before.before.before.before.before.before.before.before.before.before.before.before.before.before.requires.1.0.told c.before.before.before.before.before.before.before.before.before.before.before.before.before.before.before.before.before.before.before.before.before.before.before.before.before.before.before.before.before.before.before.requires.1.1 c.before.before.before.before.before.before.before.before.before.before.before.before.before.before.before.before.before.before.before.before.before.before.before.before.event-noted.ensures c.before.before.before.before.before.before.before.before.before.before.before.before.before.before.before.before.before.before.before.before.before.before.i.given.1)).last
 
 one-add-fill-3 : (t : ℕ) → one-lts.Need-overflow-add-fill-3 (
   event-noted-reads.Asked,
@@ -620,7 +620,7 @@ one-add-fill-3 : (t : ℕ) → one-lts.Need-overflow-add-fill-3 (
   line-end-reads.Asked,
   line-end-reads.Learnt,
 ) (one_at t) one.Post
-one-add-fill-3 t c = let n = fill-total _ _ _ _ c.before.before.before.before.before.before.before.before.expand-text.ensures.result in let l = c.before.before.before.before.before.before.before.before.before.before.before.before.before.before.before.before.before.before.before.before.before.before.before.before.before.before.before.before.before.before.before.requires.1.0.limit in let s = c.before.before.before.before.before.before.before.before.before.before.before.before.before.before.before.before.before.before.before.before.before.before.before.before.before.before.before.before.before.before.before.requires.1.1.short in omega (arith, n, l, s)
+one-add-fill-3 t c = let n = fill_total _ _ _ _ c.before.before.before.before.before.before.before.before.expand-text.ensures.result in let l = c.before.before.before.before.before.before.before.before.before.before.before.before.before.before.before.before.before.before.before.before.before.before.before.before.before.before.before.before.before.before.before.requires.1.0.limit in let s = c.before.before.before.before.before.before.before.before.before.before.before.before.before.before.before.before.before.before.before.before.before.before.before.before.before.before.before.before.before.before.before.requires.1.1.short in omega (arith, n, l, s)
 
 one-fill-requires-2 : (t : ℕ) → one-lts.Need-fill-requires-2 (
   event-noted-reads.Asked,
@@ -692,7 +692,7 @@ one-returns-3 : (t : ℕ) → one-lts.Need-returns-3 (
   line-end-reads.Asked,
   line-end-reads.Learnt,
 ) (one_at t) one.Post
-one-returns-3 t c = done _ _ _ _ _ _ _ _ _ _ _ (stop-done _ _ _ _ _ _ _ _ _ _ _ _ _ _ _ _ _ c.before.before.before.before.before.before.before.before.before.before.before.before.before.before.before.before.before.before.requires.1.0.told c.before.before.before.before.before.before.before.before.before.before.before.before.before.before.before.before.before.before.requires.1.1.inside (event_is _ _ _ _ _ _ _ _ _ c.before.before.before.before.before.before.before.before.before.before.before.before.before.before.before.before.before.before.requires.1.0.told c.before.before.before.before.before.before.before.before.before.before.before.before.before.before.before.before.before.before.requires.1.1 c.before.before.before.before.before.before.before.before.before.before.before.event-noted.ensures c.before.before.before.before.before.before.before.before.before.fault.given.1) c.before.before.before.before.before.put.ensures c.fill.ensures)
+one-returns-3 t c = done _ _ _ _ _ _ _ _ _ _ _ (stop_done _ _ _ _ _ _ _ _ _ _ _ _ _ _ _ _ _ c.before.before.before.before.before.before.before.before.before.before.before.before.before.before.before.before.before.before.requires.1.0.told c.before.before.before.before.before.before.before.before.before.before.before.before.before.before.before.before.before.before.requires.1.1.inside (event_is _ _ _ _ _ _ _ _ _ c.before.before.before.before.before.before.before.before.before.before.before.before.before.before.before.before.before.before.requires.1.0.told c.before.before.before.before.before.before.before.before.before.before.before.before.before.before.before.before.before.before.requires.1.1 c.before.before.before.before.before.before.before.before.before.before.before.event-noted.ensures c.before.before.before.before.before.before.before.before.before.fault.given.1) c.before.before.before.before.before.put.ensures c.fill.ensures)
 
 one-same-length-7 : (t : ℕ) → one-lts.Need-same-length-7 (
   event-noted-reads.Asked,
@@ -746,7 +746,7 @@ one-returns-4 : (t : ℕ) → one-lts.Need-returns-4 (
   line-end-reads.Asked,
   line-end-reads.Learnt,
 ) (one_at t) one.Post
-one-returns-4 t c = done _ _ _ _ _ _ _ _ _ _ _ (text-done _ _ _ _ _ _ _ _ _ _ _ _ c.before.before.before.before.before.before.before.before.before.before.before.before.before.before.before.before.before.before.before.before.before.before.before.before.before.before.before.before.before.before.before.before.requires.1.0.told c.before.before.before.before.before.before.before.before.before.before.before.before.before.before.before.before.before.before.before.before.before.before.before.before.before.before.before.before.before.before.before.before.requires.1.1.inside (event_is _ _ _ _ _ _ _ _ _ c.before.before.before.before.before.before.before.before.before.before.before.before.before.before.before.before.before.before.before.before.before.before.before.before.before.before.before.before.before.before.before.before.requires.1.0.told c.before.before.before.before.before.before.before.before.before.before.before.before.before.before.before.before.before.before.before.before.before.before.before.before.before.before.before.before.before.before.before.before.requires.1.1 c.before.before.before.before.before.before.before.before.before.before.before.before.before.before.before.before.before.before.before.before.before.before.before.before.before.event-noted.ensures c.before.before.before.before.before.before.before.before.before.before.before.before.before.before.before.before.before.before.before.before.before.before.before.i.given.1) _ _ _ _ _ _ _ c.before.before.before.before.before.before.before.before.before.before.before.before.before.before.before.before.before.before.put2.ensures c.before.before.before.before.before.before.before.before.before.before.before.before.before.if1.false (inner-fills _ _ _ _ _ _ _ _ _ _ _ _ _ c.before.before.before.before.before.before.before.before.before.before.before.before.before.before.before.before.before.before.before.before.before.opened.ensures c.before.before.before.before.before.before.before.before.before.expand-text.ensures) c.before.before.before.if2.false c.before.before.before.before.before.before.before.before.before.before.before.before.before.before.before.before.before.before.before.before.before.before.before.before.before.before.before.before.before.before.before.before.requires.1.0.bytes c.before.before.before.before.before.before.before.before.before.before.before.before.before.before.before.before.before.before.before.before.before.before.before.before.before.before.before.before.before.before.before.before.requires.1.0.origins c.fill2.ensures)
+one-returns-4 t c = done _ _ _ _ _ _ _ _ _ _ _ (text-done _ _ _ _ _ _ _ _ _ _ _ _ c.before.before.before.before.before.before.before.before.before.before.before.before.before.before.before.before.before.before.before.before.before.before.before.before.before.before.before.before.before.before.before.before.requires.1.0.told c.before.before.before.before.before.before.before.before.before.before.before.before.before.before.before.before.before.before.before.before.before.before.before.before.before.before.before.before.before.before.before.before.requires.1.1.inside (event_is _ _ _ _ _ _ _ _ _ c.before.before.before.before.before.before.before.before.before.before.before.before.before.before.before.before.before.before.before.before.before.before.before.before.before.before.before.before.before.before.before.before.requires.1.0.told c.before.before.before.before.before.before.before.before.before.before.before.before.before.before.before.before.before.before.before.before.before.before.before.before.before.before.before.before.before.before.before.before.requires.1.1 c.before.before.before.before.before.before.before.before.before.before.before.before.before.before.before.before.before.before.before.before.before.before.before.before.before.event-noted.ensures c.before.before.before.before.before.before.before.before.before.before.before.before.before.before.before.before.before.before.before.before.before.before.before.i.given.1) _ _ _ _ _ _ _ c.before.before.before.before.before.before.before.before.before.before.before.before.before.before.before.before.before.before.put2.ensures c.before.before.before.before.before.before.before.before.before.before.before.before.before.if1.false (inner_fills _ _ _ _ _ _ _ _ _ _ _ _ _ c.before.before.before.before.before.before.before.before.before.before.before.before.before.before.before.before.before.before.before.before.before.opened.ensures c.before.before.before.before.before.before.before.before.before.expand-text.ensures) c.before.before.before.if2.false c.before.before.before.before.before.before.before.before.before.before.before.before.before.before.before.before.before.before.before.before.before.before.before.before.before.before.before.before.before.before.before.before.requires.1.0.bytes c.before.before.before.before.before.before.before.before.before.before.before.before.before.before.before.before.before.before.before.before.before.before.before.before.before.before.before.before.before.before.before.before.requires.1.0.origins c.fill2.ensures)
 
 pub +expand-text-one-spec : {M : Type 1} → statement M
 +expand-text-one-spec = close μ-expand-text μ-one (λ t. expand-text-lts.spec (

@@ -1,4 +1,4 @@
-use Rattle.sources.proofs.Singles.{up_more, up-end, up_start}
+use Rattle.sources.proofs.Singles.{up_more, up_end, up_start}
 use Rattle.sources.specs.Expanding.{up_from}
 use borrow.Author.Rules.{rules}
 use native.Mathlib.Omega.{arith}
@@ -49,7 +49,7 @@ same_length : tie.Need-same-length invariant_loop decreases_loop
 same_length c = c.before.loop.invariant.1
 
 returns : tie.Need-returns invariant_loop decreases_loop
-returns c = up-end _ _ _ c.before.loop.i _ (omega arith) ∙ c.before.loop.invariant.2
+returns c = up_end _ _ _ c.before.loop.i _ (omega arith) ∙ c.before.loop.invariant.2
 
 pub count-up-spec : {M : Type 1} → statement M
 count-up-spec =

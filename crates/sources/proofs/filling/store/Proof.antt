@@ -1,4 +1,4 @@
-use Rattle.sources.proofs.Singles.{from_start, store-more, store-end}
+use Rattle.sources.proofs.Singles.{from_start, store_more, store_end}
 use borrow.Author.Rules.{rules}
 use native.Mathlib.Omega.{arith}
 use lib.Seq.{sets}
@@ -39,13 +39,13 @@ loop_less : tie.Need-loop-smaller invariant_loop decreases_loop
 loop_less c = omega arith
 
 loop_again : tie.Need-loop-preserved invariant_loop decreases_loop
-loop_again c = (omega arith, simp length-set c.before.before.loop.invariant.1, sym (store-more _ _ _ c.before.before.loop.i (omega arith)) ∙ c.before.before.loop.invariant.2)
+loop_again c = (omega arith, simp length-set c.before.before.loop.invariant.1, sym (store_more _ _ _ c.before.before.loop.i (omega arith)) ∙ c.before.before.loop.invariant.2)
 
 same_length : tie.Need-same-length invariant_loop decreases_loop
 same_length c = c.before.loop.invariant.1
 
 returns : tie.Need-returns invariant_loop decreases_loop
-returns c = store-end _ _ _ c.before.loop.i (omega arith) ∙ c.before.loop.invariant.2
+returns c = store_end _ _ _ c.before.loop.i (omega arith) ∙ c.before.loop.invariant.2
 
 pub store_spec : {M : Type 1} → statement M
 store_spec =

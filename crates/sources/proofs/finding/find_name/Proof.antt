@@ -5,7 +5,7 @@ use lib.ListN.{length, drop}
 use native.Mathlib.Omega.{arith}
 use borrow.Author.Rules.{rules}
 use Rattle.sources.specs.Texts.{fitting, find_from, find_name}
-use Rattle.sources.proofs.Tellings.{fits, find_here, find-on, find_none}
+use Rattle.sources.proofs.Tellings.{fits, find_here, find_on, find_none}
 use Rattle.sources.proofs.finding.find_name.Statement.{statement}
 use Rattle.sources.proofs.finding.find_name.Tie as tie
 use Rattle.sources.proofs.finding.find_name.Reads as reads
@@ -68,7 +68,7 @@ loop_less : tie.Need-loop-smaller invariant_loop decreases_loop
 loop_less c = let l = c.before.before.before.before.before.before.loop in let f = fits _ l.at _ l.i (omega arith) l.invariant.2 in omega arith
 
 loop_again : tie.Need-loop-preserved invariant_loop decreases_loop
-loop_again c = let l = c.before.before.before.before.before.before.loop in let f = fits _ l.at _ l.i (omega arith) l.invariant.2 in (omega arith, omega arith, f.more, sym (find-on _ l.number l.at _ l.i _ f.two-left (sym c.before.same.ensures ∙ c.if1.false)) ∙ l.invariant.3)
+loop_again c = let l = c.before.before.before.before.before.before.loop in let f = fits _ l.at _ l.i (omega arith) l.invariant.2 in (omega arith, omega arith, f.more, sym (find_on _ l.number l.at _ l.i _ f.two-left (sym c.before.same.ensures ∙ c.if1.false)) ∙ l.invariant.3)
 
 returns-2 : tie.Need-returns-2 invariant_loop decreases_loop
 returns-2 c = let l = c.before.loop in sym (find_none _ l.number l.at _ l.i _ (omega arith)) ∙ l.invariant.3

@@ -1,5 +1,5 @@
 use mathlib.Core.Path.{sym, ◌∙◌}
-use Rattle.sources.proofs.Events.{include-open, include-is, include-absent}
+use Rattle.sources.proofs.Events.{include_open, include_is, include_absent}
 use Rattle.sources.proofs.Tellings.{told}
 use borrow.Author.Rules.{rules}
 use Rattle.sources.proofs.finding.include_of.Statement.{statement}
@@ -28,16 +28,16 @@ cell_requires : tie.Need-cell-requires
 cell_requires c κs = search rules
 
 returns : tie.Need-returns
-returns c = include-open _ _ _ _ _ _ _ _ _ (sym c.before.before.before.before.before.find-name.ensures ∙ c.before.before.before.number.given.1) c.before.cell.ensures c.if1.true
+returns c = include_open _ _ _ _ _ _ _ _ _ (sym c.before.before.before.before.before.find-name.ensures ∙ c.before.before.before.number.given.1) c.before.cell.ensures c.if1.true
 
 enum_told : tie.Need-enum-told
 enum_told c = search rules
 
 returns-2 : tie.Need-returns-2
-returns-2 c = include-is _ _ _ _ _ _ _ _ _ (sym c.before.before.before.before.before.find-name.ensures ∙ c.before.before.before.number.given.1) c.before.cell.ensures c.if1.false
+returns-2 c = include_is _ _ _ _ _ _ _ _ _ (sym c.before.before.before.before.before.find-name.ensures ∙ c.before.before.before.number.given.1) c.before.cell.ensures c.if1.false
 
 returns-3 : tie.Need-returns-3
-returns-3 c = include-absent _ _ _ _ _ (sym c.before.before.find-name.ensures ∙ c.enum_told.given.1)
+returns-3 c = include_absent _ _ _ _ _ (sym c.before.before.find-name.ensures ∙ c.enum_told.given.1)
 
 pub include-of-spec : {M : Type 1} → statement M
 include-of-spec =

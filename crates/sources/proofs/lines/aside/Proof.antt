@@ -4,7 +4,7 @@ use lib.ListN.{length}
 use native.Mathlib.Omega.{arith}
 use borrow.Author.Rules.{rules}
 use Rattle.sources.specs.Lines.{aside}
-use Rattle.sources.proofs.Asides.{aside_stay, aside-next, aside_on, aside-inside}
+use Rattle.sources.proofs.Asides.{aside_stay, aside_next, aside_on, aside_inside}
 use Rattle.sources.proofs.lines.aside.Statement.{statement}
 use Rattle.sources.proofs.lines.aside.Tie as tie
 use Rattle.sources.proofs.lines.aside.Reads as reads
@@ -27,10 +27,10 @@ returns : tie.Need-returns invariant_loop decreases_loop
 returns c = let l = c.before.before.loop in sym (aside_stay _ l.i (sym c.before.aside-at.ensures ∙ c.if1.true)) ∙ l.invariant
 
 loop_less : tie.Need-loop-smaller invariant_loop decreases_loop
-loop_less c = let l = c.before.before.loop in let a = c.before.before.before.before.args in let h = aside_on a.line.now l.i (λ e. c.if1.false (c.before.aside-at.ensures ∙ e)) in let k = aside-inside a.line.now l.i (λ e. c.if1.false (c.before.aside-at.ensures ∙ e)) in omega arith
+loop_less c = let l = c.before.before.loop in let a = c.before.before.before.before.args in let h = aside_on a.line.now l.i (λ e. c.if1.false (c.before.aside-at.ensures ∙ e)) in let k = aside_inside a.line.now l.i (λ e. c.if1.false (c.before.aside-at.ensures ∙ e)) in omega arith
 
 loop_again : tie.Need-loop-preserved invariant_loop decreases_loop
-loop_again c = let l = c.before.before.loop in ap (aside _) c.before.aside-at.ensures ∙ sym (aside-next _ l.i (λ e. c.if1.false (c.before.aside-at.ensures ∙ e))) ∙ l.invariant
+loop_again c = let l = c.before.before.loop in ap (aside _) c.before.aside-at.ensures ∙ sym (aside_next _ l.i (λ e. c.if1.false (c.before.aside-at.ensures ∙ e))) ∙ l.invariant
 
 pub aside-spec : {M : Type 1} → statement M
 aside-spec =

@@ -1,5 +1,5 @@
 use native.Mathlib.Omega.{arith}
-use Rattle.sources.proofs.Namings.{closing-open, closing-more, closing-is}
+use Rattle.sources.proofs.Namings.{closing_open, closing_more, closing_is}
 use borrow.Author.Rules.{rules}
 use Rattle.sources.proofs.lines.closing.Statement.{statement}
 use Rattle.sources.proofs.lines.closing.Tie as tie
@@ -15,7 +15,7 @@ find-byte-requires : tie.Need-find-byte-requires
 find-byte-requires c κs = search rules
 
 returns : tie.Need-returns
-returns c = closing-open _ _ _ _ c.before.find-byte.ensures (omega arith)
+returns c = closing_open _ _ _ _ c.before.find-byte.ensures (omega arith)
 
 add-aside : tie.Need-overflow-add-aside
 add-aside c = search rules
@@ -27,10 +27,10 @@ add-t8 : tie.Need-overflow-add-t8
 add-t8 c = search rules
 
 returns-2 : tie.Need-returns-2
-returns-2 c = closing-is _ _ _ _ _ c.before.before.before.find-byte.ensures (omega arith) c.before.aside.ensures c.if2.true
+returns-2 c = closing_is _ _ _ _ _ c.before.before.before.find-byte.ensures (omega arith) c.before.aside.ensures c.if2.true
 
 returns-3 : tie.Need-returns-3
-returns-3 c = closing-more _ _ _ _ _ c.before.before.before.find-byte.ensures (omega arith) c.before.aside.ensures c.if2.false
+returns-3 c = closing_more _ _ _ _ _ c.before.before.before.find-byte.ensures (omega arith) c.before.aside.ensures c.if2.false
 
 pub closing-spec : {M : Type 1} → statement M
 closing-spec =

@@ -1,5 +1,5 @@
 use mathlib.Core.Path.{◌∙◌}
-use Rattle.sources.proofs.Stops.{hash-is, hash-other}
+use Rattle.sources.proofs.Stops.{hash_is, hash_other}
 use borrow.Author.Rules.{rules}
 use Rattle.sources.proofs.lines.hash_at.Statement.{statement}
 use Rattle.sources.proofs.lines.hash_at.Tie as tie
@@ -14,10 +14,10 @@ line-of-requires : tie.Need-line-of-requires
 line-of-requires c κs = search rules
 
 returns : tie.Need-returns
-returns c = c.line_of.ensures ∙ hash-is _ _ _ c.before.if1.true
+returns c = c.line_of.ensures ∙ hash_is _ _ _ c.before.if1.true
 
 returns-2 : tie.Need-returns-2
-returns-2 c = hash-other _ _ _ c.if1.false
+returns-2 c = hash_other _ _ _ c.if1.false
 
 pub hash-at-spec : {M : Type 1} → statement M
 hash-at-spec = tie.close (tie.spec shared-slice-read-if1 line-of-requires returns returns-2)

@@ -1,7 +1,7 @@
 use lib.ListN.{length-take}
 use mathlib.Core.Path.{sym, ◌∙◌}
 use native.Mathlib.Omega.{arith}
-use Rattle.sources.proofs.Stops.{line_low, line-late, line-reached, line-named, line-unnamed, length_between}
+use Rattle.sources.proofs.Stops.{line_low, line_late, line_reached, line_named, line_unnamed, length_between}
 use Rattle.sources.proofs.Namings.{byte_high, named_ok}
 use Rattle.token.proofs.Bytes.{byte_low}
 use borrow.Author.Rules.{rules}
@@ -19,7 +19,7 @@ line-start-requires : tie.Need-line-start-requires
 line-start-requires c κs = search rules
 
 returns : tie.Need-returns
-returns c = line-late _ _ _ _ c.before.line-start.ensures (omega arith)
+returns c = line_late _ _ _ _ c.before.line-start.ensures (omega arith)
 
 slice-aggregate-whole-to : tie.Need-slice-aggregate-whole-to
 slice-aggregate-whole-to c = let a = c.before.before.before.before.args in omega (arith, length-take c.before.before.line-start.result a.text.now, line_low a.text.now a.hash)
@@ -61,13 +61,13 @@ enum_told : tie.Need-enum-told
 enum_told c = search rules
 
 returns-2 : tie.Need-returns-2
-returns-2 c = line-named _ _ _ _ _ _ _ _ c.before.before.before.before.before.before.before.before.before.before.before.line-start.ensures (omega arith) (sym c.before.before.before.before.before.before.before.before.IsWhole-to.ensures ∙ c.before.before.before.before.before.before.before.if2.true) c.before.before.before.before.before.before.find-byte.ensures (sym c.before.before.before.before.named.ensures ∙ c.before.before.from.given.1) c.after_line.ensures
+returns-2 c = line_named _ _ _ _ _ _ _ _ c.before.before.before.before.before.before.before.before.before.before.before.line-start.ensures (omega arith) (sym c.before.before.before.before.before.before.before.before.IsWhole-to.ensures ∙ c.before.before.before.before.before.before.before.if2.true) c.before.before.before.before.before.before.find-byte.ensures (sym c.before.before.before.before.named.ensures ∙ c.before.before.from.given.1) c.after_line.ensures
 
 returns-3 : tie.Need-returns-3
-returns-3 c = line-unnamed _ _ _ _ _ c.before.before.before.before.before.before.before.before.before.line-start.ensures (omega arith) (sym c.before.before.before.before.before.before.IsWhole-to.ensures ∙ c.before.before.before.before.before.if2.true) c.before.before.before.before.find-byte.ensures (sym c.before.before.named.ensures ∙ c.enum_told.given.1)
+returns-3 c = line_unnamed _ _ _ _ _ c.before.before.before.before.before.before.before.before.before.line-start.ensures (omega arith) (sym c.before.before.before.before.before.before.IsWhole-to.ensures ∙ c.before.before.before.before.before.if2.true) c.before.before.before.before.find-byte.ensures (sym c.before.before.named.ensures ∙ c.enum_told.given.1)
 
 returns-4 : tie.Need-returns-4
-returns-4 c = line-reached _ _ _ _ c.before.before.before.before.line-start.ensures (sym c.before.IsWhole-to.ensures ∙ c.if2.false)
+returns-4 c = line_reached _ _ _ _ c.before.before.before.before.line-start.ensures (sym c.before.IsWhole-to.ensures ∙ c.if2.false)
 
 pub line-of-spec : {M : Type 1} → statement M
 line-of-spec =

@@ -1,6 +1,6 @@
 use mathlib.Core.Path.{sym, ◌∙◌}
 use native.Mathlib.Omega.{arith}
-use Rattle.sources.proofs.Namings.{named-elsewhere, named-short, named_other, named-is}
+use Rattle.sources.proofs.Namings.{named_elsewhere, named_short, named_other, named_is}
 use borrow.Author.Rules.{rules}
 use Rattle.sources.proofs.lines.named.Statement.{statement}
 use Rattle.sources.proofs.lines.named.Tie as tie
@@ -14,13 +14,13 @@ aside-requires : tie.Need-aside-requires
 aside-requires c κs = search rules
 
 returns : tie.Need-returns
-returns c = named-elsewhere _ _ _ c.before.aside.ensures c.if1.true
+returns c = named_elsewhere _ _ _ c.before.aside.ensures c.if1.true
 
 sub-if2 : tie.Need-overflow-sub-if2
 sub-if2 c = search rules
 
 returns-2 : tie.Need-returns-2
-returns-2 c = named-short _ _ (omega arith)
+returns-2 c = named_short _ _ (omega arith)
 
 add_same : tie.Need-overflow-add-same
 add_same c = search rules
@@ -50,7 +50,7 @@ quoted-requires : tie.Need-quoted-requires
 quoted-requires c κs = search rules
 
 returns-3 : tie.Need-returns-3
-returns-3 c = c.quoted.ensures ∙ named-is _ _ _ _ c.before.before.before.before.before.before.before.before.aside.ensures c.before.before.before.before.before.before.before.if1.false (sym c.before.before.before.same.ensures ∙ c.before.before.if3.true) c.before.aside2.ensures
+returns-3 c = c.quoted.ensures ∙ named_is _ _ _ _ c.before.before.before.before.before.before.before.before.aside.ensures c.before.before.before.before.before.before.before.if1.false (sym c.before.before.before.same.ensures ∙ c.before.before.if3.true) c.before.aside2.ensures
 
 returns-4 : tie.Need-returns-4
 returns-4 c = named_other _ _ (sym c.before.same.ensures ∙ c.if3.false)

@@ -1,5 +1,5 @@
 use native.Mathlib.Omega.{arith}
-use Rattle.sources.proofs.Notings.{back_end, back-open, back-include, back-absent}
+use Rattle.sources.proofs.Notings.{back_end, back_open, back_include, back_absent}
 use mathlib.Core.Path.{sym, ◌∙◌}
 use borrow.Author.Rules.{rules}
 use Rattle.sources.proofs.noting.event_back.Statement.{statement}
@@ -22,16 +22,16 @@ cell_requires : tie.Need-cell-requires
 cell_requires c κs = search rules
 
 returns-2 : tie.Need-returns-2
-returns-2 c = back-open _ _ _ (omega arith) _ _ _ _ (sym c.before.before.before.before.before.span_of.ensures ∙ c.before.before.before.number.given.1) c.before.cell.ensures c.if2.true
+returns-2 c = back_open _ _ _ (omega arith) _ _ _ _ (sym c.before.before.before.before.before.span_of.ensures ∙ c.before.before.before.number.given.1) c.before.cell.ensures c.if2.true
 
 enum_told : tie.Need-enum-told
 enum_told c = search rules
 
 returns-3 : tie.Need-returns-3
-returns-3 c = back-include _ _ _ (omega arith) _ _ _ _ (sym c.before.before.before.before.before.span_of.ensures ∙ c.before.before.before.number.given.1) c.before.cell.ensures c.if2.false
+returns-3 c = back_include _ _ _ (omega arith) _ _ _ _ (sym c.before.before.before.before.before.span_of.ensures ∙ c.before.before.before.number.given.1) c.before.cell.ensures c.if2.false
 
 returns-4 : tie.Need-returns-4
-returns-4 c = back-absent _ _ _ (omega arith) (sym c.before.before.span_of.ensures ∙ c.enum_told.given.1)
+returns-4 c = back_absent _ _ _ (omega arith) (sym c.before.before.span_of.ensures ∙ c.enum_told.given.1)
 
 pub event-back-spec : {M : Type 1} → statement M
 event-back-spec =

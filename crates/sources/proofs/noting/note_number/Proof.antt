@@ -1,5 +1,5 @@
 use native.Mathlib.Omega.{arith}
-use Rattle.sources.proofs.Notings.{span_length, all-next, all-absent}
+use Rattle.sources.proofs.Notings.{span_length, all_next, all_absent}
 use Rattle.sources.proofs.Numberings.{span_ok}
 use Rattle.sources.proofs.Tellings.{told}
 use mathlib.Core.Path.{sym, ◌∙◌}
@@ -36,10 +36,10 @@ same_length : tie.Need-same-length
 same_length c = search rules
 
 returns : tie.Need-returns
-returns c = λ a. all-next _ _ _ _ c.before.before.before.before.before.before.before.before.before.before.before.before.requires.0 a _ _ _ _ (sym c.before.before.before.before.before.before.before.before.span_of.ensures ∙ c.before.before.before.before.before.before.from.given.1) c.before.before.note-text.ensures
+returns c = λ a. all_next _ _ _ _ c.before.before.before.before.before.before.before.before.before.before.before.before.requires.0 a _ _ _ _ (sym c.before.before.before.before.before.before.before.before.span_of.ensures ∙ c.before.before.before.before.before.before.from.given.1) c.before.before.note-text.ensures
 
 returns-2 : tie.Need-returns-2
-returns-2 c = λ a. all-absent _ _ _ _ c.before.before.before.before.before.before.requires.0 a (sym c.before.before.span_of.ensures ∙ c.enum_told.given.1)
+returns-2 c = λ a. all_absent _ _ _ _ c.before.before.before.before.before.before.requires.0 a (sym c.before.before.span_of.ensures ∙ c.enum_told.given.1)
 
 pub note-number-spec : {M : Type 1} → statement M
 note-number-spec =

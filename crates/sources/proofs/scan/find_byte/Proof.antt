@@ -5,7 +5,7 @@ use mathlib.Core.Path.{◌≡◌, ◌∙◌, sym}
 use lib.ListN.{length}
 use borrow.Author.Tests.{eq-eqb, ne_eqb}
 use Rattle.token.specs.Bytes.{find_byte}
-use Rattle.token.proofs.Find.{find_here, find-next, find_past}
+use Rattle.token.proofs.Find.{find_here, find_next, find_past}
 use borrow.Author.Rules.{rules}
 use Rattle.sources.proofs.scan.find_byte.Statement.{statement}
 use Rattle.sources.proofs.scan.find_byte.Tie as tie
@@ -38,7 +38,7 @@ loop_again : tie.Need-loop-preserved invariant_loop decreases_loop
 unfolding find_byte
 loop_again c =
     let l = c.before.before.before.loop in
-    sym (find-next _ _ l.i (search rules) (ne_eqb _ _ c.if1.false)) ∙ l.invariant
+    sym (find_next _ _ l.i (search rules) (ne_eqb _ _ c.if1.false)) ∙ l.invariant
 
 returns-2 : tie.Need-returns-2 invariant_loop decreases_loop
 unfolding find_byte

@@ -4,7 +4,7 @@ use Prim.Native.Nat.{◌-◌}
 use mathlib.Core.Path.{◌≡◌, ◌∙◌, sym}
 use lib.ListN.{length}
 use Rattle.token.specs.Bytes.{find_close}
-use Rattle.token.proofs.Find.{find_here, find-next, find_past}
+use Rattle.token.proofs.Find.{find_here, find_next, find_past}
 use borrow.Author.Rules.{rules}
 use Rattle.sources.proofs.scan.find_close.Statement.{statement}
 use Rattle.sources.proofs.scan.find_close.Tie as tie
@@ -37,7 +37,7 @@ loop_again : tie.Need-loop-preserved invariant_loop decreases_loop
 unfolding find_close
 loop_again c =
     let l = c.before.before.before.loop in
-    sym (find-next _ _ l.i (search rules) (sym c.before.pair.ensures ∙ c.if1.false)) ∙ l.invariant
+    sym (find_next _ _ l.i (search rules) (sym c.before.pair.ensures ∙ c.if1.false)) ∙ l.invariant
 
 returns-2 : tie.Need-returns-2 invariant_loop decreases_loop
 unfolding find_close

@@ -1,20 +1,20 @@
 -- `sources::scan::pair` meets its contract: the tests that led to a `return` are those of `pair_at`.
 -- Assumes nothing.
 use mathlib.Core.Path.{sym}
-use Rattle.token.proofs.Bytes.{pair-short, pair-second, pair-other}
+use Rattle.token.proofs.Bytes.{pair_short, pair_second, pair_other}
 use native.Mathlib.Omega.{arith}
 use borrow.Author.Rules.{rules}
 use Rattle.sources.proofs.scan.pair.Statement.{statement}
 use Rattle.sources.proofs.scan.pair.Tie as tie
 
 returns : tie.Need-returns
-returns c = sym (pair-short _ _ _ _ (omega arith))
+returns c = sym (pair_short _ _ _ _ (omega arith))
 
 sub-if2 : tie.Need-overflow-sub-if2
 sub-if2 c = search rules
 
 returns-2 : tie.Need-returns-2
-returns-2 c = sym (pair-short _ _ _ _ (omega arith))
+returns-2 c = sym (pair_short _ _ _ _ (omega arith))
 
 shared-slice-read-if3 : tie.Need-shared-slice-read-if3
 shared-slice-read-if3 c = search rules
@@ -26,10 +26,10 @@ shared-slice-read-result : tie.Need-shared-slice-read-result
 shared-slice-read-result c = search rules
 
 returns-3 : tie.Need-returns-3
-returns-3 c = sym (pair-second _ _ _ _ (omega arith) c.before.if3.true)
+returns-3 c = sym (pair_second _ _ _ _ (omega arith) c.before.if3.true)
 
 returns-4 : tie.Need-returns-4
-returns-4 c = sym (pair-other _ _ _ _ c.if3.false)
+returns-4 c = sym (pair_other _ _ _ _ c.if3.false)
 
 pub pair_spec : {M : Type 1} → statement M
 pair_spec =

@@ -4,7 +4,7 @@ use lib.ListN.{length, drop}
 use native.Mathlib.Omega.{arith}
 use borrow.Author.Rules.{rules}
 use Rattle.sources.specs.Texts.{fitting}
-use Rattle.sources.proofs.Tellings.{fit-end, fit-one, fit-name, fit-text, fit-long, fit-more}
+use Rattle.sources.proofs.Tellings.{fit_end, fit_one, fit_name, fit_text, fit_long, fit_more}
 use Rattle.sources.proofs.told.fitting.Statement.{statement}
 use Rattle.sources.proofs.told.fitting.Tie as tie
 use Rattle.sources.proofs.told.fitting.Reads as reads
@@ -23,7 +23,7 @@ sub-if1 : tie.Need-overflow-sub-if1 invariant_loop decreases_loop
 sub-if1 c = omega arith
 
 returns : tie.Need-returns invariant_loop decreases_loop
-returns c = let l = c.before.before.loop in sym (fit-one _ l.at _ l.i (omega arith)) ∙ l.invariant.1
+returns c = let l = c.before.before.loop in sym (fit_one _ l.at _ l.i (omega arith)) ∙ l.invariant.1
 
 mul-n : tie.Need-overflow-mul-n invariant_loop decreases_loop
 mul-n c = search rules
@@ -44,7 +44,7 @@ sub-if2 : tie.Need-overflow-sub-if2 invariant_loop decreases_loop
 sub-if2 c = omega arith
 
 returns-2 : tie.Need-returns-2 invariant_loop decreases_loop
-returns-2 c = let l = c.before.before.before.before.before.loop in sym (fit-name _ l.at _ l.i (omega arith) (omega arith)) ∙ l.invariant.1
+returns-2 c = let l = c.before.before.before.before.before.loop in sym (fit_name _ l.at _ l.i (omega arith) (omega arith)) ∙ l.invariant.1
 
 sub-if3 : tie.Need-overflow-sub-if3 invariant_loop decreases_loop
 sub-if3 c = omega arith
@@ -53,10 +53,10 @@ sub-if3-2 : tie.Need-overflow-sub-if3-2 invariant_loop decreases_loop
 sub-if3-2 c = omega arith
 
 returns-3 : tie.Need-returns-3 invariant_loop decreases_loop
-returns-3 c = let l = c.before.before.before.before.before.before.loop in sym (fit-text _ l.at _ l.i (omega arith) (omega arith)) ∙ l.invariant.1
+returns-3 c = let l = c.before.before.before.before.before.before.loop in sym (fit_text _ l.at _ l.i (omega arith) (omega arith)) ∙ l.invariant.1
 
 returns-4 : tie.Need-returns-4 invariant_loop decreases_loop
-returns-4 c = let l = c.before.before.before.before.before.before.before.loop in sym (fit-long _ l.at _ l.i (omega arith) (omega arith) (omega arith) (omega arith)) ∙ l.invariant.1
+returns-4 c = let l = c.before.before.before.before.before.before.before.loop in sym (fit_long _ l.at _ l.i (omega arith) (omega arith) (omega arith) (omega arith)) ∙ l.invariant.1
 
 add_at : tie.Need-overflow-add-at invariant_loop decreases_loop
 add_at c = omega arith
@@ -71,10 +71,10 @@ loop_less : tie.Need-loop-smaller invariant_loop decreases_loop
 loop_less c = omega arith
 
 loop_again : tie.Need-loop-preserved invariant_loop decreases_loop
-loop_again c = let l = c.before.before.before.before.before.before.before.loop in (omega arith, sym (fit-more _ l.at _ l.i (omega arith) (omega arith) (omega arith) (omega arith)) ∙ l.invariant.1)
+loop_again c = let l = c.before.before.before.before.before.before.before.loop in (omega arith, sym (fit_more _ l.at _ l.i (omega arith) (omega arith) (omega arith) (omega arith)) ∙ l.invariant.1)
 
 returns-5 : tie.Need-returns-5 invariant_loop decreases_loop
-returns-5 c = let l = c.before.loop in sym (fit-end _ l.at _ l.i (omega arith)) ∙ l.invariant.1
+returns-5 c = let l = c.before.loop in sym (fit_end _ l.at _ l.i (omega arith)) ∙ l.invariant.1
 
 pub fitting-spec : {M : Type 1} → statement M
 fitting-spec =

@@ -1,6 +1,6 @@
 use native.Mathlib.Omega.{arith}
 use borrow.Author.Rules.{rules}
-use Rattle.standard.proofs.Choosing.{extra-here, extra-on, extra_past}
+use Rattle.standard.proofs.Choosing.{extra_here, extra_on, extra_past}
 use Rattle.standard.specs.Choices.{find_extra}
 use Prim.Native.Nat.{◌-◌}
 use mathlib.Core.Path.{◌≡◌, refl}
@@ -23,7 +23,7 @@ is-extra-requires : tie.Need-is-extra-requires invariant_loop decreases_loop
 is-extra-requires c κs = search rules
 
 returns : tie.Need-returns invariant_loop decreases_loop
-returns c = extra-here _ _ _ _ _ _ _ _ _ (c.before.before.before.loop.invariant) _ (c.before.is-extra.ensures) (c.before.before.loop-test.true) (c.if1.true)
+returns c = extra_here _ _ _ _ _ _ _ _ _ (c.before.before.before.loop.invariant) _ (c.before.is-extra.ensures) (c.before.before.loop-test.true) (c.if1.true)
 
 add-i : tie.Need-overflow-add-i invariant_loop decreases_loop
 add-i c = search (rules, arith)
@@ -32,7 +32,7 @@ loop_less : tie.Need-loop-smaller invariant_loop decreases_loop
 loop_less c = omega (arith, (c.before.before.loop-test.true))
 
 loop_again : tie.Need-loop-preserved invariant_loop decreases_loop
-loop_again c = extra-on _ _ _ _ _ _ _ _ _ (c.before.before.before.loop.invariant) _ (c.before.is-extra.ensures) (c.before.before.loop-test.true) (c.if1.false)
+loop_again c = extra_on _ _ _ _ _ _ _ _ _ (c.before.before.before.loop.invariant) _ (c.before.is-extra.ensures) (c.before.before.loop-test.true) (c.if1.false)
 
 returns-2 : tie.Need-returns-2 invariant_loop decreases_loop
 returns-2 c = extra_past _ _ _ _ _ _ _ _ _ (c.before.loop.invariant) (c.loop-test.false)

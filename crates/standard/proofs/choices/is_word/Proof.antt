@@ -1,6 +1,6 @@
 use native.Mathlib.Omega.{arith}
 use borrow.Author.Rules.{rules}
-use Rattle.standard.proofs.Choosing.{word-here, word_on, word-past}
+use Rattle.standard.proofs.Choosing.{word_here, word_on, word_past}
 use Rattle.standard.specs.Choices.{find_word}
 use Prim.Native.Nat.{◌-◌}
 use mathlib.Core.Path.{◌≡◌, refl}
@@ -34,7 +34,7 @@ same-bytes-requires : tie.Need-same-bytes-requires invariant_loop decreases_loop
 same-bytes-requires c κs = search rules
 
 returns : tie.Need-returns invariant_loop decreases_loop
-returns c = word-here _ _ _ _ _ _ (c.before.before.before.before.before.before.loop.invariant) _ _ _ _ (c.before.before.before.before.before.loop-test.true) (c.before.before.before.before.cell-of.ensures) (c.before.before.before.cell-of2.ensures) (c.before.before.part.ensures.0) (c.before.same_bytes.ensures) (c.if1.true)
+returns c = word_here _ _ _ _ _ _ (c.before.before.before.before.before.before.loop.invariant) _ _ _ _ (c.before.before.before.before.before.loop-test.true) (c.before.before.before.before.cell-of.ensures) (c.before.before.before.cell-of2.ensures) (c.before.before.part.ensures.0) (c.before.same_bytes.ensures) (c.if1.true)
 
 add-k : tie.Need-overflow-add-k invariant_loop decreases_loop
 add-k c = search (rules, arith)
@@ -46,7 +46,7 @@ loop_again : tie.Need-loop-preserved invariant_loop decreases_loop
 loop_again c = word_on _ _ _ _ _ _ (c.before.before.before.before.before.before.loop.invariant) _ _ _ _ (c.before.before.before.before.before.loop-test.true) (c.before.before.before.before.cell-of.ensures) (c.before.before.before.cell-of2.ensures) (c.before.before.part.ensures.0) (c.before.same_bytes.ensures) (c.if1.false)
 
 returns-2 : tie.Need-returns-2 invariant_loop decreases_loop
-returns-2 c = word-past _ _ _ _ _ _ (c.before.loop.invariant) (c.loop-test.false)
+returns-2 c = word_past _ _ _ _ _ _ (c.before.loop.invariant) (c.loop-test.false)
 
 pub is-word-spec : {M : Type 1} → statement M
 is-word-spec =

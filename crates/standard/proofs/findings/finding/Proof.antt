@@ -1,4 +1,4 @@
-use Rattle.standard.proofs.Differing.{not-asked, is-absent, is-different, is_same}
+use Rattle.standard.proofs.Differing.{not_asked, is_absent, is-different, is_same}
 use borrow.Author.Rules.{rules}
 use Rattle.standard.proofs.findings.finding.Statement.{statement}
 use Rattle.standard.proofs.findings.finding.Tie as tie
@@ -14,7 +14,7 @@ owner-of-requires : tie.Need-owner-of-requires
 owner-of-requires c κs = search rules
 
 returns : tie.Need-returns
-returns c = not-asked _ _ _ _ _ _ _ _ _ (c.before.before.owner_of.ensures) (c.if1.true)
+returns c = not_asked _ _ _ _ _ _ _ _ _ (c.before.before.owner_of.ensures) (c.if1.true)
 
 cell-of-requires : tie.Need-cell-of-requires
 cell-of-requires c κs = search rules
@@ -35,7 +35,7 @@ enum_told : tie.Need-enum-told
 enum_told c = search rules
 
 returns-2 : tie.Need-returns-2
-returns-2 c = is-absent _ _ _ _ _ _ _ _ _ (c.before.before.before.before.before.before.before.before.owner_of.ensures) (c.before.before.before.before.before.before.if1.false) _ _ _ (c.before.before.before.before.before.cell-of.ensures) (c.before.before.before.before.cell-of2.ensures) (c.before.before.before.part.ensures.0) _ (c.before.before.find-attribute.ensures) (c.enum_told.given).1
+returns-2 c = is_absent _ _ _ _ _ _ _ _ _ (c.before.before.before.before.before.before.before.before.owner_of.ensures) (c.before.before.before.before.before.before.if1.false) _ _ _ (c.before.before.before.before.before.cell-of.ensures) (c.before.before.before.before.cell-of2.ensures) (c.before.before.before.part.ensures.0) _ (c.before.before.find-attribute.ensures) (c.enum_told.given).1
 
 differs-requires : tie.Need-differs-requires
 differs-requires c κs = search rules

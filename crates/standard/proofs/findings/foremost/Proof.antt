@@ -1,6 +1,6 @@
 use native.Mathlib.Omega.{arith}
 use borrow.Author.Rules.{rules}
-use Rattle.standard.proofs.Telling.{Telling, tell-start, tell-step, tell-end}
+use Rattle.standard.proofs.Telling.{Telling, tell_start, tell_step, tell_end}
 use mathlib.Core.Path.{refl}
 use Rattle.standard.proofs.findings.foremost.Statement.{statement}
 use Rattle.standard.proofs.findings.foremost.Tie as tie
@@ -16,7 +16,7 @@ abbrev decreases_loop : tie.decreases-loop
 decreases_loop section rows words text d e x i₀ best₀ i best = i
 
 loop_holds : tie.Need-loop-init invariant_loop decreases_loop
-loop_holds c = tell-start _ _ _ _ _ _ _
+loop_holds c = tell_start _ _ _ _ _ _ _
 
 sub-i : tie.Need-overflow-sub-i invariant_loop decreases_loop
 sub-i c = search (rules, arith)
@@ -31,10 +31,10 @@ loop_less : tie.Need-loop-smaller invariant_loop decreases_loop
 loop_less c = omega (arith, (c.before.before.loop-test.true))
 
 loop_again : tie.Need-loop-preserved invariant_loop decreases_loop
-loop_again c = tell-step _ _ _ _ _ _ _ _ _ _ _ _ (c.before.before.loop-test.true) refl (c.before.before.before.loop.invariant) (c.before.finding.ensures) (c.sooner.ensures)
+loop_again c = tell_step _ _ _ _ _ _ _ _ _ _ _ _ (c.before.before.loop-test.true) refl (c.before.before.before.loop.invariant) (c.before.finding.ensures) (c.sooner.ensures)
 
 returns : tie.Need-returns invariant_loop decreases_loop
-returns c = tell-end _ _ _ _ _ _ _ _ _ (c.loop-test.false) (c.before.loop.invariant)
+returns c = tell_end _ _ _ _ _ _ _ _ _ (c.loop-test.false) (c.before.loop.invariant)
 
 pub foremost-spec : {M : Type 1} → statement M
 foremost-spec =

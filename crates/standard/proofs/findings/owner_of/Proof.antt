@@ -1,4 +1,4 @@
-use Rattle.standard.proofs.Owning.{own-kind, own_value}
+use Rattle.standard.proofs.Owning.{own_kind, own_value}
 use borrow.Author.Rules.{rules}
 use Rattle.standard.proofs.findings.owner_of.Statement.{statement}
 use Rattle.standard.proofs.findings.owner_of.Tie as tie
@@ -19,7 +19,7 @@ cell-of-requires-2 : tie.Need-cell-of-requires-2
 cell-of-requires-2 c κs = search rules
 
 returns : tie.Need-returns
-returns c = own-kind _ _ _ _ _ _ _ _ _ (c.before.before.before.cell-of.ensures) (c.before.before.owner-of-kind.ensures) _ (c.before.cell-of2.ensures) (c.if1.true)
+returns c = own_kind _ _ _ _ _ _ _ _ _ (c.before.before.before.cell-of.ensures) (c.before.before.owner-of-kind.ensures) _ (c.before.cell-of2.ensures) (c.if1.true)
 
 cell-of-requires-3 : tie.Need-cell-of-requires-3
 cell-of-requires-3 c κs = search rules

@@ -1,4 +1,4 @@
-use Rattle.standard.proofs.Owning.{kind-absent, kind_there}
+use Rattle.standard.proofs.Owning.{kind_absent, kind_there}
 use borrow.Author.Rules.{rules}
 use Rattle.standard.proofs.findings.owner_of_kind.Statement.{statement}
 use Rattle.standard.proofs.findings.owner_of_kind.Tie as tie
@@ -13,7 +13,7 @@ get-requires : tie.Need-get-requires
 get-requires c κs = search rules
 
 returns : tie.Need-returns
-returns c = kind-absent _ _ _ (c.before.get.ensures) (c.if1.true)
+returns c = kind_absent _ _ _ (c.before.get.ensures) (c.if1.true)
 
 returns-2 : tie.Need-returns-2
 returns-2 c = kind_there _ _ _ (c.before.get.ensures) (c.if1.false)

@@ -1,14 +1,14 @@
-use Rattle.standard.proofs.Sooner.{nothing-new, first-new, left-new, left-old, smaller-new, smaller-old, before-new, before-old}
+use Rattle.standard.proofs.Sooner.{nothing_new, first_new, left-new, left-old, smaller-new, smaller-old, before-new, before-old}
 use Rattle.standard.proofs.findings.sooner.Statement.{statement}
 use Rattle.standard.proofs.findings.sooner.Tie as tie
 use Rattle.standard.proofs.findings.sooner.Reads as reads
 use Rattle.standard.proofs.findings.sooner.Lts as lts
 
 returns : tie.Need-returns
-returns c = nothing-new _ _ _ (c.if1.true)
+returns c = nothing_new _ _ _ (c.if1.true)
 
 returns-2 : tie.Need-returns-2
-returns-2 c = first-new _ _ _ (c.before.before.if1.false) (c.if2.true)
+returns-2 c = first_new _ _ _ (c.before.before.if1.false) (c.if2.true)
 
 returns-3 : tie.Need-returns-3
 returns-3 c = left-new _ _ _ (c.before.before.before.before.before.if1.false) (c.before.before.before.if2.false) (c.if3.true)

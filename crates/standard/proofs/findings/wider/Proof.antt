@@ -1,4 +1,4 @@
-use Rattle.standard.proofs.Widening.{of_enum, no-list, list-missing, list-given, unrestricted, restricted-to}
+use Rattle.standard.proofs.Widening.{of_enum, no_list, list_missing, list_given, unrestricted, restricted_to}
 use borrow.Author.Rules.{rules}
 use Rattle.standard.proofs.findings.wider.Statement.{statement}
 use Rattle.standard.proofs.findings.wider.Tie as tie
@@ -27,13 +27,13 @@ returns : tie.Need-returns
 returns c = of_enum _ _ _ _ _ _ _ _ _ _ _ _ _ (c.before.before.before.before.before.cell-of.ensures) (c.before.before.before.before.cell-of2.ensures) (c.before.before.before.cell-of3.ensures) (c.before.before.cell-of4.ensures) (c.before.if1.true) _ (c.has-extra.ensures)
 
 returns-2 : tie.Need-returns-2
-returns-2 c = no-list _ _ _ _ _ _ _ _ _ _ _ _ _ (c.before.before.before.before.before.before.cell-of.ensures) (c.before.before.before.before.before.cell-of2.ensures) (c.before.before.before.before.cell-of3.ensures) (c.before.before.before.cell-of4.ensures) (c.before.before.if1.false) (c.before.if2.true) (c.if3.true)
+returns-2 c = no_list _ _ _ _ _ _ _ _ _ _ _ _ _ (c.before.before.before.before.before.before.cell-of.ensures) (c.before.before.before.before.before.cell-of2.ensures) (c.before.before.before.before.cell-of3.ensures) (c.before.before.before.cell-of4.ensures) (c.before.before.if1.false) (c.before.if2.true) (c.if3.true)
 
 returns-3 : tie.Need-returns-3
-returns-3 c = list-missing _ _ _ _ _ _ _ _ _ _ _ _ _ (c.before.before.before.before.before.before.before.cell-of.ensures) (c.before.before.before.before.before.before.cell-of2.ensures) (c.before.before.before.before.before.cell-of3.ensures) (c.before.before.before.before.cell-of4.ensures) (c.before.before.before.if1.false) (c.before.before.if2.true) (c.before.if3.false) (c.if4.true)
+returns-3 c = list_missing _ _ _ _ _ _ _ _ _ _ _ _ _ (c.before.before.before.before.before.before.before.cell-of.ensures) (c.before.before.before.before.before.before.cell-of2.ensures) (c.before.before.before.before.before.cell-of3.ensures) (c.before.before.before.before.cell-of4.ensures) (c.before.before.before.if1.false) (c.before.before.if2.true) (c.before.if3.false) (c.if4.true)
 
 returns-4 : tie.Need-returns-4
-returns-4 c = list-given _ _ _ _ _ _ _ _ _ _ _ _ _ (c.before.before.before.before.before.before.before.cell-of.ensures) (c.before.before.before.before.before.before.cell-of2.ensures) (c.before.before.before.before.before.cell-of3.ensures) (c.before.before.before.before.cell-of4.ensures) (c.before.before.before.if1.false) (c.before.before.if2.true) (c.before.if3.false) (c.if4.false)
+returns-4 c = list_given _ _ _ _ _ _ _ _ _ _ _ _ _ (c.before.before.before.before.before.before.before.cell-of.ensures) (c.before.before.before.before.before.before.cell-of2.ensures) (c.before.before.before.before.before.cell-of3.ensures) (c.before.before.before.before.cell-of4.ensures) (c.before.before.before.if1.false) (c.before.before.if2.true) (c.before.if3.false) (c.if4.false)
 
 cell-of-requires-5 : tie.Need-cell-of-requires-5
 cell-of-requires-5 c κs = search rules
@@ -48,7 +48,7 @@ within-one-two-requires : tie.Need-within-one-two-requires
 within-one-two-requires c κs = search rules
 
 returns-6 : tie.Need-returns-6
-returns-6 c = restricted-to _ _ _ _ _ _ _ _ _ _ _ _ _ (c.before.before.before.before.before.before.before.before.before.cell-of.ensures) (c.before.before.before.before.before.before.before.before.cell-of2.ensures) (c.before.before.before.before.before.before.before.cell-of3.ensures) (c.before.before.before.before.before.before.cell-of4.ensures) (c.before.before.before.before.before.if1.false) (c.before.before.before.before.if2.false) _ (c.before.before.before.cell-of5.ensures) (c.before.before.if5.false) _ _ (c.before.cell-of6.ensures) (c.within-one-two.ensures)
+returns-6 c = restricted_to _ _ _ _ _ _ _ _ _ _ _ _ _ (c.before.before.before.before.before.before.before.before.before.cell-of.ensures) (c.before.before.before.before.before.before.before.before.cell-of2.ensures) (c.before.before.before.before.before.before.before.cell-of3.ensures) (c.before.before.before.before.before.before.cell-of4.ensures) (c.before.before.before.before.before.if1.false) (c.before.before.before.before.if2.false) _ (c.before.before.before.cell-of5.ensures) (c.before.before.if5.false) _ _ (c.before.cell-of6.ensures) (c.within-one-two.ensures)
 
 pub wider-spec : {M : Type 1} → statement M
 wider-spec =

@@ -1,4 +1,4 @@
-use Rattle.standard.proofs.Defaulting.{default_none, default-not, default-too, default-new}
+use Rattle.standard.proofs.Defaulting.{default_none, default_not, default-too, default-new}
 use borrow.Author.Rules.{rules}
 use Rattle.standard.proofs.shapes.default_differs.Statement.{statement}
 use Rattle.standard.proofs.shapes.default_differs.Tie as tie
@@ -16,7 +16,7 @@ cell-of-requires-2 : tie.Need-cell-of-requires-2
 cell-of-requires-2 c κs = search rules
 
 returns-2 : tie.Need-returns-2
-returns-2 c = default-not _ _ _ _ (c.before.before.before.cell-of.ensures) _ (c.before.cell-of2.ensures) (c.if2.true)
+returns-2 c = default_not _ _ _ _ (c.before.before.before.cell-of.ensures) _ (c.before.cell-of2.ensures) (c.if2.true)
 
 returns-3 : tie.Need-returns-3
 returns-3 c = default-too _ _ _ _ (c.before.before.before.before.cell-of.ensures) _ (c.before.before.cell-of2.ensures) (c.before.before.before.if1.false) (c.before.if2.false) (c.if3.true)

@@ -1,4 +1,4 @@
-use Rattle.standard.proofs.Shaped.{shape_differs_lem, other-type, other-mark, no-auto, auto-new, auto-too}
+use Rattle.standard.proofs.Shaped.{shape_differs_lem, other_type, other_mark, no_auto, auto-new, auto-too}
 use borrow.Author.Rules.{rules}
 use Rattle.standard.proofs.shapes.shape_differs.Statement.{statement}
 use Rattle.standard.proofs.shapes.shape_differs.Tie as tie
@@ -12,7 +12,7 @@ cell-of-requires c κs = search rules
 
 -- src/shapes.rt:10:9
 returns : tie.Need-returns
-returns c = shape_differs_lem _ _ _ _ _ _ (other-type _ _ _ _ _ _ c.before.cell-of.ensures c.if1.true)
+returns c = shape_differs_lem _ _ _ _ _ _ (other_type _ _ _ _ _ _ c.before.cell-of.ensures c.if1.true)
 
 -- src/shapes.rt:12:8
 cell-of-requires-2 : tie.Need-cell-of-requires-2
@@ -20,7 +20,7 @@ cell-of-requires-2 c κs = search rules
 
 -- src/shapes.rt:13:9
 returns-2 : tie.Need-returns-2
-returns-2 c = shape_differs_lem _ _ _ _ _ _ (other-mark _ _ _ _ _ _ c.before.before.before.cell-of.ensures c.before.before.if1.false _ c.before.cell-of2.ensures c.if2.true)
+returns-2 c = shape_differs_lem _ _ _ _ _ _ (other_mark _ _ _ _ _ _ c.before.before.before.cell-of.ensures c.before.before.if1.false _ c.before.cell-of2.ensures c.if2.true)
 
 -- src/shapes.rt:15:8
 cell-of-requires-3 : tie.Need-cell-of-requires-3
@@ -28,7 +28,7 @@ cell-of-requires-3 c κs = search rules
 
 -- src/shapes.rt:16:9
 returns-3 : tie.Need-returns-3
-returns-3 c = shape_differs_lem _ _ _ _ _ _ (no-auto _ _ _ _ _ _ c.before.before.before.before.before.cell-of.ensures c.before.before.before.before.if1.false _ c.before.before.before.cell-of2.ensures c.before.before.if2.false _ c.before.cell-of3.ensures c.if3.true)
+returns-3 c = shape_differs_lem _ _ _ _ _ _ (no_auto _ _ _ _ _ _ c.before.before.before.before.before.cell-of.ensures c.before.before.before.before.if1.false _ c.before.before.before.cell-of2.ensures c.before.before.if2.false _ c.before.cell-of3.ensures c.if3.true)
 
 -- src/shapes.rt:19:9
 returns-4 : tie.Need-returns-4

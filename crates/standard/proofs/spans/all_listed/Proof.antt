@@ -1,6 +1,6 @@
 use native.Mathlib.Omega.{arith}
 use borrow.Author.Rules.{rules}
-use Rattle.standard.proofs.Spanning.{Holding, all_start, all-stop, all_end, all-not, all-on}
+use Rattle.standard.proofs.Spanning.{Holding, all_start, all_stop, all_end, all-not, all-on}
 use Rattle.scopes.proofs.Ranging.{turn_on}
 use Prim.Native.Nat.{◌-◌}
 use lib.ListN.{length}
@@ -24,7 +24,7 @@ item-at-requires : tie.Need-item-at-requires invariant_loop decreases_loop
 item-at-requires c κs = search rules
 
 returns : tie.Need-returns invariant_loop decreases_loop
-returns c = all-stop _ _ _ (c.before.before.before.before.loop.invariant) _ (c.before.before.item-at.ensures) (c.if1.true)
+returns c = all_stop _ _ _ (c.before.before.before.before.loop.invariant) _ (c.before.before.item-at.ensures) (c.if1.true)
 
 item-at-requires-2 : tie.Need-item-at-requires-2 invariant_loop decreases_loop
 item-at-requires-2 c κs = search rules

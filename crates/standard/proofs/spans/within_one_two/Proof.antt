@@ -1,4 +1,4 @@
-use Rattle.standard.proofs.Spanning.{span-zero, high-past, low-decides, first-not, rest_decides}
+use Rattle.standard.proofs.Spanning.{span_zero, high_past, low_decides, first_not, rest_decides}
 use borrow.Author.Rules.{rules}
 use Rattle.standard.proofs.spans.within_one_two.Statement.{statement}
 use Rattle.standard.proofs.spans.within_one_two.Tie as tie
@@ -10,7 +10,7 @@ use Rattle.standard.proofs.spans.all_listed.Reads as all-listed-reads
 use Rattle.standard.proofs.spans.is_one_or_two.Reads as is-one-or-two-reads
 
 returns : tie.Need-returns
-returns c = span-zero _ _ (c.if1.true)
+returns c = span_zero _ _ (c.if1.true)
 
 item-at-requires : tie.Need-item-at-requires
 item-at-requires c κs = search rules
@@ -28,19 +28,19 @@ at-most-requires : tie.Need-at-most-requires
 at-most-requires c κs = search rules
 
 returns-2 : tie.Need-returns-2
-returns-2 c = high-past _ _ (c.before.before.before.before.before.before.before.before.if1.false) _ _ _ (c.before.before.before.before.before.before.before.item-at.ensures) (c.before.before.before.before.before.before.item-at2.ensures) (c.before.before.before.before.before.item-at3.ensures) _ _ (c.before.before.before.if2.true) (c.before.before.item-at4.ensures) (c.before.at-most.ensures) (c.if3.true)
+returns-2 c = high_past _ _ (c.before.before.before.before.before.before.before.before.if1.false) _ _ _ (c.before.before.before.before.before.before.before.item-at.ensures) (c.before.before.before.before.before.before.item-at2.ensures) (c.before.before.before.before.before.item-at3.ensures) _ _ (c.before.before.before.if2.true) (c.before.before.item-at4.ensures) (c.before.at-most.ensures) (c.if3.true)
 
 is-one-or-two-requires : tie.Need-is-one-or-two-requires
 is-one-or-two-requires c κs = search rules
 
 returns-3 : tie.Need-returns-3
-returns-3 c = low-decides _ _ (c.before.before.before.before.before.before.before.before.before.if1.false) _ _ _ (c.before.before.before.before.before.before.before.before.item-at.ensures) (c.before.before.before.before.before.before.before.item-at2.ensures) (c.before.before.before.before.before.before.item-at3.ensures) _ _ _ (c.before.before.before.before.if2.true) (c.before.before.before.item-at4.ensures) (c.before.before.at-most.ensures) (c.before.if3.false) (c.is-one-or-two.ensures)
+returns-3 c = low_decides _ _ (c.before.before.before.before.before.before.before.before.before.if1.false) _ _ _ (c.before.before.before.before.before.before.before.before.item-at.ensures) (c.before.before.before.before.before.before.before.item-at2.ensures) (c.before.before.before.before.before.before.item-at3.ensures) _ _ _ (c.before.before.before.before.if2.true) (c.before.before.before.item-at4.ensures) (c.before.before.at-most.ensures) (c.before.if3.false) (c.is-one-or-two.ensures)
 
 is-one-or-two-requires-2 : tie.Need-is-one-or-two-requires-2
 is-one-or-two-requires-2 c κs = search rules
 
 returns-4 : tie.Need-returns-4
-returns-4 c = first-not _ _ (c.before.before.before.before.before.before.before.if1.false) _ _ _ (c.before.before.before.before.before.before.item-at.ensures) (c.before.before.before.before.before.item-at2.ensures) (c.before.before.before.before.item-at3.ensures) _ (c.before.before.if2.false) (c.before.is-one-or-two2.ensures) (c.if4.true)
+returns-4 c = first_not _ _ (c.before.before.before.before.before.before.before.if1.false) _ _ _ (c.before.before.before.before.before.before.item-at.ensures) (c.before.before.before.before.before.item-at2.ensures) (c.before.before.before.before.item-at3.ensures) _ (c.before.before.if2.false) (c.before.is-one-or-two2.ensures) (c.if4.true)
 
 all-listed-requires : tie.Need-all-listed-requires
 all-listed-requires c κs = search rules

@@ -1,4 +1,4 @@
-use Rattle.testing.proofs.TellingHeads.{tells-heading, tells-no-heading}
+use Rattle.testing.proofs.TellingHeads.{tells_heading, tells_no_heading}
 use borrow.Author.Rules.{rules}
 use Rattle.testing.proofs.heads.kaukslini_heading_cells.Statement.{statement}
 use Rattle.testing.proofs.heads.kaukslini_heading_cells.Tie as tie
@@ -32,13 +32,13 @@ same_length : tie.Need-same-length
 same_length c = search rules
 
 returns : tie.Need-returns
-returns c = tells-heading c.before.before.before.before.before.before.before.before.heading.ensures.0 c.before.before.before.before.before.before.at.given.1 c.before.before.put-cells.ensures
+returns c = tells_heading c.before.before.before.before.before.before.before.before.heading.ensures.0 c.before.before.before.before.before.before.at.given.1 c.before.before.put-cells.ensures
 
 same_length_2 : tie.Need-same-length-2
 same_length_2 c = search rules
 
 returns-2 : tie.Need-returns-2
-returns-2 c = tells-no-heading c.before.before.before.before.before.before.before.before.heading.ensures.0 c.before.before.before.before.before.before.n.given.1 c.before.before.put-cells2.ensures
+returns-2 c = tells_no_heading c.before.before.before.before.before.before.before.before.heading.ensures.0 c.before.before.before.before.before.before.n.given.1 c.before.before.put-cells2.ensures
 
 pub kaukslini-heading-cells-spec : {M : Type 1} → statement M
 kaukslini-heading-cells-spec =

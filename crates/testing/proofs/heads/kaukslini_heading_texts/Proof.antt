@@ -1,4 +1,4 @@
-use Rattle.testing.proofs.TellingQuestions.{tells-front, tells-no-front}
+use Rattle.testing.proofs.TellingQuestions.{tells_front, tells_no_front}
 use borrow.Author.Rules.{rules}
 use Rattle.testing.proofs.heads.kaukslini_heading_texts.Statement.{statement}
 use Rattle.testing.proofs.heads.kaukslini_heading_texts.Tie as tie
@@ -38,7 +38,7 @@ same-length-3 : tie.Need-same-length-3
 same-length-3 c = search rules
 
 returns : tie.Need-returns
-returns c = tells-front _ _ _ _ c.before.before.before.before.before.before.before.before.before.before.before.before.heading.ensures.0 c.before.before.before.before.before.before.at.given.1 c.before.before.put-cells.ensures
+returns c = tells_front _ _ _ _ c.before.before.before.before.before.before.before.before.before.before.before.before.heading.ensures.0 c.before.before.before.before.before.before.at.given.1 c.before.before.put-cells.ensures
 
 same-length-4 : tie.Need-same-length-4
 same-length-4 c = search rules
@@ -50,7 +50,7 @@ same-length-6 : tie.Need-same-length-6
 same-length-6 c = search rules
 
 returns-2 : tie.Need-returns-2
-returns-2 c = tells-no-front _ _ _ _ c.before.before.before.before.before.before.before.before.before.before.before.before.heading.ensures.0 c.before.before.before.before.before.before.n.given.1 c.before.before.put-cells2.ensures
+returns-2 c = tells_no_front _ _ _ _ c.before.before.before.before.before.before.before.before.before.before.before.before.heading.ensures.0 c.before.before.before.before.before.before.n.given.1 c.before.before.put-cells2.ensures
 
 pub kaukslini-heading-texts-spec : {M : Type 1} → statement M
 kaukslini-heading-texts-spec =

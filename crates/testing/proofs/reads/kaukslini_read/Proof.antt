@@ -1,4 +1,4 @@
-use Rattle.testing.proofs.Telling.{tells-accepted, tells-refused}
+use Rattle.testing.proofs.Telling.{tells_accepted, tells_refused}
 use borrow.Author.Rules.{rules}
 use Rattle.testing.proofs.reads.kaukslini_read.Statement.{statement}
 use Rattle.testing.proofs.reads.kaukslini_read.Tie as tie
@@ -56,7 +56,7 @@ same-length-5 : tie.Need-same-length-5
 same-length-5 c = search rules
 
 returns : tie.Need-returns
-returns c = record { answer = _; reads = c.before.before.before.before.before.before.before.before.before.before.before.before.before.before.before.before.before.before.before.before.before.before.before.before.before.before.read.ensures.0; told = tells-accepted c.before.before.before.before.before.before.before.before.before.before.before.before.before.before.before.put-cells.ensures c.before.before.before.before.before.before.before.before.before.put-cells2.ensures c.before.before.before.before.before.enum_told.given.1 c.before.before.put-cells3.ensures }
+returns c = record { answer = _; reads = c.before.before.before.before.before.before.before.before.before.before.before.before.before.before.before.before.before.before.before.before.before.before.before.before.before.before.read.ensures.0; told = tells_accepted c.before.before.before.before.before.before.before.before.before.before.before.before.before.before.before.put-cells.ensures c.before.before.before.before.before.before.before.before.before.put-cells2.ensures c.before.before.before.before.before.enum_told.given.1 c.before.before.put-cells3.ensures }
 
 same-length-6 : tie.Need-same-length-6
 same-length-6 c = search rules
@@ -74,7 +74,7 @@ same-length-10 : tie.Need-same-length-10
 same-length-10 c = search rules
 
 returns-2 : tie.Need-returns-2
-returns-2 c = record { answer = _; reads = c.before.before.before.before.before.before.before.before.before.before.before.before.before.before.before.before.before.before.before.before.before.before.before.before.before.before.before.read.ensures.0; told = tells-refused c.before.before.before.before.before.before.before.before.before.before.before.before.before.before.before.before.put-cells.ensures c.before.before.before.before.before.before.before.before.before.before.put-cells2.ensures c.before.before.before.before.before.before.answer.given.1 c.before.before.put-cells4.ensures }
+returns-2 c = record { answer = _; reads = c.before.before.before.before.before.before.before.before.before.before.before.before.before.before.before.before.before.before.before.before.before.before.before.before.before.before.before.read.ensures.0; told = tells_refused c.before.before.before.before.before.before.before.before.before.before.before.before.before.before.before.before.put-cells.ensures c.before.before.before.before.before.before.before.before.before.before.put-cells2.ensures c.before.before.before.before.before.before.answer.given.1 c.before.before.put-cells4.ensures }
 
 pub kaukslini-read-spec : {M : Type 1} → statement M
 kaukslini-read-spec =

@@ -1,4 +1,4 @@
-use Rattle.testing.proofs.Telling.{tells-accepted, tells-refused}
+use Rattle.testing.proofs.Telling.{tells_accepted, tells_refused}
 use borrow.Author.Rules.{rules}
 use Rattle.testing.proofs.sets.kaukslini_read_texts.Statement.{statement}
 use Rattle.testing.proofs.sets.kaukslini_read_texts.Tie as tie
@@ -62,7 +62,7 @@ same-length-7 : tie.Need-same-length-7
 same-length-7 c = search rules
 
 returns : tie.Need-returns
-returns c = record { answer = _; reads = (c.before.before.before.before.before.before.before.before.before.before.before.before.before.before.before.before.before.before.before.before.before.before.before.before.before.before.before.before.before.before.read.ensures).0; told = tells-accepted c.before.before.before.before.before.before.before.before.before.before.before.before.before.before.before.put-cells.ensures c.before.before.before.before.before.before.before.before.before.put-cells2.ensures c.before.before.before.before.before.enum_told.given.1 c.before.before.put-cells3.ensures }
+returns c = record { answer = _; reads = (c.before.before.before.before.before.before.before.before.before.before.before.before.before.before.before.before.before.before.before.before.before.before.before.before.before.before.before.before.before.before.read.ensures).0; told = tells_accepted c.before.before.before.before.before.before.before.before.before.before.before.before.before.before.before.put-cells.ensures c.before.before.before.before.before.before.before.before.before.put-cells2.ensures c.before.before.before.before.before.enum_told.given.1 c.before.before.put-cells3.ensures }
 
 same-length-8 : tie.Need-same-length-8
 same-length-8 c = search rules
@@ -86,7 +86,7 @@ same-length-14 : tie.Need-same-length-14
 same-length-14 c = search rules
 
 returns-2 : tie.Need-returns-2
-returns-2 c = record { answer = _; reads = (c.before.before.before.before.before.before.before.before.before.before.before.before.before.before.before.before.before.before.before.before.before.before.before.before.before.before.before.before.before.before.before.read.ensures).0; told = tells-refused c.before.before.before.before.before.before.before.before.before.before.before.before.before.before.before.before.put-cells.ensures c.before.before.before.before.before.before.before.before.before.before.put-cells2.ensures c.before.before.before.before.before.before.answer.given.1 c.before.before.put-cells4.ensures }
+returns-2 c = record { answer = _; reads = (c.before.before.before.before.before.before.before.before.before.before.before.before.before.before.before.before.before.before.before.before.before.before.before.before.before.before.before.before.before.before.before.read.ensures).0; told = tells_refused c.before.before.before.before.before.before.before.before.before.before.before.before.before.before.before.before.put-cells.ensures c.before.before.before.before.before.before.before.before.before.before.put-cells2.ensures c.before.before.before.before.before.before.answer.given.1 c.before.before.put-cells4.ensures }
 
 pub kaukslini-read-texts-spec : {M : Type 1} → statement M
 kaukslini-read-texts-spec =

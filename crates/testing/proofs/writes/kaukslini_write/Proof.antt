@@ -1,4 +1,4 @@
-use Rattle.testing.proofs.TellingWritten.{tells-written, tells-not-written}
+use Rattle.testing.proofs.TellingWritten.{tells_written, tells_not_written}
 use borrow.Author.Rules.{rules}
 use Rattle.testing.proofs.writes.kaukslini_write.Statement.{statement}
 use Rattle.testing.proofs.writes.kaukslini_write.Tie as tie
@@ -53,7 +53,7 @@ same-length-6 : tie.Need-same-length-6
 same-length-6 c = search rules
 
 returns : tie.Need-returns
-returns c = record { answer = _; writes = c.before.before.before.before.before.before.before.before.before.before.before.before.before.before.before.before.before.before.before.before.before.before.write.ensures.0; told = tells-written c.before.before.before.before.before.before.before.before.before.put-cells.ensures c.before.before.before.before.before.enum_told.given.1 c.before.before.put-cells2.ensures }
+returns c = record { answer = _; writes = c.before.before.before.before.before.before.before.before.before.before.before.before.before.before.before.before.before.before.before.before.before.before.write.ensures.0; told = tells_written c.before.before.before.before.before.before.before.before.before.put-cells.ensures c.before.before.before.before.before.enum_told.given.1 c.before.before.put-cells2.ensures }
 
 same-length-7 : tie.Need-same-length-7
 same-length-7 c = search rules
@@ -74,7 +74,7 @@ same-length-12 : tie.Need-same-length-12
 same-length-12 c = search rules
 
 returns-2 : tie.Need-returns-2
-returns-2 c = record { answer = _; writes = c.before.before.before.before.before.before.before.before.before.before.before.before.before.before.before.before.before.before.before.before.before.before.before.write.ensures.0; told = tells-not-written c.before.before.before.before.before.before.before.before.before.before.put-cells.ensures c.before.before.before.before.before.before.answer.given.1 c.before.before.put-cells3.ensures }
+returns-2 c = record { answer = _; writes = c.before.before.before.before.before.before.before.before.before.before.before.before.before.before.before.before.before.before.before.before.before.before.before.write.ensures.0; told = tells_not_written c.before.before.before.before.before.before.before.before.before.before.put-cells.ensures c.before.before.before.before.before.before.answer.given.1 c.before.before.put-cells3.ensures }
 
 pub kaukslini-write-spec : {M : Type 1} → statement M
 kaukslini-write-spec =

@@ -1,5 +1,5 @@
-use Rattle.token.proofs.Decimals.{power_none, power-signed, power-unsigned, signed_inside}
-use Rattle.token.proofs.Bytes.{word_low, word-high}
+use Rattle.token.proofs.Decimals.{power_none, power_signed, power_unsigned, signed_inside}
+use Rattle.token.proofs.Bytes.{word_low, word_high}
 use Prim.Native.Nat.{◌+◌}
 use native.Mathlib.Omega.{arith}
 use mathlib.Core.Path.{sym, ◌∙◌}
@@ -35,13 +35,13 @@ part-power-of-start c = omega (arith, word_low c.before.before.before.before.bef
 
 part-power-of-end : tie.Need-slice-bounds-power-of-end
 part-power-of-end c = let i = signed_inside _ _ _ (sym c.before.before.before.signed.ensures ∙ c.before.before.if2.true) in
-    omega (arith, word-high c.before.before.before.before.before.before.args.text.now (c.before.before.before.before.before.before.args.end + 1) (omega arith))
+    omega (arith, word_high c.before.before.before.before.before.before.args.text.now (c.before.before.before.before.before.before.args.end + 1) (omega arith))
 
 power-of-requires : tie.Need-power-of-requires
 power-of-requires c κs = search rules
 
 returns-2 : tie.Need-returns-2
-returns-2 c = c.power-of.ensures ∙ sym (power-signed _ _ _ c.before.before.before.before.before.before.if1.false (sym c.before.before.before.before.before.signed.ensures ∙ c.before.before.before.before.if2.true) _ c.before.before.before.word-end.ensures)
+returns-2 c = c.power-of.ensures ∙ sym (power_signed _ _ _ c.before.before.before.before.before.before.if1.false (sym c.before.before.before.before.before.signed.ensures ∙ c.before.before.before.before.if2.true) _ c.before.before.before.word-end.ensures)
 
 add-from-2 : tie.Need-overflow-add-from-2
 add-from-2 c = search rules
@@ -59,7 +59,7 @@ power-of-requires-2 : tie.Need-power-of-requires-2
 power-of-requires-2 c κs = search rules
 
 returns-3 : tie.Need-returns-3
-returns-3 c = c.power-of2.ensures ∙ sym (power-unsigned _ _ _ c.before.before.before.before.if1.false (sym c.before.before.before.signed.ensures ∙ c.before.before.if2.false))
+returns-3 c = c.power-of2.ensures ∙ sym (power_unsigned _ _ _ c.before.before.before.before.if1.false (sym c.before.before.before.signed.ensures ∙ c.before.before.if2.false))
 
 pub power-at-spec : {M : Type 1} → statement M
 power-at-spec =

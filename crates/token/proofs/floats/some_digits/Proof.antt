@@ -1,4 +1,4 @@
-use Rattle.token.proofs.Decimals.{some-none, some_is}
+use Rattle.token.proofs.Decimals.{some_none, some_is}
 use mathlib.Core.Path.{sym, ◌∙◌}
 use borrow.Author.Rules.{rules}
 use Rattle.token.proofs.floats.some_digits.Statement.{statement}
@@ -8,7 +8,7 @@ use Rattle.token.proofs.floats.some_digits.Lts as lts
 use Rattle.token.proofs.numbers.digits.Reads as digits-reads
 
 returns : tie.Need-returns
-returns c = sym (some-none _ _ _ c.if1.true)
+returns c = sym (some_none _ _ _ c.if1.true)
 
 digits-requires : tie.Need-digits-requires
 digits-requires c κs = search rules

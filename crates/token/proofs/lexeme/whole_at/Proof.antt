@@ -2,8 +2,8 @@
 -- Assumes nothing.
 use mathlib.Core.Path.{sym, ◌∙◌}
 use native.Mathlib.Omega.{arith}
-use Rattle.token.proofs.Bytes.{word_low, word-high}
-use Rattle.token.proofs.Lexemes.{number_is, number-bad}
+use Rattle.token.proofs.Bytes.{word_low, word_high}
+use Rattle.token.proofs.Lexemes.{number_is, number_bad}
 use borrow.Author.Rules.{rules}
 use Rattle.token.proofs.lexeme.whole_at.Statement.{statement}
 use Rattle.token.proofs.lexeme.whole_at.Tie as tie
@@ -27,7 +27,7 @@ part-numeral-start c =
 part-numeral-end : tie.Need-slice-bounds-numeral-end
 part-numeral-end c =
     let a = c.before.before.before.args in
-    omega (arith, c.before.before.before.requires.1.1.1, word-high a.text.now a.from c.before.before.before.requires.1.1.0)
+    omega (arith, c.before.before.before.requires.1.1.1, word_high a.text.now a.from c.before.before.before.requires.1.1.0)
 
 numeral-requires : tie.Need-numeral-requires
 numeral-requires c κs = search rules
@@ -57,7 +57,7 @@ returns c =
 returns-2 : tie.Need-returns-2
 returns-2 c =
     let d = c.before.before in
-    number-bad _ _ _ _ _ d.before.before.before.before.before.requires.1.1.1 d.before.before.limit.ensures
+    number_bad _ _ _ _ _ d.before.before.before.before.before.requires.1.1.1 d.before.before.limit.ensures
     (sym d.numeral.ensures ∙ c.enum_told.given.1)
 
 pub whole-at-spec : {M : Type 1} → statement M

@@ -1,6 +1,6 @@
 -- `token::scan::class` meets its contract: the test or the arm that led to each answer says which class the byte has.
 -- Assumes nothing.
-use Rattle.token.proofs.Bytes.{class-letter, class-digit, class-blank, class-punctuator, class-sign, class-other}
+use Rattle.token.proofs.Bytes.{class_letter, class_digit, class_blank, class_punctuator, class_sign, class_other}
 use Rattle.token.specs.Bytes.{class_of, class_code}
 use Prim.Native.Nat.{ℕ}
 use mathlib.Core.Path.{sym, ◌∙◌, ap}
@@ -12,28 +12,28 @@ is-letter-requires : tie.Need-is-letter-requires
 is-letter-requires c κs = search rules
 
 returns : tie.Need-returns
-returns c = class-letter _ (search rules) (sym c.before.is-letter.ensures ∙ c.if1.true)
+returns c = class_letter _ (search rules) (sym c.before.is-letter.ensures ∙ c.if1.true)
 
 is-digit-requires : tie.Need-is-digit-requires
 is-digit-requires c κs = search rules
 
 returns-2 : tie.Need-returns-2
-returns-2 c = class-digit _ (search rules) (sym c.before.is_digit.ensures ∙ c.if2.true)
+returns-2 c = class_digit _ (search rules) (sym c.before.is_digit.ensures ∙ c.if2.true)
 
 is-blank-requires : tie.Need-is-blank-requires
 is-blank-requires c κs = search rules
 
 returns-3 : tie.Need-returns-3
-returns-3 c = class-blank _ (search rules) (sym c.before.is-blank.ensures ∙ c.if3.true)
+returns-3 c = class_blank _ (search rules) (sym c.before.is-blank.ensures ∙ c.if3.true)
 
 is-punctuator-requires : tie.Need-is-punctuator-requires
 is-punctuator-requires c κs = search rules
 
 returns-4 : tie.Need-returns-4
-returns-4 c = class-punctuator _ (search rules) (sym c.before.is-punctuator.ensures ∙ c.if4.true)
+returns-4 c = class_punctuator _ (search rules) (sym c.before.is-punctuator.ensures ∙ c.if4.true)
 
 returns-5 : tie.Need-returns-5
-returns-5 c = class-sign _ c.match.keys1
+returns-5 c = class_sign _ c.match.keys1
 
 returns-6 : tie.Need-returns-6
 unfolding class_of
@@ -53,7 +53,7 @@ returns-9 c =
     let k = m.before.before in
     let d = k.before.before in
     let l = d.before.before in
-    class-other _
+    class_other _
     (sym l.is-letter.ensures ∙ d.before.if1.false)
     (sym d.is_digit.ensures ∙ k.before.if2.false)
     (sym k.is-blank.ensures ∙ m.before.if3.false)

@@ -1,7 +1,7 @@
 use Prim.Native.Nat.{◌-◌}
 use mathlib.Core.Path.{◌≡◌, refl, ◌∙◌, sym}
 use Rattle.token.specs.Bytes.{find_mark}
-use Rattle.token.proofs.Find.{find_here, find-next, find_past}
+use Rattle.token.proofs.Find.{find_here, find_next, find_past}
 use native.Mathlib.Omega.{arith}
 use borrow.Author.Rules.{rules}
 use Rattle.token.proofs.scan.find_mark.Statement.{statement}
@@ -37,7 +37,7 @@ loop_less c = search rules
 
 loop_again : tie.Need-loop-preserved invariant_loop decreases_loop
 unfolding find_mark
-loop_again c = sym (find-next _ _ (c.before.before.before.before.loop.i) (search rules) (sym c.before.is-mark.ensures ∙ c.if1.false)) ∙ c.before.before.before.before.loop.invariant
+loop_again c = sym (find_next _ _ (c.before.before.before.before.loop.i) (search rules) (sym c.before.is-mark.ensures ∙ c.if1.false)) ∙ c.before.before.before.before.loop.invariant
 
 returns-2 : tie.Need-returns-2 invariant_loop decreases_loop
 unfolding find_mark

@@ -1,4 +1,4 @@
-use Rattle.token.proofs.Decimals.{signed-past, signed_other, signed-here}
+use Rattle.token.proofs.Decimals.{signed_past, signed_other, signed_here}
 use native.Mathlib.Omega.{arith}
 use mathlib.Core.Path.{sym, ◌∙◌}
 use borrow.Author.Rules.{rules}
@@ -9,7 +9,7 @@ use Rattle.token.proofs.scan.signed.Lts as lts
 use Rattle.token.proofs.scan.is_sign.Reads as is-sign-reads
 
 returns : tie.Need-returns
-returns c = sym (signed-past _ _ _ (omega arith))
+returns c = sym (signed_past _ _ _ (omega arith))
 
 returns-2 : tie.Need-returns-2
 returns-2 c = sym (signed_other _ _ _ (λ e. omega arith))
@@ -24,7 +24,7 @@ is-sign-requires : tie.Need-is-sign-requires
 is-sign-requires c κs = search rules
 
 returns-3 : tie.Need-returns-3
-returns-3 c = c.is-sign.ensures ∙ sym (signed-here _ _ _ c.before.before.if3.true)
+returns-3 c = c.is-sign.ensures ∙ sym (signed_here _ _ _ c.before.before.if3.true)
 
 returns-4 : tie.Need-returns-4
 returns-4 c = sym (signed_other _ _ _ c.if3.false)

@@ -4,15 +4,15 @@ use borrow.Author.Rules.{rules}
 use native.Mathlib.Omega.{arith}
 use mathlib.Core.Path.{◌∙◌, sym, ap}
 use Rattle.token.specs.Slots.{slot_of, candidate_of}
-use Rattle.token.proofs.Codes.{code-empty, code-long, code-no-candidate, code_other, code_is, candidate_below, slot_below}
+use Rattle.token.proofs.Codes.{code_empty, code_long, code_no_candidate, code_other, code_is, candidate_below, slot_below}
 use Rattle.token.proofs.words.code.Statement.{statement}
 use Rattle.token.proofs.words.code.Tie as tie
 
 returns : tie.Need-returns
-returns c = sym (code-empty _ c.if1.true)
+returns c = sym (code_empty _ c.if1.true)
 
 returns-2 : tie.Need-returns-2
-returns-2 c = sym (code-long _ c.if2.true)
+returns-2 c = sym (code_long _ c.if2.true)
 
 shared-slice-read-slot : tie.Need-shared-slice-read-slot
 shared-slice-read-slot c = search rules
@@ -31,7 +31,7 @@ candidate-requires c κs = slot_below _ _ _ _ c.slot.ensures
 
 returns-3 : tie.Need-returns-3
 unfolding slot_of
-returns-3 c = sym (code-no-candidate _ _ (c.before.candidate.ensures ∙ ap candidate_of c.before.before.slot.ensures) c.if3.true)
+returns-3 c = sym (code_no_candidate _ _ (c.before.candidate.ensures ∙ ap candidate_of c.before.before.slot.ensures) c.if3.true)
 
 sub-is-known : tie.Need-overflow-sub-is-known
 sub-is-known c = search rules

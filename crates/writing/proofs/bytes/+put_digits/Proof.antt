@@ -1,5 +1,5 @@
 use borrow.Author.Rules.{rules}
-use Rattle.writing.proofs.Decimals.{wrote-digit, wrote-digits}
+use Rattle.writing.proofs.Decimals.{wrote_digit, wrote_digits}
 use native.Mathlib.Omega.{arith}
 use Prim.Native.Nat.{ℕ, ◌<◌}
 use borrow.Fn.Kinds.{In}
@@ -37,7 +37,7 @@ put-digits-same-length : (t : ℕ) → put-digits-lts.Need-same-length (put-digi
 put-digits-same-length t c = search rules
 
 put-digits-returns : (t : ℕ) → put-digits-lts.Need-returns (put-digits-claims t) (put-digits-at t) put-digits.Post
-put-digits-returns t c = wrote-digit _ (omega arith) c.before.before.put-digit.ensures
+put-digits-returns t c = wrote_digit _ (omega arith) c.before.before.put-digit.ensures
 
 put-digits-put-digits-requires : (t : ℕ) → put-digits-lts.Need-put-digits-requires (put-digits-claims t) (put-digits-at t) put-digits.Post
 put-digits-put-digits-requires t c κs = search rules
@@ -49,7 +49,7 @@ put-digits-same-length-2 : (t : ℕ) → put-digits-lts.Need-same-length-2 (put-
 put-digits-same-length-2 t c = search rules
 
 put-digits-returns-2 : (t : ℕ) → put-digits-lts.Need-returns-2 (put-digits-claims t) (put-digits-at t) put-digits.Post
-put-digits-returns-2 t c = wrote-digits (c.before.before.before.before.before.before.before.before.before.before.args.amount) (omega arith) (omega arith) c.before.before.before.before.before.before.put-digits.ensures c.before.before.put-digit2.ensures
+put-digits-returns-2 t c = wrote_digits (c.before.before.before.before.before.before.before.before.before.before.args.amount) (omega arith) (omega arith) c.before.before.before.before.before.before.put-digits.ensures c.before.before.put-digit2.ensures
 
 pub +put-digits-spec : {M : Type 1} → statement M
 +put-digits-spec = close μ-put-digits λ t. put-digits-lts.spec (put-digits-claims t)

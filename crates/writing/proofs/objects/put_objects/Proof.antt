@@ -1,5 +1,5 @@
 use borrow.Author.Rules.{rules}
-use Rattle.writing.proofs.Pairings.{GoingObjects, objects_start, objects-more, objects-done}
+use Rattle.writing.proofs.Pairings.{GoingObjects, objects_start, objects_more, objects_done}
 use native.Mathlib.Omega.{arith}
 use Prim.Native.Nat.{◌-◌}
 use Rattle.writing.proofs.objects.put_objects.Statement.{statement}
@@ -27,13 +27,13 @@ loop_less : tie.Need-loop-smaller invariant_loop decreases_loop
 loop_less c = search rules
 
 loop_again : tie.Need-loop-preserved invariant_loop decreases_loop
-loop_again c = objects-more c.before.before.before.before.before.loop.invariant (omega arith) c.before.before.put-object.ensures
+loop_again c = objects_more c.before.before.before.before.before.loop.invariant (omega arith) c.before.before.put-object.ensures
 
 same_length : tie.Need-same-length invariant_loop decreases_loop
 same_length c = c.before.loop.invariant.size
 
 returns : tie.Need-returns invariant_loop decreases_loop
-returns c = objects-done c.before.loop.invariant (omega arith)
+returns c = objects_done c.before.loop.invariant (omega arith)
 
 pub put-objects-spec : {M : Type 1} → statement M
 put-objects-spec =

@@ -1,5 +1,5 @@
 use borrow.Author.Rules.{rules}
-use Rattle.writing.proofs.Turns.{Going, going_start, going_more, going_done, puts_plain, puts-block}
+use Rattle.writing.proofs.Turns.{Going, going_start, going_more, going_done, puts_plain, puts_block}
 use Rattle.writing.proofs.Owners.{owned_inside}
 use Rattle.writing.proofs.Writes.{wrote_length}
 use borrow.Author.Tests.{not-true, not-false}
@@ -98,7 +98,7 @@ put-line-same-length-2 : (t : ℕ) → put-line-lts.Need-same-length-2 (put-line
 put-line-same-length-2 t c = wrote_length c.before.before.put-bytes3.ensures ∙ c.before.before.before.before.before.before.before.put-lines.ensures.size ∙ wrote_length c.before.before.before.before.before.before.before.before.before.before.before.put-bytes2.ensures ∙ wrote_length c.before.before.before.before.before.before.before.before.before.before.before.before.before.before.before.before.before.before.put-head.ensures
 
 put-line-returns-2 : (t : ℕ) → put-line-lts.Need-returns-2 (put-line-claims t) (put-line-at t) put-line.Post
-put-line-returns-2 t c = puts-block c.before.before.before.before.before.before.before.before.before.before.before.before.before.before.before.before.before.before.put-head.ensures _ (sym c.before.before.before.before.before.before.before.before.before.before.before.before.before.before.before.has-owner.ensures ∙ not-false _ c.before.before.before.before.before.before.before.before.before.before.before.before.before.before.if1.false) c.before.before.before.before.before.before.before.before.before.before.before.put-bytes2.ensures c.before.before.before.before.before.before.before.put-lines.ensures c.before.before.put-bytes3.ensures
+put-line-returns-2 t c = puts_block c.before.before.before.before.before.before.before.before.before.before.before.before.before.before.before.before.before.before.put-head.ensures _ (sym c.before.before.before.before.before.before.before.before.before.before.before.before.before.before.before.has-owner.ensures ∙ not-false _ c.before.before.before.before.before.before.before.before.before.before.before.before.before.before.if1.false) c.before.before.before.before.before.before.before.before.before.before.before.put-bytes2.ensures c.before.before.before.before.before.before.before.put-lines.ensures c.before.before.put-bytes3.ensures
 
 abbrev put-lines-Inv-loop : put-lines-lts.invariant-loop
 put-lines-Inv-loop text d v n i sort row out₀ at k₀ e₀ out k e = Going text d v n i sort row out₀ at k out e

@@ -1,4 +1,4 @@
-use Rattle.writing.proofs.Owners.{owned-past, owned-other, owned-row}
+use Rattle.writing.proofs.Owners.{owned_past, owned_other, owned_row}
 use native.Mathlib.Omega.{arith}
 use borrow.Author.Rules.{rules}
 use Rattle.writing.proofs.values.has_owner.Statement.{statement}
@@ -8,19 +8,19 @@ use Rattle.writing.proofs.values.has_owner.Lts as lts
 use Rattle.rows.proofs.cells.cell_of.Reads as cell-of-reads
 
 returns : tie.Need-returns
-returns c = owned-past _ _ _ _ _ (omega arith)
+returns c = owned_past _ _ _ _ _ (omega arith)
 
 cell-of-requires : tie.Need-cell-of-requires
 cell-of-requires c κs = search rules
 
 returns-2 : tie.Need-returns-2
-returns-2 c = owned-other _ _ _ _ _ _ c.before.cell-of.ensures (omega arith)
+returns-2 c = owned_other _ _ _ _ _ _ c.before.cell-of.ensures (omega arith)
 
 cell-of-requires-2 : tie.Need-cell-of-requires-2
 cell-of-requires-2 c κs = search rules
 
 returns-3 : tie.Need-returns-3
-returns-3 c = owned-row _ _ _ _ _ _ _ (omega arith) c.before.before.cell-of.ensures (omega arith) c.cell-of2.ensures
+returns-3 c = owned_row _ _ _ _ _ _ _ (omega arith) c.before.before.cell-of.ensures (omega arith) c.cell-of2.ensures
 
 pub has-owner-spec : {M : Type 1} → statement M
 has-owner-spec =

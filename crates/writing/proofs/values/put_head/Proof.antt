@@ -1,5 +1,5 @@
 use borrow.Author.Rules.{rules}
-use Rattle.writing.proofs.Heads.{wrote-head}
+use Rattle.writing.proofs.Heads.{wrote_head}
 use Rattle.writing.proofs.values.put_head.Statement.{statement}
 use Rattle.writing.proofs.values.put_head.Tie as tie
 use Rattle.writing.proofs.values.put_head.Reads as reads
@@ -28,7 +28,7 @@ same_length : tie.Need-same-length
 same_length c = search rules
 
 returns : tie.Need-returns
-returns c = wrote-head _ _ _ _ _ c.before.before.before.before.before.before.before.before.before.before.before.before.before.cell-of.ensures c.before.before.before.before.before.before.before.before.before.before.before.put-name.ensures c.before.before.before.before.before.before.put-bytes.ensures c.before.before.put-value.ensures
+returns c = wrote_head _ _ _ _ _ c.before.before.before.before.before.before.before.before.before.before.before.before.before.cell-of.ensures c.before.before.before.before.before.before.before.before.before.before.before.put-name.ensures c.before.before.before.before.before.before.put-bytes.ensures c.before.before.put-value.ensures
 
 pub put-head-spec : {M : Type 1} → statement M
 put-head-spec =

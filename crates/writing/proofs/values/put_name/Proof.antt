@@ -1,4 +1,4 @@
-use Rattle.writing.proofs.Heads.{wrote-word}
+use Rattle.writing.proofs.Heads.{wrote_word}
 use borrow.Author.Rules.{rules}
 use Rattle.writing.proofs.values.put_name.Statement.{statement}
 use Rattle.writing.proofs.values.put_name.Tie as tie
@@ -20,7 +20,7 @@ same_length : tie.Need-same-length
 same_length c = search rules
 
 returns : tie.Need-returns
-returns c = wrote-word _ 13 _ _ 2 _ _ c.before.before.before.before.before.cell-of.ensures c.before.before.before.before.cell-of2.ensures c.before.before.put-part.ensures
+returns c = wrote_word _ 13 _ _ 2 _ _ c.before.before.before.before.before.cell-of.ensures c.before.before.before.before.cell-of2.ensures c.before.before.put-part.ensures
 
 pub put-name-spec : {M : Type 1} → statement M
 put-name-spec =

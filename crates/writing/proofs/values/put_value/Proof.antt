@@ -1,5 +1,5 @@
 use borrow.Author.Rules.{rules}
-use Rattle.writing.proofs.Heads.{wrote-number, wrote-other}
+use Rattle.writing.proofs.Heads.{wrote_number, wrote_other}
 use native.Mathlib.Omega.{arith}
 use Rattle.writing.proofs.values.put_value.Statement.{statement}
 use Rattle.writing.proofs.values.put_value.Tie as tie
@@ -25,7 +25,7 @@ same_length : tie.Need-same-length
 same_length c = search rules
 
 returns : tie.Need-returns
-returns c = wrote-number _ _ _ _ _ _ c.before.before.before.before.before.before.before.cell-of.ensures (omega arith) c.before.before.before.before.before.cell-of2.ensures c.before.before.before.before.cell-of3.ensures c.before.before.put-decimal.ensures
+returns c = wrote_number _ _ _ _ _ _ c.before.before.before.before.before.before.before.cell-of.ensures (omega arith) c.before.before.before.before.before.cell-of2.ensures c.before.before.before.before.cell-of3.ensures c.before.before.put-decimal.ensures
 
 cell-of-requires-4 : tie.Need-cell-of-requires-4
 cell-of-requires-4 c κs = search rules
@@ -40,7 +40,7 @@ same_length_2 : tie.Need-same-length-2
 same_length_2 c = search rules
 
 returns-2 : tie.Need-returns-2
-returns-2 c = wrote-other _ _ _ _ _ _ c.before.before.before.before.before.before.before.cell-of.ensures (omega arith) c.before.before.before.before.before.cell-of4.ensures c.before.before.before.before.cell-of5.ensures c.before.before.put-part.ensures
+returns-2 c = wrote_other _ _ _ _ _ _ c.before.before.before.before.before.before.before.cell-of.ensures (omega arith) c.before.before.before.before.before.cell-of4.ensures c.before.before.before.before.cell-of5.ensures c.before.before.put-part.ensures
 
 pub put-value-spec : {M : Type 1} → statement M
 put-value-spec =
