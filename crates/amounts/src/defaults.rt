@@ -22,7 +22,7 @@ const AMOUNT: usize = 2;
 pub const CELLS: usize = definition::MOST * WIDTH;
 
 // A number in two cells: 1 where it is negative, and its amount.
-#[derive(Drop)]
+#[derive(Clone, Copy)]
 pub struct Cells {
     pub negative: usize,
     pub amount: usize,

@@ -1,4 +1,5 @@
 // The value of one attribute of a text, by kind, object name and dotted path (document 02, Q-13).
+#![tactic(auto)]
 ghost use Rattle.attribute_values.specs.Results.{copied, Leaves, ValuesText};
 ghost use Rattle.attribute_values.specs.Rows.{row_of, told_at};
 ghost use Rattle.attribute_values.specs.Rules.{ValuesByRules};
@@ -15,7 +16,7 @@ mod objects;
 mod paths;
 
 // The answer: the text's refusal, or 20 at 0 where the output is too short; no such value; how many bytes of the output the value takes.
-#[derive(Drop)]
+#[derive(Clone, Copy)]
 pub enum Valued {
     Refused(u8, usize),
     NotFound,

@@ -1,1 +1,2 @@
 // No channel depends on its neighbours, over lent texts: theorems, see specs/ and proofs/. This crate has no function.
+#![tactic(auto)]

@@ -1,4 +1,5 @@
 // The comparison of two releases (document 02, Q-8).
+#![tactic(auto)]
 ghost use Rattle.std.specs.Prelude.{◌≡◌, ◌<◌, min, length, set, get_or, take};
 ghost use Rattle.comparing.specs.Lists.{overwrite};
 ghost use Rattle.comparing.specs.Records.{no_record};
@@ -16,7 +17,7 @@ mod values;
 
 // A difference, by rows: each is one more than the row, or 0 where that text has none.
 #[repr(C)]
-#[derive(Drop)]
+#[derive(Clone, Copy)]
 pub struct Difference {
     pub first_object: usize,
     pub second_object: usize,
@@ -26,7 +27,7 @@ pub struct Difference {
 
 // The answer: which text is refused, 1 or 2, with its number and place, or 0; and how many differences there are.
 #[repr(C)]
-#[derive(Drop)]
+#[derive(Clone, Copy)]
 pub struct Compared {
     pub which: usize,
     pub number: usize,

@@ -2,7 +2,7 @@
 ghost use Rattle.io.specs.Counts.{IsPrefixLen};
 
 // So many names of files; or an option, which is the only argument; or something else.
-#[derive(Drop)]
+#[derive(Clone, Copy)]
 pub enum Asked {
     Names(usize),
     Help,

@@ -5,7 +5,7 @@ use crate::{arguments, errors};
 use libc::STDIN_FILENO;
 
 // So many bytes came before the end of the text or of the room for it; or a read failed.
-#[derive(Drop)]
+#[derive(Clone, Copy)]
 pub enum Input {
     Text(usize),
     Failed,

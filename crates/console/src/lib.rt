@@ -1,5 +1,6 @@
 // What the programs write to standard output: bytes, numbers, the refused line. Lines go through a page, which is written at once; what lies in a buffer
 // already is written by itself (`whole`).
+#![tactic(auto)]
 pub mod arguments;
 pub mod errors;
 pub mod inputs;

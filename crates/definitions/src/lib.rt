@@ -1,5 +1,6 @@
 // The walk of the implementation: it reads the definitions of a kind and puts a row for each definition and each enumerator, in the order of
 // their names.
+#![tactic(auto)]
 ghost use Rattle.std.specs.Prelude.{◌≡◌};
 ghost use Rattle.grammar.specs.Grammar.{◌▸◌, ∎, P, enumerator, definition, definitions};
 ghost use Rattle.filling.specs.Fills.{Walks};
@@ -14,7 +15,7 @@ use layout::enumerator;
 pub mod attributes;
 
 // A look, and how many definitions and enumerators have been counted before it.
-#[derive(Drop)]
+#[derive(Clone, Copy)]
 pub struct Spot {
     pub look: Look,
     pub definitions: usize,
@@ -22,7 +23,7 @@ pub struct Spot {
 }
 
 // What definitions stand under: the word, and the first value word of the list that it is a value of (0: it is a kind's).
-#[derive(Drop)]
+#[derive(Clone, Copy)]
 pub struct Under {
     pub at: usize,
     pub len: usize,
@@ -30,7 +31,7 @@ pub struct Under {
 }
 
 // A definition before its name: type word, WITH_AUTO, range, first value word, the length of TRUE, FALSE.
-#[derive(Drop)]
+#[derive(Clone, Copy)]
 pub struct Head {
     pub word: usize,
     pub length: usize,
@@ -45,14 +46,14 @@ pub struct Head {
 }
 
 // The look after a part that may be left out, and 1 where it is there.
-#[derive(Drop)]
+#[derive(Clone, Copy)]
 pub struct Marked {
     pub look: Look,
     pub bit: usize,
 }
 
 // The look after a range, with its place and length.
-#[derive(Drop)]
+#[derive(Clone, Copy)]
 pub struct Ranged {
     pub look: Look,
     pub at: usize,
@@ -60,7 +61,7 @@ pub struct Ranged {
 }
 
 // The look after a default, with its place, length and code.
-#[derive(Drop)]
+#[derive(Clone, Copy)]
 pub struct Given {
     pub look: Look,
     pub at: usize,
@@ -69,7 +70,7 @@ pub struct Given {
 }
 
 // A look, and how many definitions have been counted before it.
-#[derive(Drop)]
+#[derive(Clone, Copy)]
 pub struct Put {
     pub look: Look,
     pub n: usize,

@@ -1,5 +1,6 @@
 // The statements that are dropped where a text is mended (document 02, Q-11): each statement at fault by 13 or 14, over the rows kept while the text
 // was read.
+#![tactic(auto)]
 ghost use Rattle.std.specs.Prelude.{◌≡◌, ◌+◌, ◌<◌, set};
 ghost use Rattle.lookups.specs.Ranks.{Firsts};
 ghost use Rattle.lookups.specs.Names.{Named, Names, statement_ranks};
@@ -13,7 +14,7 @@ use rows::{Found, cells, counts, refusals};
 use scopes::Sizes;
 
 // The verdict on a statement without its braces: its refusal's number, 0 for none, and the place of the word whose scope its braces have.
-#[derive(Drop)]
+#[derive(Clone, Copy)]
 pub struct Verdict {
     pub number: u8,
     pub under: usize,

@@ -1,4 +1,5 @@
 // A place of a text, told to a person: its line and column, and its line with a mark under the token there.
+#![tactic(auto)]
 ghost use Rattle.explaining.specs.Pictures.{Explains};
 
 pub mod bounds;
@@ -8,7 +9,7 @@ mod lines;
 mod window;
 
 // What is shown of the line of a place: the place, the bytes shown, and how many dots stand before and after them.
-#[derive(Drop)]
+#[derive(Clone, Copy)]
 pub struct View {
     pub at: usize,
     pub from: usize,
@@ -18,7 +19,7 @@ pub struct View {
 }
 
 // How a byte is drawn: as it is shown, before the mark, or after the mark's first sign.
-#[derive(Drop)]
+#[derive(Clone, Copy)]
 pub enum Ink {
     Shown,
     Before,
@@ -27,7 +28,7 @@ pub enum Ink {
 
 // Line and column of a place, counted from 1, the column in characters where what stands before it is UTF-8, else in bytes; the length of the line
 // shown, and of the two lines that show the place.
-#[derive(Drop)]
+#[derive(Clone, Copy)]
 pub struct Explained {
     pub line: usize,
     pub column: usize,

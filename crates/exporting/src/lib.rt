@@ -1,4 +1,5 @@
 // The calls for programs in C (document 02, Q-13), as include/kaukslini.h declares them. A text is read alone, with an empty name.
+#![tactic(auto)]
 ghost use Rattle.std.specs.Prelude.{◌≡◌};
 ghost use Rattle.sources.specs.Expanding.{expansion_of};
 ghost use Rattle.sources_reading.specs.Answering.{alone};
@@ -14,7 +15,7 @@ use rows::{cells, refusals};
 // The number of a refusal, 0 for none, or 255 where nothing is found; the byte of the text at which it is refused; how many bytes of the output
 // were written.
 #[repr(C)]
-#[derive(Drop)]
+#[derive(Clone, Copy)]
 pub struct Told {
     pub number: usize,
     pub place: usize,
@@ -23,7 +24,7 @@ pub struct Told {
 
 // The number and place of a refusal, 0 for none; place and length of the version string, without its quotes, and of the implementation's name.
 #[repr(C)]
-#[derive(Drop)]
+#[derive(Clone, Copy)]
 pub struct Heading {
     pub number: usize,
     pub place: usize,
@@ -36,7 +37,7 @@ pub struct Heading {
 // Line and column of a place, counted from 1, the column in characters where what stands before it is UTF-8, else in bytes; and the length of the two
 // lines that show it.
 #[repr(C)]
-#[derive(Drop)]
+#[derive(Clone, Copy)]
 pub struct Position {
     pub line: usize,
     pub column: usize,

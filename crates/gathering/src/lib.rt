@@ -1,5 +1,6 @@
 // Gathers the texts that a reader is lent (document 02, Q-10): the main text, and then each file that it can open of those newly named, in expanded
 // order, at most eight texts in all.
+#![tactic(auto)]
 ghost use Rattle.std.specs.Prelude.{◌≡◌, ◌+◌, ◌≤◌, length};
 ghost use Rattle.std.proofs.lemmas.List.Edits.{sets};
 ghost use Rattle.io.specs.Counts.{IsPrefixLen};
@@ -22,7 +23,7 @@ pub const ROOM: usize = sources::TEXTS * (LONGEST_NAME + token::PLACES);
 pub const ORIGINS: usize = token::LONGEST * 2;
 
 // What was added: the length of the name and of the text; or nothing; or nothing, since a read failed.
-#[derive(Drop)]
+#[derive(Clone, Copy)]
 pub enum Added {
     Text(usize, usize),
     Nothing,

@@ -1,6 +1,7 @@
 // The grammar stage of a reading: refusals 3, 4 and 5. A look at the next token goes from reader to reader, and a look that is a refusal goes
 // through every reader unchanged. Here are the readers of which no rows are kept; those of definitions, objects and statements are in the crates
 // `definitions`, `implementation`, `object_parts` and `walk`, which has the call `stage`.
+#![tactic(auto)]
 ghost use Rattle.std.specs.Prelude.{◌≡◌};
 ghost use Rattle.grammar.specs.Readers.{answer_of};
 
@@ -11,7 +12,7 @@ pub mod parts;
 
 // A look at the next token: its code, its place, the place after it, and how many braces are open before it. The code 56 is the text's end,
 // and 56 + n is refusal n at the place.
-#[derive(Drop)]
+#[derive(Clone, Copy)]
 pub struct Look {
     pub code: u8,
     pub at: usize,
@@ -20,7 +21,7 @@ pub struct Look {
 }
 
 // What the stage answers: it passes, or one of refusals 3, 4, 5 with its place.
-#[derive(Drop)]
+#[derive(Clone, Copy)]
 pub enum Answer {
     Passes,
     // 3: no token, or a string or comment that is not ended.

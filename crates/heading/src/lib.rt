@@ -1,4 +1,5 @@
 // The version string and the implementation's name of a text, told from its front alone (document 02, Q-7). No tables are lent.
+#![tactic(auto)]
 ghost use Rattle.heading.specs.Headings.{Heads};
 ghost use Rattle.heading.specs.Promises.{Q-7};
 
@@ -8,7 +9,7 @@ use grammar::lookahead::{
 use grammar::{lookahead, parts};
 use rows::refusals;
 
-#[derive(Drop)]
+#[derive(Clone, Copy)]
 pub enum Answer {
     // The version string without its quotes, and the implementation's name: place and length of each.
     VersionAndName(usize, usize, usize, usize),

@@ -1,9 +1,10 @@
 // The thirteen kinds of objects: by number, the word, and the least and greatest count of each.
+#![tactic(auto)]
 ghost use Rattle.std.specs.Prelude.{◌≡◌, length};
 ghost use Rattle.meaning.specs.Kinds.{fewest, most};
 ghost use Rattle.kinds.specs.Kinds.{kind_of, kind_at, most_of, word_of, padded};
 
-#[derive(Drop)]
+#[derive(Clone, Copy)]
 pub enum Kind {
     Os,
     Appmode,
@@ -21,7 +22,7 @@ pub enum Kind {
 }
 
 // The most objects of a kind, where there is a most.
-#[derive(Drop)]
+#[derive(Clone, Copy)]
 pub enum Most {
     Of(usize),
     Any,

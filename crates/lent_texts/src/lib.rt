@@ -1,4 +1,5 @@
 // Lent texts in one expanded text, in lent memory: what the calls that take lent texts share (document 02, Q-10).
+#![tactic(auto)]
 ghost use Rattle.std.specs.Prelude.{◌≡◌, eqb};
 ghost use Rattle.token.specs.Find.{pick};
 ghost use Rattle.lent_texts.specs.Expanded.{refusal_in, ExpandsTexts};
@@ -6,7 +7,7 @@ ghost use Rattle.lent_texts.specs.Expanded.{refusal_in, ExpandsTexts};
 use rows::refusals;
 
 // The expanded text: the number of its first fault of 3 and 27 to 29, 0 for none; how long it is; and how long the main text is.
-#[derive(Drop)]
+#[derive(Clone, Copy)]
 pub struct Expanded {
     pub fault: u8,
     pub length: usize,
@@ -14,14 +15,14 @@ pub struct Expanded {
 }
 
 // The lent texts are refused at once, by 1 or 30, or there is the expanded text.
-#[derive(Drop)]
+#[derive(Clone, Copy)]
 pub enum Lent {
     Stopped(u8),
     Text(Expanded),
 }
 
 // A refusal: its number, and its place in the lent texts.
-#[derive(Drop)]
+#[derive(Clone, Copy)]
 pub struct Refusal {
     pub number: u8,
     pub place: usize,

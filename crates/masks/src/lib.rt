@@ -1,4 +1,5 @@
 // Event masks, checked and planned (document 02, Q-6).
+#![tactic(auto)]
 ghost use Rattle.std.specs.Prelude.{◌≡◌};
 ghost use Rattle.masks.specs.Promises.{named_found, ChecksRows, PlansRows, ChecksRead, PlansRead};
 ghost use Rattle.masks.specs.Results.{check, PlansText};
@@ -23,7 +24,7 @@ const GIVEN_AMOUNT: usize = 1;
 
 // The checker's answer: the text's refusal, with its number and place; no single UINT64 MASK in EVENT itself; a list of another length than there
 // are events; the first event that breaks its own rule, by its number among the events from 0; accepted.
-#[derive(Drop)]
+#[derive(Clone, Copy)]
 pub enum Checked {
     Refused(u8, usize),
     NotPlannable,
@@ -33,7 +34,7 @@ pub enum Checked {
 }
 
 // The planner's answer: the same, with the first event for which all 64 bits are taken, or how many events have their masks.
-#[derive(Drop)]
+#[derive(Clone, Copy)]
 pub enum Planned {
     Refused(u8, usize),
     NotPlannable,

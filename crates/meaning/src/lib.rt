@@ -1,1 +1,2 @@
 // The meaning of OIL 2.5 is a specification: see specs/ and proofs/. This crate has no function.
+#![tactic(auto)]

@@ -1,4 +1,5 @@
 // Mends what can be mended and says so (document 02, Q-11): the statements at fault by 13 or 14 are dropped.
+#![tactic(auto)]
 ghost use Rattle.std.specs.Prelude.{◌≡◌};
 ghost use Rattle.mending.specs.Results.{MendsText};
 ghost use Rattle.mending.specs.Rules.{MendsByRules};
@@ -17,7 +18,7 @@ mod walking;
 
 // The answer: the text's own refusal, from a stage before 13; the refusal of the mended text, with its place in the original, or 20 where an output is
 // too short; how long the mended text and the lines are.
-#[derive(Drop)]
+#[derive(Clone, Copy)]
 pub enum Mended {
     Refused(u8, usize),
     NotMended(u8, usize),

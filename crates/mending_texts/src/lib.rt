@@ -1,11 +1,12 @@
 // Mends what can be mended of lent texts and says so (document 02, Q-11 and Q-10): the expanded text is mended, with places in the lent texts.
+#![tactic(auto)]
 ghost use Rattle.mending_texts.specs.Telling.{MendsExpanded, MendsTexts};
 
 use lent_texts::{Expanded, Lent};
 use mending::Mended as Answer;
 
 // The answer: a refusal, of the texts or of the mended text, or how long the mended text and the lines are.
-#[derive(Drop)]
+#[derive(Clone, Copy)]
 pub enum Mended {
     Refused(u8, usize),
     Done(usize, usize),

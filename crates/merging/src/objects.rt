@@ -8,14 +8,14 @@ use layout::{object, statement};
 use rows::cells;
 
 // A row after the statements that were gathered, and the parts that have them.
-#[derive(Drop)]
+#[derive(Clone, Copy)]
 pub struct Share {
     pub row: usize,
     pub parts: usize,
 }
 
 // How many objects there are, and how many statements they have.
-#[derive(Drop)]
+#[derive(Clone, Copy)]
 pub struct Counted {
     pub objects: usize,
     pub statements: usize,

@@ -1,4 +1,5 @@
 // The walk of the application: it reads the parts of objects and puts a row for each part and each statement, in text order.
+#![tactic(auto)]
 ghost use Rattle.std.specs.Prelude.{◌≡◌, replicate};
 ghost use Rattle.grammar.specs.Grammar.{◌▸◌, ∎, block, value, statement, statements, object, objects};
 ghost use Rattle.filling.specs.Fills.{Walks};
@@ -10,14 +11,14 @@ use layout::{object, statement};
 use rows::counts;
 
 // A look, and how many statements have been counted before it.
-#[derive(Drop)]
+#[derive(Clone, Copy)]
 pub struct Spot {
     pub look: Look,
     pub statements: usize,
 }
 
 // With the place of a `{` that was read; 0: there is none.
-#[derive(Drop)]
+#[derive(Clone, Copy)]
 pub struct Braced {
     pub look: Look,
     pub statements: usize,
@@ -25,7 +26,7 @@ pub struct Braced {
 }
 
 // A look, and how many parts and statements have been counted before it.
-#[derive(Drop)]
+#[derive(Clone, Copy)]
 pub struct Passed {
     pub look: Look,
     pub parts: usize,

@@ -1,6 +1,7 @@
 // Reads a text from standard input, or from the file named, and the files that it includes, and writes its normal text, or one line: `refused`, tab,
 // number, tab, text, tab, byte. With two file names it compares the two texts, each with the files that it includes: a line for each difference, at
 // most 64, and the total.
+#![tactic(auto)]
 ghost use Rattle.io.specs.Counts.{IsPrefixLen};
 
 use comparing::Found;

@@ -2,6 +2,7 @@
 // the text on standard input), line, column, number and meaning of the refusal, the line of its place, and a mark under the token there; the same of a
 // second place where there is one; and where to read on. Refusals that have no place in the texts take the first and the last of these lines alone,
 // without file, line and column.
+#![tactic(auto)]
 use console::arguments::Asked;
 use console::{Page, arguments, errors, whole, write, write_number};
 use layout::{definition, enumerator, object, value};

@@ -2,6 +2,7 @@
 // its name, `refused`, the refusal's number, and text and byte of its place, separated by tabs; a file that cannot be opened or read is said to be so.
 // Without arguments the text is that on standard input, whose name is `-`. Bytes of names and strings that are no plain characters of ASCII, and `\`,
 // are shown as `\x` and two hex digits.
+#![tactic(auto)]
 use console::arguments::Asked;
 use console::{Page, arguments, errors, whole, write};
 use heading::Answer;

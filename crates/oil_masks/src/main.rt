@@ -1,6 +1,7 @@
 // Plans the event masks of the text on standard input, with the files that it includes: a line for each event, `given` or `auto`, its name, and its
 // mask in decimal and in hex, separated by tabs. With the name of a file of masks it checks these: `accepted`, or an event's name and what is wrong
 // with its mask.
+#![tactic(auto)]
 use console::arguments::Asked;
 use console::inputs::Input;
 use console::{Page, arguments, errors, inputs, whole, write};
@@ -10,7 +11,7 @@ use rows::{Found, cells};
 use token::{Cursor, Sort, Step};
 
 // What stands next in a list of masks: a mask (sort 0), the end (1), or something else (2).
-#[derive(Drop)]
+#[derive(Clone, Copy)]
 struct Entry {
     sort: u8,
     mask: u64,

@@ -1,13 +1,14 @@
 // Mends the text on standard input, or of the file named, with the files that it includes: the statements at fault by 13 or 14 are dropped (document 02,
 // Q-11). The mended text goes to standard output; a line for each drop, with text, byte, length and number, and the dropped words, to standard error. A
 // text that cannot be mended takes `refused`, the refusal's number, and text and byte of its place, separated by tabs.
+#![tactic(auto)]
 use console::arguments::Asked;
 use console::{Page, arguments, errors, whole, write, write_number};
 use mending_texts::Mended;
 use token::{Cursor, Sort, Step};
 
 // A number, and the place after it.
-#[derive(Drop)]
+#[derive(Clone, Copy)]
 struct Spot {
     amount: usize,
     at: usize,

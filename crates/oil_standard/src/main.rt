@@ -1,6 +1,7 @@
 // Holds the implementation of the text on standard input, or of the file named, with the files that it includes, to the standard attributes of 000,
 // section 5.2, and writes `nothing wrong`, or what is wrong: file (`-` for the text on standard input), line, column, 25 or 26, the path of the
 // attribute by its names, and what that means. A text that is not accepted takes `refused`, the refusal's number, and text and byte of its place, separated by tabs.
+#![tactic(auto)]
 use console::arguments::Asked;
 use console::{Page, arguments, errors, whole, write, write_number};
 use rows::{cells, refusals};

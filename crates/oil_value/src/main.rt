@@ -1,6 +1,7 @@
 // The value of one attribute of the text on standard input, or of the file named, by kind, object name and dotted path: `oil_value KIND NAME PATH [FILE]`.
 // It is written as normal text has it, on a line; or the line is `not found`, or `refused`, the refusal's number and its place, a text's number and a
 // byte, separated by tabs. The text is read alone.
+#![tactic(auto)]
 use console::arguments::Asked;
 use console::inputs::Input;
 use console::{arguments, errors, inputs, whole};

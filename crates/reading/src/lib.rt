@@ -1,4 +1,5 @@
 // Reading a text into four lent tables.
+#![tactic(auto)]
 ghost use Rattle.std.specs.Prelude.{◌≡◌};
 ghost use Rattle.meaning.specs.Answers.{refused};
 ghost use Rattle.meaning.specs.Rules.{FullRoom};
@@ -17,7 +18,7 @@ use scopes::Sizes;
 use walk::Walked;
 
 // The answer: the text is accepted, or refused with a number and a place.
-#[derive(Drop)]
+#[derive(Clone, Copy)]
 pub enum Answer {
     Accepted,
     Refused(u8, usize),

@@ -1,1 +1,2 @@
 // Theorems on two releases compared; no code.
+#![tactic(auto)]

@@ -1,18 +1,19 @@
 // Values over the rows kept while a text is read: numbers and ranges, and the values that an attribute takes.
+#![tactic(auto)]
 pub mod bounds;
 pub mod floats;
 pub mod lookups;
 pub mod numbers;
 
 // A number: zero is not negative.
-#[derive(Drop)]
+#[derive(Clone, Copy)]
 pub struct Num {
     pub negative: bool,
     pub amount: u64,
 }
 
 // A float: whether it is negative, its digits as one whole number, and the power of ten by which they count, plus 82.
-#[derive(Drop)]
+#[derive(Clone, Copy)]
 pub struct Float {
     pub negative: bool,
     pub digits: u64,
@@ -20,7 +21,7 @@ pub struct Float {
 }
 
 // What a step finds: a number, or 0; a sign's byte, or 0; its place and the place after it.
-#[derive(Drop)]
+#[derive(Clone, Copy)]
 pub struct Item {
     pub number: Num,
     pub sign: u8,
@@ -29,7 +30,7 @@ pub struct Item {
 }
 
 // How many rows the tables of definitions, enumerators and objects have.
-#[derive(Drop)]
+#[derive(Clone, Copy)]
 pub struct Sizes {
     pub definitions: usize,
     pub enumerators: usize,

@@ -1,4 +1,5 @@
 // Where a place of the lent texts is: its file, and its line and column there; and its line with a mark under the token.
+#![tactic(auto)]
 use console::{Page, arguments, write, write_number};
 use explaining::Explained;
 

@@ -1,4 +1,5 @@
 // Includes: the lent texts, expanded into one text with the origin of each of its bytes. The reading of the texts is the reading of that text.
+#![tactic(auto)]
 ghost use Rattle.std.specs.Prelude.{◌≡◌, ◌+◌, ◌≤◌, true};
 ghost use Rattle.token.specs.Tokens.{part_of, part_place};
 ghost use Rattle.sources.specs.Lines.{name_at};
@@ -26,7 +27,7 @@ pub const LENGTHS: usize = TEXTS * 2;
 pub const GATHERING: usize = token::LONGEST + TEXTS * token::PLACES;
 
 // What stops the reading of a text from a place on.
-#[derive(Drop)]
+#[derive(Clone, Copy)]
 pub enum Stop {
     // The end, or a fault: its number, 0 for the end, and its place.
     At(usize, usize),
@@ -35,7 +36,7 @@ pub enum Stop {
 }
 
 // An include line: the place of its `#`, its first byte, the file's name from a place to another, the place after the line and its LF.
-#[derive(Drop)]
+#[derive(Clone, Copy)]
 pub struct Line {
     pub hash: usize,
     pub start: usize,
@@ -45,14 +46,14 @@ pub struct Line {
 }
 
 // The file's name on a line, from a place to another.
-#[derive(Drop)]
+#[derive(Clone, Copy)]
 pub enum Name {
     Is(usize, usize),
     Not,
 }
 
 // A text of a name.
-#[derive(Drop)]
+#[derive(Clone, Copy)]
 pub enum Hit {
     // Its number, and its bytes from a place to another.
     Present(usize, usize, usize),
@@ -60,7 +61,7 @@ pub enum Hit {
 }
 
 // What comes next in a text that is being expanded.
-#[derive(Drop)]
+#[derive(Clone, Copy)]
 pub enum Event {
     // The end, or a fault: its number, 0 for the end, and its place.
     Stop(usize, usize),
@@ -69,7 +70,7 @@ pub enum Event {
 
 // A text to include: its number, its bytes in the buffer from a place to another; and of the line: the place of its `#`, its first byte and the
 // place after the line and its LF.
-#[derive(Drop)]
+#[derive(Clone, Copy)]
 pub struct Include {
     pub number: usize,
     pub from: usize,
@@ -81,7 +82,7 @@ pub struct Include {
 
 // How far the expanded text is filled: the number of the fault, 0 for none, its place, the place after what is filled, and that with what
 // stays unexpanded.
-#[derive(Drop)]
+#[derive(Clone, Copy)]
 pub struct Fill {
     pub number: usize,
     pub place: usize,
@@ -90,7 +91,7 @@ pub struct Fill {
 }
 
 // A text that is being expanded: its number, how many texts may be opened one inside the other from here on, and how many bytes may be filled.
-#[derive(Drop)]
+#[derive(Clone, Copy)]
 pub struct Frame {
     pub number: usize,
     pub depth: usize,
@@ -98,14 +99,14 @@ pub struct Frame {
 }
 
 // A place of a text, and the place of the expanded text that it comes to.
-#[derive(Drop)]
+#[derive(Clone, Copy)]
 pub struct Spot {
     pub from: usize,
     pub at: usize,
 }
 
 // One step of a text: on at a place of the text and of the expanded text, or done.
-#[derive(Drop)]
+#[derive(Clone, Copy)]
 pub enum Next {
     On(usize, usize),
     Done(Fill),
@@ -113,7 +114,7 @@ pub enum Next {
 
 // The expanded text: the number of the first of 3 and 27 to 29, 0 for none, or 30, or 1; its place in the expanded text; and how long that is,
 // through the end of the text that has the fault.
-#[derive(Drop)]
+#[derive(Clone, Copy)]
 pub struct Expansion {
     pub number: usize,
     pub place: usize,

@@ -1,4 +1,5 @@
 // Whether an implementation defines the standard attributes (document 02, Q-9).
+#![tactic(auto)]
 ghost use Rattle.std.specs.Prelude.{◌≡◌};
 ghost use Rattle.standard.specs.Heads.{NamesAt};
 ghost use Rattle.standard.specs.Checking.{checked, verdict_of, AnswersText, ChecksAccepted};
@@ -18,7 +19,7 @@ mod shapes;
 mod spans;
 
 // The answer: the text's refusal, with its number and place; nothing is wrong; or 25 or 26, its place, and the number of the standard attribute.
-#[derive(Drop)]
+#[derive(Clone, Copy)]
 pub enum Checked {
     Refused(u8, usize),
     NothingWrong,
@@ -36,14 +37,14 @@ pub struct Known {
 
 // A scope of the implementation: the word at which an attribute that it lacks is told, and the place of the word that its definitions stand under
 // (0: there are none).
-#[derive(Drop)]
+#[derive(Clone, Copy)]
 pub struct Owner {
     pub word: usize,
     pub key: usize,
 }
 
 // 25 or 26, or 0 for nothing, its place, and the number of the standard attribute.
-#[derive(Drop)]
+#[derive(Clone, Copy)]
 pub struct Told {
     pub number: u8,
     pub place: usize,

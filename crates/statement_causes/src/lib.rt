@@ -1,4 +1,5 @@
 // Of a text that is refused with 13 to 16 or 18 at a place: the statement there, its attribute, and what its owner lacks.
+#![tactic(auto)]
 ghost use Rattle.std.specs.Prelude.{◌≡◌};
 ghost use Rattle.statement_causes.specs.Promises.{Looked, touched, FindsInner, Seeks, SeeksObject, SeeksAll, RowTold, TellsAttribute, TellsFirst, single_place, MissesRow, Misses, MissesObject, MissesInside, MissesAt, TellsRows, TellsKept};
 ghost use Rattle.statement_causes.specs.Tellings.{Tells};
@@ -12,7 +13,7 @@ use rows::{Found, cells, counts, faults, finding};
 use scopes::Sizes;
 
 // Where a statement stands in the rows: the place of the word of its scope, the rows of its block, its own row.
-#[derive(Drop)]
+#[derive(Clone, Copy)]
 pub struct Spot {
     pub found: bool,
     pub key: usize,
@@ -23,7 +24,7 @@ pub struct Spot {
 
 // An attribute where it is defined: place and length of its name, of its type's word and of its range (0 and 0 for none), the code of the type's word,
 // and 1 for WITH_AUTO.
-#[derive(Drop)]
+#[derive(Clone, Copy)]
 pub struct Attribute {
     pub found: bool,
     pub name: usize,
@@ -38,7 +39,7 @@ pub struct Attribute {
 
 // What is told of a place: of the statement there the word of its scope, its attribute, and where its name is stated first in its block; of the owner
 // there the name of an attribute that it lacks. 0 for none.
-#[derive(Drop)]
+#[derive(Clone, Copy)]
 pub struct Told {
     pub scope: usize,
     pub attribute: Attribute,

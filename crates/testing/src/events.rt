@@ -8,7 +8,7 @@ use masks::{Checked, Planned};
 use rows::cells;
 
 // An answer as numbers: which case it is, and the two numbers that it has, 0 where it has none.
-#[derive(Drop)]
+#[derive(Clone, Copy)]
 struct Case {
     number: u8,
     first: usize,

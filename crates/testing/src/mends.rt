@@ -7,7 +7,7 @@ use mending_texts::Mended;
 use rows::cells;
 
 // An answer as numbers: the refusal's number, 0 where there is none, and its place; the lengths of the mended text and of the lines.
-#[derive(Drop)]
+#[derive(Clone, Copy)]
 struct Case {
     number: u8,
     place: usize,

@@ -80,7 +80,7 @@ pub extern "C" fn kaukslini_read_texts(
 
 // What is told of a writing: the number of the refusal, 0 where there is none, its place, and the length of the normal text.
 #[repr(C)]
-#[derive(Drop)]
+#[derive(Clone, Copy)]
 pub struct Told {
     pub number: usize,
     pub place: usize,

@@ -8,7 +8,7 @@ use rows::cells;
 use standard::Checked;
 
 // An answer as numbers: which case it is, and the three numbers that it has, 0 where it has none.
-#[derive(Drop)]
+#[derive(Clone, Copy)]
 struct Found {
     number: u8,
     first: usize,

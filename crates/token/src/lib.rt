@@ -1,4 +1,6 @@
 // Tokens of OIL 2.5: a cursor by value, whose step method returns the token at it and the next cursor.
+#![tactic(auto)]
+
 ghost use Rattle.std.specs.Prelude.{◌≡◌, ◌+◌};
 ghost use Rattle.token.specs.Tokens.{step_at, part_of, part_place};
 
@@ -16,13 +18,13 @@ pub const LONGEST: usize = 65535;
 pub const PLACES: usize = LONGEST + 1;
 
 // A place of a text.
-#[derive(Drop)]
+#[derive(Clone, Copy)]
 pub struct Cursor {
     pub at: usize,
 }
 
 // What a token is.
-#[derive(Drop)]
+#[derive(Clone, Copy)]
 pub enum Sort {
     // A word, by its code: 0, or the number of a known word.
     Word(u8),
@@ -36,7 +38,7 @@ pub enum Sort {
     Float(bool, u64, u8),
 }
 
-#[derive(Drop)]
+#[derive(Clone, Copy)]
 pub struct Token {
     pub sort: Sort,
     pub at: usize,
@@ -44,7 +46,7 @@ pub struct Token {
 }
 
 // What a step finds.
-#[derive(Drop)]
+#[derive(Clone, Copy)]
 pub enum Step {
     // A token, and the cursor after it.
     Found(Token, Cursor),
@@ -55,7 +57,7 @@ pub enum Step {
 }
 
 // What stands at a place, as far as it parts tokens.
-#[derive(Drop)]
+#[derive(Clone, Copy)]
 enum Gap {
     // Neither a blank nor a comment.
     Nothing,
@@ -66,7 +68,7 @@ enum Gap {
 }
 
 // Where the blanks and comments from a place on end.
-#[derive(Drop)]
+#[derive(Clone, Copy)]
 enum Skip {
     At(usize),
     // A comment that is not ended begins at the place.
@@ -74,7 +76,7 @@ enum Skip {
 }
 
 // The value of a numeral.
-#[derive(Drop)]
+#[derive(Clone, Copy)]
 pub enum Amount {
     Is(u64),
     // It is none, or its value is too large.
@@ -82,7 +84,7 @@ pub enum Amount {
 }
 
 // The exponent of a float.
-#[derive(Drop)]
+#[derive(Clone, Copy)]
 pub enum Power {
     // Whether it is below 0, its amount, and the place after the float.
     Times(bool, u64, usize),

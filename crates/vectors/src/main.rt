@@ -1,5 +1,6 @@
 // The texts of the corpus, data/NNN.oil, each with a line: its number, and `accepted` with length and checksum of its normal text, or `refused`
 // with number, and text and byte of its place, separated by tabs.
+#![tactic(auto)]
 ghost use Rattle.std.specs.Prelude.{◌<◌};
 
 use console::{Page, write, write_number};

@@ -1,4 +1,5 @@
 // The walk of a whole text: one reading by recursive descent, with the refusals of the grammar stage, that fills four tables of rows.
+#![tactic(auto)]
 ghost use Rattle.std.specs.Prelude.{◌≡◌, replicate};
 ghost use Rattle.grammar.specs.Grammar.{◌▸◌, ∎, version, application};
 ghost use Rattle.grammar.specs.Stage.{Answers};
@@ -33,7 +34,7 @@ pub struct Walked {
 }
 
 // The look after the version, with its string.
-#[derive(Drop)]
+#[derive(Clone, Copy)]
 pub struct Versioned {
     pub look: Look,
     pub at: usize,

@@ -1,4 +1,5 @@
 // The normal text of an accepted text, written into a lent output.
+#![tactic(auto)]
 ghost use Rattle.writing.specs.Promises.{PutsApplication, WritesNormal, Measures, PutsOut};
 ghost use Rattle.writing.specs.Results.{Writes};
 ghost use Rattle.writing.specs.Rules.{WritesByRules};
@@ -13,14 +14,14 @@ mod objects;
 pub mod values;
 
 // The row after those that were written, and the place after their lines.
-#[derive(Drop)]
+#[derive(Clone, Copy)]
 struct Spot {
     next: usize,
     place: usize,
 }
 
 // The answer, and how long the normal text is; 0 where it is refused.
-#[derive(Drop)]
+#[derive(Clone, Copy)]
 pub struct Written {
     pub answer: Answer,
     pub length: usize,

@@ -1,0 +1,13 @@
+use Prim.Native.Nat.{◌-◌}
+use mathlib.Core.Path.{◌≡◌, refl, ◌∙◌, sym}
+use Rattle.token.specs.Bytes.{find_mark}
+use Rattle.token.proofs.Find.{find_here, find_next, find_past}
+use native.Mathlib.Omega.{arith}
+use borrow.Author.Rules.{rules}
+use Rattle.token.proofs.scan.find_mark.Given as goal
+
+abbrev pub invariant-loop-i : goal.invariant-loop-i
+invariant-loop-i l = find_mark l.text l.end l.i ≡ find_mark l.text l.end l.from
+
+abbrev pub decreases-loop-i : goal.decreases-loop-i
+decreases-loop-i l = l.end - l.i
