@@ -1,5 +1,6 @@
 // Comparing amounts of the form m * 10 ^ k, exactly: by division, so that nothing overflows.
 #![tactic(auto)]
+
 ghost use Rattle.std.specs.Prelude.{◌≡◌, ◌*◌, ◌^◌, leb};
 
 // Whether m * 10 ^ power is at most n.

@@ -1,0 +1,16 @@
+-- `rows::cells::clear` meets its contract: the cells before i are 0, the others as they were.
+-- Assumes nothing.
+use native.Mathlib.Omega.{arith}
+use Rattle.rows.proofs.Stores.{cleared}
+use borrow.Author.Fill.{fill_none, fill_more}
+use lib.ListN.{length, drop, replicate, length-set}
+use mathlib.Core.List.{◌++◌}
+use mathlib.Core.Path.{◌≡◌, refl, ◌∙◌}
+use Prim.Native.Nat.{◌≤◌, ◌-◌}
+use Rattle.rows.proofs.cells.clear.Given as goal
+
+abbrev pub invariant-loop-i : goal.invariant-loop-i
+invariant-loop-i l = (l.i ≤ length l.initial.t) × (length l.t ≡ length l.initial.t) × (l.t ≡ replicate l.i 0 ++ drop l.i l.initial.t)
+
+abbrev pub decreases-loop-i : goal.decreases-loop-i
+decreases-loop-i l = length l.initial.t - l.i

@@ -1,0 +1,16 @@
+-- `rows::parts::same_rest` meets its contract: comparing from i on gives what comparing from the start does.
+-- Assumes nothing.
+use native.Mathlib.Omega.{arith}
+use Rattle.rows.proofs.Firsts.{rest_decides}
+use Rattle.token.proofs.Codes.{same_next, same_stop, same_end}
+use Rattle.token.specs.Words.{same}
+use lib.ListN.{length, drop}
+use mathlib.Core.Path.{◌≡◌, sym, ◌∙◌}
+use Prim.Native.Nat.{◌-◌}
+use Rattle.rows.proofs.parts.same_rest.Given as goal
+
+abbrev pub invariant-loop-i : goal.invariant-loop-i
+invariant-loop-i l = (length l.a ≡ length l.b) × (same (drop l.i l.a) (drop l.i l.b) ≡ same l.a l.b)
+
+abbrev pub decreases-loop-i : goal.decreases-loop-i
+decreases-loop-i l = length l.a - l.i
