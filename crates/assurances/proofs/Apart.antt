@@ -88,7 +88,7 @@ two_parts (here {r} {rs}) {before} {x} b e f q = go (same_kind r.kind x.kind) re
   where
     go : (c : Bool) → same_kind r.kind x.kind ≡ c → ⊥
     go true p = false≢true (sym e.0 ∙ is_found r.kind r.name b p q)
-    go false p = false≢true (sym (free before r rs f).not-elsewhere ∙ is_elsewhere r b p q)
+    go false p = false≢true (sym (free before r rs f).not_elsewhere ∙ is_elsewhere r b p q)
 two_parts (behind {q = z} {rs} a) {before} b e f q = two_parts a (row_front (z ∷ []) b) e.1 (free before z rs f).rest q
 
 two_rows : {xs : List Object} {i j : ℕ} {x y : Object} → Row xs i x → Row xs j y → i < j → (before : List Object) → AllNew before xs → each_name before xs ≡ []
@@ -131,8 +131,8 @@ rows_apart s d t e i j x y a b q =
     let f = syntax s d.tree in
     let n = no_faults f t e in
     let w = parts s (f.version ∷ spec_words f.specs) (f.cpu ∷ object_words f.parts) (syntax_text s d.tree) in
-    let u = subst (λ (z : Tables). Row z.objects i x) (sym n.tables-are) a in
-    let v = subst (λ (z : Tables). Row z.objects j y) (sym n.tables-are) b in
+    let u = subst (λ (z : Tables). Row z.objects i x) (sym n.tables_are) a in
+    let v = subst (λ (z : Tables). Row z.objects j y) (sym n.tables_are) b in
     let c₁ = too_few kinds f.objects f.cpu in
     let c₂ = each_object [] f.objects in
     let c₃ = each_part f.parts in

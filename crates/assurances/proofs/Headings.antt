@@ -43,7 +43,7 @@ of_stage (too_long h) n p e l k = absurd (let z : 2 ≡ n = cc in omega arith)
 of_stage (not_grammar a h m t) n p e l k = record { answer = a; answers = t; short = h; refuses = m; number = cc; place = cc }
 of_stage {s} (meant w d) n p e l k =
     let g = one_answer (meant w d) in
-    let h : PassesGrammar (reading_of (reading s)).answer = ((reading_demand_3 s).passes-exactly w).1 d in
+    let h : PassesGrammar (reading_of (reading s)).answer = ((reading_demand_3 s).passes_exactly w).1 d in
     let z : PassesGrammar (ReadRefused n p) = subst PassesGrammar (ap (λ (x : Meant). (reading_of x).answer) g ∙ e) h in
     absurd (omega arith)
 
@@ -57,7 +57,7 @@ heading_beside_read s h k b f =
       refused_as_read = λ n p e. i ∙ ap (λ (x : Meant). (reading_of x).answer) ((q.as_read n p e).no_other (reading s) w.given);
       that_same = λ n p e l m g.
           let o = of_stage w.given n p (sym i ∙ e) l m in
-          q.that-same o.short o.answer o.answers o.refuses (λ t. subst (λ (x : ℕ). x ≤ (brace_in t.tree).place) (sym o.place) (g t))
+          q.that_same o.short o.answer o.answers o.refuses (λ t. subst (λ (x : ℕ). x ≤ (brace_in t.tree).place) (sym o.place) (g t))
           ∙ ap₂ Refused o.number o.place;
       otherwise = λ t l. q.otherwise l t;
       behind = λ t n p e l m.

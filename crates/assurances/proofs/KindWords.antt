@@ -124,7 +124,7 @@ alone_float w a = a.float_is ∙ sym (ap float_of_step (alone_step w a).1)
 
 kind_word_code : (w : SyntaxWord) → Alone w → matches kind w.class ≡ true → code_of w.bytes ≡ 9 + kind_number (kind_of w.class)
 kind_word_code w a h =
-    subst (λ (c : Class). matches kind c ≡ true → code_of w.bytes ≡ 9 + kind_number (kind_of c)) (sym a.class-is) (bytes_code a.sort w.bytes (alone_code w a)) h
+    subst (λ (c : Class). matches kind c ≡ true → code_of w.bytes ≡ 9 + kind_number (kind_of c)) (sym a.class_is) (bytes_code a.sort w.bytes (alone_code w a)) h
 
 -- Two words of one kind.
 pub kind_bytes : (w v : SyntaxWord) → Alone w → Alone v → matches kind w.class ≡ true → matches kind v.class ≡ true → kind_of w.class ≡ kind_of v.class

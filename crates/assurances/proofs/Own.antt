@@ -291,10 +291,10 @@ module _ (s : List ℕ) (R : List DefinitionRow) (E : List EnumeratorRow) (w : W
       go : (b : Bool) → same_kind (kind_of w.class) x.kind ≡ b → Facts s R E x.word x.definitions → KindFacts s R E w (of_kind (kind_of w.class) xs)
           → KindFacts s R E w (pick b x.definitions (of_kind (kind_of w.class) xs))
       go true e i j =
-          let k : kind_of x.word.class ≡ kind_of w.class = v.0.kind-is ∙ kinds_same (kind_of w.class) x.kind e in
+          let k : kind_of x.word.class ≡ kind_of w.class = v.0.kind_is ∙ kinds_same (kind_of w.class) x.kind e in
           record {
             word = x.word;
-            same = sym h.0 ∙ kind_bytes (unplaced_word x.word) (unplaced_word w) v.0.word-alone alone v.0.word-class kind k ∙ there;
+            same = sym h.0 ∙ kind_bytes (unplaced_word x.word) (unplaced_word w) v.0.word_alone alone v.0.word_class kind k ∙ there;
             facts = i;
           }
       go false e i j = j
@@ -578,10 +578,10 @@ module _ (s : List ℕ) (t : Tables) (os : List Object)
         its_definition = r;
         type = k.type;
         typed = k.is;
-        in_its_type = k.in-its-type;
+        in_its_type = k.in_its_type;
         bounds = d.bounds;
         its_range = integer_range_at s d vs k.type g k.is;
-        in_its_range = k.in-its-range;
+        in_its_range = k.in_its_range;
       }
   ranged u d vs w b o r g (told q m f) n e = absurd (no_number_of (sort_of w.class) os d vs w n q e)
   ranged u d vs w b o r g (referred {k} q v z p) n e =
@@ -633,10 +633,10 @@ module _ (s : List ℕ) (t : Tables) (os : List Object)
         default = λ e. sym (ap span_or (k.origin e));
         under_value = λ n e.
             let a = subst (λ y. OwnerFacts s t u y) e f in
-            record { definition = definition_row u d; its_definition = r; above = a.above; its_above = a.its-above; same_word = a.same_word; own_word = a.own-word; above_definition = a.above-definition; its_above_definition = a.its-above-definition; inside = a.inside };
+            record { definition = definition_row u d; its_definition = r; above = a.above; its_above = a.its_above; same_word = a.same_word; own_word = a.own_word; above_definition = a.above_definition; its_above_definition = a.its_above_definition; inside = a.inside };
         of_its_object = λ n e.
             let a = subst (λ y. OwnerFacts s t u y) e f in
-            record { definition = definition_row u d; its_definition = r; owner = a.owner; its_owner = a.its-owner; same_kind_word = a.same-kind-word };
+            record { definition = definition_row u d; its_definition = r; owner = a.owner; its_owner = a.its_owner; same_kind_word = a.same_kind_word };
         in_range = ranged u d vs w k.stated o r m k.taking;
         in_float_range = float_ranged u d vs w k.stated o r m k.taking h g;
       }
@@ -770,7 +770,7 @@ module _ (s : List ℕ) (t : Tables) (f : File)
   own_objects no_objects i o n A C h g e' l' e l = none_left
   own_objects (more_objects {x} {xs} m p) i o n A C h g e' l' e l =
       let r = object_values f x in
-      let k = subst (λ (y : Kind). KindFacts s t.definitions t.enumerators x.word (of_kind y f.specs)) g.0.kind-is (kinds-of x.word h.0 g.0.word-alone g.0.word-class) in
+      let k = subst (λ (y : Kind). KindFacts s t.definitions t.enumerators x.word (of_kind y f.specs)) g.0.kind_is (kinds-of x.word h.0 g.0.word_alone g.0.word_class) in
       let owns : Owning s t k.word o = record { owner = row_of x; its_owner = row_in t.objects C (object_rows xs) (row_of x) o e' l'; same_kind_word = k.same } in
       let l₀ = length-append C (row_of x ∷ []) in
       let i₀ : suc o ≡ length (C ++ (row_of x ∷ [])) = omega arith in
@@ -810,7 +810,7 @@ every_row : (s : List ℕ) (d : Derivation (tokens s)) (t : Tables) → answer (
 unfolding tables
 every_row s d t e =
     let n = no_faults (syntax s d.tree) t e in
-    subst (λ (y : Tables). All (OwnRow s y) y.values) n.tables-are (own_table s d n.definitions n.statements)
+    subst (λ (y : Tables). All (OwnRow s y) y.values) n.tables_are (own_table s d n.definitions n.statements)
 
 by_derivation : {s : List ℕ} {a : Answer} (t : Tables) → Answers s a → a ≡ accepted t → All (OwnRow s t) t.values
 by_derivation t (too_long k) e = absurd (let z : ◌≡◌ {A = Bool} false true = cc in false≢true z)
@@ -825,26 +825,26 @@ reference_kind s t a i r p o e = (of_row (by_derivation t a refl) p).referring o
 pub reference_resolved : ReferencesResolved
 reference_resolved s t a i r p d k q e =
     let h = of_row (by_derivation t a refl) p in
-    h.referred-to k (ap (λ (x : DefinitionRow). x.typed) (one_row h.its-definition q) ∙ e)
+    h.referred_to k (ap (λ (x : DefinitionRow). x.typed) (one_row h.its_definition q) ∙ e)
 
 -- A value that was not stated has its word in its own definition's default.
 pub default_own : DefaultsOwn
 default_own s t a i r p e =
     let h = of_row (by_derivation t a refl) p in
-    record { definition = h.definition; its_definition = h.its-definition; own_default = h.default e }
+    record { definition = h.definition; its_definition = h.its_definition; own_default = h.default e }
 
 -- A value under a value of an attribute has a definition that stands under that value's own word.
 pub under_own_value : BranchesOwn
-under_own_value s t a i r p n e = (of_row (by_derivation t a refl) p).under-value n e
+under_own_value s t a i r p n e = (of_row (by_derivation t a refl) p).under_value n e
 
 -- A value that an object owns has a definition under that object's own kind word.
 pub owner_own : OwnersOwn
-owner_own s t a i r p o e = (of_row (by_derivation t a refl) p).of-its-object o e
+owner_own s t a i r p o e = (of_row (by_derivation t a refl) p).of_its_object o e
 
 -- A number lies in its own type and its own range.
 pub number_own : NumbersOwn
-number_own s t a i r p n e = (of_row (by_derivation t a refl) p).in-range n e
+number_own s t a i r p n e = (of_row (by_derivation t a refl) p).in_range n e
 
 -- A float lies in its own range.
 pub float_own : FloatsOwn
-float_own s t a i r p e = (of_row (by_derivation t a refl) p).in-float-range e
+float_own s t a i r p e = (of_row (by_derivation t a refl) p).in_float_range e

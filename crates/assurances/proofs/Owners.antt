@@ -58,7 +58,7 @@ row_behind {n} {r} (more_behind h p) (behind {n = i} q) = let e : suc n + i ≡ 
 
 every_behind : (f : File) (t : Tables) → answer f ≡ accepted t → AllBehind 0 t.values
 unfolding tables
-every_behind f t e = subst (λ (y : Tables). AllBehind 0 y.values) (no_faults f t e).tables-are (table_behind (all_values f f.objects) 0 0)
+every_behind f t e = subst (λ (y : Tables). AllBehind 0 y.values) (no_faults f t e).tables_are (table_behind (all_values f f.objects) 0 0)
 
 by_derivation : {s : List ℕ} {a : Answer} (t : Tables) → Answers s a → a ≡ accepted t → AllBehind 0 t.values
 by_derivation t (too_long k) e = absurd (let z : ◌≡◌ {A = Bool} false true = cc in false≢true z)

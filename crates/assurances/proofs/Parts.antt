@@ -164,18 +164,18 @@ distinct_new before (x ∷ l) h d = (
 
 numbered_single : (n : ℕ) (l : List Object) → ((i : ℕ) (x : Object) → Row l i x → OnePart x (n + i)) → Single n l
 numbered_single n [] h = tt
-numbered_single n (x ∷ l) h = (at_first (h 0 x here).its-row, (h 0 x here).one, numbered_single (suc n) l (λ i y r. at_next y i (h (suc i) y (behind r))))
+numbered_single n (x ∷ l) h = (at_first (h 0 x here).its_row, (h 0 x here).one, numbered_single (suc n) l (λ i y r. at_next y i (h (suc i) y (behind r))))
   where
     at_first : x.row ≡ n + 0 → x.row ≡ n
     at_first e = omega arith
 
     at_next : (y : Object) (i : ℕ) → OnePart y (n + suc i) → OnePart y (suc n + i)
-    at_next y i h = record { its_row = let e = h.its-row in omega arith; one = h.one }
+    at_next y i h = record { its_row = let e = h.its_row in omega arith; one = h.one }
 
 single_numbered : (n : ℕ) (l : List Object) (i : ℕ) (x : Object) → Single n l → Row l i x → OnePart x (n + i)
 single_numbered n _ _ x h here = record { its_row = let e = h.0 in omega arith; one = h.1 }
 single_numbered n _ _ x h (behind {rs} {n = i} r) =
-    let k = single_numbered (suc n) rs i x h.2 r in record { its_row = let e = k.its-row in omega arith; one = k.one }
+    let k = single_numbered (suc n) rs i x h.2 r in record { its_row = let e = k.its_row in omega arith; one = k.one }
 
 counts_row : (m : ℕ) (l : List Object) (n : ℕ) (x : Object) → Counts m (object_numbers l) → Row l n x → x.row ≡ m + n
 unfolding object_numbers
@@ -220,7 +220,7 @@ parts_merge xs = record {
     apart = new_distinct [] (merge xs) (merge_new xs)
 
     from_0 : (i : ℕ) (x : Object) → OnePart x i → OnePart x (0 + i)
-    from_0 i x h = record { its_row = let e = h.its-row in omega arith; one = h.one }
+    from_0 i x h = record { its_row = let e = h.its_row in omega arith; one = h.one }
 
 -- Texts -------------------------------------------------------------------------------------------------------------------------------------------------
 
@@ -233,7 +233,7 @@ objects_single : {g : Form} (s : List ℕ) (p : objects ⟶ g) (us : Trees ◌�
 unfolding means meaning
 objects_single s no_object nil n k = tt
 objects_single s an_object (node p x (node q xs nil)) n k =
-    let o = object_single s p x n k in (o.its-row, o.one, objects_single s q xs (suc n) (k + statements_in (means p (meaning s x) n k).statements))
+    let o = object_single s p x n k in (o.its_row, o.one, objects_single s q xs (suc n) (k + statements_in (means p (meaning s x) n k).statements))
 
 parts_single : (s : List ℕ) (t : Trees ◌⟶◌ (file ▸ ∎)) → Single 0 (syntax s t).parts
 unfolding syntax means meaning
@@ -249,7 +249,7 @@ text_in_parts s t = record {
     numbered : Numbered (syntax s t).parts
     numbered n x r =
         let o = single_numbered 0 (syntax s t).parts n x (parts_single s t) r in
-        record { its_row = let e = o.its-row in omega arith; one = o.one }
+        record { its_row = let e = o.its_row in omega arith; one = o.one }
 
     in_parts : InParts (syntax s t).parts (syntax s t).objects
     in_parts = subst (InParts (syntax s t).parts) (sym (syntax_merged s t)) (parts_merge (syntax s t).parts)

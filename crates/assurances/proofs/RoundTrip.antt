@@ -75,7 +75,7 @@ reads_back_called c e h b f =
       accepts = j.result;
       stated = g.stated;
       same = g.same;
-      one_part = g.one-part;
+      one_part = g.one_part;
       words = g.words;
       ranges = g.ranges;
     }

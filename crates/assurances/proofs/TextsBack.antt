@@ -113,7 +113,7 @@ unfolding placed_answer
 left_by b l a o d e v w o' r u (refuses n p i q h k) z = absurd (not_refused q z)
 left_by b l a o d e v w o' r u (longer t i m n s q h k) z = absurd (not_refused q z)
 left_by b l a o d e v w o' r u (writes t i m n s q h k) z =
-    let x = accepted_of (place_of b l) u.in-expanded t (sym u.placed ∙ i) in
+    let x = accepted_of (place_of b l) u.in_expanded t (sym u.placed ∙ i) in
     let j : r.length ≡ length m = ap (λ (y : Written). y.length) q in
     let y : take r.length o' ≡ m = ap₂ (λ (c : ℕ) (p : List ℕ). take c p) j k ∙ take_at m (drop (length m) o) (length m) refl in
     let c : accepted t ≡ accepted (placed_tables (place_of b l) x.0) = sym i ∙ u.placed ∙ ap (placed_answer (place_of b l)) x.1 in
@@ -159,7 +159,7 @@ read_alone : {b l x g d e o v x' g' d' e' o' v' : List ℕ} {r : Reading} (t : T
     ReadsTexts b l x g d e o v x' g' d' e' o' v' r → Read t d e o v d' e' o' v' r
 read_alone t a f (short_tables n _ _ _ _) = absurd (n f)
 read_alone {b} {l} {d = d} {e = e} {o = o} {v = v} {d' = d'} {e' = e'} {o' = o'} {v' = v'} t a f (by_rules _ y u q i _ _) =
-    let z : y ≡ accepted t = u.placed ∙ ap (placed_answer (place_of b l)) (a.no_other u.in-expanded u.given) ∙ sym a.placed in
+    let z : y ≡ accepted t = u.placed ∙ ap (placed_answer (place_of b l)) (a.no_other u.in_expanded u.given) ∙ sym a.placed in
     record { rooms = subst (λ (c : Answer). InRooms (rooms_after c) d e o v d' e' o' v') z i; result = q ∙ ap reading_of z }
 
 pub texts_read_back_called : TextsReadBackCalled
@@ -167,5 +167,5 @@ texts_read_back_called c e h r f =
     let k = left c.contract e in
     let j : length (written c) ≤ 65535 = subst (λ (m : ℕ). m ≤ 65535) (sym k.long) h in
     let g = lent_texts_read_back c.b c.l k.rows k.answer (written c) k.text j in
-    let y = read_alone (placed_tables (place_of (written c) (alone (written c))) g.as-one-text.back) g.accepts f r.contract in
+    let y = read_alone (placed_tables (place_of (written c) (alone (written c))) g.as_one_text.back) g.accepts f r.contract in
     record { rows = k.rows; answer = k.answer; left_by_write = k.rooms; back = g; accepts = y.result; left_by_read = y.rooms }

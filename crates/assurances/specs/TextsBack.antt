@@ -86,8 +86,8 @@ pub record SameValuesAlone (c : WriteTextsCall) (r : ReadAloneCall (written c)) 
   -- what was written reads back alone
   pub back : ReadsBackAlone (expanded c.b c.l).bytes rows (written c)
   -- and `read` told so, and left the rows
-  pub accepts : r.result ≡ reading_of (accepted (placed_tables (place_of (written c) (alone (written c))) back.as-one-text.back))
-  pub left_by_read : InRooms (rooms_after (accepted (placed_tables (place_of (written c) (alone (written c))) back.as-one-text.back)))
+  pub accepts : r.result ≡ reading_of (accepted (placed_tables (place_of (written c) (alone (written c))) back.as_one_text.back))
+  pub left_by_read : InRooms (rooms_after (accepted (placed_tables (place_of (written c) (alone (written c))) back.as_one_text.back)))
       r.d r.e r.o r.v r.d' r.e' r.o' r.v'
 
 -- The statement: `texts_read_back_called` in proofs/TextsBack.

@@ -64,7 +64,7 @@ module _ {s d₁ e₁ o₁ v₁ : List ℕ} {w : Spanned} (h : ReadsSpanned s (r
 
   module _ (i : w.reading.answer ≡ Accepted) where
     parse_is : parse s ≡ parsed (file h i)
-    parse_is = let a = h.spans i in parse_derived s a.covered a.situation.derivation ∙ ap parsed (sym a.situation.syntax-of)
+    parse_is = let a = h.spans i in parse_derived s a.covered a.situation.derivation ∙ ap parsed (sym a.situation.syntax_of)
 
     answer_is : answer (file h i) ≡ accepted (own h i)
     answer_is = sym (h.spans i).answered ∙ reads_own h i

@@ -303,7 +303,7 @@ pub row_is : {s d o v : List ℕ} {m e : ℕ} {f : File} → Tables s d o v m e 
 unfolding value_of row_of object_room value_room
 row_is {s} {d} {o} {v} {m} {e} {f} t kind name path =
     objects s d o v m e f kind name path f.objects 0 0
-    (from_room 8 object_cells (256 * 8) (object_rows f.objects) o m t.objects t.many-objects)
-    (from_room 9 value_cells (2048 * 9) (all_value_rows (all_values f f.objects) 0 0) v e t.values t.many-values)
+    (from_room 8 object_cells (256 * 8) (object_rows f.objects) o m t.objects t.many_objects)
+    (from_room 9 value_cells (2048 * 9) (all_value_rows (all_values f f.objects) 0 0) v e t.values t.many_values)
     (file_pairs t.situation t.definitions)
     (λ row h b. refl)

@@ -238,7 +238,7 @@ module _ {s st : List ℕ} (m e at len k : ℕ) (i : Looking s st m e at len k) 
 
   pub looking_stop : k < e → same (part_of s at len) (part_of s (get_or st (k * 7 + 0) 0) (get_or st (k * 7 + 1) 0)) ≡ true → FindsStated s st m e at len (At k)
   unfolding first_stated statements_in
-  looking_stop h q ss t b p = go (i ss t b p).left (i ss t b p).block (i ss t b p).same-found
+  looking_stop h q ss t b p = go (i ss t b p).left (i ss t b p).block (i ss t b p).same_found
     where
       go : (l : Statements) → BlockAt s st k e l → first_stated l k t ≡ first_stated ss m t → At k ≡ first_stated ss m t
       go done c f = let z = c.after in absurd (omega arith)
@@ -248,7 +248,7 @@ module _ {s st : List ℕ} (m e at len k : ℕ) (i : Looking s st m e at len k) 
   pub looking_more : k < e → same (part_of s at len) (part_of s (get_or st (k * 7 + 0) 0) (get_or st (k * 7 + 1) 0)) ≡ false
       → Looking s st m e at len (row_after st k e)
   unfolding first_stated statements_in
-  looking_more h q ss t b p = go (i ss t b p).left (i ss t b p).block (i ss t b p).same-found
+  looking_more h q ss t b p = go (i ss t b p).left (i ss t b p).block (i ss t b p).same_found
     where
       go : (l : Statements) → BlockAt s st k e l → first_stated l k t ≡ first_stated ss m t → Left s st (row_after st k e) e ss m t
       go done c f = let z = c.after in absurd (omega arith)
@@ -262,7 +262,7 @@ module _ {s st : List ℕ} (m e at len k : ℕ) (i : Looking s st m e at len k) 
 
   pub looking_end : e ≤ k → FindsStated s st m e at len Nothing
   unfolding first_stated statements_in
-  looking_end h ss t b p = go (i ss t b p).left (i ss t b p).block (i ss t b p).same-found
+  looking_end h ss t b p = go (i ss t b p).left (i ss t b p).block (i ss t b p).same_found
     where
       go : (l : Statements) → BlockAt s st k e l → first_stated l k t ≡ first_stated ss m t → Nothing ≡ first_stated ss m t
       go done c f = f

@@ -53,7 +53,7 @@ module _ (s : List ℕ) (y : Rooms) (w : Walked) (h : Whole s blank y w) (l : le
   file_is : (a : Arrived s y w) (f : File) → parse s ≡ parsed f → f ≡ a.file
   file_is a f e =
       let k = a.kept.situation in
-      same_file f a.file (sym e ∙ parse_derived s a.covered k.derivation ∙ ap parsed (sym k.syntax-of))
+      same_file f a.file (sym e ∙ parse_derived s a.covered k.derivation ∙ ap parsed (sym k.syntax_of))
 
 pub tells_named : (s : List ℕ) (y : Rooms) (w : Walked) → Whole s blank y w → (n p r : ℕ) → n ≡ min w.parts 513 → r ≡ first_like s y.parts 10 n 5130 3 p → TellsNamed s p r
 tells_named s y w h n p r m e l q f k =

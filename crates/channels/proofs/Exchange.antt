@@ -83,7 +83,7 @@ module _ (a x m y b : List ℕ) (t : Tables) (accepts : reading (a ++ (x ++ (m +
   W l = each (plain_word s) l
 
   whole : tokens s ≡ A ++ (X ++ (Y ++ B))
-  whole = text_spread s n.derivation n.before n.after n.one n.other n.objects-are
+  whole = text_spread s n.derivation n.before n.after n.one n.other n.objects_are
 
   covered : Covered s
   covered = accepted_covered s t accepts
@@ -99,11 +99,11 @@ module _ (a x m y b : List ℕ) (t : Tables) (accepts : reading (a ++ (x ++ (m +
   says_a =
       let e = one_ends in
       front_says a (x ++ (m ++ (y ++ b))) A e.first ((e.mid ++ (e.final ∷ [])) ++ (Y ++ B)) (whole ∙ ap (λ l. A ++ (l ++ (Y ++ B))) e.leaves)
-      (sym (ap first_place e.leaves) ∙ n.one-begins) (before_ending n.derivation.tree n.before)
+      (sym (ap first_place e.leaves) ∙ n.one_begins) (before_ending n.derivation.tree n.before)
 
   says_x : Says false x (W X)
   says_x =
-      subst (λ z. Says false z (W X)) (part_is a x (m ++ (y ++ b)) (first_place X) (end_of_last X) n.one-begins n.one-ends)
+      subst (λ z. Says false z (W X)) (part_is a x (m ++ (y ++ b)) (first_place X) (end_of_last X) n.one_begins n.one_ends)
       (object_says s A X (Y ++ B) whole one_ends)
 
   says_y : Says false y (W Y)
@@ -111,8 +111,8 @@ module _ (a x m y b : List ℕ) (t : Tables) (accepts : reading (a ++ (x ++ (m +
       let p = a ++ (x ++ m) in
       let l : length p ≡ length a + (length x + length m) = length-append a (x ++ m) ∙ ap (length a +◌) (length-append x m) in
       let e : s ≡ p ++ (y ++ b) = sym (append_assoc a (x ++ m) (y ++ b) ∙ ap (a ++◌) (append_assoc x m (y ++ b))) in
-      let i = n.other-begins in
-      let j = n.other-ends in
+      let i = n.other_begins in
+      let j = n.other_ends in
       let k : end_of_last Y ≡ length p + length y = omega arith in
       subst (λ z. Says false z (W Y))
       (ap (λ z. bytes_between z (first_place Y) (end_of_last Y)) e ∙ part_is p y b (first_place Y) (end_of_last Y) (i ∙ sym l) k)
@@ -124,8 +124,8 @@ module _ (a x m y b : List ℕ) (t : Tables) (accepts : reading (a ++ (x ++ (m +
       let e = one_ends in
       let f = other_ends in
       let l = length-append a x in
-      let i = n.one-ends in
-      let j = n.other-begins in
+      let i = n.one_ends in
+      let j = n.other_begins in
       let k : end_of_last X ≡ e.final.place + e.final.length = ap end_of_last e.leaves ∙ last_end_is (e.first ∷ e.mid) e.final in
       let h : first_place Y ≡ f.first.place = ap first_place f.leaves in
       let R = (f.mid ++ (f.final ∷ [])) ++ B in
@@ -193,7 +193,7 @@ module _ (a x m y b : List ℕ) (t : Tables) (accepts : reading (a ++ (x ++ (m +
   pub unchanged : ReadsUnchanged s u
   unchanged =
       let d = n.derivation in
-      let k = exchanged s d.tree n.before n.after n.one n.other t n.objects-are n.different (sym (reading_derived s covered d) ∙ accepts) in
+      let k = exchanged s d.tree n.before n.after n.one n.other t n.objects_are n.different (sym (reading_derived s covered d) ∙ accepts) in
       let c = carried s u (with_objects d.tree (n.before ++ (n.other ∷ n.one ∷ n.after))) k.tables
       (record { short = short; divides = divides; shallow = shallow }) exchanged_words k.accepts in
       record {

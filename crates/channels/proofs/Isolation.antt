@@ -69,7 +69,7 @@ module _ (a i b : List ℕ) (x : Inside a i b) where
   E = with_objects T (x.before ++ (emptied x.this ∷ x.after))
 
   pub object_of : Braced x.this x.pair
-  object_of = braced x.this x.pair x.braces-are
+  object_of = braced x.this x.pair x.braces_are
 
   -- The tokens up to the `{`, and those from the `}` on.
   abbrev pub F : List Token
@@ -83,7 +83,7 @@ module _ (a i b : List ℕ) (x : Inside a i b) where
       let o = object_of in
       let A = front_leaves T ++ all_leaves x.before in
       let B = all_leaves x.after ++ back_leaves T in
-      sym x.derivation.leaves ∙ ap Leaves-of (sym (with_own T) ∙ ap (with_objects T) x.objects-are) ∙ one_leaves T x.before x.after x.this
+      sym x.derivation.leaves ∙ ap Leaves-of (sym (with_own T) ∙ ap (with_objects T) x.objects_are) ∙ one_leaves T x.before x.after x.this
       ∙ ap (λ l. A ++ (l ++ B)) o.leaves
       ∙ ap (λ l. A ++ (o.kind ∷ o.name ∷ x.pair.opening ∷ l)) (append_assoc o.inner (x.pair.closing ∷ o.rest) B)
       ∙ sym (append_assoc A (o.kind ∷ o.name ∷ []) (x.pair.opening ∷ (o.inner ++ (x.pair.closing ∷ R))))
@@ -94,14 +94,14 @@ module _ (a i b : List ℕ) (x : Inside a i b) where
       let o = object_of in
       let A = front_leaves T ++ all_leaves x.before in
       let B = all_leaves x.after ++ back_leaves T in
-      one_leaves T x.before x.after (emptied x.this) ∙ ap (λ l. A ++ (l ++ B)) o.emptied-leaves
+      one_leaves T x.before x.after (emptied x.this) ∙ ap (λ l. A ++ (l ++ B)) o.emptied_leaves
       ∙ sym (append_assoc A (o.kind ∷ o.name ∷ []) (x.pair.opening ∷ (x.pair.closing ∷ R)))
       ∙ sym (append_assoc F (x.pair.opening ∷ []) (x.pair.closing ∷ R))
 
   -- Their words are those of a and of b, whatever stands between.
   pub front_words : each (plain_word s) (F ++ (x.pair.opening ∷ [])) ≡ words_in a
   front_words =
-      piece_says (until_says a (i ++ b) F x.pair.opening (object_of.inner ++ (x.pair.closing ∷ R)) whole x.opens (brace_stops x.pair.opening.class object_of.opening-is))
+      piece_says (until_says a (i ++ b) F x.pair.opening (object_of.inner ++ (x.pair.closing ∷ R)) whole x.opens (brace_stops x.pair.opening.class object_of.opening_is))
 
   rest_words : each (plain_word s) (x.pair.closing ∷ R) ≡ words_in b
   rest_words =
@@ -132,7 +132,7 @@ module _ (a i b : List ℕ) (x : Inside a i b) where
       let d = x.derivation in
       channel_derived s w d k n
       ∙ channel_is_alone (syntax s T) t (syntax_plain s T) (numbered s T).1.0 (sym (reading_derived s w d) ∙ e) k n
-      ∙ emptied_alone s T x.before x.after x.this x.objects-are k n h
+      ∙ emptied_alone s T x.before x.after x.this x.objects_are k n h
       ∙ sym (channel_alone_unplaced (syntax s E) k n)
 
 -- Two texts ----------------------------------------------------------------------------------------------------------------------------------
@@ -143,7 +143,7 @@ unfolding syntax bare_parts bare_M
 same_syntax s u t v e =
     let p = planted (lifted s t) u (Leaves-of v) (sym e) in
     let q : p.tree ≡ v = one_derivation (Leaves-of v) (record { tree = p.tree; leaves = p.leaves }) (record { tree = v; leaves = refl }) in
-    sym (ap (λ (z : Trees ◌⟶◌ (file ▸ ∎)). unplaced (meaning u z).0) (sym q) ∙ ap (λ m. m.0) p.meaning-is)
+    sym (ap (λ (z : Trees ◌⟶◌ (file ▸ ∎)). unplaced (meaning u z).0) (sym q) ∙ ap (λ m. m.0) p.meaning_is)
 
 same_key : (s u : List ℕ) (t v n m : Token) → plain_word s t ≡ plain_word u v → plain_word s n ≡ plain_word u m
     → ◌≡◌ {A = Key} (record { kind = kind_of (word_of s t).class; name = (word_of s n).bytes }) (record { kind = kind_of (word_of u v).class; name = (word_of u m).bytes })

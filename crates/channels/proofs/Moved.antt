@@ -103,7 +103,7 @@ pub transplanted : (s u : List ℕ) (t : Trees ◌⟶◌ (file ▸ ∎)) → eac
 unfolding syntax bare_parts bare_M
 transplanted s u t e =
     let p = planted (lifted s t) u (tokens u) e in
-    record { derivation = record { tree = p.tree; leaves = p.leaves }; syntax_is = ap (λ m. m.0) p.meaning-is }
+    record { derivation = record { tree = p.tree; leaves = p.leaves }; syntax_is = ap (λ m. m.0) p.meaning_is }
 
 -- Where one is accepted, so is the other.
 record Accepts (a : Answer) : Type 0 where
@@ -125,10 +125,10 @@ pub carried : (s u : List ℕ) (t : Trees ◌⟶◌ (file ▸ ∎)) (x : Tables)
 carried s u t x w e a =
     let p = transplanted s u t e in
     let f = syntax u p.derivation.tree in
-    let b = ap answer p.syntax-is ∙ accepts_unplaced x (answer_unplaced (syntax s t)) a in
+    let b = ap answer p.syntax_is ∙ accepts_unplaced x (answer_unplaced (syntax s t)) a in
     let c = placed_accepts _ (answer_unplaced f) b in
     record {
       tables = c.placed;
-      accepts = reading_derived u w p.derivation ∙ c.accepted-as;
-      channels = λ k n. channel_derived u w p.derivation k n ∙ sym (channel_unplaced f k n) ∙ ap (λ g. channel g k n) p.syntax-is ∙ channel_unplaced (syntax s t) k n;
+      accepts = reading_derived u w p.derivation ∙ c.accepted_as;
+      channels = λ k n. channel_derived u w p.derivation k n ∙ sym (channel_unplaced f k n) ∙ ap (λ g. channel g k n) p.syntax_is ∙ channel_unplaced (syntax s t) k n;
     }

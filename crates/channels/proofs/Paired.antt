@@ -115,18 +115,18 @@ module _ (a i j b : List ℕ) (x : Inside a i b) (u : Tables) (accepts : reading
   n = length y.front
 
   level : Level 0 y.inner
-  level = record { front = λ l m e. let h = y.never-more l m e in omega arith; total = let h = y.as_many in omega arith }
+  level = record { front = λ l m e. let h = y.never_more l m e in omega arith; total = let h = y.as_many in omega arith }
 
   cleared_leaves : Leaves-of (empty_at T n) ≡ (y.front ++ (y.opening ∷ [])) ++ (y.closing ∷ y.back)
   unfolding neat
   cleared_leaves =
-      empty_tokens y.closing y.is-closing y.opening y.is-opening T y.front y.inner y.back refl (derivation.leaves ∙ y.whole) level
+      empty_tokens y.closing y.is_closing y.opening y.is_opening T y.front y.inner y.back refl (derivation.leaves ∙ y.whole) level
       ∙ sym (append_assoc y.front (y.opening ∷ []) (y.closing ∷ y.back))
 
   opening_words : each (plain_word v) (y.front ++ (y.opening ∷ [])) ≡ words_in a
   opening_words =
       piece_says (until_says a (j ++ b) y.front y.opening (y.inner ++ (y.closing ∷ y.back))
-      (y.whole ∙ sym (append_assoc y.front (y.opening ∷ []) (y.inner ++ (y.closing ∷ y.back)))) y.opens_at (brace_stops y.opening.class y.is-opening))
+      (y.whole ∙ sym (append_assoc y.front (y.opening ∷ []) (y.inner ++ (y.closing ∷ y.back)))) y.opens_at (brace_stops y.opening.class y.is_opening))
 
   closing_words : each (plain_word v) (y.closing ∷ y.back) ≡ words_in b
   closing_words =
@@ -193,7 +193,7 @@ module _ (a i j b : List ℕ) (x : Inside a i b) (u : Tables) (accepts : reading
         after = r.after;
         objects_are = r.whole;
         pair = record { opening = y.opening; closing = y.closing };
-        braces_are = object_third r.this Q y.opening y.closing y.inner y.back d y.is-opening y.is-closing level;
+        braces_are = object_third r.this Q y.opening y.closing y.inner y.back d y.is_opening y.is_closing level;
         opens = y.opens_at;
         closes = y.closes_at;
       }

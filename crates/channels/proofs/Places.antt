@@ -35,7 +35,7 @@ object_range s A X B e x =
     let j = lexemes_split s A (X ++ B) e in
     let k = split token_of j.back X B j.back_is in
     let g = leading s 0 j.front j.back j.whole in
-    let f = heading k.front x.first (x.mid ++ (x.final ∷ [])) (k.front-is ∙ x.leaves) in
+    let f = heading k.front x.first (x.mid ++ (x.final ∷ [])) (k.front_is ∙ x.leaves) in
     let h = first s g.end f.head (f.rest ++ k.back) (g.rest ∙ k.whole ∙ ap (◌++ k.back) f.whole) in
     let o = found_fits s g.end f.head h.next h.step in
     let n = o.next in
@@ -45,7 +45,7 @@ object_range s A X B e x =
     let y = slice s f.head.at k.front k.back (omega arith) l in
     let p : first_place X ≡ f.head.at = ap first_place x.leaves ∙ sym f.place_is in
     let q : end_of_last X ≡ y.end =
-    ap end_of_last x.leaves ∙ last_end_is (x.first ∷ x.mid) x.final ∙ sym (last_place k.front f.head.at (x.first ∷ x.mid) x.final (k.front-is ∙ x.leaves)) ∙ y.last in
+    ap end_of_last x.leaves ∙ last_end_is (x.first ∷ x.mid) x.final ∙ sym (last_place k.front f.head.at (x.first ∷ x.mid) x.final (k.front_is ∙ x.leaves)) ∙ y.last in
     let u = y.low in
     let v = y.high in
     record { low = omega arith; high = omega arith }
@@ -60,7 +60,7 @@ begins_behind s A c t R e =
     let o = found_fits s g.end f.head h.next h.step in
     let a = o.after in
     let p = f.place_is in
-    let q : c.place + c.length ≡ g.end = sym (last_place j.front 0 A c j.front-is) ∙ run_last s g.end 0 j.front g.run in
+    let q : c.place + c.length ≡ g.end = sym (last_place j.front 0 A c j.front_is) ∙ run_last s g.end 0 j.front g.run in
     omega arith
 
 -- The text by its parts.

@@ -102,12 +102,12 @@ front_says a z A t R e i h =
     let j = lexemes_split s A (t ∷ R) e in
     let f = heading j.back t R j.back_is in
     let k : tokens_of (lex_from s 0) ≡ j.front ++ (f.head ∷ f.rest) = j.whole ∙ ap (j.front ++◌) f.whole in
-    let p = piece_until a z j.front f.rest f.head k (f.place_is ∙ i) (ending_last j.front (subst Ending (sym j.front-is) h)) in
+    let p = piece_until a z j.front f.rest f.head k (f.place_is ∙ i) (ending_last j.front (subst Ending (sym j.front_is) h)) in
     let r = leading s 0 j.front j.back j.whole in
     record {
       tokens = j.front;
       piece = p;
-      words = sym (words_kept a z j.front p.inside) ∙ sym (run_words s r.end 0 j.front r.run) ∙ ap (each (plain_word s)) j.front-is;
+      words = sym (words_kept a z j.front p.inside) ∙ sym (run_words s r.end 0 j.front r.run) ∙ ap (each (plain_word s)) j.front_is;
     }
 
 -- Where the last of tokens ends.
@@ -127,7 +127,7 @@ pub record Ends (X : List Token) : Type 0 where
 
 pub object_ending : {X : List Token} → Ends X → Ending X
 object_ending x =
-    subst Ending (sym x.leaves) (ending_append (x.first ∷ x.mid) (x.final ∷ []) (semicolon_stops x.final.class x.final-is))
+    subst Ending (sym x.leaves) (ending_append (x.first ∷ x.mid) (x.final ∷ []) (semicolon_stops x.final.class x.final_is))
 
 pub object_says : (s : List ℕ) (A X B : List Token) → tokens s ≡ A ++ (X ++ B) → Ends X → Says false (bytes_between s (first_place X) (end_of_last X)) (each (plain_word s) X)
 unfolding part through word_of first_place
@@ -137,7 +137,7 @@ object_says s A X B e x =
     let j = lexemes_split s A (X ++ B) e in
     let k = split token_of j.back X B j.back_is in
     let g = leading s 0 j.front j.back j.whole in
-    let y = copy s g.end k.back i c x.mid x.final-is k.front (g.rest ∙ k.whole) (k.front-is ∙ x.leaves) in
+    let y = copy s g.end k.back i c x.mid x.final_is k.front (g.rest ∙ k.whole) (k.front_is ∙ x.leaves) in
     let p : first_place X ≡ i.place = ap first_place x.leaves in
     let q : end_of_last X ≡ c.place + c.length = ap end_of_last x.leaves ∙ last_end_is (i ∷ x.mid) c in
     subst (λ b. Says false b (each (plain_word s) X)) (ap₂ (λ (m n : ℕ). take (n - m) (drop m s)) (sym p) (sym q))
@@ -152,7 +152,7 @@ between_says a m z A c t R e l i =
     let j = lexemes_split s (A ++ (c ∷ [])) (t ∷ R) e in
     let f = heading j.back t R j.back_is in
     let k : tokens_of (lex_from s 0) ≡ j.front ++ (f.head ∷ f.rest) = j.whole ∙ ap (j.front ++◌) f.whole in
-    record { tokens = []; piece = piece_between a m z j.front f.rest f.head k (last_place j.front 0 A c j.front-is ∙ l) (f.place_is ∙ i); words = refl }
+    record { tokens = []; piece = piece_between a m z j.front f.rest f.head k (last_place j.front 0 A c j.front_is ∙ l) (f.place_is ∙ i); words = refl }
 
 -- The rest -----------------------------------------------------------------------------------------------------------------------------------
 
@@ -188,13 +188,13 @@ until_says a z A c R e l h =
     let s = a ++ z in
     let j = lexemes_split s (A ++ (c ∷ [])) R e in
     let r = leading s 0 j.front j.back j.whole in
-    let n : r.end ≡ length a = sym (run_last s r.end 0 j.front r.run) ∙ last_place j.front 0 A c j.front-is ∙ l in
+    let n : r.end ≡ length a = sym (run_last s r.end 0 j.front r.run) ∙ last_place j.front 0 A c j.front_is ∙ l in
     let p = piece_run false a z j.front (subst (λ (i : ℕ). Run s i 0 j.front) n r.run)
-    (λ b _. ending_last j.front (subst Ending (sym j.front-is) (ending_append A (c ∷ []) h)) b) in
+    (λ b _. ending_last j.front (subst Ending (sym j.front_is) (ending_append A (c ∷ []) h)) b) in
     record {
       tokens = j.front;
       piece = p;
-      words = sym (words_kept a z j.front p.inside) ∙ sym (run_words s r.end 0 j.front r.run) ∙ ap (each (plain_word s)) j.front-is;
+      words = sym (words_kept a z j.front p.inside) ∙ sym (run_words s r.end 0 j.front r.run) ∙ ap (each (plain_word s)) j.front_is;
     }
 
 -- A piece says the words of its text.

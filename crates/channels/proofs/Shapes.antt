@@ -57,7 +57,7 @@ replant (leaf {a} t m ts) (u ∷ l) e =
     record { trees = leaf u (ap (matches a) i ∙ m) r.trees; leaves = ap (u ∷◌) r.leaves; same = ap token r.same }
 replant (node p us ts) l e =
     let k = split (λ (t : Token). t.class) l (classes (Leaves-of us)) (classes (Leaves-of ts)) (e ∙ map-append (λ (t : Token). t.class) (Leaves-of us) (Leaves-of ts)) in
-    let a = replant us k.front k.front-is in
+    let a = replant us k.front k.front_is in
     let b = replant ts k.back k.back_is in
     record { trees = node p a.trees b.trees; leaves = ap₂ ◌++◌ a.leaves b.leaves ∙ sym k.whole; same = ap₂ tree a.same b.same }
 

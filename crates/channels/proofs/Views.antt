@@ -85,12 +85,12 @@ standing (x ∷ xs) n k t (counts_more e c) h = go (both (same_kind k x.kind) (a
     go false q f i =
         let r = f i in
         let w = r.row_is in
-        record { place = suc r.place; row_is = (let z : row_or (find_object k xs t) ≡ n + suc r.place = omega arith in z); key_is = r.key-is }
+        record { place = suc r.place; row_is = (let z : row_or (find_object k xs t) ≡ n + suc r.place = omega arith in z); key_is = r.key_is }
 
 -- A reference that finds an object leads to it.
 pub leads : (os : List Object) (k : Kind) (t : Word) → Counts 0 (object_numbers os) → is_there (find_object k os t) ≡ true
     → key_at (row_or (find_object k os t)) os ≡ some (record { kind = k; name = t.bytes })
-leads os k t c h = let r = standing os 0 k t c h in ap (λ i. key_at i os) (r.row_is ∙ zero-add r.place) ∙ r.key-is
+leads os k t c h = let r = standing os 0 k t c h in ap (λ i. key_at i os) (r.row_is ∙ zero-add r.place) ∙ r.key_is
 
 -- Values -------------------------------------------------------------------------------------------------------------------------------------
 

@@ -198,7 +198,7 @@ passes nil a b h e = record { apart_is = refl; last = h }
 passes (leaf {a = x} {f} t m ts) a b h e =
     let p = both (not (a && takes_name x)) (fine (takes_kind x) f) e in
     let r = passes ts (takes_kind x) (is_kind t) (λ k. kinds_is x t.class m k) p.1 in
-    record { apart_is = and_true (no_meeting a b (takes_name x) (is_name t.class) h (λ k. names_is x t.class m k) p.0) r.apart-is; last = r.last }
+    record { apart_is = and_true (no_meeting a b (takes_name x) (is_name t.class) h (λ k. names_is x t.class m k) p.0) r.apart_is; last = r.last }
 passes (node {x} {g} {f} p us ts) a b h e =
     let q₁ = both (leb 1 (way x)) (not (a && not (leb 3 (way x))) && fine (a || ends_open x) f) e in
     let q₂ = both (not (a && not (leb 3 (way x)))) (fine (a || ends_open x) f) q₁.1 in
@@ -206,7 +206,7 @@ passes (node {x} {g} {f} p us ts) a b h e =
     let u = passes us a b h s.0 in
     let v = passes ts (a || ends_open x) (kind_at b (Leaves-of us)) (λ k. implied (open_at a g) (a || ends_open x) s.1 (u.last k)) q₂.1 in
     record {
-      apart_is = apart_append b (Leaves-of us) (Leaves-of ts) u.apart-is v.apart-is;
+      apart_is = apart_append b (Leaves-of us) (Leaves-of ts) u.apart_is v.apart_is;
       last = λ k. v.last (sym (at_append b (Leaves-of us) (Leaves-of ts)) ∙ k);
     }
 
@@ -217,7 +217,7 @@ record Closed (l : List Token) : Type 0 where
 
 closed : {f : Form} (ts : Trees ◌⟶◌ f) → fine false f ≡ true → (open_at false f ≡ true → ⊥) → Closed (Leaves-of ts)
 closed ts h k =
-    let r = passes ts false false (λ e. e) h in record { apart_is = r.apart-is; last = not_true (kind_at false (Leaves-of ts)) (λ e. k (r.last e)) }
+    let r = passes ts false false (λ e. e) h in record { apart_is = r.apart_is; last = not_true (kind_at false (Leaves-of ts)) (λ e. k (r.last e)) }
 
 -- Behind such tokens -----------------------------------------------------------------------------------------------------------------------------
 
@@ -249,7 +249,7 @@ past b (f ∷ F) M (x ∷ A) t u Q p q k n e =
     let i : f ≡ x = cc in
     let j : F ++ M ≡ A ++ (t ∷ u ∷ Q) = cc in
     let r = past (is_kind f) F M A t u Q (both (not (b && is_name f.class)) (apart (is_kind f) F) p).1 q k n j in
-    record { rest = r.rest; front_is = ap₂ ◌∷◌ (sym i) r.front-is; back_is = r.back_is }
+    record { rest = r.rest; front_is = ap₂ ◌∷◌ (sym i) r.front_is; back_is = r.back_is }
 
 -- An object by its first two tokens.
 record Headed (x : ObjectTree) : Type 0 where
@@ -284,18 +284,18 @@ begun : (os : List ObjectTree) (B A : List Token) (t u : Token) (Q : List Token)
     → all_leaves os ++ B ≡ A ++ (t ∷ u ∷ Q) → Begun os A (t ∷ u ∷ Q) B
 unfolding all_leaves
 begun [] B A t u Q c k n e =
-    let r = past false B [] A t u Q c.apart-is c.last k n (append-nil B ∙ e) in absurd (no_end r.rest t (u ∷ Q) r.back_is)
+    let r = past false B [] A t u Q c.apart_is c.last k n (append-nil B ∙ e) in absurd (no_end r.rest t (u ∷ Q) r.back_is)
 begun (o ∷ os) B [] t u Q c k n e =
     record { before = []; this = o; after = os; whole = refl; rest_is = sym (append_assoc (Leaves-of o) (all_leaves os) B) ∙ e }
 begun (o ∷ os) B (x ∷ A) t u Q c k n e =
     let h = headed o in
-    let L = h.name-token ∷ h.rest in
-    let w : h.kind-token ∷ (L ++ (all_leaves os ++ B)) ≡ x ∷ (A ++ (t ∷ u ∷ Q)) =
+    let L = h.name_token ∷ h.rest in
+    let w : h.kind_token ∷ (L ++ (all_leaves os ++ B)) ≡ x ∷ (A ++ (t ∷ u ∷ Q)) =
     sym (append_assoc (Leaves-of o) (all_leaves os) B ∙ ap (◌++ (all_leaves os ++ B)) h.leaves) ∙ e in
     let v : L ++ (all_leaves os ++ B) ≡ A ++ (t ∷ u ∷ Q) = cc in
-    let p = past false L (all_leaves os ++ B) A t u Q h.closed_is.apart-is h.closed_is.last k n v in
+    let p = past false L (all_leaves os ++ B) A t u Q h.closed_is.apart_is h.closed_is.last k n v in
     let r = begun os B p.rest t u Q c k n p.back_is in
-    record { before = o ∷ r.before; this = r.this; after = r.after; whole = ap (o ∷◌) r.whole; rest_is = r.rest-is }
+    record { before = o ∷ r.before; this = r.this; after = r.after; whole = ap (o ∷◌) r.whole; rest_is = r.rest_is }
 
 -- Of a file.
 front_closed : (t : Trees ◌⟶◌ (file ▸ ∎)) → Closed (front_leaves t)
@@ -405,9 +405,9 @@ second : (os before after : List ObjectTree) (one x y : ObjectTree) (R B : List 
 unfolding all_leaves
 second os before [] one x y R B c w e f =
     let h = headed y in
-    let g : [] ++ B ≡ [] ++ (h.kind-token ∷ h.name-token ∷ (h.rest ++ R)) = f ∙ ap (◌++ R) h.leaves in
-    let r = past false B [] [] h.kind-token h.name-token (h.rest ++ R) c.apart-is c.last h.kind-is h.name-is (append-nil B ∙ g) in
-    absurd (no_end r.rest h.kind-token (h.name-token ∷ (h.rest ++ R)) r.back_is)
+    let g : [] ++ B ≡ [] ++ (h.kind_token ∷ h.name_token ∷ (h.rest ++ R)) = f ∙ ap (◌++ R) h.leaves in
+    let r = past false B [] [] h.kind_token h.name_token (h.rest ++ R) c.apart_is c.last h.kind_is h.name_is (append-nil B ∙ g) in
+    absurd (no_end r.rest h.kind_token (h.name_token ∷ (h.rest ++ R)) r.back_is)
 second os before (o ∷ after) one x y R B c w e f =
     let s = same_object o y (all_leaves after ++ B) R (sym (append_assoc (Leaves-of o) (all_leaves after) B) ∙ f) in
     record { before = before; one = one; other = o; after = after; whole = w; one_is = e; other_is = s.front }
@@ -421,9 +421,9 @@ two_parts_in t x y A R e =
     let B = back_leaves t in
     let c = front_closed t in
     let b = back_closed t in
-    let w : F ++ (all_leaves os ++ B) ≡ A ++ (h.kind-token ∷ h.name-token ∷ L) =
+    let w : F ++ (all_leaves os ++ B) ≡ A ++ (h.kind_token ∷ h.name_token ∷ L) =
     sym (ap Leaves-of (sym (with_own t)) ∙ with_trees t os) ∙ e ∙ ap (λ l. A ++ (l ++ (Leaves-of y ++ R))) h.leaves in
-    let p = past false F (all_leaves os ++ B) A h.kind-token h.name-token L c.apart-is c.last h.kind-is h.name-is w in
-    let r = begun os B p.rest h.kind-token h.name-token L b h.kind-is h.name-is p.back_is in
-    let s = same_object r.this x (all_leaves r.after ++ B) (Leaves-of y ++ R) (r.rest-is ∙ sym (ap (◌++ (Leaves-of y ++ R)) h.leaves)) in
+    let p = past false F (all_leaves os ++ B) A h.kind_token h.name_token L c.apart_is c.last h.kind_is h.name_is w in
+    let r = begun os B p.rest h.kind_token h.name_token L b h.kind_is h.name_is p.back_is in
+    let s = same_object r.this x (all_leaves r.after ++ B) (Leaves-of y ++ R) (r.rest_is ∙ sym (ap (◌++ (Leaves-of y ++ R)) h.leaves)) in
     second os r.before r.after r.this x y R B b r.whole s.front s.back

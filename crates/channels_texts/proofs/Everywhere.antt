@@ -221,7 +221,7 @@ module _ (s : List ℕ) (d : Derivation (tokens s)) (o : ℕ) (x m y : List ℕ)
   meet : (p : ℕ) (pre l : List ObjectTree) (g : List ℕ) (A : PartsAt s d (p + length g) x m y) → Here p pre l → p + (length g + length v) ≤ length s
       → Found pre l A.before A.one (A.other ∷ A.after) → Met p pre l g A
   meet p pre l g A k n (in_first dd e) =
-      absurd (let a = end_one A.before A.one dd p (subst (λ z. AllEnd z p) e k.ended) in let b = A.one-ends in let c = some in omega arith)
+      absurd (let a = end_one A.before A.one dd p (subst (λ z. AllEnd z p) e k.ended) in let b = A.one_ends in let c = some in omega arith)
   meet p pre l g A k n (in_second mid e f) =
       let X = Leaves-of A.one in
       let Y = Leaves-of A.other in
@@ -230,10 +230,10 @@ module _ (s : List ℕ) (d : Derivation (tokens s)) (o : ℕ) (x m y : List ℕ)
       let T = spread pre mid A.one A.other A.after whole in
       let c = chain s mid k.behind X (Y ++ (all_leaves A.after ++ back_leaves d.tree)) (object_ends A.one) T in
       let low = c.low in
-      let b₁ = A.one-begins in
-      let b₂ = A.one-ends in
-      let b₃ = A.other-begins in
-      let b₄ = A.other-ends in
+      let b₁ = A.one_begins in
+      let b₂ = A.one_ends in
+      let b₃ = A.other_begins in
+      let b₄ = A.other_ends in
       let vl = v_long in
       let q : end_of_last Y ≡ p + (length g + length v) = omega arith in
       let behind : Behind s (p + (length g + length v)) (F ++ all_leaves (pre ++ (mid ++ (A.one ∷ A.other ∷ [])))) =
@@ -256,11 +256,11 @@ module _ (s : List ℕ) (d : Derivation (tokens s)) (o : ℕ) (x m y : List ℕ)
   finish p pre l g r r' A k M f e =
       let X = Leaves-of A.one in
       let Y = Leaves-of A.other in
-      let b₄ = A.other-ends in
+      let b₄ = A.other_ends in
       let vl = v_long in
       let q : p + (length g + length v) ≡ end_of_last Y = omega arith in
-      let b = bytes_at p g r X Y k.inside f A.one-begins A.one-ends A.other-begins A.other-ends in
-      let i = steps s M.mid k.behind A.one A.other A.after (Y ++ (all_leaves A.after ++ back_leaves d.tree)) r' M.tokens-are A.different
+      let b = bytes_at p g r X Y k.inside f A.one_begins A.one_ends A.other_begins A.other_ends in
+      let i = steps s M.mid k.behind A.one A.other A.after (Y ++ (all_leaves A.after ++ back_leaves d.tree)) r' M.tokens_are A.different
       (subst (λ (z : ℕ). Exchanges s z A.after r') q e) in
       let t : bytes_between s p (first_place X) ++ (bytes_between s (first_place Y) (end_of_last Y) ++ (bytes_between s (end_of_last X) (first_place Y) ++ (bytes_between s (first_place X) (end_of_last X) ++ r')))
       ≡ g ++ (w ++ r') =
@@ -278,7 +278,7 @@ module _ (s : List ℕ) (d : Derivation (tokens s)) (o : ℕ) (x m y : List ℕ)
       let n₆ = k.inside in
       let sm = some in
       let A = all (p + length g) (omega arith) (sym (ap (λ z. get_or z (length g) 0) e ∙ get_or-drop p O (length g) 0) ∙ i) in
-      let M = meet p pre l g A k (omega arith) (found pre l A.before A.one (A.other ∷ A.after) (sym k.whole ∙ A.objects-are)) in
+      let M = meet p pre l g A k (omega arith) (found pre l A.before A.one (A.other ∷ A.after) (sym k.whole ∙ A.objects_are)) in
       let c : r ≡ drop (p + (length g + length v)) s =
       sym (ap₂ (λ (z : ℕ) (u : List ℕ). drop z u) (sym (length-append g v)) (sym (append_assoc g v r)) ∙ drop-append_seam (g ++ v) r) ∙ ap (drop (length g + length v)) f ∙ drop-drop (length g + length v) p s in
       finish p pre l g r r' A k M f

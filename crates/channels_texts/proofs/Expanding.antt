@@ -198,7 +198,7 @@ module _ (P a x m y c Q l : List ℕ) (n : ℕ) where
     same = alike a x m y c i
 
     pub x_some : 0 < length x
-    x_some = some x i.one-semicolon
+    x_some = some x i.one_semicolon
       where
         some : (t : List ℕ) → byte t (length t - 1) ≡ 59 → 0 < length t
         some [] e = absurd (let q : ◌≡◌ {A = ℕ} 0 59 = e in omega arith)

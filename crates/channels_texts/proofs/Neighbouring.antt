@@ -166,26 +166,26 @@ module _ (a x m y c : List ℕ) (i : InText a x m y c) (different : OfTwo a x m 
 
   words_x : each (plain_word u) X' ≡ each (plain_word s) (Leaves-of i.one)
   words_x =
-      one_words x m y p.one p.between-both p.other G H ts pg
-      ∙ sym (one_words x m y p.one p.between-both p.other k c p.front.tokens p.front.piece)
+      one_words x m y p.one p.between_both p.other G H ts pg
+      ∙ sym (one_words x m y p.one p.between_both p.other k c p.front.tokens p.front.piece)
       ∙ ap (each (plain_word s)) (ap (λ (j : ℕ). map token_of (map (moved j) p.one.tokens)) (sym (own a x m y c i).begins) ∙ p.one.are)
 
   words_y : each (plain_word u) Y' ≡ each (plain_word s) (Leaves-of i.other)
   words_y =
       let e : length (k ++ (x ++ m)) ≡ first_place (Leaves-of i.other) = length-append k (x ++ m) ∙ ap (length k +◌) (length-append x m) ∙ sym (own a x m y c i).begins' in
-      other_words x m y p.one p.between-both p.other G H ts pg
-      ∙ sym (other_words x m y p.one p.between-both p.other k c p.front.tokens p.front.piece)
+      other_words x m y p.one p.between_both p.other G H ts pg
+      ∙ sym (other_words x m y p.one p.between_both p.other k c p.front.tokens p.front.piece)
       ∙ ap (each (plain_word s)) (ap (λ (j : ℕ). map token_of (map (moved j) p.other.tokens)) e ∙ p.other.are)
 
   key_same : (o z : ObjectTree) (l : List Token) → Leaves-of o ≡ l → each (plain_word u) l ≡ each (plain_word s) (Leaves-of z)
       → key_in (drop i.from (a ++ (x ++ (m ++ (y ++ c))))) z ≡ key_in u o
   key_same o z l e w =
-      ap (λ (t : List ℕ). key_in t z) (own a x m y c i).text-is ∙ key_is s z ∙ ap key_by (sym w) ∙ ap (λ (t : List Token). key_by (each (plain_word u) t)) (sym e) ∙ sym (key_is u o)
+      ap (λ (t : List ℕ). key_in t z) (own a x m y c i).text_is ∙ key_is s z ∙ ap key_by (sym w) ∙ ap (λ (t : List Token). key_by (each (plain_word u) t)) (sym e) ∙ sym (key_is u o)
 
   parts : (d : Derivation (tokens u)) → PartsAt u d (length G) x m y
   parts d =
       let cx = p.one in
-      let pm = p.between-both in
+      let pm = p.between_both in
       let cy = p.other in
       let A = map token_of ts in
       let R = map token_of (map (moved (length (G ++ (x ++ m)))) (map (moved (length y)) (tokens_of (lex_from H 0)))) in
@@ -194,8 +194,8 @@ module _ (a x m y c : List ℕ) (i : InText a x m y c) (different : OfTwo a x m 
       let w : Leaves-of d.tree ≡ A ++ (Leaves-of one.tree ++ (Leaves-of other.tree ++ R)) =
       d.leaves ∙ both_tokens x m y cx pm cy G H ts pg ∙ ap₂ (λ (v t : List Token). A ++ (v ++ (t ++ R))) (sym one.leaves) (sym other.leaves) in
       let t = two_parts_in d.tree one.tree other.tree A R w in
-      let e₁ : Leaves-of t.one ≡ X' = t.one-is ∙ one.leaves in
-      let e₂ : Leaves-of t.other ≡ Y' = t.other-is ∙ other.leaves in
+      let e₁ : Leaves-of t.one ≡ X' = t.one_is ∙ one.leaves in
+      let e₂ : Leaves-of t.other ≡ Y' = t.other_is ∙ other.leaves in
       let n = y_place x m y cx pm cy G H ts pg in
       let f = other_begins x m y cx pm cy G H ts pg in
       let g = other_ends x m y cx pm cy G H ts pg in

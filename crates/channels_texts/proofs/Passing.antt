@@ -78,7 +78,7 @@ cut_object d A X B e o x w =
     let j = lexemes_split d A (X ++ B) e in
     let k = split token_of j.back X B j.back_is in
     let g = leading d 0 j.front j.back j.whole in
-    let f = heading k.front o.first (o.mid ++ (o.final ∷ [])) (k.front-is ∙ o.leaves) in
+    let f = heading k.front o.first (o.mid ++ (o.final ∷ [])) (k.front_is ∙ o.leaves) in
     let h = first d g.end f.head (f.rest ++ k.back) (g.rest ∙ k.whole ∙ ap (◌++ k.back) f.whole) in
     let i = found_fits d g.end f.head h.next h.step in
     let n = i.next in
@@ -87,16 +87,16 @@ cut_object d A X B e o x w =
     let y = slice d f.head.at k.front k.back (omega arith) l in
     let p : first_place X ≡ f.head.at = ap first_place o.leaves ∙ sym f.place_is in
     let q : end_of_last X ≡ y.end =
-    ap end_of_last o.leaves ∙ last_end_is (o.first ∷ o.mid) o.final ∙ sym (last_place k.front f.head.at (o.first ∷ o.mid) o.final (k.front-is ∙ o.leaves)) ∙ y.last in
+    ap end_of_last o.leaves ∙ last_end_is (o.first ∷ o.mid) o.final ∙ sym (last_place k.front f.head.at (o.first ∷ o.mid) o.final (k.front_is ∙ o.leaves)) ∙ y.last in
     let v : bytes_between d f.head.at y.end ≡ x = ap₂ (bytes_between d) (sym p) (sym q) ∙ w in
     let r : Run (x ++ drop y.end d) (length x) 0 y.tokens = subst (λ (z : List ℕ). Run (z ++ drop y.end d) (length z) 0 y.tokens) v y.run in
     let c : Ending (map token_of y.tokens) =
-    ending_unmoved f.head.at y.tokens (subst Ending (sym (ap (map token_of) y.moved-are ∙ k.front-is)) (object_ending o)) in
+    ending_unmoved f.head.at y.tokens (subst Ending (sym (ap (map token_of) y.moved_are ∙ k.front_is)) (object_ending o)) in
     record {
       tokens = y.tokens;
       piece = piece_run false x (drop y.end d) y.tokens r (λ b _. ending_last y.tokens c b);
-      last = map_first f.head.at y.tokens f.head f.rest (y.moved-are ∙ f.whole) (length x) (run_last (x ++ drop y.end d) (length x) 0 y.tokens r);
-      are = ap (λ (i : ℕ). map token_of (map (moved i) y.tokens)) p ∙ ap (map token_of) y.moved-are ∙ k.front-is;
+      last = map_first f.head.at y.tokens f.head f.rest (y.moved_are ∙ f.whole) (length x) (run_last (x ++ drop y.end d) (length x) 0 y.tokens r);
+      are = ap (λ (i : ℕ). map token_of (map (moved i) y.tokens)) p ∙ ap (map token_of) y.moved_are ∙ k.front_is;
     }
 
 -- Past two objects -----------------------------------------------------------------------------------------------------------------------------
@@ -165,7 +165,7 @@ front_piece a z A t R e i h =
     let f = heading j.back t R j.back_is in
     record {
       tokens = j.front;
-      piece = piece_until a z j.front f.rest f.head (j.whole ∙ ap (j.front ++◌) f.whole) (f.place_is ∙ i) (h j.front j.front-is);
+      piece = piece_until a z j.front f.rest f.head (j.whole ∙ ap (j.front ++◌) f.whole) (f.place_is ∙ i) (h j.front j.front_is);
     }
 
 -- What stands between the tokens A, of which the last is c, and the token t.
@@ -174,7 +174,7 @@ gap_piece : (a m z : List ℕ) (A : List Token) (c t : Token) (R : List Token) �
 gap_piece a m z A c t R e l i =
     let j = lexemes_split (a ++ (m ++ z)) (A ++ (c ∷ [])) (t ∷ R) e in
     let f = heading j.back t R j.back_is in
-    piece_between a m z j.front f.rest f.head (j.whole ∙ ap (j.front ++◌) f.whole) (last_place j.front 0 A c j.front-is ∙ l) (f.place_is ∙ i)
+    piece_between a m z j.front f.rest f.head (j.whole ∙ ap (j.front ++◌) f.whole) (last_place j.front 0 A c j.front_is ∙ l) (f.place_is ∙ i)
 
 -- After h, the text a x m y c with the tokens A X Y R.
 module _ (h a x m y c : List ℕ) (A X Y R : List Token) (w : tokens (a ++ (x ++ (m ++ (y ++ c)))) ≡ A ++ (X ++ (Y ++ R))) (ox : Ends X) (oy : Ends Y)
@@ -292,12 +292,12 @@ own a x m y c i =
     let f = i.from in
     let lo = i.low in
     let j = length-drop f a in
-    let b₁ = i.one-begins in
-    let b₂ = i.one-ends in
-    let b₃ = i.other-begins in
-    let b₄ = i.other-ends in
+    let b₁ = i.one_begins in
+    let b₂ = i.one_ends in
+    let b₃ = i.other_begins in
+    let b₄ = i.other_ends in
     let t = drop-append-le f a (x ++ (m ++ (y ++ c))) lo in
-    record { tokens_are = ap tokens (sym t) ∙ i.by-tokens; text_is = t; begins = omega arith; ended = omega arith; begins' = omega arith; ended' = omega arith }
+    record { tokens_are = ap tokens (sym t) ∙ i.by_tokens; text_is = t; begins = omega arith; ended = omega arith; begins' = omega arith; ended' = omega arith }
 
 -- Its pieces.
 pub record Pieces (a x m y c : List ℕ) (i : InText a x m y c) : Type 0 where
@@ -314,14 +314,14 @@ pieces a x m y c i =
     let Y = Leaves-of i.other in
     let ox = object_ends i.one in
     let oy = object_ends i.other in
-    let cl = closing i.before i.after-sign in
-    let sx = i.one-semicolon in
-    let sy = i.other-semicolon in
+    let cl = closing i.before i.after_sign in
+    let sx = i.one_semicolon in
+    let sy = i.other_semicolon in
     record {
-      front = before_x [] k x m y c i.before X Y i.rest o.tokens-are ox oy cl o.begins o.ended o.begins' o.ended' sx sy;
-      one = cut_x [] k x m y c i.before X Y i.rest o.tokens-are ox oy cl o.begins o.ended o.begins' o.ended' sx sy;
-      between_both = between [] k x m y c i.before X Y i.rest o.tokens-are ox oy cl o.begins o.ended o.begins' o.ended' sx sy;
-      other = cut_y [] k x m y c i.before X Y i.rest o.tokens-are ox oy cl o.begins o.ended o.begins' o.ended' sx sy;
+      front = before_x [] k x m y c i.before X Y i.rest o.tokens_are ox oy cl o.begins o.ended o.begins' o.ended' sx sy;
+      one = cut_x [] k x m y c i.before X Y i.rest o.tokens_are ox oy cl o.begins o.ended o.begins' o.ended' sx sy;
+      between_both = between [] k x m y c i.before X Y i.rest o.tokens_are ox oy cl o.begins o.ended o.begins' o.ended' sx sy;
+      other = cut_y [] k x m y c i.before X Y i.rest o.tokens_are ox oy cl o.begins o.ended o.begins' o.ended' sx sy;
     }
 
 pub alike : (a x m y c : List ℕ) (i : InText a x m y c) → Alike a x m y c i.from
@@ -338,16 +338,16 @@ alike a x m y c i =
     let Y = Leaves-of i.other in
     let text : (p q : List ℕ) → h ++ ((k ++ (p ++ (m ++ q))) ++ c) ≡ a ++ (p ++ (m ++ (q ++ c))) = λ p q.
     ap (h ++◌) (sym (four k p m q c)) ∙ sym (append_assoc h k (p ++ (m ++ (q ++ c)))) ∙ ap (◌++ (p ++ (m ++ (q ++ c)))) (sym w) in
-    let T = o.tokens-are in
+    let T = o.tokens_are in
     let ox = object_ends i.one in
     let oy = object_ends i.other in
-    let cl = closing i.before i.after-sign in
+    let cl = closing i.before i.after_sign in
     let e₁ = o.begins in
     let e₂ = o.ended in
     let e₃ = o.begins' in
     let e₄ = o.ended' in
-    let sx = i.one-semicolon in
-    let sy = i.other-semicolon in
+    let sx = i.one_semicolon in
+    let sy = i.other_semicolon in
     let p₁ = length-append k (x ++ (m ++ y)) in
     let p₂ = length-append x (m ++ y) in
     let p₃ = length-append m y in

@@ -103,7 +103,7 @@ lent_exchange P a x m y c Q l k t h is i two =
     let r = read_so b l t h in
     let d = accepted_derivation (text b l) t r in
     let u = exchange_many (text b l) t (plain_so b l t h) d (text b' l)
-    (exchanges_everywhere (text b l) d _ x m y (some x i.one-semicolon) (expanded b l).origins (everywhere P a x m y c Q l k told is i two p.whole d) (text b' l) e.replaced) in
+    (exchanges_everywhere (text b l) d _ x m y (some x i.one_semicolon) (expanded b l).origins (everywhere P a x m y c Q l k told is i two p.whole d) (text b' l) e.replaced) in
     let read : reading (text b' l) ≡ accepted u.tables = one_plain u.accepts.given in
     let short : (expansion_of b' l).number ≡ 30 → ⊥ = λ z. p.short (sym (same_number b b' l (told_same b b' l (longs P a x m y c Q)) e.long e.rest (e.number ∙ sym p.whole)) ∙ z) in
     let answer : sources_answer b' l ≡ accepted u.tables = plain_answer b' l short (inl e.number) ∙ read in

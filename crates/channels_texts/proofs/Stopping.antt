@@ -219,7 +219,7 @@ module _ (h r k : List ℕ) where
   unfolding hash_at
   hash_front p q i f =
       let l = f.inside in
-      let b : byte (h ++ k) q ≡ 35 = same_front h r k q (omega arith) (omega arith) ∙ f.is-hash in
+      let b : byte (h ++ k) q ≡ 35 = same_front h r k q (omega arith) (omega arith) ∙ f.is_hash in
       let e = feed_front h r q (omega arith) f.feed in
       let g = f.feed in
       let d = feed_own h k q (omega arith) (omega arith) in
@@ -237,7 +237,7 @@ module _ (h r k : List ℕ) where
           let m = hash_line h r last q i (sym g ∙ e) o.1 a (omega arith) in
           let u = m.inside in
           run_stop (h ++ k) last p (run_front h r k last p (omega arith) w)
-          ∙ stop_refused (h ++ k) last q (bad_front last q f m.is-hash (omega arith)) ∙ hash_front last q i m
+          ∙ stop_refused (h ++ k) last q (bad_front last q f m.is_hash (omega arith)) ∙ hash_front last q i m
 
 -- So it is one of h.
 pub stop_own : (h r : List ℕ) (p : ℕ) (i : Line) → stop_at (h ++ r) p ≡ AtLine i → i.after ≤ length h → 0 < length r → stop_at h p ≡ AtLine i

@@ -240,7 +240,7 @@ module _ {s p x : List ℕ} {n : ℕ} {f : File} (N : Noted s p x n f) {j : ℕ}
         so_far = M.so_far;
         whole = after.parts ∙ sym (append_assoc M.before (z ∷ []) rest);
         place = length_more;
-        merged_so = ap (λ (os : List Object). M.so_far ++ os) (sym (merge_old M.before z rest k u) ∙ ap (λ (v : List Object). merge_from M.before v k) (sym after.is)) ∙ M.merged-so;
+        merged_so = ap (λ (os : List Object). M.so_far ++ os) (sym (merge_old M.before z rest k u) ∙ ap (λ (v : List Object). merge_from M.before v k) (sym after.is)) ∙ M.merged_so;
         number = M.number;
         low = omega arith;
         counted = M.counted;
@@ -281,7 +281,7 @@ module _ {s p x : List ℕ} {n : ℕ} {f : File} (N : Noted s p x n f) {j : ℕ}
         whole = after.parts ∙ sym (append_assoc M.before (z ∷ []) rest);
         place = length_more;
         merged_so = append_assoc os (y ∷ []) (merge_from (M.before ++ (z ∷ [])) rest (k + 1))
-            ∙ ap (λ (v : List Object). os ++ v) (sym (merge_new M.before z rest k u) ∙ ap (λ (v : List Object). merge_from M.before v k) (sym after.is)) ∙ M.merged-so;
+            ∙ ap (λ (v : List Object). os ++ v) (sym (merge_new M.before z rest k u) ∙ ap (λ (v : List Object). merge_from M.before v k) (sym after.is)) ∙ M.merged_so;
         number = omega arith;
         low = omega arith;
         counted = e₇ ∙ ap₂ one_more M.counted kd ∙ sym (counted_one (count_on (replicate 13 0) (numbers os)) (kind_number z.kind))
@@ -714,7 +714,7 @@ module _ (s : List ℕ) (f : File) (K : Situation s f) where
     found = too_few kinds f.objects f.cpu ++ (each_object [] M.so_far ++ ((C ++ D) ++ clashes Q))
 
     objects_split : each_object [] f.objects ≡ each_object [] M.so_far ++ each_object M.so_far (merge_from M.before M.left k)
-    objects_split = ap (each_object []) ((whole K).merged ∙ sym M.merged-so) ∙ each_behind [] M.so_far (merge_from M.before M.left k)
+    objects_split = ap (each_object []) ((whole K).merged ∙ sym M.merged_so) ∙ each_behind [] M.so_far (merge_from M.before M.left k)
 
     parts_is : {g : Fault} → Has g (each_part f.parts) → Has g (C ++ D)
     parts_is {g} m = subst (Has g) (ap₂ ◌++◌ limits_is inside_is) (parts_split f.parts m)
@@ -866,7 +866,7 @@ objects_answer s p st x xn n m cs cpu l a b c d v y w z r t e₁ e₂ e₃ e₀ 
     let qr : r.fault ≡ fault_of (first (A ++ (B ++ ((C₀ ++ D₀) ++ E₀)))) =
     e₈ ∙ ap₂ order.sooner qA qz ∙ sym (fault_append A (B ++ ((C₀ ++ D₀) ++ E₀)) (real_few kinds f.objects f.cpu) (real_append B ((C₀ ++ D₀) ++ E₀) rB rCE)) in
     let all : length f.parts ≤ 513 → M.so_far ≡ f.objects =
-    λ h. sym (append-nil M.so_far) ∙ ap (λ (v : List Object). M.so_far ++ v) (sym (merge_none M.before M.left t.objects (none_left_over M.left (omega (arith, h, e₂, h₃, whole_length, pl))))) ∙ M.merged-so ∙ sym (whole K).merged in
+    λ h. sym (append-nil M.so_far) ∙ ap (λ (v : List Object). M.so_far ++ v) (sym (merge_none M.before M.left t.objects (none_left_over M.left (omega (arith, h, e₂, h₃, whole_length, pl))))) ∙ M.merged_so ∙ sym (whole K).merged in
     let nb = M.number in
     record {
       fault = qr ∙ sym (ap fault_of (stage_is s f K M (λ w. omega (arith, e₂, h₃, whole_length, pl, w)) Q));

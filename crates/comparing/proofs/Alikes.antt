@@ -33,10 +33,10 @@ pub record Keyed {A K : Type 0} (r : A → A → Bool) (key : A → K) : Type 0 
   pub from_keys : (x y : A) → key x ≡ key y → r x y ≡ true
 
 pub keyed_flip : {A K : Type 0} {r : A → A → Bool} {key : A → K} → Keyed r key → (x y : A) → r x y ≡ r y x
-keyed_flip {r} k x y = same_truth (r x y) (r y x) (λ e. k.from-keys y x (sym (k.to-keys x y e))) (λ e. k.from-keys x y (sym (k.to-keys y x e)))
+keyed_flip {r} k x y = same_truth (r x y) (r y x) (λ e. k.from_keys y x (sym (k.to_keys x y e))) (λ e. k.from_keys x y (sym (k.to_keys y x e)))
 
 pub keyed_third : {A K : Type 0} {r : A → A → Bool} {key : A → K} → Keyed r key → (x y z : A) → r x y ≡ true → r x z ≡ true → r y z ≡ true
-keyed_third k x y z e q = k.from-keys y z (sym (k.to-keys x y e) ∙ k.to-keys x z q)
+keyed_third k x y z e q = k.from_keys y z (sym (k.to_keys x y e) ∙ k.to_keys x z q)
 
 -- Steps.
 abbrev pub step_key : Step → List ℕ × (ℕ × ℕ)
@@ -79,7 +79,7 @@ path_third (a ∷ p) (b ∷ q) (c ∷ r) e f =
 pub path_same : (p : Path) → same_path p p ≡ true
 unfolding same_path
 path_same [] = refl
-path_same (a ∷ p) = both_of (same_step a a) (same_path p p) (step_keyed.from-keys a a refl) (path_same p)
+path_same (a ∷ p) = both_of (same_step a a) (same_path p p) (step_keyed.from_keys a a refl) (path_same p)
 
 -- Values.
 pub value_keyed : Keyed same_value (λ t. counts_as t.value t)

@@ -69,7 +69,7 @@ often_same t u (w ∷ l) e = ap₂ ◌+◌ (ap (λ (bs : List ℕ). bit (same bs
 step_behind : (t : Taken) (before : List Word) (c : Step) → how_often c.name (t.definition.name ∷ before) ≤ c.position → same_step (step_to t before) c ≡ false
 unfolding step_to how_often alike bit
 step_behind t before c h = not_true (same_step (step_to t before) c) (λ e.
-    let k = step_keyed.to-keys (step_to t before) c e in
+    let k = step_keyed.to_keys (step_to t before) c e in
     let names : t.definition.name.bytes ≡ c.name.bytes = ap (λ (z : List ℕ × (ℕ × ℕ)). z.0) k in
     let there : how_often t.definition.name before ≡ c.position = ap (λ (z : List ℕ × (ℕ × ℕ)). z.1.1) k in
     let one : bit (same c.name.bytes t.definition.name.bytes) ≡ 1 = ap bit (ap (same c.name.bytes) names ∙ same_self c.name.bytes) in

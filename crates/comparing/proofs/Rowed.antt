@@ -73,9 +73,9 @@ module _ (s d v : List ℕ) (many : ℕ) where
   owner_read : (n i : ℕ) (o : Owner) (t : Taken) → RowIs s d v many i o t → owner_cell v n i ≡ owner_number n o
   unfolding owner_cell owner_number owner_sort owner_row
   owner_read n i (of_object k) t r =
-      ap (λ (b : Bool). pick b 0 (suc (min (cell_of v 9 i 2) 65536 - n))) (eq-eqb (cell_of v 9 i 1) 0 r.of-sort)
+      ap (λ (b : Bool). pick b 0 (suc (min (cell_of v 9 i 2) 65536 - n))) (eq-eqb (cell_of v 9 i 1) 0 r.of_sort)
   owner_read n i (of_value m) t r =
-      let a = r.of-sort in
+      let a = r.of_sort in
       let b = r.of_row in
       let few = r.few in
       let e : suc (min (cell_of v 9 i 2) 65536 - n) ≡ suc (m - n) = omega (arith, b, few) in

@@ -122,7 +122,7 @@ module _ (xs ys : List Content) (a : Sound xs) (b : Sound ys) (h : Alike SameCon
 -- A text and itself ------------------------------------------------------------------------------------------------------------------------
 
 value_self : (v : Placed) → SameValue v v
-value_self v = record { path = path_same v.path; value = value_keyed.from-keys v.taken v.taken refl }
+value_self v = record { path = path_same v.path; value = value_keyed.from_keys v.taken v.taken refl }
 
 values_self : (l : List Placed) → Alike SameValue l l
 values_self [] = none_alike
@@ -130,7 +130,7 @@ values_self (v ∷ l) = more_alike (value_self v) (values_self l)
 
 contents_self : (l : List Content) → Alike SameContent l l
 contents_self [] = none_alike
-contents_self (x ∷ l) = more_alike (record { object = object_keyed.from-keys x x refl; values = values_self x.values }) (contents_self l)
+contents_self (x ∷ l) = more_alike (record { object = object_keyed.from_keys x x refl; values = values_self x.values }) (contents_self l)
 
 pub self_none : (f : File) → ObjectsApart (contents f) → differences f f ≡ []
 unfolding differences

@@ -236,5 +236,5 @@ tree_apart s (node p us nil) c = let k = chain_front s 0 (tokens us) [] c in mea
 
 pub text_apart : {s : List ℕ} {f : File} → Situation s f → ApartSpecs f.specs
 text_apart {s} k =
-    subst (λ (g : File). ApartSpecs g.specs) (sym k.syntax-of)
+    subst (λ (g : File). ApartSpecs g.specs) (sym k.syntax_of)
     (tree_apart s k.derivation.tree (subst (Chain s 0) (sym k.derivation.leaves) (text_chain s)))

@@ -141,7 +141,7 @@ module _ (s : List ℕ) (l : List Token) (t : Token) (r : List Token) (e : token
         lexemes = parted.front;
         run = g.run;
         gap = subst (λ (i : ℕ). Skips s i g.end) (sym at_place ∙ q) v.skipped;
-        are = parted.front-is ∙ sym y;
+        are = parted.front_is ∙ sym y;
         shallow = subst Shallow (sym y) h;
         begins = subst Begins (sym y) b;
       }

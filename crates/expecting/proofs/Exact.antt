@@ -41,7 +41,7 @@ lead (t ∷ l) {j} k e us = go (feed k t.class) refl (λ i d. lead l i d us) e
           trees = back t v.fed w.trees;
           front = under (taker v.fed) t ∷ w.front;
           are = leaves_back t v.fed w.trees ∙ ap (under (taker v.fed) t ∷◌) w.are;
-          front_is = ap (t ∷◌) w.front-is;
+          front_is = ap (t ∷◌) w.front_is;
         }
 
 -- And trees of the whole come so -----------------------------------------------------------------------------------------------------------------
@@ -100,8 +100,8 @@ found_at l a t m e = go (rest_after (paper file ▸ ∎) l) refl e
             more = leaves (finish (after w.move));
             leaves_are =
                 leaves_from z.trees (lifted (file ▸ ∎)) ∙ z.are
-                ∙ ap (z.front ++◌) (leaves_back t w.move (finish (after w.move)) ∙ ap (λ (b : Terminal). under b t ∷ leaves (finish (after w.move))) w.by-it);
-            before_is = z.front-is;
+                ∙ ap (z.front ++◌) (leaves_back t w.move (finish (after w.move)) ∙ ap (λ (b : Terminal). under b t ∷ leaves (finish (after w.move))) w.by_it);
+            before_is = z.front_is;
           },
           refl,
         )
@@ -112,10 +112,10 @@ found l a e = (found_at l a (record { class = class_of_lem a; place = 0; length 
 told : (l : List Token) (a : Terminal) → Expects l a → expects l a ≡ true
 unfolding expects admits_at
 told l a x =
-    let r = leave x.before (under a x.here ∷ x.more) (one_good (paper file)) (to x.tree) (leaves_to x.tree ∙ x.leaves-are) in
+    let r = leave x.before (under a x.here ∷ x.more) (one_good (paper file)) (to x.tree) (leaves_to x.tree ∙ x.leaves_are) in
     let f = forward r.trees (under a x.here) x.more r.are in
-    ap (λ (o : Option Symbols). admits_at o a) (ap (rest_after (paper file ▸ ∎)) (sym x.before-is) ∙ r.reached)
-    ∙ ap (admits r.symbols) (sym f.by-it) ∙ move_first f.move
+    ap (λ (o : Option Symbols). admits_at o a) (ap (rest_after (paper file ▸ ∎)) (sym x.before_is) ∙ r.reached)
+    ∙ ap (admits r.symbols) (sym f.by_it) ∙ move_first f.move
 
 -- Of any tokens, and any terminal.
 pub exact : (l : List Token) (a : Terminal) → (expects l a ≡ true) ↔ Expects l a
@@ -133,8 +133,8 @@ goes_on l a t m x =
     let y = found_at l a t m (told l a x) in
     let z = y.0 in
     let q : tokens z.tree ≡ l ++ (t ∷ tokens_at z.more) =
-    sym (tokens_leaves z.tree) ∙ ap tokens_at z.leaves-are ∙ at_append z.before (under a z.here ∷ z.more)
-    ∙ ap₂ (λ (k : List Token) (u : Token). k ++ (u ∷ tokens_at z.more)) z.before-is y.1 in
+    sym (tokens_leaves z.tree) ∙ ap tokens_at z.leaves_are ∙ at_append z.before (under a z.here ∷ z.more)
+    ∙ ap₂ (λ (k : List Token) (u : Token). k ++ (u ∷ tokens_at z.more)) z.before_is y.1 in
     record { more = tokens_at z.more; derivation = record { tree = z.tree; leaves = q ∙ sym (append_assoc l (t ∷ []) (tokens_at z.more)) } }
 
 -- And every token that goes on is of a terminal that is expected.
@@ -154,18 +154,18 @@ cut (x ∷ ls) [] t m e = record { front = []; leaf_here = x; more = ls; all_are
 cut (x ∷ ls) (u ∷ l) t m e =
     let r = cut ls l t m (let q : tokens_at ls ≡ l ++ (t ∷ m) = cc in q) in
     let q : x.token ≡ u = cc in
-    record { front = x ∷ r.front; leaf_here = r.leaf-here; more = r.more; all_are = ap (x ∷◌) r.all_are; front_is = ap₂ ◌∷◌ q r.front-is; token_is = r.token-is }
+    record { front = x ∷ r.front; leaf_here = r.leaf_here; more = r.more; all_are = ap (x ∷◌) r.all_are; front_is = ap₂ ◌∷◌ q r.front_is; token_is = r.token_is }
 
 pub by_terminal : ByTerminal
 by_terminal l t b =
     let d = b.derivation in
     let w = cut (leaves d.tree) l t b.more (tokens_leaves d.tree ∙ d.leaves ∙ append_assoc l (t ∷ []) b.more) in
-    let x = w.leaf-here in
+    let x = w.leaf_here in
     let r = leave w.front (x ∷ w.more) (one_good (paper file)) (to d.tree) (leaves_to d.tree ∙ w.all_are) in
     let f = forward r.trees x w.more r.are in (
       x.terminal,
-      ap₂ (λ (a : Terminal) (u : Token). matches a u.class) (sym f.by-it) (sym w.token-is) ∙ taker_matches f.move,
-      record { tree = d.tree; before = w.front; here = x.token; more = w.more; leaves_are = w.all_are; before_is = w.front-is },
+      ap₂ (λ (a : Terminal) (u : Token). matches a u.class) (sym f.by_it) (sym w.token_is) ∙ taker_matches f.move,
+      record { tree = d.tree; before = w.front; here = x.token; more = w.more; leaves_are = w.all_are; before_is = w.front_is },
     )
 
 -- A token goes on under one terminal alone ------------------------------------------------------------------------------------------------------
@@ -189,4 +189,4 @@ one_terminal l a b c m n x y = go (rest_after (paper file ▸ ∎) l) refl (told
     go (some j) r h k =
         let v = first_move a c m j h in
         let w = first_move b c n j k in
-        sym v.by-it ∙ ap taker (move_unique (rest_after_good l (one_good (paper file)) r) v.move w.move) ∙ w.by-it
+        sym v.by_it ∙ ap taker (move_unique (rest_after_good l (one_good (paper file)) r) v.move w.move) ∙ w.by_it

@@ -216,11 +216,11 @@ module _ (a : Terminal) (c : Class) (m : matches a c ≡ true) where
   with_moves b f (rule x ∷ k) e = go (or_true (b x) (nullable x && first_with b a k) e) (with_moves b f k)
     where
       go : (b x ≡ true) ⊎ ((nullable x && first_with b a k) ≡ true) → (first_with b a k ≡ true → Moves a c k) → Moves a c (rule x ∷ k)
-      go (inl h) ih = let s = f x h in record { move = enter s.rule-form s.moves.move; by_it = s.moves.by-it }
+      go (inl h) ih = let s = f x h in record { move = enter s.rule_form s.moves.move; by_it = s.moves.by_it }
       go (inr h) ih =
           let n = both (nullable x) (first_with b a k) h in
           let s = ih n.1 in
-          record { move = skip n.0 s.move; by_it = s.by-it }
+          record { move = skip n.0 s.move; by_it = s.by_it }
 
   some_begun : (b : Nonterminal → Bool) → ((x : Nonterminal) → b x ≡ true → Begun a c x) → {x : Nonterminal} (cs : List (Choice x))
       → some_first b a cs ≡ true → Begun a c x

@@ -151,7 +151,7 @@ passes_of e (too_deep l t r q h b m o) = absurd (let z : ◌≡◌ {A = ℕ} 0 1
 module _ {s : List ℕ} {p : ℕ} (b : Before s p) where
   asked : (i : ℕ) → lex_from (asking s p i) 0 ≡ after_all b.lexemes (moved_all (p + 1) (lex_from (sample_of i) 0))
   unfolding asking
-  asked i = front_lex s (sample_of i) p b.inside b.from-here b.lexemes b.run b.gap
+  asked i = front_lex s (sample_of i) p b.inside b.from_here b.lexemes b.run b.gap
 
   asked_tokens : (i : ℕ) → tokens (asking s p i) ≡ until p (tokens s) ++ map (shifted (p + 1)) (tokens (sample_of i))
   unfolding tokens
@@ -172,7 +172,7 @@ module _ {s : List ℕ} {p : ℕ} (b : Before s p) where
   unfolding shifted
   goes a x =
       x.exactly (until p (tokens s)) (at_place a) (asked_wholly (index a) (one a).whole)
-      (asked_tokens (index a) ∙ ap (λ (l : List Token). until p (tokens s) ++ map (shifted (p + 1)) l) (one a).token-is) (add-zero (p + 1)) b.shallow b.begins
+      (asked_tokens (index a) ∙ ap (λ (l : List Token). until p (tokens s) ++ map (shifted (p + 1)) l) (one a).token_is) (add-zero (p + 1)) b.shallow b.begins
 
   -- a name's sample is a name's alone
   pub name_told : {r : Bool} → AdmitsLast (asking s p 0) (p + 1) r → (r ≡ true) ↔ Expected s p name

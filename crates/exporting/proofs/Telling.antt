@@ -65,13 +65,13 @@ module _ (n : ℕ) (s d e o v l d' e' o' v' l' : List ℕ) (w : Written) (rooms 
 
   by_refusal : WritesByRules s d e o v l d' e' o' v' l' w → (m p : ℕ) → w.answer ≡ Refused m p → (r : Told) → r ≡ refusal_told (length s) n m p → NormalWith n s l l' r
   unfolding refusal_told refusal place_told is_at_start
-  by_refusal (written.short-tables not q u i) m p h r z = absurd (not rooms)
+  by_refusal (written.short_tables not q u i) m p h r z = absurd (not rooms)
   by_refusal (written.refuses f k j t q u i) m p h r z = telling.refuses k j t (refused_as m p k j (sym (ap (λ (x : Written). x.answer) q) ∙ h) r z) i
   by_refusal (written.longer f t a y b c q u i) m p h r z = telling.longer t a y b c (refused_as m p 20 0 (sym (ap (λ (x : Written). x.answer) q) ∙ h) r z) i
   by_refusal (written.writes f t a y b c q u i) m p h r z = absurd (no_refusal m p (sym (ap (λ (x : Written). x.answer) q) ∙ h))
 
   by_acceptance : WritesByRules s d e o v l d' e' o' v' l' w → w.answer ≡ Accepted → (r : Told) → r ≡ done w.length → NormalWith n s l l' r
-  by_acceptance (written.short-tables not q u i) h r z = absurd (not rooms)
+  by_acceptance (written.short_tables not q u i) h r z = absurd (not rooms)
   by_acceptance (written.refuses f k j t q u i) h r z = absurd (no_refusal k j (sym h ∙ ap (λ (x : Written). x.answer) q))
   by_acceptance (written.longer f t a y b c q u i) h r z = absurd (no_refusal 20 0 (sym h ∙ ap (λ (x : Written). x.answer) q))
   by_acceptance (written.writes f t a y b c q u i) h r z = telling.writes t a y b c (z ∙ ap (λ (x : Written). done x.length) q) i

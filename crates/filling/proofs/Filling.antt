@@ -183,7 +183,7 @@ module _ {W S : Type 0} {then : W → W → W} {nothing : W} {Does : S → W →
   going r Q {x} =
       record {
         what = nothing;
-        does = t.does-none x;
+        does = t.does_none x;
         still = still r;
         wraps = λ h v more w. told_map (λ m q. subst (λ (o : W). Q o m.0) (sym (t.front more)) q) w;
       }
@@ -195,7 +195,7 @@ module _ {W S : Type 0} {then : W → W → W} {nothing : W} {Does : S → W →
   going_on {r} Q g p {w} {c} {x} {y} {z} o i d f k =
       record {
         what = then o.what w;
-        does = t.does-then x y z o.what w o.does d;
+        does = t.does_then x y z o.what w o.does d;
         still = i;
         wraps = λ h v more u.
             told_map (λ m q. subst (λ (n : W). Q n m.0) (sym (t.assoc o.what w more)) q)
@@ -224,7 +224,7 @@ both t u =
       assoc = λ a b c. ap₂ (λ p q. (p, q)) (t.assoc a.0 b.0 c.0) (u.assoc a.1 b.1 c.1);
       front = λ a. ap₂ (λ p q. (p, q)) (t.front a.0) (u.front a.1);
       back = λ a. ap₂ (λ p q. (p, q)) (t.back a.0) (u.back a.1);
-      does_none = λ x. (t.does-none x.0, u.does-none x.1);
+      does_none = λ x. (t.does_none x.0, u.does_none x.1);
       does_then = λ x y z a b d d'.
-          (t.does-then x.0 y.0 z.0 a.0 b.0 d.0 d'.0, u.does-then x.1 y.1 z.1 a.1 b.1 d.1 d'.1);
+          (t.does_then x.0 y.0 z.0 a.0 b.0 d.0 d'.0, u.does_then x.1 y.1 z.1 a.1 b.1 d.1 d'.1);
     }

@@ -38,7 +38,7 @@ record Stopped (s : List ℕ) (l : List Token) (t : Token) : Type 0 where
 
 past_not : {s : List ℕ} {l : List Token} {t : Token} (m : List Token) → Stopped s l t → Past l t m → Shallow m → Begins m → ⊥
 past_not {s} {l} {t} m a p h b =
-    a.no-further (shallow_front (l ++ (t ∷ [])) p.0 (subst Shallow p.1 h)) (begins_front (l ++ (t ∷ [])) p.0 (subst Begins p.1 b))
+    a.no_further (shallow_front (l ++ (t ∷ [])) p.0 (subst Shallow p.1 h)) (begins_front (l ++ (t ∷ [])) p.0 (subst Begins p.1 b))
 
 one_stop : {s : List ℕ} {l m : List Token} {t u : Token} → Stopped s l t → Stopped s m u → (l ≡ m) × (t ≡ u)
 one_stop {s} {l} {m} {t} {u} a b = go (compare l t a.rest m u b.rest (sym a.split ∙ b.split))

@@ -94,7 +94,7 @@ one_more : (l : List Token) (t : Token) {d e : ℕ} → Turn (matches (sg lbrace
 one_more l t {d} {e} turn h w = record { shallow = λ l₁ l₂ f. whole l₁ (fronts l₁ l₂ l t f); open_now = c }
   where
     c : e + closes (l ++ (t ∷ [])) ≡ opens (l ++ (t ∷ []))
-    c = counted l t turn refl refl w.open-now
+    c = counted l t turn refl refl w.open_now
 
     whole : (l₁ : List Token) → (l₁ ≡ l ++ (t ∷ [])) ⊎ ((l₃ : List Token) × (l ≡ l₁ ++ l₃)) → opens l₁ ≤ closes l₁ + 16
     whole l₁ (inl f) = rw f (omega (arith, c))
@@ -131,7 +131,7 @@ run_from s₀ (t ▹ s) l k d q e nest w = go (feed k t.class) refl (λ j. run_f
         → ((j : Symbols) (n : ℕ) → s₀ ≡ prepend (l ++ (t ∷ [])) s → reach start (l ++ (t ∷ [])) ≡ some j → Nest n j → Behind (l ++ (t ∷ [])) n → Outcome s₀ (run n j s))
         → Outcome s₀ (next o (deeper d t.class) t.place (λ j n. run n j s))
     go none f ih = not_taken l t s q w.shallow (viable l e) (not_viable (l ++ (t ∷ [])) (reach_one l t start e ∙ f))
-    go (some j) f ih = step (turn_step r.1 (omega (arith, w.open-now, w.shallow l [] (sym (append-nil l)))))
+    go (some j) f ih = step (turn_step r.1 (omega (arith, w.open_now, w.shallow l [] (sym (append-nil l)))))
       where
         v : Fed k t.class j
         v = feed_fed f
@@ -149,7 +149,7 @@ run_from s₀ (t ▹ s) l k d q e nest w = go (feed k t.class) refl (λ j. run_f
             (ih j r.0 (q ∙ sym (prepend_one l t s)) reached (subst (λ i. Nest r.0 i) (append-nil (after v.fed) ∙ v.leaves) r.2) (one_more l t r.1 p.1 w))
         step (inr p) =
             subst (λ o. Outcome s₀ (next (some j) o t.place (λ i n. run n i s))) (sym p.0)
-            (seventeenth l t s q w.shallow (viable (l ++ (t ∷ [])) reached) p.1 (omega (arith, w.open-now, p.2)))
+            (seventeenth l t s q w.shallow (viable (l ++ (t ∷ [])) reached) p.1 (omega (arith, w.open_now, p.2)))
 
 -- The run of any stream.
 pub run_is : (s : Stream) → Outcome s (run 0 (paper file ▸ ∎) s)

@@ -310,7 +310,7 @@ unique_of (t ∷ l) g ts us p q =
     let a = forth ts t l p in
     let b = forth us t l q in
     a.same
-    ∙ again t l (move_unique g a.by_move b.by_move) a.rest b.rest (unique_of l (left_good g a.by_move)) a.rest-tokens b.rest-tokens
+    ∙ again t l (move_unique g a.by_move b.by_move) a.rest b.rest (unique_of l (left_good g a.by_move)) a.rest_tokens b.rest_tokens
     ∙ sym b.same
 
 pub unique : {k : Symbols} → Good k → (ts us : Trees ◌⟹◌ k) → tokens ts ≡ tokens us → ts ≡ us
@@ -377,7 +377,7 @@ unfolding reach
 reach_complete [] m {k} g w = (k, refl, g, w)
 reach_complete (t ∷ l) m {k} g w =
     let f = forth w.trees t (l ++ m) w.yield in
-    let r = reach_complete l m (left_good g f.by_move) (record { trees = f.rest; yield = f.rest-tokens }) in
+    let r = reach_complete l m (left_good g f.by_move) (record { trees = f.rest; yield = f.rest_tokens }) in
     (r.0, ap (λ o. bind o (λ i. reach i l)) (feed_move (complete g f.by_move)) ∙ r.1, r.2, r.3)
 
 -- Every form has trees -----------------------------------------------------------------------------------------------------------------

@@ -125,9 +125,9 @@ looked s a c d e f g at m₁ m₂ m₃ m₄ m₅ h =
     let y₁ : rest s a ≡ prepend (tokens k₁.1.took ++ (seen c ∷ (tokens t₃ ++ tail₄))) u =
     k₁.1.split ∙ ap (prepend (tokens k₁.1.took)) y₂ ∙ sym (prepend_append (tokens k₁.1.took) (seen c ∷ (tokens t₃ ++ tail₄)) u) in
     record {
-      front = front_of s w.whole u (sym begins ∙ y₁ ∙ ap (λ l. prepend l u) (sym w.tokens-are));
-      its_string = w.string-is;
-      its_name = w.name-is;
+      front = front_of s w.whole u (sym begins ∙ y₁ ∙ ap (λ l. prepend l u) (sym w.tokens_are));
+      its_string = w.string_is;
+      its_name = w.name_is;
     }
 
 -- No front where the look behind the name is no brace -------------------------------------------------------------------------------------------
@@ -158,7 +158,7 @@ no_front s a g at m h (node version_is us (leaf i m₁ (leaf n m₂ (leaf b m₃
     by_look s g (λ o. ((k : Symbols) → o k ≡ run 0 k (b ▹ u)) → ⊥) token end refused same
   where
     u : Stream
-    u = lex_at s w.from-here
+    u = lex_at s w.from_here
 
     ahead : lex_at s 0 ≡ prepend (tokens us) (i ▹ n ▹ b ▹ u)
     ahead = w.stream ∙ prepend_append (tokens us) (i ∷ n ∷ b ∷ []) u
@@ -170,7 +170,7 @@ no_front s a g at m h (node version_is us (leaf i m₁ (leaf n m₂ (leaf b m₃
         ∙ ap (run 0 (paper version ▸ the IMPLEMENTATION · name · k)) ahead ∙ name_run us i n k (b ▹ u) m₁ m₂
 
     past : Behind (suc b.place) (run 0 (sg lbrace · ∎) (b ▹ u))
-    past = subst (Behind (suc b.place)) (sym (run_open ∎ b u m₃)) (run_late (suc b.place) u (late_from s (suc b.place) (omega (arith, w.later, w.inside)) w.from-here (omega (arith, w.later))) 1 ∎)
+    past = subst (Behind (suc b.place)) (sym (run_open ∎ b u m₃)) (run_late (suc b.place) u (late_from s (suc b.place) (omega (arith, w.later, w.inside)) w.from_here (omega (arith, w.later))) 1 ∎)
 
     token : g.code < 56 → ((k : Symbols) → run g.depth k (seen g ▹ lex_at s g.next) ≡ run 0 k (b ▹ u)) → ⊥
     token l f =

@@ -38,7 +38,7 @@ halves [] (t ∷ ts) vs e = absurd (let z : ◌≡◌ {A = ℕ} 0 1 = cc in omeg
 halves (x ∷ ls) (t ∷ ts) vs e =
     let p : token_of x ≡ t = cc in
     let h = halves ls ts vs (let q : map token_of ls ≡ ts ++ vs = cc in q) in
-    record { front = x ∷ h.front; back = h.back; both_are = ap (x ∷◌) h.both-are; front_is = ap₂ ◌∷◌ p h.front-is; back_is = h.back_is }
+    record { front = x ∷ h.front; back = h.back; both_are = ap (x ∷◌) h.both_are; front_is = ap₂ ◌∷◌ p h.front_is; back_is = h.back_is }
 
 -- the last of a list
 record Last (ls : List Lexeme) (ts : List Token) (b : Token) : Type 0 where
@@ -48,7 +48,7 @@ record Last (ls : List Lexeme) (ts : List Token) (b : Token) : Type 0 where
   last_is : token_of last ≡ b
 
 last_of : (ls : List Lexeme) (ts : List Token) (b : Token) → map token_of ls ≡ ts ++ (b ∷ []) → Last ls ts b
-last_of ls ts b e = by h.back h.both-are h.back_is
+last_of ls ts b e = by h.back h.both_are h.back_is
   where
     h : Halves ls ts (b ∷ [])
     h = halves ls ts (b ∷ []) e
@@ -82,8 +82,8 @@ pub found_of : (s : List ℕ) (ts vs : List Token) → tokens-of s ≡ ts ++ vs 
 unfolding tokens-of
 found_of s ts vs e =
     let h = halves (tokens_of (lex_from s 0)) ts vs (sym (lexed_map (lex_from s 0)) ∙ e) in
-    let l = leading s 0 h.front h.back h.both-are in
-    record { upto = l.end; lexemes = h.front; steps = l.run; are = h.front-is }
+    let l = leading s 0 h.front h.back h.both_are in
+    record { upto = l.end; lexemes = h.front; steps = l.run; are = h.front_is }
 
 pub found_stream : {s : List ℕ} {ts : List Token} (f : Found s ts) → lex_at s 0 ≡ prepend ts (lex_at s f.upto)
 unfolding lex_at
@@ -107,7 +107,7 @@ follows s f =
     let t = front_tokens f.tree in
     let l = last_of w.lexemes t.0 (brace_in f.tree) (w.are ∙ t.1) in
     let r : Run s w.upto 0 (l.before ++ (l.last ∷ [])) = subst (λ ls. Run s w.upto 0 ls) l.all_are w.steps in
-    let p : l.last.at ≡ (brace_in f.tree).place = ap (λ (x : Token). x.place) l.last-is in
+    let p : l.last.at ≡ (brace_in f.tree).place = ap (λ (x : Token). x.place) l.last_is in
     let q = last_step s w.upto 0 l.before l.last r in
     record {
       from_here = w.upto;
@@ -143,12 +143,12 @@ other_front a b c f h =
     let t = front_tokens f.tree in
     let l = last_of w.lexemes t.0 (brace_in f.tree) (w.are ∙ t.1) in
     let r : Run (a ++ b) w.upto 0 (l.before ++ (l.last ∷ [])) = subst (λ ls. Run (a ++ b) w.upto 0 ls) l.all_are w.steps in
-    let p : l.last.at ≡ (brace_in f.tree).place = ap (λ (x : Token). x.place) l.last-is in
-    let o : l.last.len ≡ (brace_in f.tree).length = ap (λ (x : Token). x.length) l.last-is in
+    let p : l.last.at ≡ (brace_in f.tree).place = ap (λ (x : Token). x.place) l.last_is in
+    let o : l.last.len ≡ (brace_in f.tree).length = ap (λ (x : Token). x.length) l.last_is in
     let q = last_step (a ++ b) w.upto 0 l.before l.last r in
     let e : w.upto ≡ length a = omega (arith, q.1, p, o) in
     let u : Run (a ++ b) (length a) 0 (l.before ++ (l.last ∷ [])) = subst (λ (n : ℕ). Run (a ++ b) n 0 (l.before ++ (l.last ∷ []))) e r in
-    let m : matches (sg lbrace) (class_of l.last.sort) ≡ true = ap (λ (x : Token). matches (sg lbrace) x.class) l.last-is ∙ t.2 in
+    let m : matches (sg lbrace) (class_of l.last.sort) ≡ true = ap (λ (x : Token). matches (sg lbrace) x.class) l.last_is ∙ t.2 in
     let v = run_other a c b 0 (l.before ++ (l.last ∷ [])) u (last_ends l.before l.last c (brace_ends l.last.sort m c)) in
     let x : Found (a ++ c) (tokens f.tree) =
     record { upto = length a; lexemes = l.before ++ (l.last ∷ []); steps = v; are = ap (map token_of) (sym l.all_are) ∙ w.are } in

@@ -82,10 +82,10 @@ behind_place e (TooDeep p) n h = h
 run_behind : (s : List ℕ) (t : Trees ◌⟶◌ front_form) → Follows s t → Behind (suc (brace_in t).place) (answer_to s)
 unfolding brace_in tokens prepend
 run_behind s (node version_is us (leaf i m₁ (leaf n m₂ (leaf b m₃ nil)))) w =
-    let u = lex_at s w.from-here in
+    let u = lex_at s w.from_here in
     let e : answer_to s ≡ run 1 _ u = ap (run 0 (paper file ▸ ∎)) (w.stream ∙ prepend_append (tokens us) (i ∷ n ∷ b ∷ []) u) ∙ file_run us i n b u m₁ m₂ m₃ in
     subst (Behind (suc b.place)) (sym e)
-    (run_late (suc b.place) u (late_from s (suc b.place) (omega (arith, w.later, w.inside)) w.from-here (omega (arith, w.later))) 1 _)
+    (run_late (suc b.place) u (late_from s (suc b.place) (omega (arith, w.later, w.inside)) w.from_here (omega (arith, w.later))) 1 _)
 
 pub behind_brace : (s : List ℕ) (f : Front (tokens-of s)) (a : StageAnswer) → Answers s a → (a ≡ Passes → ⊥) → (brace_in f.tree).place < place_of a
 behind_brace s f a e n =
@@ -101,15 +101,15 @@ joined a b c h k f e x y =
     one_answer y (headed k g.0) ∙ ap (λ t. answer_in t) g.1 ∙ one_answer (headed h f) x
 
 pub front_decides : FrontDecides
-front_decides s u r q h k w x y = at_shared s w.this w.front w.through-brace u w.that h k x y
+front_decides s u r q h k w x y = at_shared s w.this w.front w.through_brace u w.that h k x y
   where
     at_shared : (s : List ℕ) → s ≡ w.shared ++ w.behind → (f : Front (tokens-of s)) → (brace_in f.tree).place + (brace_in f.tree).length ≡ length w.shared
-        → (u : List ℕ) → u ≡ w.shared ++ w.behind-other → length s ≤ 65535 → length u ≤ 65535 → Heads s r → Heads u q → q ≡ r
+        → (u : List ℕ) → u ≡ w.shared ++ w.behind_other → length s ≤ 65535 → length u ≤ 65535 → Heads s r → Heads u q → q ≡ r
     at_shared s i f e u j h k x y =
         subst
         (λ (z : List ℕ). (f : Front (tokens-of z)) → (brace_in f.tree).place + (brace_in f.tree).length ≡ length w.shared → length z ≤ 65535 → Heads z r → q ≡ r)
         (sym i)
-        (λ f e h x. joined w.shared w.behind w.behind-other h (subst (λ (z : List ℕ). length z ≤ 65535) j k) f e x (subst (λ (z : List ℕ). Heads z q) j y))
+        (λ f e h x. joined w.shared w.behind w.behind_other h (subst (λ (z : List ℕ). length z ≤ 65535) j k) f e x (subst (λ (z : List ℕ). Heads z q) j y))
         f e h x
 
 -- Computed ---------------------------------------------------------------------------------------------------------------------------------------------

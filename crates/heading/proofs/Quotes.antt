@@ -55,9 +55,9 @@ unfolding token_of
 quoted_at s v m w =
     let x = w.lexeme in
     let k : matches string (class_of x.sort) ≡ true = ap (λ (t : Token). matches string t.class) w.is ∙ m in
-    let o = found_fits s w.from-here x w.next w.step in
+    let o = found_fits s w.from_here x w.next w.step in
     let f : w.next.at ≡ x.at + x.len = omega (arith, o.next) in
-    let i = string_quoted s w.from-here x w.next w.step (string_code x.sort k) in
+    let i = string_quoted s w.from_here x w.next w.step (string_code x.sort k) in
     subst (λ (t : Token). InQuotes s t.place (t.place + t.length)) w.is (subst (λ (n : ℕ). InQuotes s x.at n) f i)
 
 pub version_quoted : (s : List ℕ) (f : Front (tokens-of s)) → InQuotes s (string_in f.tree).place ((string_in f.tree).place + (string_in f.tree).length)

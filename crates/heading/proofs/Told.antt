@@ -70,9 +70,9 @@ module _ {s : List ℕ} {a b c d e f g : Look} (w : Ahead s a b c d e f g) where
     pub told : length s ≤ 65535 → Heads s (VersionAndName (c.at + 1) ((c.next - c.at) - 2) f.at (f.next - f.at))
     unfolding version_and_name seen
     told short =
-        let v = looked s a c d e f g w.at-start (oil_version_is w.oil ⊳ equals_is w.equal) (string_is w.quoted) w.finished (implementation_is w.implemented) w.named h in
-        subst (λ (n : Token). Heads s (version_and_name (seen c) n)) v.its-name
-        (subst (λ (t : Token). Heads s (version_and_name t (name_in v.front.tree))) v.its-string (headed short v.front))
+        let v = looked s a c d e f g w.at_start (oil_version_is w.oil ⊳ equals_is w.equal) (string_is w.quoted) w.finished (implementation_is w.implemented) w.named h in
+        subst (λ (n : Token). Heads s (version_and_name (seen c) n)) v.its_name
+        (subst (λ (t : Token). Heads s (version_and_name t (name_in v.front.tree))) v.its_string (headed short v.front))
 
   module _ (h : g.code ≡ 45 → ⊥) (r : Look) (q : r ≡ refusal g) where
     r_high : 56 < r.code
@@ -88,12 +88,12 @@ module _ {s : List ℕ} {a b c d e f g : Look} (w : Ahead s a b c d e f g) where
 
     none : Front (tokens-of s) → ⊥
     none t =
-        no_front s a g w.at-start
+        no_front s a g w.at_start
         (version_by (oil_version_is w.oil ⊳ equals_is w.equal ⊳ string_is w.quoted ⊳ w.finished) ⊳ implementation_is w.implemented ⊳ w.named)
         h t.tree (follows s t)
 
     by_answer : length s ≤ 65535 → (n : Answer) → n ≡ answer_of r → (n ≡ Passes → ⊥) → Heads s (Refused (number_of n) (place_of n))
-    by_answer short n e p = refused short none n p (stage_answers s a r n w.at-start whole e)
+    by_answer short n e p = refused short none n p (stage_answers s a r n w.at_start whole e)
 
     pub told_3 : length s ≤ 65535 → r.code ≡ 59 → Heads s (Refused 3 r.at)
     unfolding number_of place_of

@@ -87,7 +87,7 @@ module _ {b l x g : List ℕ} {e : Expanded} (k : Holds b l x g e) where
       record {
         at = p₀;
         placed = sym i ∙ k.place p₀;
-        in_quotes = subst (λ (o : ℕ). InQuotes (text b l) (p₀ - 1) (p₀ + o + 1)) j (w.without-quotes p₀ n₀ q₀ m₀ refl);
+        in_quotes = subst (λ (o : ℕ). InQuotes (text b l) (p₀ - 1) (p₀ + o + 1)) j (w.without_quotes p₀ n₀ q₀ m₀ refl);
       }
 
   read_by : (a r : Answer) → Q-7 (text b l) a → r ≡ told_in g e a → (n p : ℕ) → r ≡ Refused n p → TheAnswer b l (is_refused n p)
@@ -106,7 +106,7 @@ module _ {b l x g : List ℕ} {e : Expanded} (k : Holds b l x g e) where
   six_by (Refused i j) r w z p y =
       let c = sym z ∙ y in
       let d : pick (eqb i 3) e.fault i ≡ 6 = cc in
-      six_number i e.fault (λ f. w.never-6 j (ap (λ (o : ℕ). Refused o j) f)) (subst FaultNumber (sym k.fault) (fault_numbers b l)) d
+      six_number i e.fault (λ f. w.never_6 j (ap (λ (o : ℕ). Refused o j) f)) (subst FaultNumber (sym k.fault) (fault_numbers b l)) d
 
   same_by : (a r : Answer) → Q-7 (text b l) a → r ≡ told_in g e a → (i j : ℕ) → a ≡ Refused i j → (n p : ℕ) → TheAnswer b l (is_refused n p) → r ≡ Refused n p
   unfolding told_in
@@ -125,7 +125,7 @@ module _ {b l x g : List ℕ} {e : Expanded} (k : Holds b l x g e) where
         without_quotes = quoted_by a r w z;
         first = λ n. absurd (k.within n);
         derives = λ _ d. z ∙ ap (told_in g e) (w.derives short d) ∙ version_placed (token_of_word (syntax (text b l) d.tree).version) (token_of_word (syntax (text b l) d.tree).implementation_name) k;
-        that_same = λ _ s i j h n p t. same_by a r w z _ _ (w.that-same short s i j h) n p t;
+        that_same = λ _ s i j h n p t. same_by a r w z _ _ (w.that_same short s i j h) n p t;
         later = w.later;
         otherwise = λ _ f. z ∙ ap (told_in g e) (w.otherwise short f) ∙ version_placed (string_in f.tree) (name_in f.tree) k;
         as_read = read_by a r w z;
@@ -166,5 +166,5 @@ pub text_heads : {b l x g x' g' : List ℕ} {r : Lent} {e : Expanded} {a : Answe
 text_heads {b} {l} {e = e} {a = a} u q w =
     let t = there e u q in
     let k = t.holds in
-    let h : Heads (text b l) w.in-expanded = subst (λ (y : List ℕ). Heads y w.in-expanded) k.bytes w.heads in
-    (by_rules t.rooms (head_of k w.in-expanded a h w.told) t.filled, λ _. q_7_by k w.in-expanded a (q_7 (text b l) w.in-expanded h) w.told)
+    let h : Heads (text b l) w.in_expanded = subst (λ (y : List ℕ). Heads y w.in_expanded) k.bytes w.heads in
+    (by_rules t.rooms (head_of k w.in_expanded a h w.told) t.filled, λ _. q_7_by k w.in_expanded a (q_7 (text b l) w.in_expanded h) w.told)

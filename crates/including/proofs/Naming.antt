@@ -145,17 +145,17 @@ every_line line name i =
     let k₃ : From line (p + 1) (name ++ behind) = from_on (i.opens ∷ []) (name ++ behind) k₂ in
     let k₄ : From line (p + 1 + length name) behind = from_on name behind k₃ in
     let k₅ : From line (p + 1 + length name + 1) i.behind = from_on (i.closes ∷ []) i.behind k₄ in
-    let a₀ : h ≡ aside line 0 = sym (ap (λ (x : List ℕ). aside x 0) i.whole ∙ passes i.before-aside (word ++ after) ∙ ap (λ (x : ℕ). h + x) (hash_stays _) ∙ add-zero h) in
+    let a₀ : h ≡ aside line 0 = sym (ap (λ (x : List ℕ). aside x 0) i.whole ∙ passes i.before_aside (word ++ after) ∙ ap (λ (x : ℕ). h + x) (hash_stays _) ∙ add-zero h) in
     let w : bytes_between line h (h + 8) ≡ word =
     (let n : h + 8 - h ≡ 8 = omega arith in ap₂ (λ (m : ℕ) (x : List ℕ). take m x) n (from_drop (word ++ after) k₀)) in
     let a₁ : p ≡ aside line (h + 8) =
-    sym (from_aside after k₁ ∙ ap (λ (x : ℕ). h + 8 + x) (passes i.between-aside file ∙ ap (λ (x : ℕ). length i.between + x) (open_stays i.quoted (name ++ behind)) ∙ add-zero (length i.between))) in
+    sym (from_aside after k₁ ∙ ap (λ (x : ℕ). h + 8 + x) (passes i.between_aside file ∙ ap (λ (x : ℕ). length i.between + x) (open_stays i.quoted (name ++ behind)) ∙ add-zero (length i.between))) in
     let c : p + 1 + length name ≡ find_byte i.closes line (p + 1) =
     sym (from_find (name ++ behind) k₃ i.closes ∙ ap (λ (x : ℕ). p + 1 + x) (byte_find i.closes name i.behind i.closed)) in
     let n₄ = from_length behind k₄ in
     let a₂ = from_aside i.behind k₅ in
     let n₅ = from_length i.behind k₅ in
-    let e₅ = passes_end i.behind-aside in
+    let e₅ = passes_end i.behind_aside in
     let g : Is (p + 1) (p + 1 + length name) ≡ closing line p i.closes =
     closing_is line p i.closes (p + 1 + length name) (length line) c (omega arith) (let y : length line ≡ aside line (p + 1 + length name + 1) = omega arith in y) refl in
     let q : p + 1 ≡ h + (8 + (length i.between + 1)) = omega arith in
@@ -229,7 +229,7 @@ module _ (line : List ℕ) (h f t : ℕ) (e : named line h ≡ Is f t) where
       let q = quoted_by line (aside line (h + 8)) f t tests.1 in
       let s₁ : aside line (h + 8) ≡ h + 8 + length between = from_aside rest k₁ ∙ ap (λ (x : ℕ). h + 8 + x) (sym p₁.size) in
       let k₂ : From line (h + 8 + length between) p₁.back = from_on between p₁.back (from_same refl p₁.whole k₁) in
-      let b₂ : byte p₁.back 0 ≡ q.opens = sym (from_byte p₁.back k₂) ∙ ap (byte line) (sym s₁) ∙ q.byte-is in
+      let b₂ : byte p₁.back 0 ≡ q.opens = sym (from_byte p₁.back k₂) ∙ ap (byte line) (sym s₁) ∙ q.byte_is in
       let inside = drop 1 p₁.back in
       let w₂ : p₁.back ≡ q.opens ∷ inside = first_byte q.opens p₁.back b₂ (open_positive q.marks) in
       let o = h + 8 + length between in

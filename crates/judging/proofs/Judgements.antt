@@ -187,13 +187,13 @@ module _ {s d e o st : List ℕ} {z : Sizes} {k j : ℕ} {f : File} {x : Stateme
   pub value_scope : (at len u : ℕ) → at ≡ get_or st (k * 7 + 2) 0 → len ≡ get_or st (k * 7 + 3) 0 → FindsWord s d e z.enumerators j at len u → ScopeAt f u (under y.values x.value)
   value_scope at len u pa pl w =
       let T = a.given.tables in
-      let is = w f y x.value T.situation T.in_definitions T.in_enumerators row.row-of row.low (reached T y.values)
+      let is = w f y x.value T.situation T.in_definitions T.in_enumerators row.row_of row.low (reached T y.values)
       (read_at (first_value a.block) (pa ∙ value_place) (pl ∙ value_size)).bytes in
-      subst (λ q. ScopeAt f q (under y.values x.value)) (sym is) (scope_under x.value T.situation row.row-of)
+      subst (λ q. ScopeAt f q (under y.values x.value)) (sym is) (scope_under x.value T.situation row.row_of)
 
   -- No type's word has a code below 22.
   pub value_none : (c : ℕ) → c ≡ get_or d (j * 19 + 12) 0 → c < 22 → ⊥
-  value_none c e h = go (e ∙ row.type-code) type_formed
+  value_none c e h = go (e ∙ row.type_code) type_formed
     where
       go : c ≡ code_of y.definition.word → {vs : Values} → Formed s y.definition vs → ⊥
       go q (an_integer i t w b) = let l = integer_low i in omega arith
@@ -209,7 +209,7 @@ module _ {s d e o st : List ℕ} {z : Sizes} {k j : ℕ} {f : File} {x : Stateme
       → ReferenceFault s o z.objects (c - 22) at len code g
       → sooner-of g (fault_if (not (eqb brace 0)) 15 brace) ≡ fault_of (first (faults_as y.definition.type f.objects x y))
   unfolding faults_as bit
-  value_reference c at len code brace g e l h pa pl pc pb r = go (e ∙ row.type-code) type_formed
+  value_reference c at len code brace g e l h pa pl pc pb r = go (e ∙ row.type_code) type_formed
     where
       unfolded : (q : Kind) → y.definition.type ≡ reference q
           → fault_of (first (reference_faults f.objects q (sort_of x.value.class) x.value ++ brace_faults x.brace)) ≡ fault_of (first (faults_as y.definition.type f.objects x y))
@@ -224,7 +224,7 @@ module _ {s d e o st : List ℕ} {z : Sizes} {k j : ℕ} {f : File} {x : Stateme
       go m (an_enum t w b v) = absurd (omega arith)
       go m (a_reference q t w b) =
           let n : c - 22 ≡ kind_number q = omega arith in
-          let room_of = a.given.tables.objects-fit in
+          let room_of = a.given.tables.objects_fit in
           let v = first_value a.block in
           let g-is : g ≡ fault_of (first (reference_faults f.objects q (sort_of x.value.class) x.value)) =
           r f q x.value a.given.tables.situation a.given.tables.in_objects a.given.tables.objects (omega arith) n (v.bytes ∙ sym (ap₂ (part_of s) (pa ∙ value_place) (pl ∙ value_size)))
@@ -246,10 +246,10 @@ module _ {s d e o st : List ℕ} {z : Sizes} {k j : ℕ} {f : File} {x : Stateme
       let T = a.given.tables in
       let taken : b ≡ fits y.definition y.values x.value =
       r e z.enumerators len (subst (λ p. FindsWord s d e z.enumerators j p len u) (sym pa) w) f y x.value T.situation T.in_definitions T.in_enumerators
-      row.row-of row.low (reached T y.values) (read_at v same_place value_size) (sym (pc ∙ value_code)) in
+      row.row_of row.low (reached T y.values) (read_at v same_place value_size) (sym (pc ∙ value_code)) in
       ap (λ t. fault_if (not t) 15 at) taken
       ∙ fault_at (not (fits y.definition y.values x.value)) x.value 15 at (sym same_place)
-      ∙ go (q ∙ row.type-code) type_formed
+      ∙ go (q ∙ row.type_code) type_formed
     where
       no_reference : (u : AttributeType) → y.definition.type ≡ u
           → faults_as u f.objects x y ≡ faults_if (not (fits y.definition y.values x.value)) x.value 15
@@ -268,7 +268,7 @@ module _ {s d e o st : List ℕ} {z : Sizes} {k j : ℕ} {f : File} {x : Stateme
   -- A list may be stated again.
   pub again_list : (c : ℕ) (before : Statements) → c ≡ get_or d (j * 19 + 6) 0 → (c ≡ 0 → ⊥) → false ≡ both (not y.definition.list) (among x.name (names before))
   unfolding faults_as bit
-  again_list c before e h = go y.definition.list (e ∙ row.list-mark)
+  again_list c before e h = go y.definition.list (e ∙ row.list_mark)
     where
       go : (b : Bool) → c ≡ bit b → false ≡ both (not b) (among x.name (names before))
       go true q = refl
@@ -279,7 +279,7 @@ module _ {s d e o st : List ℕ} {z : Sizes} {k j : ℕ} {f : File} {x : Stateme
       → BlockAt s st m n (then before (state x a.inside a.rest)) → k ≡ m + statements_in before → IsBefore s st m k n r → r ≡ both (not y.definition.list) (among x.name (names before))
   unfolding faults_as bit
   again_single c m n r before e h b q g =
-      g before x a.inside a.rest b q ∙ go y.definition.list (sym h ∙ e ∙ row.list-mark)
+      g before x a.inside a.rest b q ∙ go y.definition.list (sym h ∙ e ∙ row.list_mark)
     where
       go : (t : Bool) → 0 ≡ bit t → among x.name (names before) ≡ both (not t) (among x.name (names before))
       go true q = absurd (one_zero q)
@@ -372,7 +372,7 @@ pub looked_up : {s d e o st : List ℕ} {z : Sizes} {key k name size after : ℕ
     → FindsDefinition s d z.definitions key name size r → r ≡ row_found (find_definition ds x.name)
 unfolding statement_cells
 looked_up {s} {f = f} {ds = ds} {x = x} r pn ps c w b g =
-    let l = c.tables.definitions-fit in
+    let l = c.tables.definitions_fit in
     g f ds x.name c.tables.situation c.tables.in_definitions c.tables.definitions (omega arith) w
     ((first_name b).bytes ∙ sym (ap₂ (part_of s) (pn ∙ first_cell b 0 (omega arith)) (ps ∙ first_cell b 1 (omega arith))))
 

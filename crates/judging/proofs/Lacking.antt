@@ -80,7 +80,7 @@ module _ {s d st ms : List ℕ} {n key m e : ℕ} {f : File} {u : Word} {ds : De
   pub row_other : (get_or d (i * 19 + 0) 0 ≡ key → ⊥) → RowLacks ds (names ss) i false
   unfolding own_row
   row_other g = record {
-    own = λ x h r. absurd (g ((known o.given.tables (own_row h r)).under-place ∙ o.place));
+    own = λ x h r. absurd (g ((known o.given.tables (own_row h r)).under_place ∙ o.place));
     some = λ z. absurd (false≢true z);
   }
 
@@ -184,8 +184,8 @@ unowned s d st ms u n key m e w t f v ds ss o b =
     let T = o.given.tables in
     let h : i < n = b x q in
     let l₁ = o.most in
-    let l₂ = T.definitions-fit in
-    let under : get_or d (i * 19 + 0) 0 ≡ key = (known T (own_row o i q refl)).under-place ∙ o.place in
+    let l₂ = T.definitions_fit in
+    let under : get_or d (i * 19 + 0) 0 ≡ key = (known T (own_row o i q refl)).under_place ∙ o.place in
     go i x q h (omega (arith, h, l₁, l₂)) under (ℕ_discrete (get_or ms i 0) 0)))
   where
     go : (i : ℕ) (x : Defined) → HasDefinition ds x → x.definition.row < n → x.definition.row < 512 → get_or d (x.definition.row * 19 + 0) 0 ≡ key
@@ -221,7 +221,7 @@ module _ {s d e o st : List ℕ} {z : Sizes} {f : File} {j : ℕ} {x : Defined} 
   row = known c.tables a
 
   by_list : taken x.definition.default ≡ none → bit (eqb (get_or d (j * 19 + 6) 0) 0) ≡ bit (needed x)
-  by_list h = ap (λ k. bit (eqb k 0)) row.list-mark ∙ bit_not x.definition.list ∙ ap bit (sym (needs_none x h))
+  by_list h = ap (λ k. bit (eqb k 0)) row.list_mark ∙ bit_not x.definition.list ∙ ap bit (sym (needs_none x h))
 
   -- No default.
   pub needs_no_size : get_or d (j * 19 + 11) 0 ≡ 0 → bit (eqb (get_or d (j * 19 + 6) 0) 0) ≡ bit (needed x)
@@ -240,14 +240,14 @@ module _ {s d e o st : List ℕ} {z : Sizes} {f : File} {j : ℕ} {x : Defined} 
       record {
         word_of = t.word;
         takes = t.takes;
-        key_is = w f x t.word T.situation T.in_definitions T.in_enumerators row.row-of row.low (reached T x.values)
-            (read_at t.in-text (p ∙ t.place) (l ∙ t.length)).bytes;
+        key_is = w f x t.word T.situation T.in_definitions T.in_enumerators row.row_of row.low (reached T x.values)
+            (read_at t.in_text (p ∙ t.place) (l ∙ t.length)).bytes;
       }
 
   -- Nothing is under it.
   pub needs_nothing : {key : ℕ} → Taking x key → key ≡ 0 → 0 ≡ bit (needed x)
   unfolding place_found under definitions_or lacks bit
-  needs_nothing t g = go (find_value x.values t.word_of) refl (sym t.key-is ∙ g)
+  needs_nothing t g = go (find_value x.values t.word_of) refl (sym t.key_is ∙ g)
     where
       go : (o : Option Under) → find_value x.values t.word_of ≡ o → place_found o ≡ 0 → 0 ≡ bit (needed x)
       go none p z = sym (ap bit (needs_default x t.word_of t.takes ∙ ap (λ o. lacks (definitions_or o) []) p))
@@ -256,7 +256,7 @@ module _ {s d e o st : List ℕ} {z : Sizes} {f : File} {j : ℕ} {x : Defined} 
   -- What is under it lacks something, or nothing.
   pub needs_under : {key : ℕ} (ms : List ℕ) (b : Bool) → Taking x key → (key ≡ 0 → ⊥) → Marked f ms j → Lacks s d st ms j key 0 0 b → bit b ≡ bit (needed x)
   unfolding place_found under definitions_or names statements_in statement_rows
-  needs_under {key} ms b t g m l = go (find_value x.values t.word_of) refl t.key-is
+  needs_under {key} ms b t g m l = go (find_value x.values t.word_of) refl t.key_is
     where
       go : (o : Option Under) → find_value x.values t.word_of ≡ o → key ≡ place_found o → bit b ≡ bit (needed x)
       go none p k = absurd (g k)

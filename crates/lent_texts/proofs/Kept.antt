@@ -110,7 +110,7 @@ kept b l o g o' g' e u h k n =
     let eg : g' ≡ x.origins ++ fg.0 = u.origins ∙ ap (λ (y : Bool). filled y 65535 g x.origins) t ∙ fg.1 in
     let no = ap length eo ∙ length-append x.bytes fo.0 in
     let fits = main_fits b l t in
-    let two = fits.two-left in
+    let two = fits.two_left in
     record {
       told = t;
       size = size;

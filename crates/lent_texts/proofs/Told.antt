@@ -138,4 +138,4 @@ answered_refused {b} {l} {g = g} {e = e} n p k h r q =
 
 -- there is one answer
 pub one_told : {b l : List ℕ} {a c : Answer} → TheAnswer b l a → TheAnswer b l c → a ≡ c
-one_told {b} {l} t u = t.placed ∙ ap (placed_answer (place_of b l)) (u.no_other t.in-expanded t.given) ∙ sym u.placed
+one_told {b} {l} t u = t.placed ∙ ap (placed_answer (place_of b l)) (u.no_other t.in_expanded t.given) ∙ sym u.placed

@@ -128,7 +128,7 @@ piece_between a m z ts us t k l i =
     let step : moved_step (length a) (step_at (m ++ z) 0) ≡ Found t f.next =
     sym (step_shift a (m ++ z) 0) ∙ ap (step_at s) (add-zero (length a) ∙ sym e) ∙ f.step in
     let v = unmove (length a) (step_at (m ++ z) 0) t f.next step in
-    let y = v.at-is in
+    let y = v.at_is in
     piece_gap m z v.token v.next v.found_it (omega arith)
 
 -- all tokens before the one that begins where a text ends

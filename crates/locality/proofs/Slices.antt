@@ -69,10 +69,10 @@ slice s p ts us h k =
       low = low;
       high = high;
       last =
-          ap (last_end p) (sym m.front-is) ∙ ap (λ (i : ℕ). last_end i (map (moved p) m.front)) (let y : p ≡ p + 0 = omega arith in y)
+          ap (last_end p) (sym m.front_is) ∙ ap (λ (i : ℕ). last_end i (map (moved p) m.front)) (let y : p ≡ p + 0 = omega arith in y)
           ∙ last_moved p 0 m.front ∙ ap (λ (i : ℕ). p + i) (run_last b e 0 m.front f.run);
       tokens = m.front;
-      moved_are = m.front-is;
+      moved_are = m.front_is;
       run =
           subst (λ (u : List ℕ). Run u (length (bytes_between s p (p + e))) 0 m.front) (halves s p (p + e) low high)
           (subst (λ (n : ℕ). Run b n 0 m.front) (sym (part_long s p (p + e) low high ∙ z)) f.run);

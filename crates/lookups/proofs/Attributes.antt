@@ -58,7 +58,7 @@ module _ {s d e o : List ℕ} {z : Sizes} {f : File} (g : Tables s d e o z f) wh
   under_cell {j} {y} n =
       let h = nth_low n in
       let i = g.definitions in
-      let k = g.definitions-fit in
+      let k = g.definitions_fit in
       definition_cell f d j 0 y g.in_definitions n (omega arith) (omega arith)
 
   -- All rows are below their number.
@@ -75,7 +75,7 @@ module _ {s d e o : List ℕ} {z : Sizes} {f : File} (g : Tables s d e o z f) wh
     rest = [];
     whole = sym (append-nil (spec_choices f.specs));
     many = sym g.enumerators;
-    room = let h = g.enumerators-fit in omega arith;
+    room = let h = g.enumerators_fit in omega arith;
     free = tt;
   }
 
@@ -89,7 +89,7 @@ module _ {s d e o : List ℕ} {z : Sizes} {f : File} (g : Tables s d e o z f) wh
         let n : Nth (spec_entries f.specs) j E = subst (λ k. Nth (spec_entries f.specs) k E) a.row q.nth in
         let h = nth_low n in
         let i = g.definitions in
-        let k = g.definitions-fit in
+        let k = g.definitions_fit in
         let l : j < 513 = omega arith in
         let w = words_definition a.has (file_stands p a.stands).1 in
         let c : (c : ℕ) → c < 19 → get_or d (j * 19 + c) 0 ≡ get_or (definition_cells E) c 0 = λ c m. definition_cell f d j c E g.in_definitions n l m in
@@ -110,10 +110,10 @@ module _ {s d e o : List ℕ} {z : Sizes} {f : File} (g : Tables s d e o z f) wh
         }
 
     pub name_at : (at len : ℕ) → at ≡ get_or d (j * 19 + 2) 0 → len ≡ get_or d (j * 19 + 3) 0 → x.definition.name.bytes ≡ part_of s at len
-    name_at at len p q = known.name.bytes ∙ ap₂ (part_of s) (sym (p ∙ known.name-place)) (sym (q ∙ known.name-length))
+    name_at at len p q = known.name.bytes ∙ ap₂ (part_of s) (sym (p ∙ known.name_place)) (sym (q ∙ known.name_length))
 
     pub formed : Formed s x.definition x.values
-    formed = (entry_facts g.situation (nth_in known.row-of.nth)).facts.formed
+    formed = (entry_facts g.situation (nth_in known.row_of.nth)).facts.formed
 
 -- The definitions under its values stand before it.
 pub value_below : {s : List ℕ} {f : File} {j : ℕ} {x : Defined} {v : Under} → Situation s f → Attribute f j x → HasValue x.values v → Below j v.definitions
@@ -134,7 +134,7 @@ module _ {s d : List ℕ} {f : File} {u : Word} {j : ℕ} {x : Defined} (k : Att
   -- There is none, or it is NO_DEFAULT.
   pub none_given : get_or d (j * 19 + 11) 0 ≡ 0 → taken x.definition.default ≡ none
   unfolding span_or span_of option_words taken
-  none_given e = by x.definition.default (sym k.default-length ∙ e) k.default
+  none_given e = by x.definition.default (sym k.default_length ∙ e) k.default
     where
       by : (o : Option Word) → (span_or o).length ≡ 0 → AllIn s (option_words o) → taken o ≡ none
       by none h a = refl
@@ -142,7 +142,7 @@ module _ {s d : List ℕ} {f : File} {u : Word} {j : ℕ} {x : Defined} (k : Att
 
   pub not_taken : get_or d (j * 19 + 18) 0 ≡ 4 → taken x.definition.default ≡ none
   unfolding default_code taken
-  not_taken e = by x.definition.default (sym k.default-is ∙ e)
+  not_taken e = by x.definition.default (sym k.default_is ∙ e)
     where
       by : (o : Option Word) → default_code o ≡ 4 → taken o ≡ none
       by none h = refl
@@ -151,7 +151,7 @@ module _ {s d : List ℕ} {f : File} {u : Word} {j : ℕ} {x : Defined} (k : Att
   -- There is one.
   pub default_word : (get_or d (j * 19 + 11) 0 ≡ 0 → ⊥) → (get_or d (j * 19 + 18) 0 ≡ 4 → ⊥) → DefaultWord s d j x
   unfolding span_or span_of absent option_words default_code
-  default_word n m = by x.definition.default refl k.default k.default-place k.default-length k.default-is
+  default_word n m = by x.definition.default refl k.default k.default_place k.default_length k.default_is
     where
       by : (o : Option Word) → x.definition.default ≡ o → AllIn s (option_words o) → get_or d (j * 19 + 10) 0 ≡ (span_or o).place → get_or d (j * 19 + 11) 0 ≡ (span_or o).length
           → get_or d (j * 19 + 18) 0 ≡ default_code o → DefaultWord s d j x
@@ -164,7 +164,7 @@ module _ {s d : List ℕ} {f : File} {u : Word} {j : ℕ} {x : Defined} (k : Att
 pub nothing_at : {s d e o st : List ℕ} {z : Sizes} {f : File} → Given s d e o st z f → BlockAt s st 0 0 done
 unfolding statements_in statement_rows
 nothing_at {f = f} g =
-    let h = g.statements-fit in
+    let h = g.statements_fit in
     record {
       rows = all_statement_rows f.objects 0;
       holds = subst (λ t. Holds 2049 7 t (all_statement_rows f.objects 0)) (sym g.in_statements) (statements_held f (omega arith));
@@ -187,10 +187,10 @@ unfolding object_cells
 kept_object {s} {d} {e} {o} {st} {z} {f} {i} front x rest g w p =
     let T = g.tables in
     let c = T.objects in
-    let h = T.objects-fit in
-    let k = g.statements-fit in
+    let h = T.objects_fit in
+    let k = g.statements_fit in
     let l : length f.objects ≤ 257 = omega arith in
-    let a : AllIn s (object_words f.objects) = subst (λ q. AllIn s (object_words q.objects)) (sym T.situation.syntax-of) (objects_in s T.situation.derivation) in
+    let a : AllIn s (object_words f.objects) = subst (λ q. AllIn s (object_words q.objects)) (sym T.situation.syntax_of) (objects_in s T.situation.derivation) in
     let b : (m : ℕ) → m < 10 → get_or o (i * 10 + m) 0 ≡ get_or (object_cells x (statement_count front)) m 0 =
     λ m q. ap (λ n. get_or o (n * 10 + m) 0) (sym p) ∙ object_cell s f front x rest w o T.in_objects l m q in
     record {

@@ -59,7 +59,7 @@ module _ (s st : List ℕ) (k e at len : ℕ) where
 
   finds_after : (r : Found) → k < e → same (part_of s at len) (row_name s st 7 0 k) ≡ false → FindsStated s st (row_after st k e) e at len r → FindsStated s st k e at len r
   unfolding row_name
-  finds_after r h q n ss t b p = let l = looking_more k e at len k (looking_start s st k e at len) h q ss t b p in n l.left t l.block p ∙ l.same-found
+  finds_after r h q n ss t b p = let l = looking_more k e at len k (looking_start s st k e at len) h q ss t b p in n l.left t l.block p ∙ l.same_found
 
   pub finds_end : e ≤ k → FindsStated s st k e at len Nothing
   finds_end h = looking_end k e at len k (looking_start s st k e at len) h

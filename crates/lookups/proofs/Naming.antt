@@ -141,7 +141,7 @@ module _ (s d e o st : List ℕ) (z : Sizes) (v₀ h₀ spare x₀ v h x₁ x₂
       let fd = b.few.definitions in
       let fe = b.few.enumerators in
       let fo = b.few.objects in
-      let fs₀ = b.statements-fit in
+      let fs₀ = b.statements_fit in
       let fs : m ≤ 2049 = omega (arith, fs₀, eh) in
       let lv₀ = b.size in
       let lv : length v ≡ n = omega (arith, ev, lv₀) in
@@ -219,8 +219,8 @@ names_kept s d e o st z x y u l q g =
           let fe = f.enumerators in
           let fo = f.objects in
           let r = n.ranks in
-          let b₁ = r.few-statements in
-          let b₂ = r.few-definitions in
+          let b₁ = r.few_statements in
+          let b₂ = r.few_definitions in
           record {
             definitions = record { few = n.definitions.few; index = subst (λ (v : List ℕ). Indexed s d 19 z.definitions 0 2 v) (sym (low 0 z.definitions (omega (arith, fd)))) n.definitions.index };
             enumerators = record { few = fe; index = subst (λ (v : List ℕ). Indexed s e 3 z.enumerators 0 1 v) (sym (low 512 z.enumerators (omega (arith, fe)))) n.enumerators.index };

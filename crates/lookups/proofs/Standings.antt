@@ -173,4 +173,4 @@ stands_words a (under_value p h g) = words_value g (words_definition h (stands_w
 
 pub file_stands : {s : List ℕ} {f : File} {u : Word} {ds : Definitions} → Situation s f → Stands f.specs u ds → WordIn s u × AllIn s (definition_words ds)
 file_stands {s} {f} p q =
-    stands_words (subst (λ g. AllIn s (spec_words g.specs)) (sym p.syntax-of) (specs_in s _ (file_in s p.derivation))) q
+    stands_words (subst (λ g. AllIn s (spec_words g.specs)) (sym p.syntax_of) (specs_in s _ (file_in s p.derivation))) q

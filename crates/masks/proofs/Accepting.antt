@@ -77,11 +77,11 @@ module _ {s d₁ e₁ o₁ v₁ : List ℕ} {w : Spanned} (h : ReadsSpanned s (r
     read_as =
         let g = given_whole h i rooms in
         let a = (own_fits h i).objects in
-        let b = g.tables.many-objects in
+        let b = g.tables.many_objects in
         record { tables = g.tables; definitions = many_definitions h i; few = omega (arith, a, b); places = (h.spans i).places }
 
     parse_is : parse s ≡ parsed (file h i)
-    parse_is = let a = h.spans i in parse_derived s a.covered a.situation.derivation ∙ ap parsed (sym a.situation.syntax-of)
+    parse_is = let a = h.spans i in parse_derived s a.covered a.situation.derivation ∙ ap parsed (sym a.situation.syntax_of)
 
     answer_is : answer (file h i) ≡ accepted (own h i)
     answer_is = sym (h.spans i).answered ∙ reads_own h i

@@ -43,8 +43,8 @@ module _ (f : File) (l : List ℕ) where
       → Verdict f l (choose b (λ _. choose d (λ _. named_first (breaking (tasks_of f) l 0 (masks_of f) l)) (λ _. c.WrongLength)) (λ _. c.NotPlannable))
   unfolding choose
   by_tests true true e q = by_first e (eqb-true (length l) (length (masks_of f)) q) (breaking (tasks_of f) l 0 (masks_of f) l) refl
-  by_tests true false e q = rules.Verdict.wrong-length e (eqb-false (length l) (length (masks_of f)) q)
-  by_tests false d e q = rules.Verdict.not-plannable e
+  by_tests true false e q = rules.Verdict.wrong_length e (eqb-false (length l) (length (masks_of f)) q)
+  by_tests false d e q = rules.Verdict.not_plannable e
 
   verdict : Verdict f l (check_file f l)
   unfolding check_file
@@ -58,9 +58,9 @@ module _ (f : File) (l : List ℕ) where
   by_room : (b d : Bool) → plannable f ≡ b → ltb (length l) (length (masks_of f)) ≡ d
       → let m = choose b (λ _. choose d (λ _. left p.WrongLength l) (λ _. made (plan (tasks_of f) (masks_of f)) l)) (λ _. left p.NotPlannable l) in Outcome f l m.list m.result
   unfolding choose left
-  by_room true true e q = rules.Outcome.wrong-length e (ltb-true (length l) (length (masks_of f)) q) refl
+  by_room true true e q = rules.Outcome.wrong_length e (ltb-true (length l) (length (masks_of f)) q) refl
   by_room true false e q = by_plan e (ltb-false (length l) (length (masks_of f)) q) (plan (tasks_of f) (masks_of f)) refl
-  by_room false d e q = rules.Outcome.not-plannable e refl
+  by_room false d e q = rules.Outcome.not_plannable e refl
 
   outcome : Outcome f l (plan_file f l).list (plan_file f l).result
   unfolding plan_file

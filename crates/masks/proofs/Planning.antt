@@ -35,7 +35,7 @@ sort automatic = an_auto refl
 -- What counts ------------------------------------------------------------------------------------------------------------------------------
 
 taken_as : {ts : List Task} {rs : List Mask} {l l' : List ℕ} {i k : ℕ} → ((j : ℕ) → j < length rs → Counts rs i j → get_or l j 0 ≡ get_or l' j 0) → Taken ts rs l i k → Taken ts rs l' i k
-taken_as {k = k} f t = record { at = t.at; other = t.other; counts = t.counts; has_it = ap (λ (m : ℕ). has m k) (sym (f t.at t.other.event t.counts)) ∙ t.has-it }
+taken_as {k = k} f t = record { at = t.at; other = t.other; counts = t.counts; has_it = ap (λ (m : ℕ). has m k) (sym (f t.at t.other.event t.counts)) ∙ t.has_it }
 
 -- One plan ---------------------------------------------------------------------------------------------------------------------------------
 
@@ -100,7 +100,7 @@ module _ (ts : List Task) (rs : List Mask) where
   taken_is {l} {i} {k} n t =
       let h = t.other.event in
       let m : t.at < length l = omega (arith, n, h) in
-      beside_is ts i (λ x. has x k) l t.at (record { event = m; another = t.other.another; together = t.other.together }) t.has-it
+      beside_is ts i (λ x. has x k) l t.at (record { event = m; another = t.other.another; together = t.other.together }) t.has_it
 
   -- The next turn, after a given mask.
   given_turn : {l : List ℕ} {i g : ℕ} → get_or rs i automatic ≡ given g → Turn l i → Turn l (suc i)

@@ -115,7 +115,7 @@ meets_true t i p (n ∷ ns) j e = go (cases (both (both (t j) (not (eqb i j))) (
         let r = f (of_either (both (both (t j) (not (eqb i j))) (p n)) (meets t i p ns (suc j)) e q) in
         let h = r.inside in
         let z : suc j + r.at ≡ j + suc r.at = omega arith in
-        record { at = suc r.at; inside = omega (arith, h); in_task = ap t (sym z) ∙ r.in-task; another = λ x. r.another (x ∙ sym z); holds = r.holds }
+        record { at = suc r.at; inside = omega (arith, h); in_task = ap t (sym z) ∙ r.in_task; another = λ x. r.another (x ∙ sym z); holds = r.holds }
 
 pub meets_is : (t : Task) (i : ℕ) (p : ℕ → Bool) (ns : List ℕ) (j m : ℕ) → m < length ns → t (j + m) ≡ true → (i ≡ j + m → ⊥) → p (get_or ns m 0) ≡ true → meets t i p ns j ≡ true
 unfolding meets
@@ -141,7 +141,7 @@ beside_true (t ∷ ts) i p l e = go (cases (both (t i) (meets t i p l 0))) (λ x
     go : Cases (both (t i) (meets t i p l 0)) → (beside ts i p l ≡ true → Beside ts i p l) → Beside (t ∷ ts) i p l
     go (yes q) f =
         let r = meets_true t i p l 0 (both_second (t i) (meets t i p l 0) q) in
-        record { at = r.at; other = record { event = r.inside; another = λ x. r.another (x ∙ sym (from_zero r.at)); together = this_task (both_true (t i) (meets t i p l 0) q) (ap t (sym (from_zero r.at)) ∙ r.in-task) }; holds = r.holds }
+        record { at = r.at; other = record { event = r.inside; another = λ x. r.another (x ∙ sym (from_zero r.at)); together = this_task (both_true (t i) (meets t i p l 0) q) (ap t (sym (from_zero r.at)) ∙ r.in_task) }; holds = r.holds }
     go (no q) f =
         let r = f (of_either (both (t i) (meets t i p l 0)) (beside ts i p l) e q) in
         record { at = r.at; other = record { event = r.other.event; another = r.other.another; together = later_task r.other.together }; holds = r.holds }

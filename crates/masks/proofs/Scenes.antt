@@ -68,18 +68,18 @@ module _ {s d o v : List ℕ} {m n : ℕ} {f : File} (t : Tables s d o v m n f) 
   rs = all_value_rows (all_values f f.objects) 0 0
 
   many : m ≡ length xs
-  many = t.many-objects ∙ rows_many xs
+  many = t.many_objects ∙ rows_many xs
 
   objects : From 8 object_cells o m 0 (object_rows xs)
   unfolding object_room
-  objects = from_room 8 object_cells (256 * 8) (object_rows xs) o m t.objects t.many-objects
+  objects = from_room 8 object_cells (256 * 8) (object_rows xs) o m t.objects t.many_objects
 
   values : From 9 value_cells v n 0 rs
   unfolding value_room
-  values = from_room 9 value_cells (2048 * 9) rs v n t.values t.many-values
+  values = from_room 9 value_cells (2048 * 9) rs v n t.values t.many_values
 
   counts : Counts 0 (object_numbers xs)
-  counts = subst (λ (x : File). Counts 0 (object_numbers x.objects)) (sym t.situation.syntax-of) (numbered s t.situation.derivation.tree).1.0
+  counts = subst (λ (x : File). Counts 0 (object_numbers x.objects)) (sym t.situation.syntax_of) (numbered s t.situation.derivation.tree).1.0
 
   events_are : event_rows_at o m 0 ≡ es
   events_are = ap (λ (c : ℕ). event_rows_at o c 0) many ∙ event_rows_are xs 0 objects counts
@@ -130,7 +130,7 @@ module _ {s d o v : List ℕ} {m n : ℕ} {f : File} (t : Tables s d o v m n f) 
         ap (λ (x : ℕ). eqb (get_or marks (u * 256 + x) 0) 1) (row_is j k)
         ∙ q.marks u (get_or es j 0) c w
         ∙ ap (λ (x : ℕ). either (eqb x 1) (refers_at o v n 0 0 u (get_or es j 0))) (clear (u * 256 + get_or es j 0) a)
-        ∙ ap (λ (x : ℕ). refers_at o v x 0 0 u (get_or es j 0)) t.many-values
+        ∙ ap (λ (x : ℕ). refers_at o v x 0 0 u (get_or es j 0)) t.many_values
         ∙ cells_refer o v n u (get_or es j 0) rs 0 0 values
         ∙ ap₂ both (tasks_are xs 0 u objects (omega arith) y) (all_refer (all_values f xs) 0 0 0 u (get_or es j 0))
 

@@ -72,22 +72,22 @@ plan_made {g = g} {e = e} {a = a} h q = record { in_expanded = a; rules = h; tol
 
 same_verdict : (f : File) (ms g : List ℕ) (e : Expanded) (a : Checked) → Verdict f ms a → Verdict f ms (told_check g e a)
 unfolding told_check
-same_verdict f ms g e _ (rules.not-plannable h) = rules.not-plannable h
-same_verdict f ms g e _ (rules.wrong-length h i) = rules.wrong-length h i
+same_verdict f ms g e _ (rules.not_plannable h) = rules.not_plannable h
+same_verdict f ms g e _ (rules.wrong_length h i) = rules.wrong_length h i
 same_verdict f ms g e _ (rules.breaks h i j k) = rules.breaks h i j k
 same_verdict f ms g e _ (rules.accepts h i) = rules.accepts h i
 
 same_outcome : (f : File) (ms ms' g : List ℕ) (e : Expanded) (a : Planned) → Outcome f ms ms' a → Outcome f ms ms' (told_plan g e a)
 unfolding told_plan
-same_outcome f ms ms' g e _ (rules.not-plannable h i) = rules.not-plannable h i
-same_outcome f ms ms' g e _ (rules.wrong-length h i j) = rules.wrong-length h i j
+same_outcome f ms ms' g e _ (rules.not_plannable h i) = rules.not_plannable h i
+same_outcome f ms ms' g e _ (rules.wrong_length h i j) = rules.wrong_length h i j
 same_outcome f ms ms' g e _ (rules.full_at h i j k o) = rules.full_at h i j k o
 same_outcome f ms ms' g e _ (rules.makes h i j k o) = rules.makes h i j k o
 
 -- ---- the checker
 
 check_once : {b l x g x' g' : List ℕ} (ms : List ℕ) (n : ℕ) → AtOnce b l x g x' g' n → ChecksTexts b l x g x' g' ms (c.Refused n 0)
-check_once ms n (by_1 h i j k) = specs.short-rooms h (ap (λ (o : ℕ). c.Refused o 0) i) j k
+check_once ms n (by_1 h i j k) = specs.short_rooms h (ap (λ (o : ℕ). c.Refused o 0) i) j k
 check_once ms n (by_30 h i _ k f) = specs.refuses h f 30 0 k (ap (λ (o : ℕ). c.Refused o 0) i)
 
 pub stopped_checks : {b l x g x' g' ms : List ℕ} {r : Lent} (n : ℕ) → ExpandsTexts b l x g x' g' r → r ≡ Stopped n → ChecksTexts b l x g x' g' ms (c.Refused n 0)
@@ -106,12 +106,12 @@ pub text_checks : {b l x g x' g' ms : List ℕ} {r : Lent} {e : Expanded} {a : C
     ChecksExpanded (take e.length x') g' e ms a → ChecksTexts b l x g x' g' ms a
 text_checks {ms = ms} {e = e} {a = a} u q w =
     let t = there e u q in
-    check_by ms w.in-expanded a t (subst (λ (y : List ℕ). ChecksByRules y ms w.in-expanded) t.holds.bytes w.rules) w.told
+    check_by ms w.in_expanded a t (subst (λ (y : List ℕ). ChecksByRules y ms w.in_expanded) t.holds.bytes w.rules) w.told
 
 -- ---- the planner
 
 plan_once : {b l x g x' g' : List ℕ} (ms : List ℕ) (n : ℕ) → AtOnce b l x g x' g' n → PlansTexts b l x g x' g' ms ms (p.Refused n 0)
-plan_once ms n (by_1 h i j k) = specs.short-rooms h (ap (λ (o : ℕ). p.Refused o 0) i) j k refl
+plan_once ms n (by_1 h i j k) = specs.short_rooms h (ap (λ (o : ℕ). p.Refused o 0) i) j k refl
 plan_once ms n (by_30 h i _ k f) = specs.refuses h f 30 0 k (ap (λ (o : ℕ). p.Refused o 0) i) refl
 
 pub stopped_plans : {b l x g x' g' ms : List ℕ} {r : Lent} (n : ℕ) → ExpandsTexts b l x g x' g' r → r ≡ Stopped n → PlansTexts b l x g x' g' ms ms (p.Refused n 0)
@@ -131,4 +131,4 @@ pub text_plans : {b l x g x' g' ms ms' : List ℕ} {r : Lent} {e : Expanded} {a 
     PlansExpanded (take e.length x') g' e ms ms' a → PlansTexts b l x g x' g' ms ms' a
 text_plans {ms = ms} {ms' = ms'} {e = e} {a = a} u q w =
     let t = there e u q in
-    plan_by ms ms' w.in-expanded a t (subst (λ (y : List ℕ). PlansByRules y ms ms' w.in-expanded) t.holds.bytes w.rules) w.told
+    plan_by ms ms' w.in_expanded a t (subst (λ (y : List ℕ). PlansByRules y ms ms' w.in_expanded) t.holds.bytes w.rules) w.told

@@ -39,7 +39,7 @@ trees_find [] {k} g ts e =
 trees_find (t ∷ l) {k} g ts e =
     let f = forth ts t l e in
     found_by t (move t.class k) f.by_move (λ j. trees_of l j) f.rest (complete g f.by_move)
-    (trees_find l (left_good g f.by_move) f.rest f.rest-tokens)
+    (trees_find l (left_good g f.by_move) f.rest f.rest_tokens)
     ∙ ap some (sym f.same)
 
 -- The tree of a derivation is found.
@@ -60,7 +60,7 @@ pub parse_derived : (s : List ℕ) → Covered s → (d : Derivation (tokens-of 
 unfolding parse choose after_grammar by_tree tokens-of
 parse_derived s w d =
     ap (λ b. choose b (λ _. not_parsed 2 0) (λ _. after_grammar s (run 0 (paper file ▸ ∎) (stream_of (lex_from s 0))) (λ _. tree (tokens_in (lex_from s 0))))) (le-ltb 65535 (length s) w.short)
-    ∙ ap (λ o. after_grammar s o (λ _. tree (tokens_in (lex_from s 0)))) (((demand_3 s _ (run_answers s)).passes-exactly w).1 d)
+    ∙ ap (λ o. after_grammar s o (λ _. tree (tokens_in (lex_from s 0)))) (((demand_3 s _ (run_answers s)).passes_exactly w).1 d)
     ∙ ap (by_tree s) (tree_finds (tokens-of s) d)
 
 pub reading_derived : (s : List ℕ) → Covered s → (d : Derivation (tokens-of s)) → reading s ≡ answer (syntax s d.tree)

@@ -144,7 +144,7 @@ module _ (s g l k : List ℕ) where
         (λ v. subst (λ (x : File). Mending s g (all_drops x) l k (mend_by s g (all_drops f) l k).text (mend_by s g (all_drops f) l k).lines (mend_by s g (all_drops f) l k).result)
         (own_syntax s f e v) (mending s g (all_drops f) l k))
     by_objects i (some x) j =
-        refuses (faulty (λ y. first (object_faults y)) j (λ h. h.no-object-fault)) x.number x.place
+        refuses (faulty (λ y. first (object_faults y)) j (λ h. h.no_object_fault)) x.number x.place
         (the_refusal s x.number x.place (reading_is (refused x.number x.place)
         (ap (λ (y : Option Fault). unless y (λ _. unless (first (object_faults f)) (λ _. rest f))) i ∙ ap (λ (y : Option Fault). unless y (λ _. rest f)) j)))
         refl refl refl
@@ -154,7 +154,7 @@ module _ (s g l k : List ℕ) where
     unfolding or_refused left answer unless rest
     by_definitions none i = by_objects i (first (object_faults f)) refl
     by_definitions (some x) i =
-        refuses (faulty (λ y. first (definition_faults y)) i (λ h. h.no-definition-fault)) x.number x.place
+        refuses (faulty (λ y. first (definition_faults y)) i (λ h. h.no_definition_fault)) x.number x.place
         (the_refusal s x.number x.place (reading_is (refused x.number x.place)
         (ap (λ (y : Option Fault). unless y (λ _. unless (first (object_faults f)) (λ _. rest f))) i)))
         refl refl refl

@@ -11,4 +11,4 @@ use Rattle.mending.specs.Promises.{DropsKept}
 
 pub drops_kept : {s : List ℕ} {y : Merged} {w : Decision} (z : Sizes) (m m' : List ℕ) → z.definitions ≡ w.walked.definitions → z.enumerators ≡ w.walked.enumerators
     → z.objects ≡ w.objects → DropsAll s y.definitions y.enumerators y.objects y.statements z w.walked.places m m' → DropsKept s y w m m'
-drops_kept z m m' a b c h p = h p.file (given p.kept p.no-definition-fault p.no-object-fault z a b c) (places p.kept)
+drops_kept z m m' a b c h p = h p.file (given p.kept p.no_definition_fault p.no_object_fault z a b c) (places p.kept)

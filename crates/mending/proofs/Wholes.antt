@@ -56,7 +56,7 @@ module _ {s : List ℕ} {y : Merged} {r : Decision} (l : length s ≤ 65535) (h 
   fault_stops i =
       let d = h.decided l refl refl refl refl in
       let n = is_one r.fault i in
-      stops n (d.refused-by n)
+      stops n (d.refused_by n)
       (λ f e z. let w = parsed_derived s f e in d.stopped n w.covered w.derivation (ap stage_fault (sym (own_syntax s f e w.derivation)) ∙ z))
 
   pub kept_marks : {m m' : List ℕ} → is_fault r.fault ≡ false → DropsKept s y r m m' → MarksDrops s m m' r.fault
@@ -64,7 +64,7 @@ module _ {s : List ℕ} {y : Merged} {r : Decision} (l : length s ≤ 65535) (h 
       let n = is_none r.fault i in
       let p = (h.decided l refl refl refl refl).passes n in
       let t = p.kept.situation in
-      marks n l p.file (parse_derived s p.covered t.derivation ∙ ap parsed (sym t.syntax-of)) p.no-definition-fault p.no-object-fault (k p)
+      marks n l p.file (parse_derived s p.covered t.derivation ∙ ap parsed (sym t.syntax_of)) p.no_definition_fault p.no_object_fault (k p)
 
 -- `answer_to` --------------------------------------------------------------------------------------------------------------------------------
 

@@ -53,7 +53,7 @@ module _ {s g : List ℕ} {e : Expanded} {o k o' k' : List ℕ} {y : Answer} (h 
 -- ---- the public call
 
 once : {b l x g o k x' g' : List ℕ} (n : ℕ) → AtOnce b l x g x' g' n → MendsTexts b l x g o k x' g' o k (m.Refused n 0)
-once n (by_1 h i j k) = specs.short-rooms h (ap (λ (z : ℕ). m.Refused z 0) i) j k refl refl
+once n (by_1 h i j k) = specs.short_rooms h (ap (λ (z : ℕ). m.Refused z 0) i) j k refl refl
 once n (by_30 h i e k f) = specs.too_long h f e k (ap (λ (z : ℕ). m.Refused z 0) i) refl refl
 
 pub stopped_mends : {b l x g o k x' g' : List ℕ} {r : Lent} (n : ℕ) → ExpandsTexts b l x g x' g' r → r ≡ Stopped n → MendsTexts b l x g o k x' g' o k (m.Refused n 0)
@@ -78,9 +78,9 @@ module _ {b l x g : List ℕ} {e : Expanded} (t : Holds b l x g e) where
 
   -- So the answer is by them,
   by_origins : {o k o' k' : List ℕ} (ds : List Drop) {y : Answer} → Mending (text b l) g ds o k o' k' y → Mending (text b l) (expanded b l).origins ds o k o' k' y
-  by_origins ds (rules.not-mended n p h i j) = rules.not-mended n p h i j
-  by_origins {o} {k} ds (rules.too_short u h (rules.text-short w) i j) = rules.too_short u h (rules.text-short w) i j
-  by_origins {o} {k} ds (rules.too_short u h (rules.lines-short w) i j) = rules.too_short u h (rules.lines-short (subst (λ (z : List ℕ). length k < length z) (same_lines ds) w)) i j
+  by_origins ds (rules.not_mended n p h i j) = rules.not_mended n p h i j
+  by_origins {o} {k} ds (rules.too_short u h (rules.text_short w) i j) = rules.too_short u h (rules.text_short w) i j
+  by_origins {o} {k} ds (rules.too_short u h (rules.lines_short w) i j) = rules.too_short u h (rules.lines_short (subst (λ (z : List ℕ). length k < length z) (same_lines ds) w)) i j
   by_origins {o} {k} {o'} {k'} ds (rules.done u h v w i j) =
       subst (λ (z : List ℕ). (length z ≤ length k) → k' ≡ z ++ drop (length z) k → Mending (text b l) (expanded b l).origins ds o k o' k' (a.Done (length (mended (text b l) ds)) (length z)))
       (sym (same_lines ds)) (λ w₁ j₁. rules.done u h v w₁ i j₁) w j
@@ -88,7 +88,7 @@ module _ {b l x g : List ℕ} {e : Expanded} (t : Holds b l x g e) where
   -- and its place is that in the lent texts.
   mending_placed : {s h : List ℕ} {ds : List Drop} {o k o' k' : List ℕ} (y : Answer) → Mending s h ds o k o' k' y → told_in g e y ≡ placed_mended (place_of b l) y
   unfolding told_in placed_mended
-  mending_placed {s} {ds = ds} _ (rules.not-mended n p h i j) = ap (λ (z : ℕ). m.Refused n (pick (is_at_start n) (place_back s ds n p) z)) (t.place (place_back s ds n p))
+  mending_placed {s} {ds = ds} _ (rules.not_mended n p h i j) = ap (λ (z : ℕ). m.Refused n (pick (is_at_start n) (place_back s ds n p) z)) (t.place (place_back s ds n p))
   mending_placed _ (rules.too_short u h w i j) = ap (λ (z : ℕ). m.Refused 20 (pick (is_at_start 20) 0 z)) (t.place 0)
   mending_placed _ (rules.done u h v w i j) = refl
 
@@ -105,4 +105,4 @@ pub text_mends : {b l x g o k x' g' o' k' : List ℕ} {r : Lent} {e : Expanded} 
     → MendsExpanded (take e.length x') g' e o k o' k' q → MendsTexts b l x g o k x' g' o' k' q
 text_mends {o = o} {k = k} {g' = g'} {o' = o'} {k' = k'} {e = e} {q = q} u i w =
     let t = there e u i in
-    mends_by w.in-expanded q t (subst (λ (z : List ℕ). MendsByRules z g' o k o' k' w.in-expanded) t.holds.bytes w.rules) w.told
+    mends_by w.in_expanded q t (subst (λ (z : List ℕ). MendsByRules z g' o k o' k' w.in_expanded) t.holds.bytes w.rules) w.told

@@ -110,7 +110,7 @@ module _ {s p st x : List ℕ} {n : ℕ} {f : File} (P : Parted s p st x n f) {j
   unfolding kept_parts
   part_cell c h =
       let a = P.parts in
-      let b = P.parts-fit in
+      let b = P.parts_fit in
       let l = length_objects f.parts 0 in
       let k : length (object_rows r.front 0) ≡ j = length_objects r.front 0 ∙ r.place in
       let H : Holds 513 10 p (object_rows f.parts 0) = record { table = P.in_parts; fits = omega arith; wide = object_wide f.parts 0 } in
@@ -141,7 +141,7 @@ module _ {s p st x : List ℕ} {n : ℕ} {f : File} (P : Parted s p st x n f) {j
       let k = statement_count r.front in
       let a : from ≡ k = e₁ ∙ from_cell in
       let b : end ≡ k + statements_in z.statements = e₂ ∙ end_cell in
-      let t = P.statements-fit in
+      let t = P.statements_fit in
       let u = length_all f.parts 0 in
       let v = count_split r.front z r.rest in
       let w : statement_count f.parts ≡ statement_count (r.front ++ (z ∷ r.rest)) = ap statement_count r.whole in

@@ -154,7 +154,7 @@ module _ {s p st x : List ℕ} {n : ℕ} {f : File} (P : Parted s p st x n f) wh
       → get_or x j 0 ≡ row_or j (first (same_object z) At Nothing 0 before)
   cell_is j before z rest w l =
       let m = P.parts in
-      let c = P.parts-fit in
+      let c = P.parts_fit in
       let a : length f.parts ≡ length (before ++ (z ∷ rest)) = ap (λ (k : List Object). length k) w in
       let b = length-append before (z ∷ rest) in
       P.firsts j (omega arith) ∙ row_is s p f j before z rest P.situation P.in_parts w l (omega arith)

@@ -220,13 +220,13 @@ merging_more p st x o t o₁ t₁ o₂ t₂ n i k m k₂ m₂ h one K s f P _ =
     let w : f.parts ≡ u.before ++ (z ∷ rest) = u.whole ∙ ap (λ (v : List Object). u.before ++ v) nx.is in
     let os = begun u.before z rest k in
     let tail = merge_from (u.before ++ (z ∷ [])) rest (k + length os) in
-    let e : u.so_far ++ (os ++ tail) ≡ merge f.parts = ap (λ (v : List Object). u.so_far ++ v) (sym (merge_step u.before z rest k)) ∙ ap (λ (v : List Object). u.so_far ++ merge_from u.before v k) (sym nx.is) ∙ u.merged-so in
+    let e : u.so_far ++ (os ++ tail) ≡ merge f.parts = ap (λ (v : List Object). u.so_far ++ v) (sym (merge_step u.before z rest k)) ∙ ap (λ (v : List Object). u.so_far ++ merge_from u.before v k) (sym nx.is) ∙ u.merged_so in
     let e₁ : statement_count (u.so_far ++ (os ++ tail)) ≡ statement_count (merge f.parts) = ap statement_count e in
     let e₂ = merge_count f.parts in
     let e₃ = count_append u.so_far (os ++ tail) in
     let e₄ = count_append os tail in
     let e₅ = u.put.row in
-    let e₆ = P.statements-fit in
+    let e₆ = P.statements_fit in
     let y = one s f u.before z rest P w c (omega arith) in
     let e₇ = y.count in
     let l = length-append u.before (z ∷ []) in
@@ -250,6 +250,6 @@ merging_end p st x o t o' t' n i k m h g K s f P =
     let d = P.parts in
     let z = no_more u.left (omega arith) in
     let e : u.so_far ≡ f.objects =
-    sym (append-nil u.so_far) ∙ sym (ap (λ (v : List Object). u.so_far ++ merge_from u.before v k) z) ∙ u.merged-so ∙ sym (whole P.situation).merged in
+    sym (append-nil u.so_far) ∙ sym (ap (λ (v : List Object). u.so_far ++ merge_from u.before v k) z) ∙ u.merged_so ∙ sym (whole P.situation).merged in
     let p = subst (λ (os : List Object). Put os o t 0 0 o' t' k m) e u.put in
     record { objects = p.objects; statements = p.statements; count = p.count ∙ (let i : 0 + length f.objects ≡ length f.objects = omega arith in i) }

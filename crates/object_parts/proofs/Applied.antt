@@ -65,7 +65,7 @@ module _ (x y z : Table × Table) (a b : Put) (d : FillBoth x a y) (e : FillBoth
             ∙ ap₂ (λ (n n' : ℕ). sets y.0.0 (n * 10) (join (b.0 n'))) i j
             ∙ ap (λ (t : List ℕ). sets t ((x.0.1 + length (a.0 m)) * 10) (join (b.0 k))) (d.table (omega (arith, p, h)) (omega (arith, r, h')))
             ∙ sym (rows_append 10 x.0.0 x.0.1 (a.0 m) (b.0 k) (d.wide m));
-        lines = lines.does-then x.1 y.1 z.1 a.1 b.1 d.lines e.lines;
+        lines = lines.does_then x.1 y.1 z.1 a.1 b.1 d.lines e.lines;
       }
 
 puts : Effects Put (Table × Table) also no_put FillBoth
@@ -82,7 +82,7 @@ puts =
             size = refl;
             count = omega arith;
             table = λ h h'. refl;
-            lines = lines.does-none x.1;
+            lines = lines.does_none x.1;
           };
       does_then = put_then;
     }
@@ -132,7 +132,7 @@ module _ {s : List ℕ} {a b c : Look} {l l' : List ℕ} {n n' : ℕ} where
       let z : Put = ((λ j. row j ∷ []), none_yet) in
       record {
         what = z;
-        does = put_part none_yet row (row m) (λ j. refl) (lines.does-none (t, m)) o (λ _. refl) i;
+        does = put_part none_yet row (row m) (λ j. refl) (lines.does_none (t, m)) o (λ _. refl) i;
         fills = record {
           meets = object_by (x ⊳ y ⊳ block_pass h ⊳ d);
           told = λ u.

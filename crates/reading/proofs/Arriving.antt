@@ -133,10 +133,10 @@ arrived s y w h l z =
       file = syntax s t.trees;
       kept = record {
         situation = record { derivation = record { tree = t.trees; leaves = sym v.1 }; syntax_of = refl };
-        in_definitions = k.definition-rows m₀;
-        in_enumerators = k.enumerator-rows m₁;
-        in_parts = k.part-table m₂ m₃;
-        in_statements = k.statement-table m₃;
+        in_definitions = k.definition_rows m₀;
+        in_enumerators = k.enumerator_rows m₁;
+        in_parts = k.part_table m₂ m₃;
+        in_statements = k.statement_table m₃;
         definitions = omega arith;
         enumerators = omega arith;
         parts = omega arith;
@@ -153,7 +153,7 @@ arrived s y w h l z =
 
 -- The reading of such a text is the answer of its syntax.
 pub reading_is : (s : List ℕ) (f : File) → Situation s f → Covered s → reading s ≡ answer f
-reading_is s f t c = one_answer (meant c t.derivation) ∙ ap answer (sym t.syntax-of)
+reading_is s f t c = one_answer (meant c t.derivation) ∙ ap answer (sym t.syntax_of)
 
 -- Any two derivations of it have the same syntax.
 same_file : {f g : File} → ◌≡◌ {A = Parsed} (parsed f) (parsed g) → f ≡ g
@@ -211,7 +211,7 @@ decided s y y' w d t g =
           reading_is s f t.kept.situation t.covered
           ∙ stages_refuse (first (definition_faults f)) (first (object_faults f)) _ d.fault e n;
       stopped = λ n c v h.
-          let i : syntax s v.tree ≡ f = same_syntax s c v t.kept.situation.derivation ∙ sym t.kept.situation.syntax-of in
+          let i : syntax s v.tree ≡ f = same_syntax s c v t.kept.situation.derivation ∙ sym t.kept.situation.syntax_of in
           n (ap (λ (q : Fault). q.number) e ∙ none_zero (stage_fault f) (ap stage_fault (sym i) ∙ h));
       passes = λ n.
           let z = all_none (first (definition_faults f)) (first (object_faults f)) (of_first (definition_faults f) (of_definitions f))

@@ -48,7 +48,7 @@ module _ {s : List ℕ} {y : Rooms} {w : Walked} {f : File} (k : KeptParts s y w
   kept_merged x o t o' t' l r n cs v e h m eo et en ec =
       let F = fitting s f k.situation p q in
       let F₁ = F.parts in
-      let F₂ = F.part-statements in
+      let F₂ = F.part_statements in
       let ko = k.parts in
       let fewer : length f.parts ≤ 513 = omega arith in
       let P : Parted s y.parts y.statements x w.parts f = record {

@@ -71,7 +71,7 @@ module _ (s : List ℕ) (w : Covered s) where
   passing (too_long h) = let k = w.short in absurd (omega arith)
   passing (not_grammar a h n t) =
       let q = stage-demand-3 s a t in
-      ((λ h. absurd (four (number_of a) (place_of a) (q.refusal w n).0 h)), (λ d. absurd (n ((q.passes-exactly w).1 d))))
+      ((λ h. absurd (four (number_of a) (place_of a) (q.refusal w n).0 h)), (λ d. absurd (n ((q.passes_exactly w).1 d))))
   passing (meant c d) = ((λ _. d), (λ _. derived_passes _))
 
   refusing : {a : Meant} → Answers s a → (PassesGrammar (given a) → ⊥) → RefusedByGrammar s (given a)

@@ -34,7 +34,7 @@ pub wrote : (s : List ℕ) (y : Merged) (w : Decision) (z : Sizes) (p : Passed s
     → (v v' : List ℕ) (n : ℕ) → ResolvesAll s y.definitions y.enumerators y.objects y.statements v z w.walked.places v' n → v ≡ replicate 18432 0
     → WroteAll v (all_values p.file p.file.objects) v' n
 wrote s y w z p a b c v v' n r e =
-    r p.file (given p.kept p.no-definition-fault p.no-object-fault z a b c) (places p.kept) (ap length e ∙ length-replicate {A = ℕ} 18432 0)
+    r p.file (given p.kept p.no_definition_fault p.no_object_fault z a b c) (places p.kept) (ap length e ∙ length-replicate {A = ℕ} 18432 0)
 
 module _ (s : List ℕ) (y : Merged) (w : Decision) (z : Sizes) (a : z.definitions ≡ w.walked.definitions) (b : z.enumerators ≡ w.walked.enumerators)
     (c : z.objects ≡ w.objects) (d e o v v₁ : List ℕ) (n : ℕ)
@@ -52,7 +52,7 @@ module _ (s : List ℕ) (y : Merged) (w : Decision) (z : Sizes) (a : z.definitio
   settles_accepted d₂ e₂ o₂ h i j l p m₀ k =
       let u = wrote s y w z p a b c v v₁ n x k.values in
       let g = p.kept in
-      let t = fitting s p.file g.situation p.no-definition-fault p.no-object-fault in
+      let t = fitting s p.file g.situation p.no_definition_fault p.no_object_fault in
       let t₀ = t.definitions in
       let t₁ = t.enumerators in
       let t₂ = t.objects in
@@ -69,7 +69,7 @@ module _ (s : List ℕ) (y : Merged) (w : Decision) (z : Sizes) (a : z.definitio
 module _ (s : List ℕ) (y : Merged) (w : Decision) (z : Sizes) (a : z.definitions ≡ w.walked.definitions) (b : z.enumerators ≡ w.walked.enumerators)
     (c : z.objects ≡ w.objects) (g : Fault) (j : JudgesAll s y.definitions y.enumerators y.objects y.statements z w.walked.places g) (d e o v : List ℕ) where
   judged : (p : Passed s y w) → g ≡ fault_of (first (statement_stage p.file))
-  judged p = j p.file (given p.kept p.no-definition-fault p.no-object-fault z a b c) (places p.kept)
+  judged p = j p.file (given p.kept p.no_definition_fault p.no_object_fault z a b c) (places p.kept)
 
   -- v is lent to them, and is v₁ then.
   module _ (v₁ : List ℕ) (l : StaysBlank v v₁) where
@@ -102,7 +102,7 @@ module _ (s d₀ e₀ o₀ v₀ d e o v : List ℕ) (z : RoomSizes d₀ e₀ o�
   module _ (h : length s ≤ 65535) (y : Merged) (x : Decision) (t : Decides s (replicate 9747 0) (replicate 3075 0) (replicate 2570 0) (replicate 14343 0) y x) where
     pub fill_refused : (r : Reading) → is_fault x.fault ≡ true → r ≡ reading_of (refused x.fault.number x.fault.place) → Filled s d e o v r
     fill_refused r i q =
-        refused_fills s x.fault.number x.fault.place d e o v r ((t.decided h refl refl refl refl).refused-by (is_one x.fault i)) q blanks.definitions blanks.enumerators
+        refused_fills s x.fault.number x.fault.place d e o v r ((t.decided h refl refl refl refl).refused_by (is_one x.fault i)) q blanks.definitions blanks.enumerators
         blanks.objects blanks.values
 
     pub fill_settled : (d' e' o' v' : List ℕ) (r : Reading) → is_fault x.fault ≡ false → Concludes s y x d e o v d' e' o' v' r → Filled s d' e' o' v' r

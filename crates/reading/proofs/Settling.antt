@@ -112,8 +112,8 @@ fitting_by s f t a b =
 
 pub fitting : (s : List ℕ) (f : File) → Situation s f → first (definition_faults f) ≡ none → first (object_faults f) ≡ none → Fitting f
 fitting s f t a b =
-    subst Fitting (sym t.syntax-of)
-    (fitting_by s f t (subst (λ g. first (definition_faults g) ≡ none) t.syntax-of a) (subst (λ g. first (object_faults g) ≡ none) t.syntax-of b))
+    subst Fitting (sym t.syntax_of)
+    (fitting_by s f t (subst (λ g. first (definition_faults g) ≡ none) t.syntax_of a) (subst (λ g. first (object_faults g) ≡ none) t.syntax_of b))
 
 -- All rows are kept, and there is room for them.
 module _ {s : List ℕ} {y : Merged} {w : Decision} {f : File} (k : Kept s y w f) (p : first (definition_faults f) ≡ none) (q : first (object_faults f) ≡ none) where
@@ -179,7 +179,7 @@ module _ (s : List ℕ) (y : Merged) (w : Decision) (p : Passed s y w) where
   settled : answer p.file
       ≡ unless (first (statement_stage p.file)) (λ _. unless (first (too_many (how_many_in_all (all_values p.file p.file.objects)))) (λ _. accepted (tables p.file (all_values p.file p.file.objects))))
   unfolding answer unless
-  settled = rw (p.no-definition-fault, p.no-object-fault)
+  settled = rw (p.no_definition_fault, p.no_object_fault)
 
   -- A fault of theirs refuses the text,
   pub statement_refused : (c : Fault) → c ≡ fault_of (first (statement_stage p.file)) → (c.number ≡ 0 → ⊥) → reading s ≡ refused c.number c.place

@@ -270,11 +270,11 @@ reading_placed f (refused n p) = refl
 pub answer_demand : (b l : List ℕ) → Plain b l → (a : Answer) (r : AnswerTold) → TheAnswer b l a → r ≡ (reading_of a).answer → DemandTexts b l r
 answer_demand b l z a r t q =
     let s = (expanded b l).bytes in
-    let h : t.in-expanded ≡ reading s = sym (one_answer t.given) ∙ plain_answer b l z.within z.number in
+    let h : t.in_expanded ≡ reading s = sym (one_answer t.given) ∙ plain_answer b l z.within z.number in
     record {
       in_expanded = (reading_of (reading s)).answer;
       demand = reading_demand_3 s;
-      placed = q ∙ ap (λ (y : Answer). (reading_of y).answer) t.placed ∙ reading_placed (place_of b l) t.in-expanded
+      placed = q ∙ ap (λ (y : Answer). (reading_of y).answer) t.placed ∙ reading_placed (place_of b l) t.in_expanded
           ∙ ap (λ (y : Answer). placed_told (place_of b l) (reading_of y).answer) h;
     }
 

@@ -80,7 +80,7 @@ flat_by a w o c m = record { no_open = (agree a w.class m).0 ∙ o; no_close = (
 
 name_flat : (w : Word) → Named w → Flat (unplaced_word w)
 unfolding terminal_code unplaced_word
-name_flat w n = flat_by name (unplaced_word w) refl refl n.class-is
+name_flat w n = flat_by name (unplaced_word w) refl refl n.class_is
 
 value_flat : (w : Word) (r : Resolved) → Stateable w.class r → Flat w
 unfolding terminal_code given_code
@@ -126,7 +126,7 @@ objects_level f [] i r p = level_none (omega arith)
 objects_level f (x ∷ xs) i r p =
     let k = kind_room x.kind f.specs 2 r in
     let l = lines_level (object_values f x) 2 (omega arith) p.0.lines (resolve_room f.objects (of_kind x.kind f.specs) x.statements 2 k) in
-    level_word _ _ (flat_by kind (unplaced_word x.word) refl refl p.0.word-class)
+    level_word _ _ (flat_by kind (unplaced_word x.word) refl refl p.0.word_class)
     (level_word _ _ (name_flat x.name p.0.name)
     (level_braces (line_words (object_values f x)) _ l (level_word stop _ stop_flat (objects_level f xs (suc i) r p.1))))
 

@@ -147,8 +147,8 @@ pub level_word : {k : ℕ} (w : Word) (l : List Word) → Flat w → Level k l �
 unfolding word_opens word_closes bit
 level_word w l f p =
     let x = p.balanced in
-    let u : bit (matches (sg lbrace) w.class) ≡ 0 = ap bit f.no-open in
-    let v : bit (matches (sg rbrace) w.class) ≡ 0 = ap bit f.no-close in
+    let u : bit (matches (sg lbrace) w.class) ≡ 0 = ap bit f.no_open in
+    let v : bit (matches (sg rbrace) w.class) ≡ 0 = ap bit f.no_close in
     record { balanced = omega arith; low = λ a b e. (low_here l a b (p.low a b e), low_shift l a b _ _ (omega arith) (p.low a b e)) }
 
 -- Words in braces, before words.

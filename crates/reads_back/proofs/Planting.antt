@@ -115,9 +115,9 @@ pub implementation_specs : (s : List ℕ) (t : Trees ◌⟶◌ (file ▸ ∎)) (
 unfolding file_of means
 implementation_specs s t i e =
     let k = three t in
-    let v = k.version-tree in
-    let j = k.implementation-tree in
-    let a = k.application-part in
+    let v = k.version_tree in
+    let j = k.implementation_tree in
+    let a = k.application_part in
     let l : Leaves-of (whole_tree v i a) ≡ Leaves-of t =
     whole_leaves v i a ∙ ap (λ z. Leaves-of v ++ (z ++ Leaves-of a)) (e ∙ ap implementation_leaves k.whole ∙ implementation_part v j a) ∙ sym (whole_leaves v j a)
     ∙ sym (ap Leaves-of k.whole) in
@@ -143,9 +143,9 @@ pub implementation_tokens : (s : List ℕ) (d : Derivation (tokens s)) → Imple
 unfolding bare_parts bare_M bare_implementation restated_implementation file_of means
 implementation_tokens s d =
     let t = three d.tree in
-    let v = t.version-tree in
-    let i = t.implementation-tree in
-    let a = t.application-part in
+    let v = t.version_tree in
+    let i = t.implementation_tree in
+    let a = t.application_part in
     let e = ends s i in
     let f : syntax s d.tree ≡ file_of (meaning s v).0 (meaning s i).0 (meaning s a).0 = ap (syntax s) t.whole ∙ whole_syntax s v i a in
     record {
@@ -156,8 +156,8 @@ implementation_tokens s d =
       after = Leaves-of a;
       whole = sym d.leaves ∙ ap Leaves-of t.whole ∙ whole_leaves v i a ∙ ap (λ l. Leaves-of v ++ (l ++ Leaves-of a)) e.leaves;
       leaves_are = ap implementation_leaves t.whole ∙ implementation_part v i a ∙ e.leaves;
-      final_is = e.final-is;
-      span_is = ap (λ (x : File). x.implementation) f ∙ e.span-is;
+      final_is = e.final_is;
+      span_is = ap (λ (x : File). x.implementation) f ∙ e.span_is;
       derived = subst₂ (λ l x. WordTrees (implementation ▸ ∎) (each (plain_word s) l) (x, tt)) e.leaves (sym (ap restated_implementation f)) (lifted s i);
     }
 
@@ -214,11 +214,11 @@ planted_text s n d im said heading middle last h m l =
       tree = whole_tree v.tree i.tree a.tree;
       leaves = whole_leaves v.tree i.tree a.tree ∙ ap₂ ◌++◌ v.leaves (ap₂ ◌++◌ i.leaves a.leaves);
       syntax_is = ap unplaced w ∙ file_bare (meaning n v.tree).0 (meaning n i.tree).0 (meaning n a.tree).0
-          ∙ file_same (ap (λ k. k.0) v.meaning-is) (ap (λ k. k.0) i.meaning-is) (ap (λ k. k.0) a.meaning-is) ∙ restated_parts f (merged_restated s d said);
+          ∙ file_same (ap (λ k. k.0) v.meaning_is) (ap (λ k. k.0) i.meaning_is) (ap (λ k. k.0) a.meaning_is) ∙ restated_parts f (merged_restated s d said);
       first = e.first;
       mid = e.mid;
       final = e.final;
       middle_is = sym i.leaves ∙ e.leaves;
       leaves_are = implementation_part v.tree i.tree a.tree ∙ i.leaves;
-      span_is = ap (λ (x : File). x.implementation) w ∙ e.span-is;
+      span_is = ap (λ (x : File). x.implementation) w ∙ e.span_is;
     }

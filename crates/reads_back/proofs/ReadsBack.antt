@@ -89,13 +89,13 @@ module _ (s : List ℕ) (w : Covered s) (d : Derivation (tokens s)) (n : List �
   unfolding normal
   normal_parts =
       subst (λ m. NormalTokens s m (parts.first ∷ (parts.mid ++ (parts.final ∷ []))) (syntax s d.tree) (all_values (syntax s d.tree) (syntax s d.tree).objects)) (sym e)
-      (normal_tokens s parts.before parts.after parts.mid parts.first parts.final (syntax s d.tree) _ w.divides parts.whole parts.final-is
-      parts.span-is words_said.cpu words_said.objects)
+      (normal_tokens s parts.before parts.after parts.mid parts.first parts.final (syntax s d.tree) _ w.divides parts.whole parts.final_is
+      parts.span_is words_said.cpu words_said.objects)
 
   normal_tree : Planted s n d normal_parts.middle (normal_parts.heading ++ (normal_parts.middle ++ normal_parts.last))
   normal_tree =
-      planted_text s n d parts words_said normal_parts.heading normal_parts.middle normal_parts.last normal_parts.heading-words
-      normal_parts.middle-words normal_parts.last-words
+      planted_text s n d parts words_said normal_parts.heading normal_parts.middle normal_parts.last normal_parts.heading_words
+      normal_parts.middle_words normal_parts.last_words
 
   normal_derivation : Derivation (tokens n)
   normal_derivation = record { tree = normal_tree.tree; leaves = normal_tree.leaves ∙ sym normal_parts.whole }
@@ -105,9 +105,9 @@ module _ (s : List ℕ) (w : Covered s) (d : Derivation (tokens s)) (n : List �
   normal_words =
       ap (each (plain_word n)) normal_parts.whole
       ∙ each_append (plain_word n) normal_parts.heading (normal_parts.middle ++ normal_parts.last)
-      ∙ ap₂ ◌++◌ normal_parts.heading-words
+      ∙ ap₂ ◌++◌ normal_parts.heading_words
       (each_append (plain_word n) normal_parts.middle normal_parts.last
-      ∙ ap₂ ◌++◌ (normal_parts.middle-words ∙ ap (each (plain_word s)) (sym parts.leaves-are)) normal_parts.last-words)
+      ∙ ap₂ ◌++◌ (normal_parts.middle_words ∙ ap (each (plain_word s)) (sym parts.leaves_are)) normal_parts.last_words)
 
   normal_covered : Covered n
   normal_covered = record {
@@ -123,15 +123,15 @@ module _ (s : List ℕ) (w : Covered s) (d : Derivation (tokens s)) (n : List �
 
     accepted_back : Accepts (answer (syntax n normal_tree.tree)) same_meaning.back
     accepted_back =
-        accepts same_meaning.back same_meaning.one-part (answer_unplaced (syntax n normal_tree.tree)) (ap answer normal_tree.syntax-is ∙ same_meaning.accepts)
+        accepts same_meaning.back same_meaning.one_part (answer_unplaced (syntax n normal_tree.tree)) (ap answer normal_tree.syntax_is ∙ same_meaning.accepts)
 
     lines_again : lines_of (syntax n normal_tree.tree) ≡ lines_of (syntax s d.tree)
     unfolding lines_of
-    lines_again = sym (application_unplaced (syntax n normal_tree.tree)) ∙ ap lines_of normal_tree.syntax-is ∙ same_meaning.lines
+    lines_again = sym (application_unplaced (syntax n normal_tree.tree)) ∙ ap lines_of normal_tree.syntax_is ∙ same_meaning.lines
 
     copied_again : part n (syntax n normal_tree.tree).implementation ≡ part s (syntax s d.tree).implementation
     copied_again =
-        ap (part n) normal_tree.span-is ∙ normal_parts.copied normal_tree.first normal_tree.final normal_tree.mid normal_tree.middle-is
+        ap (part n) normal_tree.span_is ∙ normal_parts.copied normal_tree.first normal_tree.final normal_tree.mid normal_tree.middle_is
 
     normal_again : normal n (syntax n normal_tree.tree) ≡ n
     unfolding normal lines_of
@@ -140,20 +140,20 @@ module _ (s : List ℕ) (w : Covered s) (d : Derivation (tokens s)) (n : List �
 
     reads_back_derived : reading n ≡ accepted accepted_back.placed
     unfolding normal_derivation
-    reads_back_derived = reading_derived n normal_covered normal_derivation ∙ accepted_back.accepted-as
+    reads_back_derived = reading_derived n normal_covered normal_derivation ∙ accepted_back.accepted_as
 
     stated_again : AllStated accepted_back.placed.values
-    stated_again = accepted_back.stated-as same_meaning.stated
+    stated_again = accepted_back.stated_as same_meaning.stated
 
     same_again : bare accepted_back.placed ≡ bare t
-    same_again = accepted_back.same-as ∙ same_meaning.same
+    same_again = accepted_back.same_as ∙ same_meaning.same
 
     -- The words of the rows are those of the syntax, in either text.
     row_words_again : words_of n accepted_back.placed ≡ words_of s t
     row_words_again =
         let f = syntax n normal_tree.tree in
-        ap (words_of n) (sym (accepted_tables f accepted_back.placed accepted_back.accepted-as)) ∙ names_there n normal_tree.tree
-        ∙ sym (names_unplaced f) ∙ ap names_of normal_tree.syntax-is ∙ same_meaning.names
+        ap (words_of n) (sym (accepted_tables f accepted_back.placed accepted_back.accepted_as)) ∙ names_there n normal_tree.tree
+        ∙ sym (names_unplaced f) ∙ ap names_of normal_tree.syntax_is ∙ same_meaning.names
         ∙ sym (names_there s d.tree) ∙ ap (words_of s) (accepted_tables (syntax s d.tree) t q)
 
     -- Nor do ranges change, which are copied with the implementation.
@@ -161,9 +161,9 @@ module _ (s : List ℕ) (w : Covered s) (d : Derivation (tokens s)) (n : List �
     unfolding ranges_of tables
     ranges_again =
         let f = syntax n normal_tree.tree in
-        ap (ranges_of n) (sym (accepted_tables f accepted_back.placed accepted_back.accepted-as))
+        ap (ranges_of n) (sym (accepted_tables f accepted_back.placed accepted_back.accepted_as))
         ∙ sym (ranges_same s n d.tree normal_tree.tree
-        (subst₂ (λ a b. Copied s n a b) (sym parts.leaves-are) (sym normal_tree.leaves-are) normal_parts.at_offset))
+        (subst₂ (λ a b. Copied s n a b) (sym parts.leaves_are) (sym normal_tree.leaves_are) normal_parts.at_offset))
         ∙ ap (ranges_of s) (accepted_tables (syntax s d.tree) t q)
 
     own_normal : normal_text n ≡ n
@@ -181,7 +181,7 @@ unfolding normal_derivation
 normal_file s w d n e h = record {
   file = syntax n (normal_tree s w d n e h).tree;
   parses = parse_derived n (normal_covered s w d n e h) (normal_derivation s w d n e h);
-  restates = (normal_tree s w d n e h).syntax-is;
+  restates = (normal_tree s w d n e h).syntax_is;
 }
 
 by_derivation : {s : List ℕ} {a : Answer} (t : Tables) → Answers s a → a ≡ accepted t → length (normal_text s) ≤ 65535 → ReadsBack s t (normal_text s)
@@ -195,7 +195,7 @@ by_derivation {s} t (meant w d) e h =
       accepts = subst (λ a. TheAnswer n a) (reads_back_derived s w d n i h t e) (the_answer n);
       stated = stated_again s w d n i h t e;
       same = same_again s w d n i h t e;
-      one_part = (accepted_back s w d n i h t e).parts-as;
+      one_part = (accepted_back s w d n i h t e).parts_as;
       words = row_words_again s w d n i h t e;
       ranges = ranges_again s w d n i h t e;
       again = subst (λ m. TheNormalText n m) (own_normal s w d n i h t e) (the_normal_text _ (answers n) (reads_back_derived s w d n i h t e));

@@ -75,7 +75,7 @@ lines_tree {f} {ws} {m} (resolved t us rest) (h, hs, hr) more =
     (line_grouped (unplaced_word t.definition.name) equal_sign w us rest ws)
     (λ i k. state (record { number = k; name = unplaced_word t.definition.name; value = w; brace = brace_after us })
     (restated us (suc k)) (restated rest (suc k + restated_count us (suc k) i)))
-    (word_node a_statement (word_node statement_is (word_leaf (unplaced_word t.definition.name) h.name.class-is (word_leaf equal_sign refl v))
+    (word_node a_statement (word_node statement_is (word_leaf (unplaced_word t.definition.name) h.name.class_is (word_leaf equal_sign refl v))
     (lines_tree rest hr word_nil)) more)
 
 -- Objects ------------------------------------------------------------------------------------------------------------------------------------
@@ -96,7 +96,7 @@ said_restated (x ∷ xs) [] n k h = absurd h
 said_restated (x ∷ xs) (r ∷ rs) n k (h, hs) =
     ap₂ ◌∷◌
     (ap₂ (λ (a : ℕ) (b : Kind). record { row = a; kind = b; word = unplaced_word x.word; name = unplaced_word x.name; block = absent; parts = 1; statements = restated r k })
-    (sym h.row_is) h.kind-is)
+    (sym h.row_is) h.kind_is)
     (said_restated xs rs (suc n) (k + how_many_values r) hs)
 
 object_grouped : (a b : Word) (l m ws : List Word)
@@ -114,7 +114,7 @@ objects_tree {f} {ws} {m} (x ∷ xs) (r ∷ rs) n (h, hs) more =
     (object_grouped (unplaced_word x.word) (unplaced_word x.name) (line_words r) (object_words xs rs) ws)
     (λ i n k. record { row = n; kind = kind_of x.word.class; word = unplaced_word x.word; name = unplaced_word x.name; block = absent; parts = 1; statements = restated r k }
     ∷ said_objects xs rs (suc n) (k + restated_count r k i))
-    (word_node an_object (word_node an_object_with (word_leaf (unplaced_word x.word) h.word-class (word_leaf (unplaced_word x.name) h.name.class-is
+    (word_node an_object (word_node an_object_with (word_leaf (unplaced_word x.word) h.word_class (word_leaf (unplaced_word x.name) h.name.class_is
     (word_leaf opening refl (lines_tree r h.lines (word_leaf closing refl stop_tree))))) (objects_tree xs rs (suc n) hs word_nil)) more)
 
 -- The application ----------------------------------------------------------------------------------------------------------------------------
@@ -131,5 +131,5 @@ application_tree f h =
     subst₂ (λ l (xs : List Object). WordTrees (application ▸ ∎) l (record { name = unplaced_word f.cpu; objects = xs }, tt))
     (append-nil (application_words f rs))
     (said_restated f.objects rs 0 0 h.objects)
-    (word_node application_is (word_leaf (given (word CPU) (bytes_of "CPU")) refl (word_leaf (unplaced_word f.cpu) h.cpu.class-is
+    (word_node application_is (word_leaf (given (word CPU) (bytes_of "CPU")) refl (word_leaf (unplaced_word f.cpu) h.cpu.class_is
     (word_leaf opening refl (objects_tree f.objects rs 0 h.objects (word_leaf closing refl stop_tree))))) word_nil)

@@ -69,7 +69,7 @@ module _ {os : List Object} {all : Definitions} {before : List Definition} {d : 
           let y = free_statement os x inside more all d vs l p (find_this x.name z n i) e in
           again (again_list d.list (among x.name l) y.again (among_bytes x.name d.name l i ∙ h))
           (record { stated = true; is = refl; origin = λ e. absurd (false≢true (sym e)); taking = y.taking })
-          (inner x.value inside y.lacks-none y.judged-none) m
+          (inner x.value inside y.lacks_none y.judged_none) m
       go false q m = m
 
   some_entries : (ss : Statements) (l : List Word) → among d.name (names ss) ≡ true → judge ss os all l ≡ [] → Settled os before (define d vs ds) (entries ss os d vs f rest)
@@ -88,7 +88,7 @@ module _ {os : List Object} {all : Definitions} {before : List Definition} {d : 
           let i = alike_bytes x.name d.name q in
           let y = free_statement os x inside more all d vs l p (find_this x.name z n i) e in
           one_of n (record { stated = true; is = refl; origin = λ e. absurd (false≢true (sym e)); taking = y.taking })
-          (inner x.value inside y.lacks-none y.judged-none)
+          (inner x.value inside y.lacks_none y.judged_none)
           (more_entries more (l ++ (x.name ∷ [])) (among_last d.name l x.name (sym i)) (free_rest os x inside more all l e))
       go false q k = k (later (alike d.name x.name) (alike_turned x.name d.name q) h)
 

@@ -67,7 +67,7 @@ no_faults f t e =
 
 -- It is accepted with its tables.
 pub accepted_tables : (f : File) (t : Tables) → answer f ≡ accepted t → tables f (all_values f f.objects) ≡ t
-accepted_tables f t e = (no_faults f t e).tables-are
+accepted_tables f t e = (no_faults f t e).tables_are
 
 pass : (fs : List Fault) (k : Unit {0} → Answer) → fs ≡ [] → unless (first fs) k ≡ k tt
 unfolding unless first
@@ -178,7 +178,7 @@ same_of f t mg c l p e =
       back = unplaced_tables (tables g rs);
       accepts = ap answer (sym (unplaced_kept f)) ∙ accepts_unplaced (tables g rs) (answer_unplaced g) a;
       stated = stated_kept f s;
-      same = bare_unplaced (tables g rs) ∙ tables_kept f s ∙ ap bare n.tables-are;
+      same = bare_unplaced (tables g rs) ∙ tables_kept f s ∙ ap bare n.tables_are;
       one_part = alone_rows f.objects (all_values f f.objects) 0;
       names = ap names_of (sym (unplaced_kept f)) ∙ names_unplaced g ∙ names_kept f s;
       values = values_kept f s;

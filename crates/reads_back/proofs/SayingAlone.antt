@@ -139,4 +139,4 @@ module _ (w : Word) where
 
 -- a number written in decimal is a token with the same number
 pub number_alone : (w : Word) → Alone w → w.class ≡ numeral → Alone (restated_word (number w.number) w)
-number_alone w a e = by_sort w a.sort a.one a.class-is a.number_is e
+number_alone w a e = by_sort w a.sort a.one a.class_is a.number_is e

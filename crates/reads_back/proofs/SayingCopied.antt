@@ -115,7 +115,7 @@ module _ (s : List ℕ) (p : ℕ) (ts : List Lexeme) (inside : p ≤ length s) (
       ∙ sym
       (by_parts s p inside (λ (u : List ℕ) (d : ℕ). each (lexeme_word u) (map (moved d) x.tokens) ≡ each (lexeme_word (drop p s)) x.tokens)
       (words_moved (take p s) (drop p s) x.tokens))
-      ∙ ap (each (lexeme_word s)) x.moved-are ∙ sym (run_words s q p ts r)
+      ∙ ap (each (lexeme_word s)) x.moved_are ∙ sym (run_words s q p ts r)
 
   slice_copy : (l : List Token) (c : Token) → map token_of ts ≡ l ++ (c ∷ []) → matches (sg semicolon) c.class ≡ true → first_at ts ≡ p →
       Copy s (l ++ (c ∷ [])) (bytes_between s p x.end)
@@ -126,13 +126,13 @@ module _ (s : List ℕ) (p : ℕ) (ts : List Lexeme) (inside : p ≤ length s) (
         says = record {
           tokens = x.tokens;
           piece = piece_run false a (drop n s) x.tokens x.run
-              (λ b _. moved_last p b x.tokens (subst (LastEnds b) (sym x.moved-are) (stop_last ts l c b e m)));
+              (λ b _. moved_last p b x.tokens (subst (LastEnds b) (sym x.moved_are) (stop_last ts l c b e m)));
           words = slice_words ∙ ap (each (plain_word s)) e;
         };
-        starts = first_zero p x.tokens ts x.moved-are f;
+        starts = first_zero p x.tokens ts x.moved_are f;
         finishes = run_last (a ++ drop n s) (length a) 0 x.tokens x.run;
         from = p;
-        tokens_are = ap (map token_of) x.moved-are ∙ e;
+        tokens_are = ap (map token_of) x.moved_are ∙ e;
         bytes_are = ap (take (length a)) (halves s p n x.low x.high) ∙ take-append_seam a (drop n s);
       }
 

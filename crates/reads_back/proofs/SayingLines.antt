@@ -122,7 +122,7 @@ unfolding object_lines object_words may_start is_word_byte
 says_objects [] rs i h = says_none
 says_objects (x ∷ xs) [] i h = absurd h
 says_objects (x ∷ xs) (r ∷ rs) i h =
-    says_append refl (says_word x.word h.0.word-alone)
+    says_append refl (says_word x.word h.0.word_alone)
     (says_append refl space
     (says_append refl (says_word x.name h.0.name.alone)
     (says_append refl says_opening (says_append refl (says_lines r h.0.lines) (says_append refl says_closing (says_objects xs rs (suc i) h.1))))))

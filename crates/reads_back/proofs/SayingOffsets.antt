@@ -70,9 +70,9 @@ through_same s n p q m o c o' c' e x y =
     let iy = y.inside in
     let px = x.place_is in
     let py = y.place_is in
-    let qx = x.place-there in
-    let qy = y.place-there in
-    let ly = y.length-is in
+    let qx = x.place_there in
+    let qy = y.place_there in
+    let ly = y.length_is in
     let a : (c.place + c.length) - o.place ≡ j = omega arith in
     let b : (c'.place + c'.length) - o'.place ≡ j = omega arith in
     ap₂ (λ i (w : ℕ). take i (drop w s)) a px ∙ ap (take j) (sym (drop-drop k p s))

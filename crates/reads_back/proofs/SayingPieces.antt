@@ -85,7 +85,7 @@ says_alone w a =
     record {
       tokens = record { sort = a.sort; at = 0; len = length w.bytes } ∷ [];
       piece = piece_one a.one;
-      words = one_word w a.sort a.class-is a.number_is a.float_is;
+      words = one_word w a.sort a.class_is a.number_is a.float_is;
     }
 
 -- a string or a sign
@@ -94,5 +94,5 @@ says_sign w a e =
     record {
       tokens = record { sort = a.sort; at = 0; len = length w.bytes } ∷ [];
       piece = piece_sign e a.one;
-      words = one_word w a.sort a.class-is a.number_is a.float_is;
+      words = one_word w a.sort a.class_is a.number_is a.float_is;
     }

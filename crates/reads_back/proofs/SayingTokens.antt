@@ -147,8 +147,8 @@ module _ (s : List ℕ) (im : List Token) (f : File) (rs : List Resolved) (h a r
           from = y.from;
           to = length h;
           many = length a;
-          bytes = y.bytes-are ∙ sym (ap (take (length a)) (drop-append_seam h (a ++ r)) ∙ take-append_seam a r);
-          offsets = subst (λ l. Offsets y.from (length h) (length a) l (map token_of middles)) y.tokens-are
+          bytes = y.bytes_are ∙ sym (ap (take (length a)) (drop-append_seam h (a ++ r)) ∙ take-append_seam a r);
+          offsets = subst (λ l. Offsets y.from (length h) (length a) l (map token_of middles)) y.tokens_are
               (moved_offsets y.from (length h) (length a) y.says.tokens y.says.piece.inside);
         };
       }
@@ -166,6 +166,6 @@ normal_tokens s before after mid i c f rs d e m p cpu objects =
     let j = split token_of (tokens_of (lex_from s 0)) before (im ++ after) (sym (tokens_are (lex_from s 0)) ∙ e) in
     let k = split token_of j.back im after j.back_is in
     let g = leading s 0 j.front j.back j.whole in
-    let y = copy s g.end k.back i c mid m k.front (g.rest ∙ k.whole) k.front-is in
+    let y = copy s g.end k.back i c mid m k.front (g.rest ∙ k.whole) k.front_is in
     three s im f rs (bytes_of "OIL_VERSION = \"2.5\";\n") (part s f.implementation) (bytes_of "\n" ++ application_lines f rs) says_heading
     (subst (Copy s im) (ap (part s) (sym p)) y) (says_application f rs cpu objects) refl

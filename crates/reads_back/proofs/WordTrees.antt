@@ -67,8 +67,8 @@ parted n (t ∷ ts) (u ∷ us) ws e =
       before = t ∷ r.before;
       after = r.after;
       whole = ap (t ∷◌) r.whole;
-      before_words = ap₂ ◌∷◌ (heads e) r.before-words;
-      after_words = r.after-words;
+      before_words = ap₂ ◌∷◌ (heads e) r.before_words;
+      after_words = r.after_words;
     }
 
 planted_leaf : {a : Terminal} {f : Form} {m : Parts f} (n : List ℕ) (t : Token) (ts : List Token) (w : Word) → matches a w.class ≡ true
@@ -77,7 +77,7 @@ unfolding tokens meaning bare_parts plain_word unplaced_word word_of
 planted_leaf {a} {f} n t ts w h e r = record {
   tree = leaf t (ap (λ (u : Word). matches a u.class) e ∙ h) r.tree;
   leaves = ap (t ∷◌) r.leaves;
-  meaning_is = ap₂ (λ u k. (u, k)) e r.meaning-is;
+  meaning_is = ap₂ (λ u k. (u, k)) e r.meaning_is;
 }
 
 planted_node : {x : Rule} {g f : Form} {m : Parts g} {k : Parts f} (n : List ℕ) (p : x ⟶ g) (us ts : List Token) → PlantedAs n g us m → PlantedAs n f ts k
@@ -86,7 +86,7 @@ unfolding tokens meaning bare_parts
 planted_node n p us ts r q = record {
   tree = node p r.tree q.tree;
   leaves = ap₂ ◌++◌ r.leaves q.leaves;
-  meaning_is = ap₂ (λ u v. (u, v)) (sym (means_bare p (meaning n r.tree)) ∙ ap (means p) r.meaning-is) q.meaning-is;
+  meaning_is = ap₂ (λ u v. (u, v)) (sym (means_bare p (meaning n r.tree)) ∙ ap (means p) r.meaning_is) q.meaning_is;
 }
 
 -- Where tokens have the words of trees, there are such trees over them.
@@ -99,4 +99,4 @@ planted (word_leaf w h r) n (t ∷ ts) e = planted_leaf n t ts w h (heads e) (pl
 planted (word_node {x = x} {f = f} {us = us} {ws = ws} {m = m} {k = k} p u r) n ts e =
     let c = parted n ts us ws e in
     subst (λ l. PlantedAs n (rule x ∷ f) l (means p m, k)) (sym c.whole)
-    (planted_node n p c.before c.after (planted u n c.before c.before-words) (planted r n c.after c.after-words))
+    (planted_node n p c.before c.after (planted u n c.before c.before_words) (planted r n c.after c.after_words))

@@ -25,7 +25,7 @@ pub alone_class : (v w : Word) → Alone v → Alone w → v.bytes ≡ w.bytes �
 unfolding first_sort
 alone_class v w a b e =
     let k : a.sort ≡ b.sort = ap (λ l. first_sort l a.sort) (sym a.one ∙ ap (λ l. lex_from l 0) e ∙ b.one) in
-    a.class-is ∙ ap class_of k ∙ sym b.class-is
+    a.class_is ∙ ap class_of k ∙ sym b.class_is
 
 -- Classes -----------------------------------------------------------------------------------------------------------------------------------
 

@@ -98,9 +98,9 @@ worded_from before (x ∷ xs) n w = go (used x before) (worded_from (before ++ (
     go true p q c = p
     go false p q c = (
       record {
-        word_alone = w.0.word-alone;
-        word_class = w.0.word-class;
-        kind_is = w.0.kind-is;
+        word_alone = w.0.word_alone;
+        word_class = w.0.word_class;
+        kind_is = w.0.kind_is;
         name = w.0.name;
         statements = worded_then w.0.statements c;
       },
@@ -205,7 +205,7 @@ means_worded s an_enum (leaf _ _ (node _ a (leaf _ _ (node q v (node r vs (leaf 
     record {
       name = record { alone = h.1.1.1.1.1.1.0; class_is = m };
       default = h.1.1.1.1.1.1.1.1.0;
-      values = list_more y.alone y.class-is y.under (h.1.1.1.1.0 _ _);
+      values = list_more y.alone y.class_is y.under (h.1.1.1.1.0 _ _);
     }
 means_worded s reference_is (leaf _ _ (leaf x m (node _ k b))) h = λ n e.
     record { name = record { alone = h.1.0; class_is = m }; default = tt; values = list_none }
@@ -233,7 +233,7 @@ means_worded s enumerator_is (leaf w m (node _ us (node _ d nil))) h = λ n e.
 means_worded s no_enumerator nil h = λ n e. list_none
 means_worded s an_enumerator (leaf _ _ (node q v (node r vs nil))) h = λ n e.
     let y = h.1.0 n e in
-    list_more y.alone y.class-is y.under (h.1.1.0 _ _)
+    list_more y.alone y.class_is y.under (h.1.1.0 _ _)
 means_worded s no_default nil h = tt
 means_worded s a_default (leaf _ _ (node _ d nil)) h = h.1.0
 means_worded s own_auto (leaf t m nil) h = own_value (word_of s t) h.0 (auto_form m)

@@ -136,9 +136,9 @@ objects_said decimal_alone f [] i p w c = tt
 objects_said decimal_alone f (x ∷ xs) i p w c = (
   record {
     row_is = counts_head c;
-    word_alone = w.0.word-alone;
-    word_class = w.0.word-class;
-    kind_is = w.0.kind-is;
+    word_alone = w.0.word_alone;
+    word_class = w.0.word_class;
+    kind_is = w.0.kind_is;
     name = w.0.name;
     lines = resolve_said decimal_alone f.objects (of_kind x.kind f.specs) x.statements (kind_worded x.kind f.specs p) w.0.statements;
   },

@@ -137,7 +137,7 @@ often_same t u (v ∷ b) (w ∷ c) e q =
 step_same : (t u : Taken) (b c : List Word) → Meets t u → bytes_of b ≡ bytes_of c → same_step (step_to t b) (step_to u c) ≡ true
 unfolding step_to
 step_same t u b c m q =
-    step_keyed.from-keys (step_to t b) (step_to u c)
+    step_keyed.from_keys (step_to t b) (step_to u c)
     (λ i. (m.name i, (bit (m.list i), often_same t.definition.name u.definition.name b c m.name q i)))
 
 below_same : (s t : Step) (l k : List Placed) → same_step s t ≡ true → Alike SameValue l k → Alike SameValue (each (below s) l) (each (below t) k)
@@ -156,7 +156,7 @@ placed_same same_none n m b c e = none_alike
 placed_same (same_some {t} {u} {a} {b} {c} {d} h p q) n m bs cs e =
     let st = step_same t u bs cs h e in
     more_alike
-    (record { path = both_of (same_step (step_to t bs) (step_to u cs)) true st refl; value = value_keyed.from-keys t u h.counts })
+    (record { path = both_of (same_step (step_to t bs) (step_to u cs)) true st refl; value = value_keyed.from_keys t u h.counts })
     (append_alike (each (below (step_to t bs)) (placed a (suc n) [])) (each (below (step_to u cs)) (placed b (suc m) []))
     (placed c (suc n + how_many_values a) (t.definition.name ∷ bs)) (placed d (suc m + how_many_values b) (u.definition.name ∷ cs))
     (below_same (step_to t bs) (step_to u cs) (placed a (suc n) []) (placed b (suc m) []) st (placed_same p (suc n) (suc m) [] [] refl))
@@ -207,7 +207,7 @@ contents_same (more_names p q) no_trees n m = none_alike
 contents_same (more_names {x} {y} p q) (more_trees {a} {b} r t) n m =
     more_alike
     (record {
-      object = object_keyed.from-keys (record { object = x; values = placed a n [] }) (record { object = y; values = placed b m [] }) (λ i. (kind_number (p.kind i), p.name i));
+      object = object_keyed.from_keys (record { object = x; values = placed a n [] }) (record { object = y; values = placed b m [] }) (λ i. (kind_number (p.kind i), p.name i));
       values = placed_same r n m [] [] refl;
     })
     (contents_same q t (n + how_many_values a) (m + how_many_values b))
@@ -283,12 +283,12 @@ pub none_with_normal : NoneWithNormal
 unfolding reading answer_of_parsed release_of released differences file_in
 none_with_normal s f a n e h =
     let p = parses s f a in
-    let reads : reading s ≡ accepted p.tables = ap answer_of_parsed p.is ∙ p.answers-so in
+    let reads : reading s ≡ accepted p.tables = ap answer_of_parsed p.is ∙ p.answers_so in
     let D = derives p.tables (answers s) reads in
     let z : syntax s D.derivation.tree ≡ f = ap (file_in f) (sym (parse_derived s D.covered D.derivation) ∙ p.is) in
     let q : n ≡ normal s (syntax s D.derivation.tree) = e ∙ ap (normal s) (sym z) in
     let N = normal_file s D.covered D.derivation n q h in
-    let M = means_same s D.derivation p.tables (ap answer z ∙ p.answers-so) in
+    let M = means_same s D.derivation p.tables (ap answer z ∙ p.answers_so) in
     let g = N.file in
     let text : n ≡ normal_text s = q ∙ sym (normal_derived s D.covered D.derivation) in
     let R = reads_back s p.tables reads (subst (λ (l : List ℕ). length l ≤ 65535) text h) in

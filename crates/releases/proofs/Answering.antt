@@ -128,13 +128,13 @@ module _ {s d e o v d₁ e₁ o₁ v₁ : List ℕ} {w : Spanned} (h : ReadsSpan
       let fits = own_fits h i in
       let many = many_definitions h i in
       let few = fits.definitions in
-      let mo = g.many-objects in
+      let mo = g.many_objects in
       let fo = fits.objects in
-      let mv = g.many-values in
+      let mv = g.many_values in
       let fv = fits.values in
       record {
         file = f;
-        is = ap release_of (parse_derived s a.covered a.situation.derivation ∙ ap parsed (sym a.situation.syntax-of)) ∙ ap (released f) (sym a.answered ∙ reads_own h i);
+        is = ap release_of (parse_derived s a.covered a.situation.derivation ∙ ap parsed (sym a.situation.syntax_of)) ∙ ap (released f) (sym a.answered ∙ reads_own h i);
         tables = g;
         many_is = many;
         few_definitions = omega (arith, many, few);
@@ -231,7 +231,7 @@ second_counted s d o v t d2 e2 o2 v2 d₂ e₂ o₂ v₂ w many m n found q sb s
     let S : Scene s d o v many m n f = subst (λ (z : ℕ). Scene s d o v z m n f) (sym many_is) (scene s d o v m n f tables few-o few-v sb sl dc (subst (λ (z : ℕ). z ≤ 512) many_is few-d)) in
     let T : Scene t d₂ o₂ v₂ w.reading.definitions w.reading.objects w.reading.values g =
     subst (λ (z : ℕ). Scene t d₂ o₂ v₂ z w.reading.objects w.reading.values g) (sym r.many_is)
-    (scene t d₂ o₂ v₂ w.reading.objects w.reading.values g r.tables r.few-objects r.few-values tb tl dc2 (subst (λ (z : ℕ). z ≤ 512) r.many_is r.few-definitions)) in
+    (scene t d₂ o₂ v₂ w.reading.objects w.reading.values g r.tables r.few_objects r.few_values tb tl dc2 (subst (λ (z : ℕ). z ≤ 512) r.many_is r.few_definitions)) in
     let u = told f g S T in
     let total = u.total in
     let long = records_length (differences f g) in
@@ -246,4 +246,4 @@ pub first_accepted : (s d e o v d₁ e₁ o₁ v₁ t : List ℕ) (w : Spanned) 
     → SecondRead s d₁ o₁ v₁ w.reading.definitions w.reading.objects w.reading.values t q → Answered (compare_texts s t) q
 first_accepted s d e o v d₁ e₁ o₁ v₁ t w q h k i r =
     let a = is_read h k i in
-    r a.file a.is a.tables a.many_is a.few-definitions a.few-objects a.few-values
+    r a.file a.is a.tables a.many_is a.few_definitions a.few_objects a.few_values

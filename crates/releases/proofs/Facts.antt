@@ -112,21 +112,21 @@ pub record Fact (s d : List ℕ) (many : ℕ) (t : Taken) : Type 0 where
 
 named_typed : (y : AttributeType) (os : List Object) (vs : Values) (w : Word) → st.Typed y (named y os vs w)
 unfolding named
-named_typed (integer i) os vs w = st.a-string
-named_typed string-type os vs w = st.a-string
-named_typed boolean os vs w = st.a-string
-named_typed float_type os vs w = st.a-string
-named_typed enum os vs w = st.an-enumerator
-named_typed (reference k) os vs w = st.an-object k refl
+named_typed (integer i) os vs w = st.a_string
+named_typed string-type os vs w = st.a_string
+named_typed boolean os vs w = st.a_string
+named_typed float_type os vs w = st.a_string
+named_typed enum os vs w = st.an_enumerator
+named_typed (reference k) os vs w = st.an_object k refl
 
 valued_typed : (o : Sort) (os : List Object) (d : Definition) (vs : Values) (w : Word) → st.Typed d.type (valued o os d vs w)
 unfolding valued
-valued_typed a_number os d vs w = st.a-number
-valued_typed a_string os d vs w = st.a-string
-valued_typed a_truth os d vs w = st.a-truth
-valued_typed an_auto os d vs w = st.an-auto
-valued_typed a_no_default os d vs w = st.an-auto
-valued_typed a_float os d vs w = st.a-float
+valued_typed a_number os d vs w = st.a_number
+valued_typed a_string os d vs w = st.a_string
+valued_typed a_truth os d vs w = st.a_truth
+valued_typed an_auto os d vs w = st.an_auto
+valued_typed a_no_default os d vs w = st.an_auto
+valued_typed a_float os d vs w = st.a_float
 valued_typed a_name os d vs w = named_typed d.type os vs w
 
 nth_row : {d : List ℕ} {n : ℕ} (k : ℕ) (front : List Entry) (x : Entry) (rest : List Entry) → From 13 definition_cells d n k (entry_rows (front ++ (x ∷ rest)))

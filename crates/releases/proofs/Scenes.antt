@@ -152,17 +152,17 @@ module _ (s d o v : List ℕ) (m n : ℕ) (f : File) (t : Tables s d o v m n f) 
   pub scene : ((i : ℕ) → get_or s i 0 < 256) → length s ≤ 18446744073709551616 → ((i : ℕ) → get_or d i 0 < 18446744073709551616) → many ≤ 512 → Scene s d o v many m n f
   unfolding contents start_at object_room value_room
   scene bytes short cells defs =
-      let words = subst (λ (g : File). AllIn s (object_words g.objects)) (sym t.situation.syntax-of) (objects_in s t.situation.derivation) in
-      let numbers = subst (λ (g : File). Counts 0 (object_numbers g.objects)) (sym t.situation.syntax-of) (numbered s t.situation.derivation.tree).1.0 in
-      let os = from_room 8 object_cells (256 * 8) (object_rows f.objects) o m t.objects t.many-objects in
-      let vs = from_room 9 value_cells (2048 * 9) (all_value_rows (all_values f f.objects) 0 0) v n t.values t.many-values in
+      let words = subst (λ (g : File). AllIn s (object_words g.objects)) (sym t.situation.syntax_of) (objects_in s t.situation.derivation) in
+      let numbers = subst (λ (g : File). Counts 0 (object_numbers g.objects)) (sym t.situation.syntax_of) (numbered s t.situation.derivation.tree).1.0 in
+      let os = from_room 8 object_cells (256 * 8) (object_rows f.objects) o m t.objects t.many_objects in
+      let vs = from_room 9 value_cells (2048 * 9) (all_value_rows (all_values f f.objects) 0 0) v n t.values t.many_values in
       record {
         bytes = bytes;
         short = short;
         cells = cells;
         objects = objects_at s o m f f.objects 0 0 os words numbers;
         located = located f.objects 0 0 os words numbers vs refl;
-        count = t.many-objects ∙ sym (contents_length f.objects 0);
+        count = t.many_objects ∙ sym (contents_length f.objects 0);
         few = few;
         few_definitions = defs;
       }

@@ -432,9 +432,9 @@ pub roomed : (s d o v s2 d2 o2 v2 : List ℕ) (many m n many2 m2 n2 a b c a2 b2 
     → c2 ≡ b2 + 1 → a ≡ la → b ≡ lb → c ≡ lc → a2 ≡ la2 → b2 ≡ lb2 → c2 ≡ lc2 → PreparedTold s d o v m n la lb lc s2 d2 o2 v2 m2 n2 la2 lb2 lc2 q
     → DifferencesTold s d o v s2 d2 o2 v2 many m n many2 m2 n2 q
 roomed s d o v s2 d2 o2 v2 many m n many2 m2 n2 a b c a2 b2 c2 la lb lc la2 lb2 lc2 q ea eb ec ea2 eb2 ec2 xa xb xc xa2 xb2 xc2 told f g S T =
-    let p = S.few-definitions in
+    let p = S.few_definitions in
     let r = S.few in
-    let p2 = T.few-definitions in
+    let p2 = T.few_definitions in
     let r2 = T.few in
     let z : many ≡ la = omega (arith, ea, xa, p) in
     let z2 : many2 ≡ la2 = omega (arith, ea2, xa2, p2) in

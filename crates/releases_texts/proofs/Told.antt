@@ -91,8 +91,8 @@ full_room =
     record { definitions = omega arith; enumerators = omega arith; objects = omega arith; values = omega arith }
 
 by_answer : {s d e o v d' e' o' v' : List ℕ} {r : Reading} → ReadsByRules s d e o v d' e' o' v' r → FullRoom d e o v → AnswersText s r.answer
-by_answer (reads.short-tables h q u) k = absurd (h k)
-by_answer (reads.by-rules k x t q m) k' = record { answer = x; rules = t; result = ap (λ (y : Reading). y.answer) q }
+by_answer (reads.short_tables h q u) k = absurd (h k)
+by_answer (reads.by_rules k x t q m) k' = record { answer = x; rules = t; result = ap (λ (y : Reading). y.answer) q }
 
 pub answers_text : {s d' e' o' v' : List ℕ} {r : Reading} → ReadsByRules s (replicate 6656 0) (replicate 3072 0) (replicate 2048 0) (replicate 18432 0) d' e' o' v' r → AnswersText s r.answer
 answers_text h = by_answer h full_room
@@ -122,7 +122,7 @@ first_accepts {s} {g} {e} {n} {o = o} w q v = accepted_by s g e n o w.answer w.r
 -- ---- the sides
 
 memory : {b l x g x' g' : List ℕ} {o : Lent} → ExpandsTexts b l x g x' g' o → SideMemory b l x g x' g'
-memory (lent.short-rooms h i j) = untouched h i j
+memory (lent.short_rooms h i j) = untouched h i j
 memory (lent.too_long h i j) = is_filled h j
 memory (lent.expands h i j) = is_filled h j
 
@@ -169,16 +169,16 @@ module _ {b l x g x' g' c m y h y' h' : List ℕ} {o o₂ : Lent} (u : ExpandsTe
   compared_by : {e f : Expanded} (ds ds' : List Difference) (q r : Result) → There b l x g x' g' e → There c m y h y' h' f → ComparesByRules (text b l) (text c m) ds ds' q →
       r ≡ told_in g' e h' f q → SidesCompared b l x g c m y h ds ds' r
   unfolding told_in side_in
-  compared_by {e} {f} ds ds' q r t t₂ (releases.first-refused n p w k) z =
+  compared_by {e} {f} ds ds' q r t t₂ (releases.first_refused n p w k) z =
       let v = refusal_in g' e n p in
       first_refused v.number v.place (by_rules t.rooms (answered_refused n p t.holds w v refl))
       (record { list = k.list; result = z ∙ ap (told_in g' e h' f) k.result })
-  compared_by {e} {f} ds ds' q r t t₂ (releases.second-refused i j n p w k) z =
+  compared_by {e} {f} ds ds' q r t t₂ (releases.second_refused i j n p w k) z =
       let v = refusal_in h' f n p in
       second_refused (placed_tables (place_of b l) i) (by_rules t.rooms (answered_accepted i t.holds j)) v.number v.place
       (by_rules t₂.rooms (answered_refused n p t₂.holds w v refl))
       (record { list = k.list; result = z ∙ ap (told_in g' e h' f) k.result })
-  compared_by {e} {f} ds ds' q r t t₂ (releases.both-accepted i j w w₂ d d₂ k) z =
+  compared_by {e} {f} ds ds' q r t t₂ (releases.both_accepted i j w w₂ d d₂ k) z =
       both_accepted (placed_tables (place_of b l) i) (placed_tables (place_of c m) j) (by_rules t.rooms (answered_accepted i t.holds w))
       (by_rules t₂.rooms (answered_accepted j t₂.holds w₂)) d d₂
       (λ s s₂. let v = k s s₂ in record { list = v.list; result = z ∙ ap (told_in g' e h' f) v.result })
@@ -186,10 +186,10 @@ module _ {b l x g x' g' c m y h y' h' : List ℕ} {o o₂ : Lent} (u : ExpandsTe
   both_by : {e f : Expanded} (q : Found) (ds : List Difference) → There b l x g x' g' e → There c m y h y' h' f →
       ComparesExpanded (take e.length x') g' e (take f.length y') h' f ds (put q ds) q.compared → SidesCompared b l x g c m y h ds (put q ds) q.compared
   both_by {e} {f} q ds t t₂ w =
-      let v : ComparesByRules (text b l) (text c m) ds (put q ds) w.in-expanded =
-      subst (λ (i : List ℕ). ComparesByRules i (text c m) ds (put q ds) w.in-expanded) t.holds.bytes
-      (subst (λ (i : List ℕ). ComparesByRules (take e.length x') i ds (put q ds) w.in-expanded) t₂.holds.bytes w.rules) in
-      compared_by ds (put q ds) w.in-expanded q.compared t t₂ v w.told
+      let v : ComparesByRules (text b l) (text c m) ds (put q ds) w.in_expanded =
+      subst (λ (i : List ℕ). ComparesByRules i (text c m) ds (put q ds) w.in_expanded) t.holds.bytes
+      (subst (λ (i : List ℕ). ComparesByRules (take e.length x') i ds (put q ds) w.in_expanded) t₂.holds.bytes w.rules) in
+      compared_by ds (put q ds) w.in_expanded q.compared t t₂ v w.told
 
   pub both_there : {e f : Expanded} {q : Found} → o ≡ Text e → o₂ ≡ Text f → ListsExpanded (take e.length x') g' e (take f.length y') h' f q →
       ListsTexts b l x g x' g' c m y h y' h' q

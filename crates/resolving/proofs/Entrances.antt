@@ -77,8 +77,8 @@ module _ {s d e o st v : List ℕ} {z : Sizes} {j stated at len code from till :
       let count = T.definitions in
       let tk = take_value b f.objects x.definition x.values t in
       let p = put f x t b ow T a wa own fl in
-      let q = finds f x t T.situation T.in_definitions T.in_enumerators k.row-of lo (reached T x.values) wa.read.bytes in
-      let sc = subst (λ i. ScopeAt f i (under x.values t)) (sym q) (scope_under t T.situation k.row-of) in
+      let q = finds f x t T.situation T.in_definitions T.in_enumerators k.row_of lo (reached T x.values) wa.read.bytes in
+      let sc = subst (λ i. ScopeAt f i (under x.values t)) (sym q) (scope_under t T.situation k.row_of) in
       let l : length v₁ ≡ length v = ap length p ∙ length-sets v (n * 9) (value_cells (value_row tk ow)) in
       let m = room.room in
       wrote_entry tk p
@@ -151,4 +151,4 @@ module _ {s d e o st v : List ℕ} {z : Sizes} {j : ℕ} {w : OwnerOf} {n : ℕ}
   default_taken c₁ n₁ c₂ n₂ c₀ en f x ow g a own room =
       let t = default_word (known g.tables a) (λ q. n₁ (c₁ ∙ q)) (λ q. n₂ (c₂ ∙ q)) in
       wrote_same (default_one f x t.word t.takes)
-      (en f x t.word done false ow g a (word_at t.in-text (c₀ ∙ t.place) (c₁ ∙ t.length) (c₂ ∙ t.coded)) (nothing_at g) own refl room)
+      (en f x t.word done false ow g a (word_at t.in_text (c₀ ∙ t.place) (c₁ ∙ t.length) (c₂ ∙ t.coded)) (nothing_at g) own refl room)

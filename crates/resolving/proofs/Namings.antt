@@ -88,11 +88,11 @@ module _ {s d e x words : List ℕ} {j : ℕ} where
 -- What is found where the names are indexed.
 module _ {s d e o : List ℕ} {z : Sizes} {words xe xo : List ℕ} (h : Indexes s d e o z words xe xo) where
   pub enumerator_is : {j at len : ℕ} {r : Found} → EnumeratorNoted s d e xe words j at len r → FindsEnumerator s d e z.enumerators j at len r
-  enumerator_is f = f.finds z.enumerators h.enumerators (let l = h.enumerators-fit in omega arith) h.defaults
+  enumerator_is f = f.finds z.enumerators h.enumerators (let l = h.enumerators_fit in omega arith) h.defaults
 
   pub word_is : {j at len r : ℕ} → WordFound s d e xe words j at len r → FindsWord s d e z.enumerators j at len r
-  word_is f = f.finds z.enumerators h.enumerators (let l = h.enumerators-fit in omega arith) h.defaults
+  word_is f = f.finds z.enumerators h.enumerators (let l = h.enumerators_fit in omega arith) h.defaults
 
   pub object_is : (kind at len : ℕ) (r : Found) → ObjectIndexed s o xo kind at len r → FindsObject s o z.objects kind at len r
   unfolding ObjectIndexed
-  object_is kind at len r f = f z.objects h.objects (let l = h.objects-fit in omega arith)
+  object_is kind at len r f = f z.objects h.objects (let l = h.objects_fit in omega arith)

@@ -165,7 +165,7 @@ module _ {s d e o st v : List ℕ} {z : Sizes} {limit key from till : ℕ} {w : 
           by (no c) = elsewhere c
 
   pub resolves_past : 512 < limit → Resolves s d e o st v z limit key from till w n v n
-  resolves_past h f ds ss ow g sc b lim bl own room = absurd (let k = g.tables.definitions-fit in omega arith)
+  resolves_past h f ds ss ow g sc b lim bl own room = absurd (let k = g.tables.definitions_fit in omega arith)
 
   pub resolves_full : 2048 < n → Resolves s d e o st v z limit key from till w n v n
   resolves_full h f ds ss ow g sc b lim bl own room = wrote_full v n (resolve ds f.objects ss) ow room.room h room.low
@@ -207,7 +207,7 @@ module _ {s d e o st v : List ℕ} {z : Sizes} {ps : List ℕ} where
   pub not_sized : (length d ≡ 9747 → z.definitions ≤ 512 → z.enumerators ≤ 1024 → z.objects ≤ 256 → ⊥) → ResolvesAll s d e o st v z ps v 0
   unfolding kept_definitions
   not_sized h f g p l =
-      absurd (h (ap length g.tables.in_definitions ∙ kept_long (513 * 19) (map_cells definition_cells (spec_entries f.specs))) g.tables.definitions-fit g.tables.enumerators-fit g.tables.objects-fit)
+      absurd (h (ap length g.tables.in_definitions ∙ kept_long (513 * 19) (map_cells definition_cells (spec_entries f.specs))) g.tables.definitions_fit g.tables.enumerators_fit g.tables.objects_fit)
 
 -- The marks of the rows whose default is taken.
 module _ (d : List ℕ) where

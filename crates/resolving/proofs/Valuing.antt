@@ -80,7 +80,7 @@ typed x vs n (an_enum t c b v) e = an_enumeration t (e ∙ c)
 typed x vs n (a_reference k t c b) e = a_kind k t (e ∙ c)
 
 type_of : {s d e o : List ℕ} {z : Sizes} {j t : ℕ} {f : File} {x : Defined} → t ≡ get_or d (j * 19 + 12) 0 → Tables s d e o z f → Attribute f j x → Typed x.definition.type t
-type_of {t = t} {x = x} c g a = typed x x.values t (formed g a) (c ∙ (known g a).type-code)
+type_of {t = t} {x = x} c g a = typed x x.values t (formed g a) (c ∙ (known g a).type_code)
 
 module _ {s d e o : List ℕ} {z : Sizes} {j at len t : ℕ} (c : t ≡ get_or d (j * 19 + 12) 0) where
   -- No enumeration and no reference.
@@ -130,7 +130,7 @@ module _ {s d e o : List ℕ} {z : Sizes} {j at len t : ℕ} (c : t ≡ get_or d
       by (is_other _ _ i) = absurd (let q = i lo in omega arith)
       by (an_enumeration p i) = absurd (n₁ i)
       by (a_kind y p i) =
-          let n = g.objects-fit in
+          let n = g.objects_fit in
           let q : kind ≡ kind_number y = omega arith in
           holds y p (value_is (find_object y f.objects w) (finds f y w g.situation g.in_objects g.objects (omega arith) q h.bytes))
 

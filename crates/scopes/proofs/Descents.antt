@@ -184,13 +184,13 @@ value_facts {s} {f} {o} (this_value {w} {e} {us} {vs}) k = by k.deep k.lists k.f
   where
     by : DeepValues (all_definition_rows f.specs) (value w e us vs) → lists.DeepValues s (spec_choices f.specs) (value w e us vs) → AllFormedUnder s (value w e us vs)
         → Facts s f w o us × Scope (all_definition_rows f.specs) w us
-    by (more_values a b c) (lists.more-values p q) (more_under h i) =
+    by (more_values a b c) (lists.more_values p q) (more_under h i) =
         (record { deep = b; lists = p; formed = h; good = good_front s (definition_words us) (value_words vs) k.good.1; within = within_front (entries us w o) (entries_under vs o) k.within }, a)
 value_facts {s} {f} {o} (later_value {w} {e} {us} {vs} {x} h) k = value_facts h (by k.deep k.lists k.formed)
   where
     by : DeepValues (all_definition_rows f.specs) (value w e us vs) → lists.DeepValues s (spec_choices f.specs) (value w e us vs) → AllFormedUnder s (value w e us vs)
         → ValueFacts s f o vs
-    by (more_values a b c) (lists.more-values p q) (more_under h i) =
+    by (more_values a b c) (lists.more_values p q) (more_under h i) =
         record { deep = c; lists = q; formed = i; good = good_back s (definition_words us) (value_words vs) k.good.1; within = within_back (entries us w o) (entries_under vs o) k.within }
 
 -- The specs.
@@ -208,12 +208,12 @@ spec_facts {s} {f} (this_spec {x} {xs}) k = by k.deep k.lists
   where
     by : DeepSpecs (all_definition_rows f.specs) (x ∷ xs) → lists.DeepSpecs s (spec_choices f.specs) (x ∷ xs)
         → Facts s f x.word 0 x.definitions × Scope (all_definition_rows f.specs) x.word x.definitions
-    by (more_specs a b c) (lists.more-specs p q) =
+    by (more_specs a b c) (lists.more_specs p q) =
         (record { deep = b; lists = p; formed = k.formed.0; good = good_front s (definition_words x.definitions) (spec_words xs) k.good.1; within = within_front (entries x.definitions x.word 0) (spec_entries xs) k.within }, a)
 spec_facts {s} {f} (later_spec {x} {y} {xs} h) k = spec_facts h (by k.deep k.lists)
   where
     by : DeepSpecs (all_definition_rows f.specs) (y ∷ xs) → lists.DeepSpecs s (spec_choices f.specs) (y ∷ xs) → SpecFacts s f xs
-    by (more_specs a b c) (lists.more-specs p q) =
+    by (more_specs a b c) (lists.more_specs p q) =
         record { deep = c; lists = q; formed = k.formed.1; good = good_back s (definition_words y.definitions) (spec_words xs) k.good.1; within = within_back (entries y.definitions y.word 0) (spec_entries xs) k.within }
 
 -- The text ------------------------------------------------------------------------------------------------------------------------------------
@@ -254,7 +254,7 @@ whole_tree s t e =
     }
 
 pub whole : {s : List ℕ} {f : File} → Situation s f → Whole s f
-whole {s} k = subst (Whole s) (sym k.syntax-of) (whole_tree s k.derivation.tree k.derivation.leaves)
+whole {s} k = subst (Whole s) (sym k.syntax_of) (whole_tree s k.derivation.tree k.derivation.leaves)
 
 -- The words of a text's specs are in order.
 pub spec_run : {s : List ℕ} {f : File} → Situation s f → Ends 1 (spec_words f.specs)

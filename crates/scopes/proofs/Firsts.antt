@@ -151,18 +151,18 @@ code a = record { number = a.number; place = a.place }
 -- Which of two structs answers is which of the two faults does.
 before_le : (a b : Fault) → 0 < a.number → 0 < b.number → Le a b → order.before (code b) (code a) ≡ false
 unfolding code
-before_le a b x y (left_of h) = orders.before-apart (code b) (code a) (λ e. omega arith) (λ e. omega arith) (λ e. omega arith) ∙ le-ltb b.place a.place (omega arith)
+before_le a b x y (left_of h) = orders.before_apart (code b) (code a) (λ e. omega arith) (λ e. omega arith) (λ e. omega arith) ∙ le-ltb b.place a.place (omega arith)
 before_le a b x y (not_above e h) = orders.before_here (code b) (code a) (λ e. omega arith) (λ e. omega arith) (sym e) ∙ le-ltb b.number a.number h
 
 before_lt : (a b : Fault) → 0 < a.number → 0 < b.number → Lt b a → order.before (code b) (code a) ≡ true
 unfolding code
-before_lt a b x y (left h) = orders.before-apart (code b) (code a) (λ e. omega arith) (λ e. omega arith) (λ e. omega arith) ∙ lt-ltb b.place a.place h
+before_lt a b x y (left h) = orders.before_apart (code b) (code a) (λ e. omega arith) (λ e. omega arith) (λ e. omega arith) ∙ lt-ltb b.place a.place h
 before_lt a b x y (below e h) = orders.before_here (code b) (code a) (λ e. omega arith) (λ e. omega arith) e ∙ lt-ltb b.number a.number h
 
 pick_code : (a b : Fault) → 0 < a.number → 0 < b.number → (t : Bool) → ahead a b ≡ t → fault_of (some (pick t a b)) ≡ order.sooner (code a) (code b)
 unfolding fault_of code
-pick_code a b x y true e = sym (orders.sooner-first (code a) (code b) (before_le a b x y (ahead_le a b e)))
-pick_code a b x y false e = sym (orders.sooner-second (code a) (code b) (before_lt a b x y (not_ahead a b e)))
+pick_code a b x y true e = sym (orders.sooner_first (code a) (code b) (before_le a b x y (ahead_le a b e)))
+pick_code a b x y false e = sym (orders.sooner_second (code a) (code b) (before_lt a b x y (not_ahead a b e)))
 
 join_options : (o r : Option Fault) → Positive o → Positive r → fault_of (sooner o r) ≡ order.sooner (fault_of o) (fault_of r)
 unfolding sooner fault_of code

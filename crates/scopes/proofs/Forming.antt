@@ -131,18 +131,18 @@ means_formed s an_attribute (node _ x nil) h q c = λ n e. h.0 n e
 means_formed s a_reference (node _ x nil) h q c = λ n e. h.0 n e
 means_formed s an_integer (leaf t m (node _ a (node _ r (leaf x _ (node _ k (node _ d b)))))) h q c = λ n e.
     let i = inside s q t (tokens a) (tokens r) (x ∷ (tokens k ++ (tokens d ++ tokens b))) c in
-    record { formed = forms.an-integer (integer_of t.class) refl (integer_is t.class m) (h.1.0 i.from i.later i.chain); typed = step_read s q t c.0; under = none_under }
+    record { formed = forms.an_integer (integer_of t.class) refl (integer_is t.class m) (h.1.0 i.from i.later i.chain); typed = step_read s q t c.0; under = none_under }
 means_formed s a_float (leaf t m (node _ a (node _ r (leaf x _ (node _ k (node _ d b)))))) h q c = λ n e.
     let i = inside s q t (tokens a) (tokens r) (x ∷ (tokens k ++ (tokens d ++ tokens b))) c in
-    record { formed = forms.a-float refl (given_is FLOAT t.class m) (h.1.0 i.from i.later i.chain); typed = step_read s q t c.0; under = none_under }
+    record { formed = forms.a_float refl (given_is FLOAT t.class m) (h.1.0 i.from i.later i.chain); typed = step_read s q t c.0; under = none_under }
 means_formed s a_string (leaf t m (node _ a (leaf x _ (node _ k (node _ d b))))) h q c = λ n e.
-    record { formed = forms.a-string refl (given_is STRING t.class m) refl; typed = step_read s q t c.0; under = none_under }
+    record { formed = forms.a_string refl (given_is STRING t.class m) refl; typed = step_read s q t c.0; under = none_under }
 means_formed s a_boolean (leaf t m (node _ a (node _ r (leaf x _ (node _ k (node _ d b)))))) h q c = λ n e.
-    record { formed = forms.a-boolean refl (given_is BOOLEAN t.class m) refl (h.1.0 n e).0; typed = step_read s q t c.0; under = (h.1.0 n e).1 }
+    record { formed = forms.a_boolean refl (given_is BOOLEAN t.class m) refl (h.1.0 n e).0; typed = step_read s q t c.0; under = (h.1.0 n e).1 }
 means_formed s an_enum (leaf t m (node _ a (leaf _ _ (node o v (node r vs (leaf _ _ (leaf x _ (node _ k (node _ d b))))))))) h q c = λ n e.
     record { formed = forms.an_enum refl (given_is ENUM t.class m) refl at_least_one; typed = step_read s q t c.0; under = more_under (h.1.0 n e) (h.1.1.0 _ _) }
 means_formed s reference_is (leaf t m (leaf x _ (node _ k b))) h q c = λ n e.
-    record { formed = forms.a-reference (kind_of t.class) refl (type_is t.class m) refl; typed = step_read s q t c.0; under = none_under }
+    record { formed = forms.a_reference (kind_of t.class) refl (type_is t.class m) refl; typed = step_read s q t c.0; under = none_under }
 means_formed s no_D nil h q c = tt
 means_formed s a_D us h q c = tt
 means_formed s no_P nil h q c = λ n e. none_formed

@@ -81,7 +81,7 @@ unfolding span_of
 main_span b l t =
     let f = main_fits b l t in
     let e : 0 + get_or l 0 0 ≡ get_or l 0 0 = omega arith in
-    span_here 0 0 l 0 0 f.two-left refl ∙ ap (λ (x : ℕ). Present 0 x (x + get_or l 1 0)) e
+    span_here 0 0 l 0 0 f.two_left refl ∙ ap (λ (x : ℕ). Present 0 x (x + get_or l 1 0)) e
 
 -- it is noted from its start on
 pub main_asks : (b l t : List ℕ) → told_well b l ≡ true → AllNoted b l t 8 → AsksFrom b l t (bytes_between b (get_or l 0 0) (get_or l 0 0 + get_or l 1 0)) 0 0

@@ -118,9 +118,9 @@ numbered_grammar : (s : List ℕ) → Divides s → {a : GrammarAnswer} (t : Uni
 unfolding numbered after_grammar
 numbered_grammar s d t (passes v q g) = numbered_tree s (t tt)
 numbered_grammar s d t (no_token p e q g) = absurd (wholly_stops p (lex_from s 0) d e)
-numbered_grammar s d t (Stage.not-admitted f u r i q g h) = refl
-numbered_grammar s d t (Stage.ends-early v q g h) = refl
-numbered_grammar s d t (Stage.too-deep f u r i q g h j) = refl
+numbered_grammar s d t (Stage.not_admitted f u r i q g h) = refl
+numbered_grammar s d t (Stage.ends_early v q g h) = refl
+numbered_grammar s d t (Stage.too_deep f u r i q g h j) = refl
 
 pub numbered_none : (s : List ℕ) → length s ≤ 65535 → Divides s → numbered 0 (parse s) ≡ parse s
 unfolding parse choose

@@ -105,13 +105,13 @@ by_stage b l n w x e (no_token p t q g) =
     let u = ends_stops _ _ p (lex_from (text b l) 0) x t in
     subst (Answers b l) (sym (given_refused b l (NoToken p) w.short e (λ z. absurd (let y : ◌≡◌ {A = ℕ} 0 1 = cc in omega arith))))
     (subst (λ (i : ℕ). Answers b l (refused (expanded b l).number i)) (sym u.1) (at_fault n u.0 q g))
-by_stage b l n w x e (Stage.not-admitted f t r i q g h) =
+by_stage b l n w x e (Stage.not_admitted f t r i q g h) =
     subst (Answers b l) (sym (given_refused b l (NotAdmitted t.place) w.short e (λ z. absurd (let y : ◌≡◌ {A = ℕ} 0 1 = cc in omega arith))))
     (not_admitted n f t r i q g h)
-by_stage b l n w x e (Stage.ends-early v q g h) =
+by_stage b l n w x e (Stage.ends_early v q g h) =
     subst (Answers b l) (sym (given_refused b l (NotAdmitted (length (text b l))) w.short e (λ z. absurd (let y : ◌≡◌ {A = ℕ} 0 1 = cc in omega arith))))
     (ends_early n (ends_wholly _ _ (lex_from (text b l) 0) x v) q g h)
-by_stage b l n w x e (Stage.too-deep f t r i q g h j) =
+by_stage b l n w x e (Stage.too_deep f t r i q g h j) =
     subst (Answers b l) (sym (given_refused b l (TooDeep t.place) w.short e (λ z. absurd (let y : ◌≡◌ {A = ℕ} 0 1 = cc in omega arith))))
     (too_deep n f t r i q g h j)
 
@@ -161,12 +161,12 @@ one_answer {b} {l} (at_fault n z q g) =
     by_answer b l (NoToken (expanded b l).place) n
     (no_token (expanded b l).place (to_stops _ _ (lex_from (text b l) 0) (lexed b l (within b l n).told) z) q g) (λ z. absurd (let y : ◌≡◌ {A = ℕ} 0 1 = cc in omega arith))
 one_answer {b} {l} (not_admitted n f t r i q g h) =
-    by_answer b l (NotAdmitted t.place) n (Stage.not-admitted f t r i q g h) (λ z. absurd (let y : ◌≡◌ {A = ℕ} 0 1 = cc in omega arith))
+    by_answer b l (NotAdmitted t.place) n (Stage.not_admitted f t r i q g h) (λ z. absurd (let y : ◌≡◌ {A = ℕ} 0 1 = cc in omega arith))
 one_answer {b} {l} (ends_early n z q g h) =
-    by_answer b l (NotAdmitted (length (text b l))) n (Stage.ends-early (to_wholly _ _ (lex_from (text b l) 0) (lexed b l (within b l n).told) z) q g h)
+    by_answer b l (NotAdmitted (length (text b l))) n (Stage.ends_early (to_wholly _ _ (lex_from (text b l) 0) (lexed b l (within b l n).told) z) q g h)
     (λ z. absurd (let y : ◌≡◌ {A = ℕ} 0 1 = cc in omega arith))
 one_answer {b} {l} (too_deep n f t r i q g h j) =
-    by_answer b l (TooDeep t.place) n (Stage.too-deep f t r i q g h j) (λ z. absurd (let y : ◌≡◌ {A = ℕ} 0 1 = cc in omega arith))
+    by_answer b l (TooDeep t.place) n (Stage.too_deep f t r i q g h j) (λ z. absurd (let y : ◌≡◌ {A = ℕ} 0 1 = cc in omega arith))
 one_answer {b} {l} (meant n z q d) =
     is_given b l n
     ∙ given_derived b l (record { short = (within b l n).short; divides = to_wholly _ _ (lex_from (text b l) 0) (lexed b l (within b l n).told) z; shallow = q }) d

@@ -89,7 +89,7 @@ module _ (f : File) (fair : AllFair standard f) where
   verdict = by (foremost (findings standard f)) refl
     where
       by : (o : Option Finding) → foremost (findings standard f) ≡ o → Verdict f (told o)
-      by none e = rules.Verdict.nothing-wrong ((nothing_told standard f fair).0 e)
+      by none e = rules.Verdict.nothing_wrong ((nothing_told standard f fair).0 e)
       by (some x) e =
           let l = least_told (findings standard f) x e in
           rules.Verdict.wrong x (listed_wrong l.is_one) (λ y w. le_of x y (l.least y (wrong_listed w)))

@@ -135,7 +135,7 @@ module _ (g rs ws s d e : List ℕ) (x : Known) (i : ℕ) (u : Owner) (o : Owns 
       (z : Found) (hz : FindsAttribute s d x.definitions u.key b z) where
     looked_up : (f : File) (a : Asked) → Knows s d e x f → RowIs g rs ws i a → (v : Scope) → ScopeIs f v u → z ≡ row_found (find_definition v.definitions a.wanted.definition.name)
     looked_up f a k ri v y =
-        let l = k.definitions-fit in
+        let l = k.definitions_fit in
         hz f v.definitions a.wanted.definition.name k.situation k.in_definitions k.definitions (omega (arith, l)) y.at
         (ri.name ∙ sym (hb ∙ ap₂ (part_of g) e₁ e₂))
 
@@ -151,7 +151,7 @@ module _ (g rs ws s d e : List ℕ) (x : Known) (i : ℕ) (u : Owner) (o : Owns 
           standing_row a.wanted.definition.name j k.situation y.at (find_definition v.definitions a.wanted.definition.name) refl (sym t ∙ looked_up f a k ri v y)
 
       low_row : (f : File) (a : Asked) → Knows s d e x f → (ds : Definitions) → Hit f ds a.wanted.definition.name j → j < 513
-      low_row f a k ds h = let p = h.low in let l = k.definitions-fit in let q = k.definitions in omega (arith, p, l, q)
+      low_row f a k ds h = let p = h.low in let l = k.definitions_fit in let q = k.definitions in omega (arith, p, l, q)
 
       was_found : (f : File) (a : Asked) → Knows s d e x f → RowIs g rs ws i a → (v : Scope) (y : ScopeIs f v u)
           → fault_told (in_scope a.wanted (some v)) ≡ fault_told (finding_if c (get_or d (j * 19 + 2) 0) 26 a.wanted.definition.row)

@@ -44,7 +44,7 @@ tree_behind s (node file_is (node v vs (node implementation_is (leaf i _ (leaf x
     }
 
 behind : {s : List ℕ} {f : File} → Situation s f → Behind s f
-behind {s} t = subst (Behind s) (sym t.syntax-of) (tree_behind s t.derivation.tree (subst (Chain s 0) (sym t.derivation.leaves) (text_chain s)))
+behind {s} t = subst (Behind s) (sym t.syntax_of) (tree_behind s t.derivation.tree (subst (Chain s 0) (sym t.derivation.leaves) (text_chain s)))
 
 pub names_at : (s : List ℕ) (p : ℕ) (i n : Item) → i ≡ item_at s p → n ≡ item_at s i.next → NamesAt s p n.at
 names_at s p i n e h f t q =

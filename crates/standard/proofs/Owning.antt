@@ -72,7 +72,7 @@ all_reached {f = f} h vs = record {
   rest = [];
   whole = sym (append-nil (spec_choices f.specs));
   many = sym h.enumerators;
-  room = let l = h.enumerators-fit in omega (arith, l);
+  room = let l = h.enumerators_fit in omega (arith, l);
   free = tt;
 }
 
@@ -107,7 +107,7 @@ module _ (g rs s d e : List ℕ) (x : Known) (i n : ℕ) (k : Owner) (z : n ≡ 
       by : (ps : List Step) → PathIs g rs i ps → Reaches f (along (scope_of f a.kind) ps) (record { word = u; key = u })
       by _ (no_step y) = absurd (v (q ∙ y))
       by _ (one_step {p} y t w) =
-          let l = h.definitions-fit in
+          let l = h.definitions_fit in
           into-it (into (scope_of f a.kind) p)
           (st f (scope_of f a.kind) p h.situation h.in_definitions h.in_enumerators h.definitions (omega (arith, l)) (all_reached h) kind-scope.at
           (t ∙ sym (hb ∙ ap₂ (part_of g) e₁ q)) (w ∙ sym (hc ∙ ap₂ (part_of g) e₂ e₃)))

@@ -167,7 +167,7 @@ module _ (gs : List Spec) (f : File) where
   due_under k p x y v h j t u e =
       let b = along_off (scope_of f k) p (step x.definition.name v.word) e in
       let n = into_off b.scope x.definition.name v.word b.enters in
-      subst (Asks gs f y) n.scope-is (under (t b.scope b.leads) n.there h n.listed j)
+      subst (Asks gs f y) n.scope_is (under (t b.scope b.leads) n.there h n.listed j)
 
   mutual
     unfolding asked_in

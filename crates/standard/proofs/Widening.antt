@@ -134,5 +134,5 @@ module _ (g rs ws s d e : List ℕ) (m i j code first end key : ℕ) (q₁ : cod
           let b₁ = b.1 in
           let c : type_code x.definition.type ≡ integer_code R.width = sym tc ∙ ap type_code R.type in
           let t = ranged (formed_row st hd row l) (integer_code R.width) c b₀ b₁ in
-          ap not (h x.definition.bounds (subst (λ n. RangeAt s n x.definition.bounds) (sym (o ∙ range_cell st hd row l)) t) ∙ sym (R.within-is x.definition.bounds))
+          ap not (h x.definition.bounds (subst (λ n. RangeAt s n x.definition.bounds) (sym (o ∙ range_cell st hd row l)) t) ∙ sym (R.within_is x.definition.bounds))
           ∙ sym (wider_as a.wanted.definition.bounds x.definition.bounds a.wanted.values x.values R.type)

@@ -43,7 +43,7 @@ wrong_expanded {g = g} {e = e} {a = a} {n} {q} {k} h i j =
 -- ---- the public call
 
 once : {b l x g x' g' : List ℕ} (n : ℕ) → AtOnce b l x g x' g' n → ChecksTexts b l x g x' g' (c.Refused n 0)
-once n (by_1 h i j k) = specs.short-rooms h (ap (λ (o : ℕ). c.Refused o 0) i) j k
+once n (by_1 h i j k) = specs.short_rooms h (ap (λ (o : ℕ). c.Refused o 0) i) j k
 once n (by_30 h i _ k f) = specs.refuses h f 30 0 k (ap (λ (o : ℕ). c.Refused o 0) i)
 
 pub stopped_checks : {b l x g x' g' : List ℕ} {r : Lent} (n : ℕ) → ExpandsTexts b l x g x' g' r → r ≡ Stopped n → ChecksTexts b l x g x' g' (c.Refused n 0)
@@ -51,7 +51,7 @@ stopped_checks n u q = once n (at_once n u q)
 
 verdict_placed : {b l x g : List ℕ} {e : Expanded} (f : File) (a : Checked) → Holds b l x g e → Verdict f a → told_in g e a ≡ placed_checked (place_of b l) a
 unfolding told_in placed_checked
-verdict_placed f _ k (rules.nothing-wrong h) = refl
+verdict_placed f _ k (rules.nothing_wrong h) = refl
 verdict_placed f _ k (rules.wrong x h i) = ap (λ (y : ℕ). c.Wrong x.number y x.attribute) (k.place x.place)
 
 check_by : {b l x g x' g' : List ℕ} {e : Expanded} (a r : Checked) → There b l x g x' g' e → ChecksByRules (text b l) a → r ≡ told_in g' e a → ChecksTexts b l x g x' g' r
@@ -66,4 +66,4 @@ pub text_checks : {b l x g x' g' : List ℕ} {r : Lent} {e : Expanded} {a : Chec
     ChecksExpanded (take e.length x') g' e a → ChecksTexts b l x g x' g' a
 text_checks {e = e} {a = a} u q w =
     let t = there e u q in
-    check_by w.in-expanded a t (subst (λ (y : List ℕ). ChecksByRules y w.in-expanded) t.holds.bytes w.rules) w.told
+    check_by w.in_expanded a t (subst (λ (y : List ℕ). ChecksByRules y w.in_expanded) t.holds.bytes w.rules) w.told

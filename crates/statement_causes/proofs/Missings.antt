@@ -90,10 +90,10 @@ module _ {s d e o st : List ℕ} {z : Sizes} {f : File} {u : Word} {ds : Definit
   single_by : (l : Bool) → x.definition.list ≡ l → among x.definition.name (names ss) ≡ false → taken x.definition.default ≡ none → RowMisses ds (names ss) x (single_place d j)
   unfolding single_place bit
   single_by true e n t =
-      let r : single_place d j ≡ 0 = ap (λ i. pick (eqb i 0) (get_or d (j * 19 + 2) 0) 0) (row.list-mark ∙ ap bit e) in
+      let r : single_place d j ≡ 0 = ap (λ i. pick (eqb i 0) (get_or d (j * 19 + 2) 0) 0) (row.list_mark ∙ ap bit e) in
       record { none = λ _. lack_needless x (names ss) (needs_none x t ∙ ap not e); some = λ q. absurd (q r) }
   single_by false e n t =
-      let r : single_place d j ≡ x.definition.name.place = ap (λ i. pick (eqb i 0) (get_or d (j * 19 + 2) 0) 0) (row.list-mark ∙ ap bit e) ∙ row.name-place in
+      let r : single_place d j ≡ x.definition.name.place = ap (λ i. pick (eqb i 0) (get_or d (j * 19 + 2) 0) 0) (row.list_mark ∙ ap bit e) ∙ row.name_place in
       let l = row.name.later in
       record {
         none = λ q. absurd (omega (arith, q, r, l));
@@ -106,7 +106,7 @@ module _ {s d e o st : List ℕ} {z : Sizes} {f : File} {u : Word} {ds : Definit
   under_by t key r n a p g = by (find_value x.values t) refl
     where
       sc : ScopeAt f key (under x.values t)
-      sc = subst (λ q. ScopeAt f q (under x.values t)) (sym p) (scope_under t c.tables.situation row.row-of)
+      sc = subst (λ q. ScopeAt f q (under x.values t)) (sym p) (scope_under t c.tables.situation row.row_of)
 
       low : j ≤ z.definitions
       low = let l = stands_below c.tables w x h in omega (arith, l, k)
@@ -155,7 +155,7 @@ module _ (s d e st : List ℕ) (z : Sizes) (j m v at len : ℕ) (p : at ≡ get_
     unfolding own
     row_default at₂ len₂ key r pa pl n i y g₂ o f u ds ss x c w b h k =
         let t = taking c (own c w b h k) at₂ len₂ key pa pl n i y in
-        under_by c w b h k t.word_of key r (sym (stated_by c w b h k at len false p q g)) t.takes t.key-is g₂
+        under_by c w b h k t.word_of key r (sym (stated_by c w b h k at len false p q g)) t.takes t.key_is g₂
 
 -- A scope -------------------------------------------------------------------------------------------------------------------------------------
 
@@ -216,7 +216,7 @@ module _ (s d e st : List ℕ) (z : Sizes) (n key m v : ℕ) where
       go : Dec (x.definition.row < i) → lack x (names ss) ≡ false
       go (yes r) = a o f u ds ss c w p b x h r
       go (no r) =
-          absurd (no_key d x.definition.row key (g x.definition.row (omega (arith, r)) k) ((row {m = m} {v = v} c w b h refl).under-place ∙ p))
+          absurd (no_key d x.definition.row key (g x.definition.row (omega (arith, r)) k) ((row {m = m} {v = v} c w b h refl).under_place ∙ p))
 
   -- There is none left.
   pub over_none : (i : ℕ) → (key ≡ 0 → ⊥) → find_row d 19 n 0 key i ≡ Nothing → Over s d e st z key m v i → Misses s d e st z n key m v 0

@@ -71,12 +71,12 @@ defines {d = d} {f = f} {j} {x} c a t =
     let cell : (k : ℕ) → k < 19 → get_or d (j * 19 + k) 0 ≡ get_or (definition_cells E) k 0 = λ k m. definition_cell f d j k E c.tables.in_definitions R.row_of.nth R.low m in
     record {
       found = t.found;
-      name_place = t.name-place ∙ cell 2 (omega arith);
-      name_length = t.name-length ∙ cell 3 (omega arith);
-      type_place = t.type-place ∙ cell 4 (omega arith);
-      type_length = t.type-length ∙ cell 5 (omega arith);
-      type_code = t.type-code ∙ cell 12 (omega arith);
-      range_place = t.range-place ∙ cell 8 (omega arith);
+      name_place = t.name_place ∙ cell 2 (omega arith);
+      name_length = t.name_length ∙ cell 3 (omega arith);
+      type_place = t.type_place ∙ cell 4 (omega arith);
+      type_length = t.type_length ∙ cell 5 (omega arith);
+      type_code = t.type_code ∙ cell 12 (omega arith);
+      range_place = t.range_place ∙ cell 8 (omega arith);
       range_length = t.range_length ∙ cell 9 (omega arith);
       auto = t.auto ∙ cell 7 (omega arith);
     }
@@ -211,16 +211,16 @@ looked n a b c = let m = n.named (record { definitions = a; enumerators = b; obj
 module _ {s : List ℕ} {y : Merged} {w : Decision} (z : Sizes) (p : ℕ) (r : Told) (a : z.definitions ≡ w.walked.definitions) (b : z.enumerators ≡ w.walked.enumerators)
     (c : z.objects ≡ w.objects) where
   pub tells_kept : TellsRows s y.definitions y.enumerators y.objects y.statements z w.walked.places p r → TellsKept s y w p r
-  tells_kept h t = h t.file (given t.kept t.no-definition-fault t.no-object-fault z a b c) (places t.kept)
+  tells_kept h t = h t.file (given t.kept t.no_definition_fault t.no_object_fault z a b c) (places t.kept)
 
   pub kept_few_definitions : 512 < z.definitions → TellsKept s y w p r
-  kept_few_definitions h t = let l = (given t.kept t.no-definition-fault t.no-object-fault z a b c).tables.definitions-fit in absurd (omega (arith, h, l))
+  kept_few_definitions h t = let l = (given t.kept t.no_definition_fault t.no_object_fault z a b c).tables.definitions_fit in absurd (omega (arith, h, l))
 
   pub kept_few_enumerators : 1024 < z.enumerators → TellsKept s y w p r
-  kept_few_enumerators h t = let l = (given t.kept t.no-definition-fault t.no-object-fault z a b c).tables.enumerators-fit in absurd (omega (arith, h, l))
+  kept_few_enumerators h t = let l = (given t.kept t.no_definition_fault t.no_object_fault z a b c).tables.enumerators_fit in absurd (omega (arith, h, l))
 
   pub kept_few_objects : 256 < z.objects → TellsKept s y w p r
-  kept_few_objects h t = let l = (given t.kept t.no-definition-fault t.no-object-fault z a b c).tables.objects-fit in absurd (omega (arith, h, l))
+  kept_few_objects h t = let l = (given t.kept t.no_definition_fault t.no_object_fault z a b c).tables.objects_fit in absurd (omega (arith, h, l))
 
 -- What is parsed is derived.
 not_parsed_here : {A : Type 0} {n p : ℕ} {f : File} → ◌≡◌ {A = Parsed} (not_parsed n p) (parsed f) → A
@@ -269,5 +269,5 @@ module _ {s : List ℕ} {y : Merged} {w : Decision} (p : ℕ) (r : Told) (h : De
   pub tells_passed : is_fault w.fault ≡ false → TellsKept s y w p r → Tells s p r
   tells_passed i k l f e a b =
       let t = (h.decided l refl refl refl refl).passes (is_none w.fault i) in
-      let g : f ≡ t.file = own_syntax s f e t.kept.situation.derivation ∙ sym t.kept.situation.syntax-of in
+      let g : f ≡ t.file = own_syntax s f e t.kept.situation.derivation ∙ sym t.kept.situation.syntax_of in
       subst (λ (q : File). ToldOf q p r) (sym g) (k t)

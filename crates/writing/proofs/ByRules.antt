@@ -28,8 +28,8 @@ use Rattle.writing.specs.declared.Written.{Written}
 -- Where grammar passes, it passes with refusal 20 too.
 still_passes : (s : List ℕ) → Demand-3 s Accepted → Demand-3 s (Refused 20 0)
 still_passes s q = record {
-  passes_exactly = λ w. ((λ _. (q.passes-exactly w).0 tt), (λ _. omega arith));
-  one_derivation = q.one-derivation;
+  passes_exactly = λ w. ((λ _. (q.passes_exactly w).0 tt), (λ _. omega arith));
+  one_derivation = q.one_derivation;
   refusal = λ w k. absurd (k (omega arith));
 }
 

@@ -160,7 +160,7 @@ module _ {s d e o v d₁ e₁ o₁ v₁ : List ℕ} {w : Spanned} (h : ReadsSpan
     pub own_fits : Fits own
     own_fits =
         let t = (h.spans i).situation in
-        accepted_fits s t.derivation.tree own (sym (ap answer t.syntax-of) ∙ sym (h.spans i).answered ∙ reads_own)
+        accepted_fits s t.derivation.tree own (sym (ap answer t.syntax_of) ∙ sym (h.spans i).answered ∙ reads_own)
 
     abbrev pub definitions_room : List ℕ
     definitions_room = definition_room (all_definition_rows file.specs)
@@ -262,8 +262,8 @@ module _ {s d e o v d₁ e₁ o₁ v₁ : List ℕ} {w : Spanned} (h : ReadsSpan
             definitions = room_whole 6656 definitions_room d d₁ definitions_are definitions_wide k.definitions;
             objects = room_whole 2048 objects_room o o₁ objects_are objects_wide k.objects;
             values = room_whole 18432 values_room v v₁ values_are values_wide k.values;
-            many_objects = g.tables.many-objects;
-            many_values = g.tables.many-values;
+            many_objects = g.tables.many_objects;
+            many_values = g.tables.many_values;
           };
           spans = g.spans;
         }
@@ -281,7 +281,7 @@ module _ {s d e o v d₁ e₁ o₁ v₁ : List ℕ} {w : Spanned} (h : ReadsSpan
     many_enumerators = ap (λ (x : Reading). x.enumerators) (h.reads.result ∙ ap reading_of (call_enough s d e o v all_enough ∙ reads_own))
 
     pub text_is : normal s file ≡ normal_text s
-    text_is = let a = h.spans i in ap (normal s) a.situation.syntax-of ∙ sym (normal_derived s a.covered a.situation.derivation)
+    text_is = let a = h.spans i in ap (normal s) a.situation.syntax_of ∙ sym (normal_derived s a.covered a.situation.derivation)
 
     asked_is : (l : List ℕ) → asked s d e o v l ≡ output_asked (some (length l)) (normal_text s) (accepted own)
     unfolding asked call choose

@@ -95,7 +95,7 @@ module _ {s d v : List ℕ} {n k sort row : ℕ} {o : Owner} {t : Taken} {us r :
           let l = length_values us (suc k) (of_value k) in
           let h = a.earlier in
           record {
-            of_sort = a.of-sort;
+            of_sort = a.of_sort;
             of_row = a.of_row;
             earlier = λ j i. h j (omega (arith, e, i));
             rows = subst (λ (i : ℕ). From 9 value_cells v n m (value_rows r i o ++ rest)) (sym e)

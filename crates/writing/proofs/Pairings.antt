@@ -137,7 +137,7 @@ module _ {s d o v : List ℕ} {m n : ℕ} {l : List ℕ} {at i k : ℕ} {l₁ : 
           }
 
       by : (xs : List Object) (ys : List Resolved) → LeftObjects s d o v m n l at i k l₁ e xs ys → LeftObjects s d o v m n l at (i + 1) q.next l₂ q.place xs ys
-      by xs ys a = by-object xs ys a.written-lines a.objects a.values a.whole a.wrote a.laid a.laid.pairs
+      by xs ys a = by-object xs ys a.written_lines a.objects a.values a.whole a.wrote a.laid a.laid.pairs
 
   pub objects_done : m ≤ i → PutsObjects s d o v m n l at l₁ e
   unfolding object_lines object_rows
@@ -149,4 +149,4 @@ module _ {s d o v : List ℕ} {m n : ℕ} {l : List ℕ} {at i k : ℕ} {l₁ : 
       by-object xs ys bs (x ∷ us) vs f w a = absurd (let j = a.count in omega arith)
 
       by : (xs : List Object) (ys : List Resolved) → LeftObjects s d o v m n l at i k l₁ e xs ys → Wrote l at (object_lines xs ys) l₁ e
-      by xs ys a = by-object xs ys a.written-lines a.objects a.values a.whole a.wrote a.laid.objects
+      by xs ys a = by-object xs ys a.written_lines a.objects a.values a.whole a.wrote a.laid.objects

@@ -42,7 +42,7 @@ tree_inside s (node file_is (node v vs (node implementation_is (leaf i _ (leaf x
 module _ {s : List ℕ} {f : File} (t : Situation s f) where
   inside : f.implementation.place + f.implementation.length ≤ length s
   inside =
-      subst (λ (g : File). g.implementation.place + g.implementation.length ≤ length s) (sym t.syntax-of)
+      subst (λ (g : File). g.implementation.place + g.implementation.length ≤ length s) (sym t.syntax_of)
       (tree_inside s t.derivation.tree (subst (Chain s 0) (sym t.derivation.leaves) (text_chain s)))
 
   pub implementation_part : part_of s f.implementation.place f.implementation.length ≡ part s f.implementation
@@ -52,5 +52,5 @@ module _ {s : List ℕ} {f : File} (t : Situation s f) where
   pub cpu_part : part_of s f.cpu.place f.cpu.length ≡ f.cpu.bytes
   unfolding words_of
   cpu_part =
-      let w : AllIn s (words_of f) = subst (λ (g : File). AllIn s (words_of g)) (sym t.syntax-of) (file_in s t.derivation) in
+      let w : AllIn s (words_of f) = subst (λ (g : File). AllIn s (words_of g)) (sym t.syntax_of) (file_in s t.derivation) in
       sym (in_back s (spec_words f.specs) (f.cpu ∷ object_words f.parts) w).0.bytes

@@ -140,4 +140,4 @@ module _ {s d : List ℕ} {f : File} (t : Situation s f) (h : d ≡ definition_r
 
   -- The objects of a text with their values.
   pub file_pairs : Pairs s d f.objects (all_values f f.objects)
-  file_pairs = pairs_of f.objects (subst (λ (g : File). AllIn s (object_words g.objects)) (sym t.syntax-of) (objects_in s t.derivation))
+  file_pairs = pairs_of f.objects (subst (λ (g : File). AllIn s (object_words g.objects)) (sym t.syntax_of) (objects_in s t.derivation))

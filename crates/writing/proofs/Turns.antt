@@ -31,12 +31,12 @@ none_under : {s d v : List ℕ} {n i sort row : ℕ} {o : Owner} (us : Resolved)
 unfolding value_rows value_row
 none_under end a e = refl
 none_under {v = v} {n} {i} {sort} {row} {o} (resolved t us r) {rest} a e =
-    absurd (false≢true (sym e ∙ is_owned v n i sort row o a.of-sort a.of_row (value_row t o) _ a.rows refl))
+    absurd (false≢true (sym e ∙ is_owned v n i sort row o a.of_sort a.of_row (value_row t o) _ a.rows refl))
 
 closed_some : {s d v : List ℕ} {n i sort row : ℕ} {o : Owner} (us : Resolved) {rest : List ValueRow} (ls : List ℕ) → Laid s d v n i sort row o us rest
     → owned v n i sort row ≡ true → bytes_of " {\n" ++ (ls ++ bytes_of "};\n") ≡ closed us ls
 unfolding value_rows closed
-closed_some {v = v} {n} {i} {sort} {row} {o} end {rest} ls a e = absurd (none_owned v n i sort row o a.of-sort a.of_row i rest a.rows a.ends e)
+closed_some {v = v} {n} {i} {sort} {row} {o} end {rest} ls a e = absurd (none_owned v n i sort row o a.of_sort a.of_row i rest a.rows a.ends e)
 closed_some (resolved t us r) ls a e = refl
 
 module _ {s d v : List ℕ} {n k : ℕ} {l : List ℕ} {at : ℕ} {l₁ : List ℕ} {a : ℕ} (h : Wrote l at (head_at s d v k) l₁ a) where
@@ -108,7 +108,7 @@ module _ {s d v : List ℕ} {n i sort row : ℕ} {l : List ℕ} {at k : ℕ} {l�
     where
       by_value : (o : Owner) (x : Resolved) (rest : List ValueRow) (bs : List ℕ) (r : Resolved) → bs ++ lines r ≡ lines x → Wrote l at bs l₁ e
           → k + how_many_values r ≡ i + how_many_values x → Laid s d v n k sort row o r rest → Left s d v n i sort row l at q.next l₂ q.place o x rest
-      by_value o x rest bs end f w c y = absurd (none_owned v n k sort row o y.of-sort y.of_row k rest y.rows y.ends t)
+      by_value o x rest bs end f w c y = absurd (none_owned v n k sort row o y.of_sort y.of_row k rest y.rows y.ends t)
       by_value o x rest bs (resolved u us r) f w c y =
           let z = p.puts u o us (value_rows r (suc k + how_many_values us) o ++ rest) (laid_line y) in
           let m = z.next in
@@ -122,7 +122,7 @@ module _ {s d v : List ℕ} {n i sort row : ℕ} {l : List ℕ} {at k : ℕ} {l�
           }
 
       by : (o : Owner) (x : Resolved) (rest : List ValueRow) → Left s d v n i sort row l at k l₁ e o x rest → Left s d v n i sort row l at q.next l₂ q.place o x rest
-      by o x rest y = by_value o x rest y.written-lines y.left y.whole y.wrote y.count y.laid
+      by o x rest y = by_value o x rest y.written_lines y.left y.whole y.wrote y.count y.laid
 
   pub going_done : owned v n k sort row ≡ false → PutsLines s d v n i sort row l at l₁ (record { next = k; place = e })
   unfolding lines how_many_values
@@ -134,6 +134,6 @@ module _ {s d v : List ℕ} {n i sort row : ℕ} {l : List ℕ} {at k : ℕ} {l�
           let c = y.count in
           let m : how_many_values y.left ≡ 0 = ap how_many_values z in
           record {
-            wrote = wrote_as (sym (append-nil y.written-lines) ∙ ap (λ (r : Resolved). y.written-lines ++ lines r) (sym z) ∙ y.whole) y.wrote;
+            wrote = wrote_as (sym (append-nil y.written_lines) ∙ ap (λ (r : Resolved). y.written_lines ++ lines r) (sym z) ∙ y.whole) y.wrote;
             next = omega (arith, c, m);
           }

@@ -20,8 +20,8 @@ laid_all : {s d o v : List ℕ} {m n : ℕ} {f : File} → Tables s d o v m n f 
 unfolding object_room value_room
 laid_all {s} {d} {o} {v} {m} {n} {f} t =
     record {
-      objects = from_room 8 object_cells (256 * 8) (object_rows f.objects) o m t.objects t.many-objects;
-      values = from_room 9 value_cells (2048 * 9) (all_value_rows (all_values f f.objects) 0 0) v n t.values t.many-values;
+      objects = from_room 8 object_cells (256 * 8) (object_rows f.objects) o m t.objects t.many_objects;
+      values = from_room 9 value_cells (2048 * 9) (all_value_rows (all_values f f.objects) 0 0) v n t.values t.many_values;
       pairs = file_pairs t.situation t.definitions;
     }
 
@@ -45,6 +45,6 @@ writes_normal {s} w x y p =
     record {
       same = p.same ∙ wrote_length y ∙ wrote_length x ∙ wrote_length w;
       puts = λ f t i.
-          let g = ap₂ (part_of s) i.implementation-at i.implementation-long ∙ implementation_part t.situation in
-          wrote_then w (wrote_then (wrote_as g x) (wrote_then y (p.puts f t i.cpu-at i.cpu-long)));
+          let g = ap₂ (part_of s) i.implementation_at i.implementation_long ∙ implementation_part t.situation in
+          wrote_then w (wrote_then (wrote_as g x) (wrote_then y (p.puts f t i.cpu_at i.cpu_long)));
     }

@@ -132,8 +132,8 @@ module _ (b l x g x' g' : List ℕ) (e : Expansion) (u : ExpandsToRead b l x g x
 -- where grammar passes, it passes with refusal 20 too
 still_passes : (s : List ℕ) → Demand-3 s Accepted → Demand-3 s (Refused 20 0)
 still_passes s q = record {
-  passes_exactly = λ w. ((λ _. (q.passes-exactly w).0 tt), (λ _. omega arith));
-  one_derivation = q.one-derivation;
+  passes_exactly = λ w. ((λ _. (q.passes_exactly w).0 tt), (λ _. omega arith));
+  one_derivation = q.one_derivation;
   refusal = λ w k. absurd (k (omega arith));
 }
 
@@ -153,8 +153,8 @@ module _ (b l : List ℕ) (z : Plain b l) where
   unfolding reading_of
   twenty_demand a t r u e q =
       let d = answer_demand b l z a (reading_of a).answer u refl in
-      let h : d.in-expanded ≡ Accepted =
-      placed_accepted (place_of b l) d.in-expanded (sym (ap (λ (y : Answer). (reading_of y).answer) e) ∙ d.placed) in
+      let h : d.in_expanded ≡ Accepted =
+      placed_accepted (place_of b l) d.in_expanded (sym (ap (λ (y : Answer). (reading_of y).answer) e) ∙ d.placed) in
       record {
         in_expanded = Refused 20 0;
         demand = still_passes (expanded b l).bytes (subst (Demand-3 (expanded b l).bytes) h d.demand);

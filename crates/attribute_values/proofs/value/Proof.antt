@@ -55,7 +55,7 @@ same_length : tie.Need-same-length
 same_length c = search rules
 
 returns-2 : tie.Need-returns-2
-returns-2 c = values_rules (value_accepted (c.before.before.before.before.before.before.before.before.before.before.before.before.before.before.before.before.read-spanned.ensures.0) _ _ _ _ (c.before.before.before.before.before.before.before.before.before.enum_told.given.1) _ c.before.before.before.before.before.find-row.ensures c.before.before.copy-found.ensures)
+returns-2 c = values_rules (value_accepted (c.before.before.before.before.before.before.before.before.before.before.before.before.before.before.before.before.read-spanned.ensures.0) _ _ _ _ (c.before.before.before.before.before.before.before.before.before.enum_told.given.1) _ c.before.before.before.before.before.find-row.ensures c.before.before.copy_found.ensures)
 
 pub value_spec : {M : Type 1} → statement M
 value_spec =

@@ -8,13 +8,13 @@ use Rattle.dropping.proofs.drop_all.Lts as lts
 use Rattle.dropping.proofs.drop_objects.Reads as drop-objects-reads
 
 returns : tie.Need-returns
-returns c = λ f a p. let l = a.tables.definitions-fit in absurd (omega (arith, l, (c.if1.true)))
+returns c = λ f a p. let l = a.tables.definitions_fit in absurd (omega (arith, l, (c.if1.true)))
 
 returns-2 : tie.Need-returns-2
-returns-2 c = λ f a p. let l = a.tables.enumerators-fit in absurd (omega (arith, l, (c.if2.true)))
+returns-2 c = λ f a p. let l = a.tables.enumerators_fit in absurd (omega (arith, l, (c.if2.true)))
 
 returns-3 : tie.Need-returns-3
-returns-3 c = λ f a p. let l = a.tables.objects-fit in absurd (omega (arith, l, (c.if3.true)))
+returns-3 c = λ f a p. let l = a.tables.objects_fit in absurd (omega (arith, l, (c.if3.true)))
 
 slice-aggregate-drop-objects : tie.Need-slice-aggregate-drop-objects
 slice-aggregate-drop-objects c = search rules

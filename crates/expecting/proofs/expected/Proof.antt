@@ -22,13 +22,13 @@ slice-aggregate-flags : tie.Need-slice-aggregate-flags
 slice-aggregate-flags c = search rules
 
 flags-requires : tie.Need-flags-requires
-flags-requires c κs = let e = c.before.before.is-refused.ensures.0 c.before.if2.true in ((omega arith, e), room_of _ _ _ (omega arith, e) (length-replicate {A = ℕ} 65552 0))
+flags-requires c κs = let e = c.before.before.is_refused.ensures.0 c.before.if2.true in ((omega arith, e), room_of _ _ _ (omega arith, e) (length-replicate {A = ℕ} 65552 0))
 
 returns-2 : tie.Need-returns-2
 returns-2 c = search rules
 
 returns-3 : tie.Need-returns-3
-returns-3 c = tells_none _ _ (λ e. false≢true (sym c.if2.false ∙ c.before.is-refused.ensures.1 e.1))
+returns-3 c = tells_none _ _ (λ e. false≢true (sym c.if2.false ∙ c.before.is_refused.ensures.1 e.1))
 
 pub expected-spec : {M : Type 1} → statement M
 expected-spec = tie.close (tie.spec returns is-refused-requires slice-aggregate-flags flags-requires returns-2 returns-3)

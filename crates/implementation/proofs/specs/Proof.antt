@@ -56,7 +56,7 @@ loop_less : tie.Need-loop-smaller invariant_loop decreases_loop
 loop_less c = kind_less (sym c.before.before.before.before.before.before.before.before.before.before.before.before.before.before.before.is-kind.ensures ∙ c.before.before.before.before.before.before.before.before.before.before.before.before.before.before.if1.true) c.before.before.before.before.before.spec.ensures.fills.meets
 
 loop_again : tie.Need-loop-preserved invariant_loop decreases_loop
-loop_again c = specs_on c.before.before.before.before.before.before.before.before.before.before.before.before.before.before.before.before.loop.invariant (sym c.before.before.before.before.before.before.before.before.before.before.before.before.before.before.before.is-kind.ensures ∙ c.before.before.before.before.before.before.before.before.before.before.before.before.before.before.if1.true) c.before.before.before.before.before.before.before.before.before.before.before.before.before.kind-number.ensures (noted _ _ (record { marks = c.before.before.before.before.before.before.before.before.before.before.before.before.before.before.before.before.loop.marks; places = c.before.before.before.before.before.before.before.before.before.before.before.before.before.before.before.before.loop.places; again = c.before.before.before.before.before.before.before.before.before.before.before.before.before.before.before.before.loop.again; found = c.before.before.before.before.before.before.before.before.before.before.before.before.before.before.before.before.loop.found }) c.before.before.before.before.before.before.before.before.before.before.before.before.cell.ensures c.before.before.before.before.before.before.before.before.before.before.before.with-place.ensures c.before.before.before.before.before.before.before.before.before.before.again-at.ensures c.before.before.before.before.before.before.before.before.before.found-by.ensures c.before.before.before.before.before.before.before.before.with_cell.ensures) c.before.before.before.before.before.spec.ensures
+loop_again c = specs_on c.before.before.before.before.before.before.before.before.before.before.before.before.before.before.before.before.loop.invariant (sym c.before.before.before.before.before.before.before.before.before.before.before.before.before.before.before.is-kind.ensures ∙ c.before.before.before.before.before.before.before.before.before.before.before.before.before.before.if1.true) c.before.before.before.before.before.before.before.before.before.before.before.before.before.kind-number.ensures (noted _ _ (record { marks = c.before.before.before.before.before.before.before.before.before.before.before.before.before.before.before.before.loop.marks; places = c.before.before.before.before.before.before.before.before.before.before.before.before.before.before.before.before.loop.places; again = c.before.before.before.before.before.before.before.before.before.before.before.before.before.before.before.before.loop.again; found = c.before.before.before.before.before.before.before.before.before.before.before.before.before.before.before.before.loop.found }) c.before.before.before.before.before.before.before.before.before.before.before.before.cell.ensures c.before.before.before.before.before.before.before.before.before.before.before.with-place.ensures c.before.before.before.before.before.before.before.before.before.before.again_at.ensures c.before.before.before.before.before.before.before.before.before.found-by.ensures c.before.before.before.before.before.before.before.before.with_cell.ensures) c.before.before.before.before.before.spec.ensures
 
 same_length : tie.Need-same-length invariant_loop decreases_loop
 same_length c = c.before.before.loop.invariant.does.1.0.size

@@ -16,13 +16,13 @@ use Rattle.lookups.proofs.owners.owners.Reads as owners-reads
 use Rattle.rows.proofs.cells.put_cells.Reads as put-cells-reads
 
 returns : tie.Need-returns
-returns c = ((λ f a p. let l = a.tables.definitions-fit in absurd (omega (arith, l, c.if1.true))), (c.before.before.before.before.before.before.before.before.before.requires, (λ n b. b)))
+returns c = ((λ f a p. let l = a.tables.definitions_fit in absurd (omega (arith, l, c.if1.true))), (c.before.before.before.before.before.before.before.before.before.requires, (λ n b. b)))
 
 returns-2 : tie.Need-returns-2
-returns-2 c = ((λ f a p. let l = a.tables.enumerators-fit in absurd (omega (arith, l, c.if2.true))), (c.before.before.before.before.before.before.before.before.before.before.before.requires, (λ n b. b)))
+returns-2 c = ((λ f a p. let l = a.tables.enumerators_fit in absurd (omega (arith, l, c.if2.true))), (c.before.before.before.before.before.before.before.before.before.before.before.requires, (λ n b. b)))
 
 returns-3 : tie.Need-returns-3
-returns-3 c = ((λ f a p. let l = a.tables.objects-fit in absurd (omega (arith, l, c.if3.true))), (c.before.before.before.before.before.before.before.before.before.before.before.before.before.requires, (λ n b. b)))
+returns-3 c = ((λ f a p. let l = a.tables.objects_fit in absurd (omega (arith, l, c.if3.true))), (c.before.before.before.before.before.before.before.before.before.before.before.before.before.requires, (λ n b. b)))
 
 marks-requires : tie.Need-marks-requires
 marks-requires c κs = let n = c.before.before.before.before.before.before.before.before.before.before.before.before.before.before.requires.named (record { definitions = omega (arith, c.before.before.before.before.before.if1.false); enumerators = omega (arith, c.before.before.before.if2.false); objects = omega (arith, c.before.if3.false) }) in (n.enumerators, n.ranks)

@@ -48,7 +48,7 @@ same_length : tie.Need-same-length
 same_length c = search rules
 
 returns : tie.Need-returns
-returns c = part_alone c.before.before.before.before.before.before.before.before.before.before.before.before.before.kind-number.ensures c.before.before.before.before.before.before.before.before.before.before.before.before.expect-kind.ensures c.before.before.before.before.before.before.before.before.before.before.before.expect-name.ensures c.before.before.before.before.before.before.before.before.before.before.length.ensures c.before.before.before.before.before.before.before.before.before.length2.ensures c.before.before.before.before.before.before.before.before.next.ensures c.before.before.before.before.before.before.if1.true c.before.before.before.put-row.ensures c.finish.ensures
+returns c = part_alone c.before.before.before.before.before.before.before.before.before.before.before.before.before.kind-number.ensures c.before.before.before.before.before.before.before.before.before.before.before.before.expect-kind.ensures c.before.before.before.before.before.before.before.before.before.before.before.expect-name.ensures c.before.before.before.before.before.before.before.before.before.before.length.ensures c.before.before.before.before.before.before.before.before.before.length2.ensures c.before.before.before.before.before.before.before.before.next.ensures c.before.before.before.before.before.before.if1.true c.before.before.before.put_row.ensures c.finish.ensures
 
 advance-requires : tie.Need-advance-requires
 advance-requires c κs = search rules

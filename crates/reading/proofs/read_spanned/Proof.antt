@@ -76,7 +76,7 @@ same-length-4 : tie.Need-same-length-4
 same-length-4 c = search rules
 
 returns-5 : tie.Need-returns-5
-returns-5 c = and_rules (record { reads = long_reads _ _ _ _ _ _ _ _ _ _ (omega arith) (omega arith) (omega arith) (omega arith) c.before.before.before.before.before.before.before.before.fill.ensures.filled; spans = c.before.before.before.before.before.before.before.before.fill.ensures.spans; no_spans = c.before.before.before.before.before.before.before.before.fill.ensures.no-spans })
+returns-5 c = and_rules (record { reads = long_reads _ _ _ _ _ _ _ _ _ _ (omega arith) (omega arith) (omega arith) (omega arith) c.before.before.before.before.before.before.before.before.fill.ensures.filled; spans = c.before.before.before.before.before.before.before.before.fill.ensures.spans; no_spans = c.before.before.before.before.before.before.before.before.fill.ensures.no_spans })
 
 pub read-spanned-spec : {M : Type 1} → statement M
 read-spanned-spec =

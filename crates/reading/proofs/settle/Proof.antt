@@ -25,7 +25,7 @@ same_length : tie.Need-same-length
 same_length c = search rules
 
 returns : tie.Need-returns
-returns c = settles_too_many _ _ _ _ refl refl refl _ _ _ _ _ _ c.before.before.before.before.before.before.before.before.resolve-all.ensures _ _ c.before.before.before.before.before.if1.true c.before.before.before.clear.ensures c.refusal.ensures
+returns c = settles_too_many _ _ _ _ refl refl refl _ _ _ _ _ _ c.before.before.before.before.before.before.before.before.resolve_all.ensures _ _ c.before.before.before.before.before.if1.true c.before.before.before.clear.ensures c.refusal.ensures
 
 copy-definitions-requires : tie.Need-copy-definitions-requires
 copy-definitions-requires c κs = search rules
@@ -49,7 +49,7 @@ same-length-5 : tie.Need-same-length-5
 same-length-5 c = search rules
 
 returns-2 : tie.Need-returns-2
-returns-2 c = settles_accepted _ _ _ _ refl refl refl _ _ _ _ _ _ c.before.before.before.before.before.before.before.before.before.before.before.before.before.before.before.before.resolve-all.ensures _ _ _ c.before.before.before.before.before.before.before.before.before.before.before.before.before.if1.false c.before.before.before.before.before.before.before.before.before.before.before.copy-definitions.ensures c.before.before.before.before.before.before.before.copy-enumerators.ensures c.before.before.before.copy-objects.ensures
+returns-2 c = settles_accepted _ _ _ _ refl refl refl _ _ _ _ _ _ c.before.before.before.before.before.before.before.before.before.before.before.before.before.before.before.before.resolve_all.ensures _ _ _ c.before.before.before.before.before.before.before.before.before.before.before.before.before.if1.false c.before.before.before.before.before.before.before.before.before.before.before.copy-definitions.ensures c.before.before.before.before.before.before.before.copy-enumerators.ensures c.before.before.before.copy-objects.ensures
 
 pub settle-spec : {M : Type 1} → statement M
 settle-spec =

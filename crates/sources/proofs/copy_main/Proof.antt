@@ -10,10 +10,10 @@ use Rattle.rows.proofs.cells.least_of.Reads as least-of-reads
 use Rattle.sources.proofs.filling.put.Reads as put_reads
 
 shared-slice-read-from : tie.Need-shared-slice-read-from
-shared-slice-read-from c = let f = plain_fits _ _ c.before.before.before.before.before.requires in let x = f.two-left in omega arith
+shared-slice-read-from c = let f = plain_fits _ _ c.before.before.before.before.before.requires in let x = f.two_left in omega arith
 
 shared-slice-read-size : tie.Need-shared-slice-read-size
-shared-slice-read-size c = let f = plain_fits _ _ c.before.before.before.before.before.before.requires in let x = f.two-left in omega arith
+shared-slice-read-size c = let f = plain_fits _ _ c.before.before.before.before.before.before.requires in let x = f.two_left in omega arith
 
 add-to : tie.Need-overflow-add-to
 add-to c = let f = plain_fits _ _ c.before.before.before.before.before.before.requires in let y = f.name in let z = f.text in omega arith

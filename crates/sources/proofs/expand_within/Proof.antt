@@ -17,13 +17,13 @@ told-well-requires : tie.Need-told-well-requires
 told-well-requires c κs = search rules
 
 shared-slice-read-from : tie.Need-shared-slice-read-from
-shared-slice-read-from c = let f = main_fits _ _ (sym c.before.before.told-well.ensures ∙ c.before.if1.true) in let x = f.two-left in omega arith
+shared-slice-read-from c = let f = main_fits _ _ (sym c.before.before.told-well.ensures ∙ c.before.if1.true) in let x = f.two_left in omega arith
 
 shared-slice-read-to : tie.Need-shared-slice-read-to
-shared-slice-read-to c = let f = main_fits _ _ (sym c.before.before.before.told-well.ensures ∙ c.before.before.if1.true) in let x = f.two-left in omega arith
+shared-slice-read-to c = let f = main_fits _ _ (sym c.before.before.before.told-well.ensures ∙ c.before.before.if1.true) in let x = f.two_left in omega arith
 
 add-to : tie.Need-overflow-add-to
-add-to c = let f = main_fits _ _ (sym c.before.before.before.told-well.ensures ∙ c.before.before.if1.true) in let x = f.two-left in let y = f.name in let z = f.text in omega arith
+add-to c = let f = main_fits _ _ (sym c.before.before.before.told-well.ensures ∙ c.before.before.if1.true) in let x = f.two_left in let y = f.name in let z = f.text in omega arith
 
 least-of-requires : tie.Need-least-of-requires
 least-of-requires c κs = search rules
@@ -47,7 +47,7 @@ part-expand-text-start : tie.Need-slice-bounds-expand-text-start
 part-expand-text-start c = search rules
 
 part-expand-text-end : tie.Need-slice-bounds-expand-text-end
-part-expand-text-end c = let f = main_fits _ _ (sym c.before.before.before.before.before.before.before.before.before.told-well.ensures ∙ c.before.before.before.before.before.before.before.before.if1.true) in let x = f.two-left in let y = f.name in let z = f.text in omega arith
+part-expand-text-end c = let f = main_fits _ _ (sym c.before.before.before.before.before.before.before.before.before.told-well.ensures ∙ c.before.before.before.before.before.before.before.before.if1.true) in let x = f.two_left in let y = f.name in let z = f.text in omega arith
 
 slice-relend-prefix-expand-text : tie.Need-slice-relend-prefix-expand-text
 slice-relend-prefix-expand-text c = search rules

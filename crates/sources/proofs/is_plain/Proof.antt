@@ -14,13 +14,13 @@ told-well-requires : tie.Need-told-well-requires
 told-well-requires c κs = search rules
 
 shared-slice-read-from : tie.Need-shared-slice-read-from
-shared-slice-read-from c = let f = main_fits _ _ (sym c.before.before.told-well.ensures ∙ c.before.if1.true) in let x = f.two-left in omega arith
+shared-slice-read-from c = let f = main_fits _ _ (sym c.before.before.told-well.ensures ∙ c.before.if1.true) in let x = f.two_left in omega arith
 
 shared-slice-read-to : tie.Need-shared-slice-read-to
-shared-slice-read-to c = let f = main_fits _ _ (sym c.before.before.before.told-well.ensures ∙ c.before.before.if1.true) in let x = f.two-left in omega arith
+shared-slice-read-to c = let f = main_fits _ _ (sym c.before.before.before.told-well.ensures ∙ c.before.before.if1.true) in let x = f.two_left in omega arith
 
 add-to : tie.Need-overflow-add-to
-add-to c = let f = main_fits _ _ (sym c.before.before.before.told-well.ensures ∙ c.before.before.if1.true) in let x = f.two-left in let y = f.name in let z = f.text in omega arith
+add-to c = let f = main_fits _ _ (sym c.before.before.before.told-well.ensures ∙ c.before.before.if1.true) in let x = f.two_left in let y = f.name in let z = f.text in omega arith
 
 sub_holds : tie.Need-overflow-sub-holds
 sub_holds c = search rules
@@ -29,7 +29,7 @@ part-holds-start : tie.Need-slice-bounds-holds-start
 part-holds-start c = search rules
 
 part-holds-end : tie.Need-slice-bounds-holds-end
-part-holds-end c = let f = main_fits _ _ (sym c.before.before.before.told-well.ensures ∙ c.before.before.if1.true) in let x = f.two-left in let y = f.name in let z = f.text in omega arith
+part-holds-end c = let f = main_fits _ _ (sym c.before.before.before.told-well.ensures ∙ c.before.before.if1.true) in let x = f.two_left in let y = f.name in let z = f.text in omega arith
 
 holds-requires : tie.Need-holds-requires
 holds-requires c κs = search rules

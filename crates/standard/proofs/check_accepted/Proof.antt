@@ -61,7 +61,7 @@ verdict-requires : tie.Need-verdict-requires
 verdict-requires c κs = search rules
 
 returns : tie.Need-returns
-returns c = check_walked _ _ _ _ _ _ _ _ _ (c.before.before.before.before.before.before.before.before.before.before.before.before.before.before.before.before.walk.ensures) (c.before.before.before.before.before.before.before.before.before.before.before.name-at.ensures) (c.before.before.before.before.before.before.before.before.before.section-text.ensures) (c.before.before.before.before.before.before.before.before.section-rows.ensures) (c.before.before.before.before.before.before.before.section-words.ensures) (c.before.foremost.ensures) (c.verdict.ensures)
+returns c = check_walked _ _ _ _ _ _ _ _ _ (c.before.before.before.before.before.before.before.before.before.before.before.before.before.before.before.before.walk.ensures) (c.before.before.before.before.before.before.before.before.before.before.before.name_at.ensures) (c.before.before.before.before.before.before.before.before.before.section-text.ensures) (c.before.before.before.before.before.before.before.before.section-rows.ensures) (c.before.before.before.before.before.before.before.section-words.ensures) (c.before.foremost.ensures) (c.verdict.ensures)
 
 pub check-accepted-spec : {M : Type 1} → statement M
 check-accepted-spec =

@@ -24,7 +24,7 @@ returns : tie.Need-returns
 returns c = checks_rules (check_refused _ _ _ _ (c.before.before.before.answer-of.ensures) (c.before.answer.given).1)
 
 returns-2 : tie.Need-returns-2
-returns-2 c = checks_rules (check_accepts _ _ _ (c.before.before.before.answer-of.ensures) (c.before.enum_told.given).1 (c.check-accepted.ensures))
+returns-2 c = checks_rules (check_accepts _ _ _ (c.before.before.before.answer-of.ensures) (c.before.enum_told.given).1 (c.check_accepted.ensures))
 
 pub check-standard-spec : {M : Type 1} → statement M
 check-standard-spec =

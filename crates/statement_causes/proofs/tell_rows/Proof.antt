@@ -28,7 +28,7 @@ missing-at-requires : tie.Need-missing-at-requires
 missing-at-requires c κs = search rules
 
 returns : tie.Need-returns
-returns c = tells_rows _ _ _ _ _ _ (c.before.before.before.before.before.before.before.before.before.before.before.before.args.t8) (c.before.before.before.before.before.before.before.before.before.before.before.before.args.place) (c.before.before.before.before.seek-all.result) (c.before.before.before.attribute-of.result) (c.before.before.first_of.result) (c.missing_at.result) c.before.before.before.before.seek-all.ensures c.before.before.before.attribute-of.ensures c.before.before.first_of.ensures c.missing_at.ensures
+returns c = tells_rows _ _ _ _ _ _ (c.before.before.before.before.before.before.before.before.before.before.before.before.args.t8) (c.before.before.before.before.before.before.before.before.before.before.before.before.args.place) (c.before.before.before.before.seek_all.result) (c.before.before.before.attribute-of.result) (c.before.before.first_of.result) (c.missing_at.result) c.before.before.before.before.seek_all.ensures c.before.before.before.attribute-of.ensures c.before.before.first_of.ensures c.missing_at.ensures
 
 pub tell-rows-spec : {M : Type 1} → statement M
 tell-rows-spec =

@@ -25,7 +25,7 @@ in-range-requires : tie.Need-in-range-requires
 in-range-requires c κs = search rules
 
 returns : tie.Need-returns
-returns c = by_text c.before.before.before.before.before.before.args.text.now c.before.before.before.before.before.before.args.d.now c.before.before.before.before.before.before.args.j _ (num c.before.before.before.before.before.before.args.n) _ c.before.before.cell-of.ensures c.in-range.ensures
+returns c = by_text c.before.before.before.before.before.before.args.text.now c.before.before.before.before.before.before.args.d.now c.before.before.before.before.before.before.args.j _ (num c.before.before.before.before.before.before.args.n) _ c.before.before.cell-of.ensures c.in_range.ensures
 
 mul-row : tie.Need-overflow-mul-row
 mul-row c = search rules

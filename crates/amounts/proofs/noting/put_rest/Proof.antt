@@ -31,7 +31,7 @@ same_length : tie.Need-same-length invariant_loop decreases_loop
 same_length c = c.before.before.before.before.loop.invariant.size
 
 returns : tie.Need-returns invariant_loop decreases_loop
-returns c = stop _ _ _ _ _ _ _ _ c.before.before.before.before.loop.invariant _ c.before.before.comma-at.ensures c.if1.true
+returns c = stop _ _ _ _ _ _ _ _ c.before.before.before.before.loop.invariant _ c.before.before.comma_at.ensures c.if1.true
 
 item-at-requires : tie.Need-item-at-requires invariant_loop decreases_loop
 item-at-requires c κs = tt
@@ -64,10 +64,10 @@ add-i : tie.Need-overflow-add-i invariant_loop decreases_loop
 add-i c = omega arith
 
 loop_less : tie.Need-loop-smaller invariant_loop decreases_loop
-loop_less c = omega (arith, turn_on _ _ _ _ c.before.before.before.before.before.before.before.comma-at.ensures c.before.before.before.before.before.if1.false c.before.before.before.before.item-at.ensures, c.before.before.before.before.before.before.before.before.loop-test.true)
+loop_less c = omega (arith, turn_on _ _ _ _ c.before.before.before.before.before.before.before.comma_at.ensures c.before.before.before.before.before.if1.false c.before.before.before.before.item-at.ensures, c.before.before.before.before.before.before.before.before.loop-test.true)
 
 loop_again : tie.Need-loop-preserved invariant_loop decreases_loop
-loop_again c = more _ _ _ _ _ _ _ _ c.before.before.before.before.before.before.before.before.before.loop.invariant _ _ c.before.before.before.before.before.before.before.comma-at.ensures c.before.before.before.before.before.if1.false c.before.before.before.before.item-at.ensures _ c.before.before.before.has-key.ensures (not-false _ c.before.before.if2.false) c.before.if3.false _ c.key.ensures
+loop_again c = more _ _ _ _ _ _ _ _ c.before.before.before.before.before.before.before.before.before.loop.invariant _ _ c.before.before.before.before.before.before.before.comma_at.ensures c.before.before.before.before.before.if1.false c.before.before.before.before.item-at.ensures _ c.before.before.before.has-key.ensures (not-false _ c.before.before.if2.false) c.before.if3.false _ c.key.ensures
 
 same-length-4 : tie.Need-same-length-4 invariant_loop decreases_loop
 same-length-4 c = c.before.loop.invariant.size

@@ -22,7 +22,7 @@ find-before-requires : tie.Need-find-before-requires
 find-before-requires c κs = search rules
 
 returns : tie.Need-returns
-returns c = through_one (again_found _ _ _ _ _ _ _ c.before.before.before.cell-of.ensures c.before.before.cell-of2.ensures c.before.cell-of3.ensures) (through_found _ _ _ _ _ _ _ _ _ _ _ c.find-before.ensures)
+returns c = through_one (again_found _ _ _ _ _ _ _ c.before.before.before.cell-of.ensures c.before.before.cell-of2.ensures c.before.cell-of3.ensures) (through_found _ _ _ _ _ _ _ _ _ _ _ c.find_before.ensures)
 
 pub again_spec : {M : Type 1} → statement M
 again_spec =

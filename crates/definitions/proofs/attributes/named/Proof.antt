@@ -40,7 +40,7 @@ same_length : tie.Need-same-length
 same_length c = search rules
 
 returns : tie.Need-returns
-returns c = named_walks _ _ _ c.before.before.before.before.before.before.before.before.before.before.expect-name.ensures c.before.before.before.before.before.before.before.before.before.mark.ensures c.before.before.before.before.before.before.before.before.default.ensures c.before.before.before.before.before.before.before.finish.ensures c.before.before.before.before.before.before.length.ensures c.before.before.before.put-row.ensures c.next.ensures
+returns c = named_walks _ _ _ c.before.before.before.before.before.before.before.before.before.before.expect-name.ensures c.before.before.before.before.before.before.before.before.before.mark.ensures c.before.before.before.before.before.before.before.before.default.ensures c.before.before.before.before.before.before.before.finish.ensures c.before.before.before.before.before.before.length.ensures c.before.before.before.put_row.ensures c.next.ensures
 
 pub named-spec : {M : Type 1} → statement M
 named-spec =

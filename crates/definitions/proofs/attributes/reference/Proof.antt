@@ -40,7 +40,7 @@ same_length : tie.Need-same-length
 same_length c = search rules
 
 returns : tie.Need-returns
-returns c = reference_walks _ c.before.before.before.before.before.before.before.before.before.before.before.before.before.args.t c.before.before.before.before.before.before.before.before.before.before.expect-name.ensures c.before.before.before.before.before.before.before.before.before.mark.ensures c.before.before.before.before.before.before.before.before.finish.ensures c.before.before.before.before.before.before.before.length.ensures c.before.before.before.before.before.before.head.ensures c.before.before.before.put-row.ensures c.next.ensures
+returns c = reference_walks _ c.before.before.before.before.before.before.before.before.before.before.before.before.before.args.t c.before.before.before.before.before.before.before.before.before.before.expect-name.ensures c.before.before.before.before.before.before.before.before.before.mark.ensures c.before.before.before.before.before.before.before.before.finish.ensures c.before.before.before.before.before.before.before.length.ensures c.before.before.before.before.before.before.head.ensures c.before.before.before.put_row.ensures c.next.ensures
 
 pub reference-spec : {M : Type 1} → statement M
 reference-spec =

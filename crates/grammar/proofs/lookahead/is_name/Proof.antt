@@ -14,7 +14,7 @@ is-between-requires : tie.Need-is-between-requires
 is-between-requires c κs = search rules
 
 returns-2 : tie.Need-returns-2
-returns-2 c = c.is-between.ensures ∙ name_is _ c.before.if1.false
+returns-2 c = c.is_between.ensures ∙ name_is _ c.before.if1.false
 
 pub is-name-spec : {M : Type 1} → statement M
 is-name-spec = tie.close (tie.spec returns is-between-requires returns-2)

@@ -11,7 +11,7 @@ is-between-requires : tie.Need-is-between-requires
 is-between-requires c κs = search rules
 
 returns : tie.Need-returns
-returns c = c.is-between.ensures ∙ type_is _
+returns c = c.is_between.ensures ∙ type_is _
 
 pub is-type-spec : {M : Type 1} → statement M
 is-type-spec = tie.close (tie.spec is-between-requires returns)

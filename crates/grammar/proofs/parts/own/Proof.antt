@@ -28,13 +28,13 @@ advance-requires-3 : tie.Need-advance-requires-3
 advance-requires-3 c κs = search rules
 
 returns-3 : tie.Need-returns-3
-returns-3 c = own_fits _ (sym c.before.before.is-own.ensures ∙ c.before.if3.true) c.advance3.ensures
+returns-3 c = own_fits _ (sym c.before.before.is_own.ensures ∙ c.before.if3.true) c.advance3.ensures
 
 refuse-requires : tie.Need-refuse-requires
 refuse-requires c κs = search rules
 
 returns-4 : tie.Need-returns-4
-returns-4 c = own_no _ c.before.before.before.before.if1.false c.before.before.before.if2.false (sym c.before.before.is-own.ensures ∙ c.before.if3.false) c.refuse.ensures
+returns-4 c = own_no _ c.before.before.before.before.if1.false c.before.before.before.if2.false (sym c.before.before.is_own.ensures ∙ c.before.if3.false) c.refuse.ensures
 
 pub own-spec : {M : Type 1} → statement M
 own-spec =

@@ -18,7 +18,7 @@ is-stated-requires : tie.Need-is-stated-requires
 is-stated-requires c κs = search rules
 
 returns-2 : tie.Need-returns-2
-returns-2 c = λ n key f u ds ss o h k. row_marked o c.before.before.before.before.before.before.before.before.before.args.i c.is-stated.result h k (λ q. c.before.if1.false (c.before.before.get.ensures ∙ q)) c.is-stated.ensures
+returns-2 c = λ n key f u ds ss o h k. row_marked o c.before.before.before.before.before.before.before.before.before.args.i c.is_stated.result h k (λ q. c.before.if1.false (c.before.before.get.ensures ∙ q)) c.is_stated.ensures
 
 pub lacks-row-spec : {M : Type 1} → statement M
 lacks-row-spec = tie.close (tie.spec get-requires returns is-stated-requires returns-2)

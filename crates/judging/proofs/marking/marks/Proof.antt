@@ -23,7 +23,7 @@ loop_holds : tie.Need-loop-init invariant_loop decreases_loop
 loop_holds c = (refl, λ o f c'. marks_start f (replicate 512 0))
 
 returns : tie.Need-returns invariant_loop decreases_loop
-returns c = λ o f c'. marks_past f c.before.before.before.loop.missing c.before.before.before.loop.j _ (omega (arith, c'.tables.definitions-fit, c.if2.true)) (c.before.before.before.loop.invariant.1 o f c')
+returns c = λ o f c'. marks_past f c.before.before.before.loop.missing c.before.before.before.loop.j _ (omega (arith, c'.tables.definitions_fit, c.if2.true)) (c.before.before.before.loop.invariant.1 o f c')
 
 slice-aggregate-needs : tie.Need-slice-aggregate-needs invariant_loop decreases_loop
 slice-aggregate-needs c = sym c.before.before.before.before.loop.invariant.0

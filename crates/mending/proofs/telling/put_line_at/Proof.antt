@@ -25,7 +25,7 @@ same_length : tie.Need-same-length
 same_length c = search rules
 
 returns : tie.Need-returns
-returns c = puts_no_line _ _ _ _ _ c.before.before.before.before.before.before.mark-at.ensures c.before.before.before.before.before.if1.true c.before.before.put-bytes.ensures
+returns c = puts_no_line _ _ _ _ _ c.before.before.before.before.before.before.mark_at.ensures c.before.before.before.before.before.if1.true c.before.before.put-bytes.ensures
 
 statement-end-requires : tie.Need-statement-end-requires
 statement-end-requires c κs = search rules
@@ -46,7 +46,7 @@ same_length_2 : tie.Need-same-length-2
 same_length_2 c = search rules
 
 returns-2 : tie.Need-returns-2
-returns-2 c = puts_its_line _ _ _ _ _ c.before.before.before.before.before.before.before.mark-at.ensures c.before.before.before.before.before.before.if1.false _ _ c.before.before.before.before.before.statement-end.ensures c.before.before.before.before.get.ensures c.before.before.put-line.ensures
+returns-2 c = puts_its_line _ _ _ _ _ c.before.before.before.before.before.before.before.mark_at.ensures c.before.before.before.before.before.before.if1.false _ _ c.before.before.before.before.before.statement-end.ensures c.before.before.before.before.get.ensures c.before.before.put-line.ensures
 
 pub put-line-at-spec : {M : Type 1} → statement M
 put-line-at-spec =

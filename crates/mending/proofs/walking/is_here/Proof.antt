@@ -11,10 +11,10 @@ mark-at-requires : tie.Need-mark-at-requires
 mark-at-requires c κs = search rules
 
 returns : tie.Need-returns
-returns c = here_dropped _ _ _ _ c.before.mark-at.ensures c.if1.true
+returns c = here_dropped _ _ _ _ c.before.mark_at.ensures c.if1.true
 
 returns-2 : tie.Need-returns-2
-returns-2 c = here_kept _ _ _ _ c.before.mark-at.ensures c.if1.false _ refl
+returns-2 c = here_kept _ _ _ _ c.before.mark_at.ensures c.if1.false _ refl
 
 pub is-here-spec : {M : Type 1} → statement M
 is-here-spec = tie.close (tie.spec mark-at-requires returns returns-2)

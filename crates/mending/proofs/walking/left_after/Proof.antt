@@ -10,16 +10,16 @@ mark-at-requires : tie.Need-mark-at-requires
 mark-at-requires c κs = search rules
 
 returns : tie.Need-returns
-returns c = left_dropped _ _ _ _ c.before.mark-at.ensures c.if1.true
+returns c = left_dropped _ _ _ _ c.before.mark_at.ensures c.if1.true
 
 returns-2 : tie.Need-returns-2
-returns-2 c = left_none _ _ _ _ c.before.before.mark-at.ensures c.before.if1.false c.if2.true
+returns-2 c = left_none _ _ _ _ c.before.before.mark_at.ensures c.before.if1.false c.if2.true
 
 sub-result : tie.Need-overflow-sub-result
 sub-result c = search rules
 
 returns-3 : tie.Need-returns-3
-returns-3 c = left_kept _ _ _ _ c.before.before.mark-at.ensures c.before.if1.false
+returns-3 c = left_kept _ _ _ _ c.before.before.mark_at.ensures c.before.if1.false
 
 pub left-after-spec : {M : Type 1} → statement M
 left-after-spec = tie.close (tie.spec mark-at-requires returns returns-2 sub-result returns-3)

@@ -14,13 +14,13 @@ add-result : tie.Need-overflow-add-result
 add-result c = search rules
 
 returns : tie.Need-returns
-returns c = next_keep _ _ _ _ c.before.mark-at.ensures c.if1.true
+returns c = next_keep _ _ _ _ c.before.mark_at.ensures c.if1.true
 
 statement-end-requires : tie.Need-statement-end-requires
 statement-end-requires c κs = search rules
 
 returns-2 : tie.Need-returns-2
-returns-2 c = next_drop _ _ _ _ _ c.before.before.mark-at.ensures c.before.if1.false c.statement-end.ensures
+returns-2 c = next_drop _ _ _ _ _ c.before.before.mark_at.ensures c.before.if1.false c.statement-end.ensures
 
 pub next-spec : {M : Type 1} → statement M
 next-spec =

@@ -11,7 +11,7 @@ mark-at-requires : tie.Need-mark-at-requires
 mark-at-requires c κs = search rules
 
 returns : tie.Need-returns
-returns c = puts_dropped _ _ _ _ _ _ c.before.mark-at.ensures c.if1.true
+returns c = puts_dropped _ _ _ _ _ _ c.before.mark_at.ensures c.if1.true
 
 shared-slice-read-put-byte : tie.Need-shared-slice-read-put-byte
 shared-slice-read-put-byte c = search rules
@@ -26,7 +26,7 @@ same_length : tie.Need-same-length
 same_length c = search rules
 
 returns-2 : tie.Need-returns-2
-returns-2 c = puts_kept _ _ _ _ _ _ c.before.before.before.before.before.before.mark-at.ensures c.before.before.before.before.before.if1.false _ c.before.before.put_byte.ensures
+returns-2 c = puts_kept _ _ _ _ _ _ c.before.before.before.before.before.before.mark_at.ensures c.before.before.before.before.before.if1.false _ c.before.before.put_byte.ensures
 
 pub put-kept-spec : {M : Type 1} → statement M
 put-kept-spec =

@@ -57,7 +57,7 @@ same_length_2 : tie.Need-same-length-2
 same_length_2 c = search rules
 
 returns-2 : tie.Need-returns-2
-returns-2 c = (omega arith, merge_some _ _ _ _ _ _ _ _ _ _ _ _ _ _ _ _ _ _ _ _ (sym c.before.before.before.before.before.before.before.before.before.before.before.before.before.before.before.before.before.get.ensures ∙ c.before.before.before.before.before.before.before.before.before.before.before.before.before.before.before.before.if1.false) c.before.before.before.before.before.before.before.before.before.before.before.before.before.before.gather.ensures c.before.before.before.before.before.before.before.before.before.before.before.cell-of.ensures c.before.before.before.before.before.before.before.before.before.before.cell-of2.ensures c.before.before.before.before.before.before.before.before.before.cell-of3.ensures c.before.before.before.before.before.before.before.before.cell-of4.ensures c.before.before.before.before.before.before.before.cell-of5.ensures c.before.before.before.before.before.before.cell-of6.ensures c.before.before.before.before.before.cell-of7.ensures c.before.before.put-row.ensures)
+returns-2 c = (omega arith, merge_some _ _ _ _ _ _ _ _ _ _ _ _ _ _ _ _ _ _ _ _ (sym c.before.before.before.before.before.before.before.before.before.before.before.before.before.before.before.before.before.get.ensures ∙ c.before.before.before.before.before.before.before.before.before.before.before.before.before.before.before.before.if1.false) c.before.before.before.before.before.before.before.before.before.before.before.before.before.before.gather.ensures c.before.before.before.before.before.before.before.before.before.before.before.cell-of.ensures c.before.before.before.before.before.before.before.before.before.before.cell-of2.ensures c.before.before.before.before.before.before.before.before.before.cell-of3.ensures c.before.before.before.before.before.before.before.before.cell-of4.ensures c.before.before.before.before.before.before.before.cell-of5.ensures c.before.before.before.before.before.before.cell-of6.ensures c.before.before.before.before.before.cell-of7.ensures c.before.before.put_row.ensures)
 
 pub merge-one-spec : {M : Type 1} → statement M
 merge-one-spec =

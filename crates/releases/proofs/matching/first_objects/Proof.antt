@@ -27,7 +27,7 @@ loop_less : tie.Need-loop-smaller invariant_loop decreases_loop
 loop_less c = omega arith
 
 loop_again : tie.Need-loop-preserved invariant_loop decreases_loop
-loop_again c = first_next _ _ _ _ _ _ _ _ _ _ _ _ _ _ _ (c.before.before.loop.all) (c.one-object.result) (c.before.before.loop.i) (c.before.before.loop.invariant) (omega arith) c.one-object.ensures
+loop_again c = first_next _ _ _ _ _ _ _ _ _ _ _ _ _ _ _ (c.before.before.loop.all) (c.one_object.result) (c.before.before.loop.i) (c.before.before.loop.invariant) (omega arith) c.one_object.ensures
 
 returns : tie.Need-returns invariant_loop decreases_loop
 returns c = first_end _ _ _ _ _ _ _ _ _ _ _ _ _ _ _ _ (c.before.loop.i) (c.before.loop.invariant) (omega arith)

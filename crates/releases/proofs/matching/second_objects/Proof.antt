@@ -26,7 +26,7 @@ loop_less : tie.Need-loop-smaller invariant_loop decreases_loop
 loop_less c = omega arith
 
 loop_again : tie.Need-loop-preserved invariant_loop decreases_loop
-loop_again c = second_next _ _ _ _ _ _ _ (c.before.before.loop.all) (c.one-added.result) (c.before.before.loop.j) (c.before.before.loop.invariant) (omega arith) c.one-added.ensures
+loop_again c = second_next _ _ _ _ _ _ _ (c.before.before.loop.all) (c.one_added.result) (c.before.before.loop.j) (c.before.before.loop.invariant) (omega arith) c.one_added.ensures
 
 returns : tie.Need-returns invariant_loop decreases_loop
 returns c = second_end _ _ _ _ _ _ _ _ (c.before.loop.j) (c.before.loop.invariant) (omega arith)

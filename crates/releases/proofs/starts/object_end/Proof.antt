@@ -23,7 +23,7 @@ is-other-requires : tie.Need-is-other-requires invariant_loop decreases_loop
 is-other-requires c κs = omega arith
 
 returns : tie.Need-returns invariant_loop decreases_loop
-returns c = end_here _ _ _ _ (c.before.before.before.loop.j) (omega arith) (sym c.if1.true ∙ c.before.is-other.ensures) (c.before.before.before.loop.invariant)
+returns c = end_here _ _ _ _ (c.before.before.before.loop.j) (omega arith) (sym c.if1.true ∙ c.before.is_other.ensures) (c.before.before.before.loop.invariant)
 
 add-j : tie.Need-overflow-add-j invariant_loop decreases_loop
 add-j c = omega arith
@@ -32,7 +32,7 @@ loop_less : tie.Need-loop-smaller invariant_loop decreases_loop
 loop_less c = omega arith
 
 loop_again : tie.Need-loop-preserved invariant_loop decreases_loop
-loop_again c = end_next _ _ _ _ (c.before.before.before.loop.j) (omega arith) (sym c.if1.false ∙ c.before.is-other.ensures) (c.before.before.before.loop.invariant)
+loop_again c = end_next _ _ _ _ (c.before.before.before.loop.j) (omega arith) (sym c.if1.false ∙ c.before.is_other.ensures) (c.before.before.before.loop.invariant)
 
 returns-2 : tie.Need-returns-2 invariant_loop decreases_loop
 returns-2 c = end_past _ _ _ _ (c.before.loop.j) (omega arith) (c.before.loop.invariant)

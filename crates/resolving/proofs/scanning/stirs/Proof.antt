@@ -31,7 +31,7 @@ may-state-requires : tie.Need-may-state-requires
 may-state-requires c κs = search rules
 
 returns-4 : tie.Need-returns-4
-returns-4 c = stirs_stated c.before.before.before.before.before.before.before.before.before.before.before.before.requires.1 c.before.before.before.before.before.has-default.ensures c.before.before.before.before.if1.false (omega arith) refl _ c.before.before.before.before.before.before.before.before.before.before.before.before.requires.2 c.may-state.ensures
+returns-4 c = stirs_stated c.before.before.before.before.before.before.before.before.before.before.before.before.requires.1 c.before.before.before.before.before.has-default.ensures c.before.before.before.before.if1.false (omega arith) refl _ c.before.before.before.before.before.before.before.before.before.before.before.before.requires.2 c.may_state.ensures
 
 pub stirs-spec : {M : Type 1} → statement M
 stirs-spec =

@@ -25,7 +25,7 @@ comma-at-requires : tie.Need-comma-at-requires invariant_loop decreases_loop
 comma-at-requires c κs = search rules
 
 returns : tie.Need-returns invariant_loop decreases_loop
-returns c = listed_stop _ _ _ _ c.before.before.before.before.loop.invariant _ c.before.before.comma-at.ensures c.if1.true
+returns c = listed_stop _ _ _ _ c.before.before.before.before.loop.invariant _ c.before.before.comma_at.ensures c.if1.true
 
 item-at-requires : tie.Need-item-at-requires invariant_loop decreases_loop
 item-at-requires c κs = search rules
@@ -34,13 +34,13 @@ equal-requires : tie.Need-equal-requires invariant_loop decreases_loop
 equal-requires c κs = search rules
 
 returns-2 : tie.Need-returns-2 invariant_loop decreases_loop
-returns-2 c = listed-hit _ _ _ _ c.before.before.before.before.before.before.before.loop.invariant _ _ c.before.before.before.before.before.comma-at.ensures c.before.before.before.if1.false c.before.before.item-at.ensures _ c.before.equal.ensures c.if2.true
+returns-2 c = listed-hit _ _ _ _ c.before.before.before.before.before.before.before.loop.invariant _ _ c.before.before.before.before.before.comma_at.ensures c.before.before.before.if1.false c.before.before.item-at.ensures _ c.before.equal.ensures c.if2.true
 
 loop_less : tie.Need-loop-smaller invariant_loop decreases_loop
-loop_less c = omega (arith, turn_on _ _ _ _ c.before.before.before.before.before.comma-at.ensures c.before.before.before.if1.false c.before.before.item-at.ensures, c.before.before.before.before.before.before.loop-test.true)
+loop_less c = omega (arith, turn_on _ _ _ _ c.before.before.before.before.before.comma_at.ensures c.before.before.before.if1.false c.before.before.item-at.ensures, c.before.before.before.before.before.before.loop-test.true)
 
 loop_again : tie.Need-loop-preserved invariant_loop decreases_loop
-loop_again c = listed-on _ _ _ _ c.before.before.before.before.before.before.before.loop.invariant _ _ c.before.before.before.before.before.comma-at.ensures c.before.before.before.if1.false c.before.before.item-at.ensures _ c.before.equal.ensures c.if2.false
+loop_again c = listed-on _ _ _ _ c.before.before.before.before.before.before.before.loop.invariant _ _ c.before.before.before.before.before.comma_at.ensures c.before.before.before.if1.false c.before.before.item-at.ensures _ c.before.equal.ensures c.if2.false
 
 returns-3 : tie.Need-returns-3 invariant_loop decreases_loop
 returns-3 c = listed_end _ _ _ _ c.before.loop.invariant c.loop-test.false

@@ -28,7 +28,7 @@ comma-at-requires : tie.Need-comma-at-requires invariant_loop decreases_loop
 comma-at-requires c κs = search rules
 
 returns : tie.Need-returns invariant_loop decreases_loop
-returns c = out_stop _ _ _ _ c.before.before.before.before.loop.invariant _ c.before.before.comma-at.ensures c.if1.true
+returns c = out_stop _ _ _ _ c.before.before.before.before.loop.invariant _ c.before.before.comma_at.ensures c.if1.true
 
 item-at-requires : tie.Need-item-at-requires invariant_loop decreases_loop
 item-at-requires c κs = search rules
@@ -40,13 +40,13 @@ wrong-bound-requires : tie.Need-wrong-bound-requires invariant_loop decreases_lo
 wrong-bound-requires c κs = search rules
 
 returns-2 : tie.Need-returns-2 invariant_loop decreases_loop
-returns-2 c = λ ws l. c.wrong-bound.ensures ∙ out-hit _ _ _ _ c.before.before.before.before.before.before.before.before.loop.invariant _ _ c.before.before.before.before.before.before.comma-at.ensures c.before.before.before.before.if1.false c.before.before.before.item-at.ensures _ c.before.before.in-type.ensures (not-true _ c.before.if2.true) ws l
+returns-2 c = λ ws l. c.wrong-bound.ensures ∙ out-hit _ _ _ _ c.before.before.before.before.before.before.before.before.loop.invariant _ _ c.before.before.before.before.before.before.comma_at.ensures c.before.before.before.before.if1.false c.before.before.before.item-at.ensures _ c.before.before.in-type.ensures (not-true _ c.before.if2.true) ws l
 
 loop_less : tie.Need-loop-smaller invariant_loop decreases_loop
-loop_less c = omega (arith, turn_on _ _ _ _ c.before.before.before.before.before.comma-at.ensures c.before.before.before.if1.false c.before.before.item-at.ensures, c.before.before.before.before.before.before.loop-test.true)
+loop_less c = omega (arith, turn_on _ _ _ _ c.before.before.before.before.before.comma_at.ensures c.before.before.before.if1.false c.before.before.item-at.ensures, c.before.before.before.before.before.before.loop-test.true)
 
 loop_again : tie.Need-loop-preserved invariant_loop decreases_loop
-loop_again c = out-on _ _ _ _ c.before.before.before.before.before.before.before.loop.invariant _ _ c.before.before.before.before.before.comma-at.ensures c.before.before.before.if1.false c.before.before.item-at.ensures _ c.before.in-type.ensures (not-false _ c.if2.false)
+loop_again c = out-on _ _ _ _ c.before.before.before.before.before.before.before.loop.invariant _ _ c.before.before.before.before.before.comma_at.ensures c.before.before.before.if1.false c.before.before.item-at.ensures _ c.before.in-type.ensures (not-false _ c.if2.false)
 
 returns-3 : tie.Need-returns-3 invariant_loop decreases_loop
 returns-3 c = out_end _ _ _ _ c.before.loop.invariant c.loop-test.false

@@ -24,7 +24,7 @@ in-range-requires : tie.Need-in-range-requires
 in-range-requires c κs = search rules
 
 returns-2 : tie.Need-returns-2
-returns-2 c = float_in _ _ _ _ _ c.before.before.before.before.cell-of.ensures c.before.before.before.if1.false _ c.before.before.Float-at.ensures _ _ c.before.cell-of2.ensures c.in-range.ensures
+returns-2 c = float_in _ _ _ _ _ c.before.before.before.before.cell-of.ensures c.before.before.before.if1.false _ c.before.before.Float-at.ensures _ _ c.before.cell-of2.ensures c.in_range.ensures
 
 pub takes-float-spec : {M : Type 1} → statement M
 takes-float-spec =

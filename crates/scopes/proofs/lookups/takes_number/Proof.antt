@@ -31,7 +31,7 @@ in-range-requires : tie.Need-in-range-requires
 in-range-requires c κs = search rules
 
 returns-3 : tie.Need-returns-3
-returns-3 c = number_in _ _ _ _ _ c.before.before.before.before.before.before.before.cell-of.ensures c.before.before.before.before.before.before.if1.false c.before.before.before.before.before.if2.false _ c.before.before.before.before.number_at.ensures _ _ _ c.before.before.before.in-type.ensures c.before.before.if3.true c.before.cell-of2.ensures c.in-range.ensures
+returns-3 c = number_in _ _ _ _ _ c.before.before.before.before.before.before.before.cell-of.ensures c.before.before.before.before.before.before.if1.false c.before.before.before.before.before.if2.false _ c.before.before.before.before.number_at.ensures _ _ _ c.before.before.before.in-type.ensures c.before.before.if3.true c.before.cell-of2.ensures c.in_range.ensures
 
 returns-4 : tie.Need-returns-4
 returns-4 c = number_out _ _ _ _ _ c.before.before.before.before.before.cell-of.ensures c.before.before.before.before.if1.false c.before.before.before.if2.false _ c.before.before.number_at.ensures _ c.before.in-type.ensures c.if3.false

@@ -10,7 +10,7 @@ is-between-requires : tie.Need-is-between-requires
 is-between-requires c κs = search rules
 
 returns : tie.Need-returns
-returns c = c.is-between.ensures
+returns c = c.is_between.ensures
 
 returns-2 : tie.Need-returns-2
 returns-2 c = small_in_type _ _ c.if2.true c.before.before.if1.false

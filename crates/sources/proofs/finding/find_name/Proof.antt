@@ -56,7 +56,7 @@ same-requires : tie.Need-same-requires invariant_loop decreases_loop
 same-requires c κs = tt
 
 returns : tie.Need-returns invariant_loop decreases_loop
-returns c = let l = c.before.before.before.before.before.before.loop in let f = fits _ l.at _ l.i (omega arith) l.invariant.2 in sym (find_here _ l.number l.at _ l.i _ f.two-left (sym c.before.same.ensures ∙ c.if1.true)) ∙ l.invariant.3
+returns c = let l = c.before.before.before.before.before.before.loop in let f = fits _ l.at _ l.i (omega arith) l.invariant.2 in sym (find_here _ l.number l.at _ l.i _ f.two_left (sym c.before.same.ensures ∙ c.if1.true)) ∙ l.invariant.3
 
 add-i : tie.Need-overflow-add-i invariant_loop decreases_loop
 add-i c = let l = c.before.before.before.before.before.before.loop in let f = fits _ l.at _ l.i (omega arith) l.invariant.2 in omega arith
@@ -68,7 +68,7 @@ loop_less : tie.Need-loop-smaller invariant_loop decreases_loop
 loop_less c = let l = c.before.before.before.before.before.before.loop in let f = fits _ l.at _ l.i (omega arith) l.invariant.2 in omega arith
 
 loop_again : tie.Need-loop-preserved invariant_loop decreases_loop
-loop_again c = let l = c.before.before.before.before.before.before.loop in let f = fits _ l.at _ l.i (omega arith) l.invariant.2 in (omega arith, omega arith, f.more, sym (find_on _ l.number l.at _ l.i _ f.two-left (sym c.before.same.ensures ∙ c.if1.false)) ∙ l.invariant.3)
+loop_again c = let l = c.before.before.before.before.before.before.loop in let f = fits _ l.at _ l.i (omega arith) l.invariant.2 in (omega arith, omega arith, f.more, sym (find_on _ l.number l.at _ l.i _ f.two_left (sym c.before.same.ensures ∙ c.if1.false)) ∙ l.invariant.3)
 
 returns-2 : tie.Need-returns-2 invariant_loop decreases_loop
 returns-2 c = let l = c.before.loop in sym (find_none _ l.number l.at _ l.i _ (omega arith)) ∙ l.invariant.3

@@ -45,7 +45,7 @@ add-to-2 : tie.Need-overflow-add-to-2 invariant_loop decreases_loop
 add-to-2 c = let l = c.before.before.before.loop in let f = fits _ l.at _ l.i (omega arith) l.invariant.1 in omega arith
 
 returns : tie.Need-returns invariant_loop decreases_loop
-returns c = let l = c.before.before.before.before.loop in let f = fits _ l.at _ l.i (omega arith) l.invariant.1 in sym (span_here _ l.at _ l.i l.left f.two-left c.if1.true) ∙ l.invariant.2
+returns c = let l = c.before.before.before.before.loop in let f = fits _ l.at _ l.i (omega arith) l.invariant.1 in sym (span_here _ l.at _ l.i l.left f.two_left c.if1.true) ∙ l.invariant.2
 
 add-i : tie.Need-overflow-add-i invariant_loop decreases_loop
 add-i c = let l = c.before.before.before.before.loop in let f = fits _ l.at _ l.i (omega arith) l.invariant.1 in omega arith
@@ -57,7 +57,7 @@ loop_less : tie.Need-loop-smaller invariant_loop decreases_loop
 loop_less c = let l = c.before.before.before.before.loop in let f = fits _ l.at _ l.i (omega arith) l.invariant.1 in omega arith
 
 loop_again : tie.Need-loop-preserved invariant_loop decreases_loop
-loop_again c = let l = c.before.before.before.before.loop in let f = fits _ l.at _ l.i (omega arith) l.invariant.1 in (omega arith, f.more, sym (span_on _ l.at _ l.i l.left f.two-left c.if1.false) ∙ l.invariant.2)
+loop_again c = let l = c.before.before.before.before.loop in let f = fits _ l.at _ l.i (omega arith) l.invariant.1 in (omega arith, f.more, sym (span_on _ l.at _ l.i l.left f.two_left c.if1.false) ∙ l.invariant.2)
 
 returns-2 : tie.Need-returns-2 invariant_loop decreases_loop
 returns-2 c = let l = c.before.loop in sym (span_none _ l.at _ l.i l.left (omega arith)) ∙ l.invariant.2
