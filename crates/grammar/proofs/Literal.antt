@@ -96,3 +96,6 @@ tokens_from (node range_is (leaf o m₁ (leaf n m₂ (node up_to (leaf d m₃ (l
     ap₂ (λ a b. o ∷ n ∷ d ∷ e ∷ (a ++ b)) (tokens_from r (lifted (sg rsquare · ∎))) (tokens_from ts h)
 tokens_from (node range_is (leaf o m₁ (leaf n m₂ (node many_numbers vs r))) ts) (lifted_rule h) =
     ap₂ (λ a b. o ∷ n ∷ (a ++ b)) (ap₂ ◌++◌ (tokens_from vs (lifted (sg comma · number · numbers ▸ ∎))) (tokens_from r (lifted (sg rsquare · ∎)))) (tokens_from ts h)
+tokens_from (node {f = f} one_number us ts) h = elim h [ ]
+tokens_from (node {f = f} up_to us ts) h = elim h [ ]
+tokens_from (node {f = f} many_numbers us ts) h = elim h [ ]

@@ -64,3 +64,6 @@ from (node range_is (leaf o m₁ (leaf n m₂ (node up_to (leaf d m₃ (leaf e m
     node a_range (leaf o m₁ (leaf n m₂ (leaf d m₃ (leaf e m₄ (from r (lifted (sg rsquare · ∎))))))) (from ts h)
 from (node range_is (leaf o m₁ (leaf n m₂ (node many_numbers vs r))) ts) (lifted_rule h) =
     node a_list (leaf o m₁ (leaf n m₂ (node a_number (from vs (lifted (sg comma · number · numbers ▸ ∎))) (from r (lifted (sg rsquare · ∎)))))) (from ts h)
+from (node {f = f} one_number us ts) h = elim h [ ]
+from (node {f = f} up_to us ts) h = elim h [ ]
+from (node {f = f} many_numbers us ts) h = elim h [ ]

@@ -2,6 +2,7 @@
 // through every reader unchanged. Here are the readers of which no rows are kept; those of definitions, objects and statements are in the crates
 // `definitions`, `implementation`, `object_parts` and `walk`, which has the call `stage`.
 #![tactic(auto)]
+
 ghost use Rattle.std.specs.Prelude.{◌≡◌};
 ghost use Rattle.grammar.specs.Readers.{answer_of};
 

@@ -1,0 +1,12 @@
+use borrow.Author.Rules.{rules}
+use Rattle.grammar.proofs.Rules.{number_item, comma_less, numbers_again, numbers_done}
+use Rattle.grammar.proofs.Meeting.{still, Still}
+use Rattle.grammar.specs.Readers.{left}
+use Rattle.grammar.specs.Grammar.{numbers}
+use Rattle.grammar.proofs.parts.numbers.Given as goal
+
+abbrev pub invariant-loop-a : goal.invariant-loop-a
+invariant-loop-a l = Still numbers l.text l.initial.a l.a
+
+abbrev pub decreases-loop-a : goal.decreases-loop-a
+decreases-loop-a l = left l.text l.a
