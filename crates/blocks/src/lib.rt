@@ -1,5 +1,6 @@
 // The statements of a block, a range of the rows kept while a text is read.
 #![tactic(auto)]
+
 ghost use Rattle.std.specs.Prelude.{◌≡◌};
 ghost use Rattle.blocks.specs.Blocks.{row_after, FindsStated};
 

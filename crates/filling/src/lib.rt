@@ -1,5 +1,6 @@
 // What the walks have in common: rows put into a lent table, their counts, and spans of looks.
 #![tactic(auto)]
+
 ghost use Rattle.std.specs.Prelude.{◌≡◌, ◌+◌, ◌-◌, ◌*◌, min};
 ghost use Rattle.std.proofs.lemmas.List.Edits.{sets};
 

@@ -1,5 +1,6 @@
 // The thirteen kinds of objects: by number, the word, and the least and greatest count of each.
 #![tactic(auto)]
+
 ghost use Rattle.std.specs.Prelude.{◌≡◌, length};
 ghost use Rattle.meaning.specs.Kinds.{fewest, most};
 ghost use Rattle.kinds.specs.Kinds.{kind_of, kind_at, most_of, word_of, padded};

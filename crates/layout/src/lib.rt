@@ -2,6 +2,7 @@
 // kept while a text is read, or lent and filled in the end (docs/TABLES.md); a lent row has the first cells of the kept one. What the cells hold is
 // in specs/.
 #![tactic(auto)]
+
 pub mod definition;
 pub mod enumerator;
 pub mod object;

@@ -1,5 +1,6 @@
 // Values over the rows kept while a text is read: numbers and ranges, and the values that an attribute takes.
 #![tactic(auto)]
+
 pub mod bounds;
 pub mod floats;
 pub mod lookups;

@@ -18,7 +18,7 @@ use Rattle.token.proofs.Find.{by_test}
 use Rattle.sources.specs.Lines.{line_start, whole_to, named, line_by, line_of, hash_at, after_token, stop_n, stop_at}
 use Rattle.sources.specs.Texts.{told_well, find_from, find_name, include_by, include_of, event_by, event_at}
 use Rattle.sources.specs.Numbering.{span_from, span_of}
-use Rattle.sources.specs.Notes.{cell_for, packed, note_of, none_open_lem, open_by, event_back, Noted, ends, goes, AllNoted}
+use Rattle.sources.specs.Notes.{cell_for, packed, note_of, none_open, open_by, event_back, Noted, ends, goes, AllNoted}
 use Rattle.sources.specs.Promises.{AsksFrom, NotesText}
 use Rattle.sources.specs.declared.Name.{Name}
 use Rattle.sources.specs.declared.Name.TheVariants.{Is, Not}
@@ -153,7 +153,7 @@ abbrev reopened : List ℕ → Event → Event
 reopened o (Stops n q) = Stops n q
 reopened o (Includes i) = pick (eqb (get_or o i.number 0) 1) (Stops 27 i.hash) (Includes i)
 
-none_open_lem : (n : ℕ) → get_or none_open_lem n 0 ≡ 0
+none_open_lem : (n : ℕ) → get_or none_open n 0 ≡ 0
 none_open_lem zero = refl
 none_open_lem (suc zero) = refl
 none_open_lem (suc (suc zero)) = refl
@@ -164,18 +164,18 @@ none_open_lem (suc (suc (suc (suc (suc (suc zero)))))) = refl
 none_open_lem (suc (suc (suc (suc (suc (suc (suc zero))))))) = refl
 none_open_lem (suc (suc (suc (suc (suc (suc (suc (suc n)))))))) = refl
 
-hit_reopened : (o : List ℕ) (i : Line) (h : Hit) → include_by o i h ≡ reopened o (include_by none_open_lem i h)
+hit_reopened : (o : List ℕ) (i : Line) (h : Hit) → include_by o i h ≡ reopened o (include_by none_open i h)
 hit_reopened o i (Present n f t) =
     sym (ap (λ (m : ℕ). reopened o (pick (eqb m 1) (Stops 27 i.hash)
     (Includes (record { number = n; from = f; to = t; hash = i.hash; start = i.start; after = i.after })))) (none_open_lem n))
 hit_reopened o i Absent = refl
 
-stop_reopened : (b l s o : List ℕ) (x : Stop) → event_by b l s o x ≡ reopened o (event_by b l s none_open_lem x)
+stop_reopened : (b l s o : List ℕ) (x : Stop) → event_by b l s o x ≡ reopened o (event_by b l s none_open x)
 unfolding include_of
 stop_reopened b l s o (At n q) = refl
 stop_reopened b l s o (AtLine i) = hit_reopened o i (find_name b l (bytes_between s i.from i.to))
 
-event_reopened : (b l s o : List ℕ) (p : ℕ) → event_at b l s o p ≡ reopened o (event_at b l s none_open_lem p)
+event_reopened : (b l s o : List ℕ) (p : ℕ) → event_at b l s o p ≡ reopened o (event_at b l s none_open p)
 unfolding event_at
 event_reopened b l s o p = stop_reopened b l s o (stop_at s p)
 
@@ -198,26 +198,26 @@ module _ (b l t : List ℕ) (k : ℕ) (s o : List ℕ) where
   pub noted_event : (p : ℕ) → told_well b l ≡ true → length s ≤ 65535 → p ≤ length s → Noted b l t k s p →
       event_back l o (get_or t (cell_for k p) 0) ≡ event_at b l s o p
   noted_event p w h j (ends _ n q e g) =
-      let u : n ≤ 29 = subst LowEvent e (low_event b l s none_open_lem p) in
-      let v : (p ≤ q) × (q ≤ length s) = subst (EventOk b s p) e (event_ok b l s none_open_lem p w j) in
+      let u : n ≤ 29 = subst LowEvent e (low_event b l s none_open p) in
+      let v : (p ≤ q) × (q ≤ length s) = subst (EventOk b s p) e (event_ok b l s none_open p w j) in
       let v' = v.1 in
       ap (event_back l o) g ∙ back_stop l o n q (omega arith) (omega arith) ∙ sym (event_reopened b l s o p ∙ ap (reopened o) e)
   noted_event p w h j (goes _ i e g r) =
-      let v : IncludeFits b s p i = subst (EventOk b s p) e (event_ok b l s none_open_lem p w j) in
+      let v : IncludeFits b s p i = subst (EventOk b s p) e (event_ok b l s none_open p w j) in
       let f = v.hash in
       let a = v.after in
       let z = v.last in
       ap (event_back l o) g
-      ∙ back_line l o i v.number (omega arith) (omega arith) (omega arith) (subst (EventNumber l) e (event_number b l s none_open_lem p))
+      ∙ back_line l o i v.number (omega arith) (omega arith) (omega arith) (subst (EventNumber l) e (event_number b l s none_open p))
       ∙ sym (event_reopened b l s o p ∙ ap (reopened o) e)
 
-  not_line : (p n q : ℕ) (i : Include) → event_at b l s none_open_lem p ≡ Stops n q → event_at b l s o p ≡ Includes i → ⊥
+  not_line : (p n q : ℕ) (i : Include) → event_at b l s none_open p ≡ Stops n q → event_at b l s o p ≡ Includes i → ⊥
   not_line p n q i e f =
       let w : Stops n q ≡ Includes i = sym (event_reopened b l s o p ∙ ap (reopened o) e) ∙ f in
       let z : ◌≡◌ {A = ℕ} 0 1 = cc in
       omega arith
 
-  same_line : (p : ℕ) (j i : Include) → event_at b l s none_open_lem p ≡ Includes j → event_at b l s o p ≡ Includes i → j ≡ i
+  same_line : (p : ℕ) (j i : Include) → event_at b l s none_open p ≡ Includes j → event_at b l s o p ≡ Includes i → j ≡ i
   same_line p j i e f = by (eqb (get_or o j.number 0) 1) (sym (event_reopened b l s o p ∙ ap (reopened o) e) ∙ f)
     where
       by : (x : Bool) → pick x (Stops 27 j.hash) (Includes j) ≡ Includes i → j ≡ i
@@ -250,17 +250,17 @@ inner_asks b l t s o p i w a h e =
     record { short = span_length b l i.number i.number i.from i.to w z; inside = omega arith; noted = a.each i.number i.from i.to h z }
 
 module _ (b l s : List ℕ) (p : ℕ) (w : told_well b l ≡ true) (h : length s ≤ 65535) (j : p ≤ length s) where
-  pub stop_small : (n q : ℕ) → event_at b l s none_open_lem p ≡ Stops n q → (n ≤ 65535) × (q ≤ 65535)
+  pub stop_small : (n q : ℕ) → event_at b l s none_open p ≡ Stops n q → (n ≤ 65535) × (q ≤ 65535)
   stop_small n q e =
-      let u : n ≤ 29 = subst LowEvent e (low_event b l s none_open_lem p) in
-      let v : (p ≤ q) × (q ≤ length s) = subst (EventOk b s p) e (event_ok b l s none_open_lem p w j) in
+      let u : n ≤ 29 = subst LowEvent e (low_event b l s none_open p) in
+      let v : (p ≤ q) × (q ≤ length s) = subst (EventOk b s p) e (event_ok b l s none_open p w j) in
       let v' = v.1 in
       (omega arith, omega arith)
 
-  pub line_fits : (i : Include) → event_at b l s none_open_lem p ≡ Includes i → IncludeFits b s p i
-  line_fits i e = subst (EventOk b s p) e (event_ok b l s none_open_lem p w j)
+  pub line_fits : (i : Include) → event_at b l s none_open p ≡ Includes i → IncludeFits b s p i
+  line_fits i e = subst (EventOk b s p) e (event_ok b l s none_open p w j)
 
-  pub line_small : (i : Include) → event_at b l s none_open_lem p ≡ Includes i → (i.number ≤ 8) × ((i.start ≤ 65535) × ((i.hash ≤ 65535) × (i.after ≤ 65535)))
+  pub line_small : (i : Include) → event_at b l s none_open p ≡ Includes i → (i.number ≤ 8) × ((i.start ≤ 65535) × ((i.hash ≤ 65535) × (i.after ≤ 65535)))
   line_small i e =
       let v = line_fits i e in
       let n = v.number in
@@ -274,7 +274,7 @@ module _ (b l s : List ℕ) (p : ℕ) (w : told_well b l ≡ true) (h : length s
 -- from its start up to p
 pub data UpTo (b l t : List ℕ) (k : ℕ) (s : List ℕ) : ℕ → Type 0 where
   start : (p : ℕ) → p ≡ 0 → UpTo b l t k s p
-  next : (p q : ℕ) (i : Include) → event_at b l s none_open_lem p ≡ Includes i → get_or t (cell_for k p) 0 ≡ note_of (Includes i) → q ≡ i.after → p + 10 ≤ q →
+  next : (p q : ℕ) (i : Include) → event_at b l s none_open p ≡ Includes i → get_or t (cell_for k p) 0 ≡ note_of (Includes i) → q ≡ i.after → p + 10 ≤ q →
       UpTo b l t k s p → UpTo b l t k s q
 
 -- nothing below m is changed
@@ -323,11 +323,11 @@ module _ (b l s : List ℕ) (k : ℕ) (t₀ t : List ℕ) (p c v : ℕ) (room : 
   front : UpTo b l (set t c v) k s p
   front = up_to_set b l t k s c v p (omega arith) u
 
-  pub note_ends : (n q : ℕ) → event_at b l s none_open_lem p ≡ Stops n q → v ≡ packed 8 0 n q → NotesText b l s k t₀ (set t c v)
+  pub note_ends : (n q : ℕ) → event_at b l s none_open p ≡ Stops n q → v ≡ packed 8 0 n q → NotesText b l s k t₀ (set t c v)
   unfolding note_of
   note_ends n q e f = record { noted = up_to_noted b l (set t c v) k s p front (ends p n q e (here ∙ f)); kept = λ j h. kept.same j h }
 
-  pub note_goes : (i : Include) → event_at b l s none_open_lem p ≡ Includes i → v ≡ packed i.number i.start i.hash i.after → p + 10 ≤ i.after →
+  pub note_goes : (i : Include) → event_at b l s none_open p ≡ Includes i → v ≡ packed i.number i.start i.hash i.after → p + 10 ≤ i.after →
       UpTo b l (set t c v) k s i.after
   unfolding note_of
   note_goes i e f h = next p i.after i e (here ∙ f) refl h front
@@ -344,7 +344,7 @@ noted_kept b l t t' k s m p w h j e f (ends _ n q x y) =
     ends p n q x (f (cell_for k p) (omega arith) ∙ y)
 noted_kept b l t t' k s m p w h j e f (goes _ i x y r) =
     let c = cell_high k p (omega arith) in
-    let v : IncludeFits b s p i = subst (EventOk b s p) x (event_ok b l s none_open_lem p w j) in
+    let v : IncludeFits b s p i = subst (EventOk b s p) x (event_ok b l s none_open p w j) in
     goes p i x (f (cell_for k p) (omega arith) ∙ y) (noted_kept b l t t' k s m i.after w h v.last e f r)
 
 pub all_none : (b l t : List ℕ) → AllNoted b l t 0

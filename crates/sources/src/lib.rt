@@ -1,5 +1,6 @@
 // Includes: the lent texts, expanded into one text with the origin of each of its bytes. The reading of the texts is the reading of that text.
 #![tactic(auto)]
+
 ghost use Rattle.std.specs.Prelude.{◌≡◌, ◌+◌, ◌≤◌, true};
 ghost use Rattle.token.specs.Tokens.{part_of, part_place};
 ghost use Rattle.sources.specs.Lines.{name_at};

@@ -14,7 +14,7 @@ use Rattle.grammar.proofs.Uniqueness.{none≢some}
 use Rattle.rows.specs.declared.Fault.{Fault}
 use Rattle.rows.specs.declared.Found.{Found}
 use Rattle.rows.specs.declared.Found.TheVariants.{At, Nothing}
-use Rattle.rows.specs.Search.{was_found, row_of}
+use Rattle.rows.specs.Search.{is_found, row_of}
 use Rattle.meaning.specs.Syntax.{Word, Definitions, Defined, File}
 use Rattle.meaning.specs.Cells.{type_code}
 use Rattle.meaning.specs.Scopes.{find_definition}
@@ -91,7 +91,7 @@ module _ (g rs ws s d e : List ℕ) (m i j code list auto : ℕ) (q₁ : code �
 none_of : (o : Option Defined) → Nothing ≡ row_found o → o ≡ none
 unfolding row_found
 none_of none e = refl
-none_of (some x) e = absurd (false≢true (ap was_found e))
+none_of (some x) e = absurd (false≢true (ap is_found e))
 
 -- What a lookup that finds row j has found.
 record Hit (f : File) (ds : Definitions) (t : Word) (j : ℕ) : Type 0 where
@@ -102,7 +102,7 @@ record Hit (f : File) (ds : Definitions) (t : Word) (j : ℕ) : Type 0 where
 
 standing_row : {s : List ℕ} {f : File} {key : ℕ} {ds : Definitions} (t : Word) (j : ℕ) → Situation s f → ScopeAt f key ds → (o : Option Defined) → find_definition ds t ≡ o → At j ≡ row_found o → Hit f ds t j
 unfolding row_found find_definition row_of
-standing_row t j k sc none c e = absurd (false≢true (sym (ap was_found e)))
+standing_row t j k sc none c e = absurd (false≢true (sym (ap is_found e)))
 standing_row t j k no_scope (some y) c e = absurd (none≢some c)
 standing_row {f = f} {ds = ds} t j k (scope {u = u} h p) (some y) c e =
     let w : j ≡ y.definition.row = ap row_of e in

@@ -1,0 +1,8 @@
+use mathlib.Core.Path.{refl}
+use Rattle.sources.specs.Expanding.{origin}
+use borrow.Author.Rules.{rules}
+use Rattle.sources.proofs.filling.put.Goals as goal
+
+pub returns : goal.returns
+unfolding origin
+returns c = record { next = refl; bytes = c.store.ensures; origins = c.count_up.ensures }

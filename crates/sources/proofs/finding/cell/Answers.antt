@@ -1,0 +1,9 @@
+use mathlib.Core.Path.{sym}
+use native.Mathlib.Omega.{arith}
+use borrow.Author.Rules.{rules}
+use Rattle.rows.proofs.Starts.{cell_past}
+use borrow.Author.Rules.{rules}
+use Rattle.sources.proofs.finding.cell.Goals as goal
+
+pub returns-then-i-ge-TEXTS : goal.returns-then-i-ge-TEXTS
+returns-then-i-ge-TEXTS c = sym (cell_past c.args.marks c.args.i (omega arith))

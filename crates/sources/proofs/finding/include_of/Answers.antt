@@ -1,0 +1,17 @@
+use mathlib.Core.Path.{sym, ◌∙◌}
+use Rattle.sources.proofs.Events.{include_open, include_is, include_absent}
+use Rattle.sources.proofs.Tellings.{told}
+use borrow.Author.Rules.{rules}
+use Rattle.sources.proofs.finding.include_of.Goals as goal
+
+pub find_name-requires : goal.find_name-requires
+find_name-requires c = (told _ _ c.requires.told).fit
+
+pub returns-then-cell-eq1 : goal.returns-then-cell-eq1
+returns-then-cell-eq1 c = include_open _ _ _ _ _ _ _ _ _ (sym c.find_name.ensures ∙ c.in-Present.is) c.cell.ensures c.if-cell-eq1.true
+
+pub returns-else-cell-eq1 : goal.returns-else-cell-eq1
+returns-else-cell-eq1 c = include_is _ _ _ _ _ _ _ _ _ (sym c.find_name.ensures ∙ c.in-Present.is) c.cell.ensures c.if-cell-eq1.false
+
+pub returns-in-Absent : goal.returns-in-Absent
+returns-in-Absent c = include_absent _ _ _ _ _ (sym c.find_name.ensures ∙ c.in-Absent.is)

@@ -1,0 +1,17 @@
+use mathlib.Core.Path.{sym, ◌∙◌}
+use native.Mathlib.Omega.{arith}
+use Rattle.sources.proofs.Namings.{named_elsewhere, named_short, named_other, named_is}
+use borrow.Author.Rules.{rules}
+use Rattle.sources.proofs.lines.named.Goals as goal
+
+pub returns-then-before-hash : goal.returns-then-before-hash
+returns-then-before-hash c = named_elsewhere _ _ _ c.aside-before.ensures c.if-before-hash.true
+
+pub returns-then-line-hash-lt8 : goal.returns-then-line-hash-lt8
+returns-then-line-hash-lt8 c = named_short _ _ (omega arith)
+
+pub returns-then-same : goal.returns-then-same
+returns-then-same c = c.quoted.ensures ∙ named_is _ _ _ _ c.aside-before.ensures c.if-before-hash.false (sym c.same.ensures ∙ c.if-same.true) c.aside-at.ensures
+
+pub returns : goal.returns
+returns c = named_other _ _ (sym c.same.ensures ∙ c.if-same.false)

@@ -1,0 +1,15 @@
+use Prim.Native.Nat.{◌-◌}
+use mathlib.Core.Path.{◌≡◌, refl, sym, ◌∙◌}
+use lib.ListN.{length}
+use native.Mathlib.Omega.{arith}
+use borrow.Author.Rules.{rules}
+use Rattle.token.proofs.Steps.{found_fits, bad_fits}
+use Rattle.sources.specs.Lines.{stop_at}
+use Rattle.sources.proofs.Stops.{stop_found, stop_refused, stop_end}
+use Rattle.sources.proofs.lines.stop_at.Given as goal
+
+abbrev pub invariant-loop-next : goal.invariant-loop-next
+invariant-loop-next l = stop_at l.text l.cursor.at ≡ stop_at l.text l.from
+
+abbrev pub decreases-loop-next : goal.decreases-loop-next
+decreases-loop-next l = length l.text - l.cursor.at

@@ -1,0 +1,37 @@
+use Rattle.token.proofs.Bytes.{byte_low}
+use Rattle.sources.proofs.Namings.{byte_high, named_ok}
+use Rattle.sources.proofs.Stops.{line_low, name_past, name_there, name_none, length_between}
+use native.Mathlib.Omega.{arith}
+use mathlib.Core.Path.{sym, ◌∙◌}
+use borrow.Author.Rules.{rules}
+use Rattle.sources.proofs.name_at.Goals as goal
+
+pub returns-then-text-hash : goal.returns-then-text-hash
+returns-then-text-hash c = name_past _ _ (omega arith)
+
+pub slice_bounds-named-count : goal.slice_bounds-named-count
+slice_bounds-named-count c = omega (arith, line_low c.args.text.now c.args.hash, byte_low c.args.text.now c.args.hash 10)
+
+pub slice_bounds-named-start : goal.slice_bounds-named-start
+slice_bounds-named-start c = omega (arith, line_low c.args.text.now c.args.hash, byte_low c.args.text.now c.args.hash 10)
+
+pub slice_bounds-named-end : goal.slice_bounds-named-end
+slice_bounds-named-end c = omega (arith, byte_high 10 c.args.text.now c.args.hash (omega arith))
+
+pub overflow_sub-hash : goal.overflow_sub-hash
+overflow_sub-hash c = omega (arith, line_low c.args.text.now c.args.hash)
+
+pub named-requires : goal.named-requires
+named-requires c = let h = byte_high 10 c.args.text.now c.args.hash (omega arith) in let k = byte_low c.args.text.now c.args.hash 10 in let n = length_between c.args.text.now c.line_start-start.result c.find_byte-end.result (omega arith) in omega arith
+
+pub overflow_add-result : goal.overflow_add-result
+overflow_add-result c = let h = byte_high 10 c.args.text.now c.args.hash (omega arith) in let k = byte_low c.args.text.now c.args.hash 10 in let n = length_between c.args.text.now c.line_start-start.result c.find_byte-end.result (omega arith) in let o = named_ok _ _ _ _ (sym c.named.ensures ∙ c.in-Is.is) in omega arith
+
+pub overflow_add-result-in-Is : goal.overflow_add-result-in-Is
+overflow_add-result-in-Is c = let h = byte_high 10 c.args.text.now c.args.hash (omega arith) in let k = byte_low c.args.text.now c.args.hash 10 in let n = length_between c.args.text.now c.line_start-start.result c.find_byte-end.result (omega arith) in let o = named_ok _ _ _ _ (sym c.named.ensures ∙ c.in-Is.is) in omega arith
+
+pub returns-in-Is : goal.returns-in-Is
+returns-in-Is c = name_there _ _ _ _ _ _ (omega arith) c.line_start-start.ensures c.find_byte-end.ensures (sym c.named.ensures ∙ c.in-Is.is)
+
+pub returns-in-Not : goal.returns-in-Not
+returns-in-Not c = name_none _ _ _ _ (omega arith) c.line_start-start.ensures c.find_byte-end.ensures (sym c.named.ensures ∙ c.in-Not.is)

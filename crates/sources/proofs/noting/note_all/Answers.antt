@@ -1,0 +1,28 @@
+use native.Mathlib.Omega.{arith}
+use Rattle.sources.proofs.Notings.{all_none, all_eight}
+use Rattle.sources.specs.Notes.{AllNoted}
+use lib.ListN.{length}
+use mathlib.Core.Path.{◌≡◌, refl}
+use Prim.Native.Nat.{◌-◌, ◌≤◌}
+use Rattle.sources.proofs.noting.note_all.Goals as goal
+
+pub loop-number-init : goal.loop-number-init
+loop-number-init c = (omega arith, refl, all_none _ _ _)
+
+pub note_number-requires : goal.note_number-requires
+note_number-requires c = (c.requires.0, (omega arith, omega arith))
+
+pub overflow_add-number : goal.overflow_add-number
+overflow_add-number c = omega arith
+
+pub loop-number-smaller : goal.loop-number-smaller
+loop-number-smaller c = omega arith
+
+pub loop-number-preserved : goal.loop-number-preserved
+loop-number-preserved c = (omega arith, omega arith, c.note_number.ensures c.loop-number.invariant.2)
+
+pub shape_of-notes : goal.shape_of-notes
+shape_of-notes c = omega arith
+
+pub returns : goal.returns
+returns c = all_eight _ _ _ _ (omega arith) c.loop-number.invariant.2

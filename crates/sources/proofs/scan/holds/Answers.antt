@@ -1,0 +1,17 @@
+use Rattle.sources.proofs.Plains.{holds_none, holds_next, holds_all}
+use Rattle.sources.specs.Plain.{holds}
+use borrow.Author.Rules.{rules}
+use native.Mathlib.Omega.{arith}
+use lib.ListN.{length, take}
+use mathlib.Core.Path.{◌≡◌, ◌∙◌}
+use Prim.Native.Nat.{◌≤◌, ◌-◌}
+use Rattle.sources.proofs.scan.holds.Goals as goal
+
+pub loop-i-init : goal.loop-i-init
+loop-i-init c = (omega arith, holds_none _ c.args.text.now)
+
+pub loop-i-preserved : goal.loop-i-preserved
+loop-i-preserved c = (omega arith, holds_next _ _ c.loop-i.i c.loop-i.seen _ (omega arith) c.loop-i.invariant.1 c.either-seen.ensures)
+
+pub returns : goal.returns
+returns c = c.loop-i.invariant.1 ∙ holds_all _ _ c.loop-i.i (omega arith)

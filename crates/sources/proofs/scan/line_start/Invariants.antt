@@ -1,0 +1,12 @@
+use Prim.Native.Nat.{◌≤◌}
+use mathlib.Core.Path.{◌≡◌, refl, sym, ◌∙◌}
+use native.Mathlib.Omega.{arith}
+use Rattle.sources.specs.Lines.{line_start}
+use Rattle.sources.proofs.Singles.{line_here, line_back, line_first}
+use Rattle.sources.proofs.scan.line_start.Given as goal
+
+abbrev pub invariant-loop-i : goal.invariant-loop-i
+invariant-loop-i l = (l.i ≤ l.at) × (line_start l.text l.i ≡ line_start l.text l.at)
+
+abbrev pub decreases-loop-i : goal.decreases-loop-i
+decreases-loop-i l = l.i
