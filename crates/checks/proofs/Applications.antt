@@ -104,13 +104,13 @@ unfoldable is_lacking : List Object → Kind → Bool
 is_lacking os k = ltb (how_many k os) (fewest k)
 
 few_code : (ks : List Kind) (os : List Object) (cpu : Word) (i : ℕ)
-    → order.faultIf (is_found (table.first (is_lacking os) At Nothing i ks)) 17 cpu.place ≡ fault_of (first (too_few ks os cpu))
-unfolding table.first too_few is_lacking order.faultIf faults_if fault_of first sooner
+    → order.fault_if (is_found (table.first (is_lacking os) At Nothing i ks)) 17 cpu.place ≡ fault_of (first (too_few ks os cpu))
+unfolding table.first too_few is_lacking order.fault_if faults_if fault_of first sooner
 few_code [] os cpu i = refl
 few_code (k ∷ ks) os cpu i = by (ltb (how_many k os) (fewest k)) (few_code ks os cpu (suc i))
   where
-    by : (b : Bool) → order.faultIf (is_found (table.first (is_lacking os) At Nothing (suc i) ks)) 17 cpu.place ≡ fault_of (first (too_few ks os cpu))
-        → order.faultIf (is_found (pick b (At i) (table.first (is_lacking os) At Nothing (suc i) ks))) 17 cpu.place ≡ fault_of (first (faults_if b cpu 17 ++ too_few ks os cpu))
+    by : (b : Bool) → order.fault_if (is_found (table.first (is_lacking os) At Nothing (suc i) ks)) 17 cpu.place ≡ fault_of (first (too_few ks os cpu))
+        → order.fault_if (is_found (pick b (At i) (table.first (is_lacking os) At Nothing (suc i) ks))) 17 cpu.place ≡ fault_of (first (faults_if b cpu 17 ++ too_few ks os cpu))
     by true e = sym (ap fault_of (only_first (record { place = cpu.place; number = 17 }) (too_few ks os cpu) (λ g m. few_all ks os cpu m)))
     by false e = e
 
@@ -123,9 +123,9 @@ lacking_is os =
     (ap (λ (l : List Kind). get_or l (length a) NM) e ∙ get_at a x b NM))
 
 pub too_few_is : (os : List Object) (cpu : Word) (cs : List ℕ) (p : ℕ) → cs ≡ counts os → p ≡ cpu.place
-    → order.faultIf (is_found (lacking_from cs 0)) 17 p ≡ fault_of (first (too_few kinds os cpu))
+    → order.fault_if (is_found (lacking_from cs 0)) 17 p ≡ fault_of (first (too_few kinds os cpu))
 too_few_is os cpu cs p e h =
-    ap₂ (λ (l : List ℕ) (q : ℕ). order.faultIf (is_found (lacking_from l 0)) 17 q) e h ∙ ap (λ (x : Found). order.faultIf (is_found x) 17 cpu.place) (lacking_is os) ∙ few_code kinds os cpu 0
+    ap₂ (λ (l : List ℕ) (q : ℕ). order.fault_if (is_found (lacking_from l 0)) 17 q) e h ∙ ap (λ (x : Found). order.fault_if (is_found x) 17 cpu.place) (lacking_is os) ∙ few_code kinds os cpu 0
 
 -- Objects begun by parts -----------------------------------------------------------------------------------------------------------------------
 
@@ -249,7 +249,7 @@ module _ {s p x : List ℕ} {n : ℕ} {f : File} (N : Noted s p x n f) {j : ℕ}
 
   -- and the first part of an object is one more.
   pub met_new : {number place : ℕ} {a b c r : Code} {more : List ℕ} → get_or x j 0 ≡ j → number ≡ get_or p (j * 10 + 0) 0 → place ≡ get_or p (j * 10 + 1) 0
-      → a ≡ order.faultIf (eqb k 256) 11 place → b ≡ order.faultIf (full_of (most_of (most (kind_at number))) (get_or cs number 0)) 17 place → c ≡ order.sooner a b
+      → a ≡ order.fault_if (eqb k 256) 11 place → b ≡ order.fault_if (full_of (most_of (most (kind_at number))) (get_or cs number 0)) 17 place → c ≡ order.sooner a b
       → r ≡ order.sooner best c → more ≡ one_more cs number → Met f (j + 1) r (k + 1) more
   met_new {number} {place} {a} {b} {c} {r} {more} g e₁ e₂ e₃ e₄ e₅ e₆ e₇ =
       let z = after.part in
@@ -267,11 +267,11 @@ module _ {s p x : List ℕ} {n : ℕ} {f : File} (N : Noted s p x n f) {j : ℕ}
       let hm : get_or cs number 0 ≡ how_many z.kind os =
       ap₂ (λ (c : List ℕ) (i : ℕ). get_or c i 0) ct kd ∙ sym (cell os (kind_number z.kind) (let i = kind_low z.kind in omega arith)) ∙ alike z.kind os in
       let b' : b ≡ fault_of (first (faults_if (full (most z.kind) (how_many z.kind os)) z.word 17)) =
-      e₄ ∙ ap₂ (λ (i m : ℕ). order.faultIf (full_of (most_of (most (kind_at i))) m) 17 place) kd hm
-      ∙ ap (λ (d : Kind). order.faultIf (full_of (most_of (most d)) (how_many z.kind os)) 17 place) (kind_at_number z.kind)
-      ∙ ap₂ (λ (t : Bool) (i : ℕ). order.faultIf t 17 i) (full_most (most z.kind) (how_many z.kind os)) wd
+      e₄ ∙ ap₂ (λ (i m : ℕ). order.fault_if (full_of (most_of (most (kind_at i))) m) 17 place) kd hm
+      ∙ ap (λ (d : Kind). order.fault_if (full_of (most_of (most d)) (how_many z.kind os)) 17 place) (kind_at_number z.kind)
+      ∙ ap₂ (λ (t : Bool) (i : ℕ). order.fault_if t 17 i) (full_most (most z.kind) (how_many z.kind os)) wd
       ∙ sym (fault_one (full (most z.kind) (how_many z.kind os)) z.word 17) in
-      let a' : a ≡ fault_of (first (faults_if (eqb k 256) z.word 11)) = e₃ ∙ ap (order.faultIf (eqb k 256) 11) wd ∙ sym (fault_one (eqb k 256) z.word 11) in
+      let a' : a ≡ fault_of (first (faults_if (eqb k 256) z.word 11)) = e₃ ∙ ap (order.fault_if (eqb k 256) 11) wd ∙ sym (fault_one (eqb k 256) z.word 11) in
       let c' : c ≡ fault_of (first (own_faults os k z)) = e₅ ∙ own_code os k z a b a' b' in
       let ln = length-append os (y ∷ []) in
       record {
@@ -834,7 +834,7 @@ none_left_over (x ∷ l) h = absurd (omega arith)
 
 -- The five parts, joined.
 pub objects_answer : (s p st x xn : List ℕ) (n m : ℕ) (cs : List ℕ) (cpu l : ℕ) (a b c d v y w z : Code) (r u : Checked)
-    → a ≡ order.faultIf (is_found (lacking_from cs 0)) 17 cpu → l ≡ min n 513 → ChecksParts p x l u → b ≡ u.fault → c ≡ room_fault p 10 512 1 n 11 → d ≡ room_fault st 7 2048 0 m 11
+    → a ≡ order.fault_if (is_found (lacking_from cs 0)) 17 cpu → l ≡ min n 513 → ChecksParts p x l u → b ≡ u.fault → c ≡ room_fault p 10 512 1 n 11 → d ≡ room_fault st 7 2048 0 m 11
     → y ≡ order.sooner c d → FirstRows (length p) s p l xn → NameFault p xn l v → w ≡ order.sooner y v → z ≡ order.sooner b w → r.fault ≡ order.sooner a z → r.objects ≡ u.objects → r.counts ≡ u.counts
     → ObjectFaults s p st x n m cs cpu r
 unfolding found

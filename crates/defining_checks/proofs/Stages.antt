@@ -84,11 +84,11 @@ again_is (x ∷ xs) before lo hi r z =
     let m = again_more lo x (again_faults (before ++ (x ∷ [])) xs) q (specified x before) z i a.is (⊎_elim (λ j. inl j) (λ j. inr (omega (arith, l, j))) a.behind) in
     record { is = m.0; behind = m.1 }
 
-option_code : (p : ℕ) → fault_of (again_option p) ≡ order.faultIf (not (eqb p 0)) 8 p
-unfolding again_option fault_of order.faultIf
+option_code : (p : ℕ) → fault_of (again_option p) ≡ order.fault_if (not (eqb p 0)) 8 p
+unfolding again_option fault_of order.fault_if
 option_code p = by (eqb p 0)
   where
-    by : (b : Bool) → fault_of (pick b none (some (record { place = p; number = 8 }))) ≡ order.faultIf (not b) 8 p
+    by : (b : Bool) → fault_of (pick b none (some (record { place = p; number = 8 }))) ≡ order.fault_if (not b) 8 p
     by true = refl
     by false = refl
 
@@ -130,7 +130,7 @@ real_again before (x ∷ xs) = real_append (faults_if (specified x before) x.wor
 pub stage_is : {s : List ℕ} (f : File) (m : ℕ) (full : Bool) (limit : ℕ) (E₀ E₁ : List Entry) (C₀ C₁ : List Choice) (again : ℕ) (v a r c : Code) → Situation s f
     → Room f m full limit → spec_entries f.specs ≡ E₀ ++ E₁ → length E₀ ≡ min (length (spec_entries f.specs)) 513
     → spec_choices f.specs ≡ C₀ ++ C₁ → length C₀ ≡ min (length (spec_choices f.specs)) 1025 → again ≡ again_place [] f.specs
-    → v ≡ order.faultIf (not (same f.version.bytes (bytes_of "\"2.5\""))) 6 f.version.place → a ≡ order.faultIf (not (eqb again 0)) 8 again
+    → v ≡ order.fault_if (not (same f.version.bytes (bytes_of "\"2.5\""))) 6 f.version.place → a ≡ order.fault_if (not (eqb again 0)) 8 again
     → r ≡ fault_of (first (each (kept_row_faults full limit) [] E₀)) → c ≡ fault_of (first (each choice_faults [] C₀))
     → order.sooner v (order.sooner a (order.sooner r c)) ≡ fault_of (first (definition_faults f))
 unfolding definition_faults
@@ -153,6 +153,6 @@ stage_is {s} f m full limit E₀ E₁ C₀ C₁ again v a r c k room wE nE wC nC
     let rR = real_each (kept_row_faults full limit) (real_row full limit) [] E₀ in
     let rK = real_each choice_faults real_choice [] C₀ in
     let hV : v ≡ fault_of (first W) = hv ∙ sym (fault_one (not (same f.version.bytes (bytes_of "\"2.5\""))) f.version 6) in
-    let hA : a ≡ fault_of (first A) = ha ∙ ap (λ (p : ℕ). order.faultIf (not (eqb p 0)) 8 p) ea ∙ sym (option_code (again_place [] f.specs)) ∙ ap fault_of (sym g.is) in
+    let hA : a ≡ fault_of (first A) = ha ∙ ap (λ (p : ℕ). order.fault_if (not (eqb p 0)) 8 p) ea ∙ sym (option_code (again_place [] f.specs)) ∙ ap fault_of (sym g.is) in
     sym (ap fault_of e₂ ∙ fault_append W (A ++ (R ++ K)) rV (real_append A (R ++ K) rA (real_append R K rR rK))
     ∙ ap₂ order.sooner (sym hV) (fault_append A (R ++ K) rA (real_append R K rR rK) ∙ ap₂ order.sooner (sym hA) (fault_append R K rR rK ∙ ap₂ order.sooner (sym hr) (sym hc))))

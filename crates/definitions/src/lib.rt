@@ -1,6 +1,7 @@
 // The walk of the implementation: it reads the definitions of a kind and puts a row for each definition and each enumerator, in the order of
 // their names.
 #![tactic(auto)]
+
 ghost use Rattle.std.specs.Prelude.{◌≡◌};
 ghost use Rattle.grammar.specs.Grammar.{◌▸◌, ∎, P, enumerator, definition, definitions};
 ghost use Rattle.filling.specs.Fills.{Walks};

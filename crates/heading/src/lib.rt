@@ -1,5 +1,6 @@
 // The version string and the implementation's name of a text, told from its front alone (document 02, Q-7). No tables are lent.
 #![tactic(auto)]
+
 ghost use Rattle.heading.specs.Headings.{Heads};
 ghost use Rattle.heading.specs.Promises.{Q-7};
 

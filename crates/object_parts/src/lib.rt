@@ -1,5 +1,6 @@
 // The walk of the application: it reads the parts of objects and puts a row for each part and each statement, in text order.
 #![tactic(auto)]
+
 ghost use Rattle.std.specs.Prelude.{◌≡◌, replicate};
 ghost use Rattle.grammar.specs.Grammar.{◌▸◌, ∎, block, value, statement, statements, object, objects};
 ghost use Rattle.filling.specs.Fills.{Walks};

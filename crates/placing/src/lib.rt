@@ -1,5 +1,6 @@
 // Places of the expanded text become places of the lent texts, in the rows of the lent tables and in refusals.
 #![tactic(auto)]
+
 ghost use Rattle.std.specs.Prelude.{◌≡◌, [], ◌∷◌, ◌≤◌};
 ghost use Rattle.token.specs.Find.{pick};
 ghost use Rattle.placing.specs.Placed.{place_in, is_at_start};

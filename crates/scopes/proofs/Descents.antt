@@ -243,7 +243,7 @@ whole_tree s t e =
       order = syntax_order s t o;
       facts = record {
         deep = scopes s t o;
-        lists = lists.deep-specs f.specs 1 b.hi s (spec_choices f.specs) [] refl b.run n.0.1 (spec_good s f g) (λ x p q. tt);
+        lists = lists.deep_specs f.specs 1 b.hi s (spec_choices f.specs) [] refl b.run n.0.1 (spec_good s f g) (λ x p q. tt);
         formed = formed s t c;
         good = spec_good s f g;
         within = record { front = []; rest = []; whole = sym (append-nil (spec_entries f.specs)) };

@@ -36,6 +36,7 @@ has_none m = has_some m refl
 pub has_left : {g : Fault} (a b : List Fault) → Has g a → Has g (a ++ b)
 has_left (f ∷ a) b (here e) = here e
 has_left (f ∷ a) b (there m) = there (has_left a b m)
+has_left {g = g} [] b x' = elim x' [ ]
 
 pub has_right : {g : Fault} (a b : List Fault) → Has g b → Has g (a ++ b)
 has_right [] b m = m
@@ -166,21 +167,21 @@ pick_code a b x y false e = sym (orders.sooner_second (code a) (code b) (before_
 
 join_options : (o r : Option Fault) → Positive o → Positive r → fault_of (sooner o r) ≡ order.sooner (fault_of o) (fault_of r)
 unfolding sooner fault_of code
-join_options none r p q = sym (orders.none-sooner (fault_of r))
-join_options (some a) none p q = sym (orders.sooner-none (code a))
+join_options none r p q = sym (orders.none_sooner (fault_of r))
+join_options (some a) none p q = sym (orders.sooner_none (code a))
 join_options (some a) (some b) p q = pick_code a b p q (ahead a b) refl
 
 -- The struct of two lists is the sooner of their structs.
 pub fault_append : (a b : List Fault) → Real a → Real b → fault_of (first (a ++ b)) ≡ order.sooner (fault_of (first a)) (fault_of (first b))
 fault_append a b p q = ap fault_of (first_append a b) ∙ join_options (first a) (first b) (by_least a (first a) (first_least a) p) (by_least b (first b) (first_least b) q)
 
-pub fault_one : (b : Bool) (t : Word) (n : ℕ) → fault_of (first (faults_if b t n)) ≡ order.faultIf b n t.place
-unfolding faults_if first sooner fault_of order.faultIf
+pub fault_one : (b : Bool) (t : Word) (n : ℕ) → fault_of (first (faults_if b t n)) ≡ order.fault_if b n t.place
+unfolding faults_if first sooner fault_of order.fault_if
 fault_one true t n = refl
 fault_one false t n = refl
 
-pub fault_at : (b : Bool) (t : Word) (n p : ℕ) → t.place ≡ p → order.faultIf b n p ≡ fault_of (first (faults_if b t n))
-fault_at b t n p e = ap (order.faultIf b n) (sym e) ∙ sym (fault_one b t n)
+pub fault_at : (b : Bool) (t : Word) (n p : ℕ) → t.place ≡ p → order.fault_if b n p ≡ fault_of (first (faults_if b t n))
+fault_at b t n p e = ap (order.fault_if b n) (sym e) ∙ sym (fault_one b t n)
 
 -- A struct of number 0 is none.
 pub none_there : (o : Option Fault) → NumberedOne o → (fault_of o).number ≡ 0 → o ≡ none

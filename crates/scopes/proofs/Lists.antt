@@ -152,6 +152,7 @@ own_in s (value w e us vs) C A B lo hi at_least_one q r c f g h = record {
       ap (first_one (is_choice s key at len)) q
       ∙ one_append (is_choice s key at len) A (choices_of (value w e us vs) true key ++ B) (none_chosen s key at len A f)
       ∙ own_words s key at len t z (value w e us vs) B key hi (omega arith, r.1) (omega arith) h g;
+own_in s no_value C A B lo hi x7 q r c f g h = elim x7 [ ]
 }
 
 -- So it is for every ENUM, at any depth.
@@ -183,6 +184,7 @@ key_next (value w e us vs) key lo hi r h = let a = r.0 in omega arith
 own_free : (vs : Values) → Some vs → (lo hi : ℕ) → Run lo (value_words vs) hi → (l : List Choice) → ((x : ℕ) → lo ≤ x → x < hi → NoneOf x l) → NoneOf (list_key vs) l
 unfolding list_key value_words
 own_free (value w e us vs) at_least_one lo hi r l f = let a = run_le (definition_words us ++ value_words vs) r.1 in f w.place r.0 (omega arith)
+own_free no_value x3 lo hi r l f = elim x3 [ ]
 
 mutual
   unfolding choices definition_words enumerator_numbers

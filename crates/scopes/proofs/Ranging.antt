@@ -211,14 +211,14 @@ module _ (s : List ℕ) (p : ℕ) where
       unfolding in_bounds
       in_two y c r t v q u w b d =
           let x = two y b t v d in
-          w ∙ ap (num_at_most n) x.high-number
-          ∙ sym (ap (in_bounds n) x.bounds ∙ ap (λ f. both f (num_at_most n x.high.number)) (ap (λ m. num_at_most m n) (sym x.low-number) ∙ sym q ∙ u))
+          w ∙ ap (num_at_most n) x.high_number
+          ∙ sym (ap (in_bounds n) x.bounds ∙ ap (λ f. both f (num_at_most n x.high.number)) (ap (λ m. num_at_most m n) (sym x.low_number) ∙ sym q ∙ u))
 
       pub below_two : (y : Item) (c : Bool) → z.sign ≡ 46 → y ≡ item_at s z.next → c ≡ num_at_most (num a.number) n → c ≡ false → InRange s p n false
       unfolding in_bounds
       below_two y c t v q u b d =
           let x = two y b t v d in
-          sym (ap (in_bounds n) x.bounds ∙ ap (λ f. both f (num_at_most n x.high.number)) (ap (λ m. num_at_most m n) (sym x.low-number) ∙ sym q ∙ u))
+          sym (ap (in_bounds n) x.bounds ∙ ap (λ f. both f (num_at_most n x.high.number)) (ap (λ m. num_at_most m n) (sym x.low_number) ∙ sym q ∙ u))
 
       module _ (t : z.sign ≡ 46 → ⊥) (c : Bool) (q : c ≡ equal n (num a.number)) where
         pub in_first : c ≡ true → InRange s p n true
@@ -386,7 +386,7 @@ module _ (s : List ℕ) (i : Integer) (p : ℕ) where
           let x = two s p h o a z e g k y b t v d in
           ap (λ (n : ℕ). record { number = 21; place = n }) x.low-place
           ∙ sym (ap (λ b. fault_of (first (bound_faults i b))) x.bounds
-          ∙ ap fault_of (two_crossed i x.low x.high x.order (sym (ap₂ num_at_most x.low-number x.high-number) ∙ sym q ∙ u)))
+          ∙ ap fault_of (two_crossed i x.low x.high x.order (sym (ap₂ num_at_most x.low_number x.high_number) ∙ sym q ∙ u)))
 
       module _ (u : c ≡ true) (c₁ : Bool) (q₁ : c₁ ≡ in_type i (num a.number)) where
         pub bound-low : c₁ ≡ false → BoundFault s i p (record { number = 21; place = a.at })
@@ -396,17 +396,17 @@ module _ (s : List ℕ) (i : Integer) (p : ℕ) where
             let w = x.order in
             ap (λ (n : ℕ). record { number = 21; place = n }) x.low-place
             ∙ sym (ap (λ b. fault_of (first (bound_faults i b))) x.bounds
-            ∙ ap fault_of (two_straight i x.low x.high x.order (sym (ap₂ num_at_most x.low-number x.high-number) ∙ sym q ∙ u)
-            ∙ first_out i x.low (x.high ∷ []) (omega arith, tt) (ap (in_type i) (sym x.low-number) ∙ sym q₁ ∙ u₁)))
+            ∙ ap fault_of (two_straight i x.low x.high x.order (sym (ap₂ num_at_most x.low_number x.high_number) ∙ sym q ∙ u)
+            ∙ first_out i x.low (x.high ∷ []) (omega arith, tt) (ap (in_type i) (sym x.low_number) ∙ sym q₁ ∙ u₁)))
 
         pub bound-high : (c₂ : Bool) (r : Fault) → c₁ ≡ true → c₂ ≡ in_type i (num y.number) → r ≡ fault_if (not c₂) 21 y.at → BoundFault s i p r
         bound-high c₂ r u₁ q₂ f b d =
             let x = two s p h o a z e g k y b t v d in
             f ∙ fault_if_is (not c₂) x.high y.at x.high-place
             ∙ sym (ap (λ b. fault_of (first (bound_faults i b))) x.bounds
-            ∙ ap fault_of (two_straight i x.low x.high x.order (sym (ap₂ num_at_most x.low-number x.high-number) ∙ sym q ∙ u)
-            ∙ first_in i x.low (x.high ∷ []) (ap (in_type i) (sym x.low-number) ∙ sym q₁ ∙ u₁)
-            ∙ high_fault i x.low x.high x.order c₂ (ap (in_type i) (sym x.high-number) ∙ sym q₂)))
+            ∙ ap fault_of (two_straight i x.low x.high x.order (sym (ap₂ num_at_most x.low_number x.high_number) ∙ sym q ∙ u)
+            ∙ first_in i x.low (x.high ∷ []) (ap (in_type i) (sym x.low_number) ∙ sym q₁ ∙ u₁)
+            ∙ high_fault i x.low x.high x.order c₂ (ap (in_type i) (sym x.high_number) ∙ sym q₂)))
 
     module _ (t : z.sign ≡ 46 → ⊥) (c : Bool) (q : c ≡ in_type i (num a.number)) where
       pub bound-first : c ≡ false → BoundFault s i p (record { number = 21; place = a.at })

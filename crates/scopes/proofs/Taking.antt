@@ -158,6 +158,8 @@ module _ (s : List ℕ) (n at len : ℕ) (t : Word) (q : t.bytes ≡ part_of s a
   unfolding list_key truth_cells find_value place_found value_words
   first_truth no_value no_truths g a b e h k = e
   first_truth (value w i us (value v j ws no_value)) both_truths g a b e h k = e ∙ sym (ap (λ c. place_found (pick c (some (record { word = w; number = i; definitions = us })) (find_value (value v j ws no_value) t))) (truth_is w a b true g.0 e h k))
+  first_truth (value w i us no_value) x7 g a b e h k = elim x7 [ ]
+  first_truth (value w i us (value v j ws (value _ _ _ _))) x14 g a b e h k = elim x14 [ ]
 
   second_truth : (vs : Values) → Truths vs → Goods s (value_words vs) → (a b a₂ b₂ : ℕ) → a ≡ list_key vs → b ≡ get_or (truth_cells false vs ++ (n ∷ [])) 0 0
       → a₂ ≡ get_or (truth_cells false vs ++ (n ∷ [])) 1 0 → b₂ ≡ get_or (truth_cells false vs ++ (n ∷ [])) 2 0
@@ -167,6 +169,8 @@ module _ (s : List ℕ) (n at len : ℕ) (t : Word) (q : t.bytes ≡ part_of s a
   second_truth (value w i us (value v j ws no_value)) both_truths g a b a₂ b₂ e h e₂ h₂ k k₂ =
       e₂ ∙ sym (ap (λ c. place_found (pick c (some (record { word = w; number = i; definitions = us })) (find_value (value v j ws no_value) t))) (truth_is w a b false g.0 e h k)
       ∙ ap (λ c. place_found (pick c (some (record { word = v; number = j; definitions = ws })) none)) (truth_is v a₂ b₂ true (good_back s (definition_words us) (value_words (value v j ws no_value)) g.1).0 e₂ h₂ k₂))
+  second_truth (value w i us no_value) x10 g a b a₂ b₂ e h e₂ h₂ k k₂ = elim x10 [ ]
+  second_truth (value w i us (value v j ws (value _ _ _ _))) x17 g a b a₂ b₂ e h e₂ h₂ k k₂ = elim x17 [ ]
 
   no_truth : (vs : Values) → Truths vs → Goods s (value_words vs) → (a b a₂ b₂ : ℕ) → a ≡ list_key vs → b ≡ get_or (truth_cells false vs ++ (n ∷ [])) 0 0
       → a₂ ≡ get_or (truth_cells false vs ++ (n ∷ [])) 1 0 → b₂ ≡ get_or (truth_cells false vs ++ (n ∷ [])) 2 0
@@ -176,6 +180,8 @@ module _ (s : List ℕ) (n at len : ℕ) (t : Word) (q : t.bytes ≡ part_of s a
   no_truth (value w i us (value v j ws no_value)) both_truths g a b a₂ b₂ e h e₂ h₂ k k₂ =
       sym (ap (λ c. place_found (pick c (some (record { word = w; number = i; definitions = us })) (find_value (value v j ws no_value) t))) (truth_is w a b false g.0 e h k)
       ∙ ap (λ c. place_found (pick c (some (record { word = v; number = j; definitions = ws })) none)) (truth_is v a₂ b₂ false (good_back s (definition_words us) (value_words (value v j ws no_value)) g.1).0 e₂ h₂ k₂))
+  no_truth (value w i us no_value) x10 g a b a₂ b₂ e h e₂ h₂ k k₂ = elim x10 [ ]
+  no_truth (value w i us (value v j ws (value _ _ _ _))) x17 g a b a₂ b₂ e h e₂ h₂ k k₂ = elim x17 [ ]
 
 not_enum : (y : AttributeType) → y ≡ boolean → is_enum y ≡ false
 unfolding is_enum

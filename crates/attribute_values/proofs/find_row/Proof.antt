@@ -17,13 +17,13 @@ enum_told : tie.Need-enum-told
 enum_told c = search rules
 
 returns : tie.Need-returns
-returns c = row_nothing _ _ _ _ _ _ _ _ _ _ c.before.before.find-object.ensures (c.enum_told.given.1)
+returns c = row_nothing _ _ _ _ _ _ _ _ _ _ c.before.before.find_object.ensures (c.enum_told.given.1)
 
 find-value-requires : tie.Need-find-value-requires
 find-value-requires c κs = search rules
 
 returns-2 : tie.Need-returns-2
-returns-2 c = row_found _ _ _ _ _ _ _ _ _ _ c.before.before.before.before.find-object.ensures _ (c.before.before.row.given.1) _ c.find-value.ensures
+returns-2 c = row_found _ _ _ _ _ _ _ _ _ _ c.before.before.before.before.find_object.ensures _ (c.before.before.row.given.1) _ c.find_value.ensures
 
 pub find-row-spec : {M : Type 1} → statement M
 find-row-spec =

@@ -10,10 +10,10 @@ use Rattle.causes.proofs.find_named.Reads as reads
 use Rattle.causes.proofs.find_named.Lts as lts
 use Rattle.causes.proofs.is_named.Reads as is-named-reads
 
-abbrev invariant_loop : tie.invariant-loop
+abbrev invariant_loop : tie.invariant_loop
 invariant_loop text t width rows column key name at len i₀ i = find_named text t width rows column key name at len i ≡ find_named text t width rows column key name at len 0
 
-abbrev decreases_loop : tie.decreases-loop
+abbrev decreases_loop : tie.decreases_loop
 decreases_loop text t width rows column key name at len i₀ i = rows - i
 
 loop_holds : tie.Need-loop-init invariant_loop decreases_loop

@@ -33,7 +33,7 @@ first-like-requires : tie.Need-first-like-requires
 first-like-requires c κs = search rules
 
 returns : tie.Need-returns
-returns c = tells_defined _ _ _ c.before.before.before.before.before.before.before.walk.ensures _ _ _ c.before.before.least-of.ensures c.first-like.ensures
+returns c = tells_defined _ _ _ c.before.before.before.before.before.before.before.walk.ensures _ _ _ c.before.before.least_of.ensures c.first_like.ensures
 
 pub first-defined-spec : {M : Type 1} → statement M
 first-defined-spec =

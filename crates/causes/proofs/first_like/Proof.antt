@@ -20,7 +20,7 @@ enum_told : tie.Need-enum-told
 enum_told c = search rules
 
 returns : tie.Need-returns
-returns c = like_none _ _ _ _ _ _ _ (sym c.before.before.find-row.ensures ∙ c.enum_told.given.1)
+returns c = like_none _ _ _ _ _ _ _ (sym c.before.before.find_row.ensures ∙ c.enum_told.given.1)
 
 cell-of-requires : tie.Need-cell-of-requires
 cell-of-requires c κs = search rules
@@ -41,13 +41,13 @@ enum-told-2 : tie.Need-enum-told-2
 enum-told-2 c = search rules
 
 returns-2 : tie.Need-returns-2
-returns-2 c = like_first _ _ _ _ _ _ _ _ _ _ _ (sym c.before.before.before.before.before.before.before.before.before.find-row.ensures ∙ c.before.before.before.before.before.before.before.j.given.1) c.before.before.before.before.before.cell-of.ensures c.before.before.before.before.place_after.ensures c.before.before.before.cell-of2.ensures (sym c.before.before.find-named.ensures ∙ c.enum-told2.given.1)
+returns-2 c = like_first _ _ _ _ _ _ _ _ _ _ _ (sym c.before.before.before.before.before.before.before.before.before.find-row.ensures ∙ c.before.before.before.before.before.before.before.j.given.1) c.before.before.before.before.before.cell-of.ensures c.before.before.before.before.place_after.ensures c.before.before.before.cell-of2.ensures (sym c.before.before.find_named.ensures ∙ c.enum-told2.given.1)
 
 cell-of-requires-3 : tie.Need-cell-of-requires-3
 cell-of-requires-3 c κs = search rules
 
 returns-3 : tie.Need-returns-3
-returns-3 c = like_found _ _ _ _ _ _ _ _ _ _ _ (sym c.before.before.before.before.before.before.before.before.before.before.before.find-row.ensures ∙ c.before.before.before.before.before.before.before.before.before.j.given.1) c.before.before.before.before.before.before.before.cell-of.ensures c.before.before.before.before.before.before.place_after.ensures c.before.before.before.before.before.cell-of2.ensures _ _ (sym c.before.before.before.before.find-named.ensures ∙ c.before.before.i.given.1) c.cell-of3.ensures
+returns-3 c = like_found _ _ _ _ _ _ _ _ _ _ _ (sym c.before.before.before.before.before.before.before.before.before.before.before.find-row.ensures ∙ c.before.before.before.before.before.before.before.before.before.j.given.1) c.before.before.before.before.before.before.before.cell-of.ensures c.before.before.before.before.before.before.place_after.ensures c.before.before.before.before.before.cell-of2.ensures _ _ (sym c.before.before.before.before.find_named.ensures ∙ c.before.before.i.given.1) c.cell-of3.ensures
 
 pub first-like-spec : {M : Type 1} → statement M
 first-like-spec =

@@ -8,10 +8,10 @@ use Rattle.console.proofs.plain_end.Reads as reads
 use Rattle.console.proofs.plain_end.Lts as lts
 use Rattle.console.proofs.is_plain.Reads as is-plain-reads
 
-abbrev invariant_loop : tie.invariant-loop
+abbrev invariant_loop : tie.invariant_loop
 invariant_loop bytes from i₀ i = from ≤ i
 
-abbrev decreases_loop : tie.decreases-loop
+abbrev decreases_loop : tie.decreases_loop
 decreases_loop bytes from i₀ i = length bytes - i
 
 loop_holds : tie.Need-loop-init invariant_loop decreases_loop

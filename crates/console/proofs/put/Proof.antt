@@ -7,10 +7,10 @@ use Rattle.console.proofs.put.Tie as tie
 use Rattle.console.proofs.put.Reads as reads
 use Rattle.console.proofs.put.Lts as lts
 
-abbrev invariant_loop : tie.invariant-loop
+abbrev invariant_loop : tie.invariant_loop
 invariant_loop out₀ at bytes i₀ j₀ out i j = length out ≡ length out₀
 
-abbrev decreases_loop : tie.decreases-loop
+abbrev decreases_loop : tie.decreases_loop
 decreases_loop out₀ at bytes i₀ j₀ out i j = length bytes - i
 
 loop_holds : tie.Need-loop-init invariant_loop decreases_loop

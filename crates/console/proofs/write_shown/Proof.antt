@@ -11,10 +11,10 @@ use Rattle.console.proofs.write.Reads as write-reads
 use Rattle.console.proofs.write_other.Reads as write-other-reads
 use Rattle.token.proofs.part.Reads as part-reads
 
-abbrev invariant_loop : tie.invariant-loop
+abbrev invariant_loop : tie.invariant_loop
 invariant_loop page₀ bytes i₀ page i = Unit {0}
 
-abbrev decreases_loop : tie.decreases-loop
+abbrev decreases_loop : tie.decreases_loop
 decreases_loop page₀ bytes i₀ page i = length bytes - i
 
 loop_holds : tie.Need-loop-init invariant_loop decreases_loop

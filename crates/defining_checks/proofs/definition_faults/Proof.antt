@@ -23,7 +23,7 @@ slice-aggregate-indexed-faults-2 : tie.Need-slice-aggregate-indexed-faults-2
 slice-aggregate-indexed-faults-2 c = search rules
 
 indexed-faults-requires : tie.Need-indexed-faults-requires
-indexed-faults-requires c κs = let h : c.before.before.least-of.result ≤ 1025 = omega arith in (c.before.before.least-of.ensures, room_fits _ _ h _ (omega (arith, h)) (omega (arith, h)))
+indexed-faults-requires c κs = let h : c.before.before.least_of.result ≤ 1025 = omega arith in (c.before.before.least_of.ensures, room_fits _ _ h _ (omega (arith, h)) (omega (arith, h)))
 
 returns : tie.Need-returns
 returns c = search rules

@@ -52,7 +52,7 @@ same_length_2 : tie.Need-same-length-2
 same_length_2 c = c.before.before.before.before.before.before.before.before.before.before.before.before.b.given
 
 returns : tie.Need-returns
-returns c = stage_code _ _ _ _ _ _ _ _ _ _ _ _ _ _ _ _ _ _ _ _ _ _ c.before.before.before.before.before.before.before.before.before.before.before.before.before.before.before.before.before.before.before.before.before.before.before.requires.0 c.before.before.before.before.before.before.before.before.before.before.before.before.before.before.before.before.before.before.before.before.before.before.before.requires.1 c.before.before.before.before.before.before.before.before.before.before.before.before.before.before.before.index.ensures refl c.before.before.before.before.before.before.before.before.before.before.cell-of.ensures c.before.before.before.before.before.before.before.before.before.least-of.ensures c.before.before.before.before.before.before.before.before.version-fault.ensures c.before.before.before.before.before.before.before.fault-if.ensures c.before.before.before.before.before.rows-fault.ensures c.before.before.before.rows-fault2.ensures c.before.before.sooner.ensures c.before.sooner2.ensures c.sooner3.ensures
+returns c = stage_code _ _ _ _ _ _ _ _ _ _ _ _ _ _ _ _ _ _ _ _ _ _ c.before.before.before.before.before.before.before.before.before.before.before.before.before.before.before.before.before.before.before.before.before.before.before.requires.0 c.before.before.before.before.before.before.before.before.before.before.before.before.before.before.before.before.before.before.before.before.before.before.before.requires.1 c.before.before.before.before.before.before.before.before.before.before.before.before.before.before.before.index.ensures refl c.before.before.before.before.before.before.before.before.before.before.cell_of.ensures c.before.before.before.before.before.before.before.before.before.least-of.ensures c.before.before.before.before.before.before.before.before.version-fault.ensures c.before.before.before.before.before.before.before.fault-if.ensures c.before.before.before.before.before.rows-fault.ensures c.before.before.before.rows-fault2.ensures c.before.before.sooner.ensures c.before.sooner2.ensures c.sooner3.ensures
 
 pub indexed-faults-spec : {M : Type 1} → statement M
 indexed-faults-spec =

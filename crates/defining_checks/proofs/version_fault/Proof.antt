@@ -22,7 +22,7 @@ fault-if-requires : tie.Need-fault-if-requires
 fault-if-requires c κs = search rules
 
 returns : tie.Need-returns
-returns c = version_is _ _ _ _ _ _ _ c.before.before.before.part.ensures.0 refl c.before.same_bytes.ensures c.fault-if.ensures
+returns c = version_is _ _ _ _ _ _ _ c.before.before.before.part.ensures.0 refl c.before.same_bytes.ensures c.fault_if.ensures
 
 pub version-fault-spec : {M : Type 1} → statement M
 version-fault-spec =

@@ -185,7 +185,7 @@ drop-one-same-length-3 : (t : ℕ) → drop-one-lts.Need-same-length-3 (drop-one
 drop-one-same-length-3 t c = omega (arith, c.before.before.mark.auto)
 
 drop-one-returns-4 : (t : ℕ) → drop-one-lts.Need-returns-4 (drop-one-claims t) (drop-one-at t) drop-one.Post
-drop-one-returns-4 t c = one_marked _ _ _ _ _ _ _ _ _ _ _ c.before.before.before.before.before.before.before.before.before.verdict-on.result c.before.before.before.before.before.before.before.before.before.verdict-on.ensures _ _ c.before.before.before.before.cell-of.result c.before.before.before.before.cell-of.ensures c.before.before.before.before.before.before.before.if2.false (omega (arith, c.before.before.before.before.before.if3.false)) c.before.before.mark.ensures
+drop-one-returns-4 t c = one_marked _ _ _ _ _ _ _ _ _ _ _ c.before.before.before.before.before.before.before.before.before.verdict-on.result c.before.before.before.before.before.before.before.before.before.verdict-on.ensures _ _ c.before.before.before.before.cell_of.result c.before.before.before.before.cell_of.ensures c.before.before.before.before.before.before.before.if2.false (omega (arith, c.before.before.before.before.before.if3.false)) c.before.before.mark.ensures
 
 abbrev drop-statements-claims : ℕ → drop-statements-lts.Claims
 drop-statements-claims t = (
@@ -195,10 +195,10 @@ drop-statements-claims t = (
   drop-one.Post,
 )
 
-abbrev drop-statements-Inv-loop : drop-statements-lts.invariant-loop
+abbrev drop-statements-Inv-loop : drop-statements-lts.invariant_loop
 drop-statements-Inv-loop text d e o st names first known z key from end marks₀ k₀ marks k = (from ≤ k) × (length marks ≡ length marks₀) × Dropping text d e o st z key from end k marks₀ marks
 
-abbrev drop-statements-μ-loop : drop-statements-lts.decreases-loop
+abbrev drop-statements-μ-loop : drop-statements-lts.decreases_loop
 drop-statements-μ-loop text d e o st names first known z key from end marks₀ k₀ marks k = end - k
 
 drop-statements-loop-holds : (t : ℕ) → drop-statements-lts.Need-loop-init (drop-statements-claims t) (drop-statements-at t) drop-statements.Post drop-statements-Inv-loop drop-statements-μ-loop

@@ -33,7 +33,7 @@ same_length : tie.Need-same-length
 same_length c = search rules
 
 returns : tie.Need-returns
-returns c = alone_undefined _ _ _ _ _ _ _ _ _ _ c.before.before.before.before.before.before.before.before.cell-of.result c.before.before.before.before.before.before.before.cell-of2.result c.before.before.before.before.before.before.before.before.cell-of.ensures c.before.before.before.before.before.before.before.cell-of2.ensures _ _ (subst (λ r. FindsDefinition c.before.before.before.before.before.before.before.before.before.before.before.before.before.before.before.before.before.args.text.now c.before.before.before.before.before.before.before.before.before.before.before.before.before.before.before.before.before.args.d.now c.before.before.before.before.before.before.before.before.before.before.before.before.before.before.before.before.before.args.z.definitions c.before.before.before.before.before.before.before.before.before.before.before.before.before.before.before.before.before.args.key c.before.before.before.before.before.before.before.before.cell-of.result c.before.before.before.before.before.before.before.cell-of2.result r) c.before.before.before.before.enum_told.given.1 c.before.before.before.before.before.before.find-definition.ensures) c.before.before.mark.ensures
+returns c = alone_undefined _ _ _ _ _ _ _ _ _ _ c.before.before.before.before.before.before.before.before.cell_of.result c.before.before.before.before.before.before.before.cell-of2.result c.before.before.before.before.before.before.before.before.cell_of.ensures c.before.before.before.before.before.before.before.cell-of2.ensures _ _ (subst (λ r. FindsDefinition c.before.before.before.before.before.before.before.before.before.before.before.before.before.before.before.before.before.args.text.now c.before.before.before.before.before.before.before.before.before.before.before.before.before.before.before.before.before.args.d.now c.before.before.before.before.before.before.before.before.before.before.before.before.before.before.before.before.before.args.z.definitions c.before.before.before.before.before.before.before.before.before.before.before.before.before.before.before.before.before.args.key c.before.before.before.before.before.before.before.before.cell_of.result c.before.before.before.before.before.before.before.cell-of2.result r) c.before.before.before.before.enum_told.given.1 c.before.before.before.before.before.before.find_definition.ensures) c.before.before.mark.ensures
 
 again-requires : tie.Need-again-requires
 again-requires c κs = search rules

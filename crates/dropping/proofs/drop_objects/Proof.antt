@@ -9,10 +9,10 @@ use Rattle.dropping.proofs.drop_objects.Reads as reads
 use Rattle.dropping.proofs.drop_objects.Lts as lts
 use Rattle.dropping.proofs.drop_object.Reads as drop-object-reads
 
-abbrev invariant_loop : tie.invariant-loop
+abbrev invariant_loop : tie.invariant_loop
 invariant_loop text d e o st names known z places marks₀ i₀ marks i = (length marks ≡ length marks₀) × DroppingObjects text d e o st z places i marks₀ marks
 
-abbrev decreases_loop : tie.decreases-loop
+abbrev decreases_loop : tie.decreases_loop
 decreases_loop text d e o st names known z places marks₀ i₀ marks i = z.objects - i
 
 loop_holds : tie.Need-loop-init invariant_loop decreases_loop

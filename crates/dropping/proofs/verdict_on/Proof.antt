@@ -29,7 +29,7 @@ enum_told : tie.Need-enum-told
 enum_told c = search rules
 
 returns : tie.Need-returns
-returns c = verdict_undefined _ _ _ _ _ _ _ _ _ _ (c.before.before.before.before.cell-of.result) (c.before.before.before.cell-of2.result) (c.before.before.before.before.cell-of.ensures) (c.before.before.before.cell-of2.ensures) (subst (λ r. FindsDefinition (c.before.before.before.before.before.before.before.before.before.before.before.before.before.args.text.now) (c.before.before.before.before.before.before.before.before.before.before.before.before.before.args.d.now) (c.before.before.before.before.before.before.before.before.before.before.before.before.before.args.z).definitions (c.before.before.before.before.before.before.before.before.before.before.before.before.before.args.key) (c.before.before.before.before.cell-of.result) (c.before.before.before.cell-of2.result) r) (c.enum_told.given).1 (c.before.before.find-definition.ensures))
+returns c = verdict_undefined _ _ _ _ _ _ _ _ _ _ (c.before.before.before.before.cell_of.result) (c.before.before.before.cell-of2.result) (c.before.before.before.before.cell_of.ensures) (c.before.before.before.cell-of2.ensures) (subst (λ r. FindsDefinition (c.before.before.before.before.before.before.before.before.before.before.before.before.before.args.text.now) (c.before.before.before.before.before.before.before.before.before.before.before.before.before.args.d.now) (c.before.before.before.before.before.before.before.before.before.before.before.before.before.args.z).definitions (c.before.before.before.before.before.before.before.before.before.before.before.before.before.args.key) (c.before.before.before.before.cell_of.result) (c.before.before.before.cell-of2.result) r) (c.enum_told.given).1 (c.before.before.find_definition.ensures))
 
 again-requires : tie.Need-again-requires
 again-requires c κs = search rules
@@ -50,7 +50,7 @@ value-fault-requires : tie.Need-value-fault-requires
 value-fault-requires c κs = ((c.before.before.before.before.before.before.before.before.before.before.before.before.before.before.before.before.before.before.before.requires).0.known, (c.before.before.before.before.before.before.before.before.before.before.before.before.before.before.before.before.before.before.before.requires).0.named, under_at _ _ _ (c.before.before.before.before.before.before.before.before.before.before.before.before.before.before.before.before.before.before.before.args.st.now) _ _ (c.before.before.before.before.before.before.before.before.before.before.before.before.before.before.before.before.before.before.before.args.k) _ _ _ (c.before.before.cell-of3.ensures) (c.before.cell-of4.ensures) (c.word-under.ensures))
 
 returns-3 : tie.Need-returns-3
-returns-3 c = verdict_value _ _ _ _ _ _ _ _ _ _ (c.before.before.before.before.before.before.before.before.before.before.before.cell-of.result) (c.before.before.before.before.before.before.before.before.before.before.cell-of2.result) (c.before.before.before.before.before.before.before.before.before.before.before.cell-of.ensures) (c.before.before.before.before.before.before.before.before.before.before.cell-of2.ensures) _ (c.before.before.before.cell-of3.result) (c.before.before.cell-of4.result) (c.before.word-under.result) (c.before.before.before.before.before.again.result) (c.value-fault.result) (subst (λ r. FindsDefinition (c.before.before.before.before.before.before.before.before.before.before.before.before.before.before.before.before.before.before.before.before.args.text.now) (c.before.before.before.before.before.before.before.before.before.before.before.before.before.before.before.before.before.before.before.before.args.d.now) (c.before.before.before.before.before.before.before.before.before.before.before.before.before.before.before.before.before.before.before.before.args.z).definitions (c.before.before.before.before.before.before.before.before.before.before.before.before.before.before.before.before.before.before.before.before.args.key) (c.before.before.before.before.before.before.before.before.before.before.before.cell-of.result) (c.before.before.before.before.before.before.before.before.before.before.cell-of2.result) r) (c.before.before.before.before.before.before.before.j.given).1 (c.before.before.before.before.before.before.before.before.before.find-definition.ensures)) (c.before.before.before.before.before.again.ensures) (c.before.before.before.before.if1.false) (c.before.before.before.cell-of3.ensures) (c.before.before.cell-of4.ensures) (c.before.word-under.ensures) (c.value-fault.ensures)
+returns-3 c = verdict_value _ _ _ _ _ _ _ _ _ _ (c.before.before.before.before.before.before.before.before.before.before.before.cell-of.result) (c.before.before.before.before.before.before.before.before.before.before.cell-of2.result) (c.before.before.before.before.before.before.before.before.before.before.before.cell-of.ensures) (c.before.before.before.before.before.before.before.before.before.before.cell-of2.ensures) _ (c.before.before.before.cell-of3.result) (c.before.before.cell-of4.result) (c.before.word-under.result) (c.before.before.before.before.before.again.result) (c.value_fault.result) (subst (λ r. FindsDefinition (c.before.before.before.before.before.before.before.before.before.before.before.before.before.before.before.before.before.before.before.before.args.text.now) (c.before.before.before.before.before.before.before.before.before.before.before.before.before.before.before.before.before.before.before.before.args.d.now) (c.before.before.before.before.before.before.before.before.before.before.before.before.before.before.before.before.before.before.before.before.args.z).definitions (c.before.before.before.before.before.before.before.before.before.before.before.before.before.before.before.before.before.before.before.before.args.key) (c.before.before.before.before.before.before.before.before.before.before.before.cell-of.result) (c.before.before.before.before.before.before.before.before.before.before.cell-of2.result) r) (c.before.before.before.before.before.before.before.j.given).1 (c.before.before.before.before.before.before.before.before.before.find-definition.ensures)) (c.before.before.before.before.before.again.ensures) (c.before.before.before.before.if1.false) (c.before.before.before.cell-of3.ensures) (c.before.before.cell-of4.ensures) (c.before.word-under.ensures) (c.value_fault.ensures)
 
 pub verdict-on-spec : {M : Type 1} → statement M
 verdict-on-spec =

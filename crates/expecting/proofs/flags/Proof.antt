@@ -11,10 +11,10 @@ use Rattle.expecting.proofs.flags.Tie as tie
 use Rattle.expecting.proofs.flags.Reads as reads
 use Rattle.expecting.proofs.flags.Lts as lts
 
-abbrev invariant_loop : tie.invariant-loop
+abbrev invariant_loop : tie.invariant_loop
 invariant_loop text place scratch₀ flags₀ named i₀ scratch flags i = (1 ≤ i) × (i ≤ 28) × (length flags ≡ 29) × (length scratch ≡ length scratch₀) × AdmitsLast (asking text place 0) (place + 1) named × Told text place flags i
 
-abbrev decreases_loop : tie.decreases-loop
+abbrev decreases_loop : tie.decreases_loop
 decreases_loop text place scratch₀ flags₀ named i₀ scratch flags i = 28 - i
 
 goes-on-requires : tie.Need-goes-on-requires invariant_loop decreases_loop

@@ -37,7 +37,7 @@ same_length : tie.Need-same-length
 same_length c = search rules
 
 returns : tie.Need-returns
-returns c = told _ _ _ _ _ _ _ _ _ _ _ _ c.before.before.before.before.before.before.before.before.before.before.before.before.inside.ensures c.before.before.before.before.before.before.before.before.before.before.before.line_of.ensures c.before.before.before.before.before.before.before.before.before.before.column-of.ensures c.before.before.before.before.before.before.before.before.before.token_end.ensures c.before.before.before.before.before.before.before.before.view_of.ensures c.before.before.before.before.before.before.draw-line.ensures.0 c.before.before.before.before.before.before.draw-line.ensures.1 c.before.before.draw-mark.ensures.0 c.before.before.draw-mark.ensures.1
+returns c = told _ _ _ _ _ _ _ _ _ _ _ _ c.before.before.before.before.before.before.before.before.before.before.before.before.inside.ensures c.before.before.before.before.before.before.before.before.before.before.before.line_of.ensures c.before.before.before.before.before.before.before.before.before.before.column_of.ensures c.before.before.before.before.before.before.before.before.before.token_end.ensures c.before.before.before.before.before.before.before.before.view_of.ensures c.before.before.before.before.before.before.draw-line.ensures.0 c.before.before.before.before.before.before.draw-line.ensures.1 c.before.before.draw-mark.ensures.0 c.before.before.draw-mark.ensures.1
 
 pub explain-spec : {M : Type 1} → statement M
 explain-spec =

@@ -17,7 +17,7 @@ heading-alone-requires : tie.Need-heading-alone-requires
 heading-alone-requires c κs = search rules
 
 returns-2 : tie.Need-returns-2
-returns-2 c = heading_rules _ _ c.before.before.fault-of.ensures c.before.if1.false c.heading-alone.ensures
+returns-2 c = heading_rules _ _ c.before.before.fault_of.ensures c.before.if1.false c.heading-alone.ensures
 
 pub kaukslini-heading-spec : {M : Type 1} → statement M
 kaukslini-heading-spec =

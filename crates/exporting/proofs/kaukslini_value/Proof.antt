@@ -24,7 +24,7 @@ same_length : tie.Need-same-length
 same_length c = search rules
 
 returns-2 : tie.Need-returns-2
-returns-2 c = value_rules _ _ c.before.before.before.before.before.before.fault-of.ensures c.before.before.before.before.before.if1.false (c.before.before.before.value.ensures.1) c.value-told.ensures
+returns-2 c = value_rules _ _ c.before.before.before.before.before.before.fault_of.ensures c.before.before.before.before.before.if1.false (c.before.before.before.value.ensures.1) c.value_told.ensures
 
 pub kaukslini-value-spec : {M : Type 1} → statement M
 kaukslini-value-spec =

@@ -24,7 +24,7 @@ cast-t11 : tie.Need-overflow-cast-t11
 cast-t11 c = search rules
 
 returns : tie.Need-returns
-returns c = refused_told _ _ _ _ _ _ _ _ c.before.before.before.renumbered.ensures c.before.before.least-of.ensures c.place-refused.ensures
+returns c = refused_told _ _ _ _ _ _ _ _ c.before.before.before.renumbered.ensures c.before.before.least_of.ensures c.place-refused.ensures
 
 pub refusal-spec : {M : Type 1} → statement M
 refusal-spec =

@@ -10,10 +10,10 @@ use Rattle.gathering.proofs.add_all.Reads as reads
 use Rattle.gathering.proofs.add_all.Lts as lts
 use Rattle.gathering.proofs.add_missing.Reads as add-missing-reads
 
-abbrev invariant_loop : tie.invariant-loop
+abbrev invariant_loop : tie.invariant_loop
 invariant_loop buffer₀ lengths₀ main origins₀ used₀ told₀ buffer lengths origins used told = SoFar buffer₀ lengths₀ origins₀ buffer lengths origins used told
 
-abbrev decreases_loop : tie.decreases-loop
+abbrev decreases_loop : tie.decreases_loop
 decreases_loop buffer₀ lengths₀ main origins₀ used₀ told₀ buffer lengths origins used told = 16 - told
 
 loop_holds : tie.Need-loop-init invariant_loop decreases_loop

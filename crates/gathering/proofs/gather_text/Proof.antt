@@ -36,7 +36,7 @@ slice-write-lengths-2 : tie.Need-slice-write-lengths-2
 slice-write-lengths-2 c = one_inside c.before.before.before.before.before.before.before.before.before.before.before.before.before.args.lengths.now (omega arith)
 
 add-all-requires : tie.Need-add-all-requires
-add-all-requires c κs = main_told c.before.before.before.before.before.store.new.0 c.before.before.before.before.before.before.before.before.before.before.before.before.before.before.before.before.args.lengths.now c.before.before.before.before.before.before.before.before.least-of.result (omega arith) (omega arith) (omega arith)
+add-all-requires c κs = main_told c.before.before.before.before.before.store.new.0 c.before.before.before.before.before.before.before.before.before.before.before.before.before.before.before.before.args.lengths.now c.before.before.before.before.before.before.before.before.least_of.result (omega arith) (omega arith) (omega arith)
 
 same_length : tie.Need-same-length
 same_length c = search rules

@@ -6,10 +6,10 @@ use Rattle.gathering.proofs.name_start.Tie as tie
 use Rattle.gathering.proofs.name_start.Reads as reads
 use Rattle.gathering.proofs.name_start.Lts as lts
 
-abbrev invariant_loop : tie.invariant-loop
+abbrev invariant_loop : tie.invariant_loop
 invariant_loop buffer lengths number at₀ i₀ at i = at ≤ length buffer
 
-abbrev decreases_loop : tie.decreases-loop
+abbrev decreases_loop : tie.decreases_loop
 decreases_loop buffer lengths number at₀ i₀ at i = length lengths - i
 
 loop_holds : tie.Need-loop-init invariant_loop decreases_loop

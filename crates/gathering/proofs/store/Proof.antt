@@ -9,10 +9,10 @@ use Rattle.gathering.proofs.store.Tie as tie
 use Rattle.gathering.proofs.store.Reads as reads
 use Rattle.gathering.proofs.store.Lts as lts
 
-abbrev invariant_loop : tie.invariant-loop
+abbrev invariant_loop : tie.invariant_loop
 invariant_loop out₀ at bytes i₀ j₀ out i j = (i ≤ length bytes) × (length out ≡ length out₀) × (sets out j (drop i bytes) ≡ sets out₀ at bytes)
 
-abbrev decreases_loop : tie.decreases-loop
+abbrev decreases_loop : tie.decreases_loop
 decreases_loop out₀ at bytes i₀ j₀ out i j = length bytes - i
 
 loop_holds : tie.Need-loop-init invariant_loop decreases_loop

@@ -19,10 +19,10 @@ use Rattle.implementation.proofs.spec.Reads as spec-reads
 use Rattle.implementation.proofs.with_cell.Reads as with-cell-reads
 use Rattle.implementation.proofs.with_place.Reads as with-place-reads
 
-abbrev invariant_loop : tie.invariant-loop
+abbrev invariant_loop : tie.invariant_loop
 invariant_loop text d₀ e₀ a₀ n₀ m₀ marks₀ places₀ again₀ found₀ d e a n m marks places again found = Going beside FillAll specs AllRows text a₀ a (record { marks = marks₀; places = places₀; again = again₀; found = found₀ }, ((d₀, n₀), (e₀, m₀))) (record { marks = marks; places = places; again = again; found = found }, ((d, n), (e, m)))
 
-abbrev decreases_loop : tie.decreases-loop
+abbrev decreases_loop : tie.decreases_loop
 decreases_loop text d₀ e₀ a₀ n₀ m₀ marks₀ places₀ again₀ found₀ d e a n m marks places again found = left text a
 
 loop_holds : tie.Need-loop-init invariant_loop decreases_loop

@@ -62,10 +62,10 @@ abbrev judge-one-below : ℕ → In 8 judge-one-kinds.ps
 judge-one-below t =
     and 8 judge-one-kinds.ps (falls 8 judge-one-kinds.ps ◌<◌ μ-judge-one t) judge-one.Pre
 
-abbrev judge-Inv-loop : judge-lts.invariant-loop
+abbrev judge-Inv-loop : judge-lts.invariant_loop
 judge-Inv-loop text d e o st names first known z key from end best₀ k₀ best k = (from ≤ k) × Judging text d e o st known z key from end k best
 
-abbrev judge-μ-loop : judge-lts.decreases-loop
+abbrev judge-μ-loop : judge-lts.decreases_loop
 judge-μ-loop text d e o st names first known z key from end best₀ k₀ best k = end - k
 
 abbrev judge-claims : ℕ → judge-lts.Claims
@@ -221,7 +221,7 @@ judge-one-enum-told : (t : ℕ) → judge-one-lts.Need-enum-told (judge-one-clai
 judge-one-enum-told t c = search rules
 
 judge-one-returns : (t : ℕ) → judge-one-lts.Need-returns (judge-one-claims t) (judge-one-at t) judge-one.Post
-judge-one-returns t c = one_undefined _ _ _ _ _ _ _ _ _ _ _ _ c.before.before.before.before.cell-of.result c.before.before.before.cell-of2.result c.before.before.before.before.cell-of.ensures c.before.before.before.cell-of2.ensures (subst (λ r. FindsDefinition c.before.before.before.before.before.before.before.before.before.before.before.before.before.args.text.now c.before.before.before.before.before.before.before.before.before.before.before.before.before.args.d.now c.before.before.before.before.before.before.before.before.before.before.before.before.before.args.z.definitions c.before.before.before.before.before.before.before.before.before.before.before.before.before.args.key c.before.before.before.before.cell-of.result c.before.before.before.cell-of2.result r) c.enum_told.given.1 c.before.before.find-definition.ensures)
+judge-one-returns t c = one_undefined _ _ _ _ _ _ _ _ _ _ _ _ c.before.before.before.before.cell_of.result c.before.before.before.cell-of2.result c.before.before.before.before.cell_of.ensures c.before.before.before.cell-of2.ensures (subst (λ r. FindsDefinition c.before.before.before.before.before.before.before.before.before.before.before.before.before.args.text.now c.before.before.before.before.before.before.before.before.before.before.before.before.before.args.d.now c.before.before.before.before.before.before.before.before.before.before.before.before.before.args.z.definitions c.before.before.before.before.before.before.before.before.before.before.before.before.before.args.key c.before.before.before.before.cell_of.result c.before.before.before.cell-of2.result r) c.enum_told.given.1 c.before.before.find_definition.ensures)
 
 judge-one-cell-of-requires-3 : (t : ℕ) → judge-one-lts.Need-cell-of-requires-3 (judge-one-claims t) (judge-one-at t) judge-one.Post
 judge-one-cell-of-requires-3 t c κs = tt
@@ -248,7 +248,7 @@ judge-one-judge-block-requires : (t : ℕ) → judge-one-lts.Need-judge-block-re
 judge-one-judge-block-requires t c κs = (omega (arith, c.before.before.before.before.before.before.before.before.before.before.before.before.before.before.before.before.before.before.before.before.requires.0, c.before.before.before.before.before.before.before.before.before.before.before.before.before.before.before.before.before.before.before.before.requires.1), c.before.before.before.before.before.before.before.before.before.before.before.before.before.before.before.before.before.before.before.before.requires.1.1)
 
 judge-one-returns-3 : (t : ℕ) → judge-one-lts.Need-returns-3 (judge-one-claims t) (judge-one-at t) judge-one.Post
-judge-one-returns-3 t c = one_inside _ _ _ _ _ _ _ _ _ _ _ _ c.before.before.before.before.before.before.before.before.before.before.before.before.cell-of.result c.before.before.before.before.before.before.before.before.before.before.before.cell-of2.result c.before.before.before.before.before.before.before.before.before.before.before.before.cell-of.ensures c.before.before.before.before.before.before.before.before.before.before.before.cell-of2.ensures _ c.before.before.before.before.before.before.cell-of3.result c.before.before.before.before.before.cell-of4.result c.before.before.before.before.word-under.result c.before.before.before.own-fault.result c.judge-block.result (subst (λ r. FindsDefinition c.before.before.before.before.before.before.before.before.before.before.before.before.before.before.before.before.before.before.before.before.before.args.text.now c.before.before.before.before.before.before.before.before.before.before.before.before.before.before.before.before.before.before.before.before.before.args.d.now c.before.before.before.before.before.before.before.before.before.before.before.before.before.before.before.before.before.before.before.before.before.args.z.definitions c.before.before.before.before.before.before.before.before.before.before.before.before.before.before.before.before.before.before.before.before.before.args.key c.before.before.before.before.before.before.before.before.before.before.before.before.cell-of.result c.before.before.before.before.before.before.before.before.before.before.before.cell-of2.result r) c.before.before.before.before.before.before.before.before.j.given.1 c.before.before.before.before.before.before.before.before.before.before.find-definition.ensures) c.before.before.before.own-fault.ensures (sym c.before.before.is-fault.ensures ∙ c.before.if1.false) c.before.before.before.before.before.before.cell-of3.ensures c.before.before.before.before.before.cell-of4.ensures c.before.before.before.before.word-under.ensures c.judge-block.ensures
+judge-one-returns-3 t c = one_inside _ _ _ _ _ _ _ _ _ _ _ _ c.before.before.before.before.before.before.before.before.before.before.before.before.cell_of.result c.before.before.before.before.before.before.before.before.before.before.before.cell-of2.result c.before.before.before.before.before.before.before.before.before.before.before.before.cell_of.ensures c.before.before.before.before.before.before.before.before.before.before.before.cell-of2.ensures _ c.before.before.before.before.before.before.cell-of3.result c.before.before.before.before.before.cell-of4.result c.before.before.before.before.word-under.result c.before.before.before.own-fault.result c.judge-block.result (subst (λ r. FindsDefinition c.before.before.before.before.before.before.before.before.before.before.before.before.before.before.before.before.before.before.before.before.before.args.text.now c.before.before.before.before.before.before.before.before.before.before.before.before.before.before.before.before.before.before.before.before.before.args.d.now c.before.before.before.before.before.before.before.before.before.before.before.before.before.before.before.before.before.before.before.before.before.args.z.definitions c.before.before.before.before.before.before.before.before.before.before.before.before.before.before.before.before.before.before.before.before.before.args.key c.before.before.before.before.before.before.before.before.before.before.before.before.cell_of.result c.before.before.before.before.before.before.before.before.before.before.before.cell-of2.result r) c.before.before.before.before.before.before.before.before.j.given.1 c.before.before.before.before.before.before.before.before.before.before.find_definition.ensures) c.before.before.before.own-fault.ensures (sym c.before.before.is_fault.ensures ∙ c.before.if1.false) c.before.before.before.before.before.before.cell-of3.ensures c.before.before.before.before.before.cell-of4.ensures c.before.before.before.before.word-under.ensures c.judge-block.ensures
 
 pub +judge-judge-block-judge-one-spec : {M : Type 1} → statement M
 +judge-judge-block-judge-one-spec = close μ-judge μ-judge-block μ-judge-one (λ t. judge-lts.spec (judge-claims t)

@@ -6,10 +6,10 @@ use native.Mathlib.Omega.{arith}
 use Rattle.judging.proofs.judge_objects.Statement.{statement}
 use Rattle.judging.proofs.judge_objects.Tie as tie
 
-abbrev invariant_loop : tie.invariant-loop
+abbrev invariant_loop : tie.invariant_loop
 invariant_loop text d e o st names missing z places best₀ i₀ best i = JudgingObjects text d e o st missing z places i best
 
-abbrev decreases_loop : tie.decreases-loop
+abbrev decreases_loop : tie.decreases_loop
 decreases_loop text d e o st names missing z places best₀ i₀ best i = z.objects - i
 
 loop_holds : tie.Need-loop-init invariant_loop decreases_loop

@@ -24,7 +24,7 @@ same_length_2 : tie.Need-same-length-2
 same_length_2 c = search rules
 
 returns : tie.Need-returns
-returns c = (judges_marked _ _ _ _ _ _ _ _ _ _ _ c.before.before.before.before.before.before.before.before.before.before.before.before.before.before.before.before.before.before.before.before.before.before.before.before.requires.0 c.before.before.before.before.before.before.before.before.before.before.before.before.before.before.before.before.before.before.before.before.before.before.before.before.requires.1 c.before.before.before.before.before.before.before.before.before.before.note-ranges.ensures c.before.before.before.before.put-cells.ensures _ _ c.judge-objects.ensures, record { size = same_length_2 c })
+returns c = (judges_marked _ _ _ _ _ _ _ _ _ _ _ c.before.before.before.before.before.before.before.before.before.before.before.before.before.before.before.before.before.before.before.before.before.before.before.before.requires.0 c.before.before.before.before.before.before.before.before.before.before.before.before.before.before.before.before.before.before.before.before.before.before.before.before.requires.1 c.before.before.before.before.before.before.before.before.before.before.note-ranges.ensures c.before.before.before.before.put-cells.ensures _ _ c.judge_objects.ensures, record { size = same_length_2 c })
 
 pub judge-ranged-spec : {M : Type 1} → statement M
 judge-ranged-spec =

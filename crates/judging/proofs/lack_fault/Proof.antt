@@ -27,7 +27,7 @@ fault-if-requires : tie.Need-fault-if-requires
 fault-if-requires c κs = search rules
 
 returns-2 : tie.Need-returns-2
-returns-2 c = subst (λ r. LackFault (c.before.before.before.before.before.before.before.before.before.before.before.args).text.now (c.before.before.before.before.before.before.before.before.before.before.before.args).d.now (c.before.before.before.before.before.before.before.before.before.before.before.args).st.now (c.before.before.before.before.before.before.before.before.before.before.before.args).missing.now (c.before.before.before.before.before.before.before.before.before.before.before.args).z (c.before.before.before.before.before.before.before.before.before.before.before.args).key (c.before.before.before.before.before.before.before.before.before.before.before.args).from (c.before.before.before.before.before.before.before.before.before.before.before.args).end (c.before.before.before.before.before.before.before.before.before.before.before.args).owner r) (sym (c.fault-if).ensures) (lack_some _ _ _ _ _ _ _ _ _ (c.before.lacks).result (c.before.before.before.before.if1).false (c.before.lacks).ensures)
+returns-2 c = subst (λ r. LackFault (c.before.before.before.before.before.before.before.before.before.before.before.args).text.now (c.before.before.before.before.before.before.before.before.before.before.before.args).d.now (c.before.before.before.before.before.before.before.before.before.before.before.args).st.now (c.before.before.before.before.before.before.before.before.before.before.before.args).missing.now (c.before.before.before.before.before.before.before.before.before.before.before.args).z (c.before.before.before.before.before.before.before.before.before.before.before.args).key (c.before.before.before.before.before.before.before.before.before.before.before.args).from (c.before.before.before.before.before.before.before.before.before.before.before.args).end (c.before.before.before.before.before.before.before.before.before.before.before.args).owner r) (sym (c.fault_if).ensures) (lack_some _ _ _ _ _ _ _ _ _ (c.before.lacks).result (c.before.before.before.before.if1).false (c.before.lacks).ensures)
 
 returns-3 : tie.Need-returns-3
 returns-3 c = lack_unowned _ _ _ _ _ _ _ _ _ _ c.before.before.if1.false c.before.before.before.before.before.before.before.before.before.requires.2 (subst (λ b. Tells (part c.before.before.before.before.before.before.before.before.before.args.names.now 4353 512) c.before.before.before.before.before.before.before.before.before.args.key b) c.if2.false c.before.is-owner.ensures)

@@ -12,10 +12,10 @@ use Rattle.lookups.proofs.fill.Tie as tie
 use Rattle.lookups.proofs.fill.Reads as reads
 use Rattle.lookups.proofs.fill.Lts as lts
 
-abbrev invariant_loop : tie.invariant-loop
+abbrev invariant_loop : tie.invariant_loop
 invariant_loop t₀ v i₀ t i = (i ≤ length t₀) × (length t ≡ length t₀) × (t ≡ replicate i v ++ drop i t₀)
 
-abbrev decreases_loop : tie.decreases-loop
+abbrev decreases_loop : tie.decreases_loop
 decreases_loop t₀ v i₀ t i = length t₀ - i
 
 loop_holds : tie.Need-loop-init invariant_loop decreases_loop

@@ -12,10 +12,10 @@ use Rattle.lookups.proofs.least.Reads as least-reads
 use Rattle.lookups.proofs.next_row.Reads as next-row-reads
 use Rattle.lookups.proofs.note_first.Reads as note-first-reads
 
-abbrev invariant_loop : tie.invariant-loop
+abbrev invariant_loop : tie.invariant_loop
 invariant_loop st h first₀ from end limit k₀ first k = ((limit ≤ end) × (limit ≤ length h) × (limit * 7 ≤ length st)) × (length first ≡ length first₀) × FirstsTo st h from end k first
 
-abbrev decreases_loop : tie.decreases-loop
+abbrev decreases_loop : tie.decreases_loop
 decreases_loop st h first₀ from end limit k₀ first k = end - k
 
 least-requires : tie.Need-least-requires invariant_loop decreases_loop

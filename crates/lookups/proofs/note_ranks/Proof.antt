@@ -8,10 +8,10 @@ use Prim.Native.Nat.{◌≤◌, ◌-◌, ◌*◌, min}
 use Rattle.lookups.proofs.note_ranks.Statement.{statement}
 use Rattle.lookups.proofs.note_ranks.Tie as tie
 
-abbrev invariant_loop : tie.invariant-loop
+abbrev invariant_loop : tie.invariant_loop
 invariant_loop text d x t width name h₀ second start₀ i₀ h start i = (i ≤ length h) × (length h ≡ length h₀) × (start ≡ min (length t) (i * width)) × NotesRanksTo text d x t width name i h
 
-abbrev decreases_loop : tie.decreases-loop
+abbrev decreases_loop : tie.decreases_loop
 decreases_loop text d x t width name h₀ second start₀ i₀ h start i = length h₀ - i
 
 place-after-requires : tie.Need-place-after-requires invariant_loop decreases_loop

@@ -10,10 +10,10 @@ use Rattle.lookups.proofs.skip.Lts as lts
 use Rattle.lookups.proofs.least.Reads as least-reads
 use Rattle.lookups.proofs.next_row.Reads as next-row-reads
 
-abbrev invariant_loop : tie.invariant-loop
+abbrev invariant_loop : tie.invariant_loop
 invariant_loop st h from end rank limit k₀ k = ((limit ≤ end) × (limit ≤ length h) × (limit * 7 ≤ length st)) × Skips st h from end rank k
 
-abbrev decreases_loop : tie.decreases-loop
+abbrev decreases_loop : tie.decreases_loop
 decreases_loop st h from end rank limit k₀ k = end - k
 
 least-requires : tie.Need-least-requires invariant_loop decreases_loop

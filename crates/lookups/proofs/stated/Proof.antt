@@ -10,10 +10,10 @@ use Rattle.rows.proofs.cells.cell_of.Reads as cell-of-reads
 use Rattle.lookups.proofs.skip.Reads as skip-reads
 use Rattle.rows.proofs.parts.same_part.Reads as same-part-reads
 
-abbrev invariant_loop : tie.invariant-loop
+abbrev invariant_loop : tie.invariant_loop
 invariant_loop text st h from end at len rank k₀ k = Onward text st h from end at len rank k
 
-abbrev decreases_loop : tie.decreases-loop
+abbrev decreases_loop : tie.decreases_loop
 decreases_loop text st h from end at len rank k₀ k = end - k
 
 skip-requires : tie.Need-skip-requires invariant_loop decreases_loop

@@ -12,10 +12,10 @@ truth-under-requires : tie.Need-truth-under-requires
 truth-under-requires c κs = search rules
 
 returns : tie.Need-returns
-returns c = truth_indexed _ _ _ _ _ _ _ _ c.before.before.cell-of.ensures _ c.before.if1.true c.truth-under.ensures
+returns c = truth_indexed _ _ _ _ _ _ _ _ c.before.before.cell_of.ensures _ c.before.if1.true c.truth-under.ensures
 
 returns-2 : tie.Need-returns-2
-returns-2 c = nothing_indexed _ _ _ _ _ _ _ _ c.before.before.cell-of.ensures c.before.if1.false c.if2.true
+returns-2 c = nothing_indexed _ _ _ _ _ _ _ _ c.before.before.cell_of.ensures c.before.if1.false c.if2.true
 
 find-enumerator-requires : tie.Need-find-enumerator-requires
 find-enumerator-requires c κs = search rules

@@ -21,7 +21,7 @@ check-rows-requires : tie.Need-check-rows-requires
 check-rows-requires c κs = search rules
 
 returns-2 : tie.Need-returns-2
-returns-2 c = check_so _ c.before.before.defines-mask.ensures (not-false _ c.before.if1.false) _ _ c.check-rows.ensures
+returns-2 c = check_so _ c.before.before.defines_mask.ensures (not-false _ c.before.if1.false) _ _ c.check-rows.ensures
 
 pub check-read-spec : {M : Type 1} → statement M
 check-read-spec =

@@ -65,7 +65,7 @@ same_length_2 : tie.Need-same-length-2
 same_length_2 c = search rules
 
 returns-3 : tie.Need-returns-3
-returns-3 c = mends_rules (mends_done c.before.before.before.before.before.before.before.before.before.before.before.before.before.before.before.before.before.before.before.before.mark-drops.ensures (sym c.before.before.before.before.before.before.before.before.before.before.before.before.before.before.before.before.before.before.is-fault.ensures ∙ c.before.before.before.before.before.before.before.before.before.before.before.before.before.before.before.before.before.if1.false) c.before.before.before.before.before.before.before.before.before.before.before.before.before.before.put-mended.ensures c.before.before.before.before.before.before.before.before.before.before.before.part.ensures.0 c.before.before.before.before.before.before.before.before.before.before.answer-to.ensures _ _ _ c.before.before.before.before.before.before.before.before.enum_told.given.1 c.before.before.before.before.put-out.ensures)
+returns-3 c = mends_rules (mends_done c.before.before.before.before.before.before.before.before.before.before.before.before.before.before.before.before.before.before.before.before.mark-drops.ensures (sym c.before.before.before.before.before.before.before.before.before.before.before.before.before.before.before.before.before.before.is_fault.ensures ∙ c.before.before.before.before.before.before.before.before.before.before.before.before.before.before.before.before.before.if1.false) c.before.before.before.before.before.before.before.before.before.before.before.before.before.before.put-mended.ensures c.before.before.before.before.before.before.before.before.before.before.before.part.ensures.0 c.before.before.before.before.before.before.before.before.before.before.answer_to.ensures _ _ _ c.before.before.before.before.before.before.before.before.enum_told.given.1 c.before.before.before.before.put-out.ensures)
 
 pub mend-spec : {M : Type 1} → statement M
 mend-spec =

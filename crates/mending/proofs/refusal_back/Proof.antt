@@ -15,7 +15,7 @@ place-back-requires : tie.Need-place-back-requires
 place-back-requires c κs = search rules
 
 returns-2 : tie.Need-returns-2
-returns-2 c = back_other _ _ _ _ c.before.before.is-at-start.ensures c.before.if1.false c.place-back.ensures
+returns-2 c = back_other _ _ _ _ c.before.before.is_at_start.ensures c.before.if1.false c.place_back.ensures
 
 pub refusal-back-spec : {M : Type 1} → statement M
 refusal-back-spec = tie.close (tie.spec is-at-start-requires returns place-back-requires returns-2)

@@ -15,10 +15,10 @@ use Rattle.merging.proofs.each_first.Lts as lts
 use Rattle.merging.proofs.first_part.Reads as first-part-reads
 use Rattle.rows.proofs.cells.put_cells.Reads as put-cells-reads
 
-abbrev invariant_loop : tie.invariant-loop
+abbrev invariant_loop : tie.invariant_loop
 invariant_loop text p column n x out₀ j₀ out j = (length out ≡ length out₀) × Through (By text p 10 column 3 x) n (sets out j (first_rows column text p (n - j) j) ≡ sets out₀ 0 (first_rows column text p n 0))
 
-abbrev decreases_loop : tie.decreases-loop
+abbrev decreases_loop : tie.decreases_loop
 decreases_loop text p column n x out₀ j₀ out j = n - j
 
 loop_holds : tie.Need-loop-init invariant_loop decreases_loop

@@ -27,7 +27,7 @@ enum_told : tie.Need-enum-told
 enum_told c = search rules
 
 returns : tie.Need-returns
-returns c = through_one (first_found _ _ _ _ c.before.before.before.before.before.before.cell-of.ensures c.before.before.before.before.before.cell-of2.ensures c.before.before.before.before.cell-of3.ensures c.before.i.given.1) (through_found _ _ _ _ _ _ _ _ _ _ _ c.before.before.before.find_before.ensures)
+returns c = through_one (first_found _ _ _ _ c.before.before.before.before.before.before.cell_of.ensures c.before.before.before.before.before.cell-of2.ensures c.before.before.before.before.cell-of3.ensures c.before.i.given.1) (through_found _ _ _ _ _ _ _ _ _ _ _ c.before.before.before.find_before.ensures)
 
 returns-2 : tie.Need-returns-2
 returns-2 c = through_one (first_nothing _ _ _ _ c.before.before.before.before.before.cell-of.ensures c.before.before.before.before.cell-of2.ensures c.before.before.before.cell-of3.ensures c.enum_told.given.1) (through_found _ _ _ _ _ _ _ _ _ _ _ c.before.before.find_before.ensures)

@@ -8,10 +8,10 @@ use Rattle.console.proofs.write.Reads as write-reads
 use Rattle.console.proofs.write_number.Reads as write-number-reads
 use Rattle.oil.proofs.write_record.Reads as write-record-reads
 
-abbrev invariant_loop : tie.invariant-loop
+abbrev invariant_loop : tie.invariant_loop
 invariant_loop page₀ first d o v second d2 o2 v2 found k₀ t12 t13 page k = Unit {0}
 
-abbrev decreases_loop : tie.decreases-loop
+abbrev decreases_loop : tie.decreases_loop
 decreases_loop page₀ first d o v second d2 o2 v2 found k₀ t12 t13 page k = 64 - k
 
 loop_holds : tie.Need-loop-init invariant_loop decreases_loop

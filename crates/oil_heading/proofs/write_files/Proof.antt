@@ -6,10 +6,10 @@ use Rattle.oil_heading.proofs.write_files.Reads as reads
 use Rattle.oil_heading.proofs.write_files.Lts as lts
 use Rattle.oil_heading.proofs.write_argument.Reads as write-argument-reads
 
-abbrev invariant_loop : tie.invariant-loop
+abbrev invariant_loop : tie.invariant_loop
 invariant_loop page₀ count i₀ page i = i ≤ count
 
-abbrev decreases_loop : tie.decreases-loop
+abbrev decreases_loop : tie.decreases_loop
 decreases_loop page₀ count i₀ page i = count - i
 
 loop_holds : tie.Need-loop-init invariant_loop decreases_loop

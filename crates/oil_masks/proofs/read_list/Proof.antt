@@ -10,10 +10,10 @@ use Rattle.oil_masks.proofs.read_list.Lts as lts
 use Rattle.oil_masks.proofs.counted.Reads as counted-reads
 use Rattle.oil_masks.proofs.next_entry.Reads as next-entry-reads
 
-abbrev invariant_loop : tie.invariant-loop
+abbrev invariant_loop : tie.invariant_loop
 invariant_loop bytes list₀ at₀ count₀ list at count = length list ≡ length list₀
 
-abbrev decreases_loop : tie.decreases-loop
+abbrev decreases_loop : tie.decreases_loop
 decreases_loop bytes list₀ at₀ count₀ list at count = length list₀ - count
 
 loop_holds : tie.Need-loop-init invariant_loop decreases_loop

@@ -11,10 +11,10 @@ use Rattle.oil_masks.proofs.write_name.Reads as write-name-reads
 use Rattle.oil_masks.proofs.write_sort.Reads as write-sort-reads
 use Rattle.rows.proofs.cells.get.Reads as get-reads
 
-abbrev invariant_loop : tie.invariant-loop
+abbrev invariant_loop : tie.invariant_loop
 invariant_loop page₀ text d o v n rows masks count j₀ page j = Unit {0}
 
-abbrev decreases_loop : tie.decreases-loop
+abbrev decreases_loop : tie.decreases_loop
 decreases_loop page₀ text d o v n rows masks count j₀ page j = count - j
 
 loop_holds : tie.Need-loop-init invariant_loop decreases_loop

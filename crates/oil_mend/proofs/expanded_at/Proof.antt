@@ -8,10 +8,10 @@ use Rattle.oil_mend.proofs.expanded_at.Reads as reads
 use Rattle.oil_mend.proofs.expanded_at.Lts as lts
 use Rattle.oil_mend.proofs.is_from.Reads as is-from-reads
 
-abbrev invariant_loop : tie.invariant-loop
+abbrev invariant_loop : tie.invariant_loop
 invariant_loop origins from text byte i₀ i = Unit {0}
 
-abbrev decreases_loop : tie.decreases-loop
+abbrev decreases_loop : tie.decreases_loop
 decreases_loop origins from text byte i₀ i = length origins - i
 
 loop_holds : tie.Need-loop-init invariant_loop decreases_loop

@@ -8,10 +8,10 @@ use Rattle.oil_mend.proofs.say_drops.Lts as lts
 use Rattle.oil_mend.proofs.has_line.Reads as has-line-reads
 use Rattle.oil_mend.proofs.say_drop.Reads as say-drop-reads
 
-abbrev invariant_loop : tie.invariant-loop
+abbrev invariant_loop : tie.invariant_loop
 invariant_loop line₀ expanded origins lines at₀ words₀ i₀ line at words i = Unit {0}
 
-abbrev decreases_loop : tie.decreases-loop
+abbrev decreases_loop : tie.decreases_loop
 decreases_loop line₀ expanded origins lines at₀ words₀ i₀ line at words i = 65536 - i
 
 loop_holds : tie.Need-loop-init invariant_loop decreases_loop

@@ -33,7 +33,7 @@ same_length : tie.Need-same-length
 same_length c = search rules
 
 returns : tie.Need-returns
-returns c = concludes_refused _ _ _ _ refl refl refl _ c.before.before.before.before.before.before.judge-all.ensures.0 _ _ _ _ _ c.before.before.before.before.before.before.judge-all.ensures.1.1 _ (sym c.before.before.is-fault.ensures ∙ c.before.if1.true) c.refusal.ensures
+returns c = concludes_refused _ _ _ _ refl refl refl _ c.before.before.before.before.before.before.judge-all.ensures.0 _ _ _ _ _ c.before.before.before.before.before.before.judge-all.ensures.1.1 _ (sym c.before.before.is_fault.ensures ∙ c.before.if1.true) c.refusal.ensures
 
 slice-aggregate-settle : tie.Need-slice-aggregate-settle
 slice-aggregate-settle c = search rules

@@ -32,7 +32,7 @@ same_length_2 : tie.Need-same-length-2
 same_length_2 c = search rules
 
 returns : tie.Need-returns
-returns c = decides_early _ _ _ _ _ _ _ _ _ _ _ refl refl c.before.before.before.before.before.before.before.before.before.before.walk.ensures c.before.before.grammar-fault.ensures _ _ (sym c.before.is-fault.ensures ∙ c.if1.true)
+returns c = decides_early _ _ _ _ _ _ _ _ _ _ _ refl refl c.before.before.before.before.before.before.before.before.before.before.walk.ensures c.before.before.grammar_fault.ensures _ _ (sym c.before.is-fault.ensures ∙ c.if1.true)
 
 slice-aggregate-stages : tie.Need-slice-aggregate-stages
 slice-aggregate-stages c = search rules
@@ -56,7 +56,7 @@ same-length-6 : tie.Need-same-length-6
 same-length-6 c = search rules
 
 returns-2 : tie.Need-returns-2
-returns-2 c = decides_late _ _ _ _ _ _ _ _ _ _ _ refl refl c.before.before.before.before.before.before.before.before.before.before.before.before.before.before.before.before.before.before.before.before.before.walk.ensures c.before.before.before.before.before.before.before.before.before.before.before.before.before.grammar-fault.ensures refl refl _ (sym c.before.before.before.before.before.before.before.before.before.before.before.before.is-fault.ensures ∙ c.before.before.before.before.before.before.before.before.before.before.before.if1.false) c.before.before.before.before.stages.ensures
+returns-2 c = decides_late _ _ _ _ _ _ _ _ _ _ _ refl refl c.before.before.before.before.before.before.before.before.before.before.before.before.before.before.before.before.before.before.before.before.before.walk.ensures c.before.before.before.before.before.before.before.before.before.before.before.before.before.grammar-fault.ensures refl refl _ (sym c.before.before.before.before.before.before.before.before.before.before.before.before.is_fault.ensures ∙ c.before.before.before.before.before.before.before.before.before.before.before.if1.false) c.before.before.before.before.stages.ensures
 
 pub decide-spec : {M : Type 1} → statement M
 decide-spec =

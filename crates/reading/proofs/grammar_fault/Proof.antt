@@ -25,7 +25,7 @@ enum-known-p-3 c = search rules
 
 returns : tie.Need-returns
 unfolding grammar_fault number_of place_of
-returns c = sym (ap grammar_fault (sym c.before.before.answer-of.ensures ∙ c.enum_told.given.1))
+returns c = sym (ap grammar_fault (sym c.before.before.answer_of.ensures ∙ c.enum_told.given.1))
 
 returns-2 : tie.Need-returns-2
 unfolding grammar_fault number_of place_of

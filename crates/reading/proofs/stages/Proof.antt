@@ -19,7 +19,7 @@ is-fault-requires : tie.Need-is-fault-requires
 is-fault-requires c κs = search rules
 
 returns : tie.Need-returns
-returns c = by_first _ _ _ _ c.before.before.definition-faults.ensures _ _ _ _ _ _ (sym c.before.is-fault.ensures ∙ c.if1.true)
+returns c = by_first _ _ _ _ c.before.before.definition_faults.ensures _ _ _ _ _ _ (sym c.before.is-fault.ensures ∙ c.if1.true)
 
 least-of-requires : tie.Need-least-of-requires
 least-of-requires c κs = search rules
@@ -37,7 +37,7 @@ is-fault-requires-2 : tie.Need-is-fault-requires-2
 is-fault-requires-2 c κs = search rules
 
 returns-2 : tie.Need-returns-2
-returns-2 c = by_second _ _ _ _ c.before.before.before.before.before.before.before.before.before.before.definition-faults.ensures (sym c.before.before.before.before.before.before.before.before.before.is-fault.ensures ∙ c.before.before.before.before.before.before.before.before.if1.false) _ _ c.before.before.before.before.before.before.before.least-of.ensures c.before.before.before.before.before.before.firsts.ensures _ c.before.before.before.object-faults.ensures _ _ _ _ _ _ (sym c.before.is-fault2.ensures ∙ c.if2.true)
+returns-2 c = by_second _ _ _ _ c.before.before.before.before.before.before.before.before.before.before.definition_faults.ensures (sym c.before.before.before.before.before.before.before.before.before.is-fault.ensures ∙ c.before.before.before.before.before.before.before.before.if1.false) _ _ c.before.before.before.before.before.before.before.least-of.ensures c.before.before.before.before.before.before.firsts.ensures _ c.before.before.before.object-faults.ensures _ _ _ _ _ _ (sym c.before.is-fault2.ensures ∙ c.if2.true)
 
 slice-aggregate-merge : tie.Need-slice-aggregate-merge
 slice-aggregate-merge c = search rules
@@ -52,7 +52,7 @@ same_length_2 : tie.Need-same-length-2
 same_length_2 c = search rules
 
 returns-3 : tie.Need-returns-3
-returns-3 c = by_third _ _ _ _ c.before.before.before.before.before.before.before.before.before.before.before.before.before.before.before.before.before.before.before.definition-faults.ensures (sym c.before.before.before.before.before.before.before.before.before.before.before.before.before.before.before.before.before.before.is-fault.ensures ∙ c.before.before.before.before.before.before.before.before.before.before.before.before.before.before.before.before.before.if1.false) _ _ c.before.before.before.before.before.before.before.before.before.before.before.before.before.before.before.before.least-of.ensures c.before.before.before.before.before.before.before.before.before.before.before.before.before.before.before.firsts.ensures _ c.before.before.before.before.before.before.before.before.before.before.before.before.object-faults.ensures (sym c.before.before.before.before.before.before.before.before.before.before.is-fault2.ensures ∙ c.before.before.before.before.before.before.before.before.before.if2.false) _ _ _ _ _ c.before.before.before.before.before.merge.ensures
+returns-3 c = by_third _ _ _ _ c.before.before.before.before.before.before.before.before.before.before.before.before.before.before.before.before.before.before.before.definition-faults.ensures (sym c.before.before.before.before.before.before.before.before.before.before.before.before.before.before.before.before.before.before.is_fault.ensures ∙ c.before.before.before.before.before.before.before.before.before.before.before.before.before.before.before.before.before.if1.false) _ _ c.before.before.before.before.before.before.before.before.before.before.before.before.before.before.before.before.least_of.ensures c.before.before.before.before.before.before.before.before.before.before.before.before.before.before.before.firsts.ensures _ c.before.before.before.before.before.before.before.before.before.before.before.before.object_faults.ensures (sym c.before.before.before.before.before.before.before.before.before.before.is-fault2.ensures ∙ c.before.before.before.before.before.before.before.before.before.if2.false) _ _ _ _ _ c.before.before.before.before.before.merge.ensures
 
 pub stages-spec : {M : Type 1} → statement M
 stages-spec =

@@ -33,7 +33,7 @@ array-borrow-prefix-x : tie.Need-array-borrow-prefix-x
 array-borrow-prefix-x c = search rules
 
 slice-aggregate-compare-prepared : tie.Need-slice-aggregate-compare-prepared
-slice-aggregate-compare-prepared c = let e = c.before.before.before.before.least-of.ensures in room_long _ _ (omega (arith, e))
+slice-aggregate-compare-prepared c = let e = c.before.before.before.before.least_of.ensures in room_long _ _ (omega (arith, e))
 
 array-borrow-prefix-y : tie.Need-array-borrow-prefix-y
 array-borrow-prefix-y c = search rules
@@ -69,7 +69,7 @@ compare-prepared-requires : tie.Need-compare-prepared-requires
 compare-prepared-requires c κs = let e = c.before.before.before.before.before.before.before.before.before.least-of.ensures in let f = c.before.before.before.before.before.before.before.before.least-of2.ensures in let e2 = c.before.before.before.before.before.before.before.least-of3.ensures in let f2 = c.before.before.before.before.before.before.least-of4.ensures in fitting (c.before.before.before.before.before.before.before.before.before.least-of.result) (c.before.before.before.before.before.before.before.least-of3.result) (c.before.before.before.before.before.before.before.before.least-of2.result) (c.before.before.before.before.before.before.least-of4.result) _ _ _ _ (room_long _ _ (omega (arith, e))) (room_long _ _ (omega (arith, e2))) (room_long _ _ (omega (arith, f))) (room_long _ _ (omega (arith, f2))) (omega (arith, e)) (omega (arith, e2)) (omega (arith, f)) (omega (arith, f2))
 
 returns : tie.Need-returns
-returns c = roomed _ _ _ _ _ _ _ _ _ _ _ _ _ _ _ _ _ _ _ _ _ _ _ _ _ _ _ c.before.before.before.before.before.before.before.before.before.before.before.before.before.before.before.before.least-of.ensures c.before.before.before.before.before.before.before.before.before.before.before.before.before.before.before.least-of2.ensures refl c.before.before.before.before.before.before.before.before.before.before.before.before.before.before.least-of3.ensures c.before.before.before.before.before.before.before.before.before.before.before.before.before.least-of4.ensures refl (let e = c.before.before.before.before.before.before.before.before.before.before.before.before.before.before.before.before.least-of.ensures in room_long _ _ (omega (arith, e))) (let e = c.before.before.before.before.before.before.before.before.before.before.before.before.before.before.before.least-of2.ensures in room_long _ _ (omega (arith, e))) (let e = c.before.before.before.before.before.before.before.before.before.before.before.before.before.before.before.least-of2.ensures in room_long _ _ (omega (arith, e))) (let e = c.before.before.before.before.before.before.before.before.before.before.before.before.before.before.least-of3.ensures in room_long _ _ (omega (arith, e))) (let e = c.before.before.before.before.before.before.before.before.before.before.before.before.before.least-of4.ensures in room_long _ _ (omega (arith, e))) (let e = c.before.before.before.before.before.before.before.before.before.before.before.before.before.least-of4.ensures in room_long _ _ (omega (arith, e))) c.before.before.before.before.before.before.compare-prepared.ensures
+returns c = roomed _ _ _ _ _ _ _ _ _ _ _ _ _ _ _ _ _ _ _ _ _ _ _ _ _ _ _ c.before.before.before.before.before.before.before.before.before.before.before.before.before.before.before.before.least_of.ensures c.before.before.before.before.before.before.before.before.before.before.before.before.before.before.before.least-of2.ensures refl c.before.before.before.before.before.before.before.before.before.before.before.before.before.before.least-of3.ensures c.before.before.before.before.before.before.before.before.before.before.before.before.before.least-of4.ensures refl (let e = c.before.before.before.before.before.before.before.before.before.before.before.before.before.before.before.before.least_of.ensures in room_long _ _ (omega (arith, e))) (let e = c.before.before.before.before.before.before.before.before.before.before.before.before.before.before.before.least-of2.ensures in room_long _ _ (omega (arith, e))) (let e = c.before.before.before.before.before.before.before.before.before.before.before.before.before.before.before.least-of2.ensures in room_long _ _ (omega (arith, e))) (let e = c.before.before.before.before.before.before.before.before.before.before.before.before.before.before.least-of3.ensures in room_long _ _ (omega (arith, e))) (let e = c.before.before.before.before.before.before.before.before.before.before.before.before.before.least-of4.ensures in room_long _ _ (omega (arith, e))) (let e = c.before.before.before.before.before.before.before.before.before.before.before.before.before.least-of4.ensures in room_long _ _ (omega (arith, e))) c.before.before.before.before.before.before.compare-prepared.ensures
 
 pub differences-of-spec : {M : Type 1} → statement M
 differences-of-spec =

@@ -85,7 +85,7 @@ same-length-8 : tie.Need-same-length-8
 same-length-8 c = search rules
 
 returns-2 : tie.Need-returns-2
-returns-2 c = stopped_second c.before.before.before.before.before.before.before.before.before.before.before.before.before.before.before.before.before.before.before.before.expand.ensures c.before.before.before.before.before.before.before.before.before.before.before.before.before.expand2.ensures _ c.before.before.before.before.before.before.before.one2.given.1 c.before.before.before.before.two.given.1 c.first-or.ensures
+returns-2 c = stopped_second c.before.before.before.before.before.before.before.before.before.before.before.before.before.before.before.before.before.before.before.before.expand.ensures c.before.before.before.before.before.before.before.before.before.before.before.before.before.expand2.ensures _ c.before.before.before.before.before.before.before.one2.given.1 c.before.before.before.before.two.given.1 c.first_or.ensures
 
 same-length-9 : tie.Need-same-length-9
 same-length-9 c = c.before.before.before.before.before.before.before.before.before.before.before.before.before.before.before.before.before.before.before.before.before.before.before.before.before.before.before.before.before.before.before.before.before.before.before.before.before.before.before.before.before.before.before.before.before.before.expand.auto.1.1.0

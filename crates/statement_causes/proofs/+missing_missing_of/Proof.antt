@@ -42,10 +42,10 @@ abbrev missing-of-below : ℕ → In 5 missing-of-kinds.ps
 missing-of-below t =
     and 5 missing-of-kinds.ps (falls 5 missing-of-kinds.ps ◌<◌ μ-missing-of t) missing-of.Pre
 
-abbrev missing-Inv-loop : missing-lts.invariant-loop
+abbrev missing-Inv-loop : missing-lts.invariant_loop
 missing-Inv-loop text d e st names z n key from end i₀ i = Over text d e st z key from end i
 
-abbrev missing-μ-loop : missing-lts.decreases-loop
+abbrev missing-μ-loop : missing-lts.decreases_loop
 missing-μ-loop text d e st names z n key from end i₀ i = n - i
 
 missing-returns : (t : ℕ) → missing-lts.Need-returns (
@@ -94,7 +94,7 @@ missing-returns-2 : (t : ℕ) → missing-lts.Need-returns-2 (
   missing-of-below t,
   missing-of.Post,
 ) (missing_at t) missing.Post missing-Inv-loop missing-μ-loop
-missing-returns-2 t c = over_none _ _ _ _ _ _ _ _ _ (c.before.before.before.before.loop.i) c.before.before.before.before.before.if1.false (sym c.before.before.find-row.ensures ∙ c.enum_told.given.1) c.before.before.before.before.loop.invariant
+missing-returns-2 t c = over_none _ _ _ _ _ _ _ _ _ (c.before.before.before.before.loop.i) c.before.before.before.before.before.if1.false (sym c.before.before.find_row.ensures ∙ c.enum_told.given.1) c.before.before.before.before.loop.invariant
 
 missing-missing-of-requires : (t : ℕ) → missing-lts.Need-missing-of-requires (
   find-row-reads.Asked,
@@ -240,7 +240,7 @@ missing-of-returns-2 : (t : ℕ) → missing-of-lts.Need-returns-2 (
   missing-below t,
   missing.Post,
 ) (missing-of-at t) missing-of.Post
-missing-of-returns-2 t c = subst (λ r. MissesRow c.before.before.before.before.before.before.before.before.before.before.before.before.args.text.now c.before.before.before.before.before.before.before.before.before.before.before.before.args.d.now c.before.before.before.before.before.before.before.before.before.before.before.before.args.e.now c.before.before.before.before.before.before.before.before.before.before.before.before.args.st.now (c.before.before.before.before.before.before.before.before.before.before.before.before.args.z) (c.before.before.before.before.before.before.before.before.before.before.before.before.args.j) (c.before.before.before.before.before.before.before.before.before.before.before.before.args.from) (c.before.before.before.before.before.before.before.before.before.before.before.before.args.end) r) (sym c.single-place.ensures) (row_no_size _ _ _ _ _ _ _ _ (c.before.before.before.before.before.before.cell-of.result) (c.before.before.before.before.before.cell-of2.result) c.before.before.before.before.before.before.cell-of.ensures c.before.before.before.before.before.cell-of2.ensures (subst (λ b. IsStated c.before.before.before.before.before.before.before.before.before.before.before.before.args.text.now c.before.before.before.before.before.before.before.before.before.before.before.before.args.st.now (c.before.before.before.before.before.before.before.before.before.before.before.before.args.from) (c.before.before.before.before.before.before.before.before.before.before.before.before.args.end) (c.before.before.before.before.before.before.cell-of.result) (c.before.before.before.before.before.cell-of2.result) b) c.before.before.before.if1.false c.before.before.before.before.is-stated.ensures) (sym c.before.before.cell-of3.ensures ∙ c.before.if2.true))
+missing-of-returns-2 t c = subst (λ r. MissesRow c.before.before.before.before.before.before.before.before.before.before.before.before.args.text.now c.before.before.before.before.before.before.before.before.before.before.before.before.args.d.now c.before.before.before.before.before.before.before.before.before.before.before.before.args.e.now c.before.before.before.before.before.before.before.before.before.before.before.before.args.st.now (c.before.before.before.before.before.before.before.before.before.before.before.before.args.z) (c.before.before.before.before.before.before.before.before.before.before.before.before.args.j) (c.before.before.before.before.before.before.before.before.before.before.before.before.args.from) (c.before.before.before.before.before.before.before.before.before.before.before.before.args.end) r) (sym c.single_place.ensures) (row_no_size _ _ _ _ _ _ _ _ (c.before.before.before.before.before.before.cell_of.result) (c.before.before.before.before.before.cell-of2.result) c.before.before.before.before.before.before.cell_of.ensures c.before.before.before.before.before.cell-of2.ensures (subst (λ b. IsStated c.before.before.before.before.before.before.before.before.before.before.before.before.args.text.now c.before.before.before.before.before.before.before.before.before.before.before.before.args.st.now (c.before.before.before.before.before.before.before.before.before.before.before.before.args.from) (c.before.before.before.before.before.before.before.before.before.before.before.before.args.end) (c.before.before.before.before.before.before.cell_of.result) (c.before.before.before.before.before.cell-of2.result) b) c.before.before.before.if1.false c.before.before.before.before.is_stated.ensures) (sym c.before.before.cell-of3.ensures ∙ c.before.if2.true))
 
 missing-of-cell-of-requires-4 : (t : ℕ) → missing-of-lts.Need-cell-of-requires-4 (
   cell-of-reads.Asked,
@@ -282,7 +282,7 @@ missing-of-returns-3 : (t : ℕ) → missing-of-lts.Need-returns-3 (
   missing-below t,
   missing.Post,
 ) (missing-of-at t) missing-of.Post
-missing-of-returns-3 t c = subst (λ r. MissesRow c.before.before.before.before.before.before.before.before.before.before.before.before.before.before.args.text.now c.before.before.before.before.before.before.before.before.before.before.before.before.before.before.args.d.now c.before.before.before.before.before.before.before.before.before.before.before.before.before.before.args.e.now c.before.before.before.before.before.before.before.before.before.before.before.before.before.before.args.st.now (c.before.before.before.before.before.before.before.before.before.before.before.before.before.before.args.z) (c.before.before.before.before.before.before.before.before.before.before.before.before.before.before.args.j) (c.before.before.before.before.before.before.before.before.before.before.before.before.before.before.args.from) (c.before.before.before.before.before.before.before.before.before.before.before.before.before.before.args.end) r) (sym c.single-place2.ensures) (row_no_default _ _ _ _ _ _ _ _ (c.before.before.before.before.before.before.before.before.cell-of.result) (c.before.before.before.before.before.before.before.cell-of2.result) c.before.before.before.before.before.before.before.before.cell-of.ensures c.before.before.before.before.before.before.before.cell-of2.ensures (subst (λ b. IsStated c.before.before.before.before.before.before.before.before.before.before.before.before.before.before.args.text.now c.before.before.before.before.before.before.before.before.before.before.before.before.before.before.args.st.now (c.before.before.before.before.before.before.before.before.before.before.before.before.before.before.args.from) (c.before.before.before.before.before.before.before.before.before.before.before.before.before.before.args.end) (c.before.before.before.before.before.before.before.before.cell-of.result) (c.before.before.before.before.before.before.before.cell-of2.result) b) c.before.before.before.before.before.if1.false c.before.before.before.before.before.before.is-stated.ensures) (sym c.before.before.cell-of4.ensures ∙ c.before.if3.true))
+missing-of-returns-3 t c = subst (λ r. MissesRow c.before.before.before.before.before.before.before.before.before.before.before.before.before.before.args.text.now c.before.before.before.before.before.before.before.before.before.before.before.before.before.before.args.d.now c.before.before.before.before.before.before.before.before.before.before.before.before.before.before.args.e.now c.before.before.before.before.before.before.before.before.before.before.before.before.before.before.args.st.now (c.before.before.before.before.before.before.before.before.before.before.before.before.before.before.args.z) (c.before.before.before.before.before.before.before.before.before.before.before.before.before.before.args.j) (c.before.before.before.before.before.before.before.before.before.before.before.before.before.before.args.from) (c.before.before.before.before.before.before.before.before.before.before.before.before.before.before.args.end) r) (sym c.single-place2.ensures) (row_no_default _ _ _ _ _ _ _ _ (c.before.before.before.before.before.before.before.before.cell_of.result) (c.before.before.before.before.before.before.before.cell-of2.result) c.before.before.before.before.before.before.before.before.cell_of.ensures c.before.before.before.before.before.before.before.cell-of2.ensures (subst (λ b. IsStated c.before.before.before.before.before.before.before.before.before.before.before.before.before.before.args.text.now c.before.before.before.before.before.before.before.before.before.before.before.before.before.before.args.st.now (c.before.before.before.before.before.before.before.before.before.before.before.before.before.before.args.from) (c.before.before.before.before.before.before.before.before.before.before.before.before.before.before.args.end) (c.before.before.before.before.before.before.before.before.cell_of.result) (c.before.before.before.before.before.before.before.cell-of2.result) b) c.before.before.before.before.before.if1.false c.before.before.before.before.before.before.is_stated.ensures) (sym c.before.before.cell-of4.ensures ∙ c.before.if3.true))
 
 missing-of-cell-of-requires-5 : (t : ℕ) → missing-of-lts.Need-cell-of-requires-5 (
   cell-of-reads.Asked,
@@ -338,7 +338,7 @@ missing-of-returns-4 : (t : ℕ) → missing-of-lts.Need-returns-4 (
   missing-below t,
   missing.Post,
 ) (missing-of-at t) missing-of.Post
-missing-of-returns-4 t c = row_default _ _ _ _ _ _ _ _ (c.before.before.before.before.before.before.before.before.before.before.cell-of.result) (c.before.before.before.before.before.before.before.before.before.cell-of2.result) c.before.before.before.before.before.before.before.before.before.before.cell-of.ensures c.before.before.before.before.before.before.before.before.before.cell-of2.ensures (subst (λ b. IsStated c.before.before.before.before.before.before.before.before.before.before.before.before.before.before.before.before.args.text.now c.before.before.before.before.before.before.before.before.before.before.before.before.before.before.before.before.args.st.now (c.before.before.before.before.before.before.before.before.before.before.before.before.before.before.before.before.args.from) (c.before.before.before.before.before.before.before.before.before.before.before.before.before.before.before.before.args.end) (c.before.before.before.before.before.before.before.before.before.before.cell-of.result) (c.before.before.before.before.before.before.before.before.before.cell-of2.result) b) c.before.before.before.before.before.before.before.if1.false c.before.before.before.before.before.before.before.before.is-stated.ensures) (c.before.before.cell-of5.result) (c.before.before.before.before.before.before.cell-of3.result) (c.before.word-under.result) (c.missing.result) c.before.before.cell-of5.ensures c.before.before.before.before.before.before.cell-of3.ensures c.before.before.before.before.before.if2.false (λ y. c.before.before.before.if3.false (c.before.before.before.before.cell-of4.ensures ∙ y)) c.before.word-under.ensures c.missing.ensures
+missing-of-returns-4 t c = row_default _ _ _ _ _ _ _ _ (c.before.before.before.before.before.before.before.before.before.before.cell_of.result) (c.before.before.before.before.before.before.before.before.before.cell-of2.result) c.before.before.before.before.before.before.before.before.before.before.cell_of.ensures c.before.before.before.before.before.before.before.before.before.cell-of2.ensures (subst (λ b. IsStated c.before.before.before.before.before.before.before.before.before.before.before.before.before.before.before.before.args.text.now c.before.before.before.before.before.before.before.before.before.before.before.before.before.before.before.before.args.st.now (c.before.before.before.before.before.before.before.before.before.before.before.before.before.before.before.before.args.from) (c.before.before.before.before.before.before.before.before.before.before.before.before.before.before.before.before.args.end) (c.before.before.before.before.before.before.before.before.before.before.cell_of.result) (c.before.before.before.before.before.before.before.before.before.cell-of2.result) b) c.before.before.before.before.before.before.before.if1.false c.before.before.before.before.before.before.before.before.is_stated.ensures) (c.before.before.cell-of5.result) (c.before.before.before.before.before.before.cell-of3.result) (c.before.word-under.result) (c.missing.result) c.before.before.cell-of5.ensures c.before.before.before.before.before.before.cell-of3.ensures c.before.before.before.before.before.if2.false (λ y. c.before.before.before.if3.false (c.before.before.before.before.cell-of4.ensures ∙ y)) c.before.word-under.ensures c.missing.ensures
 
 pub +missing-missing-of-spec : {M : Type 1} → statement M
 +missing-missing-of-spec = close μ-missing μ-missing-of (λ t. missing-lts.spec (

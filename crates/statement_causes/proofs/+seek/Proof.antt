@@ -24,10 +24,10 @@ seek-at t = and 5 seek-kinds.ps (is 5 seek-kinds.ps μ-seek t) seek.Pre
 abbrev seek-below : ℕ → In 5 seek-kinds.ps
 seek-below t = and 5 seek-kinds.ps (falls 5 seek-kinds.ps ◌<◌ μ-seek t) seek.Pre
 
-abbrev seek-Inv-loop : seek-lts.invariant-loop
+abbrev seek-Inv-loop : seek-lts.invariant_loop
 seek-Inv-loop text d e st names z key from end place k₀ k = (from ≤ k) × Seeking text d e st z key from end place k
 
-abbrev seek-μ-loop : seek-lts.decreases-loop
+abbrev seek-μ-loop : seek-lts.decreases_loop
 seek-μ-loop text d e st names z key from end place k₀ k = end - k
 
 seek-loop-holds : (t : ℕ) → seek-lts.Need-loop-init (
@@ -124,7 +124,7 @@ seek-returns-2 : (t : ℕ) → seek-lts.Need-returns-2 (
   seek-below t,
   seek.Post,
 ) (seek-at t) seek.Post seek-Inv-loop seek-μ-loop
-seek-returns-2 t c = seeking-inside _ _ _ _ _ _ _ _ _ (c.before.before.before.before.before.before.before.loop.k) c.before.before.before.before.before.before.loop-test.true c.before.before.before.before.before.before.before.loop.invariant.1 (sym c.before.before.before.before.before.touches.ensures ∙ c.before.before.before.before.if1.false) (c.before.before.before.after.result) (c.before.before.scope-inside.result) (c.before.seek.result) c.before.before.before.after.ensures c.before.before.scope-inside.ensures c.before.seek.ensures c.if2.true
+seek-returns-2 t c = seeking-inside _ _ _ _ _ _ _ _ _ (c.before.before.before.before.before.before.before.loop.k) c.before.before.before.before.before.before.loop-test.true c.before.before.before.before.before.before.before.loop.invariant.1 (sym c.before.before.before.before.before.touches.ensures ∙ c.before.before.before.before.if1.false) (c.before.before.before.after.result) (c.before.before.scope_inside.result) (c.before.seek.result) c.before.before.before.after.ensures c.before.before.scope_inside.ensures c.before.seek.ensures c.if2.true
 
 seek-loop-less : (t : ℕ) → seek-lts.Need-loop-smaller (
   touches-reads.Asked,
@@ -148,7 +148,7 @@ seek-loop-again : (t : ℕ) → seek-lts.Need-loop-preserved (
   seek-below t,
   seek.Post,
 ) (seek-at t) seek.Post seek-Inv-loop seek-μ-loop
-seek-loop-again t c = (omega (arith, c.before.before.before.after.ensures, after_later c.before.before.before.before.before.before.before.before.before.before.before.before.before.args.st.now (c.before.before.before.before.before.before.before.loop.k) (c.before.before.before.before.before.before.before.before.before.before.before.before.before.args.end) c.before.before.before.before.before.before.loop-test.true, c.before.before.before.before.before.before.before.loop.invariant.0), seeking-more _ _ _ _ _ _ _ _ _ (c.before.before.before.before.before.before.before.loop.k) c.before.before.before.before.before.before.loop-test.true c.before.before.before.before.before.before.before.loop.invariant.1 (sym c.before.before.before.before.before.touches.ensures ∙ c.before.before.before.before.if1.false) (c.before.before.before.after.result) (c.before.before.scope-inside.result) (c.before.seek.result) c.before.before.before.after.ensures c.before.before.scope-inside.ensures c.before.seek.ensures c.if2.false)
+seek-loop-again t c = (omega (arith, c.before.before.before.after.ensures, after_later c.before.before.before.before.before.before.before.before.before.before.before.before.before.args.st.now (c.before.before.before.before.before.before.before.loop.k) (c.before.before.before.before.before.before.before.before.before.before.before.before.before.args.end) c.before.before.before.before.before.before.loop-test.true, c.before.before.before.before.before.before.before.loop.invariant.0), seeking-more _ _ _ _ _ _ _ _ _ (c.before.before.before.before.before.before.before.loop.k) c.before.before.before.before.before.before.loop-test.true c.before.before.before.before.before.before.before.loop.invariant.1 (sym c.before.before.before.before.before.touches.ensures ∙ c.before.before.before.before.if1.false) (c.before.before.before.after.result) (c.before.before.scope_inside.result) (c.before.seek.result) c.before.before.before.after.ensures c.before.before.scope_inside.ensures c.before.seek.ensures c.if2.false)
 
 seek-returns-3 : (t : ℕ) → seek-lts.Need-returns-3 (
   touches-reads.Asked,

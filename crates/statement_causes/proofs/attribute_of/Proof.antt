@@ -30,13 +30,13 @@ enum_told : tie.Need-enum-told
 enum_told c = search rules
 
 returns-2 : tie.Need-returns-2
-returns-2 c = attribute_undefined _ _ _ _ _ (c.before.before.before.before.before.before.before.before.before.before.before.before.args.spot) _ (turned_false _ c.before.before.before.before.before.if1.false) (c.before.before.before.before.cell-of.result) (c.before.before.before.cell-of2.result) c.before.before.before.before.cell-of.ensures c.before.before.before.cell-of2.ensures (subst (λ r. FindsDefinition c.before.before.before.before.before.before.before.before.before.before.before.before.args.text.now c.before.before.before.before.before.before.before.before.before.before.before.before.args.d.now c.before.before.before.before.before.before.before.before.before.before.before.before.args.z.definitions c.before.before.before.before.before.before.before.before.before.before.before.before.args.spot.key (c.before.before.before.before.cell-of.result) (c.before.before.before.cell-of2.result) r) c.enum_told.given.1 c.before.before.find-definition.ensures) refl
+returns-2 c = attribute_undefined _ _ _ _ _ (c.before.before.before.before.before.before.before.before.before.before.before.before.args.spot) _ (turned_false _ c.before.before.before.before.before.if1.false) (c.before.before.before.before.cell_of.result) (c.before.before.before.cell-of2.result) c.before.before.before.before.cell_of.ensures c.before.before.before.cell-of2.ensures (subst (λ r. FindsDefinition c.before.before.before.before.before.before.before.before.before.before.before.before.args.text.now c.before.before.before.before.before.before.before.before.before.before.before.before.args.d.now c.before.before.before.before.before.before.before.before.before.before.before.before.args.z.definitions c.before.before.before.before.before.before.before.before.before.before.before.before.args.spot.key (c.before.before.before.before.cell_of.result) (c.before.before.before.cell-of2.result) r) c.enum_told.given.1 c.before.before.find_definition.ensures) refl
 
 attribute-row-requires : tie.Need-attribute-row-requires
 attribute-row-requires c κs = search rules
 
 returns-3 : tie.Need-returns-3
-returns-3 c = attribute_defined _ _ _ _ _ (c.before.before.before.before.before.before.before.before.before.before.before.before.before.before.args.spot) _ (turned_false _ c.before.before.before.before.before.before.before.if1.false) (c.before.before.before.before.before.before.cell-of.result) (c.before.before.before.before.before.cell-of2.result) c.before.before.before.before.before.before.cell-of.ensures c.before.before.before.before.before.cell-of2.ensures _ (subst (λ r. FindsDefinition c.before.before.before.before.before.before.before.before.before.before.before.before.before.before.args.text.now c.before.before.before.before.before.before.before.before.before.before.before.before.before.before.args.d.now c.before.before.before.before.before.before.before.before.before.before.before.before.before.before.args.z.definitions c.before.before.before.before.before.before.before.before.before.before.before.before.before.before.args.spot.key (c.before.before.before.before.before.before.cell-of.result) (c.before.before.before.before.before.cell-of2.result) r) c.before.before.j.given.1 c.before.before.before.before.find-definition.ensures) c.attribute-row.ensures
+returns-3 c = attribute_defined _ _ _ _ _ (c.before.before.before.before.before.before.before.before.before.before.before.before.before.before.args.spot) _ (turned_false _ c.before.before.before.before.before.before.before.if1.false) (c.before.before.before.before.before.before.cell_of.result) (c.before.before.before.before.before.cell-of2.result) c.before.before.before.before.before.before.cell_of.ensures c.before.before.before.before.before.cell-of2.ensures _ (subst (λ r. FindsDefinition c.before.before.before.before.before.before.before.before.before.before.before.before.before.before.args.text.now c.before.before.before.before.before.before.before.before.before.before.before.before.before.before.args.d.now c.before.before.before.before.before.before.before.before.before.before.before.before.before.before.args.z.definitions c.before.before.before.before.before.before.before.before.before.before.before.before.before.before.args.spot.key (c.before.before.before.before.before.before.cell_of.result) (c.before.before.before.before.before.cell-of2.result) r) c.before.before.j.given.1 c.before.before.before.before.find_definition.ensures) c.attribute-row.ensures
 
 pub attribute-of-spec : {M : Type 1} → statement M
 attribute-of-spec =

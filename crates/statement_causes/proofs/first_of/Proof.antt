@@ -28,13 +28,13 @@ enum_told : tie.Need-enum-told
 enum_told c = search rules
 
 returns-2 : tie.Need-returns-2
-returns-2 c = first_nothing _ _ (c.before.before.before.before.before.before.before.before.before.args.spot) (turned_false _ c.before.before.before.before.before.if1.false) (c.before.before.before.before.cell-of.result) (c.before.before.before.cell-of2.result) c.before.before.before.before.cell-of.ensures c.before.before.before.cell-of2.ensures (c.before.before.stated.result) c.before.before.stated.ensures c.enum_told.given.1
+returns-2 c = first_nothing _ _ (c.before.before.before.before.before.before.before.before.before.args.spot) (turned_false _ c.before.before.before.before.before.if1.false) (c.before.before.before.before.cell_of.result) (c.before.before.before.cell-of2.result) c.before.before.before.before.cell_of.ensures c.before.before.before.cell-of2.ensures (c.before.before.stated.result) c.before.before.stated.ensures c.enum_told.given.1
 
 cell-of-requires-3 : tie.Need-cell-of-requires-3
 cell-of-requires-3 c κs = search rules
 
 returns-3 : tie.Need-returns-3
-returns-3 c = first_found _ _ (c.before.before.before.before.before.before.before.before.before.before.before.args.spot) (turned_false _ c.before.before.before.before.before.before.before.if1.false) (c.before.before.before.before.before.before.cell-of.result) (c.before.before.before.before.before.cell-of2.result) c.before.before.before.before.before.before.cell-of.ensures c.before.before.before.before.before.cell-of2.ensures (c.before.before.before.before.stated.result) c.before.before.before.before.stated.ensures _ (c.cell-of3.result) c.before.before.k.given.1 c.cell-of3.ensures
+returns-3 c = first_found _ _ (c.before.before.before.before.before.before.before.before.before.before.before.args.spot) (turned_false _ c.before.before.before.before.before.before.before.if1.false) (c.before.before.before.before.before.before.cell_of.result) (c.before.before.before.before.before.cell-of2.result) c.before.before.before.before.before.before.cell_of.ensures c.before.before.before.before.before.cell-of2.ensures (c.before.before.before.before.stated.result) c.before.before.before.before.stated.ensures _ (c.cell-of3.result) c.before.before.k.given.1 c.cell-of3.ensures
 
 pub first-of-spec : {M : Type 1} → statement M
 first-of-spec =

@@ -28,7 +28,7 @@ missing-object-requires : tie.Need-missing-object-requires
 missing-object-requires c κs = search rules
 
 returns-2 : tie.Need-returns-2
-returns-2 c = owner_object _ _ _ _ _ _ c.before.before.before.before.before.before.before.before.before.before.before.before.args.places.now (c.before.before.before.before.before.before.before.before.before.before.before.before.args.spot) (c.before.before.before.before.before.before.before.before.before.before.before.before.args.place) (c.missing-object.result) _ (sym c.before.before.before.before.find-row.ensures ∙ c.before.before.i.given.1) c.missing-object.ensures
+returns-2 c = owner_object _ _ _ _ _ _ c.before.before.before.before.before.before.before.before.before.before.before.before.args.places.now (c.before.before.before.before.before.before.before.before.before.before.before.before.args.spot) (c.before.before.before.before.before.before.before.before.before.before.before.before.args.place) (c.missing-object.result) _ (sym c.before.before.before.before.find_row.ensures ∙ c.before.before.i.given.1) c.missing-object.ensures
 
 pub missing-at-spec : {M : Type 1} → statement M
 missing-at-spec =

@@ -29,7 +29,7 @@ missing-requires : tie.Need-missing-requires
 missing-requires c κs = search rules
 
 returns-3 : tie.Need-returns-3
-returns-3 c = inside_misses _ _ _ _ _ (c.before.before.before.before.before.before.before.before.before.before.before.before.before.args.spot) (c.before.before.before.after.result) (c.before.before.scope-inside.result) (c.missing.result) (turned_false _ c.before.before.before.before.before.before.if1.false) c.before.before.before.after.ensures c.before.before.scope-inside.ensures c.missing.ensures
+returns-3 c = inside_misses _ _ _ _ _ (c.before.before.before.before.before.before.before.before.before.before.before.before.before.args.spot) (c.before.before.before.after.result) (c.before.before.scope_inside.result) (c.missing.result) (turned_false _ c.before.before.before.before.before.before.if1.false) c.before.before.before.after.ensures c.before.before.scope_inside.ensures c.missing.ensures
 
 pub missing-inside-spec : {M : Type 1} → statement M
 missing-inside-spec =

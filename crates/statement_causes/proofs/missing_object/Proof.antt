@@ -24,7 +24,7 @@ missing-requires : tie.Need-missing-requires
 missing-requires c κs = search rules
 
 returns : tie.Need-returns
-returns c = object_misses _ _ _ _ _ _ c.before.before.before.before.before.before.before.before.before.before.before.before.args.places.now (c.before.before.before.before.before.before.before.before.before.before.before.before.args.i) (c.before.before.before.before.cell-of.result) (c.before.before.before.get.result) (c.before.before.cell-of2.result) (c.before.cell-of3.result) (c.missing.result) c.before.before.before.before.cell-of.ensures c.before.before.before.get.ensures c.before.before.cell-of2.ensures c.before.cell-of3.ensures c.missing.ensures
+returns c = object_misses _ _ _ _ _ _ c.before.before.before.before.before.before.before.before.before.before.before.before.args.places.now (c.before.before.before.before.before.before.before.before.before.before.before.before.args.i) (c.before.before.before.before.cell_of.result) (c.before.before.before.get.result) (c.before.before.cell-of2.result) (c.before.cell-of3.result) (c.missing.result) c.before.before.before.before.cell_of.ensures c.before.before.before.get.ensures c.before.before.cell-of2.ensures c.before.cell-of3.ensures c.missing.ensures
 
 pub missing-object-spec : {M : Type 1} → statement M
 missing-object-spec =

@@ -26,7 +26,7 @@ enum_told : tie.Need-enum-told
 enum_told c = search rules
 
 returns : tie.Need-returns
-returns c = inner_none _ _ _ _ _ _ _ (c.before.before.before.before.cell-of.result) (c.before.before.before.cell-of2.result) c.before.before.before.before.cell-of.ensures c.before.before.before.cell-of2.ensures (subst (λ r. FindsDefinition c.before.before.before.before.before.before.before.before.before.before.args.text.now c.before.before.before.before.before.before.before.before.before.before.args.d.now c.before.before.before.before.before.before.before.before.before.before.args.z.definitions (c.before.before.before.before.before.before.before.before.before.before.args.key) (c.before.before.before.before.cell-of.result) (c.before.before.before.cell-of2.result) r) c.enum_told.given.1 c.before.before.find-definition.ensures)
+returns c = inner_none _ _ _ _ _ _ _ (c.before.before.before.before.cell_of.result) (c.before.before.before.cell-of2.result) c.before.before.before.before.cell_of.ensures c.before.before.before.cell-of2.ensures (subst (λ r. FindsDefinition c.before.before.before.before.before.before.before.before.before.before.args.text.now c.before.before.before.before.before.before.before.before.before.before.args.d.now c.before.before.before.before.before.before.before.before.before.before.args.z.definitions (c.before.before.before.before.before.before.before.before.before.before.args.key) (c.before.before.before.before.cell_of.result) (c.before.before.before.cell-of2.result) r) c.enum_told.given.1 c.before.before.find_definition.ensures)
 
 cell-of-requires-3 : tie.Need-cell-of-requires-3
 cell-of-requires-3 c κs = search rules
@@ -38,7 +38,7 @@ word-under-requires : tie.Need-word-under-requires
 word-under-requires c κs = c.before.before.before.before.before.before.before.before.before.before.before.before.before.requires.enumerators
 
 returns-2 : tie.Need-returns-2
-returns-2 c = inner_some _ _ _ _ _ _ _ (c.before.before.before.before.before.before.before.before.cell-of.result) (c.before.before.before.before.before.before.before.cell-of2.result) c.before.before.before.before.before.before.before.before.cell-of.ensures c.before.before.before.before.before.before.before.cell-of2.ensures _ (c.before.before.cell-of3.result) (c.before.cell-of4.result) (c.word-under.result) (subst (λ r. FindsDefinition c.before.before.before.before.before.before.before.before.before.before.before.before.before.before.args.text.now c.before.before.before.before.before.before.before.before.before.before.before.before.before.before.args.d.now c.before.before.before.before.before.before.before.before.before.before.before.before.before.before.args.z.definitions (c.before.before.before.before.before.before.before.before.before.before.before.before.before.before.args.key) (c.before.before.before.before.before.before.before.before.cell-of.result) (c.before.before.before.before.before.before.before.cell-of2.result) r) c.before.before.before.before.j.given.1 c.before.before.before.before.before.before.find-definition.ensures) c.before.before.cell-of3.ensures c.before.cell-of4.ensures c.word-under.ensures
+returns-2 c = inner_some _ _ _ _ _ _ _ (c.before.before.before.before.before.before.before.before.cell_of.result) (c.before.before.before.before.before.before.before.cell-of2.result) c.before.before.before.before.before.before.before.before.cell_of.ensures c.before.before.before.before.before.before.before.cell-of2.ensures _ (c.before.before.cell-of3.result) (c.before.cell-of4.result) (c.word-under.result) (subst (λ r. FindsDefinition c.before.before.before.before.before.before.before.before.before.before.before.before.before.before.args.text.now c.before.before.before.before.before.before.before.before.before.before.before.before.before.before.args.d.now c.before.before.before.before.before.before.before.before.before.before.before.before.before.before.args.z.definitions (c.before.before.before.before.before.before.before.before.before.before.before.before.before.before.args.key) (c.before.before.before.before.before.before.before.before.cell_of.result) (c.before.before.before.before.before.before.before.cell-of2.result) r) c.before.before.before.before.j.given.1 c.before.before.before.before.before.before.find_definition.ensures) c.before.before.cell-of3.ensures c.before.cell-of4.ensures c.word-under.ensures
 
 pub scope-inside-spec : {M : Type 1} → statement M
 scope-inside-spec =

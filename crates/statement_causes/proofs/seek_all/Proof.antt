@@ -8,10 +8,10 @@ use Rattle.statement_causes.proofs.seek_all.Reads as reads
 use Rattle.statement_causes.proofs.seek_all.Lts as lts
 use Rattle.statement_causes.proofs.seek_object.Reads as seek-object-reads
 
-abbrev invariant_loop : tie.invariant-loop
+abbrev invariant_loop : tie.invariant_loop
 invariant_loop text d e o st names z places place i₀ i = SeekingObjects text d e o st z places place i
 
-abbrev decreases_loop : tie.decreases-loop
+abbrev decreases_loop : tie.decreases_loop
 decreases_loop text d e o st names z places place i₀ i = z.objects - i
 
 loop_holds : tie.Need-loop-init invariant_loop decreases_loop

@@ -24,7 +24,7 @@ seek-requires : tie.Need-seek-requires
 seek-requires c κs = search rules
 
 returns : tie.Need-returns
-returns c = object_by _ _ _ _ _ _ c.before.before.before.before.before.before.before.before.before.before.before.before.args.places.now (c.before.before.before.before.before.before.before.before.before.before.before.before.args.i) (c.before.before.before.before.before.before.before.before.before.before.before.before.args.place) (c.before.before.before.before.cell-of.result) (c.before.before.before.get.result) (c.before.before.cell-of2.result) (c.before.cell-of3.result) (c.seek.result) c.before.before.before.before.cell-of.ensures c.before.before.before.get.ensures c.before.before.cell-of2.ensures c.before.cell-of3.ensures c.seek.ensures
+returns c = object_by _ _ _ _ _ _ c.before.before.before.before.before.before.before.before.before.before.before.before.args.places.now (c.before.before.before.before.before.before.before.before.before.before.before.before.args.i) (c.before.before.before.before.before.before.before.before.before.before.before.before.args.place) (c.before.before.before.before.cell_of.result) (c.before.before.before.get.result) (c.before.before.cell-of2.result) (c.before.cell-of3.result) (c.seek.result) c.before.before.before.before.cell_of.ensures c.before.before.before.get.ensures c.before.before.cell-of2.ensures c.before.cell-of3.ensures c.seek.ensures
 
 pub seek-object-spec : {M : Type 1} → statement M
 seek-object-spec =

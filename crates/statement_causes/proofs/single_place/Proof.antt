@@ -14,7 +14,7 @@ cell-of-requires-2 : tie.Need-cell-of-requires-2
 cell-of-requires-2 c κs = search rules
 
 returns : tie.Need-returns
-returns c = c.cell-of2.ensures ∙ single_one _ _ (sym c.before.before.cell-of.ensures ∙ c.before.if1.true)
+returns c = c.cell-of2.ensures ∙ single_one _ _ (sym c.before.before.cell_of.ensures ∙ c.before.if1.true)
 
 returns-2 : tie.Need-returns-2
 returns-2 c = single_list _ _ (λ z. c.if1.false (c.before.cell-of.ensures ∙ z))

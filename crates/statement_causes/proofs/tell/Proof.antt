@@ -38,7 +38,7 @@ nothing-requires-2 : tie.Need-nothing-requires-2
 nothing-requires-2 c κs = search rules
 
 returns-2 : tie.Need-returns-2
-returns-2 c = tells_refused _ _ c.before.before.before.before.before.before.before.before.decide.ensures (sym c.before.before.is-fault.ensures ∙ c.before.if2.true)
+returns-2 c = tells_refused _ _ c.before.before.before.before.before.before.before.before.decide.ensures (sym c.before.before.is_fault.ensures ∙ c.before.if2.true)
 
 slice-aggregate-tell-kept : tie.Need-slice-aggregate-tell-kept
 slice-aggregate-tell-kept c = search rules
@@ -56,7 +56,7 @@ tell-kept-requires : tie.Need-tell-kept-requires
 tell-kept-requires c κs = search rules
 
 returns-3 : tie.Need-returns-3
-returns-3 c = tells_passed _ _ c.before.before.before.before.before.before.before.before.before.before.before.before.decide.ensures (sym c.before.before.before.before.before.before.is-fault.ensures ∙ c.before.before.before.before.before.if2.false) c.tell-kept.ensures
+returns-3 c = tells_passed _ _ c.before.before.before.before.before.before.before.before.before.before.before.before.decide.ensures (sym c.before.before.before.before.before.before.is_fault.ensures ∙ c.before.before.before.before.before.if2.false) c.tell-kept.ensures
 
 pub tell-spec : {M : Type 1} → statement M
 tell-spec =

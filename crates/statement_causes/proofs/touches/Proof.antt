@@ -24,7 +24,7 @@ cell-of-requires-3 : tie.Need-cell-of-requires-3
 cell-of-requires-3 c κs = search rules
 
 returns-3 : tie.Need-returns-3
-returns-3 c = ap (λ i. eqb i (c.before.before.before.before.before.before.args.place)) c.cell-of3.ensures ∙ touched_last _ _ _ (λ z. c.before.before.before.if1.false (c.before.before.before.before.cell-of.ensures ∙ z)) (λ z. c.before.if2.false (c.before.before.cell-of2.ensures ∙ z))
+returns-3 c = ap (λ i. eqb i (c.before.before.before.before.before.before.args.place)) c.cell-of3.ensures ∙ touched_last _ _ _ (λ z. c.before.before.before.if1.false (c.before.before.before.before.cell_of.ensures ∙ z)) (λ z. c.before.if2.false (c.before.before.cell-of2.ensures ∙ z))
 
 pub touches-spec : {M : Type 1} → statement M
 touches-spec =

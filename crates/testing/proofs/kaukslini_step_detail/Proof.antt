@@ -23,7 +23,7 @@ enum-told-2 c = search rules
 
 returns : tie.Need-returns
 unfolding detail_of
-returns c = c.detail-of-sort.ensures ∙ sym (ap detail_of (sym c.before.before.before.before.step.ensures ∙ c.before.before.t.given.1))
+returns c = c.detail_of_sort.ensures ∙ sym (ap detail_of (sym c.before.before.before.before.step.ensures ∙ c.before.before.t.given.1))
 
 returns-2 : tie.Need-returns-2
 unfolding detail_of

@@ -23,7 +23,7 @@ enum-told-2 c = search rules
 
 returns : tie.Need-returns
 unfolding sort_of
-returns c = c.number-of-sort.ensures ∙ sym (ap sort_of (sym c.before.before.before.before.step.ensures ∙ c.before.before.t.given.1))
+returns c = c.number_of_sort.ensures ∙ sym (ap sort_of (sym c.before.before.before.before.step.ensures ∙ c.before.before.t.given.1))
 
 returns-2 : tie.Need-returns-2
 unfolding sort_of

@@ -9,10 +9,10 @@ use Prim.Native.Nat.{◌-◌}
 use Rattle.tokens.proofs.write_tokens.Statement.{statement}
 use Rattle.tokens.proofs.write_tokens.Tie as tie
 
-abbrev invariant_loop : tie.invariant-loop
+abbrev invariant_loop : tie.invariant_loop
 invariant_loop page₀ text cursor₀ page cursor = Unit {0}
 
-abbrev decreases_loop : tie.decreases-loop
+abbrev decreases_loop : tie.decreases_loop
 decreases_loop page₀ text cursor₀ page cursor = length text - cursor.at
 
 new-requires : tie.Need-new-requires invariant_loop decreases_loop

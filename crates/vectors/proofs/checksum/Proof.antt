@@ -8,10 +8,10 @@ use Rattle.vectors.proofs.checksum.Reads as reads
 use Rattle.vectors.proofs.checksum.Lts as lts
 use Rattle.vectors.proofs.onward.Reads as onward-reads
 
-abbrev invariant_loop : tie.invariant-loop
+abbrev invariant_loop : tie.invariant_loop
 invariant_loop bytes sum₀ i₀ sum i = (i ≤ length bytes) × (sum < 4294967296)
 
-abbrev decreases_loop : tie.decreases-loop
+abbrev decreases_loop : tie.decreases_loop
 decreases_loop bytes sum₀ i₀ sum i = length bytes - i
 
 loop_holds : tie.Need-loop-init invariant_loop decreases_loop

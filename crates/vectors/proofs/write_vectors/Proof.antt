@@ -6,10 +6,10 @@ use Rattle.vectors.proofs.write_vectors.Reads as reads
 use Rattle.vectors.proofs.write_vectors.Lts as lts
 use Rattle.vectors.proofs.write_vector.Reads as write-vector-reads
 
-abbrev invariant_loop : tie.invariant-loop
+abbrev invariant_loop : tie.invariant_loop
 invariant_loop page₀ number₀ page number = Unit {0}
 
-abbrev decreases_loop : tie.decreases-loop
+abbrev decreases_loop : tie.decreases_loop
 decreases_loop page₀ number₀ page number = 1000 - number
 
 loop_holds : tie.Need-loop-init invariant_loop decreases_loop

@@ -28,7 +28,7 @@ answer-of-requires : tie.Need-answer-of-requires
 answer-of-requires c κs = search rules
 
 returns : tie.Need-returns
-returns c = let e = stage_answers _ _ _ _ refl c.before.before.before.before.before.walk.ensures.meets c.answer-of.ensures in (e, demand_3 _ _ e)
+returns c = let e = stage_answers _ _ _ _ refl c.before.before.before.before.before.walk.ensures.meets c.answer_of.ensures in (e, demand_3 _ _ e)
 
 pub stage-spec : {M : Type 1} → statement M
 stage-spec =

@@ -21,7 +21,7 @@ in-range-requires : tie.Need-in-range-requires
 in-range-requires c κs = search rules
 
 returns : tie.Need-returns
-returns c = floats_by_text c.before.before.before.before.before.before.args.text.now c.before.before.before.before.before.before.args.d.now c.before.before.before.before.before.before.args.j _ (real c.before.before.before.before.before.before.args.f) _ c.before.before.cell-of.ensures c.in_range.ensures
+returns c = floats_by_text c.before.before.before.before.before.before.args.text.now c.before.before.before.before.before.before.args.d.now c.before.before.before.before.before.before.args.j _ (real c.before.before.before.before.before.before.args.f) _ c.before.before.cell_of.ensures c.in_range.ensures
 
 mul-row : tie.Need-overflow-mul-row
 mul-row c = search rules
@@ -36,7 +36,7 @@ in-range-requires-2 : tie.Need-in-range-requires-2
 in-range-requires-2 c κs = search rules
 
 returns-2 : tie.Need-returns-2
-returns-2 c = floats_by_text c.before.before.before.before.before.before.before.before.args.text.now c.before.before.before.before.before.before.before.before.args.d.now c.before.before.before.before.before.before.before.before.args.j _ (real c.before.before.before.before.before.before.before.before.args.f) _ c.before.before.before.before.cell-of.ensures c.in-range2.ensures
+returns-2 c = floats_by_text c.before.before.before.before.before.before.before.before.args.text.now c.before.before.before.before.before.before.before.before.args.d.now c.before.before.before.before.before.before.before.before.args.j _ (real c.before.before.before.before.before.before.before.before.args.f) _ c.before.before.before.before.cell_of.ensures c.in-range2.ensures
 
 cell-requires-2 : tie.Need-cell-requires-2
 cell-requires-2 c κs = search rules

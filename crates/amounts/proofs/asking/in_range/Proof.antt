@@ -25,7 +25,7 @@ in-range-requires : tie.Need-in-range-requires
 in-range-requires c κs = search rules
 
 returns : tie.Need-returns
-returns c = by_text c.before.before.before.before.before.before.args.text.now c.before.before.before.before.before.before.args.d.now c.before.before.before.before.before.before.args.j _ (num c.before.before.before.before.before.before.args.n) _ c.before.before.cell-of.ensures c.in_range.ensures
+returns c = by_text c.before.before.before.before.before.before.args.text.now c.before.before.before.before.before.before.args.d.now c.before.before.before.before.before.before.args.j _ (num c.before.before.before.before.before.before.args.n) _ c.before.before.cell_of.ensures c.in_range.ensures
 
 mul-row : tie.Need-overflow-mul-row
 mul-row c = search rules
@@ -60,7 +60,7 @@ at-most-requires-2 c κs = search rules
 
 returns-3 : tie.Need-returns-3
 unfolding num_in
-returns-3 c = not_below _ c.before.before.before.before.before.before.before.before.before.before.before.before.before.before.args.d.now c.before.before.before.before.before.before.before.before.before.before.before.before.before.before.args.known.now c.before.before.before.before.before.before.before.before.before.before.before.before.before.before.requires c.before.before.before.before.before.before.before.before.before.before.before.before.before.before.args.j c.before.before.before.before.before.before.before.before.before.if1.false (num c.before.before.before.before.before.before.before.before.before.before.before.before.before.before.args.n) c.before.before.before.before.before.before.before.before.cell.result c.before.before.before.before.before.before.cell2.result c.before.before.before.before.before.cell3.result c.before.before.before.before.before.before.before.before.cell.ensures c.before.before.before.before.before.before.cell2.ensures c.before.before.before.before.before.cell3.ensures c.before.before.before.before.before.before.before.if2.true _ c.before.before.before.before.at-most.ensures (not-false _ c.before.before.before.if3.false) c.before.before.cell4.result c.before.cell5.result c.before.before.cell4.ensures c.before.cell5.ensures _ c.at-most2.ensures
+returns-3 c = not_below _ c.before.before.before.before.before.before.before.before.before.before.before.before.before.before.args.d.now c.before.before.before.before.before.before.before.before.before.before.before.before.before.before.args.known.now c.before.before.before.before.before.before.before.before.before.before.before.before.before.before.requires c.before.before.before.before.before.before.before.before.before.before.before.before.before.before.args.j c.before.before.before.before.before.before.before.before.before.if1.false (num c.before.before.before.before.before.before.before.before.before.before.before.before.before.before.args.n) c.before.before.before.before.before.before.before.before.cell.result c.before.before.before.before.before.before.cell2.result c.before.before.before.before.before.cell3.result c.before.before.before.before.before.before.before.before.cell.ensures c.before.before.before.before.before.before.cell2.ensures c.before.before.before.before.before.cell3.ensures c.before.before.before.before.before.before.before.if2.true _ c.before.before.before.before.at_most.ensures (not-false _ c.before.before.before.if3.false) c.before.before.cell4.result c.before.cell5.result c.before.before.cell4.ensures c.before.cell5.ensures _ c.at-most2.ensures
 
 in-range-requires-2 : tie.Need-in-range-requires-2
 in-range-requires-2 c κs = search rules
@@ -93,7 +93,7 @@ in-range-requires-4 : tie.Need-in-range-requires-4
 in-range-requires-4 c κs = search rules
 
 returns-6 : tie.Need-returns-6
-returns-6 c = by_text c.before.before.before.before.before.before.before.before.before.before.before.before.before.before.before.before.args.text.now c.before.before.before.before.before.before.before.before.before.before.before.before.before.before.before.before.args.d.now c.before.before.before.before.before.before.before.before.before.before.before.before.before.before.before.before.args.j _ (num c.before.before.before.before.before.before.before.before.before.before.before.before.before.before.before.before.args.n) _ c.before.before.before.before.before.before.before.before.before.before.before.before.cell-of.ensures c.in-range4.ensures
+returns-6 c = by_text c.before.before.before.before.before.before.before.before.before.before.before.before.before.before.before.before.args.text.now c.before.before.before.before.before.before.before.before.before.before.before.before.before.before.before.before.args.d.now c.before.before.before.before.before.before.before.before.before.before.before.before.before.before.before.before.args.j _ (num c.before.before.before.before.before.before.before.before.before.before.before.before.before.before.before.before.args.n) _ c.before.before.before.before.before.before.before.before.before.before.before.before.cell_of.ensures c.in-range4.ensures
 
 in-range-requires-5 : tie.Need-in-range-requires-5
 in-range-requires-5 c κs = search rules
@@ -117,7 +117,7 @@ has-requires : tie.Need-has-requires
 has-requires c κs = search rules
 
 returns-8 : tie.Need-returns-8
-returns-8 c = by_list _ c.before.before.before.before.before.before.before.before.before.before.before.before.before.before.before.before.before.before.before.args.d.now c.before.before.before.before.before.before.before.before.before.before.before.before.before.before.before.before.before.before.before.args.known.now c.before.before.before.before.before.before.before.before.before.before.before.before.before.before.before.before.before.before.before.requires c.before.before.before.before.before.before.before.before.before.before.before.before.before.before.before.before.before.before.before.args.j c.before.before.before.before.before.before.before.before.before.before.before.before.before.before.if1.false (num c.before.before.before.before.before.before.before.before.before.before.before.before.before.before.before.before.before.before.before.args.n) c.before.before.before.before.before.before.before.before.before.before.before.before.before.cell.result c.before.before.before.before.before.before.cell6.result c.before.before.before.before.before.cell7.result c.before.before.before.before.before.before.before.before.before.before.before.before.before.cell.ensures c.before.before.before.before.before.before.cell6.ensures c.before.before.before.before.before.cell7.ensures c.before.before.before.before.before.before.before.before.before.before.before.if4.false _ c.before.before.before.before.before.before.before.before.before.before.cell-of2.ensures _ c.before.before.before.before.before.before.before.before.before.is_Signed.ensures _ c.before.before.before.before.before.before.before.before.has-key.ensures (not-false _ c.before.before.before.before.before.before.before.if5.false) _ c.before.key.ensures _ c.has.ensures
+returns-8 c = by_list _ c.before.before.before.before.before.before.before.before.before.before.before.before.before.before.before.before.before.before.before.args.d.now c.before.before.before.before.before.before.before.before.before.before.before.before.before.before.before.before.before.before.before.args.known.now c.before.before.before.before.before.before.before.before.before.before.before.before.before.before.before.before.before.before.before.requires c.before.before.before.before.before.before.before.before.before.before.before.before.before.before.before.before.before.before.before.args.j c.before.before.before.before.before.before.before.before.before.before.before.before.before.before.if1.false (num c.before.before.before.before.before.before.before.before.before.before.before.before.before.before.before.before.before.before.before.args.n) c.before.before.before.before.before.before.before.before.before.before.before.before.before.cell.result c.before.before.before.before.before.before.cell6.result c.before.before.before.before.before.cell7.result c.before.before.before.before.before.before.before.before.before.before.before.before.before.cell.ensures c.before.before.before.before.before.before.cell6.ensures c.before.before.before.before.before.cell7.ensures c.before.before.before.before.before.before.before.before.before.before.before.if4.false _ c.before.before.before.before.before.before.before.before.before.before.cell-of2.ensures _ c.before.before.before.before.before.before.before.before.before.is_Signed.ensures _ c.before.before.before.before.before.before.before.before.has_key.ensures (not-false _ c.before.before.before.before.before.before.before.if5.false) _ c.before.key.ensures _ c.has.ensures
 
 pub in-range-spec : {M : Type 1} → statement M
 in-range-spec =

@@ -19,7 +19,7 @@ returns : tie.Need-returns
 returns c = number_below _ _ _ _ _ c.before.cell-of.ensures c.if1.true
 
 returns-2 : tie.Need-returns-2
-returns-2 c = number_above _ _ _ _ _ c.before.before.cell-of.ensures c.if2.true
+returns-2 c = number_above _ _ _ _ _ c.before.before.cell_of.ensures c.if2.true
 
 number-at-requires : tie.Need-number-at-requires
 number-at-requires c κs = search rules
@@ -31,7 +31,7 @@ in-range-requires : tie.Need-in-range-requires
 in-range-requires c κs = search rules
 
 returns-3 : tie.Need-returns-3
-returns-3 c = number_in _ c.before.before.before.before.before.before.before.before.before.before.args.d.now c.before.before.before.before.before.before.before.before.before.before.args.j _ _ c.before.before.before.before.before.before.cell-of.ensures c.before.before.before.before.before.if1.false c.before.before.before.before.if2.false _ c.before.before.before.number_at.ensures _ _ _ c.before.before.in-type.ensures c.before.if3.true refl c.in_range.ensures
+returns-3 c = number_in _ c.before.before.before.before.before.before.before.before.before.before.args.d.now c.before.before.before.before.before.before.before.before.before.before.args.j _ _ c.before.before.before.before.before.before.cell_of.ensures c.before.before.before.before.before.if1.false c.before.before.before.before.if2.false _ c.before.before.before.number_at.ensures _ _ _ c.before.before.in_type.ensures c.before.if3.true refl c.in_range.ensures
 
 returns-4 : tie.Need-returns-4
 returns-4 c = number_out _ _ _ _ _ c.before.before.before.before.before.cell-of.ensures c.before.before.before.before.if1.false c.before.before.before.if2.false _ c.before.before.number_at.ensures _ c.before.in-type.ensures c.if3.false

@@ -9,10 +9,10 @@ use Rattle.amounts.proofs.defaults.note_defaults.Reads as reads
 use Rattle.amounts.proofs.defaults.note_defaults.Lts as lts
 use Rattle.amounts.proofs.defaults.note_default.Reads as note-default-reads
 
-abbrev invariant_loop : tie.invariant-loop
+abbrev invariant_loop : tie.invariant_loop
 invariant_loop text d n t₀ j₀ t j = Rows text d t₀ t
 
-abbrev decreases_loop : tie.decreases-loop
+abbrev decreases_loop : tie.decreases_loop
 decreases_loop text d n t₀ j₀ t j = n - j
 
 loop_holds : tie.Need-loop-init invariant_loop decreases_loop

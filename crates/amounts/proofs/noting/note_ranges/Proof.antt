@@ -11,10 +11,10 @@ use Rattle.amounts.proofs.noting.note_ranges.Reads as reads
 use Rattle.amounts.proofs.noting.note_ranges.Lts as lts
 use Rattle.amounts.proofs.noting.note_range.Reads as note-range-reads
 
-abbrev invariant_loop : tie.invariant-loop
+abbrev invariant_loop : tie.invariant_loop
 invariant_loop text d wanted n t₀ spare₀ used₀ j₀ t spare used j = Rows text d t₀ t used × (length spare ≡ length spare₀)
 
-abbrev decreases_loop : tie.decreases-loop
+abbrev decreases_loop : tie.decreases_loop
 decreases_loop text d wanted n t₀ spare₀ used₀ j₀ t spare used j = n - j
 
 loop_holds : tie.Need-loop-init invariant_loop decreases_loop

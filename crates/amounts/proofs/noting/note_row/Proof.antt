@@ -100,7 +100,7 @@ same-length-5 : tie.Need-same-length-5
 same-length-5 c = search rules
 
 returns-6 : tie.Need-returns-6
-returns-6 c = row_list _ _ _ _ c.before.before.before.before.before.before.before.before.before.before.before.before.before.before.before.before.before.before.before.before.before.before.cell-of.ensures c.before.before.before.before.before.before.before.before.before.before.before.before.before.before.before.before.before.before.before.before.before.if2.false _ _ _ c.before.before.before.before.before.before.before.before.before.before.before.before.before.before.before.before.before.before.before.before.item-at.ensures c.before.before.before.before.before.before.before.before.before.before.before.before.before.before.before.before.before.before.before.item-at2.ensures c.before.before.before.before.before.before.before.before.before.before.before.before.before.before.before.before.before.before.item-at3.ensures _ _ c.before.before.before.before.before.before.before.before.before.before.before.before.before.before.before.before.before.before.before.before.before.before.before.if1.false _ _ c.before.before.before.before.before.before.before.before.before.before.before.before.before.is_Signed.ensures c.before.before.before.before.before.before.before.before.before.before.before.before.before.before.cell-of2.ensures c.before.before.before.before.before.before.before.before.before.before.before.before.before.before.before.before.if3.false _ _ c.before.before.before.before.before.before.before.before.before.before.put-sorted.ensures c.before.before.before.before.before.before.before.before.before.before.before.before.before.before.before.if4.false c.before.before.before.before.before.if5.false _ refl _ c.before.before.put-cells.ensures
+returns-6 c = row_list _ _ _ _ c.before.before.before.before.before.before.before.before.before.before.before.before.before.before.before.before.before.before.before.before.before.before.cell_of.ensures c.before.before.before.before.before.before.before.before.before.before.before.before.before.before.before.before.before.before.before.before.before.if2.false _ _ _ c.before.before.before.before.before.before.before.before.before.before.before.before.before.before.before.before.before.before.before.before.item_at.ensures c.before.before.before.before.before.before.before.before.before.before.before.before.before.before.before.before.before.before.before.item-at2.ensures c.before.before.before.before.before.before.before.before.before.before.before.before.before.before.before.before.before.before.item-at3.ensures _ _ c.before.before.before.before.before.before.before.before.before.before.before.before.before.before.before.before.before.before.before.before.before.before.before.if1.false _ _ c.before.before.before.before.before.before.before.before.before.before.before.before.before.is_Signed.ensures c.before.before.before.before.before.before.before.before.before.before.before.before.before.before.cell-of2.ensures c.before.before.before.before.before.before.before.before.before.before.before.before.before.before.before.before.if3.false _ _ c.before.before.before.before.before.before.before.before.before.before.put-sorted.ensures c.before.before.before.before.before.before.before.before.before.before.before.before.before.before.before.if4.false c.before.before.before.before.before.if5.false _ refl _ c.before.before.put-cells.ensures
 
 pub note-row-spec : {M : Type 1} → statement M
 note-row-spec =

@@ -15,10 +15,10 @@ use Rattle.amounts.proofs.keys.key.Reads as key_reads
 use Rattle.scopes.proofs.numbers.comma_at.Reads as comma-at-reads
 use Rattle.scopes.proofs.numbers.item_at.Reads as item-at-reads
 
-abbrev invariant_loop : tie.invariant-loop
+abbrev invariant_loop : tie.invariant_loop
 invariant_loop text sign from count l₀ i₀ at₀ l i at = Put text sign from count l₀ at i l
 
-abbrev decreases_loop : tie.decreases-loop
+abbrev decreases_loop : tie.decreases_loop
 decreases_loop text sign from count l₀ i₀ at₀ l i at = length text - at
 
 loop_holds : tie.Need-loop-init invariant_loop decreases_loop
@@ -64,10 +64,10 @@ add-i : tie.Need-overflow-add-i invariant_loop decreases_loop
 add-i c = omega arith
 
 loop_less : tie.Need-loop-smaller invariant_loop decreases_loop
-loop_less c = omega (arith, turn_on _ _ _ _ c.before.before.before.before.before.before.before.comma_at.ensures c.before.before.before.before.before.if1.false c.before.before.before.before.item-at.ensures, c.before.before.before.before.before.before.before.before.loop-test.true)
+loop_less c = omega (arith, turn_on _ _ _ _ c.before.before.before.before.before.before.before.comma_at.ensures c.before.before.before.before.before.if1.false c.before.before.before.before.item_at.ensures, c.before.before.before.before.before.before.before.before.loop-test.true)
 
 loop_again : tie.Need-loop-preserved invariant_loop decreases_loop
-loop_again c = more _ _ _ _ _ _ _ _ c.before.before.before.before.before.before.before.before.before.loop.invariant _ _ c.before.before.before.before.before.before.before.comma_at.ensures c.before.before.before.before.before.if1.false c.before.before.before.before.item-at.ensures _ c.before.before.before.has-key.ensures (not-false _ c.before.before.if2.false) c.before.if3.false _ c.key.ensures
+loop_again c = more _ _ _ _ _ _ _ _ c.before.before.before.before.before.before.before.before.before.loop.invariant _ _ c.before.before.before.before.before.before.before.comma_at.ensures c.before.before.before.before.before.if1.false c.before.before.before.before.item_at.ensures _ c.before.before.before.has-key.ensures (not-false _ c.before.before.if2.false) c.before.if3.false _ c.key.ensures
 
 same-length-4 : tie.Need-same-length-4 invariant_loop decreases_loop
 same-length-4 c = c.before.loop.invariant.size

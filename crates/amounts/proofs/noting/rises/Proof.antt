@@ -8,10 +8,10 @@ use Rattle.amounts.proofs.noting.rises.Tie as tie
 use Rattle.amounts.proofs.noting.rises.Reads as reads
 use Rattle.amounts.proofs.noting.rises.Lts as lts
 
-abbrev invariant_loop : tie.invariant-loop
+abbrev invariant_loop : tie.invariant_loop
 invariant_loop l last₀ i₀ last i = Left l i last
 
-abbrev decreases_loop : tie.decreases-loop
+abbrev decreases_loop : tie.decreases_loop
 decreases_loop l last₀ i₀ last i = length l - i
 
 loop_holds : tie.Need-loop-init invariant_loop decreases_loop

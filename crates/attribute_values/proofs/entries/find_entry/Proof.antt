@@ -29,7 +29,7 @@ find-named-requires : tie.Need-find-named-requires
 find-named-requires c κs = search rules
 
 returns : tie.Need-returns
-returns c = entry_is _ _ _ _ _ _ _ _ _ _ c.before.before.before.find-byte.ensures c.find-named.ensures
+returns c = entry_is _ _ _ _ _ _ _ _ _ _ c.before.before.before.find-byte.ensures c.find_named.ensures
 
 pub find-entry-spec : {M : Type 1} → statement M
 find-entry-spec =

@@ -11,10 +11,10 @@ use Rattle.attribute_values.proofs.entries.find_named.Lts as lts
 use Rattle.attribute_values.proofs.entries.is_named.Reads as is-named-reads
 use Rattle.attribute_values.proofs.entries.is_picked.Reads as is-picked-reads
 
-abbrev invariant_loop : tie.invariant-loop
+abbrev invariant_loop : tie.invariant_loop
 invariant_loop text d v e i sort row name mark k₀ n₀ k n = (n ≤ k) × (seek (named_at text d v sort row name) (picked_at d v mark) (e - k) k n ≡ seek (named_at text d v sort row name) (picked_at d v mark) (e - i) i 0)
 
-abbrev decreases_loop : tie.decreases-loop
+abbrev decreases_loop : tie.decreases_loop
 decreases_loop text d v e i sort row name mark k₀ n₀ k n = e - k
 
 loop_holds : tie.Need-loop-init invariant_loop decreases_loop

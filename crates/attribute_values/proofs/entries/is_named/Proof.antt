@@ -36,7 +36,7 @@ same-bytes-requires : tie.Need-same-bytes-requires
 same-bytes-requires c κs = search rules
 
 returns-3 : tie.Need-returns-3
-returns-3 c = own_row _ _ _ _ _ _ _ _ c.before.before.before.before.before.before.before.before.cell-of.ensures _ _ _ _ _ _ c.before.before.before.before.before.before.before.if1.false c.before.before.before.before.before.before.cell-of2.ensures c.before.before.before.before.before.if2.false c.before.before.before.before.cell-of3.ensures c.before.before.before.cell-of4.ensures c.before.before.cell-of5.ensures c.before.part.ensures.0 c.same_bytes.ensures
+returns-3 c = own_row _ _ _ _ _ _ _ _ c.before.before.before.before.before.before.before.before.cell_of.ensures _ _ _ _ _ _ c.before.before.before.before.before.before.before.if1.false c.before.before.before.before.before.before.cell-of2.ensures c.before.before.before.before.before.if2.false c.before.before.before.before.cell-of3.ensures c.before.before.before.cell-of4.ensures c.before.before.cell-of5.ensures c.before.part.ensures.0 c.same_bytes.ensures
 
 pub is-named-spec : {M : Type 1} → statement M
 is-named-spec =

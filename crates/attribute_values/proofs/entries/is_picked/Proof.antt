@@ -17,7 +17,7 @@ cell-of-requires-2 : tie.Need-cell-of-requires-2
 cell-of-requires-2 c κs = search rules
 
 returns-2 : tie.Need-returns-2
-returns-2 c = of_single _ _ _ _ _ c.before.before.before.if1.false _ _ c.before.before.cell-of.ensures c.before.cell-of2.ensures c.if2.true
+returns-2 c = of_single _ _ _ _ _ c.before.before.before.if1.false _ _ c.before.before.cell_of.ensures c.before.cell-of2.ensures c.if2.true
 
 is-mark-requires : tie.Need-is-mark-requires
 is-mark-requires c κs = search rules

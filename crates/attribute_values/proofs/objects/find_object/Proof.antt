@@ -10,10 +10,10 @@ use Rattle.attribute_values.proofs.objects.find_object.Reads as reads
 use Rattle.attribute_values.proofs.objects.find_object.Lts as lts
 use Rattle.attribute_values.proofs.objects.is_called.Reads as is-called-reads
 
-abbrev invariant_loop : tie.invariant-loop
+abbrev invariant_loop : tie.invariant_loop
 invariant_loop text o m kind name i₀ i = find_from (called_at text o kind name) m i ≡ find_from (called_at text o kind name) m 0
 
-abbrev decreases_loop : tie.decreases-loop
+abbrev decreases_loop : tie.decreases_loop
 decreases_loop text o m kind name i₀ i = m - i
 
 loop_holds : tie.Need-loop-init invariant_loop decreases_loop

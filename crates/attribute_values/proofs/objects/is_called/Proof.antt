@@ -22,7 +22,7 @@ same-bytes-requires : tie.Need-same-bytes-requires
 same-bytes-requires c κs = search rules
 
 returns : tie.Need-returns
-returns c = other_kind _ _ _ _ _ _ _ _ _ c.before.before.before.before.cell-of.ensures c.before.before.before.cell-of2.ensures c.before.before.part.ensures.0 c.before.same_bytes.ensures (not-true _ c.if1.true)
+returns c = other_kind _ _ _ _ _ _ _ _ _ c.before.before.before.before.cell_of.ensures c.before.before.before.cell-of2.ensures c.before.before.part.ensures.0 c.before.same_bytes.ensures (not-true _ c.if1.true)
 
 cell-of-requires-3 : tie.Need-cell-of-requires-3
 cell-of-requires-3 c κs = search rules
@@ -37,7 +37,7 @@ same-bytes-requires-2 : tie.Need-same-bytes-requires-2
 same-bytes-requires-2 c κs = search rules
 
 returns-2 : tie.Need-returns-2
-returns-2 c = of_kind _ _ _ _ _ _ _ _ _ c.before.before.before.before.before.before.before.before.cell-of.ensures c.before.before.before.before.before.before.before.cell-of2.ensures c.before.before.before.before.before.before.part.ensures.0 c.before.before.before.before.before.same_bytes.ensures (not-false _ c.before.before.before.before.if1.false) _ _ _ _ c.before.before.before.cell-of3.ensures c.before.before.cell-of4.ensures c.before.part2.ensures.0 c.same-bytes2.ensures
+returns-2 c = of_kind _ _ _ _ _ _ _ _ _ c.before.before.before.before.before.before.before.before.cell_of.ensures c.before.before.before.before.before.before.before.cell-of2.ensures c.before.before.before.before.before.before.part.ensures.0 c.before.before.before.before.before.same_bytes.ensures (not-false _ c.before.before.before.before.if1.false) _ _ _ _ c.before.before.before.cell-of3.ensures c.before.before.cell-of4.ensures c.before.part2.ensures.0 c.same-bytes2.ensures
 
 pub is-called-spec : {M : Type 1} → statement M
 is-called-spec =

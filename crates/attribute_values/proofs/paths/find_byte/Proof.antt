@@ -8,10 +8,10 @@ use borrow.Author.Rules.{rules}
 use Rattle.attribute_values.proofs.paths.find_byte.Statement.{statement}
 use Rattle.attribute_values.proofs.paths.find_byte.Tie as tie
 
-abbrev invariant_loop : tie.invariant-loop
+abbrev invariant_loop : tie.invariant_loop
 invariant_loop path from b i₀ i = find_byte b path i ≡ find_byte b path from
 
-abbrev decreases_loop : tie.decreases-loop
+abbrev decreases_loop : tie.decreases_loop
 decreases_loop path from b i₀ i = length path - i
 
 loop_holds : tie.Need-loop-init invariant_loop decreases_loop

@@ -44,7 +44,7 @@ add-t13 : tie.Need-overflow-add-t13
 add-t13 c = search rules
 
 returns-2 : tie.Need-returns-2
-returns-2 c = (omega arith, λ s n f N h M. met_new N h M (sym c.before.before.before.before.before.before.before.before.get.ensures ∙ c.before.before.before.before.before.before.before.if1.false) c.before.before.before.before.before.before.cell-of.ensures c.before.before.before.before.before.cell-of2.ensures c.before.before.before.before.fault-if.ensures c.before.before.before.too_many.ensures c.before.before.sooner.ensures c.before.sooner2.ensures c.one_more.ensures)
+returns-2 c = (omega arith, λ s n f N h M. met_new N h M (sym c.before.before.before.before.before.before.before.before.get.ensures ∙ c.before.before.before.before.before.before.before.if1.false) c.before.before.before.before.before.before.cell_of.ensures c.before.before.before.before.before.cell-of2.ensures c.before.before.before.before.fault_if.ensures c.before.before.before.too_many.ensures c.before.before.sooner.ensures c.before.sooner2.ensures c.one_more.ensures)
 
 pub check-one-spec : {M : Type 1} → statement M
 check-one-spec =

@@ -10,10 +10,10 @@ use Rattle.checks.proofs.objects.check_parts.Reads as reads
 use Rattle.checks.proofs.objects.check_parts.Lts as lts
 use Rattle.checks.proofs.objects.check_one.Reads as check-one-reads
 
-abbrev invariant_loop : tie.invariant-loop
+abbrev invariant_loop : tie.invariant_loop
 invariant_loop p x n best₀ k₀ counts₀ j₀ best k counts j = (j ≤ n) × (k ≤ j) × ((s : List ℕ) (f : File) → Noted s p x n f → Met f j best k counts)
 
-abbrev decreases_loop : tie.decreases-loop
+abbrev decreases_loop : tie.decreases_loop
 decreases_loop p x n best₀ k₀ counts₀ j₀ best k counts j = n - j
 
 loop_holds : tie.Need-loop-init invariant_loop decreases_loop

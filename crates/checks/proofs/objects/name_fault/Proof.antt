@@ -12,10 +12,10 @@ use Rattle.checks.proofs.objects.name_fault.Lts as lts
 use Rattle.rows.proofs.cells.cell_of.Reads as cell-of-reads
 use Rattle.rows.proofs.cells.get.Reads as get-reads
 
-abbrev invariant_loop : tie.invariant-loop
+abbrev invariant_loop : tie.invariant_loop
 invariant_loop p y n j₀ j = (j ≤ n) × ((s : List ℕ) (f : File) → Titled s p y n f → Unclashed f j)
 
-abbrev decreases_loop : tie.decreases-loop
+abbrev decreases_loop : tie.decreases_loop
 decreases_loop p y n j₀ j = n - j
 
 loop_holds : tie.Need-loop-init invariant_loop decreases_loop
@@ -43,7 +43,7 @@ loop_less : tie.Need-loop-smaller invariant_loop decreases_loop
 loop_less c = omega arith
 
 loop_again : tie.Need-loop-preserved invariant_loop decreases_loop
-loop_again c = (omega arith, λ s f N. name_clear N (omega arith) (c.before.before.before.before.before.loop.invariant.1 s f N) _ _ _ c.before.before.before.get.ensures c.before.before.cell-of.ensures c.before.cell-of2.ensures c.if1.false)
+loop_again c = (omega arith, λ s f N. name_clear N (omega arith) (c.before.before.before.before.before.loop.invariant.1 s f N) _ _ _ c.before.before.before.get.ensures c.before.before.cell_of.ensures c.before.cell-of2.ensures c.if1.false)
 
 returns-2 : tie.Need-returns-2 invariant_loop decreases_loop
 returns-2 c = λ s f N. clear_end (omega arith) (omega arith) (c.before.loop.invariant.1 s f N)

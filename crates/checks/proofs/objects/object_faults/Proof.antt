@@ -50,7 +50,7 @@ sooner-requires-4 : tie.Need-sooner-requires-4
 sooner-requires-4 c κs = search rules
 
 returns : tie.Need-returns
-returns c = objects_answer _ _ _ _ _ _ _ _ _ _ _ _ _ _ _ _ _ _ _ c.before.before.before.before.before.before.before.before.before.before.before.check-parts.result c.before.before.before.before.before.before.before.before.before.before.before.before.before.too_few.ensures c.before.before.before.before.before.before.before.before.before.before.before.before.least-of.ensures c.before.before.before.before.before.before.before.before.before.before.before.check-parts.ensures refl c.before.before.before.before.before.before.before.room-fault.ensures c.before.before.before.before.before.before.room-fault2.ensures c.before.before.before.before.sooner.ensures c.before.before.before.before.before.before.before.before.before.before.firsts.ensures c.before.before.before.before.before.before.before.before.name-fault.ensures c.before.before.before.sooner2.ensures c.before.before.sooner3.ensures c.before.sooner4.ensures refl refl
+returns c = objects_answer _ _ _ _ _ _ _ _ _ _ _ _ _ _ _ _ _ _ _ c.before.before.before.before.before.before.before.before.before.before.before.check-parts.result c.before.before.before.before.before.before.before.before.before.before.before.before.before.too_few.ensures c.before.before.before.before.before.before.before.before.before.before.before.before.least_of.ensures c.before.before.before.before.before.before.before.before.before.before.before.check-parts.ensures refl c.before.before.before.before.before.before.before.room-fault.ensures c.before.before.before.before.before.before.room-fault2.ensures c.before.before.before.before.sooner.ensures c.before.before.before.before.before.before.before.before.before.before.firsts.ensures c.before.before.before.before.before.before.before.before.name-fault.ensures c.before.before.before.sooner2.ensures c.before.before.sooner3.ensures c.before.sooner4.ensures refl refl
 
 pub object-faults-spec : {M : Type 1} → statement M
 object-faults-spec =

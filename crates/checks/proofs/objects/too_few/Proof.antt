@@ -12,10 +12,10 @@ use Rattle.checks.proofs.objects.too_few.Lts as lts
 use Rattle.kinds.proofs.Kind.least.Reads as least-reads
 use Rattle.kinds.proofs.Kind.of.Reads as of-reads
 
-abbrev invariant_loop : tie.invariant-loop
+abbrev invariant_loop : tie.invariant_loop
 invariant_loop cpu counts i₀ i = lacking_from counts i ≡ lacking_from counts 0
 
-abbrev decreases_loop : tie.decreases-loop
+abbrev decreases_loop : tie.decreases_loop
 decreases_loop cpu counts i₀ i = 13 - i
 
 loop_holds : tie.Need-loop-init invariant_loop decreases_loop

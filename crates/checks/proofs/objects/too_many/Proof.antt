@@ -29,7 +29,7 @@ fault-if-requires : tie.Need-fault-if-requires
 fault-if-requires c κs = search rules
 
 returns : tie.Need-returns
-returns c = too_many_is _ _ _ _ _ _ _ _ c.before.before.before.before.before.of.ensures c.before.before.before.get.ensures c.before.before.most.ensures c.before.is-full.ensures c.fault-if.ensures
+returns c = too_many_is _ _ _ _ _ _ _ _ c.before.before.before.before.before.of.ensures c.before.before.before.get.ensures c.before.before.most.ensures c.before.is-full.ensures c.fault_if.ensures
 
 pub too-many-spec : {M : Type 1} → statement M
 too-many-spec =

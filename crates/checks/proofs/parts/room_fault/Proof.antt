@@ -14,7 +14,7 @@ fault-if-requires : tie.Need-fault-if-requires
 fault-if-requires c κs = search rules
 
 returns : tie.Need-returns
-returns c = room_is _ _ _ _ _ _ _ _ (c.before.cell-of.ensures) (c.fault-if.ensures)
+returns c = room_is _ _ _ _ _ _ _ _ (c.before.cell-of.ensures) (c.fault_if.ensures)
 
 pub room-fault-spec : {M : Type 1} → statement M
 room-fault-spec = tie.close (tie.spec cell-of-requires fault-if-requires returns)

@@ -9,10 +9,10 @@ use native.Mathlib.Omega.{arith}
 use Rattle.comparing.proofs.columns.copy_names.Statement.{statement}
 use Rattle.comparing.proofs.columns.copy_names.Tie as tie
 
-abbrev invariant_loop : tie.invariant-loop
+abbrev invariant_loop : tie.invariant_loop
 invariant_loop v h r out₀ i₀ out i = (i ≤ length out) × (length out ≡ length out₀) × (r + length out₀ ≤ 65536) × Holds (name_from v h r) i out
 
-abbrev decreases_loop : tie.decreases-loop
+abbrev decreases_loop : tie.decreases_loop
 decreases_loop v h r out₀ i₀ out i = length out₀ - i
 
 loop_holds : tie.Need-loop-init invariant_loop decreases_loop
@@ -43,7 +43,7 @@ loop_less : tie.Need-loop-smaller invariant_loop decreases_loop
 loop_less c = omega arith
 
 loop_again : tie.Need-loop-preserved invariant_loop decreases_loop
-loop_again c = (simp length-set (omega arith), simp length-set c.before.before.before.before.loop.invariant.1, c.before.before.before.before.loop.invariant.2, holds_more _ _ _ _ c.before.before.before.before.loop.invariant.3 (omega arith) (name_is _ _ _ _ _ _ _ c.before.before.cell-of.ensures c.before.get.ensures c.least-of.ensures))
+loop_again c = (simp length-set (omega arith), simp length-set c.before.before.before.before.loop.invariant.1, c.before.before.before.before.loop.invariant.2, holds_more _ _ _ _ c.before.before.before.before.loop.invariant.3 (omega arith) (name_is _ _ _ _ _ _ _ c.before.before.cell_of.ensures c.before.get.ensures c.least_of.ensures))
 
 same_length : tie.Need-same-length invariant_loop decreases_loop
 same_length c = c.before.loop.invariant.1

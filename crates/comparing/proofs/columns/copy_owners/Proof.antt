@@ -10,10 +10,10 @@ use Rattle.comparing.proofs.columns.copy_owners.Reads as reads
 use Rattle.comparing.proofs.columns.copy_owners.Lts as lts
 use Rattle.comparing.proofs.columns.owner_at.Reads as owner-at-reads
 
-abbrev invariant_loop : tie.invariant-loop
+abbrev invariant_loop : tie.invariant_loop
 invariant_loop v r out₀ i₀ out i = (i ≤ length out) × (length out ≡ length out₀) × (r + length out₀ ≤ 65536) × Holds (owner_from v r) i out
 
-abbrev decreases_loop : tie.decreases-loop
+abbrev decreases_loop : tie.decreases_loop
 decreases_loop v r out₀ i₀ out i = length out₀ - i
 
 loop_holds : tie.Need-loop-init invariant_loop decreases_loop

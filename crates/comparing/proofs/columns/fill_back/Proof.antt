@@ -11,10 +11,10 @@ use Rattle.comparing.proofs.columns.fill_back.Lts as lts
 use Rattle.comparing.proofs.columns.put_back.Reads as put-back-reads
 use Rattle.rows.proofs.cells.clear.Reads as clear_reads
 
-abbrev invariant_loop : tie.invariant-loop
+abbrev invariant_loop : tie.invariant_loop
 invariant_loop ps r back₀ k₀ back k = (k ≤ length ps) × (length back ≡ length back₀) × (r + length ps ≤ 65536) × Backs ps r k back
 
-abbrev decreases_loop : tie.decreases-loop
+abbrev decreases_loop : tie.decreases_loop
 decreases_loop ps r back₀ k₀ back k = k
 
 clear-requires : tie.Need-clear-requires invariant_loop decreases_loop

@@ -11,10 +11,10 @@ use Rattle.comparing.proofs.columns.make_steps.Lts as lts
 use Rattle.comparing.proofs.columns.step_at.Reads as step-at-reads
 use Rattle.rows.proofs.cells.get.Reads as get-reads
 
-abbrev invariant_loop : tie.invariant-loop
+abbrev invariant_loop : tie.invariant_loop
 invariant_loop d v names places r out₀ i₀ out i = (i ≤ length out) × (length out ≡ length out₀) × (r + length out₀ ≤ 65536) × Holds (step_of_row d v names places r) i out
 
-abbrev decreases_loop : tie.decreases-loop
+abbrev decreases_loop : tie.decreases_loop
 decreases_loop d v names places r out₀ i₀ out i = length out₀ - i
 
 loop_holds : tie.Need-loop-init invariant_loop decreases_loop
@@ -45,7 +45,7 @@ loop_less : tie.Need-loop-smaller invariant_loop decreases_loop
 loop_less c = omega arith
 
 loop_again : tie.Need-loop-preserved invariant_loop decreases_loop
-loop_again c = (simp length-set (omega arith), simp length-set (c.before.before.before.before.loop.invariant.1), c.before.before.before.before.loop.invariant.2, holds_more _ _ _ _ (c.before.before.before.before.loop.invariant.3) (omega arith) (step_is _ _ _ _ _ _ _ _ _ c.before.before.get.ensures c.before.get2.ensures c.step-at.ensures))
+loop_again c = (simp length-set (omega arith), simp length-set (c.before.before.before.before.loop.invariant.1), c.before.before.before.before.loop.invariant.2, holds_more _ _ _ _ (c.before.before.before.before.loop.invariant.3) (omega arith) (step_is _ _ _ _ _ _ _ _ _ c.before.before.get.ensures c.before.get2.ensures c.step_at.ensures))
 
 same_length : tie.Need-same-length invariant_loop decreases_loop
 same_length c = c.before.loop.invariant.1

@@ -20,13 +20,13 @@ least-of-requires : tie.Need-least-of-requires
 least-of-requires c κs = search rules
 
 returns-2 : tie.Need-returns-2
-returns-2 c = owner_low _ _ _ _ _ _ c.before.before.before.before.cell-of.ensures c.before.before.before.if1.false c.before.before.cell-of2.ensures c.before.least-of.ensures c.if2.true
+returns-2 c = owner_low _ _ _ _ _ _ c.before.before.before.before.cell_of.ensures c.before.before.before.if1.false c.before.before.cell-of2.ensures c.before.least-of.ensures c.if2.true
 
 add-result : tie.Need-overflow-add-result
 add-result c = search rules
 
 returns-3 : tie.Need-returns-3
-returns-3 c = owner_high _ _ _ _ _ _ c.before.before.before.before.cell-of.ensures c.before.before.before.if1.false c.before.before.cell-of2.ensures c.before.least-of.ensures c.if2.false
+returns-3 c = owner_high _ _ _ _ _ _ c.before.before.before.before.cell_of.ensures c.before.before.before.if1.false c.before.before.cell-of2.ensures c.before.least-of.ensures c.if2.false
 
 pub owner-at-spec : {M : Type 1} → statement M
 owner-at-spec =

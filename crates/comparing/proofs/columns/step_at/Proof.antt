@@ -35,7 +35,7 @@ add-result-2 : tie.Need-overflow-add-result-2
 add-result-2 c = search rules
 
 returns : tie.Need-returns
-returns c = step_found _ _ _ _ _ _ _ _ _ _ c.before.before.before.before.cell-of.ensures c.before.before.before.cell-of2.ensures c.before.before.least-of.ensures c.before.least-of2.ensures c.least-of3.ensures
+returns c = step_found _ _ _ _ _ _ _ _ _ _ c.before.before.before.before.cell_of.ensures c.before.before.before.cell-of2.ensures c.before.before.least_of.ensures c.before.least-of2.ensures c.least-of3.ensures
 
 pub step-at-spec : {M : Type 1} → statement M
 step-at-spec =

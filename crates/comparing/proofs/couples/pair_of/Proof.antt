@@ -19,7 +19,7 @@ pair-few-requires : tie.Need-pair-few-requires
 pair-few-requires c κs = ((c.before.if1.false, c.if2.false), c.before.before.before.before.before.before.before.before.before.before.requires.1)
 
 returns-3 : tie.Need-returns-3
-returns-3 c = c.pair-few.ensures
+returns-3 c = c.pair_few.ensures
 
 pub pair-of-spec : {M : Type 1} → statement M
 pair-of-spec =

@@ -20,7 +20,7 @@ find-word-requires : tie.Need-find-word-requires
 find-word-requires c κs = search rules
 
 returns : tie.Need-returns
-returns c = object_found _ _ _ _ _ _ _ _ _ _ _ c.before.before.before.before.cell-of.ensures c.before.before.before.cell-of2.ensures c.before.before.cell-of3.ensures c.before.part.ensures.0 c.find-word.ensures
+returns c = object_found _ _ _ _ _ _ _ _ _ _ _ c.before.before.before.before.cell_of.ensures c.before.before.before.cell-of2.ensures c.before.before.cell-of3.ensures c.before.part.ensures.0 c.find_word.ensures
 
 pub find-object-spec : {M : Type 1} → statement M
 find-object-spec = tie.close (tie.spec cell-of-requires cell-of-requires-2 cell-of-requires-3 part-requires find-word-requires returns)

@@ -21,7 +21,7 @@ name-number-requires : tie.Need-name-number-requires
 name-number-requires c κs = search rules
 
 returns : tie.Need-returns
-returns c = name_found _ _ _ _ _ _ _ _ _ _ _ _ _ c.before.before.before.cell-of.ensures c.before.before.cell-of2.ensures c.before.part.ensures.0 c.name-number.ensures
+returns c = name_found _ _ _ _ _ _ _ _ _ _ _ _ _ c.before.before.before.cell-of.ensures c.before.before.cell-of2.ensures c.before.part.ensures.0 c.name_number.ensures
 
 pub name-of-spec : {M : Type 1} → statement M
 name-of-spec =

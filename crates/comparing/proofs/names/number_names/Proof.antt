@@ -10,10 +10,10 @@ use Rattle.comparing.proofs.names.number_names.Reads as reads
 use Rattle.comparing.proofs.names.number_names.Lts as lts
 use Rattle.comparing.proofs.names.name_of.Reads as name-of-reads
 
-abbrev invariant_loop : tie.invariant-loop
+abbrev invariant_loop : tie.invariant_loop
 invariant_loop first d x second d2 x2 text t h₀ i₀ h i = (i ≤ length h) × (length h ≡ length h₀) × Holds (name_of first d x second d2 x2 text t) i h
 
-abbrev decreases_loop : tie.decreases-loop
+abbrev decreases_loop : tie.decreases_loop
 decreases_loop first d x second d2 x2 text t h₀ i₀ h i = length h₀ - i
 
 loop_holds : tie.Need-loop-init invariant_loop decreases_loop

@@ -11,10 +11,10 @@ use native.Mathlib.Omega.{arith}
 use Rattle.comparing.proofs.ordering.fill.Statement.{statement}
 use Rattle.comparing.proofs.ordering.fill.Tie as tie
 
-abbrev invariant_loop : tie.invariant-loop
+abbrev invariant_loop : tie.invariant_loop
 invariant_loop a b x₀ i₀ x i = (i ≤ length x) × (length x ≡ length x₀) × Holds (entry_of a b) i x
 
-abbrev decreases_loop : tie.decreases-loop
+abbrev decreases_loop : tie.decreases_loop
 decreases_loop a b x₀ i₀ x i = length x₀ - i
 
 loop_holds : tie.Need-loop-init invariant_loop decreases_loop

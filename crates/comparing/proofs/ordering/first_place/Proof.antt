@@ -7,10 +7,10 @@ use native.Mathlib.Omega.{arith}
 use Rattle.comparing.proofs.ordering.first_place.Statement.{statement}
 use Rattle.comparing.proofs.ordering.first_place.Tie as tie
 
-abbrev invariant_loop : tie.invariant-loop
+abbrev invariant_loop : tie.invariant_loop
 invariant_loop x v low₀ high₀ low high = (low ≤ high) × (high ≤ length x) × Narrow x v low high
 
-abbrev decreases_loop : tie.decreases-loop
+abbrev decreases_loop : tie.decreases_loop
 decreases_loop x v low₀ high₀ low high = high - low
 
 loop_holds : tie.Need-loop-init invariant_loop decreases_loop

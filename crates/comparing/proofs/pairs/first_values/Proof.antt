@@ -11,10 +11,10 @@ use Rattle.comparing.proofs.pairs.first_values.Lts as lts
 use Rattle.comparing.proofs.pairs.one_first.Reads as one-first-reads
 use Rattle.rows.proofs.cells.get.Reads as get-reads
 
-abbrev invariant_loop : tie.invariant-loop
+abbrev invariant_loop : tie.invariant_loop
 invariant_loop first d v r n second d2 v2 back x y all₀ k₀ all k = Gathering first d v second d2 v2 x y back n r all₀ all k
 
-abbrev decreases_loop : tie.decreases-loop
+abbrev decreases_loop : tie.decreases_loop
 decreases_loop first d v r n second d2 v2 back x y all₀ k₀ all k = n - k
 
 -- src/pairs.rt:69:5

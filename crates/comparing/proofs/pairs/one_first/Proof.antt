@@ -44,7 +44,7 @@ and-one-requires-2 c κs = search rules
 
 -- src/pairs.rt:12:1
 returns-3 : tie.Need-returns-3
-returns-3 c = also_both _ _ _ _ _ _ _ _ _ _ _ _ _ c.before.before.before.if1.false c.before.before.same-value.ensures c.before.if2.false c.and-one2.ensures
+returns-3 c = also_both _ _ _ _ _ _ _ _ _ _ _ _ _ c.before.before.before.if1.false c.before.before.same_value.ensures c.before.if2.false c.and-one2.ensures
 
 pub one-first-spec : {M : Type 1} → statement M
 one-first-spec =

@@ -9,10 +9,10 @@ use Rattle.comparing.proofs.pairs.second_values.Reads as reads
 use Rattle.comparing.proofs.pairs.second_values.Lts as lts
 use Rattle.comparing.proofs.pairs.one_second.Reads as one-second-reads
 
-abbrev invariant_loop : tie.invariant-loop
+abbrev invariant_loop : tie.invariant_loop
 invariant_loop r ps x y all₀ k₀ all k = Seconding x y ps r all₀ all k
 
-abbrev decreases_loop : tie.decreases-loop
+abbrev decreases_loop : tie.decreases_loop
 decreases_loop r ps x y all₀ k₀ all k = length ps - k
 
 loop_holds : tie.Need-loop-init invariant_loop decreases_loop

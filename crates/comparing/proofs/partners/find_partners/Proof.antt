@@ -9,10 +9,10 @@ use native.Mathlib.Omega.{arith}
 use Rattle.comparing.proofs.partners.find_partners.Statement.{statement}
 use Rattle.comparing.proofs.partners.find_partners.Tie as tie
 
-abbrev invariant_loop : tie.invariant-loop
+abbrev invariant_loop : tie.invariant_loop
 invariant_loop x owners2 steps2 out₀ i₀ out i = Filling x owners2 steps2 out i
 
-abbrev decreases_loop : tie.decreases-loop
+abbrev decreases_loop : tie.decreases_loop
 decreases_loop x owners2 steps2 out₀ i₀ out i = length owners2 - i
 
 loop_holds : tie.Need-loop-init invariant_loop decreases_loop
@@ -52,7 +52,7 @@ loop_less : tie.Need-loop-smaller invariant_loop decreases_loop
 loop_less c = omega arith
 
 loop_again : tie.Need-loop-preserved invariant_loop decreases_loop
-loop_again c = filling_next _ _ _ c.before.before.before.before.before.loop.out c.before.before.before.before.before.loop.i _ c.before.before.before.before.before.loop.invariant (omega arith) c.partner-of.ensures
+loop_again c = filling_next _ _ _ c.before.before.before.before.before.loop.out c.before.before.before.before.before.loop.i _ c.before.before.before.before.before.loop.invariant (omega arith) c.partner_of.ensures
 
 same_length : tie.Need-same-length invariant_loop decreases_loop
 same_length c = omega arith

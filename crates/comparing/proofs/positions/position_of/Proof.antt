@@ -27,7 +27,7 @@ mul-c : tie.Need-overflow-mul-c
 mul-c c = omega arith
 
 shared-slice-read-c : tie.Need-shared-slice-read-c
-shared-slice-read-c c = let h = c.before.before.first-place.ensures.inside in let z = c.before.if1.false in omega (arith, h, z)
+shared-slice-read-c c = let h = c.before.before.first_place.ensures.inside in let z = c.before.if1.false in omega (arith, h, z)
 
 returns-2 : tie.Need-returns-2
 returns-2 c = let z = c.before.before.if1.false in placed_other _ _ _ _ _ _ c.before.before.before.before.before.before.before.requires.0 c.before.before.before.before.before.before.before.requires.1 c.before.before.before.before.key_of.ensures c.before.before.before.first-place.ensures (omega (arith, z)) c.if2.true
@@ -39,7 +39,7 @@ add-result : tie.Need-overflow-add-result
 add-result c = let g = small_found c.before.before.before.before.before.before.before.before.args.before.now _ _ c.before.before.before.before.before.before.before.before.requires.0 c.get.ensures in omega (arith, g)
 
 returns-3 : tie.Need-returns-3
-returns-3 c = let z = c.before.before.before.if1.false in placed_there _ _ _ _ _ _ c.before.before.before.before.before.before.before.before.requires.0 c.before.before.before.before.before.before.before.before.requires.1 c.before.before.before.before.before.key_of.ensures c.before.before.before.before.first-place.ensures _ c.get.ensures (omega (arith, z)) c.before.if2.false
+returns-3 c = let z = c.before.before.before.if1.false in placed_there _ _ _ _ _ _ c.before.before.before.before.before.before.before.before.requires.0 c.before.before.before.before.before.before.before.before.requires.1 c.before.before.before.before.before.key_of.ensures c.before.before.before.before.first_place.ensures _ c.get.ensures (omega (arith, z)) c.before.if2.false
 
 pub position-of-spec : {M : Type 1} → statement M
 position-of-spec =

@@ -10,10 +10,10 @@ use native.Mathlib.Omega.{arith}
 use Rattle.comparing.proofs.positions.reckon_positions.Statement.{statement}
 use Rattle.comparing.proofs.positions.reckon_positions.Tie as tie
 
-abbrev invariant_loop : tie.invariant-loop
+abbrev invariant_loop : tie.invariant_loop
 invariant_loop owners names x out₀ i₀ out i = Reckon owners names out i
 
-abbrev decreases_loop : tie.decreases-loop
+abbrev decreases_loop : tie.decreases_loop
 decreases_loop owners names x out₀ i₀ out i = length owners - i
 
 loop_holds : tie.Need-loop-init invariant_loop decreases_loop

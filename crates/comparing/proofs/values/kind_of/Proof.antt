@@ -20,11 +20,11 @@ cell-of-requires-2 c κs = search rules
 
 -- src/values.rt:38:9
 returns : tie.Need-returns
-returns c = kind_low _ _ _ _ _ c.before.before.cell-of.ensures c.before.cell-of2.ensures 0 (omega arith)
+returns c = kind_low _ _ _ _ _ c.before.before.cell_of.ensures c.before.cell-of2.ensures 0 (omega arith)
 
 -- src/values.rt:32:1
 returns-2 : tie.Need-returns-2
-returns-2 c = kind_low _ _ _ _ _ c.before.before.cell-of.ensures c.before.cell-of2.ensures _ refl
+returns-2 c = kind_low _ _ _ _ _ c.before.before.cell_of.ensures c.before.cell-of2.ensures _ refl
 
 pub kind-of-spec : {M : Type 1} → statement M
 kind-of-spec = tie.close (tie.spec cell-of-requires cell-of-requires-2 returns returns-2)

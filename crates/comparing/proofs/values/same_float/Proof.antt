@@ -32,7 +32,7 @@ at-most-requires-2 : tie.Need-at-most-requires-2
 at-most-requires-2 c κs = search rules
 
 returns-2 : tie.Need-returns-2
-returns-2 c = floats_equal _ _ _ _ _ _ _ _ _ _ c.before.before.before.before.before.before.cell-of.ensures c.before.before.before.before.cell-of2.ensures c.before.before.before.before.before.Float-at.ensures c.before.before.before.float-at2.ensures _ (sym c.before.before.at-most.ensures ∙ not-false _ c.before.if1.false) c.at-most2.ensures
+returns-2 c = floats_equal _ _ _ _ _ _ _ _ _ _ c.before.before.before.before.before.before.cell_of.ensures c.before.before.before.before.cell-of2.ensures c.before.before.before.before.before.Float-at.ensures c.before.before.before.float-at2.ensures _ (sym c.before.before.at_most.ensures ∙ not-false _ c.before.if1.false) c.at-most2.ensures
 
 pub same-float-spec : {M : Type 1} → statement M
 same-float-spec =

@@ -23,7 +23,7 @@ kind-of-requires-2 c κs = search rules
 
 -- src/values.rt:57:9
 returns : tie.Need-returns
-returns c = kinds_differ _ _ _ (λ e. c.if1.true (c.before.before.kind-of.ensures ∙ e ∙ sym c.before.kind-of2.ensures))
+returns c = kinds_differ _ _ _ (λ e. c.if1.true (c.before.before.kind_of.ensures ∙ e ∙ sym c.before.kind-of2.ensures))
 
 -- src/values.rt:59:5
 same-word-requires : tie.Need-same-word-requires

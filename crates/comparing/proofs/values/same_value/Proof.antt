@@ -54,13 +54,13 @@ same-float-requires : tie.Need-same-float-requires
 same-float-requires c κs = search rules
 
 returns-7 : tie.Need-returns-7
-returns-7 c = float_keys _ _ _ _ _ _ _ _ _ (sym c.before.before.before.before.before.before.before.before.same-cell.ensures ∙ not-false _ c.before.before.before.before.before.before.before.if1.false) (sym c.before.before.before.before.before.before.cell-of.ensures ∙ c.before.if7.true) c.same_float.ensures
+returns-7 c = float_keys _ _ _ _ _ _ _ _ _ (sym c.before.before.before.before.before.before.before.before.same_cell.ensures ∙ not-false _ c.before.before.before.before.before.before.before.if1.false) (sym c.before.before.before.before.before.before.cell_of.ensures ∙ c.before.if7.true) c.same_float.ensures
 
 same-word-requires : tie.Need-same-word-requires
 same-word-requires c κs = search rules
 
 returns-8 : tie.Need-returns-8
-returns-8 c = word_keys _ _ _ _ _ _ _ _ _ (sym c.before.before.before.before.before.before.before.before.same-cell.ensures ∙ not-false _ c.before.before.before.before.before.before.before.if1.false) (λ z. c.before.before.before.before.before.if2.false (c.before.before.before.before.before.before.cell-of.ensures ∙ z)) (λ z. c.before.before.before.before.if4.false (c.before.before.before.before.before.before.cell-of.ensures ∙ z)) (λ z. c.before.before.before.if5.false (c.before.before.before.before.before.before.cell-of.ensures ∙ z)) (λ z. c.before.before.if6.false (c.before.before.before.before.before.before.cell-of.ensures ∙ z)) (λ z. c.before.if7.false (c.before.before.before.before.before.before.cell-of.ensures ∙ z)) c.same_word.ensures
+returns-8 c = word_keys _ _ _ _ _ _ _ _ _ (sym c.before.before.before.before.before.before.before.before.same_cell.ensures ∙ not-false _ c.before.before.before.before.before.before.before.if1.false) (λ z. c.before.before.before.before.before.if2.false (c.before.before.before.before.before.before.cell_of.ensures ∙ z)) (λ z. c.before.before.before.before.if4.false (c.before.before.before.before.before.before.cell_of.ensures ∙ z)) (λ z. c.before.before.before.if5.false (c.before.before.before.before.before.before.cell_of.ensures ∙ z)) (λ z. c.before.before.if6.false (c.before.before.before.before.before.before.cell_of.ensures ∙ z)) (λ z. c.before.if7.false (c.before.before.before.before.before.before.cell_of.ensures ∙ z)) c.same_word.ensures
 
 pub same-value-spec : {M : Type 1} → statement M
 same-value-spec =

@@ -6,10 +6,10 @@ use Rattle.console.proofs.arguments.is_same.Tie as tie
 use Rattle.console.proofs.arguments.is_same.Reads as reads
 use Rattle.console.proofs.arguments.is_same.Lts as lts
 
-abbrev invariant_loop : tie.invariant-loop
+abbrev invariant_loop : tie.invariant_loop
 invariant_loop word other i₀ i = i ≤ length word
 
-abbrev decreases_loop : tie.decreases-loop
+abbrev decreases_loop : tie.decreases_loop
 decreases_loop word other i₀ i = length word - i
 
 returns : tie.Need-returns invariant_loop decreases_loop

@@ -10,10 +10,10 @@ use Rattle.console.proofs.inputs.read.Lts as lts
 use Rattle.io.proofs.count.Reads as count-reads
 use Rattle.libc.proofs.read.Reads as read-reads
 
-abbrev invariant_loop : tie.invariant-loop
+abbrev invariant_loop : tie.invariant_loop
 invariant_loop fd buffer₀ n₀ buffer n = (n ≤ length buffer) × (length buffer ≡ length buffer₀)
 
-abbrev decreases_loop : tie.decreases-loop
+abbrev decreases_loop : tie.decreases_loop
 decreases_loop fd buffer₀ n₀ buffer n = length buffer - n
 
 loop_holds : tie.Need-loop-init invariant_loop decreases_loop

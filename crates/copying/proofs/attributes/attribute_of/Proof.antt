@@ -19,7 +19,7 @@ enum_told c = search rules
 
 returns : tie.Need-returns
 unfolding row_of attribute_of
-returns c = ap row_of (sym c.enum_told.given.1 ∙ c.before.before.find-row.ensures)
+returns c = ap row_of (sym c.enum_told.given.1 ∙ c.before.before.find_row.ensures)
 
 returns-2 : tie.Need-returns-2
 unfolding row_of attribute_of

@@ -9,10 +9,10 @@ use Rattle.copying.proofs.attributes.copy_attributed.Lts as lts
 use Rattle.copying.proofs.attributes.copy_enumerator.Reads as copy-enumerator-reads
 use Rattle.rows.proofs.cells.place_after.Reads as place-after-reads
 
-abbrev invariant_loop : tie.invariant-loop
+abbrev invariant_loop : tie.invariant_loop
 invariant_loop d n e m out₀ start₀ place₀ i₀ out start place i = Copying (attributed d n) e 3 3 m out₀ out i start place
 
-abbrev decreases_loop : tie.decreases-loop
+abbrev decreases_loop : tie.decreases_loop
 decreases_loop d n e m out₀ start₀ place₀ i₀ out start place i = m - i
 
 loop_holds : tie.Need-loop-init invariant_loop decreases_loop

@@ -11,10 +11,10 @@ use Rattle.copying.proofs.heads.copy_cells.Reads as reads
 use Rattle.copying.proofs.heads.copy_cells.Lts as lts
 use Rattle.rows.proofs.cells.cell.Reads as cell-reads
 
-abbrev invariant_loop : tie.invariant-loop
+abbrev invariant_loop : tie.invariant_loop
 invariant_loop from at count to₀ place i₀ j₀ to i j = (length to ≡ length to₀) × (sets to j (cells_from from (at + i) (count - i)) ≡ sets to₀ place (cells_from from at count))
 
-abbrev decreases_loop : tie.decreases-loop
+abbrev decreases_loop : tie.decreases_loop
 decreases_loop from at count to₀ place i₀ j₀ to i j = count - i
 
 loop_holds : tie.Need-loop-init invariant_loop decreases_loop

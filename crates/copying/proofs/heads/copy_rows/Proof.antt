@@ -9,10 +9,10 @@ use Rattle.copying.proofs.heads.copy_rows.Lts as lts
 use Rattle.copying.proofs.heads.copy_cells.Reads as copy-cells-reads
 use Rattle.rows.proofs.cells.place_after.Reads as place-after-reads
 
-abbrev invariant_loop : tie.invariant-loop
+abbrev invariant_loop : tie.invariant_loop
 invariant_loop from width n count to₀ start₀ place₀ i₀ to start place i = Copying as_is from width count n to₀ to i start place
 
-abbrev decreases_loop : tie.decreases-loop
+abbrev decreases_loop : tie.decreases_loop
 decreases_loop from width n count to₀ start₀ place₀ i₀ to start place i = n - i
 
 loop_holds : tie.Need-loop-init invariant_loop decreases_loop

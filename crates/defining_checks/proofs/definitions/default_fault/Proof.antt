@@ -29,7 +29,7 @@ cell-of-requires-3 : tie.Need-cell-of-requires-3
 cell-of-requires-3 c κs = search rules
 
 returns-3 : tie.Need-returns-3
-returns-3 c = default_unset _ _ _ _ _ _ _ _ c.before.before.before.before.before.before.cell-of.ensures c.before.before.before.before.before.if1.false _ c.before.before.before.before.is-late.ensures c.before.before.before.if2.false _ _ c.before.before.cell-of2.ensures c.before.cell-of3.ensures c.if3.true
+returns-3 c = default_unset _ _ _ _ _ _ _ _ c.before.before.before.before.before.before.cell_of.ensures c.before.before.before.before.before.if1.false _ c.before.before.before.before.is-late.ensures c.before.before.before.if2.false _ _ c.before.before.cell-of2.ensures c.before.cell-of3.ensures c.if3.true
 
 word-under-requires : tie.Need-word-under-requires
 word-under-requires c κs = search rules
@@ -41,13 +41,13 @@ fault-if-requires : tie.Need-fault-if-requires
 fault-if-requires c κs = search rules
 
 returns-4 : tie.Need-returns-4
-returns-4 c = default_auto _ _ _ _ _ _ _ _ c.before.before.before.before.before.before.before.before.before.before.cell-of.ensures c.before.before.before.before.before.before.before.before.before.if1.false _ c.before.before.before.before.before.before.before.before.is-late.ensures c.before.before.before.before.before.before.before.if2.false _ _ c.before.before.before.before.before.before.cell-of2.ensures c.before.before.before.before.before.cell-of3.ensures _ _ _ c.before.before.before.before.if3.false c.before.if4.true c.before.before.before.word-under.ensures c.before.before.takes.ensures c.fault-if.ensures
+returns-4 c = default_auto _ _ _ _ _ _ _ _ c.before.before.before.before.before.before.before.before.before.before.cell_of.ensures c.before.before.before.before.before.before.before.before.before.if1.false _ c.before.before.before.before.before.before.before.before.is-late.ensures c.before.before.before.before.before.before.before.if2.false _ _ c.before.before.before.before.before.before.cell-of2.ensures c.before.before.before.before.before.cell-of3.ensures _ _ _ c.before.before.before.before.if3.false c.before.if4.true c.before.before.before.word-under.ensures c.before.before.takes.ensures c.fault_if.ensures
 
 fault-if-requires-2 : tie.Need-fault-if-requires-2
 fault-if-requires-2 c κs = search rules
 
 returns-5 : tie.Need-returns-5
-returns-5 c = default_other _ _ _ _ _ _ _ _ c.before.before.before.before.before.before.before.before.before.before.cell-of.ensures c.before.before.before.before.before.before.before.before.before.if1.false _ c.before.before.before.before.before.before.before.before.is-late.ensures c.before.before.before.before.before.before.before.if2.false _ _ c.before.before.before.before.before.before.cell-of2.ensures c.before.before.before.before.before.cell-of3.ensures _ _ _ c.before.before.before.before.if3.false c.before.if4.false c.before.before.before.word-under.ensures c.before.before.takes.ensures c.fault-if2.ensures
+returns-5 c = default_other _ _ _ _ _ _ _ _ c.before.before.before.before.before.before.before.before.before.before.cell_of.ensures c.before.before.before.before.before.before.before.before.before.if1.false _ c.before.before.before.before.before.before.before.before.is-late.ensures c.before.before.before.before.before.before.before.if2.false _ _ c.before.before.before.before.before.before.cell-of2.ensures c.before.before.before.before.before.cell-of3.ensures _ _ _ c.before.before.before.before.if3.false c.before.if4.false c.before.before.before.word-under.ensures c.before.before.takes.ensures c.fault-if2.ensures
 
 pub default-fault-spec : {M : Type 1} → statement M
 default-fault-spec =

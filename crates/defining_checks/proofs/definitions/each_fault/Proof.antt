@@ -12,10 +12,10 @@ use Rattle.defining_checks.proofs.definitions.each_fault.Lts as lts
 use Rattle.defining_checks.proofs.definitions.row_fault.Reads as row-fault-reads
 use Rattle.rows.proofs.faults.sooner.Reads as sooner-reads
 
-abbrev invariant_loop : tie.invariant-loop
+abbrev invariant_loop : tie.invariant_loop
 invariant_loop text d e xe full limit n x y best₀ j₀ best j = (j ≤ n) × Through (ByTwo text d 19 0 13 2 x y) n (RowsFault text d e xe full limit j best)
 
-abbrev decreases_loop : tie.decreases-loop
+abbrev decreases_loop : tie.decreases_loop
 decreases_loop text d e xe full limit n x y best₀ j₀ best j = n - j
 
 loop_holds : tie.Need-loop-init invariant_loop decreases_loop

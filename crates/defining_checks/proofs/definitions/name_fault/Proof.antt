@@ -38,10 +38,10 @@ sooner-requires-2 : tie.Need-sooner-requires-2
 sooner-requires-2 c κs = search rules
 
 returns : tie.Need-returns
-returns c = through_one (name_again _ _ _ _ _ c.before.before.before.before.before.cell-of.ensures c.before.before.before.before.fault-if.ensures _ _ _ c.before.enum_told.given.1 c.sooner.ensures) (through_first c.before.before.before.again.ensures)
+returns c = through_one (name_again _ _ _ _ _ c.before.before.before.before.before.cell-of.ensures c.before.before.before.before.fault_if.ensures _ _ _ c.before.enum_told.given.1 c.sooner.ensures) (through_first c.before.before.before.again.ensures)
 
 returns-2 : tie.Need-returns-2
-returns-2 c = through_two (omega arith) (name_new _ _ _ _ _ c.before.before.before.before.before.before.cell-of.ensures c.before.before.before.before.before.fault-if.ensures _ _ _ c.before.before.enum-told2.given.1 c.sooner2.ensures) (through_first c.before.before.before.before.again.ensures) (through_second c.before.type-fault.ensures)
+returns-2 c = through_two (omega arith) (name_new _ _ _ _ _ c.before.before.before.before.before.before.cell_of.ensures c.before.before.before.before.before.fault-if.ensures _ _ _ c.before.before.enum-told2.given.1 c.sooner2.ensures) (through_first c.before.before.before.before.again.ensures) (through_second c.before.type-fault.ensures)
 
 pub name-fault-spec : {M : Type 1} → statement M
 name-fault-spec =

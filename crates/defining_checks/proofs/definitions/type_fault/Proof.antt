@@ -33,7 +33,7 @@ enum_told : tie.Need-enum-told
 enum_told c = search rules
 
 returns-2 : tie.Need-returns-2
-returns-2 c = through_one (λ k new. type_none _ _ _ _ c.before.before.before.before.before.before.cell-of.ensures c.before.before.before.before.before.if1.false _ _ c.before.before.before.before.cell-of2.ensures c.before.before.before.cell-of3.ensures _ k new c.enum_told.given.1) (through_found _ _ _ _ _ _ _ _ _ _ _ c.before.before.find_before.ensures)
+returns-2 c = through_one (λ k new. type_none _ _ _ _ c.before.before.before.before.before.before.cell_of.ensures c.before.before.before.before.before.if1.false _ _ c.before.before.before.before.cell-of2.ensures c.before.before.before.cell-of3.ensures _ k new c.enum_told.given.1) (through_found _ _ _ _ _ _ _ _ _ _ _ c.before.before.find_before.ensures)
 
 cell-of-requires-4 : tie.Need-cell-of-requires-4
 cell-of-requires-4 c κs = search rules
@@ -54,7 +54,7 @@ fault-if-requires : tie.Need-fault-if-requires
 fault-if-requires c κs = search rules
 
 returns-3 : tie.Need-returns-3
-returns-3 c = through_one (λ k new. type_some _ _ _ _ c.before.before.before.before.before.before.before.before.before.before.before.before.before.cell-of.ensures c.before.before.before.before.before.before.before.before.before.before.before.before.if1.false _ _ c.before.before.before.before.before.before.before.before.before.before.before.cell-of2.ensures c.before.before.before.before.before.before.before.before.before.before.cell-of3.ensures _ k new _ c.before.before.before.before.before.before.before.i.given.1 _ _ _ _ _ _ c.before.before.before.before.before.cell-of4.ensures c.before.before.before.before.cell-of5.ensures c.before.before.before.cell-of6.ensures c.before.before.cell-of7.ensures c.before.same-part.ensures c.fault-if.ensures) (through_found _ _ _ _ _ _ _ _ _ _ _ c.before.before.before.before.before.before.before.before.before.find_before.ensures)
+returns-3 c = through_one (λ k new. type_some _ _ _ _ c.before.before.before.before.before.before.before.before.before.before.before.before.before.cell-of.ensures c.before.before.before.before.before.before.before.before.before.before.before.before.if1.false _ _ c.before.before.before.before.before.before.before.before.before.before.before.cell-of2.ensures c.before.before.before.before.before.before.before.before.before.before.cell-of3.ensures _ k new _ c.before.before.before.before.before.before.before.i.given.1 _ _ _ _ _ _ c.before.before.before.before.before.cell-of4.ensures c.before.before.before.before.cell-of5.ensures c.before.before.before.cell-of6.ensures c.before.before.cell-of7.ensures c.before.same-part.ensures c.fault_if.ensures) (through_found _ _ _ _ _ _ _ _ _ _ _ c.before.before.before.before.before.before.before.before.before.find_before.ensures)
 
 pub type-fault-spec : {M : Type 1} → statement M
 type-fault-spec =

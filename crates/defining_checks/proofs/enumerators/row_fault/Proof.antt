@@ -34,7 +34,7 @@ sooner-requires : tie.Need-sooner-requires
 sooner-requires c κs = search rules
 
 returns : tie.Need-returns
-returns c = through_one (λ k. enumerator_is _ _ _ _ _ _ _ _ _ _ c.before.before.before.before.before.before.cell-of.ensures c.before.before.before.before.before.cell-of2.ensures c.before.before.before.before.cell-of3.ensures c.before.before.before.fault-if.ensures k c.before.fault-found.ensures c.sooner.ensures) (through_found _ _ _ _ _ _ _ _ _ _ _ c.before.before.find_before.ensures)
+returns c = through_one (λ k. enumerator_is _ _ _ _ _ _ _ _ _ _ c.before.before.before.before.before.before.cell_of.ensures c.before.before.before.before.before.cell-of2.ensures c.before.before.before.before.cell-of3.ensures c.before.before.before.fault-if.ensures k c.before.fault-found.ensures c.sooner.ensures) (through_found _ _ _ _ _ _ _ _ _ _ _ c.before.before.find_before.ensures)
 
 pub row-fault-spec : {M : Type 1} → statement M
 row-fault-spec =

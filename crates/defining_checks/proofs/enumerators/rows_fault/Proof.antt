@@ -12,10 +12,10 @@ use Rattle.defining_checks.proofs.enumerators.rows_fault.Lts as lts
 use Rattle.defining_checks.proofs.enumerators.row_fault.Reads as row-fault-reads
 use Rattle.rows.proofs.faults.sooner.Reads as sooner-reads
 
-abbrev invariant_loop : tie.invariant-loop
+abbrev invariant_loop : tie.invariant_loop
 invariant_loop text e n x best₀ j₀ best j = (j ≤ n) × Through (By text e 3 0 1 x) n (EnumeratorsFault text e j best)
 
-abbrev decreases_loop : tie.decreases-loop
+abbrev decreases_loop : tie.decreases_loop
 decreases_loop text e n x best₀ j₀ best j = n - j
 
 loop_holds : tie.Need-loop-init invariant_loop decreases_loop

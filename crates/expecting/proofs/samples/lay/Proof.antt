@@ -10,10 +10,10 @@ use Rattle.expecting.proofs.samples.lay.Reads as reads
 use Rattle.expecting.proofs.samples.lay.Lts as lts
 use Rattle.expecting.proofs.samples.asking_byte.Reads as asking-byte-reads
 
-abbrev invariant_loop : tie.invariant-loop
+abbrev invariant_loop : tie.invariant_loop
 invariant_loop text place i scratch₀ end j₀ scratch j = (j ≤ place + 17) × (length scratch ≡ length scratch₀) × Laid 0 scratch (asking text place i) j
 
-abbrev decreases_loop : tie.decreases-loop
+abbrev decreases_loop : tie.decreases_loop
 decreases_loop text place i scratch₀ end j₀ scratch j = place + 17 - j
 
 add-end : tie.Need-overflow-add-end invariant_loop decreases_loop

@@ -10,10 +10,10 @@ use Rattle.expecting.proofs.words.letters_of.Reads as reads
 use Rattle.expecting.proofs.words.letters_of.Lts as lts
 use Rattle.expecting.proofs.words.letter.Reads as letter-reads
 
-abbrev invariant_loop : tie.invariant-loop
+abbrev invariant_loop : tie.invariant_loop
 invariant_loop i letters₀ j₀ letters j = (j ≤ 24) × (length letters ≡ 24) × Laid 32 letters (padded (word_of i)) j
 
-abbrev decreases_loop : tie.decreases-loop
+abbrev decreases_loop : tie.decreases_loop
 decreases_loop i letters₀ j₀ letters j = 24 - j
 
 returns : tie.Need-returns invariant_loop decreases_loop

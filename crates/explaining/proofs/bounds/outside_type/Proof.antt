@@ -17,7 +17,7 @@ returns : tie.Need-returns
 returns c = type_below _ _ _ c.before.type-before.ensures c.if1.true
 
 returns-2 : tie.Need-returns-2
-returns-2 c = type_above _ _ _ c.before.before.type-before.ensures c.if2.true
+returns-2 c = type_above _ _ _ c.before.before.type_before.ensures c.if2.true
 
 number-at-requires : tie.Need-number-at-requires
 number-at-requires c κs = search rules
@@ -29,7 +29,7 @@ in-type-requires : tie.Need-in-type-requires
 in-type-requires c κs = search rules
 
 returns-3 : tie.Need-returns-3
-returns-3 c = type_inside _ _ _ c.before.before.before.before.type-before.ensures _ _ c.before.before.before.if1.false c.before.before.if2.false c.before.number_at.ensures c.in-type.ensures
+returns-3 c = type_inside _ _ _ c.before.before.before.before.type_before.ensures _ _ c.before.before.before.if1.false c.before.before.if2.false c.before.number_at.ensures c.in_type.ensures
 
 pub outside-type-spec : {M : Type 1} → statement M
 outside-type-spec =

@@ -13,10 +13,10 @@ use Rattle.explaining.proofs.bounds.type_before.Lts as lts
 use Rattle.explaining.proofs.bounds.code_after.Reads as code-after-reads
 use Rattle.token.proofs.Cursor.step.Reads as step-reads
 
-abbrev invariant_loop : tie.invariant-loop
+abbrev invariant_loop : tie.invariant_loop
 invariant_loop text place code₀ at₀ code at = Left text place code at
 
-abbrev decreases_loop : tie.decreases-loop
+abbrev decreases_loop : tie.decreases_loop
 decreases_loop text place code₀ at₀ code at = place - at
 
 loop_holds : tie.Need-loop-init invariant_loop decreases_loop
@@ -38,7 +38,7 @@ loop_less : tie.Need-loop-smaller invariant_loop decreases_loop
 loop_less c = omega (arith, found_fits _ _ _ _ (sym c.before.before.before.before.before.before.step.ensures ∙ c.before.before.before.before.t.given.1))
 
 loop_again : tie.Need-loop-preserved invariant_loop decreases_loop
-loop_again c = left_on _ _ _ _ _ _ _ (sym c.before.before.before.before.before.before.step.ensures ∙ c.before.before.before.before.t.given.1) c.before.if1.false c.code-after.ensures c.before.before.before.before.before.before.before.before.loop.invariant
+loop_again c = left_on _ _ _ _ _ _ _ (sym c.before.before.before.before.before.before.step.ensures ∙ c.before.before.before.before.t.given.1) c.before.if1.false c.code_after.ensures c.before.before.before.before.before.before.before.before.loop.invariant
 
 enum_told : tie.Need-enum-told invariant_loop decreases_loop
 enum_told c = search rules

@@ -11,10 +11,10 @@ use Rattle.explaining.proofs.characters.state.Reads as reads
 use Rattle.explaining.proofs.characters.state.Lts as lts
 use Rattle.explaining.proofs.characters.after.Reads as after-reads
 
-abbrev invariant_loop : tie.invariant-loop
+abbrev invariant_loop : tie.invariant_loop
 invariant_loop bytes k₀ i₀ k i = state_of k (drop i bytes) ≡ state_of 0 bytes
 
-abbrev decreases_loop : tie.decreases-loop
+abbrev decreases_loop : tie.decreases_loop
 decreases_loop bytes k₀ i₀ k i = length bytes - i
 
 loop_holds : tie.Need-loop-init invariant_loop decreases_loop

@@ -12,10 +12,10 @@ use native.Mathlib.Omega.{arith}
 use Rattle.explaining.proofs.drawing.put.Statement.{statement}
 use Rattle.explaining.proofs.drawing.put.Tie as tie
 
-abbrev invariant_loop : tie.invariant-loop
+abbrev invariant_loop : tie.invariant_loop
 invariant_loop out₀ at mark bytes i₀ j₀ out i j = (i ≤ length bytes) × (length out ≡ length out₀) × (sets out j (map (drawn mark) (drop i bytes)) ≡ sets out₀ at (map (drawn mark) bytes))
 
-abbrev decreases_loop : tie.decreases-loop
+abbrev decreases_loop : tie.decreases_loop
 decreases_loop out₀ at mark bytes i₀ j₀ out i j = length bytes - i
 
 loop_holds : tie.Need-loop-init invariant_loop decreases_loop

@@ -24,10 +24,10 @@ characters-requires : tie.Need-characters-requires
 characters-requires c κs = search rules
 
 add-result : tie.Need-overflow-add-result
-add-result c = omega (arith, c.characters.ensures, column_most c.before.before.before.before.args.text.now c.before.before.before.before.args.at c.before.before.line-start.result (omega arith))
+add-result c = omega (arith, c.characters.ensures, column_most c.before.before.before.before.args.text.now c.before.before.before.before.args.at c.before.before.line_start.result (omega arith))
 
 returns : tie.Need-returns
-returns c = column_is _ _ _ _ c.before.before.line-start.ensures c.characters.ensures
+returns c = column_is _ _ _ _ c.before.before.line_start.ensures c.characters.ensures
 
 pub column-of-spec : {M : Type 1} → statement M
 column-of-spec =

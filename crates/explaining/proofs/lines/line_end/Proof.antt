@@ -9,10 +9,10 @@ use Prim.Native.Nat.{◌-◌}
 use Rattle.explaining.proofs.lines.line_end.Statement.{statement}
 use Rattle.explaining.proofs.lines.line_end.Tie as tie
 
-abbrev invariant_loop : tie.invariant-loop
+abbrev invariant_loop : tie.invariant_loop
 invariant_loop text at i₀ i = line_end text i ≡ line_end text at
 
-abbrev decreases_loop : tie.decreases-loop
+abbrev decreases_loop : tie.decreases_loop
 decreases_loop text at i₀ i = length text - i
 
 loop_holds : tie.Need-loop-init invariant_loop decreases_loop

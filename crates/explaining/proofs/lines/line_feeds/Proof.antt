@@ -10,10 +10,10 @@ use Prim.Native.Nat.{◌≤◌, ◌+◌, ◌-◌}
 use Rattle.explaining.proofs.lines.line_feeds.Statement.{statement}
 use Rattle.explaining.proofs.lines.line_feeds.Tie as tie
 
-abbrev invariant_loop : tie.invariant-loop
+abbrev invariant_loop : tie.invariant_loop
 invariant_loop bytes n₀ i₀ n i = (n ≤ i) × (n + line_feeds (drop i bytes) ≡ line_feeds bytes)
 
-abbrev decreases_loop : tie.decreases-loop
+abbrev decreases_loop : tie.decreases_loop
 decreases_loop bytes n₀ i₀ n i = length bytes - i
 
 loop_holds : tie.Need-loop-init invariant_loop decreases_loop

@@ -19,7 +19,7 @@ add-result : tie.Need-overflow-add-result
 add-result c = omega (arith, feeds_most (take c.before.before.before.args.at c.before.before.before.args.text.now), length-take-le c.before.before.before.args.at c.before.before.before.args.text.now (omega arith))
 
 returns : tie.Need-returns
-returns c = line_is_of _ _ _ c.line-feeds.ensures
+returns c = line_is_of _ _ _ c.line_feeds.ensures
 
 pub line-of-spec : {M : Type 1} → statement M
 line-of-spec =

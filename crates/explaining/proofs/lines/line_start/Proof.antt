@@ -8,10 +8,10 @@ use Prim.Native.Nat.{◌≤◌}
 use Rattle.explaining.proofs.lines.line_start.Statement.{statement}
 use Rattle.explaining.proofs.lines.line_start.Tie as tie
 
-abbrev invariant_loop : tie.invariant-loop
+abbrev invariant_loop : tie.invariant_loop
 invariant_loop text at i₀ i = (i ≤ at) × (line_start text i ≡ line_start text at)
 
-abbrev decreases_loop : tie.decreases-loop
+abbrev decreases_loop : tie.decreases_loop
 decreases_loop text at i₀ i = i
 
 loop_holds : tie.Need-loop-init invariant_loop decreases_loop

@@ -18,7 +18,7 @@ dots-for-requires-2 : tie.Need-dots-for-requires-2
 dots-for-requires-2 c κs = search rules
 
 returns : tie.Need-returns
-returns c = view_is _ _ _ _ _ _ _ c.before.before.before.window-from.ensures c.before.before.window-to.ensures c.before.dots-for.ensures c.dots-for2.ensures
+returns c = view_is _ _ _ _ _ _ _ c.before.before.before.window-from.ensures c.before.before.window_to.ensures c.before.dots-for.ensures c.dots-for2.ensures
 
 pub view-in-spec : {M : Type 1} → statement M
 view-in-spec =

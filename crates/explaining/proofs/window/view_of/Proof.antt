@@ -18,7 +18,7 @@ view-in-requires : tie.Need-view-in-requires
 view-in-requires c κs = search rules
 
 returns : tie.Need-returns
-returns c = view_is_of _ _ _ _ _ _ c.before.before.before.line-start.ensures c.before.before.line-end.ensures c.before.shown-end.ensures c.view_in.ensures
+returns c = view_is_of _ _ _ _ _ _ c.before.before.before.line-start.ensures c.before.before.line_end.ensures c.before.shown-end.ensures c.view_in.ensures
 
 pub view-of-spec : {M : Type 1} → statement M
 view-of-spec =

@@ -11,17 +11,17 @@ use Rattle.judging.proofs.marking.find_under.Reads as reads
 use Rattle.judging.proofs.marking.find_under.Lts as lts
 use Rattle.rows.proofs.finding.find_row.Reads as find-row-reads
 
-abbrev invariant_loop : tie.invariant-loop
+abbrev invariant_loop : tie.invariant_loop
 invariant_loop d n key i p₀ k₀ p k = (n ≤ 512) × (9728 ≤ length d) × (p ≡ k * 19) × (k ≤ n) × (find_row d 19 n 0 key k ≡ find_row d 19 n 0 key i)
 
-abbrev decreases_loop : tie.decreases-loop
+abbrev decreases_loop : tie.decreases_loop
 decreases_loop d n key i p₀ k₀ p k = n - k
 
 find-row-requires : tie.Need-find-row-requires invariant_loop decreases_loop
 find-row-requires c κs = tt
 
 returns : tie.Need-returns invariant_loop decreases_loop
-returns c = c.find-row.ensures
+returns c = c.find_row.ensures
 
 find-row-requires-2 : tie.Need-find-row-requires-2 invariant_loop decreases_loop
 find-row-requires-2 c κs = tt

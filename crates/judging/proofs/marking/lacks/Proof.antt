@@ -13,10 +13,10 @@ use Rattle.judging.proofs.marking.lacks.Lts as lts
 use Rattle.judging.proofs.marking.find_under.Reads as find-under-reads
 use Rattle.judging.proofs.marking.lacks_row.Reads as lacks-row-reads
 
-abbrev invariant_loop : tie.invariant-loop
+abbrev invariant_loop : tie.invariant_loop
 invariant_loop text d st names first missing n key from end i₀ i = Passed text d st missing n key from end i
 
-abbrev decreases_loop : tie.decreases-loop
+abbrev decreases_loop : tie.decreases_loop
 decreases_loop text d st names first missing n key from end i₀ i = n - i
 
 loop_holds : tie.Need-loop-init invariant_loop decreases_loop

@@ -13,10 +13,10 @@ use native.Mathlib.Omega.{arith}
 use Rattle.judging.proofs.marking.marks.Statement.{statement}
 use Rattle.judging.proofs.marking.marks.Tie as tie
 
-abbrev invariant_loop : tie.invariant-loop
+abbrev invariant_loop : tie.invariant_loop
 invariant_loop text d e st names z missing₀ j₀ missing j = (length missing ≡ 512) × ((o : List ℕ) (f : File) → Given text d e o st z f → Marked f missing j)
 
-abbrev decreases_loop : tie.decreases-loop
+abbrev decreases_loop : tie.decreases_loop
 decreases_loop text d e st names z missing₀ j₀ missing j = z.definitions - j
 
 loop_holds : tie.Need-loop-init invariant_loop decreases_loop

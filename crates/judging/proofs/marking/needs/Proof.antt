@@ -23,7 +23,7 @@ single-requires : tie.Need-single-requires
 single-requires c κs = search rules
 
 returns : tie.Need-returns
-returns c = λ o f x c' m a. c.single.ensures ∙ needs_no_size c' a (sym c.before.before.cell-of.ensures ∙ c.before.if1.true)
+returns c = λ o f x c' m a. c.single.ensures ∙ needs_no_size c' a (sym c.before.before.cell_of.ensures ∙ c.before.if1.true)
 
 cell-of-requires-2 : tie.Need-cell-of-requires-2
 cell-of-requires-2 c κs = search rules
@@ -41,7 +41,7 @@ word-under-requires : tie.Need-word-under-requires
 word-under-requires c κs = search rules
 
 returns-3 : tie.Need-returns-3
-returns-3 c = λ o f x c' m a. needs_nothing c' a (taking c' a c.before.before.cell-of3.result c.before.before.before.before.before.before.cell-of.result c.before.word-under.result c.before.before.cell-of3.ensures c.before.before.before.before.before.before.cell-of.ensures c.before.before.before.before.before.if1.false (λ y. c.before.before.before.if2.false (c.before.before.before.before.cell-of2.ensures ∙ y)) c.before.word-under.ensures) c.if3.true
+returns-3 c = λ o f x c' m a. needs_nothing c' a (taking c' a c.before.before.cell-of3.result c.before.before.before.before.before.before.cell_of.result c.before.word-under.result c.before.before.cell-of3.ensures c.before.before.before.before.before.before.cell_of.ensures c.before.before.before.before.before.if1.false (λ y. c.before.before.before.if2.false (c.before.before.before.before.cell-of2.ensures ∙ y)) c.before.word-under.ensures) c.if3.true
 
 slice-aggregate-lacks : tie.Need-slice-aggregate-lacks
 slice-aggregate-lacks c = search rules

@@ -19,7 +19,7 @@ is-before-requires : tie.Need-is-before-requires
 is-before-requires c κs = search rules
 
 returns-2 : tie.Need-returns-2
-returns-2 c = λ f x y b a h q. again_single a c.before.before.cell-of.result _ _ c.is-before.result b c.before.before.cell-of.ensures c.before.if1.false h q c.is-before.ensures
+returns-2 c = λ f x y b a h q. again_single a c.before.before.cell_of.result _ _ c.is-before.result b c.before.before.cell_of.ensures c.before.if1.false h q c.is-before.ensures
 
 pub again_spec : {M : Type 1} → statement M
 again_spec = tie.close (tie.spec cell-of-requires returns is-before-requires returns-2)

@@ -30,7 +30,7 @@ sooner-requires : tie.Need-sooner-requires
 sooner-requires c κs = search rules
 
 returns : tie.Need-returns
-returns c = λ f x y b a h q. c.sooner.ensures ∙ ap (λ g. sooner-of g c.before.value-fault.result) c.before.before.fault-if.ensures ∙ own_by a c.before.before.before.before.cell-of.result c.before.before.before.again.result c.before.value-fault.result b c.before.before.before.before.cell-of.ensures (c.before.before.before.again.ensures f x y b a h q) (c.before.value-fault.ensures f x y a)
+returns c = λ f x y b a h q. c.sooner.ensures ∙ ap (λ g. sooner-of g c.before.value-fault.result) c.before.before.fault_if.ensures ∙ own_by a c.before.before.before.before.cell_of.result c.before.before.before.again.result c.before.value-fault.result b c.before.before.before.before.cell_of.ensures (c.before.before.before.again.ensures f x y b a h q) (c.before.value-fault.ensures f x y a)
 
 pub own-fault-spec : {M : Type 1} → statement M
 own-fault-spec =

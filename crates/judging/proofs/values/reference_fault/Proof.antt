@@ -24,10 +24,10 @@ enum-told-2 : tie.Need-enum-told-2
 enum-told-2 c = search rules
 
 returns-2 : tie.Need-returns-2
-returns-2 c = reference_nothing _ _ _ _ _ _ c.before.before.before.before.before.before.before.before.args.code (sym c.before.before.before.before.is_name.ensures ∙ not-false _ c.before.before.before.if1.false) (subst (λ r. FindsObject c.before.before.before.before.before.before.before.before.args.text.now c.before.before.before.before.before.before.before.before.args.o.now c.before.before.before.before.before.before.before.before.args.objects c.before.before.before.before.before.before.before.before.args.kind c.before.before.before.before.before.before.before.before.args.at c.before.before.before.before.before.before.before.before.args.len r) c.enum-told2.given.1 c.before.before.find-object.ensures)
+returns-2 c = reference_nothing _ _ _ _ _ _ c.before.before.before.before.before.before.before.before.args.code (sym c.before.before.before.before.is_name.ensures ∙ not-false _ c.before.before.before.if1.false) (subst (λ r. FindsObject c.before.before.before.before.before.before.before.before.args.text.now c.before.before.before.before.before.before.before.before.args.o.now c.before.before.before.before.before.before.before.before.args.objects c.before.before.before.before.before.before.before.before.args.kind c.before.before.before.before.before.before.before.before.args.at c.before.before.before.before.before.before.before.before.args.len r) c.enum-told2.given.1 c.before.before.find_object.ensures)
 
 returns-3 : tie.Need-returns-3
-returns-3 c = reference_object _ _ _ _ _ _ c.before.before.before.before.before.before.before.before.args.code _ (sym c.before.before.before.before.is_name.ensures ∙ not-false _ c.before.before.before.if1.false) (subst (λ r. FindsObject c.before.before.before.before.before.before.before.before.args.text.now c.before.before.before.before.before.before.before.before.args.o.now c.before.before.before.before.before.before.before.before.args.objects c.before.before.before.before.before.before.before.before.args.kind c.before.before.before.before.before.before.before.before.args.at c.before.before.before.before.before.before.before.before.args.len r) c.enum_told.given.1 c.before.before.find-object.ensures)
+returns-3 c = reference_object _ _ _ _ _ _ c.before.before.before.before.before.before.before.before.args.code _ (sym c.before.before.before.before.is_name.ensures ∙ not-false _ c.before.before.before.if1.false) (subst (λ r. FindsObject c.before.before.before.before.before.before.before.before.args.text.now c.before.before.before.before.before.before.before.before.args.o.now c.before.before.before.before.before.before.before.before.args.objects c.before.before.before.before.before.before.before.before.args.kind c.before.before.before.before.before.before.before.before.args.at c.before.before.before.before.before.before.before.before.args.len r) c.enum_told.given.1 c.before.before.find_object.ensures)
 
 pub reference-fault-spec : {M : Type 1} → statement M
 reference-fault-spec =

@@ -10,10 +10,10 @@ use Rattle.judging.proofs.wanting.count_all.Lts as lts
 use Rattle.judging.proofs.wanting.count.Reads as count-reads
 use Rattle.rows.proofs.cells.cell_of.Reads as cell-of-reads
 
-abbrev invariant_loop : tie.invariant-loop
+abbrev invariant_loop : tie.invariant_loop
 invariant_loop st ranks counts₀ i₀ counts i = length counts ≡ length counts₀
 
-abbrev decreases_loop : tie.decreases-loop
+abbrev decreases_loop : tie.decreases_loop
 decreases_loop st ranks counts₀ i₀ counts i = length ranks - i
 
 loop_holds : tie.Need-loop-init invariant_loop decreases_loop

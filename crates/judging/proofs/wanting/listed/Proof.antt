@@ -9,10 +9,10 @@ use Rattle.judging.proofs.wanting.listed.Lts as lts
 use Rattle.judging.proofs.wanting.listed_of.Reads as listed-of-reads
 use Rattle.rows.proofs.cells.least_of.Reads as least-of-reads
 
-abbrev invariant_loop : tie.invariant-loop
+abbrev invariant_loop : tie.invariant_loop
 invariant_loop text d marks count₀ i₀ count i = count ≤ 65535
 
-abbrev decreases_loop : tie.decreases-loop
+abbrev decreases_loop : tie.decreases_loop
 decreases_loop text d marks count₀ i₀ count i = length marks - i
 
 loop_holds : tie.Need-loop-init invariant_loop decreases_loop
@@ -40,7 +40,7 @@ loop_less : tie.Need-loop-smaller invariant_loop decreases_loop
 loop_less c = omega arith
 
 loop_again : tie.Need-loop-preserved invariant_loop decreases_loop
-loop_again c = omega (arith, c.least-of.ensures)
+loop_again c = omega (arith, c.least_of.ensures)
 
 returns : tie.Need-returns invariant_loop decreases_loop
 returns c = search rules

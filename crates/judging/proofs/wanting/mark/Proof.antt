@@ -10,10 +10,10 @@ use Rattle.judging.proofs.wanting.mark.Lts as lts
 use Rattle.judging.proofs.wanting.mark_of.Reads as mark-of-reads
 use Rattle.rows.proofs.cells.get.Reads as get-reads
 
-abbrev invariant_loop : tie.invariant-loop
+abbrev invariant_loop : tie.invariant_loop
 invariant_loop ranks counts marks₀ i₀ marks i = length marks ≡ length marks₀
 
-abbrev decreases_loop : tie.decreases-loop
+abbrev decreases_loop : tie.decreases_loop
 decreases_loop ranks counts marks₀ i₀ marks i = length marks₀ - i
 
 loop_holds : tie.Need-loop-init invariant_loop decreases_loop

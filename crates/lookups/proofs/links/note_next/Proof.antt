@@ -17,10 +17,10 @@ use Rattle.rows.proofs.cells.cell_of.Reads as cell-of-reads
 use Rattle.rows.proofs.cells.clear.Reads as clear_reads
 use Rattle.rows.proofs.cells.get.Reads as get-reads
 
-abbrev invariant_loop : tie.invariant-loop
+abbrev invariant_loop : tie.invariant_loop
 invariant_loop st h next₀ rows₀ k₀ next rows k = (length rows ≡ 513) × ((k ≤ length h) × LinkedFrom st h next k rows)
 
-abbrev decreases_loop : tie.decreases-loop
+abbrev decreases_loop : tie.decreases_loop
 decreases_loop st h next₀ rows₀ k₀ next rows k = k
 
 clear-requires : tie.Need-clear-requires invariant_loop decreases_loop
@@ -75,7 +75,7 @@ loop_less : tie.Need-loop-smaller invariant_loop decreases_loop
 loop_less c = omega arith
 
 loop_again : tie.Need-loop-preserved invariant_loop decreases_loop
-loop_again c = let q : c.before.before.before.before.before.before.before.before.pass.result ≡ c.before.before.before.before.before.before.before.before.before.before.before.next_row.result = omega arith in let e : (c.before.before.before.before.before.before.before.before.before.before.before.before.before.before.loop.k - 1) + 1 ≡ c.before.before.before.before.before.before.before.before.before.before.before.before.before.before.loop.k = omega arith in (omega (arith, c.before.put.auto, c.before.before.before.before.before.before.before.before.pass.auto, c.before.before.before.before.before.before.before.before.before.before.before.before.before.before.loop.invariant.0), (omega (arith, c.before.before.before.before.before.before.before.before.before.before.before.before.before.before.loop.invariant.1.0), links_row _ _ _ _ _ c.before.before.before.before.before.before.before.before.before.before.before.before.before.before.loop.invariant.1.1 _ _ _ _ _ _ _ e c.before.before.before.before.before.before.before.before.before.before.before.before.before.before.loop.invariant.1.0 (c.before.before.before.before.before.before.before.before.pass.ensures ∙ ap (λ (x : ℕ). ahead (c.before.before.before.before.before.before.before.before.before.before.before.before.before.before.before.before.before.before.before.before.before.before.args.st.now) (c.before.before.before.before.before.before.before.before.before.before.before.before.before.before.before.before.before.before.before.before.before.before.args.h.now) x) q) (next_by (c.before.before.before.before.before.before.before.before.before.before.before.before.before.before.before.before.before.before.before.before.before.before.args.st.now) _ _ _ _ c.before.before.before.before.before.before.before.before.before.before.before.before.cell-of.ensures c.before.before.before.before.before.before.before.before.before.before.before.next_row.ensures) c.before.before.before.before.before.get.ensures c.before.before.before.get2.ensures refl c.before.put.ensures))
+loop_again c = let q : c.before.before.before.before.before.before.before.before.pass.result ≡ c.before.before.before.before.before.before.before.before.before.before.before.next_row.result = omega arith in let e : (c.before.before.before.before.before.before.before.before.before.before.before.before.before.before.loop.k - 1) + 1 ≡ c.before.before.before.before.before.before.before.before.before.before.before.before.before.before.loop.k = omega arith in (omega (arith, c.before.put.auto, c.before.before.before.before.before.before.before.before.pass.auto, c.before.before.before.before.before.before.before.before.before.before.before.before.before.before.loop.invariant.0), (omega (arith, c.before.before.before.before.before.before.before.before.before.before.before.before.before.before.loop.invariant.1.0), links_row _ _ _ _ _ c.before.before.before.before.before.before.before.before.before.before.before.before.before.before.loop.invariant.1.1 _ _ _ _ _ _ _ e c.before.before.before.before.before.before.before.before.before.before.before.before.before.before.loop.invariant.1.0 (c.before.before.before.before.before.before.before.before.pass.ensures ∙ ap (λ (x : ℕ). ahead (c.before.before.before.before.before.before.before.before.before.before.before.before.before.before.before.before.before.before.before.before.before.before.args.st.now) (c.before.before.before.before.before.before.before.before.before.before.before.before.before.before.before.before.before.before.before.before.before.before.args.h.now) x) q) (next_by (c.before.before.before.before.before.before.before.before.before.before.before.before.before.before.before.before.before.before.before.before.before.before.args.st.now) _ _ _ _ c.before.before.before.before.before.before.before.before.before.before.before.before.cell_of.ensures c.before.before.before.before.before.before.before.before.before.before.before.next_row.ensures) c.before.before.before.before.before.get.ensures c.before.before.before.get2.ensures refl c.before.put.ensures))
 
 same_length_2 : tie.Need-same-length-2 invariant_loop decreases_loop
 same_length_2 c = let a = c.before.loop.invariant.1.1.size in let b = c.before.before.before.before.before.before.before.before.before.requires in omega (arith, a, b)

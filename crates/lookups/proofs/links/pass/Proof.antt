@@ -16,10 +16,10 @@ use Rattle.lookups.proofs.next_row.Reads as next-row-reads
 use Rattle.rows.proofs.cells.cell_of.Reads as cell-of-reads
 use Rattle.rows.proofs.cells.get.Reads as get-reads
 
-abbrev invariant_loop : tie.invariant-loop
+abbrev invariant_loop : tie.invariant_loop
 invariant_loop st h next rows₀ from to p₀ rows p = (length rows ≡ length rows₀) × Passing st h next p rows
 
-abbrev decreases_loop : tie.decreases-loop
+abbrev decreases_loop : tie.decreases_loop
 decreases_loop st h next rows₀ from to p₀ rows p = to - p
 
 loop_holds : tie.Need-loop-init invariant_loop decreases_loop

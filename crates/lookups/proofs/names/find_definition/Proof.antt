@@ -12,7 +12,7 @@ find-definition-requires : tie.Need-find-definition-requires
 find-definition-requires c κs = search rules
 
 returns : tie.Need-returns
-returns c = definition_found _ _ _ _ _ _ _ _ _ c.before.before.before.before.before.requires c.before.cells-from.ensures c.find-definition.ensures
+returns c = definition_found _ _ _ _ _ _ _ _ _ c.before.before.before.before.before.requires c.before.cells-from.ensures c.find_definition.ensures
 
 pub find-definition-spec : {M : Type 1} → statement M
 find-definition-spec = tie.close (tie.spec cells-from-requires find-definition-requires returns)

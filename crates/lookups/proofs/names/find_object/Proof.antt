@@ -12,7 +12,7 @@ find-object-requires : tie.Need-find-object-requires
 find-object-requires c κs = search rules
 
 returns : tie.Need-returns
-returns c = object_found _ _ _ _ _ _ _ _ _ c.before.before.before.before.before.requires c.before.cells-from.ensures c.find-object.ensures
+returns c = object_found _ _ _ _ _ _ _ _ _ c.before.before.before.before.before.requires c.before.cells-from.ensures c.find_object.ensures
 
 pub find-object-spec : {M : Type 1} → statement M
 find-object-spec = tie.close (tie.spec cells-from-requires find-object-requires returns)

@@ -17,7 +17,7 @@ same_length : tie.Need-same-length
 same_length c = search rules
 
 returns : tie.Need-returns
-returns c = firsts_in _ c.before.before.before.before.before.before.before.before.args.names.now _ _ _ _ c.before.before.before.before.statement-ranks.ensures c.before.before.firsts.ensures
+returns c = firsts_in _ c.before.before.before.before.before.before.before.before.args.names.now _ _ _ _ c.before.before.before.before.statement_ranks.ensures c.before.before.firsts.ensures
 
 pub firsts-spec : {M : Type 1} → statement M
 firsts-spec = tie.close (tie.spec statement-ranks-requires firsts-requires same_length returns)

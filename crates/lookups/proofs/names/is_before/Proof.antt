@@ -26,7 +26,7 @@ enum_told : tie.Need-enum-told
 enum_told c = search rules
 
 returns : tie.Need-returns
-returns c = before_first _ _ _ _ (subst (λ r. FindsStated c.before.before.before.before.before.before.before.before.before.before.args.text.now c.before.before.before.before.before.before.before.before.before.before.args.st.now c.before.before.before.before.before.before.before.before.before.before.args.from c.before.before.before.before.before.before.before.before.before.before.args.end (get_or c.before.before.before.before.before.before.before.before.before.before.args.st.now (c.before.before.before.before.before.before.before.before.before.before.args.k * 7 + 0) 0) (get_or c.before.before.before.before.before.before.before.before.before.before.args.st.now (c.before.before.before.before.before.before.before.before.before.before.args.k * 7 + 1) 0) r) c.before.i.given.1 (statement_stated _ _ _ _ c.before.before.before.before.before.before.before.before.before.before.requires.0 _ _ _ _ _ c.before.before.before.before.statement-ranks.ensures _ c.before.before.before.before.before.before.before.before.before.before.requires.1 c.before.before.before.row_stated.ensures))
+returns c = before_first _ _ _ _ (subst (λ r. FindsStated c.before.before.before.before.before.before.before.before.before.before.args.text.now c.before.before.before.before.before.before.before.before.before.before.args.st.now c.before.before.before.before.before.before.before.before.before.before.args.from c.before.before.before.before.before.before.before.before.before.before.args.end (get_or c.before.before.before.before.before.before.before.before.before.before.args.st.now (c.before.before.before.before.before.before.before.before.before.before.args.k * 7 + 0) 0) (get_or c.before.before.before.before.before.before.before.before.before.before.args.st.now (c.before.before.before.before.before.before.before.before.before.before.args.k * 7 + 1) 0) r) c.before.i.given.1 (statement_stated _ _ _ _ c.before.before.before.before.before.before.before.before.before.before.requires.0 _ _ _ _ _ c.before.before.before.before.statement_ranks.ensures _ c.before.before.before.before.before.before.before.before.before.before.requires.1 c.before.before.before.row_stated.ensures))
 
 returns-2 : tie.Need-returns-2
 returns-2 c = before_none _ _ _ (subst (λ r. FindsStated c.before.before.before.before.before.before.before.before.before.args.text.now c.before.before.before.before.before.before.before.before.before.args.st.now c.before.before.before.before.before.before.before.before.before.args.from c.before.before.before.before.before.before.before.before.before.args.end (get_or c.before.before.before.before.before.before.before.before.before.args.st.now (c.before.before.before.before.before.before.before.before.before.args.k * 7 + 0) 0) (get_or c.before.before.before.before.before.before.before.before.before.args.st.now (c.before.before.before.before.before.before.before.before.before.args.k * 7 + 1) 0) r) c.enum_told.given.1 (statement_stated _ _ _ _ c.before.before.before.before.before.before.before.before.before.requires.0 _ _ _ _ _ c.before.before.before.statement-ranks.ensures _ c.before.before.before.before.before.before.before.before.before.requires.1 c.before.before.row_stated.ensures))

@@ -16,7 +16,7 @@ is-row-stated-requires : tie.Need-is-row-stated-requires
 is-row-stated-requires c κs = search rules
 
 returns : tie.Need-returns
-returns c = definition_stated _ _ _ _ c.before.before.before.before.before.before.before.before.requires.0 _ _ _ _ _ c.before.statement-ranks.ensures _ _ c.before.before.definition-ranks.ensures c.before.before.before.before.before.before.before.before.requires.1 c.is-row-stated.ensures
+returns c = definition_stated _ _ _ _ c.before.before.before.before.before.before.before.before.requires.0 _ _ _ _ _ c.before.statement-ranks.ensures _ _ c.before.before.definition_ranks.ensures c.before.before.before.before.before.before.before.before.requires.1 c.is-row-stated.ensures
 
 pub is-stated-spec : {M : Type 1} → statement M
 is-stated-spec =

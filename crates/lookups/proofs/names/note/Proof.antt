@@ -33,13 +33,13 @@ array-borrow-prefix-h : tie.Need-array-borrow-prefix-h
 array-borrow-prefix-h c = search rules
 
 slice-aggregate-put-names-2 : tie.Need-slice-aggregate-put-names-2
-slice-aggregate-put-names-2 c = sym (length-take-le _ _ (omega (arith, c.before.before.least-of.ensures)))
+slice-aggregate-put-names-2 c = sym (length-take-le _ _ (omega (arith, c.before.before.least_of.ensures)))
 
 slice-aggregate-put-names-3 : tie.Need-slice-aggregate-put-names-3
 slice-aggregate-put-names-3 c = search rules
 
 put-names-requires : tie.Need-put-names-requires
-put-names-requires c κs = record { few = record { definitions = omega (arith, c.before.before.before.before.before.before.before.before.before.if1.false); enumerators = omega (arith, c.before.before.before.before.before.before.before.if2.false); objects = omega (arith, c.before.before.before.before.before.if3.false) }; statements_fit = let e : length {A = ℕ} (take (c.before.before.before.before.least-of.result) (replicate {A = ℕ} 2049 0)) ≡ c.before.before.before.before.least-of.result = length-take-le _ _ (omega (arith, c.before.before.before.before.least-of.ensures)) in omega (arith, e, c.before.before.before.before.least-of.ensures); size = length-take-le _ _ (omega (arith, c.before.before.before.before.before.before.before.before.before.if1.false)); spare_room = omega arith; room = c.before.before.before.before.before.before.before.before.before.before.before.before.before.before.before.before.before.requires }
+put-names-requires c κs = record { few = record { definitions = omega (arith, c.before.before.before.before.before.before.before.before.before.if1.false); enumerators = omega (arith, c.before.before.before.before.before.before.before.if2.false); objects = omega (arith, c.before.before.before.before.before.if3.false) }; statements_fit = let e : length {A = ℕ} (take (c.before.before.before.before.least_of.result) (replicate {A = ℕ} 2049 0)) ≡ c.before.before.before.before.least_of.result = length-take-le _ _ (omega (arith, c.before.before.before.before.least_of.ensures)) in omega (arith, e, c.before.before.before.before.least_of.ensures); size = length-take-le _ _ (omega (arith, c.before.before.before.before.before.before.before.before.before.if1.false)); spare_room = omega arith; room = c.before.before.before.before.before.before.before.before.before.before.before.before.before.before.before.before.before.requires }
 
 same_length : tie.Need-same-length
 same_length c = search rules

@@ -16,7 +16,7 @@ cells-from-requires : tie.Need-cells-from-requires
 cells-from-requires c κs = search rules
 
 returns : tie.Need-returns
-returns c = c.cells-from.ensures ∙ ap (λ (k : ℕ). part (c.before.before.before.args.names.now) 1792 k) c.before.get.ensures
+returns c = c.cells_from.ensures ∙ ap (λ (k : ℕ). part (c.before.before.before.args.names.now) 1792 k) c.before.get.ensures
 
 pub statement-ranks-spec : {M : Type 1} → statement M
 statement-ranks-spec = tie.close (tie.spec get-requires cells-from-requires returns)

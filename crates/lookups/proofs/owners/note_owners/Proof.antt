@@ -10,10 +10,10 @@ use Rattle.lookups.proofs.owners.note_owners.Reads as reads
 use Rattle.lookups.proofs.owners.note_owners.Lts as lts
 use Rattle.lookups.proofs.owners.owner.Reads as owner-reads
 
-abbrev invariant_loop : tie.invariant-loop
+abbrev invariant_loop : tie.invariant_loop
 invariant_loop d marks owners₀ i₀ owners i = (length owners ≡ length owners₀) × NotesOwners d marks i owners
 
-abbrev decreases_loop : tie.decreases-loop
+abbrev decreases_loop : tie.decreases_loop
 decreases_loop d marks owners₀ i₀ owners i = length owners₀ - i
 
 loop_holds : tie.Need-loop-init invariant_loop decreases_loop

@@ -9,10 +9,10 @@ use Rattle.masks.proofs.bits.is_single.Tie as tie
 use Rattle.masks.proofs.bits.is_single.Reads as reads
 use Rattle.masks.proofs.bits.is_single.Lts as lts
 
-abbrev invariant_loop : tie.invariant-loop
+abbrev invariant_loop : tie.invariant_loop
 invariant_loop m k₀ p₀ k p = (p ≡ 2 ^ k / 2) × (some_below k (λ j. eqb m (2 ^ j)) ≡ single m)
 
-abbrev decreases_loop : tie.decreases-loop
+abbrev decreases_loop : tie.decreases_loop
 decreases_loop m k₀ p₀ k p = k
 
 loop_holds : tie.Need-loop-init invariant_loop decreases_loop

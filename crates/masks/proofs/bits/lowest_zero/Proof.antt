@@ -11,10 +11,10 @@ use Rattle.masks.proofs.bits.lowest_zero.Tie as tie
 use Rattle.masks.proofs.bits.lowest_zero.Reads as reads
 use Rattle.masks.proofs.bits.lowest_zero.Lts as lts
 
-abbrev invariant_loop : tie.invariant-loop
+abbrev invariant_loop : tie.invariant_loop
 invariant_loop m k₀ x₀ k x = (x ≡ m / 2 ^ k) × (find (λ j. not (has m j)) 64 k ≡ find (λ j. not (has m j)) 64 0)
 
-abbrev decreases_loop : tie.decreases-loop
+abbrev decreases_loop : tie.decreases_loop
 decreases_loop m k₀ x₀ k x = 64 - k
 
 loop_holds : tie.Need-loop-init invariant_loop decreases_loop

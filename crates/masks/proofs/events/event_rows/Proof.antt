@@ -7,10 +7,10 @@ use Rattle.masks.proofs.events.event_rows.Reads as reads
 use Rattle.masks.proofs.events.event_rows.Lts as lts
 use Rattle.masks.proofs.events.put_event.Reads as put-event-reads
 
-abbrev invariant_loop : tie.invariant-loop
+abbrev invariant_loop : tie.invariant_loop
 invariant_loop o m rows₀ i₀ e₀ rows i e = Putting rows₀ o m rows i e
 
-abbrev decreases_loop : tie.decreases-loop
+abbrev decreases_loop : tie.decreases_loop
 decreases_loop o m rows₀ i₀ e₀ rows i e = m - i
 
 loop_holds : tie.Need-loop-init invariant_loop decreases_loop

@@ -10,10 +10,10 @@ use Rattle.masks.proofs.events.find_mask.Reads as reads
 use Rattle.masks.proofs.events.find_mask.Lts as lts
 use Rattle.masks.proofs.events.is_mask.Reads as is-mask-reads
 
-abbrev invariant_loop : tie.invariant-loop
+abbrev invariant_loop : tie.invariant_loop
 invariant_loop text d v n row k₀ k = find_from (is_mask_at text d v row) n k ≡ find_from (is_mask_at text d v row) n 0
 
-abbrev decreases_loop : tie.decreases-loop
+abbrev decreases_loop : tie.decreases_loop
 decreases_loop text d v n row k₀ k = n - k
 
 loop_holds : tie.Need-loop-init invariant_loop decreases_loop

@@ -26,7 +26,7 @@ same_length : tie.Need-same-length
 same_length c = search rules
 
 returns-2 : tie.Need-returns-2
-returns-2 c = put_yes _ _ _ _ _ _ c.before.before.before.before.before.before.cell-of.ensures c.before.before.before.before.before.if1.false c.before.before.put-cells.ensures
+returns-2 c = put_yes _ _ _ _ _ _ c.before.before.before.before.before.before.cell_of.ensures c.before.before.before.before.before.if1.false c.before.before.put-cells.ensures
 
 pub put-event-spec : {M : Type 1} → statement M
 put-event-spec =

@@ -10,10 +10,10 @@ use Rattle.masks.proofs.marks.clashes.Reads as reads
 use Rattle.masks.proofs.marks.clashes.Lts as lts
 use Rattle.masks.proofs.marks.meets_in.Reads as meets-in-reads
 
-abbrev invariant_loop : tie.invariant-loop
+abbrev invariant_loop : tie.invariant_loop
 invariant_loop marks rows c i p list t₀ t = beside (tasks_at marks rows (c - t) t) i (has_power p) list ≡ beside (tasks_at marks rows c 0) i (has_power p) list
 
-abbrev decreases_loop : tie.decreases-loop
+abbrev decreases_loop : tie.decreases_loop
 decreases_loop marks rows c i p list t₀ t = c - t
 
 loop_holds : tie.Need-loop-init invariant_loop decreases_loop

@@ -13,10 +13,10 @@ use Rattle.masks.proofs.marks.gather.Reads as reads
 use Rattle.masks.proofs.marks.gather.Lts as lts
 use Rattle.masks.proofs.marks.gather_one.Reads as gather-one-reads
 
-abbrev invariant_loop : tie.invariant-loop
+abbrev invariant_loop : tie.invariant_loop
 invariant_loop marks rows t i list a j₀ b₀ j b = (k : ℕ) → either (has b k) (meets (task_at marks rows t) i (λ n. has n k) (drop j list) j) ≡ either (has a k) (meets (task_at marks rows t) i (λ n. has n k) list 0)
 
-abbrev decreases_loop : tie.decreases-loop
+abbrev decreases_loop : tie.decreases_loop
 decreases_loop marks rows t i list a j₀ b₀ j b = length list - j
 
 loop_holds : tie.Need-loop-init invariant_loop decreases_loop

@@ -19,7 +19,7 @@ has-power-requires : tie.Need-has-power-requires
 has-power-requires c κs = search rules
 
 returns-2 : tie.Need-returns-2
-returns-2 c = second_decides _ _ _ (sym c.before.before.is-another.ensures ∙ not-false _ c.before.if1.false) c.has-power.ensures
+returns-2 c = second_decides _ _ _ (sym c.before.before.is-another.ensures ∙ not-false _ c.before.if1.false) c.has_power.ensures
 
 pub is-met-spec : {M : Type 1} → statement M
 is-met-spec = tie.close (tie.spec is-another-requires returns has-power-requires returns-2)

@@ -11,10 +11,10 @@ use Rattle.masks.proofs.marks.meets_power.Reads as reads
 use Rattle.masks.proofs.marks.meets_power.Lts as lts
 use Rattle.masks.proofs.marks.is_met.Reads as is-met-reads
 
-abbrev invariant_loop : tie.invariant-loop
+abbrev invariant_loop : tie.invariant_loop
 invariant_loop marks rows t i p list j₀ j = meets (task_at marks rows t) i (has_power p) (drop j list) j ≡ meets (task_at marks rows t) i (has_power p) list 0
 
-abbrev decreases_loop : tie.decreases-loop
+abbrev decreases_loop : tie.decreases_loop
 decreases_loop marks rows t i p list j₀ j = length list - j
 
 loop_holds : tie.Need-loop-init invariant_loop decreases_loop

@@ -12,10 +12,10 @@ use Rattle.masks.proofs.marks.taken_bits.Reads as reads
 use Rattle.masks.proofs.marks.taken_bits.Lts as lts
 use Rattle.masks.proofs.marks.gather_in.Reads as gather-in-reads
 
-abbrev invariant_loop : tie.invariant-loop
+abbrev invariant_loop : tie.invariant_loop
 invariant_loop marks rows c i list t₀ b₀ t b = (k : ℕ) → either (has b k) (beside (tasks_at marks rows (c - t) t) i (λ n. has n k) list) ≡ beside (tasks_at marks rows c 0) i (λ n. has n k) list
 
-abbrev decreases_loop : tie.decreases-loop
+abbrev decreases_loop : tie.decreases_loop
 decreases_loop marks rows c i list t₀ b₀ t b = c - t
 
 loop_holds : tie.Need-loop-init invariant_loop decreases_loop

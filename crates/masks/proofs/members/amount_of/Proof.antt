@@ -16,7 +16,7 @@ enum_told : tie.Need-enum-told
 enum_told c = search rules
 
 returns : tie.Need-returns
-returns c = amount_at _ _ _ _ c.before.before.found.given.1 c.cell-of.ensures
+returns c = amount_at _ _ _ _ c.before.before.found.given.1 c.cell_of.ensures
 
 returns-2 : tie.Need-returns-2
 returns-2 c = amount_nothing _ _ c.enum_told.given.1

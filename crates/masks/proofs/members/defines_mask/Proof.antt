@@ -8,10 +8,10 @@ use Rattle.masks.proofs.members.defines_mask.Reads as reads
 use Rattle.masks.proofs.members.defines_mask.Lts as lts
 use Rattle.masks.proofs.members.is_mask_row.Reads as is-mask-row-reads
 
-abbrev invariant_loop : tie.invariant-loop
+abbrev invariant_loop : tie.invariant_loop
 invariant_loop text d place n j₀ j = Seeks text d place n j
 
-abbrev decreases_loop : tie.decreases-loop
+abbrev decreases_loop : tie.decreases_loop
 decreases_loop text d place n j₀ j = n - j
 
 returns : tie.Need-returns invariant_loop decreases_loop

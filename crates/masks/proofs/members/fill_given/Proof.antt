@@ -10,10 +10,10 @@ use Rattle.masks.proofs.events.find_mask.Reads as find-mask-reads
 use Rattle.masks.proofs.members.put_given.Reads as put-given-reads
 use Rattle.rows.proofs.cells.get.Reads as get-reads
 
-abbrev invariant_loop : tie.invariant-loop
+abbrev invariant_loop : tie.invariant_loop
 invariant_loop text d v n rows e given₀ j₀ given j = Filled text d v n rows j given₀ given
 
-abbrev decreases_loop : tie.decreases-loop
+abbrev decreases_loop : tie.decreases_loop
 decreases_loop text d v n rows e given₀ j₀ given j = e - j
 
 loop_holds : tie.Need-loop-init invariant_loop decreases_loop

@@ -42,7 +42,7 @@ same-bytes-requires : tie.Need-same-bytes-requires
 same-bytes-requires c κs = search rules
 
 returns-4 : tie.Need-returns-4
-returns-4 c = by_name _ _ _ _ _ c.before.before.before.before.before.before.before.before.before.before.cell-of.ensures c.before.before.before.before.before.before.before.before.before.if1.false _ _ _ _ _ _ c.before.before.before.before.before.before.before.before.cell-of2.ensures c.before.before.before.before.before.before.before.if2.false c.before.before.before.before.before.before.cell-of3.ensures c.before.before.before.before.before.if3.false c.before.before.before.before.cell-of4.ensures c.before.before.before.cell-of5.ensures c.before.before.part.ensures.0 c.same_bytes.ensures
+returns-4 c = by_name _ _ _ _ _ c.before.before.before.before.before.before.before.before.before.before.cell_of.ensures c.before.before.before.before.before.before.before.before.before.if1.false _ _ _ _ _ _ c.before.before.before.before.before.before.before.before.cell-of2.ensures c.before.before.before.before.before.before.before.if2.false c.before.before.before.before.before.before.cell-of3.ensures c.before.before.before.before.before.if3.false c.before.before.before.before.cell-of4.ensures c.before.before.before.cell-of5.ensures c.before.before.part.ensures.0 c.same_bytes.ensures
 
 pub is-mask-row-spec : {M : Type 1} → statement M
 is-mask-row-spec =

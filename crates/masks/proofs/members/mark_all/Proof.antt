@@ -9,10 +9,10 @@ use Rattle.masks.proofs.members.mark_all.Lts as lts
 use Rattle.masks.proofs.members.mark_one.Reads as mark-one-reads
 use Rattle.masks.proofs.members.object_of.Reads as object-of-reads
 
-abbrev invariant_loop : tie.invariant-loop
+abbrev invariant_loop : tie.invariant_loop
 invariant_loop o v n marks₀ k₀ last₀ marks k last = Marking marks₀ o v n marks k last
 
-abbrev decreases_loop : tie.decreases-loop
+abbrev decreases_loop : tie.decreases_loop
 decreases_loop o v n marks₀ k₀ last₀ marks k last = n - k
 
 loop_holds : tie.Need-loop-init invariant_loop decreases_loop

@@ -41,7 +41,7 @@ same_length : tie.Need-same-length
 same_length c = search rules
 
 returns-5 : tie.Need-returns-5
-returns-5 c = marked _ _ _ _ _ _ _ _ (omega arith) c.before.before.before.before.before.before.cell-of.ensures c.before.before.before.before.before.if1.false c.before.before.before.before.cell-of2.ensures c.before.before.before.if2.false c.before.before.cell-of3.ensures (omega arith) (omega arith)
+returns-5 c = marked _ _ _ _ _ _ _ _ (omega arith) c.before.before.before.before.before.before.cell_of.ensures c.before.before.before.before.before.if1.false c.before.before.before.before.cell-of2.ensures c.before.before.before.if2.false c.before.before.cell-of3.ensures (omega arith) (omega arith)
 
 pub mark-one-spec : {M : Type 1} → statement M
 mark-one-spec =

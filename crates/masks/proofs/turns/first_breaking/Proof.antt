@@ -12,10 +12,10 @@ use Rattle.masks.proofs.turns.first_breaking.Reads as reads
 use Rattle.masks.proofs.turns.first_breaking.Lts as lts
 use Rattle.masks.proofs.turns.keeps_rule.Reads as keeps-rule-reads
 
-abbrev invariant_loop : tie.invariant-loop
+abbrev invariant_loop : tie.invariant_loop
 invariant_loop marks rows c given list i₀ i = left (tasks_at marks rows c 0) given list i ≡ breaking (tasks_at marks rows c 0) list 0 (masks_at given (length list) 0) list
 
-abbrev decreases_loop : tie.decreases-loop
+abbrev decreases_loop : tie.decreases_loop
 decreases_loop marks rows c given list i₀ i = length list - i
 
 loop_holds : tie.Need-loop-init invariant_loop decreases_loop

@@ -17,7 +17,7 @@ cell-of-requires-2 : tie.Need-cell-of-requires-2
 cell-of-requires-2 c κs = search rules
 
 returns : tie.Need-returns
-returns c = rule_given _ _ _ _ _ _ c.before.before.cell-of.ensures _ c.before.if1.true c.cell-of2.ensures
+returns c = rule_given _ _ _ _ _ _ c.before.before.cell_of.ensures _ c.before.if1.true c.cell-of2.ensures
 
 is-single-requires : tie.Need-is-single-requires
 is-single-requires c κs = search rules
@@ -29,7 +29,7 @@ clashes-requires : tie.Need-clashes-requires
 clashes-requires c κs = single_positive _ (sym c.before.is-single.ensures ∙ not-false _ c.if2.false)
 
 returns-3 : tie.Need-returns-3
-returns-3 c = rule_clash _ _ _ _ _ _ c.before.before.before.before.cell-of.ensures c.before.before.before.if1.false (sym c.before.before.is-single.ensures ∙ not-false _ c.before.if2.false) _ c.clashes.ensures
+returns-3 c = rule_clash _ _ _ _ _ _ c.before.before.before.before.cell_of.ensures c.before.before.before.if1.false (sym c.before.before.is-single.ensures ∙ not-false _ c.before.if2.false) _ c.clashes.ensures
 
 pub keeps-rule-spec : {M : Type 1} → statement M
 keeps-rule-spec =

@@ -9,10 +9,10 @@ use Rattle.masks.proofs.turns.put_masks.Tie as tie
 use Rattle.masks.proofs.turns.put_masks.Reads as reads
 use Rattle.masks.proofs.turns.put_masks.Lts as lts
 
-abbrev invariant_loop : tie.invariant-loop
+abbrev invariant_loop : tie.invariant_loop
 invariant_loop masks list₀ i₀ list i = (i ≤ length masks) × (length list ≡ length list₀) × (sets list i (drop i masks) ≡ sets list₀ 0 masks)
 
-abbrev decreases_loop : tie.decreases-loop
+abbrev decreases_loop : tie.decreases_loop
 decreases_loop masks list₀ i₀ list i = length masks - i
 
 loop_holds : tie.Need-loop-init invariant_loop decreases_loop

@@ -8,10 +8,10 @@ use Rattle.masks.proofs.turns.start_masks.Reads as reads
 use Rattle.masks.proofs.turns.start_masks.Lts as lts
 use Rattle.masks.proofs.turns.start_of.Reads as start-of-reads
 
-abbrev invariant_loop : tie.invariant-loop
+abbrev invariant_loop : tie.invariant_loop
 invariant_loop given masks₀ i₀ masks i = Started given masks₀ masks i
 
-abbrev decreases_loop : tie.decreases-loop
+abbrev decreases_loop : tie.decreases_loop
 decreases_loop given masks₀ i₀ masks i = length masks₀ - i
 
 loop_holds : tie.Need-loop-init invariant_loop decreases_loop

@@ -13,7 +13,7 @@ cell-of-requires-2 : tie.Need-cell-of-requires-2
 cell-of-requires-2 c κs = search rules
 
 returns : tie.Need-returns
-returns c = start_given _ _ _ _ c.before.before.cell-of.ensures c.before.if1.true c.cell-of2.ensures
+returns c = start_given _ _ _ _ c.before.before.cell_of.ensures c.before.if1.true c.cell-of2.ensures
 
 returns-2 : tie.Need-returns-2
 returns-2 c = start_auto _ _ _ c.before.cell-of.ensures c.if1.false

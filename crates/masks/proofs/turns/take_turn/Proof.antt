@@ -35,7 +35,7 @@ same_length : tie.Need-same-length
 same_length c = search rules
 
 returns-2 : tie.Need-returns-2
-returns-2 c = turn_auto _ _ _ _ _ c.before.before.before.before.before.before.cell-of.ensures c.before.before.before.before.before.if1.false _ _ _ c.before.before.before.taken-bits.ensures c.before.before.lowest-zero.ensures c.before.if2.true c.power.ensures
+returns-2 c = turn_auto _ _ _ _ _ c.before.before.before.before.before.before.cell_of.ensures c.before.before.before.before.before.if1.false _ _ _ c.before.before.before.taken-bits.ensures c.before.before.lowest-zero.ensures c.before.if2.true c.power.ensures
 
 same_length_2 : tie.Need-same-length-2
 same_length_2 c = search rules

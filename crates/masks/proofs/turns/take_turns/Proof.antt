@@ -12,10 +12,10 @@ use Rattle.masks.proofs.turns.take_turns.Reads as reads
 use Rattle.masks.proofs.turns.take_turns.Lts as lts
 use Rattle.masks.proofs.turns.take_turn.Reads as take-turn-reads
 
-abbrev invariant_loop : tie.invariant-loop
+abbrev invariant_loop : tie.invariant_loop
 invariant_loop marks rows c given masks₀ i₀ masks i = (length masks ≡ length masks₀) × (plan_from (tasks_at marks rows c 0) masks i (masks_at given (length masks₀ - i) i) ≡ plan_from (tasks_at marks rows c 0) masks₀ 0 (masks_at given (length masks₀) 0))
 
-abbrev decreases_loop : tie.decreases-loop
+abbrev decreases_loop : tie.decreases_loop
 decreases_loop marks rows c given masks₀ i₀ masks i = length masks₀ - i
 
 loop_holds : tie.Need-loop-init invariant_loop decreases_loop

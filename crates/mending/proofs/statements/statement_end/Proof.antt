@@ -14,10 +14,10 @@ use Rattle.mending.proofs.statements.open_after.Reads as open-after-reads
 use Rattle.mending.proofs.statements.punctuator_of.Reads as punctuator-of-reads
 use Rattle.token.proofs.Cursor.step.Reads as step-reads
 
-abbrev invariant_loop : tie.invariant-loop
+abbrev invariant_loop : tie.invariant_loop
 invariant_loop text at depth₀ p₀ depth p = Ending text at depth p
 
-abbrev decreases_loop : tie.decreases-loop
+abbrev decreases_loop : tie.decreases_loop
 decreases_loop text at depth₀ p₀ depth p = length text - p
 
 loop_holds : tie.Need-loop-init invariant_loop decreases_loop
@@ -36,7 +36,7 @@ is-last-requires : tie.Need-is-last-requires invariant_loop decreases_loop
 is-last-requires c κs = search rules
 
 returns : tie.Need-returns invariant_loop decreases_loop
-returns c = ending-found c.before.before.before.before.before.before.before.before.loop.invariant c.before.before.before.before.before.before.before.loop-test.true _ _ _ (sym c.before.before.before.before.before.before.step.ensures ∙ c.before.before.before.before.t.given.1) c.before.before.punctuator-of.ensures _ c.before.is_last.ensures c.if1.true
+returns c = ending-found c.before.before.before.before.before.before.before.before.loop.invariant c.before.before.before.before.before.before.before.loop-test.true _ _ _ (sym c.before.before.before.before.before.before.step.ensures ∙ c.before.before.before.before.t.given.1) c.before.before.punctuator_of.ensures _ c.before.is_last.ensures c.if1.true
 
 open-after-requires : tie.Need-open-after-requires invariant_loop decreases_loop
 open-after-requires c κs = omega (arith, c.before.before.before.before.before.before.before.before.loop.invariant.low, c.before.before.before.before.before.before.before.loop-test.true, c.before.before.before.before.before.before.before.before.before.before.well-formed)

@@ -13,10 +13,10 @@ use Rattle.mending.proofs.telling.put_line_at.Reads as put-line-at-reads
 use Rattle.mending.proofs.walking.next.Reads as next-reads
 use Rattle.writing.proofs.bytes.put_bytes.Reads as put-bytes-reads
 
-abbrev invariant_loop : tie.invariant-loop
+abbrev invariant_loop : tie.invariant_loop
 invariant_loop text origins marks out₀ p₀ at₀ out p at = Saying text origins marks out₀ at₀ out p at
 
-abbrev decreases_loop : tie.decreases-loop
+abbrev decreases_loop : tie.decreases_loop
 decreases_loop text origins marks out₀ p₀ at₀ out p at = length text - p
 
 slice-aggregate-put-bytes : tie.Need-slice-aggregate-put-bytes invariant_loop decreases_loop

@@ -11,10 +11,10 @@ use Rattle.mending.proofs.walking.is_here.Reads as is-here-reads
 use Rattle.mending.proofs.walking.left_after.Reads as left-after-reads
 use Rattle.mending.proofs.walking.next.Reads as next-reads
 
-abbrev invariant_loop : tie.invariant-loop
+abbrev invariant_loop : tie.invariant_loop
 invariant_loop text marks place p₀ left₀ p left = Seeking text marks place p left
 
-abbrev decreases_loop : tie.decreases-loop
+abbrev decreases_loop : tie.decreases_loop
 decreases_loop text marks place p₀ left₀ p left = length text - p
 
 loop_holds : tie.Need-loop-init invariant_loop decreases_loop

@@ -10,10 +10,10 @@ use Rattle.mending.proofs.walking.put_mended.Lts as lts
 use Rattle.mending.proofs.walking.next.Reads as next-reads
 use Rattle.mending.proofs.walking.put_kept.Reads as put-kept-reads
 
-abbrev invariant_loop : tie.invariant-loop
+abbrev invariant_loop : tie.invariant_loop
 invariant_loop text marks out₀ p₀ at₀ out p at = Copying text marks out₀ out p at
 
-abbrev decreases_loop : tie.decreases-loop
+abbrev decreases_loop : tie.decreases_loop
 decreases_loop text marks out₀ p₀ at₀ out p at = length text - p
 
 loop_holds : tie.Need-loop-init invariant_loop decreases_loop

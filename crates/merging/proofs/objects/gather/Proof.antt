@@ -9,10 +9,10 @@ use Rattle.merging.proofs.objects.gather.Reads as reads
 use Rattle.merging.proofs.objects.gather.Lts as lts
 use Rattle.merging.proofs.objects.gather_one.Reads as gather-one-reads
 
-abbrev invariant_loop : tie.invariant-loop
+abbrev invariant_loop : tie.invariant_loop
 invariant_loop p st x i n out₀ m j₀ row₀ parts₀ out j row parts = (i ≤ j) × (parts ≤ j) × (j - i ≤ n - i) × (length out ≡ length out₀) × Gathering p st x i n j out₀ m out row parts
 
-abbrev decreases_loop : tie.decreases-loop
+abbrev decreases_loop : tie.decreases_loop
 decreases_loop p st x i n out₀ m j₀ row₀ parts₀ out j row parts = n - j
 
 loop_holds : tie.Need-loop-init invariant_loop decreases_loop

@@ -9,10 +9,10 @@ use Rattle.merging.proofs.objects.merge.Reads as reads
 use Rattle.merging.proofs.objects.merge.Lts as lts
 use Rattle.merging.proofs.objects.merge_one.Reads as merge-one-reads
 
-abbrev invariant_loop : tie.invariant-loop
+abbrev invariant_loop : tie.invariant_loop
 invariant_loop p st x n o₀ t₀ i₀ k₀ m₀ o t i k m = (i ≤ n) × (k ≤ i) × (length o ≡ length o₀) × (length t ≡ length t₀) × Merging p st x n i o₀ t₀ o t k m
 
-abbrev decreases_loop : tie.decreases-loop
+abbrev decreases_loop : tie.decreases_loop
 decreases_loop p st x n o₀ t₀ i₀ k₀ m₀ o t i k m = n - i
 
 loop_holds : tie.Need-loop-init invariant_loop decreases_loop

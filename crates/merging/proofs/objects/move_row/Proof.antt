@@ -42,7 +42,7 @@ same_length : tie.Need-same-length
 same_length c = search rules
 
 returns : tie.Need-returns
-returns c = moved_is _ _ _ _ _ _ _ _ _ _ _ _ _ _ _ c.before.before.before.before.before.before.before.before.before.before.before.before.cell-of.ensures c.before.before.before.before.before.before.before.before.before.before.before.cell-of2.ensures c.before.before.before.before.before.before.before.before.before.before.cell-of3.ensures c.before.before.before.before.before.before.before.before.before.cell-of4.ensures c.before.before.before.before.before.before.before.before.cell-of5.ensures c.before.before.before.before.before.before.before.cell-of6.ensures c.before.before.before.before.before.before.cell-of7.ensures c.before.before.before.before.before.shifted.ensures c.before.before.put_row.ensures
+returns c = moved_is _ _ _ _ _ _ _ _ _ _ _ _ _ _ _ c.before.before.before.before.before.before.before.before.before.before.before.before.cell_of.ensures c.before.before.before.before.before.before.before.before.before.before.before.cell-of2.ensures c.before.before.before.before.before.before.before.before.before.before.cell-of3.ensures c.before.before.before.before.before.before.before.before.before.cell-of4.ensures c.before.before.before.before.before.before.before.before.cell-of5.ensures c.before.before.before.before.before.before.before.cell-of6.ensures c.before.before.before.before.before.before.cell-of7.ensures c.before.before.before.before.before.shifted.ensures c.before.before.put_row.ensures
 
 pub move-row-spec : {M : Type 1} → statement M
 move-row-spec =

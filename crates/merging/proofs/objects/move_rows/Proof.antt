@@ -11,10 +11,10 @@ use Rattle.merging.proofs.objects.move_rows.Reads as reads
 use Rattle.merging.proofs.objects.move_rows.Lts as lts
 use Rattle.merging.proofs.objects.move_row.Reads as move-row-reads
 
-abbrev invariant_loop : tie.invariant-loop
+abbrev invariant_loop : tie.invariant_loop
 invariant_loop st from end out₀ to k₀ row₀ out k row = (from ≤ k) × (row ≡ to + (k - from)) × (k - from ≤ end - from) × (length out ≡ length out₀) × (sets out (row * 7) (moved_rows st from to (end - k) k) ≡ sets out₀ (to * 7) (moved_rows st from to (end - from) from))
 
-abbrev decreases_loop : tie.decreases-loop
+abbrev decreases_loop : tie.decreases_loop
 decreases_loop st from end out₀ to k₀ row₀ out k row = end - k
 
 returns : tie.Need-returns invariant_loop decreases_loop

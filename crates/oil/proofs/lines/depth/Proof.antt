@@ -6,10 +6,10 @@ use Rattle.oil.proofs.lines.depth.Reads as reads
 use Rattle.oil.proofs.lines.depth.Lts as lts
 use Rattle.oil.proofs.lines.row_above.Reads as row-above-reads
 
-abbrev invariant_loop : tie.invariant-loop
+abbrev invariant_loop : tie.invariant_loop
 invariant_loop v k row₀ n₀ row n = n ≤ 31
 
-abbrev decreases_loop : tie.decreases-loop
+abbrev decreases_loop : tie.decreases_loop
 decreases_loop v k row₀ n₀ row n = 31 - n
 
 loop_holds : tie.Need-loop-init invariant_loop decreases_loop

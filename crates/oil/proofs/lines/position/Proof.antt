@@ -6,10 +6,10 @@ use Rattle.oil.proofs.lines.position.Reads as reads
 use Rattle.oil.proofs.lines.position.Lts as lts
 use Rattle.oil.proofs.lines.entry.Reads as entry-reads
 
-abbrev invariant_loop : tie.invariant-loop
+abbrev invariant_loop : tie.invariant_loop
 invariant_loop text d v k p₀ j₀ p j = (p ≤ j) × (j ≤ k)
 
-abbrev decreases_loop : tie.decreases-loop
+abbrev decreases_loop : tie.decreases_loop
 decreases_loop text d v k p₀ j₀ p j = k - j
 
 loop_holds : tie.Need-loop-init invariant_loop decreases_loop

@@ -6,10 +6,10 @@ use Rattle.oil.proofs.lines.row_up.Reads as reads
 use Rattle.oil.proofs.lines.row_up.Lts as lts
 use Rattle.oil.proofs.lines.row_above.Reads as row-above-reads
 
-abbrev invariant_loop : tie.invariant-loop
+abbrev invariant_loop : tie.invariant_loop
 invariant_loop v k n row₀ i₀ row i = i ≤ n
 
-abbrev decreases_loop : tie.decreases-loop
+abbrev decreases_loop : tie.decreases_loop
 decreases_loop v k n row₀ i₀ row i = n - i
 
 loop_holds : tie.Need-loop-init invariant_loop decreases_loop

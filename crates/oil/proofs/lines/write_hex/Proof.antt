@@ -7,10 +7,10 @@ use Rattle.oil.proofs.lines.write_hex.Reads as reads
 use Rattle.oil.proofs.lines.write_hex.Lts as lts
 use Rattle.console.proofs.write_hex.Reads as write-hex-reads
 
-abbrev invariant_loop : tie.invariant-loop
+abbrev invariant_loop : tie.invariant_loop
 invariant_loop page₀ bytes i₀ page i = i ≤ length bytes
 
-abbrev decreases_loop : tie.decreases-loop
+abbrev decreases_loop : tie.decreases_loop
 decreases_loop page₀ bytes i₀ page i = length bytes - i
 
 loop_holds : tie.Need-loop-init invariant_loop decreases_loop

@@ -8,10 +8,10 @@ use Rattle.oil.proofs.lines.write_path.Lts as lts
 use Rattle.oil.proofs.lines.depth.Reads as depth-reads
 use Rattle.oil.proofs.lines.write_level.Reads as write-level-reads
 
-abbrev invariant_loop : tie.invariant-loop
+abbrev invariant_loop : tie.invariant_loop
 invariant_loop page₀ text d v k n₀ page n = n ≤ 32
 
-abbrev decreases_loop : tie.decreases-loop
+abbrev decreases_loop : tie.decreases_loop
 decreases_loop page₀ text d v k n₀ page n = n
 
 depth-requires : tie.Need-depth-requires invariant_loop decreases_loop

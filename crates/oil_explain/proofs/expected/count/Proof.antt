@@ -6,10 +6,10 @@ use Rattle.oil_explain.proofs.expected.count.Reads as reads
 use Rattle.oil_explain.proofs.expected.count.Lts as lts
 use Rattle.oil_explain.proofs.expected.one.Reads as one-reads
 
-abbrev invariant_loop : tie.invariant-loop
+abbrev invariant_loop : tie.invariant_loop
 invariant_loop flags n₀ i₀ n i = (n ≤ i) × (i ≤ 29)
 
-abbrev decreases_loop : tie.decreases-loop
+abbrev decreases_loop : tie.decreases_loop
 decreases_loop flags n₀ i₀ n i = 29 - i
 
 loop_holds : tie.Need-loop-init invariant_loop decreases_loop

@@ -9,10 +9,10 @@ use Rattle.oil_explain.proofs.expected.count.Reads as count-reads
 use Rattle.oil_explain.proofs.expected.one.Reads as one-reads
 use Rattle.oil_explain.proofs.expected.write_set.Reads as write-set-reads
 
-abbrev invariant_loop : tie.invariant-loop
+abbrev invariant_loop : tie.invariant_loop
 invariant_loop page₀ flags m n₀ i₀ page n i = (n ≤ i) × (i ≤ 29)
 
-abbrev decreases_loop : tie.decreases-loop
+abbrev decreases_loop : tie.decreases_loop
 decreases_loop page₀ flags m n₀ i₀ page n i = 29 - i
 
 count-requires : tie.Need-count-requires invariant_loop decreases_loop

@@ -8,10 +8,10 @@ use Rattle.releases.proofs.matching.first_objects.Reads as reads
 use Rattle.releases.proofs.matching.first_objects.Lts as lts
 use Rattle.releases.proofs.matching.one_object.Reads as one-object-reads
 
-abbrev invariant_loop : tie.invariant-loop
+abbrev invariant_loop : tie.invariant_loop
 invariant_loop first d o v h st m second d2 o2 v2 h2 y2 st2 all₀ i₀ all i = FirstGoing first d o v h st second d2 o2 v2 h2 y2 st2 m all₀ all i
 
-abbrev decreases_loop : tie.decreases-loop
+abbrev decreases_loop : tie.decreases_loop
 decreases_loop first d o v h st m second d2 o2 v2 h2 y2 st2 all₀ i₀ all i = m - i
 
 loop_holds : tie.Need-loop-init invariant_loop decreases_loop

@@ -25,10 +25,10 @@ and-one-requires : tie.Need-and-one-requires
 and-one-requires c κs = search rules
 
 returns : tie.Need-returns
-returns c = added_at _ _ _ _ _ _ _ _ _ c.before.before.find-object.ensures (c.enum_told.given.1)
+returns c = added_at _ _ _ _ _ _ _ _ _ c.before.before.find_object.ensures (c.enum_told.given.1)
 
 returns-2 : tie.Need-returns-2
-returns-2 c = added_new _ _ _ _ _ _ _ _ _ _ c.before.before.before.before.find-object.ensures (c.before.before.enum-told2.given.1) c.before.one_more.ensures c.and_one.ensures
+returns-2 c = added_new _ _ _ _ _ _ _ _ _ _ c.before.before.before.before.find_object.ensures (c.before.before.enum-told2.given.1) c.before.one_more.ensures c.and_one.ensures
 
 pub one-added-spec : {M : Type 1} → statement M
 one-added-spec =

@@ -29,10 +29,10 @@ and-one-requires : tie.Need-and-one-requires
 and-one-requires c κs = search rules
 
 returns : tie.Need-returns
-returns c = object_at _ _ _ _ _ _ _ _ _ _ _ _ _ _ _ _ _ _ c.before.before.before.before.find-object.ensures (c.before.before.j.given.1) c.pair-objects.ensures
+returns c = object_at _ _ _ _ _ _ _ _ _ _ _ _ _ _ _ _ _ _ c.before.before.before.before.find_object.ensures (c.before.before.j.given.1) c.pair-objects.ensures
 
 returns-2 : tie.Need-returns-2
-returns-2 c = object_not _ _ _ _ _ _ _ _ _ _ _ _ _ _ _ _ _ _ c.before.before.before.before.find-object.ensures (c.before.before.enum_told.given.1) c.before.one_more.ensures c.and_one.ensures
+returns-2 c = object_not _ _ _ _ _ _ _ _ _ _ _ _ _ _ _ _ _ _ c.before.before.before.before.find_object.ensures (c.before.before.enum_told.given.1) c.before.one_more.ensures c.and_one.ensures
 
 pub one-object-spec : {M : Type 1} → statement M
 one-object-spec =

@@ -28,10 +28,10 @@ one-more-requires-2 : tie.Need-one-more-requires-2
 one-more-requires-2 c κs = search rules
 
 pair-of-requires : tie.Need-pair-of-requires
-pair-of-requires c κs = ((few_rows _ _ _ c.before.before.before.before.many-rows.ensures, few_rows _ _ _ c.before.before.many-rows2.ensures), (low_row _ _ _ c.before.before.before.before.before.first-row.ensures, low_row _ _ _ c.before.before.before.first-row2.ensures))
+pair-of-requires c κs = ((few_rows _ _ _ c.before.before.before.before.many_rows.ensures, few_rows _ _ _ c.before.before.many-rows2.ensures), (low_row _ _ _ c.before.before.before.before.before.first-row.ensures, low_row _ _ _ c.before.before.before.first-row2.ensures))
 
 returns : tie.Need-returns
-returns c = pair_at_rows _ _ _ _ _ _ _ _ _ _ _ _ _ _ _ _ _ _ _ _ c.before.before.before.before.before.before.first-row.ensures c.before.before.before.before.before.many-rows.ensures c.before.before.before.before.first-row2.ensures c.before.before.before.many-rows2.ensures c.before.before.one_more.ensures c.before.one-more2.ensures c.pair_of.ensures
+returns c = pair_at_rows _ _ _ _ _ _ _ _ _ _ _ _ _ _ _ _ _ _ _ _ c.before.before.before.before.before.before.first_row.ensures c.before.before.before.before.before.many-rows.ensures c.before.before.before.before.first-row2.ensures c.before.before.before.many-rows2.ensures c.before.before.one_more.ensures c.before.one-more2.ensures c.pair_of.ensures
 
 pub pair-objects-spec : {M : Type 1} → statement M
 pair-objects-spec =

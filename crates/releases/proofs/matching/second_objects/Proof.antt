@@ -7,10 +7,10 @@ use Rattle.releases.proofs.matching.second_objects.Reads as reads
 use Rattle.releases.proofs.matching.second_objects.Lts as lts
 use Rattle.releases.proofs.matching.one_added.Reads as one-added-reads
 
-abbrev invariant_loop : tie.invariant-loop
+abbrev invariant_loop : tie.invariant_loop
 invariant_loop first o y second o2 m all₀ j₀ all j = SecondGoing first o y second o2 m all₀ all j
 
-abbrev decreases_loop : tie.decreases-loop
+abbrev decreases_loop : tie.decreases_loop
 decreases_loop first o y second o2 m all₀ j₀ all j = m - j
 
 loop_holds : tie.Need-loop-init invariant_loop decreases_loop

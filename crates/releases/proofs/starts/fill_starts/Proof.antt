@@ -12,10 +12,10 @@ use Rattle.releases.proofs.starts.fill_starts.Reads as reads
 use Rattle.releases.proofs.starts.fill_starts.Lts as lts
 use Rattle.releases.proofs.starts.object_end.Reads as object-end-reads
 
-abbrev invariant_loop : tie.invariant-loop
+abbrev invariant_loop : tie.invariant_loop
 invariant_loop v n st₀ i₀ k₀ st i k = (i ≤ length st) × (length st ≡ length st₀) × ((k ≡ start_at v n i) × Holds (start_at v n) i st)
 
-abbrev decreases_loop : tie.decreases-loop
+abbrev decreases_loop : tie.decreases_loop
 decreases_loop v n st₀ i₀ k₀ st i k = length st₀ - i
 
 loop_holds : tie.Need-loop-init invariant_loop decreases_loop
@@ -37,7 +37,7 @@ loop_less : tie.Need-loop-smaller invariant_loop decreases_loop
 loop_less c = omega arith
 
 loop_again : tie.Need-loop-preserved invariant_loop decreases_loop
-loop_again c = (simp length-set (omega arith), simp length-set (c.before.before.loop.invariant.1), (start_next _ _ _ _ _ (c.before.before.loop.invariant.2.0) c.object-end.ensures, holds_more _ _ _ _ (c.before.before.loop.invariant.2.1) (omega arith) (c.before.before.loop.invariant.2.0)))
+loop_again c = (simp length-set (omega arith), simp length-set (c.before.before.loop.invariant.1), (start_next _ _ _ _ _ (c.before.before.loop.invariant.2.0) c.object_end.ensures, holds_more _ _ _ _ (c.before.before.loop.invariant.2.1) (omega arith) (c.before.before.loop.invariant.2.0)))
 
 same_length : tie.Need-same-length invariant_loop decreases_loop
 same_length c = c.before.loop.invariant.1

@@ -17,7 +17,7 @@ least-of-requires c κs = search rules
 
 returns : tie.Need-returns
 unfolding first_row
-returns c = c.least-of.ensures ∙ ap (λ (p : ℕ). min p 2048) c.before.get.ensures
+returns c = c.least_of.ensures ∙ ap (λ (p : ℕ). min p 2048) c.before.get.ensures
 
 pub first-row-spec : {M : Type 1} → statement M
 first-row-spec = tie.close (tie.spec get-requires least-of-requires returns)

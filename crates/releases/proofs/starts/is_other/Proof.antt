@@ -17,7 +17,7 @@ cell-of-requires-2 : tie.Need-cell-of-requires-2
 cell-of-requires-2 c κs = search rules
 
 returns-2 : tie.Need-returns-2
-returns-2 c = other_is _ _ _ _ _ _ c.before.before.cell-of.ensures c.before.if1.false c.cell-of2.ensures refl
+returns-2 c = other_is _ _ _ _ _ _ c.before.before.cell_of.ensures c.before.if1.false c.cell-of2.ensures refl
 
 pub is-other-spec : {M : Type 1} → statement M
 is-other-spec = tie.close (tie.spec cell-of-requires returns cell-of-requires-2 returns-2)

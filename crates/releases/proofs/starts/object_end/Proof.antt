@@ -10,10 +10,10 @@ use Rattle.releases.proofs.starts.object_end.Reads as reads
 use Rattle.releases.proofs.starts.object_end.Lts as lts
 use Rattle.releases.proofs.starts.is_other.Reads as is-other-reads
 
-abbrev invariant_loop : tie.invariant-loop
+abbrev invariant_loop : tie.invariant_loop
 invariant_loop v n i k j₀ j = find (other_object v i) n j ≡ object_end v n i k
 
-abbrev decreases_loop : tie.decreases-loop
+abbrev decreases_loop : tie.decreases_loop
 decreases_loop v n i k j₀ j = n - j
 
 loop_holds : tie.Need-loop-init invariant_loop decreases_loop

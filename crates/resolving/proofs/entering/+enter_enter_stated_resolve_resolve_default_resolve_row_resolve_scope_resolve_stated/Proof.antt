@@ -268,7 +268,7 @@ enter-stated-returns : (t : ℕ) → enter-stated-lts.Need-returns (
   enter-below t,
   enter.Post,
 ) (enter-stated-at t) enter-stated.Post
-enter-stated-returns t c = stated_this c.before.before.before.before.before.before.cell-of.ensures c.before.before.before.before.before.cell-of2.ensures c.before.before.before.before.cell-of3.ensures c.before.before.enter.ensures
+enter-stated-returns t c = stated_this c.before.before.before.before.before.before.cell_of.ensures c.before.before.before.before.before.cell-of2.ensures c.before.before.before.before.cell-of3.ensures c.before.before.enter.ensures
 
 resolve-returns : (t : ℕ) → resolve-lts.Need-returns (
   is-quiet-reads.Asked,
@@ -544,7 +544,7 @@ resolve-default-returns-3 : (t : ℕ) → resolve-default-lts.Need-returns-3 (
   enter-below t,
   enter.Post,
 ) (resolve-default-at t) resolve-default.Post
-resolve-default-returns-3 t c = default_taken c.before.before.before.before.before.before.before.before.cell-of.ensures c.before.before.before.before.before.before.before.if1.false c.before.before.before.before.before.before.cell-of2.ensures c.before.before.before.before.before.if2.false c.before.before.before.before.cell-of3.ensures c.before.before.enter.ensures
+resolve-default-returns-3 t c = default_taken c.before.before.before.before.before.before.before.before.cell_of.ensures c.before.before.before.before.before.before.before.if1.false c.before.before.before.before.before.before.cell-of2.ensures c.before.before.before.before.before.if2.false c.before.before.before.before.cell-of3.ensures c.before.before.enter.ensures
 
 resolve-row-row-stated-requires : (t : ℕ) → resolve-row-lts.Need-row-stated-requires (
   row-stated-reads.Asked,
@@ -604,7 +604,7 @@ resolve-row-returns : (t : ℕ) → resolve-row-lts.Need-returns (
   resolve-stated-below t,
   resolve-stated.Post,
 ) (resolve-row-at t) resolve-row.Post
-resolve-row-returns t c = row_missing (finds_ranked c.before.before.before.before.before.before.before.before.before.before.before.before.before.before.before.before.before.before.before.before.before.before.requires.1.0.ranks _ _ _ _ _ c.before.before.before.before.before.before.before.before.before.before.before.before.before.before.before.before.before.before.before.before.before.before.requires.1.1 c.before.before.before.before.before.before.row-stated.ensures) c.before.before.before.before.enum_told.given.1 c.before.before.resolve-default.ensures
+resolve-row-returns t c = row_missing (finds_ranked c.before.before.before.before.before.before.before.before.before.before.before.before.before.before.before.before.before.before.before.before.before.before.requires.1.0.ranks _ _ _ _ _ c.before.before.before.before.before.before.before.before.before.before.before.before.before.before.before.before.before.before.before.before.before.before.requires.1.1 c.before.before.before.before.before.before.row_stated.ensures) c.before.before.before.before.enum_told.given.1 c.before.before.resolve-default.ensures
 
 resolve-row-resolve-stated-requires : (t : ℕ) → resolve-row-lts.Need-resolve-stated-requires (
   row-stated-reads.Asked,
@@ -614,7 +614,7 @@ resolve-row-resolve-stated-requires : (t : ℕ) → resolve-row-lts.Need-resolve
   resolve-stated-below t,
   resolve-stated.Post,
 ) (resolve-row-at t) resolve-row.Post
-resolve-row-resolve-stated-requires t c κs = (omega arith, (c.before.before.before.before.before.before.before.before.before.before.before.before.before.before.before.before.before.before.before.before.requires.1.0, finds_at _ _ (finds_ranked c.before.before.before.before.before.before.before.before.before.before.before.before.before.before.before.before.before.before.before.before.requires.1.0.ranks _ _ _ _ _ c.before.before.before.before.before.before.before.before.before.before.before.before.before.before.before.before.before.before.before.before.requires.1.1 c.before.before.before.before.row-stated.ensures) c.before.before.k.given.1))
+resolve-row-resolve-stated-requires t c κs = (omega arith, (c.before.before.before.before.before.before.before.before.before.before.before.before.before.before.before.before.before.before.before.before.requires.1.0, finds_at _ _ (finds_ranked c.before.before.before.before.before.before.before.before.before.before.before.before.before.before.before.before.before.before.before.before.requires.1.0.ranks _ _ _ _ _ c.before.before.before.before.before.before.before.before.before.before.before.before.before.before.before.before.before.before.before.before.requires.1.1 c.before.before.before.before.row_stated.ensures) c.before.before.k.given.1))
 
 resolve-row-same-length-2 : (t : ℕ) → resolve-row-lts.Need-same-length-2 (
   row-stated-reads.Asked,
@@ -636,10 +636,10 @@ resolve-row-returns-2 : (t : ℕ) → resolve-row-lts.Need-returns-2 (
 ) (resolve-row-at t) resolve-row.Post
 resolve-row-returns-2 t c = row_found (finds_ranked c.before.before.before.before.before.before.before.before.before.before.before.before.before.before.before.before.before.before.before.before.before.before.before.requires.1.0.ranks _ _ _ _ _ c.before.before.before.before.before.before.before.before.before.before.before.before.before.before.before.before.before.before.before.before.before.before.before.requires.1.1 c.before.before.before.before.before.before.before.row-stated.ensures) c.before.before.before.before.before.k.given.1 c.before.before.resolve-stated.ensures
 
-abbrev resolve-scope-Inv-loop : resolve-scope-lts.invariant-loop
+abbrev resolve-scope-Inv-loop : resolve-scope-lts.invariant_loop
 resolve-scope-Inv-loop text d e o st known noted xe xo rs nx rd owners first v₀ z limit key from end w n m₀ j₀ v m j = (length v ≡ length v₀) × ((j ≤ limit) × ((j < limit → get_or d (j * 19 + 0) 0 ≡ key) × Goes text d e o st v₀ z limit key from end w n v m j))
 
-abbrev resolve-scope-μ-loop : resolve-scope-lts.decreases-loop
+abbrev resolve-scope-μ-loop : resolve-scope-lts.decreases_loop
 resolve-scope-μ-loop text d e o st known noted xe xo rs nx rd owners first v₀ z limit key from end w n m₀ j₀ v m j = limit - j
 
 resolve-scope-next-row-requires : (t : ℕ) → resolve-scope-lts.Need-next-row-requires (
@@ -714,10 +714,10 @@ resolve-scope-returns : (t : ℕ) → resolve-scope-lts.Need-returns (
 ) (resolve-scope-at t) resolve-scope.Post resolve-scope-Inv-loop resolve-scope-μ-loop
 resolve-scope-returns t c = goes_end (omega arith) (λ q. omega (arith, q, c.before.before.before.before.before.before.before.before.before.before.before.before.before.before.before.before.before.before.requires.1.0)) c.before.loop.invariant.1.1.1
 
-abbrev resolve-stated-Inv-loop : resolve-stated-lts.invariant-loop
+abbrev resolve-stated-Inv-loop : resolve-stated-lts.invariant_loop
 resolve-stated-Inv-loop text d e o st known noted xe xo rs nx rd owners v₀ z j first from end w n m₀ k₀ i₀ v m k i = (length v ≡ length v₀) × (States text d e o st v₀ z j from end w n v m k × FindsStated text st k end (get_or d (j * 19 + 2) 0) (get_or d (j * 19 + 3) 0) (At i))
 
-abbrev resolve-stated-μ-loop : resolve-stated-lts.decreases-loop
+abbrev resolve-stated-μ-loop : resolve-stated-lts.decreases_loop
 resolve-stated-μ-loop text d e o st known noted xe xo rs nx rd owners v₀ z j first from end w n m₀ k₀ i₀ v m k i = end - k
 
 resolve-stated-loop-holds : (t : ℕ) → resolve-stated-lts.Need-loop-init (

@@ -31,7 +31,7 @@ definition-ranks-requires : tie.Need-definition-ranks-requires
 definition-ranks-requires c κs = search rules
 
 resolve-objects-requires : tie.Need-resolve-objects-requires
-resolve-objects-requires c κs = noted_all c.before.before.before.before.before.before.before.before.before.before.before.before.before.before.before.before.before.before.before.before.before.requires c.before.before.before.before.before.before.before.before.before.before.enumerators.ensures c.before.before.before.before.before.objects.ensures c.before.before.before.before.statement-ranks.ensures c.before.before.before.next_rows.ensures c.before.before.definition-ranks.ensures c.before.before.before.before.before.before.before.before.note-words.ensures
+resolve-objects-requires c κs = noted_all c.before.before.before.before.before.before.before.before.before.before.before.before.before.before.before.before.before.before.before.before.before.requires c.before.before.before.before.before.before.before.before.before.before.enumerators.ensures c.before.before.before.before.before.objects.ensures c.before.before.before.before.statement_ranks.ensures c.before.before.before.next_rows.ensures c.before.before.definition_ranks.ensures c.before.before.before.before.before.before.before.before.note-words.ensures
 
 same_length : tie.Need-same-length
 same_length c = search rules

@@ -13,10 +13,10 @@ use Rattle.resolving.proofs.entering.resolve_objects.Lts as lts
 use Rattle.resolving.proofs.entering.resolve.Reads as resolve-reads
 use Rattle.rows.proofs.cells.cell_of.Reads as cell-of-reads
 
-abbrev invariant_loop : tie.invariant-loop
+abbrev invariant_loop : tie.invariant_loop
 invariant_loop text d e o st known noted xe xo rs nx rd owners v₀ z places n₀ i₀ v n i = (length v ≡ length v₀) × Does text d e o st v₀ z places v n i
 
-abbrev decreases_loop : tie.decreases-loop
+abbrev decreases_loop : tie.decreases_loop
 decreases_loop text d e o st known noted xe xo rs nx rd owners v₀ z places n₀ i₀ v n i = z.objects - i
 
 loop_holds : tie.Need-loop-init invariant_loop decreases_loop

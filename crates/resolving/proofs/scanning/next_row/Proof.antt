@@ -13,10 +13,10 @@ use Rattle.resolving.proofs.scanning.next_row.Lts as lts
 use Rattle.resolving.proofs.scanning.next_under.Reads as next-under-reads
 use Rattle.resolving.proofs.scanning.stirs.Reads as stirs-reads
 
-abbrev invariant_loop : tie.invariant-loop
+abbrev invariant_loop : tie.invariant_loop
 invariant_loop text d st rs rd first limit key from end j i₀ i = (j ≤ i) × ((i ≤ limit) × (Passes text d st key from end j i × (i < limit → get_or d (i * 19 + 0) 0 ≡ key)))
 
-abbrev decreases_loop : tie.decreases-loop
+abbrev decreases_loop : tie.decreases_loop
 decreases_loop text d st rs rd first limit key from end j i₀ i = limit - i
 
 next-under-requires : tie.Need-next-under-requires invariant_loop decreases_loop

@@ -10,10 +10,10 @@ use Rattle.resolving.proofs.scanning.next_under.Tie as tie
 use Rattle.resolving.proofs.scanning.next_under.Reads as reads
 use Rattle.resolving.proofs.scanning.next_under.Lts as lts
 
-abbrev invariant_loop : tie.invariant-loop
+abbrev invariant_loop : tie.invariant_loop
 invariant_loop d limit key j p₀ i₀ p i = (p ≡ i * 19) × ((j ≤ i) × ((i ≤ limit) × Elsewhere d key j i))
 
-abbrev decreases_loop : tie.decreases-loop
+abbrev decreases_loop : tie.decreases_loop
 decreases_loop d limit key j p₀ i₀ p i = limit - i
 
 mul-p : tie.Need-overflow-mul-p invariant_loop decreases_loop

@@ -10,10 +10,10 @@ use Rattle.resolving.proofs.scanning.note_taken.Reads as reads
 use Rattle.resolving.proofs.scanning.note_taken.Lts as lts
 use Rattle.resolving.proofs.scanning.taken.Reads as taken-reads
 
-abbrev invariant_loop : tie.invariant-loop
+abbrev invariant_loop : tie.invariant_loop
 invariant_loop d marks₀ i₀ marks i = (length marks ≡ length marks₀) × NotesTaken d i marks
 
-abbrev decreases_loop : tie.decreases-loop
+abbrev decreases_loop : tie.decreases_loop
 decreases_loop d marks₀ i₀ marks i = length marks₀ - i
 
 loop_holds : tie.Need-loop-init invariant_loop decreases_loop

@@ -16,7 +16,7 @@ returns : tie.Need-returns
 returns c = stirs_yes
 
 returns-2 : tie.Need-returns-2
-returns-2 c = stirs_none c.before.before.has-default.ensures c.before.if1.false (omega arith)
+returns-2 c = stirs_none c.before.before.has_default.ensures c.before.if1.false (omega arith)
 
 returns-3 : tie.Need-returns-3
 returns-3 c = stirs_yes

@@ -28,14 +28,14 @@ enum_told c = search rules
 
 returns : tie.Need-returns
 unfolding row_of
-returns c = named_enumerator c.before.before.before.before.cell-of.ensures c.before.before.before.if1.true (enumerator_is c.before.before.before.before.before.before.before.before.before.before.before.before.requires c.before.before.enumerator-of.ensures) (sym (ap row_of c.enum_told.given.1))
+returns c = named_enumerator c.before.before.before.before.cell_of.ensures c.before.before.before.if1.true (enumerator_is c.before.before.before.before.before.before.before.before.before.before.before.before.requires c.before.before.enumerator-of.ensures) (sym (ap row_of c.enum_told.given.1))
 
 returns-2 : tie.Need-returns-2
 unfolding row_of
 returns-2 c = named_enumerator c.before.before.before.before.before.cell-of.ensures c.before.before.before.before.if1.true (enumerator_is c.before.before.before.before.before.before.before.before.before.before.before.before.before.requires c.before.before.before.enumerator-of.ensures) (sym (ap row_of c.before.i.given.1))
 
 returns-3 : tie.Need-returns-3
-returns-3 c = named_string c.before.before.cell-of.ensures (λ q. omega arith) (λ q. omega arith)
+returns-3 c = named_string c.before.before.cell_of.ensures (λ q. omega arith) (λ q. omega arith)
 
 returns-4 : tie.Need-returns-4
 returns-4 c = named_string c.before.before.before.cell-of.ensures (λ q. omega arith) (λ q. omega arith)
@@ -51,7 +51,7 @@ enum-told-2 c = search rules
 
 returns-5 : tie.Need-returns-5
 unfolding row_of
-returns-5 c = named_object c.before.before.before.before.before.before.cell-of.ensures (λ q. omega arith) (omega arith) (omega arith) refl (object_is c.before.before.before.before.before.before.before.before.before.before.before.before.before.before.requires _ _ _ _ c.before.before.find-object.ensures) (sym (ap row_of c.enum-told2.given.1))
+returns-5 c = named_object c.before.before.before.before.before.before.cell_of.ensures (λ q. omega arith) (omega arith) (omega arith) refl (object_is c.before.before.before.before.before.before.before.before.before.before.before.before.before.before.requires _ _ _ _ c.before.before.find_object.ensures) (sym (ap row_of c.enum-told2.given.1))
 
 returns-6 : tie.Need-returns-6
 unfolding row_of

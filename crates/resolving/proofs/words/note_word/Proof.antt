@@ -34,7 +34,7 @@ add-result : tie.Need-overflow-add-result
 add-result c = search rules
 
 returns-3 : tie.Need-returns-3
-returns-3 c = notes_found _ _ _ _ c.before.before.before.before.before.before.cell-of.ensures c.before.before.before.before.before.cell-of2.ensures c.before.before.before.before.find-enumerator.ensures c.before.before.i.given.1
+returns-3 c = notes_found _ _ _ _ c.before.before.before.before.before.before.cell_of.ensures c.before.before.before.before.before.cell-of2.ensures c.before.before.before.before.find-enumerator.ensures c.before.before.i.given.1
 
 pub note-word-spec : {M : Type 1} → statement M
 note-word-spec =

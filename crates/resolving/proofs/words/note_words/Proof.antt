@@ -12,10 +12,10 @@ use Rattle.resolving.proofs.words.note_words.Reads as reads
 use Rattle.resolving.proofs.words.note_words.Lts as lts
 use Rattle.resolving.proofs.words.note_word.Reads as note-word-reads
 
-abbrev invariant_loop : tie.invariant-loop
+abbrev invariant_loop : tie.invariant_loop
 invariant_loop text d e x t₀ i₀ t i = (i ≤ length t) × ((length t ≡ length t₀) × NotesTo text d e x i t)
 
-abbrev decreases_loop : tie.decreases-loop
+abbrev decreases_loop : tie.decreases_loop
 decreases_loop text d e x t₀ i₀ t i = length t₀ - i
 
 loop_holds : tie.Need-loop-init invariant_loop decreases_loop

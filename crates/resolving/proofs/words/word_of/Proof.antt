@@ -29,13 +29,13 @@ enum_told : tie.Need-enum-told
 enum_told c = search rules
 
 returns-2 : tie.Need-returns-2
-returns-2 c = word_nothing c.before.before.before.before.cell-of.ensures c.before.before.before.if1.false c.before.before.enumerator-of.ensures c.enum_told.given.1
+returns-2 c = word_nothing c.before.before.before.before.cell_of.ensures c.before.before.before.if1.false c.before.before.enumerator-of.ensures c.enum_told.given.1
 
 cell-of-requires-2 : tie.Need-cell-of-requires-2
 cell-of-requires-2 c κs = search rules
 
 returns-3 : tie.Need-returns-3
-returns-3 c = word_found c.before.before.before.before.before.before.cell-of.ensures c.before.before.before.before.before.if1.false c.before.before.before.before.enumerator-of.ensures c.before.before.i.given.1 c.cell-of2.ensures
+returns-3 c = word_found c.before.before.before.before.before.before.cell_of.ensures c.before.before.before.before.before.if1.false c.before.before.before.before.enumerator-of.ensures c.before.before.i.given.1 c.cell-of2.ensures
 
 pub word-of-spec : {M : Type 1} → statement M
 word-of-spec =

@@ -10,10 +10,10 @@ use Rattle.standard.proofs.choices.has_extra.Reads as reads
 use Rattle.standard.proofs.choices.has_extra.Lts as lts
 use Rattle.standard.proofs.choices.is_extra.Reads as is-extra-reads
 
-abbrev invariant_loop : tie.invariant-loop
+abbrev invariant_loop : tie.invariant_loop
 invariant_loop text e section words first end key m i₀ i = find_extra text e section words first end key m i ≡ find_extra text e section words first end key m 0
 
-abbrev decreases_loop : tie.decreases-loop
+abbrev decreases_loop : tie.decreases_loop
 decreases_loop text e section words first end key m i₀ i = m - i
 
 loop_holds : tie.Need-loop-init invariant_loop decreases_loop

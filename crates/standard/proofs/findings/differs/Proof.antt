@@ -22,7 +22,7 @@ shape-differs-requires : tie.Need-shape-differs-requires
 shape-differs-requires c κs = search rules
 
 returns : tie.Need-returns
-returns c = shape_other _ _ _ _ _ _ _ _ _ _ _ _ (c.before.before.before.before.cell-of.ensures) (c.before.before.before.cell-of2.ensures) (c.before.before.cell-of3.ensures) _ (c.before.shape-differs.ensures) (c.if1.true)
+returns c = shape_other _ _ _ _ _ _ _ _ _ _ _ _ (c.before.before.before.before.cell_of.ensures) (c.before.before.before.cell-of2.ensures) (c.before.before.cell-of3.ensures) _ (c.before.shape-differs.ensures) (c.if1.true)
 
 cell-of-requires-4 : tie.Need-cell-of-requires-4
 cell-of-requires-4 c κs = search rules
@@ -31,13 +31,13 @@ default-differs-requires : tie.Need-default-differs-requires
 default-differs-requires c κs = search rules
 
 returns-2 : tie.Need-returns-2
-returns-2 c = default_other _ _ _ _ _ _ _ _ _ _ _ _ (c.before.before.before.before.before.before.before.cell-of.ensures) (c.before.before.before.before.before.before.cell-of2.ensures) (c.before.before.before.before.before.cell-of3.ensures) _ (c.before.before.before.before.shape-differs.ensures) (c.before.before.before.if1.false) _ (c.before.before.cell-of4.ensures) _ (c.before.default-differs.ensures) (c.if2.true)
+returns-2 c = default_other _ _ _ _ _ _ _ _ _ _ _ _ (c.before.before.before.before.before.before.before.cell-of.ensures) (c.before.before.before.before.before.before.cell-of2.ensures) (c.before.before.before.before.before.cell-of3.ensures) _ (c.before.before.before.before.shape_differs.ensures) (c.before.before.before.if1.false) _ (c.before.before.cell-of4.ensures) _ (c.before.default-differs.ensures) (c.if2.true)
 
 wider-requires : tie.Need-wider-requires
 wider-requires c κs = search rules
 
 returns-3 : tie.Need-returns-3
-returns-3 c = wider_decides _ _ _ _ _ _ _ _ _ _ _ _ (c.before.before.before.before.before.before.before.before.cell-of.ensures) (c.before.before.before.before.before.before.before.cell-of2.ensures) (c.before.before.before.before.before.before.cell-of3.ensures) _ (c.before.before.before.before.before.shape-differs.ensures) (c.before.before.before.before.if1.false) _ (c.before.before.before.cell-of4.ensures) _ (c.before.before.default-differs.ensures) (c.before.if2.false) _ (c.wider.ensures)
+returns-3 c = wider_decides _ _ _ _ _ _ _ _ _ _ _ _ (c.before.before.before.before.before.before.before.before.cell_of.ensures) (c.before.before.before.before.before.before.before.cell-of2.ensures) (c.before.before.before.before.before.before.cell-of3.ensures) _ (c.before.before.before.before.before.shape-differs.ensures) (c.before.before.before.before.if1.false) _ (c.before.before.before.cell-of4.ensures) _ (c.before.before.default-differs.ensures) (c.before.if2.false) _ (c.wider.ensures)
 
 pub differs-spec : {M : Type 1} → statement M
 differs-spec =

@@ -35,7 +35,7 @@ enum_told : tie.Need-enum-told
 enum_told c = search rules
 
 returns-2 : tie.Need-returns-2
-returns-2 c = is_absent _ _ _ _ _ _ _ _ _ (c.before.before.before.before.before.before.before.before.owner_of.ensures) (c.before.before.before.before.before.before.if1.false) _ _ _ (c.before.before.before.before.before.cell-of.ensures) (c.before.before.before.before.cell-of2.ensures) (c.before.before.before.part.ensures.0) _ (c.before.before.find-attribute.ensures) (c.enum_told.given).1
+returns-2 c = is_absent _ _ _ _ _ _ _ _ _ (c.before.before.before.before.before.before.before.before.owner_of.ensures) (c.before.before.before.before.before.before.if1.false) _ _ _ (c.before.before.before.before.before.cell-of.ensures) (c.before.before.before.before.cell-of2.ensures) (c.before.before.before.part.ensures.0) _ (c.before.before.find_attribute.ensures) (c.enum_told.given).1
 
 differs-requires : tie.Need-differs-requires
 differs-requires c κs = search rules
@@ -44,10 +44,10 @@ cell-of-requires-3 : tie.Need-cell-of-requires-3
 cell-of-requires-3 c κs = search rules
 
 returns-3 : tie.Need-returns-3
-returns-3 c = is-different _ _ _ _ _ _ _ _ _ (c.before.before.before.before.before.before.before.before.before.before.before.before.owner_of.ensures) (c.before.before.before.before.before.before.before.before.before.before.if1.false) _ _ _ (c.before.before.before.before.before.before.before.before.before.cell-of.ensures) (c.before.before.before.before.before.before.before.before.cell-of2.ensures) (c.before.before.before.before.before.before.before.part.ensures.0) _ (c.before.before.before.before.before.before.find-attribute.ensures) _ (c.before.before.before.before.j.given).1 _ (c.before.before.differs.ensures) (c.before.if2.true) _ (c.cell-of3.ensures)
+returns-3 c = is-different _ _ _ _ _ _ _ _ _ (c.before.before.before.before.before.before.before.before.before.before.before.before.owner_of.ensures) (c.before.before.before.before.before.before.before.before.before.before.if1.false) _ _ _ (c.before.before.before.before.before.before.before.before.before.cell-of.ensures) (c.before.before.before.before.before.before.before.before.cell-of2.ensures) (c.before.before.before.before.before.before.before.part.ensures.0) _ (c.before.before.before.before.before.before.find_attribute.ensures) _ (c.before.before.before.before.j.given).1 _ (c.before.before.differs.ensures) (c.before.if2.true) _ (c.cell-of3.ensures)
 
 returns-4 : tie.Need-returns-4
-returns-4 c = is_same _ _ _ _ _ _ _ _ _ (c.before.before.before.before.before.before.before.before.before.before.before.owner_of.ensures) (c.before.before.before.before.before.before.before.before.before.if1.false) _ _ _ (c.before.before.before.before.before.before.before.before.cell-of.ensures) (c.before.before.before.before.before.before.before.cell-of2.ensures) (c.before.before.before.before.before.before.part.ensures.0) _ (c.before.before.before.before.before.find-attribute.ensures) _ (c.before.before.before.j.given).1 _ (c.before.differs.ensures) (c.if2.false)
+returns-4 c = is_same _ _ _ _ _ _ _ _ _ (c.before.before.before.before.before.before.before.before.before.before.before.owner_of.ensures) (c.before.before.before.before.before.before.before.before.before.if1.false) _ _ _ (c.before.before.before.before.before.before.before.before.cell_of.ensures) (c.before.before.before.before.before.before.before.cell-of2.ensures) (c.before.before.before.before.before.before.part.ensures.0) _ (c.before.before.before.before.before.find-attribute.ensures) _ (c.before.before.before.j.given).1 _ (c.before.differs.ensures) (c.if2.false)
 
 pub finding-spec : {M : Type 1} → statement M
 finding-spec =

@@ -9,10 +9,10 @@ use Rattle.standard.proofs.findings.foremost.Lts as lts
 use Rattle.standard.proofs.findings.finding.Reads as finding-reads
 use Rattle.standard.proofs.findings.sooner.Reads as sooner-reads
 
-abbrev invariant_loop : tie.invariant-loop
+abbrev invariant_loop : tie.invariant_loop
 invariant_loop section rows words text d e x i₀ best₀ i best = Telling section rows words text d e x i best
 
-abbrev decreases_loop : tie.decreases-loop
+abbrev decreases_loop : tie.decreases_loop
 decreases_loop section rows words text d e x i₀ best₀ i best = i
 
 loop_holds : tie.Need-loop-init invariant_loop decreases_loop

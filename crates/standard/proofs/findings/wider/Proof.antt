@@ -24,10 +24,10 @@ has-extra-requires : tie.Need-has-extra-requires
 has-extra-requires c κs = search rules
 
 returns : tie.Need-returns
-returns c = of_enum _ _ _ _ _ _ _ _ _ _ _ _ _ (c.before.before.before.before.before.cell-of.ensures) (c.before.before.before.before.cell-of2.ensures) (c.before.before.before.cell-of3.ensures) (c.before.before.cell-of4.ensures) (c.before.if1.true) _ (c.has-extra.ensures)
+returns c = of_enum _ _ _ _ _ _ _ _ _ _ _ _ _ (c.before.before.before.before.before.cell-of.ensures) (c.before.before.before.before.cell-of2.ensures) (c.before.before.before.cell-of3.ensures) (c.before.before.cell-of4.ensures) (c.before.if1.true) _ (c.has_extra.ensures)
 
 returns-2 : tie.Need-returns-2
-returns-2 c = no_list _ _ _ _ _ _ _ _ _ _ _ _ _ (c.before.before.before.before.before.before.cell-of.ensures) (c.before.before.before.before.before.cell-of2.ensures) (c.before.before.before.before.cell-of3.ensures) (c.before.before.before.cell-of4.ensures) (c.before.before.if1.false) (c.before.if2.true) (c.if3.true)
+returns-2 c = no_list _ _ _ _ _ _ _ _ _ _ _ _ _ (c.before.before.before.before.before.before.cell_of.ensures) (c.before.before.before.before.before.cell-of2.ensures) (c.before.before.before.before.cell-of3.ensures) (c.before.before.before.cell-of4.ensures) (c.before.before.if1.false) (c.before.if2.true) (c.if3.true)
 
 returns-3 : tie.Need-returns-3
 returns-3 c = list_missing _ _ _ _ _ _ _ _ _ _ _ _ _ (c.before.before.before.before.before.before.before.cell-of.ensures) (c.before.before.before.before.before.before.cell-of2.ensures) (c.before.before.before.before.before.cell-of3.ensures) (c.before.before.before.before.cell-of4.ensures) (c.before.before.before.if1.false) (c.before.before.if2.true) (c.before.if3.false) (c.if4.true)
@@ -48,7 +48,7 @@ within-one-two-requires : tie.Need-within-one-two-requires
 within-one-two-requires c κs = search rules
 
 returns-6 : tie.Need-returns-6
-returns-6 c = restricted_to _ _ _ _ _ _ _ _ _ _ _ _ _ (c.before.before.before.before.before.before.before.before.before.cell-of.ensures) (c.before.before.before.before.before.before.before.before.cell-of2.ensures) (c.before.before.before.before.before.before.before.cell-of3.ensures) (c.before.before.before.before.before.before.cell-of4.ensures) (c.before.before.before.before.before.if1.false) (c.before.before.before.before.if2.false) _ (c.before.before.before.cell-of5.ensures) (c.before.before.if5.false) _ _ (c.before.cell-of6.ensures) (c.within-one-two.ensures)
+returns-6 c = restricted_to _ _ _ _ _ _ _ _ _ _ _ _ _ (c.before.before.before.before.before.before.before.before.before.cell-of.ensures) (c.before.before.before.before.before.before.before.before.cell-of2.ensures) (c.before.before.before.before.before.before.before.cell-of3.ensures) (c.before.before.before.before.before.before.cell-of4.ensures) (c.before.before.before.before.before.if1.false) (c.before.before.before.before.if2.false) _ (c.before.before.before.cell-of5.ensures) (c.before.before.if5.false) _ _ (c.before.cell-of6.ensures) (c.within_one_two.ensures)
 
 pub wider-spec : {M : Type 1} → statement M
 wider-spec =

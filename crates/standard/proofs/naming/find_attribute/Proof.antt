@@ -9,10 +9,10 @@ use Rattle.standard.proofs.naming.find_attribute.Reads as reads
 use Rattle.standard.proofs.naming.find_attribute.Lts as lts
 use Rattle.standard.proofs.naming.is_attribute.Reads as is-attribute-reads
 
-abbrev invariant_loop : tie.invariant-loop
+abbrev invariant_loop : tie.invariant_loop
 invariant_loop text d rows key name i₀ i = find_attribute text d rows key name i ≡ find_attribute text d rows key name 0
 
-abbrev decreases_loop : tie.decreases-loop
+abbrev decreases_loop : tie.decreases_loop
 decreases_loop text d rows key name i₀ i = rows - i
 
 -- src/naming.rt:25:5

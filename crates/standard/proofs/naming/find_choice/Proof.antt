@@ -9,10 +9,10 @@ use Rattle.standard.proofs.naming.find_choice.Reads as reads
 use Rattle.standard.proofs.naming.find_choice.Lts as lts
 use Rattle.standard.proofs.naming.is_choice.Reads as is-choice-reads
 
-abbrev invariant_loop : tie.invariant-loop
+abbrev invariant_loop : tie.invariant_loop
 invariant_loop text e rows key name i₀ i = find_choice text e rows key name i ≡ find_choice text e rows key name 0
 
-abbrev decreases_loop : tie.decreases-loop
+abbrev decreases_loop : tie.decreases_loop
 decreases_loop text e rows key name i₀ i = rows - i
 
 -- src/naming.rt:25:5

@@ -19,11 +19,11 @@ truth-named-requires c κs = search rules
 
 -- src/naming.rt:83:9
 returns : tie.Need-returns
-returns c = finds_value _ _ _ _ _ _ _ (c.truth-named.ensures ∙ of_boolean _ _ _ _ _ _ _ c.before.before.cell-of.ensures c.before.if1.true)
+returns c = finds_value _ _ _ _ _ _ _ (c.truth_named.ensures ∙ of_boolean _ _ _ _ _ _ _ c.before.before.cell_of.ensures c.before.if1.true)
 
 -- src/naming.rt:86:9
 returns-2 : tie.Need-returns-2
-returns-2 c = finds_value _ _ _ _ _ _ _ (of_other _ _ _ _ _ _ _ c.before.before.cell-of.ensures c.before.if1.false c.if2.true)
+returns-2 c = finds_value _ _ _ _ _ _ _ (of_other _ _ _ _ _ _ _ c.before.before.cell_of.ensures c.before.if1.false c.if2.true)
 
 -- src/naming.rt:88:9
 cell-of-requires-2 : tie.Need-cell-of-requires-2
@@ -45,7 +45,7 @@ enum_told c = search rules
 returns-3 : tie.Need-returns-3
 returns-3 c =
     finds_value _ _ _ _ _ _ _
-    (no_word _ _ c.enum_told.given.1 ∙ of_enum _ _ _ _ _ _ _ _ c.before.before.before.before.before.before.cell-of.ensures c.before.before.before.before.if2.false c.before.before.before.cell-of2.ensures _ c.before.before.find-choice.ensures)
+    (no_word _ _ c.enum_told.given.1 ∙ of_enum _ _ _ _ _ _ _ _ c.before.before.before.before.before.before.cell_of.ensures c.before.before.before.before.if2.false c.before.before.before.cell-of2.ensures _ c.before.before.find_choice.ensures)
 
 -- src/naming.rt:92:5
 cell-of-requires-3 : tie.Need-cell-of-requires-3
@@ -55,7 +55,7 @@ cell-of-requires-3 c κs = search rules
 returns-4 : tie.Need-returns-4
 returns-4 c =
     finds_value _ _ _ _ _ _ _
-    (word_at _ _ _ _ c.before.before.i.given.1 c.cell-of3.ensures ∙ of_enum _ _ _ _ _ _ _ _ c.before.before.before.before.before.before.before.before.cell-of.ensures c.before.before.before.before.before.before.if2.false c.before.before.before.before.before.cell-of2.ensures _ c.before.before.before.before.find-choice.ensures)
+    (word_at _ _ _ _ c.before.before.i.given.1 c.cell-of3.ensures ∙ of_enum _ _ _ _ _ _ _ _ c.before.before.before.before.before.before.before.before.cell_of.ensures c.before.before.before.before.before.before.if2.false c.before.before.before.before.before.cell-of2.ensures _ c.before.before.before.before.find_choice.ensures)
 
 pub find-value-spec : {M : Type 1} → statement M
 find-value-spec =

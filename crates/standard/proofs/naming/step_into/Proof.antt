@@ -21,7 +21,7 @@ enum_told c = search rules
 
 -- src/naming.rt:111:9
 returns : tie.Need-returns
-returns c = steps_none _ _ _ _ _ _ _ _ _ c.before.before.find-attribute.ensures c.enum_told.given.1
+returns c = steps_none _ _ _ _ _ _ _ _ _ c.before.before.find_attribute.ensures c.enum_told.given.1
 
 -- src/naming.rt:113:5
 find-value-requires : tie.Need-find-value-requires
@@ -29,7 +29,7 @@ find-value-requires c κs = search rules
 
 -- src/naming.rt:98:1
 returns-2 : tie.Need-returns-2
-returns-2 c = steps_some _ _ _ _ _ _ _ _ _ _ _ c.before.before.before.before.find-attribute.ensures c.before.before.j.given.1 c.find-value.ensures
+returns-2 c = steps_some _ _ _ _ _ _ _ _ _ _ _ c.before.before.before.before.find_attribute.ensures c.before.before.j.given.1 c.find_value.ensures
 
 pub step-into-spec : {M : Type 1} → statement M
 step-into-spec =

@@ -28,7 +28,7 @@ same-bytes-requires c κs = search rules
 
 -- src/naming.rt:67:9
 returns : tie.Need-returns
-returns c = true_named _ _ _ _ _ _ c.before.before.before.before.cell-of.ensures c.before.before.before.cell-of2.ensures (part_same _ c.before.before.part.ensures.0 c.before.same_bytes.ensures ∙ c.if1.true)
+returns c = true_named _ _ _ _ _ _ c.before.before.before.before.cell_of.ensures c.before.before.before.cell-of2.ensures (part_same _ c.before.before.part.ensures.0 c.before.same_bytes.ensures ∙ c.if1.true)
 
 -- src/naming.rt:69:9
 cell-of-requires-3 : tie.Need-cell-of-requires-3

@@ -19,10 +19,10 @@ returns-2 : tie.Need-returns-2
 returns-2 c = default_not _ _ _ _ (c.before.before.before.cell-of.ensures) _ (c.before.cell-of2.ensures) (c.if2.true)
 
 returns-3 : tie.Need-returns-3
-returns-3 c = default-too _ _ _ _ (c.before.before.before.before.cell-of.ensures) _ (c.before.before.cell-of2.ensures) (c.before.before.before.if1.false) (c.before.if2.false) (c.if3.true)
+returns-3 c = default-too _ _ _ _ (c.before.before.before.before.cell_of.ensures) _ (c.before.before.cell-of2.ensures) (c.before.before.before.if1.false) (c.before.if2.false) (c.if3.true)
 
 returns-4 : tie.Need-returns-4
-returns-4 c = default-new _ _ _ _ (c.before.before.before.before.cell-of.ensures) _ (c.before.before.cell-of2.ensures) (c.before.before.before.if1.false) (c.before.if2.false) (c.if3.false)
+returns-4 c = default-new _ _ _ _ (c.before.before.before.before.cell_of.ensures) _ (c.before.before.cell-of2.ensures) (c.before.before.before.if1.false) (c.before.if2.false) (c.if3.false)
 
 pub default-differs-spec : {M : Type 1} → statement M
 default-differs-spec =

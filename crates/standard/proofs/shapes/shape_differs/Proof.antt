@@ -32,11 +32,11 @@ returns-3 c = shape_differs_lem _ _ _ _ _ _ (no_auto _ _ _ _ _ _ c.before.before
 
 -- src/shapes.rt:19:9
 returns-4 : tie.Need-returns-4
-returns-4 c = shape_differs_lem _ _ _ _ _ _ (auto-new _ _ _ _ _ _ c.before.before.before.before.before.before.cell-of.ensures c.before.before.before.before.before.if1.false _ c.before.before.before.before.cell-of2.ensures c.before.before.before.if2.false _ c.before.before.cell-of3.ensures c.before.if3.false c.if4.true)
+returns-4 c = shape_differs_lem _ _ _ _ _ _ (auto-new _ _ _ _ _ _ c.before.before.before.before.before.before.cell_of.ensures c.before.before.before.before.before.if1.false _ c.before.before.before.before.cell-of2.ensures c.before.before.before.if2.false _ c.before.before.cell-of3.ensures c.before.if3.false c.if4.true)
 
 -- src/shapes.rt:6:1
 returns-5 : tie.Need-returns-5
-returns-5 c = shape_differs_lem _ _ _ _ _ _ (auto-too _ _ _ _ _ _ c.before.before.before.before.before.before.cell-of.ensures c.before.before.before.before.before.if1.false _ c.before.before.before.before.cell-of2.ensures c.before.before.before.if2.false _ c.before.before.cell-of3.ensures c.before.if3.false c.if4.false)
+returns-5 c = shape_differs_lem _ _ _ _ _ _ (auto-too _ _ _ _ _ _ c.before.before.before.before.before.before.cell_of.ensures c.before.before.before.before.before.if1.false _ c.before.before.before.before.cell-of2.ensures c.before.before.before.if2.false _ c.before.before.cell-of3.ensures c.before.if3.false c.if4.false)
 
 pub shape-differs-spec : {M : Type 1} → statement M
 shape-differs-spec =

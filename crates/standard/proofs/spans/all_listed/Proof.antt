@@ -11,10 +11,10 @@ use Rattle.standard.proofs.spans.all_listed.Lts as lts
 use Rattle.scopes.proofs.numbers.item_at.Reads as item-at-reads
 use Rattle.standard.proofs.spans.is_one_or_two.Reads as is-one-or-two-reads
 
-abbrev invariant_loop : tie.invariant-loop
+abbrev invariant_loop : tie.invariant_loop
 invariant_loop text from at₀ at = Holding text from at
 
-abbrev decreases_loop : tie.decreases-loop
+abbrev decreases_loop : tie.decreases_loop
 decreases_loop text from at₀ at = length text - at
 
 loop_holds : tie.Need-loop-init invariant_loop decreases_loop
@@ -24,7 +24,7 @@ item-at-requires : tie.Need-item-at-requires invariant_loop decreases_loop
 item-at-requires c κs = search rules
 
 returns : tie.Need-returns invariant_loop decreases_loop
-returns c = all_stop _ _ _ (c.before.before.before.before.loop.invariant) _ (c.before.before.item-at.ensures) (c.if1.true)
+returns c = all_stop _ _ _ (c.before.before.before.before.loop.invariant) _ (c.before.before.item_at.ensures) (c.if1.true)
 
 item-at-requires-2 : tie.Need-item-at-requires-2 invariant_loop decreases_loop
 item-at-requires-2 c κs = search rules

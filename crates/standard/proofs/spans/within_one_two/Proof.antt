@@ -34,13 +34,13 @@ is-one-or-two-requires : tie.Need-is-one-or-two-requires
 is-one-or-two-requires c κs = search rules
 
 returns-3 : tie.Need-returns-3
-returns-3 c = low_decides _ _ (c.before.before.before.before.before.before.before.before.before.if1.false) _ _ _ (c.before.before.before.before.before.before.before.before.item-at.ensures) (c.before.before.before.before.before.before.before.item-at2.ensures) (c.before.before.before.before.before.before.item-at3.ensures) _ _ _ (c.before.before.before.before.if2.true) (c.before.before.before.item-at4.ensures) (c.before.before.at-most.ensures) (c.before.if3.false) (c.is-one-or-two.ensures)
+returns-3 c = low_decides _ _ (c.before.before.before.before.before.before.before.before.before.if1.false) _ _ _ (c.before.before.before.before.before.before.before.before.item_at.ensures) (c.before.before.before.before.before.before.before.item-at2.ensures) (c.before.before.before.before.before.before.item-at3.ensures) _ _ _ (c.before.before.before.before.if2.true) (c.before.before.before.item-at4.ensures) (c.before.before.at_most.ensures) (c.before.if3.false) (c.is-one-or-two.ensures)
 
 is-one-or-two-requires-2 : tie.Need-is-one-or-two-requires-2
 is-one-or-two-requires-2 c κs = search rules
 
 returns-4 : tie.Need-returns-4
-returns-4 c = first_not _ _ (c.before.before.before.before.before.before.before.if1.false) _ _ _ (c.before.before.before.before.before.before.item-at.ensures) (c.before.before.before.before.before.item-at2.ensures) (c.before.before.before.before.item-at3.ensures) _ (c.before.before.if2.false) (c.before.is-one-or-two2.ensures) (c.if4.true)
+returns-4 c = first_not _ _ (c.before.before.before.before.before.before.before.if1.false) _ _ _ (c.before.before.before.before.before.before.item_at.ensures) (c.before.before.before.before.before.item-at2.ensures) (c.before.before.before.before.item-at3.ensures) _ (c.before.before.if2.false) (c.before.is-one-or-two2.ensures) (c.if4.true)
 
 all-listed-requires : tie.Need-all-listed-requires
 all-listed-requires c κs = search rules

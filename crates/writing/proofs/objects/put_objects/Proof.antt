@@ -8,10 +8,10 @@ use Rattle.writing.proofs.objects.put_objects.Reads as reads
 use Rattle.writing.proofs.objects.put_objects.Lts as lts
 use Rattle.writing.proofs.objects.put_object.Reads as put-object-reads
 
-abbrev invariant_loop : tie.invariant-loop
+abbrev invariant_loop : tie.invariant_loop
 invariant_loop text d o v m n out₀ at i₀ k₀ e₀ out i k e = GoingObjects text d o v m n out₀ at i k out e
 
-abbrev decreases_loop : tie.decreases-loop
+abbrev decreases_loop : tie.decreases_loop
 decreases_loop text d o v m n out₀ at i₀ k₀ e₀ out i k e = m - i
 
 loop_holds : tie.Need-loop-init invariant_loop decreases_loop

@@ -42,7 +42,7 @@ same_length : tie.Need-same-length
 same_length c = search rules
 
 returns : tie.Need-returns
-returns c = wrote_opening _ _ _ _ _ _ _ c.before.before.before.before.before.before.before.before.before.before.before.before.before.before.before.before.before.before.before.before.before.cell-of.ensures c.before.before.before.before.before.before.before.before.before.before.before.before.before.before.before.before.before.before.before.before.cell-of2.ensures c.before.before.before.before.before.before.before.before.before.before.before.before.before.before.before.before.before.before.before.cell-of3.ensures c.before.before.before.before.before.before.before.before.before.before.before.before.before.before.before.before.before.before.cell-of4.ensures c.before.before.before.before.before.before.before.before.before.before.before.before.before.before.before.before.put-part.ensures c.before.before.before.before.before.before.before.before.before.before.before.put-bytes.ensures c.before.before.before.before.before.before.before.put-part2.ensures c.before.before.put-bytes2.ensures
+returns c = wrote_opening _ _ _ _ _ _ _ c.before.before.before.before.before.before.before.before.before.before.before.before.before.before.before.before.before.before.before.before.before.cell-of.ensures c.before.before.before.before.before.before.before.before.before.before.before.before.before.before.before.before.before.before.before.before.cell-of2.ensures c.before.before.before.before.before.before.before.before.before.before.before.before.before.before.before.before.before.before.before.cell-of3.ensures c.before.before.before.before.before.before.before.before.before.before.before.before.before.before.before.before.before.before.cell-of4.ensures c.before.before.before.before.before.before.before.before.before.before.before.before.before.before.before.before.put_part.ensures c.before.before.before.before.before.before.before.before.before.before.before.put-bytes.ensures c.before.before.before.before.before.before.before.put-part2.ensures c.before.before.put-bytes2.ensures
 
 pub put-opening-spec : {M : Type 1} → statement M
 put-opening-spec =

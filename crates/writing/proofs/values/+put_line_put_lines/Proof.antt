@@ -100,10 +100,10 @@ put-line-same-length-2 t c = wrote_length c.before.before.put-bytes3.ensures ∙
 put-line-returns-2 : (t : ℕ) → put-line-lts.Need-returns-2 (put-line-claims t) (put-line-at t) put-line.Post
 put-line-returns-2 t c = puts_block c.before.before.before.before.before.before.before.before.before.before.before.before.before.before.before.before.before.before.put-head.ensures _ (sym c.before.before.before.before.before.before.before.before.before.before.before.before.before.before.before.has-owner.ensures ∙ not-false _ c.before.before.before.before.before.before.before.before.before.before.before.before.before.before.if1.false) c.before.before.before.before.before.before.before.before.before.before.before.put-bytes2.ensures c.before.before.before.before.before.before.before.put-lines.ensures c.before.before.put-bytes3.ensures
 
-abbrev put-lines-Inv-loop : put-lines-lts.invariant-loop
+abbrev put-lines-Inv-loop : put-lines-lts.invariant_loop
 put-lines-Inv-loop text d v n i sort row out₀ at k₀ e₀ out k e = Going text d v n i sort row out₀ at k out e
 
-abbrev put-lines-μ-loop : put-lines-lts.decreases-loop
+abbrev put-lines-μ-loop : put-lines-lts.decreases_loop
 put-lines-μ-loop text d v n i sort row out₀ at k₀ e₀ out k e = n - k
 
 abbrev put-lines-claims : ℕ → put-lines-lts.Claims

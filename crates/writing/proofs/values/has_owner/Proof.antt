@@ -20,7 +20,7 @@ cell-of-requires-2 : tie.Need-cell-of-requires-2
 cell-of-requires-2 c κs = search rules
 
 returns-3 : tie.Need-returns-3
-returns-3 c = owned_row _ _ _ _ _ _ _ (omega arith) c.before.before.cell-of.ensures (omega arith) c.cell-of2.ensures
+returns-3 c = owned_row _ _ _ _ _ _ _ (omega arith) c.before.before.cell_of.ensures (omega arith) c.cell-of2.ensures
 
 pub has-owner-spec : {M : Type 1} → statement M
 has-owner-spec =

@@ -20,7 +20,7 @@ same_length : tie.Need-same-length
 same_length c = search rules
 
 returns : tie.Need-returns
-returns c = wrote_word _ 13 _ _ 2 _ _ c.before.before.before.before.before.cell-of.ensures c.before.before.before.before.cell-of2.ensures c.before.before.put-part.ensures
+returns c = wrote_word _ 13 _ _ 2 _ _ c.before.before.before.before.before.cell-of.ensures c.before.before.before.before.cell-of2.ensures c.before.before.put_part.ensures
 
 pub put-name-spec : {M : Type 1} → statement M
 put-name-spec =

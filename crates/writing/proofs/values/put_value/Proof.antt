@@ -40,7 +40,7 @@ same_length_2 : tie.Need-same-length-2
 same_length_2 c = search rules
 
 returns-2 : tie.Need-returns-2
-returns-2 c = wrote_other _ _ _ _ _ _ c.before.before.before.before.before.before.before.cell-of.ensures (omega arith) c.before.before.before.before.before.cell-of4.ensures c.before.before.before.before.cell-of5.ensures c.before.before.put-part.ensures
+returns-2 c = wrote_other _ _ _ _ _ _ c.before.before.before.before.before.before.before.cell-of.ensures (omega arith) c.before.before.before.before.before.cell-of4.ensures c.before.before.before.before.cell-of5.ensures c.before.before.put_part.ensures
 
 pub put-value-spec : {M : Type 1} → statement M
 put-value-spec =

@@ -1,0 +1,31 @@
+use native.Mathlib.Omega.{arith}
+use borrow.Author.Rules.{rules}
+use Rattle.object_parts.proofs.Stated.{lines, statements_on, statements_gone, block_none, block_there, value_true_there, value_false_there, value_name_there, value_number_there, value_string_there, value_float_there, value_auto_there, value_none, statement_there, then}
+use Rattle.object_parts.specs.Rows.{Fill, StatementRows}
+use Rattle.filling.proofs.Filling.{going, Going}
+use Rattle.grammar.proofs.Rules.{name_taken, name_less, value_no}
+use Rattle.grammar.proofs.Terminals.{rbrace_is, equals_is}
+use Rattle.grammar.proofs.Meeting.{went_on}
+use Rattle.grammar.specs.Readers.{left}
+use Rattle.grammar.specs.Grammar.{statements}
+use Prim.Native.Nat.{◌+◌, ◌*◌, ℕ, ◌<◌}
+use mathlib.Core.Path.{sym, ◌∙◌}
+use Rattle.object_parts.proofs.+block_statement_statements_value.Given as goal
+
+abbrev pub decreases-block : goal.decreases-block
+decreases-block l = 4 * left l.text.now l.a
+
+abbrev pub decreases-statement : goal.decreases-statement
+decreases-statement l = 4 * left l.text.now l.a + 1
+
+abbrev pub decreases-statements : goal.decreases-statements
+decreases-statements l = 4 * left l.text.now l.from + 2
+
+abbrev pub invariant-statements-loop-s : goal.invariant-statements-loop-s
+invariant-statements-loop-s l = Going then Fill statements StatementRows l.text l.initial.a l.a (l.initial.s, l.initial.i) (l.s, l.i)
+
+abbrev pub decreases-statements-loop-s : goal.decreases-statements-loop-s
+decreases-statements-loop-s l = left l.text l.a
+
+abbrev pub decreases-value : goal.decreases-value
+decreases-value l = 4 * left l.text.now l.a

@@ -1,0 +1,15 @@
+use borrow.Author.Rules.{rules}
+use Rattle.object_parts.proofs.Applied.{all, parts_on, parts_gone, beside}
+use Rattle.object_parts.specs.Rows.{FillAll, AllRows}
+use Rattle.filling.proofs.Filling.{going, Going}
+use Rattle.grammar.proofs.Rules.{kind_less}
+use Rattle.grammar.specs.Readers.{left}
+use Rattle.grammar.specs.Grammar.{objects}
+use mathlib.Core.Path.{sym, ◌∙◌}
+use Rattle.object_parts.proofs.parts.Given as goal
+
+abbrev pub invariant-loop-kind : goal.invariant-loop-kind
+invariant-loop-kind l = Going beside FillAll objects AllRows l.text l.initial.a l.a (l.initial.counts, ((l.initial.p, l.initial.n), (l.initial.s, l.initial.m))) (l.counts, ((l.p, l.n), (l.s, l.m)))
+
+abbrev pub decreases-loop-kind : goal.decreases-loop-kind
+decreases-loop-kind l = left l.text l.a

@@ -1,0 +1,5 @@
+use borrow.Author.Rules.{rules}
+use Rattle.placing.proofs.place_refused.Goals as goal
+
+pub returns : goal.returns
+returns c = c.place_numbered.ensures
