@@ -1,5 +1,6 @@
 // The walk of the implementation: its specs, with the place of each kind's word.
 #![tactic(auto)]
+
 ghost use Rattle.std.specs.Prelude.{◌≡◌, get_or, set, replicate};
 ghost use Rattle.grammar.specs.Grammar.{◌▸◌, ∎, spec, specs, implementation};
 ghost use Rattle.filling.specs.Fills.{Walks};

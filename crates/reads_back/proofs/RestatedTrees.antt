@@ -63,11 +63,11 @@ line_grouped : (a b c : Word) (us rest : Resolved) (ws : List Word)
 line_grouped a b c us rest ws = ap₂ (λ x y. (a ∷ b ∷ c ∷ (x ++ y)) ++ ws) (closed_block us) (append-nil (line_words rest))
 
 -- The lines of resolved values are their restated statements.
-lines_tree : {f : Form} {ws : List Word} {m : Parts f} (r : Resolved) → SaidLines r → WordTrees f ws m
+lines_tree : (r : Resolved) {f : Form} {ws : List Word} {m : Parts f} → SaidLines r → WordTrees f ws m
     → WordTrees (statements ▸ f) (line_words r ++ ws) (restated r, m)
 unfolding means matches given line_words restated stating block_of unplaced_word
 lines_tree end h more = word_node no_statement word_nil more
-lines_tree {f} {ws} {m} (resolved t us rest) (h, hs, hr) more =
+lines_tree (resolved t us rest) {f} {ws} {m} (h, hs, hr) more =
     let w = restated_word t.value t.word in
     let b = block_tree us (lines_tree us hs (word_leaf closing refl word_nil)) in
     let v = value_tree w us h.form b stop_tree in

@@ -152,8 +152,8 @@ own_in s (value w e us vs) C A B lo hi at_least_one q r c f g h = record {
       ap (first_one (is_choice s key at len)) q
       ∙ one_append (is_choice s key at len) A (choices_of (value w e us vs) true key ++ B) (none_chosen s key at len A f)
       ∙ own_words s key at len t z (value w e us vs) B key hi (omega arith, r.1) (omega arith) h g;
-own_in s no_value C A B lo hi x7 q r c f g h = elim x7 [ ]
 }
+own_in s no_value C A B lo hi x7 q r c f g h = elim x7 [ ]
 
 -- So it is for every ENUM, at any depth.
 mutual

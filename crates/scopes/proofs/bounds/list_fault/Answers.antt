@@ -15,13 +15,13 @@ pub returns-then-s-ne44 : goal.returns-then-s-ne44
 returns-then-s-ne44 c = out_stop _ _ _ _ c.loop-at.invariant _ c.comma_at-s.ensures c.if-s-ne44.true
 
 pub returns-then-not-in_type : goal.returns-then-not-in_type
-returns-then-not-in_type c = λ ws l. c.wrong_bound.ensures ∙ out-hit _ _ _ _ c.loop-at.invariant _ _ c.comma_at-s.ensures c.if-s-ne44.false c.item_at-x.ensures _ c.in_type.ensures (not-true _ c.if-not-in_type.true) ws l
+returns-then-not-in_type c = λ ws l. c.wrong_bound.ensures ∙ out-hit _ _ _ _ c.loop-at.invariant _ _ c.comma_at-s.ensures c.if-s-ne44.false c.item_at-x.ensures _ c.in_type.ensures c.if-not-in_type.true ws l
 
 pub loop-at-smaller : goal.loop-at-smaller
 loop-at-smaller c = omega (arith, turn_on _ _ _ _ c.comma_at-s.ensures c.if-s-ne44.false c.item_at-x.ensures, c.loop-at-test.true)
 
 pub loop-at-preserved : goal.loop-at-preserved
-loop-at-preserved c = out-on _ _ _ _ c.loop-at.invariant _ _ c.comma_at-s.ensures c.if-s-ne44.false c.item_at-x.ensures _ c.in_type.ensures (not-false _ c.if-not-in_type.false)
+loop-at-preserved c = out-on _ _ _ _ c.loop-at.invariant _ _ c.comma_at-s.ensures c.if-s-ne44.false c.item_at-x.ensures _ c.in_type.ensures c.if-not-in_type.false
 
 pub returns : goal.returns
 returns c = out_end _ _ _ _ c.loop-at.invariant c.loop-at-test.false
