@@ -1,5 +1,6 @@
 // Lent texts in one expanded text, in lent memory: what the calls that take lent texts share (document 02, Q-10).
 #![tactic(auto)]
+
 ghost use Rattle.std.specs.Prelude.{◌≡◌, eqb};
 ghost use Rattle.token.specs.Find.{pick};
 ghost use Rattle.lent_texts.specs.Expanded.{refusal_in, ExpandsTexts};

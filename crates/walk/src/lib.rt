@@ -1,5 +1,6 @@
 // The walk of a whole text: one reading by recursive descent, with the refusals of the grammar stage, that fills four tables of rows.
 #![tactic(auto)]
+
 ghost use Rattle.std.specs.Prelude.{◌≡◌, replicate};
 ghost use Rattle.grammar.specs.Grammar.{◌▸◌, ∎, version, application};
 ghost use Rattle.grammar.specs.Stage.{Answers};

@@ -2,7 +2,6 @@
 -- Assumes nothing.
 use native.Mathlib.Omega.{arith}
 use Rattle.blocks.proofs.Ranges.{after_back, after_past, after_next}
-use borrow.Author.Rules.{rules}
 use Rattle.blocks.proofs.after.Goals as goal
 
 pub returns-then-next-k : goal.returns-then-next-k

@@ -4,7 +4,6 @@ use Rattle.blocks.proofs.Ranges.{Looking, looking_start, looking_stop, looking_m
 use Rattle.token.specs.Tokens.{part_of}
 use Rattle.token.specs.Words.{same}
 use native.Mathlib.Omega.{arith}
-use Prim.Native.Nat.{◌-◌}
 use mathlib.Core.Path.{sym, ◌∙◌, ap₂, subst}
 use Rattle.blocks.proofs.stated.Goals as goal
 

@@ -1,11 +1,7 @@
 -- `blocks::stated` meets its contract.
 -- Assumes nothing.
-use Rattle.blocks.proofs.Ranges.{Looking, looking_start, looking_stop, looking_more, looking_end, after_later, after_inside}
-use Rattle.token.specs.Tokens.{part_of}
-use Rattle.token.specs.Words.{same}
-use native.Mathlib.Omega.{arith}
+use Rattle.blocks.proofs.Ranges.{Looking}
 use Prim.Native.Nat.{◌-◌}
-use mathlib.Core.Path.{sym, ◌∙◌, ap₂, subst}
 use Rattle.blocks.proofs.stated.Given as goal
 
 abbrev pub invariant-loop-k : goal.invariant-loop-k

@@ -1,7 +1,6 @@
 use Rattle.decimals.proofs.Powers.{power_left, nothing_most, above, not_more}
 use mathlib.Core.Path.{sym, ◌∙◌}
 use native.Mathlib.Omega.{arith}
-use borrow.Author.Rules.{rules}
 use Rattle.decimals.proofs.at_most.Goals as goal
 
 pub returns-then-l-k : goal.returns-then-l-k

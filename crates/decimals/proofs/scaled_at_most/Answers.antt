@@ -1,7 +1,5 @@
 use Rattle.decimals.proofs.Powers.{power_none, power_less}
-use lib.Dec.{leb}
-use Prim.Native.Nat.{◌*◌, ◌^◌}
-use mathlib.Core.Path.{◌≡◌, refl, sym, ◌∙◌}
+use mathlib.Core.Path.{refl, sym, ◌∙◌}
 use native.Mathlib.Omega.{arith}
 use borrow.Author.Rules.{rules}
 use Rattle.decimals.proofs.scaled_at_most.Goals as goal

@@ -1,9 +1,6 @@
-use Rattle.decimals.proofs.Powers.{power_none, power_less}
 use lib.Dec.{leb}
 use Prim.Native.Nat.{◌*◌, ◌^◌}
-use mathlib.Core.Path.{◌≡◌, refl, sym, ◌∙◌}
-use native.Mathlib.Omega.{arith}
-use borrow.Author.Rules.{rules}
+use mathlib.Core.Path.{◌≡◌}
 use Rattle.decimals.proofs.scaled_at_most.Given as goal
 
 abbrev pub invariant-loop-left : goal.invariant-loop-left

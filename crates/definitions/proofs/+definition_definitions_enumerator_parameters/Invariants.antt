@@ -1,15 +1,9 @@
-use native.Mathlib.Omega.{arith}
-use borrow.Author.Rules.{rules}
-use Rattle.definitions.proofs.Acts.{tables, typed_plain, typed_list, reference_defined, integer_defined, float_defined, string_defined, truths_none, truths_there, boolean_defined, enum_defined, parameters_none, parameters_there, enumerator_there, definition_none, definitions_on, definitions_gone, enumerators_on, then, ValueRows}
+use Rattle.definitions.proofs.Acts.{then, ValueRows}
 use Rattle.definitions.specs.Rows.{Fill, Rows}
-use Rattle.filling.proofs.Filling.{going, Going}
-use Rattle.grammar.proofs.Rules.{comma_less, lsquare_taken, enumerators_item, definition_no, definitions_less, twice_less, twice_one_less, comma_one_less}
-use Rattle.grammar.proofs.Terminals.{rbrace_is, lsquare_is, rsquare_is, true_is, false_is, comma_is}
-use Rattle.grammar.proofs.Meeting.{◌⊳◌, went_on}
-use Rattle.grammar.specs.Readers.{left, sort_at}
+use Rattle.filling.proofs.Filling.{Going}
+use Rattle.grammar.specs.Readers.{left}
 use Rattle.grammar.specs.Grammar.{definitions, enumerators}
-use Prim.Native.Nat.{◌+◌, ◌*◌, ℕ, ◌<◌}
-use mathlib.Core.Path.{sym, ◌∙◌}
+use Prim.Native.Nat.{◌+◌, ◌*◌}
 use Rattle.definitions.proofs.+definition_definitions_enumerator_parameters.Given as goal
 
 abbrev pub decreases-definition : goal.decreases-definition

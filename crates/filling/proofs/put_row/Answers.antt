@@ -1,6 +1,5 @@
 use Rattle.filling.proofs.Tables.{sets_start}
 use mathlib.Core.Path.{◌∙◌}
-use borrow.Author.Rules.{rules}
 use Rattle.filling.proofs.put_row.Goals as goal
 
 pub returns : goal.returns

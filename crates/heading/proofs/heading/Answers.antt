@@ -2,7 +2,6 @@ use native.Mathlib.Omega.{arith}
 use Rattle.heading.proofs.Told.{ahead, string_fits, name_fits, told, told_3, told_4, told_5}
 use Rattle.heading.specs.Headings.{too_long}
 use Rattle.heading.proofs.Promises.{q_7}
-use borrow.Author.Rules.{rules}
 use Rattle.heading.proofs.heading.Goals as goal
 
 pub returns-then-text-gt-LONGEST : goal.returns-then-text-gt-LONGEST

@@ -1,6 +1,5 @@
 use Rattle.implementation.proofs.Implementing.{implementation_there}
 use Rattle.grammar.proofs.Terminals.{implementation_is, lbrace_is, rbrace_is, semicolon_is}
-use borrow.Author.Rules.{rules}
 use Rattle.implementation.proofs.implementation.Goals as goal
 
 pub returns : goal.returns

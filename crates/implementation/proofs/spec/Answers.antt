@@ -1,6 +1,5 @@
 use Rattle.implementation.proofs.Implementing.{spec_there}
 use Rattle.grammar.proofs.Terminals.{lbrace_is}
-use borrow.Author.Rules.{rules}
 use Rattle.implementation.proofs.spec.Goals as goal
 
 pub returns : goal.returns

@@ -1,10 +1,9 @@
-use Rattle.std.proofs.Common.{rules, sym, ◌∙◌}
-use Rattle.implementation.proofs.Implementing.{all, specs_on, specs_gone, beside}
+use Rattle.std.proofs.Common.{sym, ◌∙◌}
+use Rattle.implementation.proofs.Implementing.{all, specs_on, specs_gone}
 use Rattle.implementation.proofs.Noting.{noted}
-use Rattle.implementation.specs.Places.{FillAll, AllRows}
-use Rattle.filling.proofs.Filling.{going, Going}
+use Rattle.implementation.specs.Places.{AllRows}
+use Rattle.filling.proofs.Filling.{going}
 use Rattle.grammar.proofs.Rules.{kind_less}
-use Rattle.grammar.specs.Readers.{left}
 use Rattle.grammar.specs.Grammar.{specs}
 use Rattle.implementation.proofs.specs.Goals as goal
 

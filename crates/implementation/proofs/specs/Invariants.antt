@@ -1,9 +1,6 @@
-use Rattle.std.proofs.Common.{rules, sym, ◌∙◌}
-use Rattle.implementation.proofs.Implementing.{all, specs_on, specs_gone, beside}
-use Rattle.implementation.proofs.Noting.{noted}
+use Rattle.implementation.proofs.Implementing.{beside}
 use Rattle.implementation.specs.Places.{FillAll, AllRows}
-use Rattle.filling.proofs.Filling.{going, Going}
-use Rattle.grammar.proofs.Rules.{kind_less}
+use Rattle.filling.proofs.Filling.{Going}
 use Rattle.grammar.specs.Readers.{left}
 use Rattle.grammar.specs.Grammar.{specs}
 use Rattle.implementation.proofs.specs.Given as goal

@@ -1,6 +1,5 @@
 use Rattle.implementation.proofs.Noting.{set_past}
 use native.Mathlib.Omega.{arith}
-use borrow.Author.Rules.{rules}
 use Rattle.implementation.proofs.with_cell.Goals as goal
 
 pub returns-then-i-ge-KINDS : goal.returns-then-i-ge-KINDS

@@ -1,5 +1,4 @@
 use Rattle.implementation.proofs.Noting.{placed_first, placed_before}
-use borrow.Author.Rules.{rules}
 use Rattle.implementation.proofs.with_place.Goals as goal
 
 pub returns-then-mark-eq0 : goal.returns-then-mark-eq0

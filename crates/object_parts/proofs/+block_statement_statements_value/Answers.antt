@@ -1,14 +1,11 @@
 use native.Mathlib.Omega.{arith}
-use borrow.Author.Rules.{rules}
-use Rattle.object_parts.proofs.Stated.{lines, statements_on, statements_gone, block_none, block_there, value_true_there, value_false_there, value_name_there, value_number_there, value_string_there, value_float_there, value_auto_there, value_none, statement_there, then}
-use Rattle.object_parts.specs.Rows.{Fill, StatementRows}
-use Rattle.filling.proofs.Filling.{going, Going}
+use Rattle.object_parts.proofs.Stated.{lines, statements_on, statements_gone, block_none, block_there, value_true_there, value_false_there, value_name_there, value_number_there, value_string_there, value_float_there, value_auto_there, value_none, statement_there}
+use Rattle.object_parts.specs.Rows.{StatementRows}
+use Rattle.filling.proofs.Filling.{going}
 use Rattle.grammar.proofs.Rules.{name_taken, name_less, value_no}
 use Rattle.grammar.proofs.Terminals.{rbrace_is, equals_is}
 use Rattle.grammar.proofs.Meeting.{went_on}
-use Rattle.grammar.specs.Readers.{left}
 use Rattle.grammar.specs.Grammar.{statements}
-use Prim.Native.Nat.{◌+◌, ◌*◌, ℕ, ◌<◌}
 use mathlib.Core.Path.{sym, ◌∙◌}
 use Rattle.object_parts.proofs.+block_statement_statements_value.Goals as goal
 

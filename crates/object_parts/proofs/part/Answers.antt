@@ -1,6 +1,5 @@
 use Rattle.object_parts.proofs.Applied.{part_alone, part_with}
 use Rattle.grammar.proofs.Terminals.{rbrace_is}
-use borrow.Author.Rules.{rules}
 use Rattle.object_parts.proofs.part.Goals as goal
 
 pub returns-then-c-ne-LBRACE : goal.returns-then-c-ne-LBRACE

@@ -1,9 +1,7 @@
-use borrow.Author.Rules.{rules}
-use Rattle.object_parts.proofs.Applied.{all, parts_on, parts_gone, beside}
-use Rattle.object_parts.specs.Rows.{FillAll, AllRows}
-use Rattle.filling.proofs.Filling.{going, Going}
+use Rattle.object_parts.proofs.Applied.{all, parts_on, parts_gone}
+use Rattle.object_parts.specs.Rows.{AllRows}
+use Rattle.filling.proofs.Filling.{going}
 use Rattle.grammar.proofs.Rules.{kind_less}
-use Rattle.grammar.specs.Readers.{left}
 use Rattle.grammar.specs.Grammar.{objects}
 use mathlib.Core.Path.{sym, ◌∙◌}
 use Rattle.object_parts.proofs.parts.Goals as goal

@@ -1,11 +1,8 @@
-use borrow.Author.Rules.{rules}
-use Rattle.object_parts.proofs.Applied.{all, parts_on, parts_gone, beside}
+use Rattle.object_parts.proofs.Applied.{beside}
 use Rattle.object_parts.specs.Rows.{FillAll, AllRows}
-use Rattle.filling.proofs.Filling.{going, Going}
-use Rattle.grammar.proofs.Rules.{kind_less}
+use Rattle.filling.proofs.Filling.{Going}
 use Rattle.grammar.specs.Readers.{left}
 use Rattle.grammar.specs.Grammar.{objects}
-use mathlib.Core.Path.{sym, ◌∙◌}
 use Rattle.object_parts.proofs.parts.Given as goal
 
 abbrev pub invariant-loop-kind : goal.invariant-loop-kind

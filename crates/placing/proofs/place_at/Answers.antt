@@ -1,7 +1,6 @@
 use native.Mathlib.Omega.{arith}
 use Rattle.placing.proofs.Rowwise.{place_none, place_some, inside}
 use mathlib.Core.Path.{sym, ◌∙◌}
-use borrow.Author.Rules.{rules}
 use Rattle.placing.proofs.place_at.Goals as goal
 
 pub returns-then-cell-eq0 : goal.returns-then-cell-eq0

@@ -1,10 +1,7 @@
 use native.Mathlib.Omega.{arith}
 use Rattle.placing.proofs.Rowwise.{first_row, row_next, column_start, column_next, column_end}
-use Rattle.placing.specs.Columns.{place_column}
-use Rattle.placing.specs.Placed.{place_in}
-use lib.ListN.{length}
-use mathlib.Core.Path.{◌≡◌, refl, sym, ◌∙◌, ap}
-use Prim.Native.Nat.{ℕ, ◌+◌, ◌-◌, ◌*◌, ◌≤◌}
+use mathlib.Core.Path.{refl, sym, ◌∙◌, ap}
+use Prim.Native.Nat.{ℕ, ◌+◌}
 use Rattle.placing.proofs.place_column.Goals as goal
 
 pub loop-i-init : goal.loop-i-init

@@ -1,10 +1,8 @@
-use native.Mathlib.Omega.{arith}
-use Rattle.placing.proofs.Rowwise.{first_row, row_next, column_start, column_next, column_end}
 use Rattle.placing.specs.Columns.{place_column}
 use Rattle.placing.specs.Placed.{place_in}
 use lib.ListN.{length}
-use mathlib.Core.Path.{◌≡◌, refl, sym, ◌∙◌, ap}
-use Prim.Native.Nat.{ℕ, ◌+◌, ◌-◌, ◌*◌, ◌≤◌}
+use mathlib.Core.Path.{◌≡◌}
+use Prim.Native.Nat.{◌+◌, ◌-◌, ◌*◌, ◌≤◌}
 use Rattle.placing.proofs.place_column.Given as goal
 
 abbrev pub invariant-loop-i : goal.invariant-loop-i

@@ -1,5 +1,4 @@
 use Rattle.placing.proofs.Rowwise.{place_lent, place_end}
-use borrow.Author.Rules.{rules}
 use Rattle.placing.proofs.place_in.Goals as goal
 
 pub returns-then-place-size : goal.returns-then-place-size

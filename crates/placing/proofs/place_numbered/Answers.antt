@@ -1,6 +1,5 @@
 use Rattle.placing.proofs.Rowwise.{refused_start, refused_placed}
 use mathlib.Core.Path.{sym, ◌∙◌}
-use borrow.Author.Rules.{rules}
 use Rattle.placing.proofs.place_numbered.Goals as goal
 
 pub returns-then-is_at_start : goal.returns-then-is_at_start

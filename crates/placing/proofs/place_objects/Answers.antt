@@ -1,5 +1,4 @@
 use Rattle.placing.proofs.Rowwise.{columns_three}
-use borrow.Author.Rules.{rules}
 use Rattle.placing.proofs.place_objects.Goals as goal
 
 pub returns : goal.returns

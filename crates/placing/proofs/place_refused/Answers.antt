@@ -1,4 +1,3 @@
-use borrow.Author.Rules.{rules}
 use Rattle.placing.proofs.place_refused.Goals as goal
 
 pub returns : goal.returns

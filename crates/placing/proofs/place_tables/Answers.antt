@@ -1,5 +1,4 @@
 use Rattle.placing.proofs.Rowwise.{places_tables}
-use borrow.Author.Rules.{rules}
 use Rattle.placing.proofs.place_tables.Goals as goal
 
 pub returns : goal.returns

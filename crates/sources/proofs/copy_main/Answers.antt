@@ -1,5 +1,4 @@
 use Rattle.sources.proofs.Plains.{plain_fits, plain_size, copies}
-use borrow.Author.Rules.{rules}
 use native.Mathlib.Omega.{arith}
 use lib.ListN.{length-take}
 use Rattle.sources.proofs.copy_main.Goals as goal

@@ -1,6 +1,5 @@
 use Rattle.sources.proofs.Plains.{expands_to_read}
 use mathlib.Core.Path.{sym, ◌∙◌}
-use borrow.Author.Rules.{rules}
 use Rattle.sources.proofs.expand_to_read.Goals as goal
 
 pub copy_main-requires : goal.copy_main-requires

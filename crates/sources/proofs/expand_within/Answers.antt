@@ -1,9 +1,8 @@
 use native.Mathlib.Omega.{arith}
 use Rattle.sources.proofs.Wholes.{main_fits, main_asks, expands, told_badly}
-use lib.ListN.{length, length-take, length-replicate}
-use mathlib.Core.Path.{◌≡◌, sym, ◌∙◌}
+use lib.ListN.{length-take, length-replicate}
+use mathlib.Core.Path.{sym, ◌∙◌}
 use Prim.Native.Nat.{ℕ}
-use borrow.Author.Rules.{rules}
 use Rattle.sources.proofs.expand_within.Goals as goal
 
 pub bounds-lengths-0 : goal.bounds-lengths-0

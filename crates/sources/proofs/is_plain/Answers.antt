@@ -2,7 +2,6 @@ use native.Mathlib.Omega.{arith}
 use Rattle.sources.proofs.Plains.{plain_told, plain_badly}
 use Rattle.sources.proofs.Wholes.{main_fits}
 use mathlib.Core.Path.{sym, ◌∙◌}
-use borrow.Author.Rules.{rules}
 use Rattle.sources.proofs.is_plain.Goals as goal
 
 pub bounds-lengths-0 : goal.bounds-lengths-0

@@ -3,7 +3,6 @@ use Rattle.sources.proofs.Namings.{byte_high, named_ok}
 use Rattle.sources.proofs.Stops.{line_low, name_past, name_there, name_none, length_between}
 use native.Mathlib.Omega.{arith}
 use mathlib.Core.Path.{sym, ◌∙◌}
-use borrow.Author.Rules.{rules}
 use Rattle.sources.proofs.name_at.Goals as goal
 
 pub returns-then-text-hash : goal.returns-then-text-hash

@@ -2,9 +2,6 @@ use Prim.Native.Nat.{ℕ, ◌+◌}
 use mathlib.Core.Path.{◌∙◌, ap, ap₂}
 use Rattle.token.specs.Tokens.{part_of, part_place}
 use mathlib.Core.List.{List}
-use Prim.Native.Nat.{ℕ}
-use mathlib.Core.Path.{sym, ◌∙◌, ap}
-use borrow.Author.Rules.{rules}
 use Rattle.sources.proofs.part.Goals as goal
 
 pub returns : goal.returns

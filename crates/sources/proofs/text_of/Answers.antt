@@ -2,7 +2,6 @@ use Rattle.sources.proofs.Numberings.{span_ok, text_there, start_there, text_abs
 use Rattle.sources.proofs.Tellings.{told}
 use native.Mathlib.Omega.{arith}
 use mathlib.Core.Path.{refl, sym, ◌∙◌}
-use borrow.Author.Rules.{rules}
 use Rattle.sources.proofs.text_of.Goals as goal
 
 pub span_of-requires : goal.span_of-requires

@@ -6,7 +6,6 @@ use lib.ListN.{take, drop}
 use native.Mathlib.Nat.{add-sub_cancel_left}
 use native.Mathlib.Omega.{arith}
 use Rattle.token.proofs.Lexemes.{part_inside, part_long, part_past, place_inside, place_long, place_past}
-use borrow.Author.Rules.{rules}
 use Rattle.token.proofs.part.Goals as goal
 
 pub returns-then-len-text : goal.returns-then-len-text

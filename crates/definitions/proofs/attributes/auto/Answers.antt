@@ -1,5 +1,4 @@
 use Rattle.definitions.proofs.Leaves.{auto_none, auto_there}
-use borrow.Author.Rules.{rules}
 use Rattle.definitions.proofs.attributes.auto.Goals as goal
 
 pub returns-then-a-ne-WITH_AUTO : goal.returns-then-a-ne-WITH_AUTO

@@ -1,5 +1,4 @@
 use Rattle.definitions.proofs.Leaves.{default_none, default_there}
-use borrow.Author.Rules.{rules}
 use Rattle.definitions.proofs.attributes.default.Goals as goal
 
 pub returns-then-a-ne-EQUALS : goal.returns-then-a-ne-EQUALS

@@ -1,6 +1,5 @@
 use Rattle.definitions.proofs.Leaves.{float_walks}
 use Rattle.grammar.specs.Readers.{sort_at}
-use borrow.Author.Rules.{rules}
 use Rattle.definitions.proofs.attributes.float.Goals as goal
 
 pub returns : goal.returns

@@ -1,5 +1,4 @@
 use Rattle.definitions.proofs.Leaves.{float_range_none, float_range_there}
-use borrow.Author.Rules.{rules}
 use Rattle.definitions.proofs.attributes.float_range.Goals as goal
 
 pub returns-then-a-ne-LSQUARE : goal.returns-then-a-ne-LSQUARE

@@ -1,5 +1,4 @@
 use Rattle.definitions.proofs.Leaves.{head_is}
-use borrow.Author.Rules.{rules}
 use Rattle.definitions.proofs.attributes.head.Goals as goal
 
 pub returns : goal.returns

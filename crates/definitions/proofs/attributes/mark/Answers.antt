@@ -1,5 +1,4 @@
 use Rattle.definitions.proofs.Leaves.{mark_none, mark_there}
-use borrow.Author.Rules.{rules}
 use Rattle.definitions.proofs.attributes.mark.Goals as goal
 
 pub returns-then-a-ne-LSQUARE : goal.returns-then-a-ne-LSQUARE

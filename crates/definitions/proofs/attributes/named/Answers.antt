@@ -1,5 +1,4 @@
 use Rattle.definitions.proofs.Leaves.{named_walks}
-use borrow.Author.Rules.{rules}
 use Rattle.definitions.proofs.attributes.named.Goals as goal
 
 pub returns : goal.returns

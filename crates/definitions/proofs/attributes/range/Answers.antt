@@ -1,5 +1,4 @@
 use Rattle.definitions.proofs.Leaves.{range_none, range_there}
-use borrow.Author.Rules.{rules}
 use Rattle.definitions.proofs.attributes.range.Goals as goal
 
 pub returns-then-a-ne-LSQUARE : goal.returns-then-a-ne-LSQUARE

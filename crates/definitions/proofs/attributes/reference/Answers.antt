@@ -1,5 +1,4 @@
 use Rattle.definitions.proofs.Leaves.{reference_walks}
-use borrow.Author.Rules.{rules}
 use Rattle.definitions.proofs.attributes.reference.Goals as goal
 
 pub returns : goal.returns

@@ -1,6 +1,5 @@
 use Rattle.definitions.proofs.Leaves.{string_walks}
 use Rattle.grammar.specs.Readers.{sort_at}
-use borrow.Author.Rules.{rules}
 use Rattle.definitions.proofs.attributes.string.Goals as goal
 
 pub returns : goal.returns

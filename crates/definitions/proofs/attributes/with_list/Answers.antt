@@ -1,5 +1,4 @@
 use Rattle.definitions.proofs.Leaves.{list_head_is}
-use borrow.Author.Rules.{rules}
 use Rattle.definitions.proofs.attributes.with_list.Goals as goal
 
 pub returns : goal.returns

@@ -1,7 +1,6 @@
 use native.Mathlib.Omega.{arith}
 use Rattle.grammar.proofs.Lookaheads.{on_open, on_deep, on_close, on_plain}
 use mathlib.Core.Path.{◌∙◌}
-use borrow.Author.Rules.{rules}
 use Rattle.grammar.proofs.lookahead.advance.Goals as goal
 
 pub returns-then-depth-lt-DEEPEST : goal.returns-then-depth-lt-DEEPEST

@@ -1,7 +1,6 @@
 use Rattle.grammar.proofs.Lookaheads.{word_known, word_other}
 use Rattle.grammar.specs.Readers.{code_of}
 use mathlib.Core.Path.{sym, ap, ◌∙◌}
-use borrow.Author.Rules.{rules}
 use Rattle.grammar.proofs.lookahead.code_of.Goals as goal
 
 pub returns-then-c-lt-NUMERAL : goal.returns-then-c-lt-NUMERAL

@@ -1,6 +1,5 @@
 use Rattle.grammar.proofs.Lookaheads.{expected_is, expected_no}
 use mathlib.Core.Path.{◌∙◌}
-use borrow.Author.Rules.{rules}
 use Rattle.grammar.proofs.lookahead.expect.Goals as goal
 
 pub returns-then-a-code : goal.returns-then-a-code

@@ -1,6 +1,5 @@
 use Rattle.grammar.proofs.Rules.{kind_taken, kind_no}
 use mathlib.Core.Path.{sym, ◌∙◌}
-use borrow.Author.Rules.{rules}
 use Rattle.grammar.proofs.lookahead.expect_kind.Goals as goal
 
 pub returns-then-is_kind : goal.returns-then-is_kind

@@ -1,6 +1,5 @@
 use Rattle.grammar.proofs.Rules.{name_taken, name_no}
 use mathlib.Core.Path.{sym, ◌∙◌}
-use borrow.Author.Rules.{rules}
 use Rattle.grammar.proofs.lookahead.expect_name.Goals as goal
 
 pub returns-then-is_name : goal.returns-then-is_name

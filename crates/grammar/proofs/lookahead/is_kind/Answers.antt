@@ -1,6 +1,5 @@
 use Rattle.grammar.proofs.Codes.{kind_is}
 use mathlib.Core.Path.{◌∙◌}
-use borrow.Author.Rules.{rules}
 use Rattle.grammar.proofs.lookahead.is_kind.Goals as goal
 
 pub returns : goal.returns

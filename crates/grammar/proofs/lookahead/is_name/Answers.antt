@@ -1,6 +1,5 @@
 use Rattle.grammar.proofs.Codes.{name_zero, name_is}
 use mathlib.Core.Path.{◌∙◌}
-use borrow.Author.Rules.{rules}
 use Rattle.grammar.proofs.lookahead.is_name.Goals as goal
 
 pub returns-then-code-eq0 : goal.returns-then-code-eq0

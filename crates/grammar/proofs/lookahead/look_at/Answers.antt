@@ -1,6 +1,5 @@
 use Rattle.grammar.proofs.Lookaheads.{look_found, look_bad, look_end}
 use mathlib.Core.Path.{sym, ◌∙◌}
-use borrow.Author.Rules.{rules}
 use Rattle.grammar.proofs.lookahead.look_at.Goals as goal
 
 pub returns-in-Found : goal.returns-in-Found

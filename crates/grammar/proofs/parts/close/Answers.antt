@@ -1,6 +1,5 @@
 use Rattle.grammar.proofs.Terminals.{rbrace_is}
 use Rattle.grammar.proofs.Meeting.{◌⊳◌}
-use borrow.Author.Rules.{rules}
 use Rattle.grammar.proofs.parts.close.Goals as goal
 
 pub returns : goal.returns

@@ -1,5 +1,4 @@
 use Rattle.grammar.proofs.Rules.{D-pass, D-is}
-use borrow.Author.Rules.{rules}
 use Rattle.grammar.proofs.parts.description.Goals as goal
 
 pub returns-then-a-ne-COLON : goal.returns-then-a-ne-COLON

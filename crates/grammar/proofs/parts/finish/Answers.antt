@@ -1,6 +1,5 @@
 use Rattle.grammar.proofs.Terminals.{semicolon_is}
 use Rattle.grammar.proofs.Meeting.{◌⊳◌}
-use borrow.Author.Rules.{rules}
 use Rattle.grammar.proofs.parts.finish.Goals as goal
 
 pub returns : goal.returns

@@ -1,6 +1,5 @@
 use Rattle.grammar.proofs.Lookaheads.{fits_integers, fits_strings, fits_true, fits_false, fits_floats, fits_enums}
 use mathlib.Core.Path.{◌∙◌}
-use borrow.Author.Rules.{rules}
 use Rattle.grammar.proofs.parts.is_own.Goals as goal
 
 pub returns-then-sort-eq-OF_INTEGER : goal.returns-then-sort-eq-OF_INTEGER

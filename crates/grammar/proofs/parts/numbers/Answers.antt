@@ -1,7 +1,5 @@
-use borrow.Author.Rules.{rules}
 use Rattle.grammar.proofs.Rules.{number_item, comma_less, numbers_again, numbers_done}
-use Rattle.grammar.proofs.Meeting.{still, Still}
-use Rattle.grammar.specs.Readers.{left}
+use Rattle.grammar.proofs.Meeting.{still}
 use Rattle.grammar.specs.Grammar.{numbers}
 use Rattle.grammar.proofs.parts.numbers.Goals as goal
 

@@ -1,6 +1,5 @@
 use Rattle.grammar.proofs.Rules.{own_autos, own_nones, own_fits, own_no}
 use mathlib.Core.Path.{sym, ◌∙◌}
-use borrow.Author.Rules.{rules}
 use Rattle.grammar.proofs.parts.own.Goals as goal
 
 pub returns-then-code-eq-AUTO : goal.returns-then-code-eq-AUTO

@@ -1,5 +1,4 @@
 use Rattle.grammar.proofs.Rules.{span_up, span_many, span_pass}
-use borrow.Author.Rules.{rules}
 use Rattle.grammar.proofs.parts.span.Goals as goal
 
 pub returns-then-a-eq-DOTS : goal.returns-then-a-eq-DOTS

@@ -2,7 +2,6 @@ use mathlib.Core.Path.{sym, ap}
 use Rattle.meaning.specs.Kinds.{most}
 use Rattle.kinds.specs.Kinds.{kind_of, most_of}
 use Rattle.kinds.specs.declared.Kind.{Kind}
-use borrow.Author.Rules.{rules}
 use Rattle.kinds.proofs.Kind.most.Goals as goal
 
 pub returns-in-Os : goal.returns-in-Os

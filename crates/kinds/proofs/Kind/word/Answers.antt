@@ -1,7 +1,6 @@
 use Rattle.meaning.specs.Kinds.{kind_number}
 use Rattle.kinds.specs.Kinds.{kind_of, word_of, padded}
 use Rattle.kinds.proofs.Numbers.{told_word}
-use borrow.Author.Rules.{rules}
 use Rattle.kinds.proofs.Kind.word.Goals as goal
 
 pub returns-in-Os : goal.returns-in-Os

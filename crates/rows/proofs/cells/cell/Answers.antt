@@ -4,7 +4,6 @@ use native.Mathlib.Omega.{arith}
 use Rattle.rows.proofs.Starts.{cell_past}
 use Prim.Native.Nat.{◌+◌}
 use mathlib.Core.Path.{sym}
-use borrow.Author.Rules.{rules}
 use Rattle.rows.proofs.cells.cell.Goals as goal
 
 pub returns-then-t-at : goal.returns-then-t-at

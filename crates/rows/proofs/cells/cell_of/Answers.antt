@@ -4,7 +4,6 @@ use Rattle.rows.proofs.Starts.{cell_start}
 use lib.ListN.{get_or}
 use Prim.Native.Nat.{◌+◌, ◌*◌}
 use mathlib.Core.Path.{◌∙◌, ap}
-use borrow.Author.Rules.{rules}
 use Rattle.rows.proofs.cells.cell_of.Goals as goal
 
 pub returns : goal.returns

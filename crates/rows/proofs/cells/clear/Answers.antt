@@ -3,10 +3,8 @@
 use native.Mathlib.Omega.{arith}
 use Rattle.rows.proofs.Stores.{cleared}
 use borrow.Author.Fill.{fill_none, fill_more}
-use lib.ListN.{length, drop, replicate, length-set}
-use mathlib.Core.List.{◌++◌}
-use mathlib.Core.Path.{◌≡◌, refl, ◌∙◌}
-use Prim.Native.Nat.{◌≤◌, ◌-◌}
+use lib.ListN.{length-set}
+use mathlib.Core.Path.{refl, ◌∙◌}
 use Rattle.rows.proofs.cells.clear.Goals as goal
 
 pub loop-i-init : goal.loop-i-init

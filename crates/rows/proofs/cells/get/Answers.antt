@@ -3,7 +3,6 @@
 use native.Mathlib.Omega.{arith}
 use Rattle.rows.proofs.Starts.{cell_past}
 use mathlib.Core.Path.{sym}
-use borrow.Author.Rules.{rules}
 use Rattle.rows.proofs.cells.get.Goals as goal
 
 pub returns : goal.returns

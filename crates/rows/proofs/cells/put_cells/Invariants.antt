@@ -1,10 +1,8 @@
 -- `rows::cells::put_cells` meets its contract: what is left to store decides the whole.
 -- Assumes nothing.
-use native.Mathlib.Omega.{arith}
-use Rattle.rows.proofs.Stores.{stores_more, stores_past, stores_end}
 use lib.Seq.{sets}
-use lib.ListN.{length, drop, length-set}
-use mathlib.Core.Path.{◌≡◌, refl, sym, ◌∙◌}
+use lib.ListN.{length, drop}
+use mathlib.Core.Path.{◌≡◌}
 use Prim.Native.Nat.{◌≤◌, ◌-◌}
 use Rattle.rows.proofs.cells.put_cells.Given as goal
 

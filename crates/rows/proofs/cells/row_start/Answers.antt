@@ -2,7 +2,6 @@
 -- Assumes nothing.
 use native.Mathlib.Omega.{arith}
 use Rattle.rows.proofs.Starts.{start_none, start_past, start_inside}
-use borrow.Author.Rules.{rules}
 use Rattle.rows.proofs.cells.row_start.Goals as goal
 
 pub returns-then-width-eq0 : goal.returns-then-width-eq0

@@ -3,7 +3,6 @@
 use native.Mathlib.Omega.{arith}
 use Rattle.rows.proofs.Tallies.{one_more_past, one_more_full, one_more_next}
 use mathlib.Core.Path.{sym}
-use borrow.Author.Rules.{rules}
 use Rattle.rows.proofs.counts.one_more.Goals as goal
 
 pub returns-then-kind-ge-KINDS : goal.returns-then-kind-ge-KINDS

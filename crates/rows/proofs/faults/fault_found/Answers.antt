@@ -1,6 +1,5 @@
 -- `rows::faults::fault_found` meets its contract. Assumes nothing.
 use Rattle.rows.proofs.Orders.{found_some, found_none}
-use borrow.Author.Rules.{rules}
 use Rattle.rows.proofs.faults.fault_found.Goals as goal
 
 pub returns-in-At : goal.returns-in-At

@@ -2,7 +2,6 @@
 -- Assumes nothing.
 use Rattle.rows.proofs.Orders.{sooner_second, sooner_first}
 use mathlib.Core.Path.{sym, ◌∙◌}
-use borrow.Author.Rules.{rules}
 use Rattle.rows.proofs.faults.sooner.Goals as goal
 
 pub returns-then-comes_before : goal.returns-then-comes_before

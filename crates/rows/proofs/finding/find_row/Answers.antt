@@ -3,10 +3,9 @@
 use native.Mathlib.Omega.{arith}
 use Rattle.rows.proofs.Searches.{row_stop, row_more, row_end}
 use Rattle.rows.proofs.Starts.{start_next}
-use Rattle.rows.specs.Search.{find_row}
 use lib.ListN.{length}
-use mathlib.Core.Path.{◌≡◌, refl, sym, ◌∙◌, ap}
-use Prim.Native.Nat.{◌-◌, ◌+◌, ◌*◌, min}
+use mathlib.Core.Path.{refl, sym, ◌∙◌, ap}
+use Prim.Native.Nat.{◌+◌, min}
 use Rattle.rows.proofs.finding.find_row.Goals as goal
 
 pub row_start-at-requires : goal.row_start-at-requires

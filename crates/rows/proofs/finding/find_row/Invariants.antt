@@ -1,12 +1,9 @@
 -- `rows::finding::find_row` meets its contract: searching from i on gives what searching from the start does.
 -- Assumes nothing.
-use native.Mathlib.Omega.{arith}
-use Rattle.rows.proofs.Searches.{row_stop, row_more, row_end}
-use Rattle.rows.proofs.Starts.{start_next}
 use Rattle.rows.specs.Search.{find_row}
 use lib.ListN.{length}
-use mathlib.Core.Path.{◌≡◌, refl, sym, ◌∙◌, ap}
-use Prim.Native.Nat.{◌-◌, ◌+◌, ◌*◌, min}
+use mathlib.Core.Path.{◌≡◌}
+use Prim.Native.Nat.{◌-◌, ◌*◌, min}
 use Rattle.rows.proofs.finding.find_row.Given as goal
 
 abbrev pub invariant-loop-i : goal.invariant-loop-i

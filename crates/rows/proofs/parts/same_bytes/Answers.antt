@@ -2,7 +2,6 @@
 -- Assumes nothing.
 use mathlib.Core.Path.{sym}
 use native.Mathlib.Omega.{arith}
-use borrow.Author.Rules.{rules}
 use Rattle.token.proofs.Codes.{different, same_stop, same_end}
 use Rattle.rows.proofs.parts.same_bytes.Goals as goal
 

@@ -3,7 +3,6 @@
 use Rattle.token.specs.Words.{same}
 use Rattle.rows.proofs.Firsts.{same_part_self}
 use mathlib.Core.Path.{◌∙◌, ap₂}
-use borrow.Author.Rules.{rules}
 use Rattle.rows.proofs.parts.same_part.Goals as goal
 
 pub returns-then-at-at2 : goal.returns-then-at-at2

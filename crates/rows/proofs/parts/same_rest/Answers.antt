@@ -3,10 +3,7 @@
 use native.Mathlib.Omega.{arith}
 use Rattle.rows.proofs.Firsts.{rest_decides}
 use Rattle.token.proofs.Codes.{same_next, same_stop, same_end}
-use Rattle.token.specs.Words.{same}
-use lib.ListN.{length, drop}
-use mathlib.Core.Path.{◌≡◌, sym, ◌∙◌}
-use Prim.Native.Nat.{◌-◌}
+use mathlib.Core.Path.{sym, ◌∙◌}
 use Rattle.rows.proofs.parts.same_rest.Goals as goal
 
 pub loop-i-init : goal.loop-i-init

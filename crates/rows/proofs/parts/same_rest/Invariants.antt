@@ -1,11 +1,8 @@
 -- `rows::parts::same_rest` meets its contract: comparing from i on gives what comparing from the start does.
 -- Assumes nothing.
-use native.Mathlib.Omega.{arith}
-use Rattle.rows.proofs.Firsts.{rest_decides}
-use Rattle.token.proofs.Codes.{same_next, same_stop, same_end}
 use Rattle.token.specs.Words.{same}
 use lib.ListN.{length, drop}
-use mathlib.Core.Path.{◌≡◌, sym, ◌∙◌}
+use mathlib.Core.Path.{◌≡◌}
 use Prim.Native.Nat.{◌-◌}
 use Rattle.rows.proofs.parts.same_rest.Given as goal
 

@@ -1,15 +1,8 @@
-use borrow.Author.Rules.{rules}
-use native.Mathlib.Omega.{arith}
 use lib.ListN.{length}
-use mathlib.Core.Path.{◌≡◌, refl, sym, ◌∙◌}
-use Prim.Native.Nat.{◌+◌, ◌-◌, ◌*◌, ◌≤◌}
-use Rattle.sources.proofs.Fillings.{expand_none, goes_none, goes_then, stepped, finished, loop_done, stop_done, front-done, text-steps, text-done, done, puts_bytes, puts_origins, inner_fills, filled_whole, fill_total}
-use Rattle.sources.proofs.Notings.{event_is, inner_asks, noted_next}
-use Rattle.sources.proofs.Tellings.{told}
-use Rattle.sources.proofs.Pieces.{stop_fits, include_fits}
+use mathlib.Core.Path.{◌≡◌}
+use Prim.Native.Nat.{◌+◌, ◌-◌, ◌*◌}
 use Rattle.sources.specs.Promises.{Goes, AsksFrom}
-use Rattle.sources.specs.Expanding.{origin, walk, inner}
-use Prim.Native.Nat.{ℕ, ◌<◌}
+use Rattle.sources.specs.Expanding.{walk, inner}
 use Rattle.sources.proofs.filling.+expand_text_one.Given as goal
 
 abbrev pub decreases-expand_text : goal.decreases-expand_text

@@ -1,11 +1,7 @@
 use Rattle.sources.proofs.Singles.{up_more, up_end, up_start}
-use Rattle.sources.specs.Expanding.{up_from}
-use borrow.Author.Rules.{rules}
 use native.Mathlib.Omega.{arith}
-use lib.Seq.{sets}
-use lib.ListN.{length, length-set}
-use mathlib.Core.Path.{◌≡◌, refl, sym, ◌∙◌}
-use Prim.Native.Nat.{◌+◌, ◌≤◌, ◌-◌}
+use lib.ListN.{length-set}
+use mathlib.Core.Path.{refl, sym, ◌∙◌}
 use Rattle.sources.proofs.filling.count_up.Goals as goal
 
 pub loop-i-init : goal.loop-i-init

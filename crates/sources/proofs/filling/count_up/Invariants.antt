@@ -1,10 +1,7 @@
-use Rattle.sources.proofs.Singles.{up_more, up_end, up_start}
 use Rattle.sources.specs.Expanding.{up_from}
-use borrow.Author.Rules.{rules}
-use native.Mathlib.Omega.{arith}
 use lib.Seq.{sets}
-use lib.ListN.{length, length-set}
-use mathlib.Core.Path.{◌≡◌, refl, sym, ◌∙◌}
+use lib.ListN.{length}
+use mathlib.Core.Path.{◌≡◌}
 use Prim.Native.Nat.{◌+◌, ◌≤◌, ◌-◌}
 use Rattle.sources.proofs.filling.count_up.Given as goal
 

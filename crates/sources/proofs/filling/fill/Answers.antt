@@ -1,8 +1,6 @@
 use mathlib.Core.Path.{◌∙◌}
-use borrow.Author.Rules.{rules}
 use native.Mathlib.Omega.{arith}
 use Rattle.sources.proofs.Singles.{fill_long, fill_short}
-use borrow.Author.Rules.{rules}
 use Rattle.sources.proofs.filling.fill.Goals as goal
 
 pub returns-then-limit-total : goal.returns-then-limit-total

@@ -1,7 +1,6 @@
 use native.Mathlib.Omega.{arith}
 use Rattle.sources.specs.Expanding.{up_from}
 use Rattle.sources.proofs.Singles.{end_full, end_on}
-use borrow.Author.Rules.{rules}
 use Rattle.sources.proofs.filling.line_end.Goals as goal
 
 pub count_up-requires : goal.count_up-requires

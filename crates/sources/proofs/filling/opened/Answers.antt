@@ -1,6 +1,5 @@
 use native.Mathlib.Omega.{arith}
 use Rattle.sources.proofs.Singles.{set_past}
-use borrow.Author.Rules.{rules}
 use Rattle.sources.proofs.filling.opened.Goals as goal
 
 pub returns-then-number-ge-TEXTS : goal.returns-then-number-ge-TEXTS

@@ -1,6 +1,5 @@
 use mathlib.Core.Path.{refl}
 use Rattle.sources.specs.Expanding.{origin}
-use borrow.Author.Rules.{rules}
 use Rattle.sources.proofs.filling.put.Goals as goal
 
 pub returns : goal.returns

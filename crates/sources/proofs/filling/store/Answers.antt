@@ -1,10 +1,7 @@
 use Rattle.sources.proofs.Singles.{from_start, store_more, store_end}
-use borrow.Author.Rules.{rules}
 use native.Mathlib.Omega.{arith}
-use lib.Seq.{sets}
-use lib.ListN.{length, drop, length-set}
-use mathlib.Core.Path.{◌≡◌, refl, sym, ◌∙◌}
-use Prim.Native.Nat.{◌+◌, ◌≤◌, ◌-◌}
+use lib.ListN.{length-set}
+use mathlib.Core.Path.{refl, sym, ◌∙◌}
 use Rattle.sources.proofs.filling.store.Goals as goal
 
 pub loop-i-init : goal.loop-i-init

@@ -1,6 +1,5 @@
 use Rattle.sources.specs.Expanding.{is_too_long}
 use mathlib.Core.Path.{refl}
-use borrow.Author.Rules.{rules}
 use Rattle.sources.proofs.filling.too_long.Goals as goal
 
 pub returns : goal.returns

@@ -1,8 +1,6 @@
 use mathlib.Core.Path.{sym}
 use native.Mathlib.Omega.{arith}
-use borrow.Author.Rules.{rules}
 use Rattle.rows.proofs.Starts.{cell_past}
-use borrow.Author.Rules.{rules}
 use Rattle.sources.proofs.finding.cell.Goals as goal
 
 pub returns-then-i-ge-TEXTS : goal.returns-then-i-ge-TEXTS

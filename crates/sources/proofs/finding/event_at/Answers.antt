@@ -3,7 +3,6 @@ use native.Mathlib.Omega.{arith}
 use Rattle.sources.proofs.Events.{event_stop, event_line}
 use Rattle.sources.proofs.Stops.{stop_ok, StopOk, LineFits}
 use mathlib.Core.Path.{subst}
-use borrow.Author.Rules.{rules}
 use Rattle.sources.proofs.finding.event_at.Goals as goal
 
 pub include_of-requires : goal.include_of-requires

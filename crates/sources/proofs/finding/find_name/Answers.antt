@@ -1,10 +1,7 @@
-use Prim.Native.Nat.{◌≤◌, ◌-◌}
-use mathlib.Core.Path.{◌≡◌, refl, sym, ◌∙◌}
+use mathlib.Core.Path.{refl, sym, ◌∙◌}
 use mathlib.Core.Bool.{true}
-use lib.ListN.{length, drop}
 use native.Mathlib.Omega.{arith}
-use borrow.Author.Rules.{rules}
-use Rattle.sources.specs.Texts.{fitting, find_from, find_name}
+use Rattle.sources.specs.Texts.{find_name}
 use Rattle.sources.proofs.Tellings.{fits, find_here, find_on, find_none}
 use Rattle.sources.proofs.finding.find_name.Goals as goal
 

@@ -1,7 +1,6 @@
 use mathlib.Core.Path.{sym, ◌∙◌}
 use Rattle.sources.proofs.Events.{include_open, include_is, include_absent}
 use Rattle.sources.proofs.Tellings.{told}
-use borrow.Author.Rules.{rules}
 use Rattle.sources.proofs.finding.include_of.Goals as goal
 
 pub find_name-requires : goal.find_name-requires

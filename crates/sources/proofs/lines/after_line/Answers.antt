@@ -1,8 +1,6 @@
 use mathlib.Core.Path.{sym}
 use native.Mathlib.Omega.{arith}
-use borrow.Author.Rules.{rules}
 use Rattle.sources.proofs.Singles.{after_inside, after_past}
-use borrow.Author.Rules.{rules}
 use Rattle.sources.proofs.lines.after_line.Goals as goal
 
 pub returns-then-end-text : goal.returns-then-end-text

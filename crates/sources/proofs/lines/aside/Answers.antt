@@ -1,8 +1,5 @@
-use Prim.Native.Nat.{◌-◌}
-use mathlib.Core.Path.{◌≡◌, refl, sym, ◌∙◌, ap}
-use lib.ListN.{length}
+use mathlib.Core.Path.{refl, sym, ◌∙◌, ap}
 use native.Mathlib.Omega.{arith}
-use borrow.Author.Rules.{rules}
 use Rattle.sources.specs.Lines.{aside}
 use Rattle.sources.proofs.Asides.{aside_stay, aside_next, aside_on, aside_inside}
 use Rattle.sources.proofs.lines.aside.Goals as goal

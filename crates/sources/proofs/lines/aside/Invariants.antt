@@ -1,10 +1,7 @@
 use Prim.Native.Nat.{◌-◌}
-use mathlib.Core.Path.{◌≡◌, refl, sym, ◌∙◌, ap}
+use mathlib.Core.Path.{◌≡◌}
 use lib.ListN.{length}
-use native.Mathlib.Omega.{arith}
-use borrow.Author.Rules.{rules}
 use Rattle.sources.specs.Lines.{aside}
-use Rattle.sources.proofs.Asides.{aside_stay, aside_next, aside_on, aside_inside}
 use Rattle.sources.proofs.lines.aside.Given as goal
 
 abbrev pub invariant-loop-i : goal.invariant-loop-i

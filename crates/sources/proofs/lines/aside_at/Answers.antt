@@ -2,7 +2,6 @@ use Prim.Native.Nat.{◌+◌}
 use mathlib.Core.Path.{sym, ◌∙◌, ap}
 use native.Mathlib.Omega.{arith}
 use Rattle.sources.proofs.Asides.{aside_past, aside_blank, aside_line, aside_comment, aside_open, aside_none}
-use borrow.Author.Rules.{rules}
 use Rattle.sources.proofs.lines.aside_at.Goals as goal
 
 pub returns-then-line-at : goal.returns-then-line-at

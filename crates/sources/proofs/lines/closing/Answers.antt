@@ -1,6 +1,5 @@
 use native.Mathlib.Omega.{arith}
 use Rattle.sources.proofs.Namings.{closing_open, closing_more, closing_is}
-use borrow.Author.Rules.{rules}
 use Rattle.sources.proofs.lines.closing.Goals as goal
 
 pub returns-then-line-close : goal.returns-then-line-close

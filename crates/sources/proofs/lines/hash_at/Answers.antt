@@ -1,6 +1,5 @@
 use mathlib.Core.Path.{◌∙◌}
 use Rattle.sources.proofs.Stops.{hash_is, hash_other}
-use borrow.Author.Rules.{rules}
 use Rattle.sources.proofs.lines.hash_at.Goals as goal
 
 pub returns-then-text-at-eq35 : goal.returns-then-text-at-eq35

@@ -4,7 +4,6 @@ use native.Mathlib.Omega.{arith}
 use Rattle.sources.proofs.Stops.{line_low, line_late, line_reached, line_named, line_unnamed, length_between}
 use Rattle.sources.proofs.Namings.{byte_high, named_ok}
 use Rattle.token.proofs.Bytes.{byte_low}
-use borrow.Author.Rules.{rules}
 use Rattle.sources.proofs.lines.line_of.Goals as goal
 
 pub returns-then-start-last : goal.returns-then-start-last

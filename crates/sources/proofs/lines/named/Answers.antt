@@ -1,7 +1,6 @@
 use mathlib.Core.Path.{sym, ◌∙◌}
 use native.Mathlib.Omega.{arith}
 use Rattle.sources.proofs.Namings.{named_elsewhere, named_short, named_other, named_is}
-use borrow.Author.Rules.{rules}
 use Rattle.sources.proofs.lines.named.Goals as goal
 
 pub returns-then-before-hash : goal.returns-then-before-hash

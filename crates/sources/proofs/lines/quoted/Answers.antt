@@ -1,7 +1,6 @@
 use mathlib.Core.Path.{◌∙◌}
 use native.Mathlib.Omega.{arith}
 use Rattle.sources.proofs.Namings.{quoted_past, quoted_quote, quoted_angle, quoted_none}
-use borrow.Author.Rules.{rules}
 use Rattle.sources.proofs.lines.quoted.Goals as goal
 
 pub returns-then-line-at : goal.returns-then-line-at

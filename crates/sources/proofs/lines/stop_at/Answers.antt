@@ -1,10 +1,6 @@
-use Prim.Native.Nat.{◌-◌}
-use mathlib.Core.Path.{◌≡◌, refl, sym, ◌∙◌}
-use lib.ListN.{length}
+use mathlib.Core.Path.{refl, sym, ◌∙◌}
 use native.Mathlib.Omega.{arith}
-use borrow.Author.Rules.{rules}
 use Rattle.token.proofs.Steps.{found_fits, bad_fits}
-use Rattle.sources.specs.Lines.{stop_at}
 use Rattle.sources.proofs.Stops.{stop_found, stop_refused, stop_end}
 use Rattle.sources.proofs.lines.stop_at.Goals as goal
 

@@ -1,11 +1,7 @@
 use Prim.Native.Nat.{◌-◌}
-use mathlib.Core.Path.{◌≡◌, refl, sym, ◌∙◌}
+use mathlib.Core.Path.{◌≡◌}
 use lib.ListN.{length}
-use native.Mathlib.Omega.{arith}
-use borrow.Author.Rules.{rules}
-use Rattle.token.proofs.Steps.{found_fits, bad_fits}
 use Rattle.sources.specs.Lines.{stop_at}
-use Rattle.sources.proofs.Stops.{stop_found, stop_refused, stop_end}
 use Rattle.sources.proofs.lines.stop_at.Given as goal
 
 abbrev pub invariant-loop-next : goal.invariant-loop-next

@@ -1,7 +1,5 @@
 use mathlib.Core.Path.{sym, ◌∙◌}
-use borrow.Author.Rules.{rules}
 use Rattle.sources.proofs.Singles.{whole_is}
-use borrow.Author.Rules.{rules}
 use Rattle.sources.proofs.lines.whole_to.Goals as goal
 
 pub returns-in-Found : goal.returns-in-Found

@@ -1,7 +1,6 @@
 use native.Mathlib.Omega.{arith}
 use Rattle.sources.proofs.Notings.{back_end, back_open, back_include, back_absent}
 use mathlib.Core.Path.{sym, ◌∙◌}
-use borrow.Author.Rules.{rules}
 use Rattle.sources.proofs.noting.event_back.Goals as goal
 
 pub returns-then-note-ge-TEXTS : goal.returns-then-note-ge-TEXTS

@@ -1,10 +1,6 @@
 use native.Mathlib.Omega.{arith}
 use Rattle.sources.proofs.Notings.{cell_inside, at_note}
 use Rattle.sources.specs.Notes.{event_back}
-use lib.ListN.{get_or}
-use mathlib.Core.Path.{◌∙◌, ap}
-use Prim.Native.Nat.{ℕ}
-use borrow.Author.Rules.{rules}
 use Rattle.sources.proofs.noting.event_noted.Goals as goal
 
 pub offset_bounds-notes-cell : goal.offset_bounds-notes-cell

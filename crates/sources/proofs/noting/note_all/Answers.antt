@@ -1,9 +1,6 @@
 use native.Mathlib.Omega.{arith}
 use Rattle.sources.proofs.Notings.{all_none, all_eight}
-use Rattle.sources.specs.Notes.{AllNoted}
-use lib.ListN.{length}
-use mathlib.Core.Path.{◌≡◌, refl}
-use Prim.Native.Nat.{◌-◌, ◌≤◌}
+use mathlib.Core.Path.{refl}
 use Rattle.sources.proofs.noting.note_all.Goals as goal
 
 pub loop-number-init : goal.loop-number-init

@@ -1,8 +1,6 @@
-use native.Mathlib.Omega.{arith}
-use Rattle.sources.proofs.Notings.{all_none, all_eight}
 use Rattle.sources.specs.Notes.{AllNoted}
 use lib.ListN.{length}
-use mathlib.Core.Path.{◌≡◌, refl}
+use mathlib.Core.Path.{◌≡◌}
 use Prim.Native.Nat.{◌-◌, ◌≤◌}
 use Rattle.sources.proofs.noting.note_all.Given as goal
 

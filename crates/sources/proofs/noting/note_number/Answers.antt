@@ -3,7 +3,6 @@ use Rattle.sources.proofs.Notings.{span_length, all_next, all_absent}
 use Rattle.sources.proofs.Numberings.{span_ok}
 use Rattle.sources.proofs.Tellings.{told}
 use mathlib.Core.Path.{sym, ◌∙◌}
-use borrow.Author.Rules.{rules}
 use Rattle.sources.proofs.noting.note_number.Goals as goal
 
 pub span_of-requires : goal.span_of-requires

@@ -1,9 +1,8 @@
 use native.Mathlib.Omega.{arith}
-use borrow.Author.Rules.{rules}
-use Rattle.sources.proofs.Notings.{UpTo, start, Below, below_none, cell_inside, stop_small, line_fits, line_small, note_ends, note_goes, note_kept}
+use Rattle.sources.proofs.Notings.{start, below_none, cell_inside, stop_small, line_fits, line_small, note_ends, note_goes, note_kept}
 use lib.ListN.{length, length-set}
-use mathlib.Core.Path.{◌≡◌, refl, sym, ◌∙◌}
-use Prim.Native.Nat.{ℕ, ◌+◌, ◌-◌, ◌*◌, ◌≤◌, ◌<◌}
+use mathlib.Core.Path.{refl, sym, ◌∙◌}
+use Prim.Native.Nat.{◌<◌}
 use Rattle.sources.proofs.noting.note_text.Goals as goal
 
 pub loop-fault-init : goal.loop-fault-init

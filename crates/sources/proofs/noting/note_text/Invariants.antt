@@ -1,9 +1,7 @@
-use native.Mathlib.Omega.{arith}
-use borrow.Author.Rules.{rules}
-use Rattle.sources.proofs.Notings.{UpTo, start, Below, below_none, cell_inside, stop_small, line_fits, line_small, note_ends, note_goes, note_kept}
-use lib.ListN.{length, length-set}
-use mathlib.Core.Path.{◌≡◌, refl, sym, ◌∙◌}
-use Prim.Native.Nat.{ℕ, ◌+◌, ◌-◌, ◌*◌, ◌≤◌, ◌<◌}
+use Rattle.sources.proofs.Notings.{UpTo, Below}
+use lib.ListN.{length}
+use mathlib.Core.Path.{◌≡◌}
+use Prim.Native.Nat.{◌-◌, ◌*◌, ◌≤◌}
 use Rattle.sources.proofs.noting.note_text.Given as goal
 
 abbrev pub invariant-loop-fault : goal.invariant-loop-fault

@@ -1,6 +1,5 @@
 use Rattle.sources.specs.Notes.{packed}
 use mathlib.Core.Path.{refl}
-use borrow.Author.Rules.{rules}
 use Rattle.sources.proofs.noting.packed.Goals as goal
 
 pub returns : goal.returns

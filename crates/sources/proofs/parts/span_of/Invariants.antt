@@ -1,13 +1,9 @@
 use Prim.Native.Nat.{◌≤◌, ◌-◌}
-use mathlib.Core.Path.{◌≡◌, refl, sym, ◌∙◌}
+use mathlib.Core.Path.{◌≡◌}
 use mathlib.Core.Bool.{true}
 use lib.ListN.{length, drop}
-use native.Mathlib.Omega.{arith}
-use borrow.Author.Rules.{rules}
 use Rattle.sources.specs.Texts.{fitting}
 use Rattle.sources.specs.Numbering.{span_from, span_of}
-use Rattle.sources.proofs.Tellings.{fits}
-use Rattle.sources.proofs.Numberings.{span_here, span_on, span_none}
 use Rattle.sources.proofs.parts.span_of.Given as goal
 
 abbrev pub invariant-loop-i : goal.invariant-loop-i

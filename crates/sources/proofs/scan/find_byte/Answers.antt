@@ -1,8 +1,6 @@
 -- `sources::scan::find_byte` meets its contract: the place to be found from i on is that to be found from the start.
 -- Assumes nothing.
-use Prim.Native.Nat.{◌-◌}
-use mathlib.Core.Path.{◌≡◌, ◌∙◌, sym}
-use lib.ListN.{length}
+use mathlib.Core.Path.{◌∙◌, sym}
 use borrow.Author.Tests.{eq-eqb, ne_eqb}
 use Rattle.token.specs.Bytes.{find_byte}
 use Rattle.token.proofs.Find.{find_here, find_next, find_past}

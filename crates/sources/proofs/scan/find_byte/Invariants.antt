@@ -1,12 +1,9 @@
 -- `sources::scan::find_byte` meets its contract: the place to be found from i on is that to be found from the start.
 -- Assumes nothing.
 use Prim.Native.Nat.{◌-◌}
-use mathlib.Core.Path.{◌≡◌, ◌∙◌, sym}
+use mathlib.Core.Path.{◌≡◌}
 use lib.ListN.{length}
-use borrow.Author.Tests.{eq-eqb, ne_eqb}
 use Rattle.token.specs.Bytes.{find_byte}
-use Rattle.token.proofs.Find.{find_here, find_next, find_past}
-use borrow.Author.Rules.{rules}
 use Rattle.sources.proofs.scan.find_byte.Given as goal
 
 abbrev pub invariant-loop-i : goal.invariant-loop-i

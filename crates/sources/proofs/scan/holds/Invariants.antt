@@ -1,9 +1,6 @@
-use Rattle.sources.proofs.Plains.{holds_none, holds_next, holds_all}
 use Rattle.sources.specs.Plain.{holds}
-use borrow.Author.Rules.{rules}
-use native.Mathlib.Omega.{arith}
 use lib.ListN.{length, take}
-use mathlib.Core.Path.{◌≡◌, ◌∙◌}
+use mathlib.Core.Path.{◌≡◌}
 use Prim.Native.Nat.{◌≤◌, ◌-◌}
 use Rattle.sources.proofs.scan.holds.Given as goal
 

@@ -1,7 +1,5 @@
-use Prim.Native.Nat.{◌≤◌}
-use mathlib.Core.Path.{◌≡◌, refl, sym, ◌∙◌}
+use mathlib.Core.Path.{refl, sym, ◌∙◌}
 use native.Mathlib.Omega.{arith}
-use Rattle.sources.specs.Lines.{line_start}
 use Rattle.sources.proofs.Singles.{line_here, line_back, line_first}
 use Rattle.sources.proofs.scan.line_start.Goals as goal
 

@@ -1,8 +1,6 @@
 use Prim.Native.Nat.{◌≤◌}
-use mathlib.Core.Path.{◌≡◌, refl, sym, ◌∙◌}
-use native.Mathlib.Omega.{arith}
+use mathlib.Core.Path.{◌≡◌}
 use Rattle.sources.specs.Lines.{line_start}
-use Rattle.sources.proofs.Singles.{line_here, line_back, line_first}
 use Rattle.sources.proofs.scan.line_start.Given as goal
 
 abbrev pub invariant-loop-i : goal.invariant-loop-i

@@ -1,9 +1,5 @@
-use Prim.Native.Nat.{◌≤◌, ◌-◌}
-use mathlib.Core.Path.{◌≡◌, refl, sym, ◌∙◌}
-use lib.ListN.{length, drop}
+use mathlib.Core.Path.{refl, sym, ◌∙◌}
 use native.Mathlib.Omega.{arith}
-use borrow.Author.Rules.{rules}
-use Rattle.token.specs.Words.{same}
 use Rattle.token.proofs.Codes.{different, same_end, same_next, same_stop}
 use Rattle.sources.proofs.scan.same.Goals as goal
 

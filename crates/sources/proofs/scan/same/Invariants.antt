@@ -1,10 +1,7 @@
 use Prim.Native.Nat.{◌≤◌, ◌-◌}
-use mathlib.Core.Path.{◌≡◌, refl, sym, ◌∙◌}
+use mathlib.Core.Path.{◌≡◌}
 use lib.ListN.{length, drop}
-use native.Mathlib.Omega.{arith}
-use borrow.Author.Rules.{rules}
 use Rattle.token.specs.Words.{same}
-use Rattle.token.proofs.Codes.{different, same_end, same_next, same_stop}
 use Rattle.sources.proofs.scan.same.Given as goal
 
 abbrev pub invariant-loop-i : goal.invariant-loop-i

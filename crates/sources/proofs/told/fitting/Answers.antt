@@ -1,9 +1,5 @@
-use Prim.Native.Nat.{◌≤◌, ◌-◌}
-use mathlib.Core.Path.{◌≡◌, refl, sym, ◌∙◌}
-use lib.ListN.{length, drop}
+use mathlib.Core.Path.{refl, sym, ◌∙◌}
 use native.Mathlib.Omega.{arith}
-use borrow.Author.Rules.{rules}
-use Rattle.sources.specs.Texts.{fitting}
 use Rattle.sources.proofs.Tellings.{fit_end, fit_one, fit_name, fit_text, fit_long, fit_more}
 use Rattle.sources.proofs.told.fitting.Goals as goal
 

@@ -1,10 +1,7 @@
 use Prim.Native.Nat.{◌≤◌, ◌-◌}
-use mathlib.Core.Path.{◌≡◌, refl, sym, ◌∙◌}
+use mathlib.Core.Path.{◌≡◌}
 use lib.ListN.{length, drop}
-use native.Mathlib.Omega.{arith}
-use borrow.Author.Rules.{rules}
 use Rattle.sources.specs.Texts.{fitting}
-use Rattle.sources.proofs.Tellings.{fit_end, fit_one, fit_name, fit_text, fit_long, fit_more}
 use Rattle.sources.proofs.told.fitting.Given as goal
 
 abbrev pub invariant-loop-i : goal.invariant-loop-i

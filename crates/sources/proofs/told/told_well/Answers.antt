@@ -1,7 +1,6 @@
 use mathlib.Core.Path.{sym, ◌∙◌}
 use native.Mathlib.Omega.{arith}
 use Rattle.sources.proofs.Tellings.{told_none, told_many, told_some}
-use borrow.Author.Rules.{rules}
 use Rattle.sources.proofs.told.told_well.Goals as goal
 
 pub returns-then-lengths-eq0 : goal.returns-then-lengths-eq0

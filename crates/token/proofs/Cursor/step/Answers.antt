@@ -2,7 +2,6 @@
 -- Assumes nothing.
 use mathlib.Core.Path.{sym, ◌∙◌}
 use Rattle.token.proofs.Lexemes.{step_token, step_open}
-use borrow.Author.Rules.{rules}
 use Rattle.token.proofs.Cursor.step.Goals as goal
 
 pub returns-in-At : goal.returns-in-At

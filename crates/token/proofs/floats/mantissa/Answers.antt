@@ -1,7 +1,6 @@
 use Rattle.token.proofs.Decimals.{some_limit, mantissa_long, mantissa_is, mantissa_not}
 use native.Mathlib.Omega.{arith}
 use mathlib.Core.Path.{sym, ◌∙◌}
-use borrow.Author.Rules.{rules}
 use Rattle.token.proofs.floats.mantissa.Goals as goal
 
 pub returns-then-front-gt18 : goal.returns-then-front-gt18

@@ -3,7 +3,6 @@ use Rattle.token.proofs.Bytes.{word_low, word_high}
 use Prim.Native.Nat.{◌+◌}
 use native.Mathlib.Omega.{arith}
 use mathlib.Core.Path.{sym, ◌∙◌}
-use borrow.Author.Rules.{rules}
 use Rattle.token.proofs.floats.power_at.Goals as goal
 
 pub returns-then-mark-end : goal.returns-then-mark-end

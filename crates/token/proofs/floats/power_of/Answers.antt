@@ -1,6 +1,5 @@
 use Rattle.token.proofs.Decimals.{power_of_is, power_of_not}
 use mathlib.Core.Path.{sym, ◌∙◌}
-use borrow.Author.Rules.{rules}
 use Rattle.token.proofs.floats.power_of.Goals as goal
 
 pub returns-in-Is : goal.returns-in-Is

@@ -1,5 +1,4 @@
 use Rattle.token.proofs.Decimals.{scale_below, scale_above}
-use borrow.Author.Rules.{rules}
 use Rattle.token.proofs.floats.scale.Goals as goal
 
 pub returns-then-below : goal.returns-then-below

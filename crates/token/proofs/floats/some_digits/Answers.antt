@@ -1,6 +1,5 @@
 use Rattle.token.proofs.Decimals.{some_none, some_is}
 use mathlib.Core.Path.{sym, ◌∙◌}
-use borrow.Author.Rules.{rules}
 use Rattle.token.proofs.floats.some_digits.Goals as goal
 
 pub returns-then-word-eq0 : goal.returns-then-word-eq0

@@ -4,7 +4,6 @@ use mathlib.Core.Path.{sym, ◌∙◌}
 use native.Mathlib.Omega.{arith}
 use Rattle.token.proofs.Bytes.{pair_inside}
 use Rattle.token.proofs.Lexemes.{dots_is, dots_bad}
-use borrow.Author.Rules.{rules}
 use Rattle.token.proofs.lexeme.dots_at.Goals as goal
 
 pub overflow_add-at : goal.overflow_add-at

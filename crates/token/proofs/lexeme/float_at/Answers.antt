@@ -4,7 +4,6 @@ use Rattle.token.proofs.Bytes.{word_low, word_high}
 use Prim.Native.Nat.{◌+◌}
 use native.Mathlib.Omega.{arith}
 use mathlib.Core.Path.{sym, ◌∙◌}
-use borrow.Author.Rules.{rules}
 use Rattle.token.proofs.lexeme.float_at.Goals as goal
 
 pub find_mark-mark-requires : goal.find_mark-mark-requires

@@ -2,7 +2,6 @@
 -- Assumes nothing.
 use mathlib.Core.Path.{refl}
 use Rattle.token.specs.Tokens.{found}
-use borrow.Author.Rules.{rules}
 use Rattle.token.proofs.lexeme.found.Goals as goal
 
 pub returns : goal.returns

@@ -3,7 +3,6 @@ use Rattle.token.proofs.Lexemes.{number_float, number_whole}
 use Rattle.token.proofs.Bytes.{word_low}
 use native.Mathlib.Omega.{arith}
 use mathlib.Core.Path.{sym, ◌∙◌}
-use borrow.Author.Rules.{rules}
 use Rattle.token.proofs.lexeme.number_at.Goals as goal
 
 pub float_at-requires : goal.float_at-requires

@@ -5,7 +5,6 @@ use native.Mathlib.Omega.{arith}
 use Prim.Native.Nat.{◌+◌}
 use Rattle.token.proofs.Bytes.{byte_low}
 use Rattle.token.proofs.Lexemes.{string_is, string_bad}
-use borrow.Author.Rules.{rules}
 use Rattle.token.proofs.lexeme.string_at.Goals as goal
 
 pub found-requires : goal.found-requires

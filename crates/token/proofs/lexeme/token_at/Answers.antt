@@ -3,7 +3,6 @@
 use mathlib.Core.Path.{sym, ◌∙◌}
 use Rattle.token.specs.Tokens.{token_of}
 use Rattle.token.proofs.Lexemes.{token_end, token_class, token_other}
-use borrow.Author.Rules.{rules}
 use Rattle.token.proofs.lexeme.token_at.Goals as goal
 
 pub returns-then-text-at : goal.returns-then-text-at

@@ -4,7 +4,6 @@ use mathlib.Core.Path.{sym, ◌∙◌}
 use native.Mathlib.Omega.{arith}
 use Rattle.token.proofs.Bytes.{word_low, word_high}
 use Rattle.token.proofs.Lexemes.{number_is, number_bad}
-use borrow.Author.Rules.{rules}
 use Rattle.token.proofs.lexeme.whole_at.Goals as goal
 
 pub slice_bounds-numeral-count : goal.slice_bounds-numeral-count

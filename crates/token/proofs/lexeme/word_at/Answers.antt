@@ -4,7 +4,6 @@ use mathlib.Core.Path.{◌∙◌}
 use native.Mathlib.Omega.{arith}
 use Rattle.token.proofs.Bytes.{word_low, word_high}
 use Rattle.token.proofs.Lexemes.{word_is}
-use borrow.Author.Rules.{rules}
 use Rattle.token.proofs.lexeme.word_at.Goals as goal
 
 pub slice_bounds-code-count : goal.slice_bounds-code-count

@@ -2,7 +2,6 @@
 -- Assumes nothing.
 use native.Mathlib.Omega.{arith}
 use Rattle.token.proofs.Values.{digit_low, digit_decimal, digit_between, digit_upper, digit_middle, digit_lower, digit_high}
-use borrow.Author.Rules.{rules}
 use Rattle.token.proofs.numbers.digit.Goals as goal
 
 pub returns-then-b-lt48 : goal.returns-then-b-lt48

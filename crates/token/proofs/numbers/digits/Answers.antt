@@ -1,12 +1,8 @@
 -- `token::numbers::digits` meets its contract: the digits from i on, after those of a, have the value of all.
 -- Assumes nothing.
 use native.Mathlib.Omega.{arith}
-use mathlib.Core.Path.{◌≡◌, refl, ◌∙◌, sym}
-use Prim.Native.Nat.{◌≤◌, ◌-◌}
-use lib.ListN.{length, drop}
-use Rattle.token.specs.Numbers.{digits_after}
+use mathlib.Core.Path.{refl, ◌∙◌, sym}
 use Rattle.token.proofs.Values.{digits_end, digits_stop, digits_over, digits_next, was_is, was_not}
-use borrow.Author.Rules.{rules}
 use Rattle.token.proofs.numbers.digits.Goals as goal
 
 pub loop-i-init : goal.loop-i-init

@@ -1,12 +1,9 @@
 -- `token::numbers::digits` meets its contract: the digits from i on, after those of a, have the value of all.
 -- Assumes nothing.
-use native.Mathlib.Omega.{arith}
-use mathlib.Core.Path.{◌≡◌, refl, ◌∙◌, sym}
+use mathlib.Core.Path.{◌≡◌}
 use Prim.Native.Nat.{◌≤◌, ◌-◌}
 use lib.ListN.{length, drop}
 use Rattle.token.specs.Numbers.{digits_after}
-use Rattle.token.proofs.Values.{digits_end, digits_stop, digits_over, digits_next, was_is, was_not}
-use borrow.Author.Rules.{rules}
 use Rattle.token.proofs.numbers.digits.Given as goal
 
 abbrev pub invariant-loop-i : goal.invariant-loop-i

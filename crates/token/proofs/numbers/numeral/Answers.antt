@@ -3,7 +3,6 @@
 use native.Mathlib.Omega.{arith}
 use mathlib.Core.Path.{sym, ◌∙◌}
 use Rattle.token.proofs.Values.{numeral_empty, numeral_decimal, numeral_zero, numeral_signed, numeral_short, numeral_other, numeral_hex}
-use borrow.Author.Rules.{rules}
 use Rattle.token.proofs.numbers.numeral.Goals as goal
 
 pub returns-then-word-eq0 : goal.returns-then-word-eq0

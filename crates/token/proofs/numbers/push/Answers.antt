@@ -3,7 +3,6 @@
 use native.Mathlib.Omega.{arith}
 use mathlib.Core.Path.{sym}
 use Rattle.token.proofs.Values.{num_at_most, above, push_fits, push_over}
-use borrow.Author.Rules.{rules}
 use Rattle.token.proofs.numbers.push.Goals as goal
 
 pub returns-then-max-d : goal.returns-then-max-d

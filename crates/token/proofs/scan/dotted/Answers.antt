@@ -1,7 +1,6 @@
 use Rattle.token.proofs.Decimals.{dotted_short, dotted_other, dotted_digit}
 use native.Mathlib.Omega.{arith}
 use mathlib.Core.Path.{sym, ◌∙◌}
-use borrow.Author.Rules.{rules}
 use Rattle.token.proofs.scan.dotted.Goals as goal
 
 pub returns-then-text-at : goal.returns-then-text-at

@@ -1,8 +1,6 @@
 -- `token::scan::find_close` meets its contract: the place to be found from i on is that to be found from the start.
 -- Assumes nothing.
-use Prim.Native.Nat.{◌-◌}
-use mathlib.Core.Path.{◌≡◌, ◌∙◌, sym}
-use lib.ListN.{length}
+use mathlib.Core.Path.{◌∙◌, sym}
 use Rattle.token.specs.Bytes.{find_close}
 use Rattle.token.proofs.Find.{find_here, find_next, find_past}
 use borrow.Author.Rules.{rules}

@@ -1,11 +1,9 @@
 -- `token::scan::find_close` meets its contract: the place to be found from i on is that to be found from the start.
 -- Assumes nothing.
 use Prim.Native.Nat.{◌-◌}
-use mathlib.Core.Path.{◌≡◌, ◌∙◌, sym}
+use mathlib.Core.Path.{◌≡◌}
 use lib.ListN.{length}
 use Rattle.token.specs.Bytes.{find_close}
-use Rattle.token.proofs.Find.{find_here, find_next, find_past}
-use borrow.Author.Rules.{rules}
 use Rattle.token.proofs.scan.find_close.Given as goal
 
 abbrev pub invariant-loop-i : goal.invariant-loop-i

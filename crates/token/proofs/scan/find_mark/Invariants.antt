@@ -1,9 +1,6 @@
 use Prim.Native.Nat.{◌-◌}
-use mathlib.Core.Path.{◌≡◌, refl, ◌∙◌, sym}
+use mathlib.Core.Path.{◌≡◌}
 use Rattle.token.specs.Bytes.{find_mark}
-use Rattle.token.proofs.Find.{find_here, find_next, find_past}
-use native.Mathlib.Omega.{arith}
-use borrow.Author.Rules.{rules}
 use Rattle.token.proofs.scan.find_mark.Given as goal
 
 abbrev pub invariant-loop-i : goal.invariant-loop-i

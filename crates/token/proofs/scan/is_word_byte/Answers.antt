@@ -2,7 +2,6 @@
 -- Assumes nothing.
 use Rattle.token.proofs.Bytes.{word_letter, word_digit}
 use mathlib.Core.Path.{sym, ◌∙◌}
-use borrow.Author.Rules.{rules}
 use Rattle.token.proofs.scan.is_word_byte.Goals as goal
 
 pub returns-then-is_letter : goal.returns-then-is_letter

@@ -3,7 +3,6 @@
 use mathlib.Core.Path.{sym}
 use Rattle.token.proofs.Bytes.{pair_short, pair_second, pair_other}
 use native.Mathlib.Omega.{arith}
-use borrow.Author.Rules.{rules}
 use Rattle.token.proofs.scan.pair.Goals as goal
 
 pub returns-then-text-at : goal.returns-then-text-at

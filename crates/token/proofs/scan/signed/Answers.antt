@@ -1,7 +1,6 @@
 use Rattle.token.proofs.Decimals.{signed_past, signed_other, signed_here}
 use native.Mathlib.Omega.{arith}
 use mathlib.Core.Path.{sym, ◌∙◌}
-use borrow.Author.Rules.{rules}
 use Rattle.token.proofs.scan.signed.Goals as goal
 
 pub returns-then-text-end : goal.returns-then-text-end

@@ -3,10 +3,8 @@
 use borrow.Author.Rules.{rules}
 use Rattle.token.proofs.Find.{find_here, find_next, find_past}
 use Rattle.token.specs.Bytes.{word_end}
-use lib.ListN.{length}
 use mathlib.Core.Bool.{not}
-use mathlib.Core.Path.{◌≡◌, ◌∙◌, sym, ap}
-use Prim.Native.Nat.{◌-◌}
+use mathlib.Core.Path.{◌∙◌, sym, ap}
 use Rattle.token.proofs.scan.word_end.Goals as goal
 
 pub loop-i-preserved : goal.loop-i-preserved

@@ -1,11 +1,8 @@
 -- `token::scan::word_end` meets its contract: the end of the run from i on is the end from the start.
 -- Assumes nothing.
-use borrow.Author.Rules.{rules}
-use Rattle.token.proofs.Find.{find_here, find_next, find_past}
 use Rattle.token.specs.Bytes.{word_end}
 use lib.ListN.{length}
-use mathlib.Core.Bool.{not}
-use mathlib.Core.Path.{◌≡◌, ◌∙◌, sym, ap}
+use mathlib.Core.Path.{◌≡◌}
 use Prim.Native.Nat.{◌-◌}
 use Rattle.token.proofs.scan.word_end.Given as goal
 

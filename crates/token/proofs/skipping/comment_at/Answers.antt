@@ -6,7 +6,6 @@ use Rattle.token.specs.declared.Gap.TheVariants.{Past}
 use Rattle.token.proofs.Bytes.{pair_inside}
 use Rattle.token.proofs.Gaps.{comment_line, comment_block, comment_open, comment_none}
 use native.Mathlib.Omega.{arith}
-use borrow.Author.Rules.{rules}
 use Rattle.token.proofs.skipping.comment_at.Goals as goal
 
 pub overflow_add-at : goal.overflow_add-at

@@ -4,7 +4,6 @@ use Rattle.token.proofs.Gaps.{gap_past, gap_blank, gap_slash, gap_none}
 use Rattle.token.proofs.Bytes.{class_blank, class_no_blank, class_slash, class_no_slash}
 use native.Mathlib.Omega.{arith}
 use mathlib.Core.Path.{refl, ◌∙◌, sym}
-use borrow.Author.Rules.{rules}
 use Rattle.token.proofs.skipping.gap_at.Goals as goal
 
 pub returns-then-text-at : goal.returns-then-text-at

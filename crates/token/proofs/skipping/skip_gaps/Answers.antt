@@ -1,11 +1,7 @@
 -- `token::skipping::skip_gaps` meets its contract: skipping from i on ends where skipping from the start does.
 -- Assumes nothing.
-use mathlib.Core.Path.{refl, ◌≡◌, ◌∙◌, sym}
-use borrow.Author.Rules.{rules}
+use mathlib.Core.Path.{refl, ◌∙◌, sym}
 use native.Mathlib.Omega.{arith}
-use Prim.Native.Nat.{◌-◌}
-use lib.ListN.{length}
-use Rattle.token.specs.Gaps.{skip}
 use Rattle.token.proofs.Gaps.{skip_past, skip_open, skip_here, past_ok}
 use Rattle.token.proofs.skipping.skip_gaps.Goals as goal
 

@@ -2,7 +2,6 @@
 -- Assumes nothing.
 use Rattle.token.specs.Slots.{slot_by, slot_of, candidate_in, candidate_of}
 use Rattle.token.proofs.Tables.{at}
-use borrow.Author.Rules.{rules}
 use Rattle.token.proofs.words.candidate.Goals as goal
 
 pub returns : goal.returns

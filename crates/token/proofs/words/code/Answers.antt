@@ -1,6 +1,5 @@
 -- `token::words::code` meets its contract: a word is its slot's candidate, or no known word.
 -- Assumes nothing.
-use borrow.Author.Rules.{rules}
 use native.Mathlib.Omega.{arith}
 use mathlib.Core.Path.{◌∙◌, sym, ap}
 use Rattle.token.specs.Slots.{slot_of, candidate_of}

@@ -1,13 +1,8 @@
 -- `token::words::is_known` meets its contract: comparing from j on gives what comparing from the start does.
 -- Assumes nothing.
 use native.Mathlib.Omega.{arith}
-use mathlib.Core.Path.{◌≡◌, refl, ◌∙◌, sym}
-use mathlib.Core.List.{[]}
-use Prim.Native.Nat.{◌≤◌, ◌-◌}
-use lib.ListN.{length, get_or, drop}
-use Rattle.token.specs.Words.{known, same}
+use mathlib.Core.Path.{refl, ◌∙◌, sym}
 use Rattle.token.proofs.Codes.{short, letter_at, different, same_end, same_next, same_stop}
-use borrow.Author.Rules.{rules}
 use Rattle.token.proofs.words.is_known.Goals as goal
 
 pub returns-then-length-word : goal.returns-then-length-word

@@ -3,7 +3,6 @@
 use mathlib.Core.List.{[]}
 use Prim.Native.Nat.{ℕ}
 use lib.ListN.{length, get_or}
-use borrow.Author.Rules.{rules}
 use Rattle.token.specs.Words.{known}
 use Rattle.token.proofs.Tables.{at}
 use Rattle.token.proofs.words.known_length.Goals as goal

@@ -2,7 +2,6 @@
 -- Assumes nothing.
 use mathlib.Core.Path.{refl}
 use Rattle.token.specs.Slots.{slot_by}
-use borrow.Author.Rules.{rules}
 use Rattle.token.proofs.words.slot.Goals as goal
 
 pub returns : goal.returns
