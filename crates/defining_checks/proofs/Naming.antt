@@ -41,6 +41,7 @@ AgainFault s d j r =
 in_front : (x : Entry) (a b : List Entry) → In x a → In x (a ++ b)
 in_front x (y ∷ a) b (here e) = here e
 in_front x (y ∷ a) b (there m) = there (in_front x a b m)
+in_front x [] b x'' = elim x'' [ ]
 
 names_before : {s : List ℕ} {f : File} {j : ℕ} {x : Entry} → Situation s f → (q : Nth (spec_entries f.specs) j x) → (y : Entry) → In y q.front → Good s y.definition.name
 names_before {x = x} st q y m = (entry_facts st (subst (In y) (sym q.whole) (in_front y q.front (x ∷ q.rest) m))).facts.name

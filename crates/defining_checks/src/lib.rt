@@ -1,5 +1,6 @@
 // The faults 6 to 9 and 21 to 23 over the rows kept while a text is read.
 #![tactic(auto)]
+
 ghost use Rattle.std.specs.Prelude.{◌≡◌, min, length};
 ghost use Rattle.indexes.specs.Indexing.{Fits};
 ghost use Rattle.defining_checks.specs.Promises.{version_code, DefinitionFaults};

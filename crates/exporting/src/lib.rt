@@ -1,4 +1,4 @@
-// The calls for programs in C (document 02, Q-13), as include/kaukslini.h declares them. A text is read alone, with an empty name.
+// What the calls for programs in C give (document 02, Q-13), as include/kaukslini.h declares them; the crate exporting_c exports them. A text is read alone, with an empty name.
 #![tactic(auto)]
 ghost use Rattle.std.specs.Prelude.{◌≡◌};
 ghost use Rattle.sources.specs.Expanding.{expansion_of};
@@ -113,8 +113,7 @@ fn write_alone(text: &[u8], fault: u8, output: &mut [u8]) -> Told
 }
 
 // The normal text of a text, to the front of the output. The output stays where the number is not 0.
-#[unsafe(no_mangle)]
-pub extern "C" fn kaukslini_normal_text(text: &[u8], output: &mut [u8]) -> Told
+pub fn kaukslini_normal_text(text: &[u8], output: &mut [u8]) -> Told
     ensures { NormalByRules text.now output.old output.new result }
 {
     let fault = fault_of(text);
@@ -129,8 +128,7 @@ pub extern "C" fn kaukslini_normal_text(text: &[u8], output: &mut [u8]) -> Told
 }
 
 // The value of one attribute, to the front of the output. The output stays where the number is not 0.
-#[unsafe(no_mangle)]
-pub extern "C" fn kaukslini_value(
+pub fn kaukslini_value(
     text: &[u8],
     kind: &[u8],
     name: &[u8],
@@ -184,8 +182,7 @@ fn heading_alone(text: &[u8], fault: u8) -> Heading
 }
 
 // The version string and the implementation's name of a text, told from its front alone.
-#[unsafe(no_mangle)]
-pub extern "C" fn kaukslini_heading(text: &[u8]) -> Heading
+pub fn kaukslini_heading(text: &[u8]) -> Heading
     ensures { HeadingByRules text.now result }
 {
     let fault = fault_of(text);
@@ -203,8 +200,7 @@ pub extern "C" fn kaukslini_heading(text: &[u8]) -> Heading
 }
 
 // Line and column of a place of a text, and the two lines that show it, to the front of the output as far as it reaches. A place past the text is its end.
-#[unsafe(no_mangle)]
-pub extern "C" fn kaukslini_explain(text: &[u8], place: usize, output: &mut [u8]) -> Position
+pub fn kaukslini_explain(text: &[u8], place: usize, output: &mut [u8]) -> Position
     ensures { ExplainsByRules text.now place output.old output.new result }
 {
     let e = explaining::explain(text, place, output);

@@ -1,5 +1,6 @@
 // The faults 13 to 16 and 18: the statements of a text, judged over the rows kept while it was read.
 #![tactic(auto)]
+
 ghost use Rattle.std.specs.Prelude.{◌≡◌, ◌<◌, length, replicate};
 ghost use Rattle.lookups.specs.Ranks.{Firsts};
 ghost use Rattle.lookups.specs.Owners.{Owners};

@@ -1,5 +1,6 @@
 // Names looked up in the kept rows through indexes and noted ranks: each answer is the one that comparing all bytes gives.
 #![tactic(auto)]
+
 ghost use Rattle.std.specs.Prelude.{◌≡◌, List, ℕ, ◌+◌, ◌*◌, min, length, get_or, replicate};
 ghost use Rattle.blocks.specs.Blocks.{FindsStated};
 ghost use Rattle.lookups.specs.Ranks.{NotesRanks, NextRow, Skips, start_of, first_noted, Firsts, FirstsTo, MayState, StatedRanked, RowStated, IsRowStated};

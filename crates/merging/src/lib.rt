@@ -1,6 +1,7 @@
 // Objects of their parts: from the rows of parts and of their statements, kept in text order, the rows of the objects and of their statements, each
 // object where its first part stood.
 #![tactic(auto)]
+
 ghost use Rattle.std.specs.Prelude.{◌≡◌, length};
 ghost use Rattle.std.proofs.lemmas.List.Edits.{sets};
 ghost use Rattle.indexes.specs.Indexing.{Fits, Through, By};
