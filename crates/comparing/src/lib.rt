@@ -42,7 +42,7 @@ pub const RECORDS: usize = 64;
 pub const FEW: usize = 128;
 
 // The first 64 differences, or all where there are fewer, how many there are, and the answer.
-#[derive(Drop)]
+#[derive(Clone, Copy)]
 pub struct Found {
     pub total: usize,
     pub records: [Difference; RECORDS],

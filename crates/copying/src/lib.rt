@@ -1,6 +1,7 @@
 // From the rows kept while a text was read to the rows of the lent tables. A kept row of a definition or of an object begins with the cells of
 // its lent row; a kept enumerator has the key of its list, where the lent row has its attribute's row.
 #![tactic(auto)]
+
 ghost use Rattle.copying.specs.Promises.{CopiesDefinitions, CopiesEnumerators, CopiesObjects};
 
 use layout::{definition, object};

@@ -1,6 +1,7 @@
 // The statements that are dropped where a text is mended (document 02, Q-11): each statement at fault by 13 or 14, over the rows kept while the text
 // was read.
 #![tactic(auto)]
+
 ghost use Rattle.std.specs.Prelude.{◌≡◌, ◌+◌, ◌<◌, set};
 ghost use Rattle.lookups.specs.Ranks.{Firsts};
 ghost use Rattle.lookups.specs.Names.{Named, Names, statement_ranks};

@@ -83,3 +83,6 @@ leaves_from (node range_is (leaf o m₁ (leaf n m₂ (node up_to (leaf d m₃ (l
     ap₂ (λ a b. under (sg lsquare) o ∷ under number n ∷ under (sg dots) d ∷ under number e ∷ (a ++ b)) (leaves_from r (lifted (sg rsquare · ∎))) (leaves_from ts h)
 leaves_from (node range_is (leaf o m₁ (leaf n m₂ (node many_numbers vs r))) ts) (lifted_rule h) =
     ap₂ (λ a b. under (sg lsquare) o ∷ under number n ∷ (a ++ b)) (ap₂ ◌++◌ (leaves_from vs (lifted (sg comma · number · numbers ▸ ∎))) (leaves_from r (lifted (sg rsquare · ∎)))) (leaves_from ts h)
+leaves_from (node {f = f} one_number us ts) h = elim h [ ]
+leaves_from (node {f = f} up_to us ts) h = elim h [ ]
+leaves_from (node {f = f} many_numbers us ts) h = elim h [ ]

@@ -1,6 +1,7 @@
 // What the grammar admits at a place where it refuses a text: see specs/Expected and specs/Flags. For each terminal the grammar stage is asked
 // whether it goes on after the text before the place with a token of that terminal.
 #![tactic(auto)]
+
 ghost use Rattle.std.specs.Prelude.{◌≡◌, true, ◌↔◌, ◌+◌, length};
 ghost use Rattle.grammar.specs.Stage.{Answers};
 ghost use Rattle.grammar.specs.declared.Answer.TheVariants.{Passes, NotAdmitted};

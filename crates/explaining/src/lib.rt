@@ -1,5 +1,6 @@
 // A place of a text, told to a person: its line and column, and its line with a mark under the token there.
 #![tactic(auto)]
+
 ghost use Rattle.explaining.specs.Pictures.{Explains};
 
 pub mod bounds;

@@ -355,6 +355,7 @@ pub record Standing-under (f : File) (ds : Definitions) : Type 0 where
 
 pub stands_of : {f : File} {key : ℕ} {ds : Definitions} {y : Defined} → ScopeAt f key ds → HasDefinition ds y → Standing-under f ds
 stands_of (scope {u} g t) h = record { word_of = u; stands = t }
+stands_of {f = f} {y = y} no_scope h = elim h [ ]
 
 inside_fault : (l : List Refusal) (x : Statement) (us : Definitions) (ns : List Word) (k : Definitions → List Refusal) → is_fault (fault_of (first l)) ≡ true → and_inside l x us ns k ≡ l
 unfolding and_inside first fault_of is_fault

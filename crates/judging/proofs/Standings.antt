@@ -44,6 +44,7 @@ standing_of : (u : Word) (ds : Definitions) (i : ℕ) → Among i (standing u ds
 unfolding standing
 standing_of u (define d vs ds) i (this_one e) = record { defined = record { definition = d; values = vs }; has = this_definition; row = e }
 standing_of u (define d vs ds) i (later_one a) = of_later (standing_of u ds i a)
+standing_of u Rattle.meaning.specs.Syntax.no_more i x' = elim x' [ ]
 
 -- A row under the word of a scope is that of one of its definitions.
 pub in_scope : {s : List ℕ} {f : File} {u : Word} {ds : Definitions} {j : ℕ} {y : Entry} → Situation s f → Stands f.specs u ds

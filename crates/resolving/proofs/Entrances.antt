@@ -42,6 +42,7 @@ define≢no_more e = false≢true (sym (ap is_more e))
 none_has : (k : ℕ) (x : Defined) (ds : Definitions) → ds ≡ no_more → HasDefinition ds x → x.definition.row < k
 none_has k x (define d vs ds) e (this_definition) = absurd (define≢no_more e)
 none_has k x (define d vs ds) e (later_definition h) = absurd (define≢no_more e)
+none_has k x no_more e x3 = elim x3 [ ]
 
 pub none_below : (k : ℕ) → Below k no_more
 none_below k x h = none_has k x no_more refl h

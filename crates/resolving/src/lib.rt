@@ -1,5 +1,6 @@
 // The resolved values of a text, written as rows over the rows that were kept while it was read.
 #![tactic(auto)]
+
 pub mod entering;
 pub mod scanning;
 pub mod values;

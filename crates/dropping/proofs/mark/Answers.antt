@@ -1,0 +1,8 @@
+-- `dropping::mark` meets its contract.
+-- Assumes nothing.
+use mathlib.Core.Path.{sym}
+use lib.Seq.{set_out}
+use Rattle.dropping.proofs.mark.Goals as goal
+
+pub returns-then-marks-place : goal.returns-then-marks-place
+returns-then-marks-place c = sym (set_out _ _ _ (c.if-marks-place.true))

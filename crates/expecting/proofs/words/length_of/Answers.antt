@@ -1,0 +1,5 @@
+use Rattle.expecting.proofs.Laying.{no_length}
+use Rattle.expecting.proofs.words.length_of.Goals as goal
+
+pub returns-then-i-ge-TERMINALS : goal.returns-then-i-ge-TERMINALS
+returns-then-i-ge-TERMINALS c = no_length _ c.if-i-ge-TERMINALS.true

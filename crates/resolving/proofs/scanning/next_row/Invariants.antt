@@ -1,0 +1,13 @@
+-- `resolving::scanning::next_row` meets its contract: the rows before i give no value.
+-- Assumes nothing.
+use lib.ListN.{get_or}
+use Prim.Native.Nat.{◌≤◌, ◌<◌, ◌+◌, ◌*◌, ◌-◌}
+use mathlib.Core.Path.{◌≡◌}
+use Rattle.resolving.specs.Noted.{Passes}
+use Rattle.resolving.proofs.scanning.next_row.Given as goal
+
+abbrev pub invariant-loop-i : goal.invariant-loop-i
+invariant-loop-i l = (l.j ≤ l.i) × ((l.i ≤ l.limit) × (Passes l.text l.d l.st l.key l.from l.end l.j l.i × (l.i < l.limit → get_or l.d (l.i * 19 + 0) 0 ≡ l.key)))
+
+abbrev pub decreases-loop-i : goal.decreases-loop-i
+decreases-loop-i l = l.limit - l.i

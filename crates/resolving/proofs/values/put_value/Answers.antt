@@ -1,0 +1,7 @@
+-- `resolving::values::put_value` meets its contract.
+-- Assumes nothing.
+use Rattle.resolving.proofs.Valuing.{put_row}
+use Rattle.resolving.proofs.values.put_value.Goals as goal
+
+pub returns : goal.returns
+returns c = put_row _ _ _ _ _ _ c.value_of-x.ensures c.put_cells.ensures
