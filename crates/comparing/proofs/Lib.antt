@@ -1,7 +1,6 @@
 -- Examples and laws of the comparison. Assumes nothing.
 pub mod Samples
 pub mod Steps
-pub mod Again
 pub mod Overwrites
 pub mod Tellings
 pub mod Pairing

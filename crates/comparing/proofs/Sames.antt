@@ -23,6 +23,7 @@ none_in : {A : Type 0} (t : A → Bool) (l : List A) (x : A) → the_first t l �
 unfolding the_first
 none_in t (y ∷ l) x e here = (none_first (t y) y (the_first t l) e).0
 none_in t (y ∷ l) x e (there i) = none_in t l x (none_first (t y) y (the_first t l) e).1 i
+none_in {A = A} t [] x e x4 = elim x4 [ ]
 
 -- Where no two pass each other's test, one that passes is found.
 found_in : {A : Type 0} (m : A → A → Bool) → ((a b c : A) → m a b ≡ true → m a c ≡ true → m b c ≡ true) → (a b : A) (l : List A) → Apart m l → In b l → m a b ≡ true → the_first (m a) l ≡ some b
@@ -31,6 +32,7 @@ found_in m third a b (c ∷ l) p here e = ap (λ (t : Bool). pick t (some c) (th
 found_in m third a b (c ∷ l) p (there i) e =
     ap (λ (t : Bool). pick t (some c) (the_first (m a) l)) (not_true (m a c) (λ q. false≢true (sym (none_in (m c) l b p.0 i) ∙ third a c b q e)))
     ∙ found_in m third a b l p.1 i e
+found_in {A = A} m third a b [] p x3 e = elim x3 [ ]
 
 each_none : {A B : Type 0} (F : A → List B) (l : List A) → ((a : A) → In a l → F a ≡ []) → each_of F l ≡ []
 unfolding each_of
@@ -98,6 +100,7 @@ module _ (x y : Content) (a : PathsApart x) (b : PathsApart y) (h : SameContent 
 all_in : {A : Type 0} (P : A → Type 0) (l : List A) (x : A) → All P l → In x l → P x
 all_in P (y ∷ l) x p here = p.0
 all_in P (y ∷ l) x p (there i) = all_in P l x p.1 i
+all_in {A = A} P [] x p x4 = elim x4 [ ]
 
 module _ (xs ys : List Content) (a : Sound xs) (b : Sound ys) (h : Alike SameContent xs ys) where
   object_none : (x : Content) → In x xs → of_first_object ys x ≡ []

@@ -1,5 +1,6 @@
 // The comparison of two releases (document 02, Q-8).
 #![tactic(auto)]
+
 ghost use Rattle.std.specs.Prelude.{◌≡◌, ◌<◌, min, length, set, get_or, take};
 ghost use Rattle.comparing.specs.Lists.{overwrite};
 ghost use Rattle.comparing.specs.Records.{no_record};

@@ -1,5 +1,6 @@
 // The version string and the implementation's name of lent texts, told from the front of the expanded text alone (document 02, Q-7 and Q-10).
 #![tactic(auto)]
+
 ghost use Rattle.lent_texts.specs.Expanded.{Rooms};
 ghost use Rattle.heading_texts.specs.Headings.{HeadsExpanded, HeadsTexts};
 ghost use Rattle.heading_texts.specs.Promises.{Q-7-Texts};

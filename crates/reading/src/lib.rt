@@ -1,5 +1,6 @@
 // Reading a text into four lent tables.
 #![tactic(auto)]
+
 ghost use Rattle.std.specs.Prelude.{◌≡◌};
 ghost use Rattle.meaning.specs.Answers.{refused};
 ghost use Rattle.meaning.specs.Rules.{FullRoom};
@@ -25,7 +26,7 @@ pub enum Answer {
 }
 
 // The answer, how many rows of each table are used, and how many objects there are of each of the thirteen kinds; all 0 where it is refused.
-#[derive(Drop)]
+#[derive(Clone, Copy)]
 pub struct Reading {
     pub answer: Answer,
     pub definitions: usize,
@@ -37,7 +38,7 @@ pub struct Reading {
 
 // A reading, with place and length of the implementation and of the CPU's name, and the place of each kind's word in the implementation (0: none);
 // all 0 where it is refused.
-#[derive(Drop)]
+#[derive(Clone, Copy)]
 pub struct Spanned {
     pub reading: Reading,
     pub implementation_at: usize,
@@ -49,7 +50,7 @@ pub struct Spanned {
 
 // The fault up to 12 and 17 by which the text is refused, or one of number 0, with what the walk tells; where there is none, how many objects there are,
 // and how many of each kind.
-#[derive(Drop)]
+#[derive(Clone, Copy)]
 pub struct Decision {
     pub fault: Fault,
     pub walked: Walked,

@@ -16,7 +16,7 @@ use rows::counts;
 // What a walk tells beside the tables: the look after the file, spans of the version, the implementation and the CPU's name, the numbers of
 // rows, the place of each kind's word in the implementation (0: none), that of the first kind's word that comes a second time (0: none), and
 // the parts of each kind.
-#[derive(Drop)]
+#[derive(Clone, Copy)]
 pub struct Walked {
     pub look: Look,
     pub version_at: usize,

@@ -8,7 +8,7 @@ use native.Mathlib.Omega.{arith}
 use Rattle.dropping.proofs.+drop_block_drop_one_drop_statements.Goals as goal
 
 pub drop_block-returns-then-end-from : goal.drop_block-returns-then-end-from
-drop_block-returns-then-end-from t c = block_empty _ _ _ _ _ _ _ _ _ _ (c.if-end-from.true)
+drop_block-returns-then-end-from t c = block_empty _ _ _ _ _ _ _ _ _ _ c.if-end-from.true
 
 pub drop_block-overflow_sub-end : goal.drop_block-overflow_sub-end
 drop_block-overflow_sub-end t c = omega arith
@@ -95,16 +95,16 @@ pub drop_statements-after-next-requires : goal.drop_statements-after-next-requir
 drop_statements-after-next-requires t c = tt
 
 pub drop_statements-drop_one-requires : goal.drop_statements-drop_one-requires
-drop_statements-drop_one-requires t c = (omega (arith, c.after-next.ensures, after_later (c.args.st.now) (c.loop-k.k) (c.args.end) (c.loop-k-test.true), after_inside (c.args.st.now) (c.loop-k.k) (c.args.end), (c.loop-k.invariant).0, (c.requires).0), (omega (arith, c.after-next.ensures, after_later (c.args.st.now) (c.loop-k.k) (c.args.end) (c.loop-k-test.true), (c.loop-k.invariant).0), (c.requires).1.0, (c.requires).1.1))
+drop_statements-drop_one-requires t c = (omega (arith, c.after-next.ensures, after_later c.args.st.now c.loop-k.k c.args.end c.loop-k-test.true, after_inside c.args.st.now c.loop-k.k c.args.end, c.loop-k.invariant.0, c.decreases), (omega (arith, c.after-next.ensures, after_later c.args.st.now c.loop-k.k c.args.end c.loop-k-test.true, c.loop-k.invariant.0), c.requires.0, c.requires.1))
 
 pub drop_statements-loop-k-smaller : goal.drop_statements-loop-k-smaller
-drop_statements-loop-k-smaller t c = omega (arith, c.after-next.ensures, after_later (c.args.st.now) (c.loop-k.k) (c.args.end) (c.loop-k-test.true), after_inside (c.args.st.now) (c.loop-k.k) (c.args.end))
+drop_statements-loop-k-smaller t c = omega (arith, c.after-next.ensures, after_later c.args.st.now c.loop-k.k c.args.end c.loop-k-test.true, after_inside c.args.st.now c.loop-k.k c.args.end)
 
 pub drop_statements-loop-k-preserved : goal.drop_statements-loop-k-preserved
-drop_statements-loop-k-preserved t c = (omega (arith, c.after-next.ensures, after_later (c.args.st.now) (c.loop-k.k) (c.args.end) (c.loop-k-test.true), (c.loop-k.invariant).0), omega (arith, c.drop_one.auto, (c.loop-k.invariant).1), dropping_step _ _ _ _ _ _ _ _ _ (c.loop-k.k) (c.after-next.result) _ _ _ (c.after-next.ensures) (c.loop-k-test.true) (c.drop_one.ensures) (c.loop-k.invariant).2)
+drop_statements-loop-k-preserved t c = (omega (arith, c.after-next.ensures, after_later c.args.st.now c.loop-k.k c.args.end c.loop-k-test.true, c.loop-k.invariant.0), omega (arith, c.drop_one.auto, c.loop-k.invariant.1), dropping_step _ _ _ _ _ _ _ _ _ c.loop-k.k c.after-next.result _ _ _ c.after-next.ensures c.loop-k-test.true c.drop_one.ensures c.loop-k.invariant.2)
 
 pub drop_statements-shape_of-marks : goal.drop_statements-shape_of-marks
-drop_statements-shape_of-marks t c = (c.loop-k.invariant).1
+drop_statements-shape_of-marks t c = c.loop-k.invariant.1
 
 pub drop_statements-returns : goal.drop_statements-returns
-drop_statements-returns t c = dropping_end _ _ _ _ _ _ _ _ _ (c.loop-k.k) _ _ (c.loop-k-test.false) (c.loop-k.invariant).2
+drop_statements-returns t c = dropping_end _ _ _ _ _ _ _ _ _ c.loop-k.k _ _ c.loop-k-test.false c.loop-k.invariant.2

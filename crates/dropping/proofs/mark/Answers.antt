@@ -5,4 +5,4 @@ use lib.Seq.{set_out}
 use Rattle.dropping.proofs.mark.Goals as goal
 
 pub returns-then-marks-place : goal.returns-then-marks-place
-returns-then-marks-place c = sym (set_out _ _ _ (c.if-marks-place.true))
+returns-then-marks-place c = sym (set_out _ _ _ c.if-marks-place.true)
