@@ -100,6 +100,7 @@ module _ (s : List ℕ) (x : Entry) (g : Good s x.definition.name) where
 in_front : (x : Entry) (a b : List Entry) → In x a → In x (a ++ b)
 in_front x (y ∷ a) b (here e) = here e
 in_front x (y ∷ a) b (there m) = there (in_front x a b m)
+in_front x [] b x'' = elim x'' [ ]
 
 module _ (s d : List ℕ) (f : File) (K : Situation s f) (e : d ≡ kept_definitions f) where
   cells_in : (j : ℕ) (x : Entry) → Nth (spec_entries f.specs) j x → j < 513

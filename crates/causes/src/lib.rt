@@ -1,6 +1,7 @@
 // Why a text is refused: of an attribute that is defined again in its scope (8), and of a name that an object of another kind has used before (24),
 // where it stands first.
 #![tactic(auto)]
+
 ghost use Rattle.std.specs.Prelude.{◌≡◌, ◌+◌, ◌*◌};
 ghost use Rattle.rows.specs.Search.{is_named, find_named};
 ghost use Rattle.causes.specs.Firsts.{first_like};

@@ -1,6 +1,7 @@
 // Reading lent texts, the main one and those that it includes, into four lent tables (document 02, Q-10): the reading of the expanded text, with
 // places in the lent texts.
 #![tactic(auto)]
+
 ghost use Rattle.std.specs.Prelude.{◌≡◌, ◌≤◌, length};
 ghost use Rattle.meaning.specs.Answers.{refused};
 ghost use Rattle.reading.specs.Results.{reading_of};

@@ -49,6 +49,7 @@ pub data In (x : Object) : List Object → Type 0 where
 in_append : (x : Object) (xs ys : List Object) → In x xs → In x (xs ++ ys)
 in_append x (y ∷ xs) ys here = here
 in_append x (y ∷ xs) ys (there i) = there (in_append x xs ys i)
+in_append x [] ys x'' = elim x'' [ ]
 
 in_last : (x : Object) (xs : List Object) → In x (xs ++ (x ∷ []))
 in_last x [] = here
@@ -64,6 +65,7 @@ none_named : (k : Kind) (os : List Object) (t : Word) (x : Object) → is_there 
 unfolding find_object
 none_named k (y ∷ os) t x e here = (not_there (named k t y) y (find_object k os t) e).0
 none_named k (y ∷ os) t x e (there i) = none_named k os t x (not_there (named k t y) y (find_object k os t) e).1 i
+none_named k [] t x e x4 = elim x4 [ ]
 
 -- None of the contents of ys is the same object as x, where none of ys is.
 none_content : (f : File) (x : Content) (ys : List Object) (n : ℕ) → ((y : Object) → In y ys → both (same_kind x.object.kind y.kind) (alike x.object.name y.name) ≡ false)
@@ -85,6 +87,7 @@ none_behind before (z ∷ ys) x i e y j =
         → (y : Object) → In y (z ∷ ys) → named y.kind y.name x ≡ false
     by_place z ys p q y here = p
     by_place z ys p q y (there k) = q y k
+none_behind before [] x i e y j = elim j [ ]
 
 -- The test from the other side.
 flipped : (x y : Object) → named y.kind y.name x ≡ false → both (same_kind x.kind y.kind) (alike x.name y.name) ≡ false

@@ -145,10 +145,14 @@ unfolding each below same_path
 below_same s t [] [] e none_alike = none_alike
 below_same s t (v ∷ l) (w ∷ k) e (more_alike r a) =
     more_alike (record { path = both_of (same_step s t) (same_path v.path w.path) e r.path; value = r.value }) (below_same s t l k e a)
+below_same s t [] (w ∷ k) e x4 = elim x4 [ ]
+below_same s t (v ∷ l) [] e x4 = elim x4 [ ]
 
 append_alike : (a b c d : List Placed) → Alike SameValue a b → Alike SameValue c d → Alike SameValue (a ++ c) (b ++ d)
 append_alike [] [] c d none_alike q = q
 append_alike (x ∷ a) (y ∷ b) c d (more_alike r p) q = more_alike r (append_alike a b c d p q)
+append_alike [] (y ∷ b) c d x4 q = elim x4 [ ]
+append_alike (x ∷ a) [] c d x5 q = elim x5 [ ]
 
 placed_same : {r q : Resolved} → SameTree r q → (n m : ℕ) (b c : List Word) → bytes_of b ≡ bytes_of c → Alike SameValue (placed r n b) (placed q m c)
 unfolding placed same_path same_value each

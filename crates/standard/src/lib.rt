@@ -27,7 +27,7 @@ pub enum Checked {
 }
 
 // How many definitions and enumerators an implementation has, and the places of its name and of its kinds' words (0: none).
-#[derive(Drop)]
+#[derive(Clone, Copy)]
 pub struct Known {
     pub definitions: usize,
     pub enumerators: usize,

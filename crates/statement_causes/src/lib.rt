@@ -1,5 +1,6 @@
 // Of a text that is refused with 13 to 16 or 18 at a place: the statement there, its attribute, and what its owner lacks.
 #![tactic(auto)]
+
 ghost use Rattle.std.specs.Prelude.{◌≡◌};
 ghost use Rattle.statement_causes.specs.Promises.{Looked, touched, FindsInner, Seeks, SeeksObject, SeeksAll, RowTold, TellsAttribute, TellsFirst, single_place, MissesRow, Misses, MissesObject, MissesInside, MissesAt, TellsRows, TellsKept};
 ghost use Rattle.statement_causes.specs.Tellings.{Tells};

@@ -15,7 +15,7 @@ pub mod values;
 
 // The row after those that were written, and the place after their lines.
 #[derive(Clone, Copy)]
-struct Spot {
+pub struct Spot {
     next: usize,
     place: usize,
 }
