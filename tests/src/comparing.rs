@@ -173,11 +173,11 @@ fn call_write(_: &[u8], _: &mut [Vec<usize>; 4], _: &mut [u8], _: &mut [usize]) 
 
 /// How many texts were compared, and what the answers were.
 #[derive(Default)]
-struct Counts {
+pub struct Counts {
     texts: HashSet<u64>,
     accepted: usize,
     values: usize,
-    refused: [usize; 25],
+    pub refused: [usize; 25],
 }
 
 impl Counts {
@@ -248,7 +248,7 @@ pub fn compare(
     family: &Family,
     layer: &str,
     agrees: fn(&mut Lent, &[u8], &Read) -> Result<(), String>,
-) {
+) -> Counts {
     let is_linked = proved::is_linked(layer);
     let mut lent = Lent::default();
     let mut counts = Counts::default();
@@ -270,6 +270,7 @@ pub fn compare(
         counts.count(&case.text, &read);
     });
     counts.report(family, is_linked);
+    counts
 }
 
 /// Asks `agrees` for some texts with lent tables of which one or more are too short, where the

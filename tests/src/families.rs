@@ -44,56 +44,6 @@ pub struct Family {
     pub texts: fn(Each),
 }
 
-/// The list of all families: of each the names of its test and of its constant, and the constant.
-/// `families!(family_tests ASK)` makes a test of each family, which passes it to the function ASK.
-#[macro_export]
-macro_rules! families {
-    ($make:ident $($given:tt)*) => {
-        $crate::$make! {
-            ($($given)*)
-            corpus CORPUS ("corpus", 300, &[], corpus_texts);
-            cases CASES ("cases of the requests", 0, &[], case_texts);
-            tempting TEMPTING ("tempting but wrong", 12, &[], tempting_texts);
-            accepted ACCEPTED ("accepted texts", 14_000, &[], accepted);
-            one_fault ONE_FAULT ("one fault", 10_000, &[(&PLANTED, 500)], one_fault);
-            one_stage ONE_STAGE ("two faults of one stage", 2_000, &[], faults_of_one_stage);
-            two_stages TWO_STAGES ("two faults of two stages", 4_000, &[], faults_of_two_stages);
-            limits LIMITS ("limits", 60, &[], limit_texts);
-            damaged_limits DAMAGED_LIMITS ("limits, damaged", 200, &[], damaged_limits);
-            exchanged EXCHANGED ("tokens exchanged", 15_000, &[], tokens_exchanged);
-            one_off ONE_OFF ("one token off", 4_000, &[], one_token_off);
-            damaged DAMAGED ("damaged texts", 13_000, &[], damaged);
-            truncations TRUNCATIONS ("truncations", 10_000, &[], truncations);
-            bytes BYTES ("bytes and token soup", 15_000, &[], bytes_and_tokens);
-            derived DERIVED ("derived texts", 7_000, &[], derived);
-            heavy HEAVY ("heavy texts", 20, &[], heavy_texts);
-            ranges RANGES ("Q-1, ranges and defaults", 20_000, &[(&[21, 22, 23], 1_000)], range_texts);
-            parts PARTS ("Q-2, objects in parts", 20_000, &[(&[11, 13, 14, 15, 16, 17, 18], 50)], part_texts);
-            floats FLOATS ("Q-4, floats", 40_000, &[], floats::texts);
-            names NAMES ("Q-5, names in several kinds", 20_000, &[(&[24], 1_000), (&[18], 50)], name_texts);
-        }
-    };
-}
-
-#[macro_export]
-macro_rules! family_tests {
-    (($ask:path) $($test:ident $name:ident $family:tt;)*) => {
-        $(
-            #[test]
-            fn $test() {
-                $ask(&$crate::families::$name);
-            }
-        )*
-    };
-}
-
-#[macro_export]
-macro_rules! family_constants {
-    (() $($test:ident $name:ident $family:tt;)*) => {
-        $(pub const $name: Family = family $family;)*
-    };
-}
-
 const fn family(
     name: &'static str,
     least: usize,
@@ -108,7 +58,41 @@ const fn family(
     }
 }
 
-families!(family_constants);
+pub const CORPUS: Family = family("corpus", 300, &[], corpus_texts);
+pub const CASES: Family = family("cases of the requests", 0, &[], case_texts);
+pub const TEMPTING: Family = family("tempting but wrong", 12, &[], tempting_texts);
+pub const ACCEPTED: Family = family("accepted texts", 14_000, &[], accepted);
+pub const ONE_FAULT: Family = family("one fault", 10_000, &[(&PLANTED, 500)], one_fault);
+pub const ONE_STAGE: Family = family("two faults of one stage", 2_000, &[], faults_of_one_stage);
+pub const TWO_STAGES: Family = family("two faults of two stages", 4_000, &[], faults_of_two_stages);
+pub const LIMITS: Family = family("limits", 60, &[], limit_texts);
+pub const DAMAGED_LIMITS: Family = family("limits, damaged", 200, &[], damaged_limits);
+pub const EXCHANGED: Family = family("tokens exchanged", 15_000, &[], tokens_exchanged);
+pub const ONE_OFF: Family = family("one token off", 4_000, &[], one_token_off);
+pub const DAMAGED: Family = family("damaged texts", 13_000, &[], damaged);
+pub const TRUNCATIONS: Family = family("truncations", 10_000, &[], truncations);
+pub const BYTES: Family = family("bytes and token soup", 15_000, &[], bytes_and_tokens);
+pub const DERIVED: Family = family("derived texts", 7_000, &[], derived);
+pub const HEAVY: Family = family("heavy texts", 20, &[], heavy_texts);
+pub const RANGES: Family = family(
+    "Q-1, ranges and defaults",
+    20_000,
+    &[(&[21, 22, 23], 1_000)],
+    range_texts,
+);
+pub const PARTS: Family = family(
+    "Q-2, objects in parts",
+    20_000,
+    &[(&[11, 13, 14, 15, 16, 17, 18], 50)],
+    part_texts,
+);
+pub const FLOATS: Family = family("Q-4, floats", 40_000, &[], floats::texts);
+pub const NAMES: Family = family(
+    "Q-5, names in several kinds",
+    20_000,
+    &[(&[24], 1_000), (&[18], 50)],
+    name_texts,
+);
 
 /// How many times as many generated texts are compared as usual: `KAUKSLINI_TEXTS`.
 pub fn times() -> u64 {

@@ -464,7 +464,13 @@ fn the_numbers() {
         let wanted = format!("KAUKSLINI_{name} = {value} ,");
         assert!(header.contains(&wanted), "{wanted}");
     }
-    for (value, name) in [(0, "DONE"), (30, "LONG_TEXT")] {
+    for (value, name) in [
+        (0, "DONE"),
+        (27, "OPEN_TEXT"),
+        (28, "NO_TEXT"),
+        (29, "NO_INCLUDE"),
+        (30, "LONG_TEXT"),
+    ] {
         assert!(
             header.contains(&format!("KAUKSLINI_{name} = {value} ,")),
             "{name}"

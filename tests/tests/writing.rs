@@ -2,25 +2,15 @@
 //! output, every cell of the four lent tables, and the memory past them. What is written is
 //! read and written again.
 
-use tests::comparing::{answer_within, compare, compare_short, Lent, Read, LONGER};
-use tests::families::{Family, HEAVY};
+use tests::comparing::{answer_within, compare, compare_short};
+use tests::comparing::{Counts, Lent, Read, LONGER};
+use tests::families::{self, Family};
 use tests::meaning::{self, Reading, Refusal, LONGEST_TEXT};
 use tests::normal::{self, normal_within, without_places};
 use tests::{corpus, limits, proved, tables};
 
-fn writes(family: &Family) {
-    match family.name == HEAVY.name {
-        true => compare(family, "writing", agrees_once),
-        false => compare(family, "writing", agrees),
-    }
-}
-
-/// By one call only.
-fn agrees_once(lent: &mut Lent, text: &[u8], read: &Read) -> Result<(), String> {
-    let answer = tables::answer(read);
-    let written = read.as_ref().map(|reading| normal::write(text, reading));
-    let written = written.unwrap_or_default();
-    lent.write(text, LONGER, written.len(), &answer, &written)
+fn writes(family: &Family) -> Counts {
+    compare(family, "writing", agrees)
 }
 
 fn agrees(lent: &mut Lent, text: &[u8], read: &Read) -> Result<(), String> {
@@ -71,7 +61,95 @@ fn reads_back(
     lent.write(written, LONGER, written.len(), &answer, written)
 }
 
-tests::families!(family_tests writes);
+#[test]
+fn corpus_texts() {
+    writes(&families::CORPUS);
+    writes(&families::CASES);
+}
+
+#[test]
+fn tempting_but_wrong() {
+    writes(&families::TEMPTING);
+}
+
+#[test]
+fn accepted_texts() {
+    writes(&families::ACCEPTED);
+}
+
+#[test]
+fn one_fault() {
+    writes(&families::ONE_FAULT);
+}
+
+#[test]
+fn two_faults() {
+    writes(&families::ONE_STAGE);
+    writes(&families::TWO_STAGES);
+}
+
+#[test]
+fn floats() {
+    writes(&families::FLOATS);
+}
+
+#[test]
+fn limit_texts() {
+    writes(&families::LIMITS);
+    writes(&families::DAMAGED_LIMITS);
+}
+
+#[test]
+fn tokens_exchanged() {
+    writes(&families::EXCHANGED);
+    writes(&families::ONE_OFF);
+}
+
+#[test]
+fn damaged_texts() {
+    writes(&families::DAMAGED);
+}
+
+#[test]
+fn truncations() {
+    writes(&families::TRUNCATIONS);
+}
+
+#[test]
+fn bytes_and_token_soup() {
+    writes(&families::BYTES);
+}
+
+#[test]
+fn derived_texts() {
+    writes(&families::DERIVED);
+}
+
+#[test]
+fn ranges_and_defaults() {
+    writes(&families::RANGES);
+}
+
+#[test]
+fn objects_in_parts() {
+    writes(&families::PARTS);
+}
+
+#[test]
+fn names_in_several_kinds() {
+    writes(&families::NAMES);
+}
+
+/// Each by one call only.
+#[test]
+fn heavy_texts() {
+    compare(&families::HEAVY, "writing", |lent, text, read| {
+        let answer = tables::answer(read);
+        let written = read.as_ref().map(|reading| normal::write(text, reading));
+        let written = written.unwrap_or_default();
+        lent.write(text, LONGER, written.len(), &answer, &written)
+    });
+}
 
 /// With an output of as many bytes as the program lends, the corpus' expected answers.
 #[test]
