@@ -10,7 +10,10 @@ use std::path::{Path, PathBuf};
 type Definition = (String, String, String);
 
 /// The definitions that no contract and no statement names, each with the reason why it stays.
-const EXCEPTIONS: [(&str, &str, &str); 3] = [
+const EXCEPTIONS: [(&str, &str, &str); 4] = [
+    // The tables that a walk of a whole text begins with. Laws of `reading` about such a walk speak of
+    // them, and so do those of `standard` and `causes`, which walk a text once more.
+    ("reading", "Decisions", "blank"),
     // Document 01's program. No contract can speak of what a program writes; tests/tests/program.rs
     // runs it, and meaning's proofs/Limits computes examples.
     ("meaning", "Calls", "program"),

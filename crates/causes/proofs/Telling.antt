@@ -15,8 +15,8 @@ use Rattle.meaning.specs.Reading.{Parsed, parsed, parse, reading}
 use Rattle.meaning.proofs.Found.{parse_derived}
 use Rattle.walk.specs.Whole.{Rooms, Whole}
 use Rattle.walk.specs.declared.Walked.{Walked}
-use Rattle.reading.specs.Decisions.{grammar_fault}
-use Rattle.reading.proofs.Arriving.{blank, Arrived, refused_early, arrived}
+use Rattle.reading.specs.Decisions.{grammar_fault, blank}
+use Rattle.reading.proofs.Arriving.{Arrived, refused_early, arrived}
 use Rattle.causes.specs.Firsts.{first_like}
 use Rattle.layout.specs.Kept.{spec_entries}
 use Rattle.causes.specs.Causes.{named_first, TellsNamed, defined_first, TellsDefined}

@@ -5,7 +5,7 @@ use mathlib.Core.Bool.{Bool}
 use mathlib.Core.Option.{Option, none, some}
 use Prim.Native.Nat.{ℕ, ◌≤◌}
 use native.Mathlib.Omega.{arith}
-use lib.ListN.{length, replicate}
+use lib.ListN.{length}
 use lib.Dec.{ltb, eqb}
 use borrow.Author.Tests.{le-ltb, eqb-true}
 use Rattle.token.specs.Lexing.{lex_from}
@@ -38,7 +38,7 @@ use Rattle.scopes.specs.Situations.{Situation}
 use Rattle.scopes.specs.Promises.{fault_of}
 use Rattle.walk.specs.Whole.{Rooms, Few, Whole}
 use Rattle.walk.specs.declared.Walked.{Walked}
-use Rattle.reading.specs.Decisions.{grammar_fault, Merged, KeptParts, or_else, stage_fault, Decided, Staged}
+use Rattle.reading.specs.Decisions.{grammar_fault, Merged, KeptParts, or_else, stage_fault, Decided, blank, Staged}
 use Rattle.reading.specs.declared.Decision.{Decision}
 use Rattle.meaning.proofs.Numbered.{NumberedOne, of_definitions, of_objects, of_first}
 
@@ -102,10 +102,6 @@ pub record Arrived (s : List ℕ) (y : Rooms) (w : Walked) : Type 0 where
   pub file : File
   pub kept : KeptParts s y w file
   pub covered : Covered s
-
--- Blank tables for the rows that the walk keeps.
-abbrev pub blank : Rooms
-blank = record { definitions = replicate 9747 0; enumerators = replicate 3075 0; parts = replicate 5130 0; statements = replicate 14343 0 }
 
 pub arrived : (s : List ℕ) (y : Rooms) (w : Walked) → Whole s blank y w → length s ≤ 65535 → number_of (answer_of w.look) ≡ 0 → Arrived s y w
 unfolding rest rest_by lex_at tokens syntax Few kept_definitions kept_enumerators kept_parts kept_part_statements kept

@@ -113,6 +113,10 @@ pub record Decided (s : List ℕ) (y : Merged) (r : Decision) : Type 0 where
   pub stopped : (r.fault.number ≡ 0 → ⊥) → Covered s → (d : Derivation (tokens s)) → stage_fault (syntax s d.tree) ≡ none → ⊥
   pub passes : r.fault.number ≡ 0 → Passed s y r
 
+-- Blank tables for the rows that the walk keeps.
+abbrev pub blank : Rooms
+blank = record { definitions = replicate 9747 0; enumerators = replicate 3075 0; parts = replicate 5130 0; statements = replicate 14343 0 }
+
 pub record Decides (s d e o t : List ℕ) (y : Merged) (r : Decision) : Type 0 where
   pub definitions_size : length y.definitions ≡ length d
   pub enumerators_size : length y.enumerators ≡ length e
