@@ -18,7 +18,7 @@ const EXCEPTIONS: [(&str, &str, &str); 4] = [
     // runs it, and meaning's proofs/Limits computes examples.
     ("meaning", "Calls", "program"),
     ("meaning", "Calls", "line"),
-    ("meaning", "Calls", "stated-rooms"),
+    ("meaning", "Calls", "stated_rooms"),
 ];
 
 /// The definitions of all specs/ with the words of each, and where a constructor is defined.
@@ -46,14 +46,14 @@ fn without_comments(text: &str, mark: &str) -> String {
     text.lines().map(line).collect::<Vec<_>>().join("\n")
 }
 
-/// The pieces of a name as they stand in a text: of `_·_` the `·`.
+/// The pieces of a name as they stand in a text: of `◌+◌` the `+`.
 fn pieces(name: &str) -> Vec<String> {
     let inner = name
-        .split('_')
+        .split('◌')
         .filter(|piece| !piece.is_empty())
         .map(str::to_string);
     let mut all = vec![name.to_string()];
-    if name.contains('_') {
+    if name.contains('◌') {
         all.extend(inner);
     }
     all
@@ -63,10 +63,10 @@ fn pieces(name: &str) -> Vec<String> {
 fn imports(text: &str) -> HashMap<String, Definition> {
     let mut all = HashMap::new();
     for line in text.lines() {
-        let Some(at) = line.find("use Rattle·") else {
+        let Some(at) = line.find("use Rattle.") else {
             continue;
         };
-        let Some((path, names)) = line[at + "use Rattle·".len()..].split_once(".{") else {
+        let Some((path, names)) = line[at + "use Rattle.".len()..].split_once(".{") else {
             continue;
         };
         let Some((of_crate, file)) = path.split_once(".specs.") else {
@@ -74,8 +74,11 @@ fn imports(text: &str) -> HashMap<String, Definition> {
         };
         for name in names.trim_end_matches([';', '}']).split(',') {
             let (name, local) = name.split_once(" as ").unwrap_or((name, name));
-            let of_crate = of_crate.trim_end_matches("·specs").to_string();
-            let definition = (of_crate, file.to_string(), name.trim().to_string());
+            let definition = (
+                of_crate.to_string(),
+                file.to_string(),
+                name.trim().to_string(),
+            );
             for piece in pieces(local.trim()) {
                 all.insert(piece, definition.clone());
             }
@@ -283,8 +286,9 @@ fn what_nothing_names_is_found() {
         abbrev pub Stated : Type 0\nStated = Shape\n\n\
         -- named by nothing but this line: idle\nunfoldable pub idle : Shape\nidle = round\n";
     specs.add("a", "F", text);
-    let code = "ghost use Rattle·a·specs.specs.F.{contract, idle};\n// idle\nfn f() ensures { contract }\n";
-    let law = "use Rattle·a·specs.specs.F.{Stated, idle}\nlaw : Stated\nother : idle\n";
+    let code =
+        "ghost use Rattle.a.specs.F.{contract, idle};\n// idle\nfn f() ensures { contract }\n";
+    let law = "use Rattle.a.specs.F.{Stated, idle}\nlaw : Stated\nother : idle\n";
     let mut roots = contracts(code);
     let name = |name: &str| ("a".to_string(), "F".to_string(), name.to_string());
     assert_eq!(
