@@ -228,14 +228,14 @@ fn drop_block(
     }
     if z.definitions < lookups::FEW {
         let mut few = [end; lookups::FEW];
-        names::firsts(st, names, &mut few, from, end);
+        names::fill_firsts(st, names, &mut few, from, end);
         drop_statements(
             text, d, e, o, st, names, &few, known, z, key, from, end, marks,
         );
         return;
     }
     let mut first = [end; definition::ROWS];
-    names::firsts(st, names, &mut first, from, end);
+    names::fill_firsts(st, names, &mut first, from, end);
     drop_statements(
         text, d, e, o, st, names, &first, known, z, key, from, end, marks,
     );

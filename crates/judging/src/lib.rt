@@ -202,13 +202,13 @@ fn judge_block(
     }
     if z.definitions < lookups::FEW {
         let mut few = [end; lookups::FEW];
-        names::firsts(st, names, &mut few, from, end);
+        names::fill_firsts(st, names, &mut few, from, end);
         let a = lack_fault(text, d, st, names, &few, known, z, key, from, end, owner);
         let b = judge(text, d, e, o, st, names, &few, known, z, key, from, end);
         return faults::sooner(a, b);
     }
     let mut first = [end; definition::ROWS];
-    names::firsts(st, names, &mut first, from, end);
+    names::fill_firsts(st, names, &mut first, from, end);
     let a = lack_fault(text, d, st, names, &first, known, z, key, from, end, owner);
     let b = judge(text, d, e, o, st, names, &first, known, z, key, from, end);
     faults::sooner(a, b)

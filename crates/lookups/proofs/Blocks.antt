@@ -183,16 +183,16 @@ module _ (st h : List ℕ) (a e : ℕ) where
           go false t y = y
 
   -- or each search begins at the block's first row
-  firsts_at : (n : ℕ) → Firsts st h a e (replicate n a)
+  pub firsts_from : (n : ℕ) → Firsts st h a e (replicate n a)
   unfolding start_of
-  firsts_at n = record { skips = λ g. by g (ltb g (length (replicate n a))) refl }
+  firsts_from n = record { skips = λ g. by g (ltb g (length (replicate n a))) refl }
     where
       by : (g : ℕ) (b : Bool) → ltb g (length (replicate n a)) ≡ b → Skips st h a e g (pick b (get_or (replicate n a) g 0) a)
       by g false q = skips_none st h a e g
       by g true q = rw (get_or-replicate n g a 0 (omega (arith, length-replicate n a, ltb-true g (length (replicate n a)) q))) (skips_none st h a e g)
 
-  pub firsts_from : (F₀ F : List ℕ) (k : ℕ) → FirstsTo st h a e k F₀ → F ≡ replicate (length F₀) a → Firsts st h a e F
-  firsts_from F₀ F k z p = subst (λ (x : List ℕ). Firsts st h a e x) (sym p) (firsts_at (length F₀))
+  pub firsts_filled : (F₀ F : List ℕ) (k : ℕ) → FirstsTo st h a e k F₀ → F ≡ replicate (length F₀) a → Firsts st h a e F
+  firsts_filled F₀ F k z p = subst (λ (x : List ℕ). Firsts st h a e x) (sym p) (firsts_from (length F₀))
 
   -- with no cell
   pub firsts_empty : (F : List ℕ) → length F ≡ 0 → Firsts st h a e F

@@ -228,7 +228,7 @@ fn fill(t: &mut [usize], v: usize)
 
 // Makes `first` for each of its ranks a row of a block before which no statement has a name of that rank; h has the statements' ranks. All cells are
 // `end` before.
-pub fn firsts(st: &[usize], h: &[usize], first: &mut [usize], from: usize, end: usize)
+pub fn fill_firsts(st: &[usize], h: &[usize], first: &mut [usize], from: usize, end: usize)
     requires { FirstsTo st.now h.now from end from first.old }
     ensures { Firsts st.now h.now from end first.new }
 {
@@ -236,6 +236,24 @@ pub fn firsts(st: &[usize], h: &[usize], first: &mut [usize], from: usize, end: 
         return;
     }
     fill(first, from);
+}
+
+// For each rank a row of a block before which no statement has a name of that rank; h has the statements' ranks.
+pub fn firsts(st: &[usize], h: &[usize], from: usize, end: usize) -> [usize; definition::ROWS]
+    ensures { Firsts st.now h.now from end result }
+{
+    let mut first = [end; definition::ROWS];
+    fill_firsts(st, h, &mut first, from, end);
+    first
+}
+
+// The same for the ranks below 64.
+pub fn few_firsts(st: &[usize], h: &[usize], from: usize, end: usize) -> [usize; FEW]
+    ensures { Firsts st.now h.now from end result }
+{
+    let mut first = [end; FEW];
+    fill_firsts(st, h, &mut first, from, end);
+    first
 }
 
 // Where the search for a name of a rank begins, in a block that begins at row `from`.

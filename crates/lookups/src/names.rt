@@ -146,11 +146,25 @@ pub fn word_under(
 }
 
 // Makes `first` the first row of each of its ranks in a block; all cells are `end` before.
-pub fn firsts(st: &[usize], names: &[usize], first: &mut [usize], from: usize, end: usize)
+pub fn fill_firsts(st: &[usize], names: &[usize], first: &mut [usize], from: usize, end: usize)
     requires { FirstsTo st.now (statement_ranks names.now) from end from first.old }
     ensures { Firsts st.now (statement_ranks names.now) from end first.new }
 {
-    super::firsts(st, statement_ranks(names), first, from, end);
+    super::fill_firsts(st, statement_ranks(names), first, from, end);
+}
+
+// The first row of each rank in a block.
+pub fn firsts(st: &[usize], names: &[usize], from: usize, end: usize) -> [usize; definition::ROWS]
+    ensures { Firsts st.now (statement_ranks names.now) from end result }
+{
+    super::firsts(st, statement_ranks(names), from, end)
+}
+
+// The same for the ranks below 64.
+pub fn few_firsts(st: &[usize], names: &[usize], from: usize, end: usize) -> [usize; super::FEW]
+    ensures { Firsts st.now (statement_ranks names.now) from end result }
+{
+    super::few_firsts(st, statement_ranks(names), from, end)
 }
 
 // Whether a block states the attribute of row i; `first` has the first row of each rank in the block.

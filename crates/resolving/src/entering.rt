@@ -402,14 +402,14 @@ pub fn resolve(
     }
     if z.definitions < lookups::FEW {
         let mut few = [end; lookups::FEW];
-        lookups::firsts(st, rs, &mut few, from, end);
+        lookups::fill_firsts(st, rs, &mut few, from, end);
         return resolve_scope(
             text, d, e, o, st, known, noted, xe, xo, rs, nx, rd, owners, &few, v, z, limit, key,
             from, end, w, n,
         );
     }
     let mut first = [end; definition::ROWS];
-    lookups::firsts(st, rs, &mut first, from, end);
+    lookups::fill_firsts(st, rs, &mut first, from, end);
     resolve_scope(
         text, d, e, o, st, known, noted, xe, xo, rs, nx, rd, owners, &first, v, z, limit, key,
         from, end, w, n,

@@ -22,11 +22,11 @@ drop_block-shape_of-marks-then-end-from-lt8 t c = omega (arith, c.drop_statement
 pub drop_block-returns-then-end-from-lt8 : goal.drop_block-returns-then-end-from-lt8
 drop_block-returns-then-end-from-lt8 t c = c.drop_statements.ensures
 
-pub drop_block-firsts-requires : goal.drop_block-firsts-requires
-drop_block-firsts-requires t c = firsts_none _ _ _ _ 64
+pub drop_block-fill_firsts-requires : goal.drop_block-fill_firsts-requires
+drop_block-fill_firsts-requires t c = firsts_none _ _ _ _ 64
 
 pub drop_block-drop_statements-requires-then-z-lt-FEW : goal.drop_block-drop_statements-requires-then-z-lt-FEW
-drop_block-drop_statements-requires-then-z-lt-FEW t c = (omega (arith, c.decreases), (c.requires, c.firsts.ensures))
+drop_block-drop_statements-requires-then-z-lt-FEW t c = (omega (arith, c.decreases), (c.requires, c.fill_firsts.ensures))
 
 pub drop_block-shape_of-marks-then-z-lt-FEW : goal.drop_block-shape_of-marks-then-z-lt-FEW
 drop_block-shape_of-marks-then-z-lt-FEW t c = omega (arith, c.drop_statements-then-z-lt-FEW.auto)
@@ -34,11 +34,11 @@ drop_block-shape_of-marks-then-z-lt-FEW t c = omega (arith, c.drop_statements-th
 pub drop_block-returns-then-z-lt-FEW : goal.drop_block-returns-then-z-lt-FEW
 drop_block-returns-then-z-lt-FEW t c = c.drop_statements-then-z-lt-FEW.ensures
 
-pub drop_block-firsts-requires-2 : goal.drop_block-firsts-requires-2
-drop_block-firsts-requires-2 t c = firsts_none _ _ _ _ 513
+pub drop_block-fill_firsts-requires-2 : goal.drop_block-fill_firsts-requires-2
+drop_block-fill_firsts-requires-2 t c = firsts_none _ _ _ _ 513
 
 pub drop_block-drop_statements-requires-2 : goal.drop_block-drop_statements-requires-2
-drop_block-drop_statements-requires-2 t c = (omega (arith, c.decreases), (c.requires, c.firsts-2.ensures))
+drop_block-drop_statements-requires-2 t c = (omega (arith, c.decreases), (c.requires, c.fill_firsts-2.ensures))
 
 pub drop_block-shape_of-marks : goal.drop_block-shape_of-marks
 drop_block-shape_of-marks t c = omega (arith, c.drop_statements-2.auto)

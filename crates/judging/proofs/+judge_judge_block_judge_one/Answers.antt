@@ -50,14 +50,14 @@ judge_block-sooner-requires t c = tt
 pub judge_block-returns-then-end-from-lt8 : goal.judge_block-returns-then-end-from-lt8
 judge_block-returns-then-end-from-lt8 t c = block_by _ _ _ _ _ _ _ _ _ _ _ c.lack_fault-a.result c.judge-b.result c.sooner.result c.sooner.ensures c.lack_fault-a.ensures c.judge-b.ensures
 
-pub judge_block-firsts-requires : goal.judge_block-firsts-requires
-judge_block-firsts-requires t c = firsts_none _ _ _ _ 64
+pub judge_block-fill_firsts-requires : goal.judge_block-fill_firsts-requires
+judge_block-fill_firsts-requires t c = firsts_none _ _ _ _ 64
 
 pub judge_block-lack_fault-a-requires-then-z-lt-FEW : goal.judge_block-lack_fault-a-requires-then-z-lt-FEW
-judge_block-lack_fault-a-requires-then-z-lt-FEW t c = (c.requires.named.ranks, c.firsts.ensures, c.requires.owners)
+judge_block-lack_fault-a-requires-then-z-lt-FEW t c = (c.requires.named.ranks, c.fill_firsts.ensures, c.requires.owners)
 
 pub judge_block-judge-b-requires-then-z-lt-FEW : goal.judge_block-judge-b-requires-then-z-lt-FEW
-judge_block-judge-b-requires-then-z-lt-FEW t c = (omega (arith, c.decreases), (c.requires, c.firsts.ensures))
+judge_block-judge-b-requires-then-z-lt-FEW t c = (omega (arith, c.decreases), (c.requires, c.fill_firsts.ensures))
 
 pub judge_block-sooner-requires-then-z-lt-FEW : goal.judge_block-sooner-requires-then-z-lt-FEW
 judge_block-sooner-requires-then-z-lt-FEW t c = tt
@@ -65,14 +65,14 @@ judge_block-sooner-requires-then-z-lt-FEW t c = tt
 pub judge_block-returns-then-z-lt-FEW : goal.judge_block-returns-then-z-lt-FEW
 judge_block-returns-then-z-lt-FEW t c = block_by _ _ _ _ _ _ _ _ _ _ _ c.lack_fault-a-then-z-lt-FEW.result c.judge-b-then-z-lt-FEW.result c.sooner-then-z-lt-FEW.result c.sooner-then-z-lt-FEW.ensures c.lack_fault-a-then-z-lt-FEW.ensures c.judge-b-then-z-lt-FEW.ensures
 
-pub judge_block-firsts-requires-2 : goal.judge_block-firsts-requires-2
-judge_block-firsts-requires-2 t c = firsts_none _ _ _ _ 513
+pub judge_block-fill_firsts-requires-2 : goal.judge_block-fill_firsts-requires-2
+judge_block-fill_firsts-requires-2 t c = firsts_none _ _ _ _ 513
 
 pub judge_block-lack_fault-a-requires-2 : goal.judge_block-lack_fault-a-requires-2
-judge_block-lack_fault-a-requires-2 t c = (c.requires.named.ranks, c.firsts-2.ensures, c.requires.owners)
+judge_block-lack_fault-a-requires-2 t c = (c.requires.named.ranks, c.fill_firsts-2.ensures, c.requires.owners)
 
 pub judge_block-judge-b-requires-2 : goal.judge_block-judge-b-requires-2
-judge_block-judge-b-requires-2 t c = (omega (arith, c.decreases), (c.requires, c.firsts-2.ensures))
+judge_block-judge-b-requires-2 t c = (omega (arith, c.decreases), (c.requires, c.fill_firsts-2.ensures))
 
 pub judge_block-sooner-requires-2 : goal.judge_block-sooner-requires-2
 judge_block-sooner-requires-2 t c = tt

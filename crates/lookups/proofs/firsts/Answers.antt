@@ -1,8 +1,5 @@
-use Rattle.lookups.proofs.Blocks.{firsts_all, firsts_from}
+use Rattle.lookups.proofs.Blocks.{firsts_none}
 use Rattle.lookups.proofs.firsts.Goals as goal
 
-pub returns-then-note_firsts-end : goal.returns-then-note_firsts-end
-returns-then-note_firsts-end c = firsts_all _ _ _ _ _ _ c.note_firsts.ensures c.if-note_firsts-end.true
-
-pub returns : goal.returns
-returns c = firsts_from _ _ _ _ _ _ _ c.note_firsts.ensures c.fill.ensures
+pub fill_firsts-requires : goal.fill_firsts-requires
+fill_firsts-requires c = firsts_none _ _ _ _ 513

@@ -1,8 +1,5 @@
-use Rattle.lookups.proofs.Naming.{firsts_to_in, firsts_in}
+use Rattle.lookups.proofs.Naming.{firsts_in}
 use Rattle.lookups.proofs.names.firsts.Goals as goal
-
-pub firsts-requires : goal.firsts-requires
-firsts-requires c = firsts_to_in _ c.args.names.now _ _ _ _ _ c.statement_ranks.ensures c.requires
 
 pub returns : goal.returns
 returns c = firsts_in _ c.args.names.now _ _ _ _ c.statement_ranks.ensures c.firsts.ensures

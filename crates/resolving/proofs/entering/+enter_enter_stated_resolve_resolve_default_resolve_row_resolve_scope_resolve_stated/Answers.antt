@@ -71,11 +71,11 @@ resolve-shape_of-v-then-end-from t c = omega arith
 pub resolve-returns-then-end-from : goal.resolve-returns-then-end-from
 resolve-returns-then-end-from t c = c.resolve_scope.ensures
 
-pub resolve-firsts-requires : goal.resolve-firsts-requires
-resolve-firsts-requires t c = firsts_none _ _ _ _ 64
+pub resolve-fill_firsts-requires : goal.resolve-fill_firsts-requires
+resolve-fill_firsts-requires t c = firsts_none _ _ _ _ 64
 
 pub resolve-resolve_scope-requires-then-z-lt-FEW : goal.resolve-resolve_scope-requires-then-z-lt-FEW
-resolve-resolve_scope-requires-then-z-lt-FEW t c = (omega (arith, c.decreases), (omega (arith, c.if-key-eq0.false), (omega (arith, c.if-limit-gt-MOST.false), (c.requires, c.firsts.ensures))))
+resolve-resolve_scope-requires-then-z-lt-FEW t c = (omega (arith, c.decreases), (omega (arith, c.if-key-eq0.false), (omega (arith, c.if-limit-gt-MOST.false), (c.requires, c.fill_firsts.ensures))))
 
 pub resolve-shape_of-v-then-z-lt-FEW : goal.resolve-shape_of-v-then-z-lt-FEW
 resolve-shape_of-v-then-z-lt-FEW t c = omega arith
@@ -83,11 +83,11 @@ resolve-shape_of-v-then-z-lt-FEW t c = omega arith
 pub resolve-returns-then-z-lt-FEW : goal.resolve-returns-then-z-lt-FEW
 resolve-returns-then-z-lt-FEW t c = c.resolve_scope-then-z-lt-FEW.ensures
 
-pub resolve-firsts-requires-2 : goal.resolve-firsts-requires-2
-resolve-firsts-requires-2 t c = firsts_none _ _ _ _ 513
+pub resolve-fill_firsts-requires-2 : goal.resolve-fill_firsts-requires-2
+resolve-fill_firsts-requires-2 t c = firsts_none _ _ _ _ 513
 
 pub resolve-resolve_scope-requires-2 : goal.resolve-resolve_scope-requires-2
-resolve-resolve_scope-requires-2 t c = (omega (arith, c.decreases), (omega (arith, c.if-key-eq0.false), (omega (arith, c.if-limit-gt-MOST.false), (c.requires, c.firsts-2.ensures))))
+resolve-resolve_scope-requires-2 t c = (omega (arith, c.decreases), (omega (arith, c.if-key-eq0.false), (omega (arith, c.if-limit-gt-MOST.false), (c.requires, c.fill_firsts-2.ensures))))
 
 pub resolve-shape_of-v : goal.resolve-shape_of-v
 resolve-shape_of-v t c = omega arith
