@@ -17,7 +17,7 @@ use scopes::Sizes;
 
 mod marking;
 pub mod values;
-mod wanting;
+pub mod wanting;
 
 // 16 at the owner's word, where the block lacks an attribute of the scope of the word at key; 0 is no word's place. Here and below `first` has the
 // first row of each rank in the block, or no cell.
@@ -367,7 +367,7 @@ pub fn judge_all(
     let owners = lookups::owners::owners(d, &missing);
     cells::put_cells(names, names::OWNERS, &owners);
     let wanted = wanting::wanted(st, names);
-    if wanting::listed(text, d, &wanted) < ranges::FEW {
+    if wanting::in_lists(text, d, &wanted) < ranges::FEW {
         return judge_few(text, d, e, o, st, names, &missing, &wanted, z, &places);
     }
     judge_many(

@@ -64,6 +64,31 @@ pub fn wanted(st: &[usize], names: &[usize]) -> [usize; definition::MOST] {
     marks
 }
 
+// How many numbers stand in the range of the definition of row i, or more: half of its bytes, and one more; none where the row is not marked.
+fn listed_of(d: &[usize], mark: usize, i: usize) -> usize
+    ensures { result ≤ 65535 }
+{
+    if mark == 0 {
+        return 0;
+    }
+    cells::least_of(
+        cells::cell_of(d, definition::WIDTH, i, definition::RANGE_LENGTH),
+        token::LONGEST,
+    ) / 2
+        + 1
+}
+
+// The same of all marked definitions; 65,535 where there are more.
+pub fn listed(d: &[usize], marks: &[usize]) -> usize {
+    let mut numbers = 0;
+    let mut i = 0;
+    while i < marks.len() {
+        numbers = cells::least_of(numbers + listed_of(d, marks[i], i), token::LONGEST);
+        i += 1;
+    }
+    numbers
+}
+
 // Whether the range whose `[` stands at a place has two bounds.
 fn has_bounds(text: &[u8], range: usize) -> bool {
     let open = numbers::item_at(text, range);
@@ -72,19 +97,11 @@ fn has_bounds(text: &[u8], range: usize) -> bool {
     sign.sign == b'.'
 }
 
-// How many numbers stand in the list of the definition of row i, or more: half of its bytes, and one more; none where the row is not marked, or where a
-// range so long has two bounds.
-fn listed_of(text: &[u8], d: &[usize], mark: usize, i: usize) -> usize
+// How many numbers stand in the list of the definition of row i, or more: as many as in its range, and none where a range so long has two bounds.
+fn in_list(text: &[u8], d: &[usize], mark: usize, i: usize) -> usize
     ensures { result ≤ 65535 }
 {
-    if mark == 0 {
-        return 0;
-    }
-    let n = cells::least_of(
-        cells::cell_of(d, definition::WIDTH, i, definition::RANGE_LENGTH),
-        token::LONGEST,
-    ) / 2
-        + 1;
+    let n = listed_of(d, mark, i);
     if n < ranges::FEW {
         return n;
     }
@@ -98,11 +115,11 @@ fn listed_of(text: &[u8], d: &[usize], mark: usize, i: usize) -> usize
 }
 
 // The same of all marked definitions; 65,535 where there are more.
-pub fn listed(text: &[u8], d: &[usize], marks: &[usize]) -> usize {
+pub fn in_lists(text: &[u8], d: &[usize], marks: &[usize]) -> usize {
     let mut count = 0;
     let mut i = 0;
     while i < marks.len() {
-        count = cells::least_of(count + listed_of(text, d, marks[i], i), token::LONGEST);
+        count = cells::least_of(count + in_list(text, d, marks[i], i), token::LONGEST);
         i += 1;
     }
     count

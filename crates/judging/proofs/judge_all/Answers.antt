@@ -16,14 +16,14 @@ returns-then-z-gt-MOST-3 c = record { judges = (λ f a p. let l = a.tables.objec
 pub marks-missing-requires : goal.marks-missing-requires
 marks-missing-requires c = let n = c.requires.named (record { definitions = omega (arith, c.if-z-gt-MOST.false); enumerators = omega (arith, c.if-z-gt-MOST-2.false); objects = omega (arith, c.if-z-gt-MOST-3.false) }) in (n.enumerators, n.ranks)
 
-pub slice_bounds-judge_few-end-then-listed-lt-FEW-2 : goal.slice_bounds-judge_few-end-then-listed-lt-FEW-2
-slice_bounds-judge_few-end-then-listed-lt-FEW-2 c = search (rules, c.well_formed)
+pub slice_bounds-judge_few-end-then-in_lists-lt-FEW-2 : goal.slice_bounds-judge_few-end-then-in_lists-lt-FEW-2
+slice_bounds-judge_few-end-then-in_lists-lt-FEW-2 c = search (rules, c.well_formed)
 
 pub judge_few-requires : goal.judge_few-requires
 judge_few-requires c = marks_ready _ _ _ _ _ _ _ _ _ _ (record { definitions = omega (arith, c.if-z-gt-MOST.false); enumerators = omega (arith, c.if-z-gt-MOST-2.false); objects = omega (arith, c.if-z-gt-MOST-3.false) }) (omega arith) (omega arith) c.put_cells.ensures c.requires c.owners-owners.ensures
 
-pub returns-then-listed-lt-FEW : goal.returns-then-listed-lt-FEW
-returns-then-listed-lt-FEW c = record { judges = judged_all _ _ _ _ _ _ _ (c.marks-missing.result) _ c.marks-missing.ensures c.judge_few.ensures; keeps = names_kept _ _ _ _ _ _ _ _ (c.owners-owners.result) (omega arith) c.put_cells.ensures c.requires; lends = (λ n b. b) }
+pub returns-then-in_lists-lt-FEW : goal.returns-then-in_lists-lt-FEW
+returns-then-in_lists-lt-FEW c = record { judges = judged_all _ _ _ _ _ _ _ (c.marks-missing.result) _ c.marks-missing.ensures c.judge_few.ensures; keeps = names_kept _ _ _ _ _ _ _ _ (c.owners-owners.result) (omega arith) c.put_cells.ensures c.requires; lends = (λ n b. b) }
 
 pub slice_bounds-judge_many-end-3 : goal.slice_bounds-judge_many-end-3
 slice_bounds-judge_many-end-3 c = search (rules, c.well_formed)
