@@ -15,7 +15,7 @@ use tests::random::Random;
 use tests::values::{questions, read, Question};
 use tests::{corpus, release_texts, texts};
 
-/// The static library that `rt staticlib exporting` makes.
+/// The static library that `tools/build exporting_c` makes.
 fn library() -> Option<PathBuf> {
     let folder = match env::var("KAUKSLINI_STATICLIB") {
         Ok(folder) => PathBuf::from(folder),

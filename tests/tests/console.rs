@@ -640,15 +640,20 @@ fn says_that_it_waits_at_a_terminal() {
     }
 }
 
-/// `tools/start` in a copy of the repository's front, with an `rt` that only writes what a check does.
+/// `tools/start` in a copy of the repository's front, with an `rt` that only writes what it does as it builds.
 fn start(folder: &Folder, lines: &str, status: u8) -> Ran {
     let tools = folder.0.join("tools");
+    let of_oil = folder.0.join("crates/oil");
     fs::create_dir_all(&tools).expect("a folder");
-    fs::create_dir_all(folder.0.join("target/bin")).expect("a folder");
+    fs::create_dir_all(of_oil.join("src")).expect("a folder");
+    fs::create_dir_all(of_oil.join("out")).expect("a folder");
     fs::create_dir_all(folder.0.join("bin")).expect("a folder");
-    fs::copy(repository().join("tools/start"), tools.join("start")).expect("the tool");
+    for tool in ["start", "build"] {
+        fs::copy(repository().join("tools").join(tool), tools.join(tool)).expect("the tool");
+    }
     fs::copy(repository().join("crates.txt"), folder.0.join("crates.txt")).expect("the list");
-    fs::copy(program("oil"), folder.0.join("target/bin/oil")).expect("the program");
+    fs::write(of_oil.join("src/main.rt"), "").expect("a source");
+    fs::copy(program("oil"), of_oil.join("out/oil")).expect("the program");
     let examples = folder.0.join("examples");
     fs::create_dir_all(&examples).expect("a folder");
     for file in ["worked.oil", "broken.oil"] {
@@ -657,7 +662,7 @@ fn start(folder: &Folder, lines: &str, status: u8) -> Ran {
     let rt = folder.0.join("bin/rt");
     fs::write(
         &rt,
-        format!("#!/bin/sh\ncat <<'END'\n{lines}END\nexit {status}\n"),
+        format!("#!/bin/sh\ncat >&2 <<'END'\n{lines}END\nexit {status}\n"),
     )
     .expect("it");
     let mode = Command::new("chmod").arg("755").arg(&rt).status();
@@ -673,7 +678,8 @@ fn start(folder: &Folder, lines: &str, status: u8) -> Ran {
 #[test]
 fn start_shows_what_is_left() {
     let folder = Folder::new("start");
-    let lines = "rt: token proved (12 s)\nlogic=proved\nrt: rows proved (unchanged since it was last proved)\nrt: grammar proved (3 s)\n";
+    let built = |name: &str| format!("rt: chose --jobs 2 for {name}\nlogic=proved functions=1\n");
+    let lines = format!("{}rt: note\n{}", built("token"), built("oil"));
     let answers: Vec<String> = ["worked.oil", "broken.oil"]
         .iter()
         .map(|file| {
@@ -682,7 +688,7 @@ fn start_shows_what_is_left() {
             format!("target/bin/oil examples/{file}\n{}", run.out)
         })
         .collect();
-    let ran = start(&folder, lines, 0);
+    let ran = start(&folder, &lines, 0);
     assert_eq!(ran.err, "");
     assert!(ran.status.success());
     let mut found = ran.out.lines();
@@ -696,15 +702,15 @@ fn start_shows_what_is_left() {
     assert!(first.starts_with("oil rests on ") && all > 30, "{first}");
     let all = all + 1;
     let expected = format!(
-        "1 of {all}: token (12 s), {} left\n3 of {all}: grammar (3 s), {} left\n{}",
+        "1 of {all}: token (0 s), {} left\n{all} of {all}: oil (0 s), 0 left\n{}",
         all - 1,
-        all - 3,
         answers.concat()
     );
     let rest: String = found.map(|line| format!("{line}\n")).collect();
-    assert_eq!(rest, expected);
+    // A second may end between the two lines of a crate.
+    assert_eq!(rest.replace("(1 s)", "(0 s)"), expected);
 
-    let ran = start(&folder, "rt: token proved (12 s)\nerror: no proof\n", 1);
+    let ran = start(&folder, &format!("{}error: no proof\n", built("token")), 1);
     assert_eq!(ran.status.code(), Some(1));
     assert!(ran.out.contains("\nerror: no proof\n") && !ran.out.contains("CPU"));
 }
