@@ -27,11 +27,11 @@ use Rattle.walk.specs.Whole.{Rooms, Whole}
 use Rattle.walk.specs.declared.Walked.{Walked}
 use Rattle.reading.specs.Rules.{ReadsByRules, short_tables, by_rules}
 use Rattle.reading.specs.Results.{reading_of}
-use Rattle.reading.specs.Decisions.{grammar_fault, KeptParts, blank}
+use Rattle.reading.specs.Decisions.{grammar_fault, KeptParts}
 use Rattle.reading.specs.declared.Answer.{Answer as Given}
 use Rattle.reading.specs.declared.Answer.TheVariants.{Accepted, Refused}
 use Rattle.reading.specs.declared.Reading.{Reading}
-use Rattle.reading.proofs.Arriving.{Arrived, arrived, refused_early, reading_is}
+use Rattle.reading.proofs.Arriving.{blank, Arrived, arrived, refused_early, reading_is}
 use Rattle.walk.proofs.Placing.{each_place}
 use Rattle.reading.proofs.Settling.{Fitting, fitting}
 use Rattle.standard.specs.Asking.{Finding, asked, findings, foremost}

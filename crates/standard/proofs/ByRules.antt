@@ -62,6 +62,7 @@ module _ (f : File) (fair : AllFair standard f) where
   unfolding findings_of
   of_asked (b ∷ l) here m = has_left (findings_of f l) m
   of_asked (b ∷ l) (later h) m = has_right (finding f b) (of_asked l h m)
+  of_asked [] {a = a} {y = y} x'' m = elim x'' [ ]
 
   in_list : {x : Defined} {u : Scope} {y : Finding} → Asks standard f x u → Has y (found u.word x (find_definition u.definitions x.definition.name)) → Has y (findings standard f)
   unfolding findings finding in_scope

@@ -92,6 +92,7 @@ own_found (value w n us vs) {v} (later_value h) = by (same w.bytes v.word.bytes)
     by : (b : Bool) → is_there (find_value vs v.word) ≡ true → is_there (pick b (some (record { word = w; number = n; definitions = us })) (find_value vs v.word)) ≡ true
     by true e = refl
     by false e = e
+own_found no_value {v = v} x' = elim x' [ ]
 
 pub words_not : (ws vs : Values) {v : Under} → HasValue vs v → is_there (find_value ws v.word) ≡ false → words_in ws vs ≡ false
 unfolding words_in
@@ -101,6 +102,7 @@ words_not ws (value w n us vs) (later_value h) e = by (is_there (find_value ws w
     by : (b : Bool) → words_in ws vs ≡ false → both b (words_in ws vs) ≡ false
     by true k = k
     by false k = refl
+words_not ws no_value {v = v} x'' e = elim x'' [ ]
 
 pub words_all : (ws vs : Values) → ((v : Under) → HasValue vs v → is_there (find_value ws v.word) ≡ true) → words_in ws vs ≡ true
 unfolding words_in

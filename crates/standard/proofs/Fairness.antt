@@ -45,7 +45,7 @@ record Numbered {A : Type 0} (l : List A) (a : A) : Type 0 where
   number : ℕ
   nth : Nth l number a
 
-has_nth : {A : Type 0} {l : List A} {a : A} → Has a l → Numbered l a
+has_nth : {A : Type 0} {a : A} {l : List A} → Has a l → Numbered l a
 has_nth (here {l = l}) = record { number = 0; nth = record { front = []; rest = l; whole = refl; place = refl } }
 has_nth (later {y = y} m) =
     let r = has_nth m in

@@ -37,6 +37,7 @@ each_empty : (f : File) (l : List Asked) {a : Asked} → findings_of f l ≡ [] 
 unfolding findings_of
 each_empty f (a ∷ l) e here = none_left (finding f a) (findings_of f l) e
 each_empty f (a ∷ l) e (later h) = each_empty f l (none_right (finding f a) (findings_of f l) e) h
+each_empty f [] {a = a} e x'' = elim x'' [ ]
 
 all_empty : (f : File) (l : List Asked) → ((a : Asked) → Has a l → finding f a ≡ []) → findings_of f l ≡ []
 unfolding findings_of

@@ -84,12 +84,14 @@ asked_here : (ds : Definitions) (k : Kind) (p : List Step) {x : Defined} → Has
 unfolding asked_in
 asked_here (define d vs ds) k p this_definition = has_right (asked_under vs k p d.name) here
 asked_here (define d vs ds) k p (later_definition h) = has_right (asked_under vs k p d.name) (later (asked_here ds k p h))
+asked_here no_more k p x3 = elim x3 [ ]
 
 asked_value : (vs : Values) (k : Kind) (p : List Step) (n : Word) {v : Under} {y : Defined} → HasValue vs v → HasDefinition v.definitions y
     → Has (way k (p ++ (step n v.word ∷ [])) y) (asked_under vs k p n)
 unfolding asked_in
 asked_value (value w e us vs) k p n this_value j = has_left (asked_under vs k p n) (asked_here us k (p ++ (step n w ∷ [])) j)
 asked_value (value w e us vs) k p n (later_value h) j = has_right (asked_in us k (p ++ (step n w ∷ []))) (asked_value vs k p n h j)
+asked_value no_value k p n {v = v} {y = y} x'' j = elim x'' [ ]
 
 abbrev below : Asked → Under → Defined → Asked
 below a v y = way a.kind (a.path ++ (step a.wanted.definition.name v.word ∷ [])) y
@@ -127,6 +129,7 @@ asked_spec : (gs : List Spec) {g : Spec} {x : Defined} → HasSpec gs g → HasD
 unfolding asked
 asked_spec (g ∷ gs) this_spec i = has_left (asked gs) (asked_here g.definitions g.kind [] i)
 asked_spec (g ∷ gs) (later_spec h) i = has_right (asked_in g.definitions g.kind []) (asked_spec gs h i)
+asked_spec [] {g = g} x4 i = elim x4 [ ]
 
 deep : (gs : List Spec) (a : Asked) (v : Under) (y : Defined) → Has a (asked gs) → HasValue a.wanted.values v → HasDefinition v.definitions y → Has (below a v y) (asked gs)
 unfolding asked

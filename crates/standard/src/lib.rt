@@ -1,5 +1,6 @@
 // Whether an implementation defines the standard attributes (document 02, Q-9).
 #![tactic(auto)]
+
 ghost use Rattle.std.specs.Prelude.{◌≡◌};
 ghost use Rattle.standard.specs.Heads.{NamesAt};
 ghost use Rattle.standard.specs.Checking.{checked, verdict_of, AnswersText, ChecksAccepted};

@@ -135,6 +135,7 @@ module _ {s d o v : List ℕ} {m n : ℕ} {l : List ℕ} {at i k : ℕ} {l₁ : 
             wrote = wrote_then w z.wrote;
             laid = laid_later a q.next z.next;
           }
+      by-object xs ys bs (x ∷ us) [] f w a c = elim c [ ]
 
       by : (xs : List Object) (ys : List Resolved) → LeftObjects s d o v m n l at i k l₁ e xs ys → LeftObjects s d o v m n l at (i + 1) q.next l₂ q.place xs ys
       by xs ys a = by-object xs ys a.written_lines a.objects a.values a.whole a.wrote a.laid a.laid.pairs

@@ -1,5 +1,6 @@
 // The normal text of an accepted text, written into a lent output.
 #![tactic(auto)]
+
 ghost use Rattle.writing.specs.Promises.{PutsApplication, WritesNormal, Measures, PutsOut};
 ghost use Rattle.writing.specs.Results.{Writes};
 ghost use Rattle.writing.specs.Rules.{WritesByRules};
