@@ -31,7 +31,8 @@ use Rattle.reading.specs.Decisions.{grammar_fault, KeptParts}
 use Rattle.reading.specs.declared.Answer.{Answer as Given}
 use Rattle.reading.specs.declared.Answer.TheVariants.{Accepted, Refused}
 use Rattle.reading.specs.declared.Reading.{Reading}
-use Rattle.reading.proofs.Arriving.{blank, Arrived, arrived, refused_early, reading_is}
+use Rattle.reading.proofs.Arriving.{Arrived, arrived, refused_early, reading_is}
+use Rattle.reading.specs.Decisions.{blank}
 use Rattle.walk.proofs.Placing.{each_place}
 use Rattle.reading.proofs.Settling.{Fitting, fitting}
 use Rattle.standard.specs.Asking.{Finding, asked, findings, foremost}
