@@ -1,97 +1,103 @@
 // What the programs say on standard error: what could not be opened, read or written, and why, a line and a write each.
-use crate::{Page, write};
-use libc::{STDERR_FILENO, STDIN_FILENO};
+use crate::{Page, files, write};
+use std::fs::File;
+use std::io::{Error, IsTerminal, Print};
 
 // Why a call failed on a file, by its number of the system.
-fn write_file_cause(line: &mut Page, error: usize) {
+fn write_file_cause(rt: HostRuntime, line: &mut Page, error: usize) {
     match error {
-        2 => write(line, b"No such file or directory"),
-        5 => write(line, b"Input/output error"),
-        9 => write(line, b"Bad file descriptor"),
-        13 => write(line, b"Permission denied"),
-        20 => write(line, b"Not a directory"),
-        21 => write(line, b"Is a directory"),
-        36 => write(line, b"File name too long"),
-        40 => write(line, b"Too many levels of symbolic links"),
-        _ => write_number_of(line, error),
+        2 => write(rt, line, b"No such file or directory"),
+        5 => write(rt, line, b"Input/output error"),
+        9 => write(rt, line, b"Bad file descriptor"),
+        13 => write(rt, line, b"Permission denied"),
+        20 => write(rt, line, b"Not a directory"),
+        21 => write(rt, line, b"Is a directory"),
+        36 => write(rt, line, b"File name too long"),
+        40 => write(rt, line, b"Too many levels of symbolic links"),
+        84 => write(rt, line, b"the name is not UTF-8"),
+        _ => write_number_of(rt, line, error),
     }
 }
 
-fn write_number_of(line: &mut Page, error: usize) {
-    write(line, b"error ");
-    crate::write_number(line, error);
+fn write_number_of(rt: HostRuntime, line: &mut Page, error: usize) {
+    write(rt, line, b"error ");
+    crate::write_number(rt, line, error);
 }
 
 // Why a call failed; 255 where the system gave no number.
-fn write_cause(line: &mut Page, error: usize) {
+fn write_cause(rt: HostRuntime, line: &mut Page, error: usize) {
     match error {
-        255 => write(line, b"nothing was taken"),
-        4 => write(line, b"Interrupted system call"),
-        11 => write(line, b"Resource temporarily unavailable"),
-        22 => write(line, b"Invalid argument"),
-        24 => write(line, b"Too many open files"),
-        27 => write(line, b"File too large"),
-        28 => write(line, b"No space left on device"),
-        32 => write(line, b"Broken pipe"),
-        _ => write_file_cause(line, error),
+        255 => write(rt, line, b"nothing was taken"),
+        4 => write(rt, line, b"Interrupted system call"),
+        11 => write(rt, line, b"Resource temporarily unavailable"),
+        22 => write(rt, line, b"Invalid argument"),
+        24 => write(rt, line, b"Too many open files"),
+        27 => write(rt, line, b"File too large"),
+        28 => write(rt, line, b"No space left on device"),
+        32 => write(rt, line, b"Broken pipe"),
+        _ => write_file_cause(rt, line, error),
     }
 }
 
-// Writes a line to standard error.
-fn send(line: &Page) {
-    io::write_all(STDERR_FILENO, crate::held(line));
+// Writes bytes to standard error. Where that fails nothing is left to say it to.
+fn send(rt: HostRuntime, bytes: &[u8]) {
+    let _ = rt.stderr().write_all(bytes);
 }
 
 // Says the line that a page holds, and empties it. It has to be shorter than what a page takes before it is written out.
-pub fn say_page(line: &mut Page) {
-    send(line);
+pub fn say_page(rt: HostRuntime, line: &mut Page) {
+    send(rt, crate::held(line));
     crate::set_end(line, crate::START);
 }
 
-// The number of an error; 255 where the system has given none.
-fn number_of(error: i32) -> usize {
-    if error > 0 { error as usize } else { 255 }
+// The system's number of an error; 255 where it has none, as where a write took nothing.
+pub fn number_of(error: &Error) -> usize {
+    match error.raw_os_error() {
+        Some(code) => number_of_code(code),
+        None => 255,
+    }
 }
 
-// The number of the error of the call that failed last.
-pub fn last() -> usize {
-    number_of(os::errno())
+fn number_of_code(code: i32) -> usize {
+    if code > 0 { code as usize } else { 255 }
+}
+
+// Says of a file what cannot be done, and why, by the system's number.
+pub fn say_of(rt: HostRuntime, name: &[u8], what: &[u8], error: usize) {
+    let mut line = [0; 360000];
+    crate::write_shown(rt, &mut line, name);
+    write(rt, &mut line, b": ");
+    write(rt, &mut line, what);
+    write(rt, &mut line, b": ");
+    write_cause(rt, &mut line, error);
+    write(rt, &mut line, b"\n");
+    send(rt, crate::held(&line));
 }
 
 // Says of a file what cannot be done, and why.
-pub fn say_of(name: &[u8], what: &[u8], error: usize) {
-    let mut line = [0; 360000];
-    crate::write_shown(&mut line, name);
-    write(&mut line, b": ");
-    write(&mut line, what);
-    write(&mut line, b": ");
-    write_cause(&mut line, error);
-    write(&mut line, b"\n");
-    send(&line);
+pub fn say(rt: HostRuntime, name: &[u8], what: &[u8], error: &Error) {
+    say_of(rt, name, what, number_of(error));
 }
 
-// Says of a file what cannot be done, and why the call that was made last failed.
-pub fn say(name: &[u8], what: &[u8]) {
-    say_of(name, what, last());
-}
-
-// Opens a file for reading, or says why it cannot; its descriptor, or a number below 0.
-pub fn open(name: &[u8]) -> i32 {
-    let fd = os::open_read(name);
-    if fd < 0 {
-        say(name, b"cannot be opened");
+// Opens a file for reading, or says why it cannot; then the system's number of the error.
+pub fn open(rt: HostRuntime, name: &[u8]) -> Result<File, usize> {
+    match files::open(rt, name) {
+        Ok(file) => Ok(file),
+        Err(error) => {
+            say(rt, name, b"cannot be opened", &error);
+            Err(number_of(&error))
+        }
     }
-    fd
 }
 
 // Says a line as it stands, as how a program is called.
-pub fn say_line(line: &[u8]) {
-    io::write_all(STDERR_FILENO, line);
+pub fn say_line(rt: HostRuntime, line: &[u8]) {
+    send(rt, line);
 }
 
 // Says that a text is awaited, where standard input is a terminal.
-pub fn say_waiting() {
-    if libc::isatty(STDIN_FILENO) == 1 {
-        say_line(b"reading from the terminal; Ctrl-D ends the text\n");
+pub fn say_waiting(rt: HostRuntime) {
+    if rt.stdin().is_terminal() {
+        say_line(rt, b"reading from the terminal; Ctrl-D ends the text\n");
     }
 }

@@ -2,26 +2,25 @@
 ghost use Rattle.console.specs.Inputs.{Within};
 
 use crate::{arguments, errors};
-use libc::STDIN_FILENO;
+use std::io::Read;
 
-// So many bytes came before the end of the text or of the room for it; or a read failed.
+// So many bytes came before the end of the text or of the room for it; or a read failed, by the system's number of the error.
 #[derive(Clone, Copy)]
 pub enum Input {
     Text(usize),
-    Failed,
+    Failed(usize),
 }
 
 // Reads to the start of a lent buffer.
-pub fn read(fd: i32, buffer: &mut [u8]) -> Input
+pub fn read<R: Read>(from: &mut R, buffer: &mut [u8]) -> Input
     ensures { Within result buffer.new }
 {
     let mut n = 0;
     while n < buffer.len() {
-        let got = libc::read(fd, &mut buffer[n..]);
-        if got < 0 {
-            return Input::Failed;
-        }
-        let more = io::count(got, &buffer[n..]);
+        let more = match from.read(&mut buffer[n..]) {
+            Ok(more) => more,
+            Err(error) => return Input::Failed(errors::number_of(&error)),
+        };
         if more == 0 {
             return Input::Text(n);
         }
@@ -30,35 +29,32 @@ pub fn read(fd: i32, buffer: &mut [u8]) -> Input
     Input::Text(n)
 }
 
-// Reads an open file, which is called by a name, and says so where a read failed.
-pub fn read_open(fd: i32, name: &[u8], buffer: &mut [u8]) -> Input {
-    match read(fd, buffer) {
+// Reads what is open, which is called by a name, and says so where a read failed.
+pub fn read_open<R: Read>(rt: HostRuntime, from: &mut R, name: &[u8], buffer: &mut [u8]) -> Input {
+    match read(from, buffer) {
         Input::Text(n) => Input::Text(n),
-        Input::Failed => {
-            errors::say(name, b"cannot be read");
-            Input::Failed
+        Input::Failed(error) => {
+            errors::say_of(rt, name, b"cannot be read", error);
+            Input::Failed(error)
         }
     }
 }
 
 // Reads the file that argument i names, and says so where that fails.
-pub fn read_named(i: usize, buffer: &mut [u8]) -> Input {
-    let mut name = io::buffer();
-    let n = arguments::argument(i, &mut name);
-    let fd = errors::open(&name[..n]);
-    if fd < 0 {
-        return Input::Failed;
+pub fn read_named(rt: HostRuntime, i: usize, buffer: &mut [u8]) -> Input {
+    let mut name = [0u8; 4096];
+    let n = arguments::argument(rt, i, &mut name);
+    match errors::open(rt, &name[..n]) {
+        Ok(mut file) => read_open(rt, &mut file, &name[..n], buffer),
+        Err(error) => Input::Failed(error),
     }
-    let input = read_open(fd, &name[..n], buffer);
-    libc::close(fd);
-    input
 }
 
 // Reads standard input where no file is named, else the first file named, and says so where that fails.
-pub fn read_asked(names: usize, buffer: &mut [u8]) -> Input {
+pub fn read_asked(rt: HostRuntime, names: usize, buffer: &mut [u8]) -> Input {
     if names == 0 {
-        errors::say_waiting();
-        return read_open(STDIN_FILENO, b"standard input", buffer);
+        errors::say_waiting(rt);
+        return read_open(rt, &mut rt.stdin(), b"standard input", buffer);
     }
-    read_named(1, buffer)
+    read_named(rt, 1, buffer)
 }

@@ -1,14 +1,17 @@
 // What the programs write to standard output: bytes, numbers, the refused line. Lines go through a page, which is written at once; what lies in a buffer
 // already is written by itself (`whole`).
 #![tactic(auto)]
+
 pub mod arguments;
 pub mod errors;
+pub mod files;
 pub mod inputs;
 pub mod whole;
 
 ghost use Rattle.std.specs.Prelude.{◌≤◌};
 
-use libc::STDOUT_FILENO;
+use itoa::Buffer;
+use std::io::Print;
 
 // What is to be written: in the first three bytes the place behind it, in the fourth the number of the error where a write has failed, and from the
 // fifth on the bytes. A page of zeros is empty. The longest line of a program, that of `oil_heading` for a name of 4,095 bytes and a version of 65,533,
@@ -70,28 +73,27 @@ fn held(page: &Page) -> &[u8] {
     token::part(page, START, end_of(page) - START)
 }
 
-// Whether what a page holds is written, or is not to be, since a write has failed before.
-fn is_written(page: &Page) -> bool {
-    if page[3] != 0 {
-        return true;
+// The number of the error of a write that has failed; 0 where all that a page holds is written.
+fn error_of_writing(rt: HostRuntime, page: &Page) -> u8 {
+    match rt.stdout().write_all(held(page)) {
+        Ok(()) => 0,
+        Err(error) => (errors::number_of(&error) % 256) as u8,
     }
-    io::write_all(STDOUT_FILENO, held(page))
 }
 
-// Writes out what a page holds, by one write if the system takes it so, and empties it.
-pub fn flush(page: &mut Page) {
-    let done = is_written(page);
-    set_end(page, START);
-    if !done {
-        page[3] = (errors::last() % 256) as u8;
+// Writes out what a page holds, by one write if the system takes it so, and empties it. Nothing is written where a write has failed before.
+pub fn flush(rt: HostRuntime, page: &mut Page) {
+    if page[3] == 0 {
+        page[3] = error_of_writing(rt, page);
     }
+    set_end(page, START);
 }
 
 // Writes out what a page holds, as the last thing that a program does, and says why where a write has failed.
-pub fn finish(page: &mut Page) {
-    flush(page);
+pub fn finish(rt: HostRuntime, page: &mut Page) {
+    flush(rt, page);
     if page[3] != 0 {
-        errors::say_of(b"standard output", b"cannot be written", wide(page[3]));
+        errors::say_of(rt, b"standard output", b"cannot be written", wide(page[3]));
     }
 }
 
@@ -117,30 +119,29 @@ fn append(page: &mut Page, bytes: &[u8]) -> usize {
 }
 
 // Writes bytes: to a page, which is written out before them where it has no room for them, and after them where they end a line and it is full.
-pub fn write(page: &mut Page, bytes: &[u8]) {
+pub fn write(rt: HostRuntime, page: &mut Page, bytes: &[u8]) {
     if lacks_room(page, bytes.len()) {
-        flush(page);
+        flush(rt, page);
     }
     let end = append(page, bytes);
     if end < FULL {
         return;
     }
     if ends_line(bytes) {
-        flush(page);
+        flush(rt, page);
     }
 }
 
-pub fn write_number(page: &mut Page, n: usize) {
-    let mut digits = [0u8; 20];
-    let k = io::decimal(n as u64, &mut digits);
-    write(page, &digits[..k]);
+pub fn write_number(rt: HostRuntime, page: &mut Page, n: usize) {
+    let mut buffer = Buffer::new();
+    write(rt, page, buffer.format(n).as_bytes());
 }
 
 // The line of a refusal: its number, and text and byte of its place.
-pub fn write_refusal(page: &mut Page, number: u8, place: usize) {
+pub fn write_refusal(rt: HostRuntime, page: &mut Page, number: u8, place: usize) {
     let mut line = [0; 96];
     let n = whole::put_refusal(&mut line, number as usize, place);
-    write(page, whole::front(&line, n));
+    write(rt, page, whole::front(&line, n));
 }
 
 // A blank or a character that stands for itself.
@@ -161,9 +162,9 @@ fn hex_digit(n: u8) -> u8 {
 }
 
 // A byte as two digits in lower-case hex.
-pub fn write_hex(page: &mut Page, byte: u8) {
+pub fn write_hex(rt: HostRuntime, page: &mut Page, byte: u8) {
     let pair = [hex_digit(byte / 16), hex_digit(byte)];
-    write(page, &pair);
+    write(rt, page, &pair);
 }
 
 // The first place from one on where no plain byte stands; the end where there is none.
@@ -181,20 +182,20 @@ fn plain_end(bytes: &[u8], from: usize) -> usize
 }
 
 // A byte that is no plain character.
-fn write_other(page: &mut Page, byte: u8) {
-    write(page, b"\\x");
-    write_hex(page, byte);
+fn write_other(rt: HostRuntime, page: &mut Page, byte: u8) {
+    write(rt, page, b"\\x");
+    write_hex(rt, page, byte);
 }
 
 // Bytes as they can be shown on a line: those that are no plain characters of ASCII, and `\`, as `\x` and two hex digits.
-pub fn write_shown(page: &mut Page, bytes: &[u8]) {
+pub fn write_shown(rt: HostRuntime, page: &mut Page, bytes: &[u8]) {
     let mut i = 0;
     while i < bytes.len() {
         let end = plain_end(bytes, i);
-        write(page, token::part(bytes, i, end - i));
+        write(rt, page, token::part(bytes, i, end - i));
         i = end;
         if i < bytes.len() {
-            write_other(page, bytes[i]);
+            write_other(rt, page, bytes[i]);
             i += 1;
         }
     }

@@ -1,22 +1,22 @@
 // What is written by itself, by one write if the system takes it so, and without a page: a text that lies in a buffer, and short lines.
 use crate::{errors, put};
-use libc::STDOUT_FILENO;
+use itoa::Buffer;
+use std::io::Print;
 
 // Room for `refused` and four numbers of at most 20 digits, each with the tab or line's end behind it.
 pub type Line = [u8; 96];
 
 // Writes bytes, and says why where that fails.
-pub fn write(bytes: &[u8]) {
-    if !io::write_all(STDOUT_FILENO, bytes) {
-        errors::say(b"standard output", b"cannot be written");
+pub fn write(rt: HostRuntime, bytes: &[u8]) {
+    if let Err(error) = rt.stdout().write_all(bytes) {
+        errors::say(rt, b"standard output", b"cannot be written", &error);
     }
 }
 
 // Puts a number and what follows it; the place behind them.
 fn put_number(line: &mut Line, at: usize, n: usize, after: &[u8]) -> usize {
-    let mut digits = [0u8; 20];
-    let k = io::decimal(n as u64, &mut digits);
-    let end = put(line, at, &digits[..k]);
+    let mut buffer = Buffer::new();
+    let end = put(line, at, buffer.format(n).as_bytes());
     put(line, end, after)
 }
 
@@ -39,22 +39,22 @@ pub fn front(line: &Line, n: usize) -> &[u8] {
 }
 
 // The line of a refusal.
-pub fn write_refusal(number: usize, place: usize) {
+pub fn write_refusal(rt: HostRuntime, number: usize, place: usize) {
     let mut line = [0; 96];
     let n = put_refusal(&mut line, number, place);
-    write(front(&line, n));
+    write(rt, front(&line, n));
 }
 
 // The line of a refusal of the first or the second text.
-pub fn write_refusal_of(which: usize, number: usize, place: usize) {
+pub fn write_refusal_of(rt: HostRuntime, which: usize, number: usize, place: usize) {
     let mut line = [0; 96];
     let at = put(&mut line, 0, b"refused\t");
     let next = put_number(&mut line, at, which, b"\t");
     let n = put_answer(&mut line, next, number, place);
-    write(front(&line, n));
+    write(rt, front(&line, n));
 }
 
 // The answer to `--version`.
-pub fn write_version() {
-    write(b"Kaukslini 1.0, for OIL 2.5\n");
+pub fn write_version(rt: HostRuntime) {
+    write(rt, b"Kaukslini 1.0, for OIL 2.5\n");
 }

@@ -44,4 +44,4 @@ Fits Failed = Unit {0}
 -- What was read of a text: at most one byte more than it may have.
 abbrev pub Short : Input → Type 0
 Short (Came n) = n ≤ 65536
-Short NotRead = Unit {0}
+Short (NotRead e) = Unit {0}

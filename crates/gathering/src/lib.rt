@@ -1,19 +1,24 @@
 // Gathers the texts that a reader is lent (document 02, Q-10): the main text, and then each file that it can open of those newly named, in expanded
 // order, at most eight texts in all.
 #![tactic(auto)]
+
 ghost use Rattle.std.specs.Prelude.{◌≡◌, ◌+◌, ◌≤◌, length};
 ghost use Rattle.std.proofs.lemmas.List.Edits.{sets};
-ghost use Rattle.io.specs.Counts.{IsPrefixLen};
+ghost use Rattle.console.specs.Counts.{IsPrefixLen};
 ghost use Rattle.gathering.specs.Gathered.{Rooms, MainTold, Gathered, Fits, Short};
 
 use console::inputs::Input;
 use console::{arguments, errors, inputs};
-use libc::STDIN_FILENO;
 use rows::cells;
 use sources::Name;
+use std::fs::File;
+use std::io::Read;
 
 // The longest name that can be opened.
 const LONGEST_NAME: usize = 4095;
+
+// The system's number of the error of a folder that is read as a file.
+const IS_FOLDER: usize = 21;
 
 // The room for the texts and their names: eight times a name of 4,095 bytes, the longest that can be opened, and 65,536 bytes of a text, one more than
 // it may have, so that a longer one is refused.
@@ -48,12 +53,12 @@ fn store(out: &mut [u8], at: usize, bytes: &[u8])
 
 // The bytes of an open file, at most 65,536, from a place of the buffer on; how many they are, or that a read failed. A file that grows or shrinks
 // while it is read has those that came.
-fn read_text(fd: i32, buffer: &mut [u8], at: usize) -> Input
+fn read_text<R: Read>(from: &mut R, buffer: &mut [u8], at: usize) -> Input
     requires { at + 65536 ≤ length buffer.old }
     ensures { Short result }
 {
     let end = at + token::PLACES;
-    inputs::read(fd, &mut buffer[at..end])
+    inputs::read(from, &mut buffer[at..end])
 }
 
 // The name on the include line of a `#`, to the start of a lent one; its length, 0 where it does not fit.
@@ -99,44 +104,46 @@ fn missing_name(buffer: &[u8], lengths: &[usize], origins: &mut [usize], name: &
 }
 
 // Says of a file that it cannot be read. A folder is not added, as a file that cannot be opened; any other fault ends the gathering.
-fn not_read(name: &[u8]) -> Added
+fn not_read(rt: HostRuntime, name: &[u8], error: usize) -> Added
     ensures { Fits result }
 {
-    let error = os::errno();
-    errors::say(name, b"cannot be read");
-    if error == libc::EISDIR {
+    errors::say_of(rt, name, b"cannot be read", error);
+    if error == IS_FOLDER {
         return Added::Nothing;
     }
     Added::Failed
 }
 
 // The name and the bytes of an open file, behind what is filled.
-fn add_open(fd: i32, name: &[u8], buffer: &mut [u8], at: usize) -> Added
+fn add_open(rt: HostRuntime, file: &mut File, name: &[u8], buffer: &mut [u8], at: usize) -> Added
     requires { (length name.now ≤ 4095) × (at + 69631 ≤ length buffer.old) }
     ensures { Fits result }
 {
     store(buffer, at, name);
-    match read_text(fd, buffer, at + name.len()) {
+    match read_text(file, buffer, at + name.len()) {
         Input::Text(n) => Added::Text(name.len(), n),
-        Input::Failed => not_read(name),
+        Input::Failed(error) => not_read(rt, name, error),
     }
 }
 
-fn add_named(name: &[u8], buffer: &mut [u8], at: usize) -> Added
+fn add_named(rt: HostRuntime, name: &[u8], buffer: &mut [u8], at: usize) -> Added
     requires { (length name.now ≤ 4095) × (at + 69631 ≤ length buffer.old) }
     ensures { Fits result }
 {
-    let fd = errors::open(name);
-    if fd < 0 {
-        return Added::Nothing;
+    match errors::open(rt, name) {
+        Ok(mut file) => add_open(rt, &mut file, name, buffer, at),
+        Err(_) => Added::Nothing,
     }
-    let added = add_open(fd, name, buffer, at);
-    libc::close(fd);
-    added
 }
 
 // The first missing text, after what is filled, if there is one and it can be opened.
-fn add_missing(buffer: &mut [u8], lengths: &[usize], used: usize, origins: &mut [usize]) -> Added
+fn add_missing(
+    rt: HostRuntime,
+    buffer: &mut [u8],
+    lengths: &[usize],
+    used: usize,
+    origins: &mut [usize],
+) -> Added
     requires { used + 69631 ≤ length buffer.old }
     ensures { Fits result }
 {
@@ -145,12 +152,18 @@ fn add_missing(buffer: &mut [u8], lengths: &[usize], used: usize, origins: &mut 
     if n == 0 {
         return Added::Nothing;
     }
-    add_named(&name[..n], buffer, used)
+    add_named(rt, &name[..n], buffer, used)
 }
 
 // Adds to the main text, of so many bytes, each missing text that can be opened; how many lengths are told then. Where a read failed, that is one, and
 // no text.
-fn add_all(buffer: &mut [u8], lengths: &mut [usize], main: usize, origins: &mut [usize]) -> usize
+fn add_all(
+    rt: HostRuntime,
+    buffer: &mut [u8],
+    lengths: &mut [usize],
+    main: usize,
+    origins: &mut [usize],
+) -> usize
     requires { MainTold buffer.old lengths.old main }
     ensures counts { IsPrefixLen result lengths.new }
     ensures gathered { Gathered buffer.new lengths.new result }
@@ -158,7 +171,7 @@ fn add_all(buffer: &mut [u8], lengths: &mut [usize], main: usize, origins: &mut 
     let mut used = main;
     let mut told = 2;
     while told < 15 {
-        match add_missing(buffer, &lengths[..told], used, origins) {
+        match add_missing(rt, buffer, &lengths[..told], used, origins) {
             Added::Nothing => return told,
             Added::Failed => return 1,
             Added::Text(name, text) => {
@@ -176,8 +189,9 @@ fn add_all(buffer: &mut [u8], lengths: &mut [usize], main: usize, origins: &mut 
 // Their lengths are told in that order; returns how many these are, two for each text. Names are opened as they are written. Nothing is gathered from
 // the first fault on that no text cures. Where the buffer is shorter than its room, the lengths are fewer than 16 or the origins fewer than 131,070,
 // nothing is touched and nothing told. Where a read failed, that is said, the main text being called by the lent name, and one length is told: no text.
-pub fn gather(
-    fd: i32,
+pub fn gather<R: Read>(
+    rt: HostRuntime,
+    from: &mut R,
     name: &[u8],
     buffer: &mut [u8],
     lengths: &mut [usize],
@@ -196,13 +210,13 @@ pub fn gather(
         return 0;
     }
     lengths[0] = 0;
-    match read_text(fd, buffer, 0) {
+    match read_text(from, buffer, 0) {
         Input::Text(n) => {
             lengths[1] = n;
-            add_all(buffer, lengths, n, origins)
+            add_all(rt, buffer, lengths, n, origins)
         }
-        Input::Failed => {
-            errors::say(name, b"cannot be read");
+        Input::Failed(error) => {
+            errors::say_of(rt, name, b"cannot be read", error);
             1
         }
     }
@@ -210,6 +224,7 @@ pub fn gather(
 
 // Gathers the texts of the file that argument i names, as `gather` does. Where it cannot be opened, that is said, and nothing is told.
 pub fn gather_named(
+    rt: HostRuntime,
     i: usize,
     buffer: &mut [u8],
     lengths: &mut [usize],
@@ -217,15 +232,12 @@ pub fn gather_named(
 ) -> usize
     ensures { IsPrefixLen result lengths.new }
 {
-    let mut name = io::buffer();
-    let n = arguments::argument(i, &mut name);
-    let fd = errors::open(&name[..n]);
-    if fd < 0 {
-        return 0;
+    let mut name = [0u8; 4096];
+    let n = arguments::argument(rt, i, &mut name);
+    match errors::open(rt, &name[..n]) {
+        Ok(mut file) => gather(rt, &mut file, &name[..n], buffer, lengths, origins),
+        Err(_) => 0,
     }
-    let told = gather(fd, &name[..n], buffer, lengths, origins);
-    libc::close(fd);
-    told
 }
 
 // Tells an empty main text alone; how many lengths that are.
@@ -241,15 +253,28 @@ pub fn tell_empty(lengths: &mut [usize]) -> usize
 }
 
 // Gathers the texts of standard input, as `gather` does.
-pub fn gather_input(buffer: &mut [u8], lengths: &mut [usize], origins: &mut [usize]) -> usize
+pub fn gather_input(
+    rt: HostRuntime,
+    buffer: &mut [u8],
+    lengths: &mut [usize],
+    origins: &mut [usize],
+) -> usize
     ensures { IsPrefixLen result lengths.new }
 {
-    errors::say_waiting();
-    gather(STDIN_FILENO, b"standard input", buffer, lengths, origins)
+    errors::say_waiting(rt);
+    gather(
+        rt,
+        &mut rt.stdin(),
+        b"standard input",
+        buffer,
+        lengths,
+        origins,
+    )
 }
 
 // Gathers the texts of standard input where no file is named, else of the first file named.
 pub fn gather_asked(
+    rt: HostRuntime,
     names: usize,
     buffer: &mut [u8],
     lengths: &mut [usize],
@@ -258,13 +283,14 @@ pub fn gather_asked(
     ensures { IsPrefixLen result lengths.new }
 {
     if names == 0 {
-        return gather_input(buffer, lengths, origins);
+        return gather_input(rt, buffer, lengths, origins);
     }
-    gather_named(1, buffer, lengths, origins)
+    gather_named(rt, 1, buffer, lengths, origins)
 }
 
 // Gathers the same for a main text that is read already, of which at most 65,536 bytes are taken.
 pub fn gather_text(
+    rt: HostRuntime,
     text: &[u8],
     buffer: &mut [u8],
     lengths: &mut [usize],
@@ -286,7 +312,7 @@ pub fn gather_text(
     store(buffer, 0, &text[..n]);
     lengths[0] = 0;
     lengths[1] = n;
-    add_all(buffer, lengths, n, origins)
+    add_all(rt, buffer, lengths, n, origins)
 }
 
 // Where the name of a text begins: after the names and texts before it; the buffer's end where these do not lie inside.
