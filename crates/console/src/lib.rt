@@ -6,11 +6,11 @@ pub mod arguments;
 pub mod errors;
 pub mod files;
 pub mod inputs;
+pub mod number;
 pub mod whole;
 
 ghost use Rattle.std.specs.Prelude.{◌≤◌};
 
-use itoa::Buffer;
 use std::io::Print;
 
 // What is to be written: in the first three bytes the place behind it, in the fourth the number of the error where a write has failed, and from the
@@ -133,8 +133,9 @@ pub fn write(rt: HostRuntime, page: &mut Page, bytes: &[u8]) {
 }
 
 pub fn write_number(rt: HostRuntime, page: &mut Page, n: usize) {
-    let mut buffer = Buffer::new();
-    write(rt, page, buffer.format(n).as_bytes());
+    let mut digits = [0u8; 20];
+    let k = number::decimal(n as u64, &mut digits);
+    write(rt, page, &digits[..k]);
 }
 
 // The line of a refusal: its number, and text and byte of its place.

@@ -1,6 +1,5 @@
 // What is written by itself, by one write if the system takes it so, and without a page: a text that lies in a buffer, and short lines.
-use crate::{errors, put};
-use itoa::Buffer;
+use crate::{errors, number, put};
 use std::io::Print;
 
 // Room for `refused` and four numbers of at most 20 digits, each with the tab or line's end behind it.
@@ -15,8 +14,9 @@ pub fn write(rt: HostRuntime, bytes: &[u8]) {
 
 // Puts a number and what follows it; the place behind them.
 fn put_number(line: &mut Line, at: usize, n: usize, after: &[u8]) -> usize {
-    let mut buffer = Buffer::new();
-    let end = put(line, at, buffer.format(n).as_bytes());
+    let mut digits = [0u8; 20];
+    let k = number::decimal(n as u64, &mut digits);
+    let end = put(line, at, &digits[..k]);
     put(line, end, after)
 }
 

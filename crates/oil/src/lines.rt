@@ -7,46 +7,46 @@ use layout::{definition, object, sorts, value};
 use rows::{cells, parts};
 
 // The part of a text that two cells of a row tell.
-fn write_cells(page: &mut Page, text: &[u8], t: &[usize], width: usize, row: usize, column: usize) {
+fn write_cells(rt: HostRuntime, page: &mut Page, text: &[u8], t: &[usize], width: usize, row: usize, column: usize) {
     let at = cells::cell_of(t, width, row, column);
     let len = cells::cell_of(t, width, row, cells::place_after(64, column, 1));
-    write(page, token::part(text, at, len));
+    write(rt, page, token::part(text, at, len));
 }
 
 // The bytes in lower-case hex.
-fn write_hex(page: &mut Page, bytes: &[u8]) {
+fn write_hex(rt: HostRuntime, page: &mut Page, bytes: &[u8]) {
     let mut i = 0;
     while i < bytes.len() {
-        console::write_hex(page, bytes[i]);
+        console::write_hex(rt, page, bytes[i]);
         i += 1;
     }
 }
 
 // What stands between the quotes of a string.
-fn write_string(page: &mut Page, word: &[u8]) {
+fn write_string(rt: HostRuntime, page: &mut Page, word: &[u8]) {
     if word.len() < 2 {
         return;
     }
-    write_hex(page, token::part(word, 1, word.len() - 2));
+    write_hex(rt, page, token::part(word, 1, word.len() - 2));
 }
 
 // The value of row k: a number in decimal, a string in hex, any other as its word stands.
-fn write_value(page: &mut Page, text: &[u8], v: &[usize], k: usize) {
+fn write_value(rt: HostRuntime, page: &mut Page, text: &[u8], v: &[usize], k: usize) {
     let sort = cells::cell_of(v, value::WIDTH, k, value::SORT);
     if sort == sorts::NUMBER {
         if cells::cell_of(v, value::WIDTH, k, value::NEGATIVE) == 1 {
-            write(page, b"-");
+            write(rt, page, b"-");
         }
-        write_number(page, cells::cell_of(v, value::WIDTH, k, value::AMOUNT));
+        write_number(rt, page, cells::cell_of(v, value::WIDTH, k, value::AMOUNT));
         return;
     }
     if sort == sorts::STRING {
         let at = cells::cell_of(v, value::WIDTH, k, value::WORD);
         let len = cells::cell_of(v, value::WIDTH, k, value::WORD_LENGTH);
-        write_string(page, token::part(text, at, len));
+        write_string(rt, page, token::part(text, at, len));
         return;
     }
-    write_cells(page, text, v, value::WIDTH, k, value::WORD);
+    write_cells(rt, page, text, v, value::WIDTH, k, value::WORD);
 }
 
 // Whether two rows have the same owner.
@@ -97,13 +97,13 @@ fn position(text: &[u8], d: &[usize], v: &[usize], k: usize) -> usize {
 }
 
 // The attribute of row k, with its position where it is a list.
-fn write_step(page: &mut Page, text: &[u8], d: &[usize], v: &[usize], k: usize) {
+fn write_step(rt: HostRuntime, page: &mut Page, text: &[u8], d: &[usize], v: &[usize], k: usize) {
     let j = cells::cell_of(v, value::WIDTH, k, value::DEFINITION);
-    write_cells(page, text, d, definition::LENT_WIDTH, j, definition::NAME);
+    write_cells(rt, page, text, d, definition::LENT_WIDTH, j, definition::NAME);
     if cells::cell_of(d, definition::LENT_WIDTH, j, definition::LIST) == 1 {
-        write(page, b"[");
-        write_number(page, position(text, d, v, k));
-        write(page, b"]");
+        write(rt, page, b"[");
+        write_number(rt, page, position(text, d, v, k));
+        write(rt, page, b"]");
     }
 }
 
@@ -144,53 +144,53 @@ fn row_up(v: &[usize], k: usize, n: usize) -> usize {
 }
 
 // The attribute n rows above row k, and a dot if one follows.
-fn write_level(page: &mut Page, text: &[u8], d: &[usize], v: &[usize], k: usize, n: usize) {
-    write_step(page, text, d, v, row_up(v, k, n));
+fn write_level(rt: HostRuntime, page: &mut Page, text: &[u8], d: &[usize], v: &[usize], k: usize, n: usize) {
+    write_step(rt, page, text, d, v, row_up(v, k, n));
     if 0 < n {
-        write(page, b".");
+        write(rt, page, b".");
     }
 }
 
 // The path of row k: the attributes from the object down, separated by dots.
-fn write_path(page: &mut Page, text: &[u8], d: &[usize], v: &[usize], k: usize) {
+fn write_path(rt: HostRuntime, page: &mut Page, text: &[u8], d: &[usize], v: &[usize], k: usize) {
     let mut n = depth(v, k) + 1;
     while 0 < n {
         n -= 1;
-        write_level(page, text, d, v, k, n);
+        write_level(rt, page, text, d, v, k, n);
     }
 }
 
 // Kind and name of the object whose row is one less than x, each between tabs.
-fn write_object(page: &mut Page, text: &[u8], o: &[usize], x: usize) {
+fn write_object(rt: HostRuntime, page: &mut Page, text: &[u8], o: &[usize], x: usize) {
     if x == 0 {
         return;
     }
-    write(page, b"\t");
-    write_cells(page, text, o, object::LENT_WIDTH, x - 1, object::WORD);
-    write(page, b"\t");
-    write_cells(page, text, o, object::LENT_WIDTH, x - 1, object::NAME);
-    write(page, b"\t");
+    write(rt, page, b"\t");
+    write_cells(rt, page, text, o, object::LENT_WIDTH, x - 1, object::WORD);
+    write(rt, page, b"\t");
+    write_cells(rt, page, text, o, object::LENT_WIDTH, x - 1, object::NAME);
+    write(rt, page, b"\t");
 }
 
 // The value of the row that is one less than k; nothing where there is none.
-fn write_side(page: &mut Page, text: &[u8], v: &[usize], k: usize) {
+fn write_side(rt: HostRuntime, page: &mut Page, text: &[u8], v: &[usize], k: usize) {
     if k == 0 {
         return;
     }
-    write_value(page, text, v, k - 1);
+    write_value(rt, page, text, v, k - 1);
 }
 
 // Who has the object or the value.
-fn write_who(page: &mut Page, a: usize, b: usize) {
+fn write_who(rt: HostRuntime, page: &mut Page, a: usize, b: usize) {
     if b == 0 {
-        write(page, b"first");
+        write(rt, page, b"first");
         return;
     }
     if a == 0 {
-        write(page, b"second");
+        write(rt, page, b"second");
         return;
     }
-    write(page, b"both");
+    write(rt, page, b"both");
 }
 
 // Whether the record is that of an object which one text has alone.
@@ -203,6 +203,7 @@ fn is_alone(r: Difference) -> bool {
 
 // The line of an object which one text has alone.
 fn write_alone(
+    rt: HostRuntime,
     page: &mut Page,
     first: &[u8],
     o: &[usize],
@@ -210,14 +211,15 @@ fn write_alone(
     o2: &[usize],
     r: Difference,
 ) {
-    write_who(page, r.first_object, r.second_object);
-    write_object(page, first, o, r.first_object);
-    write_object(page, second, o2, r.second_object);
-    write(page, b"\t\t\n");
+    write_who(rt, page, r.first_object, r.second_object);
+    write_object(rt, page, first, o, r.first_object);
+    write_object(rt, page, second, o2, r.second_object);
+    write(rt, page, b"\t\t\n");
 }
 
 // The path of a value, from the first text where it has it.
 fn write_way(
+    rt: HostRuntime,
     page: &mut Page,
     first: &[u8],
     d: &[usize],
@@ -228,16 +230,17 @@ fn write_way(
     r: Difference,
 ) {
     if r.first_value != 0 {
-        write_path(page, first, d, v, r.first_value - 1);
+        write_path(rt, page, first, d, v, r.first_value - 1);
         return;
     }
     if r.second_value != 0 {
-        write_path(page, second, d2, v2, r.second_value - 1);
+        write_path(rt, page, second, d2, v2, r.second_value - 1);
     }
 }
 
 // The line of a record.
 pub fn write_line(
+    rt: HostRuntime,
     page: &mut Page,
     first: &[u8],
     d: &[usize],
@@ -250,15 +253,15 @@ pub fn write_line(
     r: Difference,
 ) {
     if is_alone(r) {
-        write_alone(page, first, o, second, o2, r);
+        write_alone(rt, page, first, o, second, o2, r);
         return;
     }
-    write_who(page, r.first_value, r.second_value);
-    write_object(page, first, o, r.first_object);
-    write_way(page, first, d, v, second, d2, v2, r);
-    write(page, b"\t");
-    write_side(page, first, v, r.first_value);
-    write(page, b"\t");
-    write_side(page, second, v2, r.second_value);
-    write(page, b"\n");
+    write_who(rt, page, r.first_value, r.second_value);
+    write_object(rt, page, first, o, r.first_object);
+    write_way(rt, page, first, d, v, second, d2, v2, r);
+    write(rt, page, b"\t");
+    write_side(rt, page, first, v, r.first_value);
+    write(rt, page, b"\t");
+    write_side(rt, page, second, v2, r.second_value);
+    write(rt, page, b"\n");
 }

@@ -2,7 +2,7 @@
 // number, tab, text, tab, byte. With two file names it compares the two texts, each with the files that it includes: a line for each difference, at
 // most 64, and the total.
 #![tactic(auto)]
-ghost use Rattle.io.specs.Counts.{IsPrefixLen};
+ghost use Rattle.console.specs.Counts.{IsPrefixLen};
 
 use comparing::Found;
 use console::arguments::Asked;
@@ -14,17 +14,17 @@ use writing::Written;
 
 mod lines;
 
-fn write_written(output: &[u8], written: Written) {
+fn write_written(rt: HostRuntime, output: &[u8], written: Written) {
     let length = written.length;
     let answer = written.answer;
     match answer {
-        Answer::Accepted => whole::write(token::part(output, 0, length)),
-        Answer::Refused(number, place) => whole::write_refusal(number as usize, place),
+        Answer::Accepted => whole::write(rt, token::part(output, 0, length)),
+        Answer::Refused(number, place) => whole::write_refusal(rt, number as usize, place),
     }
 }
 
 // The normal text of a text without a `#`, which is answered by itself as with what it includes (crates/sources_reading: PlainRead).
-fn write_plain(text: &[u8]) {
+fn write_plain(rt: HostRuntime, text: &[u8]) {
     let mut definitions = [0; definition::LENT];
     let mut enumerators = [0; enumerator::LENT];
     let mut objects = [0; object::LENT];
@@ -38,11 +38,11 @@ fn write_plain(text: &[u8]) {
         &mut values,
         &mut output,
     );
-    write_written(&output, written);
+    write_written(rt, &output, written);
 }
 
 // The normal text of lent texts.
-fn write_expanded(buffer: &[u8], lengths: &[usize], origins: &mut [usize]) {
+fn write_expanded(rt: HostRuntime, buffer: &[u8], lengths: &[usize], origins: &mut [usize]) {
     let mut expanded = [0; token::LONGEST];
     let mut definitions = [0; definition::LENT];
     let mut enumerators = [0; enumerator::LENT];
@@ -60,36 +60,36 @@ fn write_expanded(buffer: &[u8], lengths: &[usize], origins: &mut [usize]) {
         &mut values,
         &mut output,
     );
-    write_written(&output, written);
+    write_written(rt, &output, written);
 }
 
 // The normal text of a text with the files that it includes.
-fn write_gathered(text: &[u8]) {
+fn write_gathered(rt: HostRuntime, text: &[u8]) {
     let mut buffer = [0; gathering::ROOM];
     let mut lengths = [0; sources::LENGTHS];
     let mut origins = [0; gathering::ORIGINS];
-    let told = gathering::gather_text(text, &mut buffer, &mut lengths, &mut origins);
+    let told = gathering::gather_text(rt, text, &mut buffer, &mut lengths, &mut origins);
     if told < 2 {
         return;
     }
-    write_expanded(&buffer, &lengths[..told], &mut origins);
+    write_expanded(rt, &buffer, &lengths[..told], &mut origins);
 }
 
-fn write_normal(text: &[u8]) {
+fn write_normal(rt: HostRuntime, text: &[u8]) {
     let alone = [0, text.len()];
     if sources::is_plain(text, &alone) {
-        write_plain(text);
+        write_plain(rt, text);
         return;
     }
-    write_gathered(text);
+    write_gathered(rt, text);
 }
 
 // Gathers the texts of the file that argument i names. A file that cannot be opened is empty.
-fn gather_side(i: usize, buffer: &mut [u8], lengths: &mut [usize]) -> usize
+fn gather_side(rt: HostRuntime, i: usize, buffer: &mut [u8], lengths: &mut [usize]) -> usize
     ensures { IsPrefixLen result lengths.new }
 {
     let mut origins = [0; gathering::ORIGINS];
-    let told = gathering::gather_named(i, buffer, lengths, &mut origins);
+    let told = gathering::gather_named(rt, i, buffer, lengths, &mut origins);
     if told == 0 {
         return gathering::tell_empty(lengths);
     }
@@ -98,6 +98,7 @@ fn gather_side(i: usize, buffer: &mut [u8], lengths: &mut [usize]) -> usize
 
 // The line of record k, if there is one.
 fn write_record(
+    rt: HostRuntime,
     page: &mut Page,
     first: &[u8],
     d: &[usize],
@@ -117,11 +118,12 @@ fn write_record(
         return;
     }
     let r = found.records[k];
-    lines::write_line(page, first, d, o, v, second, d2, o2, v2, r);
+    lines::write_line(rt, page, first, d, o, v, second, d2, o2, v2, r);
 }
 
 // The lines of what was found, and the total.
 fn write_records(
+    rt: HostRuntime,
     page: &mut Page,
     first: &[u8],
     d: &[usize],
@@ -135,16 +137,17 @@ fn write_records(
 ) {
     let mut k = 0;
     while k < comparing::RECORDS {
-        write_record(page, first, d, o, v, second, d2, o2, v2, found, k);
+        write_record(rt, page, first, d, o, v, second, d2, o2, v2, found, k);
         k += 1;
     }
-    write(page, b"total\t");
-    write_number(page, found.total);
-    write(page, b"\n");
+    write(rt, page, b"total\t");
+    write_number(rt, page, found.total);
+    write(rt, page, b"\n");
 }
 
 // The same on a page of its own.
 fn write_found(
+    rt: HostRuntime,
     first: &[u8],
     d: &[usize],
     o: &[usize],
@@ -156,12 +159,12 @@ fn write_found(
     found: Found,
 ) {
     let mut page = [0; 360000];
-    write_records(&mut page, first, d, o, v, second, d2, o2, v2, found);
-    console::finish(&mut page);
+    write_records(rt, &mut page, first, d, o, v, second, d2, o2, v2, found);
+    console::finish(rt, &mut page);
 }
 
 // Compares lent texts. The lines are written from the expanded texts and the tables that they were read into.
-fn compare_texts(first: &[u8], lengths: &[usize], second: &[u8], lengths2: &[usize]) {
+fn compare_texts(rt: HostRuntime, first: &[u8], lengths: &[usize], second: &[u8], lengths2: &[usize]) {
     let mut expanded = [0; token::LONGEST];
     let mut origins = [0; token::LONGEST];
     let mut expanded2 = [0; token::LONGEST];
@@ -194,61 +197,62 @@ fn compare_texts(first: &[u8], lengths: &[usize], second: &[u8], lengths2: &[usi
     );
     let c = found.compared;
     if c.which != 0 {
-        whole::write_refusal_of(c.which, c.number, c.place);
+        whole::write_refusal_of(rt, c.which, c.number, c.place);
         return;
     }
-    write_found(&expanded, &d, &o, &v, &expanded2, &d2, &o2, &v2, found);
+    write_found(rt, &expanded, &d, &o, &v, &expanded2, &d2, &o2, &v2, found);
 }
 
 // Compares the texts of a file and those of the second one named.
-fn compare_second(first: &[u8], lengths: &[usize]) {
+fn compare_second(rt: HostRuntime, first: &[u8], lengths: &[usize]) {
     let mut second = [0; gathering::ROOM];
     let mut lengths2 = [0; sources::LENGTHS];
-    let told = gather_side(2, &mut second, &mut lengths2);
+    let told = gather_side(rt, 2, &mut second, &mut lengths2);
     if told < 2 {
         return;
     }
-    compare_texts(first, lengths, &second, &lengths2[..told]);
+    compare_texts(rt, first, lengths, &second, &lengths2[..told]);
 }
 
-fn compare_files() {
+fn compare_files(rt: HostRuntime) {
     let mut first = [0; gathering::ROOM];
     let mut lengths = [0; sources::LENGTHS];
-    let told = gather_side(1, &mut first, &mut lengths);
+    let told = gather_side(rt, 1, &mut first, &mut lengths);
     if told < 2 {
         return;
     }
-    compare_second(&first, &lengths[..told]);
+    compare_second(rt, &first, &lengths[..told]);
 }
 
 // The answer to one text.
-fn answer_text(names: usize) {
-    let mut text = io::large_buffer();
-    match inputs::read_asked(names, &mut text) {
-        Input::Text(n) => write_normal(token::part(&text, 0, n)),
-        Input::Failed => {}
+fn answer_text(rt: HostRuntime, names: usize) {
+    let mut text = [0u8; token::PLACES];
+    match inputs::read_asked(rt, names, &mut text) {
+        Input::Text(n) => write_normal(rt, token::part(&text, 0, n)),
+        Input::Failed(_) => {}
     }
 }
 
-fn answer(names: usize) {
+fn answer(rt: HostRuntime, names: usize) {
     if names == 2 {
-        compare_files();
+        compare_files(rt);
         return;
     }
-    answer_text(names);
+    answer_text(rt, names);
 }
 
-fn write_help() {
+fn write_help(rt: HostRuntime) {
     whole::write(
+        rt,
         b"oil [FILE]: the normal text of FILE, or of standard input, or refused, number, text and byte\noil FIRST SECOND: how two files differ, a line each, and the total\n",
     );
 }
 
-fn main() {
-    match arguments::given(2) {
-        Asked::Names(n) => answer(n),
-        Asked::Help => write_help(),
-        Asked::Version => whole::write_version(),
-        Asked::Wrong => errors::say_line(b"usage: oil [FILE] or oil FIRST SECOND; oil --help\n"),
+fn main(rt: HostRuntime) {
+    match arguments::given(rt, 2) {
+        Asked::Names(n) => answer(rt, n),
+        Asked::Help => write_help(rt),
+        Asked::Version => whole::write_version(rt),
+        Asked::Wrong => errors::say_line(rt, b"usage: oil [FILE] or oil FIRST SECOND; oil --help\n"),
     }
 }

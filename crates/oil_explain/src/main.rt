@@ -13,27 +13,32 @@ mod expected;
 mod which;
 
 // What a refusal from 1 to 9, but for 4, means.
-fn write_early(page: &mut Page, number: u8) {
+fn write_early(rt: HostRuntime, page: &mut Page, number: u8) {
     match number {
-        1 => write(page, b"the lent tables are too short"),
+        1 => write(rt, page, b"the lent tables are too short"),
         3 => write(
+        rt,
             page,
             b"no token begins here, or a string or comment that begins here is not ended",
         ),
         5 => write(
+        rt,
             page,
             b"this brace is the seventeenth open one; at most sixteen may be open",
         ),
-        6 => write(page, b"the version string is not 2.5"),
+        6 => write(rt, page, b"the version string is not 2.5"),
         7 => write(
+        rt,
             page,
             b"more than 512 definitions, or more than 1,024 enumerators, TRUE and FALSE not counted",
         ),
         8 => write(
+        rt,
             page,
             b"a kind specified, an attribute defined in its scope, or an enumerator listed a second time",
         ),
         _ => write(
+        rt,
             page,
             b"the name stands under another value of the same attribute with other type words",
         ),
@@ -41,25 +46,25 @@ fn write_early(page: &mut Page, number: u8) {
 }
 
 // What refusal 21 means at a place of the expanded text: which of its two faults it is.
-fn write_bound(page: &mut Page, text: &[u8], place: usize) {
+fn write_bound(rt: HostRuntime, page: &mut Page, text: &[u8], place: usize) {
     if explaining::bounds::outside_type(text, place) {
-        write(page, b"the bound or listed number lies outside its type");
+        write(rt, page, b"the bound or listed number lies outside its type");
         return;
     }
-    write(page, b"the low bound is above the high one");
+    write(rt, page, b"the low bound is above the high one");
 }
 
 // What refusal 4, 13 to 16, 18 or 21 means at a place of the expanded text.
-fn write_cause(page: &mut Page, text: &[u8], number: u8, place: usize) {
+fn write_cause(rt: HostRuntime, page: &mut Page, text: &[u8], number: u8, place: usize) {
     match number {
-        4 => expected::write_unexpected(page, text, place),
-        21 => write_bound(page, text, place),
-        _ => which::write_which(page, text, number, place),
+        4 => expected::write_unexpected(rt, page, text, place),
+        21 => write_bound(rt, page, text, place),
+        _ => which::write_which(rt, page, text, number, place),
     }
 }
 
 // The same; the reading of the expanded text has its place there.
-fn write_cause_in(page: &mut Page, text: &[u8]) {
+fn write_cause_in(rt: HostRuntime, page: &mut Page, text: &[u8]) {
     let mut definitions = [0; definition::LENT];
     let mut enumerators = [0; enumerator::LENT];
     let mut objects = [0; object::LENT];
@@ -74,28 +79,30 @@ fn write_cause_in(page: &mut Page, text: &[u8]) {
     let answer = r.answer;
     match answer {
         Answer::Accepted => {}
-        Answer::Refused(number, place) => write_cause(page, text, number, place),
+        Answer::Refused(number, place) => write_cause(rt, page, text, number, place),
     }
 }
 
 // The same for the lent texts.
-fn write_cause_of(page: &mut Page, buffer: &[u8], lengths: &[usize]) {
+fn write_cause_of(rt: HostRuntime, page: &mut Page, buffer: &[u8], lengths: &[usize]) {
     let mut expanded = [0; token::LONGEST];
     let mut origins = [0; token::LONGEST];
     let e = sources::expand(buffer, lengths, &mut expanded, &mut origins);
-    write_cause_in(page, token::part(&expanded, 0, e.length));
+    write_cause_in(rt, page, token::part(&expanded, 0, e.length));
 }
 
 // What a refusal from 27 on means.
-fn write_including(page: &mut Page, number: u8) {
+fn write_including(rt: HostRuntime, page: &mut Page, number: u8) {
     match number {
-        27 => write(page, b"the text is included while it is still open"),
+        27 => write(rt, page, b"the text is included while it is still open"),
         28 => write(
+        rt,
             page,
             b"the file is not there, cannot be opened, or would be the ninth text",
         ),
-        29 => write(page, b"a `#` that is not that of an include line"),
+        29 => write(rt, page, b"a `#` that is not that of an include line"),
         _ => write(
+        rt,
             page,
             b"more than 65,535 bytes in one text or after expansion",
         ),
@@ -103,40 +110,42 @@ fn write_including(page: &mut Page, number: u8) {
 }
 
 // What a refusal means; 2, 10 and 12 are no longer given.
-fn write_meaning(page: &mut Page, buffer: &[u8], lengths: &[usize], number: u8) {
+fn write_meaning(rt: HostRuntime, page: &mut Page, buffer: &[u8], lengths: &[usize], number: u8) {
     match number {
         11 => write(
+        rt,
             page,
             b"more than 256 objects, more than 512 parts, or more than 2,048 statements",
         ),
-        17 => write(page, b"a second OS, COM or NM, or no OS or no APPMODE"),
-        19 => write(page, b"more than 2,048 resolved values"),
-        20 => write(page, b"the written text is longer than the output's room"),
-        4 | 13 | 14 | 15 | 16 | 18 | 21 => write_cause_of(page, buffer, lengths),
-        22 => write(page, b"a default outside type, range or list"),
-        23 => write(page, b"AUTO as a default without WITH_AUTO"),
+        17 => write(rt, page, b"a second OS, COM or NM, or no OS or no APPMODE"),
+        19 => write(rt, page, b"more than 2,048 resolved values"),
+        20 => write(rt, page, b"the written text is longer than the output's room"),
+        4 | 13 | 14 | 15 | 16 | 18 | 21 => write_cause_of(rt, page, buffer, lengths),
+        22 => write(rt, page, b"a default outside type, range or list"),
+        23 => write(rt, page, b"AUTO as a default without WITH_AUTO"),
         24 => write(
+        rt,
             page,
             b"the name is used before by an object of another kind",
         ),
-        27 | 28 | 29 | 30 => write_including(page, number),
-        _ => write_early(page, number),
+        27 | 28 | 29 | 30 => write_including(rt, page, number),
+        _ => write_early(rt, page, number),
     }
 }
 
-fn write_refusal(page: &mut Page, buffer: &[u8], lengths: &[usize], number: u8) {
-    write(page, b"refusal ");
-    write_number(page, number as usize);
-    write(page, b": ");
-    write_meaning(page, buffer, lengths, number);
-    write(page, b"\n");
+fn write_refusal(rt: HostRuntime, page: &mut Page, buffer: &[u8], lengths: &[usize], number: u8) {
+    write(rt, page, b"refusal ");
+    write_number(rt, page, number as usize);
+    write(rt, page, b": ");
+    write_meaning(rt, page, buffer, lengths, number);
+    write(rt, page, b"\n");
 }
 
-fn write_placed(page: &mut Page, buffer: &[u8], lengths: &[usize], number: u8, place: usize) {
+fn write_placed(rt: HostRuntime, page: &mut Page, buffer: &[u8], lengths: &[usize], number: u8, place: usize) {
     let mut lines = [0; 160];
-    let told = showing::write_position(page, buffer, lengths, place, &mut lines);
-    write_refusal(page, buffer, lengths, number);
-    showing::write_lines(page, told, &lines);
+    let told = showing::write_position(rt, page, buffer, lengths, place, &mut lines);
+    write_refusal(rt, page, buffer, lengths, number);
+    showing::write_lines(rt, page, told, &lines);
 }
 
 // The place that belongs to a refusal: where it stands first what 8 or 24 is given for, an attribute of its scope, an object's name; of 13 to 16 and 18
@@ -177,45 +186,45 @@ fn second_place(buffer: &[u8], lengths: &[usize]) -> usize {
     cells::get(&origins, first)
 }
 
-fn write_second(page: &mut Page, buffer: &[u8], lengths: &[usize], number: u8, place: usize) {
+fn write_second(rt: HostRuntime, page: &mut Page, buffer: &[u8], lengths: &[usize], number: u8, place: usize) {
     let mut lines = [0; 160];
-    let told = showing::write_position(page, buffer, lengths, place, &mut lines);
-    which::write_label(page, number);
-    showing::write_lines(page, told, &lines);
+    let told = showing::write_position(rt, page, buffer, lengths, place, &mut lines);
+    which::write_label(rt, page, number);
+    showing::write_lines(rt, page, told, &lines);
 }
 
 // A refusal with its second place, where there is one.
-fn write_twice(page: &mut Page, buffer: &[u8], lengths: &[usize], number: u8, place: usize) {
-    write_placed(page, buffer, lengths, number, place);
+fn write_twice(rt: HostRuntime, page: &mut Page, buffer: &[u8], lengths: &[usize], number: u8, place: usize) {
+    write_placed(rt, page, buffer, lengths, number, place);
     let second = second_place(buffer, lengths);
     if second == 0 {
         return;
     }
-    write_second(page, buffer, lengths, number, second);
+    write_second(rt, page, buffer, lengths, number, second);
 }
 
 // Where to read on.
-fn write_section(page: &mut Page, number: u8) {
-    write(page, b"see docs/REFUSALS.md, ");
-    write_number(page, number as usize);
-    write(page, b"\n");
+fn write_section(rt: HostRuntime, page: &mut Page, number: u8) {
+    write(rt, page, b"see docs/REFUSALS.md, ");
+    write_number(rt, page, number as usize);
+    write(rt, page, b"\n");
 }
 
-fn write_answer(page: &mut Page, buffer: &[u8], lengths: &[usize], answer: Answer) {
+fn write_answer(rt: HostRuntime, page: &mut Page, buffer: &[u8], lengths: &[usize], answer: Answer) {
     match answer {
-        Answer::Accepted => write(page, b"accepted\n"),
+        Answer::Accepted => write(rt, page, b"accepted\n"),
         Answer::Refused(number, place) => match number {
             1 | 19 | 20 | 30 => {
-                write_refusal(page, buffer, lengths, number);
-                write_section(page, number);
+                write_refusal(rt, page, buffer, lengths, number);
+                write_section(rt, page, number);
             }
             8 | 13 | 14 | 15 | 16 | 18 | 24 => {
-                write_twice(page, buffer, lengths, number, place);
-                write_section(page, number);
+                write_twice(rt, page, buffer, lengths, number, place);
+                write_section(rt, page, number);
             }
             _ => {
-                write_placed(page, buffer, lengths, number, place);
-                write_section(page, number);
+                write_placed(rt, page, buffer, lengths, number, place);
+                write_section(rt, page, number);
             }
         },
     }
@@ -243,32 +252,33 @@ fn answer_of(buffer: &[u8], lengths: &[usize], origins: &mut [usize]) -> Answer 
 }
 
 // The answer to the texts of the file named, or of standard input.
-fn answer(page: &mut Page, names: usize) {
+fn answer(rt: HostRuntime, page: &mut Page, names: usize) {
     let mut buffer = [0; gathering::ROOM];
     let mut lengths = [0; sources::LENGTHS];
     let mut origins = [0; gathering::ORIGINS];
-    let told = gathering::gather_asked(names, &mut buffer, &mut lengths, &mut origins);
+    let told = gathering::gather_asked(rt, names, &mut buffer, &mut lengths, &mut origins);
     if told < 2 {
         return;
     }
     let answer = answer_of(&buffer, &lengths[..told], &mut origins);
-    write_answer(page, &buffer, &lengths[..told], answer);
+    write_answer(rt, page, &buffer, &lengths[..told], answer);
 }
 
-fn write_help(page: &mut Page) {
+fn write_help(rt: HostRuntime, page: &mut Page) {
     write(
+        rt,
         page,
         b"oil_explain [FILE]: accepted, or why FILE, or the text on standard input, is refused, and where\n",
     );
 }
 
-fn main() {
+fn main(rt: HostRuntime) {
     let mut page = [0; 360000];
-    match arguments::given(1) {
-        Asked::Names(n) => answer(&mut page, n),
-        Asked::Help => write_help(&mut page),
-        Asked::Version => whole::write_version(),
-        Asked::Wrong => errors::say_line(b"usage: oil_explain [FILE]; oil_explain --help\n"),
+    match arguments::given(rt, 1) {
+        Asked::Names(n) => answer(rt, &mut page, n),
+        Asked::Help => write_help(rt, &mut page),
+        Asked::Version => whole::write_version(rt),
+        Asked::Wrong => errors::say_line(rt, b"usage: oil_explain [FILE]; oil_explain --help\n"),
     }
-    console::finish(&mut page);
+    console::finish(rt, &mut page);
 }

@@ -6,11 +6,12 @@
 use console::arguments::Asked;
 use console::{Page, arguments, errors, whole, write};
 use heading::Answer;
-use libc::STDIN_FILENO;
+use std::io::Read;
 
 // The bytes of a place of the lent texts.
-fn write_part(page: &mut Page, buffer: &[u8], lengths: &[usize], place: usize, length: usize) {
+fn write_part(rt: HostRuntime, page: &mut Page, buffer: &[u8], lengths: &[usize], place: usize, length: usize) {
     console::write_shown(
+        rt,
         page,
         sources::part(
             buffer,
@@ -22,87 +23,85 @@ fn write_part(page: &mut Page, buffer: &[u8], lengths: &[usize], place: usize, l
     );
 }
 
-fn write_heading(page: &mut Page, buffer: &[u8], lengths: &[usize], origins: &mut [usize]) {
+fn write_heading(rt: HostRuntime, page: &mut Page, buffer: &[u8], lengths: &[usize], origins: &mut [usize]) {
     let mut expanded = [0; token::LONGEST];
     match heading_texts::heading(buffer, lengths, &mut expanded, origins) {
         Answer::VersionAndName(place, length, name, name_length) => {
-            write(page, b"\t");
-            write_part(page, buffer, lengths, place, length);
-            write(page, b"\t");
-            write_part(page, buffer, lengths, name, name_length);
-            write(page, b"\n");
+            write(rt, page, b"\t");
+            write_part(rt, page, buffer, lengths, place, length);
+            write(rt, page, b"\t");
+            write_part(rt, page, buffer, lengths, name, name_length);
+            write(rt, page, b"\n");
         }
         Answer::Refused(number, place) => {
-            write(page, b"\t");
-            console::write_refusal(page, number, place);
+            write(rt, page, b"\t");
+            console::write_refusal(rt, page, number, place);
         }
     }
 }
 
 // What the text of an open file says, which is called by a name.
-fn write_text(page: &mut Page, fd: i32, name: &[u8]) {
+fn write_text<R: Read>(rt: HostRuntime, page: &mut Page, from: &mut R, name: &[u8]) {
     let mut buffer = [0; gathering::ROOM];
     let mut lengths = [0; sources::LENGTHS];
     let mut origins = [0; gathering::ORIGINS];
-    let told = gathering::gather(fd, name, &mut buffer, &mut lengths, &mut origins);
+    let told = gathering::gather(rt, from, name, &mut buffer, &mut lengths, &mut origins);
     if told < 2 {
-        write(page, b"\tcannot be read\n");
+        write(rt, page, b"\tcannot be read\n");
         return;
     }
-    write_heading(page, &buffer, &lengths[..told], &mut origins);
+    write_heading(rt, page, &buffer, &lengths[..told], &mut origins);
 }
 
-fn write_file(page: &mut Page, name: &[u8]) {
-    console::write_shown(page, name);
-    let fd = errors::open(name);
-    if fd < 0 {
-        write(page, b"\tcannot be opened\n");
-        return;
+fn write_file(rt: HostRuntime, page: &mut Page, name: &[u8]) {
+    console::write_shown(rt, page, name);
+    match errors::open(rt, name) {
+        Ok(mut file) => write_text(rt, page, &mut file, name),
+        Err(_) => write(rt, page, b"\tcannot be opened\n"),
     }
-    write_text(page, fd, name);
-    libc::close(fd);
 }
 
 // The line of the file that argument i names, written out at once.
-fn write_argument(page: &mut Page, i: usize) {
-    let mut name = io::buffer();
-    let n = arguments::argument(i, &mut name);
-    write_file(page, &name[..n]);
-    console::flush(page);
+fn write_argument(rt: HostRuntime, page: &mut Page, i: usize) {
+    let mut name = [0u8; 4096];
+    let n = arguments::argument(rt, i, &mut name);
+    write_file(rt, page, &name[..n]);
+    console::flush(rt, page);
 }
 
-fn write_files(page: &mut Page, count: usize) {
+fn write_files(rt: HostRuntime, page: &mut Page, count: usize) {
     let mut i = 0;
     while i < count {
         i += 1;
-        write_argument(page, i);
+        write_argument(rt, page, i);
     }
 }
 
-fn answer(page: &mut Page, names: usize) {
+fn answer(rt: HostRuntime, page: &mut Page, names: usize) {
     if names == 0 {
-        errors::say_waiting();
-        write(page, b"-");
-        write_text(page, STDIN_FILENO, b"standard input");
+        errors::say_waiting(rt);
+        write(rt, page, b"-");
+        write_text(rt, page, &mut rt.stdin(), b"standard input");
         return;
     }
-    write_files(page, names);
+    write_files(rt, page, names);
 }
 
-fn write_help(page: &mut Page) {
+fn write_help(rt: HostRuntime, page: &mut Page) {
     write(
+        rt,
         page,
         b"oil_heading [FILE..]: for each FILE, or standard input, its name, version string and implementation's name\n",
     );
 }
 
-fn main() {
+fn main(rt: HostRuntime) {
     let mut page = [0; 360000];
-    match arguments::given(token::LONGEST) {
-        Asked::Names(n) => answer(&mut page, n),
-        Asked::Help => write_help(&mut page),
-        Asked::Version => whole::write_version(),
-        Asked::Wrong => errors::say_line(b"usage: oil_heading [FILE..]; oil_heading --help\n"),
+    match arguments::given(rt, token::LONGEST) {
+        Asked::Names(n) => answer(rt, &mut page, n),
+        Asked::Help => write_help(rt, &mut page),
+        Asked::Version => whole::write_version(rt),
+        Asked::Wrong => errors::say_line(rt, b"usage: oil_heading [FILE..]; oil_heading --help\n"),
     }
-    console::finish(&mut page);
+    console::finish(rt, &mut page);
 }

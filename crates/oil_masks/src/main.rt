@@ -4,7 +4,7 @@
 #![tactic(auto)]
 use console::arguments::Asked;
 use console::inputs::Input;
-use console::{Page, arguments, errors, inputs, whole, write};
+use console::{Page, arguments, errors, inputs, number, whole, write};
 use layout::{definition, enumerator, object, sorts, value};
 use masks::{Checked, Planned, events};
 use rows::{Found, cells};
@@ -18,18 +18,19 @@ struct Entry {
     next: usize,
 }
 
-fn write_not_plannable(page: &mut Page) {
+fn write_not_plannable(rt: HostRuntime, page: &mut Page) {
     write(
+        rt,
         page,
         b"not plannable: EVENT itself has no single UINT64 attribute MASK\n",
     );
 }
 
 // The name of the object of a row.
-fn write_name(page: &mut Page, text: &[u8], o: &[usize], row: usize) {
+fn write_name(rt: HostRuntime, page: &mut Page, text: &[u8], o: &[usize], row: usize) {
     let at = cells::cell_of(o, object::LENT_WIDTH, row, object::NAME);
     let length = cells::cell_of(o, object::LENT_WIDTH, row, object::NAME_LENGTH);
-    write(page, token::part(text, at, length));
+    write(rt, page, token::part(text, at, length));
 }
 
 // Whether the mask of the event of a row is given; the values are the first n rows.
@@ -40,33 +41,33 @@ fn is_given(text: &[u8], d: &[usize], v: &[usize], n: usize, row: usize) -> bool
     }
 }
 
-fn write_sort(page: &mut Page, given: bool) {
+fn write_sort(rt: HostRuntime, page: &mut Page, given: bool) {
     if given {
-        write(page, b"given\t");
+        write(rt, page, b"given\t");
     } else {
-        write(page, b"auto\t");
+        write(rt, page, b"auto\t");
     }
 }
 
-fn write_decimal(page: &mut Page, mask: u64) {
+fn write_decimal(rt: HostRuntime, page: &mut Page, mask: u64) {
     let mut digits = [0u8; 20];
-    let n = io::decimal(mask, &mut digits);
-    write(page, &digits[..n]);
+    let n = number::decimal(mask, &mut digits);
+    write(rt, page, &digits[..n]);
 }
 
 // In hex.
-fn write_digits(page: &mut Page, mask: u64) {
+fn write_digits(rt: HostRuntime, page: &mut Page, mask: u64) {
     let mut digits = [0u8; 16];
-    let n = io::hex(mask, 1, &mut digits);
-    write(page, &digits[..n]);
+    let n = number::hex(mask, 1, &mut digits);
+    write(rt, page, &digits[..n]);
 }
 
-fn write_mask(page: &mut Page, mask: u64) {
-    write(page, b"\t");
-    write_decimal(page, mask);
-    write(page, b"\t0x");
-    write_digits(page, mask);
-    write(page, b"\n");
+fn write_mask(rt: HostRuntime, page: &mut Page, mask: u64) {
+    write(rt, page, b"\t");
+    write_decimal(rt, page, mask);
+    write(rt, page, b"\t0x");
+    write_digits(rt, page, mask);
+    write(rt, page, b"\n");
 }
 
 fn mask_of(masks: &[u64], event: usize) -> u64 {
@@ -78,6 +79,7 @@ fn mask_of(masks: &[u64], event: usize) -> u64 {
 
 // A line for each of so many events; their rows are in `rows`.
 fn write_events(
+    rt: HostRuntime,
     page: &mut Page,
     text: &[u8],
     d: &[usize],
@@ -91,15 +93,15 @@ fn write_events(
     let mut j = 0;
     while j < count {
         let row = cells::get(rows, j);
-        write_sort(page, is_given(text, d, v, n, row));
-        write_name(page, text, o, row);
-        write_mask(page, mask_of(masks, j));
+        write_sort(rt, page, is_given(text, d, v, n, row));
+        write_name(rt, page, text, o, row);
+        write_mask(rt, page, mask_of(masks, j));
         j += 1;
     }
 }
 
 // The plan of an accepted text.
-fn write_plan(page: &mut Page, text: &[u8], masks: &[u64], count: usize) {
+fn write_plan(rt: HostRuntime, page: &mut Page, text: &[u8], masks: &[u64], count: usize) {
     let mut d = [0usize; definition::LENT];
     let mut e = [0usize; enumerator::LENT];
     let mut o = [0usize; object::LENT];
@@ -107,7 +109,7 @@ fn write_plan(page: &mut Page, text: &[u8], masks: &[u64], count: usize) {
     let r = reading::read(text, &mut d, &mut e, &mut o, &mut v);
     let mut rows = [0usize; object::MOST];
     events::event_rows(&o, r.objects, &mut rows);
-    write_events(page, text, &d, &o, &v, r.values, &rows, masks, count);
+    write_events(rt, page, text, &d, &o, &v, r.values, &rows, masks, count);
 }
 
 fn is_single(mask: u64) -> bool {
@@ -117,23 +119,24 @@ fn is_single(mask: u64) -> bool {
     mask & (mask - 1) == 0
 }
 
-fn write_reason(page: &mut Page, given: bool, mask: u64) {
+fn write_reason(rt: HostRuntime, page: &mut Page, given: bool, mask: u64) {
     if given {
-        write(page, b"the given mask is not kept\n");
+        write(rt, page, b"the given mask is not kept\n");
         return;
     }
     if is_single(mask) {
         write(
+        rt,
             page,
             b"the bit of this AUTO mask is in the mask of another event of a same task\n",
         );
         return;
     }
-    write(page, b"this AUTO mask is not a single bit\n");
+    write(rt, page, b"this AUTO mask is not a single bit\n");
 }
 
 // The name of an event of an accepted text, and what is wrong with its mask.
-fn write_breaking(page: &mut Page, text: &[u8], event: usize, mask: u64) {
+fn write_breaking(rt: HostRuntime, page: &mut Page, text: &[u8], event: usize, mask: u64) {
     let mut d = [0usize; definition::LENT];
     let mut e = [0usize; enumerator::LENT];
     let mut o = [0usize; object::LENT];
@@ -142,13 +145,13 @@ fn write_breaking(page: &mut Page, text: &[u8], event: usize, mask: u64) {
     let mut rows = [0usize; object::MOST];
     events::event_rows(&o, r.objects, &mut rows);
     let row = cells::get(&rows, event);
-    write_name(page, text, &o, row);
-    write(page, b"\t");
-    write_reason(page, is_given(text, &d, &v, r.values, row), mask);
+    write_name(rt, page, text, &o, row);
+    write(rt, page, b"\t");
+    write_reason(rt, page, is_given(text, &d, &v, r.values, row), mask);
 }
 
 // The name of an event of an accepted text for which there is no bit.
-fn write_full(page: &mut Page, text: &[u8], event: usize) {
+fn write_full(rt: HostRuntime, page: &mut Page, text: &[u8], event: usize) {
     let mut d = [0usize; definition::LENT];
     let mut e = [0usize; enumerator::LENT];
     let mut o = [0usize; object::LENT];
@@ -156,23 +159,23 @@ fn write_full(page: &mut Page, text: &[u8], event: usize) {
     let r = reading::read(text, &mut d, &mut e, &mut o, &mut v);
     let mut rows = [0usize; object::MOST];
     events::event_rows(&o, r.objects, &mut rows);
-    write_name(page, text, &o, cells::get(&rows, event));
-    write(page, b"\tall 64 bits are taken\n");
+    write_name(rt, page, text, &o, cells::get(&rows, event));
+    write(rt, page, b"\tall 64 bits are taken\n");
 }
 
 // The list has room for as many masks as there can be events.
-fn plan(page: &mut Page, buffer: &[u8], lengths: &[usize], origins: &mut [usize]) {
+fn plan(rt: HostRuntime, page: &mut Page, buffer: &[u8], lengths: &[usize], origins: &mut [usize]) {
     let mut expanded = [0; token::LONGEST];
     let e = sources::expand(buffer, lengths, &mut expanded, origins);
     let mut list = [0u64; object::MOST];
     let planned = masks_texts::plan_masks(buffer, lengths, &mut expanded, origins, &mut list);
     let text = token::part(&expanded, 0, e.length);
     match planned {
-        Planned::Refused(number, place) => console::write_refusal(page, number, place),
-        Planned::NotPlannable => write_not_plannable(page),
-        Planned::WrongLength => write(page, b"wrong length\n"),
-        Planned::Full(event) => write_full(page, text, event),
-        Planned::Made(n) => write_plan(page, text, &list, n),
+        Planned::Refused(number, place) => console::write_refusal(rt, page, number, place),
+        Planned::NotPlannable => write_not_plannable(rt, page),
+        Planned::WrongLength => write(rt, page, b"wrong length\n"),
+        Planned::Full(event) => write_full(rt, page, text, event),
+        Planned::Made(n) => write_plan(rt, page, text, &list, n),
     }
 }
 
@@ -242,6 +245,7 @@ fn read_list(bytes: &[u8], list: &mut [u64]) -> usize {
 }
 
 fn check_list(
+    rt: HostRuntime,
     page: &mut Page,
     buffer: &[u8],
     lengths: &[usize],
@@ -253,19 +257,21 @@ fn check_list(
     let checked = masks_texts::check_masks(buffer, lengths, &mut expanded, origins, masks);
     let text = token::part(&expanded, 0, e.length);
     match checked {
-        Checked::Refused(number, place) => console::write_refusal(page, number, place),
-        Checked::NotPlannable => write_not_plannable(page),
+        Checked::Refused(number, place) => console::write_refusal(rt, page, number, place),
+        Checked::NotPlannable => write_not_plannable(rt, page),
         Checked::WrongLength => write(
+        rt,
             page,
             b"wrong length: the list has not one mask for each event\n",
         ),
-        Checked::Breaks(event) => write_breaking(page, text, event, mask_of(masks, event)),
-        Checked::Accepted => write(page, b"accepted\n"),
+        Checked::Breaks(event) => write_breaking(rt, page, text, event, mask_of(masks, event)),
+        Checked::Accepted => write(rt, page, b"accepted\n"),
     }
 }
 
 // Checks so many masks of a list; where there are not so many, something else stands in it.
 fn check_front(
+    rt: HostRuntime,
     page: &mut Page,
     buffer: &[u8],
     lengths: &[usize],
@@ -274,14 +280,15 @@ fn check_front(
     count: usize,
 ) {
     if list.len() < count {
-        write(page, b"the list has something that is no mask\n");
+        write(rt, page, b"the list has something that is no mask\n");
         return;
     }
-    check_list(page, buffer, lengths, origins, &list[..count]);
+    check_list(rt, page, buffer, lengths, origins, &list[..count]);
 }
 
 // The masks of the bytes of a list.
 fn check_bytes(
+    rt: HostRuntime,
     page: &mut Page,
     buffer: &[u8],
     lengths: &[usize],
@@ -290,48 +297,49 @@ fn check_bytes(
 ) {
     let mut list = [0u64; object::ROWS];
     let count = read_list(bytes, &mut list);
-    check_front(page, buffer, lengths, origins, &list, count);
+    check_front(rt, page, buffer, lengths, origins, &list, count);
 }
 
 // Checks the masks of the file that the first argument names.
-fn check(page: &mut Page, buffer: &[u8], lengths: &[usize], origins: &mut [usize]) {
-    let mut file = io::large_buffer();
-    match inputs::read_named(1, &mut file) {
-        Input::Text(n) => check_bytes(page, buffer, lengths, origins, token::part(&file, 0, n)),
-        Input::Failed => {}
+fn check(rt: HostRuntime, page: &mut Page, buffer: &[u8], lengths: &[usize], origins: &mut [usize]) {
+    let mut file = [0u8; token::PLACES];
+    match inputs::read_named(rt, 1, &mut file) {
+        Input::Text(n) => check_bytes(rt, page, buffer, lengths, origins, token::part(&file, 0, n)),
+        Input::Failed(_) => {}
     }
 }
 
-fn answer(page: &mut Page, names: usize) {
+fn answer(rt: HostRuntime, page: &mut Page, names: usize) {
     let mut buffer = [0; gathering::ROOM];
     let mut lengths = [0; sources::LENGTHS];
     let mut origins = [0; gathering::ORIGINS];
-    let told = gathering::gather_input(&mut buffer, &mut lengths, &mut origins);
+    let told = gathering::gather_input(rt, &mut buffer, &mut lengths, &mut origins);
     if told < 2 {
         return;
     }
     if names == 0 {
-        plan(page, &buffer, &lengths[..told], &mut origins);
+        plan(rt, page, &buffer, &lengths[..told], &mut origins);
         return;
     }
-    check(page, &buffer, &lengths[..told], &mut origins);
+    check(rt, page, &buffer, &lengths[..told], &mut origins);
 }
 
-fn write_help(page: &mut Page) {
+fn write_help(rt: HostRuntime, page: &mut Page) {
     write(
+        rt,
         page,
         b"oil_masks: the event masks of the text on standard input, a line each\n",
     );
-    write(page, b"oil_masks LIST: checks the masks in the file LIST\n");
+    write(rt, page, b"oil_masks LIST: checks the masks in the file LIST\n");
 }
 
-fn main() {
+fn main(rt: HostRuntime) {
     let mut page = [0; 360000];
-    match arguments::given(1) {
-        Asked::Names(n) => answer(&mut page, n),
-        Asked::Help => write_help(&mut page),
-        Asked::Version => whole::write_version(),
-        Asked::Wrong => errors::say_line(b"usage: oil_masks [LIST] < TEXT; oil_masks --help\n"),
+    match arguments::given(rt, 1) {
+        Asked::Names(n) => answer(rt, &mut page, n),
+        Asked::Help => write_help(rt, &mut page),
+        Asked::Version => whole::write_version(rt),
+        Asked::Wrong => errors::say_line(rt, b"usage: oil_masks [LIST] < TEXT; oil_masks --help\n"),
     }
-    console::finish(&mut page);
+    console::finish(rt, &mut page);
 }

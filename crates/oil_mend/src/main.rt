@@ -15,9 +15,9 @@ struct Spot {
 }
 
 // A number and a tab.
-fn write_field(line: &mut Page, n: usize) {
-    write_number(line, n);
-    write(line, b"\t");
+fn write_field(rt: HostRuntime, line: &mut Page, n: usize) {
+    write_number(rt, line, n);
+    write(rt, line, b"\t");
 }
 
 fn amount_of(sort: Sort) -> usize {
@@ -80,6 +80,7 @@ fn expanded_at(origins: &[usize], from: usize, text: usize, byte: usize) -> usiz
 // Says the line at a place, and the dropped words, which are sought in the expanded text from a place on: a statement may have an include line inside.
 // Returns the place after the line, and that of the words.
 fn say_drop(
+    rt: HostRuntime,
     line: &mut Page,
     expanded: &[u8],
     origins: &[usize],
@@ -92,13 +93,13 @@ fn say_drop(
     let length = number_at(lines, byte.at);
     let number = number_at(lines, length.at);
     let words = expanded_at(origins, from, text.amount, byte.amount);
-    write_field(line, text.amount);
-    write_field(line, byte.amount);
-    write_field(line, length.amount);
-    write_field(line, number.amount);
-    write(line, token::part(expanded, words, length.amount));
-    write(line, b"\n");
-    errors::say_page(line);
+    write_field(rt, line, text.amount);
+    write_field(rt, line, byte.amount);
+    write_field(rt, line, length.amount);
+    write_field(rt, line, number.amount);
+    write(rt, line, token::part(expanded, words, length.amount));
+    write(rt, line, b"\n");
+    errors::say_page(rt, line);
     Spot {
         amount: words,
         at: number.at,
@@ -106,7 +107,7 @@ fn say_drop(
 }
 
 // All lines, of which each is made on a page; there are fewer than bytes in a text.
-fn say_drops(line: &mut Page, expanded: &[u8], origins: &[usize], lines: &[u8]) {
+fn say_drops(rt: HostRuntime, line: &mut Page, expanded: &[u8], origins: &[usize], lines: &[u8]) {
     let mut at = 0;
     let mut words = 0;
     let mut i: usize = 0;
@@ -114,7 +115,7 @@ fn say_drops(line: &mut Page, expanded: &[u8], origins: &[usize], lines: &[u8]) 
         if !has_line(lines, at) {
             return;
         }
-        let next = say_drop(line, expanded, origins, lines, at, words);
+        let next = say_drop(rt, line, expanded, origins, lines, at, words);
         at = next.at;
         words = next.amount;
         i += 1;
@@ -122,13 +123,13 @@ fn say_drops(line: &mut Page, expanded: &[u8], origins: &[usize], lines: &[u8]) 
 }
 
 // The same on a page of its own.
-fn say_dropped(expanded: &[u8], origins: &[usize], lines: &[u8]) {
+fn say_dropped(rt: HostRuntime, expanded: &[u8], origins: &[usize], lines: &[u8]) {
     let mut line = [0; 360000];
-    say_drops(&mut line, expanded, origins, lines);
+    say_drops(rt, &mut line, expanded, origins, lines);
 }
 
 // A dropped statement has four bytes or more and a line at most seventeen.
-fn mend(buffer: &[u8], lengths: &[usize], origins: &mut [usize]) {
+fn mend(rt: HostRuntime, buffer: &[u8], lengths: &[usize], origins: &mut [usize]) {
     let mut expanded = [0; token::LONGEST];
     let mut text = [0; token::LONGEST];
     let mut lines = [0; 300000];
@@ -140,37 +141,38 @@ fn mend(buffer: &[u8], lengths: &[usize], origins: &mut [usize]) {
         &mut text,
         &mut lines,
     ) {
-        Mended::Refused(number, place) => whole::write_refusal(number as usize, place),
+        Mended::Refused(number, place) => whole::write_refusal(rt, number as usize, place),
         Mended::Done(n, m) => {
-            whole::write(token::part(&text, 0, n));
-            say_dropped(&expanded, origins, token::part(&lines, 0, m));
+            whole::write(rt, token::part(&text, 0, n));
+            say_dropped(rt, &expanded, origins, token::part(&lines, 0, m));
         }
     }
 }
 
 // Mends the texts of the file named, or of standard input.
-fn answer(names: usize) {
+fn answer(rt: HostRuntime, names: usize) {
     let mut buffer = [0; gathering::ROOM];
     let mut lengths = [0; sources::LENGTHS];
     let mut origins = [0; gathering::ORIGINS];
-    let told = gathering::gather_asked(names, &mut buffer, &mut lengths, &mut origins);
+    let told = gathering::gather_asked(rt, names, &mut buffer, &mut lengths, &mut origins);
     if told < 2 {
         return;
     }
-    mend(&buffer, &lengths[..told], &mut origins);
+    mend(rt, &buffer, &lengths[..told], &mut origins);
 }
 
-fn write_help() {
+fn write_help(rt: HostRuntime) {
     whole::write(
+        rt,
         b"oil_mend [FILE]: FILE, or the text on standard input, without the statements at fault by 13 or 14\n",
     );
 }
 
-fn main() {
-    match arguments::given(1) {
-        Asked::Names(n) => answer(n),
-        Asked::Help => write_help(),
-        Asked::Version => whole::write_version(),
-        Asked::Wrong => errors::say_line(b"usage: oil_mend [FILE]; oil_mend --help\n"),
+fn main(rt: HostRuntime) {
+    match arguments::given(rt, 1) {
+        Asked::Names(n) => answer(rt, n),
+        Asked::Help => write_help(rt),
+        Asked::Version => whole::write_version(rt),
+        Asked::Wrong => errors::say_line(rt, b"usage: oil_mend [FILE]; oil_mend --help\n"),
     }
 }

@@ -8,59 +8,63 @@ use rows::{cells, refusals};
 use standard::{Checked, attribute, constants};
 
 // The word of a kind that has standard attributes, by its number.
-fn write_kind(page: &mut Page, number: usize) {
+fn write_kind(rt: HostRuntime, page: &mut Page, number: usize) {
     match number {
-        0 => write(page, b"OS"),
-        2 => write(page, b"TASK"),
-        3 => write(page, b"ISR"),
-        4 => write(page, b"COUNTER"),
-        5 => write(page, b"ALARM"),
-        6 => write(page, b"RESOURCE"),
-        _ => write(page, b"EVENT"),
+        0 => write(rt, page, b"OS"),
+        2 => write(rt, page, b"TASK"),
+        3 => write(rt, page, b"ISR"),
+        4 => write(rt, page, b"COUNTER"),
+        5 => write(rt, page, b"ALARM"),
+        6 => write(rt, page, b"RESOURCE"),
+        _ => write(rt, page, b"EVENT"),
     }
 }
 
 // The word of the standard's text whose place and length stand in two cells of the row of an attribute.
-fn write_word(page: &mut Page, attribute: usize, column: usize, column2: usize) {
+fn write_word(rt: HostRuntime, page: &mut Page, attribute: usize, column: usize, column2: usize) {
     let section = constants::section_text();
     let rows = constants::section_rows();
     let at = cells::cell_of(&rows, attribute::WIDTH, attribute, column);
     let length = cells::cell_of(&rows, attribute::WIDTH, attribute, column2);
-    write(page, token::part(&section, at, length));
+    write(rt, page, token::part(&section, at, length));
 }
 
 // The path of a standard attribute, as ALARM.ACTION=SETEVENT.EVENT.
-fn write_path(page: &mut Page, attribute: usize) {
+fn write_path(rt: HostRuntime, page: &mut Page, attribute: usize) {
     let rows = constants::section_rows();
     write_kind(
+        rt,
         page,
         cells::cell_of(&rows, attribute::WIDTH, attribute, attribute::KIND),
     );
     if cells::cell_of(&rows, attribute::WIDTH, attribute, attribute::ABOVE_LENGTH) != 0 {
-        write(page, b".");
-        write_word(page, attribute, 7, 8);
-        write(page, b"=");
-        write_word(page, attribute, 9, 10);
+        write(rt, page, b".");
+        write_word(rt, page, attribute, 7, 8);
+        write(rt, page, b"=");
+        write_word(rt, page, attribute, 9, 10);
     }
-    write(page, b".");
-    write_word(page, attribute, 1, 2);
+    write(rt, page, b".");
+    write_word(rt, page, attribute, 1, 2);
 }
 
-fn write_meaning(page: &mut Page, number: u8) {
+fn write_meaning(rt: HostRuntime, page: &mut Page, number: u8) {
     if number == refusals::LACKS_STANDARD {
         write(
+        rt,
             page,
             b": the standard attribute is not defined in the scope of this word\n",
         );
         return;
     }
     write(
+        rt,
         page,
         b": the attribute differs from the standard in type, list mark, values, WITH_AUTO or default\n",
     );
 }
 
 fn write_wrong(
+    rt: HostRuntime,
     page: &mut Page,
     buffer: &[u8],
     lengths: &[usize],
@@ -69,19 +73,19 @@ fn write_wrong(
     attribute: usize,
 ) {
     let mut lines = [0; 160];
-    showing::write_position(page, buffer, lengths, place, &mut lines);
-    write_number(page, number as usize);
-    write(page, b", ");
-    write_path(page, attribute);
-    write_meaning(page, number);
+    showing::write_position(rt, page, buffer, lengths, place, &mut lines);
+    write_number(rt, page, number as usize);
+    write(rt, page, b", ");
+    write_path(rt, page, attribute);
+    write_meaning(rt, page, number);
 }
 
-fn write_answer(page: &mut Page, buffer: &[u8], lengths: &[usize], answer: Checked) {
+fn write_answer(rt: HostRuntime, page: &mut Page, buffer: &[u8], lengths: &[usize], answer: Checked) {
     match answer {
-        Checked::Refused(number, place) => console::write_refusal(page, number, place),
-        Checked::NothingWrong => write(page, b"nothing wrong\n"),
+        Checked::Refused(number, place) => console::write_refusal(rt, page, number, place),
+        Checked::NothingWrong => write(rt, page, b"nothing wrong\n"),
         Checked::Wrong(number, place, attribute) => {
-            write_wrong(page, buffer, lengths, number, place, attribute)
+            write_wrong(rt, page, buffer, lengths, number, place, attribute)
         }
     }
 }
@@ -93,32 +97,33 @@ fn answer_of(buffer: &[u8], lengths: &[usize], origins: &mut [usize]) -> Checked
 }
 
 // The answer to the texts of the file named, or of standard input.
-fn answer(page: &mut Page, names: usize) {
+fn answer(rt: HostRuntime, page: &mut Page, names: usize) {
     let mut buffer = [0; gathering::ROOM];
     let mut lengths = [0; sources::LENGTHS];
     let mut origins = [0; gathering::ORIGINS];
-    let told = gathering::gather_asked(names, &mut buffer, &mut lengths, &mut origins);
+    let told = gathering::gather_asked(rt, names, &mut buffer, &mut lengths, &mut origins);
     if told < 2 {
         return;
     }
     let answer = answer_of(&buffer, &lengths[..told], &mut origins);
-    write_answer(page, &buffer, &lengths[..told], answer);
+    write_answer(rt, page, &buffer, &lengths[..told], answer);
 }
 
-fn write_help(page: &mut Page) {
+fn write_help(rt: HostRuntime, page: &mut Page) {
     write(
+        rt,
         page,
         b"oil_standard [FILE]: holds the implementation of FILE, or of standard input, to the standard attributes\n",
     );
 }
 
-fn main() {
+fn main(rt: HostRuntime) {
     let mut page = [0; 360000];
-    match arguments::given(1) {
-        Asked::Names(n) => answer(&mut page, n),
-        Asked::Help => write_help(&mut page),
-        Asked::Version => whole::write_version(),
-        Asked::Wrong => errors::say_line(b"usage: oil_standard [FILE]; oil_standard --help\n"),
+    match arguments::given(rt, 1) {
+        Asked::Names(n) => answer(rt, &mut page, n),
+        Asked::Help => write_help(rt, &mut page),
+        Asked::Version => whole::write_version(rt),
+        Asked::Wrong => errors::say_line(rt, b"usage: oil_standard [FILE]; oil_standard --help\n"),
     }
-    console::finish(&mut page);
+    console::finish(rt, &mut page);
 }

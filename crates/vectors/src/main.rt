@@ -3,9 +3,10 @@
 #![tactic(auto)]
 ghost use Rattle.std.specs.Prelude.{◌<◌};
 
-use console::{Page, write, write_number};
+use console::{Page, files, write, write_number};
 use layout::{definition, enumerator, object, value};
 use reading::Answer;
+use std::fs::File;
 
 // The checksum of the bytes so far, and one byte more.
 fn onward(sum: usize, byte: u8) -> usize
@@ -26,20 +27,20 @@ fn checksum(bytes: &[u8]) -> usize {
     sum
 }
 
-fn write_accepted(page: &mut Page, normal: &[u8]) {
-    write(page, b"\taccepted\t");
-    write_number(page, normal.len());
-    write(page, b"\t");
-    write_number(page, checksum(normal));
-    write(page, b"\n");
+fn write_accepted(rt: HostRuntime, page: &mut Page, normal: &[u8]) {
+    write(rt, page, b"\taccepted\t");
+    write_number(rt, page, normal.len());
+    write(rt, page, b"\t");
+    write_number(rt, page, checksum(normal));
+    write(rt, page, b"\n");
 }
 
-fn write_refused(page: &mut Page, number: u8, place: usize) {
-    write(page, b"\t");
-    console::write_refusal(page, number, place);
+fn write_refused(rt: HostRuntime, page: &mut Page, number: u8, place: usize) {
+    write(rt, page, b"\t");
+    console::write_refusal(rt, page, number, place);
 }
 
-fn write_answer(page: &mut Page, buffer: &[u8], lengths: &[usize], origins: &mut [usize]) {
+fn write_answer(rt: HostRuntime, page: &mut Page, buffer: &[u8], lengths: &[usize], origins: &mut [usize]) {
     let mut expanded = [0; token::LONGEST];
     let mut definitions = [0; definition::LENT];
     let mut enumerators = [0; enumerator::LENT];
@@ -60,8 +61,8 @@ fn write_answer(page: &mut Page, buffer: &[u8], lengths: &[usize], origins: &mut
     let length = written.length;
     let answer = written.answer;
     match answer {
-        Answer::Accepted => write_accepted(page, token::part(&output, 0, length)),
-        Answer::Refused(number, place) => write_refused(page, number, place),
+        Answer::Accepted => write_accepted(rt, page, token::part(&output, 0, length)),
+        Answer::Refused(number, place) => write_refused(rt, page, number, place),
     }
 }
 
@@ -69,29 +70,27 @@ fn digit(n: usize) -> u8 {
     48 + ((n % 10) as u8)
 }
 
-fn write_file(page: &mut Page, fd: i32, name: &[u8], number: usize) {
+fn write_file(rt: HostRuntime, page: &mut Page, mut file: File, name: &[u8], number: usize) {
     let mut buffer = [0; gathering::ROOM];
     let mut lengths = [0; sources::LENGTHS];
     let mut origins = [0; gathering::ORIGINS];
-    let told = gathering::gather(fd, name, &mut buffer, &mut lengths, &mut origins);
-    libc::close(fd);
+    let told = gathering::gather(rt, &mut file, name, &mut buffer, &mut lengths, &mut origins);
     if told < 2 {
         return;
     }
-    write_number(page, number);
-    write_answer(page, &buffer, &lengths[..told], &mut origins);
+    write_number(rt, page, number);
+    write_answer(rt, page, &buffer, &lengths[..told], &mut origins);
 }
 
 // The text of a name, where there is one.
-fn write_named(page: &mut Page, name: &[u8], number: usize) {
-    let fd = os::open_read(name);
-    if 0 <= fd {
-        write_file(page, fd, name, number);
+fn write_named(rt: HostRuntime, page: &mut Page, name: &[u8], number: usize) {
+    if let Ok(file) = files::open(rt, name) {
+        write_file(rt, page, file, name, number);
     }
 }
 
 // The text of a number, where there is one.
-fn write_vector(page: &mut Page, number: usize) {
+fn write_vector(rt: HostRuntime, page: &mut Page, number: usize) {
     let name = [
         digit(number / 100),
         digit(number / 10),
@@ -101,19 +100,19 @@ fn write_vector(page: &mut Page, number: usize) {
         105,
         108,
     ];
-    write_named(page, &name, number);
+    write_named(rt, page, &name, number);
 }
 
-fn write_vectors(page: &mut Page) {
+fn write_vectors(rt: HostRuntime, page: &mut Page) {
     let mut number = 0;
     while number < 1000 {
-        write_vector(page, number);
+        write_vector(rt, page, number);
         number += 1;
     }
 }
 
-fn main() {
+fn main(rt: HostRuntime) {
     let mut page = [0; 360000];
-    write_vectors(&mut page);
-    console::finish(&mut page);
+    write_vectors(rt, &mut page);
+    console::finish(rt, &mut page);
 }
