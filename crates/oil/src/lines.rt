@@ -7,7 +7,15 @@ use layout::{definition, object, sorts, value};
 use rows::{cells, parts};
 
 // The part of a text that two cells of a row tell.
-fn write_cells(rt: HostRuntime, page: &mut Page, text: &[u8], t: &[usize], width: usize, row: usize, column: usize) {
+fn write_cells(
+    rt: HostRuntime,
+    page: &mut Page,
+    text: &[u8],
+    t: &[usize],
+    width: usize,
+    row: usize,
+    column: usize,
+) {
     let at = cells::cell_of(t, width, row, column);
     let len = cells::cell_of(t, width, row, cells::place_after(64, column, 1));
     write(rt, page, token::part(text, at, len));
@@ -99,7 +107,15 @@ fn position(text: &[u8], d: &[usize], v: &[usize], k: usize) -> usize {
 // The attribute of row k, with its position where it is a list.
 fn write_step(rt: HostRuntime, page: &mut Page, text: &[u8], d: &[usize], v: &[usize], k: usize) {
     let j = cells::cell_of(v, value::WIDTH, k, value::DEFINITION);
-    write_cells(rt, page, text, d, definition::LENT_WIDTH, j, definition::NAME);
+    write_cells(
+        rt,
+        page,
+        text,
+        d,
+        definition::LENT_WIDTH,
+        j,
+        definition::NAME,
+    );
     if cells::cell_of(d, definition::LENT_WIDTH, j, definition::LIST) == 1 {
         write(rt, page, b"[");
         write_number(rt, page, position(text, d, v, k));
@@ -144,7 +160,15 @@ fn row_up(v: &[usize], k: usize, n: usize) -> usize {
 }
 
 // The attribute n rows above row k, and a dot if one follows.
-fn write_level(rt: HostRuntime, page: &mut Page, text: &[u8], d: &[usize], v: &[usize], k: usize, n: usize) {
+fn write_level(
+    rt: HostRuntime,
+    page: &mut Page,
+    text: &[u8],
+    d: &[usize],
+    v: &[usize],
+    k: usize,
+    n: usize,
+) {
     write_step(rt, page, text, d, v, row_up(v, k, n));
     if 0 < n {
         write(rt, page, b".");

@@ -2,6 +2,7 @@
 // number, tab, text, tab, byte. With two file names it compares the two texts, each with the files that it includes: a line for each difference, at
 // most 64, and the total.
 #![tactic(auto)]
+
 ghost use Rattle.console.specs.Counts.{IsPrefixLen};
 
 use comparing::Found;
@@ -164,7 +165,13 @@ fn write_found(
 }
 
 // Compares lent texts. The lines are written from the expanded texts and the tables that they were read into.
-fn compare_texts(rt: HostRuntime, first: &[u8], lengths: &[usize], second: &[u8], lengths2: &[usize]) {
+fn compare_texts(
+    rt: HostRuntime,
+    first: &[u8],
+    lengths: &[usize],
+    second: &[u8],
+    lengths2: &[usize],
+) {
     let mut expanded = [0; token::LONGEST];
     let mut origins = [0; token::LONGEST];
     let mut expanded2 = [0; token::LONGEST];
@@ -253,6 +260,9 @@ fn main(rt: HostRuntime) {
         Asked::Names(n) => answer(rt, n),
         Asked::Help => write_help(rt),
         Asked::Version => whole::write_version(rt),
-        Asked::Wrong => errors::say_line(rt, b"usage: oil [FILE] or oil FIRST SECOND; oil --help\n"),
+        Asked::Wrong => errors::say_line(
+            rt,
+            b"usage: oil [FILE] or oil FIRST SECOND; oil --help\n",
+        ),
     }
 }

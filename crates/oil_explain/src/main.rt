@@ -3,6 +3,7 @@
 // second place where there is one; and where to read on. Refusals that have no place in the texts take the first and the last of these lines alone,
 // without file, line and column.
 #![tactic(auto)]
+
 use console::arguments::Asked;
 use console::{Page, arguments, errors, whole, write, write_number};
 use layout::{definition, enumerator, object, value};
@@ -17,28 +18,28 @@ fn write_early(rt: HostRuntime, page: &mut Page, number: u8) {
     match number {
         1 => write(rt, page, b"the lent tables are too short"),
         3 => write(
-        rt,
+            rt,
             page,
             b"no token begins here, or a string or comment that begins here is not ended",
         ),
         5 => write(
-        rt,
+            rt,
             page,
             b"this brace is the seventeenth open one; at most sixteen may be open",
         ),
         6 => write(rt, page, b"the version string is not 2.5"),
         7 => write(
-        rt,
+            rt,
             page,
             b"more than 512 definitions, or more than 1,024 enumerators, TRUE and FALSE not counted",
         ),
         8 => write(
-        rt,
+            rt,
             page,
             b"a kind specified, an attribute defined in its scope, or an enumerator listed a second time",
         ),
         _ => write(
-        rt,
+            rt,
             page,
             b"the name stands under another value of the same attribute with other type words",
         ),
@@ -48,7 +49,11 @@ fn write_early(rt: HostRuntime, page: &mut Page, number: u8) {
 // What refusal 21 means at a place of the expanded text: which of its two faults it is.
 fn write_bound(rt: HostRuntime, page: &mut Page, text: &[u8], place: usize) {
     if explaining::bounds::outside_type(text, place) {
-        write(rt, page, b"the bound or listed number lies outside its type");
+        write(
+            rt,
+            page,
+            b"the bound or listed number lies outside its type",
+        );
         return;
     }
     write(rt, page, b"the low bound is above the high one");
@@ -96,13 +101,13 @@ fn write_including(rt: HostRuntime, page: &mut Page, number: u8) {
     match number {
         27 => write(rt, page, b"the text is included while it is still open"),
         28 => write(
-        rt,
+            rt,
             page,
             b"the file is not there, cannot be opened, or would be the ninth text",
         ),
         29 => write(rt, page, b"a `#` that is not that of an include line"),
         _ => write(
-        rt,
+            rt,
             page,
             b"more than 65,535 bytes in one text or after expansion",
         ),
@@ -113,18 +118,22 @@ fn write_including(rt: HostRuntime, page: &mut Page, number: u8) {
 fn write_meaning(rt: HostRuntime, page: &mut Page, buffer: &[u8], lengths: &[usize], number: u8) {
     match number {
         11 => write(
-        rt,
+            rt,
             page,
             b"more than 256 objects, more than 512 parts, or more than 2,048 statements",
         ),
         17 => write(rt, page, b"a second OS, COM or NM, or no OS or no APPMODE"),
         19 => write(rt, page, b"more than 2,048 resolved values"),
-        20 => write(rt, page, b"the written text is longer than the output's room"),
+        20 => write(
+            rt,
+            page,
+            b"the written text is longer than the output's room",
+        ),
         4 | 13 | 14 | 15 | 16 | 18 | 21 => write_cause_of(rt, page, buffer, lengths),
         22 => write(rt, page, b"a default outside type, range or list"),
         23 => write(rt, page, b"AUTO as a default without WITH_AUTO"),
         24 => write(
-        rt,
+            rt,
             page,
             b"the name is used before by an object of another kind",
         ),
@@ -141,7 +150,14 @@ fn write_refusal(rt: HostRuntime, page: &mut Page, buffer: &[u8], lengths: &[usi
     write(rt, page, b"\n");
 }
 
-fn write_placed(rt: HostRuntime, page: &mut Page, buffer: &[u8], lengths: &[usize], number: u8, place: usize) {
+fn write_placed(
+    rt: HostRuntime,
+    page: &mut Page,
+    buffer: &[u8],
+    lengths: &[usize],
+    number: u8,
+    place: usize,
+) {
     let mut lines = [0; 160];
     let told = showing::write_position(rt, page, buffer, lengths, place, &mut lines);
     write_refusal(rt, page, buffer, lengths, number);
@@ -186,7 +202,14 @@ fn second_place(buffer: &[u8], lengths: &[usize]) -> usize {
     cells::get(&origins, first)
 }
 
-fn write_second(rt: HostRuntime, page: &mut Page, buffer: &[u8], lengths: &[usize], number: u8, place: usize) {
+fn write_second(
+    rt: HostRuntime,
+    page: &mut Page,
+    buffer: &[u8],
+    lengths: &[usize],
+    number: u8,
+    place: usize,
+) {
     let mut lines = [0; 160];
     let told = showing::write_position(rt, page, buffer, lengths, place, &mut lines);
     which::write_label(rt, page, number);
@@ -194,7 +217,14 @@ fn write_second(rt: HostRuntime, page: &mut Page, buffer: &[u8], lengths: &[usiz
 }
 
 // A refusal with its second place, where there is one.
-fn write_twice(rt: HostRuntime, page: &mut Page, buffer: &[u8], lengths: &[usize], number: u8, place: usize) {
+fn write_twice(
+    rt: HostRuntime,
+    page: &mut Page,
+    buffer: &[u8],
+    lengths: &[usize],
+    number: u8,
+    place: usize,
+) {
     write_placed(rt, page, buffer, lengths, number, place);
     let second = second_place(buffer, lengths);
     if second == 0 {
@@ -210,7 +240,13 @@ fn write_section(rt: HostRuntime, page: &mut Page, number: u8) {
     write(rt, page, b"\n");
 }
 
-fn write_answer(rt: HostRuntime, page: &mut Page, buffer: &[u8], lengths: &[usize], answer: Answer) {
+fn write_answer(
+    rt: HostRuntime,
+    page: &mut Page,
+    buffer: &[u8],
+    lengths: &[usize],
+    answer: Answer,
+) {
     match answer {
         Answer::Accepted => write(rt, page, b"accepted\n"),
         Answer::Refused(number, place) => match number {

@@ -120,7 +120,11 @@ fn write_again(rt: HostRuntime, page: &mut Page, text: &[u8], a: Attribute) {
 fn write_missing(rt: HostRuntime, page: &mut Page, text: &[u8], missing: usize) {
     write(rt, page, b"the attribute ");
     write_word_at(rt, page, text, missing);
-    write(rt, page, b" of this object or value must be stated and is not");
+    write(
+        rt,
+        page,
+        b" of this object or value must be stated and is not",
+    );
 }
 
 // What a refusal of 13 to 16 or 18 means at a place.

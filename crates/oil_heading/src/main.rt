@@ -3,13 +3,21 @@
 // Without arguments the text is that on standard input, whose name is `-`. Bytes of names and strings that are no plain characters of ASCII, and `\`,
 // are shown as `\x` and two hex digits.
 #![tactic(auto)]
+
 use console::arguments::Asked;
 use console::{Page, arguments, errors, whole, write};
 use heading::Answer;
 use std::io::Read;
 
 // The bytes of a place of the lent texts.
-fn write_part(rt: HostRuntime, page: &mut Page, buffer: &[u8], lengths: &[usize], place: usize, length: usize) {
+fn write_part(
+    rt: HostRuntime,
+    page: &mut Page,
+    buffer: &[u8],
+    lengths: &[usize],
+    place: usize,
+    length: usize,
+) {
     console::write_shown(
         rt,
         page,
@@ -23,7 +31,13 @@ fn write_part(rt: HostRuntime, page: &mut Page, buffer: &[u8], lengths: &[usize]
     );
 }
 
-fn write_heading(rt: HostRuntime, page: &mut Page, buffer: &[u8], lengths: &[usize], origins: &mut [usize]) {
+fn write_heading(
+    rt: HostRuntime,
+    page: &mut Page,
+    buffer: &[u8],
+    lengths: &[usize],
+    origins: &mut [usize],
+) {
     let mut expanded = [0; token::LONGEST];
     match heading_texts::heading(buffer, lengths, &mut expanded, origins) {
         Answer::VersionAndName(place, length, name, name_length) => {

@@ -2,6 +2,7 @@
 // mask in decimal and in hex, separated by tabs. With the name of a file of masks it checks these: `accepted`, or an event's name and what is wrong
 // with its mask.
 #![tactic(auto)]
+
 use console::arguments::Asked;
 use console::inputs::Input;
 use console::{Page, arguments, errors, inputs, number, whole, write};
@@ -126,7 +127,7 @@ fn write_reason(rt: HostRuntime, page: &mut Page, given: bool, mask: u64) {
     }
     if is_single(mask) {
         write(
-        rt,
+            rt,
             page,
             b"the bit of this AUTO mask is in the mask of another event of a same task\n",
         );
@@ -260,7 +261,7 @@ fn check_list(
         Checked::Refused(number, place) => console::write_refusal(rt, page, number, place),
         Checked::NotPlannable => write_not_plannable(rt, page),
         Checked::WrongLength => write(
-        rt,
+            rt,
             page,
             b"wrong length: the list has not one mask for each event\n",
         ),
@@ -301,7 +302,13 @@ fn check_bytes(
 }
 
 // Checks the masks of the file that the first argument names.
-fn check(rt: HostRuntime, page: &mut Page, buffer: &[u8], lengths: &[usize], origins: &mut [usize]) {
+fn check(
+    rt: HostRuntime,
+    page: &mut Page,
+    buffer: &[u8],
+    lengths: &[usize],
+    origins: &mut [usize],
+) {
     let mut file = [0u8; token::PLACES];
     match inputs::read_named(rt, 1, &mut file) {
         Input::Text(n) => check_bytes(rt, page, buffer, lengths, origins, token::part(&file, 0, n)),
@@ -330,7 +337,11 @@ fn write_help(rt: HostRuntime, page: &mut Page) {
         page,
         b"oil_masks: the event masks of the text on standard input, a line each\n",
     );
-    write(rt, page, b"oil_masks LIST: checks the masks in the file LIST\n");
+    write(
+        rt,
+        page,
+        b"oil_masks LIST: checks the masks in the file LIST\n",
+    );
 }
 
 fn main(rt: HostRuntime) {

@@ -2,6 +2,7 @@
 // Q-11). The mended text goes to standard output; a line for each drop, with text, byte, length and number, and the dropped words, to standard error. A
 // text that cannot be mended takes `refused`, the refusal's number, and text and byte of its place, separated by tabs.
 #![tactic(auto)]
+
 use console::arguments::Asked;
 use console::{Page, arguments, errors, whole, write, write_number};
 use mending_texts::Mended;

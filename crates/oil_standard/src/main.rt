@@ -2,6 +2,7 @@
 // section 5.2, and writes `nothing wrong`, or what is wrong: file (`-` for the text on standard input), line, column, 25 or 26, the path of the
 // attribute by its names, and what that means. A text that is not accepted takes `refused`, the refusal's number, and text and byte of its place, separated by tabs.
 #![tactic(auto)]
+
 use console::arguments::Asked;
 use console::{Page, arguments, errors, whole, write, write_number};
 use rows::{cells, refusals};
@@ -50,7 +51,7 @@ fn write_path(rt: HostRuntime, page: &mut Page, attribute: usize) {
 fn write_meaning(rt: HostRuntime, page: &mut Page, number: u8) {
     if number == refusals::LACKS_STANDARD {
         write(
-        rt,
+            rt,
             page,
             b": the standard attribute is not defined in the scope of this word\n",
         );
@@ -80,7 +81,13 @@ fn write_wrong(
     write_meaning(rt, page, number);
 }
 
-fn write_answer(rt: HostRuntime, page: &mut Page, buffer: &[u8], lengths: &[usize], answer: Checked) {
+fn write_answer(
+    rt: HostRuntime,
+    page: &mut Page,
+    buffer: &[u8],
+    lengths: &[usize],
+    answer: Checked,
+) {
     match answer {
         Checked::Refused(number, place) => console::write_refusal(rt, page, number, place),
         Checked::NothingWrong => write(rt, page, b"nothing wrong\n"),

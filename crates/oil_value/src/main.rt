@@ -2,6 +2,7 @@
 // It is written as normal text has it, on a line; or the line is `not found`, or `refused`, the refusal's number and its place, a text's number and a
 // byte, separated by tabs. The text is read alone.
 #![tactic(auto)]
+
 ghost use Rattle.console.specs.Counts.{IsPrefixLen};
 
 use console::arguments::Asked;
@@ -57,7 +58,10 @@ fn read_text(rt: HostRuntime, count: usize, buffer: &mut [u8]) -> Input {
 }
 
 fn say_usage(rt: HostRuntime) {
-    errors::say_line(rt, b"usage: oil_value KIND NAME PATH [FILE]; oil_value --help\n");
+    errors::say_line(
+        rt,
+        b"usage: oil_value KIND NAME PATH [FILE]; oil_value --help\n",
+    );
 }
 
 fn answer(rt: HostRuntime, count: usize) {

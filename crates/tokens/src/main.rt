@@ -1,6 +1,7 @@
 // Writes the tokens of the text on standard input, or of the file named, a line each: place, length, sort and the token itself, parted by tabs. The
 // last line is `end` and the text's length, or `refused`, the refusal's number and its place.
 #![tactic(auto)]
+
 use console::arguments::Asked;
 use console::inputs::Input;
 use console::{Page, arguments, errors, inputs, whole, write, write_number};

@@ -1,6 +1,7 @@
 // The texts of the corpus, data/NNN.oil, each with a line: its number, and `accepted` with length and checksum of its normal text, or `refused`
 // with number, and text and byte of its place, separated by tabs.
 #![tactic(auto)]
+
 ghost use Rattle.std.specs.Prelude.{◌<◌};
 
 use console::{Page, files, write, write_number};
@@ -40,7 +41,13 @@ fn write_refused(rt: HostRuntime, page: &mut Page, number: u8, place: usize) {
     console::write_refusal(rt, page, number, place);
 }
 
-fn write_answer(rt: HostRuntime, page: &mut Page, buffer: &[u8], lengths: &[usize], origins: &mut [usize]) {
+fn write_answer(
+    rt: HostRuntime,
+    page: &mut Page,
+    buffer: &[u8],
+    lengths: &[usize],
+    origins: &mut [usize],
+) {
     let mut expanded = [0; token::LONGEST];
     let mut definitions = [0; definition::LENT];
     let mut enumerators = [0; enumerator::LENT];
