@@ -19,7 +19,7 @@ fn write_word_at(rt: HostRuntime, page: &mut Page, text: &[u8], place: usize) {
 fn write_attribute(rt: HostRuntime, page: &mut Page, text: &[u8], a: Attribute) {
     expected::write_bytes(rt, page, text, a.name, a.name_len);
     write(rt, page, b", ");
-    write_shown(page, token::part(text, a.word, a.word_len));
+    write_shown(rt, page, token::part(text, a.word, a.word_len));
     if a.range_len == 0 {
         return;
     }
@@ -28,7 +28,7 @@ fn write_attribute(rt: HostRuntime, page: &mut Page, text: &[u8], a: Attribute) 
         write(rt, page, b"[...]");
         return;
     }
-    write_shown(page, token::part(text, a.range, a.range_len));
+    write_shown(rt, page, token::part(text, a.range, a.range_len));
 }
 
 // What an attribute takes whose type's word has this code.
@@ -102,7 +102,7 @@ fn write_sought(rt: HostRuntime, page: &mut Page, text: &[u8], a: Attribute) {
         return;
     }
     write(rt, page, b", ");
-    write_shown(page, token::part(text, a.word, a.word_len - 5));
+    write_shown(rt, page, token::part(text, a.word, a.word_len - 5));
 }
 
 // 14.
