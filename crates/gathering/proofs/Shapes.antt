@@ -11,7 +11,7 @@ use lib.Dec.{leb}
 use borrow.Author.Tests.{le-leb}
 use Rattle.token.specs.Find.{both}
 use Rattle.sources.specs.Texts.{fitting, told_well}
-use Rattle.io.specs.Counts.{IsPrefixLen}
+use Rattle.console.specs.Counts.{IsPrefixLen}
 use Rattle.gathering.specs.Gathered.{all_short, Rooms, MainTold, Gathered, Fits, Short}
 use Rattle.gathering.specs.declared.Added.{Added}
 use Rattle.gathering.specs.declared.Added.TheVariants.{Text}
@@ -74,7 +74,7 @@ bounds f e = subst Fits e f
 -- what was read into a room of 65,536 bytes
 pub short : (r : Input) (b : List ℕ) → Within r b → length b ≤ 65536 → Short r
 short (Came n) b w h = omega (arith, w.0)
-short NotRead b w h = tt
+short (NotRead e) b w h = tt
 
 pub came : {r : Input} {n : ℕ} → Short r → r ≡ Came n → n ≤ 65536
 came f e = subst Short e f
