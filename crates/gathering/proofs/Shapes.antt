@@ -1,23 +1,17 @@
 -- The laws of the told lengths while texts are added. Assumes nothing.
 use Prim.Native.Nat.{ℕ, zero, suc, ◌+◌, ◌-◌, ◌*◌, ◌≤◌, ◌<◌}
-use mathlib.Core.Path.{◌≡◌, refl, sym, ◌∙◌, ap, subst}
+use mathlib.Core.Path.{◌≡◌, refl, ◌∙◌, ap, subst}
 use mathlib.Core.List.{List, [], ◌∷◌}
-use mathlib.Core.Bool.{Bool, true, false}
 use native.Mathlib.Omega.{arith}
-use native.Mathlib.Numerals.{add-one}
 use lib.ListN.{length, get_or, take, set, length-set}
 use lib.Seq.{length-take-le, get_or-set_same}
 use lib.Dec.{leb}
 use borrow.Author.Tests.{le-leb}
 use Rattle.token.specs.Find.{both}
 use Rattle.sources.specs.Texts.{fitting, told_well}
-use Rattle.console.specs.Counts.{IsPrefixLen}
-use Rattle.gathering.specs.Gathered.{all_short, Rooms, MainTold, Gathered, Fits, Short}
+use Rattle.gathering.specs.Gathered.{all_short, MainTold, Gathered, Fits}
 use Rattle.gathering.specs.declared.Added.{Added}
 use Rattle.gathering.specs.declared.Added.TheVariants.{Text}
-use Rattle.console.specs.Inputs.{Within}
-use Rattle.console.specs.declared.inputs.Input.{Input}
-use Rattle.console.specs.declared.inputs.Input.TheVariants.{Text as Came, Failed as NotRead}
 
 -- the bytes that these lengths tell
 abbrev pub total : List ℕ → ℕ
@@ -71,14 +65,6 @@ first_kept (y ∷ l) (suc i) x h = refl
 pub bounds : {r : Added} {n t : ℕ} → Fits r → r ≡ Text n t → (n ≤ 4095) × (t ≤ 65536)
 bounds f e = subst Fits e f
 
--- what was read into a room of 65,536 bytes
-pub short : (r : Input) (b : List ℕ) → Within r b → length b ≤ 65536 → Short r
-short (Came n) b w h = omega (arith, w.0)
-short (NotRead e) b w h = tt
-
-pub came : {r : Input} {n : ℕ} → Short r → r ≡ Came n → n ≤ 65536
-came f e = subst Short e f
-
 -- So far: r lengths are told, of u bytes, in memory that is as long as at the start.
 pub record SoFar (b₀ l₀ g₀ b l g : List ℕ) (u r : ℕ) : Type 0 where
   pub bytes : length b ≡ length b₀
@@ -89,49 +75,6 @@ pub record SoFar (b₀ l₀ g₀ b l g : List ℕ) (u r : ℕ) : Type 0 where
   pub used : u + u ≤ 69631 * r
   pub main : get_or l 0 0 ≡ 0
   pub sum : total (take r l) ≡ u
-
--- the first two lengths
-pub total_front : (l : List ℕ) → 16 ≤ length l → total (take 2 l) ≡ get_or l 0 0 + get_or l 1 0
-total_front [] h = absurd (omega arith)
-total_front (x ∷ []) h = absurd (omega arith)
-total_front (x ∷ y ∷ l) h =
-    let e : total (take 2 (x ∷ y ∷ l)) ≡ x + (y + 0) = refl in
-    omega (arith, e)
-
-pub one_inside : (l : List ℕ) → 16 ≤ length l → 1 < length (set l 0 0)
-one_inside l h =
-    let e : length (set l 0 0) ≡ length l = simp length-set refl in
-    omega (arith, e)
-
-pub front_kept : (l : List ℕ) (n : ℕ) → length (set (set l 0 0) 1 n) ≡ length l
-front_kept l n = simp length-set refl
-
--- the main text
-pub main_told : (b l : List ℕ) (n : ℕ) → 557048 ≤ length b → 16 ≤ length l → n ≤ 65536 → MainTold b (set (set l 0 0) 1 n) n
-main_told b l n g h k =
-    let f : length (set (set l 0 0) 1 n) ≡ length l = simp length-set refl in
-    let e : length (set l 0 0) ≡ length l = simp length-set refl in
-    record {
-      bytes = g;
-      lengths = omega (arith, f);
-      name = first_kept (set l 0 0) 1 n (omega arith) ∙ get_or-set_same l 0 0 0 (omega arith);
-      text = get_or-set_same (set l 0 0) 1 n 0 (omega (arith, e));
-      short = k;
-    }
-
-pub starts : {b l : List ℕ} {n : ℕ} (g : List ℕ) → MainTold b l n → SoFar b l g b l g n 2
-starts {l = l} g m =
-    let e = total_front l m.lengths in
-    record {
-      bytes = refl;
-      lengths = refl;
-      origins = refl;
-      most = omega arith;
-      least = omega arith;
-      used = omega (arith, m.short);
-      main = m.name;
-      sum = omega (arith, e, m.name, m.text);
-    }
 
 -- one text more
 pub onward : {b₀ l₀ g₀ b l g : List ℕ} {u r : ℕ} (b' g' : List ℕ) (n t : ℕ) → SoFar b₀ l₀ g₀ b l g u r → length b' ≡ length b → length g' ≡ length g → r < 15 → 16 ≤ length l₀ → (n ≤ 4095) × (t ≤ 65536) → SoFar b₀ l₀ g₀ b' (set (set l r n) (r + 1) t) g' (u + n + t) (r + 2)
@@ -149,12 +92,6 @@ onward {l = l} {r = r} b' g' n t s e f h k w =
       main = m ∙ s.main;
       sum = total_two l r n t q ∙ ap (λ (x : ℕ). x + n + t) s.sum;
     }
-
--- the place of the text's length
-pub second_inside : {b₀ l₀ g₀ b l g : List ℕ} {u r : ℕ} (n : ℕ) → SoFar b₀ l₀ g₀ b l g u r → r < 15 → 16 ≤ length l₀ → r + 1 < length (set l r n)
-second_inside {l = l} {r = r} n s h k =
-    let p : length (set l r n) ≡ length l = simp length-set refl in
-    omega (arith, p, s.lengths)
 
 -- what a file that is not added left in the buffer is not told
 pub unchanged : {b₀ l₀ g₀ b l g : List ℕ} {u r : ℕ} (b' : List ℕ) → SoFar b₀ l₀ g₀ b l g u r → length b' ≡ length b → SoFar b₀ l₀ g₀ b' l g u r
@@ -202,47 +139,3 @@ gathered_none {l = l} b' s w =
       main = s.main;
       told = told_none b' l (omega (arith, s.lengths, w.lengths));
     }
-
-pub counts : (n : ℕ) (l : List ℕ) → n ≤ length l → IsPrefixLen n l
-counts n l h = (h, sym (length-take-le n l h))
-
--- so many of the lengths
-pub counted : {b₀ l₀ g₀ b l g : List ℕ} {u r : ℕ} → SoFar b₀ l₀ g₀ b l g u r → 16 ≤ length l₀ → IsPrefixLen r l
-counted {l = l} {r = r} s h =
-    let k : r ≤ length l = omega (arith, s.most, s.lengths) in
-    counts r l k
-
-pub counted_one : {b₀ l₀ g₀ b l g : List ℕ} {u r : ℕ} → SoFar b₀ l₀ g₀ b l g u r → 16 ≤ length l₀ → IsPrefixLen 1 l
-counted_one {l = l} s h =
-    let k : 1 ≤ length l = omega (arith, s.lengths) in
-    counts 1 l k
-
--- the first lengths written
-pub zero_kept : (l : List ℕ) → length (set l 0 0) ≡ length l
-zero_kept l = simp length-set refl
-
-pub one_counted : (l : List ℕ) → 1 ≤ length l → IsPrefixLen 1 (set l 0 0)
-one_counted l h =
-    let e : length (set l 0 0) ≡ length l = simp length-set refl in
-    counts 1 (set l 0 0) (omega (arith, e))
-
-pub one_within : (l : List ℕ) → 2 ≤ length l → 1 < length (set l 0 0)
-one_within l h =
-    let e : length (set l 0 0) ≡ length l = simp length-set refl in
-    omega (arith, e)
-
-pub two_counted : (l : List ℕ) → 2 ≤ length l → IsPrefixLen 2 (set (set l 0 0) 1 0)
-two_counted l h =
-    let e : length (set (set l 0 0) 1 0) ≡ length l = simp length-set refl in
-    counts 2 (set (set l 0 0) 1 0) (omega (arith, e))
-
--- where too little is lent, nothing is asked
-module _ {b l g b' l' : List ℕ} {r : ℕ} (w : Rooms b l g) where
-  pub short_bytes : length b < 557048 → Gathered b' l' r
-  short_bytes h = absurd (omega (arith, w.bytes))
-
-  pub short_lengths : length l < 16 → Gathered b' l' r
-  short_lengths h = absurd (omega (arith, w.lengths))
-
-  pub short_origins : length g < 131070 → Gathered b' l' r
-  short_origins h = absurd (omega (arith, w.origins))
