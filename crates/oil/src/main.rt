@@ -109,7 +109,7 @@ fn write_record(
     d2: &[usize],
     o2: &[usize],
     v2: &[usize],
-    found: Found,
+    found: &Found,
     k: usize,
 ) {
     if comparing::RECORDS <= k {
@@ -134,7 +134,7 @@ fn write_records(
     d2: &[usize],
     o2: &[usize],
     v2: &[usize],
-    found: Found,
+    found: &Found,
 ) {
     let mut k = 0;
     while k < comparing::RECORDS {
@@ -157,7 +157,7 @@ fn write_found(
     d2: &[usize],
     o2: &[usize],
     v2: &[usize],
-    found: Found,
+    found: &Found,
 ) {
     let mut page = [0; 360000];
     write_records(rt, &mut page, first, d, o, v, second, d2, o2, v2, found);
@@ -207,7 +207,7 @@ fn compare_texts(
         whole::write_refusal_of(rt, c.which, c.number, c.place);
         return;
     }
-    write_found(rt, &expanded, &d, &o, &v, &expanded2, &d2, &o2, &v2, found);
+    write_found(rt, &expanded, &d, &o, &v, &expanded2, &d2, &o2, &v2, &found);
 }
 
 // Compares the texts of a file and those of the second one named.
