@@ -27,6 +27,20 @@ pub const ROOM: usize = sources::TEXTS * (LONGEST_NAME + token::PLACES);
 // The cells for origins while texts are gathered.
 pub const ORIGINS: usize = token::LONGEST * 2;
 
+// The room for the texts and their names, empty. A caller that lends it knows its length, and its proof does not look into so many cells.
+pub fn room() -> [u8; ROOM]
+    ensures { length result ≡ 557048 }
+{
+    [0; ROOM]
+}
+
+// The cells for origins, empty, likewise.
+pub fn origin_cells() -> [usize; ORIGINS]
+    ensures { length result ≡ 131070 }
+{
+    [0; ORIGINS]
+}
+
 // What was added: the length of the name and of the text; or nothing; or nothing, since a read failed.
 #[derive(Clone, Copy)]
 pub enum Added {
@@ -220,6 +234,21 @@ pub fn gather<R: Read>(
             1
         }
     }
+}
+
+// Gathers the texts of what is open, as `gather` does, for a caller that asks only how many lengths are told: its own long buffers then stay out of
+// the proof.
+pub fn gather_open<R: Read>(
+    rt: HostRuntime,
+    from: &mut R,
+    name: &[u8],
+    buffer: &mut [u8],
+    lengths: &mut [usize],
+    origins: &mut [usize],
+) -> usize
+    ensures { IsPrefixLen result lengths.new }
+{
+    gather(rt, from, name, buffer, lengths, origins)
 }
 
 // Gathers the texts of the file that argument i names, as `gather` does. Where it cannot be opened, that is said, and nothing is told.

@@ -66,9 +66,9 @@ fn write_expanded(rt: HostRuntime, buffer: &[u8], lengths: &[usize], origins: &m
 
 // The normal text of a text with the files that it includes.
 fn write_gathered(rt: HostRuntime, text: &[u8]) {
-    let mut buffer = [0; gathering::ROOM];
+    let mut buffer = gathering::room();
     let mut lengths = [0; sources::LENGTHS];
-    let mut origins = [0; gathering::ORIGINS];
+    let mut origins = gathering::origin_cells();
     let told = gathering::gather_text(rt, text, &mut buffer, &mut lengths, &mut origins);
     if told < 2 {
         return;
@@ -89,7 +89,7 @@ fn write_normal(rt: HostRuntime, text: &[u8]) {
 fn gather_side(rt: HostRuntime, i: usize, buffer: &mut [u8], lengths: &mut [usize]) -> usize
     ensures { IsPrefixLen result lengths.new }
 {
-    let mut origins = [0; gathering::ORIGINS];
+    let mut origins = gathering::origin_cells();
     let told = gathering::gather_named(rt, i, buffer, lengths, &mut origins);
     if told == 0 {
         return gathering::tell_empty(lengths);
@@ -212,7 +212,7 @@ fn compare_texts(
 
 // Compares the texts of a file and those of the second one named.
 fn compare_second(rt: HostRuntime, first: &[u8], lengths: &[usize]) {
-    let mut second = [0; gathering::ROOM];
+    let mut second = gathering::room();
     let mut lengths2 = [0; sources::LENGTHS];
     let told = gather_side(rt, 2, &mut second, &mut lengths2);
     if told < 2 {
@@ -222,7 +222,7 @@ fn compare_second(rt: HostRuntime, first: &[u8], lengths: &[usize]) {
 }
 
 fn compare_files(rt: HostRuntime) {
-    let mut first = [0; gathering::ROOM];
+    let mut first = gathering::room();
     let mut lengths = [0; sources::LENGTHS];
     let told = gather_side(rt, 1, &mut first, &mut lengths);
     if told < 2 {

@@ -56,10 +56,10 @@ fn write_heading(
 
 // What the text of an open file says, which is called by a name.
 fn write_text<R: Read>(rt: HostRuntime, page: &mut Page, from: &mut R, name: &[u8]) {
-    let mut buffer = [0; gathering::ROOM];
+    let mut buffer = gathering::room();
     let mut lengths = [0; sources::LENGTHS];
-    let mut origins = [0; gathering::ORIGINS];
-    let told = gathering::gather(rt, from, name, &mut buffer, &mut lengths, &mut origins);
+    let mut origins = gathering::origin_cells();
+    let told = gathering::gather_open(rt, from, name, &mut buffer, &mut lengths, &mut origins);
     if told < 2 {
         write(rt, page, b"\tcannot be read\n");
         return;

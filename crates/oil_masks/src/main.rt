@@ -317,9 +317,9 @@ fn check(
 }
 
 fn answer(rt: HostRuntime, page: &mut Page, names: usize) {
-    let mut buffer = [0; gathering::ROOM];
+    let mut buffer = gathering::room();
     let mut lengths = [0; sources::LENGTHS];
-    let mut origins = [0; gathering::ORIGINS];
+    let mut origins = gathering::origin_cells();
     let told = gathering::gather_input(rt, &mut buffer, &mut lengths, &mut origins);
     if told < 2 {
         return;

@@ -105,9 +105,9 @@ fn answer_of(buffer: &[u8], lengths: &[usize], origins: &mut [usize]) -> Checked
 
 // The answer to the texts of the file named, or of standard input.
 fn answer(rt: HostRuntime, page: &mut Page, names: usize) {
-    let mut buffer = [0; gathering::ROOM];
+    let mut buffer = gathering::room();
     let mut lengths = [0; sources::LENGTHS];
-    let mut origins = [0; gathering::ORIGINS];
+    let mut origins = gathering::origin_cells();
     let told = gathering::gather_asked(rt, names, &mut buffer, &mut lengths, &mut origins);
     if told < 2 {
         return;

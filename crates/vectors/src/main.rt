@@ -78,10 +78,10 @@ fn digit(n: usize) -> u8 {
 }
 
 fn write_file(rt: HostRuntime, page: &mut Page, mut file: File, name: &[u8], number: usize) {
-    let mut buffer = [0; gathering::ROOM];
+    let mut buffer = gathering::room();
     let mut lengths = [0; sources::LENGTHS];
-    let mut origins = [0; gathering::ORIGINS];
-    let told = gathering::gather(rt, &mut file, name, &mut buffer, &mut lengths, &mut origins);
+    let mut origins = gathering::origin_cells();
+    let told = gathering::gather_open(rt, &mut file, name, &mut buffer, &mut lengths, &mut origins);
     if told < 2 {
         return;
     }

@@ -1,0 +1,5 @@
+use Rattle.gathering.proofs.Zeros.{zeros_length}
+use Rattle.gathering.proofs.room.Goals as goal
+
+pub returns : goal.returns
+returns c = zeros_length 557048
