@@ -153,6 +153,7 @@ beside_is ts i p l j o e = go ts o.together
     go : (us : List Task) → Together us i j → beside us i p l ≡ true
     go (t ∷ us) (this_task a b) = either_one (beside us i p l) (both_intro a (meets_is t i p l 0 j o.event (ap t (from_zero j) ∙ b) (λ x. o.another (x ∙ from_zero j)) e))
     go (t ∷ us) (later_task q) = either_two (both (t i) (meets t i p l 0)) (go us q)
+    go [] x' = elim x' [ ]
 
 -- The checker ------------------------------------------------------------------------------------------------------------------------------
 

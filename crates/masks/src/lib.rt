@@ -1,5 +1,6 @@
 // Event masks, checked and planned (document 02, Q-6).
 #![tactic(auto)]
+
 ghost use Rattle.std.specs.Prelude.{◌≡◌};
 ghost use Rattle.masks.specs.Promises.{named_found, ChecksRows, PlansRows, ChecksRead, PlansRead};
 ghost use Rattle.masks.specs.Results.{check, PlansText};

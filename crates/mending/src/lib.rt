@@ -1,5 +1,6 @@
 // Mends what can be mended and says so (document 02, Q-11): the statements at fault by 13 or 14 are dropped.
 #![tactic(auto)]
+
 ghost use Rattle.std.specs.Prelude.{◌≡◌};
 ghost use Rattle.mending.specs.Results.{MendsText};
 ghost use Rattle.mending.specs.Rules.{MendsByRules};

@@ -1,5 +1,6 @@
 // Two releases compared (document 02, Q-8): from the texts to the records.
 #![tactic(auto)]
+
 ghost use Rattle.std.specs.Prelude.{◌≡◌, ◌≤◌, length};
 ghost use Rattle.comparing.specs.Naming.{Index};
 ghost use Rattle.comparing.specs.Differences.{compare_texts};

@@ -1,0 +1,6 @@
+use Rattle.mending.proofs.Wholes.{answers_to}
+use borrow.Author.Rules.{rules}
+use Rattle.mending.proofs.answer_to.Goals as goal
+
+pub returns : goal.returns
+returns c = answers_to c.read-r.ensures.rules
