@@ -1,5 +1,6 @@
 // The value of one attribute of a text, by kind, object name and dotted path (document 02, Q-13).
 #![tactic(auto)]
+
 ghost use Rattle.attribute_values.specs.Results.{copied, Leaves, ValuesText};
 ghost use Rattle.attribute_values.specs.Rows.{row_of, told_at};
 ghost use Rattle.attribute_values.specs.Rules.{ValuesByRules};

@@ -75,9 +75,9 @@ objects_nth {s} {o} {xs} {i} {x} h n =
     let e : 0 + length n.front ≡ i = omega (arith, p) in
     subst (λ (j : ℕ). ObjectIs s o j x) e (objects_append s o 0 n.front x n.rest (subst (ObjectsAt s o 0) n.whole h))
 
-one_row : {s o : List ℕ} {k : ℕ} {x : Content} {xs : List Content} → One x xs → ObjectsAt s o k xs → x.object.row < k + length xs
+one_row : {s o : List ℕ} {x : Content} {k : ℕ} {xs : List Content} → One x xs → ObjectsAt s o k xs → x.object.row < k + length xs
 one_row this_one (some_objects h t) = let e = h.row in omega (arith, e)
-one_row {s = s} {o = o} {k = k} {x = x} (later_one {y = y} {xs = xs} a) (some_objects h t) = let r = one_row {k = k + 1} a t in omega (arith, r)
+one_row {s = s} {o = o} {x = x} {k = k} (later_one {y = y} {xs = xs} a) (some_objects h t) = let r = one_row {k = k + 1} a t in omega (arith, r)
 
 nth_low : {xs : List Content} {i : ℕ} {x : Content} → Nth xs i x → i < length xs
 nth_low {xs} {i} {x} n =

@@ -1,6 +1,7 @@
 // The normal text of lent texts, the main one and those that it includes (document 02, Q-10): that of the expanded text, with places in the lent
 // texts.
 #![tactic(auto)]
+
 ghost use Rattle.std.specs.Prelude.{◌≡◌, ◌≤◌, length};
 ghost use Rattle.reading.specs.declared.Answer.TheVariants.{Refused};
 ghost use Rattle.reading_texts.specs.Filling.{RoomSizes};
