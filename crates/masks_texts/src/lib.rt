@@ -1,5 +1,6 @@
 // Event masks of lent texts, checked and planned (document 02, Q-6 and Q-10): those of the expanded text, with places in the lent texts.
 #![tactic(auto)]
+
 ghost use Rattle.masks_texts.specs.Masks.{ChecksExpanded, PlansExpanded, ChecksTexts, PlansTexts};
 
 use lent_texts::{Expanded, Lent};

@@ -1,5 +1,6 @@
 // Mends what can be mended of lent texts and says so (document 02, Q-11 and Q-10): the expanded text is mended, with places in the lent texts.
 #![tactic(auto)]
+
 ghost use Rattle.mending_texts.specs.Telling.{MendsExpanded, MendsTexts};
 
 use lent_texts::{Expanded, Lent};

@@ -1,6 +1,7 @@
 // Whether the implementation of lent texts defines the standard attributes (document 02, Q-9 and Q-10): the answer to the expanded text, with places
 // in the lent texts.
 #![tactic(auto)]
+
 ghost use Rattle.standard_texts.specs.Checking.{ChecksExpanded, ChecksTexts};
 
 use lent_texts::{Expanded, Lent};
