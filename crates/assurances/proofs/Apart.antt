@@ -35,6 +35,7 @@ use Rattle.assurances.specs.Own.{Row, here, behind, NamesApart}
 -- An object among others is found by its kind and name.
 is_found : {xs : List Object} {i : ℕ} {x : Object} (k : Kind) (t : Word) → Row xs i x → same_kind k x.kind ≡ true → x.name.bytes ≡ t.bytes → is_there (find_object k xs t) ≡ true
 unfolding find_object is_there
+is_found {xs = []} k t x16 p q = elim x16 [ ]
 is_found {xs = y ∷ ys} k t here p q = go (both (same_kind k y.kind) (alike y.name t)) hit
   where
     hit : both (same_kind k y.kind) (alike y.name t) ≡ true
@@ -67,6 +68,7 @@ is_elsewhere {xs = y ∷ ys} z (behind r) p q = go (both (not (same_kind z.kind 
     go : (b : Bool) → elsewhere z ys ≡ true → either b (elsewhere z ys) ≡ true
     go true e = refl
     go false e = e
+is_elsewhere {xs = []} z x16 p q = elim x16 [ ]
 
 -- Merging leaves no object with the kind and name of one before it, and 24 none with the name of one of another kind.
 record Free (before : List Object) (x : Object) (xs : List Object) : Type 0 where
@@ -110,6 +112,7 @@ object_of s (x ∷ os) here h = record { object = x; its = here; name = h.1.0 }
 object_of s (x ∷ os) (behind a) h =
     let f = object_of s os a (parts s (statement_words x.statements) (object_words os) h.1.1).1 in
     record { object = f.object; its = behind f.its; name = f.name }
+object_of s [] {i = i} {r = r} x'' h = elim x'' [ ]
 
 same_row : (s : List ℕ) (os : List Object) {i j : ℕ} {x y : ObjectRow} → AllNew [] os → each_name [] os ≡ [] → InText s (object_words os) → Row (object_rows os) i x → Row (object_rows os) j y
     → part s x.name ≡ part s y.name → i ≡ j

@@ -41,6 +41,7 @@ climb_append (climb i c) e = climb i (climb_append c e)
 climb_low : {R : Type 0} {f : R → ℕ} {l : List R} {lo hi j : ℕ} {q : R} → Climb f lo l hi → Row l j q → lo ≤ f q
 climb_low (climb i c) here = i
 climb_low {f} (climb {r} i c) (behind b) = let h : suc (f r) ≤ f _ = climb_low c b in omega arith
+climb_low {R = R} {f = f} {j = j} {q = q} (climbed {lo = lo} {hi = hi} _) x6 = elim x6 [ ]
 
 climb_less : {R : Type 0} {f : R → ℕ} {l : List R} {lo hi i j : ℕ} {r q : R} → Climb f lo l hi → i < j → Row l i r → Row l j q → f r < f q
 climb_less c h here here = absurd (omega arith)

@@ -83,6 +83,7 @@ all_append (one_more h p) q = one_more h (all_append p q)
 of_row : {R : Type 0} {P : R → Type 0} {l : List R} {n : ℕ} {r : R} → All P l → Row l n r → P r
 of_row (one_more h p) here = h
 of_row (one_more h p) (behind a) = of_row p a
+of_row {R = R} {P = P} {n = n} {r = r} none_left x3 = elim x3 [ ]
 
 -- Definitions ----------------------------------------------------------------------------------------------------------------------------------
 

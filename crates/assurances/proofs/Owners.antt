@@ -55,6 +55,7 @@ table_behind (r ∷ rs) o n =
 row_behind : {l : List ValueRow} {n i : ℕ} {r : ValueRow} → AllBehind n l → Row l i r → Behind (n + i) r.owner
 row_behind {n} (more_behind {r} h p) here = let e : n ≡ n + 0 = omega arith in subst (λ k. Behind k r.owner) e h
 row_behind {n} {r} (more_behind h p) (behind {n = i} q) = let e : suc n + i ≡ n + suc i = omega arith in subst (λ k. Behind k r.owner) e (row_behind p q)
+row_behind {i = i} {r = r} (none_behind {n = n}) x4 = elim x4 [ ]
 
 every_behind : (f : File) (t : Tables) → answer f ≡ accepted t → AllBehind 0 t.values
 unfolding tables

@@ -229,11 +229,15 @@ unfolding means meaning
 object_single s an_object_alone (leaf _ _ (leaf _ _ r)) n k = record { its_row = refl; one = refl }
 object_single s an_object_with (leaf _ _ (leaf _ _ (leaf _ _ (node _ ss r)))) n k = record { its_row = refl; one = refl }
 
+-- One more object before the others.
+one_before : (x : Object) (xs : List Object) (n : ℕ) → OnePart x n → Single (suc n) xs → Single n (x ∷ xs)
+one_before x xs n o r = (o.its_row, o.one, r)
+
 objects_single : {g : Form} (s : List ℕ) (p : objects ⟶ g) (us : Trees ◌⟶◌ g) (n k : ℕ) → Single n (means p (meaning s us) n k)
 unfolding means meaning
 objects_single s no_object nil n k = tt
 objects_single s an_object (node p x (node q xs nil)) n k =
-    let o = object_single s p x n k in (o.its_row, o.one, objects_single s q xs (suc n) (k + statements_in (means p (meaning s x) n k).statements))
+    one_before (means p (meaning s x) n k) _ n (object_single s p x n k) (objects_single s q xs (suc n) (k + statements_in (means p (meaning s x) n k).statements))
 
 parts_single : (s : List ℕ) (t : Trees ◌⟶◌ (file ▸ ∎)) → Single 0 (syntax s t).parts
 unfolding syntax means meaning

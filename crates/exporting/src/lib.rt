@@ -1,5 +1,6 @@
 // What the calls for programs in C give (document 02, Q-13), as include/kaukslini.h declares them; the crate exporting_c exports them. A text is read alone, with an empty name.
 #![tactic(auto)]
+
 ghost use Rattle.std.specs.Prelude.{◌≡◌};
 ghost use Rattle.sources.specs.Expanding.{expansion_of};
 ghost use Rattle.sources_reading.specs.Answering.{alone};

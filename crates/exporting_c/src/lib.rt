@@ -1,5 +1,6 @@
 // The calls for programs in C (document 02, Q-13), as include/kaukslini.h declares them: each is the call of that name of the crate exporting.
 #![tactic(auto)]
+
 ghost use Rattle.exporting.specs.Rules.{NormalByRules, ValueByRules, HeadingByRules, ExplainsByRules};
 
 use exporting::{Heading, Position, Told};
