@@ -334,7 +334,7 @@ const STRUCTS: [(&str, &str); 3] = [
     ("Position", "kaukslini_position"),
 ];
 
-/// The prototype that a function of the crate `exporting` has in C.
+/// The prototype that a function of the crate `exporting_c` has in C.
 fn prototype(signature: &str) -> String {
     let (name, rest) = signature.split_once('(').expect("parameters");
     let (parameters, result) = rest.rsplit_once(')').expect("parameters");
@@ -392,10 +392,13 @@ fn uncommented(text: &str) -> String {
 /// Nothing else compares the declarations with what is exported.
 #[test]
 fn the_header() {
-    let code = fs::read_to_string(root().join("crates/exporting/src/lib.rt")).expect("the code");
+    let source = |name: &str| {
+        let file = root().join("crates").join(name).join("src/lib.rt");
+        uncommented(&fs::read_to_string(file).expect("the code"))
+    };
     let header = fs::read_to_string(root().join("include/kaukslini.h")).expect("the header");
     let header = plain(&uncommented(&header));
-    let code = uncommented(&code);
+    let code = source("exporting_c");
     let mut exported: Vec<&str> = Vec::new();
     for part in code.split("pub extern \"C\" fn ").skip(1) {
         let signature = part.split("ensures").next().expect("a contract");
@@ -406,13 +409,17 @@ fn the_header() {
         );
         exported.push(signature.split('(').next().expect("a name"));
     }
-    assert_eq!(exported.len(), code.matches("#[no_mangle]").count());
+    assert_eq!(exported.len(), code.matches("#[unsafe(no_mangle)]").count());
     let declared =
         STRUCTS.map(|(_, name)| header.matches(&format!("struct {name} kaukslini_")).count());
     assert_eq!(exported.len(), declared.iter().sum::<usize>());
-    let code = plain(&code);
+    let code = plain(&source("exporting"));
+    let derives = plain("#[derive(Clone, Copy)]");
     for (own, name) in STRUCTS {
-        let own = members(&code, &format!("# [ repr ( C ) ] pub struct {own} {{"));
+        let own = members(
+            &code,
+            &format!("# [ repr ( C ) ] {derives} pub struct {own} {{"),
+        );
         let own: Vec<&str> = own.split(" : usize ,").map(str::trim).collect();
         let declared = members(&header, &format!("struct {name} {{"));
         let declared: Vec<&str> = declared.split(';').map(str::trim).collect();
