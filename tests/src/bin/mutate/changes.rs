@@ -413,7 +413,7 @@ mod tests {
 
     const SOURCE: &str = "\
 fn least(a: usize, b: usize, c: u8) -> usize
-    ensures { λ r. ⌜ r ≡ 0 < 1 ⌝ }
+    ensures { result ≡ 0 < 1 }
 {
     // a < b
     if a <= 7 {

@@ -6,7 +6,7 @@ use std::hash::{Hash, Hasher};
 use std::path::{Path, PathBuf};
 use std::process::Command;
 
-/// A clone of the repository with a copy of what has been proved, and the logs of the trials.
+/// A clone of the repository, and the logs of the trials.
 pub struct Scratch {
     pub clone: PathBuf,
     tried: PathBuf,
@@ -54,15 +54,6 @@ impl Scratch {
                 .arg(repository)
                 .arg(&clone),
         );
-        let proved = repository.join("target");
-        if proved.is_dir() {
-            must(
-                Command::new("cp")
-                    .arg("-a")
-                    .arg(&proved)
-                    .arg(clone.join("target")),
-            );
-        }
         let tree = ["rev-parse", "HEAD:crates"];
         let version = must(Command::new("git").arg("-C").arg(&clone).args(tree));
         Scratch {
@@ -72,39 +63,17 @@ impl Scratch {
         }
     }
 
-    fn check(&self, name: &str) -> bool {
+    /// Checks a crate, over what checks of it kept: whether it is proved, and what was said.
+    fn check(&self, name: &str) -> (bool, String) {
+        let folder = self.clone.join("crates").join(name);
         let mut command = Command::new("rt");
-        command.args(["check", name]).current_dir(&self.clone);
-        run(command.env("RT_JOBS", "1")).0
+        run(command.args(["check", "--jobs", "1"]).current_dir(folder))
     }
 
-    fn kept(&self, name: &str) -> [PathBuf; 2] {
-        let target = self.clone.join("target");
-        [
-            target.join("stamp").join(name),
-            target.join("rlib").join(format!("{name}.rlib")),
-        ]
-    }
-
-    /// Proves a crate as it is, and keeps what that made beside it.
+    /// Proves a crate as it is, and what it rests on.
     pub fn prepare(&self, name: &str) {
-        assert!(self.check(name), "{name} is not proved as it is");
-        for path in self.kept(name) {
-            let copy = path.with_extension("kept");
-            must(Command::new("cp").arg("-a").arg(&path).arg(&copy));
-        }
-    }
-
-    /// Puts back what a crate was proved to, for the crates above it.
-    pub fn restore(&self, name: &str) {
-        for path in self.kept(name) {
-            must(Command::new("rm").arg("-rf").arg(&path));
-            must(
-                Command::new("mv")
-                    .arg(path.with_extension("kept"))
-                    .arg(&path),
-            );
-        }
+        let (proved, said) = self.check(name);
+        assert!(proved, "{name} is not proved as it is\n{said}");
     }
 
     /// Tries a changed source. A trial of the same crates is not run again: its log is kept.
@@ -118,10 +87,8 @@ impl Scratch {
             let path = self.clone.join("crates").join(name).join(file);
             let source = fs::read_to_string(&path).expect("a source");
             fs::write(&path, changed).expect("a source to write");
-            let proved = self.check(name);
+            let (proved, said) = self.check(name);
             fs::write(&path, source).expect("a source to write");
-            let said = self.clone.join("target/log").join(format!("{name}.say"));
-            let said = fs::read_to_string(said).expect("a log");
             fs::write(&log, format!("proved: {proved}\n{said}")).expect("a log to write");
         }
         outcome(&fs::read_to_string(&log).expect("a log"))
@@ -194,11 +161,13 @@ fn made_by_itself(log: &str, line: &str) -> Option<String> {
     Some(format!("`{function}`, `{need}`: not proved that {fact}"))
 }
 
-/// Of a function that has one: `../proofs/FUNCTION/Proof.antt:..: error: `NEED`: ..`.
+/// Of a function that has one: `./proofs/FUNCTION/Answers.antt:..: error: `NEED`: ..`.
 fn in_proof(line: &str) -> Option<String> {
     let (place, error) = line.split_once(": error: ")?;
     let file = place.split_once("/proofs/")?.1.split_once(".antt")?.0;
-    let function = file.trim_end_matches("/Proof");
+    let files = ["/Answers", "/Invariants", "/Proof"];
+    let function = files.iter().find_map(|name| file.strip_suffix(name));
+    let function = function.unwrap_or(file);
     let (need, message) = match error.strip_prefix('`')?.split_once("`: ") {
         Some((need, message)) => (format!(", `{need}`"), message),
         None => (String::new(), error),
@@ -223,7 +192,7 @@ mod tests {
     #[test]
     fn first_errors() {
         let differs =
-            "x/proofs/a/f/Proof.antt:1:2: error: `returns`: the two types differ only where ..";
+            "./proofs/a/f/Answers.antt:1:2: error: `returns`: the two types differ only where ..";
         let fact = "`a/f`, `returns`: another fact is asked".to_string();
         assert_eq!(refused(differs), (true, fact));
         let unknown = "x/proofs/g/Proof.antt:1:2: error: `returns-2`: record `lts.Start` has no field `before`";
