@@ -1,6 +1,7 @@
 // Two releases compared, each of them lent texts (document 02, Q-8 and Q-10): the comparison of the two expanded texts, with places in the lent
 // texts.
 #![tactic(auto)]
+
 ghost use Rattle.std.specs.Prelude.{◌≡◌, eqb};
 ghost use Rattle.token.specs.Find.{pick};
 ghost use Rattle.reading.specs.Decisions.{RoomSizes};
