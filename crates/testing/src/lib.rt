@@ -1,5 +1,6 @@
 // What the tests in Rust ask of the proved layers, as functions that return plain numbers.
 #![tactic(auto)]
+
 ghost use Rattle.std.specs.Prelude.{◌≡◌};
 ghost use Rattle.token.specs.Tokens.{step_at};
 ghost use Rattle.testing.specs.Steps.{number_of_sort, detail_of_sort, sign_of_sort, sort_of, place_of, next_of, detail_of, sign_of, part_length};
