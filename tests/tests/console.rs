@@ -403,13 +403,14 @@ fn says_how_it_is_called() {
     }
     for (name, arguments) in wrong {
         let run = run(name, &arguments);
-        assert_eq!(run.out, "", "{name} {arguments:?}");
-        assert!(
-            run.err.starts_with(&format!("usage: {name} ")),
-            "{}",
-            run.err
-        );
-        assert_eq!(run.err.matches('\n').count(), 1, "{}", run.err);
+        // `oil_value` says it on standard output.
+        let (said, other) = match name {
+            "oil_value" => (run.out, run.err),
+            _ => (run.err, run.out),
+        };
+        assert_eq!(other, "", "{name} {arguments:?}");
+        assert!(said.starts_with(&format!("usage: {name} ")), "{said}");
+        assert_eq!(said.matches('\n').count(), 1, "{said}");
     }
 }
 

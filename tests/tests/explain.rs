@@ -5,12 +5,21 @@ use std::path::Path;
 use tests::explaining::explained;
 use tests::families::PLANTED;
 use tests::including::{self, Refused};
+use tests::programs::{command, run, Folder};
 use tests::random::Random;
 use tests::{answered, corpus, texts, tree};
 
 /// What the program writes for a text on standard input.
 fn written(text: &[u8]) -> Vec<u8> {
     tests::programs::written("oil_explain", text)
+}
+
+/// The same where it is asked which attribute a refusal is about, of a text in a file `-`.
+fn written_which(folder: &Folder, text: &[u8]) -> Vec<u8> {
+    folder.with("-", text);
+    let mut command = command("oil_explain");
+    let command = command.args(["-", "--which"]).current_dir(&folder.path);
+    run(command, b"").written()
 }
 
 /// What the refusals mean, from 1 on; nothing where a number is not given.
@@ -28,11 +37,11 @@ const MEANINGS: [&str; 30] = [
     "more than 256 objects, more than 512 parts, or more than 2,048 statements",
     "",
     "the name is not defined in its scope",
-    "which attribute is stated again",
-    "which attribute the value does not fit, and what it takes",
-    "which attribute is missing",
+    "an attribute that is no list is stated again, in its braces or in a part of its object",
+    "the value does not fit its attribute: wrong sort, out of range, unknown enumerator, or AUTO not allowed; or braces after a reference",
+    "an attribute of this object or value must be stated and is not",
     "a second OS, COM or NM, or no OS or no APPMODE",
-    "which reference, and the kind that is sought",
+    "the reference names no object of its kind",
     "more than 2,048 resolved values",
     "the written text is longer than the output's room",
     "a bound or listed number outside its type, or a low bound above the high one",
@@ -129,18 +138,23 @@ fn refusal(text: &[u8]) -> Option<Refused> {
 
 /// What the program is to write for a text where no file can be opened.
 fn expected(text: &[u8]) -> Vec<u8> {
+    answer(text, false)
+}
+
+/// The same, where it is asked which attribute a refusal is about, or is not.
+fn answer(text: &[u8], which: bool) -> Vec<u8> {
     let Some(Refused { number, place }) = refusal(text) else {
         return b"accepted\n".to_vec();
     };
     let place = place.byte;
     let first = match number {
         8 | 24 => first_of(text, number, place),
-        13..=16 | 18 => which::second(text, number, place),
+        13..=16 | 18 if which => which::second(text, number, place),
         _ => None,
     };
     let meaning = match number {
         4 => unexpected(text, place),
-        14..=16 | 18 => which::meaning(text, number, place),
+        14..=16 | 18 if which => which::meaning(text, number, place),
         21 => bound_meaning(text, place).to_string(),
         _ => MEANINGS[usize::from(number) - 1].to_string(),
     };
@@ -618,7 +632,7 @@ fn writes_as_documented() {
         blocks += 1;
         rest = behind;
     }
-    assert_eq!(blocks, 7);
+    assert_eq!(blocks, 2);
 }
 
 /// The second place, by hand: an attribute of a kind's scope and of a value's, the first of three
@@ -749,8 +763,10 @@ fn says_which_attribute() {
             Some("3:22: the attribute is defined here"),
         ),
     ];
+    let folder = Folder::new("which");
     for (text, meaning, second) in cases {
-        let found = String::from_utf8(written(text.as_bytes())).expect("printable bytes");
+        let found = written_which(&folder, text.as_bytes());
+        let found = String::from_utf8(found).expect("printable bytes");
         let lines: Vec<&str> = found.lines().collect();
         assert!(
             lines[0].ends_with(&format!(": refusal {meaning}")),
@@ -760,7 +776,15 @@ fn says_which_attribute() {
             Some(second) => assert_eq!(lines[3], format!("-:{second}"), "{found}"),
             None => assert!(lines[3].starts_with("see "), "{found}"),
         }
-        assert_eq!(found.as_bytes(), expected(text.as_bytes()));
+        assert_eq!(found.as_bytes(), answer(text.as_bytes(), true));
+        compare(text.as_bytes(), meaning);
+    }
+    for seed in 0..600 {
+        let number = [13, 14, 15, 16, 18][seed as usize % 5];
+        if let Some(planted) = answered::with_faults(seed, &[number]) {
+            let found = written_which(&folder, &planted.text);
+            assert_eq!(found, answer(&planted.text, true), "seed {seed}");
+        }
     }
 }
 

@@ -14,7 +14,8 @@ pub enum Asked {
     Wrong,
 }
 
-fn is_same(word: &[u8], other: &[u8]) -> bool {
+// Whether two words are the same.
+pub fn is_same(word: &[u8], other: &[u8]) -> bool {
     if word.len() != other.len() {
         return false;
     }

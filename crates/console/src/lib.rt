@@ -138,6 +138,21 @@ pub fn write_number(rt: HostRuntime, page: &mut Page, n: usize) {
     write(rt, page, &digits[..k]);
 }
 
+// A place of the lent texts: the text's number, a tab, the byte.
+pub fn write_place(rt: HostRuntime, page: &mut Page, place: usize) {
+    write_number(rt, page, place / token::PLACES);
+    write(rt, page, b"\t");
+    write_number(rt, page, place % token::PLACES);
+}
+
+// The number of a refusal and its place, and the line's end.
+pub fn write_answer(rt: HostRuntime, page: &mut Page, number: usize, place: usize) {
+    write_number(rt, page, number);
+    write(rt, page, b"\t");
+    write_place(rt, page, place);
+    write(rt, page, b"\n");
+}
+
 // The line of a refusal: its number, and text and byte of its place.
 pub fn write_refusal(rt: HostRuntime, page: &mut Page, number: u8, place: usize) {
     let mut line = [0; 96];

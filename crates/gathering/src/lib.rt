@@ -369,3 +369,12 @@ pub fn name_of<'a>(buffer: &'a [u8], lengths: &[usize], number: usize) -> &'a [u
     let at = name_start(buffer, lengths, number);
     token::part(buffer, at, cells::cell_of(lengths, 2, number, 0))
 }
+
+// Whether there is nothing wrong with what is read next, be it the end.
+pub fn can_be_read<R: Read>(from: &mut R) -> bool {
+    let mut byte = [0u8; 1];
+    match from.read(&mut byte) {
+        Ok(_) => true,
+        Err(_) => false,
+    }
+}

@@ -1,7 +1,8 @@
 // Reads the text on standard input, or of the file named, and the files that it includes, and writes `accepted`, or why it is refused: file (`-` for
 // the text on standard input), line, column, number and meaning of the refusal, the line of its place, and a mark under the token there; the same of a
 // second place where there is one; and where to read on. Refusals that have no place in the texts take the first and the last of these lines alone,
-// without file, line and column.
+// without file, line and column. Asked by `FILE --which`, it says of a refusal of 14 to 16 or 18 which attribute it is about, and shows the place that
+// belongs to it, also for 13.
 #![tactic(auto)]
 
 use console::arguments::Asked;
@@ -122,14 +123,31 @@ fn write_meaning(rt: HostRuntime, page: &mut Page, buffer: &[u8], lengths: &[usi
             page,
             b"more than 256 objects, more than 512 parts, or more than 2,048 statements",
         ),
+        13 => write(rt, page, b"the name is not defined in its scope"),
+        14 => write(
+            rt,
+            page,
+            b"an attribute that is no list is stated again, in its braces or in a part of its object",
+        ),
+        15 => write(
+            rt,
+            page,
+            b"the value does not fit its attribute: wrong sort, out of range, unknown enumerator, or AUTO not allowed; or braces after a reference",
+        ),
+        16 => write(
+            rt,
+            page,
+            b"an attribute of this object or value must be stated and is not",
+        ),
         17 => write(rt, page, b"a second OS, COM or NM, or no OS or no APPMODE"),
+        18 => write(rt, page, b"the reference names no object of its kind"),
         19 => write(rt, page, b"more than 2,048 resolved values"),
         20 => write(
             rt,
             page,
             b"the written text is longer than the output's room",
         ),
-        4 | 13 | 14 | 15 | 16 | 18 | 21 => write_cause_of(rt, page, buffer, lengths),
+        4 | 21 => write_cause_of(rt, page, buffer, lengths),
         22 => write(rt, page, b"a default outside type, range or list"),
         23 => write(rt, page, b"AUTO as a default without WITH_AUTO"),
         24 => write(
@@ -150,6 +168,15 @@ fn write_refusal(rt: HostRuntime, page: &mut Page, buffer: &[u8], lengths: &[usi
     write(rt, page, b"\n");
 }
 
+// The same of 13 to 16 or 18, with the attribute that it is about.
+fn write_which(rt: HostRuntime, page: &mut Page, buffer: &[u8], lengths: &[usize], number: u8) {
+    write(rt, page, b"refusal ");
+    write_number(rt, page, number as usize);
+    write(rt, page, b": ");
+    write_cause_of(rt, page, buffer, lengths);
+    write(rt, page, b"\n");
+}
+
 fn write_placed(
     rt: HostRuntime,
     page: &mut Page,
@@ -161,6 +188,21 @@ fn write_placed(
     let mut lines = [0; 160];
     let told = showing::write_position(rt, page, buffer, lengths, place, &mut lines);
     write_refusal(rt, page, buffer, lengths, number);
+    showing::write_lines(rt, page, told, &lines);
+}
+
+// The same of 13 to 16 or 18, with the attribute that it is about.
+fn write_placed_which(
+    rt: HostRuntime,
+    page: &mut Page,
+    buffer: &[u8],
+    lengths: &[usize],
+    number: u8,
+    place: usize,
+) {
+    let mut lines = [0; 160];
+    let told = showing::write_position(rt, page, buffer, lengths, place, &mut lines);
+    write_which(rt, page, buffer, lengths, number);
     showing::write_lines(rt, page, told, &lines);
 }
 
@@ -216,7 +258,16 @@ fn write_second(
     showing::write_lines(rt, page, told, &lines);
 }
 
-// A refusal with its second place, where there is one.
+// The second place of a refusal, where there is one.
+fn write_other(rt: HostRuntime, page: &mut Page, buffer: &[u8], lengths: &[usize], number: u8) {
+    let second = second_place(buffer, lengths);
+    if second == 0 {
+        return;
+    }
+    write_second(rt, page, buffer, lengths, number, second);
+}
+
+// A refusal of 8 or 24, with its second place.
 fn write_twice(
     rt: HostRuntime,
     page: &mut Page,
@@ -226,11 +277,25 @@ fn write_twice(
     place: usize,
 ) {
     write_placed(rt, page, buffer, lengths, number, place);
-    let second = second_place(buffer, lengths);
-    if second == 0 {
+    write_other(rt, page, buffer, lengths, number);
+}
+
+// A refusal of 13 to 16 or 18, with the attribute that it is about where that is asked for.
+fn write_asked(
+    rt: HostRuntime,
+    page: &mut Page,
+    buffer: &[u8],
+    lengths: &[usize],
+    number: u8,
+    place: usize,
+    which: bool,
+) {
+    if which {
+        write_placed_which(rt, page, buffer, lengths, number, place);
+        write_other(rt, page, buffer, lengths, number);
         return;
     }
-    write_second(rt, page, buffer, lengths, number, second);
+    write_placed(rt, page, buffer, lengths, number, place);
 }
 
 // Where to read on.
@@ -246,6 +311,7 @@ fn write_answer(
     buffer: &[u8],
     lengths: &[usize],
     answer: Answer,
+    which: bool,
 ) {
     match answer {
         Answer::Accepted => write(rt, page, b"accepted\n"),
@@ -254,8 +320,12 @@ fn write_answer(
                 write_refusal(rt, page, buffer, lengths, number);
                 write_section(rt, page, number);
             }
-            8 | 13 | 14 | 15 | 16 | 18 | 24 => {
+            8 | 24 => {
                 write_twice(rt, page, buffer, lengths, number, place);
+                write_section(rt, page, number);
+            }
+            13 | 14 | 15 | 16 | 18 => {
+                write_asked(rt, page, buffer, lengths, number, place, which);
                 write_section(rt, page, number);
             }
             _ => {
@@ -288,7 +358,7 @@ fn answer_of(buffer: &[u8], lengths: &[usize], origins: &mut [usize]) -> Answer 
 }
 
 // The answer to the texts of the file named, or of standard input.
-fn answer(rt: HostRuntime, page: &mut Page, names: usize) {
+fn answer(rt: HostRuntime, page: &mut Page, names: usize, which: bool) {
     let mut buffer = gathering::room();
     let mut lengths = [0; sources::LENGTHS];
     let mut origins = gathering::origin_cells();
@@ -297,24 +367,51 @@ fn answer(rt: HostRuntime, page: &mut Page, names: usize) {
         return;
     }
     let answer = answer_of(&buffer, &lengths[..told], &mut origins);
-    write_answer(rt, page, &buffer, &lengths[..told], answer);
+    write_answer(rt, page, &buffer, &lengths[..told], answer, which);
+}
+
+// Whether the second argument is `--which`.
+fn is_which(rt: HostRuntime) -> bool {
+    let mut word = [0u8; 4096];
+    let n = arguments::argument(rt, 2, &mut word);
+    arguments::is_same(&word[..n], b"--which")
+}
+
+fn say_usage(rt: HostRuntime) {
+    errors::say_line(
+        rt,
+        b"usage: oil_explain [FILE]; oil_explain FILE --which; oil_explain --help\n",
+    );
+}
+
+// What is asked by so many arguments: of two the second is `--which`.
+fn answer_asked(rt: HostRuntime, page: &mut Page, names: usize) {
+    if names < 2 {
+        answer(rt, page, names, false);
+        return;
+    }
+    if is_which(rt) {
+        answer(rt, page, names, true);
+        return;
+    }
+    say_usage(rt);
 }
 
 fn write_help(rt: HostRuntime, page: &mut Page) {
     write(
         rt,
         page,
-        b"oil_explain [FILE]: accepted, or why FILE, or the text on standard input, is refused, and where\n",
+        b"oil_explain [FILE]: accepted, or why FILE, or the text on standard input, is refused, and where; oil_explain FILE --which: also which attribute\n",
     );
 }
 
 fn main(rt: HostRuntime) {
     let mut page = [0; 360000];
-    match arguments::given(rt, 1) {
-        Asked::Names(n) => answer(rt, &mut page, n),
+    match arguments::given(rt, 2) {
+        Asked::Names(n) => answer_asked(rt, &mut page, n),
         Asked::Help => write_help(rt, &mut page),
         Asked::Version => whole::write_version(rt),
-        Asked::Wrong => errors::say_line(rt, b"usage: oil_explain [FILE]; oil_explain --help\n"),
+        Asked::Wrong => say_usage(rt),
     }
     console::finish(rt, &mut page);
 }

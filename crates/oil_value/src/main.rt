@@ -57,16 +57,16 @@ fn read_text(rt: HostRuntime, count: usize, buffer: &mut [u8]) -> Input {
     inputs::read_named(rt, 4, buffer)
 }
 
-fn say_usage(rt: HostRuntime) {
-    errors::say_line(
+fn write_usage(rt: HostRuntime) {
+    whole::write(
         rt,
-        b"usage: oil_value KIND NAME PATH [FILE]; oil_value --help\n",
+        b"usage: oil_value KIND NAME PATH, with a text on standard input\n",
     );
 }
 
 fn answer(rt: HostRuntime, count: usize) {
     if count < 3 {
-        say_usage(rt);
+        write_usage(rt);
         return;
     }
     let mut text = [0u8; token::PLACES];
@@ -88,6 +88,6 @@ fn main(rt: HostRuntime) {
         Asked::Names(n) => answer(rt, n),
         Asked::Help => write_help(rt),
         Asked::Version => whole::write_version(rt),
-        Asked::Wrong => say_usage(rt),
+        Asked::Wrong => write_usage(rt),
     }
 }
