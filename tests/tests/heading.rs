@@ -258,7 +258,8 @@ fn program_on_the_examples() {
     );
 }
 
-/// Files that are not there, a folder, and names and versions of any bytes.
+/// Files that are not there, a folder, and names and versions of any bytes. A name that is not UTF-8
+/// is shown, and cannot be opened.
 #[test]
 fn program_on_any_names() {
     let folder = Folder::new("heading");
@@ -280,7 +281,11 @@ fn program_on_any_names() {
     let arguments: [&[u8]; 7] = [name, b"none", b"folder", b"", other, b"empty", b"long"];
     let mut lines = heading::line(name, &text);
     lines.extend(b"none\tcannot be opened\nfolder\tcannot be read\n\tcannot be opened\n");
-    lines.extend(heading::line(other, &text));
+    // Names are text: one that is not UTF-8 names no file.
+    let shown = heading::line(other, &text);
+    let end = shown.iter().position(|&byte| byte == b'\t');
+    lines.extend(&shown[..end.expect("a tab")]);
+    lines.extend(b"\tcannot be opened\n");
     lines.extend(b"empty\trefused\t4\t0\t0\nlong\trefused\t30\t0\t0\n");
     let found = written(&folder.path, &arguments, b"");
     assert_eq!(
