@@ -5,7 +5,7 @@ use mathlib.Core.Bool.{Bool, true, false, not}
 use mathlib.Core.Option.{Option, none, some}
 use Prim.Native.Nat.{ℕ, suc, ◌+◌, ◌*◌, ◌≤◌, ◌<◌}
 use native.Mathlib.Omega.{arith}
-use lib.ListN.{length, length-append, get_or, set, replicate}
+use lib.ListN.{length, length-append, get_or, set}
 use Rattle.token.specs.Find.{pick, both}
 use Rattle.token.proofs.Find.{by_test}
 use Rattle.grammar.specs.Grammar.{Kind}
@@ -28,9 +28,10 @@ use Rattle.scopes.specs.Given.{Given, Places}
 use Rattle.scopes.specs.Promises.{fault_of, FindsDefinition, FindsWord}
 use Rattle.scopes.specs.declared.Sizes.{Sizes}
 use Rattle.scopes.proofs.Descents.{scope_of_kind}
-use Rattle.amounts.proofs.Frames.{noted_blank}
+use Rattle.amounts.specs.Promises.{Notes}
 use Rattle.lookups.specs.Names.{Named}
 use Rattle.lookups.proofs.Attributes.{kept_object}
+use Rattle.judging.specs.Names.{Blank}
 use Rattle.judging.specs.Promises.{Again, ValueFault}
 use Rattle.judging.proofs.Judgements.{row_nothing, row_found_as, own_at, looked_up, stated_as, value_scope}
 use Rattle.dropping.specs.declared.Verdict.{Verdict}
@@ -444,6 +445,6 @@ module _ (s d e o st : List ℕ) (z : Sizes) (ps : List ℕ) where
           let u'' = length-append front (x ∷ rest) in
           absurd (omega arith)
 
--- No range is noted.
-pub prepared_blank : (s d e o st : List ℕ) (z : Sizes) (x : List ℕ) → Named s d e o st z x → Prepared s d e o st z x (replicate 3072 0)
-prepared_blank s d e o st z x n = record { known = record { used = 3072; noted = noted_blank s d 3072 (omega arith) }; named = n }
+-- The ranges are noted.
+pub prepared_by : (s d e o st : List ℕ) (z : Sizes) (x k₀ k : List ℕ) → Named s d e o st z x → Blank k₀ → Notes s d k₀ k → Prepared s d e o st z x k
+prepared_by s d e o st z x k₀ k n b t = record { known = t (length k₀) b.room b.blank; named = n }

@@ -5,10 +5,12 @@
 ghost use Rattle.std.specs.Prelude.{◌≡◌, ◌+◌, ◌<◌, set};
 ghost use Rattle.lookups.specs.Ranks.{Firsts};
 ghost use Rattle.lookups.specs.Names.{Named, Names, statement_ranks};
+ghost use Rattle.judging.specs.Names.{Blank};
 ghost use Rattle.dropping.specs.Promises.{Prepared, Verdicts, DropsOne, DropsBlock, DropsObject, DropsAll};
 
+use amounts::ranges;
 use blocks::after;
-use judging::values;
+use judging::{values, wanting};
 use layout::{definition, enumerator, object, statement};
 use lookups::names;
 use rows::{Found, cells, counts, refusals};
@@ -288,8 +290,75 @@ fn drop_objects(
     }
 }
 
-// Marks each dropped statement of the text at the place of its name by its number, 13 or 14; `places` are those of the thirteen kinds' words. No range is
-// noted: the value of a statement with braces is no number.
+// The same; `wanted` says which ranges are noted, and `known` and `spare` are room for them.
+fn drop_ranged(
+    text: &[u8],
+    d: &[usize],
+    e: &[usize],
+    o: &[usize],
+    st: &[usize],
+    names: &[usize],
+    wanted: &[usize],
+    known: &mut [usize],
+    spare: &mut [usize],
+    z: Sizes,
+    places: &[usize],
+    marks: &mut [u8],
+)
+    requires { Named text.now d.now e.now o.now st.now z names.now × Blank known.old }
+    ensures { DropsAll text.now d.now e.now o.now st.now z places.now marks.old marks.new }
+{
+    amounts::noting::note_ranges(text, d, wanted, z.definitions, known, spare);
+    drop_objects(text, d, e, o, st, names, known, z, places, marks);
+}
+
+// The same with room for few numbers in lists.
+fn drop_few(
+    text: &[u8],
+    d: &[usize],
+    e: &[usize],
+    o: &[usize],
+    st: &[usize],
+    names: &[usize],
+    wanted: &[usize],
+    z: Sizes,
+    places: &[usize],
+    marks: &mut [u8],
+)
+    requires { Named text.now d.now e.now o.now st.now z names.now }
+    ensures { DropsAll text.now d.now e.now o.now st.now z places.now marks.old marks.new }
+{
+    let mut known = [0; ranges::FEW_ROOM];
+    let mut spare = [0; ranges::FEW / 2];
+    drop_ranged(
+        text, d, e, o, st, names, wanted, &mut known, &mut spare, z, places, marks,
+    );
+}
+
+// The same with room for as many as a text can have.
+fn drop_many(
+    text: &[u8],
+    d: &[usize],
+    e: &[usize],
+    o: &[usize],
+    st: &[usize],
+    names: &[usize],
+    wanted: &[usize],
+    z: Sizes,
+    places: &[usize],
+    marks: &mut [u8],
+)
+    requires { Named text.now d.now e.now o.now st.now z names.now }
+    ensures { DropsAll text.now d.now e.now o.now st.now z places.now marks.old marks.new }
+{
+    let mut known = [0; ranges::ROOM];
+    let mut spare = [0; ranges::MOST / 2];
+    drop_ranged(
+        text, d, e, o, st, names, wanted, &mut known, &mut spare, z, places, marks,
+    );
+}
+
+// Marks each dropped statement of the text at the place of its name by its number, 13 or 14; `places` are those of the thirteen kinds' words.
 pub fn drop_all(
     text: &[u8],
     d: &[usize],
@@ -313,6 +382,10 @@ pub fn drop_all(
     if object::MOST < z.objects {
         return;
     }
-    let known = [0; enumerator::LENT];
-    drop_objects(text, d, e, o, st, names, &known, z, &places, marks);
+    let wanted = wanting::wanted(st, names);
+    if wanting::listed(d, &wanted) < ranges::FEW {
+        drop_few(text, d, e, o, st, names, &wanted, z, &places, marks);
+        return;
+    }
+    drop_many(text, d, e, o, st, names, &wanted, z, &places, marks);
 }

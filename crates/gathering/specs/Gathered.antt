@@ -4,9 +4,7 @@ use Rattle.std.specs.Prelude.{ℕ, ◌≤◌, ◌≡◌, List, [], ◌∷◌, Bo
 use Rattle.token.specs.Find.{both}
 use Rattle.sources.specs.Texts.{told_well}
 use Rattle.gathering.specs.declared.Added.{Added}
-use Rattle.gathering.specs.declared.Added.TheVariants.{Text, Nothing, Failed}
-use Rattle.console.specs.declared.inputs.Input.{Input}
-use Rattle.console.specs.declared.inputs.Input.TheVariants.{Text as Came, Failed as NotRead}
+use Rattle.gathering.specs.declared.Added.TheVariants.{Text, Nothing}
 
 -- no text of those told has over 65,535 bytes
 unfoldable pub all_short : List ℕ → Bool
@@ -39,9 +37,3 @@ pub record Gathered (b l : List ℕ) (r : ℕ) : Type 0 where
 abbrev pub Fits : Added → Type 0
 Fits (Text n t) = (n ≤ 4095) × (t ≤ 65536)
 Fits Nothing = Unit {0}
-Fits Failed = Unit {0}
-
--- What was read of a text: at most one byte more than it may have.
-abbrev pub Short : Input → Type 0
-Short (Came n) = n ≤ 65536
-Short (NotRead e) = Unit {0}

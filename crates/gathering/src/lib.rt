@@ -2,10 +2,10 @@
 // order, at most eight texts in all.
 #![tactic(auto)]
 
-ghost use Rattle.std.specs.Prelude.{◌≡◌, ◌+◌, ◌≤◌, length};
+ghost use Rattle.std.specs.Prelude.{◌≡◌, ◌+◌, ◌≤◌, length, IfOk};
 ghost use Rattle.std.proofs.lemmas.List.Edits.{sets};
 ghost use Rattle.console.specs.Counts.{IsPrefixLen};
-ghost use Rattle.gathering.specs.Gathered.{Rooms, MainTold, Gathered, Fits, Short};
+ghost use Rattle.gathering.specs.Gathered.{Rooms, MainTold, Gathered, Fits};
 
 use console::inputs::Input;
 use console::{arguments, errors, inputs};
@@ -41,12 +41,11 @@ pub fn origin_cells() -> [usize; ORIGINS]
     [0; ORIGINS]
 }
 
-// What was added: the length of the name and of the text; or nothing; or nothing, since a read failed.
+// What was added: the length of the name and of the text, or nothing.
 #[derive(Clone, Copy)]
 pub enum Added {
     Text(usize, usize),
     Nothing,
-    Failed,
 }
 
 // Stores the bytes from a place on, as far as the output reaches.
@@ -65,14 +64,17 @@ fn store(out: &mut [u8], at: usize, bytes: &[u8])
     }
 }
 
-// The bytes of an open file, at most 65,536, from a place of the buffer on; how many they are, or that a read failed. A file that grows or shrinks
-// while it is read has those that came.
-fn read_text<R: Read>(from: &mut R, buffer: &mut [u8], at: usize) -> Input
+// The bytes of an open file, at most 65,536, from a place of the buffer on; how many they are. A file that grows or shrinks while it is read has those
+// that came. Where a read fails, the answer is the system's number of the error; here and below, nothing is promised then.
+fn read_text<R: Read>(from: &mut R, buffer: &mut [u8], at: usize) -> Result<usize, usize>
     requires { at + 65536 ≤ length buffer.old }
-    ensures { Short result }
+    ensures { IfOk result (λ n. n ≤ 65536) }
 {
     let end = at + token::PLACES;
-    inputs::read(from, &mut buffer[at..end])
+    match inputs::read(from, &mut buffer[at..end]) {
+        Input::Text(n) => Ok(n),
+        Input::Failed(error) => Err(error),
+    }
 }
 
 // The name on the include line of a `#`, to the start of a lent one; its length, 0 where it does not fit.
@@ -118,35 +120,41 @@ fn missing_name(buffer: &[u8], lengths: &[usize], origins: &mut [usize], name: &
 }
 
 // Says of a file that it cannot be read. A folder is not added, as a file that cannot be opened; any other fault ends the gathering.
-fn not_read(rt: HostRuntime, name: &[u8], error: usize) -> Added
-    ensures { Fits result }
+fn not_read(rt: HostRuntime, name: &[u8], error: usize) -> Result<Added, usize>
+    ensures { IfOk result (λ added. Fits added) }
 {
     errors::say_of(rt, name, b"cannot be read", error);
     if error == IS_FOLDER {
-        return Added::Nothing;
+        return Ok(Added::Nothing);
     }
-    Added::Failed
+    Err(error)
 }
 
 // The name and the bytes of an open file, behind what is filled.
-fn add_open(rt: HostRuntime, file: &mut File, name: &[u8], buffer: &mut [u8], at: usize) -> Added
+fn add_open(
+    rt: HostRuntime,
+    file: &mut File,
+    name: &[u8],
+    buffer: &mut [u8],
+    at: usize,
+) -> Result<Added, usize>
     requires { (length name.now ≤ 4095) × (at + 69631 ≤ length buffer.old) }
-    ensures { Fits result }
+    ensures { IfOk result (λ added. Fits added) }
 {
     store(buffer, at, name);
     match read_text(file, buffer, at + name.len()) {
-        Input::Text(n) => Added::Text(name.len(), n),
-        Input::Failed(error) => not_read(rt, name, error),
+        Ok(n) => Ok(Added::Text(name.len(), n)),
+        Err(error) => not_read(rt, name, error),
     }
 }
 
-fn add_named(rt: HostRuntime, name: &[u8], buffer: &mut [u8], at: usize) -> Added
+fn add_named(rt: HostRuntime, name: &[u8], buffer: &mut [u8], at: usize) -> Result<Added, usize>
     requires { (length name.now ≤ 4095) × (at + 69631 ≤ length buffer.old) }
-    ensures { Fits result }
+    ensures { IfOk result (λ added. Fits added) }
 {
     match errors::open(rt, name) {
         Ok(mut file) => add_open(rt, &mut file, name, buffer, at),
-        Err(_) => Added::Nothing,
+        Err(_) => Ok(Added::Nothing),
     }
 }
 
@@ -157,14 +165,14 @@ fn add_missing(
     lengths: &[usize],
     used: usize,
     origins: &mut [usize],
-) -> Added
+) -> Result<Added, usize>
     requires { used + 69631 ≤ length buffer.old }
-    ensures { Fits result }
+    ensures { IfOk result (λ added. Fits added) }
 {
     let mut name = [0u8; LONGEST_NAME];
     let n = missing_name(&buffer[..used], lengths, origins, &mut name);
     if n == 0 {
-        return Added::Nothing;
+        return Ok(Added::Nothing);
     }
     add_named(rt, &name[..n], buffer, used)
 }
@@ -186,9 +194,9 @@ fn add_all(
     let mut told = 2;
     while told < 15 {
         match add_missing(rt, buffer, &lengths[..told], used, origins) {
-            Added::Nothing => return told,
-            Added::Failed => return 1,
-            Added::Text(name, text) => {
+            Err(_) => return 1,
+            Ok(Added::Nothing) => return told,
+            Ok(Added::Text(name, text)) => {
                 lengths[told] = name;
                 lengths[told + 1] = text;
                 used = used + name + text;
@@ -225,11 +233,11 @@ pub fn gather<R: Read>(
     }
     lengths[0] = 0;
     match read_text(from, buffer, 0) {
-        Input::Text(n) => {
+        Ok(n) => {
             lengths[1] = n;
             add_all(rt, buffer, lengths, n, origins)
         }
-        Input::Failed(error) => {
+        Err(error) => {
             errors::say_of(rt, name, b"cannot be read", error);
             1
         }

@@ -86,7 +86,7 @@ fn write_normal(rt: HostRuntime, text: &[u8]) {
 }
 
 // Gathers the texts of the file that argument i names. A file that cannot be opened is empty.
-fn gather_side(rt: HostRuntime, i: usize, buffer: &mut [u8], lengths: &mut [usize]) -> usize
+fn gather_named(rt: HostRuntime, i: usize, buffer: &mut [u8], lengths: &mut [usize]) -> usize
     ensures { IsPrefixLen result lengths.new }
 {
     let mut origins = gathering::origin_cells();
@@ -214,7 +214,7 @@ fn compare_texts(
 fn compare_second(rt: HostRuntime, first: &[u8], lengths: &[usize]) {
     let mut second = gathering::room();
     let mut lengths2 = [0; sources::LENGTHS];
-    let told = gather_side(rt, 2, &mut second, &mut lengths2);
+    let told = gather_named(rt, 2, &mut second, &mut lengths2);
     if told < 2 {
         return;
     }
@@ -224,7 +224,7 @@ fn compare_second(rt: HostRuntime, first: &[u8], lengths: &[usize]) {
 fn compare_files(rt: HostRuntime) {
     let mut first = gathering::room();
     let mut lengths = [0; sources::LENGTHS];
-    let told = gather_side(rt, 1, &mut first, &mut lengths);
+    let told = gather_named(rt, 1, &mut first, &mut lengths);
     if told < 2 {
         return;
     }

@@ -45,6 +45,10 @@ module _ {s d st rs rd nx : List ℕ} (h : NamesRanked s d st rs rd) (l : Linked
   pub finds_after : {r : Found} → Follows st nx k a e → StatedAfter s d 19 2 rd j st rs nx k a e r → FindsStated s st a e (get_or d (j * 19 + 2) 0) (get_or d (j * 19 + 3) 0) r
   finds_after o f = f.finds h.rank h.definitions h.statements l o
 
+-- Past the table nothing is noted.
+pub follows_none : (st nx : List ℕ) (a e : ℕ) → Follows st nx (length nx) a e
+follows_none st nx a e = let z = cell_past nx (length nx) (omega arith) in record { inside = λ q. absurd (q z); after = λ q. absurd (q z) }
+
 -- The row after a statement comes later.
 pub after_grows : (st : List ℕ) (i e next : ℕ) → next ≡ row_after st i e → i < e → i < next
 after_grows st i e next p h = let k = after_later st i e h in omega arith

@@ -96,10 +96,6 @@ no_match f x (state y inside rest) k e = by (alike x.definition.name y.name) ref
     by true q p ih = absurd (false≢true (ap is_found p))
     by false q p ih = pass f x y inside rest q ∙ ih p
 
--- What is found is at its row.
-pub finds_at : {s st : List ℕ} {a e i : ℕ} (at len : ℕ) {r : Found} → FindsStated s st a e at len r → r ≡ At i → FindsStated s st a e at len (At i)
-finds_at {s} {st} {a} {e} at len finds p = subst (λ r. FindsStated s st a e at len r) p finds
-
 -- The loop ---------------------------------------------------------------------------------------------------------------------------------
 
 -- At row k: what is made so far, and the statements left.
@@ -176,10 +172,17 @@ module _ {s d e o st v : List ℕ} {z : Sizes} {j from till : ℕ} {w : OwnerOf}
         }
 
 module _ {s d e o st v : List ℕ} {z : Sizes} {j from till : ℕ} {w : OwnerOf} {n : ℕ} where
-  -- The attribute of a row is stated, or it is not.
+  -- The values that a block states are those that it states from the first one on.
+  pub stated_from : {at len : ℕ} → at ≡ get_or d (j * 19 + 2) 0 → len ≡ get_or d (j * 19 + 3) 0 → {q : Found} {i : ℕ} {v' : List ℕ} {r : ℕ}
+      → FindsStated s st from till at len q → q ≡ At i → ResolvesStated s d e o st v z j i till w n v' r → ResolvesStated s d e o st v z j from till w n v' r
+  stated_from {at} {len} c₁ c₂ finds p res f x ss ow g a b own room =
+      let M = match f x ss b (sym p ∙ finds ss x.definition.name b (name_at g.tables a at len c₁ c₂)) in
+      wrote_same (sym M.skips) (res f x (state M.statement M.inside M.rest) ow g a M.block own room)
+
+  -- The attribute of a row is stated, first by the statement of row i, or it is not.
   module _ {key : ℕ} {q : Found} {v' : List ℕ} {r : ℕ} (finds : FindsStated s st from till (get_or d (j * 19 + 2) 0) (get_or d (j * 19 + 3) 0) q) where
-    pub row_found : {i : ℕ} → q ≡ At i → ResolvesStated s d e o st v z j from till w n v' r → ResolvesUnder s d e o st v z j key from till w n v' r
-    row_found p res = row_stated refl refl (is_stated _ _ finds) (ap is_found p) res
+    pub row_found : {i : ℕ} → q ≡ At i → ResolvesStated s d e o st v z j i till w n v' r → ResolvesUnder s d e o st v z j key from till w n v' r
+    row_found p res = row_stated refl refl (is_stated _ _ finds) (ap is_found p) (stated_from refl refl finds p res)
 
     pub row_missing : q ≡ Nothing → ResolvesDefault s d e o st v z j w n v' r → ResolvesUnder s d e o st v z j key from till w n v' r
     row_missing p res = row_default refl refl (is_stated _ _ finds) (ap is_found p) res

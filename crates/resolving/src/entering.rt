@@ -1,7 +1,5 @@
 // Resolved values, each followed by what is under it. Each function returns the number of the row after those that it puts.
-ghost use Rattle.std.specs.Prelude.{◌+◌, ◌*◌, ◌≤◌, ◌<◌, get_or};
-ghost use Rattle.rows.specs.declared.Found.TheVariants.{At};
-ghost use Rattle.blocks.specs.Blocks.{FindsStated};
+ghost use Rattle.std.specs.Prelude.{◌≤◌, ◌<◌};
 ghost use Rattle.lookups.specs.Names.{Names};
 ghost use Rattle.lookups.specs.Ranks.{Firsts};
 ghost use Rattle.resolving.specs.Noted.{Noted, Lent};
@@ -116,8 +114,7 @@ fn enter_stated(
     )
 }
 
-// The values that a block states of the attribute of row j, in the order of the text, first by the statement of row `first`; nx has the next statement of
-// each one's rank.
+// The values that a block states of the attribute of row j, in the order of the text; nx has the next statement of each one's rank.
 #[cycle(enter_enter_stated_resolve_resolve_default_resolve_row_resolve_scope_resolve_stated)]
 fn resolve_stated(
     text: &[u8],
@@ -136,19 +133,34 @@ fn resolve_stated(
     v: &mut [usize],
     z: Sizes,
     j: usize,
-    first: usize,
     from: usize,
     end: usize,
     w: Owner,
     n: usize,
 ) -> usize
-    requires { Noted text.now d.now e.now o.now st.now z known.now noted.now xe.now xo.now rs.now nx.now rd.now owners.now × FindsStated text.now st.now from end (get_or d.now (j * 19 + 2) 0) (get_or d.now (j * 19 + 3) 0) (At first) }
+    requires { Noted text.now d.now e.now o.now st.now z known.now noted.now xe.now xo.now rs.now nx.now rd.now owners.now }
     ensures { ResolvesStated text.now d.now e.now o.now st.now v.old z j from end w n v.new result }
 {
     let mut m = n;
+    let mut last = nx.len();
     let mut k = from;
-    let mut i = first;
     while k < end {
+        let Found::At(i) = lookups::stated_after(
+            text,
+            d,
+            definition::WIDTH,
+            definition::NAME,
+            rd,
+            j,
+            st,
+            rs,
+            nx,
+            last,
+            k,
+            end,
+        ) else {
+            return m;
+        };
         if i < k {
             return m;
         }
@@ -179,24 +191,8 @@ fn resolve_stated(
             w,
             m,
         );
-        let Found::At(following) = lookups::stated_after(
-            text,
-            d,
-            definition::WIDTH,
-            definition::NAME,
-            rd,
-            j,
-            st,
-            rs,
-            nx,
-            i,
-            next,
-            end,
-        ) else {
-            return m;
-        };
+        last = i;
         k = next;
-        i = following;
     }
     m
 }
@@ -288,7 +284,7 @@ fn resolve_row(
         );
     };
     resolve_stated(
-        text, d, e, o, st, known, noted, xe, xo, rs, nx, rd, owners, v, z, j, k, from, end, w, n,
+        text, d, e, o, st, known, noted, xe, xo, rs, nx, rd, owners, v, z, j, k, end, w, n,
     )
 }
 

@@ -1,7 +1,7 @@
 use Rattle.lookups.proofs.Blocks.{firsts_empty, firsts_none}
-use Rattle.resolving.proofs.Passing.{after_grows, finds_ranked, finds_after, goes_pass, resolves_past, resolves_full, resolves_quiet}
+use Rattle.resolving.proofs.Passing.{after_grows, finds_ranked, finds_after, follows_none, goes_pass, resolves_past, resolves_full, resolves_quiet}
 use Rattle.resolving.proofs.Namings.{word_is}
-use Rattle.resolving.proofs.Statings.{states_start, states_none, states_out, states_more, states_end, finds_at, row_found, row_missing}
+use Rattle.resolving.proofs.Statings.{states_start, states_none, states_out, states_more, states_end, row_found, row_missing}
 use Rattle.resolving.proofs.Entrances.{enter_full, enter_more, stated_this, default_none, default_not, default_taken}
 use Rattle.resolving.proofs.Turns.{goes_start, goes_more, goes_end, resolves_none}
 use native.Mathlib.Omega.{arith}
@@ -132,7 +132,7 @@ pub resolve_row-returns-in_default : goal.resolve_row-returns-in_default
 resolve_row-returns-in_default t c = row_missing (finds_ranked c.requires.0.ranks _ _ _ _ _ c.requires.1 c.row_stated.ensures) c.in_default.is c.resolve_default.ensures
 
 pub resolve_row-resolve_stated-requires : goal.resolve_row-resolve_stated-requires
-resolve_row-resolve_stated-requires t c = (omega arith, (c.requires.0, finds_at _ _ (finds_ranked c.requires.0.ranks _ _ _ _ _ c.requires.1 c.row_stated.ensures) c.in-At.is))
+resolve_row-resolve_stated-requires t c = (omega arith, c.requires.0)
 
 pub resolve_row-shape_of-v : goal.resolve_row-shape_of-v
 resolve_row-shape_of-v t c = omega arith
@@ -168,19 +168,19 @@ pub resolve_scope-returns : goal.resolve_scope-returns
 resolve_scope-returns t c = goes_end (omega arith) (λ q. omega (arith, q, c.requires.0)) c.loop-j.invariant.1.1.1
 
 pub resolve_stated-loop-k-init : goal.resolve_stated-loop-k-init
-resolve_stated-loop-k-init t c = (refl, (states_start, c.requires.1))
+resolve_stated-loop-k-init t c = (refl, (states_start, follows_none _ _ _ _))
 
 pub resolve_stated-shape_of-v-then-i-k : goal.resolve_stated-shape_of-v-then-i-k
 resolve_stated-shape_of-v-then-i-k t c = c.loop-k.invariant.0
 
 pub resolve_stated-returns-then-i-k : goal.resolve_stated-returns-then-i-k
-resolve_stated-returns-then-i-k t c = states_out refl refl c.loop-k.invariant.1.0 c.loop-k.invariant.1.1 refl (λ q. omega arith)
+resolve_stated-returns-then-i-k t c = states_out refl refl c.loop-k.invariant.1.0 (finds_after c.requires.ranks c.requires.links c.loop-k.invariant.1.1 c.stated_after.ensures) c.in-At.is (λ q. omega arith)
 
 pub resolve_stated-shape_of-v-then-end-i : goal.resolve_stated-shape_of-v-then-end-i
 resolve_stated-shape_of-v-then-end-i t c = c.loop-k.invariant.0
 
 pub resolve_stated-returns-then-end-i : goal.resolve_stated-returns-then-end-i
-resolve_stated-returns-then-end-i t c = states_out refl refl c.loop-k.invariant.1.0 c.loop-k.invariant.1.1 refl (λ q. omega arith)
+resolve_stated-returns-then-end-i t c = states_out refl refl c.loop-k.invariant.1.0 (finds_after c.requires.ranks c.requires.links c.loop-k.invariant.1.1 c.stated_after.ensures) c.in-At.is (λ q. omega arith)
 
 pub resolve_stated-after-next-requires : goal.resolve_stated-after-next-requires
 resolve_stated-after-next-requires t c = tt
@@ -189,22 +189,22 @@ pub resolve_stated-overflow_add-i : goal.resolve_stated-overflow_add-i
 resolve_stated-overflow_add-i t c = omega arith
 
 pub resolve_stated-enter_stated-m-requires : goal.resolve_stated-enter_stated-m-requires
-resolve_stated-enter_stated-m-requires t c = (omega (arith, c.decreases), c.requires.0)
+resolve_stated-enter_stated-m-requires t c = (omega (arith, c.decreases), c.requires)
 
 pub resolve_stated-stated_after-requires : goal.resolve_stated-stated_after-requires
 resolve_stated-stated_after-requires t c = tt
 
 pub resolve_stated-shape_of-v-in_default : goal.resolve_stated-shape_of-v-in_default
-resolve_stated-shape_of-v-in_default t c = omega arith
+resolve_stated-shape_of-v-in_default t c = c.loop-k.invariant.0
 
 pub resolve_stated-returns-in_default : goal.resolve_stated-returns-in_default
-resolve_stated-returns-in_default t c = states_none refl refl (states_more refl refl c.loop-k.invariant.1.0 c.loop-k.invariant.1.1 refl c.after-next.ensures refl c.enter_stated-m.ensures) (finds_after c.requires.0.ranks c.requires.0.links (record { inside = λ q. omega arith; after = λ q. c.after-next.ensures }) c.stated_after.ensures) c.in_default.is
+resolve_stated-returns-in_default t c = states_none refl refl c.loop-k.invariant.1.0 (finds_after c.requires.ranks c.requires.links c.loop-k.invariant.1.1 c.stated_after.ensures) c.in_default.is
 
 pub resolve_stated-loop-k-smaller : goal.resolve_stated-loop-k-smaller
 resolve_stated-loop-k-smaller t c = omega (arith, after_grows _ _ _ _ c.after-next.ensures (omega arith))
 
 pub resolve_stated-loop-k-preserved : goal.resolve_stated-loop-k-preserved
-resolve_stated-loop-k-preserved t c = (omega arith, (states_more refl refl c.loop-k.invariant.1.0 c.loop-k.invariant.1.1 refl c.after-next.ensures refl c.enter_stated-m.ensures, finds_at _ _ (finds_after c.requires.0.ranks c.requires.0.links (record { inside = λ q. omega arith; after = λ q. c.after-next.ensures }) c.stated_after.ensures) c.in-At.is))
+resolve_stated-loop-k-preserved t c = (omega arith, (states_more refl refl c.loop-k.invariant.1.0 (finds_after c.requires.ranks c.requires.links c.loop-k.invariant.1.1 c.stated_after.ensures) c.in-At.is c.after-next.ensures refl c.enter_stated-m.ensures, record { inside = λ q. omega arith; after = λ q. c.after-next.ensures }))
 
 pub resolve_stated-shape_of-v : goal.resolve_stated-shape_of-v
 resolve_stated-shape_of-v t c = c.loop-k.invariant.0

@@ -1,5 +1,4 @@
-use Rattle.rows.specs.declared.Found.TheVariants.{At}
-use Rattle.blocks.specs.Blocks.{FindsStated}
+use Rattle.lookups.specs.Links.{Follows}
 use Rattle.resolving.proofs.Statings.{States}
 use Rattle.resolving.proofs.Turns.{Goes}
 use mathlib.Core.Path.{◌≡◌}
@@ -36,7 +35,7 @@ abbrev pub decreases-resolve_stated : goal.decreases-resolve_stated
 decreases-resolve_stated l = 6 * l.j + 4
 
 abbrev pub invariant-resolve_stated-loop-k : goal.invariant-resolve_stated-loop-k
-invariant-resolve_stated-loop-k l = (length l.v ≡ length l.initial.v) × (States l.text l.d l.e l.o l.st l.initial.v l.z l.j l.from l.end l.w l.n l.v l.m l.k × FindsStated l.text l.st l.k l.end (get_or l.d (l.j * 19 + 2) 0) (get_or l.d (l.j * 19 + 3) 0) (At l.i))
+invariant-resolve_stated-loop-k l = (length l.v ≡ length l.initial.v) × (States l.text l.d l.e l.o l.st l.initial.v l.z l.j l.from l.end l.w l.n l.v l.m l.k × Follows l.st l.nx l.last l.k l.end)
 
 abbrev pub decreases-resolve_stated-loop-k : goal.decreases-resolve_stated-loop-k
 decreases-resolve_stated-loop-k l = l.end - l.k
