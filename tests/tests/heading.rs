@@ -8,7 +8,7 @@ use std::path::Path;
 use tests::comparing::verb;
 use tests::heading::{self, heading, Heading};
 use tests::meaning::Refusal;
-use tests::programs::{command, repository, run, Folder};
+use tests::programs::{command, repository, waited, Folder};
 use tests::random::Random;
 use tests::{corpus, proved, texts};
 
@@ -212,11 +212,15 @@ fn limits() {
     comparison.report("limits");
 }
 
-/// What `oil_heading` writes for arguments, or for standard input where there are none.
-fn written(folder: &Path, arguments: &[&[u8]], input: &[u8]) -> Vec<u8> {
-    let arguments = arguments.iter().map(|word| OsStr::from_bytes(word));
+/// What `oil_heading` writes for arguments, or for a file as standard input where there are none.
+fn written(folder: &Path, arguments: &[&[u8]], input: Option<&Path>) -> Vec<u8> {
     let mut command = command("oil_heading");
-    run(command.current_dir(folder).args(arguments), input).written()
+    if let Some(file) = input {
+        command.stdin(fs::File::open(file).expect("a text"));
+    }
+    let arguments = arguments.iter().map(|word| OsStr::from_bytes(word));
+    let child = command.current_dir(folder).args(arguments).spawn();
+    waited(child.expect("oil_heading")).written()
 }
 
 #[test]
@@ -233,10 +237,10 @@ fn program_on_the_cases() {
         let found = case_answer(&text, &heading(&text));
         assert_eq!(Some(found), case.plain_answer(), "{}", case.name);
         lines.extend(heading::line(name, &text));
-        let alone = written(&folder, &[], &text);
+        let alone = written(&folder, &[], Some(&case.texts[0].path()));
         assert_eq!(alone, heading::line(b"-", &text), "{}", case.name);
     }
-    assert_eq!(written(&folder, &names, b""), lines);
+    assert_eq!(written(&folder, &names, None), lines);
 }
 
 /// README.md's line, and what it says of it.
@@ -251,7 +255,7 @@ fn program_on_the_examples() {
         examples/broken.oil\t2.5\tm\n\
         examples/older.oil\t2.4\treader\n";
     assert_eq!(
-        written(&repository(), &files, b"")
+        written(&repository(), &files, None)
             .escape_ascii()
             .to_string(),
         expected.escape_ascii().to_string()
@@ -287,7 +291,7 @@ fn program_on_any_names() {
     lines.extend(&shown[..end.expect("a tab")]);
     lines.extend(b"\tcannot be opened\n");
     lines.extend(b"empty\trefused\t4\t0\t0\nlong\trefused\t30\t0\t0\n");
-    let found = written(&folder.path, &arguments, b"");
+    let found = written(&folder.path, &arguments, None);
     assert_eq!(
         found.escape_ascii().to_string(),
         lines.escape_ascii().to_string()

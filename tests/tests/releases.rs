@@ -397,7 +397,7 @@ fn planted_text(specs: &str, objects: &str) -> Vec<u8> {
 
 /// The reference's lines for two texts are these, with blanks for tabs, and the total; and the call
 /// agrees.
-fn reports(texts: &[Vec<u8>; 2], lines: &str) {
+fn reports(random: &mut Random, seen: &mut Seen, texts: &[Vec<u8>; 2], lines: &str) {
     let texts = [&texts[0][..], &texts[1][..]];
     let total = lines.lines().count();
     let expected = format!("{}total\t{total}\n", lines.replace(' ', "\t"));
@@ -408,16 +408,17 @@ fn reports(texts: &[Vec<u8>; 2], lines: &str) {
         "{shown:?}"
     );
     if is_linked() {
-        let random = &mut Random::new(expected.len() as u64);
-        check(random, texts, &LENGTHS, &mut Seen::default());
+        check(random, texts, &LENGTHS, seen);
     }
 }
 
 #[test]
 fn planted_pairs() {
+    let mut random = Random::new(888_888);
+    let mut seen = Seen::default();
     for (specs, first, second, lines) in PLANTED {
         let texts = [first, second].map(|objects| planted_text(specs, objects));
-        reports(&texts, lines);
+        reports(&mut random, &mut seen, &texts, lines);
     }
 }
 
@@ -425,6 +426,8 @@ fn planted_pairs() {
 /// has a kind.
 #[test]
 fn other_definitions() {
+    let mut random = Random::new(1);
+    let mut seen = Seen::default();
     for (first, second, lines) in [
         ("ENUM [t] x = t;", "TASK_TYPE x; ", "both TASK t x t t\n"),
         ("UINT32 x = 1;", "ENUM [A, B] x = A;", "both TASK t x 1 A\n"),
@@ -456,7 +459,7 @@ fn other_definitions() {
         };
         let texts = [first, second]
             .map(|specs| planted_text(specs, &format!("TASK t {{ {} }};", stated(specs))));
-        reports(&texts, lines);
+        reports(&mut random, &mut seen, &texts, lines);
     }
 }
 
