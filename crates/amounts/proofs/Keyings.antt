@@ -83,38 +83,3 @@ module _ (b : Bool) (m k : ℕ) (h : k < 256) where
 
   pub scale_other : b ≡ false → float_in m (k * 2) ≡ record { negative = b; amount = m * 10 ^ k }
   scale_other e = scale_cell (k * 2) 0 false (omega arith) refl (omega arith) e
-
--- What the functions cite --------------------------------------------------------------------------------------------------------------------
-
-pub signed_36 : (c : ℕ) → c ≡ 36 → true ≡ signed_code c
-unfolding signed_code
-signed_36 c e = sym (ap (λ b. either b (eqb c 38)) (eq-eqb c 36 e))
-
-pub signed_not : (c : ℕ) → (c ≡ 36 → ⊥) → eqb c 38 ≡ signed_code c
-unfolding signed_code
-signed_not c e = sym (ap (λ b. either b (eqb c 38)) (ne_eqb c 36 e))
-
-pub key_unsigned : (g : Bool) (n : Num) → g ≡ false → not n.negative ≡ num_has_key g n
-unfolding num_has_key
-key_unsigned g n e = ap (λ h. num_has_key h n) (sym e)
-
-module _ (g : Bool) (n : Num) (e : g ≡ true) where
-  pub key_signed : (b : Bool) → n.negative ≡ b → pick b (both (leb 1 n.amount) (leb n.amount 9223372036854775808)) (ltb n.amount 9223372036854775808) ≡ num_has_key g n
-  unfolding num_has_key
-  key_signed b h =
-      sym (ap (λ q. num_has_key q n) e ∙ ap (λ q. pick q (both (leb 1 n.amount) (leb n.amount 9223372036854775808)) (ltb n.amount 9223372036854775808)) h)
-
-  pub key_low : n.negative ≡ true → 1 ≤ n.amount → leb n.amount 9223372036854775808 ≡ num_has_key g n
-  key_low h k = sym (ap (λ b. both b (leb n.amount 9223372036854775808)) (le-leb 1 n.amount k)) ∙ key_signed true h
-
-  pub key_zero : n.negative ≡ true → n.amount < 1 → false ≡ num_has_key g n
-  key_zero h k = sym (ap (λ b. both b (leb n.amount 9223372036854775808)) (lt-leb 1 n.amount k)) ∙ key_signed true h
-
-module _ (n : Num) where
-  pub key_negative : (a : ℕ) → n.negative ≡ true → a ≡ 18446744073709551615 - (n.amount - 1) → a ≡ key n
-  unfolding key
-  key_negative a h e = e ∙ sym (ap (λ b. pick b (18446744073709551615 - (n.amount - 1)) n.amount) h)
-
-  pub key_other : n.negative ≡ false → n.amount ≡ key n
-  unfolding key
-  key_other h = sym (ap (λ b. pick b (18446744073709551615 - (n.amount - 1)) n.amount) h)

@@ -51,13 +51,8 @@ fn note_default(text: &[u8], d: &[usize], j: usize, t: &mut [usize])
 pub fn note_defaults(text: &[u8], d: &[usize], n: usize, t: &mut [usize])
     ensures { NotesDefaults text.now d.now t.old t.new }
 {
-    let mut j = 0;
-    while j < n {
-        if definition::MOST <= j {
-            return;
-        }
+    for j in 0..n.min(definition::MOST) {
         note_default(text, d, j, t);
-        j += 1;
     }
 }
 
@@ -68,7 +63,7 @@ fn read_number(text: &[u8], at: usize) -> Cells
     let n = numbers::number_at(text, at);
     let negative = keys::sign_of(n);
     Cells {
-        negative: negative,
+        negative,
         amount: n.amount as usize,
     }
 }
@@ -90,8 +85,5 @@ pub fn number_at(text: &[u8], d: &[usize], known: &[usize], j: usize, at: usize)
     }
     let negative = cells::cell(known, row, NEGATIVE);
     let amount = cells::cell(known, row, AMOUNT);
-    Cells {
-        negative: negative,
-        amount: amount,
-    }
+    Cells { negative, amount }
 }

@@ -9,55 +9,46 @@ use layout::word_codes;
 use scopes::{Float, Num};
 
 // 1 for a negative number.
+#[tactic(auto, unfolding(token::specs::Find::bit))]
 pub fn sign_of(n: Num) -> usize
     ensures { result ≡ bit n.negative }
 {
-    if n.negative {
-        return 1;
-    }
-    0
+    usize::from(n.negative)
 }
 
 // Whether the integer type with the code has a sign.
+#[tactic(auto, unfolding(crate::specs::Keys::signed_code))]
 pub fn is_signed(code: usize) -> bool
     ensures { result ≡ signed_code code }
 {
-    if code == word_codes::INT32 {
-        return true;
-    }
-    code == word_codes::INT64
+    code == word_codes::INT32 || code == word_codes::INT64
 }
 
 // Whether a number has a cell of its own, in a type with a sign or without.
+#[tactic(auto, unfolding(crate::specs::Keys::num_has_key))]
 pub fn has_key(sign: bool, n: Num) -> bool
     ensures { result ≡ num_has_key sign (num n) }
 {
-    if !sign {
-        return !n.negative;
+    match (sign, n.negative) {
+        (false, _) => !n.negative,
+        (true, true) => 1 <= n.amount && n.amount <= 9223372036854775808,
+        (true, false) => n.amount < 9223372036854775808,
     }
-    if n.negative {
-        if 1 <= n.amount {
-            return n.amount <= 9223372036854775808;
-        }
-        return false;
-    }
-    n.amount < 9223372036854775808
 }
 
 // A number as one cell.
+#[tactic(auto, unfolding(crate::specs::Keys::key))]
 pub fn key(n: Num) -> usize
     ensures { result ≡ key (num n) }
 {
     if n.negative {
-        if n.amount == 0 {
-            return 18446744073709551615;
-        }
-        return (18446744073709551615 - (n.amount - 1)) as usize;
+        return (u64::MAX - n.amount.saturating_sub(1)) as usize;
     }
     n.amount as usize
 }
 
 // The second cell of a float, whose first are its digits: twice its scale, and 1 more for a negative one.
+#[tactic(auto, using(crate::proofs::Keyings::scale_negative, crate::proofs::Keyings::scale_other))]
 pub fn scale_of(f: Float) -> usize
     ensures { float_in f.digits result ≡ real f }
 {
@@ -68,6 +59,7 @@ pub fn scale_of(f: Float) -> usize
 }
 
 // The float in two cells.
+#[tactic(auto, unfolding(crate::specs::Known::float_in))]
 pub fn float_in(digits: usize, scale: usize) -> Float
     ensures { real result ≡ float_in digits scale }
 {

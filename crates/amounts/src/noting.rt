@@ -18,6 +18,7 @@ fn put_rest(text: &[u8], sign: bool, from: usize, count: usize, l: &mut [usize])
 {
     let mut i = count;
     let mut at = from;
+    // A `while`: the next number stands where the one before it ends.
     while at < text.len() {
         let s = numbers::comma_at(text, at);
         if s.sign != b',' {
@@ -56,13 +57,11 @@ fn rises(l: &[usize]) -> bool
     ensures { Rises l.now result }
 {
     let mut last = 0;
-    let mut i = 0;
-    while i < l.len() {
-        if l[i] < last {
+    for cell in l {
+        if *cell < last {
             return false;
         }
-        last = l[i];
-        i += 1;
+        last = *cell;
     }
     true
 }
@@ -207,12 +206,7 @@ pub fn note_ranges(
     ensures { Notes text.now d.now t.old t.new }
 {
     let mut used = ranges::LISTED;
-    let mut j = 0;
-    while j < n {
-        if definition::MOST <= j {
-            return;
-        }
+    for j in 0..n.min(definition::MOST) {
         used = note_range(text, d, wanted, j, t, spare, used);
-        j += 1;
     }
 }

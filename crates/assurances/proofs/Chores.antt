@@ -8,8 +8,8 @@ use native.Mathlib.Omega.{arith}
 use lib.Dec.{ltb}
 use Rattle.grammar.specs.Stage.{number_of, place_of, Answers as StageAnswers, passes, no_token, not_admitted, ends_early, too_deep}
 use Rattle.grammar.specs.Demand.{Place, at_token, at_end}
-use Rattle.grammar.specs.declared.Answer.{Answer as GrammarAnswer}
-use Rattle.grammar.specs.declared.Answer.TheVariants.{Passes}
+use Rattle.grammar.specs.Answered.{Answer as GrammarAnswer}
+use Rattle.std.specs.Prelude.{Ok}
 use Rattle.meaning.specs.Syntax.{File}
 use Rattle.meaning.specs.Words.{choose}
 use Rattle.meaning.specs.Faults.{Fault, first}
@@ -51,7 +51,7 @@ answer_high f =
     (high_unless (first (statement_stage f)) _ (of_first _ (of_stage f))
     (high_unless (first (too_many (how_many_in_all (all_values f f.objects)))) _ (of_first _ (of_many (how_many_in_all (all_values f f.objects)))) tt)))
 
-stage_place : {s : List ℕ} {a : GrammarAnswer} → StageAnswers s a → (a ≡ Passes → ⊥) → number_of a ≡ 4 → Place s (place_of a)
+stage_place : {s : List ℕ} {a : GrammarAnswer} → StageAnswers s a → (a ≡ Ok tt → ⊥) → number_of a ≡ 4 → Place s (place_of a)
 unfolding number_of place_of
 stage_place (passes v h d) m e = absurd (m refl)
 stage_place (no_token p v h b) m e = absurd (omega arith)

@@ -5,8 +5,8 @@ use Prim.Native.Nat.{ℕ, ◌≤◌, ◌<◌}
 use native.Mathlib.Omega.{arith}
 use lib.ListN.{length}
 use Rattle.grammar.specs.Stage.{number_of, place_of, Answers as StageAnswers}
-use Rattle.grammar.specs.declared.Answer.{Answer as StageAnswer}
-use Rattle.grammar.specs.declared.Answer.TheVariants.{Passes}
+use Rattle.grammar.specs.Answered.{Answer as StageAnswer}
+use Rattle.std.specs.Prelude.{Ok}
 use Rattle.meaning.specs.Answers.{Answer as Meant}
 use Rattle.meaning.specs.Reading.{Answers, too_long, not_grammar, meant, reading}
 use Rattle.meaning.specs.Rules.{FullRoom}
@@ -17,8 +17,9 @@ use Rattle.reading.specs.Demand.{PassesGrammar}
 use Rattle.reading.specs.declared.Answer.TheVariants.{Refused as ReadRefused}
 use Rattle.reading.specs.declared.Reading.{Reading}
 use Rattle.reading.proofs.Demand.{reading_demand_3}
+use Rattle.heading.specs.declared.VersionAndName.{VersionAndName}
 use Rattle.heading.specs.Headings.{brace_in}
-use Rattle.heading.specs.declared.Answer.TheVariants.{Refused}
+use Rattle.rows.specs.Refusing.{refusing}
 use Rattle.heading.proofs.Promises.{q_7}
 use Rattle.assurances.specs.Headings.{HeadingBesideRead}
 
@@ -33,7 +34,7 @@ record OfStage (s : List ℕ) (n p : ℕ) : Type 0 where
   answer : StageAnswer
   answers : StageAnswers s answer
   short : length s ≤ 65535
-  refuses : answer ≡ Passes → ⊥
+  refuses : answer ≡ Ok tt → ⊥
   number : number_of answer ≡ n
   place : place_of answer ≡ p
 
@@ -58,7 +59,7 @@ heading_beside_read s h k b f =
       that_same = λ n p e l m g.
           let o = of_stage w.given n p (sym i ∙ e) l m in
           q.that_same o.short o.answer o.answers o.refuses (λ t. subst (λ (x : ℕ). x ≤ (brace_in t.tree).place) (sym o.place) (g t))
-          ∙ ap₂ Refused o.number o.place;
+          ∙ ap₂ (refusing {A = VersionAndName}) o.number o.place;
       otherwise = λ t l. q.otherwise l t;
       behind = λ t n p e l m.
           let o = of_stage w.given n p (sym i ∙ e) l m in

@@ -4,7 +4,7 @@ use mathlib.Core.List.{List}
 use Prim.Native.Nat.{ℕ}
 use native.Mathlib.Omega.{arith}
 use lib.ListN.{replicate, length-replicate}
-use Rattle.rows.specs.declared.Found.{Found}
+use Rattle.rows.specs.Found.{Found}
 use Rattle.meaning.specs.Syntax.{File}
 use Rattle.meaning.specs.Answers.{Answer, accepted, refused, answer}
 use Rattle.meaning.specs.Reading.{Parsed, parsed, not_parsed, parse, answer_of_parsed, reading}
@@ -18,18 +18,18 @@ use Rattle.writing.proofs.Calling.{file, own, reads_own, given_whole, refused_re
 use Rattle.attribute_values.specs.Values.{value_of}
 use Rattle.attribute_values.specs.Results.{Outcome, untouched, told, value_answered, value_parsed, value_text, Leaves, ValuesText}
 use Rattle.attribute_values.specs.Rows.{row_of, told_at}
-use Rattle.attribute_values.specs.declared.Valued.{Valued}
-use Rattle.attribute_values.specs.declared.Valued.TheVariants as v
+use Rattle.attribute_values.specs.Answered.{Valued}
+use Rattle.rows.specs.Refusing.{refusing}
 use Rattle.attribute_values.proofs.Linking.{agrees_told, row_is}
 
 -- A refused text ---------------------------------------------------------------------------------------------------------------------------
 
 module _ (n p : ℕ) (kind name path l : List ℕ) where
-  file_refused : (a : Answer) (f : File) → a ≡ refused n p → untouched (v.Refused n p) l ≡ value_answered a f kind name path l
+  file_refused : (a : Answer) (f : File) → a ≡ refused n p → untouched (refusing n p) l ≡ value_answered a f kind name path l
   unfolding value_answered
   file_refused a f e = ap (λ (x : Answer). value_answered x f kind name path l) (sym e)
 
-  refused_by : (x : Parsed) → answer_of_parsed x ≡ refused n p → untouched (v.Refused n p) l ≡ value_parsed x kind name path l
+  refused_by : (x : Parsed) → answer_of_parsed x ≡ refused n p → untouched (refusing n p) l ≡ value_parsed x kind name path l
   unfolding value_parsed answer_of_parsed
   refused_by (parsed f) e = file_refused (answer f) f e
   refused_by (not_parsed m q) e = let y : m ≡ n = cc in let z : q ≡ p = cc in cc
@@ -56,7 +56,7 @@ leaves : {a : Outcome} (b : Outcome) {l' : List ℕ} {r : Valued} → a ≡ b �
 leaves b {l'} {r} e k = subst (λ (x : Outcome). Leaves x l' r) e k
 
 module _ {s d₁ e₁ o₁ v₁ : List ℕ} {w : Spanned} (h : ReadsSpanned s (replicate 6656 0) (replicate 3072 0) (replicate 2048 0) (replicate 18432 0) d₁ e₁ o₁ v₁ w) (kind name path l : List ℕ) where
-  pub value_refused : (n p : ℕ) → w.reading.answer ≡ Refused n p → ValuesText s kind name path l l (v.Refused n p)
+  pub value_refused : (n p : ℕ) → w.reading.answer ≡ Refused n p → ValuesText s kind name path l l (refusing n p)
   unfolding value_text reading untouched
   value_refused n p i =
       let e = refused_by n p kind name path l (parse s) (refused_reading h (full_room rooms) n p i) in

@@ -16,14 +16,14 @@ use Rattle.reading.proofs.Derived.{the_refusal, the_accepted, derivation_of, own
 use Rattle.attribute_values.specs.Values.{value_of}
 use Rattle.attribute_values.specs.Results.{Outcome, untouched, text_of, copied, told, value_answered, value_parsed, value_text, ValuesText}
 use Rattle.attribute_values.specs.Rules.{Answered, not_found, too_short, copies, ValuesByRules, refuses, answers}
-use Rattle.attribute_values.specs.declared.Valued.{Valued}
-use Rattle.attribute_values.specs.declared.Valued.TheVariants.{Refused, Copied}
+use Rattle.attribute_values.specs.Answered.{Valued, of_length}
+use Rattle.rows.specs.Refusing.{refusing}
 
 module _ (kind name path l : List ℕ) where
   module _ (f : File) where
     -- A value: it fits, or not.
     by_room : (t : Taken) → value_of f kind name path ≡ some t → (b : Bool) → ltb (length l) (length (text_of t)) ≡ b
-        → let o = choose b (λ _. untouched (Refused 20 0) l) (λ _. record { result = Copied (length (text_of t)); output = text_of t ++ drop (length (text_of t)) l }) in
+        → let o = choose b (λ _. untouched (refusing 20 0) l) (λ _. record { result = of_length (length (text_of t)); output = text_of t ++ drop (length (text_of t)) l }) in
         Answered f kind name path l o.output o.result
     unfolding choose untouched
     by_room t e true q = too_short t e (ltb-true (length l) (length (text_of t)) q) refl

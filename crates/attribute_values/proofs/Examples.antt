@@ -9,7 +9,8 @@ use Rattle.meaning.proofs.Everything.{everything}
 use Rattle.attribute_values.specs.Paths.{in_front, steps, name_of, mark_of, entry_mark, picks}
 use Rattle.attribute_values.specs.Values.{onward, leads_to, by_steps, is_called, value_among, value_of}
 use Rattle.attribute_values.specs.Results.{Outcome, untouched, text_of, copied, told, value_answered, value_parsed, value_text}
-use Rattle.attribute_values.specs.declared.Valued.TheVariants.{Refused, NotFound, Copied}
+use Rattle.rows.specs.Refusing.{refusing}
+use Rattle.attribute_values.specs.Answered.{no_value, of_length}
 
 unfoldable all : Unit {0}
 unfolding everything in_front steps name_of mark_of entry_mark picks onward leads_to by_steps is_called value_among value_of untouched text_of copied told value_answered value_parsed value_text
@@ -24,10 +25,10 @@ asked x [] = []
 asked x (p ∷ ps) = value_parsed x (bytes_of "OS") (bytes_of "o") (bytes_of p) (1 ∷ 2 ∷ 3 ∷ 4 ∷ []) ∷ asked x ps
 
 abbrev lost : Outcome
-lost = record { result = NotFound; output = 1 ∷ 2 ∷ 3 ∷ 4 ∷ [] }
+lost = record { result = no_value; output = 1 ∷ 2 ∷ 3 ∷ 4 ∷ [] }
 
 abbrev copy : ℕ → List ℕ → Outcome
-copy n l = record { result = Copied n; output = l }
+copy n l = record { result = of_length n; output = l }
 
 -- "copied as normal text writes it, without what is under it": a number in decimal, a string with its quotes, an enumerator's word alone, a float's bytes, a
 -- reference, AUTO.
@@ -61,20 +62,20 @@ unfolding all asked
 nothing_there = refl
 
 -- "by kind, object name": another kind, a word that is no kind's, another name.
-other_objects : value_text sample (bytes_of "APPMODE") (bytes_of "o") (bytes_of "x") [] ≡ record { result = NotFound; output = [] }
+other_objects : value_text sample (bytes_of "APPMODE") (bytes_of "o") (bytes_of "x") [] ≡ record { result = no_value; output = [] }
 unfolding all
 other_objects = refl
 
-no_kind : value_text sample (bytes_of "os") (bytes_of "o") (bytes_of "x") [] ≡ record { result = NotFound; output = [] }
+no_kind : value_text sample (bytes_of "os") (bytes_of "o") (bytes_of "x") [] ≡ record { result = no_value; output = [] }
 unfolding all
 no_kind = refl
 
 -- "A buffer too short gets refusal 20; that .. touch nothing."
-one_byte : value_text sample (bytes_of "OS") (bytes_of "o") (bytes_of "x") (7 ∷ []) ≡ record { result = Refused 20 0; output = 7 ∷ [] }
+one_byte : value_text sample (bytes_of "OS") (bytes_of "o") (bytes_of "x") (7 ∷ []) ≡ record { result = refusing 20 0; output = 7 ∷ [] }
 unfolding all
 one_byte = refl
 
 -- "A refused text gives its refusal", before not found and 20.
-refused_first : value_text (bytes_of "OIL_VERSION=\"2.5\";IMPLEMENTATION m{};CPU c{};") (bytes_of "OS") (bytes_of "o") [] [] ≡ record { result = Refused 17 41; output = [] }
+refused_first : value_text (bytes_of "OIL_VERSION=\"2.5\";IMPLEMENTATION m{};CPU c{};") (bytes_of "OS") (bytes_of "o") [] [] ≡ record { result = refusing 17 41; output = [] }
 unfolding all
 refused_first = refl

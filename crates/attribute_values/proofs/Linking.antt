@@ -13,8 +13,8 @@ use Rattle.token.specs.Words.{same}
 use Rattle.token.specs.Tokens.{part_of}
 use Rattle.rows.specs.Table.{cell_of}
 use Rattle.rows.specs.Search.{row_name, find_from}
-use Rattle.rows.specs.declared.Found.{Found}
-use Rattle.rows.specs.declared.Found.TheVariants.{At, Nothing}
+use Rattle.rows.specs.Found.{Found}
+use Rattle.std.specs.Prelude.{Some, None}
 use Rattle.rows.proofs.Searches.{find_stop, find_more, find_end}
 use Rattle.meaning.specs.Syntax.{Object, File, span_of}
 use Rattle.meaning.specs.Words.{choose}
@@ -39,8 +39,8 @@ use Rattle.attribute_values.proofs.Others.{has, has_own, object_not, not_object,
 
 -- What was found in the rows is what the syntax has: nothing, or a row whose value is written as that value is.
 pub data Agrees (s v : List ℕ) : Option Taken → Found → Type 0 where
-  both_nothing : Agrees s v none Nothing
-  both_found : {t : Taken} {k : ℕ} → value_at s v k ≡ text_of t → Agrees s v (some t) (At k)
+  both_nothing : Agrees s v none None
+  both_found : {t : Taken} {k : ℕ} → value_at s v k ≡ text_of t → Agrees s v (some t) (Some k)
 
 pub agrees_told : {s v : List ℕ} {x : Option Taken} {f : Found} (l : List ℕ) → Agrees s v x f → told_at s v f l ≡ told x l
 unfolding told_at told
@@ -110,7 +110,7 @@ module _ (s d v : List ℕ) (e : ℕ) where
 
   -- Where the search finds nothing.
   down_nothing : (b : List ℕ) (bs : List (List ℕ)) (n k : ℕ) (o : Owner) (rest : List ValueRow) {low high : ℕ} → From 9 value_cells v e k rest
-      → Outside low high (owner_sort o) (owner_row o) rest → Nothing ≡ down b bs n k o
+      → Outside low high (owner_sort o) (owner_row o) rest → None ≡ down b bs n k o
   unfolding down
   down_nothing b bs n k o rest h a =
       lost bs (λ j. by_steps_at s d v e bs (suc j) 1 j)
@@ -125,8 +125,8 @@ module _ (s d v : List ℕ) (e : ℕ) where
   down_as b bs n k m j o q = ap (λ (f : Found). onward_at bs f (λ i. by_steps_at s d v e bs (suc i) 1 i)) q
 
   down_at : (b : List ℕ) (bs : List (List ℕ)) (n k i : ℕ) (o : Owner)
-      → seek (named_at s d v (owner_sort o) (owner_row o) (name_of b)) (picked_at d v (mark_of b)) (e - k) k n ≡ At i
-      → down b bs n k o ≡ onward_at bs (At i) (λ j. by_steps_at s d v e bs (suc j) 1 j)
+      → seek (named_at s d v (owner_sort o) (owner_row o) (name_of b)) (picked_at d v (mark_of b)) (e - k) k n ≡ Some i
+      → down b bs n k o ≡ onward_at bs (Some i) (λ j. by_steps_at s d v e bs (suc j) 1 j)
   unfolding down
   down_at b bs n k i o q = ap (λ (f : Found). onward_at bs f (λ j. by_steps_at s d v e bs (suc j) 1 j)) q
 
@@ -137,7 +137,7 @@ module _ (s d v : List ℕ) (e : ℕ) where
 
   -- A value that its step picks: the path ends there, or goes on under it.
   picked : (bs : List (List ℕ)) (k : ℕ) (t : Taken) (us : Resolved) → value_at s v k ≡ text_of t → ((c : List ℕ) (cs : List (List ℕ)) → Down c cs 0 (suc k) (of_value k) us)
-      → Agrees s v (onward bs t (λ c cs. leads_to c cs 0 us)) (onward_at bs (At k) (λ j. by_steps_at s d v e bs (suc j) 1 j))
+      → Agrees s v (onward bs t (λ c cs. leads_to c cs 0 us)) (onward_at bs (Some k) (λ j. by_steps_at s d v e bs (suc j) 1 j))
   unfolding onward onward_at
   picked [] k t us a inner = both_found a
   picked (c ∷ cs) k t us a inner = subst (Agrees s v (leads_to c cs 0 us)) (sym (under_row c cs k)) (inner c cs)

@@ -12,7 +12,7 @@ use Rattle.token.specs.Find.{both}
 use Rattle.token.specs.Words.{same}
 use Rattle.rows.specs.Table.{cell_of}
 use Rattle.rows.specs.Search.{row_name}
-use Rattle.rows.specs.declared.Found.TheVariants.{Nothing}
+use Rattle.std.specs.Prelude.{None}
 use Rattle.meaning.specs.Resolving.{Resolved, end, resolved, Owner, of_object, of_value, ValueRow, value_row, value_rows, all_value_rows, how_many_values}
 use Rattle.meaning.specs.Cells.{owner_sort, owner_row, value_cells}
 use Rattle.meaning.proofs.Rooms.{value_width}
@@ -112,7 +112,7 @@ module _ (s d v : List ℕ) (e sort row : ℕ) (name : List ℕ) (picked : ℕ �
       ∙ ap (λ (j : ℕ). seek named picked (e - j) j n) z
 
   -- Where nothing else is left, nothing is found.
-  pub nothing_left : {low high k : ℕ} (xs : List ValueRow) (n : ℕ) → From 9 value_cells v e k xs → Outside low high sort row xs → seek named picked (e - k) k n ≡ Nothing
+  pub nothing_left : {low high k : ℕ} (xs : List ValueRow) (n : ℕ) → From 9 value_cells v e k xs → Outside low high sort row xs → seek named picked (e - k) k n ≡ None
   nothing_left {k = k} [] n h a = let c = h.count in let z : e ≤ k = omega (arith, c) in seek_end named picked e k n z
   nothing_left {k = k} (r ∷ xs) n h (one_more p q a) =
       let c = h.count in

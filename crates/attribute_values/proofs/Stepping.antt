@@ -11,8 +11,8 @@ use lib.Dec.{eqb, ltb}
 use borrow.Author.Tests.{lt-ltb, le-ltb}
 use Rattle.token.specs.Bytes.{find_byte}
 use Rattle.token.proofs.Find.{find_past, find_here, find_next, find_low, find_high}
-use Rattle.rows.specs.declared.Found.{Found}
-use Rattle.rows.specs.declared.Found.TheVariants.{At, Nothing}
+use Rattle.rows.specs.Found.{Found}
+use Rattle.std.specs.Prelude.{Some, None}
 use Rattle.meaning.specs.Words.{choose}
 use Rattle.attribute_values.specs.Paths.{in_front, steps, name_of, mark_of}
 use Rattle.attribute_values.specs.Rows.{named_at, picked_at, seek, entry_at, onward_at, by_steps_at}
@@ -118,27 +118,27 @@ module _ (p : List ℕ) where
   pub steps_from : (a : ℕ) → a ≤ length p → steps (drop a p) ≡ take (find_byte 46 p a - a) (drop a p) ∷ later (find_byte 46 p a)
   steps_from a h = let z : a + (length p - a) ≡ length p = omega (arith, h) in from_place (length p - a) a z
 
-pub lost : (x : List (List ℕ)) (g : ℕ → Found) → Nothing ≡ onward_at x Nothing g
+pub lost : (x : List (List ℕ)) (g : ℕ → Found) → None ≡ onward_at x None g
 unfolding onward_at
 lost [] g = refl
 lost (b ∷ bs) g = refl
 
-ended : (j : ℕ) (x : List (List ℕ)) (g : ℕ → Found) → x ≡ [] → At j ≡ onward_at x (At j) g
+ended : (j : ℕ) (x : List (List ℕ)) (g : ℕ → Found) → x ≡ [] → Some j ≡ onward_at x (Some j) g
 unfolding onward_at
-ended j x g e = sym (ap (λ (y : List (List ℕ)). onward_at y (At j) g) e)
+ended j x g e = sym (ap (λ (y : List (List ℕ)). onward_at y (Some j) g) e)
 
-fronted : (b : ℕ) (r : List (List ℕ)) (k : ℕ) (g : ℕ → Found) → onward_at (in_front b r) (At k) g ≡ g k
+fronted : (b : ℕ) (r : List (List ℕ)) (k : ℕ) (g : ℕ → Found) → onward_at (in_front b r) (Some k) g ≡ g k
 unfolding onward_at in_front
 fronted b [] k g = refl
 fronted b (x ∷ xs) k g = refl
 
 -- A path has a step: with a row picked, the steps of a path go on from it.
-pub onward_steps : (q : List ℕ) (k : ℕ) (g : ℕ → Found) → onward_at (steps q) (At k) g ≡ g k
+pub onward_steps : (q : List ℕ) (k : ℕ) (g : ℕ → Found) → onward_at (steps q) (Some k) g ≡ g k
 unfolding onward_at steps choose
 onward_steps [] k g = refl
 onward_steps (b ∷ bs) k g = by (eqb b 46) (steps bs)
   where
-    by : (t : Bool) (r : List (List ℕ)) → onward_at (choose t (λ _. [] ∷ r) (λ _. in_front b r)) (At k) g ≡ g k
+    by : (t : Bool) (r : List (List ℕ)) → onward_at (choose t (λ _. [] ∷ r) (λ _. in_front b r)) (Some k) g ≡ g k
     by true r = refl
     by false r = fronted b r k g
 
@@ -163,20 +163,20 @@ module _ (s d v : List ℕ) (e : ℕ) (p : List ℕ) (at k sort row : ℕ) (h : 
         ∙ ap (λ (n : ℕ). onward_at (later p n) (entry_at s d v e k sort row (take (n - at) (drop at p))) (λ j. by_steps_at s d v e (later p n) (suc j) 1 j)) f
         ∙ sym opened_at ∙ i
 
-    pub path_lost : Nothing ≡ entry_at s d v e k sort row stepped → Nothing ≡ r
-    path_lost z = lost (later p q) (λ j. by_steps_at s d v e (later p q) (suc j) 1 j) ∙ reached Nothing z
+    pub path_lost : None ≡ entry_at s d v e k sort row stepped → None ≡ r
+    path_lost z = lost (later p q) (λ j. by_steps_at s d v e (later p q) (suc j) 1 j) ∙ reached None z
 
-    pub path_end : (j : ℕ) → At j ≡ entry_at s d v e k sort row stepped → length p ≤ q → At j ≡ r
-    path_end j z g = ended j (later p q) (λ i. by_steps_at s d v e (later p q) (suc i) 1 i) (later_end p q g) ∙ reached (At j) z
+    pub path_end : (j : ℕ) → Some j ≡ entry_at s d v e k sort row stepped → length p ≤ q → Some j ≡ r
+    path_end j z g = ended j (later p q) (λ i. by_steps_at s d v e (later p q) (suc i) 1 i) (later_end p q g) ∙ reached (Some j) z
 
-    pub path_on : (j : ℕ) → At j ≡ entry_at s d v e k sort row stepped → q < length p → by_steps_at s d v e (steps (drop (q + 1) p)) (j + 1) 1 j ≡ r
-    path_on j z g = gone j ∙ reached (At j) z
+    pub path_on : (j : ℕ) → Some j ≡ entry_at s d v e k sort row stepped → q < length p → by_steps_at s d v e (steps (drop (q + 1) p)) (j + 1) 1 j ≡ r
+    path_on j z g = gone j ∙ reached (Some j) z
       where
-        gone : (j : ℕ) → by_steps_at s d v e (steps (drop (q + 1) p)) (j + 1) 1 j ≡ onward_at (later p q) (At j) (λ i. by_steps_at s d v e (later p q) (suc i) 1 i)
+        gone : (j : ℕ) → by_steps_at s d v e (steps (drop (q + 1) p)) (j + 1) 1 j ≡ onward_at (later p q) (Some j) (λ i. by_steps_at s d v e (later p q) (suc i) 1 i)
         gone j =
             ap (λ (n : ℕ). by_steps_at s d v e (steps (drop (q + 1) p)) n 1 j) (add-one j)
             ∙ sym (onward_steps (drop (q + 1) p) j (λ i. by_steps_at s d v e (steps (drop (q + 1) p)) (suc i) 1 i))
-            ∙ sym (ap (λ (x : List (List ℕ)). onward_at x (At j) (λ i. by_steps_at s d v e x (suc i) 1 i)) (later_more p q g))
+            ∙ sym (ap (λ (x : List (List ℕ)). onward_at x (Some j) (λ i. by_steps_at s d v e x (suc i) 1 i)) (later_more p q g))
 
 -- A step by its name and its mark --------------------------------------------------------------------------------------------------------------
 
@@ -191,6 +191,6 @@ module _ (s d v : List ℕ) (e k sort row : ℕ) (b : List ℕ) where
       ∙ ap (λ (x : List ℕ). seek (named_at s d v sort row (take q b)) (picked_at d v x) (e - k) k 0) (take_all (length b - q) (drop q b) h)
       ∙ ap (λ (n : ℕ). seek (named_at s d v sort row (take n b)) (picked_at d v (drop n b)) (e - k) k 0) f
 
-  pub entry_below : (j : ℕ) → At j ≡ entry_at s d v e k sort row b → j < e
+  pub entry_below : (j : ℕ) → Some j ≡ entry_at s d v e k sort row b → j < e
   unfolding entry_at
   entry_below j q = found_before (named_at s d v sort row (name_of b)) (picked_at d v (mark_of b)) e k 0 j q

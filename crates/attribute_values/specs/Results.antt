@@ -8,8 +8,8 @@ use Rattle.meaning.specs.Resolving.{Taken}
 use Rattle.meaning.specs.Answers.{Answer, accepted, refused, answer}
 use Rattle.meaning.specs.Reading.{Parsed, parsed, not_parsed, parse}
 use Rattle.attribute_values.specs.Values.{value_of}
-use Rattle.attribute_values.specs.declared.Valued.{Valued}
-use Rattle.attribute_values.specs.declared.Valued.TheVariants.{Refused, NotFound, Copied}
+use Rattle.attribute_values.specs.Answered.{Valued, no_value, of_length}
+use Rattle.rows.specs.Refusing.{refusing}
 
 -- The answer, and the lent output after it.
 pub record Outcome : Type 0 where
@@ -25,21 +25,21 @@ text_of t = written t.value t.word
 
 -- "A buffer too short gets refusal 20; that and not found touch nothing." Bytes past the copied ones stay.
 unfoldable pub copied : List ℕ → List ℕ → Outcome
-copied w l = choose (ltb (length l) (length w)) (λ _. untouched (Refused 20 0) l) (λ _. record { result = Copied (length w); output = w ++ drop (length w) l })
+copied w l = choose (ltb (length l) (length w)) (λ _. untouched (refusing 20 0) l) (λ _. record { result = of_length (length w); output = w ++ drop (length w) l })
 
 -- "copied .. into a lent buffer, or not found".
 unfoldable pub told : Option Taken → List ℕ → Outcome
-told none l = untouched NotFound l
+told none l = untouched no_value l
 told (some t) l = copied (text_of t) l
 
 unfoldable pub value_answered : Answer → File → (kind name path l : List ℕ) → Outcome
 value_answered (accepted t) f kind name path l = told (value_of f kind name path) l
-value_answered (refused n p) f kind name path l = untouched (Refused n p) l
+value_answered (refused n p) f kind name path l = untouched (refusing n p) l
 
 -- "A refused text gives its refusal."
 unfoldable pub value_parsed : Parsed → (kind name path l : List ℕ) → Outcome
 value_parsed (parsed f) kind name path l = value_answered (answer f) f kind name path l
-value_parsed (not_parsed n p) kind name path l = untouched (Refused n p) l
+value_parsed (not_parsed n p) kind name path l = untouched (refusing n p) l
 
 -- The answer to the text s with the lent output l.
 unfoldable pub value_text : (s kind name path l : List ℕ) → Outcome

@@ -5,7 +5,7 @@ ghost use Rattle.attribute_values.specs.Rows.{named_at, picked_at, seek, entry_a
 
 use super::paths;
 use layout::{definition, value};
-use rows::{Found, cells, parts};
+use rows::{cells, parts};
 
 // Whether row k has this owner, and its attribute this name.
 fn is_named(
@@ -56,23 +56,20 @@ fn find_named(
     row: usize,
     name: &[u8],
     mark: &[u8],
-) -> Found
+) -> Option<usize>
     ensures { result ≡ seek (named_at text.now d.now v.now sort row name.now) (picked_at d.now v.now mark.now) (e - i) i 0 }
 {
-    let mut k = i;
     let mut n = 0;
-    while k < e {
+    for k in i..e {
         if !is_named(text, d, v, sort, row, name, k) {
-            k += 1;
             continue;
         }
         if is_picked(d, v, mark, k, n) {
-            return Found::At(k);
+            return Some(k);
         }
-        k += 1;
         n += 1;
     }
-    Found::Nothing
+    None
 }
 
 // The same for a step, which is a name and its mark.
@@ -85,7 +82,7 @@ fn find_entry(
     sort: usize,
     row: usize,
     step: &[u8],
-) -> Found
+) -> Option<usize>
     ensures { result ≡ entry_at text.now d.now v.now e i sort row step.now }
 {
     let q = paths::find_byte(step, 0, b'[');
@@ -100,20 +97,21 @@ pub fn find_value(
     e: usize,
     object: usize,
     path: &[u8],
-) -> Found
+) -> Option<usize>
     ensures { result ≡ by_steps_at text.now d.now v.now e (steps path.now) 0 0 object }
 {
     let mut at = 0;
     let mut from = 0;
     let mut sort = 0;
     let mut row = object;
+    // A `loop`: each step begins after the dot that ends the step before it, and looks among the rows of the row that was found.
     loop {
         let dot = paths::find_byte(path, at, b'.');
-        let Found::At(k) = find_entry(text, d, v, e, from, sort, row, &path[at..dot]) else {
-            return Found::Nothing;
+        let Some(k) = find_entry(text, d, v, e, from, sort, row, &path[at..dot]) else {
+            return None;
         };
         if path.len() <= dot {
-            return Found::At(k);
+            return Some(k);
         }
         at = dot + 1;
         from = k + 1;

@@ -9,31 +9,26 @@ ghost use Rattle.std.specs.Prelude.{◌≡◌};
 
 use layout::{definition, enumerator, object, value};
 use reading::{Answer, Reading};
-use rows::{Found, refusals};
+use rows::{Fault, refusals};
 use writing::values;
 
 mod entries;
 mod objects;
 mod paths;
 
-// The answer: the text's refusal, or 20 at 0 where the output is too short; no such value; how many bytes of the output the value takes.
-#[derive(Clone, Copy)]
-pub enum Valued {
-    Refused(u8, usize),
-    NotFound,
-    Copied(usize),
-}
-
 // The value of row k, copied to the front of the output; 20 where it is longer.
-fn copy_row(text: &[u8], v: &[usize], k: usize, out: &mut [u8]) -> Valued
+fn copy_row(text: &[u8], v: &[usize], k: usize, out: &mut [u8]) -> Result<Option<usize>, Fault>
     ensures { Leaves (copied (value_at text.now v.now k) out.old) out.new result }
 {
     let mut scratch = [0u8; 1];
     if out.len() < values::put_value(text, v, k, &mut scratch, 0) {
-        return Valued::Refused(refusals::SHORT_OUTPUT, 0);
+        return Err(Fault {
+            number: refusals::SHORT_OUTPUT,
+            place: 0,
+        });
     }
     let length = values::put_value(text, v, k, out, 0);
-    Valued::Copied(length)
+    Ok(Some(length))
 }
 
 // The row of the value, in the tables of an accepted text: its first m objects and n values.
@@ -46,28 +41,40 @@ fn find_row(
     kind: &[u8],
     name: &[u8],
     path: &[u8],
-) -> Found
+) -> Option<usize>
     ensures { result ≡ row_of text.now d.now o.now v.now r.objects r.values kind.now name.now path.now }
 {
-    let Found::At(row) = objects::find_object(text, o, r.objects, kind, name) else {
-        return Found::Nothing;
+    let Some(row) = objects::find_object(text, o, r.objects, kind, name) else {
+        return None;
     };
     entries::find_value(text, d, v, r.values, row, path)
 }
 
 // The answer for an accepted text, whose rows are in the tables.
-fn copy_found(text: &[u8], v: &[usize], found: Found, out: &mut [u8]) -> Valued
+fn copy_found(
+    text: &[u8],
+    v: &[usize],
+    found: Option<usize>,
+    out: &mut [u8],
+) -> Result<Option<usize>, Fault>
     ensures { Leaves (told_at text.now v.now found out.old) out.new result }
 {
     match found {
-        Found::At(k) => copy_row(text, v, k, out),
-        Found::Nothing => Valued::NotFound,
+        Some(k) => copy_row(text, v, k, out),
+        None => Ok(None),
     }
 }
 
 // The value of one attribute, by the kind's word, the object's name and a dotted path, copied to the front of the output as normal text writes it,
-// without what is under it. The output stays as it is where the text is refused, nothing is found or the value is longer.
-pub fn value(text: &[u8], kind: &[u8], name: &[u8], path: &[u8], out: &mut [u8]) -> Valued
+// without what is under it: how many bytes it takes, if there is such a value. The output stays as it is where the text is refused, nothing is found
+// or the value is longer, which is refusal 20 at 0.
+pub fn value(
+    text: &[u8],
+    kind: &[u8],
+    name: &[u8],
+    path: &[u8],
+    out: &mut [u8],
+) -> Result<Option<usize>, Fault>
     ensures values { ValuesText text.now kind.now name.now path.now out.old out.new result }
     ensures rules { ValuesByRules text.now kind.now name.now path.now out.old out.new result }
 {
@@ -79,7 +86,7 @@ pub fn value(text: &[u8], kind: &[u8], name: &[u8], path: &[u8], out: &mut [u8])
     let r = w.reading;
     let answer = r.answer;
     match answer {
-        Answer::Refused(number, place) => Valued::Refused(number, place),
+        Answer::Refused(number, place) => Err(Fault { number, place }),
         Answer::Accepted => {
             let found = find_row(text, &d, &o, &v, r, kind, name, path);
             copy_found(text, &v, found, out)

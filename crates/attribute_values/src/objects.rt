@@ -4,7 +4,7 @@ ghost use Rattle.rows.specs.Search.{find_from};
 ghost use Rattle.attribute_values.specs.Rows.{called_at};
 
 use layout::object;
-use rows::{Found, cells, parts};
+use rows::{cells, parts};
 
 // Whether object i has this kind word and this name.
 fn is_called(text: &[u8], o: &[usize], i: usize, kind: &[u8], name: &[u8]) -> bool
@@ -21,15 +21,13 @@ fn is_called(text: &[u8], o: &[usize], i: usize, kind: &[u8], name: &[u8]) -> bo
 }
 
 // The first of m objects that has this kind word and this name.
-pub fn find_object(text: &[u8], o: &[usize], m: usize, kind: &[u8], name: &[u8]) -> Found
+pub fn find_object(text: &[u8], o: &[usize], m: usize, kind: &[u8], name: &[u8]) -> Option<usize>
     ensures { result ≡ find_from (called_at text.now o.now kind.now name.now) m 0 }
 {
-    let mut i = 0;
-    while i < m {
+    for i in 0..m {
         if is_called(text, o, i, kind, name) {
-            return Found::At(i);
+            return Some(i);
         }
-        i += 1;
     }
-    Found::Nothing
+    None
 }

@@ -11,14 +11,12 @@ use writing::bytes;
 pub fn find_byte(path: &[u8], from: usize, b: u8) -> usize
     ensures { result ≡ find_byte b path.now from }
 {
-    let mut i = from;
-    while i < path.len() {
+    for i in from..path.len() {
         if path[i] == b {
             return i;
         }
-        i += 1;
     }
-    i
+    from.max(path.len())
 }
 
 // Whether a mark is `[`, the number in decimal and `]`.

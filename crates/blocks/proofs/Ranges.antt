@@ -17,8 +17,8 @@ use Rattle.meaning.specs.Words.{alike, among}
 use Rattle.meaning.specs.Scopes.{names}
 use Rattle.layout.specs.Kept.{statement_cells, statement_rows}
 use Rattle.layout.proofs.Lengths.{length_statements}
-use Rattle.rows.specs.declared.Found.{Found}
-use Rattle.rows.specs.declared.Found.TheVariants.{At, Nothing}
+use Rattle.rows.specs.Found.{Found}
+use Rattle.std.specs.Prelude.{Some, None}
 use Rattle.rows.specs.Search.{is_found, row_of}
 use Rattle.blocks.specs.Blocks.{WordIn, BraceIn, StatementsIn, none_in, more_in, Block, BlockAt, row_after, first_stated, FindsStated, IsStated, IsBefore}
 use Rattle.blocks.proofs.Holding.{cell_held}
@@ -236,14 +236,14 @@ module _ {s st : List ℕ} (m e at len k : ℕ) (i : Looking s st m e at len k) 
       ap₂ (λ p n. same (part_of s at len) (part_of s p n)) (first_cell b 0 (omega arith)) (first_cell b 1 (omega arith))
       ∙ ap₂ same (sym h) (sym (first_name b).bytes)
 
-  pub looking_stop : k < e → same (part_of s at len) (part_of s (get_or st (k * 7 + 0) 0) (get_or st (k * 7 + 1) 0)) ≡ true → FindsStated s st m e at len (At k)
+  pub looking_stop : k < e → same (part_of s at len) (part_of s (get_or st (k * 7 + 0) 0) (get_or st (k * 7 + 1) 0)) ≡ true → FindsStated s st m e at len (Some k)
   unfolding first_stated statements_in
   looking_stop h q ss t b p = go (i ss t b p).left (i ss t b p).block (i ss t b p).same_found
     where
-      go : (l : Statements) → BlockAt s st k e l → first_stated l k t ≡ first_stated ss m t → At k ≡ first_stated ss m t
+      go : (l : Statements) → BlockAt s st k e l → first_stated l k t ≡ first_stated ss m t → Some k ≡ first_stated ss m t
       go done c f = let z = c.after in absurd (omega arith)
       go (state x inside rest) c f =
-          sym (ap (λ a. pick a (At k) (first_stated rest (suc k + statements_in inside) t)) (sym (name_test t c p) ∙ q)) ∙ f
+          sym (ap (λ a. pick a (Some k) (first_stated rest (suc k + statements_in inside) t)) (sym (name_test t c p) ∙ q)) ∙ f
 
   pub looking_more : k < e → same (part_of s at len) (part_of s (get_or st (k * 7 + 0) 0) (get_or st (k * 7 + 1) 0)) ≡ false
       → Looking s st m e at len (row_after st k e)
@@ -257,14 +257,14 @@ module _ {s st : List ℕ} (m e at len k : ℕ) (i : Looking s st m e at len k) 
           (record {
             left = rest;
             block = rest_at c;
-            same_found = sym (ap (λ a. pick a (At k) (first_stated rest (suc k + statements_in inside) t)) (sym (name_test t c p) ∙ q)) ∙ f;
+            same_found = sym (ap (λ a. pick a (Some k) (first_stated rest (suc k + statements_in inside) t)) (sym (name_test t c p) ∙ q)) ∙ f;
           })
 
-  pub looking_end : e ≤ k → FindsStated s st m e at len Nothing
+  pub looking_end : e ≤ k → FindsStated s st m e at len None
   unfolding first_stated statements_in
   looking_end h ss t b p = go (i ss t b p).left (i ss t b p).block (i ss t b p).same_found
     where
-      go : (l : Statements) → BlockAt s st k e l → first_stated l k t ≡ first_stated ss m t → Nothing ≡ first_stated ss m t
+      go : (l : Statements) → BlockAt s st k e l → first_stated l k t ≡ first_stated ss m t → None ≡ first_stated ss m t
       go done c f = f
       go (state x inside rest) c f = let z = c.after in absurd (omega arith)
 
@@ -275,7 +275,7 @@ stated_among done m t = refl
 stated_among (state x inside rest) m t = go (alike t x.name) (stated_among rest (suc m + statements_in inside) t)
   where
     go : (a : Bool) → is_found (first_stated rest (suc m + statements_in inside) t) ≡ among t (names rest)
-        → is_found (pick a (At m) (first_stated rest (suc m + statements_in inside) t)) ≡ either a (among t (names rest))
+        → is_found (pick a (Some m) (first_stated rest (suc m + statements_in inside) t)) ≡ either a (among t (names rest))
     go true h = refl
     go false h = h
 
@@ -295,46 +295,46 @@ first_then (state x inside rest) b m t =
     go (alike t x.name) (first_then rest b n t ∙ ap (λ k. pick (among t (names rest)) (first_stated rest n t) (first_stated b k t)) e)
   where
     go : (c : Bool) → first_stated (then rest b) (suc m + statements_in inside) t ≡ pick (among t (names rest)) (first_stated rest (suc m + statements_in inside) t) (first_stated b (m + suc (statements_in inside + statements_in rest)) t)
-        → pick c (At m) (first_stated (then rest b) (suc m + statements_in inside) t) ≡ pick (either c (among t (names rest))) (pick c (At m) (first_stated rest (suc m + statements_in inside) t)) (first_stated b (m + suc (statements_in inside + statements_in rest)) t)
+        → pick c (Some m) (first_stated (then rest b) (suc m + statements_in inside) t) ≡ pick (either c (among t (names rest))) (pick c (Some m) (first_stated rest (suc m + statements_in inside) t)) (first_stated b (m + suc (statements_in inside + statements_in rest)) t)
     go true h = refl
     go false h = h
 
-first_inside : (a : Statements) (m i : ℕ) (t : Word) → At i ≡ first_stated a m t → i < m + statements_in a
+first_inside : (a : Statements) (m i : ℕ) (t : Word) → Some i ≡ first_stated a m t → i < m + statements_in a
 unfolding first_stated statements_in row_of
 first_inside done m i t h = absurd (false≢true (sym (ap is_found h)))
 first_inside (state x inside rest) m i t h = go (alike t x.name) (first_inside rest (suc m + statements_in inside) i t) h
   where
-    go : (c : Bool) → (At i ≡ first_stated rest (suc m + statements_in inside) t → i < suc m + statements_in inside + statements_in rest)
-        → At i ≡ pick c (At m) (first_stated rest (suc m + statements_in inside) t) → i < m + suc (statements_in inside + statements_in rest)
+    go : (c : Bool) → (Some i ≡ first_stated rest (suc m + statements_in inside) t → i < suc m + statements_in inside + statements_in rest)
+        → Some i ≡ pick c (Some m) (first_stated rest (suc m + statements_in inside) t) → i < m + suc (statements_in inside + statements_in rest)
     go true f e = let q : i ≡ m = ap row_of e in omega arith
     go false f e = let q = f e in omega arith
 
 -- The first statement of a block that has the name of its statement of row k.
 module _ {s st : List ℕ} (m k e : ℕ) {r : Found} (f : FindsStated s st m e (get_or st (k * 7 + 0) 0) (get_or st (k * 7 + 1) 0) r) where
   first_own : (a : Statements) (x : Statement) (inside rest : Statements) → BlockAt s st m e (then a (state x inside rest)) → k ≡ m + statements_in a
-      → r ≡ pick (among x.name (names a)) (first_stated a m x.name) (At k)
+      → r ≡ pick (among x.name (names a)) (first_stated a m x.name) (Some k)
   unfolding first_stated statement_cells alike
   first_own a x inside rest b q =
       let c : BlockAt s st k e (state x inside rest) = subst (λ u. BlockAt s st u e (state x inside rest)) (sym q) (back_at a (state x inside rest) b) in
       let n = x.name in
       let own = (first_name c).bytes ∙ sym (ap₂ (part_of s) (first_cell c 0 (omega arith)) (first_cell c 1 (omega arith))) in
-      let here = ap (λ z. pick z (At (m + statements_in a)) (first_stated rest (suc (m + statements_in a) + statements_in inside) n)) (same_self n.bytes) ∙ ap At (sym q) in
+      let here = ap (λ z. pick z (Some (m + statements_in a)) (first_stated rest (suc (m + statements_in a) + statements_in inside) n)) (same_self n.bytes) ∙ ap Some (sym q) in
       f (then a (state x inside rest)) n b own
       ∙ first_then a (state x inside rest) m n
       ∙ ap (pick (among n (names a)) (first_stated a m n)) here
 
 module _ {s st : List ℕ} (m k e : ℕ) where
-  pub before_first : (i : ℕ) → FindsStated s st m e (get_or st (k * 7 + 0) 0) (get_or st (k * 7 + 1) 0) (At i) → IsBefore s st m k e (not (eqb i k))
+  pub before_first : (i : ℕ) → FindsStated s st m e (get_or st (k * 7 + 0) 0) (get_or st (k * 7 + 1) 0) (Some i) → IsBefore s st m k e (not (eqb i k))
   unfolding row_of
   before_first i f a x inside rest b q = go (among x.name (names a)) (first_own m k e f a x inside rest b q)
     where
-      go : (c : Bool) → At i ≡ pick c (first_stated a m x.name) (At k) → not (eqb i k) ≡ c
+      go : (c : Bool) → Some i ≡ pick c (first_stated a m x.name) (Some k) → not (eqb i k) ≡ c
       go true h = let l = first_inside a m i x.name h in ap not (ne_eqb i k (λ z. omega arith))
       go false h = ap not (eq-eqb i k (ap row_of h))
 
-  pub before_none : FindsStated s st m e (get_or st (k * 7 + 0) 0) (get_or st (k * 7 + 1) 0) Nothing → IsBefore s st m k e false
+  pub before_none : FindsStated s st m e (get_or st (k * 7 + 0) 0) (get_or st (k * 7 + 1) 0) None → IsBefore s st m k e false
   before_none f a x inside rest b q = go (among x.name (names a)) (stated_among a m x.name) (first_own m k e f a x inside rest b q)
     where
-      go : (c : Bool) → is_found (first_stated a m x.name) ≡ c → Nothing ≡ pick c (first_stated a m x.name) (At k) → false ≡ c
+      go : (c : Bool) → is_found (first_stated a m x.name) ≡ c → None ≡ pick c (first_stated a m x.name) (Some k) → false ≡ c
       go true g h = absurd (false≢true (ap is_found h ∙ g))
       go false g h = refl

@@ -10,8 +10,8 @@ use Rattle.meaning.specs.Words.{alike, among}
 use Rattle.meaning.specs.Scopes.{names}
 use Rattle.meaning.specs.Actions.{num_of_step, float_of_step}
 use Rattle.layout.specs.Kept.{statement_rows, kept, Wide}
-use Rattle.rows.specs.declared.Found.{Found}
-use Rattle.rows.specs.declared.Found.TheVariants.{At, Nothing}
+use Rattle.rows.specs.Found.{Found}
+use Rattle.std.specs.Prelude.{Some, None}
 
 -- Tables -----------------------------------------------------------------------------------------------------------------------------------
 
@@ -67,8 +67,8 @@ row_after st k e = let v = get_or st (k * 7 + 6) 0 in pick (both (ltb k v) (leb 
 
 -- The row of the first of a block's own statements that has a name; its first row is m.
 unfoldable pub first_stated : Statements → ℕ → Word → Found
-first_stated done m t = Nothing
-first_stated (state x inside rest) m t = let r = first_stated rest (suc m + statements_in inside) t in pick (alike t x.name) (At m) r
+first_stated done m t = None
+first_stated (state x inside rest) m t = let r = first_stated rest (suc m + statements_in inside) t in pick (alike t x.name) (Some m) r
 
 -- The first statement of the block from m to e that has the name at a place.
 abbrev pub FindsStated : (s st : List ℕ) → (m e at len : ℕ) → Found → Type 0

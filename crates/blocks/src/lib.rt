@@ -5,7 +5,7 @@ ghost use Rattle.std.specs.Prelude.{◌≡◌};
 ghost use Rattle.blocks.specs.Blocks.{row_after, FindsStated};
 
 use layout::statement;
-use rows::{Found, cells, parts};
+use rows::{cells, parts};
 
 // The row after the statement of row k and those in its braces, in a block that ends before row `end`.
 pub fn after(st: &[usize], k: usize, end: usize) -> usize
@@ -22,17 +22,25 @@ pub fn after(st: &[usize], k: usize, end: usize) -> usize
 }
 
 // The first statement of a block that has a name.
-pub fn stated(text: &[u8], st: &[usize], from: usize, end: usize, at: usize, len: usize) -> Found
+pub fn stated(
+    text: &[u8],
+    st: &[usize],
+    from: usize,
+    end: usize,
+    at: usize,
+    len: usize,
+) -> Option<usize>
     ensures { FindsStated text.now st.now from end at len result }
 {
     let mut k = from;
+    // A `while`: the next row is the one after those in the statement's braces, so no range counts it.
     while k < end {
         let place = cells::cell_of(st, statement::WIDTH, k, statement::NAME);
         let size = cells::cell_of(st, statement::WIDTH, k, statement::NAME_LENGTH);
         if parts::same_part(text, at, len, place, size) {
-            return Found::At(k);
+            return Some(k);
         }
         k = after(st, k, end);
     }
-    Found::Nothing
+    None
 }

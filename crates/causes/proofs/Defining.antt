@@ -10,8 +10,8 @@ use borrow.Author.Tests.{eqb-true}
 use Rattle.token.specs.Find.{pick, both}
 use Rattle.token.specs.Words.{same}
 use Rattle.token.proofs.Bytes.{neither_first, neither_second}
-use Rattle.rows.specs.declared.Found.{Found}
-use Rattle.rows.specs.declared.Found.TheVariants.{At, Nothing}
+use Rattle.rows.specs.Found.{Found}
+use Rattle.std.specs.Prelude.{Some, None}
 use Rattle.rows.proofs.Walks.{first, any_of}
 use Rattle.rows.specs.Search.{find_row, find_named, find_from, has_key}
 use Rattle.rows.proofs.Searches.{first_is, first_nothing}
@@ -109,7 +109,7 @@ module _ (s d : List ℕ) (f : File) (K : Situation s f) (e : d ≡ kept_definit
   cells_in j x q h = (definition_cell f d j 0 x e q h (omega arith), definition_cell f d j 2 x e q h (omega arith), definition_cell f d j 3 x e q h (omega arith))
 
   row_at : (front rest : List Entry) (n place : ℕ) → spec_entries f.specs ≡ front ++ rest → n ≡ length front → n ≤ 513
-      → find_row d 19 n 2 place 0 ≡ first (defined_at place) At Nothing 0 front
+      → find_row d 19 n 2 place 0 ≡ first (defined_at place) Some None 0 front
   unfolding find_row has_key defined_at
   row_at front rest n place w k h =
       ap (λ (m : ℕ). find_from (λ j. has_key d (j * 19) 2 place) m 0) k
@@ -128,16 +128,16 @@ module _ (s d : List ℕ) (f : File) (K : Situation s f) (e : d ≡ kept_definit
     goods y m = (entry_facts K (subst (In y) (sym w) (in_front y front (x ∷ rest) m))).facts.name
 
     found : find_named s d 19 (length front) 0 (get_or d (length front * 19 + 0) 0) 2 x.definition.name.place (get_or d (length front * 19 + 3) 0) 0
-        ≡ first (test s x good) At Nothing 0 front
+        ≡ first (test s x good) Some None 0 front
     found =
         let j = length front in
         let c = cells_in j x own h in
         ap₂ (λ (k n : ℕ). find_named s d 19 j 0 k 2 x.definition.name.place n 0) c.0 c.2
         ∙ find_in_definitions f s d front (x ∷ rest) j x.under.place x.definition.name.place x.definition.name.length e w refl (omega arith)
 
-    by_search : (u : Found) → first (test s x good) At Nothing 0 front ≡ u → name_at d 19 2 u ≡ first_defined x.definition.name (under_of x.under.place front)
+    by_search : (u : Found) → first (test s x good) Some None 0 front ≡ u → name_at d 19 2 u ≡ first_defined x.definition.name (under_of x.under.place front)
     unfolding name_at
-    by_search (At i) q =
+    by_search (Some i) q =
         let o = first_is (test s x good) 0 front i q in
         let pl = o.place in
         let a : length front ≡ length (o.front ++ (o.row ∷ o.rest)) = ap (λ (v : List Entry). length v) o.whole in
@@ -151,17 +151,17 @@ module _ (s d : List ℕ) (f : File) (K : Situation s f) (e : d ≡ kept_definit
         (cells_in i o.row n (omega (arith, pl, a, b))).1
         ∙ sym (ap (λ (l : List Entry). first_defined x.definition.name (under_of x.under.place l)) o.whole
         ∙ finds s x good o.front o.row o.rest (λ y m. goods y (subst (In y) (sym o.whole) m)) o.fails o.holds)
-    by_search Nothing q = sym (lacks s x good front goods (first_nothing (test s x good) 0 front q))
+    by_search None q = sym (lacks s x good front goods (first_nothing (test s x good) 0 front q))
 
     like_name : name_at d 19 2 (find_named s d 19 (length front) 0 (get_or d (length front * 19 + 0) 0) 2 x.definition.name.place (get_or d (length front * 19 + 3) 0) 0)
         ≡ first_defined x.definition.name (under_of x.under.place front)
-    like_name = ap (name_at d 19 2) found ∙ by_search (first (test s x good) At Nothing 0 front) refl
+    like_name = ap (name_at d 19 2) found ∙ by_search (first (test s x good) Some None 0 front) refl
 
   module _ (n place : ℕ) (m : n ≡ min (length (spec_entries f.specs)) 513) where
-    by_row : (u : Found) → first (defined_at place) At Nothing 0 (take 513 (spec_entries f.specs)) ≡ u
+    by_row : (u : Found) → first (defined_at place) Some None 0 (take 513 (spec_entries f.specs)) ≡ u
         → like_row s d 19 0 2 place u ≡ defined_first place [] (take 513 (spec_entries f.specs))
     unfolding like_row defined_at
-    by_row (At j) q =
+    by_row (Some j) q =
         let o = first_is (defined_at place) 0 (take 513 (spec_entries f.specs)) j q in
         let pl = o.place in
         let a : length (take 513 (spec_entries f.specs)) ≡ length (o.front ++ (o.row ∷ o.rest)) = ap (λ (v : List Entry). length v) o.whole in
@@ -175,7 +175,7 @@ module _ (s d : List ℕ) (f : File) (K : Situation s f) (e : d ≡ kept_definit
         ap₂ (λ (k l : ℕ). name_at d 19 2 (find_named s d 19 k 0 (get_or d (k * 19 + 0) 0) 2 l (get_or d (k * 19 + 3) 0) 0)) i v
         ∙ like_name o.front o.row (o.rest ++ drop 513 (spec_entries f.specs)) w (omega (arith, a, b, t))
         ∙ sym (ap (defined_first place []) o.whole ∙ first_at place [] o.front o.row o.rest o.fails o.holds)
-    by_row Nothing q = sym (first_none place [] (take 513 (spec_entries f.specs)) (first_nothing (defined_at place) 0 (take 513 (spec_entries f.specs)) q))
+    by_row None q = sym (first_none place [] (take 513 (spec_entries f.specs)) (first_nothing (defined_at place) 0 (take 513 (spec_entries f.specs)) q))
 
     -- What the code finds is the place of the first definition of the scope with the name of the one at the place.
     pub cause_is : first_like s d 19 n 0 2 place ≡ defined_first place [] (take 513 (spec_entries f.specs))
@@ -184,4 +184,4 @@ module _ (s d : List ℕ) (f : File) (K : Situation s f) (e : d ≡ kept_definit
         let t = length-take 513 (spec_entries f.specs) in
         ap (like_row s d 19 0 2 place)
         (row_at (take 513 (spec_entries f.specs)) (drop 513 (spec_entries f.specs)) n place (sym (take-append-drop 513 (spec_entries f.specs))) (omega (arith, m, t)) (omega (arith, m)))
-        ∙ by_row (first (defined_at place) At Nothing 0 (take 513 (spec_entries f.specs))) refl
+        ∙ by_row (first (defined_at place) Some None 0 (take 513 (spec_entries f.specs))) refl

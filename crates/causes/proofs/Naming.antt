@@ -12,8 +12,8 @@ use Rattle.token.specs.Find.{pick, both}
 use Rattle.token.specs.Words.{same}
 use Rattle.token.specs.Tokens.{part_of}
 use Rattle.token.proofs.Bytes.{neither_first, neither_second}
-use Rattle.rows.specs.declared.Found.{Found}
-use Rattle.rows.specs.declared.Found.TheVariants.{At, Nothing}
+use Rattle.rows.specs.Found.{Found}
+use Rattle.std.specs.Prelude.{Some, None}
 use Rattle.rows.proofs.Walks.{first, any_of}
 use Rattle.rows.specs.Search.{find_row, find_named, find_from, is_named, has_key}
 use Rattle.rows.proofs.Searches.{first_is, first_nothing}
@@ -85,7 +85,7 @@ module _ (s p : List ℕ) (f : File) (K : Situation s f) (e : p ≡ kept_parts f
   name_in j x q h = (row_cell_lem 513 f.parts p j 3 x e q h (omega arith), row_cell_lem 513 f.parts p j 4 x e q h (omega arith))
 
   row_at : (front rest : List Object) (n place : ℕ) → f.parts ≡ front ++ rest → n ≡ length front → n ≤ 513
-      → find_row p 10 n 3 place 0 ≡ first (stands_at place) At Nothing 0 front
+      → find_row p 10 n 3 place 0 ≡ first (stands_at place) Some None 0 front
   unfolding find_row has_key stands_at
   row_at front rest n place w k h =
       ap (λ (m : ℕ). find_from (λ j. has_key p (j * 10) 3 place) m 0) k
@@ -94,7 +94,7 @@ module _ (s p : List ℕ) (f : File) (K : Situation s f) (e : p ≡ kept_parts f
       ap (λ (i : ℕ). eqb i place) (name_in (length a) x (nth_front rest w a x b g) (omega arith)).0)
 
   find_by_name : (front rest : List Object) (n key at len : ℕ) → key ≡ 0 → f.parts ≡ front ++ rest → n ≡ length front → n ≤ 513
-      → find_named s p 10 n 5130 key 3 at len 0 ≡ first (is_name s at len) At Nothing 0 front
+      → find_named s p 10 n 5130 key 3 at len 0 ≡ first (is_name s at len) Some None 0 front
   unfolding find_named is_name
   find_by_name front rest n key at len e₀ w k h =
       ap (λ (m : ℕ). find_from (λ j. is_named s p (j * 10) 5130 key 3 4 at len) m 0) k
@@ -104,16 +104,16 @@ module _ (s p : List ℕ) (f : File) (K : Situation s f) (e : p ≡ kept_parts f
       past_cells s p (length a * 10) 5130 key 3 4 at len x.name.place x.name.length z e₀ c.0 c.1)
 
   name_tests : (t : Word) → Good s t → (i : ℕ) (l rest : List Object) → Goods s (object_words (l ++ rest))
-      → first (is_name s t.place t.length) At Nothing i l ≡ first (same_name t) At Nothing i l
+      → first (is_name s t.place t.length) Some None i l ≡ first (same_name t) Some None i l
   unfolding first object_words is_name same_name alike
   name_tests t g i [] rest h = refl
   name_tests t g i (y ∷ l) rest h =
-      ap₂ (λ (b : Bool) (u : Found). pick b (At i) u) (ap₂ same (sym h.1.0.read.bytes) (sym g.read.bytes))
+      ap₂ (λ (b : Bool) (u : Found). pick b (Some i) u) (ap₂ same (sym h.1.0.read.bytes) (sym g.read.bytes))
       (name_tests t g (suc i) l rest (good_back s (statement_words y.statements) (object_words (l ++ rest)) h.1.1))
 
   module _ (front : List Object) (x : Object) (rest : List Object) (w : f.parts ≡ front ++ (x ∷ rest)) (h : length front < 513) where
     found : find_named s p 10 (length front) 5130 (get_or p (length front * 10 + 5130) 0) 3 x.name.place (get_or p (length front * 10 + 4) 0) 0
-        ≡ first (same_name x.name) At Nothing 0 front
+        ≡ first (same_name x.name) Some None 0 front
     found =
         let j = length front in
         let g : Goods s (object_words (front ++ (x ∷ rest))) = subst (λ (os : List Object). Goods s (object_words os)) w (part_good s f (whole K).good) in
@@ -121,9 +121,9 @@ module _ (s p : List ℕ) (f : File) (K : Situation s f) (e : p ≡ kept_parts f
         ∙ find_by_name front (x ∷ rest) j (get_or p (j * 10 + 5130) 0) x.name.place x.name.length (cell_past p (j * 10 + 5130) (omega arith)) w refl (omega arith)
         ∙ name_tests x.name (good_name s front x rest g) 0 front (x ∷ rest) g
 
-    by_search : (u : Found) → first (same_name x.name) At Nothing 0 front ≡ u → name_at p 10 3 u ≡ name_place (first_named x.name front)
+    by_search : (u : Found) → first (same_name x.name) Some None 0 front ≡ u → name_at p 10 3 u ≡ name_place (first_named x.name front)
     unfolding name_at name_place
-    by_search (At i) q =
+    by_search (Some i) q =
         let o = first_is (same_name x.name) 0 front i q in
         let pl = o.place in
         let a : length front ≡ length (o.front ++ (o.row ∷ o.rest)) = ap (λ (v : List Object). length v) o.whole in
@@ -136,16 +136,16 @@ module _ (s p : List ℕ) (f : File) (K : Situation s f) (e : p ≡ kept_parts f
         } in
         (name_in i o.row n (omega (arith, pl, a, b))).0
         ∙ sym (ap name_place (ap (first_named x.name) o.whole ∙ named_at x.name o.front o.row o.rest o.fails o.holds))
-    by_search Nothing q = sym (ap name_place (named_none x.name front (first_nothing (same_name x.name) 0 front q)))
+    by_search None q = sym (ap name_place (named_none x.name front (first_nothing (same_name x.name) 0 front q)))
 
     like_name : name_at p 10 3 (find_named s p 10 (length front) 5130 (get_or p (length front * 10 + 5130) 0) 3 x.name.place (get_or p (length front * 10 + 4) 0) 0)
         ≡ name_place (first_named x.name front)
-    like_name = ap (name_at p 10 3) found ∙ by_search (first (same_name x.name) At Nothing 0 front) refl
+    like_name = ap (name_at p 10 3) found ∙ by_search (first (same_name x.name) Some None 0 front) refl
 
   module _ (n place : ℕ) (m : n ≡ min (length f.parts) 513) where
-    by_row : (u : Found) → first (stands_at place) At Nothing 0 (take 513 f.parts) ≡ u → like_row s p 10 5130 3 place u ≡ named_first place [] (take 513 f.parts)
+    by_row : (u : Found) → first (stands_at place) Some None 0 (take 513 f.parts) ≡ u → like_row s p 10 5130 3 place u ≡ named_first place [] (take 513 f.parts)
     unfolding like_row stands_at
-    by_row (At j) q =
+    by_row (Some j) q =
         let o = first_is (stands_at place) 0 (take 513 f.parts) j q in
         let pl = o.place in
         let a : length (take 513 f.parts) ≡ length (o.front ++ (o.row ∷ o.rest)) = ap (λ (v : List Object). length v) o.whole in
@@ -158,7 +158,7 @@ module _ (s p : List ℕ) (f : File) (K : Situation s f) (e : p ≡ kept_parts f
         ap₂ (λ (k l : ℕ). name_at p 10 3 (find_named s p 10 k 5130 (get_or p (k * 10 + 5130) 0) 3 l (get_or p (k * 10 + 4) 0) 0)) i v
         ∙ like_name o.front o.row (o.rest ++ drop 513 f.parts) w (omega (arith, a, b, t))
         ∙ sym (ap (named_first place []) o.whole ∙ first_at place [] o.front o.row o.rest o.fails o.holds)
-    by_row Nothing q = sym (first_none place [] (take 513 f.parts) (first_nothing (stands_at place) 0 (take 513 f.parts) q))
+    by_row None q = sym (first_none place [] (take 513 f.parts) (first_nothing (stands_at place) 0 (take 513 f.parts) q))
 
     -- What the code finds is the place of the first part with the name of the part at the place.
     pub cause_is : first_like s p 10 n 5130 3 place ≡ named_first place [] (take 513 f.parts)
@@ -166,4 +166,4 @@ module _ (s p : List ℕ) (f : File) (K : Situation s f) (e : p ≡ kept_parts f
     cause_is =
         let t = length-take 513 f.parts in
         ap (like_row s p 10 5130 3 place) (row_at (take 513 f.parts) (drop 513 f.parts) n place (sym (take-append-drop 513 f.parts)) (omega (arith, m, t)) (omega (arith, m)))
-        ∙ by_row (first (stands_at place) At Nothing 0 (take 513 f.parts)) refl
+        ∙ by_row (first (stands_at place) Some None 0 (take 513 f.parts)) refl

@@ -9,7 +9,7 @@ use Rattle.token.specs.Find.{both}
 use Rattle.token.specs.Words.{same}
 use Rattle.token.specs.Tokens.{part_of}
 use Rattle.rows.specs.Search.{has_key, is_named, find_row, find_named}
-use Rattle.rows.specs.declared.Found.TheVariants.{At, Nothing}
+use Rattle.std.specs.Prelude.{Some, None}
 use Rattle.rows.proofs.Searches.{find_stop, find_more, find_end}
 use Rattle.rows.proofs.Starts.{cell_column}
 use Rattle.causes.specs.Firsts.{name_at, like_row, first_like}
@@ -31,7 +31,7 @@ module _ (s t : List ℕ) (w i c k m p n : ℕ) where
 
 -- The first such row.
 module _ (s t : List ℕ) (w n c k m p l i : ℕ) where
-  pub find_here : i < n → is_named s t (i * w) c k m (m + 1) p l ≡ true → find_named s t w n c k m p l i ≡ At i
+  pub find_here : i < n → is_named s t (i * w) c k m (m + 1) p l ≡ true → find_named s t w n c k m p l i ≡ Some i
   unfolding find_named
   find_here h e = find_stop (λ j. is_named s t (j * w) c k m (m + 1) p l) n i h e
 
@@ -39,27 +39,27 @@ module _ (s t : List ℕ) (w n c k m p l i : ℕ) where
   unfolding find_named
   find_on h e = find_more (λ j. is_named s t (j * w) c k m (m + 1) p l) n i h e
 
-  pub find_none : n ≤ i → find_named s t w n c k m p l i ≡ Nothing
+  pub find_none : n ≤ i → find_named s t w n c k m p l i ≡ None
   unfolding find_named
   find_none h = find_end (λ j. is_named s t (j * w) c k m (m + 1) p l) n i h
 
 -- The first row like the one whose name stands at p.
 module _ (s t : List ℕ) (w n c m p : ℕ) where
-  pub like_none : find_row t w n m p 0 ≡ Nothing → 0 ≡ first_like s t w n c m p
+  pub like_none : find_row t w n m p 0 ≡ None → 0 ≡ first_like s t w n c m p
   unfolding first_like like_row
   like_none e = sym (ap (like_row s t w c m p) e)
 
-  module _ (j k m2 l : ℕ) (e : find_row t w n m p 0 ≡ At j) (ek : k ≡ get_or t (j * w + c) 0) (em : m2 ≡ min (length t) (m + 1)) (el : l ≡ get_or t (j * w + m2) 0) where
+  module _ (j k m2 l : ℕ) (e : find_row t w n m p 0 ≡ Some j) (ek : k ≡ get_or t (j * w + c) 0) (em : m2 ≡ min (length t) (m + 1)) (el : l ≡ get_or t (j * w + m2) 0) where
     like_row_lem : name_at t w m (find_named s t w j c k m p l 0) ≡ first_like s t w n c m p
     unfolding first_like like_row
     like_row_lem =
         let el' : l ≡ get_or t (j * w + (m + 1)) 0 = el ∙ ap (λ (i : ℕ). get_or t (j * w + i) 0) em ∙ cell_column t (j * w) (m + 1) in
         ap₂ (λ (a b : ℕ). name_at t w m (find_named s t w j c a m p b 0)) ek el' ∙ sym (ap (like_row s t w c m p) e)
 
-    pub like_first : find_named s t w j c k m p l 0 ≡ Nothing → 0 ≡ first_like s t w n c m p
+    pub like_first : find_named s t w j c k m p l 0 ≡ None → 0 ≡ first_like s t w n c m p
     unfolding name_at
     like_first z = sym (ap (name_at t w m) z) ∙ like_row_lem
 
-    pub like_found : (i x : ℕ) → find_named s t w j c k m p l 0 ≡ At i → x ≡ get_or t (i * w + m) 0 → x ≡ first_like s t w n c m p
+    pub like_found : (i x : ℕ) → find_named s t w j c k m p l 0 ≡ Some i → x ≡ get_or t (i * w + m) 0 → x ≡ first_like s t w n c m p
     unfolding name_at
     like_found i x z g = g ∙ sym (ap (name_at t w m) z) ∙ like_row_lem

@@ -1,14 +1,17 @@
 -- What is told of a text that is refused: its rows are those of its syntax. Assumes nothing.
 use mathlib.Core.Path.{◌≡◌, refl, sym, ◌∙◌, ap}
 use mathlib.Core.List.{List, []}
+use mathlib.Core.Bool.{false≢true}
 use Prim.Native.Nat.{ℕ, ◌≤◌, min}
 use native.Mathlib.Omega.{arith}
-use native.Mathlib.Decide.{ℕ_discrete}
 use lib.ListN.{length, take, replicate, length-replicate}
-use Rattle.grammar.specs.Stage.{number_of}
+use Rattle.std.specs.Prelude.{Some, None, is_some}
+use Rattle.rows.specs.declared.Fault.{Fault}
+use Rattle.rows.specs.Order.{MaybeFault}
 use Rattle.grammar.specs.Readers.{answer_of}
-use Rattle.grammar.specs.declared.Answer.{Answer as GrammarAnswer}
-use Rattle.grammar.specs.declared.Answer.TheVariants.{Passes, NoToken, NotAdmitted, TooDeep}
+use Rattle.grammar.specs.Answered.{Answer as GrammarAnswer}
+use Rattle.std.specs.Prelude.{Ok, Err}
+use Rattle.grammar.specs.declared.Refusal.TheVariants.{NoToken, NotAdmitted, TooDeep}
 use Rattle.meaning.specs.Syntax.{File}
 use Rattle.meaning.specs.Answers.{Answer, refused}
 use Rattle.meaning.specs.Reading.{Parsed, parsed, parse, reading}
@@ -23,12 +26,12 @@ use Rattle.causes.specs.Causes.{named_first, TellsNamed, defined_first, TellsDef
 use Rattle.causes.proofs.Naming.{cause_is}
 use Rattle.causes.proofs.Defining.{cause_is as definition_is}
 
-low_number : (a : GrammarAnswer) → number_of a ≤ 5
-unfolding number_of
-low_number Passes = omega arith
-low_number (NoToken p) = omega arith
-low_number (NotAdmitted p) = omega arith
-low_number (TooDeep p) = omega arith
+low_number : (a : GrammarAnswer) (x : Fault) → grammar_fault a ≡ Some x → x.number ≤ 5
+unfolding grammar_fault
+low_number (Ok _) x e = absurd (false≢true (ap is_some e))
+low_number (Err (NoToken p)) x e = let z : record { number = 3; place = p } ≡ x = cc in let k = ap (λ (y : Fault). y.number) z in omega (arith, k)
+low_number (Err (NotAdmitted p)) x e = let z : record { number = 4; place = p } ≡ x = cc in let k = ap (λ (y : Fault). y.number) z in omega (arith, k)
+low_number (Err (TooDeep p)) x e = let z : record { number = 5; place = p } ≡ x = cc in let k = ap (λ (y : Fault). y.number) z in omega (arith, k)
 
 same_number : (n p m q : ℕ) → ◌≡◌ {A = Answer} (refused n p) (refused m q) → n ≡ m
 same_number n p m q e = cc
@@ -38,16 +41,15 @@ same_file f g e = cc
 
 module _ (s : List ℕ) (y : Rooms) (w : Walked) (h : Whole s blank y w) (l : length s ≤ 65535) where
   -- A text that is refused with more than 5 passes the grammar stage,
-  passed : (n p : ℕ) → 6 ≤ n → reading s ≡ refused n p → number_of (answer_of w.look) ≡ 0
-  unfolding grammar_fault
-  passed n p k e = by (ℕ_discrete (number_of (answer_of w.look)) 0)
+  passed : (n p : ℕ) → 6 ≤ n → reading s ≡ refused n p → grammar_fault (answer_of w.look) ≡ None
+  passed n p k e = by (grammar_fault (answer_of w.look)) refl
     where
-      by : Dec (number_of (answer_of w.look) ≡ 0) → number_of (answer_of w.look) ≡ 0
-      by (yes z) = z
-      by (no z) =
-          let g = refused_early s blank y w h l (grammar_fault (answer_of w.look)) refl z in
+      by : (o : MaybeFault) → grammar_fault (answer_of w.look) ≡ o → grammar_fault (answer_of w.look) ≡ None
+      by None q = q
+      by (Some x) q =
+          let g = refused_early s blank y w h l x q in
           let m = same_number _ _ _ _ (sym g ∙ e) in
-          absurd (omega (arith, low_number (answer_of w.look), m))
+          absurd (let low = low_number (answer_of w.look) x q in omega (arith, low, m, k))
 
   -- and its syntax is that of the rows.
   file_is : (a : Arrived s y w) (f : File) → parse s ≡ parsed f → f ≡ a.file

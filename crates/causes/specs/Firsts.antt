@@ -2,18 +2,18 @@
 use Rattle.std.specs.Prelude.{ℕ, ◌+◌, List}
 use Rattle.rows.specs.Table.{cell_of}
 use Rattle.rows.specs.Search.{find_row, find_named}
-use Rattle.rows.specs.declared.Found.{Found}
-use Rattle.rows.specs.declared.Found.TheVariants.{At, Nothing}
+use Rattle.rows.specs.Found.{Found}
+use Rattle.std.specs.Prelude.{Some, None}
 
 -- The place in column m of the row that was found, 0 for none.
 unfoldable pub name_at : List ℕ → (w m : ℕ) → Found → ℕ
-name_at t w m (At i) = cell_of t w i m
-name_at t w m Nothing = 0
+name_at t w m (Some i) = cell_of t w i m
+name_at t w m None = 0
 
 -- Of the row j, whose name stands at p: the first row before it with the same in column c and the same name.
 unfoldable pub like_row : (s t : List ℕ) → (w c m p : ℕ) → Found → ℕ
-like_row s t w c m p (At j) = name_at t w m (find_named s t w j c (cell_of t w j c) m p (cell_of t w j (m + 1)) 0)
-like_row s t w c m p Nothing = 0
+like_row s t w c m p (Some j) = name_at t w m (find_named s t w j c (cell_of t w j c) m p (cell_of t w j (m + 1)) 0)
+like_row s t w c m p None = 0
 
 -- Of n rows, the row whose name stands at p.
 unfoldable pub first_like : (s t : List ℕ) → (w n c m p : ℕ) → ℕ

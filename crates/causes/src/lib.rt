@@ -8,7 +8,7 @@ ghost use Rattle.causes.specs.Firsts.{first_like};
 ghost use Rattle.causes.specs.Causes.{TellsDefined, TellsNamed};
 
 use layout::{definition, enumerator, object, part, statement};
-use rows::{Found, cells, finding, parts};
+use rows::{cells, finding, parts};
 
 // Whether the cell of row i in a column is the key, and its name the same bytes as the part of the text.
 fn is_named(
@@ -44,17 +44,15 @@ fn find_named(
     name: usize,
     at: usize,
     len: usize,
-) -> Found
+) -> Option<usize>
     ensures { result ≡ find_named text.now t.now width rows column key name at len 0 }
 {
-    let mut i = 0;
-    while i < rows {
+    for i in 0..rows {
         if is_named(text, t, width, i, column, key, name, at, len) {
-            return Found::At(i);
+            return Some(i);
         }
-        i += 1;
     }
-    Found::Nothing
+    None
 }
 
 // The place of the name of the first row that has the key and the name of the row whose name stands at a place, and is before it; 0 where there is none.
@@ -69,13 +67,13 @@ fn first_like(
 ) -> usize
     ensures { result ≡ first_like text.now t.now width rows column name place }
 {
-    let Found::At(j) = finding::find_row(t, width, rows, name, place, 0) else {
+    let Some(j) = finding::find_row(t, width, rows, name, place, 0) else {
         return 0;
     };
     let key = cells::cell_of(t, width, j, column);
     let second = cells::place_after(t.len(), name, 1);
     let len = cells::cell_of(t, width, j, second);
-    let Found::At(i) = find_named(text, t, width, j, column, key, name, place, len) else {
+    let Some(i) = find_named(text, t, width, j, column, key, name, place, len) else {
         return 0;
     };
     cells::cell_of(t, width, i, name)

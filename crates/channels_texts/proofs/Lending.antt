@@ -12,6 +12,7 @@ use Rattle.token.specs.Words.{same}
 use Rattle.token.specs.Tokens.{bytes_between}
 use Rattle.token.proofs.Find.{by_test}
 use Rattle.channels.proofs.Exchange.{part_is}
+use Rattle.sources.proofs.Numberings.{same_number, same_from, same_to}
 use Rattle.sources.specs.Texts.{fitting, told_well, find_from, find_name, include_by, include_of, event_by, event_at}
 use Rattle.sources.specs.Numbering.{span_from, span_of}
 use Rattle.sources.specs.Lines.{stop_at}
@@ -19,8 +20,7 @@ use Rattle.sources.specs.Expanding.{main_text}
 use Rattle.sources.specs.declared.Line.{Line}
 use Rattle.sources.specs.declared.Stop.{Stop}
 use Rattle.sources.specs.declared.Stop.TheVariants.{At, Line as AtLine}
-use Rattle.sources.specs.declared.Hit.{Hit}
-use Rattle.sources.specs.declared.Hit.TheVariants.{Present, Absent}
+use Rattle.std.specs.Prelude.{Option, Some, None}
 use Rattle.sources.specs.declared.Include.{Include}
 use Rattle.sources.specs.declared.Event.{Event}
 use Rattle.sources.specs.declared.Event.TheVariants.{Stop as Stops, Include as Includes}
@@ -39,17 +39,8 @@ pub told_same : (b k l : List ℕ) → length b ≡ length k → told_well b l �
 unfolding told_well
 told_same b k l e = ap (λ z. both (leb 1 (length l)) (both (leb (length l) 16) z)) (fitting_same b k l 0 e)
 
-no_hit : {A : Type 0} {n f e : ℕ} → Absent ≡ Present n f e → A
+no_hit : {A : Type 0} {n f e : ℕ} → ◌≡◌ {A = Option (ℕ × ℕ × ℕ)} None (Some (n, f, e)) → A
 no_hit h = absurd (let z : ◌≡◌ {A = ℕ} 0 1 = cc in omega arith)
-
-hit_number : {n f e m g h : ℕ} → Present n f e ≡ Present m g h → n ≡ m
-hit_number e = cc
-
-pub hit_from : {n f e m g h : ℕ} → Present n f e ≡ Present m g h → f ≡ g
-hit_from e = cc
-
-pub hit_to : {n f e m g h : ℕ} → Present n f e ≡ Present m g h → e ≡ h
-hit_to e = cc
 
 module _ (P S T Q : List ℕ) (as_long : length S ≡ length T) where
   abbrev pub b : List ℕ
@@ -99,54 +90,54 @@ module _ (P S T Q : List ℕ) (as_long : length S ≡ length T) where
   names_above [] n a w h = refl
   names_above (x ∷ []) n a w h = refl
   names_above (x ∷ t ∷ l) n a w h =
-      ap₂ (λ (z : List ℕ) (r : Hit). pick (same z w) (Present n (a + x) (a + x + t)) r) (above a (a + x) h) (names_above l (suc n) (a + x + t) w (omega arith))
+      ap₂ (λ (z : List ℕ) (r : Option (ℕ × ℕ × ℕ)). pick (same z w) (Some (n, a + x, a + x + t)) r) (above a (a + x) h) (names_above l (suc n) (a + x + t) w (omega arith))
 
-  texts_above : (i : ℕ) (l : List ℕ) (n a : ℕ) (w : List ℕ) (j f e : ℕ) → length P + length S ≤ a → find_from b n a l w ≡ Present j f e → Region i j f e
+  texts_above : (i : ℕ) (l : List ℕ) (n a : ℕ) (w : List ℕ) (j f e : ℕ) → length P + length S ≤ a → find_from b n a l w ≡ Some (j, f, e) → Region i j f e
   unfolding find_from
   texts_above i [] n a w j f e h g = no_hit g
   texts_above i (x ∷ []) n a w j f e h g = no_hit g
   texts_above i (x ∷ t ∷ l) n a w j f e h g =
-      by_test (λ (r : Hit). r ≡ Present j f e → Region i j f e) (same (bytes_between b a (a + x)) w) (Present n (a + x) (a + x + t)) (find_from b (suc n) (a + x + t) l w)
-      (λ _ u. let z = hit_from u in is_above (omega arith)) (λ _ u. texts_above i l (suc n) (a + x + t) w j f e (omega arith) u) g
+      by_test (λ (r : Option (ℕ × ℕ × ℕ)). r ≡ Some (j, f, e) → Region i j f e) (same (bytes_between b a (a + x)) w) (Some (n, a + x, a + x + t)) (find_from b (suc n) (a + x + t) l w)
+      (λ _ u. let z = same_from u in is_above (omega arith)) (λ _ u. texts_above i l (suc n) (a + x + t) w j f e (omega arith) u) g
 
-  span_low : (l : List ℕ) (n a i f e : ℕ) → span_from n a l i ≡ Present n f e → a ≤ f
+  span_low : (l : List ℕ) (n a i f e : ℕ) → span_from n a l i ≡ Some (n, f, e) → a ≤ f
   unfolding span_from
   span_low [] n a i f e h = no_hit h
   span_low (x ∷ []) n a i f e h = no_hit h
-  span_low (x ∷ t ∷ l) n a zero f e h = let z = hit_from h in omega arith
+  span_low (x ∷ t ∷ l) n a zero f e h = let z = same_from h in omega arith
   span_low (x ∷ t ∷ l) n a (suc i) f e h = let z = span_low l n (a + x + t) i f e h in omega arith
 
-  names_same : (l : List ℕ) (n m a i : ℕ) (w : List ℕ) → span_from n a l i ≡ Present n (length P) (length P + length S) → find_from b m a l w ≡ find_from k m a l w
+  names_same : (l : List ℕ) (n m a i : ℕ) (w : List ℕ) → span_from n a l i ≡ Some (n, length P, length P + length S) → find_from b m a l w ≡ find_from k m a l w
   unfolding find_from span_from
   names_same [] n m a i w h = no_hit h
   names_same (x ∷ []) n m a i w h = no_hit h
   names_same (x ∷ t ∷ l) n m a zero w h =
-      let y = hit_from h in
-      let z = hit_to h in
-      ap₂ (λ (u : List ℕ) (r : Hit). pick (same u w) (Present m (a + x) (a + x + t)) r) (below a (a + x) (omega arith) (omega arith)) (names_above l (suc m) (a + x + t) w (omega arith))
+      let y = same_from h in
+      let z = same_to h in
+      ap₂ (λ (u : List ℕ) (r : Option (ℕ × ℕ × ℕ)). pick (same u w) (Some (m, a + x, a + x + t)) r) (below a (a + x) (omega arith) (omega arith)) (names_above l (suc m) (a + x + t) w (omega arith))
   names_same (x ∷ t ∷ l) n m a (suc i) w h =
       let z = span_low l n (a + x + t) i (length P) (length P + length S) h in
-      ap₂ (λ (u : List ℕ) (r : Hit). pick (same u w) (Present m (a + x) (a + x + t)) r) (below a (a + x) (omega arith) (omega arith)) (names_same l n (suc m) (a + x + t) i w h)
+      ap₂ (λ (u : List ℕ) (r : Option (ℕ × ℕ × ℕ)). pick (same u w) (Some (m, a + x, a + x + t)) r) (below a (a + x) (omega arith) (omega arith)) (names_same l n (suc m) (a + x + t) i w h)
 
-  texts_there : (l : List ℕ) (n m a i : ℕ) (w : List ℕ) (j f e : ℕ) → m + i ≡ n → span_from n a l i ≡ Present n (length P) (length P + length S) → find_from b m a l w ≡ Present j f e → Region n j f e
+  texts_there : (l : List ℕ) (n m a i : ℕ) (w : List ℕ) (j f e : ℕ) → m + i ≡ n → span_from n a l i ≡ Some (n, length P, length P + length S) → find_from b m a l w ≡ Some (j, f, e) → Region n j f e
   unfolding find_from span_from
   texts_there [] n m a i w j f e c h g = no_hit g
   texts_there (x ∷ []) n m a i w j f e c h g = no_hit g
   texts_there (x ∷ t ∷ l) n m a zero w j f e c h g =
-      let y = hit_from h in
-      let z = hit_to h in
-      by_test (λ (r : Hit). r ≡ Present j f e → Region n j f e) (same (bytes_between b a (a + x)) w) (Present m (a + x) (a + x + t)) (find_from b (suc m) (a + x + t) l w)
-      (λ _ u. let d = hit_number u in is_own (omega arith) (sym (hit_from u) ∙ y) (sym (hit_to u) ∙ z)) (λ _ u. texts_above n l (suc m) (a + x + t) w j f e (omega arith) u) g
+      let y = same_from h in
+      let z = same_to h in
+      by_test (λ (r : Option (ℕ × ℕ × ℕ)). r ≡ Some (j, f, e) → Region n j f e) (same (bytes_between b a (a + x)) w) (Some (m, a + x, a + x + t)) (find_from b (suc m) (a + x + t) l w)
+      (λ _ u. let d = same_number u in is_own (omega arith) (sym (same_from u) ∙ y) (sym (same_to u) ∙ z)) (λ _ u. texts_above n l (suc m) (a + x + t) w j f e (omega arith) u) g
   texts_there (x ∷ t ∷ l) n m a (suc i) w j f e c h g =
       let z = span_low l n (a + x + t) i (length P) (length P + length S) h in
-      by_test (λ (r : Hit). r ≡ Present j f e → Region n j f e) (same (bytes_between b a (a + x)) w) (Present m (a + x) (a + x + t)) (find_from b (suc m) (a + x + t) l w)
-      (λ _ u. let q = hit_from u in let d = hit_to u in is_below (omega arith) (omega arith)) (λ _ u. texts_there l n (suc m) (a + x + t) i w j f e (omega arith) h u) g
+      by_test (λ (r : Option (ℕ × ℕ × ℕ)). r ≡ Some (j, f, e) → Region n j f e) (same (bytes_between b a (a + x)) w) (Some (m, a + x, a + x + t)) (find_from b (suc m) (a + x + t) l w)
+      (λ _ u. let q = same_from u in let d = same_to u in is_below (omega arith) (omega arith)) (λ _ u. texts_there l n (suc m) (a + x + t) i w j f e (omega arith) h u) g
 
-  main_there : (l : List ℕ) (n i : ℕ) → i ≡ n → span_from n 0 l i ≡ Present n (length P) (length P + length S) → Region n 0 (get_or l 0 0) (get_or l 0 0 + get_or l 1 0)
+  main_there : (l : List ℕ) (n i : ℕ) → i ≡ n → span_from n 0 l i ≡ Some (n, length P, length P + length S) → Region n 0 (get_or l 0 0) (get_or l 0 0 + get_or l 1 0)
   unfolding span_from
   main_there [] n i c h = no_hit h
   main_there (x ∷ []) n i c h = no_hit h
-  main_there (x ∷ t ∷ l) n zero c h = let y = hit_from h in let z = hit_to h in is_own c (let u : x ≡ length P = omega arith in u) (let u : x + t ≡ length P + length S = omega arith in u)
+  main_there (x ∷ t ∷ l) n zero c h = let y = same_from h in let z = same_to h in is_own c (let u : x ≡ length P = omega arith in u) (let u : x + t ≡ length P + length S = omega arith in u)
   main_there (x ∷ t ∷ l) n (suc i) c h = let z = span_low l n (0 + x + t) i (length P) (length P + length S) h in is_below (let u : x ≤ x + t = omega arith in u) (let u : x + t ≤ length P = omega arith in u)
 
   module _ (l : List ℕ) (n : ℕ) (is : IsText P S l n) where
@@ -163,15 +154,15 @@ module _ (P S T Q : List ℕ) (as_long : length S ≡ length T) where
     event_same s o (At m q) = refl
     event_same s o (AtLine i) = include_same s s o i refl
 
-    include_region : (o : List ℕ) (i : Line) (h : Hit) (w : List ℕ) → find_name b l w ≡ h → (j : Include) → include_by o i h ≡ Includes j → Region n j.number j.from j.to
+    include_region : (o : List ℕ) (i : Line) (h : Option (ℕ × ℕ × ℕ)) (w : List ℕ) → find_name b l w ≡ h → (j : Include) → include_by o i h ≡ Includes j → Region n j.number j.from j.to
     unfolding find_name span_of
-    include_region o i (Present m f e) w g j u =
+    include_region o i (Some (m, f, e)) w g j u =
         by_test (λ (x : Event). x ≡ Includes j → Region n j.number j.from j.to) (eqb (get_or o m 0) 1) (Stops 27 i.hash) _
         (λ _ v. absurd (let z : ◌≡◌ {A = ℕ} 0 1 = cc in omega arith))
         (λ _ v.
         let z : record { number = m; from = f; to = e; hash = i.hash; start = i.start; after = i.after } ≡ j = cc in
         subst (λ (y : Include). Region n y.number y.from y.to) z (texts_there l n 0 0 n w m f e (let q : 0 + n ≡ n = omega arith in q) is g)) u
-    include_region o i Absent w g j u = absurd (let z : ◌≡◌ {A = ℕ} 0 1 = cc in omega arith)
+    include_region o i None w g j u = absurd (let z : ◌≡◌ {A = ℕ} 0 1 = cc in omega arith)
 
     -- Where an included text stands.
     pub event_region : (s o : List ℕ) (x : Stop) (j : Include) → event_by b l s o x ≡ Includes j → Region n j.number j.from j.to
@@ -190,14 +181,14 @@ pub record FromLine (s : List ℕ) (x : Stop) (j : Include) : Type 0 where
   pub start : j.start ≡ line.start
   pub after : j.after ≡ line.after
 
-line_of : (o : List ℕ) (i : Line) (h : Hit) (j : Include) → include_by o i h ≡ Includes j → (j.start ≡ i.start) × (j.after ≡ i.after)
-line_of o i (Present m f e) j u =
+line_of : (o : List ℕ) (i : Line) (h : Option (ℕ × ℕ × ℕ)) (j : Include) → include_by o i h ≡ Includes j → (j.start ≡ i.start) × (j.after ≡ i.after)
+line_of o i (Some (m, f, e)) j u =
     by_test (λ (x : Event). x ≡ Includes j → (j.start ≡ i.start) × (j.after ≡ i.after)) (eqb (get_or o m 0) 1) (Stops 27 i.hash) _
     (λ _ v. absurd (let z : ◌≡◌ {A = ℕ} 0 1 = cc in omega arith))
     (λ _ v.
     let z : j ≡ record { number = m; from = f; to = e; hash = i.hash; start = i.start; after = i.after } = cc in
     (ap (λ (y : Include). y.start) z, ap (λ (y : Include). y.after) z)) u
-line_of o i Absent j u = absurd (let z : ◌≡◌ {A = ℕ} 0 1 = cc in omega arith)
+line_of o i None j u = absurd (let z : ◌≡◌ {A = ℕ} 0 1 = cc in omega arith)
 
 pub from_line : (b l s o : List ℕ) (x : Stop) (j : Include) → event_by b l s o x ≡ Includes j → FromLine s x j
 unfolding include_of
@@ -205,11 +196,11 @@ from_line b l s o (At m q) j e = absurd (let z : ◌≡◌ {A = ℕ} 0 1 = cc in
 from_line b l s o (AtLine i) j e = let r = line_of o i (find_name b l (bytes_between s i.from i.to)) j e in record { line = i; stops = refl; start = r.0; after = r.1 }
 
 -- An end without a fault is the end.
-faults : (o : List ℕ) (i : Line) (h : Hit) (n q : ℕ) → include_by o i h ≡ Stops n q → n ≡ 0 → ⊥
-faults o i (Present m f e) n q u g =
+faults : (o : List ℕ) (i : Line) (h : Option (ℕ × ℕ × ℕ)) (n q : ℕ) → include_by o i h ≡ Stops n q → n ≡ 0 → ⊥
+faults o i (Some (m, f, e)) n q u g =
     by_test (λ (x : Event). x ≡ Stops n q → ⊥) (eqb (get_or o m 0) 1) (Stops 27 i.hash) _ (λ _ v. let z : ◌≡◌ {A = ℕ} 27 n = cc in omega arith)
     (λ _ v. let z : ◌≡◌ {A = ℕ} 0 1 = cc in omega arith) u
-faults o i Absent n q u g = let z : ◌≡◌ {A = ℕ} 28 n = cc in omega arith
+faults o i None n q u g = let z : ◌≡◌ {A = ℕ} 28 n = cc in omega arith
 
 pub end_only : (b l s o : List ℕ) (x : Stop) (n q : ℕ) → event_by b l s o x ≡ Stops n q → n ≡ 0 → x ≡ At n q
 unfolding include_of

@@ -22,13 +22,13 @@ use Rattle.sources.specs.Expanding.{Piece as Expanded, up_from, origin, onto, on
 use Rattle.sources.specs.declared.Line.{Line}
 use Rattle.sources.specs.declared.Stop.{Stop}
 use Rattle.sources.specs.declared.Stop.TheVariants.{At as EndAt, Line as AtLine}
-use Rattle.sources.specs.declared.Hit.TheVariants.{Present}
 use Rattle.sources.specs.declared.Include.{Include}
 use Rattle.sources.specs.declared.Event.TheVariants.{Stop as Stops, Include as Includes}
+use Rattle.std.specs.Prelude.{Option, Some}
 use Rattle.sources.proofs.Singles.{split}
 use Rattle.sources.proofs.Stops.{StopOk, stop_ok}
 use Rattle.sources.proofs.Events.{IncludeFits, EventOk, event_ok}
-use Rattle.sources.proofs.Numberings.{span_ok}
+use Rattle.sources.proofs.Numberings.{span_ok, same_from, same_to}
 use Rattle.sources.proofs.Notings.{event_number, span_length}
 use Rattle.sources.proofs.Wholes.{main_span}
 use Rattle.sources_laws.specs.Lexings.{EndsAs}
@@ -40,7 +40,7 @@ use Rattle.including.proofs.Expanding.{expansions}
 use Rattle.channels.proofs.Exchange.{part_is}
 use Rattle.channels_texts.specs.Lent.{InText, IsText}
 use Rattle.channels_texts.proofs.Passing.{alike, Pieces, pieces}
-use Rattle.channels_texts.proofs.Lending.{hit_from, hit_to, from_line, end_only}
+use Rattle.channels_texts.proofs.Lending.{from_line, end_only}
 use Rattle.channels_texts.proofs.Expanding.{Leads, reached, leads, leads_first, up_long, begins_own, by_v, v_long, S-long, parts_of, start_high, z_inside, x_some}
 
 -- Places ---------------------------------------------------------------------------------------------------------------------------------------
@@ -177,7 +177,7 @@ same_origin : (j u n w : ℕ) → u ≤ 65535 → w ≤ 65535 → origin j u ≡
 unfolding origin
 same_origin j u n w h k e = (omega arith, omega arith)
 
-include_span : (b l s o : List ℕ) (p : ℕ) (i : Include) → event_at b l s o p ≡ Includes i → span_of l i.number ≡ Present i.number i.from i.to
+include_span : (b l s o : List ℕ) (p : ℕ) (i : Include) → event_at b l s o p ≡ Includes i → span_of l i.number ≡ Some (i.number, i.from, i.to)
 include_span b l s o p i e = rw e at (event_number b l s o p)
 
 tail_is : (s : List ℕ) (p : ℕ) → drop p s ≡ bytes_between s p (length s)
@@ -208,12 +208,12 @@ module _ (P a x m y c Q l : List ℕ) (n : ℕ) (told : told_well (P ++ ((a ++ (
     short : length s ≤ 65535
     inside : p ≤ length s
 
-  text_told : (j f e : ℕ) → span_of l j ≡ Present j f e → Told j (bytes_between b f e) 0
+  text_told : (j f e : ℕ) → span_of l j ≡ Some (j, f, e) → Told j (bytes_between b f e) 0
   text_told j f e h =
       record {
         known = λ d.
-            let w : Present j f e ≡ Present n (length P) (length P + length S) = sym h ∙ ap (span_of l) d ∙ is in
-            to_come (ap₂ (bytes_between b) (hit_from w) (hit_to w) ∙ part_is P S Q (length P) (length P + length S) refl refl) (leads_first S i.from i.goes_on);
+            let w : ◌≡◌ {A = Option (ℕ × ℕ × ℕ)} (Some (j, f, e)) (Some (n, length P, length P + length S)) = sym h ∙ ap (span_of l) d ∙ is in
+            to_come (ap₂ (bytes_between b) (same_from w) (same_to w) ∙ part_is P S Q (length P) (length P + length S) refl refl) (leads_first S i.from i.goes_on);
         short = span_length b l j j f e told h;
         inside = omega arith;
       }

@@ -25,8 +25,7 @@ use Rattle.locality.proofs.Shift.{moved, moved_step, step_shift}
 use Rattle.locality.proofs.Front.{Same, find_is, gap_front}
 use Rattle.locality.proofs.Join.{found_ends, rest_ends, step_longer, step_shorter}
 use Rattle.sources.specs.Lines.{line_start, named, is_end, whole_to, after_line, line_by, line_of, hash_at, stop_at}
-use Rattle.sources.specs.declared.Name.{Name}
-use Rattle.sources.specs.declared.Name.TheVariants.{Is, Not}
+use Rattle.std.specs.Prelude.{Option, Some, None}
 use Rattle.sources.specs.declared.Line.{Line}
 use Rattle.sources.specs.declared.Stop.{Stop}
 use Rattle.sources.specs.declared.Stop.TheVariants.{At, Line as AtLine}
@@ -39,17 +38,17 @@ use Rattle.sources_laws.proofs.Outcomes.{Outcome, at_end, at_bad, outcome}
 -- Lines ----------------------------------------------------------------------------------------------------------------------------------------
 
 -- The line of the `#` at q that begins at L, where T stands before it and N on it, and the text goes on at Z.
-by_name : ℕ → ℕ → ℕ → Name → Stop
-by_name q L Z (Is f t) = AtLine (record { hash = q; start = L; from = L + f; to = L + t; after = Z })
-by_name q L Z Not = At 29 q
+by_name : ℕ → ℕ → ℕ → Option (ℕ × ℕ) → Stop
+by_name q L Z (Some (f, t)) = AtLine (record { hash = q; start = L; from = L + f; to = L + t; after = Z })
+by_name q L Z None = At 29 q
 
 by_line : (p q L : ℕ) (T N : List ℕ) (Z : ℕ) → Stop
 by_line p q L T N Z = pick (both (leb p L) (whole_to T p)) (by_name q L Z (named N (q - L))) (At 29 q)
 
-name_is : (s : List ℕ) (q L E : ℕ) (n : Name) → line_by s q L E n ≡ by_name q L (after_line s E) n
+name_is : (s : List ℕ) (q L E : ℕ) (n : Option (ℕ × ℕ)) → line_by s q L E n ≡ by_name q L (after_line s E) n
 unfolding by_name
-name_is s q L E (Is f t) = refl
-name_is s q L E Not = refl
+name_is s q L E (Some (f, t)) = refl
+name_is s q L E None = refl
 
 line_is : (s : List ℕ) (p q L E : ℕ) → line_start s q ≡ L → find_byte 10 s q ≡ E → line_of s p q ≡ by_line p q L (take L s) (bytes_between s L E) (after_line s E)
 unfolding line_of by_line
@@ -138,13 +137,13 @@ module _ (h r : List ℕ) where
     feed : find_byte 10 s q < length h
     own : line_of h p q ≡ AtLine i
 
-  after_by : (q E L : ℕ) (n : Name) (i : Line) → E ≤ length s → line_by s q L E n ≡ AtLine i → i.after ≤ length h → length h < length s → E < length h
+  after_by : (q E L : ℕ) (n : Option (ℕ × ℕ)) (i : Line) → E ≤ length s → line_by s q L E n ≡ AtLine i → i.after ≤ length h → length h < length s → E < length h
   unfolding after_line
-  after_by q E L (Is f t) i k e a l =
+  after_by q E L (Some (f, t)) i k e a l =
       let z : record { hash = q; start = L; from = L + f; to = L + t; after = after_line s E } ≡ i = cc in
       let y : after_line s E ≡ i.after = ap (λ (j : Line). j.after) z in
       by_test (λ (n : ℕ). n ≡ i.after → E < length h) (ltb E (length s)) (E + 1) E (λ _ w. omega arith) (λ b w. let c = ltb-false E (length s) b in omega arith) y
-  after_by q E L Not i k e a l = absurd (let z : ◌≡◌ {A = ℕ} 0 1 = cc in omega arith)
+  after_by q E L None i k e a l = absurd (let z : ◌≡◌ {A = ℕ} 0 1 = cc in omega arith)
 
   line_feed : (p q : ℕ) (i : Line) → q ≤ length s → line_of s p q ≡ AtLine i → i.after ≤ length h → length h < length s → find_byte 10 s q < length h
   unfolding line_of
@@ -254,13 +253,13 @@ line_from s p q i f =
     (line_by s q (line_start s q) (find_byte 10 s q) (named (bytes_between s (line_start s q) (find_byte 10 s q)) (q - line_start s q))) (At 29 q)
     (λ _ g. by (named (bytes_between s (line_start s q) (find_byte 10 s q)) (q - line_start s q)) g) (λ _ g. absurd (let z : ◌≡◌ {A = ℕ} 0 1 = cc in omega arith)) f
   where
-    by : (n : Name) → line_by s q (line_start s q) (find_byte 10 s q) n ≡ AtLine i → i.start ≤ i.from
-    by (Is f t) g =
+    by : (n : Option (ℕ × ℕ)) → line_by s q (line_start s q) (find_byte 10 s q) n ≡ AtLine i → i.start ≤ i.from
+    by (Some (f, t)) g =
         let z : record { hash = q; start = line_start s q; from = line_start s q + f; to = line_start s q + t; after = after_line s (find_byte 10 s q) } ≡ i = cc in
         let a : line_start s q ≡ i.start = ap (λ (j : Line). j.start) z in
         let b : line_start s q + f ≡ i.from = ap (λ (j : Line). j.from) z in
         omega arith
-    by Not g = absurd (let z : ◌≡◌ {A = ℕ} 0 1 = cc in omega arith)
+    by None g = absurd (let z : ◌≡◌ {A = ℕ} 0 1 = cc in omega arith)
 
 pub name_from : (s : List ℕ) (p : ℕ) (i : Line) → stop_at s p ≡ AtLine i → i.start ≤ i.from
 unfolding hash_at
@@ -343,7 +342,7 @@ line_later g c p q l =
     (λ i.
     line_is (g ++ c) (G + p) (G + q) (G + L) (G + E) (start_some g c q i) (byte_on 10 g c q)
     ∙ ap₂ (λ b (z : Stop). pick (both (leb (G + p) (G + L)) b) z (At 29 (G + q))) (ap (λ (x : List ℕ). whole_to x (G + p)) (take-append-add g c L) ∙ whole_later g (take L c) p)
-    (ap₂ (λ (z : ℕ) (n : Name). by_name (G + q) (G + L) z n) (after_later g c E)
+    (ap₂ (λ (z : ℕ) (n : Option (ℕ × ℕ)). by_name (G + q) (G + L) z n) (after_later g c E)
     (ap₂ (λ (x : List ℕ) (n : ℕ). named x n) (between_later g c L E) (let z : (G + q) - (G + L) ≡ q - L = omega arith in z)))
     ∙ sym (ap (λ b. pick b (on_line G c p q L E) (At 29 (G + q))) (lt-ltb 0 L i)))
     (λ i.

@@ -1,6 +1,6 @@
 -- Lent texts of which one has two of its objects exchanged (document 02, Q-10 and Q-12): "two neighbouring objects or parts of different ones in one
 -- file, each from kind word through semicolon, with no include line in or between". Assumes nothing.
-use Rattle.std.specs.Prelude.{◌≡◌, List, [], ◌∷◌, ◌++◌, true, ℕ, ◌+◌, ◌-◌, ◌≤◌, length, get_or, drop}
+use Rattle.std.specs.Prelude.{◌≡◌, List, [], ◌∷◌, ◌++◌, true, ℕ, ◌+◌, ◌-◌, ◌≤◌, length, get_or, drop, Some}
 use Rattle.token.specs.Find.{either, byte}
 use Rattle.grammar.specs.Grammar.{Token, matches, sg, lbrace, semicolon, Derivation, tokens as Leaves-of}
 use Rattle.grammar.specs.Terminals.{tokens}
@@ -10,7 +10,6 @@ use Rattle.sources.specs.Numbering.{span_of}
 use Rattle.sources.specs.Expanding.{origin, expanded}
 use Rattle.sources.specs.declared.Line.{Line}
 use Rattle.sources.specs.declared.Stop.TheVariants.{Line as AtLine}
-use Rattle.sources.specs.declared.Hit.TheVariants.{Present}
 use Rattle.channels.specs.Neighbours.{ObjectTree, first_place, end_of_last, key_in}
 
 -- The file -------------------------------------------------------------------------------------------------------------------------------------
@@ -47,7 +46,7 @@ OfTwo a x m y c i = key_in (drop i.from (a ++ (x ++ (m ++ (y ++ c))))) i.one ≡
 
 -- In the buffer P s Q with the lengths l, text k is s.
 abbrev pub IsText : (P s l : List ℕ) (k : ℕ) → Type 0
-IsText P s l k = span_of l k ≡ Present k (length P) (length P + length s)
+IsText P s l k = span_of l k ≡ Some (k, length P, length P + length s)
 
 -- The expanded text ----------------------------------------------------------------------------------------------------------------------------
 

@@ -10,14 +10,15 @@ use native.Mathlib.Decide.{ℕ_discrete}
 use lib.ListN.{length, get_or, replicate, length-append}
 use lib.Dec.{eqb, ltb}
 use borrow.Author.Tests.{lt-ltb, le-ltb}
+use Rattle.std.specs.Prelude.{None}
 use Rattle.rows.specs.Table.{cell_of}
 use Rattle.rows.specs.Tally.{one_more, count_on}
 use Rattle.rows.proofs.Tallies.{count_on_append}
 use Rattle.token.specs.Find.{pick, either, bit}
 use Rattle.grammar.specs.Grammar.{Kind, OS, APPMODE, TASK, ISR, COUNTER, ALARM, RESOURCE, EVENT, COM, MESSAGE, NETWORKMESSAGE, IPDU, NM}
-use Rattle.rows.specs.declared.Fault.{Fault as Code}
-use Rattle.rows.specs.declared.Found.{Found}
-use Rattle.rows.specs.declared.Found.TheVariants.{At, Nothing}
+use Rattle.rows.specs.Order.{MaybeFault}
+use Rattle.rows.specs.Found.{Found}
+use Rattle.std.specs.Prelude.{Some, None}
 use Rattle.rows.specs.Order as order
 use Rattle.rows.proofs.Walks as table
 use Rattle.rows.specs.Search.{is_found}
@@ -27,7 +28,6 @@ use Rattle.meaning.specs.Kinds.{kinds, kind_number, same_kind, fewest, most}
 use Rattle.meaning.specs.Merging.{same_object, used, merged, merge_from, merge}
 use Rattle.meaning.specs.Faults.{Fault, faults_if, first, sooner}
 use Rattle.meaning.specs.Applying.{how_many, counts_of, counts, too_few, full, statement_faults, each_object, each_part, elsewhere, each_name, object_faults}
-use Rattle.meaning.proofs.Numbered.{of_few}
 use Rattle.meaning.proofs.Merges.{Alike, same_alike, used_more, used_none}
 use Rattle.meaning.proofs.Order.{InOrder, sub_behind, sub_all, drop, ordered_sub}
 use Rattle.meaning.proofs.Sooner.{left_of}
@@ -46,12 +46,12 @@ use Rattle.merging.proofs.Places.{row_is, new_by, old_by}
 use Rattle.checks.specs.declared.objects.Checked.{Checked}
 use Rattle.checks.specs.Cells.{lacking_from, full_of, room_fault}
 use Rattle.checks.specs.Promises.{Noted, numbers, Met, ChecksParts, Titled, Unclashed, Clashes, clash, no_clash, NameFault, Checks, ObjectFaults}
-use Rattle.scopes.proofs.Firsts.{Has, here, there, has_none, has_left, has_right, has_split, in_if, if_in, Covered, covered, covered_by, first_same, Real, real, real_none, real_append, real_if, fault_append, fault_one}
+use Rattle.scopes.proofs.Firsts.{Has, here, there, has_none, has_left, has_right, has_split, in_if, if_in, Covered, covered, covered_by, first_same, fault_append, fault_one}
 use Rattle.merging.specs.Parts.{row_or, first_row, FirstRows}
 use Rattle.merging.proofs.Storing.{cells_of}
 use Rattle.checks.proofs.Names.{each_name_append}
 use Rattle.checks.proofs.Tallying.{alike, cell, tallied}
-use Rattle.checks.proofs.Rows.{get_at, nth_fault, fault_nth, real_nth, room_code, numbers_of, numbered, numbered_append, numbers_append as codes-append, numbered_is}
+use Rattle.checks.proofs.Rows.{get_at, nth_fault, fault_nth, room_code, numbers_of, numbered, numbered_append, numbers_append as codes-append, numbered_is}
 
 -- Kinds ------------------------------------------------------------------------------------------------------------------------------------
 
@@ -104,17 +104,17 @@ unfoldable is_lacking : List Object → Kind → Bool
 is_lacking os k = ltb (how_many k os) (fewest k)
 
 few_code : (ks : List Kind) (os : List Object) (cpu : Word) (i : ℕ)
-    → order.fault_if (is_found (table.first (is_lacking os) At Nothing i ks)) 17 cpu.place ≡ fault_of (first (too_few ks os cpu))
+    → order.fault_if (is_found (table.first (is_lacking os) Some None i ks)) 17 cpu.place ≡ fault_of (first (too_few ks os cpu))
 unfolding table.first too_few is_lacking order.fault_if faults_if fault_of first sooner
 few_code [] os cpu i = refl
 few_code (k ∷ ks) os cpu i = by (ltb (how_many k os) (fewest k)) (few_code ks os cpu (suc i))
   where
-    by : (b : Bool) → order.fault_if (is_found (table.first (is_lacking os) At Nothing (suc i) ks)) 17 cpu.place ≡ fault_of (first (too_few ks os cpu))
-        → order.fault_if (is_found (pick b (At i) (table.first (is_lacking os) At Nothing (suc i) ks))) 17 cpu.place ≡ fault_of (first (faults_if b cpu 17 ++ too_few ks os cpu))
+    by : (b : Bool) → order.fault_if (is_found (table.first (is_lacking os) Some None (suc i) ks)) 17 cpu.place ≡ fault_of (first (too_few ks os cpu))
+        → order.fault_if (is_found (pick b (Some i) (table.first (is_lacking os) Some None (suc i) ks))) 17 cpu.place ≡ fault_of (first (faults_if b cpu 17 ++ too_few ks os cpu))
     by true e = sym (ap fault_of (only_first (record { place = cpu.place; number = 17 }) (too_few ks os cpu) (λ g m. few_all ks os cpu m)))
     by false e = e
 
-lacking_is : (os : List Object) → lacking_from (counts os) 0 ≡ table.first (is_lacking os) At Nothing 0 kinds
+lacking_is : (os : List Object) → lacking_from (counts os) 0 ≡ table.first (is_lacking os) Some None 0 kinds
 unfolding lacking_from counts is_lacking kind_at
 lacking_is os =
     seek_all (is_lacking os) (λ j. ltb (get_or (counts_of kinds os) j 0) (fewest (get_or kinds j NM))) kinds
@@ -133,12 +133,6 @@ too_few_is os cpu cs p e h =
 unfoldable own_faults : List Object → (k : ℕ) → Object → List Fault
 own_faults os k x = faults_if (eqb k 256) x.word 11 ++ faults_if (full (most x.kind) (how_many x.kind os)) x.word 17
 
-own_real : (os : List Object) (k : ℕ) (x : Object) → Real (own_faults os k x)
-unfolding own_faults
-own_real os k x =
-    real_append (faults_if (eqb k 256) x.word 11) (faults_if (full (most x.kind) (how_many x.kind os)) x.word 17)
-    (real_if (eqb k 256) x.word 11 (omega arith)) (real_if (full (most x.kind) (how_many x.kind os)) x.word 17 (omega arith))
-
 each_behind : (before a b : List Object) → each_object before (a ++ b) ≡ each_object before a ++ each_object (before ++ a) b
 unfolding each_object
 each_behind before [] b = ap (λ (l : List Object). each_object l b) (sym (append-nil before))
@@ -150,16 +144,6 @@ each_behind before (x ∷ a) b =
 each_one : (os : List Object) (z : Object) (k : ℕ) (rest : List Object) → each_object os (merged z k rest ∷ []) ≡ own_faults os k z
 unfolding each_object merged own_faults
 each_one os z k rest = append-nil (faults_if (eqb k 256) z.word 11 ++ faults_if (full (most z.kind) (how_many z.kind os)) z.word 17)
-
-each_real : (before xs : List Object) → Real (each_object before xs)
-unfolding each_object
-each_real before [] = real_none
-each_real before (x ∷ xs) =
-    let a = faults_if (eqb x.row 256) x.word 11 in
-    let b = faults_if (full (most x.kind) (how_many x.kind before)) x.word 17 in
-    real_append (a ++ b) (each_object (before ++ (x ∷ [])) xs)
-    (real_append a b (real_if (eqb x.row 256) x.word 11 (omega arith)) (real_if (full (most x.kind) (how_many x.kind before)) x.word 17 (omega arith)))
-    (each_real (before ++ (x ∷ [])) xs)
 
 numbers_append : (a b : List Object) → numbers (a ++ b) ≡ numbers a ++ numbers b
 unfolding numbers
@@ -186,13 +170,12 @@ merge_new before z rest k u =
     ap (λ (b : Bool). choose b (λ _. merge_from (before ++ (z ∷ [])) rest k) (λ _. merged z k rest ∷ merge_from (before ++ (z ∷ [])) rest (suc k))) u
     ∙ ap (λ (i : ℕ). merged z k rest ∷ merge_from (before ++ (z ∷ [])) rest i) e
 
-own_code : (os : List Object) (k : ℕ) (x : Object) (a b : Code) → a ≡ fault_of (first (faults_if (eqb k 256) x.word 11))
+own_code : (os : List Object) (k : ℕ) (x : Object) (a b : MaybeFault) → a ≡ fault_of (first (faults_if (eqb k 256) x.word 11))
     → b ≡ fault_of (first (faults_if (full (most x.kind) (how_many x.kind os)) x.word 17)) → order.sooner a b ≡ fault_of (first (own_faults os k x))
 unfolding own_faults
 own_code os k x a b e g =
     ap₂ order.sooner e g
-    ∙ sym (fault_append (faults_if (eqb k 256) x.word 11) (faults_if (full (most x.kind) (how_many x.kind os)) x.word 17)
-    (real_if (eqb k 256) x.word 11 (omega arith)) (real_if (full (most x.kind) (how_many x.kind os)) x.word 17 (omega arith)))
+    ∙ sym (fault_append (faults_if (eqb k 256) x.word 11) (faults_if (full (most x.kind) (how_many x.kind os)) x.word 17))
 
 -- The cells of a part's row.
 module _ (f : File) (p : List ℕ) (e : p ≡ kept_parts f) (j : ℕ) (z : Object) (q : Nth f.parts j z) (h : j < 513) where
@@ -215,11 +198,11 @@ next : (f : File) (before left : List Object) → f.parts ≡ before ++ left →
 next f before [] w h = let a : length f.parts ≡ length (before ++ []) = ap (λ (l : List Object). length l) w in let b = length-append before [] in absurd (omega arith)
 next f before (z ∷ rest) w h = record { part = z; rest = rest; is = refl; parts = w }
 
-module _ {s p x : List ℕ} {n : ℕ} {f : File} (N : Noted s p x n f) {j : ℕ} (h : j < n) {best : Code} {k : ℕ} {cs : List ℕ} (M : Met f j best k cs) where
+module _ {s p x : List ℕ} {n : ℕ} {f : File} (N : Noted s p x n f) {j : ℕ} (h : j < n) {best : MaybeFault} {k : ℕ} {cs : List ℕ} (M : Met f j best k cs) where
   after : Next f M.before M.left
   after = let a = M.place in let b = N.inside in next f M.before M.left M.whole (omega arith)
 
-  cell_of_lem : get_or x j 0 ≡ row_or j (table.first (same_object after.part) At Nothing 0 M.before)
+  cell_of_lem : get_or x j 0 ≡ row_or j (table.first (same_object after.part) Some None 0 M.before)
   cell_of_lem =
       let a = N.few in
       N.firsts j h ∙ row_is s p f j M.before after.part after.rest N.situation N.in_parts after.parts M.place (omega arith)
@@ -248,7 +231,7 @@ module _ {s p x : List ℕ} {n : ℕ} {f : File} (N : Noted s p x n f) {j : ℕ}
       }
 
   -- and the first part of an object is one more.
-  pub met_new : {number place : ℕ} {a b c r : Code} {more : List ℕ} → get_or x j 0 ≡ j → number ≡ get_or p (j * 10 + 0) 0 → place ≡ get_or p (j * 10 + 1) 0
+  pub met_new : {number place : ℕ} {a b c r : MaybeFault} {more : List ℕ} → get_or x j 0 ≡ j → number ≡ get_or p (j * 10 + 0) 0 → place ≡ get_or p (j * 10 + 1) 0
       → a ≡ order.fault_if (eqb k 256) 11 place → b ≡ order.fault_if (full_of (most_of (most (kind_at number))) (get_or cs number 0)) 17 place → c ≡ order.sooner a b
       → r ≡ order.sooner best c → more ≡ one_more cs number → Met f (j + 1) r (k + 1) more
   met_new {number} {place} {a} {b} {c} {r} {more} g e₁ e₂ e₃ e₄ e₅ e₆ e₇ =
@@ -288,11 +271,11 @@ module _ {s p x : List ℕ} {n : ℕ} {f : File} (N : Noted s p x n f) {j : ℕ}
             ∙ sym (count_on_append (replicate 13 0) (numbers os) (kind_number z.kind ∷ []))
             ∙ ap (count_on (replicate 13 0)) (ap (λ (v : List ℕ). numbers os ++ v) (sym (numbers_one z k rest)) ∙ sym (numbers_append os (y ∷ [])));
         found = e₆ ∙ ap₂ order.sooner M.found c'
-            ∙ sym (fault_append (each_object [] os) (own_faults os k z) (each_real [] os) (own_real os k z))
+            ∙ sym (fault_append (each_object [] os) (own_faults os k z))
             ∙ ap (λ (v : List Fault). fault_of (first v)) (ap (λ (v : List Fault). each_object [] os ++ v) (sym (each_one os z k rest)) ∙ sym (each_behind [] os (y ∷ [])));
       }
 
-pub met_start : (f : File) → Met f 0 (record { number = 0; place = 0 }) 0 (replicate 13 0)
+pub met_start : (f : File) → Met f 0 None 0 (replicate 13 0)
 unfolding merge numbers count_on each_object first fault_of
 met_start f = record {
   before = [];
@@ -307,7 +290,7 @@ met_start f = record {
   found = refl;
 }
 
-pub met_end : {f : File} {j n : ℕ} {best : Code} {k : ℕ} {cs : List ℕ} → j ≤ n → n ≤ j → Met f j best k cs → Met f n best k cs
+pub met_end : {f : File} {j n : ℕ} {best : MaybeFault} {k : ℕ} {cs : List ℕ} → j ≤ n → n ≤ j → Met f j best k cs → Met f n best k cs
 met_end {f} {j} {n} {best} {k} {cs} h g M = let e : j ≡ n = omega arith in subst (λ (i : ℕ). Met f i best k cs) e M
 
 -- Statements ---------------------------------------------------------------------------------------------------------------------------------
@@ -680,21 +663,16 @@ module _ (s : List ℕ) (f : File) (K : Situation s f) where
   part_order = ordered_sub (sub_behind (spec_words f.specs) (drop {t = f.cpu} (sub_all (object_words f.parts)))) 1 (whole K).order
 
   -- The fault 24 that was found.
-  unfoldable clashes : {n : ℕ} {r : Code} → Clashes f n r → List Fault
+  unfoldable clashes : {n : ℕ} {r : MaybeFault} → Clashes f n r → List Fault
   clashes (clash front z rest w c h e) = record { place = z.name.place; number = 24 } ∷ []
   clashes (no_clash u e) = []
 
-  clashes_real : {n : ℕ} {r : Code} (Q : Clashes f n r) → Real (clashes Q)
-  unfolding clashes faults_if
-  clashes_real (clash front z rest w c h e) = real_if true z.name 24 (omega arith)
-  clashes_real (no_clash u e) = real_none
-
-  clashes_code : {n : ℕ} {r : Code} (Q : Clashes f n r) → r ≡ fault_of (first (clashes Q))
+  clashes_code : {n : ℕ} {r : MaybeFault} (Q : Clashes f n r) → r ≡ fault_of (first (clashes Q))
   unfolding clashes fault_of first sooner
   clashes_code (clash front z rest w c h e) = e
   clashes_code (no_clash u e) = e
 
-  clashes_in : {n : ℕ} {r : Code} (Q : Clashes f n r) (g : Fault) → Has g (clashes Q) → Has g (each_name [] f.parts)
+  clashes_in : {n : ℕ} {r : MaybeFault} (Q : Clashes f n r) (g : Fault) → Has g (clashes Q) → Has g (each_name [] f.parts)
   unfolding clashes each_name faults_if
   clashes_in (clash front z rest w c h e) g m =
       subst (λ (os : List Object). Has g (each_name [] os)) (sym w)
@@ -703,7 +681,7 @@ module _ (s : List ℕ) (f : File) (K : Situation s f) where
       (has_left (faults_if (elsewhere z front) z.name 24) (each_name (front ++ (z ∷ [])) rest) (subst (λ (b : Bool). Has g (faults_if b z.name 24)) (sym h) m))))
   clashes_in (no_clash u e) g m = absurd (has_none m)
 
-  module _ {l : ℕ} {best : Code} {k : ℕ} {cs : List ℕ} (M : Met f l best k cs) (full-front : (0 < length M.left → length M.before ≡ 513)) {r : Code} (Q : Clashes f l r) where
+  module _ {l : ℕ} {best : MaybeFault} {k : ℕ} {cs : List ℕ} (M : Met f l best k cs) (full-front : (0 < length M.left → length M.before ≡ 513)) {r : MaybeFault} (Q : Clashes f l r) where
     abbrev C : List Fault
     C = nth_fault (λ (x : Object). x.word) 11 512 f.parts
 
@@ -822,9 +800,6 @@ module _ (s : List ℕ) (f : File) (K : Situation s f) where
     stage_is : first (object_faults f) ≡ first found
     stage_is = first_same (object_faults f) found found_in_stage stage_in_found
 
-real_few : (ks : List Kind) (os : List Object) (cpu : Word) → Real (too_few ks os cpu)
-real_few ks os cpu = real (of_few ks os cpu)
-
 part_word : (p : List ℕ) (f : File) → p ≡ kept_parts f → (x : Object) → Nth f.parts 512 x → cell_of p 10 512 1 ≡ x.word.place
 part_word p f e x q = word_cell f p e 512 x q (omega arith)
 
@@ -833,7 +808,7 @@ none_left_over [] h = refl
 none_left_over (x ∷ l) h = absurd (omega arith)
 
 -- The five parts, joined.
-pub objects_answer : (s p st x xn : List ℕ) (n m : ℕ) (cs : List ℕ) (cpu l : ℕ) (a b c d v y w z : Code) (r u : Checked)
+pub objects_answer : (s p st x xn : List ℕ) (n m : ℕ) (cs : List ℕ) (cpu l : ℕ) (a b c d v y w z : MaybeFault) (r u : Checked)
     → a ≡ order.fault_if (is_found (lacking_from cs 0)) 17 cpu → l ≡ min n 513 → ChecksParts p x l u → b ≡ u.fault → c ≡ room_fault p 10 512 1 n 11 → d ≡ room_fault st 7 2048 0 m 11
     → y ≡ order.sooner c d → FirstRows (length p) s p l xn → NameFault p xn l v → w ≡ order.sooner y v → z ≡ order.sooner b w → r.fault ≡ order.sooner a z → r.objects ≡ u.objects → r.counts ≡ u.counts
     → ObjectFaults s p st x n m cs cpu r
@@ -843,28 +818,22 @@ objects_answer s p st x xn n m cs cpu l a b c d v y w z r t e₁ e₂ e₃ e₀ 
     let M = e₃ s f N in
     let Q = j₂ s f (record { situation = K; in_parts = h₁; firsts = λ j i. cells_of (length p) s p xn l n e₂ j₁ j (omega (arith, i, e₂)); few = omega (arith, e₂); inside = omega (arith, e₂, h₃) }) in
     let E₀ = clashes s f K Q in
-    let rE = clashes_real s f K Q in
     let whole_length : length f.parts ≡ length M.before + length M.left = ap (λ (v : List Object). length v) M.whole ∙ length-append M.before M.left in
     let pl = M.place in
     let A = too_few kinds f.objects f.cpu in
     let B = each_object [] M.so_far in
     let C₀ = nth_fault (λ (x : Object). x.word) 11 512 f.parts in
     let D₀ = nth_fault (λ (x : Statement). x.name) 11 2048 (flat f.parts) in
-    let rB = each_real [] M.so_far in
-    let rC = real_nth (λ (x : Object). x.word) 11 (omega arith) f.parts 512 in
-    let rD = real_nth (λ (x : Statement). x.name) 11 (omega arith) (flat f.parts) 2048 in
     let same-few : too_few kinds f.objects f.cpu ≡ too_few kinds f.parts f.cpu = ap (λ (os : List Object). too_few kinds os f.cpu) (whole K).merged ∙ too_few_same kinds f.parts f.cpu in
     let qA : a ≡ fault_of (first A) = e₁ ∙ too_few_is f.parts f.cpu cs cpu h₅ h₆ ∙ ap (λ (v : List Fault). fault_of (first v)) (sym same-few) in
     let qB : b ≡ fault_of (first B) = e₀ ∙ M.found in
     let qC : c ≡ fault_of (first C₀) = e₄ ∙ room_code (λ (x : Object). x.word) 11 p 10 512 1 n f.parts h₃ (λ x q. part_word p f h₁ x q) in
     let qD : d ≡ fault_of (first D₀) = e₅ ∙ room_code (λ (x : Statement). x.name) 11 st 7 2048 0 m (flat f.parts) (h₄ ∙ sym (length_flat f.parts)) (λ x q. statement_cell f st x h₂ q) in
-    let qy : y ≡ fault_of (first (C₀ ++ D₀)) = e₆ ∙ ap₂ order.sooner qC qD ∙ sym (fault_append C₀ D₀ rC rD) in
-    let rCD = real_append C₀ D₀ rC rD in
-    let qw : w ≡ fault_of (first ((C₀ ++ D₀) ++ E₀)) = j₃ ∙ ap₂ order.sooner qy (clashes_code s f K Q) ∙ sym (fault_append (C₀ ++ D₀) E₀ rCD rE) in
-    let rCE = real_append (C₀ ++ D₀) E₀ rCD rE in
-    let qz : z ≡ fault_of (first (B ++ ((C₀ ++ D₀) ++ E₀))) = e₇ ∙ ap₂ order.sooner qB qw ∙ sym (fault_append B ((C₀ ++ D₀) ++ E₀) rB rCE) in
+    let qy : y ≡ fault_of (first (C₀ ++ D₀)) = e₆ ∙ ap₂ order.sooner qC qD ∙ sym (fault_append C₀ D₀) in
+    let qw : w ≡ fault_of (first ((C₀ ++ D₀) ++ E₀)) = j₃ ∙ ap₂ order.sooner qy (clashes_code s f K Q) ∙ sym (fault_append (C₀ ++ D₀) E₀) in
+    let qz : z ≡ fault_of (first (B ++ ((C₀ ++ D₀) ++ E₀))) = e₇ ∙ ap₂ order.sooner qB qw ∙ sym (fault_append B ((C₀ ++ D₀) ++ E₀)) in
     let qr : r.fault ≡ fault_of (first (A ++ (B ++ ((C₀ ++ D₀) ++ E₀)))) =
-    e₈ ∙ ap₂ order.sooner qA qz ∙ sym (fault_append A (B ++ ((C₀ ++ D₀) ++ E₀)) (real_few kinds f.objects f.cpu) (real_append B ((C₀ ++ D₀) ++ E₀) rB rCE)) in
+    e₈ ∙ ap₂ order.sooner qA qz ∙ sym (fault_append A (B ++ ((C₀ ++ D₀) ++ E₀))) in
     let all : length f.parts ≤ 513 → M.so_far ≡ f.objects =
     λ h. sym (append-nil M.so_far) ∙ ap (λ (v : List Object). M.so_far ++ v) (sym (merge_none M.before M.left t.objects (none_left_over M.left (omega (arith, h, e₂, h₃, whole_length, pl))))) ∙ M.merged_so ∙ sym (whole K).merged in
     let nb = M.number in

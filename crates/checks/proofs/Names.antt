@@ -7,13 +7,14 @@ use native.Mathlib.Omega.{arith}
 use lib.ListN.{length, get_or, length-append}
 use lib.Dec.{eqb}
 use borrow.Author.Tests.{eq-eqb, ne_eqb, eqb-true}
+use Rattle.std.specs.Prelude.{Some, None}
 use Rattle.token.specs.Find.{pick, both, either}
 use Rattle.token.specs.Words.{same}
 use Rattle.token.specs.Tokens.{part_of}
 use Rattle.token.proofs.Bytes.{both_true, both_second, eqb_sym}
 use Rattle.token.proofs.Codes.{same_self, same_equal}
-use Rattle.rows.specs.declared.Found.{Found}
-use Rattle.rows.specs.declared.Found.TheVariants.{At, Nothing}
+use Rattle.rows.specs.Found.{Found}
+use Rattle.std.specs.Prelude.{Some, None}
 use Rattle.rows.proofs.Walks.{first, any_of}
 use Rattle.rows.specs.Search.{find_named, find_from, is_named, has_key}
 use Rattle.rows.proofs.Searches.{first_is}
@@ -104,15 +105,15 @@ nothing_same z (y ∷ a) e = go (not (same_kind z.kind y.kind)) (alike y.name z.
     go false false h f = f h
 
 is_at : Found → Bool
-is_at (At i) = true
-is_at Nothing = false
+is_at (Some i) = true
+is_at None = false
 
-none_any : (p : Object → Bool) (i : ℕ) (l : List Object) → first p At Nothing i l ≡ Nothing → any_of p l ≡ false
+none_any : (p : Object → Bool) (i : ℕ) (l : List Object) → first p Some None i l ≡ None → any_of p l ≡ false
 unfolding first any_of is_at
 none_any p i [] e = refl
 none_any p i (y ∷ l) e = go (p y) e (λ h. none_any p (suc i) l h)
   where
-    go : (t : Bool) → pick t (At i) (first p At Nothing (suc i) l) ≡ Nothing → (first p At Nothing (suc i) l ≡ Nothing → any_of p l ≡ false) → either t (any_of p l) ≡ false
+    go : (t : Bool) → pick t (Some i) (first p Some None (suc i) l) ≡ None → (first p Some None (suc i) l ≡ None → any_of p l ≡ false) → either t (any_of p l) ≡ false
     go true h f = absurd (false≢true (sym (ap is_at h)))
     go false h f = f h
 
@@ -159,7 +160,7 @@ past_cells s l a k m m2 p n y z e f g =
 
 module _ (s p : List ℕ) (f : File) (K : Situation s f) (e : p ≡ kept_parts f) where
   find_by_name : (front rest : List Object) (n key at len : ℕ) → key ≡ 0 → f.parts ≡ front ++ rest → n ≡ length front → n ≤ 513
-      → find_named s p 10 n (length p) key 3 at len 0 ≡ first (is_name s at len) At Nothing 0 front
+      → find_named s p 10 n (length p) key 3 at len 0 ≡ first (is_name s at len) Some None 0 front
   unfolding find_named is_name object_cells kept_parts
   find_by_name front rest n key at len e₀ w k h =
       ap (λ (m : ℕ). find_from (λ j. is_named s p (j * 10) (length p) key 3 4 at len) m 0) k
@@ -171,15 +172,15 @@ module _ (s p : List ℕ) (f : File) (K : Situation s f) (e : p ≡ kept_parts f
       (row_cell_lem 513 f.parts p (length a) 4 x e q (omega arith) (omega arith)))
 
   name_tests : (x : Object) → Good s x.name → (i : ℕ) (l rest : List Object) → Goods s (object_words (l ++ rest))
-      → first (is_name s x.name.place x.name.length) At Nothing i l ≡ first (same_name x) At Nothing i l
+      → first (is_name s x.name.place x.name.length) Some None i l ≡ first (same_name x) Some None i l
   unfolding first object_words is_name same_name alike
   name_tests x g i [] rest h = refl
   name_tests x g i (y ∷ l) rest h =
-      ap₂ (λ (b : Bool) (f : Found). pick b (At i) f) (ap₂ same (sym h.1.0.read.bytes) (sym g.read.bytes))
+      ap₂ (λ (b : Bool) (f : Found). pick b (Some i) f) (ap₂ same (sym h.1.0.read.bytes) (sym g.read.bytes))
       (name_tests x g (suc i) l rest (good_back s (statement_words y.statements) (object_words (l ++ rest)) h.1.1))
 
   name_row : (j : ℕ) (front : List Object) (z : Object) (rest : List Object) → f.parts ≡ front ++ (z ∷ rest) → length front ≡ j → j < 513
-      → first_row (length p) s p j ≡ row_or j (first (same_name z) At Nothing 0 front)
+      → first_row (length p) s p j ≡ row_or j (first (same_name z) Some None 0 front)
   unfolding first_row kept_parts object_cells
   name_row j front z rest w l h =
       let q : Nth f.parts j z = record { front = front; rest = rest; whole = w; place = l } in
@@ -199,13 +200,13 @@ module _ (s p : List ℕ) (f : File) (K : Situation s f) (e : p ≡ kept_parts f
   kinds_tell : (j i : ℕ) (front : List Object) (z : Object) (rest : List Object) → f.parts ≡ front ++ (z ∷ rest) → length front ≡ j → j < 513 → each_name [] front ≡ []
       → i ≡ first_row (length p) s p j → elsewhere z front ≡ not (eqb (get_or p (j * 10 + 0) 0) (get_or p (i * 10 + 0) 0))
   unfolding row_or kept_parts object_cells
-  kinds_tell j i front z rest w l h c r = go (first (same_name z) At Nothing 0 front) refl (r ∙ name_row j front z rest w l h)
+  kinds_tell j i front z rest w l h c r = go (first (same_name z) Some None 0 front) refl (r ∙ name_row j front z rest w l h)
     where
       own : get_or p (j * 10 + 0) 0 ≡ kind_number z.kind
       own = kind_in j z (record { front = front; rest = rest; whole = w; place = l }) h
 
-      go : (u : Found) → first (same_name z) At Nothing 0 front ≡ u → i ≡ row_or j u → elsewhere z front ≡ not (eqb (get_or p (j * 10 + 0) 0) (get_or p (i * 10 + 0) 0))
-      go (At k) q m =
+      go : (u : Found) → first (same_name z) Some None 0 front ≡ u → i ≡ row_or j u → elsewhere z front ≡ not (eqb (get_or p (j * 10 + 0) 0) (get_or p (i * 10 + 0) 0))
+      go (Some k) q m =
           let o = first_is (same_name z) 0 front k q in
           let pl = o.place in
           let a : length front ≡ length (o.front ++ (o.row ∷ o.rest)) = ap (λ (v : List Object). length v) o.whole in
@@ -213,7 +214,7 @@ module _ (s p : List ℕ) (f : File) (K : Situation s f) (e : p ≡ kept_parts f
           let n : Nth f.parts i o.row = record { front = o.front; rest = o.rest ++ (z ∷ rest); whole = w ∙ ap (λ (v : List Object). v ++ (z ∷ rest)) o.whole ∙ append_assoc o.front (o.row ∷ o.rest) (z ∷ rest); place = omega (arith, pl, m) } in
           by_first z front o.front o.row o.rest c o.whole o.holds o.fails
           ∙ sym (ap₂ (λ (x y : ℕ). not (eqb x y)) own (kind_in i o.row n (omega (arith, pl, m, a, b, l))))
-      go Nothing q m =
+      go None q m =
           nothing_same z front (none_any (same_name z) 0 front q)
           ∙ sym (ap (λ (v : ℕ). not (eqb (get_or p (j * 10 + 0) 0) (get_or p (v * 10 + 0) 0))) m ∙ ap not (eq-eqb (get_or p (j * 10 + 0) 0) (get_or p (j * 10 + 0) 0) refl))
 
@@ -250,14 +251,14 @@ module _ {s p y : List ℕ} {n : ℕ} {f : File} (N : Titled s p y n f) {j : ℕ
       kinds_tell s p f N.situation N.in_parts j i U.front next.part next.more parts_are U.place (omega arith) U.clear (e ∙ N.firsts j h)
 
   pub name_clash : (i k b place : ℕ) → i ≡ get_or y j 0 → k ≡ get_or p (j * 10 + 0) 0 → b ≡ get_or p (i * 10 + 0) 0 → (k ≡ b → ⊥) → place ≡ get_or p (j * 10 + 3) 0
-      → Clashes f n (record { number = 24; place = place })
+      → Clashes f n (Some (record { number = 24; place = place }))
   unfolding kept_parts object_cells
   name_clash i k b place e₁ e₂ e₃ g e₄ =
       let a = N.few in
       let q : Nth f.parts j next.part = record { front = U.front; rest = next.more; whole = parts_are; place = U.place } in
       clash U.front next.part next.more parts_are U.clear
       (tells_it i e₁ ∙ ap not (ap₂ eqb (sym e₂) (sym e₃) ∙ ne_eqb k b g))
-      (ap (λ (v : ℕ). record { number = 24; place = v }) (e₄ ∙ row_cell_lem 513 f.parts p j 3 next.part N.in_parts q (omega arith) (omega arith)))
+      (ap (λ (v : ℕ). Some (record { number = 24; place = v })) (e₄ ∙ row_cell_lem 513 f.parts p j 3 next.part N.in_parts q (omega arith) (omega arith)))
 
   pub name_clear : (i k b : ℕ) → i ≡ get_or y j 0 → k ≡ get_or p (j * 10 + 0) 0 → b ≡ get_or p (i * 10 + 0) 0 → k ≡ b → Unclashed f (j + 1)
   unfolding each_name faults_if
@@ -274,5 +275,5 @@ module _ {s p y : List ℕ} {n : ℕ} {f : File} (N : Titled s p y n f) {j : ℕ
         clear = each_name_append [] U.front (z ∷ []) ∙ ap₂ ◌++◌ U.clear (ap (λ (b : Bool). faults_if b z.name 24 ++ []) t);
       }
 
-pub clear_end : {f : File} {j n : ℕ} → j ≤ n → n ≤ j → Unclashed f j → Clashes f n (record { number = 0; place = 0 })
+pub clear_end : {f : File} {j n : ℕ} → j ≤ n → n ≤ j → Unclashed f j → Clashes f n None
 clear_end {f} {j} {n} h g U = let e : j ≡ n = omega arith in no_clash (subst (Unclashed f) e U) refl

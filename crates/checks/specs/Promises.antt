@@ -1,6 +1,6 @@
 -- What the checks promise, for every file whose text and rows these are. Assumes nothing.
-use Rattle.std.specs.Prelude.{◌≡◌, true, List, [], ◌∷◌, ◌++◌, ℕ, ◌+◌, ◌≤◌, ◌<◌, min, length, get_or, replicate}
-use Rattle.rows.specs.declared.Fault.{Fault}
+use Rattle.std.specs.Prelude.{◌≡◌, Some, None, true, List, [], ◌∷◌, ◌++◌, ℕ, ◌+◌, ◌≤◌, ◌<◌, min, length, get_or, replicate}
+use Rattle.rows.specs.Order.{MaybeFault}
 use Rattle.rows.specs.Tally.{count_on}
 use Rattle.meaning.specs.Syntax.{Object, File}
 use Rattle.meaning.specs.Kinds.{kind_number}
@@ -27,7 +27,7 @@ numbers [] = []
 numbers (x ∷ xs) = kind_number x.kind ∷ numbers xs
 
 -- The objects that the first j parts begin: there are k of them, cs of each kind, and the fault is theirs.
-pub record Met (f : File) (j : ℕ) (fault : Fault) (k : ℕ) (cs : List ℕ) : Type 0 where
+pub record Met (f : File) (j : ℕ) (fault : MaybeFault) (k : ℕ) (cs : List ℕ) : Type 0 where
   pub before : List Object
   pub left : List Object
   pub so_far : List Object
@@ -39,7 +39,7 @@ pub record Met (f : File) (j : ℕ) (fault : Fault) (k : ℕ) (cs : List ℕ) : 
   pub counted : cs ≡ count_on (replicate 13 0) (numbers so_far)
   pub found : fault ≡ fault_of (first (each_object [] so_far))
 
-abbrev pub ChecksOne : (p x : List ℕ) → ℕ → Fault → ℕ → List ℕ → Checked → Type 0
+abbrev pub ChecksOne : (p x : List ℕ) → ℕ → MaybeFault → ℕ → List ℕ → Checked → Type 0
 ChecksOne p x j best k cs r = (s : List ℕ) (n : ℕ) (f : File) → Noted s p x n f → j < n → Met f j best k cs → Met f (j + 1) r.fault r.objects r.counts
 
 abbrev pub ChecksParts : (p x : List ℕ) → ℕ → Checked → Type 0
@@ -62,12 +62,12 @@ pub record Unclashed (f : File) (j : ℕ) : Type 0 where
   pub clear : each_name [] front ≡ []
 
 -- The fault 24 at the first part that has it, or none of the first n has it.
-pub data Clashes (f : File) (n : ℕ) (r : Fault) : Type 0 where
+pub data Clashes (f : File) (n : ℕ) (r : MaybeFault) : Type 0 where
   clash : (front : List Object) (z : Object) (rest : List Object) → f.parts ≡ front ++ (z ∷ rest) → each_name [] front ≡ [] → elsewhere z front ≡ true
-      → r ≡ record { number = 24; place = z.name.place } → Clashes f n r
-  no_clash : Unclashed f n → r ≡ record { number = 0; place = 0 } → Clashes f n r
+      → r ≡ Some (record { number = 24; place = z.name.place }) → Clashes f n r
+  no_clash : Unclashed f n → r ≡ None → Clashes f n r
 
-abbrev pub NameFault : (p y : List ℕ) → ℕ → Fault → Type 0
+abbrev pub NameFault : (p y : List ℕ) → ℕ → MaybeFault → Type 0
 NameFault p y n r = (s : List ℕ) (f : File) → Titled s p y n f → Clashes f n r
 
 -- The fault by which the stage of 11, 17 and 24 answers; where there is room for all parts, how many objects there are, and of each kind.

@@ -8,48 +8,44 @@ ghost use Rattle.checks.specs.Cells.{lacking_from, full_of};
 ghost use Rattle.checks.specs.Promises.{ChecksOne, ChecksParts, NameFault, ObjectFaults};
 
 use super::parts;
-use kinds::{Kind, Most};
+use kinds::Kind;
 use layout::{object, part, statement};
 use rows::{Fault, cells, counts, faults, refusals};
 
 // A fault, or one of number 0; how many objects there are, and how many of each kind.
 #[derive(Drop)]
 pub struct Checked {
-    pub fault: Fault,
+    pub fault: Option<Fault>,
     pub objects: usize,
     pub counts: [usize; counts::KINDS],
 }
 
 // 17 at the CPU's name, where a kind has fewer objects than its least count. Where a kind has none it has no part either: parts will do.
-fn too_few(counts: [usize; counts::KINDS], cpu: usize) -> Fault
+fn too_few(counts: [usize; counts::KINDS], cpu: usize) -> Option<Fault>
     ensures { result ≡ fault_if (is_found (lacking_from counts 0)) 17 cpu }
 {
-    let mut i = 0;
-    while i < Kind::COUNT {
+    for i in 0..Kind::COUNT {
         let kind = Kind::of(i);
         if counts[i] < kind.least() {
-            return Fault {
+            return Some(Fault {
                 number: refusals::COUNT_OF_KIND,
                 place: cpu,
-            };
+            });
         }
-        i += 1;
     }
-    faults::NONE
+    None
 }
 
 // Whether a kind has as many objects as it may.
-fn is_full(most: Most, n: usize) -> bool
+#[tactic(auto, unfolding(crate::specs::Cells::full_of))]
+fn is_full(most: Option<usize>, n: usize) -> bool
     ensures { result ≡ full_of most n }
 {
-    match most {
-        Most::Of(m) => m <= n,
-        Most::Any => false,
-    }
+    most.is_some_and(|m| m <= n)
 }
 
 // 17 at the kind word of an object, where the kind had its greatest count before.
-fn too_many(counts: [usize; counts::KINDS], number: usize, place: usize) -> Fault
+fn too_many(counts: [usize; counts::KINDS], number: usize, place: usize) -> Option<Fault>
     ensures { result ≡ fault_if (full_of (most_of (most (kind_at number))) (get_or counts number 0)) 17 place }
 {
     let kind = Kind::of(number);
@@ -62,7 +58,7 @@ fn check_one(
     p: &[usize],
     x: &[usize],
     j: usize,
-    best: Fault,
+    best: Option<Fault>,
     k: usize,
     counts: [usize; counts::KINDS],
 ) -> Checked
@@ -73,7 +69,7 @@ fn check_one(
         return Checked {
             fault: best,
             objects: k,
-            counts: counts,
+            counts,
         };
     }
     let number = cells::cell_of(p, object::WIDTH, j, object::KIND);
@@ -93,44 +89,40 @@ fn check_one(
 fn check_parts(p: &[usize], x: &[usize], n: usize) -> Checked
     ensures { ChecksParts p.now x.now n result }
 {
-    let mut best = faults::NONE;
+    let mut best = None;
     let mut k = 0;
     let mut counts = [0; counts::KINDS];
-    let mut j = 0;
-    while j < n {
+    for j in 0..n {
         let y = check_one(p, x, j, best, k, counts);
         best = y.fault;
         k = y.objects;
         let of_kinds = y.counts;
         counts = of_kinds;
-        j += 1;
     }
     Checked {
         fault: best,
         objects: k,
-        counts: counts,
+        counts,
     }
 }
 
 // 24 at the name of the first part whose name an object of another kind has before; y has the first part with the name of each of n rows.
-fn name_fault(p: &[usize], y: &[usize], n: usize) -> Fault
+fn name_fault(p: &[usize], y: &[usize], n: usize) -> Option<Fault>
     ensures { NameFault p.now y.now n result }
 {
-    let mut j = 0;
-    while j < n {
+    for j in 0..n {
         let i = cells::get(y, j);
         let kind = cells::cell_of(p, object::WIDTH, j, object::KIND);
         let before = cells::cell_of(p, object::WIDTH, i, object::KIND);
         if kind != before {
             let place = cells::cell_of(p, object::WIDTH, j, object::NAME);
-            return Fault {
+            return Some(Fault {
                 number: refusals::OTHER_KIND,
-                place: place,
-            };
+                place,
+            });
         }
-        j += 1;
     }
-    faults::NONE
+    None
 }
 
 // The fault by which the stage of 11, 17 and 24 answers, and how many objects there are; `counts` are those of the parts.

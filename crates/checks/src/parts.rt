@@ -12,7 +12,7 @@ pub fn room_fault(
     column: usize,
     rows: usize,
     number: u8,
-) -> Fault
+) -> Option<Fault>
     ensures { result ≡ room_fault t.now width last column rows number }
 {
     let place = cells::cell_of(t, width, last, column);

@@ -8,10 +8,8 @@ use borrow.Author.Tests.{eq-eqb, eqb-true}
 use Rattle.token.specs.Find.{bit, both}
 use Rattle.token.specs.Words.{same}
 use Rattle.token.proofs.Codes.{same_self, same_equal}
-use Rattle.meaning.specs.Syntax.{Word}
 use Rattle.meaning.specs.Words.{alike}
 use Rattle.meaning.specs.Kinds.{kind_number, same_kind}
-use Rattle.meaning.specs.Resolving.{Taken}
 use Rattle.comparing.specs.Contents.{Step, Path, same_step, same_path, counts_as, same_value, Content, same_object}
 
 -- Truth values.

@@ -1,14 +1,14 @@
 -- What `pair` gathers is what Q-8 asks of the pair, where both objects' values stand in the tables. Assumes nothing.
-use mathlib.Core.Path.{◌≡◌, refl, sym, ◌∙◌, ap, subst}
-use mathlib.Core.List.{List, [], ◌∷◌, ◌++◌}
+use mathlib.Core.Path.{◌≡◌, subst}
+use mathlib.Core.List.{List, []}
 use Prim.Native.Nat.{ℕ, suc, ◌+◌, ◌≤◌}
 use native.Mathlib.Omega.{arith}
 use lib.ListN.{length}
 use Rattle.indexes.proofs.Digits.{Bytes}
 use Rattle.indexes.proofs.Names.{name_bytes}
-use Rattle.meaning.specs.Syntax.{Word, Object}
-use Rattle.meaning.specs.Resolving.{Taken, Resolved, end, resolved, Owner, of_object, of_value, how_many_values}
-use Rattle.comparing.specs.Standing.{RowIs, TreeAt, no_rows, some_rows}
+use Rattle.meaning.specs.Syntax.{Object}
+use Rattle.meaning.specs.Resolving.{Resolved, end, resolved, Owner, of_object, of_value, how_many_values}
+use Rattle.comparing.specs.Standing.{TreeAt, no_rows, some_rows}
 use Rattle.comparing.specs.Contents.{Step, placed}
 use Rattle.comparing.specs.Differences.{records_of, of_pair}
 use Rattle.comparing.proofs.Steps.{AllNames, names_end, names_more}

@@ -6,14 +6,14 @@ use Prim.Native.Nat.{ℕ, zero, suc, ◌+◌, ◌*◌, ◌<◌, ◌≤◌}
 use native.Mathlib.Omega.{arith}
 use native.Mathlib.Nat.{not-suc-le-zero, le_of_suc-le-suc}
 use lib.Dec.{eqb}
-use lib.ListN.{length, get_or, length-append}
+use lib.ListN.{length, get_or}
 use borrow.Author.Tests.{eq-eqb, eqb-true}
 use Rattle.token.specs.Find.{both, bit}
 use Rattle.meaning.specs.Syntax.{Word}
 use Rattle.meaning.specs.Words.{alike}
-use Rattle.meaning.specs.Resolving.{Taken, Resolved, end, resolved, how_many_values}
+use Rattle.meaning.specs.Resolving.{Resolved, end, resolved, how_many_values}
 use Rattle.comparing.specs.Contents.{Step, same_step, how_often, step_to}
-use Rattle.comparing.proofs.Steps.{steps_of, step_number, step_numbers, AllNames, names_end, names_more, Numbering}
+use Rattle.comparing.proofs.Steps.{steps_of, step_number, step_numbers, AllNames, names_more, Numbering}
 use Rattle.comparing.proofs.Alikes.{same_truth, both_true, both_of}
 use Rattle.comparing.proofs.Rooting.{Coded, steps_length}
 

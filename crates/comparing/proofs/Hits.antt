@@ -3,17 +3,15 @@ use mathlib.Core.Path.{◌≡◌, refl, sym, ◌∙◌, ap, ap₂, subst}
 use mathlib.Core.List.{List, [], ◌∷◌}
 use mathlib.Core.Bool.{Bool, true, false}
 use mathlib.Core.Option.{Option, none, some}
-use Prim.Native.Nat.{ℕ, zero, suc, ◌+◌, ◌*◌, ◌<◌, ◌≤◌}
+use Prim.Native.Nat.{ℕ, ◌+◌, ◌<◌}
 use native.Mathlib.Omega.{arith}
-use native.Mathlib.Numerals.{add-one}
 use lib.Dec.{eqb}
 use lib.ListN.{length}
 use Rattle.token.specs.Find.{pick, both}
 use Rattle.token.specs.Words.{same}
-use Rattle.rows.specs.Table.{cell_of}
-use Rattle.rows.specs.Search.{row_name, has_key, find_from}
-use Rattle.rows.specs.declared.Found.{Found}
-use Rattle.rows.specs.declared.Found.TheVariants.{At, Nothing}
+use Rattle.rows.specs.Search.{has_key, find_from}
+use Rattle.rows.specs.Found.{Found}
+use Rattle.std.specs.Prelude.{Some, None}
 use Rattle.rows.proofs.Searches.{find_stop, find_more, find_end}
 use Rattle.indexes.specs.Indexing.{has_word}
 use Rattle.meaning.specs.Kinds.{kind_number, same_kind}
@@ -25,8 +23,8 @@ use Rattle.comparing.proofs.Alikes.{keyed_flip, object_keyed}
 
 -- What is found is the row of the content, and nothing is none.
 pub data Hit : Option Content → Found → Type 0 where
-  no_hit : Hit none Nothing
-  a_hit : (y : Content) → Hit (some y) (At y.object.row)
+  no_hit : Hit none None
+  a_hit : (y : Content) → Hit (some y) (Some y.object.row)
 
 module _ (s o : List ℕ) (x : Content) where
   abbrev asks : ℕ → Bool
@@ -53,14 +51,14 @@ module _ (s o : List ℕ) (x : Content) where
 
   -- THE THEOREM.
   pub object_hit : (n i : ℕ) (ys : List Content) → n ≡ i + length ys → ObjectsAt s o i ys → Hit (the_first (same_object x) ys) (find_from asks n i)
-  object_hit n i [] e no_objects = subst (λ (f : Found). Hit (the_first (same_object x) []) f) (sym (find_end asks n i (omega (arith, e)))) (subst (λ (c : Option Content). Hit c Nothing) (sym the_none) no_hit)
+  object_hit n i [] e no_objects = subst (λ (f : Found). Hit (the_first (same_object x) []) f) (sym (find_end asks n i (omega (arith, e)))) (subst (λ (c : Option Content). Hit c None) (sym the_none) no_hit)
   object_hit n i (y ∷ ys) e (some_objects r t) = by (same_object x y) refl (object_hit n (i + 1) ys (omega (arith, e)) t)
     where
       inside : i < n
       inside = omega (arith, e)
 
       by : (b : Bool) → same_object x y ≡ b → Hit (the_first (same_object x) ys) (find_from asks n (i + 1)) → Hit (the_first (same_object x) (y ∷ ys)) (find_from asks n i)
-      by true q h = subst (λ (f : Found). Hit (the_first (same_object x) (y ∷ ys)) f) (ap At r.row ∙ sym (find_stop asks n i inside (asks_same i y r ∙ q)))
-          (subst (λ (c : Option Content). Hit c (At y.object.row)) (sym (the_here y ys q)) (a_hit y))
+      by true q h = subst (λ (f : Found). Hit (the_first (same_object x) (y ∷ ys)) f) (ap Some r.row ∙ sym (find_stop asks n i inside (asks_same i y r ∙ q)))
+          (subst (λ (c : Option Content). Hit c (Some y.object.row)) (sym (the_here y ys q)) (a_hit y))
       by false q h = subst (λ (f : Found). Hit (the_first (same_object x) (y ∷ ys)) f) (sym (find_more asks n i inside (asks_same i y r ∙ q)))
           (subst (λ (c : Option Content). Hit c (find_from asks n (i + 1))) (sym (the_later y ys q)) h)

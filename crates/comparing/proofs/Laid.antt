@@ -6,15 +6,14 @@ use native.Mathlib.Omega.{arith}
 use Rattle.token.specs.Find.{bit}
 use Rattle.token.specs.Words.{same}
 use Rattle.rows.specs.Table.{cell_of}
-use Rattle.rows.specs.Search.{row_name}
 use Rattle.grammar.specs.Grammar.{Kind}
 use Rattle.meaning.specs.Syntax.{Num, AttributeType, reference}
 use Rattle.meaning.specs.Kinds.{kind_number}
-use Rattle.meaning.specs.Resolving.{Value, number, truth, auto, float, enumerator, object, Taken, string as string-value}
+use Rattle.meaning.specs.Resolving.{Value, Taken}
 use Rattle.meaning.specs.Cells.{type_code, value_sort, value_negative, value_amount}
 use Rattle.comparing.specs.Contents.{num_key, kind_of_type, counts_as, same_value}
 use Rattle.comparing.specs.Standing.{Typed, a_number, a_truth, an_auto, a_string, a_float, an_enumerator, an_object, Row}
-use Rattle.comparing.specs.Keys.{row_kind, row_float, within, row_key}
+use Rattle.comparing.specs.Keys.{row_kind, within, row_key}
 
 less : (n : ℕ) → (22 + n) - 22 ≡ n
 less n = omega arith

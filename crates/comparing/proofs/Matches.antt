@@ -1,16 +1,16 @@
 -- The partners of two objects' values, from the values themselves. Assumes nothing.
-use mathlib.Core.Path.{◌≡◌, refl, sym, ◌∙◌, ap, subst}
+use mathlib.Core.Path.{◌≡◌, sym, ◌∙◌, subst}
 use mathlib.Core.List.{List, [], ◌∷◌, ◌++◌}
-use Prim.Native.Nat.{ℕ, suc, ◌+◌, ◌<◌}
+use Prim.Native.Nat.{ℕ, ◌+◌, ◌<◌}
 use native.Mathlib.Omega.{arith}
 use lib.ListN.{length, get_or, length-append}
 use Rattle.meaning.specs.Syntax.{Object}
-use Rattle.meaning.specs.Resolving.{Resolved, how_many_values}
-use Rattle.comparing.specs.Contents.{Step, Placed, placed, Content}
+use Rattle.meaning.specs.Resolving.{Resolved}
+use Rattle.comparing.specs.Contents.{Step, placed}
 use Rattle.comparing.specs.Differences.{of_pair}
 use Rattle.comparing.specs.Partners.{partner_of, partners}
 use Rattle.comparing.proofs.Steps.{owner_numbers, steps_of, path_at, first_part, second_part}
-use Rattle.comparing.proofs.Partnered.{Numbers, partner}
+use Rattle.comparing.proofs.Partnered.{partner}
 use Rattle.comparing.proofs.Rooting.{Coded, numbers, owners_length, placed_length}
 use Rattle.comparing.proofs.Paired.{Matched, pair_by_partners}
 

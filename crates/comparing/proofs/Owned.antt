@@ -1,10 +1,10 @@
 -- The owners of an object's rows, as the table of resolved values has them. Assumes nothing.
-use mathlib.Core.Path.{◌≡◌, refl, sym, ◌∙◌, ap, ap₂}
-use mathlib.Core.List.{List, [], ◌∷◌, ◌++◌}
+use mathlib.Core.Path.{◌≡◌, refl, ◌∙◌, ap, ap₂}
+use mathlib.Core.List.{List, ◌∷◌, ◌++◌}
 use Prim.Native.Nat.{ℕ, suc, ◌+◌, ◌-◌}
 use native.Mathlib.Omega.{arith}
 use Rattle.meaning.specs.Places.{each}
-use Rattle.meaning.specs.Resolving.{Taken, Resolved, end, resolved, Owner, of_object, of_value, ValueRow, value_row, value_rows, how_many_values}
+use Rattle.meaning.specs.Resolving.{Resolved, end, resolved, Owner, of_object, of_value, ValueRow, value_row, value_rows, how_many_values}
 use Rattle.meaning.proofs.Unplaced.{each_append}
 use Rattle.comparing.proofs.Steps.{owner_numbers}
 

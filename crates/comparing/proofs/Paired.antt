@@ -13,7 +13,7 @@ use Rattle.token.specs.Find.{pick, is_there}
 use Rattle.meaning.specs.Words.{choose}
 use Rattle.comparing.specs.Lists.{the_first, each_of}
 use Rattle.comparing.specs.Contents.{Path, same_path, Placed, Content}
-use Rattle.comparing.specs.Differences.{Difference, value_in_second, met, of_first_value, of_second_value, of_pair}
+use Rattle.comparing.specs.Differences.{value_in_second, met, of_first_value, of_second_value, of_pair}
 use Rattle.comparing.specs.Partners.{place_from}
 use Rattle.comparing.proofs.Steps.{path_at, value_at, first_part, second_part}
 use Rattle.comparing.proofs.Alikes.{same_truth}

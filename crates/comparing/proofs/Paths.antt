@@ -1,20 +1,20 @@
 -- No two values of an object have the same path. Assumes nothing.
-use mathlib.Core.Path.{◌≡◌, refl, sym, ◌∙◌, ap, ap₂, subst}
+use mathlib.Core.Path.{◌≡◌, refl, sym, ◌∙◌, ap, ap₂}
 use mathlib.Core.List.{List, [], ◌∷◌, ◌++◌}
 use mathlib.Core.Bool.{Bool, true, false, false≢true}
-use mathlib.Core.Option.{Option, none, some}
+use mathlib.Core.Option.{none}
 use Prim.Native.Nat.{ℕ, suc, ◌+◌, ◌≤◌}
 use native.Mathlib.Omega.{arith}
-use Rattle.token.specs.Find.{bit, pick, both}
+use Rattle.token.specs.Find.{bit, both}
 use Rattle.token.specs.Words.{same}
-use Rattle.token.proofs.Codes.{same_self, same_equal}
+use Rattle.token.proofs.Codes.{same_self}
 use Rattle.meaning.specs.Syntax.{Word}
 use Rattle.meaning.specs.Words.{alike}
 use Rattle.meaning.specs.Places.{each}
 use Rattle.meaning.specs.Resolving.{Taken, Resolved, end, resolved, how_many_values}
 use Rattle.comparing.specs.Lists.{the_first}
 use Rattle.comparing.specs.Contents.{Step, Path, same_step, same_path, Placed, how_often, step_to, below, placed}
-use Rattle.comparing.proofs.Alikes.{both_true, step_keyed, step_key, Keyed}
+use Rattle.comparing.proofs.Alikes.{both_true, step_keyed}
 use Rattle.comparing.proofs.Matching.{Apart, none_append, first_none, none_first, not_true}
 
 -- The first step of a path is to an entry that is behind those `before`.

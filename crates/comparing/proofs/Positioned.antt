@@ -1,21 +1,21 @@
 -- The positions that the rows give are those of the steps. Assumes nothing.
-use mathlib.Core.Path.{◌≡◌, refl, sym, ◌∙◌, ap, ap₂, subst}
+use mathlib.Core.Path.{◌≡◌, refl, sym, ◌∙◌, ap, ap₂}
 use mathlib.Core.List.{List, [], ◌∷◌, ◌++◌}
-use mathlib.Core.Bool.{Bool, true, false, false≢true}
+use mathlib.Core.Bool.{Bool, true, false}
 use Prim.Native.Nat.{ℕ, zero, suc, ◌+◌, ◌<◌, ◌≤◌}
 use native.Mathlib.Omega.{arith}
 use lib.Dec.{eqb}
 use lib.ListN.{length, length-append}
-use borrow.Author.Tests.{eq-eqb, ne_eqb, eqb-true}
+use borrow.Author.Tests.{eq-eqb, ne_eqb}
 use Rattle.token.specs.Find.{pick, both, bit}
 use Rattle.token.specs.Words.{same}
 use Rattle.token.proofs.Codes.{same_self, same_equal}
 use Rattle.meaning.specs.Syntax.{Word}
 use Rattle.meaning.specs.Words.{alike}
-use Rattle.meaning.specs.Resolving.{Taken, Resolved, end, resolved, how_many_values}
+use Rattle.meaning.specs.Resolving.{Resolved, end, resolved, how_many_values}
 use Rattle.comparing.specs.Contents.{Step, how_often, step_to}
 use Rattle.comparing.specs.Partners.{last_position, positions}
-use Rattle.comparing.proofs.Steps.{owner_numbers, steps_of, name_numbers, positions_in, AllNames, names_end, names_more, Numbering}
+use Rattle.comparing.proofs.Steps.{owner_numbers, steps_of, name_numbers, positions_in, AllNames, names_more, Numbering}
 use Rattle.comparing.proofs.Alikes.{same_truth}
 use Rattle.comparing.proofs.Paths.{often_same}
 use Rattle.comparing.proofs.Rooting.{owners_length, steps_length}

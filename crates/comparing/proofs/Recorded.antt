@@ -1,12 +1,11 @@
 -- The records that are gathered of a pair's first object are those of its differences. Assumes nothing.
-use mathlib.Core.Path.{◌≡◌, refl, sym, ◌∙◌, ap, ap₂, subst}
+use mathlib.Core.Path.{◌≡◌, refl, sym, ◌∙◌, ap, ap₂}
 use mathlib.Core.List.{List, [], ◌∷◌, ◌++◌}
 use mathlib.Core.Bool.{Bool, true, false}
 use mathlib.Core.Option.{Option, none, some}
-use Prim.Native.Nat.{ℕ, zero, suc, ◌+◌, ◌-◌, ◌<◌}
+use Prim.Native.Nat.{ℕ, suc, ◌+◌, ◌-◌, ◌<◌}
 use native.Mathlib.Omega.{arith}
 use native.Mathlib.Numerals.{add-one}
-use lib.Dec.{eqb}
 use lib.ListN.{length, get_or}
 use borrow.Author.Tests.{ne_eqb}
 use Rattle.token.specs.Find.{pick}
@@ -14,7 +13,7 @@ use Rattle.token.specs.Words.{same}
 use Rattle.meaning.specs.Words.{choose}
 use Rattle.comparing.specs.Standing.{Row}
 use Rattle.comparing.specs.Contents.{Placed, Content, same_value}
-use Rattle.comparing.specs.Differences.{Difference, value_in_first, values_differ, met, record_of, records_of}
+use Rattle.comparing.specs.Differences.{Difference, values_differ, met, record_of, records_of}
 use Rattle.comparing.specs.Partners.{place_from}
 use Rattle.comparing.proofs.Steps.{value_at, first_part}
 use Rattle.comparing.specs.Keys.{row_key}

@@ -1,15 +1,14 @@
 -- Contents that are alike have no difference: so has a text compared with itself. Assumes nothing.
-use mathlib.Core.Path.{◌≡◌, refl, sym, ◌∙◌, ap, ap₂, subst}
+use mathlib.Core.Path.{◌≡◌, refl, sym, ◌∙◌, ap, ap₂}
 use mathlib.Core.List.{List, [], ◌∷◌, ◌++◌}
 use mathlib.Core.Bool.{Bool, true, false, false≢true}
 use mathlib.Core.Option.{Option, none, some}
-use Prim.Native.Nat.{ℕ}
 use Rattle.token.specs.Find.{pick, is_there}
 use Rattle.meaning.specs.Syntax.{File}
 use Rattle.meaning.specs.Words.{choose}
 use Rattle.comparing.specs.Lists.{the_first, each_of}
 use Rattle.comparing.specs.Contents.{Placed, same_path, same_value, Content, contents, same_object}
-use Rattle.comparing.specs.Differences.{Difference, object_in_second, value_in_second, values_differ, met, of_first_value, of_second_value, of_pair, matched, of_first_object, of_second_object, of_contents, differences}
+use Rattle.comparing.specs.Differences.{object_in_second, value_in_second, values_differ, met, of_first_value, of_second_value, of_pair, matched, of_first_object, of_second_object, of_contents, differences}
 use Rattle.comparing.proofs.Matching.{Apart, All, none_first, not_true}
 use Rattle.comparing.proofs.Alikes.{keyed_flip, keyed_third, path_flip, path_third, path_same, value_keyed, object_keyed}
 use Rattle.comparing.proofs.Swaps.{PathsApart, ObjectsApart, Sound, sound}

@@ -1,6 +1,5 @@
 -- What the program prints of pairs of texts, by computation. Assumes nothing.
 use mathlib.Core.Path.{refl}
-use Rattle.meaning.specs.Words.{choose}
 use Rattle.meaning.proofs.Everything.{everything}
 use Rattle.meaning.specs.Places.{each}
 use Rattle.comparing.specs.Lists.{the_first, each_of}

@@ -1,7 +1,7 @@
 -- "Swapping the texts swaps the sides in the whole set." Assumes nothing.
 use mathlib.Core.Path.{◌≡◌, refl, sym, ◌∙◌, ap, ap₂}
-use mathlib.Core.List.{List, [], ◌∷◌, ◌++◌}
-use mathlib.Core.Bool.{Bool, true, false, false≢true}
+use mathlib.Core.List.{List, [], ◌∷◌}
+use mathlib.Core.Bool.{Bool, true, false}
 use mathlib.Core.Option.{Option, none, some}
 use Prim.Native.Nat.{ℕ, ◌+◌}
 use native.Mathlib.Omega.{arith}
@@ -11,7 +11,7 @@ use Rattle.meaning.specs.Syntax.{Object, File}
 use Rattle.meaning.specs.Words.{choose}
 use Rattle.meaning.specs.Resolving.{object_values, how_many_values}
 use Rattle.comparing.specs.Lists.{the_first, each_of, count}
-use Rattle.comparing.specs.Contents.{Placed, same_path, same_value, Content, placed, contents_from, contents, same_object}
+use Rattle.comparing.specs.Contents.{Placed, same_path, same_value, Content, contents_from, contents, same_object}
 use Rattle.comparing.specs.Differences.{Difference, object_in_first, object_in_second, value_in_first, value_in_second, values_differ, met, of_first_value, of_second_value, of_pair, matched, of_first_object, of_second_object, of_contents, differences, swap}
 use Rattle.comparing.proofs.Matching.{sum, count_append, count_each, found_or, told_of, both_sides, One, Apart, one_of_apart, All, told_within}
 use Rattle.comparing.proofs.Alikes.{keyed_flip, keyed_third, path_flip, path_third, value_keyed, object_keyed}

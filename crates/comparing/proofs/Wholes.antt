@@ -2,8 +2,8 @@
 use mathlib.Core.Path.{◌≡◌, refl, sym, ◌∙◌, ap, ap₂, subst}
 use mathlib.Core.List.{List, [], ◌∷◌, ◌++◌}
 use mathlib.Core.Bool.{Bool, true, false}
-use mathlib.Core.Option.{Option, none, some}
-use Prim.Native.Nat.{ℕ, zero, suc, ◌+◌, ◌-◌, ◌*◌, ◌<◌, ◌≤◌}
+use mathlib.Core.Option.{none, some}
+use Prim.Native.Nat.{ℕ, zero, suc, ◌+◌, ◌<◌, ◌≤◌}
 use native.Mathlib.Omega.{arith}
 use native.Mathlib.Numerals.{add-one}
 use native.Mathlib.Nat.{le_of_suc-le-suc}
@@ -16,15 +16,14 @@ use Rattle.rows.specs.Search.{row_name}
 use Rattle.meaning.specs.Syntax.{Word, Object}
 use Rattle.meaning.specs.Words.{choose}
 use Rattle.meaning.specs.Places.{each}
-use Rattle.meaning.specs.Resolving.{Taken, Resolved, end, resolved, Owner, of_object, of_value, how_many_values}
-use Rattle.comparing.specs.Standing.{Row, RowIs, TreeAt, no_rows, some_rows}
+use Rattle.meaning.specs.Resolving.{Resolved, end, resolved, Owner, of_object, of_value, how_many_values}
+use Rattle.comparing.specs.Standing.{Row, TreeAt, no_rows, some_rows}
 use Rattle.comparing.specs.Contents.{Step, Placed, below, step_to, placed, Content}
-use Rattle.comparing.specs.Differences.{Difference, value_in_second, record_of, records_of, of_pair}
+use Rattle.comparing.specs.Differences.{value_in_second, record_of, records_of, of_pair}
 use Rattle.comparing.specs.Partners.{partners, place_from}
 use Rattle.comparing.proofs.Steps.{owner_numbers, steps_of, step_numbers, value_at, first_part, second_part, AllNames, Numbering}
 use Rattle.comparing.specs.Gathered.{first_records, second_record, second_records, pair_partners, pair_records}
-use Rattle.comparing.specs.Columns.{cells_of, back_number, back_cell, backs_of, owners_of, steps_of_rows}
-use Rattle.comparing.specs.declared.Difference.{Difference as Record}
+use Rattle.comparing.specs.Columns.{back_number, back_cell, backs_of}
 use Rattle.comparing.proofs.Recorded.{records_append, Backed, back_none, back_some, Standing, none_stand, more_stand, first_recorded}
 use Rattle.comparing.proofs.Rooting.{placed_length, owners_length, steps_length}
 use Rattle.comparing.proofs.Codings.{coded, numbers_length}

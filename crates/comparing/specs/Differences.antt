@@ -1,5 +1,5 @@
 -- The differences of two texts (document 02, Q-8). Assumes nothing.
-use Rattle.std.specs.Prelude.{List, [], ◌∷◌, ◌++◌, Bool, ℕ, suc, take}
+use Rattle.std.specs.Prelude.{List, [], ◌∷◌, ◌++◌, ℕ, suc, take}
 use Rattle.std.proofs.Math.Option.{Option, none, some}
 use Rattle.token.specs.Find.{is_there}
 use Rattle.meaning.specs.Syntax.{Object, File}

@@ -2,7 +2,7 @@
 use Rattle.std.specs.Prelude.{List, ℕ}
 use Rattle.rows.specs.Table.{cell_of}
 use Rattle.rows.specs.Search.{row_name}
-use Rattle.rows.specs.declared.Found.{Found}
+use Rattle.rows.specs.Found.{Found}
 use Rattle.indexes.specs.Indexing.{FindsWord}
 
 -- r is the first object of the second text with the kind and the name of object i of the first; x is the index of the second's objects.

@@ -1,9 +1,9 @@
 // What is copied out of the tables for the matching, row by row.
-ghost use Rattle.std.specs.Prelude.{◌≡◌, ◌+◌, ◌≤◌, length};
+ghost use Rattle.std.specs.Prelude.{◌≡◌, ◌+◌, ◌*◌, ◌≤◌, length};
 ghost use Rattle.comparing.specs.Ordering.{Orderable};
 ghost use Rattle.comparing.specs.Columns.{Holds, owner_cell, owner_from, name_from, step_cell, step_of_row, put_back, Backs, Columned, Roomy, Coupled};
 
-use super::positions;
+use super::{Object, positions};
 use layout::{definition, value};
 use rows::cells;
 
@@ -31,10 +31,8 @@ fn copy_owners(v: &[usize], r: usize, out: &mut [usize])
     requires { r + length out.old ≤ 65536 }
     ensures { Holds (owner_from v.now r) (length out.new) out.new }
 {
-    let mut i = 0;
-    while i < out.len() {
-        out[i] = owner_at(v, r, r + i);
-        i += 1;
+    for (i, cell) in out.iter_mut().enumerate() {
+        *cell = owner_at(v, r, r + i);
     }
 }
 
@@ -43,11 +41,9 @@ fn copy_names(v: &[usize], h: &[usize], r: usize, out: &mut [usize])
     requires { r + length out.old ≤ 65536 }
     ensures { Holds (name_from v.now h.now r) (length out.new) out.new }
 {
-    let mut i = 0;
-    while i < out.len() {
+    for (i, cell) in out.iter_mut().enumerate() {
         let j = cells::cell_of(v, value::WIDTH, r + i, value::DEFINITION);
-        out[i] = cells::least_of(cells::get(h, j), NAMES);
-        i += 1;
+        *cell = cells::least_of(cells::get(h, j), NAMES);
     }
 }
 
@@ -77,12 +73,10 @@ fn make_steps(
     requires { r + length out.old ≤ 65536 }
     ensures { Holds (step_of_row d.now v.now names.now places.now r) (length out.new) out.new }
 {
-    let mut i = 0;
-    while i < out.len() {
+    for (i, cell) in out.iter_mut().enumerate() {
         let a = cells::get(names, i);
         let p = cells::get(places, i);
-        out[i] = step_at(d, v, r + i, a, p);
-        i += 1;
+        *cell = step_at(d, v, r + i, a, p);
     }
 }
 
@@ -105,19 +99,14 @@ pub fn fill_back(ps: &[usize], r: usize, back: &mut [usize])
     ensures { Backs ps.now r 0 back.new }
 {
     cells::clear(back);
-    let mut k = ps.len();
-    while 0 < k {
-        k -= 1;
+    for k in (0..ps.len()).rev() {
         put_back(back, ps[k], r + k + 1);
     }
 }
 
-// The owners and the steps of the rows from row r on, as many as there is room for; h has the numbers of the definitions' names.
+// The owners and the steps of an object's rows, as many as there is room for.
 fn object_columns(
-    d: &[usize],
-    v: &[usize],
-    h: &[usize],
-    r: usize,
+    a: Object,
     owners: &mut [usize],
     names: &mut [usize],
     places: &mut [usize],
@@ -125,68 +114,38 @@ fn object_columns(
     x: &mut [usize],
     room: &mut [usize],
 )
-    requires { Roomy r owners.old names.old places.old steps.old × Orderable (length owners.old) x.old room.old }
-    ensures { Columned d.now v.now h.now r (length owners.old) owners.new steps.new }
+    requires { Roomy a.from owners.old names.old places.old steps.old × Orderable (length owners.old) x.old room.old }
+    ensures { Columned a.entry.side.definitions.now a.entry.side.values.now a.entry.names.now a.entry.from (length owners.old) owners.new steps.new }
 {
-    copy_owners(v, r, owners);
-    copy_names(v, h, r, names);
+    copy_owners(a.side.values, a.from, owners);
+    copy_names(a.side.values, a.names, a.from, names);
     positions::find_positions(owners, names, x, room, places);
-    make_steps(d, v, names, places, r, steps);
-}
-
-// The same, with room for the names and positions of at most 128 rows.
-fn few_columns(
-    d: &[usize],
-    v: &[usize],
-    h: &[usize],
-    r: usize,
-    owners: &mut [usize],
-    steps: &mut [usize],
-)
-    requires { Coupled r owners.old steps.old × (length owners.old ≤ 128) }
-    ensures { Columned d.now v.now h.now r (length owners.old) owners.new steps.new }
-{
-    let n = owners.len();
-    let mut names = [0; super::FEW];
-    let mut places = [0; super::FEW];
-    let mut x = [0; super::FEW];
-    let mut room = [0; super::FEW / 2];
-    object_columns(
-        d,
-        v,
-        h,
-        r,
-        owners,
-        &mut names[..n],
-        &mut places[..n],
+    make_steps(
+        a.side.definitions,
+        a.side.values,
+        names,
+        places,
+        a.from,
         steps,
-        &mut x[..n],
-        &mut room,
     );
 }
 
-// The same, of at most 2,048 rows.
-fn many_columns(
-    d: &[usize],
-    v: &[usize],
-    h: &[usize],
-    r: usize,
+// The same, with room for the names and positions of so many rows.
+fn columns_in<const ROOM: usize, const HALF: usize>(
+    a: Object,
     owners: &mut [usize],
     steps: &mut [usize],
 )
-    requires { Coupled r owners.old steps.old }
-    ensures { Columned d.now v.now h.now r (length owners.old) owners.new steps.new }
+    requires { Coupled a.from owners.old steps.old × ((length owners.old ≤ ROOM) × (ROOM ≤ 2 * HALF + 1) × (ROOM ≤ 2048) × (HALF ≤ 1024)) }
+    ensures { Columned a.entry.side.definitions.now a.entry.side.values.now a.entry.names.now a.entry.from (length owners.old) owners.new steps.new }
 {
     let n = owners.len();
-    let mut names = [0; value::MOST];
-    let mut places = [0; value::MOST];
-    let mut x = [0; value::MOST];
-    let mut room = [0; value::MOST / 2];
+    let mut names = [0; ROOM];
+    let mut places = [0; ROOM];
+    let mut x = [0; ROOM];
+    let mut room = [0; HALF];
     object_columns(
-        d,
-        v,
-        h,
-        r,
+        a,
         owners,
         &mut names[..n],
         &mut places[..n],
@@ -197,20 +156,13 @@ fn many_columns(
 }
 
 // The same, with no more room than the rows need.
-pub fn columns_of(
-    d: &[usize],
-    v: &[usize],
-    h: &[usize],
-    r: usize,
-    owners: &mut [usize],
-    steps: &mut [usize],
-)
-    requires { Coupled r owners.old steps.old }
-    ensures { Columned d.now v.now h.now r (length owners.old) owners.new steps.new }
+pub fn columns_of(a: Object, owners: &mut [usize], steps: &mut [usize])
+    requires { Coupled a.from owners.old steps.old }
+    ensures { Columned a.entry.side.definitions.now a.entry.side.values.now a.entry.names.now a.entry.from (length owners.old) owners.new steps.new }
 {
     if owners.len() <= super::FEW {
-        few_columns(d, v, h, r, owners, steps);
-        return;
+        columns_in::<{ super::FEW }, { super::HALF_FEW }>(a, owners, steps);
+    } else {
+        columns_in::<{ value::MOST }, { super::HALF_MOST }>(a, owners, steps);
     }
-    many_columns(d, v, h, r, owners, steps);
 }

@@ -5,6 +5,8 @@ ghost use Rattle.std.specs.Prelude.{◌≡◌, ◌<◌, min, length, set, get_or
 ghost use Rattle.comparing.specs.Lists.{overwrite};
 ghost use Rattle.comparing.specs.Records.{no_record};
 
+use layout::value;
+
 mod columns;
 pub mod couples;
 pub mod gathering;
@@ -42,12 +44,37 @@ pub const RECORDS: usize = 64;
 // Few values of an object, for which less room is made.
 pub const FEW: usize = 128;
 
+// Half of so many rows, and of the most: sorting needs as much room beside them.
+const HALF_FEW: usize = FEW / 2;
+
+const HALF_MOST: usize = value::MOST / 2;
+
 // The first 64 differences, or all where there are fewer, how many there are, and the answer.
 #[derive(Clone, Copy)]
 pub struct Found {
     pub total: usize,
     pub records: [Difference; RECORDS],
     pub compared: Compared,
+}
+
+// A text with the tables of its rows.
+#[derive(Clone, Copy)]
+pub struct Side<'a> {
+    pub text: &'a [u8],
+    pub definitions: &'a [usize],
+    pub objects: &'a [usize],
+    pub values: &'a [usize],
+}
+
+// An object of a text, by one more than its row: the numbers of the names of the text's definitions, and the rows of the object's values, which
+// are so many from a row on.
+#[derive(Clone, Copy)]
+pub struct Object<'a> {
+    pub side: Side<'a>,
+    pub names: &'a [usize],
+    pub number: usize,
+    pub from: usize,
+    pub many: usize,
 }
 
 // Stores one record at its place in the lent list.
@@ -62,16 +89,7 @@ fn put_difference(list: &mut [Difference], at: usize, d: Difference)
 fn used(total: usize, length: usize) -> usize
     ensures { result ≡ min (min total 64) length }
 {
-    if total < RECORDS {
-        if total < length {
-            return total;
-        }
-        return length;
-    }
-    if RECORDS < length {
-        return RECORDS;
-    }
-    length
+    total.min(RECORDS).min(length)
 }
 
 // A record that was found.
@@ -87,9 +105,7 @@ pub fn put_all(list: &mut [Difference], found: Found)
     ensures { list.new ≡ overwrite (take (min found.total 64) found.records) list.old }
 {
     let n = used(found.total, list.len());
-    let mut k = 0;
-    while k < n {
+    for k in 0..n {
         put_difference(list, k, record_at(found, k));
-        k = k + 1;
     }
 }

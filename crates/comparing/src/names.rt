@@ -3,81 +3,57 @@ ghost use Rattle.std.specs.Prelude.{◌≡◌, length};
 ghost use Rattle.comparing.specs.Naming.{Index, number_of_name};
 ghost use Rattle.comparing.specs.Columns.{Holds, name_of};
 
+use super::Side;
 use layout::definition;
 use rows::cells;
 
 // The number of a name; x and x2 are the indexes of the definitions by name.
-fn name_number(
-    first: &[u8],
-    d: &[usize],
-    x: &[usize],
-    second: &[u8],
-    d2: &[usize],
-    x2: &[usize],
-    word: &[u8],
-) -> usize
-    requires { Index first.now d.now x.now × Index second.now d2.now x2.now }
-    ensures { result ≡ number_of_name first.now d.now x.now second.now d2.now x2.now word.now }
+fn name_number(a: Side, x: &[usize], b: Side, x2: &[usize], word: &[u8]) -> usize
+    requires { Index a.text.now a.definitions.now x.now × Index b.text.now b.definitions.now x2.now }
+    ensures { result ≡ number_of_name a.entry.text.now a.entry.definitions.now x.now b.entry.text.now b.entry.definitions.now x2.now word.now }
 {
-    let a = indexes::rank_of(
-        first,
-        d,
+    let first = indexes::rank_of(
+        a.text,
+        a.definitions,
         definition::LENT_WIDTH,
         definition::UNDER,
         definition::NAME,
         word,
         x,
     );
-    let b = indexes::rank_of(
-        second,
-        d2,
+    let second = indexes::rank_of(
+        b.text,
+        b.definitions,
         definition::LENT_WIDTH,
         definition::UNDER,
         definition::NAME,
         word,
         x2,
     );
-    a + b
+    first + second
 }
 
-// The number of the name of definition i of a text with the definitions t.
-fn name_of(
-    first: &[u8],
-    d: &[usize],
-    x: &[usize],
-    second: &[u8],
-    d2: &[usize],
-    x2: &[usize],
-    text: &[u8],
-    t: &[usize],
-    i: usize,
-) -> usize
-    requires { Index first.now d.now x.now × Index second.now d2.now x2.now }
-    ensures { result ≡ name_of first.now d.now x.now second.now d2.now x2.now text.now t.now i }
+// The number of the name of definition i of one of them.
+fn name_of(a: Side, x: &[usize], b: Side, x2: &[usize], of: Side, i: usize) -> usize
+    requires { Index a.text.now a.definitions.now x.now × Index b.text.now b.definitions.now x2.now }
+    ensures { result ≡ name_of a.entry.text.now a.entry.definitions.now x.now b.entry.text.now b.entry.definitions.now x2.now of.entry.text.now of.entry.definitions.now i }
 {
-    let p = cells::cell_of(t, definition::LENT_WIDTH, i, definition::NAME);
-    let n = cells::cell_of(t, definition::LENT_WIDTH, i, definition::NAME_LENGTH);
-    name_number(first, d, x, second, d2, x2, token::part(text, p, n))
+    let p = cells::cell_of(of.definitions, definition::LENT_WIDTH, i, definition::NAME);
+    let n = cells::cell_of(
+        of.definitions,
+        definition::LENT_WIDTH,
+        i,
+        definition::NAME_LENGTH,
+    );
+    name_number(a, x, b, x2, token::part(of.text, p, n))
 }
 
-// Makes h the numbers of the names of the first definitions, as many as h has cells.
-pub fn number_names(
-    first: &[u8],
-    d: &[usize],
-    x: &[usize],
-    second: &[u8],
-    d2: &[usize],
-    x2: &[usize],
-    text: &[u8],
-    t: &[usize],
-    h: &mut [usize],
-)
-    requires { Index first.now d.now x.now × Index second.now d2.now x2.now }
-    ensures { Holds (name_of first.now d.now x.now second.now d2.now x2.now text.now t.now) (length h.new) h.new }
+// Makes h the numbers of the names of its first definitions, as many as h has cells.
+pub fn number_names(a: Side, x: &[usize], b: Side, x2: &[usize], of: Side, h: &mut [usize])
+    requires { Index a.text.now a.definitions.now x.now × Index b.text.now b.definitions.now x2.now }
+    ensures { Holds (name_of a.entry.text.now a.entry.definitions.now x.now b.entry.text.now b.entry.definitions.now x2.now of.entry.text.now of.entry.definitions.now) (length h.new) h.new }
 {
-    let mut i = 0;
-    while i < h.len() {
-        h[i] = name_of(first, d, x, second, d2, x2, text, t, i);
-        i += 1;
+    for (i, cell) in h.iter_mut().enumerate() {
+        *cell = name_of(a, x, b, x2, of, i);
     }
 }

@@ -30,11 +30,9 @@ fn fill(a: &[usize], b: &[usize], x: &mut [usize])
     requires { Bounded a.now b.now × (length x.old ≡ length a.now) }
     ensures { Holds (entry_of a.now b.now) (length x.new) x.new }
 {
-    let mut i = 0;
-    while i < x.len() {
+    for (i, cell) in x.iter_mut().enumerate() {
         let k = key_of(a[i], b[i]);
-        x[i] = k * value::MOST + i;
-        i += 1;
+        *cell = k * value::MOST + i;
     }
 }
 
@@ -53,6 +51,7 @@ pub fn first_place(x: &[usize], v: usize) -> usize
 {
     let mut low = 0;
     let mut high = x.len();
+    // A `while`: each step halves what is left, so no range counts it.
     while low < high {
         let middle = low + (high - low) / 2;
         if x[middle] < v {

@@ -2,77 +2,48 @@
 ghost use Rattle.std.specs.Prelude.{◌≡◌, ◌-◌, ◌<◌, ◌≤◌, ◌+◌, length};
 ghost use Rattle.comparing.specs.Gathered.{ToldAlso, first_record, first_records, second_record, second_records};
 
-use super::{Difference, Found, gathering, values};
+use super::{Difference, Found, Object, gathering, values};
 use rows::cells;
 
-// Row r of the first text, which has the partner b, one more than its row, or 0.
-fn one_first(
-    found: Found,
-    first: &[u8],
-    d: &[usize],
-    v: &[usize],
-    r: usize,
-    second: &[u8],
-    d2: &[usize],
-    v2: &[usize],
-    b: usize,
-    x: usize,
-    y: usize,
-) -> Found
+// Row r of the first text, which has the partner p, one more than its row, or 0.
+fn one_first(found: Found, a: Object, r: usize, b: Object, p: usize) -> Found
     requires { r < 18446744073709551615 }
-    ensures { ToldAlso found (first_record first.now d.now v.now second.now d2.now v2.now x y b r) result }
+    ensures { ToldAlso found (first_record a.entry.side.text.now a.entry.side.definitions.now a.entry.side.values.now b.entry.side.text.now b.entry.side.definitions.now b.entry.side.values.now a.entry.number b.entry.number p r) result }
 {
-    if b == 0 {
+    if p == 0 {
         let alone = Difference {
-            first_object: x,
-            second_object: y,
+            first_object: a.number,
+            second_object: b.number,
             first_value: r + 1,
             second_value: 0,
         };
         return gathering::and_one(found, alone);
     }
-    if values::same_value(first, d, v, r, second, d2, v2, b - 1) {
+    if values::same_value(a.side, r, b.side, p - 1) {
         return found;
     }
     let both = Difference {
-        first_object: x,
-        second_object: y,
+        first_object: a.number,
+        second_object: b.number,
         first_value: r + 1,
-        second_value: b,
+        second_value: p,
     };
     gathering::and_one(found, both)
 }
 
-// The n rows of the first text from row r on.
-pub fn first_values(
-    found: Found,
-    first: &[u8],
-    d: &[usize],
-    v: &[usize],
-    r: usize,
-    n: usize,
-    second: &[u8],
-    d2: &[usize],
-    v2: &[usize],
-    back: &[usize],
-    x: usize,
-    y: usize,
-) -> Found
-    requires { r + n ≤ 65536 }
-    ensures { ToldAlso found (first_records first.now d.now v.now second.now d2.now v2.now back.now x y n r 0) result }
+// The rows of the first object, as many as there are partners in back.
+pub fn first_values(found: Found, a: Object, b: Object, back: &[usize]) -> Found
+    requires { a.from + length back.now ≤ 65536 }
+    ensures { ToldAlso found (first_records a.entry.side.text.now a.entry.side.definitions.now a.entry.side.values.now b.entry.side.text.now b.entry.side.definitions.now b.entry.side.values.now back.now a.entry.number b.entry.number (length back.now) a.entry.from 0) result }
 {
     let mut all = found;
-    let mut k = 0;
-    while k < n {
-        let b = cells::get(back, k);
-        let next = one_first(all, first, d, v, r + k, second, d2, v2, b, x, y);
-        all = next;
-        k += 1;
+    for (k, p) in back.iter().enumerate() {
+        all = one_first(all, a, a.from + k, b, *p);
     }
     all
 }
 
-// Row r of the second text, which has the partner p, or none where p is 0.
+// Row r of the second text, which has the partner p, or none where p is 0; x and y are one more than the objects' rows.
 fn one_second(found: Found, p: usize, r: usize, x: usize, y: usize) -> Found
     requires { r < 18446744073709551615 }
     ensures { ToldAlso found (second_record x y p r) result }
@@ -95,11 +66,8 @@ pub fn second_values(found: Found, r: usize, ps: &[usize], x: usize, y: usize) -
     ensures { ToldAlso found (second_records x y ps.now r) result }
 {
     let mut all = found;
-    let mut k = 0;
-    while k < ps.len() {
-        let next = one_second(all, ps[k], r + k, x, y);
-        all = next;
-        k += 1;
+    for (k, p) in ps.iter().enumerate() {
+        all = one_second(all, *p, r + k, x, y);
     }
     all
 }

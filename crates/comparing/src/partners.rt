@@ -42,10 +42,7 @@ pub fn find_partners(x: &[usize], owners2: &[usize], steps2: &[usize], out: &mut
     requires { (length steps2.now ≡ length owners2.now) × (length out.old ≡ length owners2.now) }
     ensures { FindsPartners x.now owners2.now steps2.now out.new }
 {
-    let mut i = 0;
-    while i < out.len() {
-        let p = partner_of(x, &out[..i], owners2[i], steps2[i]);
-        out[i] = p;
-        i += 1;
+    for i in 0..out.len() {
+        out[i] = partner_of(x, &out[..i], owners2[i], steps2[i]);
     }
 }

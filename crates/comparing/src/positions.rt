@@ -31,11 +31,8 @@ fn reckon_positions(owners: &[usize], names: &[usize], x: &[usize], out: &mut [u
     requires { Ordered owners.now names.now x.now × (length out.old ≡ length owners.now) }
     ensures { out.new ≡ positions [] [] [] owners.now names.now }
 {
-    let mut i = 0;
-    while i < out.len() {
-        let p = position_of(x, &out[..i], owners[i], names[i]);
-        out[i] = p;
-        i += 1;
+    for i in 0..out.len() {
+        out[i] = position_of(x, &out[..i], owners[i], names[i]);
     }
 }
 

@@ -16,19 +16,7 @@ pub enum Asked {
 
 // Whether two words are the same.
 pub fn is_same(word: &[u8], other: &[u8]) -> bool {
-    if word.len() != other.len() {
-        return false;
-    }
-    let mut i = 0;
-    while i < word.len() {
-        if i < other.len() {
-            if word[i] != other[i] {
-                return false;
-            }
-        }
-        i += 1;
-    }
-    true
+    word == other
 }
 
 // What the only argument asks for. A name that begins with `-` is written with its folder, as `./-`.
@@ -39,10 +27,7 @@ fn asked_by(word: &[u8]) -> Asked {
     if is_same(word, b"--version") {
         return Asked::Version;
     }
-    if word.len() == 0 {
-        return Asked::Names(1);
-    }
-    if word[0] == b'-' {
+    if word.starts_with(b"-") {
         return Asked::Wrong;
     }
     Asked::Names(1)
@@ -79,10 +64,8 @@ fn count(rt: HostRuntime, most: usize) -> usize
 // What is asked of a program that takes at most so many names.
 pub fn given(rt: HostRuntime, most: usize) -> Asked {
     let names = count(rt, most);
-    if names == most {
-        if is_given(rt, most.saturating_add(1)) {
-            return Asked::Wrong;
-        }
+    if names == most && is_given(rt, most.saturating_add(1)) {
+        return Asked::Wrong;
     }
     if names == 1 {
         return asked_by_first(rt);

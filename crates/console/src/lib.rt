@@ -38,13 +38,7 @@ fn end_of(page: &Page) -> usize
     ensures upper_bound { result ≤ 360000 }
 {
     let end = wide(page[0]) * 65536 + wide(page[1]) * 256 + wide(page[2]);
-    if end < START {
-        return START;
-    }
-    if ROOM < end {
-        return ROOM;
-    }
-    end
+    end.max(START).min(ROOM)
 }
 
 fn set_end(page: &mut Page, end: usize) {
@@ -55,17 +49,12 @@ fn set_end(page: &mut Page, end: usize) {
 
 // Puts bytes from a place on, as far as there is room; the place behind them.
 pub fn put(out: &mut [u8], at: usize, bytes: &[u8]) -> usize {
-    let mut i = 0;
-    let mut j = at;
-    while i < bytes.len() {
-        if out.len() <= j {
-            return j;
-        }
-        out[j] = bytes[i];
-        i += 1;
-        j += 1;
+    if out.len() <= at {
+        return at;
     }
-    j
+    let n = bytes.len().min(out.len() - at);
+    out[at..at + n].copy_from_slice(&bytes[..n]);
+    at + n
 }
 
 // What a page holds.
@@ -97,13 +86,6 @@ pub fn finish(rt: HostRuntime, page: &mut Page) {
     }
 }
 
-fn ends_line(bytes: &[u8]) -> bool {
-    if bytes.len() == 0 {
-        return false;
-    }
-    bytes[bytes.len() - 1] == b'\n'
-}
-
 // Whether a page has no room for so many bytes more.
 fn lacks_room(page: &Page, n: usize) -> bool {
     let end = end_of(page);
@@ -127,7 +109,7 @@ pub fn write(rt: HostRuntime, page: &mut Page, bytes: &[u8]) {
     if end < FULL {
         return;
     }
-    if ends_line(bytes) {
+    if bytes.ends_with(b"\n") {
         flush(rt, page);
     }
 }
@@ -162,39 +144,26 @@ pub fn write_refusal(rt: HostRuntime, page: &mut Page, number: u8, place: usize)
 
 // A blank or a character that stands for itself.
 fn is_plain(byte: u8) -> bool {
-    if byte == b'\\' {
-        return false;
-    }
-    32 <= byte && byte < 127
-}
-
-// The digit of a number below 16, in hex.
-fn hex_digit(n: u8) -> u8 {
-    let d = n % 16;
-    if d < 10 {
-        return 48 + d;
-    }
-    87 + d
+    byte != b'\\' && 32 <= byte && byte < 127
 }
 
 // A byte as two digits in lower-case hex.
 pub fn write_hex(rt: HostRuntime, page: &mut Page, byte: u8) {
-    let pair = [hex_digit(byte / 16), hex_digit(byte)];
-    write(rt, page, &pair);
+    let mut digits = [0u8; 16];
+    let k = number::hex(byte as u64, 2, &mut digits);
+    write(rt, page, &digits[..k]);
 }
 
 // The first place from one on where no plain byte stands; the end where there is none.
 fn plain_end(bytes: &[u8], from: usize) -> usize
     ensures { from ≤ result }
 {
-    let mut i = from;
-    while i < bytes.len() {
+    for i in from..bytes.len() {
         if !is_plain(bytes[i]) {
             return i;
         }
-        i += 1;
     }
-    i
+    from.max(bytes.len())
 }
 
 // A byte that is no plain character.
@@ -206,6 +175,7 @@ fn write_other(rt: HostRuntime, page: &mut Page, byte: u8) {
 // Bytes as they can be shown on a line: those that are no plain characters of ASCII, and `\`, as `\x` and two hex digits.
 pub fn write_shown(rt: HostRuntime, page: &mut Page, bytes: &[u8]) {
     let mut i = 0;
+    // A `while`: each turn takes a run of plain bytes and the byte after it, so no range counts them.
     while i < bytes.len() {
         let end = plain_end(bytes, i);
         write(rt, page, token::part(bytes, i, end - i));

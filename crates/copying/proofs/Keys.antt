@@ -8,7 +8,7 @@ use lib.ListN.{length, length-append}
 use lib.Dec.{eqb}
 use borrow.Author.Tests.{eq-eqb, ne_eqb}
 use Rattle.token.specs.Find.{pick}
-use Rattle.rows.specs.declared.Found.TheVariants.{At, Nothing}
+use Rattle.std.specs.Prelude.{Some, None}
 use Rattle.rows.proofs.Walks.{first, any_of, first_append}
 use Rattle.rows.specs.Search.{find_from, has_key, find_row, row_of}
 use Rattle.meaning.specs.Syntax.{Word, Definitions, no_more, define, Values, no_value, value, File}
@@ -83,7 +83,7 @@ key_cell f d k e a x b w h =
 
 -- A search by key over the kept rows is one over the definitions.
 find_key : (f : File) (d : List ℕ) (n k : ℕ) → d ≡ kept_definitions f → n ≡ length (spec_entries f.specs) → n ≤ 513
-    → find_row d 19 n 14 k 0 ≡ first (has_list k) At Nothing 0 (spec_entries f.specs)
+    → find_row d 19 n 14 k 0 ≡ first (has_list k) Some None 0 (spec_entries f.specs)
 unfolding find_row
 find_key f d n k e m h =
     ap (λ (q : ℕ). find_from (λ j. has_key d (j * 19) 14 k) q 0) m
@@ -102,7 +102,7 @@ attribute_found f d n e m h a x b w g =
     let z : 0 + length a ≡ length a = omega arith in
     ap row_of
     (find_key f d n k e m h
-    ∙ ap (first (has_list k) At Nothing 0) w
-    ∙ first_append (has_list k) At Nothing 0 a (x ∷ b) (none_has k a g)
-    ∙ ap (λ (t : Bool). pick t (At (0 + length a)) (first (has_list k) At Nothing (suc (0 + length a)) b)) (eq-eqb k k refl))
+    ∙ ap (first (has_list k) Some None 0) w
+    ∙ first_append (has_list k) Some None 0 a (x ∷ b) (none_has k a g)
+    ∙ ap (λ (t : Bool). pick t (Some (0 + length a)) (first (has_list k) Some None (suc (0 + length a)) b)) (eq-eqb k k refl))
     ∙ z

@@ -4,13 +4,13 @@ ghost use Rattle.std.proofs.lemmas.List.Edits.{sets};
 ghost use Rattle.copying.specs.Copies.{cells_from, each_row, attribute_of, attributed};
 
 use layout::{definition, enumerator};
-use rows::{Found, cells, finding};
+use rows::{cells, finding};
 
 // The first of the n definitions whose list has the key; 0 where none has.
 fn attribute_of(d: &[usize], n: usize, key: usize) -> usize
     ensures { result ≡ attribute_of d.now n key }
 {
-    let Found::At(i) = finding::find_row(d, definition::WIDTH, n, definition::KEY, key, 0) else {
+    let Some(i) = finding::find_row(d, definition::WIDTH, n, definition::KEY, key, 0) else {
         return 0;
     };
     i
@@ -34,11 +34,9 @@ pub fn copy_attributed(d: &[usize], n: usize, e: &[usize], m: usize, out: &mut [
 {
     let mut start = 0;
     let mut place = 0;
-    let mut i = 0;
-    while i < m {
+    for _ in 0..m {
         copy_enumerator(d, n, e, start, out, place);
         start = cells::place_after(e.len(), start, enumerator::WIDTH);
         place = cells::place_after(out.len(), place, enumerator::WIDTH);
-        i += 1;
     }
 }

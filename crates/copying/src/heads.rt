@@ -9,15 +9,13 @@ use rows::cells;
 fn copy_cells(from: &[usize], at: usize, count: usize, to: &mut [usize], place: usize)
     ensures { to.new ≡ sets to.old place (cells_from from.now at count) }
 {
-    let mut i = 0;
     let mut j = place;
-    while i < count {
+    for i in 0..count {
         if to.len() <= j {
             return;
         }
         let v = cells::cell(from, at, i);
         to[j] = v;
-        i += 1;
         j += 1;
     }
 }
@@ -28,11 +26,9 @@ pub fn copy_rows(from: &[usize], width: usize, n: usize, count: usize, to: &mut 
 {
     let mut start = 0;
     let mut place = 0;
-    let mut i = 0;
-    while i < n {
+    for _ in 0..n {
         copy_cells(from, start, count, to, place);
         start = cells::place_after(from.len(), start, width);
         place = cells::place_after(to.len(), place, count);
-        i += 1;
     }
 }

@@ -1,10 +1,10 @@
 -- The laws of comparing amounts of the form m * 10 ^ k.
 -- Assumes nothing.
-use Prim.Native.Nat.{ℕ, zero, suc, ◌+◌, ◌-◌, ◌*◌, ◌/◌, ◌^◌, ◌≤◌, ◌<◌}
+use Prim.Native.Nat.{ℕ, suc, ◌+◌, ◌-◌, ◌*◌, ◌/◌, ◌^◌, ◌≤◌, ◌<◌}
 use mathlib.Core.Path.{◌≡◌, refl, sym, ◌∙◌, ap}
-use mathlib.Core.Bool.{Bool, true, false}
+use mathlib.Core.Bool.{Bool, true, false, not}
 use native.Mathlib.Omega.{arith}
-use native.Mathlib.Nat.{mul_assoc, mul-one, zero-mul, pow-zero, pow-suc, mul-le-mul_right, le_of_mul-le-mul_right, le-div_iff_mul-le, one-le-pow, zero-lt-suc}
+use native.Mathlib.Nat.{mul_assoc, pow-suc, mul-le-mul_right, le_of_mul-le-mul_right, le-div_iff_mul-le, one-le-pow, zero-lt-suc}
 use lib.Dec.{leb}
 use lib.Pow.{pow-add}
 use borrow.Author.Tests.{le-leb, lt-leb, leb-true, leb-false}
@@ -20,9 +20,6 @@ same_answer a b c d f g = by (leb c d) refl
         other : (y : Bool) → leb a b ≡ y → leb a b ≡ leb c d
         other true q = absurd (let l = leb-false c d e in let h = f (leb-true a b q) in omega arith)
         other false q = q ∙ sym e
-
-pub power_none : (m k n : ℕ) → k ≡ 0 → leb (m * 10 ^ k) n ≡ leb m n
-power_none m k n e = ap (λ (x : ℕ). leb x n) (ap (λ (j : ℕ). m * 10 ^ j) e ∙ ap (λ (x : ℕ). m * x) (pow-zero 10) ∙ mul-one m)
 
 -- a power of ten less on one side is a division by ten on the other
 pub power_less : (m k n : ℕ) → 0 < k → leb (m * 10 ^ k) n ≡ leb (m * 10 ^ (k - 1)) (n / 10)
@@ -47,11 +44,6 @@ module _ (m n k l : ℕ) where
       (λ i. le_of_mul-le-mul_right i (one-le-pow l 10 (zero-lt-suc 9)))
       ∙ ap (λ (x : ℕ). leb x (n * 10 ^ l)) q
 
-pub nothing_most : (m k n l : ℕ) → m ≡ 0 → true ≡ leb (m * 10 ^ k) (n * 10 ^ l)
-nothing_most m k n l e =
-    let z : m * 10 ^ k ≡ 0 = ap (λ (x : ℕ). x * 10 ^ k) e ∙ zero-mul (10 ^ k) in
-    sym (ap (λ (x : ℕ). leb x (n * 10 ^ l)) z ∙ le-leb 0 (n * 10 ^ l) (omega arith))
-
 module _ (m k n l : ℕ) (h : 0 < m) (i : k < l) where
   -- compared with both divided by 10 ^ k
   divided : leb m (n * 10 ^ (l - k)) ≡ leb (m * 10 ^ k) (n * 10 ^ l)
@@ -64,8 +56,13 @@ module _ (m k n l : ℕ) (h : 0 < m) (i : k < l) where
       (λ j. le_of_mul-le-mul_right j (one-le-pow k 10 (zero-lt-suc 9)))
       ∙ ap (λ (x : ℕ). leb (m * 10 ^ k) x) q
 
-  pub above : leb (n * 10 ^ (l - k)) (m - 1) ≡ true → false ≡ leb (m * 10 ^ k) (n * 10 ^ l)
-  above t = let z = leb-true (n * 10 ^ (l - k)) (m - 1) t in sym (lt-leb m (n * 10 ^ (l - k)) (omega arith)) ∙ divided
+  above : leb (n * 10 ^ (l - k)) (m - 1) ≡ true → leb (m * 10 ^ k) (n * 10 ^ l) ≡ false
+  above t = let z = leb-true (n * 10 ^ (l - k)) (m - 1) t in sym divided ∙ lt-leb m (n * 10 ^ (l - k)) (omega arith)
 
-  pub not_more : leb (n * 10 ^ (l - k)) (m - 1) ≡ false → true ≡ leb (m * 10 ^ k) (n * 10 ^ l)
-  not_more t = let z = leb-false (n * 10 ^ (l - k)) (m - 1) t in sym (le-leb m (n * 10 ^ (l - k)) (omega arith)) ∙ divided
+  not_more : leb (n * 10 ^ (l - k)) (m - 1) ≡ false → leb (m * 10 ^ k) (n * 10 ^ l) ≡ true
+  not_more t = let z = leb-false (n * 10 ^ (l - k)) (m - 1) t in sym divided ∙ le-leb m (n * 10 ^ (l - k)) (omega arith)
+
+  -- one side is at most the other unless the other is less
+  pub other_way : (r : Bool) → r ≡ leb (n * 10 ^ (l - k)) (m - 1) → not r ≡ leb (m * 10 ^ k) (n * 10 ^ l)
+  other_way true e = sym (above (sym e))
+  other_way false e = sym (not_more (sym e))

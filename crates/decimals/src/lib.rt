@@ -7,11 +7,9 @@ ghost use Rattle.std.specs.Prelude.{◌≡◌, ◌*◌, ◌^◌, leb};
 pub fn scaled_at_most(m: u64, power: u8, n: u64) -> bool
     ensures { result ≡ leb (m * 10 ^ power) n }
 {
-    let mut left = power;
     let mut bound = n;
-    while 0 < left {
-        bound = bound / 10;
-        left -= 1;
+    for _ in 0..power {
+        bound /= 10;
     }
     m <= bound
 }
@@ -23,11 +21,5 @@ pub fn at_most(m: u64, k: u8, n: u64, l: u8) -> bool
     if l <= k {
         return scaled_at_most(m, k - l, n);
     }
-    if m == 0 {
-        return true;
-    }
-    if scaled_at_most(n, l - k, m - 1) {
-        return false;
-    }
-    true
+    m == 0 || !scaled_at_most(n, l - k, m - 1)
 }

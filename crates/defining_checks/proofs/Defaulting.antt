@@ -8,10 +8,10 @@ use native.Mathlib.Omega.{arith}
 use lib.ListN.{length, get_or}
 use lib.Dec.{eqb, leb}
 use borrow.Author.Tests.{ne_eqb}
+use Rattle.std.specs.Prelude.{Some, None}
 use Rattle.scopes.proofs.Sorts.{sort_coded, tells, other_coded}
 use Rattle.token.specs.Find.{pick, both}
-use Rattle.rows.specs.declared.Fault.{Fault}
-use Rattle.rows.specs.Order.{fault_if}
+use Rattle.rows.specs.Order.{MaybeFault, fault_if}
 use Rattle.grammar.specs.Grammar.{Class}
 use Rattle.meaning.specs.Syntax.{Word, File, span_or, span_of, absent}
 use Rattle.meaning.specs.Faults.{Fault as Refusal, faults_if, sooner, first}
@@ -29,12 +29,6 @@ use Rattle.defining_checks.specs.Listing.{judged, judged_faults}
 use Rattle.defining_checks.specs.Promises.{DefaultFault}
 use Rattle.defining_checks.proofs.Rising.{ascend_specs}
 use Rattle.defining_checks.proofs.Reaching.{reached}
-
-pub late_no : (full : Bool) (limit at : ℕ) → full ≡ false → false ≡ both full (leb limit at)
-late_no full limit at e = sym (ap (λ b. both b (leb limit at)) e)
-
-pub late_yes : (full : Bool) (limit at : ℕ) → full ≡ true → leb limit at ≡ both full (leb limit at)
-late_yes full limit at e = sym (ap (λ b. both b (leb limit at)) e)
 
 -- NO_DEFAULT is the word with the code 4.
 wrong_other : (c : Class) (b : Bool) → (class_number c ≡ 4 → ⊥) → default_wrong (sort_of c) b ≡ not b
@@ -69,22 +63,22 @@ number_other : (c : Class) → (class_number c ≡ 3 → ⊥) → 22 ≡ default
 number_other c h = number_coded (class_number c) h ∙ sym (ap default_number (tells c).sort)
 
 -- No fault where there is none, or where the default is not judged.
-pick_none : (b : Bool) → record { number = 0; place = 0 } ≡ fault_of (first (pick b [] []))
+pick_none : (b : Bool) → None ≡ fault_of (first (pick b [] []))
 unfolding fault_of first
 pick_none true = refl
 pick_none false = refl
 
-pick_late : (b : Bool) (l : List Refusal) → b ≡ false → record { number = 0; place = 0 } ≡ fault_of (first (pick b l []))
+pick_late : (b : Bool) (l : List Refusal) → b ≡ false → None ≡ fault_of (first (pick b l []))
 unfolding fault_of first
 pick_late b l e = sym (ap (λ c. fault_of (first (pick c l []))) e)
 
-pick_wrong : (b c : Bool) (t : Word) (n : ℕ) → c ≡ false → record { number = 0; place = 0 } ≡ fault_of (first (pick b (faults_if c t n) []))
+pick_wrong : (b c : Bool) (t : Word) (n : ℕ) → c ≡ false → None ≡ fault_of (first (pick b (faults_if c t n) []))
 unfolding faults_if
 pick_wrong b c t n e = pick_none b ∙ sym (ap (λ a. fault_of (first (pick b (faults_if a t n) []))) e)
 
 pick_is : (b c : Bool) (t : Word) (n p : ℕ) → b ≡ true → p ≡ t.place → fault_if c n p ≡ fault_of (first (pick b (faults_if c t n) []))
 unfolding fault_if fault_of first sooner faults_if
-pick_is b true t n p e h = ap (λ (i : ℕ). record { number = n; place = i }) h ∙ sym (ap (λ a. fault_of (first (pick a (faults_if true t n) []))) e)
+pick_is b true t n p e h = ap (λ (i : ℕ). Some (record { number = n; place = i })) h ∙ sym (ap (λ a. fault_of (first (pick a (faults_if true t n) []))) e)
 pick_is b false t n p e h = sym (ap (λ a. fault_of (first (pick a (faults_if false t n) []))) e)
 
 module _ (s d e xe : List ℕ) (full : Bool) (limit j at : ℕ) (e₀ : at ≡ get_or d (j * 19 + 10) 0) where
@@ -92,33 +86,33 @@ module _ (s d e xe : List ℕ) (full : Bool) (limit j at : ℕ) (e₀ : at ≡ g
   unfolding definition_cells
   place_at f x hd q l = e₀ ∙ definition_cell f d j 10 x hd q l (omega arith)
 
-  pub default_none : at ≡ 0 → DefaultFault s d e xe full limit j (record { number = 0; place = 0 })
+  pub default_none : at ≡ 0 → DefaultFault s d e xe full limit j None
   unfolding judged_faults span_or absent span_of default_faults option_words
   default_none h f m x st hd he hx room q l = by x.definition.default (sym h ∙ place_at f x hd q l) (entry_facts st (nth_in q)).facts.default
     where
       by : (o : Option Word) → 0 ≡ (span_or o).place → Goods s (option_words o)
-          → record { number = 0; place = 0 } ≡ fault_of (first (pick (judged full limit o) (default_faults x.definition x.values o) []))
+          → None ≡ fault_of (first (pick (judged full limit o) (default_faults x.definition x.values o) []))
       by none p g = pick_none (judged full limit none)
       by (some t) p g = let a = g.0.later in absurd (omega (arith, a, p))
 
-  pub default_late : (b : Bool) → b ≡ both full (leb limit at) → b ≡ true → DefaultFault s d e xe full limit j (record { number = 0; place = 0 })
+  pub default_late : (b : Bool) → b ≡ both full (leb limit at) → b ≡ true → DefaultFault s d e xe full limit j None
   unfolding judged_faults judged
   default_late b k h f m x st hd he hx room q l =
       pick_late (judged full limit x.definition.default) (default_faults x.definition x.values x.definition.default)
       (ap (λ (n : ℕ). not (both full (leb limit n))) (sym (place_at f x hd q l)) ∙ ap not (sym k ∙ h))
 
   module _ (n : at ≡ 0 → ⊥) (b : Bool) (k : b ≡ both full (leb limit at)) (h : b ≡ false) (len code : ℕ) (e₁ : len ≡ get_or d (j * 19 + 11) 0) (e₂ : code ≡ get_or d (j * 19 + 18) 0) where
-    pub default_unset : code ≡ 4 → DefaultFault s d e xe full limit j (record { number = 0; place = 0 })
+    pub default_unset : code ≡ 4 → DefaultFault s d e xe full limit j None
     unfolding judged_faults default_faults default_code code_of
     default_unset i f m x st hd he hx room q l = by x.definition.default (sym i ∙ e₂ ∙ default_cell f d j x hd q l)
       where
         by : (o : Option Word) → 4 ≡ default_code o
-            → record { number = 0; place = 0 } ≡ fault_of (first (pick (judged full limit o) (default_faults x.definition x.values o) []))
+            → None ≡ fault_of (first (pick (judged full limit o) (default_faults x.definition x.values o) []))
         by none p = pick_none (judged full limit none)
         by (some t) p = pick_wrong (judged full limit (some t)) (default_wrong (sort_of t.class) (fits x.definition x.values t)) t (default_number (sort_of t.class)) (wrong_none t.class (fits x.definition x.values t) (sym p))
 
     default_judged : (nr : ℕ) → ((a : Class) → code ≡ class_number a → nr ≡ default_number (sort_of a))
-        → (u : ℕ) (c : Bool) (r : Fault) → (code ≡ 4 → ⊥) → WordIndexed s d e xe j at len u → TakesUnder s d j at code u c → r ≡ fault_if (not c) nr at
+        → (u : ℕ) (c : Bool) (r : MaybeFault) → (code ≡ 4 → ⊥) → WordIndexed s d e xe j at len u → TakesUnder s d j at code u c → r ≡ fault_if (not c) nr at
         → DefaultFault s d e xe full limit j r
     unfolding WordIndexed judged_faults judged definition_cells span_or absent span_of default_faults default_code code_of option_words
     default_judged nr nk u c r i v w z f m x st hd he hx room q l =
@@ -142,10 +136,10 @@ module _ (s d e xe : List ℕ) (full : Bool) (limit j at : ℕ) (e₀ : at ≡ g
             ap₂ (λ b k. fault_if b k at) wr (nk t.class w)
             ∙ pick_is (judged full limit (some t)) (default_wrong (sort_of t.class) (fits x.definition x.values t)) t (default_number (sort_of t.class)) at ok p
 
-    pub default_auto : (u : ℕ) (c : Bool) (r : Fault) → (code ≡ 4 → ⊥) → code ≡ 3 → WordIndexed s d e xe j at len u → TakesUnder s d j at code u c → r ≡ fault_if (not c) 23 at
+    pub default_auto : (u : ℕ) (c : Bool) (r : MaybeFault) → (code ≡ 4 → ⊥) → code ≡ 3 → WordIndexed s d e xe j at len u → TakesUnder s d j at code u c → r ≡ fault_if (not c) 23 at
         → DefaultFault s d e xe full limit j r
     default_auto u c r i a = default_judged 23 (λ k p. number_auto k (sym p ∙ a)) u c r i
 
-    pub default_other : (u : ℕ) (c : Bool) (r : Fault) → (code ≡ 4 → ⊥) → (code ≡ 3 → ⊥) → WordIndexed s d e xe j at len u → TakesUnder s d j at code u c → r ≡ fault_if (not c) 22 at
+    pub default_other : (u : ℕ) (c : Bool) (r : MaybeFault) → (code ≡ 4 → ⊥) → (code ≡ 3 → ⊥) → WordIndexed s d e xe j at len u → TakesUnder s d j at code u c → r ≡ fault_if (not c) 22 at
         → DefaultFault s d e xe full limit j r
     default_other u c r i a = default_judged 22 (λ k p. number_other k (λ q. a (p ∙ q))) u c r i

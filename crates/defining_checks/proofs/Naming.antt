@@ -7,15 +7,15 @@ use native.Mathlib.Omega.{arith}
 use lib.ListN.{length, get_or, length-append}
 use lib.Dec.{eqb}
 use borrow.Author.Tests.{eq-eqb, ne_eqb}
+use Rattle.std.specs.Prelude.{None}
 use Rattle.token.specs.Find.{pick, both, either}
 use Rattle.token.specs.Words.{same}
 use Rattle.token.specs.Tokens.{part_of}
-use Rattle.rows.specs.declared.Fault.{Fault}
-use Rattle.rows.specs.declared.Found.{Found}
-use Rattle.rows.specs.declared.Found.TheVariants.{At, Nothing}
+use Rattle.rows.specs.Found.{Found}
+use Rattle.std.specs.Prelude.{Some, None}
 use Rattle.rows.proofs.Walks.{first, any_of}
 use Rattle.rows.specs.Search.{find_named, find_from, is_named, has_key, is_found}
-use Rattle.rows.specs.Order.{fault_if}
+use Rattle.rows.specs.Order.{MaybeFault, fault_if}
 use Rattle.rows.proofs.Searches.{found_first, first_found, nothing_none, none_nothing, first_any, first_is, first_nothing}
 use Rattle.meaning.specs.Syntax.{Definition, File}
 use Rattle.meaning.specs.Words.{alike}
@@ -31,7 +31,7 @@ use Rattle.defining_checks.specs.Promises.{first_again, TypeFault}
 use Rattle.token.proofs.Bytes.{neither_first, neither_second}
 
 -- 8 at the name of row j: an earlier row under the same word has it.
-abbrev pub AgainFault : (s d : List ℕ) → ℕ → Fault → Type 0
+abbrev pub AgainFault : (s d : List ℕ) → ℕ → MaybeFault → Type 0
 AgainFault s d j r =
     (f : File) (x : Entry) → Situation s f → d ≡ kept_definitions f → (q : Nth (spec_entries f.specs) j x) → j < 513
     → r ≡ fault_if (defined_in x.definition.name (under_of x.under.place q.front)) 8 x.definition.name.place
@@ -61,7 +61,7 @@ again_any s x g (y ∷ E) h =
     by true = refl
     by false = refl
 
-pub again_is : (s d : List ℕ) (j u at len : ℕ) (z : Found) (r : Fault) → u ≡ get_or d (j * 19 + 0) 0 → at ≡ get_or d (j * 19 + 2) 0 → len ≡ get_or d (j * 19 + 3) 0
+pub again_is : (s d : List ℕ) (j u at len : ℕ) (z : Found) (r : MaybeFault) → u ≡ get_or d (j * 19 + 0) 0 → at ≡ get_or d (j * 19 + 2) 0 → len ≡ get_or d (j * 19 + 3) 0
     → z ≡ find_named s d 19 j 0 u 2 at len 0 → r ≡ fault_if (is_found z) 8 at → AgainFault s d j r
 unfolding definition_cells
 again_is s d j u at len z r e₀ e₂ e₃ k h f x st hd q l =
@@ -100,11 +100,11 @@ find_agree : (t u : ℕ → Bool) (n : ℕ) → ((k : ℕ) → k < n → t k ≡
 find_agree t u n h = by (find_from t n 0) refl
   where
     by : (r : Found) → find_from t n 0 ≡ r → find_from t n 0 ≡ find_from u n 0
-    by (At j) e =
+    by (Some j) e =
         let i = found_first t n 0 j e in
         let g = i.high in
         e ∙ sym (first_found u n 0 j (record { low = i.low; high = g; holds = sym (h j g) ∙ i.holds; fails = λ k a b. sym (h k (omega (arith, g))) ∙ i.fails k a b }))
-    by Nothing e = e ∙ sym (none_nothing u n 0 (λ k a b. sym (h k b) ∙ nothing_none t n 0 e k a b))
+    by None e = e ∙ sym (none_nothing u n 0 (λ k a b. sym (h k b) ∙ nothing_none t n 0 e k a b))
 
 new_other : (a b c : Bool) → both b c ≡ false → both a c ≡ both (both a (not b)) c
 new_other true true c e = e
@@ -113,7 +113,7 @@ new_other true false c e = refl
 new_other false false c e = refl
 
 -- Where no row before row j under the same word has its name, the first row of the list that has it is under another value.
-other_is : (s d : List ℕ) (j o u at len : ℕ) → find_named s d 19 j 0 u 2 at len 0 ≡ Nothing → find_named s d 19 j 13 o 2 at len 0 ≡ first_other s d o u at len j 0
+other_is : (s d : List ℕ) (j o u at len : ℕ) → find_named s d 19 j 0 u 2 at len 0 ≡ None → find_named s d 19 j 13 o 2 at len 0 ≡ first_other s d o u at len j 0
 unfolding find_named is_named has_key first_other is_other
 other_is s d j o u at len e =
     find_agree (λ i. is_named s d (i * 19) 13 o 2 3 at len) (λ i. is_other s d o u at len i) j (λ k h.
@@ -130,7 +130,7 @@ unfolding is_other
 other_cells s d o p at len i a b c n e f g h = rw (e, f, g, h)
 
 find_others : (f : File) (s d : List ℕ) (front rest : List Entry) (n o p at len : ℕ) → d ≡ kept_definitions f → spec_entries f.specs ≡ front ++ rest
-    → n ≡ length front → n ≤ 513 → first_other s d o p at len n 0 ≡ first (is_other_row s o p at len) At Nothing 0 front
+    → n ≡ length front → n ≤ 513 → first_other s d o p at len n 0 ≡ first (is_other_row s o p at len) Some None 0 front
 unfolding first_other is_other_row definition_cells
 find_others f s d front rest n o p at len e w k h =
     ap (λ (m : ℕ). find_from (λ j. is_other s d o p at len j) m 0) k
@@ -177,7 +177,7 @@ module _ (s : List ℕ) (o p : ℕ) (d : Definition) (g : Good s d.name) where
       differs_skip z (others_of o p (a ++ (y ∷ b))) (both (eqb z.outer o) (not (eqb z.under.place p))) (sym (other_alike z (h z (here refl))) ∙ neither_first (P z) (any_of P a) e)
       ∙ differs_first a y b (λ v m. h v (there m)) (neither_second (P z) (any_of P a) e) t
 
-none_if : (b : Bool) (p : ℕ) → b ≡ false → record { number = 0; place = 0 } ≡ fault_if b 9 p
+none_if : (b : Bool) (p : ℕ) → b ≡ false → None ≡ fault_if b 9 p
 unfolding fault_if
 none_if b p e = sym (ap (λ c. fault_if c 9 p) e)
 
@@ -194,20 +194,20 @@ unfolding differs
 differs_nothing d = refl
 
 module _ (s d : List ℕ) (j o : ℕ) (e₁₃ : o ≡ get_or d (j * 19 + 13) 0) where
-  pub type_zero : o ≡ 0 → TypeFault s d j (record { number = 0; place = 0 })
+  pub type_zero : o ≡ 0 → TypeFault s d j None
   unfolding definition_cells
   type_zero n f x st hd q l =
       let c : o ≡ x.outer = e₁₃ ∙ definition_cell f d j 13 x hd q l (omega arith) in
       none_if _ x.definition.name.place (ap (differs x.definition) (others_zero x.outer x.under.place q.front (sym c ∙ n)) ∙ differs_nothing x.definition)
 
   module _ (n : o ≡ 0 → ⊥) (at len : ℕ) (e₂ : at ≡ get_or d (j * 19 + 2) 0) (e₃ : len ≡ get_or d (j * 19 + 3) 0)
-      (z : Found) (k : z ≡ find_named s d 19 j 13 o 2 at len 0) (new : first_again s d j ≡ Nothing) where
+      (z : Found) (k : z ≡ find_named s d 19 j 13 o 2 at len 0) (new : first_again s d j ≡ None) where
     other_first : z ≡ first_other s d o (get_or d (j * 19 + 0) 0) at len j 0
     unfolding first_again
     other_first = k ∙ other_is s d j o (get_or d (j * 19 + 0) 0) at len (ap₂ (λ a b. find_named s d 19 j 0 (get_or d (j * 19 + 0) 0) 2 a b 0) e₂ e₃ ∙ new)
 
     search_is : (f : File) (x : Entry) → d ≡ kept_definitions f → (q : Nth (spec_entries f.specs) j x) → j < 513
-        → z ≡ first (is_other_row s x.outer x.under.place x.definition.name.place x.definition.name.length) At Nothing 0 q.front
+        → z ≡ first (is_other_row s x.outer x.under.place x.definition.name.place x.definition.name.length) Some None 0 q.front
     unfolding definition_cells
     search_is f x hd q l =
         let c : o ≡ x.outer = e₁₃ ∙ definition_cell f d j 13 x hd q l (omega arith) in
@@ -221,7 +221,7 @@ module _ (s d : List ℕ) (j o : ℕ) (e₁₃ : o ≡ get_or d (j * 19 + 13) 0)
     unfolding definition_cells
     outer_some f x hd q l i = let c : o ≡ x.outer = e₁₃ ∙ definition_cell f d j 13 x hd q l (omega arith) in n (c ∙ i)
 
-    pub type_none : z ≡ Nothing → TypeFault s d j (record { number = 0; place = 0 })
+    pub type_none : z ≡ None → TypeFault s d j None
     type_none h f x st hd q l =
         let g = (entry_facts st (nth_in q)).facts.name in
         let P = is_other_row s x.outer x.under.place x.definition.name.place x.definition.name.length in
@@ -229,7 +229,7 @@ module _ (s d : List ℕ) (j o : ℕ) (e₁₃ : o ≡ get_or d (j * 19 + 13) 0)
         none_if _ x.definition.name.place (ap (differs x.definition) (others_some x.outer x.under.place q.front (outer_some f x hd q l))
         ∙ differs_none s x.outer x.under.place x.definition g q.front (names_before st q) a)
 
-    pub type_some : (i : ℕ) → z ≡ At i → (w wn v vn : ℕ) (b : Bool) (r : Fault) → w ≡ get_or d (j * 19 + 4) 0 → wn ≡ get_or d (j * 19 + 5) 0 → v ≡ get_or d (i * 19 + 4) 0 → vn ≡ get_or d (i * 19 + 5) 0
+    pub type_some : (i : ℕ) → z ≡ Some i → (w wn v vn : ℕ) (b : Bool) (r : MaybeFault) → w ≡ get_or d (j * 19 + 4) 0 → wn ≡ get_or d (j * 19 + 5) 0 → v ≡ get_or d (i * 19 + 4) 0 → vn ≡ get_or d (i * 19 + 5) 0
         → b ≡ same (part_of s v vn) (part_of s w wn) → r ≡ fault_if (not b) 9 at → TypeFault s d j r
     unfolding definition_cells alike
     type_some i h w wn v vn b r e₄ e₅ i₄ i₅ eb er f x st hd q l =

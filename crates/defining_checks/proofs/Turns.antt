@@ -6,17 +6,18 @@ use Prim.Native.Nat.{ℕ, ◌+◌, ◌*◌, ◌≤◌, ◌<◌, min}
 use native.Mathlib.Omega.{arith}
 use lib.ListN.{length, get_or}
 use lib.Dec.{eqb, ltb}
-use borrow.Author.Tests.{eq-eqb}
+use borrow.Author.Tests.{eq-eqb, lt-ltb}
+use Rattle.std.specs.Prelude.{Option, Some, None, is_some, unwrap_or}
+use Rattle.std.specs.Bool.{then_some}
 use Rattle.token.specs.Find.{pick, both, either}
 use Rattle.token.specs.Words.{same, bytes_of}
 use Rattle.token.specs.Tokens.{part_of}
-use Rattle.rows.specs.declared.Fault.{Fault}
-use Rattle.rows.specs.declared.Found.{Found}
-use Rattle.rows.specs.declared.Found.TheVariants.{At, Nothing}
+use Rattle.rows.specs.Found.{Found}
+use Rattle.std.specs.Prelude.{Some, None}
 use Rattle.rows.proofs.Walks.{any_of}
 use Rattle.rows.specs.Search.{find_named, is_found}
 use Rattle.indexes.specs.Indexing.{Indexed, Makes, By, Fits, Through}
-use Rattle.rows.specs.Order.{none, before, fault_if, sooner}
+use Rattle.rows.specs.Order.{MaybeFault, before, fault_if, sooner}
 use Rattle.rows.proofs.Searches.{first_any}
 use Rattle.meaning.specs.Syntax.{Word, Definitions, no_more, define, Values, no_value, value, Spec, File, is_enum}
 use Rattle.meaning.specs.Words.{alike, among}
@@ -27,37 +28,32 @@ use Rattle.layout.specs.Kept.{Entry, Choice, list_key, choice_if, choices, choic
 use Rattle.scopes.specs.Situations.{Situation, Nth}
 use Rattle.scopes.specs.Promises.{fault_of, RangeFault}
 use Rattle.scopes.proofs.Goodness.{Good, Goods, good_front, good_back, spec_good}
-use Rattle.scopes.proofs.Rooms.{definition_cell, choice_cell, split}
+use Rattle.scopes.proofs.Rooms.{definition_cell, choice_cell, nth_low, split}
 use Rattle.scopes.proofs.Finding.{is_choice, find_in_enumerators, same_sym}
 use Rattle.scopes.proofs.Descents.{whole}
 use Rattle.scopes.specs.Listing.{each}
 use Rattle.defining_checks.specs.Listing.{others_for, under_of, row_name_faults, judged_faults, kept_row_faults, word_if, list_of, choice_faults}
-use Rattle.defining_checks.specs.Promises.{Room, first_again, NewTypeFault, NameFault, DefaultFault, RowFault, RowsFault, EnumeratorFault, EnumeratorsFault, version_code, DefinitionFaults}
+use Rattle.defining_checks.specs.Promises.{Room, one_too_many, first_again, NewTypeFault, NameFault, DefaultFault, RowFault, RowsFault, EnumeratorFault, EnumeratorsFault, version_code, DefinitionFaults}
 use Rattle.defining_checks.proofs.Naming.{AgainFault, again_is}
-use Rattle.scopes.proofs.Firsts.{real_append, real_if, fault_append, fault_one, each_snoc, real_each}
+use Rattle.scopes.proofs.Firsts.{fault_append, fault_one, each_snoc}
 use Rattle.defining_checks.proofs.Reaching.{last_of}
 use Rattle.defining_checks.proofs.Covers.{row_is}
-use Rattle.rows.proofs.Orders.{found_some, found_none}
-use Rattle.defining_checks.proofs.Stages.{real_range, real_judged, real_row_name, real_row, real_choice, stage_is}
+use Rattle.rows.proofs.Orders.{found_some, found_none, none_sooner}
+use Rattle.defining_checks.proofs.Stages.{stage_is}
 
 -- A row of a definition --------------------------------------------------------------------------------------------------------------------------
 
-eight_first : (p : ℕ) (b : Bool) → sooner (record { number = 8; place = p }) (fault_if b 9 p) ≡ record { number = 8; place = p }
+eight_first : (p : ℕ) (b : Bool) → sooner (Some (record { number = 8; place = p })) (fault_if b 9 p) ≡ Some (record { number = 8; place = p })
 unfolding sooner before fault_if
-eight_first p true = ap (λ t. pick (pick t false (ltb p p)) (record { number = 9; place = p }) (record { number = 8; place = p })) (eq-eqb p p refl)
+eight_first p true = ap (λ t. Some (pick (pick t false (ltb p p)) (record { number = 9; place = p }) (record { number = 8; place = p }))) (eq-eqb p p refl)
 eight_first p false = refl
-
-none_last : (b : Bool) (p : ℕ) → sooner none (fault_if b 9 p) ≡ fault_if b 9 p
-unfolding sooner before fault_if
-none_last true p = refl
-none_last false p = refl
 
 cell_name : (f : File) (d : List ℕ) (j : ℕ) (x : Entry) → d ≡ kept_definitions f → Nth (spec_entries f.specs) j x → j < 513 → get_or d (j * 19 + 2) 0 ≡ x.definition.name.place
 unfolding definition_cells
 cell_name f d j x hd q l = definition_cell f d j 2 x hd q l (omega arith)
 
-module _ (s d : List ℕ) (j at : ℕ) (a : Fault) (e : at ≡ get_or d (j * 19 + 2) 0) (ha : a ≡ fault_if (eqb j 512) 7 at) where
-  name_is : (b c r : Fault) (f : File) (x : Entry) → Situation s f → d ≡ kept_definitions f → (q : Nth (spec_entries f.specs) j x) → j < 513
+module _ (s d : List ℕ) (j at : ℕ) (a : MaybeFault) (e : at ≡ get_or d (j * 19 + 2) 0) (ha : a ≡ fault_if (eqb j 512) 7 at) where
+  name_is : (b c r : MaybeFault) (f : File) (x : Entry) → Situation s f → d ≡ kept_definitions f → (q : Nth (spec_entries f.specs) j x) → j < 513
       → b ≡ fault_if (defined_in x.definition.name (under_of x.under.place q.front)) 8 x.definition.name.place
       → c ≡ fault_if (differs x.definition (others_for x.outer x.under.place q.front)) 9 x.definition.name.place
       → r ≡ sooner a (sooner b c) → r ≡ fault_of (first (row_name_faults q.front x))
@@ -74,10 +70,8 @@ module _ (s d : List ℕ) (j at : ℕ) (a : Fault) (e : at ≡ get_or d (j * 19 
       let g₇ : a ≡ fault_of (first W₇) = ha ∙ ap₂ (λ (i p : ℕ). fault_if (eqb i 512) 7 p) k n ∙ sym (fault_one (eqb y.row 512) y.name 7) in
       let g₈ : b ≡ fault_of (first W₈) = hb ∙ sym (fault_one (defined_in y.name u) y.name 8) in
       let g₉ : c ≡ fault_of (first W₉) = hc ∙ sym (fault_one (differs y o) y.name 9) in
-      let r₈ = real_if (defined_in y.name u) y.name 8 (omega arith) in
-      let r₉ = real_if (differs y o) y.name 9 (omega arith) in
-      hr ∙ ap₂ sooner g₇ (ap₂ sooner g₈ g₉ ∙ sym (fault_append W₈ W₉ r₈ r₉))
-      ∙ sym (fault_append W₇ (W₈ ++ W₉) (real_if (eqb y.row 512) y.name 7 (omega arith)) (real_append W₈ W₉ r₈ r₉))
+      hr ∙ ap₂ sooner g₇ (ap₂ sooner g₈ g₉ ∙ sym (fault_append W₈ W₉))
+      ∙ sym (fault_append W₇ (W₈ ++ W₉))
 
   again_at : (z : Found) → z ≡ first_again s d j → AgainFault s d j (fault_if (is_found z) 8 at)
   unfolding first_again
@@ -86,23 +80,23 @@ module _ (s d : List ℕ) (j at : ℕ) (a : Fault) (e : at ≡ get_or d (j * 19 
       (k ∙ ap (λ p. find_named s d 19 j 0 (get_or d (j * 19 + 0) 0) 2 p (get_or d (j * 19 + 3) 0) 0) (sym e)) refl
 
   -- Where an earlier row has the name, 9 does not come before 8.
-  pub name_again : (z : Found) (i : ℕ) (r : Fault) → z ≡ At i → r ≡ sooner a (record { number = 8; place = at }) → z ≡ first_again s d j → NameFault s d j r
+  pub name_again : (z : Found) (i : ℕ) (r : MaybeFault) → z ≡ Some i → r ≡ sooner a (Some (record { number = 8; place = at })) → z ≡ first_again s d j → NameFault s d j r
   name_again z i r h hr k f x st hd q l =
       let y = x.definition in
       let D = differs y (others_for x.outer x.under.place q.front) in
       let n : at ≡ y.name.place = e ∙ cell_name f d j x hd q l in
-      name_is (record { number = 8; place = at }) (fault_if D 9 at) r f x st hd q l
+      name_is (Some (record { number = 8; place = at })) (fault_if D 9 at) r f x st hd q l
       (found_some z i 8 at h ∙ again_at z k f x st hd q l) (ap (fault_if D 9) n) (hr ∙ ap (sooner a) (sym (eight_first at D)))
 
-  pub name_new : (z : Found) (c r : Fault) → z ≡ Nothing → r ≡ sooner a c → z ≡ first_again s d j → NewTypeFault s d j c → NameFault s d j r
+  pub name_new : (z : Found) (c r : MaybeFault) → z ≡ None → r ≡ sooner a c → z ≡ first_again s d j → NewTypeFault s d j c → NameFault s d j r
   name_new z c r h hr k hc f x st hd q l =
       let y = x.definition in
       let t = hc (sym k ∙ h) f x st hd q l in
-      name_is none c r f x st hd q l
+      name_is None c r f x st hd q l
       (found_none z 8 at h ∙ again_at z k f x st hd q l) t
-      (hr ∙ ap (sooner a) (t ∙ sym (none_last (differs y (others_for x.outer x.under.place q.front)) y.name.place) ∙ ap (sooner none) (sym t)))
+      (hr ∙ ap (sooner a) (sym (none_sooner c)))
 
-pub row_all : (s d e xe : List ℕ) (full : Bool) (limit j : ℕ) (a b c t r : Fault) → RangeFault s d j a → NameFault s d j b → DefaultFault s d e xe full limit j c
+pub row_all : (s d e xe : List ℕ) (full : Bool) (limit j : ℕ) (a b c t r : MaybeFault) → RangeFault s d j a → NameFault s d j b → DefaultFault s d e xe full limit j c
     → t ≡ sooner b c → r ≡ sooner a t → RowFault s d e xe full limit j r
 unfolding kept_row_faults
 row_all s d e xe full limit j a b c t r ha hb hc ht hr f m x st hd he hx room q l =
@@ -111,19 +105,17 @@ row_all s d e xe full limit j a b c t r ha hb hc ht hr f m x st hd he hx room q 
     let nf = row_name_faults q.front x in
     let jf = judged_faults full limit y x.values in
     let ga : a ≡ fault_of (first rg) = ha f (record { definition = y; values = x.values }) st hd (record { under = x.under; outer = x.outer; nth = q }) l in
-    let rn = real_row_name q.front x in
-    let rj = real_judged full limit y x.values in
-    hr ∙ ap₂ sooner ga (ht ∙ ap₂ sooner (hb f x st hd q l) (hc f m x st hd he hx room q l) ∙ sym (fault_append nf jf rn rj))
-    ∙ sym (fault_append rg (nf ++ jf) (real_range y.type y.bounds) (real_append nf jf rn rj))
+    hr ∙ ap₂ sooner ga (ht ∙ ap₂ sooner (hb f x st hd q l) (hc f m x st hd he hx room q l) ∙ sym (fault_append nf jf))
+    ∙ sym (fault_append rg (nf ++ jf))
 
 -- Rows one after the other.
 module _ (s d e xe : List ℕ) (full : Bool) (limit : ℕ) where
-  pub rows_start : RowsFault s d e xe full limit 0 (record { number = 0; place = 0 })
+  pub rows_start : RowsFault s d e xe full limit 0 None
   unfolding each first fault_of
   rows_start f m [] rest st hd he hx room w n l = refl
   rows_start f m (x ∷ front) rest st hd he hx room w n l = absurd (omega (arith, n))
 
-  pub rows_more : (j : ℕ) (best x r : Fault) → RowsFault s d e xe full limit j best → RowFault s d e xe full limit j x → r ≡ sooner best x → RowsFault s d e xe full limit (j + 1) r
+  pub rows_more : (j : ℕ) (best x r : MaybeFault) → RowsFault s d e xe full limit j best → RowFault s d e xe full limit j x → r ≡ sooner best x → RowsFault s d e xe full limit (j + 1) r
   rows_more j best x r h k z f m front rest st hd he hx room w n l =
       let a = last_of front j (omega (arith, n)) in
       let v : spec_entries f.specs ≡ a.front ++ (a.last ∷ rest) = w ∙ ap (λ i. i ++ rest) a.whole ∙ append_assoc a.front (a.last ∷ []) rest in
@@ -132,9 +124,9 @@ module _ (s d e xe : List ℕ) (full : Bool) (limit : ℕ) where
       let c = k f m a.last st hd he hx room (record { front = a.front; rest = rest; whole = v; place = a.many }) (omega (arith, l)) in
       z ∙ ap₂ sooner b c
       ∙ sym (ap (λ i. fault_of (first (each R [] i))) a.whole ∙ ap (λ i. fault_of (first i)) (each_snoc R a.front a.last)
-      ∙ fault_append (each R [] a.front) (R a.front a.last) (real_each R (real_row full limit) [] a.front) (real_row full limit a.front a.last))
+      ∙ fault_append (each R [] a.front) (R a.front a.last))
 
-  pub rows_end : (j n : ℕ) (best : Fault) → j ≤ n → n ≤ j → RowsFault s d e xe full limit j best → RowsFault s d e xe full limit n best
+  pub rows_end : (j n : ℕ) (best : MaybeFault) → j ≤ n → n ≤ j → RowsFault s d e xe full limit j best → RowsFault s d e xe full limit n best
   rows_end j n best h k r = let i : j ≡ n = omega (arith, h, k) in subst (λ (x : ℕ). RowsFault s d e xe full limit x best) i r
 
 -- A row of an enumerator -------------------------------------------------------------------------------------------------------------------------
@@ -198,7 +190,7 @@ choice_any s x g (y ∷ l) h =
     by true = refl
     by false = refl
 
-pub enumerator_is : (s e : List ℕ) (j u at len : ℕ) (a b : Fault) (z : Found) (r : Fault) → u ≡ get_or e (j * 3 + 0) 0 → at ≡ get_or e (j * 3 + 1) 0 → len ≡ get_or e (j * 3 + 2) 0
+pub enumerator_is : (s e : List ℕ) (j u at len : ℕ) (a b : MaybeFault) (z : Found) (r : MaybeFault) → u ≡ get_or e (j * 3 + 0) 0 → at ≡ get_or e (j * 3 + 1) 0 → len ≡ get_or e (j * 3 + 2) 0
     → a ≡ fault_if (eqb j 1024) 7 at → z ≡ find_named s e 3 j 0 u 1 at len 0 → b ≡ fault_if (is_found z) 8 at → r ≡ sooner a b → EnumeratorFault s e j r
 unfolding choice_cells choice_faults word_faults
 enumerator_is s e j u at len a b z r e₀ e₁ e₂ ha k hb hr f x st he q l =
@@ -218,15 +210,15 @@ enumerator_is s e j u at len a b z r e₀ e₁ e₂ ha k hb hr f x st he q l =
     let W₈ = faults_if w x.word 8 in
     let g₇ : a ≡ fault_of (first W₇) = ha ∙ ap₂ (λ (i n : ℕ). fault_if (eqb i 1024) 7 n) (sym q.place) c₁ ∙ sym (fault_one t x.word 7) in
     let g₈ : b ≡ fault_of (first W₈) = hb ∙ ap₂ (λ (i : Bool) (n : ℕ). fault_if i 8 n) v c₁ ∙ sym (fault_one w x.word 8) in
-    hr ∙ ap₂ sooner g₇ g₈ ∙ sym (fault_append W₇ W₈ (real_if t x.word 7 (omega arith)) (real_if w x.word 8 (omega arith)))
+    hr ∙ ap₂ sooner g₇ g₈ ∙ sym (fault_append W₇ W₈)
 
 module _ (s e : List ℕ) where
-  pub choices_start : EnumeratorsFault s e 0 (record { number = 0; place = 0 })
+  pub choices_start : EnumeratorsFault s e 0 None
   unfolding each first fault_of
   choices_start f [] rest st he w n l = refl
   choices_start f (x ∷ front) rest st he w n l = absurd (omega (arith, n))
 
-  pub choices_more : (j : ℕ) (best x r : Fault) → EnumeratorsFault s e j best → EnumeratorFault s e j x → r ≡ sooner best x → EnumeratorsFault s e (j + 1) r
+  pub choices_more : (j : ℕ) (best x r : MaybeFault) → EnumeratorsFault s e j best → EnumeratorFault s e j x → r ≡ sooner best x → EnumeratorsFault s e (j + 1) r
   choices_more j best x r h k z f front rest st he w n l =
       let a = last_of front j (omega (arith, n)) in
       let v : spec_choices f.specs ≡ a.front ++ (a.last ∷ rest) = w ∙ ap (λ i. i ++ rest) a.whole ∙ append_assoc a.front (a.last ∷ []) rest in
@@ -234,33 +226,54 @@ module _ (s e : List ℕ) where
       let c = k f a.last st he (record { front = a.front; rest = rest; whole = v; place = a.many }) (omega (arith, l)) in
       z ∙ ap₂ sooner b c
       ∙ sym (ap (λ i. fault_of (first (each choice_faults [] i))) a.whole ∙ ap (λ i. fault_of (first i)) (each_snoc choice_faults a.front a.last)
-      ∙ fault_append (each choice_faults [] a.front) (choice_faults a.front a.last) (real_each choice_faults real_choice [] a.front) (real_choice a.front a.last))
+      ∙ fault_append (each choice_faults [] a.front) (choice_faults a.front a.last))
 
-  pub choices_end : (j n : ℕ) (best : Fault) → j ≤ n → n ≤ j → EnumeratorsFault s e j best → EnumeratorsFault s e n best
+  pub choices_end : (j n : ℕ) (best : MaybeFault) → j ≤ n → n ≤ j → EnumeratorsFault s e j best → EnumeratorsFault s e n best
   choices_end j n best h k r = let i : j ≡ n = omega (arith, h, k) in subst (λ (x : ℕ). EnumeratorsFault s e x best) i r
 
 -- The stage ------------------------------------------------------------------------------------------------------------------------------------
 
-pub version_is : (s : List ℕ) (at len : ℕ) (p q : List ℕ) (b : Bool) (r : Fault) → p ≡ part_of s at len → q ≡ bytes_of "\"2.5\"" → b ≡ same p q → r ≡ fault_if (not b) 6 at → r ≡ version_code s at len
+pub version_is : (s : List ℕ) (at len : ℕ) (p q : List ℕ) (b : Bool) (r : MaybeFault) → p ≡ part_of s at len → q ≡ bytes_of "\"2.5\"" → b ≡ same p q → r ≡ fault_if (not b) 6 at → r ≡ version_code s at len
 unfolding version_code
 version_is s at len p q b r e f h k = k ∙ ap (λ (x : Bool). fault_if (not x) 6 at) (h ∙ ap₂ same e f)
 
-pub stage_code : (s d e xe : List ℕ) (n m at len again kept lent half : ℕ) (full : Bool) (limit rows : ℕ) (v a r c x y z : Fault) → kept ≡ min m 1025
-    → Fits kept lent half → Makes s e 3 lent 0 1 half xe → full ≡ ltb 1024 m
-    → limit ≡ get_or e (1024 * 3 + 1) 0 → rows ≡ min n 513 → v ≡ version_code s at len → a ≡ fault_if (not (eqb again 0)) 8 again
-    → RowsFault s d e xe full limit rows r → Through (By s e 3 0 1 xe) kept (EnumeratorsFault s e kept c) → x ≡ sooner r c → y ≡ sooner a x → z ≡ sooner v y
+-- Where the enumerator stands that is one too many.
+pub too_many_is : (e : List ℕ) (m p : ℕ) → p ≡ get_or e (1024 * 3 + 1) 0 → then_some (ltb 1024 m) p ≡ one_too_many e m
+unfolding one_too_many
+too_many_is e m p q = by (ltb 1024 m)
+  where
+    by : (b : Bool) → then_some b p ≡ pick b (Some (get_or e (1024 * 3 + 1) 0)) None
+    by true = ap (λ i. Some i) q
+    by false = refl
+
+is_there_one : (e : List ℕ) (m : ℕ) → is_some (one_too_many e m) ≡ ltb 1024 m
+unfolding one_too_many
+is_there_one e m = by (ltb 1024 m)
+  where
+    by : (b : Bool) → is_some (pick b (Some (get_or e (1024 * 3 + 1) 0)) None) ≡ b
+    by true = refl
+    by false = refl
+
+stands_at : (e : List ℕ) (m : ℕ) → 1024 < m → unwrap_or (one_too_many e m) 0 ≡ get_or e (1024 * 3 + 1) 0
+unfolding one_too_many
+stands_at e m h = ap (λ b. unwrap_or (pick b (Some (get_or e (1024 * 3 + 1) 0)) None) 0) (lt-ltb 1024 m h)
+
+pub stage_code : (s d e xe : List ℕ) (n m at len again kept lent half : ℕ) (top : Option ℕ) (rows : ℕ) (v a r c x y z : MaybeFault) → kept ≡ min m 1025
+    → Fits kept lent half → Makes s e 3 lent 0 1 half xe → top ≡ one_too_many e m
+    → rows ≡ min n 513 → v ≡ version_code s at len → a ≡ fault_if (not (eqb again 0)) 8 again
+    → RowsFault s d e xe (is_some top) (unwrap_or top 0) rows r → Through (By s e 3 0 1 xe) kept (EnumeratorsFault s e kept c) → x ≡ sooner r c → y ≡ sooner a x → z ≡ sooner v y
     → DefinitionFaults s d e n m at len again z
 unfolding Makes version_code choice_cells
-stage_code s d e xe n m at len again kept lent half full limit rows v a r c x y z hk hf hi hu hl hw hv ha hr hc hs hy hz f st hd he hn hm h₁ h₂ hg =
+stage_code s d e xe n m at len again kept lent half top rows v a r c x y z hk hf hi ht hw hv ha hr hc hs hy hz f st hd he hn hm h₁ h₂ hg =
     let e₀ = hf.index in
     let e₁ = hf.beside in
     let hx : Indexed s e 3 kept 0 1 xe = subst (λ (i : ℕ). Indexed s e 3 i 0 1 xe) (sym e₀) (hi (omega (arith, e₀, e₁))) in
     let E = spec_entries f.specs in
     let C = spec_choices f.specs in
-    let room : Room f kept full limit = record {
+    let room : Room f kept (is_some top) (unwrap_or top 0) = record {
       many = omega (arith, hk, hm);
-      over = hu ∙ ap (ltb 1024) hm;
-      edge = λ i q. hl ∙ choice_cell f e 1024 1 i he q (omega arith) (omega arith);
+      over = ap is_some ht ∙ is_there_one e m ∙ ap (ltb 1024) hm;
+      edge = λ i q. ap (λ o. unwrap_or o 0) ht ∙ stands_at e m (let l = nth_low q in omega (arith, l, hm)) ∙ choice_cell f e 1024 1 i he q (omega arith) (omega arith);
     } in
     let p = split E rows (omega (arith, hw, hn)) in
     let q = split C kept (omega (arith, hk, hm)) in
@@ -270,6 +283,6 @@ stage_code s d e xe n m at len again kept lent half full limit rows v a r c x y 
     hv ∙ ap₂ (λ (i j : ℕ). fault_if (not (same (part_of s i j) (bytes_of "\"2.5\""))) 6 i) h₁ h₂
     ∙ ap (λ (i : List ℕ). fault_if (not (same i (bytes_of "\"2.5\""))) 6 f.version.place) (sym (whole st).version.bytes) in
     hz ∙ ap (sooner v) (hy ∙ ap (sooner a) hs)
-    ∙ stage_is f kept full limit p.front p.rest q.front q.rest again v a r c st room p.whole (omega (arith, pm, hw, hn)) q.whole (omega (arith, qm, hk, hm)) hg g ha
+    ∙ stage_is f kept (is_some top) (unwrap_or top 0) p.front p.rest q.front q.rest again v a r c st room p.whole (omega (arith, pm, hw, hn)) q.whole (omega (arith, qm, hk, hm)) hg g ha
     (hr f kept p.front p.rest st hd he hx room p.whole p.many (omega (arith, hw)))
     (hc.holds kept (record { index = hx }) (omega (arith, hk)) (omega arith) f q.front q.rest st he q.whole q.many (omega (arith, hk)))

@@ -1,14 +1,14 @@
 // The faults of rows of definitions: 21 at the bounds, 7, 8 and 9 at the name, 22 or 23 at the default.
-ghost use Rattle.std.specs.Prelude.{◌≡◌, ◌≤◌, length, leb};
+ghost use Rattle.std.specs.Prelude.{◌≡◌, ◌≤◌, length, leb, is_some, unwrap_or};
 ghost use Rattle.token.specs.Find.{both};
 ghost use Rattle.indexes.specs.Indexing.{Fits, Through, By, ByTwo};
 ghost use Rattle.defining_checks.specs.Promises.{first_again, NewTypeFault, NameFault, DefaultFault, RowFault, RowsFault};
 
 use layout::{definition, word_codes};
-use rows::{Fault, Found, cells, faults, parts, refusals};
+use rows::{Fault, cells, faults, parts, refusals};
 
 // The first row before row j that is under the same word, and has the same name; x is the index of the rows by these.
-fn again(text: &[u8], d: &[usize], j: usize, x: &[usize]) -> Found
+fn again(text: &[u8], d: &[usize], j: usize, x: &[usize]) -> Option<usize>
     ensures { Through (By text.now d.now 19 0 2 x.now) j (result ≡ first_again text.now d.now j) }
 {
     let under = cells::cell_of(d, definition::WIDTH, j, definition::UNDER);
@@ -30,16 +30,16 @@ fn again(text: &[u8], d: &[usize], j: usize, x: &[usize]) -> Found
 
 // 9 at the name of row j, which no row before it under the same word has, if the first row under another value of its attribute that has it
 // has another type word; y is the index of the rows by the attributes whose values they stand under, and by their names.
-fn type_fault(text: &[u8], d: &[usize], j: usize, y: &[usize]) -> Fault
+fn type_fault(text: &[u8], d: &[usize], j: usize, y: &[usize]) -> Option<Fault>
     ensures { Through (By text.now d.now 19 13 2 y.now) j (NewTypeFault text.now d.now j result) }
 {
     let outer = cells::cell_of(d, definition::WIDTH, j, definition::OUTER);
     if outer == 0 {
-        return faults::NONE;
+        return None;
     }
     let at = cells::cell_of(d, definition::WIDTH, j, definition::NAME);
     let len = cells::cell_of(d, definition::WIDTH, j, definition::NAME_LENGTH);
-    let Found::At(i) = indexes::find_before(
+    let Some(i) = indexes::find_before(
         text,
         d,
         definition::WIDTH,
@@ -51,7 +51,7 @@ fn type_fault(text: &[u8], d: &[usize], j: usize, y: &[usize]) -> Fault
         len,
         y,
     ) else {
-        return faults::NONE;
+        return None;
     };
     let word = cells::cell_of(d, definition::WIDTH, j, definition::TYPE);
     let size = cells::cell_of(d, definition::WIDTH, j, definition::TYPE_LENGTH);
@@ -62,20 +62,20 @@ fn type_fault(text: &[u8], d: &[usize], j: usize, y: &[usize]) -> Fault
 }
 
 // 7, 8 and 9 at the name of row j; x and y are the indexes of the rows.
-fn name_fault(text: &[u8], d: &[usize], j: usize, x: &[usize], y: &[usize]) -> Fault
+fn name_fault(text: &[u8], d: &[usize], j: usize, x: &[usize], y: &[usize]) -> Option<Fault>
     ensures { Through (ByTwo text.now d.now 19 0 13 2 x.now y.now) j (NameFault text.now d.now j result) }
 {
     let at = cells::cell_of(d, definition::WIDTH, j, definition::NAME);
     let a = faults::fault_if(j == definition::MOST, refusals::MANY_DEFINED, at);
     match again(text, d, j, x) {
-        Found::At(_) => {
-            let b = Fault {
+        Some(_) => {
+            let b = Some(Fault {
                 number: refusals::DEFINED_AGAIN,
                 place: at,
-            };
+            });
             faults::sooner(a, b)
         }
-        Found::Nothing => {
+        None => {
             let c = type_fault(text, d, j, y);
             faults::sooner(a, c)
         }
@@ -83,13 +83,13 @@ fn name_fault(text: &[u8], d: &[usize], j: usize, x: &[usize], y: &[usize]) -> F
 }
 
 // Whether a place is not before the limit, if there is one.
-fn is_late(full: bool, limit: usize, at: usize) -> bool
-    ensures { result ≡ both full (leb limit at) }
+fn is_late(limit: Option<usize>, at: usize) -> bool
+    ensures { result ≡ both (is_some limit) (leb (unwrap_or limit 0) at) }
 {
-    if full {
-        return limit <= at;
+    match limit {
+        Some(p) => p <= at,
+        None => false,
     }
-    false
 }
 
 // 22 at the default of row j, or 23 if it is AUTO, whose code is 3, if it is judged and the attribute does not take it; NO_DEFAULT, whose code
@@ -99,23 +99,22 @@ fn default_fault(
     d: &[usize],
     e: &[usize],
     xe: &[usize],
-    full: bool,
-    limit: usize,
+    limit: Option<usize>,
     j: usize,
-) -> Fault
-    ensures { DefaultFault text.now d.now e.now xe.now full limit j result }
+) -> Option<Fault>
+    ensures { DefaultFault text.now d.now e.now xe.now (is_some limit) (unwrap_or limit 0) j result }
 {
     let at = cells::cell_of(d, definition::WIDTH, j, definition::DEFAULT);
     if at == 0 {
-        return faults::NONE;
+        return None;
     }
-    if is_late(full, limit, at) {
-        return faults::NONE;
+    if is_late(limit, at) {
+        return None;
     }
     let len = cells::cell_of(d, definition::WIDTH, j, definition::DEFAULT_LENGTH);
     let code = cells::cell_of(d, definition::WIDTH, j, definition::DEFAULT_CODE);
     if code == word_codes::NO_DEFAULT {
-        return faults::NONE;
+        return None;
     }
     let under = lookups::word_under(text, d, e, xe, j, at, len);
     let taken = scopes::lookups::takes(text, d, j, at, code, under);
@@ -131,17 +130,16 @@ fn row_fault(
     d: &[usize],
     e: &[usize],
     xe: &[usize],
-    full: bool,
-    limit: usize,
+    limit: Option<usize>,
     j: usize,
     x: &[usize],
     y: &[usize],
-) -> Fault
-    ensures { Through (ByTwo text.now d.now 19 0 13 2 x.now y.now) j (RowFault text.now d.now e.now xe.now full limit j result) }
+) -> Option<Fault>
+    ensures { Through (ByTwo text.now d.now 19 0 13 2 x.now y.now) j (RowFault text.now d.now e.now xe.now (is_some limit) (unwrap_or limit 0) j result) }
 {
     let a = scopes::lookups::range_fault(text, d, j);
     let b = name_fault(text, d, j, x, y);
-    let c = default_fault(text, d, e, xe, full, limit, j);
+    let c = default_fault(text, d, e, xe, limit, j);
     faults::sooner(a, faults::sooner(b, c))
 }
 
@@ -151,20 +149,17 @@ fn each_fault(
     d: &[usize],
     e: &[usize],
     xe: &[usize],
-    full: bool,
-    limit: usize,
+    limit: Option<usize>,
     n: usize,
     x: &[usize],
     y: &[usize],
-) -> Fault
-    ensures { Through (ByTwo text.now d.now 19 0 13 2 x.now y.now) n (RowsFault text.now d.now e.now xe.now full limit n result) }
+) -> Option<Fault>
+    ensures { Through (ByTwo text.now d.now 19 0 13 2 x.now y.now) n (RowsFault text.now d.now e.now xe.now (is_some limit) (unwrap_or limit 0) n result) }
 {
-    let mut best = faults::NONE;
-    let mut j = 0;
-    while j < n {
-        let f = row_fault(text, d, e, xe, full, limit, j, x, y);
+    let mut best = None;
+    for j in 0..n {
+        let f = row_fault(text, d, e, xe, limit, j, x, y);
         best = faults::sooner(best, f);
-        j += 1;
     }
     best
 }
@@ -175,15 +170,14 @@ fn indexed_fault(
     d: &[usize],
     e: &[usize],
     xe: &[usize],
-    full: bool,
-    limit: usize,
+    limit: Option<usize>,
     n: usize,
     x: &mut [usize],
     y: &mut [usize],
     b: &mut [usize],
-) -> Fault
+) -> Option<Fault>
     requires { Fits n (length x.old) (length b.old) × Fits n (length y.old) (length b.old) }
-    ensures { RowsFault text.now d.now e.now xe.now full limit n result }
+    ensures { RowsFault text.now d.now e.now xe.now (is_some limit) (unwrap_or limit 0) n result }
 {
     indexes::index(
         text,
@@ -203,36 +197,24 @@ fn indexed_fault(
         y,
         b,
     );
-    each_fault(text, d, e, xe, full, limit, n, x, y)
+    each_fault(text, d, e, xe, limit, n, x, y)
 }
 
-// The faults of the first n rows; xe is the index of the enumerators that are kept, and the one that is one too many, if there is one (full),
-// stands at limit.
+// The faults of the first n rows; xe is the index of the enumerators that are kept, and the one that is one too many, if there is one, stands at
+// limit.
 pub fn rows_fault(
     text: &[u8],
     d: &[usize],
     e: &[usize],
     xe: &[usize],
-    full: bool,
-    limit: usize,
+    limit: Option<usize>,
     n: usize,
-) -> Fault
+) -> Option<Fault>
     requires { n ≤ 513 }
-    ensures { RowsFault text.now d.now e.now xe.now full limit n result }
+    ensures { RowsFault text.now d.now e.now xe.now (is_some limit) (unwrap_or limit 0) n result }
 {
     let mut x = [0; definition::ROWS];
     let mut y = [0; definition::ROWS];
     let mut b = [0; definition::ROWS / 2];
-    indexed_fault(
-        text,
-        d,
-        e,
-        xe,
-        full,
-        limit,
-        n,
-        &mut x[..n],
-        &mut y[..n],
-        &mut b,
-    )
+    indexed_fault(text, d, e, xe, limit, n, &mut x[..n], &mut y[..n], &mut b)
 }

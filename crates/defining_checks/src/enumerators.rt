@@ -6,7 +6,7 @@ use layout::enumerator;
 use rows::{Fault, cells, faults, refusals};
 
 // 7 and 8 at the enumerator of row j; x is the index of the rows.
-fn row_fault(text: &[u8], e: &[usize], j: usize, x: &[usize]) -> Fault
+fn row_fault(text: &[u8], e: &[usize], j: usize, x: &[usize]) -> Option<Fault>
     ensures { Through (By text.now e.now 3 0 1 x.now) j (EnumeratorFault text.now e.now j result) }
 {
     let list = cells::cell_of(e, enumerator::WIDTH, j, enumerator::LIST);
@@ -30,15 +30,13 @@ fn row_fault(text: &[u8], e: &[usize], j: usize, x: &[usize]) -> Fault
 }
 
 // The faults of the first n rows; x is the index of the rows.
-pub fn rows_fault(text: &[u8], e: &[usize], n: usize, x: &[usize]) -> Fault
+pub fn rows_fault(text: &[u8], e: &[usize], n: usize, x: &[usize]) -> Option<Fault>
     ensures { Through (By text.now e.now 3 0 1 x.now) n (EnumeratorsFault text.now e.now n result) }
 {
-    let mut best = faults::NONE;
-    let mut j = 0;
-    while j < n {
+    let mut best = None;
+    for j in 0..n {
         let f = row_fault(text, e, j, x);
         best = faults::sooner(best, f);
-        j += 1;
     }
     best
 }

@@ -4,7 +4,6 @@ use mathlib.Core.List.{List, [], ◌∷◌, ◌++◌, append-nil}
 use mathlib.Core.Bool.{true}
 use mathlib.Core.Option.{none}
 use Prim.Native.Nat.{ℕ, ◌+◌, ◌-◌, ◌*◌, min}
-use lib.ListN.{length}
 use lib.Seq.{sets}
 use Rattle.token.specs.Find.{bit}
 use Rattle.grammar.specs.Grammar.{Form, Token, Trees, nil, leaf, node, tokens, ◌⟶◌, ◌·◌, ◌▸◌, ∎, matches, name, number, float, the, sg, WITH-AUTO, lsquare, rsquare, equals, semicolon, comma, dots, Sort, integers, strings, booleans, enums, floats, D, auto, mark, integer_range, float_range, numbers, default, own, no_auto, with_auto, no_mark, a_mark, no_range, a_range, a_list, no_float_range, a_float_range, no_number, a_number, no_default, a_default, own_auto, own_none, own_number, own_string, own_true, own_false, own_name, own_float}
@@ -247,12 +246,6 @@ module _ {s : List ℕ} {a : Look} {y z : List ℕ × ℕ} where
         fills = fills_map (u ▻ w.fills)
             (λ m v. ap (λ (k : Head). row_of x k m.1.0 m.1.1.0 m.1.1.1.0 ∷ []) (ap (λ (k : ℕ). head_of t k 0 0) v.0 ∙ sym g) ∙ v.1);
       }
-
--- A definition behind its type.
-pub head_is : (t : Look) {n auto range extent : ℕ} → n ≡ t.next - t.at
-    → record { word = t.at; length = n; code = t.code; auto = auto; range = range; extent = extent; key = 0; truth = 0; falsity = 0; width = 0 } ≡ head_of t auto range extent
-head_is t {auto} {range} {extent} e =
-    ap (λ (k : ℕ). record { word = t.at; length = k; code = t.code; auto = auto; range = range; extent = extent; key = 0; truth = 0; falsity = 0; width = 0 }) e
 
 pub list_head_is : (t : Look) {n auto range extent key truth falsity width : ℕ} → n ≡ t.next - t.at
     → record { word = t.at; length = n; code = t.code; auto = auto; range = range; extent = extent; key = key; truth = truth; falsity = falsity; width = width }

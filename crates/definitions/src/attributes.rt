@@ -10,6 +10,7 @@ ghost use Rattle.definitions.specs.Parts.{Spanned, Defaulted};
 
 use super::{Given, Head, Marked, Put, Ranged, Under};
 use grammar::lookahead::{DOTS, EQUALS, FLOATING, LSQUARE, NUMERAL, RSQUARE, WITH_AUTO};
+use grammar::parts::Sort;
 use grammar::{Look, lookahead, parts};
 use layout::definition;
 
@@ -55,7 +56,7 @@ pub fn range(text: &[u8], a: Look) -> Ranged
     Ranged {
         look: e,
         at: a.at,
-        len: len,
+        len,
     }
 }
 
@@ -79,12 +80,12 @@ pub fn float_range(text: &[u8], a: Look) -> Ranged
     Ranged {
         look: f,
         at: a.at,
-        len: len,
+        len,
     }
 }
 
 // `=` and a default, or nothing.
-pub fn default(text: &[u8], a: Look, sort: u8) -> Given
+pub fn default(text: &[u8], a: Look, sort: Sort) -> Given
     ensures { Fills 0 (default (sort_at sort) ▸ ∎) text.now a result.look (λ m. Defaulted m.0 result.at result.len result.code) }
 {
     if a.code != EQUALS {
@@ -98,12 +99,11 @@ pub fn default(text: &[u8], a: Look, sort: u8) -> Given
     let b = lookahead::advance(text, a);
     let c = parts::own(text, b, sort);
     let len = filling::length(b);
-    let code = b.code;
     Given {
         look: c,
         at: b.at,
-        len: len,
-        code: code as usize,
+        len,
+        code: b.code as usize,
     }
 }
 
@@ -111,20 +111,7 @@ pub fn default(text: &[u8], a: Look, sort: u8) -> Given
 pub fn head(t: Look, auto: usize, range: usize, extent: usize) -> Head
     ensures { result ≡ head_of t auto range extent }
 {
-    let len = filling::length(t);
-    let code = t.code;
-    Head {
-        word: t.at,
-        length: len,
-        code: code as usize,
-        auto: auto,
-        range: range,
-        extent: extent,
-        key: 0,
-        truth: 0,
-        falsity: 0,
-        width: 0,
-    }
+    with_list(t, auto, range, extent, 0, 0, 0, 0)
 }
 
 pub fn with_list(
@@ -139,19 +126,18 @@ pub fn with_list(
 ) -> Head
     ensures { result ≡ list_head t auto range extent key truth falsity width }
 {
-    let len = filling::length(t);
-    let code = t.code;
+    let length = filling::length(t);
     Head {
         word: t.at,
-        length: len,
-        code: code as usize,
-        auto: auto,
-        range: range,
-        extent: extent,
-        key: key,
-        truth: truth,
-        falsity: falsity,
-        width: width,
+        length,
+        code: t.code as usize,
+        auto,
+        range,
+        extent,
+        key,
+        truth,
+        falsity,
+        width,
     }
 }
 
@@ -163,7 +149,7 @@ pub fn named(
     n: usize,
     under: Under,
     h: Head,
-    sort: u8,
+    sort: Sort,
 ) -> Put
     ensures { Walks (Puts 19) 1 (name · mark ▸ default (sort_at sort) ▸ D ▸ sg semicolon · ∎) (λ w m. Named under h w m.0 m.1.0 m.1.1.0) text.now a result.look (d.old, n) (d.new, result.n) }
 {
@@ -206,7 +192,7 @@ pub fn integer(text: &[u8], d: &mut [usize], t: Look, a: Look, n: usize, under: 
     let b = auto(text, a);
     let c = range(text, b.look);
     let h = head(t, b.bit, c.at, c.len);
-    named(text, d, c.look, n, under, h, parts::OF_INTEGER)
+    named(text, d, c.look, n, under, h, Sort::Integer)
 }
 
 pub fn string(text: &[u8], d: &mut [usize], t: Look, a: Look, n: usize, under: Under) -> Put
@@ -214,7 +200,7 @@ pub fn string(text: &[u8], d: &mut [usize], t: Look, a: Look, n: usize, under: U
 {
     let b = auto(text, a);
     let h = head(t, b.bit, 0, 0);
-    named(text, d, b.look, n, under, h, parts::OF_STRING)
+    named(text, d, b.look, n, under, h, Sort::Text)
 }
 
 // A float after its type.
@@ -224,5 +210,5 @@ pub fn float(text: &[u8], d: &mut [usize], t: Look, a: Look, n: usize, under: Un
     let b = auto(text, a);
     let c = float_range(text, b.look);
     let h = head(t, b.bit, c.at, c.len);
-    named(text, d, c.look, n, under, h, parts::OF_FLOAT)
+    named(text, d, c.look, n, under, h, Sort::Float)
 }

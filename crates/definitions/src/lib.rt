@@ -10,6 +10,7 @@ ghost use Rattle.definitions.specs.Rows.{Fill, Rows, EnumeratorRows, one};
 use grammar::lookahead::{
     BOOLEAN, COMMA, ENUM, FALSE, FLOAT, LBRACE, LSQUARE, RBRACE, RSQUARE, STRING, TRUE,
 };
+use grammar::parts::Sort;
 use grammar::{Look, lookahead, parts};
 use layout::enumerator;
 
@@ -134,8 +135,8 @@ pub fn enumerator(
         k,
         Under {
             at: a.at,
-            len: len,
-            list: list,
+            len,
+            list,
         },
     );
     let f = parts::description(text, c.look);
@@ -166,10 +167,9 @@ pub fn definition(
         let c = w.look;
         if c.code != LSQUARE {
             let h = attributes::head(a, w.bit, 0, 0);
-            let x = attributes::named(text, d, c, n, under, h, parts::OF_TRUTH);
-            let y = x.look;
+            let x = attributes::named(text, d, c, n, under, h, Sort::Truth);
             return Spot {
-                look: y,
+                look: x.look,
                 definitions: x.n,
                 enumerators: m,
             };
@@ -211,10 +211,9 @@ pub fn definition(
         let o = lookahead::expect(text, l, RSQUARE);
         let extent = filling::through(c.at, l);
         let h = attributes::with_list(a, w.bit, c.at, extent, f.at, truth, j.at, width);
-        let x = attributes::named(text, d, o, q.definitions, under, h, parts::OF_TRUTH);
-        let y = x.look;
+        let x = attributes::named(text, d, o, q.definitions, under, h, Sort::Truth);
         return Spot {
-            look: y,
+            look: x.look,
             definitions: x.n,
             enumerators: q.enumerators,
         };
@@ -225,34 +224,27 @@ pub fn definition(
         let c = w.look;
         let f = lookahead::expect(text, c, LSQUARE);
         let key = f.at;
-        let v = enumerator(text, d, e, f, n, m, key);
-        let mut g = v.look;
-        let mut i = v.definitions;
-        let mut j = v.enumerators;
-        while g.code == COMMA {
-            let k = lookahead::advance(text, g);
-            let y = enumerator(text, d, e, k, i, j, key);
-            g = y.look;
-            i = y.definitions;
-            j = y.enumerators;
+        let mut spot = enumerator(text, d, e, f, n, m, key);
+        // A `while`: the look says whether another value comes, so no range counts it.
+        while spot.look.code == COMMA {
+            let k = lookahead::advance(text, spot.look);
+            spot = enumerator(text, d, e, k, spot.definitions, spot.enumerators, key);
         }
-        let o = lookahead::expect(text, g, RSQUARE);
-        let extent = filling::through(c.at, g);
+        let o = lookahead::expect(text, spot.look, RSQUARE);
+        let extent = filling::through(c.at, spot.look);
         let h = attributes::with_list(a, w.bit, c.at, extent, key, 0, 0, 0);
-        let x = attributes::named(text, d, o, i, under, h, parts::OF_ENUMERATOR);
-        let y = x.look;
+        let x = attributes::named(text, d, o, spot.definitions, under, h, Sort::Enumerator);
         return Spot {
-            look: y,
+            look: x.look,
             definitions: x.n,
-            enumerators: j,
+            enumerators: spot.enumerators,
         };
     }
     if code == STRING {
         let b = lookahead::advance(text, a);
         let x = attributes::string(text, d, a, b, n, under);
-        let y = x.look;
         return Spot {
-            look: y,
+            look: x.look,
             definitions: x.n,
             enumerators: m,
         };
@@ -260,9 +252,8 @@ pub fn definition(
     if lookahead::is_integer(code) {
         let b = lookahead::advance(text, a);
         let x = attributes::integer(text, d, a, b, n, under);
-        let y = x.look;
         return Spot {
-            look: y,
+            look: x.look,
             definitions: x.n,
             enumerators: m,
         };
@@ -270,9 +261,8 @@ pub fn definition(
     if lookahead::is_type(code) {
         let b = lookahead::advance(text, a);
         let x = attributes::reference(text, d, a, b, n, under);
-        let y = x.look;
         return Spot {
-            look: y,
+            look: x.look,
             definitions: x.n,
             enumerators: m,
         };
@@ -280,9 +270,8 @@ pub fn definition(
     if code == FLOAT {
         let b = lookahead::advance(text, a);
         let x = attributes::float(text, d, a, b, n, under);
-        let y = x.look;
         return Spot {
-            look: y,
+            look: x.look,
             definitions: x.n,
             enumerators: m,
         };
@@ -307,18 +296,22 @@ pub fn definitions(
 ) -> Spot
     ensures { Walks Fill 0 (definitions ▸ ∎) (λ w x. Rows under w x.0) text.now from result.look ((d.old, n), (e.old, m)) ((d.new, result.definitions), (e.new, result.enumerators)) }
 {
-    let mut a = from;
-    let mut i = n;
-    let mut j = m;
-    while lookahead::is_definition(a.code) {
-        let y = definition(text, d, e, a, i, j, under);
-        a = y.look;
-        i = y.definitions;
-        j = y.enumerators;
+    let mut spot = Spot {
+        look: from,
+        definitions: n,
+        enumerators: m,
+    };
+    // A `while`: the look says whether another definition comes, so no range counts it.
+    while lookahead::is_definition(spot.look.code) {
+        spot = definition(
+            text,
+            d,
+            e,
+            spot.look,
+            spot.definitions,
+            spot.enumerators,
+            under,
+        );
     }
-    Spot {
-        look: a,
-        definitions: i,
-        enumerators: j,
-    }
+    spot
 }

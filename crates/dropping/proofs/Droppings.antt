@@ -1,17 +1,19 @@
 -- The laws of dropping: the verdict on a statement, and the marks after a statement, a block, all objects, by the rows. Assumes nothing.
 use mathlib.Core.Path.{◌≡◌, refl, sym, ◌∙◌, ap, subst}
 use mathlib.Core.List.{List, [], ◌∷◌, ◌++◌, append_assoc, append-nil}
-use mathlib.Core.Bool.{Bool, true, false, not}
-use mathlib.Core.Option.{Option, none, some}
+use mathlib.Core.Bool.{Bool, true, false, not, false≢true}
+use mathlib.Core.Option.{Option, none, some, none-ne-some}
 use Prim.Native.Nat.{ℕ, suc, ◌+◌, ◌*◌, ◌≤◌, ◌<◌}
 use native.Mathlib.Omega.{arith}
 use lib.ListN.{length, length-append, get_or, set}
 use Rattle.token.specs.Find.{pick, both}
 use Rattle.token.proofs.Find.{by_test}
 use Rattle.grammar.specs.Grammar.{Kind}
+use Rattle.std.specs.Prelude.{Some, None, is_some, Ok, Err}
 use Rattle.rows.specs.declared.Fault.{Fault}
-use Rattle.rows.specs.declared.Found.{Found}
-use Rattle.rows.specs.declared.Found.TheVariants.{At, Nothing}
+use Rattle.rows.specs.Order.{MaybeFault}
+use Rattle.rows.specs.Found.{Found}
+use Rattle.std.specs.Prelude.{Some, None}
 use Rattle.meaning.specs.Merging.{then}
 use Rattle.meaning.specs.Syntax.{Word, AttributeType, integer, string, boolean, enum, float, reference, Definitions, Defined, Statement, Statements, done, state, Object, File, statements_in}
 use Rattle.meaning.specs.Words.{among}
@@ -28,15 +30,15 @@ use Rattle.scopes.specs.Given.{Given, Places}
 use Rattle.scopes.specs.Promises.{fault_of, FindsDefinition, FindsWord}
 use Rattle.scopes.specs.declared.Sizes.{Sizes}
 use Rattle.scopes.proofs.Descents.{scope_of_kind}
+use Rattle.scopes.proofs.Firsts.{none_there}
 use Rattle.amounts.specs.Promises.{Notes}
 use Rattle.lookups.specs.Names.{Named}
 use Rattle.lookups.proofs.Attributes.{kept_object}
 use Rattle.judging.specs.Names.{Blank}
 use Rattle.judging.specs.Promises.{Again, ValueFault}
 use Rattle.judging.proofs.Judgements.{row_nothing, row_found_as, own_at, looked_up, stated_as, value_scope}
-use Rattle.dropping.specs.declared.Verdict.{Verdict}
 use Rattle.dropping.specs.Drops.{Drop, drop_if, stated_again, or_inside, dropped, drops, drops_of, all_drops, scatter}
-use Rattle.dropping.specs.Promises.{Prepared, verdict, scope_inside, VerdictOn, Scoped, Verdicts, DropsOne, DropsBlock, DropsObject, DropsAll}
+use Rattle.dropping.specs.Promises.{Prepared, number_of, verdict, scope_inside, VerdictOn, passes, faulty, Scoped, Verdicts, DropsOne, DropsBlock, DropsObject, DropsAll}
 use Rattle.dropping.proofs.Scattering.{scatter_append}
 
 -- The faults of a value are 15 and 18, above 14 ----------------------------------------------------------------------------------------------
@@ -92,41 +94,53 @@ unfolding first
 high_one [] no_fault = tt
 high_one (f ∷ fs) (a_fault h p) = high_sooner f (first fs) h (high_one fs p)
 
-sooner_number : (f : Refusal) (o : Option Refusal) → 14 < f.number → HighOne o → 14 < (fault_of (sooner (some f) o)).number
-unfolding sooner fault_of
-sooner_number f none h q = h
-sooner_number f (some g) h q = by_test (λ (x : Refusal). 14 < x.number) (ahead f g) f g (λ _. h) (λ _. q)
+sooner_number : (f : Refusal) (o : Option Refusal) (n : ℕ) → 14 < f.number → HighOne o → number_of (sooner (some f) o) ≡ some n → 14 < n
+unfolding sooner number_of
+sooner_number f none n h q e = let z : f.number ≡ n = cc in omega (arith, h, z)
+sooner_number f (some g) n h q e =
+    let z : (pick (ahead f g) f g).number ≡ n = cc in
+    let k : 14 < (pick (ahead f g) f g).number = by_test (λ (x : Refusal). 14 < x.number) (ahead f g) f g (λ _. h) (λ _. q) in
+    omega (arith, k, z)
 
-high_number : (f : Refusal) (fs : List Refusal) → 14 < f.number → High fs → 14 < (fault_of (first (f ∷ fs))).number
+high_number : (f : Refusal) (fs : List Refusal) (n : ℕ) → 14 < f.number → High fs → number_of (first (f ∷ fs)) ≡ some n → 14 < n
 unfolding first
-high_number f fs h p = sooner_number f (first fs) h (high_one fs p)
+high_number f fs n h p e = sooner_number f (first fs) n h (high_one fs p) e
+
+some_number : (f : Refusal) (o : Option Refusal) → number_of (sooner (some f) o) ≡ none → ⊥
+unfolding sooner number_of
+some_number f none e = none-ne-some _ (sym e)
+some_number f (some g) e = none-ne-some _ (sym e)
+
+first_number : (f : Refusal) (fs : List Refusal) → number_of (first (f ∷ fs)) ≡ none → ⊥
+unfolding first
+first_number f fs e = some_number f (first fs) e
 
 -- The drops of one statement, by the verdict -------------------------------------------------------------------------------------------------
 
 module _ (x : Statement) (us : Definitions) (k : Definitions → List Drop) where
-  abbrev ruled : Bool → List Refusal → ℕ
-  ruled b l = pick b 14 (fault_of (first l)).number
+  abbrev ruled : Bool → List Refusal → Option ℕ
+  ruled b l = pick b (some 14) (number_of (first l))
 
   abbrev left_over : Bool → List Refusal → List Drop
   left_over b l = or_inside (faults_if b x.name 14 ++ l) b x us k
 
-  sound_by : (b : Bool) (l : List Refusal) → High l → ruled b l ≡ 0 → left_over b l ≡ k us
+  sound_by : (b : Bool) (l : List Refusal) → ruled b l ≡ none → left_over b l ≡ k us
   unfolding or_inside faults_if
-  sound_by true l q h = absurd (omega (arith, h))
-  sound_by false [] q h = refl
-  sound_by false (f ∷ fs) (a_fault i q) h = let n = high_number f fs i q in absurd (omega (arith, h, n))
+  sound_by true l h = absurd (none-ne-some _ (sym h))
+  sound_by false [] h = refl
+  sound_by false (f ∷ fs) h = absurd (first_number f fs h)
 
-  drop_by : (b : Bool) (l : List Refusal) → High l → (ruled b l ≡ 0 → ⊥) → ruled b l ≤ 14 → left_over b l ≡ drop_if true x.name (ruled b l)
-  unfolding or_inside faults_if first fault_of
-  drop_by true l q i h = refl
-  drop_by false [] q i h = absurd (i refl)
-  drop_by false (f ∷ fs) (a_fault j q) i h = let n = high_number f fs j q in absurd (omega (arith, h, n))
+  drop_by : (b : Bool) (l : List Refusal) (n : ℕ) → High l → ruled b l ≡ some n → n ≤ 14 → left_over b l ≡ drop_if true x.name n
+  unfolding or_inside faults_if first number_of
+  drop_by true l n q e h = let z : 14 ≡ n = cc in ap (drop_if true x.name) z
+  drop_by false [] n q e h = absurd (none-ne-some _ e)
+  drop_by false (f ∷ fs) n (a_fault j q) e h = let m = high_number f fs n j q e in absurd (omega (arith, h, m))
 
-  none_by : (b : Bool) (l : List Refusal) → High l → 14 < ruled b l → left_over b l ≡ []
-  unfolding or_inside faults_if drop_if first fault_of
-  none_by true l q h = absurd (omega (arith, h))
-  none_by false [] q h = absurd (omega (arith, h))
-  none_by false (f ∷ fs) q h = refl
+  none_by : (b : Bool) (l : List Refusal) (n : ℕ) → ruled b l ≡ some n → 14 < n → left_over b l ≡ []
+  unfolding or_inside faults_if drop_if first number_of
+  none_by true l n e h = absurd (let z : 14 ≡ n = cc in omega (arith, h, z))
+  none_by false [] n e h = absurd (none-ne-some _ e)
+  none_by false (f ∷ fs) n e h = refl
 
   -- with nothing in the braces the value's faults do not matter
   alone_by : (b : Bool) (l : List Refusal) → ((u : Definitions) → k u ≡ []) → left_over b l ≡ drop_if b x.name 14
@@ -140,66 +154,72 @@ module _ (os : List Object) (x : Statement) (before : List Word) (k : Definition
   unfolding dropped own_faults stated_again
   alone d h = alone_by x (under d.values x.value) k (both (not d.definition.list) (among x.name before)) (faults_as d.definition.type os x d) h
 
-  sound : (o : Option Defined) → verdict o os x before ≡ 0 → dropped o os x before k ≡ k (scope_inside o x)
+  sound : (o : Option Defined) → verdict o os x before ≡ none → dropped o os x before k ≡ k (scope_inside o x)
   unfolding verdict dropped scope_inside own_faults stated_again
-  sound none h = absurd (omega (arith, h))
-  sound (some d) h =
-      sound_by x (under d.values x.value) k (both (not d.definition.list) (among x.name before)) (faults_as d.definition.type os x d)
-      (high_type d.definition.type os x d) h
+  sound none h = absurd (none-ne-some _ (sym h))
+  sound (some d) h = sound_by x (under d.values x.value) k (both (not d.definition.list) (among x.name before)) (faults_as d.definition.type os x d) h
 
-  at_fault : (o : Option Defined) → (verdict o os x before ≡ 0 → ⊥) → verdict o os x before ≤ 14 → dropped o os x before k ≡ drop_if true x.name (verdict o os x before)
+  at_fault : (o : Option Defined) (n : ℕ) → verdict o os x before ≡ some n → n ≤ 14 → dropped o os x before k ≡ drop_if true x.name n
   unfolding verdict dropped own_faults stated_again
-  at_fault none i h = refl
-  at_fault (some d) i h =
-      drop_by x (under d.values x.value) k (both (not d.definition.list) (among x.name before)) (faults_as d.definition.type os x d)
-      (high_type d.definition.type os x d) i h
+  at_fault none n e h = let z : 13 ≡ n = cc in ap (drop_if true x.name) z
+  at_fault (some d) n e h =
+      drop_by x (under d.values x.value) k (both (not d.definition.list) (among x.name before)) (faults_as d.definition.type os x d) n
+      (high_type d.definition.type os x d) e h
 
-  stays : (o : Option Defined) → 14 < verdict o os x before → dropped o os x before k ≡ []
+  stays : (o : Option Defined) (n : ℕ) → verdict o os x before ≡ some n → 14 < n → dropped o os x before k ≡ []
   unfolding verdict dropped own_faults stated_again
-  stays none h = absurd (omega (arith, h))
-  stays (some d) h =
-      none_by x (under d.values x.value) k (both (not d.definition.list) (among x.name before)) (faults_as d.definition.type os x d)
-      (high_type d.definition.type os x d) h
+  stays none n e h = absurd (let z : 13 ≡ n = cc in omega (arith, h, z))
+  stays (some d) n e h = none_by x (under d.values x.value) k (both (not d.definition.list) (among x.name before)) (faults_as d.definition.type os x d) n e h
+
+-- The number of a fault that is told.
+told_number : (o : Option Refusal) (g : Fault) → fault_of o ≡ Some g → number_of o ≡ some g.number
+unfolding fault_of number_of
+told_number none g e = absurd (false≢true (ap is_some e))
+told_number (some x) g e = let z : record { number = x.number; place = x.place } ≡ g = cc in ap (λ (y : Fault). some y.number) z
 
 -- The verdict --------------------------------------------------------------------------------------------------------------------------------
 
 module _ (s d e o st : List ℕ) (z : Sizes) (key m k v name size : ℕ) (pn : name ≡ get_or st (k * 7 + 0) 0) (ps : size ≡ get_or st (k * 7 + 1) 0) where
-  pub verdict_undefined : FindsDefinition s d z.definitions key name size Nothing → Verdicts s d e o st z key m k v (record { number = 13; under = 0 })
+  pub verdict_undefined : FindsDefinition s d z.definitions key name size None → Verdicts s d e o st z key m k v (Err 13)
   unfolding verdict
   verdict_undefined g f ds before x inside rest c b p =
       let a = own_at before b p in
-      let h = row_nothing (find_definition ds x.name) (looked_up Nothing pn ps c.given c.scope a g) in
-      record { number = sym (ap (λ t. verdict t f.objects x (names before)) h); scope = λ q. absurd (omega (arith, q)) }
+      let h = row_nothing (find_definition ds x.name) (looked_up None pn ps c.given c.scope a g) in
+      faulty (ap (λ t. verdict t f.objects x (names before)) h)
 
-  pub verdict_again : (j : ℕ) (r : Bool) → FindsDefinition s d z.definitions key name size (At j) → Again s d e o st z m k v j r → r ≡ true
-      → Verdicts s d e o st z key m k v (record { number = 14; under = 0 })
+  pub verdict_again : (j : ℕ) (r : Bool) → FindsDefinition s d z.definitions key name size (Some j) → Again s d e o st z m k v j r → r ≡ true
+      → Verdicts s d e o st z key m k v (Err 14)
   unfolding verdict stated_again stated_as
   verdict_again j r g w h f ds before x inside rest c b p =
       let a = own_at before b p in
-      let y = row_found_as (find_definition ds x.name) j (looked_up (At j) pn ps c.given c.scope a g) in
+      let y = row_found_as (find_definition ds x.name) j (looked_up (Some j) pn ps c.given c.scope a g) in
       let i = w f x y.defined before (stated_as j y.defined c.given c.scope a y.is y.row) b p in
-      let n = (fault_of (first (faults_as y.defined.definition.type f.objects x y.defined))).number in
-      record {
-        number = sym (ap (λ q. pick q 14 n) (sym i ∙ h)) ∙ sym (ap (λ t. verdict t f.objects x (names before)) y.is);
-        scope = λ q. absurd (omega (arith, q));
-      }
+      let n = number_of (first (faults_as y.defined.definition.type f.objects x y.defined)) in
+      faulty (ap (λ t. verdict t f.objects x (names before)) y.is ∙ ap (λ q. pick q (some 14) n) (sym i ∙ h))
 
-  pub verdict_value : (j at len u : ℕ) (r : Bool) (g : Fault) → FindsDefinition s d z.definitions key name size (At j) → Again s d e o st z m k v j r → r ≡ false
-      → at ≡ get_or st (k * 7 + 2) 0 → len ≡ get_or st (k * 7 + 3) 0 → FindsWord s d e z.enumerators j at len u → ValueFault s d e o st z k j g
-      → Verdicts s d e o st z key m k v (record { number = g.number; under = u })
-  unfolding verdict scope_inside stated_again stated_as
-  verdict_value j at len u r g p w h pa pl i l f ds before x inside rest c b t =
-      let a = own_at before b t in
-      let y = row_found_as (find_definition ds x.name) j (looked_up (At j) pn ps c.given c.scope a p) in
-      let sa = stated_as j y.defined c.given c.scope a y.is y.row in
-      let again = w f x y.defined before sa b t in
-      let n = (fault_of (first (faults_as y.defined.definition.type f.objects x y.defined))).number in
-      record {
-        number = ap (λ (q : Fault). q.number) (l f x y.defined sa)
-            ∙ sym (ap (λ q. pick q 14 n) (sym again ∙ h))
-            ∙ sym (ap (λ t. verdict t f.objects x (names before)) y.is);
-        scope = λ _. subst (λ t. ScopeAt f u (scope_inside t x)) (sym y.is) (value_scope sa at len u pa pl i);
-      }
+  module _ (j at len u : ℕ) (r : Bool) (g : MaybeFault) (p : FindsDefinition s d z.definitions key name size (Some j)) (w : Again s d e o st z m k v j r) (h : r ≡ false)
+      (pa : at ≡ get_or st (k * 7 + 2) 0) (pl : len ≡ get_or st (k * 7 + 3) 0) (i : FindsWord s d e z.enumerators j at len u) (l : ValueFault s d e o st z k j g) where
+    pub verdict_value : (q : Fault) → g ≡ Some q → Verdicts s d e o st z key m k v (Err q.number)
+    unfolding verdict stated_again stated_as
+    verdict_value q n f ds before x inside rest c b t =
+        let a = own_at before b t in
+        let y = row_found_as (find_definition ds x.name) j (looked_up (Some j) pn ps c.given c.scope a p) in
+        let sa = stated_as j y.defined c.given c.scope a y.is y.row in
+        let again = w f x y.defined before sa b t in
+        let o' = first (faults_as y.defined.definition.type f.objects x y.defined) in
+        faulty (ap (λ t. verdict t f.objects x (names before)) y.is ∙ ap (λ q. pick q (some 14) (number_of o')) (sym again ∙ h) ∙ told_number o' q (sym (l f x y.defined sa) ∙ n))
+
+    pub verdict_none : g ≡ None → Verdicts s d e o st z key m k v (Ok u)
+    unfolding verdict scope_inside stated_again stated_as number_of
+    verdict_none n f ds before x inside rest c b t =
+        let a = own_at before b t in
+        let y = row_found_as (find_definition ds x.name) j (looked_up (Some j) pn ps c.given c.scope a p) in
+        let sa = stated_as j y.defined c.given c.scope a y.is y.row in
+        let again = w f x y.defined before sa b t in
+        let o' = first (faults_as y.defined.definition.type f.objects x y.defined) in
+        passes
+        (ap (λ t. verdict t f.objects x (names before)) y.is ∙ ap (λ q. pick q (some 14) (number_of o')) (sym again ∙ h) ∙ ap number_of (none_there o' (sym (l f x y.defined sa) ∙ n)))
+        (subst (λ t. ScopeAt f u (scope_inside t x)) (sym y.is) (value_scope sa at len u pa pl i))
 
 -- A statement with nothing in its braces -----------------------------------------------------------------------------------------------------
 
@@ -209,24 +229,24 @@ no_rows done h os us = refl
 no_rows (state x inside rest) h os us = absurd (omega (arith, h))
 
 module _ (s d e o st : List ℕ) (z : Sizes) (key m k v name size : ℕ) (pn : name ≡ get_or st (k * 7 + 0) 0) (ps : size ≡ get_or st (k * 7 + 1) 0) (l l' : List ℕ) where
-  pub alone_undefined : FindsDefinition s d z.definitions key name size Nothing → l' ≡ set l name 13 → DropsOne s d e o st z key m k (k + 1) v l l'
+  pub alone_undefined : FindsDefinition s d z.definitions key name size None → l' ≡ set l name 13 → DropsOne s d e o st z key m k (k + 1) v l l'
   unfolding scatter dropped drop_if statement_cells
   alone_undefined g w f ds before x inside rest c b p q =
       let a = own_at before b p in
-      let h = row_nothing (find_definition ds x.name) (looked_up Nothing pn ps c.given c.scope a g) in
+      let h = row_nothing (find_definition ds x.name) (looked_up None pn ps c.given c.scope a g) in
       let at : name ≡ x.name.place = pn ∙ first_cell a 0 (omega arith) in
       w
       ∙ ap (λ u. set l u 13) at
       ∙ sym (ap (λ t. scatter l (dropped t f.objects x (names before) (λ us. drops inside f.objects us []))) h)
 
-  module _ (j : ℕ) (r : Bool) (g : FindsDefinition s d z.definitions key name size (At j)) (w : Again s d e o st z m k v j r) where
+  module _ (j : ℕ) (r : Bool) (g : FindsDefinition s d z.definitions key name size (Some j)) (w : Again s d e o st z m k v j r) where
     by_again : (f : File) (ds : Definitions) (before : Statements) (x : Statement) (inside rest : Statements) → Scoped s d e o st z key f ds
         → BlockAt s st m v (then before (state x inside rest)) → k ≡ m + statements_in before → k + 1 ≡ suc k + statements_in inside
         → dropped (find_definition ds x.name) f.objects x (names before) (λ us. drops inside f.objects us []) ≡ drop_if r x.name 14
     unfolding stated_again stated_as
     by_again f ds before x inside rest c b p q =
         let a = own_at before b p in
-        let y = row_found_as (find_definition ds x.name) j (looked_up (At j) pn ps c.given c.scope a g) in
+        let y = row_found_as (find_definition ds x.name) j (looked_up (Some j) pn ps c.given c.scope a g) in
         let i = w f x y.defined before (stated_as j y.defined c.given c.scope a y.is y.row) b p in
         let none : statements_in inside ≡ 0 = omega arith in
         let K : Definitions → List Drop = λ us. drops inside f.objects us [] in
@@ -254,37 +274,40 @@ one_alone s d e o st z key m k n v l l' p w = subst (λ a. DropsOne s d e o st z
 
 -- One statement ------------------------------------------------------------------------------------------------------------------------------
 
-module _ (s d e o st : List ℕ) (z : Sizes) (key m k n v : ℕ) (r : Verdict) (w : Verdicts s d e o st z key m k v r) where
-  pub one_inside : (l l' : List ℕ) → r.number ≡ 0 → DropsBlock s d e o st z r.under (k + 1) n l l' → DropsOne s d e o st z key m k n v l l'
-  one_inside l l' h g f ds before x inside rest c b p q =
-      let a = own_at before b p in
-      let t = find_definition ds x.name in
-      let on = w f ds before x inside rest c b p in
-      let k₁ : suc k ≡ k + 1 = omega arith in
-      let bi : BlockAt s st (k + 1) n inside = subst (λ u. BlockAt s st u n inside) k₁ (subst (λ u. BlockAt s st (suc k) u inside) (sym q) (inside_at a)) in
-      g f (scope_inside t x) inside (record { given = c.given; scope = on.scope h }) bi
-      ∙ ap (scatter l) (sym (sound f.objects x (names before) (λ us. drops inside f.objects us []) t (sym on.number ∙ h)))
+module _ (s d e o st : List ℕ) (z : Sizes) (key m k n v : ℕ) where
+  pub one_inside : (u : ℕ) → Verdicts s d e o st z key m k v (Ok u) → (l l' : List ℕ) → DropsBlock s d e o st z u (k + 1) n l l' → DropsOne s d e o st z key m k n v l l'
+  one_inside u w l l' g f ds before x inside rest c b p q = by (w f ds before x inside rest c b p)
+    where
+      K : Definitions → List Drop
+      K us = drops inside f.objects us []
 
-  pub one_kept : (l : List ℕ) → 14 < r.number → DropsOne s d e o st z key m k n v l l
-  unfolding scatter
-  one_kept l h f ds before x inside rest c b p q =
-      let t = find_definition ds x.name in
-      let on = w f ds before x inside rest c b p in
-      ap (scatter l) (sym (stays f.objects x (names before) (λ us. drops inside f.objects us []) t (subst (λ i. 14 < i) on.number h)))
+      by : VerdictOn f (find_definition ds x.name) x (names before) (Ok u) → l' ≡ scatter l (dropped (find_definition ds x.name) f.objects x (names before) K)
+      by (passes h r) =
+          let a = own_at before b p in
+          let t = find_definition ds x.name in
+          let k₁ : suc k ≡ k + 1 = omega arith in
+          let bi : BlockAt s st (k + 1) n inside = subst (λ u. BlockAt s st u n inside) k₁ (subst (λ u. BlockAt s st (suc k) u inside) (sym q) (inside_at a)) in
+          g f (scope_inside t x) inside (record { given = c.given; scope = r }) bi ∙ ap (scatter l) (sym (sound f.objects x (names before) K t h))
 
-  pub one_marked : (l l' : List ℕ) (name : ℕ) → name ≡ get_or st (k * 7 + 0) 0 → (r.number ≡ 0 → ⊥) → r.number ≤ 14 → l' ≡ set l name r.number
-      → DropsOne s d e o st z key m k n v l l'
-  unfolding scatter drop_if statement_cells
-  one_marked l l' name pn i h g f ds before x inside rest c b p q =
-      let a = own_at before b p in
-      let t = find_definition ds x.name in
-      let on = w f ds before x inside rest c b p in
-      let at : name ≡ x.name.place = pn ∙ first_cell a 0 (omega arith) in
-      let i' : verdict t f.objects x (names before) ≡ 0 → ⊥ = λ u. i (on.number ∙ u) in
-      g
-      ∙ ap (λ u. set l u r.number) at
-      ∙ ap (λ u. set l x.name.place u) on.number
-      ∙ ap (scatter l) (sym (at_fault f.objects x (names before) (λ us. drops inside f.objects us []) t i' (subst (λ u. u ≤ 14) on.number h)))
+  module _ (r : ℕ) (w : Verdicts s d e o st z key m k v (Err r)) where
+    told : {f : File} {o : Option Defined} {x : Statement} {before : List Word} → VerdictOn f o x before (Err r) → verdict o f.objects x before ≡ some r
+    told (faulty e) = e
+
+    pub one_kept : (l : List ℕ) → 14 < r → DropsOne s d e o st z key m k n v l l
+    unfolding scatter
+    one_kept l h f ds before x inside rest c b p q =
+        let t = find_definition ds x.name in
+        ap (scatter l) (sym (stays f.objects x (names before) (λ us. drops inside f.objects us []) t r (told (w f ds before x inside rest c b p)) h))
+
+    pub one_marked : (l l' : List ℕ) (name : ℕ) → name ≡ get_or st (k * 7 + 0) 0 → r ≤ 14 → l' ≡ set l name r → DropsOne s d e o st z key m k n v l l'
+    unfolding scatter drop_if statement_cells
+    one_marked l l' name pn h g f ds before x inside rest c b p q =
+        let a = own_at before b p in
+        let t = find_definition ds x.name in
+        let at : name ≡ x.name.place = pn ∙ first_cell a 0 (omega arith) in
+        g
+        ∙ ap (λ u. set l u r) at
+        ∙ ap (scatter l) (sym (at_fault f.objects x (names before) (λ us. drops inside f.objects us []) t r (told (w f ds before x inside rest c b p)) h))
 
 -- A block ------------------------------------------------------------------------------------------------------------------------------------
 

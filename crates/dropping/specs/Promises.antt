@@ -1,20 +1,18 @@
 -- What the functions that mark the dropped statements promise, for every file whose text and rows these are. Assumes nothing.
-use Rattle.std.specs.Prelude.{◌≡◌, List, [], ◌∷◌, ◌++◌, ℕ, suc, ◌+◌, length}
+use Rattle.std.specs.Prelude.{Result, Ok, Err, ◌≡◌, List, [], ◌∷◌, ◌++◌, ℕ, suc, ◌+◌, length}
 use Rattle.std.proofs.Math.Option.{Option, none, some}
 use Rattle.token.specs.Find.{pick}
 use Rattle.meaning.specs.Merging.{then}
 use Rattle.meaning.specs.Syntax.{Word, Definitions, no_more, Defined, Statement, Statements, state, Object, File, statements_in}
-use Rattle.meaning.specs.Faults.{first}
+use Rattle.meaning.specs.Faults.{first, Fault as Refusal}
 use Rattle.meaning.specs.Scopes.{names, under, find_definition, of_kind}
 use Rattle.meaning.specs.Judging.{faults_as}
 use Rattle.blocks.specs.Blocks.{BlockAt}
 use Rattle.scopes.specs.Situations.{ScopeAt}
 use Rattle.scopes.specs.Given.{Given, Places}
-use Rattle.scopes.specs.Promises.{fault_of}
 use Rattle.scopes.specs.declared.Sizes.{Sizes}
 use Rattle.amounts.specs.Known.{Known}
 use Rattle.lookups.specs.Names.{Named}
-use Rattle.dropping.specs.declared.Verdict.{Verdict}
 use Rattle.dropping.specs.Drops.{stated_again, dropped, drops, all_drops, scatter}
 
 -- What is made before: x has the names, k the ranges.
@@ -24,20 +22,24 @@ pub record Prepared (s d e o st : List ℕ) (z : Sizes) (x k : List ℕ) : Type 
 
 -- One statement ----------------------------------------------------------------------------------------------------------------------------
 
--- The verdict on a statement without its braces, by the attribute of its name: 13, 14, 15 or 18, and 0 for none.
-unfoldable pub verdict : Option Defined → List Object → Statement → (before : List Word) → ℕ
-verdict none os x before = 13
-verdict (some d) os x before = pick (stated_again d x before) 14 (fault_of (first (faults_as d.definition.type os x d))).number
+unfoldable pub number_of : Option Refusal → Option ℕ
+number_of none = none
+number_of (some x) = some x.number
+
+-- The verdict on a statement without its braces, by the attribute of its name: 13, 14, 15 or 18, or none.
+unfoldable pub verdict : Option Defined → List Object → Statement → (before : List Word) → Option ℕ
+verdict none os x before = some 13
+verdict (some d) os x before = pick (stated_again d x before) (some 14) (number_of (first (faults_as d.definition.type os x d)))
 
 -- The scope of its braces.
 unfoldable pub scope_inside : Option Defined → Statement → Definitions
 scope_inside none x = no_more
 scope_inside (some d) x = under d.values x.value
 
--- r is the verdict, and has the word of that scope.
-pub record VerdictOn (f : File) (o : Option Defined) (x : Statement) (before : List Word) (r : Verdict) : Type 0 where
-  pub number : r.number ≡ verdict o f.objects x before
-  pub scope : r.number ≡ 0 → ScopeAt f r.under (scope_inside o x)
+-- r is the verdict, or has the word of that scope.
+pub data VerdictOn (f : File) (o : Option Defined) (x : Statement) (before : List Word) : Result ℕ ℕ → Type 0 where
+  passes : {u : ℕ} → verdict o f.objects x before ≡ none → ScopeAt f u (scope_inside o x) → VerdictOn f o x before (Ok u)
+  faulty : {n : ℕ} → verdict o f.objects x before ≡ some n → VerdictOn f o x before (Err n)
 
 -- What is known of a block: the scope ds of the word at key.
 pub record Scoped (s d e o st : List ℕ) (z : Sizes) (key : ℕ) (f : File) (ds : Definitions) : Type 0 where
@@ -45,7 +47,7 @@ pub record Scoped (s d e o st : List ℕ) (z : Sizes) (key : ℕ) (f : File) (ds
   pub scope : ScopeAt f key ds
 
 -- The verdict on the statement of row k, in the block from m to v.
-abbrev pub Verdicts : (s d e o st : List ℕ) → Sizes → (key m k v : ℕ) → Verdict → Type 0
+abbrev pub Verdicts : (s d e o st : List ℕ) → Sizes → (key m k v : ℕ) → Result ℕ ℕ → Type 0
 Verdicts s d e o st z key m k v r =
     (f : File) (ds : Definitions) (before : Statements) (x : Statement) (inside rest : Statements) → Scoped s d e o st z key f ds
     → BlockAt s st m v (then before (state x inside rest)) → k ≡ m + statements_in before → VerdictOn f (find_definition ds x.name) x (names before) r

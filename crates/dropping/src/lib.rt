@@ -13,15 +13,8 @@ use blocks::after;
 use judging::{values, wanting};
 use layout::{definition, enumerator, object, statement};
 use lookups::names;
-use rows::{Found, cells, counts, refusals};
+use rows::{cells, counts, refusals};
 use scopes::Sizes;
-
-// The verdict on a statement without its braces: its refusal's number, 0 for none, and the place of the word whose scope its braces have.
-#[derive(Clone, Copy)]
-pub struct Verdict {
-    pub number: u8,
-    pub under: usize,
-}
 
 // The number at a place of the marks; a place past their end is not stored.
 fn mark(marks: &mut [u8], place: usize, number: u8)
@@ -33,8 +26,9 @@ fn mark(marks: &mut [u8], place: usize, number: u8)
     marks[place] = number;
 }
 
-// The verdict on the statement of row k, in the block from `from` to `end`, whose scope is that of the word at key. Here and below `names` is the
-// table of names, `first` has the first row of each rank in the block, and `known` what is known of the ranges.
+// The verdict on the statement of row k without its braces, in the block from `from` to `end`, whose scope is that of the word at key: the place of the
+// word whose scope its braces have, or its refusal's number. Here and below `names` is the table of names, `first` has the first row of each rank in
+// the block, and `known` what is known of the ranges.
 fn verdict_on(
     text: &[u8],
     d: &[usize],
@@ -49,31 +43,24 @@ fn verdict_on(
     from: usize,
     k: usize,
     end: usize,
-) -> Verdict
+) -> Result<usize, u8>
     requires { Prepared text.now d.now e.now o.now st.now z names.now known.now × Firsts st.now (statement_ranks names.now) from end first.now }
     ensures { Verdicts text.now d.now e.now o.now st.now z key from k end result }
 {
     let name = cells::cell_of(st, statement::WIDTH, k, statement::NAME);
     let size = cells::cell_of(st, statement::WIDTH, k, statement::NAME_LENGTH);
-    let Found::At(j) = names::find_definition(text, d, names, z.definitions, key, name, size) else {
-        return Verdict {
-            number: refusals::NOT_DEFINED,
-            under: 0,
-        };
+    let Some(j) = names::find_definition(text, d, names, z.definitions, key, name, size) else {
+        return Err(refusals::NOT_DEFINED);
     };
     if values::again(text, d, e, o, st, names, first, z, from, k, end, j) {
-        return Verdict {
-            number: refusals::STATED_AGAIN,
-            under: 0,
-        };
+        return Err(refusals::STATED_AGAIN);
     }
     let at = cells::cell_of(st, statement::WIDTH, k, statement::VALUE);
     let len = cells::cell_of(st, statement::WIDTH, k, statement::VALUE_LENGTH);
     let under = names::word_under(text, d, e, names, z.enumerators, j, at, len);
-    let f = values::value_fault(text, d, e, o, st, names, known, z, k, j, under);
-    Verdict {
-        number: f.number,
-        under: under,
+    match values::value_fault(text, d, e, o, st, names, known, z, k, j, under) {
+        Some(f) => Err(f.number),
+        None => Ok(under),
     }
 }
 
@@ -98,7 +85,7 @@ fn drop_alone(
 {
     let name = cells::cell_of(st, statement::WIDTH, k, statement::NAME);
     let size = cells::cell_of(st, statement::WIDTH, k, statement::NAME_LENGTH);
-    let Found::At(j) = names::find_definition(text, d, names, z.definitions, key, name, size) else {
+    let Some(j) = names::find_definition(text, d, names, z.definitions, key, name, size) else {
         mark(marks, name, refusals::NOT_DEFINED);
         return;
     };
@@ -128,6 +115,7 @@ fn drop_statements(
     ensures { DropsBlock text.now d.now e.now o.now st.now z key from end marks.old marks.new }
 {
     let mut k = from;
+    // A `while`: the next statement of the block stands after the rows of those in the braces of this one.
     while k < end {
         let next = after(st, k, end);
         drop_one(
@@ -163,29 +151,31 @@ fn drop_one(
         drop_alone(text, d, e, o, st, names, first, z, key, from, k, end, marks);
         return;
     }
-    let v = verdict_on(text, d, e, o, st, names, first, known, z, key, from, k, end);
-    if v.number == 0 {
-        drop_block(
-            text,
-            d,
-            e,
-            o,
-            st,
-            names,
-            known,
-            z,
-            v.under,
-            k + 1,
-            next,
-            marks,
-        );
-        return;
+    match verdict_on(text, d, e, o, st, names, first, known, z, key, from, k, end) {
+        Ok(under) => {
+            drop_block(
+                text,
+                d,
+                e,
+                o,
+                st,
+                names,
+                known,
+                z,
+                under,
+                k + 1,
+                next,
+                marks,
+            );
+        }
+        Err(number) => {
+            if refusals::STATED_AGAIN < number {
+                return;
+            }
+            let name = cells::cell_of(st, statement::WIDTH, k, statement::NAME);
+            mark(marks, name, number);
+        }
     }
-    if refusals::STATED_AGAIN < v.number {
-        return;
-    }
-    let name = cells::cell_of(st, statement::WIDTH, k, statement::NAME);
-    mark(marks, name, v.number);
 }
 
 // The same of a block.
@@ -283,10 +273,8 @@ fn drop_objects(
     requires { Prepared text.now d.now e.now o.now st.now z names.now known.now }
     ensures { DropsAll text.now d.now e.now o.now st.now z places.now marks.old marks.new }
 {
-    let mut i = 0;
-    while i < z.objects {
+    for i in 0..z.objects {
         drop_object(text, d, e, o, st, names, known, z, places, i, marks);
-        i += 1;
     }
 }
 

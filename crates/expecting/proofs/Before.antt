@@ -8,16 +8,16 @@ use native.Mathlib.Omega.{arith}
 use lib.ListN.{length}
 use lib.Dec.{ltb, eqb}
 use borrow.Author.Tests.{ltb-false}
-use Rattle.token.specs.Bytes.{Class, letter, digit, blank, plus_minus, quote, punctuator, dot, slash, other, class_of, word_end, is_dotted, find_byte, find_mark, pair_at}
+use Rattle.token.specs.Bytes.{class_of, word_end, is_dotted, find_byte, find_mark, pair_at}
+use Rattle.token.specs.declared.scan.Class.{Class}
+use Rattle.token.specs.declared.scan.Class.TheVariants.{Letter as letter, Digit as digit, Blank as blank, Sign as plus_minus, Quote as quote, Punctuator as punctuator, Dot as dot, Slash as slash, Other as other}
 use Rattle.token.specs.Find.{byte}
 use Rattle.token.specs.Numbers.{numeral}
 use Rattle.token.specs.Floats.{mantissa_of, power_at}
 use Rattle.token.specs.Tokens.{bytes_between, limit_of, found, word_at, number_of, whole_at, float_of, float_by, float_at, number_by, number_at, string_at, dots_at, token_of as tokenOfClass, token_at, step_at}
 use Rattle.token.specs.Lexing.{Lexed, more, ended, refused, lex_from, Divides as Wholly}
-use Rattle.token.specs.declared.Amount.{Amount}
-use Rattle.token.specs.declared.Amount.TheVariants.{Is, Not}
+use Rattle.std.specs.Prelude.{Option, Some, None}
 use Rattle.token.specs.declared.Power.{Power}
-use Rattle.token.specs.declared.Power.TheVariants.{Times, None}
 use Rattle.token.specs.declared.Sort.TheVariants.{String, Punctuator}
 use Rattle.token.specs.declared.Cursor.{Cursor}
 use Rattle.token.specs.declared.Token.{Token as Lexeme}
@@ -32,8 +32,9 @@ use Rattle.locality.proofs.Slices.{Split, split}
 use Rattle.grammar.specs.Grammar.{Token, Begins}
 use Rattle.grammar.specs.Terminals.{token_of, tokens_in, tokens}
 use Rattle.grammar.specs.Stage.{Shallow, Answers, passes, no_token, not_admitted, ends_early, too_deep}
-use Rattle.grammar.specs.declared.Answer.{Answer}
-use Rattle.grammar.specs.declared.Answer.TheVariants.{NotAdmitted}
+use Rattle.grammar.specs.Answered.{Answer}
+use Rattle.std.specs.Prelude.{Err}
+use Rattle.grammar.specs.declared.Refusal.TheVariants.{NotAdmitted}
 use Rattle.expecting.specs.Expected.{until}
 use Rattle.expecting.proofs.Refusals.{until_token, until_end}
 
@@ -44,17 +45,16 @@ Stays (Found t c) = Unit {0}
 Stays (Refused q) = Unit {0}
 Stays (End n) = ⊥
 
-number_stays : (m : Bool) (v : Amount) (p e : ℕ) → Stays (number_of m v p e)
+number_stays : (m : Bool) (v : Option ℕ) (p e : ℕ) → Stays (number_of m v p e)
 unfolding found
-number_stays m (Is n) p e = tt
-number_stays m Not p e = tt
+number_stays m (Some n) p e = tt
+number_stays m None p e = tt
 
-float_stays : (m : Bool) (v : Amount) (w : Power) (n p : ℕ) → Stays (float_of m v w n p)
+float_stays : (m : Bool) (v : Option ℕ) (w : Option Power) (n p : ℕ) → Stays (float_of m v w n p)
 unfolding found
-float_stays m (Is a) (Times b x e) n p = tt
-float_stays m (Is a) None n p = tt
-float_stays m Not (Times b x e) n p = tt
-float_stays m Not None n p = tt
+float_stays m (Some a) (Some x) n p = tt
+float_stays m (Some a) None n p = tt
+float_stays m None w n p = tt
 
 number_by_stays : (b : Bool) (s : List ℕ) (p q : ℕ) → Stays (number_by b s p q)
 unfolding number_by whole_at float_at float_by
@@ -185,12 +185,12 @@ module _ (s : List ℕ) (d : Wholly (lex_from s 0)) (h : Shallow (tokens s)) (b 
   before_end : Before s (length s)
   before_end = by_step (step_at s all_found.end) refl
 
-before_of : {s : List ℕ} {a : Answer} (p : ℕ) → a ≡ NotAdmitted p → Answers s a → Before s p
+before_of : {s : List ℕ} {a : Answer} (p : ℕ) → a ≡ Err (NotAdmitted p) → Answers s a → Before s p
 before_of {s} p q (not_admitted l t r e h b n) = subst (Before s) (let x : t.place ≡ p = cc in x) (before_token s l t r e h b)
 before_of {s} p q (ends_early w h b n) = subst (Before s) (let x : length s ≡ p = cc in x) (before_end s w h b)
 before_of p q (passes w h d) = absurd (let z : ◌≡◌ {A = ℕ} 0 1 = cc in omega arith)
 before_of p q (no_token n w h b) = absurd (let z : ◌≡◌ {A = ℕ} 0 1 = cc in omega arith)
 before_of p q (too_deep l t r e h b m o) = absurd (let z : ◌≡◌ {A = ℕ} 0 1 = cc in omega arith)
 
-pub before : (s : List ℕ) (p : ℕ) → Answers s (NotAdmitted p) → Before s p
+pub before : (s : List ℕ) (p : ℕ) → Answers s (Err (NotAdmitted p)) → Before s p
 before s p a = before_of p refl a

@@ -11,7 +11,10 @@ use lib.Seq.{length-take-le, get_or-take, get_or_at, take-append-le, take-take}
 use lib.Dec.{eqb, ltb}
 use borrow.Author.Tests.{lt-ltb}
 use Rattle.token.specs.Find.{byte, find, both}
-use Rattle.token.specs.Bytes.{Class, letter, digit, blank, plus_minus, quote, punctuator, dot, slash, other, class_of, class_code, is_word_byte, find_byte, pair_at, find_close}
+use Rattle.token.specs.Bytes.{class_of, is_word_byte, find_byte, pair_at, find_close}
+use Rattle.token.specs.declared.scan.Class.{Class}
+use Rattle.token.specs.declared.scan.Class.TheVariants.{Letter as letter, Digit as digit, Blank as blank, Sign as plus_minus, Quote as quote, Punctuator as punctuator, Dot as dot, Slash as slash, Other as other}
+use Rattle.token.proofs.Bytes.{class_code}
 use Rattle.token.specs.Lexing.{lex_from, after_step}
 use Rattle.token.specs.declared.Sort.{Sort}
 use Rattle.token.specs.declared.Sort.TheVariants.{Word, Number, String, Punctuator, Float}

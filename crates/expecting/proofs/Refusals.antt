@@ -11,8 +11,9 @@ use Rattle.locality.proofs.Onward.{reading}
 use Rattle.grammar.specs.Grammar.{Token, Begins}
 use Rattle.grammar.specs.Terminals.{token_of, tokens_in, tokens}
 use Rattle.grammar.specs.Stage.{Answers, passes, no_token, not_admitted, ends_early, too_deep}
-use Rattle.grammar.specs.declared.Answer.{Answer}
-use Rattle.grammar.specs.declared.Answer.TheVariants.{NotAdmitted}
+use Rattle.grammar.specs.Answered.{Answer}
+use Rattle.std.specs.Prelude.{Err}
+use Rattle.grammar.specs.declared.Refusal.TheVariants.{NotAdmitted}
 use Rattle.expecting.specs.Expected.{until}
 
 until_on : (t : Token) (p : ℕ) (l : List Token) → t.place < p → until p (t ∷ l) ≡ t ∷ until p l
@@ -76,7 +77,7 @@ pub none_behind : (l m : List Token) (t : Token) → l ≡ l ++ (t ∷ m) → �
 none_behind [] m t e = let z : ◌≡◌ {A = ℕ} 0 1 = cc in omega arith
 none_behind (x ∷ l) m t e = none_behind l m t (let q : l ≡ l ++ (t ∷ m) = cc in q)
 
-here_of : {s : List ℕ} {a : Answer} (p : ℕ) → a ≡ NotAdmitted p → Answers s a → Refused-here s p
+here_of : {s : List ℕ} {a : Answer} (p : ℕ) → a ≡ Err (NotAdmitted p) → Answers s a → Refused-here s p
 here_of {s} p q (not_admitted l t r e h b n) =
     let x : t.place ≡ p = cc in
     let y : until p (tokens s) ≡ l = ap (λ (i : ℕ). until i (tokens s)) (sym x) ∙ until_token s l t r e in
@@ -94,5 +95,5 @@ here_of p q (passes w h d) = absurd (let z : ◌≡◌ {A = ℕ} 0 1 = cc in ome
 here_of p q (no_token n w h b) = absurd (let z : ◌≡◌ {A = ℕ} 0 1 = cc in omega arith)
 here_of p q (too_deep l t r e h b m o) = absurd (let z : ◌≡◌ {A = ℕ} 0 1 = cc in omega arith)
 
-pub refused_here : (s : List ℕ) (p : ℕ) → Answers s (NotAdmitted p) → Refused-here s p
+pub refused_here : (s : List ℕ) (p : ℕ) → Answers s (Err (NotAdmitted p)) → Refused-here s p
 refused_here s p a = here_of p refl a

@@ -28,8 +28,9 @@ use Rattle.locality.proofs.Pieces.{divides_after, divides_moved}
 use Rattle.grammar.specs.Grammar.{Terminal, Token, Begins, Derivation, matches, name, number, string, float, kind, type, integer, the, sg, OIL-VERSION, IMPLEMENTATION, CPU, STRING, BOOLEAN, ENUM, FLOAT, TRUE, FALSE, AUTO, NO-DEFAULT, WITH-AUTO, lbrace, rbrace, lsquare, rsquare, equals, semicolon, colon, comma, dots}
 use Rattle.grammar.specs.Terminals.{sign_of, class_of as classOfToken, token_of, tokens_in, tokens}
 use Rattle.grammar.specs.Stage.{Divides, Shallow, Answers, passes, no_token, not_admitted, ends_early, too_deep}
-use Rattle.grammar.specs.declared.Answer.{Answer}
-use Rattle.grammar.specs.declared.Answer.TheVariants.{Passes, NotAdmitted}
+use Rattle.grammar.specs.Answered.{Answer}
+use Rattle.std.specs.Prelude.{Ok, Err}
+use Rattle.grammar.specs.declared.Refusal.TheVariants.{NotAdmitted}
 use Rattle.expecting.specs.Expected.{Expects, until, Expected}
 use Rattle.grammar.proofs.Answering.{answer_to, answer_to_lem}
 use Rattle.expecting.specs.Flags.{index, flag, RefusedAt, Tells, TellsDecided}
@@ -141,7 +142,7 @@ may_name a h =
 
 -- The stage's answers ----------------------------------------------------------------------------------------------------------------------------
 
-passes_of : {s : List ℕ} {a : Answer} → a ≡ Passes → Answers s a → Derivation (tokens s)
+passes_of : {s : List ℕ} {a : Answer} → a ≡ Ok tt → Answers s a → Derivation (tokens s)
 passes_of e (passes w h d) = d
 passes_of e (no_token n w h b) = absurd (let z : ◌≡◌ {A = ℕ} 0 1 = cc in omega arith)
 passes_of e (not_admitted l t r q h b n) = absurd (let z : ◌≡◌ {A = ℕ} 0 1 = cc in omega arith)
@@ -200,7 +201,7 @@ module _ {s : List ℕ} {p : ℕ} (b : Before s p) where
       by (inr e') y = absurd (e (g.1 (subst (Expects (until p (tokens s))) e'.0 y)) e'.1)
 
   -- no sample: the text's end
-  pub end_told : {r : Bool} → (r ≡ true) ↔ Answers (asking s p 28) Passes → (r ≡ true) ↔ Derivation (until p (tokens s))
+  pub end_told : {r : Bool} → (r ≡ true) ↔ Answers (asking s p 28) (Ok tt) → (r ≡ true) ↔ Derivation (until p (tokens s))
   unfolding tokens tokens_in
   end_told g =
       let q : tokens (asking s p 28) ≡ until p (tokens s) =
@@ -227,7 +228,7 @@ no_name : (a : Terminal) → 1 ≤ index a → a ≡ name → ⊥
 unfolding index
 no_name a h z = let y : index a ≡ 0 = ap index z in omega arith
 
-pub told_first : {s : List ℕ} {p : ℕ} (f : List Bool) {v : Bool} → 0 < length f → Answers s (NotAdmitted p) → AdmitsLast (asking s p 0) (p + 1) v → Told s p (set f 0 v) 1
+pub told_first : {s : List ℕ} {p : ℕ} (f : List Bool) {v : Bool} → 0 < length f → Answers s (Err (NotAdmitted p)) → AdmitsLast (asking s p 0) (p + 1) v → Told s p (set f 0 v) 1
 unfolding index
 told_first {s} {p} f {v} h e x =
     record {
@@ -235,7 +236,7 @@ told_first {s} {p} f {v} h e x =
           subst (λ (c : Terminal). (flag (set f 0 v) (index c) ≡ true) ↔ Expected s p c) (sym (index_name a k)) (as_flag (get_or-set_same f 0 v false h) (name_told (before s p e) x));
     }
 
-pub told_more : {s : List ℕ} {p i : ℕ} {f : List Bool} {n v : Bool} → i < length f → 1 ≤ i → Answers s (NotAdmitted p) → AdmitsLast (asking s p 0) (p + 1) n
+pub told_more : {s : List ℕ} {p i : ℕ} {f : List Bool} {n v : Bool} → i < length f → 1 ≤ i → Answers s (Err (NotAdmitted p)) → AdmitsLast (asking s p 0) (p + 1) n
     → Asks s p i n v → Told s p f i → Told s p (set f i v) (i + 1)
 told_more {s} {p} {i} {f} {n} {v} h k e w x t =
     record {
@@ -249,7 +250,7 @@ told_more {s} {p} {i} {f} {n} {v} h k e w x t =
     }
 
 pub tells_all : {s : List ℕ} {p i : ℕ} {f : List Bool} {v : Bool} → 28 < length f → 28 ≤ i → RefusedAt s p → Told s p f i
-    → (v ≡ true) ↔ Answers (asking s p 28) Passes → Tells s p (set f 28 v)
+    → (v ≡ true) ↔ Answers (asking s p 28) (Ok tt) → Tells s p (set f 28 v)
 tells_all {s} {p} {i} {f} {v} h k e t g =
     record {
       terminal = λ _ a. let l = index_low a in as_flag (get_or-set_other f 28 (index a) v false (λ z. omega arith)) (t.each a (omega arith));
@@ -268,17 +269,17 @@ tells_none s p z =
 
 -- The flags are decided --------------------------------------------------------------------------------------------------------------------------
 
-answers_dec : (s : List ℕ) (p : ℕ) → Dec (Answers s (NotAdmitted p))
+answers_dec : (s : List ℕ) (p : ℕ) → Dec (Answers s (Err (NotAdmitted p)))
 answers_dec s p = by (refuses (answer_to s) p) (refuses_by s p (answer_to_lem s) (refuses (answer_to s) p) (answer_to s) refl refl)
   where
-    by : (b : Bool) → (b ≡ true) ↔ Answers s (NotAdmitted p) → Dec (Answers s (NotAdmitted p))
+    by : (b : Bool) → (b ≡ true) ↔ Answers s (Err (NotAdmitted p)) → Dec (Answers s (Err (NotAdmitted p)))
     by true g = yes (g.0 refl)
     by false g = no (λ x. false≢true (g.1 x))
 
 refused_dec : (s : List ℕ) (p : ℕ) → Dec (RefusedAt s p)
 refused_dec s p = by (dec_le (length s) 65535) (answers_dec s p)
   where
-    by : Dec (length s ≤ 65535) → Dec (Answers s (NotAdmitted p)) → Dec (RefusedAt s p)
+    by : Dec (length s ≤ 65535) → Dec (Answers s (Err (NotAdmitted p))) → Dec (RefusedAt s p)
     by (yes h) (yes x) = yes (h, x)
     by (yes h) (no f) = no (λ e. f e.1)
     by (no f) d = no (λ e. f e.0)

@@ -12,8 +12,9 @@ use Rattle.token.specs.Lexing.{lex_from}
 use Rattle.grammar.specs.Grammar.{Token, Begins}
 use Rattle.grammar.specs.Terminals.{tokens}
 use Rattle.grammar.specs.Stage.{Divides, Shallow, Answers, passes, no_token, not_admitted, ends_early, too_deep}
-use Rattle.grammar.specs.declared.Answer.{Answer}
-use Rattle.grammar.specs.declared.Answer.TheVariants.{Passes, NoToken, NotAdmitted, TooDeep}
+use Rattle.grammar.specs.Answered.{Answer}
+use Rattle.std.specs.Prelude.{Ok, Err, is_ok}
+use Rattle.grammar.specs.declared.Refusal.TheVariants.{NoToken, NotAdmitted, TooDeep}
 use Rattle.grammar.proofs.Decided.{decided}
 use Rattle.grammar.proofs.Fronts.{begins_front, shallow_front, derived_begins, not_shallow, stops_not}
 use Rattle.expecting.specs.Expected.{until}
@@ -21,10 +22,10 @@ use Rattle.expecting.specs.Samples.{AdmitsLast}
 use Rattle.expecting.proofs.Refusals.{until_token, until_end, same_head, none_behind}
 
 unfoldable pub verdict : Answer → ℕ → Bool
-verdict Passes p = true
-verdict (NoToken q) p = false
-verdict (NotAdmitted q) p = not (eqb q p)
-verdict (TooDeep q) p = true
+verdict (Ok _) p = true
+verdict (Err (NoToken q)) p = false
+verdict (Err (NotAdmitted q)) p = not (eqb q p)
+verdict (Err (TooDeep q)) p = true
 
 abbrev Past : List Token → Token → List Token → Type 0
 Past l t m = (r : List Token) × (m ≡ (l ++ (t ∷ [])) ++ r)
@@ -89,49 +90,40 @@ tells_by {s} p e r b q v = subst (AdmitsLast s p) v (tells p (subst (Answers s) 
 -- The stage's answer alone -------------------------------------------------------------------------------------------------------------------------
 
 unfoldable pub refuses : Answer → ℕ → Bool
-refuses Passes p = false
-refuses (NoToken q) p = false
-refuses (NotAdmitted q) p = eqb q p
-refuses (TooDeep q) p = false
-
-unfoldable pub passing : Answer → Bool
-passing Passes = true
-passing (NoToken q) = false
-passing (NotAdmitted q) = false
-passing (TooDeep q) = false
+refuses (Ok _) p = false
+refuses (Err (NoToken q)) p = false
+refuses (Err (NotAdmitted q)) p = eqb q p
+refuses (Err (TooDeep q)) p = false
 
 module _ (s : List ℕ) (p : ℕ) where
   -- an answer that is another one
   other : {a b : Answer} → Answers s a → (a ≡ b → ⊥) → Answers s b → ⊥
   other {a} {b} x n y = n (decided x y)
 
-  refuses_exact : (a : Answer) → Answers s a → (refuses a p ≡ true) ↔ Answers s (NotAdmitted p)
+  refuses_exact : (a : Answer) → Answers s a → (refuses a p ≡ true) ↔ Answers s (Err (NotAdmitted p))
   unfolding refuses
-  refuses_exact Passes x = no refl (other x (λ e. let z : ◌≡◌ {A = ℕ} 0 1 = cc in omega arith))
-  refuses_exact (NoToken q) x = no refl (other x (λ e. let z : ◌≡◌ {A = ℕ} 0 1 = cc in omega arith))
-  refuses_exact (TooDeep q) x = no refl (other x (λ e. let z : ◌≡◌ {A = ℕ} 0 1 = cc in omega arith))
-  refuses_exact (NotAdmitted q) x = go (eqb q p) refl
+  refuses_exact (Ok _) x = no refl (other x (λ e. let z : ◌≡◌ {A = ℕ} 0 1 = cc in omega arith))
+  refuses_exact (Err (NoToken q)) x = no refl (other x (λ e. let z : ◌≡◌ {A = ℕ} 0 1 = cc in omega arith))
+  refuses_exact (Err (TooDeep q)) x = no refl (other x (λ e. let z : ◌≡◌ {A = ℕ} 0 1 = cc in omega arith))
+  refuses_exact (Err (NotAdmitted q)) x = go (eqb q p) refl
     where
-      go : (b : Bool) → eqb q p ≡ b → (b ≡ true) ↔ Answers s (NotAdmitted p)
-      go true e = yes refl (subst (λ (i : ℕ). Answers s (NotAdmitted i)) (eqb-true q p e) x)
+      go : (b : Bool) → eqb q p ≡ b → (b ≡ true) ↔ Answers s (Err (NotAdmitted p))
+      go true e = yes refl (subst (λ (i : ℕ). Answers s (Err (NotAdmitted i))) (eqb-true q p e) x)
       go false e = no refl (other x (λ z. eqb-false q p e (let y : q ≡ p = cc in y)))
 
-  pub refuses_by : {a : Answer} → Answers s a → (r : Bool) (b : Answer) → a ≡ b → refuses b p ≡ r → (r ≡ true) ↔ Answers s (NotAdmitted p)
-  refuses_by x r b q v = subst (λ (c : Bool). (c ≡ true) ↔ Answers s (NotAdmitted p)) v (refuses_exact b (subst (Answers s) q x))
+  pub refuses_by : {a : Answer} → Answers s a → (r : Bool) (b : Answer) → a ≡ b → refuses b p ≡ r → (r ≡ true) ↔ Answers s (Err (NotAdmitted p))
+  refuses_by x r b q v = subst (λ (c : Bool). (c ≡ true) ↔ Answers s (Err (NotAdmitted p))) v (refuses_exact b (subst (Answers s) q x))
 
-  passes_exact : (a : Answer) → Answers s a → (passing a ≡ true) ↔ Answers s Passes
-  unfolding passing
-  passes_exact Passes x = yes refl x
-  passes_exact (NoToken q) x = no refl (other x (λ e. let z : ◌≡◌ {A = ℕ} 0 1 = cc in omega arith))
-  passes_exact (NotAdmitted q) x = no refl (other x (λ e. let z : ◌≡◌ {A = ℕ} 0 1 = cc in omega arith))
-  passes_exact (TooDeep q) x = no refl (other x (λ e. let z : ◌≡◌ {A = ℕ} 0 1 = cc in omega arith))
+  passes_exact : (a : Answer) → Answers s a → (is_ok a ≡ true) ↔ Answers s (Ok tt)
+  passes_exact (Ok _) x = yes refl x
+  passes_exact (Err r) x = no refl (other x (λ e. let z : ◌≡◌ {A = ℕ} 0 1 = cc in omega arith))
 
-pub passes_by : {s : List ℕ} {a : Answer} → Answers s a → (r : Bool) (b : Answer) → a ≡ b → passing b ≡ r → (r ≡ true) ↔ Answers s Passes
-passes_by {s} x r b q v = subst (λ (c : Bool). (c ≡ true) ↔ Answers s Passes) v (passes_exact s 0 b (subst (Answers s) q x))
+pub passes_by : {s : List ℕ} {a : Answer} → Answers s a → {r : Bool} → r ≡ is_ok a → (r ≡ true) ↔ Answers s (Ok tt)
+passes_by {s} {a} x q = subst (λ (c : Bool). (c ≡ true) ↔ Answers s (Ok tt)) (sym q) (passes_exact s 0 a x)
 
 -- Of the same text.
 pub admits_as : {s u : List ℕ} {p : ℕ} {r : Bool} → s ≡ u → AdmitsLast s p r → AdmitsLast u p r
 admits_as {p} {r} e x = subst (λ (v : List ℕ). AdmitsLast v p r) e x
 
-pub passes_as : {s u : List ℕ} {r : Bool} → s ≡ u → (r ≡ true) ↔ Answers s Passes → (r ≡ true) ↔ Answers u Passes
-passes_as {r} e x = subst (λ (v : List ℕ). (r ≡ true) ↔ Answers v Passes) e x
+pub passes_as : {s u : List ℕ} {r : Bool} → s ≡ u → (r ≡ true) ↔ Answers s (Ok tt) → (r ≡ true) ↔ Answers u (Ok tt)
+passes_as {r} e x = subst (λ (v : List ℕ). (r ≡ true) ↔ Answers v (Ok tt)) e x

@@ -1,9 +1,9 @@
 -- What the call `expected` answers: a flag for each terminal, and one for the text's end. Assumes nothing.
-use Rattle.std.specs.Prelude.{◌≡◌, List, Bool, true, false, ◌↔◌, ℕ, ◌≤◌, length, get_or}
+use Rattle.std.specs.Prelude.{◌≡◌, List, Bool, true, false, ◌↔◌, ℕ, ◌≤◌, length, get_or, Err}
 use Rattle.grammar.specs.Grammar.{Terminal, Derivation, name, number, string, float, kind, type, integer, the, sg, OIL-VERSION, IMPLEMENTATION, CPU, STRING, BOOLEAN, ENUM, FLOAT, TRUE, FALSE, AUTO, NO-DEFAULT, WITH-AUTO, lbrace, rbrace, lsquare, rsquare, equals, semicolon, colon, comma, dots}
 use Rattle.grammar.specs.Terminals.{tokens}
 use Rattle.grammar.specs.Stage.{Answers}
-use Rattle.grammar.specs.declared.Answer.TheVariants.{NotAdmitted}
+use Rattle.grammar.specs.declared.Refusal.TheVariants.{NotAdmitted}
 use Rattle.expecting.specs.Expected.{until, Expected}
 
 -- The place of a terminal's flag: first a name and those whose words may be names.
@@ -46,7 +46,7 @@ flag r i = get_or r i false
 
 -- The text is not too long, and the grammar stage refuses it with 4 at p.
 abbrev pub RefusedAt : List ℕ → ℕ → Type 0
-RefusedAt s p = (length s ≤ 65535) × Answers s (NotAdmitted p)
+RefusedAt s p = (length s ≤ 65535) × Answers s (Err (NotAdmitted p))
 
 -- There a terminal's flag is set exactly if it is expected, and the end's exactly if the tokens before the place are a whole file. For any
 -- other text or place no flag is set.

@@ -4,11 +4,11 @@
 
 ghost use Rattle.std.specs.Prelude.{◌≡◌, true, ◌↔◌, ◌+◌, length};
 ghost use Rattle.grammar.specs.Stage.{Answers};
-ghost use Rattle.grammar.specs.declared.Answer.TheVariants.{Passes, NotAdmitted};
+ghost use Rattle.grammar.specs.declared.Refusal.TheVariants.{NotAdmitted};
 ghost use Rattle.expecting.specs.Flags.{RefusedAt, Tells};
 ghost use Rattle.expecting.specs.Samples.{asking, Room, AdmitsLast, Asks};
 
-use grammar::Answer;
+use grammar::Refusal;
 
 mod samples;
 pub mod words;
@@ -21,26 +21,21 @@ pub const TERMINALS: usize = END + 1;
 
 // Whether the stage refuses the text with 4 at the place.
 fn is_refused(text: &[u8], place: usize) -> bool
-    ensures { (result ≡ true) ↔ Answers text.now (NotAdmitted place) }
+    ensures { (result ≡ true) ↔ Answers text.now (Err (NotAdmitted place)) }
 {
     match walk::stage(text) {
-        Answer::Passes => false,
-        Answer::NoToken(_) => false,
-        Answer::NotAdmitted(p) => p == place,
-        Answer::TooDeep(_) => false,
+        Ok(()) => false,
+        Err(Refusal::NoToken(_)) => false,
+        Err(Refusal::NotAdmitted(p)) => p == place,
+        Err(Refusal::TooDeep(_)) => false,
     }
 }
 
 // Whether the stage passes the text.
 fn passes(text: &[u8]) -> bool
-    ensures { (result ≡ true) ↔ Answers text.now Passes }
+    ensures { (result ≡ true) ↔ Answers text.now (Ok tt) }
 {
-    match walk::stage(text) {
-        Answer::Passes => true,
-        Answer::NoToken(_) => false,
-        Answer::NotAdmitted(_) => false,
-        Answer::TooDeep(_) => false,
-    }
+    walk::stage(text).is_ok()
 }
 
 // Whether the last token of a text, at the place, goes on with the tokens before it.
@@ -48,10 +43,10 @@ fn admitted(text: &[u8], place: usize) -> bool
     ensures { AdmitsLast text.now place result }
 {
     match walk::stage(text) {
-        Answer::Passes => true,
-        Answer::NoToken(_) => false,
-        Answer::NotAdmitted(p) => p != place,
-        Answer::TooDeep(_) => true,
+        Ok(()) => true,
+        Err(Refusal::NoToken(_)) => false,
+        Err(Refusal::NotAdmitted(p)) => p != place,
+        Err(Refusal::TooDeep(_)) => true,
     }
 }
 
@@ -80,7 +75,7 @@ fn is_expected(text: &[u8], place: usize, i: usize, named: bool, scratch: &mut [
 // Whether the text before the place is a whole file.
 fn ends(text: &[u8], place: usize, scratch: &mut [u8]) -> bool
     requires { Room text.now place 28 (length scratch.old) }
-    ensures { (result ≡ true) ↔ Answers (asking text.now place 28) Passes }
+    ensures { (result ≡ true) ↔ Answers (asking text.now place 28) (Ok tt) }
 {
     samples::lay(text, place, END, scratch);
     passes(&scratch[..place + samples::ROOM])
@@ -94,10 +89,8 @@ fn flags(text: &[u8], place: usize, scratch: &mut [u8]) -> [bool; TERMINALS]
     let mut flags = [false; TERMINALS];
     let named = goes_on(text, place, 0, scratch);
     flags[0] = named;
-    let mut i = 1;
-    while i < END {
+    for i in 1..END {
         flags[i] = is_expected(text, place, i, named, scratch);
-        i += 1;
     }
     flags[END] = ends(text, place, scratch);
     flags

@@ -1,11 +1,12 @@
 -- The laws of a line's end, and of the CR before it.
 -- Assumes nothing.
-use Prim.Native.Nat.{ℕ, ◌+◌, ◌-◌, ◌<◌, ◌≤◌}
-use mathlib.Core.Path.{◌≡◌, refl}
+use Prim.Native.Nat.{ℕ, ◌+◌, ◌-◌, ◌<◌, ◌≤◌, max}
+use mathlib.Core.Path.{◌≡◌, refl, sym, ◌∙◌}
 use mathlib.Core.Bool.{Bool, true, false, false≢true}
 use mathlib.Core.List.{List}
 use mathlib.Core.Logic.{◌≢◌}
 use native.Mathlib.Omega.{arith}
+use native.Mathlib.Decide.{dec_le}
 use borrow.Author.Tests.{eq-eqb, ne_eqb, eqb-true, eqb-false, lt-ltb, le-ltb, ltb-true}
 use lib.Dec.{eqb, ltb}
 use lib.ListN.{length}
@@ -13,14 +14,6 @@ use Rattle.token.specs.Find.{byte}
 use Rattle.token.specs.Bytes.{find_byte}
 use Rattle.token.proofs.Find.{by_test, find_here, find_next, find_past, find_low, find_high, find_holds, find_before}
 use Rattle.explaining.specs.Places.{within, line_end, cr_before, shown_end}
-
-pub within_here : (s : List ℕ) (p : ℕ) → p < length s → p ≡ within s p
-unfolding within
-within_here s p h = omega arith
-
-pub within_past : (s : List ℕ) (p : ℕ) → length s ≤ p → length s ≡ within s p
-unfolding within
-within_past s p h = omega arith
 
 pub within_inside : (s : List ℕ) (p : ℕ) → within s p ≤ length s
 unfolding within
@@ -38,6 +31,14 @@ module _ (s : List ℕ) where
   pub end_past : (i : ℕ) → length s ≤ i → line_end s i ≡ i
   unfolding line_end find_byte
   end_past i h = find_past _ (length s) i h
+
+  -- a walk from p to the text's end, or one that begins past it, found no LF
+  pub end_walked : (p i : ℕ) → length s ≤ i → (p ≤ length s → i ≤ length s) → line_end s i ≡ line_end s p → max (length s) p ≡ line_end s p
+  end_walked p i h k e = by (dec_le p (length s))
+    where
+      by : Dec (p ≤ length s) → max (length s) p ≡ line_end s p
+      by (yes l) = let m : max (length s) p ≡ i = omega (arith, k l) in m ∙ sym (end_past i h) ∙ e
+      by (no n) = let m : max (length s) p ≡ p = omega arith in m ∙ sym (end_past p (omega arith))
 
   pub end_low : (p : ℕ) → p ≤ line_end s p
   unfolding line_end find_byte

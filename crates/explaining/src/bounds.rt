@@ -30,8 +30,9 @@ fn type_before(text: &[u8], place: usize) -> u8
 {
     let mut code = 0;
     let mut at = 0;
+    // A `while`: the next place is where the token found ends, so no range counts it.
     while at < place {
-        let cursor = Cursor { at: at };
+        let cursor = Cursor { at };
         match cursor.step(text) {
             Step::Found(t, c) => {
                 if place <= t.at {

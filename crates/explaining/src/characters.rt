@@ -108,10 +108,8 @@ fn state(bytes: &[u8]) -> u8
     ensures { result ≡ state_of 0 bytes.now }
 {
     let mut k = 0;
-    let mut i = 0;
-    while i < bytes.len() {
-        k = after(k, bytes[i]);
-        i += 1;
+    for b in bytes {
+        k = after(k, *b);
     }
     k
 }
@@ -134,10 +132,8 @@ fn count(bytes: &[u8]) -> usize
     ensures { result ≡ starts bytes.now }
 {
     let mut n = 0;
-    let mut i = 0;
-    while i < bytes.len() {
-        n += start(bytes[i]);
-        i += 1;
+    for b in bytes {
+        n += start(*b);
     }
     n
 }

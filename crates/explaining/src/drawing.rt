@@ -4,8 +4,7 @@ ghost use Rattle.std.proofs.lemmas.List.Edits.{sets};
 ghost use Rattle.explaining.specs.Windows.{Fits};
 ghost use Rattle.explaining.specs.Pictures.{shown_byte, under_byte, drawn, dots, shown_line, mark_line};
 
-use crate::{Ink, View, window};
-use rows::cells;
+use crate::{Ink, View};
 
 // Three dots.
 const DOTS: [u8; 3] = *b"...";
@@ -51,14 +50,12 @@ fn draw(ink: Ink, b: u8) -> u8
 fn put(out: &mut [u8], at: usize, ink: Ink, bytes: &[u8])
     ensures { out.new ≡ sets out.old at (map (drawn ink) bytes.now) }
 {
-    let mut i = 0;
     let mut j = at;
-    while i < bytes.len() {
+    for b in bytes {
         if out.len() <= j {
             return;
         }
-        out[j] = draw(ink, bytes[i]);
-        i += 1;
+        out[j] = draw(ink, *b);
         j += 1;
     }
 }
@@ -112,8 +109,8 @@ pub fn draw_mark(text: &[u8], view: View, end: usize, out: &mut [u8], start: usi
     let front = view.front;
     let middle = start + front;
     let mark = middle + (at - from);
-    let last = cells::least_of(end, view.to);
-    let more = window::less(last, at + 1);
+    let last = end.min(view.to);
+    let more = last.saturating_sub(at + 1);
     let behind = mark + 1 + more;
     let stop = behind + 1;
     put_dots(out, start, Ink::Before, front);

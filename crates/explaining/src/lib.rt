@@ -49,9 +49,9 @@ pub fn explain(text: &[u8], place: usize, out: &mut [u8]) -> Explained
     let shown = drawing::draw_line(text, view, out);
     let len = drawing::draw_mark(text, view, end, out, shown);
     Explained {
-        line: line,
-        column: column,
-        shown: shown,
-        len: len,
+        line,
+        column,
+        shown,
+        len,
     }
 }

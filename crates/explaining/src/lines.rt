@@ -9,10 +9,7 @@ use token::{Cursor, Step};
 pub fn inside(text: &[u8], place: usize) -> usize
     ensures { result ≡ within text.now place }
 {
-    if place < text.len() {
-        return place;
-    }
-    text.len()
+    text.len().min(place)
 }
 
 // 1 for an LF, 0 for any other byte.
@@ -30,10 +27,8 @@ fn line_feeds(bytes: &[u8]) -> usize
     ensures { result ≡ line_feeds bytes.now }
 {
     let mut n = 0;
-    let mut i = 0;
-    while i < bytes.len() {
-        n += feed(bytes[i]);
-        i += 1;
+    for b in bytes {
+        n += feed(*b);
     }
     n
 }
@@ -52,12 +47,10 @@ pub fn line_start(text: &[u8], at: usize) -> usize
     requires { at ≤ length text.now }
     ensures { result ≡ line_start text.now at }
 {
-    let mut i = at;
-    while 0 < i {
-        if text[i - 1] == b'\n' {
-            return i;
+    for i in (0..at).rev() {
+        if text[i] == b'\n' {
+            return i + 1;
         }
-        i -= 1;
     }
     0
 }
@@ -77,7 +70,7 @@ pub fn token_end(text: &[u8], at: usize) -> usize
     requires { at ≤ length text.now }
     ensures { result ≡ token_end text.now at }
 {
-    let cursor = Cursor { at: at };
+    let cursor = Cursor { at };
     match cursor.step(text) {
         Step::Found(t, c) => {
             if t.at == at {
@@ -94,14 +87,12 @@ pub fn token_end(text: &[u8], at: usize) -> usize
 pub fn line_end(text: &[u8], at: usize) -> usize
     ensures { result ≡ line_end text.now at }
 {
-    let mut i = at;
-    while i < text.len() {
+    for i in at..text.len() {
         if text[i] == b'\n' {
             return i;
         }
-        i += 1;
     }
-    i
+    text.len().max(at)
 }
 
 // Whether a CR stands before the LF at a place.

@@ -1,5 +1,5 @@
 // The part of a line that is shown: at most 72 bytes around a place.
-ghost use Rattle.std.specs.Prelude.{◌≤◌, ◌+◌, ◌-◌, min, ◌≡◌, length};
+ghost use Rattle.std.specs.Prelude.{◌≤◌, ◌+◌, min, ◌≡◌, length};
 ghost use Rattle.explaining.specs.Windows.{window_from, dots_for, view_in, view_of};
 
 use crate::{View, lines};
@@ -9,22 +9,12 @@ const WIDTH: usize = 72;
 
 const BEFORE: usize = WIDTH / 2;
 
-// The first number less the second; 0 where the second is the larger.
-pub fn less(a: usize, b: usize) -> usize
-    ensures { result ≡ a - b }
-{
-    if a < b {
-        return 0;
-    }
-    a - b
-}
-
 // Where the window on the line from start to end begins.
 fn window_from(start: usize, end: usize, at: usize) -> usize
     ensures { result ≡ window_from start end at }
 {
-    let near = less(at, BEFORE);
-    let last = less(end, WIDTH);
+    let near = at.saturating_sub(BEFORE);
+    let last = end.saturating_sub(WIDTH);
     if near <= start {
         return start;
     }
@@ -69,11 +59,11 @@ fn view_in(start: usize, end: usize, at: usize) -> View
     let front = dots_for(start, from);
     let behind = dots_for(to, end);
     View {
-        at: at,
-        from: from,
-        to: to,
-        front: front,
-        behind: behind,
+        at,
+        from,
+        to,
+        front,
+        behind,
     }
 }
 

@@ -23,8 +23,7 @@ use Rattle.sources.specs.Expanding.{Piece, up_from, origin, stopped, after_event
 use Rattle.sources.specs.declared.Line.{Line}
 use Rattle.sources.specs.declared.Stop.{Stop}
 use Rattle.sources.specs.declared.Stop.TheVariants.{At, Line as AtLine}
-use Rattle.sources.specs.declared.Hit.{Hit}
-use Rattle.sources.specs.declared.Hit.TheVariants.{Present, Absent}
+use Rattle.std.specs.Prelude.{Option, Some, None}
 use Rattle.sources.specs.declared.Event.{Event}
 use Rattle.sources.specs.declared.Event.TheVariants.{Stop as Stops}
 use Rattle.sources.proofs.Pieces.{good_expand, walk_law, expand_law}
@@ -45,7 +44,7 @@ module _ (s : List ℕ) where
   unfolding find_name find_from
   line_stops i w = by (same (bytes_between s 0 (0 + 0)) w)
     where
-      by : (b : Bool) → Stopped (include_by main_open i (pick {A = Hit} b (Present 0 (0 + 0) (0 + 0 + length s)) Absent))
+      by : (b : Bool) → Stopped (include_by main_open i (pick {A = Option (ℕ × ℕ × ℕ)} b (Some (0, 0 + 0, 0 + 0 + length s)) None))
       by true = stops_at 27 i.hash
       by false = stops_at 28 i.hash
 

@@ -15,7 +15,7 @@ use Rattle.placing.specs.Placed.{is_at_start, placed_tables, placed_answer}
 use Rattle.lent_texts.specs.Answered.{place_of, TheAnswer}
 use Rattle.attribute_values.specs.Rules.{Answered, not_found, too_short, copies, ValuesByRules}
 use Rattle.attribute_values.specs.Rules as values
-use Rattle.attribute_values.specs.declared.Valued.{Valued}
+use Rattle.attribute_values.specs.Answered.{Valued}
 use Rattle.exporting.specs.Rules.{refusal, value, NormalByRules, ValueByRules}
 use Rattle.exporting.specs.Rules as rules
 use Rattle.exporting.specs.Telling.{place_told, refusal_told, value_told, NormalWith}

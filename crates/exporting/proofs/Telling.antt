@@ -14,8 +14,9 @@ use Rattle.writing.specs.Rules.{WritesByRules}
 use Rattle.writing.specs.Rules as written
 use Rattle.writing.specs.declared.Written.{Written}
 use Rattle.placing.specs.Placed.{place_in, is_at_start}
-use Rattle.attribute_values.specs.declared.Valued.{Valued}
-use Rattle.attribute_values.specs.declared.Valued.TheVariants as v
+use Rattle.attribute_values.specs.Answered.{Valued}
+use Rattle.std.specs.Prelude.{Option, Some, None, Ok, Err}
+use Rattle.rows.specs.declared.Fault.{Fault}
 use Rattle.exporting.specs.Rules.{refusal, done}
 use Rattle.exporting.specs.Telling.{place_told, refusal_told, value_told, NormalWith}
 use Rattle.exporting.specs.Telling as telling
@@ -34,17 +35,17 @@ refused_told long n m p a b c g e h f =
 -- Values -------------------------------------------------------------------------------------------------------------------------------------
 
 module _ (long n : ℕ) (a : Valued) where
-  pub value_refused : (m p : ℕ) → a ≡ v.Refused m p → (r : Told) → r ≡ refusal_told long n m p → r ≡ value_told long n a
+  pub value_refused : (f : Fault) → a ≡ Err f → (r : Told) → r ≡ refusal_told long n f.number f.place → r ≡ value_told long n a
   unfolding value_told
-  value_refused m p e r h = h ∙ sym (ap (value_told long n) e)
+  value_refused f e r h = h ∙ sym (ap (value_told long n) e)
 
-  pub value_lost : a ≡ v.NotFound → record { number = 255; place = 0; length = 0 } ≡ value_told long n a
+  pub value_lost : {o : Option ℕ} → a ≡ Ok o → o ≡ None → record { number = 255; place = 0; length = 0 } ≡ value_told long n a
   unfolding value_told refusal
-  value_lost e = sym (ap (value_told long n) e)
+  value_lost e i = sym (ap (value_told long n) (e ∙ ap Ok i))
 
-  pub value_copied : (k : ℕ) → a ≡ v.Copied k → record { number = 0; place = 0; length = k } ≡ value_told long n a
+  pub value_copied : {o : Option ℕ} {k : ℕ} → a ≡ Ok o → o ≡ Some k → record { number = 0; place = 0; length = k } ≡ value_told long n a
   unfolding value_told done
-  value_copied k e = sym (ap (value_told long n) e)
+  value_copied e i = sym (ap (value_told long n) (e ∙ ap Ok i))
 
 -- Normal text ----------------------------------------------------------------------------------------------------------------------------------
 

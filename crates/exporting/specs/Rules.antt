@@ -1,6 +1,6 @@
 -- What the calls for programs in C promise: the library's own answers to the text, which is lent alone (document 02, Q-13: "Both calls take the
 -- text alone, with an empty name. .. Answers equal the library's on every input"). Assumes nothing.
-use Rattle.std.specs.Prelude.{◌≡◌, List, ◌++◌, ℕ, ◌≤◌, ◌<◌, length, drop}
+use Rattle.std.specs.Prelude.{◌≡◌, List, ◌++◌, ℕ, ◌≤◌, ◌<◌, length, drop, Ok, Err, Some, None}
 use Rattle.grammar.specs.Grammar.{Derivation}
 use Rattle.grammar.specs.Terminals.{tokens}
 use Rattle.meaning.specs.Actions.{syntax}
@@ -8,13 +8,11 @@ use Rattle.meaning.specs.Answers.{Tables, accepted, refused}
 use Rattle.meaning.specs.Rules.{TheNormalText}
 use Rattle.sources_reading.specs.Answering.{alone}
 use Rattle.lent_texts.specs.Answered.{TheAnswer}
-use Rattle.heading.specs.declared.Answer.{Answer}
-use Rattle.heading.specs.declared.Answer.TheVariants.{VersionAndName, Refused as NotHeaded}
+use Rattle.heading.specs.Answered.{Answer}
 use Rattle.heading_texts.specs.Headings.{TextsHead}
 use Rattle.explaining.specs.Pictures.{Explains}
 use Rattle.attribute_values.specs.Rules.{Answered}
-use Rattle.attribute_values.specs.declared.Valued.{Valued}
-use Rattle.attribute_values.specs.declared.Valued.TheVariants.{Refused, NotFound, Copied}
+use Rattle.attribute_values.specs.Answered.{Valued}
 use Rattle.exporting.specs.declared.Told.{Told}
 use Rattle.exporting.specs.declared.Heading.{Heading}
 use Rattle.exporting.specs.declared.Position.{Position}
@@ -38,9 +36,9 @@ pub data NormalByRules (s l l' : List ℕ) (r : Told) : Type 0 where
 
 -- How an answer for a value is told: 255 is no refusal, but "not found".
 unfoldable pub value : Valued → Told
-value (Refused n p) = refusal n p
-value NotFound = refusal 255 0
-value (Copied n) = done n
+value (Err r) = refusal r.number r.place
+value (Ok None) = refusal 255 0
+value (Ok (Some k)) = done k
 
 -- For the text s, the kind word, the object's name, the path and the lent output l, which is l' afterwards; r is what is returned.
 pub data ValueByRules (s kind name path l l' : List ℕ) (r : Told) : Type 0 where
@@ -54,8 +52,8 @@ pub data ValueByRules (s kind name path l l' : List ℕ) (r : Told) : Type 0 whe
 
 -- How the answer of Q-7 is told.
 unfoldable pub heading : Answer → Heading
-heading (VersionAndName p n q m) = record { number = 0; place = 0; version = p; version_length = n; name = q; name_length = m }
-heading (NotHeaded n p) = record { number = n; place = p; version = 0; version_length = 0; name = 0; name_length = 0 }
+heading (Ok h) = record { number = 0; place = 0; version = h.version_at; version_length = h.version_len; name = h.name_at; name_length = h.name_len }
+heading (Err r) = record { number = r.number; place = r.place; version = 0; version_length = 0; name = 0; name_length = 0 }
 
 -- The answer of Q-7 to the text, lent alone; it is the only one (`heading_texts`).
 pub record HeadingByRules (s : List ℕ) (r : Heading) : Type 0 where

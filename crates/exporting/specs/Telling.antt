@@ -1,15 +1,14 @@
 -- How the code tells an answer to the text itself, whose first fault of 3 and 27 to 29 has the number n. No part of the public contract.
 -- Assumes nothing.
-use Rattle.std.specs.Prelude.{◌≡◌, List, ◌++◌, ℕ, ◌≤◌, ◌<◌, min, length, drop, eqb}
+use Rattle.std.specs.Prelude.{◌≡◌, List, ◌++◌, ℕ, ◌≤◌, ◌<◌, min, length, drop, eqb, Ok, Err, Some, None}
 use Rattle.token.specs.Find.{pick}
 use Rattle.meaning.specs.Answers.{Tables, accepted, refused}
 use Rattle.meaning.specs.Rules.{TheAnswer, TheNormalText}
 use Rattle.placing.specs.Placed.{is_at_start}
 use Rattle.heading.specs.Headings.{Heads}
-use Rattle.heading.specs.declared.Answer.{Answer}
-use Rattle.heading.specs.declared.Answer.TheVariants.{VersionAndName, Refused as NotHeaded}
-use Rattle.attribute_values.specs.declared.Valued.{Valued}
-use Rattle.attribute_values.specs.declared.Valued.TheVariants.{Refused, NotFound, Copied}
+use Rattle.heading.specs.Answered.{Answer, heading_at}
+use Rattle.rows.specs.Refusing.{refusing}
+use Rattle.attribute_values.specs.Answered.{Valued}
 use Rattle.exporting.specs.Rules.{refusal, done, heading}
 use Rattle.exporting.specs.declared.Told.{Told}
 use Rattle.exporting.specs.declared.Heading.{Heading}
@@ -23,9 +22,9 @@ unfoldable pub refusal_told : ℕ → ℕ → ℕ → ℕ → Told
 refusal_told long n m p = refusal (pick (eqb m 3) n m) (place_told long (pick (eqb m 3) n m) p)
 
 unfoldable pub value_told : ℕ → ℕ → Valued → Told
-value_told long n (Refused m p) = refusal_told long n m p
-value_told long n NotFound = refusal 255 0
-value_told long n (Copied k) = done k
+value_told long n (Err r) = refusal_told long n r.number r.place
+value_told long n (Ok None) = refusal 255 0
+value_told long n (Ok (Some m)) = done m
 
 -- `write_alone`: what comes of the answer of the rules to the text s.
 pub data NormalWith (n : ℕ) (s l l' : List ℕ) (r : Told) : Type 0 where
@@ -36,8 +35,8 @@ pub data NormalWith (n : ℕ) (s l l' : List ℕ) (r : Told) : Type 0 where
 
 -- How the heading of a text of so many bytes is told.
 unfoldable pub heading_told : ℕ → ℕ → Answer → Answer
-heading_told long n (VersionAndName p k q m) = VersionAndName (min p long) k (min q long) m
-heading_told long n (NotHeaded m p) = NotHeaded (refusal_told long n m p).number (refusal_told long n m p).place
+heading_told long n (Ok h) = heading_at (min h.version_at long) h.version_len (min h.name_at long) h.name_len
+heading_told long n (Err r) = refusing (refusal_told long n r.number r.place).number (refusal_told long n r.number r.place).place
 
 -- `heading_alone`.
 pub record HeadingWith (n : ℕ) (s : List ℕ) (r : Heading) : Type 0 where

@@ -7,11 +7,9 @@ ghost use Rattle.sources_reading.specs.Answering.{alone};
 ghost use Rattle.exporting.specs.Telling.{refusal_told, value_told, NormalWith, HeadingWith};
 ghost use Rattle.exporting.specs.Rules.{NormalByRules, ValueByRules, HeadingByRules, ExplainsByRules};
 
-use attribute_values::Valued;
-use heading::Answer as Head;
 use layout::{definition, enumerator, object, value};
 use reading::Answer;
-use rows::{cells, refusals};
+use rows::{Fault, cells, refusals};
 
 // The number of a refusal, 0 for none, or 255 where nothing is found; the byte of the text at which it is refused; how many bytes of the output
 // were written.
@@ -75,21 +73,25 @@ fn refusal(number: u8, place: usize, fault: u8, length: usize) -> Told
 pub const NOT_FOUND: usize = 255;
 
 // The answer for a value, as it is told.
-fn value_told(answer: Valued, fault: u8, length: usize) -> Told
+fn value_told(answer: Result<Option<usize>, Fault>, fault: u8, length: usize) -> Told
     ensures { result ≡ value_told length fault answer }
 {
     match answer {
-        Valued::Refused(number, place) => refusal(number, place, fault, length),
-        Valued::NotFound => Told {
-            number: NOT_FOUND,
-            place: 0,
-            length: 0,
-        },
-        Valued::Copied(bytes) => Told {
-            number: 0,
-            place: 0,
-            length: bytes,
-        },
+        Err(f) => refusal(f.number, f.place, fault, length),
+        Ok(told) => {
+            match told {
+                None => Told {
+                    number: NOT_FOUND,
+                    place: 0,
+                    length: 0,
+                },
+                Some(bytes) => Told {
+                    number: 0,
+                    place: 0,
+                    length: bytes,
+                },
+            }
+        }
     }
 }
 
@@ -154,22 +156,17 @@ pub fn kaukslini_value(
 fn heading_alone(text: &[u8], fault: u8) -> Heading
     ensures { HeadingWith fault text.now result }
 {
-    let answer = heading::heading(text);
-    match answer {
-        Head::VersionAndName(place, length, name, name_length) => {
-            let p = cells::least_of(place, text.len());
-            let q = cells::least_of(name, text.len());
-            Heading {
-                number: 0,
-                place: 0,
-                version: p,
-                version_length: length,
-                name: q,
-                name_length: name_length,
-            }
-        }
-        Head::Refused(number, place) => {
-            let r = refusal(number, place, fault, text.len());
+    match heading::heading(text) {
+        Ok(h) => Heading {
+            number: 0,
+            place: 0,
+            version: cells::least_of(h.version_at, text.len()),
+            version_length: h.version_len,
+            name: cells::least_of(h.name_at, text.len()),
+            name_length: h.name_len,
+        },
+        Err(f) => {
+            let r = refusal(f.number, f.place, fault, text.len());
             Heading {
                 number: r.number,
                 place: r.place,

@@ -8,6 +8,7 @@ use grammar::{Look, lookahead};
 use rows::cells;
 
 // A row by its number. What is past the table's end is not stored.
+#[tactic(auto, using(crate::proofs::Tables::sets_start))]
 pub fn put_row(t: &mut [usize], width: usize, row: usize, r: &[usize])
     ensures { t.new ≡ sets t.old (row * width) r.now }
 {
@@ -22,45 +23,26 @@ pub const COUNTED: usize = 65536;
 pub fn next(n: usize) -> usize
     ensures { result ≡ n + min 1 (65536 - n) }
 {
-    if n < COUNTED {
-        return n + 1;
-    }
-    n
+    if n < COUNTED { n + 1 } else { n }
 }
 
 // The length of the token that is seen.
 pub fn length(a: Look) -> usize
     ensures { result ≡ a.next - a.at }
 {
-    if a.next < a.at {
-        return 0;
-    }
-    a.next - a.at
+    a.next.saturating_sub(a.at)
 }
 
 // From a place through the token that is seen.
 pub fn through(at: usize, a: Look) -> usize
     ensures { result ≡ (a.at + (a.next - a.at)) - at }
 {
-    if a.next < a.at {
-        if a.at < at {
-            return 0;
-        }
-        return a.at - at;
-    }
-    if a.next < at {
-        return 0;
-    }
-    a.next - at
+    a.next.max(a.at).saturating_sub(at)
 }
 
 // The number of a kind, by the code of its word.
 pub fn kind_number(code: u8) -> usize
     ensures { result ≡ code - 9 }
 {
-    if code < lookahead::FIRST_KIND {
-        return 0;
-    }
-    let n = code - lookahead::FIRST_KIND;
-    n as usize
+    usize::from(code.saturating_sub(lookahead::FIRST_KIND))
 }

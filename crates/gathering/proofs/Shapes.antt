@@ -11,7 +11,7 @@ use Rattle.token.specs.Find.{both}
 use Rattle.sources.specs.Texts.{fitting, told_well}
 use Rattle.gathering.specs.Gathered.{all_short, MainTold, Gathered, Fits}
 use Rattle.gathering.specs.declared.Added.{Added}
-use Rattle.gathering.specs.declared.Added.TheVariants.{Text}
+use Rattle.std.specs.Prelude.{Option, Some}
 
 -- the bytes that these lengths tell
 abbrev pub total : List ℕ → ℕ
@@ -62,7 +62,7 @@ first_kept (y ∷ l) zero x h = omega arith
 first_kept (y ∷ l) (suc i) x h = refl
 
 -- what an added text has
-pub bounds : {r : Added} {n t : ℕ} → Fits r → r ≡ Text n t → (n ≤ 4095) × (t ≤ 65536)
+pub bounds : {r : Option Added} {a : Added} → Fits r → r ≡ Some a → (a.name ≤ 4095) × (a.text ≤ 65536)
 bounds f e = subst Fits e f
 
 -- So far: r lengths are told, of u bytes, in memory that is as long as at the start.
@@ -93,6 +93,13 @@ onward {l = l} {r = r} b' g' n t s e f h k w =
       sum = total_two l r n t q ∙ ap (λ (x : ℕ). x + n + t) s.sum;
     }
 
+-- the text of the next number
+pub onward_next : {b₀ l₀ g₀ b l g : List ℕ} {u k : ℕ} (b' g' : List ℕ) (n t : ℕ) → SoFar b₀ l₀ g₀ b l g u (k * 2) → length b' ≡ length b → length g' ≡ length g → k < 8 → 16 ≤ length l₀ → (n ≤ 4095) × (t ≤ 65536) → SoFar b₀ l₀ g₀ b' (set (set l (k * 2) n) (k * 2 + 1) t) g' (u + n + t) ((k + 1) * 2)
+onward_next {b₀ = b₀} {l₀ = l₀} {g₀ = g₀} {l = l} {u = u} {k = k} b' g' n t s e f h m w =
+    let next : k * 2 + 2 ≡ (k + 1) * 2 = omega arith in
+    let below : k * 2 < 15 = omega arith in
+    subst (λ (r : ℕ). SoFar b₀ l₀ g₀ b' (set (set l (k * 2) n) (k * 2 + 1) t) g' (u + n + t) r) next (onward b' g' n t s e f below m w)
+
 -- what a file that is not added left in the buffer is not told
 pub unchanged : {b₀ l₀ g₀ b l g : List ℕ} {u r : ℕ} (b' : List ℕ) → SoFar b₀ l₀ g₀ b l g u r → length b' ≡ length b → SoFar b₀ l₀ g₀ b' l g u r
 unchanged b' s e =
@@ -116,6 +123,12 @@ gathered {b = b} {l = l} {r = r} s w =
       main = s.main;
       told = told b l r (omega (arith, s.least)) s.most k m;
     }
+
+-- the end after all eight
+pub gathered_all : {b₀ l₀ g₀ b l g : List ℕ} {u k n : ℕ} → SoFar b₀ l₀ g₀ b l g u (k * 2) → k ≡ 8 → MainTold b₀ l₀ n → Gathered b l 16
+gathered_all {b = b} {l = l} {k = k} s e w =
+    let all : k * 2 ≡ 16 = omega arith in
+    subst (Gathered b l) all (gathered s w)
 
 -- one length is no text
 told_none : (b l : List ℕ) → 0 < length l → told_well b (take 1 l) ≡ all_short (take 1 l)

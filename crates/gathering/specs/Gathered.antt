@@ -1,10 +1,9 @@
 -- What is gathered: in the buffer stand a name, its text, the next name and so on, the main text first, under an empty name; the lengths are told in
 -- that order. What a file has and whether it can be opened is the system's. Assumes nothing.
-use Rattle.std.specs.Prelude.{ℕ, ◌≤◌, ◌≡◌, List, [], ◌∷◌, Bool, true, false, length, get_or, take, leb}
+use Rattle.std.specs.Prelude.{ℕ, ◌≤◌, ◌≡◌, List, [], ◌∷◌, Bool, true, false, Option, Some, None, length, get_or, take, leb}
 use Rattle.token.specs.Find.{both}
 use Rattle.sources.specs.Texts.{told_well}
 use Rattle.gathering.specs.declared.Added.{Added}
-use Rattle.gathering.specs.declared.Added.TheVariants.{Text, Nothing}
 
 -- no text of those told has over 65,535 bytes
 unfoldable pub all_short : List ℕ → Bool
@@ -34,6 +33,6 @@ pub record Gathered (b l : List ℕ) (r : ℕ) : Type 0 where
   pub told : told_well b (take r l) ≡ all_short (take r l)
 
 -- A text that was added: a name that can be opened, and at most one byte more than a text may have.
-abbrev pub Fits : Added → Type 0
-Fits (Text n t) = (n ≤ 4095) × (t ≤ 65536)
-Fits Nothing = Unit {0}
+abbrev pub Fits : Option Added → Type 0
+Fits (Some a) = (a.name ≤ 4095) × (a.text ≤ 65536)
+Fits None = Unit {0}

@@ -3,14 +3,11 @@
 #![tactic(auto)]
 
 ghost use Rattle.std.specs.Prelude.{◌≡◌, ◌+◌, ◌≤◌, length, IfOk};
-ghost use Rattle.std.proofs.lemmas.List.Edits.{sets};
 ghost use Rattle.console.specs.Counts.{IsPrefixLen};
 ghost use Rattle.gathering.specs.Gathered.{Rooms, MainTold, Gathered, Fits};
 
-use console::inputs::Input;
 use console::{arguments, errors, inputs};
 use rows::cells;
-use sources::Name;
 use std::fs::File;
 use std::io::Read;
 
@@ -41,27 +38,11 @@ pub fn origin_cells() -> [usize; ORIGINS]
     [0; ORIGINS]
 }
 
-// What was added: the length of the name and of the text, or nothing.
+// What was added: the length of the name, and of the text.
 #[derive(Clone, Copy)]
-pub enum Added {
-    Text(usize, usize),
-    Nothing,
-}
-
-// Stores the bytes from a place on, as far as the output reaches.
-fn store(out: &mut [u8], at: usize, bytes: &[u8])
-    ensures { out.new ≡ sets out.old at bytes.now }
-{
-    let mut i = 0;
-    let mut j = at;
-    while i < bytes.len() {
-        if out.len() <= j {
-            return;
-        }
-        out[j] = bytes[i];
-        i += 1;
-        j += 1;
-    }
+pub struct Added {
+    pub name: usize,
+    pub text: usize,
 }
 
 // The bytes of an open file, at most 65,536, from a place of the buffer on; how many they are. A file that grows or shrinks while it is read has those
@@ -70,11 +51,7 @@ fn read_text<R: Read>(from: &mut R, buffer: &mut [u8], at: usize) -> Result<usiz
     requires { at + 65536 ≤ length buffer.old }
     ensures { IfOk result (λ n. n ≤ 65536) }
 {
-    let end = at + token::PLACES;
-    match inputs::read(from, &mut buffer[at..end]) {
-        Input::Text(n) => Ok(n),
-        Input::Failed(error) => Err(error),
-    }
+    inputs::read(from, &mut buffer[at..at + token::PLACES])
 }
 
 // The name on the include line of a `#`, to the start of a lent one; its length, 0 where it does not fit.
@@ -82,18 +59,15 @@ fn copy_name(text: &[u8], hash: usize, name: &mut [u8]) -> usize
     ensures { IsPrefixLen result name.new }
 {
     match sources::name_at(text, hash) {
-        Name::Is(from, to) => {
-            if to < from {
-                return 0;
-            }
-            if name.len() < to - from {
+        Some((from, to)) => {
+            if to < from || name.len() < to - from {
                 return 0;
             }
             let n = to - from;
-            store(name, 0, token::part(text, from, n));
+            cells::put_cells(name, 0, token::part(text, from, n));
             n
         }
-        Name::Not => 0,
+        None => 0,
     }
 }
 
@@ -120,12 +94,12 @@ fn missing_name(buffer: &[u8], lengths: &[usize], origins: &mut [usize], name: &
 }
 
 // Says of a file that it cannot be read. A folder is not added, as a file that cannot be opened; any other fault ends the gathering.
-fn not_read(rt: HostRuntime, name: &[u8], error: usize) -> Result<Added, usize>
+fn not_read(rt: HostRuntime, name: &[u8], error: usize) -> Result<Option<Added>, usize>
     ensures { IfOk result (λ added. Fits added) }
 {
     errors::say_of(rt, name, b"cannot be read", error);
     if error == IS_FOLDER {
-        return Ok(Added::Nothing);
+        return Ok(None);
     }
     Err(error)
 }
@@ -137,24 +111,32 @@ fn add_open(
     name: &[u8],
     buffer: &mut [u8],
     at: usize,
-) -> Result<Added, usize>
+) -> Result<Option<Added>, usize>
     requires { (length name.now ≤ 4095) × (at + 69631 ≤ length buffer.old) }
     ensures { IfOk result (λ added. Fits added) }
 {
-    store(buffer, at, name);
+    cells::put_cells(buffer, at, name);
     match read_text(file, buffer, at + name.len()) {
-        Ok(n) => Ok(Added::Text(name.len(), n)),
+        Ok(text) => Ok(Some(Added {
+            name: name.len(),
+            text,
+        })),
         Err(error) => not_read(rt, name, error),
     }
 }
 
-fn add_named(rt: HostRuntime, name: &[u8], buffer: &mut [u8], at: usize) -> Result<Added, usize>
+fn add_named(
+    rt: HostRuntime,
+    name: &[u8],
+    buffer: &mut [u8],
+    at: usize,
+) -> Result<Option<Added>, usize>
     requires { (length name.now ≤ 4095) × (at + 69631 ≤ length buffer.old) }
     ensures { IfOk result (λ added. Fits added) }
 {
     match errors::open(rt, name) {
         Ok(mut file) => add_open(rt, &mut file, name, buffer, at),
-        Err(_) => Ok(Added::Nothing),
+        Err(_) => Ok(None),
     }
 }
 
@@ -165,14 +147,14 @@ fn add_missing(
     lengths: &[usize],
     used: usize,
     origins: &mut [usize],
-) -> Result<Added, usize>
+) -> Result<Option<Added>, usize>
     requires { used + 69631 ≤ length buffer.old }
     ensures { IfOk result (λ added. Fits added) }
 {
     let mut name = [0u8; LONGEST_NAME];
     let n = missing_name(&buffer[..used], lengths, origins, &mut name);
     if n == 0 {
-        return Ok(Added::Nothing);
+        return Ok(None);
     }
     add_named(rt, &name[..n], buffer, used)
 }
@@ -191,20 +173,19 @@ fn add_all(
     ensures gathered { Gathered buffer.new lengths.new result }
 {
     let mut used = main;
-    let mut told = 2;
-    while told < 15 {
+    for number in 1..sources::TEXTS {
+        let told = number * 2;
         match add_missing(rt, buffer, &lengths[..told], used, origins) {
             Err(_) => return 1,
-            Ok(Added::Nothing) => return told,
-            Ok(Added::Text(name, text)) => {
-                lengths[told] = name;
-                lengths[told + 1] = text;
-                used = used + name + text;
-                told += 2;
+            Ok(None) => return told,
+            Ok(Some(added)) => {
+                lengths[told] = added.name;
+                lengths[told + 1] = added.text;
+                used = used + added.name + added.text;
             }
         }
     }
-    told
+    sources::LENGTHS
 }
 
 // Gathers the texts of an open file, the main text, into a lent buffer: a name, its text, the next name and so on, the main text's name being empty.
@@ -222,13 +203,7 @@ pub fn gather<R: Read>(
     ensures counts { IsPrefixLen result lengths.new }
     ensures gathered { Rooms buffer.old lengths.old origins.old → Gathered buffer.new lengths.new result }
 {
-    if buffer.len() < ROOM {
-        return 0;
-    }
-    if lengths.len() < sources::LENGTHS {
-        return 0;
-    }
-    if origins.len() < ORIGINS {
+    if buffer.len() < ROOM || lengths.len() < sources::LENGTHS || origins.len() < ORIGINS {
         return 0;
     }
     lengths[0] = 0;
@@ -336,17 +311,11 @@ pub fn gather_text(
     ensures counts { IsPrefixLen result lengths.new }
     ensures gathered { Rooms buffer.old lengths.old origins.old → Gathered buffer.new lengths.new result }
 {
-    if buffer.len() < ROOM {
+    if buffer.len() < ROOM || lengths.len() < sources::LENGTHS || origins.len() < ORIGINS {
         return 0;
     }
-    if lengths.len() < sources::LENGTHS {
-        return 0;
-    }
-    if origins.len() < ORIGINS {
-        return 0;
-    }
-    let n = cells::least_of(text.len(), token::PLACES);
-    store(buffer, 0, &text[..n]);
+    let n = text.len().min(token::PLACES);
+    cells::put_cells(buffer, 0, &text[..n]);
     lengths[0] = 0;
     lengths[1] = n;
     add_all(rt, buffer, lengths, n, origins)
@@ -356,18 +325,13 @@ pub fn gather_text(
 fn name_start(buffer: &[u8], lengths: &[usize], number: usize) -> usize
     ensures { result ≤ length buffer.now }
 {
+    let before = number.saturating_mul(2).min(lengths.len());
     let mut at = 0;
-    let mut i = 0;
-    while i < lengths.len() {
-        if i / 2 == number {
-            return at;
-        }
-        let n = lengths[i];
-        if buffer.len() - at < n {
+    for n in &lengths[..before] {
+        if buffer.len() - at < *n {
             return buffer.len();
         }
-        at += n;
-        i += 1;
+        at += *n;
     }
     at
 }
@@ -381,8 +345,5 @@ pub fn name_of<'a>(buffer: &'a [u8], lengths: &[usize], number: usize) -> &'a [u
 // Whether there is nothing wrong with what is read next, be it the end.
 pub fn can_be_read<R: Read>(from: &mut R) -> bool {
     let mut byte = [0u8; 1];
-    match from.read(&mut byte) {
-        Ok(_) => true,
-        Err(_) => false,
-    }
+    from.read(&mut byte).is_ok()
 }

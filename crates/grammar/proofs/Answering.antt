@@ -14,8 +14,9 @@ use Rattle.grammar.specs.Factored.{paper}
 use Rattle.grammar.specs.Machine.{nullable_form, feed, Stream, ended, bad, ◌▹◌, prepend, next, at_end, run}
 use Rattle.grammar.specs.Readers.{stream_of, lex_at, look_at, refusal_of, answer_of, seen, on, Meets}
 use Rattle.grammar.specs.declared.Look.{Look}
-use Rattle.grammar.specs.declared.Answer.{Answer}
-use Rattle.grammar.specs.declared.Answer.TheVariants.{NotAdmitted}
+use Rattle.grammar.specs.Answered.{Answer}
+use Rattle.std.specs.Prelude.{Err}
+use Rattle.grammar.specs.declared.Refusal.TheVariants.{NotAdmitted}
 use Rattle.grammar.proofs.Meeting.{by_look, on_look}
 use Rattle.grammar.proofs.Runs.{Outcome, well, no_token_at, not_taken, unfinished, seventeenth, run_is}
 
@@ -85,7 +86,7 @@ answered s (not_taken l t u e h b n) =
     not_admitted l t w.0 w.1 h b n
 answered s (unfinished l n e h b d) =
     let w = ended_is (length s) (lex_from s 0) l n (lex_ends s 0) e in
-    subst (λ m. Answers s (NotAdmitted m)) (sym w.2)
+    subst (λ m. Answers s (Err (NotAdmitted m))) (sym w.2)
     (ends_early w.0 (subst Shallow (sym w.1) h) (subst Begins (sym w.1) b) (λ q. d (subst Derivation w.1 q)))
 answered s (seventeenth l t u e h b m o) =
     let w = token_is (lex_from s 0) l t u e in

@@ -8,8 +8,9 @@ use Rattle.token.specs.Lexing.{lex_from, Lexed, more, ended, refused}
 use Rattle.grammar.specs.Grammar.{Token, Derivation, Begins}
 use Rattle.grammar.specs.Terminals.{tokens}
 use Rattle.grammar.specs.Stage.{Divides, StopsAt, Shallow, Answers, AnswersDecided, passes, no_token, not_admitted, ends_early, too_deep}
-use Rattle.grammar.specs.declared.Answer.{Answer}
-use Rattle.grammar.specs.declared.Answer.TheVariants.{Passes, NoToken, NotAdmitted, TooDeep}
+use Rattle.grammar.specs.Answered.{Answer}
+use Rattle.std.specs.Prelude.{Ok, Err}
+use Rattle.grammar.specs.declared.Refusal.TheVariants.{NoToken, NotAdmitted, TooDeep}
 use Rattle.grammar.proofs.Fronts.{one_more, begins_front, shallow_front, derived_begins, not_shallow, stops_not}
 
 -- Of two front parts of a list, each with the token behind it, they are the same or one goes on past the other's token.
@@ -53,13 +54,13 @@ no_stop {s} {l} {t} h b a = past_not (tokens s) a (a.rest, a.split ∙ one_more 
 
 -- The answers at a token, and those at the end of the tokens.
 data Cut (l : List Token) (t : Token) : Answer → Type 0 where
-  cut_token : (Begins (l ++ (t ∷ [])) → ⊥) → Cut l t (NotAdmitted t.place)
-  cut_deep : Begins (l ++ (t ∷ [])) → Cut l t (TooDeep t.place)
+  cut_token : (Begins (l ++ (t ∷ [])) → ⊥) → Cut l t (Err (NotAdmitted t.place))
+  cut_deep : Begins (l ++ (t ∷ [])) → Cut l t (Err (TooDeep t.place))
 
 data Full (s : List ℕ) : Answer → Type 0 where
-  full_pass : Divides s → Derivation (tokens s) → Full s Passes
-  full_stop : (p : ℕ) → StopsAt (lex_from s 0) p → Full s (NoToken p)
-  full_early : Divides s → (Derivation (tokens s) → ⊥) → Full s (NotAdmitted (length s))
+  full_pass : Divides s → Derivation (tokens s) → Full s (Ok tt)
+  full_stop : (p : ℕ) → StopsAt (lex_from s 0) p → Full s (Err (NoToken p))
+  full_early : Divides s → (Derivation (tokens s) → ⊥) → Full s (Err (NotAdmitted (length s)))
 
 cut_same : {l : List Token} {t : Token} {r q : Answer} → Cut l t r → Cut l t q → r ≡ q
 cut_same (cut_token n) (cut_token n') = refl
@@ -78,7 +79,7 @@ full_same (full_pass w d) (full_pass w' d') = refl
 full_same {s} (full_pass w d) (full_stop p h) = absurd (stops_not (lex_from s 0) p h w)
 full_same (full_pass w d) (full_early w' n) = absurd (n d)
 full_same {s} (full_stop p h) (full_pass w d) = absurd (stops_not (lex_from s 0) p h w)
-full_same {s} (full_stop p h) (full_stop q h') = ap NoToken (one_place (lex_from s 0) p q h h')
+full_same {s} (full_stop p h) (full_stop q h') = ap (λ (i : ℕ). Err (NoToken i)) (one_place (lex_from s 0) p q h h')
 full_same {s} (full_stop p h) (full_early w n) = absurd (stops_not (lex_from s 0) p h w)
 full_same (full_early w n) (full_pass w' d) = absurd (n d)
 full_same {s} (full_early w n) (full_stop p h) = absurd (stops_not (lex_from s 0) p h w)

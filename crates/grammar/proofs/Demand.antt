@@ -9,8 +9,8 @@ use Rattle.grammar.specs.Grammar.{Token, Derivation, Begins}
 use Rattle.grammar.specs.Terminals.{tokens}
 use Rattle.grammar.specs.Stage.{number_of, place_of, Shallow, Answers, passes, no_token, not_admitted, ends_early, too_deep}
 use Rattle.grammar.specs.Demand.{Covered, Place, at_token, at_end, Demand-3}
-use Rattle.grammar.specs.declared.Answer.{Answer}
-use Rattle.grammar.specs.declared.Answer.TheVariants.{Passes}
+use Rattle.grammar.specs.Answered.{Answer}
+use Rattle.std.specs.Prelude.{Ok}
 use Rattle.grammar.proofs.Viable.{one_derivation}
 use Rattle.grammar.proofs.Fronts.{one_more, begins_front, shallow_front, derived_begins, not_shallow, stops_not}
 
@@ -18,7 +18,7 @@ use Rattle.grammar.proofs.Fronts.{one_more, begins_front, shallow_front, derived
 not_derived : (s : List ℕ) (l : List Token) (t : Token) (r : List Token) → tokens s ≡ l ++ (t ∷ r) → (Begins (l ++ (t ∷ [])) → ⊥) → Derivation (tokens s) → ⊥
 not_derived s l t r e n d = n (begins_front (l ++ (t ∷ [])) r (subst Begins (e ∙ one_more l t r) (derived_begins d)))
 
-passing : (s : List ℕ) {r : Answer} → Covered s → Answers s r → (r ≡ Passes) ↔ Derivation (tokens s)
+passing : (s : List ℕ) {r : Answer} → Covered s → Answers s r → (r ≡ Ok tt) ↔ Derivation (tokens s)
 passing s w (passes v h d) = ((λ _. d), (λ _. refl))
 passing s w (no_token p v h b) = absurd (stops_not (lex_from s 0) p v w.divides)
 passing s w (not_admitted l t r e h b n) = ((λ q. absurd (let z : ◌≡◌ {A = ℕ} 0 1 = cc in omega arith)), (λ d. absurd (not_derived s l t r e n d)))
@@ -26,7 +26,7 @@ passing s w (ends_early v h b n) = ((λ q. absurd (let z : ◌≡◌ {A = ℕ} 0
 passing s w (too_deep l t r e h b m o) =
     absurd (not_shallow l t m o (shallow_front (l ++ (t ∷ [])) r (subst Shallow (e ∙ one_more l t r) w.shallow)))
 
-refusing : (s : List ℕ) {r : Answer} → Covered s → Answers s r → (r ≡ Passes → ⊥) → (number_of r ≡ 4) × Place s (place_of r)
+refusing : (s : List ℕ) {r : Answer} → Covered s → Answers s r → (r ≡ Ok tt → ⊥) → (number_of r ≡ 4) × Place s (place_of r)
 unfolding number_of place_of
 refusing s w (passes v h d) n = absurd (n refl)
 refusing s w (no_token p v h b) n = absurd (stops_not (lex_from s 0) p v w.divides)

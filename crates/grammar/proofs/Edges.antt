@@ -14,8 +14,9 @@ use Rattle.grammar.specs.Terminals.{sign_of, class_of as classOfToken, token_of 
 use Rattle.grammar.specs.Stage.{Answers}
 use Rattle.grammar.specs.Machine.{run}
 use Rattle.grammar.specs.Readers.{lex_at}
-use Rattle.grammar.specs.declared.Answer.{Answer}
-use Rattle.grammar.specs.declared.Answer.TheVariants.{Passes, NoToken, NotAdmitted, TooDeep}
+use Rattle.grammar.specs.Answered.{Answer}
+use Rattle.std.specs.Prelude.{Ok, Err}
+use Rattle.grammar.specs.declared.Refusal.TheVariants.{NoToken, NotAdmitted, TooDeep}
 use Rattle.grammar.proofs.Answering.{answer_to, answer_to_lem}
 
 pub record Edge : Type 0 where
@@ -24,28 +25,28 @@ pub record Edge : Type 0 where
 
 abbrev pub edges : List Edge
 edges =
-    record { text = ""; result = NotAdmitted 0 } ∷
-    record { text = "}"; result = NotAdmitted 0 } ∷
-    record { text = "007"; result = NoToken 0 } ∷
-    record { text = "#"; result = NoToken 0 } ∷
-    record { text = "/* x"; result = NoToken 0 } ∷
-    record { text = "OIL_VERSION = 2;"; result = NotAdmitted 14 } ∷
-    record { text = "OIL_VERSION = \"2.5\""; result = NotAdmitted 19 } ∷
-    record { text = "OIL_VERSION = AUTO"; result = NotAdmitted 14 } ∷
-    record { text = "18446744073709551615"; result = NotAdmitted 0 } ∷
-    record { text = "18446744073709551616"; result = NoToken 0 } ∷
-    record { text = "OIL_VERSION = \"2.5\";\nIMPLEMENTATION m { OS { BOOLEAN H = FALSE; }; TASK { UINT32 [1..0xff] STACKSIZE = 16; }; };\nCPU c { OS o; APPMODE a {}; TASK t { STACKSIZE = 0x20; }; };\n"; result = Passes } ∷
-    record { text = "OIL_VERSION=\"\";IMPLEMENTATION m{};CPU c{OS o{a=a{a=a{a=a{a=a{a=a{a=a{a=a{a=a{a=a{a=a{a=a{a=a{a=a{a=a{};};};};};};};};};};};};};};};};"; result = Passes } ∷
-    record { text = "OIL_VERSION=\"\";IMPLEMENTATION m{};CPU c{OS o{a=a{a=a{a=a{a=a{a=a{a=a{a=a{a=a{a=a{a=a{a=a{a=a{a=a{a=a{a=a{"; result = TooDeep 104 } ∷
+    record { text = ""; result = Err (NotAdmitted 0) } ∷
+    record { text = "}"; result = Err (NotAdmitted 0) } ∷
+    record { text = "007"; result = Err (NoToken 0) } ∷
+    record { text = "#"; result = Err (NoToken 0) } ∷
+    record { text = "/* x"; result = Err (NoToken 0) } ∷
+    record { text = "OIL_VERSION = 2;"; result = Err (NotAdmitted 14) } ∷
+    record { text = "OIL_VERSION = \"2.5\""; result = Err (NotAdmitted 19) } ∷
+    record { text = "OIL_VERSION = AUTO"; result = Err (NotAdmitted 14) } ∷
+    record { text = "18446744073709551615"; result = Err (NotAdmitted 0) } ∷
+    record { text = "18446744073709551616"; result = Err (NoToken 0) } ∷
+    record { text = "OIL_VERSION = \"2.5\";\nIMPLEMENTATION m { OS { BOOLEAN H = FALSE; }; TASK { UINT32 [1..0xff] STACKSIZE = 16; }; };\nCPU c { OS o; APPMODE a {}; TASK t { STACKSIZE = 0x20; }; };\n"; result = Ok tt } ∷
+    record { text = "OIL_VERSION=\"\";IMPLEMENTATION m{};CPU c{OS o{a=a{a=a{a=a{a=a{a=a{a=a{a=a{a=a{a=a{a=a{a=a{a=a{a=a{a=a{};};};};};};};};};};};};};};};};"; result = Ok tt } ∷
+    record { text = "OIL_VERSION=\"\";IMPLEMENTATION m{};CPU c{OS o{a=a{a=a{a=a{a=a{a=a{a=a{a=a{a=a{a=a{a=a{a=a{a=a{a=a{a=a{a=a{"; result = Err (TooDeep 104) } ∷
     -- floats (document 02, Q-4)
-    record { text = "OIL_VERSION=\"\";IMPLEMENTATION m{OS{FLOAT WITH_AUTO[0.5..1.5e1]F[]=1.0;};};CPU c{OS o{F=1.5;};};"; result = Passes } ∷
-    record { text = "OIL_VERSION=\"\";IMPLEMENTATION m{OS{FLOAT FLOAT=AUTO;};};CPU c{OS o{FLOAT=1;};};"; result = Passes } ∷
-    record { text = "OIL_VERSION=\"\";IMPLEMENTATION m{OS{FLOAT[1..2.5]F;};};CPU c{OS o{};};"; result = NotAdmitted 41 } ∷
-    record { text = "OIL_VERSION=\"\";IMPLEMENTATION m{OS{FLOAT[1.5,2.5]F;};};CPU c{OS o{};};"; result = NotAdmitted 44 } ∷
-    record { text = "OIL_VERSION=\"\";IMPLEMENTATION m{OS{FLOAT F=1;};};CPU c{OS o{};};"; result = NotAdmitted 43 } ∷
-    record { text = "OIL_VERSION=\"\";IMPLEMENTATION m{OS{UINT32 F=1.5;};};CPU c{OS o{};};"; result = NotAdmitted 44 } ∷
-    record { text = "OIL_VERSION=\"\";IMPLEMENTATION m{OS{UINT32[1..1.5]F;};};CPU c{OS o{};};"; result = NotAdmitted 45 } ∷
-    record { text = "OIL_VERSION=\"\";IMPLEMENTATION m{OS{FLOAT F;};};CPU c{OS o{F=1.5{};};};"; result = NotAdmitted 63 } ∷
+    record { text = "OIL_VERSION=\"\";IMPLEMENTATION m{OS{FLOAT WITH_AUTO[0.5..1.5e1]F[]=1.0;};};CPU c{OS o{F=1.5;};};"; result = Ok tt } ∷
+    record { text = "OIL_VERSION=\"\";IMPLEMENTATION m{OS{FLOAT FLOAT=AUTO;};};CPU c{OS o{FLOAT=1;};};"; result = Ok tt } ∷
+    record { text = "OIL_VERSION=\"\";IMPLEMENTATION m{OS{FLOAT[1..2.5]F;};};CPU c{OS o{};};"; result = Err (NotAdmitted 41) } ∷
+    record { text = "OIL_VERSION=\"\";IMPLEMENTATION m{OS{FLOAT[1.5,2.5]F;};};CPU c{OS o{};};"; result = Err (NotAdmitted 44) } ∷
+    record { text = "OIL_VERSION=\"\";IMPLEMENTATION m{OS{FLOAT F=1;};};CPU c{OS o{};};"; result = Err (NotAdmitted 43) } ∷
+    record { text = "OIL_VERSION=\"\";IMPLEMENTATION m{OS{UINT32 F=1.5;};};CPU c{OS o{};};"; result = Err (NotAdmitted 44) } ∷
+    record { text = "OIL_VERSION=\"\";IMPLEMENTATION m{OS{UINT32[1..1.5]F;};};CPU c{OS o{};};"; result = Err (NotAdmitted 45) } ∷
+    record { text = "OIL_VERSION=\"\";IMPLEMENTATION m{OS{FLOAT F;};};CPU c{OS o{F=1.5{};};};"; result = Err (NotAdmitted 63) } ∷
     []
 
 abbrev Computed : List Edge → Type 0

@@ -25,8 +25,9 @@ use Rattle.grammar.specs.Machine.{nullable, nullable_form, empty_form, starts, e
 use Rattle.grammar.proofs.Checks.{takes}
 use Rattle.grammar.specs.Readers.{punctuator_code, code_of, class_at, stream_of, lex_at, look_of, look_at, stop, advanced, refusal, expected, refusal_of, seen, on_by, on, left, rest_by, rest, Took, Reads}
 use Rattle.grammar.specs.declared.Look.{Look}
-use Rattle.grammar.specs.declared.Answer.{Answer}
-use Rattle.grammar.specs.declared.Answer.TheVariants.{NotAdmitted}
+use Rattle.grammar.specs.Answered.{Answer}
+use Rattle.std.specs.Prelude.{Err}
+use Rattle.grammar.specs.declared.Refusal.TheVariants.{NotAdmitted}
 use Rattle.grammar.proofs.Steps.{when, feed_tok, feed_enter, feed_only, nullable_append, run_tok_no, run_pass, run_pass_end, run_no, run_no_end, took_nil, took_tok, took_rule, took_then}
 use Rattle.grammar.proofs.Codes.{Yes, No, at_code, not_code, brace_open, brace_close, class_code}
 
@@ -201,8 +202,8 @@ take t {s} {a} {r} (l, m) e =
 
 -- The refusal of what is seen.
 stays : (s : List ℕ) (a : Look) (e : ℕ) (f : Symbols)
-    → (a.code < 56 → (k : Symbols) → run a.depth (f ++ k) (seen a ▹ lex_at s a.next) ≡ NotAdmitted a.at)
-    → ((k : Symbols) → run a.depth (f ++ k) (ended a.at) ≡ NotAdmitted a.at)
+    → (a.code < 56 → (k : Symbols) → run a.depth (f ++ k) (seen a ▹ lex_at s a.next) ≡ Err (NotAdmitted a.at))
+    → ((k : Symbols) → run a.depth (f ++ k) (ended a.at) ≡ Err (NotAdmitted a.at))
     → Reads e f s a (refusal a)
 unfolding refusal refusal_of on on_by left
 stays s a e f t n = go (leb a.code 56) refl
@@ -211,7 +212,7 @@ stays s a e f t n = go (leb a.code 56) refl
     go true p =
         let h = leb-true a.code 56 p in
         record {
-          reads = by_look s a (λ o. (k : Symbols) → o (f ++ k) ≡ NotAdmitted a.at) t (λ _. n) (λ g. absurd (omega arith));
+          reads = by_look s a (λ o. (k : Symbols) → o (f ++ k) ≡ Err (NotAdmitted a.at)) t (λ _. n) (λ g. absurd (omega arith));
           falls = omega arith;
           took = λ g. absurd (omega arith);
         }

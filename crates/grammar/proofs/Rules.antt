@@ -2,7 +2,8 @@
 use mathlib.Core.Path.{◌≡◌, refl, ◌∙◌}
 use mathlib.Core.List.{List, [], ◌∷◌}
 use mathlib.Core.Bool.{Bool, true, false}
-use Prim.Native.Nat.{ℕ, ◌+◌, ◌*◌, ◌<◌}
+use Prim.Native.Nat.{ℕ, ◌+◌, ◌*◌, ◌<◌, ◌≤◌}
+use native.Mathlib.Decide.{ℕ_discrete}
 use native.Mathlib.Omega.{arith}
 use lib.Dec.{T, ltb, eqb}
 use borrow.Author.Tests.{eqb-true, ne_eqb}
@@ -122,13 +123,20 @@ module _ {s : List ℕ} {a : Look} where
   unfolding kept class_at matches
   default_is x h p m = loosen (enter (keep a_default refl) (at_code (matches (sg equals)) 49 tt h) p m)
 
-  pub own_autos : (x : Sort) {r : Look} → a.code ≡ 3 → r ≡ advanced s a → Meets 1 (own x ▸ ∎) s a r
+  own_autos : (x : Sort) {r : Look} → a.code ≡ 3 → r ≡ advanced s a → Meets 1 (own x ▸ ∎) s a r
   unfolding kept class_at matches
   own_autos x h p = enter (keep own_auto refl) (at_code (matches (the AUTO)) 3 tt h) p nothing
 
-  pub own_nones : (x : Sort) {r : Look} → a.code ≡ 4 → r ≡ advanced s a → Meets 1 (own x ▸ ∎) s a r
+  own_nones : (x : Sort) {r : Look} → a.code ≡ 4 → r ≡ advanced s a → Meets 1 (own x ▸ ∎) s a r
   unfolding kept class_at matches
   own_nones x h p = enter (keep own_none refl) (at_code (matches (the NO-DEFAULT)) 4 tt h) p nothing
+
+  pub own_words : (x : Sort) {r : Look} → 3 ≤ a.code → a.code < 5 → r ≡ advanced s a → Meets 1 (own x ▸ ∎) s a r
+  own_words x {r} l h p = by (ℕ_discrete a.code 3)
+    where
+      by : Dec (a.code ≡ 3) → Meets 1 (own x ▸ ∎) s a r
+      by (yes e) = own_autos x e p
+      by (no f) = own_nones x (omega arith) p
 
   pub own_fits : (x : Sort) {r : Look} → fitting x a.code ≡ true → r ≡ advanced s a → Meets 1 (own x ▸ ∎) s a r
   unfolding kept fitting class_at matches

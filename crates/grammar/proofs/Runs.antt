@@ -13,24 +13,25 @@ use Rattle.grammar.specs.Grammar.{Token, file, ◌▸◌, ∎, matches, sg, lbra
 use Rattle.grammar.specs.Stage.{opens, closes, Shallow}
 use Rattle.grammar.specs.Factored.{Symbols, paper}
 use Rattle.grammar.specs.Machine.{nullable_form, after, feed, Stream, ended, bad, ◌▹◌, prepend, opened, deeper_by, deeper, at_end, next, run}
-use Rattle.grammar.specs.declared.Answer.{Answer}
-use Rattle.grammar.specs.declared.Answer.TheVariants.{Passes, NoToken, NotAdmitted, TooDeep}
+use Rattle.grammar.specs.Answered.{Answer}
+use Rattle.std.specs.Prelude.{Ok, Err}
+use Rattle.grammar.specs.declared.Refusal.TheVariants.{NoToken, NotAdmitted, TooDeep}
 use Rattle.grammar.proofs.Uniqueness.{reach, bind, Fed, feed_fed, cons≢[], none≢some, some_inj}
 use Rattle.grammar.proofs.Braces.{true_T}
 use Rattle.grammar.proofs.Viable.{start, viable, not_viable, derived, not_derived, Turn, turn_open, turn_close, turn_plain, Nest, nest_nil, nest_rule, move_nest}
 
 -- What a run of the stream s can come to. Whatever is refused, the braces before it were never too deep.
 pub data Outcome (s : Stream) : Answer → Type 0 where
-  well : (l : List Token) (n : ℕ) → s ≡ prepend l (ended n) → Shallow l → Derivation l → Outcome s Passes
+  well : (l : List Token) (n : ℕ) → s ≡ prepend l (ended n) → Shallow l → Derivation l → Outcome s (Ok tt)
   -- Refusal 3: where no token is, and the tokens before it begin a list that the grammar derives.
-  no_token_at : (l : List Token) (p : ℕ) → s ≡ prepend l (bad p) → Shallow l → Begins l → Outcome s (NoToken p)
+  no_token_at : (l : List Token) (p : ℕ) → s ≡ prepend l (bad p) → Shallow l → Begins l → Outcome s (Err (NoToken p))
   -- Refusal 4: at a token that the grammar does not admit, or at the end.
   not_taken : (l : List Token) (t : Token) (r : Stream) → s ≡ prepend l (t ▹ r) → Shallow l → Begins l → (Begins (l ++ (t ∷ [])) → ⊥)
-      → Outcome s (NotAdmitted t.place)
-  unfinished : (l : List Token) (n : ℕ) → s ≡ prepend l (ended n) → Shallow l → Begins l → (Derivation l → ⊥) → Outcome s (NotAdmitted n)
+      → Outcome s (Err (NotAdmitted t.place))
+  unfinished : (l : List Token) (n : ℕ) → s ≡ prepend l (ended n) → Shallow l → Begins l → (Derivation l → ⊥) → Outcome s (Err (NotAdmitted n))
   -- Refusal 5: at a `{` that the grammar admits, where sixteen are open.
   seventeenth : (l : List Token) (t : Token) (r : Stream) → s ≡ prepend l (t ▹ r) → Shallow l → Begins (l ++ (t ∷ []))
-      → matches (sg lbrace) t.class ≡ true → opens l ≡ closes l + 16 → Outcome s (TooDeep t.place)
+      → matches (sg lbrace) t.class ≡ true → opens l ≡ closes l + 16 → Outcome s (Err (TooDeep t.place))
 
 -- Lists ----------------------------------------------------------------------------------------------------------------------------------
 

@@ -10,7 +10,8 @@ use Rattle.grammar.specs.Factored.{Nonterminal, Symbols, ◌⟹◌, Choice, by, 
 use Rattle.grammar.specs.Machine.{nullable, nullable_form, Move, after, Start, start, test, take_step, skip_step, rule_step, form_step, tries, begin, move, starts, left_of, feed, Stream, ended, ◌▹◌, prepend, deeper, at_end, next, run}
 use Rattle.grammar.proofs.Checks.{takes, begin_is, clear_is}
 use Rattle.grammar.specs.Readers.{Took}
-use Rattle.grammar.specs.declared.Answer.TheVariants.{NotAdmitted}
+use Rattle.std.specs.Prelude.{Err}
+use Rattle.grammar.specs.declared.Refusal.TheVariants.{NotAdmitted}
 use Rattle.grammar.proofs.Choices.{listed}
 use Rattle.grammar.proofs.Splits.{join, tokens_join}
 use Rattle.grammar.proofs.Uniqueness.{test_is, found, is_none}
@@ -125,7 +126,7 @@ starts_any x c = ap is_there (begin_is c x) ∙ go (choices x)
 -- Runs of one symbol and more ----------------------------------------------------------------------------------------------------------
 
 -- A terminal that does not match.
-pub run_tok_no : (d : ℕ) (a : Terminal) (k : Symbols) (t : Token) (s : Stream) → matches a t.class ≡ false → run d (a · k) (t ▹ s) ≡ NotAdmitted t.place
+pub run_tok_no : (d : ℕ) (a : Terminal) (k : Symbols) (t : Token) (s : Stream) → matches a t.class ≡ false → run d (a · k) (t ▹ s) ≡ Err (NotAdmitted t.place)
 unfolding run when next
 run_tok_no d a k t s m =
     ap (λ o. next o (deeper d t.class) t.place (λ j i. run i j s)) (feed_tok a k t.class ∙ ap (λ q. when q (some k)) m)
@@ -142,12 +143,12 @@ unfolding run nullable_form
 run_pass_end d x k n e = ap (λ b. at_end (b && nullable_form k) n) e
 
 pub run_no : (d : ℕ) (x : Nonterminal) (k : Symbols) (t : Token) (s : Stream) → nullable x ≡ false → starts x t.class ≡ false
-    → run d (x ▸ k) (t ▹ s) ≡ NotAdmitted t.place
+    → run d (x ▸ k) (t ▹ s) ≡ Err (NotAdmitted t.place)
 unfolding run when next
 run_no d x k t s e h =
     ap (λ o. next o (deeper d t.class) t.place (λ j i. run i j s)) (feed_pass x k t.class h ∙ ap (λ b. when b (feed k t.class)) e)
 
-pub run_no_end : (d : ℕ) (x : Nonterminal) (k : Symbols) (n : ℕ) → nullable x ≡ false → run d (x ▸ k) (ended n) ≡ NotAdmitted n
+pub run_no_end : (d : ℕ) (x : Nonterminal) (k : Symbols) (n : ℕ) → nullable x ≡ false → run d (x ▸ k) (ended n) ≡ Err (NotAdmitted n)
 unfolding run nullable_form at_end
 run_no_end d x k n e = ap (λ b. at_end (b && nullable_form k) n) e
 

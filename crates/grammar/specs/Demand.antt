@@ -1,10 +1,9 @@
 -- Demand 3, as a statement about an answer to a text. Assumes nothing.
-use Rattle.std.specs.Prelude.{◌≡◌, List, [], ◌∷◌, ◌++◌, ◌↔◌, ℕ, ◌≤◌, length}
+use Rattle.std.specs.Prelude.{◌≡◌, List, [], ◌∷◌, ◌++◌, ◌↔◌, ℕ, ◌≤◌, length, Ok}
 use Rattle.grammar.specs.Grammar.{Token, Derivation, Begins}
 use Rattle.grammar.specs.Terminals.{tokens}
 use Rattle.grammar.specs.Stage.{number_of, place_of, Divides, Shallow}
-use Rattle.grammar.specs.declared.Answer.{Answer}
-use Rattle.grammar.specs.declared.Answer.TheVariants.{Passes}
+use Rattle.grammar.specs.Answered.{Answer}
 
 -- "any text of at most 65,535 bytes that divides wholly into tokens, with never more than sixteen braces open"
 pub record Covered (s : List ℕ) : Type 0 where
@@ -28,8 +27,8 @@ pub data Place (s : List ℕ) : ℕ → Type 0 where
 
 pub record Demand-3 (s : List ℕ) (r : Answer) : Type 0 where
   -- "The reading passes the grammar stage exactly when document 01's grammar derives the text's tokens"
-  pub passes_exactly : Covered s → (r ≡ Passes) ↔ Derivation (tokens s)
+  pub passes_exactly : Covered s → (r ≡ Ok tt) ↔ Derivation (tokens s)
   -- "any two derivations of them are the same"
   pub one_derivation : (d e : Derivation (tokens s)) → d.tree ≡ e.tree
   -- "A reading that doesn't pass gives refusal 4, and its place is ..."
-  pub refusal : Covered s → (r ≡ Passes → ⊥) → (number_of r ≡ 4) × Place s (place_of r)
+  pub refusal : Covered s → (r ≡ Ok tt → ⊥) → (number_of r ≡ 4) × Place s (place_of r)

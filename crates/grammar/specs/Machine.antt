@@ -1,6 +1,6 @@
 -- The machine of the factored grammar. Its state is a list of symbols, those still to be read; `move` takes one token's class, `run` a whole
 -- text. The rules do not name it; the inner readers' contracts do, and `reading`, which computes the rules' answer. Assumes nothing.
-use Rattle.std.specs.Prelude.{◌≡◌, refl, Bool, true, false, ◌&&◌, ltb}
+use Rattle.std.specs.Prelude.{◌≡◌, refl, Bool, true, false, ◌&&◌, ltb, Ok, Err}
 use mathlib.Core.List.{List, [], ◌∷◌, ◌++◌}
 use Rattle.std.proofs.lemmas.Bool.{false≢true}
 use Rattle.std.proofs.Math.Option.{Option, none, some}
@@ -8,8 +8,8 @@ use Prim.Native.Nat.{ℕ, zero, suc, pred}
 use Rattle.token.specs.Find.{is_there}
 use Rattle.grammar.specs.Grammar.{Terminal, Class, Token, tok, rule, matches, sg, lbrace, rbrace}
 use Rattle.grammar.specs.Factored.{Nonterminal, Symbols, ◌⟹◌, Choice, by, choices}
-use Rattle.grammar.specs.declared.Answer.{Answer}
-use Rattle.grammar.specs.declared.Answer.TheVariants.{Passes, NoToken, NotAdmitted, TooDeep}
+use Rattle.grammar.specs.Answered.{Answer}
+use Rattle.grammar.specs.declared.Refusal.TheVariants.{NoToken, NotAdmitted, TooDeep}
 
 -- Rules that can be empty ------------------------------------------------------------------------------------------------------------
 
@@ -152,17 +152,17 @@ unfolding deeper_by matches
 deeper d c = deeper_by (matches (sg lbrace) c) (matches (sg rbrace) c) d
 
 unfoldable pub at_end : Bool → ℕ → Answer
-at_end true n = Passes
-at_end false n = NotAdmitted n
+at_end true n = Ok tt
+at_end false n = Err (NotAdmitted n)
 
 unfoldable pub next : Option Symbols → Option ℕ → ℕ → (Symbols → ℕ → Answer) → Answer
-next none o p f = NotAdmitted p
-next (some k) none p f = TooDeep p
+next none o p f = Err (NotAdmitted p)
+next (some k) none p f = Err (TooDeep p)
 next (some k) (some d) p f = f k d
 
 -- With d braces open and the symbols k still to be read.
 unfoldable pub run : ℕ → Symbols → Stream → Answer
 unfolding nullable_form at_end next feed deeper
 run d k (ended n) = at_end (nullable_form k) n
-run d k (bad p) = NoToken p
+run d k (bad p) = Err (NoToken p)
 run d k (t ▹ s) = next (feed k t.class) (deeper d t.class) t.place (λ j e. run e j s)

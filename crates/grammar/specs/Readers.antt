@@ -1,5 +1,5 @@
 -- The contracts of the inner readers: looks, and what a reader of a form does. The rules do not name them. Assumes nothing.
-use Rattle.std.specs.Prelude.{◌≡◌, List, [], ◌∷◌, ◌++◌, Bool, true, false, ℕ, suc, ◌+◌, ◌-◌, ◌≤◌, length, get_or, ltb, leb, eqb}
+use Rattle.std.specs.Prelude.{◌≡◌, List, [], ◌∷◌, ◌++◌, Bool, true, false, ℕ, suc, ◌+◌, ◌-◌, ◌≤◌, length, get_or, ltb, leb, eqb, Ok, Err}
 use Rattle.token.specs.Find.{pick, both, either}
 use Rattle.token.specs.Tokens.{step_at}
 use Rattle.token.specs.Lexing.{lex_from, Lexed, more as found, ended as done, refused as none}
@@ -12,8 +12,10 @@ use Rattle.grammar.specs.Terminals.{words, token_of}
 use Rattle.grammar.specs.Factored.{Symbols, lift, ◌⟹◌}
 use Rattle.grammar.specs.Machine.{Stream, ended, bad, ◌▹◌, prepend, run}
 use Rattle.grammar.specs.declared.Look.{Look}
-use Rattle.grammar.specs.declared.Answer.{Answer}
-use Rattle.grammar.specs.declared.Answer.TheVariants.{Passes, NoToken, NotAdmitted, TooDeep}
+use Rattle.grammar.specs.declared.parts.Sort.{Sort as Of}
+use Rattle.grammar.specs.declared.parts.Sort.TheVariants.{Integer, Text, Truth, Enumerator, Float as OfFloat}
+use Rattle.grammar.specs.Answered.{Answer}
+use Rattle.grammar.specs.declared.Refusal.TheVariants.{NoToken, NotAdmitted, TooDeep}
 
 -- Codes ------------------------------------------------------------------------------------------------------------------------------
 
@@ -86,9 +88,13 @@ expected s a m = pick (eqb a.code m) (advanced s a) (refusal a)
 unfoldable pub between : ℕ → ℕ → ℕ → Bool
 between low n high = both (leb low n) (leb n high)
 
--- The sorts of attributes by number, and whether a code is the own form of a default.
-unfoldable pub sort_at : ℕ → Sort
-sort_at n = pick (eqb n 0) integers (pick (eqb n 1) strings (pick (eqb n 2) booleans (pick (eqb n 4) floats enums)))
+-- The sorts of attributes as the code names them, and whether a code is the own form of a default.
+unfoldable pub sort_at : Of → Sort
+sort_at Integer = integers
+sort_at Text = strings
+sort_at Truth = booleans
+sort_at Enumerator = enums
+sort_at OfFloat = floats
 
 unfoldable pub fitting : Sort → ℕ → Bool
 unfolding matches class_at
@@ -100,12 +106,12 @@ fitting floats n = eqb n 54
 
 -- A refusal by its code: 59, 60, 61 for 3, 4, 5.
 unfoldable pub refusal_of : ℕ → ℕ → Answer
-refusal_of n p = pick (eqb n 59) (NoToken p) (pick (eqb n 60) (NotAdmitted p) (TooDeep p))
+refusal_of n p = pick (eqb n 59) (Err (NoToken p)) (pick (eqb n 60) (Err (NotAdmitted p)) (Err (TooDeep p)))
 
 -- The answer at the look after the file.
 unfoldable pub answer_of : Look → Answer
 unfolding refusal_of
-answer_of a = pick (eqb a.code 56) Passes (pick (ltb a.code 56) (NotAdmitted a.at) (refusal_of a.code a.at))
+answer_of a = pick (eqb a.code 56) (Ok tt) (pick (ltb a.code 56) (Err (NotAdmitted a.at)) (refusal_of a.code a.at))
 
 -- The token that is seen.
 unfoldable pub seen : Look → Token

@@ -1,24 +1,24 @@
 -- The grammar stage of a reading: refusals 3 to 5, for every text. Assumes nothing.
-use Rattle.std.specs.Prelude.{◌≡◌, List, [], ◌∷◌, ◌++◌, Bool, true, false, ℕ, ◌+◌, ◌≤◌, length}
+use Rattle.std.specs.Prelude.{◌≡◌, List, [], ◌∷◌, ◌++◌, true, ℕ, ◌+◌, ◌≤◌, length, Ok, Err}
 use Rattle.token.specs.Find.{bit}
 use Rattle.token.specs.Lexing.{lex_from, Lexed, more, ended, refused, Divides as Wholly}
 use Rattle.grammar.specs.Grammar.{Token, matches, sg, lbrace, rbrace, Derivation, Begins}
 use Rattle.grammar.specs.Terminals.{tokens}
-use Rattle.grammar.specs.declared.Answer.{Answer}
-use Rattle.grammar.specs.declared.Answer.TheVariants.{Passes, NoToken, NotAdmitted, TooDeep}
+use Rattle.grammar.specs.Answered.{Answer}
+use Rattle.grammar.specs.declared.Refusal.TheVariants.{NoToken, NotAdmitted, TooDeep}
 
 -- The number that document 01 has for each answer; 0 where there is no refusal.
 unfoldable pub number_of : Answer → ℕ
-number_of Passes = 0
-number_of (NoToken p) = 3
-number_of (NotAdmitted p) = 4
-number_of (TooDeep p) = 5
+number_of (Ok _) = 0
+number_of (Err (NoToken p)) = 3
+number_of (Err (NotAdmitted p)) = 4
+number_of (Err (TooDeep p)) = 5
 
 unfoldable pub place_of : Answer → ℕ
-place_of Passes = 0
-place_of (NoToken p) = p
-place_of (NotAdmitted p) = p
-place_of (TooDeep p) = p
+place_of (Ok _) = 0
+place_of (Err (NoToken p)) = p
+place_of (Err (NotAdmitted p)) = p
+place_of (Err (TooDeep p)) = p
 
 -- "A text divides wholly into tokens if each byte, taken from the left by the token rules, is in a token or an ended comment or is one of the
 -- six that part tokens": the token reader comes to the text's end, and to no refusal.
@@ -48,17 +48,17 @@ Shallow l = (l₁ l₂ : List Token) → l ≡ l₁ ++ l₂ → opens l₁ ≤ c
 -- tokens before the place begin a list that the grammar derives, with never more than sixteen braces open.
 pub data Answers (s : List ℕ) : Answer → Type 0 where
   -- no fault
-  passes : Divides s → Shallow (tokens s) → Derivation (tokens s) → Answers s Passes
+  passes : Divides s → Shallow (tokens s) → Derivation (tokens s) → Answers s (Ok tt)
   -- 3: "no token; string or `/*` unended", at "its first byte"
-  no_token : (p : ℕ) → StopsAt (lex_from s 0) p → Shallow (tokens s) → Begins (tokens s) → Answers s (NoToken p)
+  no_token : (p : ℕ) → StopsAt (lex_from s 0) p → Shallow (tokens s) → Begins (tokens s) → Answers s (Err (NoToken p))
   -- 4: "token the grammar does not admit", at "the token"
   not_admitted : (l : List Token) (t : Token) (r : List Token) → tokens s ≡ l ++ (t ∷ r) → Shallow l → Begins l → (Begins (l ++ (t ∷ [])) → ⊥)
-      → Answers s (NotAdmitted t.place)
+      → Answers s (Err (NotAdmitted t.place))
   -- 4: "text ends early", at the "text length"
-  ends_early : Divides s → Shallow (tokens s) → Begins (tokens s) → (Derivation (tokens s) → ⊥) → Answers s (NotAdmitted (length s))
+  ends_early : Divides s → Shallow (tokens s) → Begins (tokens s) → (Derivation (tokens s) → ⊥) → Answers s (Err (NotAdmitted (length s)))
   -- 5: "`{` the grammar admits, but seventeenth open", at "the `{`"
   too_deep : (l : List Token) (t : Token) (r : List Token) → tokens s ≡ l ++ (t ∷ r) → Shallow l → Begins (l ++ (t ∷ []))
-      → matches (sg lbrace) t.class ≡ true → opens l ≡ closes l + 16 → Answers s (TooDeep t.place)
+      → matches (sg lbrace) t.class ≡ true → opens l ≡ closes l + 16 → Answers s (Err (TooDeep t.place))
 
 -- "A reading accepts or gives one numbered refusal and a byte place, both fixed by the rules": these cases decide the answer. proofs/Decided has it
 -- (`answers_decided`).

@@ -21,10 +21,9 @@ pub struct Look {
     pub depth: u8,
 }
 
-// What the stage answers: it passes, or one of refusals 3, 4, 5 with its place.
-#[derive(Clone, Copy)]
-pub enum Answer {
-    Passes,
+// A refusal of the stage, with its place.
+#[derive(Clone, Copy, Debug, PartialEq, Eq)]
+pub enum Refusal {
     // 3: no token, or a string or comment that is not ended.
     NoToken(usize),
     // 4: a token that the grammar does not admit, or the text ends early.
@@ -33,23 +32,23 @@ pub enum Answer {
     TooDeep(usize),
 }
 
-// The answer at the look after the file.
-pub fn answer_of(a: Look) -> Answer
+// What the stage answers at the look after the file.
+pub fn answer_of(a: Look) -> Result<(), Refusal>
     ensures { result ≡ answer_of a }
 {
     let code = a.code;
     let at = a.at;
     if code == END {
-        return Answer::Passes;
+        return Ok(());
     }
     if code < END {
-        return Answer::NotAdmitted(at);
+        return Err(Refusal::NotAdmitted(at));
     }
     if code == NO_TOKEN {
-        return Answer::NoToken(at);
+        return Err(Refusal::NoToken(at));
     }
     if code == NOT_ADMITTED {
-        return Answer::NotAdmitted(at);
+        return Err(Refusal::NotAdmitted(at));
     }
-    Answer::TooDeep(at)
+    Err(Refusal::TooDeep(at))
 }

@@ -9,6 +9,7 @@ use super::Look;
 use token::{Cursor, Sort, Step};
 
 // The codes of the words that a form names, of numbers, strings and floats. Tokens have the codes below END, and END + n is refusal n.
+// They are numbers and no enum: the cells of rows hold them, and kinds and types are ranges of them.
 pub const TRUE: u8 = 1;
 
 pub const FALSE: u8 = 2;
@@ -89,6 +90,7 @@ pub const TOO_DEEP: u8 = 61;
 pub const DEEPEST: u8 = 16;
 
 // A punctuator's code, by its byte.
+#[tactic(auto, unfolding(crate::specs::Readers::punctuator_code))]
 pub fn punctuator_code(b: u8) -> u8
     ensures { result ≡ punctuator_code b }
 {
@@ -107,6 +109,7 @@ pub fn punctuator_code(b: u8) -> u8
 }
 
 // A token's code: a word's own code, 0 for one that no form names; OTHER for a token that the grammar has no terminal for.
+#[tactic(auto, unfolding(crate::specs::Readers::code_of))]
 pub fn code_of(sort: Sort) -> u8
     ensures { result ≡ code_of sort }
 {
@@ -120,113 +123,99 @@ pub fn code_of(sort: Sort) -> u8
 }
 
 // What stands at a place, with so many braces open.
+#[tactic(auto, unfolding(crate::specs::Readers::look_at, crate::specs::Readers::look_of))]
 pub fn look_at(text: &[u8], at: usize, depth: u8) -> Look
     ensures { result ≡ look_at text.now at depth }
 {
-    let cursor = Cursor { at: at };
+    let cursor = Cursor { at };
     match cursor.step(text) {
-        Step::Found(t, c) => {
-            let sort = t.sort;
-            let p = t.at;
-            let q = c.at;
-            let code = code_of(sort);
-            Look {
-                code: code,
-                at: p,
-                next: q,
-                depth: depth,
-            }
-        }
+        Step::Found(t, c) => Look {
+            code: code_of(t.sort),
+            at: t.at,
+            next: c.at,
+            depth,
+        },
         Step::Refused(p) => Look {
             code: NO_TOKEN,
             at: p,
             next: p,
-            depth: depth,
+            depth,
         },
         Step::End(n) => Look {
             code: END,
             at: n,
             next: n,
-            depth: depth,
+            depth,
         },
     }
 }
 
 // Past the token that is seen. A `{` that would be the seventeenth open is refusal 5.
+#[tactic(auto, unfolding(crate::specs::Readers::advanced))]
 pub fn advance(text: &[u8], a: Look) -> Look
     ensures { result ≡ advanced text.now a }
 {
-    let code = a.code;
-    let next = a.next;
-    let depth = a.depth;
-    if code == LBRACE {
-        if depth < DEEPEST {
-            return look_at(text, next, depth + 1);
+    match a.code {
+        LBRACE => {
+            if a.depth < DEEPEST {
+                look_at(text, a.next, a.depth + 1)
+            } else {
+                Look {
+                    code: TOO_DEEP,
+                    ..a
+                }
+            }
         }
-        return Look {
-            code: TOO_DEEP,
-            at: a.at,
-            next: next,
-            depth: depth,
-        };
+        RBRACE => look_at(text, a.next, a.depth.saturating_sub(1)),
+        _ => look_at(text, a.next, a.depth),
     }
-    if code == RBRACE {
-        if depth == 0 {
-            return look_at(text, next, 0);
-        }
-        return look_at(text, next, depth - 1);
-    }
-    look_at(text, next, depth)
 }
 
 // The refusal of what is seen: 4, at the token or at the end. A refusal stays what it is.
+#[tactic(auto, unfolding(crate::specs::Readers::refusal))]
 pub fn refuse(a: Look) -> Look
     ensures { result ≡ refusal a }
 {
-    let code = a.code;
-    let place = a.at;
-    if code <= END {
-        return Look {
+    if a.code <= END {
+        Look {
             code: NOT_ADMITTED,
-            at: place,
-            next: a.next,
-            depth: a.depth,
-        };
+            ..a
+        }
+    } else {
+        a
     }
-    a
 }
 
 // The token with a code.
+#[tactic(auto, unfolding(crate::specs::Readers::expected))]
 pub fn expect(text: &[u8], a: Look, code: u8) -> Look
     ensures { result ≡ expected text.now a code }
 {
     if a.code == code {
-        return advance(text, a);
+        advance(text, a)
+    } else {
+        refuse(a)
     }
-    refuse(a)
 }
 
 // Whether a code is at least low and at most high.
+#[tactic(auto, unfolding(crate::specs::Readers::between))]
 pub fn is_between(low: u8, code: u8, high: u8) -> bool
     ensures { result ≡ between low code high }
 {
-    if code < low {
-        return false;
-    }
-    code <= high
+    low <= code && code <= high
 }
 
 // Whether a token may be a name: any word but the five reserved.
+#[tactic(auto, using(crate::proofs::Codes::name_zero, crate::proofs::Codes::name_is))]
 pub fn is_name(code: u8) -> bool
     ensures { result ≡ matches name (class_at code) }
 {
-    if code == 0 {
-        return true;
-    }
-    is_between(OIL_VERSION, code, FLOAT)
+    code == 0 || is_between(OIL_VERSION, code, FLOAT)
 }
 
 // Whether a token is one of the thirteen kinds.
+#[tactic(auto, using(crate::proofs::Codes::kind_is))]
 pub fn is_kind(code: u8) -> bool
     ensures { result ≡ matches kind (class_at code) }
 {
@@ -234,6 +223,7 @@ pub fn is_kind(code: u8) -> bool
 }
 
 // Whether a token is a kind followed by `_TYPE`.
+#[tactic(auto, using(crate::proofs::Codes::type_is))]
 pub fn is_type(code: u8) -> bool
     ensures { result ≡ matches type (class_at code) }
 {
@@ -241,6 +231,7 @@ pub fn is_type(code: u8) -> bool
 }
 
 // Whether a token is one of the four integer types.
+#[tactic(auto, using(crate::proofs::Codes::integer_is))]
 pub fn is_integer(code: u8) -> bool
     ensures { result ≡ matches integer (class_at code) }
 {
@@ -248,6 +239,7 @@ pub fn is_integer(code: u8) -> bool
 }
 
 // Whether a definition begins with the token.
+#[tactic(auto, using(crate::proofs::Codes::definition_is))]
 pub fn is_definition(code: u8) -> bool
     ensures { result ≡ starts (paper definition) (class_at code) }
 {
@@ -259,9 +251,10 @@ pub fn expect_name(text: &[u8], a: Look) -> Look
     ensures { Meets 1 (name · ∎) text.now a result }
 {
     if is_name(a.code) {
-        return advance(text, a);
+        advance(text, a)
+    } else {
+        refuse(a)
     }
-    refuse(a)
 }
 
 // A kind.
@@ -269,7 +262,8 @@ pub fn expect_kind(text: &[u8], a: Look) -> Look
     ensures { Meets 1 (kind · ∎) text.now a result }
 {
     if is_kind(a.code) {
-        return advance(text, a);
+        advance(text, a)
+    } else {
+        refuse(a)
     }
-    refuse(a)
 }

@@ -41,6 +41,7 @@ pub fn numbers(text: &[u8], from: Look) -> Look
     ensures { Meets 0 (numbers ▸ ∎) text.now from result }
 {
     let mut a = from;
+    // A `while`: the look says whether another number comes, so no range counts it.
     while a.code == COMMA {
         let b = lookahead::advance(text, a);
         a = lookahead::expect(text, b, NUMERAL);
@@ -52,64 +53,56 @@ pub fn numbers(text: &[u8], from: Look) -> Look
 pub fn span(text: &[u8], a: Look) -> Look
     ensures { Reads 0 (span ▸ ∎) text.now a result }
 {
-    if a.code == DOTS {
-        let b = lookahead::advance(text, a);
-        return lookahead::expect(text, b, NUMERAL);
+    match a.code {
+        DOTS => {
+            let b = lookahead::advance(text, a);
+            lookahead::expect(text, b, NUMERAL)
+        }
+        COMMA => {
+            let b = lookahead::advance(text, a);
+            let c = lookahead::expect(text, b, NUMERAL);
+            numbers(text, c)
+        }
+        _ => a,
     }
-    if a.code == COMMA {
-        let b = lookahead::advance(text, a);
-        let c = lookahead::expect(text, b, NUMERAL);
-        return numbers(text, c);
-    }
-    a
 }
 
 // What a default is of.
-pub const OF_INTEGER: u8 = 0;
+#[derive(Clone, Copy, PartialEq, Eq)]
+pub enum Sort {
+    Integer,
+    Text,
+    Truth,
+    Enumerator,
+    Float,
+}
 
-pub const OF_STRING: u8 = 1;
-
-pub const OF_TRUTH: u8 = 2;
-
-pub const OF_ENUMERATOR: u8 = 3;
-
-pub const OF_FLOAT: u8 = 4;
-
-// Whether the token is the own form of a default; any other sort is an enumerator's.
-pub fn is_own(sort: u8, code: u8) -> bool
+// Whether the token is the own form of a default.
+#[tactic(auto, unfolding(crate::specs::Readers::sort_at, crate::specs::Readers::fitting))]
+pub fn is_own(sort: Sort, code: u8) -> bool
     ensures { result ≡ fitting (sort_at sort) code }
 {
-    if sort == OF_INTEGER {
-        return code == NUMERAL;
+    match sort {
+        Sort::Integer => code == NUMERAL,
+        Sort::Text => code == QUOTED,
+        Sort::Truth => code == TRUE || code == FALSE,
+        Sort::Enumerator => lookahead::is_name(code),
+        Sort::Float => code == FLOATING,
     }
-    if sort == OF_STRING {
-        return code == QUOTED;
-    }
-    if sort == OF_TRUTH {
-        if code == TRUE {
-            return true;
-        }
-        return code == FALSE;
-    }
-    if sort == OF_FLOAT {
-        return code == FLOATING;
-    }
-    lookahead::is_name(code)
 }
 
 // AUTO, NO_DEFAULT, or the own form of a default.
-pub fn own(text: &[u8], a: Look, sort: u8) -> Look
+pub fn own(text: &[u8], a: Look, sort: Sort) -> Look
     ensures { Meets 1 (own (sort_at sort) ▸ ∎) text.now a result }
 {
-    let code = a.code;
-    if code == AUTO {
-        return lookahead::advance(text, a);
+    match a.code {
+        AUTO | NO_DEFAULT => lookahead::advance(text, a),
+        code => {
+            if is_own(sort, code) {
+                lookahead::advance(text, a)
+            } else {
+                lookahead::refuse(a)
+            }
+        }
     }
-    if code == NO_DEFAULT {
-        return lookahead::advance(text, a);
-    }
-    if is_own(sort, code) {
-        return lookahead::advance(text, a);
-    }
-    lookahead::refuse(a)
 }

@@ -13,13 +13,13 @@ use Rattle.grammar.specs.Grammar.{Terminal, Token, Form, tok, Trees, nil, leaf, 
 use Rattle.grammar.specs.Terminals.{tokens as tokens-of}
 use Rattle.grammar.specs.Stage.{Answers, passes, no_token, not_admitted, ends_early, too_deep}
 use Rattle.grammar.specs.Readers.{lex_at}
-use Rattle.grammar.specs.declared.Answer.{Answer as StageAnswer}
-use Rattle.grammar.specs.declared.Answer.TheVariants.{Passes}
+use Rattle.grammar.specs.Answered.{Answer as StageAnswer}
+use Rattle.std.specs.Prelude.{Ok}
 use Rattle.grammar.proofs.Answering.{answer_to, answer_to_lem}
 use Rattle.meaning.specs.Words.{choose}
 use Rattle.heading.specs.Headings.{front_form, Front, string_in, name_in, version_and_name, answer_in, Heads, too_long, headed, refused, plain, described, begins_with, nth, answer_by, computed}
-use Rattle.heading.specs.declared.Answer.{Answer}
-use Rattle.heading.specs.declared.Answer.TheVariants.{Refused}
+use Rattle.heading.specs.Answered.{Answer}
+use Rattle.rows.specs.Refusing.{refusing}
 
 -- Tokens that begin with terminals are trees of them.
 abbrev form_of : List Terminal → Form
@@ -86,7 +86,7 @@ front_begins l f = go f.tree f.split
         inr (ap (begins_with described) q ∙ rw (m₁, m₂, m₃, m₈, m₉, m₄, m₅, m₆, m₇) refl)
 
 -- What passes is derived.
-pub derived : {s : List ℕ} {a : StageAnswer} → Answers s a → a ≡ Passes → Derivation (tokens-of s)
+pub derived : {s : List ℕ} {a : StageAnswer} → Answers s a → a ≡ Ok tt → Derivation (tokens-of s)
 derived (passes w h d) e = d
 derived (no_token p w h b) e = absurd (let z : ◌≡◌ {A = ℕ} 0 1 = cc in omega arith)
 derived (not_admitted l t r q h b n) e = absurd (let z : ◌≡◌ {A = ℕ} 0 1 = cc in omega arith)
@@ -112,6 +112,6 @@ computes has-front s = by_length (ltb 65535 (length s)) refl
             either (inr q) = false≢true (sym g ∙ q)
 
     by_length : (b : Bool) → ltb 65535 (length s) ≡ b
-        → Heads s (choose b (λ _. Refused 2 0) (λ _. answer_by (begins_with plain (tokens-of s)) (begins_with described (tokens-of s)) (tokens-of s) (λ _. answer_to s)))
+        → Heads s (choose b (λ _. refusing 2 0) (λ _. answer_by (begins_with plain (tokens-of s)) (begins_with described (tokens-of s)) (tokens-of s) (λ _. answer_to s)))
     by_length true e = too_long (ltb-true 65535 (length s) e)
     by_length false e = by_front (begins_with plain (tokens-of s)) (begins_with described (tokens-of s)) refl refl e

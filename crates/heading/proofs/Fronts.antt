@@ -15,8 +15,9 @@ use Rattle.grammar.specs.Factored.{Symbols, paper, ◌⟹◌}
 use Rattle.grammar.specs.Machine.{feed, Stream, ended, bad, ◌▹◌, prepend, next, run}
 use Rattle.grammar.specs.Readers.{class_at, stream_of, lex_at, look_at, seen, on, rest_by, rest, refusal_of, Took, Meets}
 use Rattle.grammar.specs.declared.Look.{Look}
-use Rattle.grammar.specs.declared.Answer.{Answer}
-use Rattle.grammar.specs.declared.Answer.TheVariants.{Passes, NotAdmitted}
+use Rattle.grammar.specs.Answered.{Answer}
+use Rattle.std.specs.Prelude.{Ok, Err}
+use Rattle.grammar.specs.declared.Refusal.TheVariants.{NotAdmitted}
 use Rattle.grammar.proofs.Literal.{from, lifted, tokens_from}
 use Rattle.grammar.proofs.Codes.{not_code, brace_open}
 use Rattle.grammar.proofs.Steps.{run_tok_no, prepend_append}
@@ -148,8 +149,8 @@ late_from s e i p h =
     (λ q n w g. let o = end_fits s q n w in omega arith)
     p h
 
-behind_not : (e p : ℕ) (r : Answer) → r ≡ NotAdmitted p → p < e → Behind e r → ⊥
-behind_not e p r q h b = let z : Behind e (NotAdmitted p) = subst (Behind e) q b in omega arith
+behind_not : (e p : ℕ) (r : Answer) → r ≡ Err (NotAdmitted p) → p < e → Behind e r → ⊥
+behind_not e p r q h b = let z : Behind e (Err (NotAdmitted p)) = subst (Behind e) q b in omega arith
 
 pub no_front : (s : List ℕ) (a g : Look) → a ≡ look_at s 0 0 → Meets 1 (version ▸ the IMPLEMENTATION · name · ∎) s a g → (g.code ≡ 45 → ⊥)
     → (t : Trees ◌⟶◌ front_form) → Follows s t → ⊥
@@ -174,14 +175,14 @@ no_front s a g at m h (node version_is us (leaf i m₁ (leaf n m₂ (leaf b m₃
 
     token : g.code < 56 → ((k : Symbols) → run g.depth k (seen g ▹ lex_at s g.next) ≡ run 0 k (b ▹ u)) → ⊥
     token l f =
-        let x : NotAdmitted g.at ≡ NotAdmitted b.place = f ∎ in
+        let x : Err (NotAdmitted g.at) ≡ Err (NotAdmitted b.place) = f ∎ in
         let y : g.at ≡ b.place = cc in
-        let z : NotAdmitted g.at ≡ run 0 (sg lbrace · ∎) (b ▹ u) =
+        let z : Err (NotAdmitted g.at) ≡ run 0 (sg lbrace · ∎) (b ▹ u) =
         sym (run_tok_no g.depth (sg lbrace) ∎ (seen g) (lex_at s g.next) (not_code (matches (sg lbrace)) 45 tt h l)) ∙ f (sg lbrace · ∎) in
         behind_not (suc b.place) g.at _ (sym z) (omega arith) past
 
     end : g.code ≡ 56 → ((k : Symbols) → run g.depth k (ended g.at) ≡ run 0 k (b ▹ u)) → ⊥
-    end l f = let x : Passes ≡ NotAdmitted b.place = f ∎ in let z : ◌≡◌ {A = ℕ} 0 1 = cc in omega arith
+    end l f = let x : Ok tt ≡ Err (NotAdmitted b.place) = f ∎ in let z : ◌≡◌ {A = ℕ} 0 1 = cc in omega arith
 
     refused : 56 < g.code → ((k : Symbols) → refusal_of g.code g.at ≡ run 0 k (b ▹ u)) → ⊥
     refused l f = behind_not (suc b.place) b.place _ (sym (f (sg lbrace · ∎)) ∙ f ∎) (omega arith) past

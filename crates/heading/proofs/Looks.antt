@@ -8,14 +8,15 @@ use lib.ListN.{length}
 use lib.Dec.{ltb, leb, eqb}
 use borrow.Author.Tests.{ltb-true, leb-false, eqb-true, eq-eqb}
 use Rattle.token.specs.Find.{pick, byte, find}
-use Rattle.token.specs.Bytes.{Class, letter, digit, blank, plus_minus, quote, punctuator, dot, slash, other, class_of, class_code, is_letter, is_digit, is_blank, is_plus_minus, is_punctuator, word_end, find_byte, pair_at, is_dotted}
+use Rattle.token.specs.Bytes.{class_of, is_letter, is_digit, is_blank, is_plus_minus, is_punctuator, word_end, find_byte, pair_at, is_dotted}
+use Rattle.token.specs.declared.scan.Class.{Class}
+use Rattle.token.specs.declared.scan.Class.TheVariants.{Letter as letter, Digit as digit, Blank as blank, Sign as plus_minus, Quote as quote, Punctuator as punctuator, Dot as dot, Slash as slash, Other as other}
+use Rattle.token.proofs.Bytes.{class_code}
 use Rattle.token.specs.Words.{code_of as wordCode}
 use Rattle.token.specs.Tokens.{step_at, token_at, token_of, word_at, bytes_between, whole_at, float_of, float_by, float_at, number_by, number_at, limit_of, string_at, dots_at, found}
 use Rattle.token.specs.Floats.{mantissa_of, power_at}
-use Rattle.token.specs.declared.Amount.{Amount}
-use Rattle.token.specs.declared.Amount.TheVariants.{Is, Not}
+use Rattle.std.specs.Prelude.{Option, Some, None}
 use Rattle.token.specs.declared.Power.{Power}
-use Rattle.token.specs.declared.Power.TheVariants.{Times, None}
 use Rattle.token.specs.declared.Sort.TheVariants.{Word, String, Punctuator}
 use Rattle.token.specs.declared.Token.{Token as Lexeme}
 use Rattle.token.specs.declared.Cursor.{Cursor}
@@ -96,12 +97,11 @@ whole_ok s p q =
     number_form (eqb (byte s p) 45) (ltb p q) (limit_of (eqb (byte s p) 45)) (λ (f : ℕ → ℕ → Step). StringOk s (f p (word_end s q))) (λ m _ h. absurd (omega arith)) tt
     (bytes_between s q (word_end s q))
 
-float_ok : (s : List ℕ) (minus : Bool) (v : Amount) (w : Power) (n p : ℕ) → StringOk s (float_of minus v w n p)
+float_ok : (s : List ℕ) (minus : Bool) (v : Option ℕ) (w : Option Power) (n p : ℕ) → StringOk s (float_of minus v w n p)
 unfolding found code_of
-float_ok s minus (Is m) (Times b x e) n p = λ h. absurd (omega arith)
-float_ok s minus (Is m) None n p = tt
-float_ok s minus Not (Times b x e) n p = tt
-float_ok s minus Not None n p = tt
+float_ok s minus (Some m) (Some x) n p = λ h. absurd (omega arith)
+float_ok s minus (Some m) None n p = tt
+float_ok s minus None w n p = tt
 
 number_by_ok : (b : Bool) (s : List ℕ) (p q : ℕ) → StringOk s (number_by b s p q)
 unfolding number_by float_at float_by

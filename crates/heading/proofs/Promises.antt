@@ -10,8 +10,9 @@ use Rattle.grammar.specs.Stage.{number_of, place_of, Answers}
 use Rattle.grammar.specs.Factored.{paper}
 use Rattle.grammar.specs.Machine.{prepend, run}
 use Rattle.grammar.specs.Readers.{lex_at}
-use Rattle.grammar.specs.declared.Answer.{Answer as StageAnswer}
-use Rattle.grammar.specs.declared.Answer.TheVariants.{Passes, NoToken, NotAdmitted, TooDeep}
+use Rattle.grammar.specs.Answered.{Answer as StageAnswer}
+use Rattle.std.specs.Prelude.{Ok, Err}
+use Rattle.grammar.specs.declared.Refusal.TheVariants.{NoToken, NotAdmitted, TooDeep}
 use Rattle.grammar.proofs.Answering.{answer_to, answer_to_lem}
 use Rattle.grammar.proofs.Decided.{decided}
 use Rattle.grammar.proofs.Steps.{prepend_append}
@@ -22,8 +23,10 @@ use Rattle.meaning.proofs.Whole.{one_answer as one-reading}
 use Rattle.meaning.specs.Answers.{refused as is_refused}
 use Rattle.heading.specs.Headings.{front_form, Front, string_in, name_in, brace_in, version_and_name, answer_in, Heads, too_long, headed, refused}
 use Rattle.heading.specs.Promises.{token_of_word, its_version_and_name, InQuotes, Decides, FrontDecides, MeetsQ7}
-use Rattle.heading.specs.declared.Answer.{Answer}
-use Rattle.heading.specs.declared.Answer.TheVariants.{VersionAndName, Refused}
+use Rattle.heading.specs.Answered.{Answer, told_at, heading_at}
+use Rattle.rows.specs.Refusing.{refusing}
+use Rattle.rows.proofs.Refusing.{ok_is, number_is, place_is}
+use Rattle.heading.specs.declared.VersionAndName.{VersionAndName}
 use Rattle.heading.proofs.Runs.{file_run, Behind, run_late}
 use Rattle.heading.proofs.Fronts.{front_same, Follows, late_from}
 use Rattle.heading.proofs.Places.{follows, other_front}
@@ -45,7 +48,7 @@ one_answer (headed l f) (headed l' g) = one_heading f g
 one_answer (headed l f) (refused l' n a p e) = absurd (n f)
 one_answer (refused l n a p e) (too_long h) = absurd (omega arith)
 one_answer (refused l n a p e) (headed l' f) = absurd (n f)
-one_answer (refused l n a p e) (refused l' n' b p' e') = ap (λ (x : StageAnswer). Refused (number_of x) (place_of x)) (decided e e')
+one_answer (refused l n a p e) (refused l' n' b p' e') = ap (λ (x : StageAnswer). refusing (number_of x) (place_of x)) (decided e e')
 
 -- Derivations --------------------------------------------------------------------------------------------------------------------------------------
 
@@ -72,12 +75,12 @@ derived_front s d =
 
 -- Refusals behind the brace ------------------------------------------------------------------------------------------------------------------------
 
-behind_place : (e : ℕ) (a : StageAnswer) → (a ≡ Passes → ⊥) → Behind e a → e ≤ place_of a
+behind_place : (e : ℕ) (a : StageAnswer) → (a ≡ Ok tt → ⊥) → Behind e a → e ≤ place_of a
 unfolding place_of
-behind_place e Passes n h = absurd (n refl)
-behind_place e (NoToken p) n h = h
-behind_place e (NotAdmitted p) n h = h
-behind_place e (TooDeep p) n h = h
+behind_place e (Ok _) n h = absurd (n refl)
+behind_place e (Err (NoToken p)) n h = h
+behind_place e (Err (NotAdmitted p)) n h = h
+behind_place e (Err (TooDeep p)) n h = h
 
 run_behind : (s : List ℕ) (t : Trees ◌⟶◌ front_form) → Follows s t → Behind (suc (brace_in t).place) (answer_to s)
 unfolding brace_in tokens prepend
@@ -87,7 +90,7 @@ run_behind s (node version_is us (leaf i m₁ (leaf n m₂ (leaf b m₃ nil)))) 
     subst (Behind (suc b.place)) (sym e)
     (run_late (suc b.place) u (late_from s (suc b.place) (omega (arith, w.later, w.inside)) w.from_here (omega (arith, w.later))) 1 _)
 
-pub behind_brace : (s : List ℕ) (f : Front (tokens-of s)) (a : StageAnswer) → Answers s a → (a ≡ Passes → ⊥) → (brace_in f.tree).place < place_of a
+pub behind_brace : (s : List ℕ) (f : Front (tokens-of s)) (a : StageAnswer) → Answers s a → (a ≡ Ok tt → ⊥) → (brace_in f.tree).place < place_of a
 behind_brace s f a e n =
     behind_place (suc (brace_in f.tree).place) a n (subst (Behind (suc (brace_in f.tree).place)) (decided (answer_to_lem s) e) (run_behind s f.tree (follows s f)))
 
@@ -119,34 +122,35 @@ decides s = (computes (λ u d. (derived_front u d).0) s, λ r h. one_answer h (c
 
 -- Q-7 ------------------------------------------------------------------------------------------------------------------------------------------------
 
-not_refused : (v n : Token) (m p : ℕ) → version_and_name v n ≡ Refused m p → ⊥
+not_refused : (v n : Token) (m p : ℕ) → version_and_name v n ≡ refusing m p → ⊥
 unfolding version_and_name
 not_refused v n m p e = let z : ◌≡◌ {A = ℕ} 0 1 = cc in omega arith
 
-other_number : (a : StageAnswer) (p : ℕ) → Refused (number_of a) (place_of a) ≡ Refused 6 p → ⊥
+other_number : (a : StageAnswer) (p : ℕ) → refusing {A = VersionAndName} (number_of a) (place_of a) ≡ refusing 6 p → ⊥
 unfolding number_of
-other_number Passes p e = let z : ◌≡◌ {A = ℕ} 0 6 = cc in omega arith
-other_number (NoToken q) p e = let z : ◌≡◌ {A = ℕ} 3 6 = cc in omega arith
-other_number (NotAdmitted q) p e = let z : ◌≡◌ {A = ℕ} 4 6 = cc in omega arith
-other_number (TooDeep q) p e = let z : ◌≡◌ {A = ℕ} 5 6 = cc in omega arith
+other_number (Ok _) p e = let z : ◌≡◌ {A = ℕ} 0 6 = number_is e in omega arith
+other_number (Err (NoToken q)) p e = let z : ◌≡◌ {A = ℕ} 3 6 = number_is e in omega arith
+other_number (Err (NotAdmitted q)) p e = let z : ◌≡◌ {A = ℕ} 4 6 = number_is e in omega arith
+other_number (Err (TooDeep q)) p e = let z : ◌≡◌ {A = ℕ} 5 6 = number_is e in omega arith
 
 -- What the rules answer is the one answer of the rules.
-the_only : {s : List ℕ} (n p m q : ℕ) → Reads s (is_refused n p) → Refused n p ≡ Refused m q → TheAnswer s (is_refused m q)
+the_only : {s : List ℕ} (n p m q : ℕ) → Reads s (is_refused n p) → refusing {A = VersionAndName} n p ≡ refusing m q → TheAnswer s (is_refused m q)
 the_only {s} n p m q h e =
-    let x : n ≡ m = cc in
-    let y : p ≡ q = cc in
+    let x : n ≡ m = number_is e in
+    let y : p ≡ q = place_is e in
     let g : Reads s (is_refused m q) = subst (λ (i : ℕ). Reads s (is_refused i q)) x (subst (λ (i : ℕ). Reads s (is_refused n i)) y h) in
     record { given = g; no_other = λ b k. sym (one-reading k) ∙ one-reading g }
 
 -- The bytes told of the version stand in quotes.
-quotes : {s : List ℕ} {r : Answer} → Heads s r → (p n q m : ℕ) → r ≡ VersionAndName p n q m → InQuotes s (p - 1) (p + n + 1)
+quotes : {s : List ℕ} {r : Answer} → Heads s r → (p n q m : ℕ) → r ≡ heading_at p n q m → InQuotes s (p - 1) (p + n + 1)
 unfolding version_and_name
 quotes (too_long h) p n q m e = absurd (let z : ◌≡◌ {A = ℕ} 0 1 = cc in omega arith)
 quotes {s} (headed l f) p n q m e =
     let w = version_quoted s f in
     let v : Token = string_in f.tree in
-    let x : v.place + 1 ≡ p = cc in
-    let y : v.length - 2 ≡ n = cc in
+    let o : told_at (v.place + 1) (v.length - 2) (name_in f.tree).place (name_in f.tree).length ≡ told_at p n q m = ok_is e in
+    let x : v.place + 1 ≡ p = ap (λ (i : VersionAndName). i.version_at) o in
+    let y : v.length - 2 ≡ n = ap (λ (i : VersionAndName). i.version_len) o in
     let long = w.long in
     let a : v.place ≡ p - 1 = omega arith in
     let b : v.place + v.length ≡ p + n + 1 = omega arith in
@@ -165,7 +169,7 @@ q_7 s r (too_long h) =
       otherwise = λ l. absurd (omega arith);
       as_read = λ n p e. the_only 2 0 n p (reads-too-long h) e;
       no_brace = λ n p l. absurd (omega arith);
-      never_6 = λ p e. let z : ◌≡◌ {A = ℕ} 2 6 = cc in omega arith;
+      never_6 = λ p e. let z : ◌≡◌ {A = ℕ} 2 6 = number_is e in omega arith;
     }
 q_7 s r (headed l f) =
     record {
@@ -186,7 +190,7 @@ q_7 s r (refused l n a p e) =
       from_front = λ u q h k w y. absurd (n w.front);
       first = λ h. absurd (omega arith);
       derives = λ _ d. absurd (n (derived_front s d).0);
-      that_same = λ _ b e' _ _. ap (λ (x : StageAnswer). Refused (number_of x) (place_of x)) (decided e e');
+      that_same = λ _ b e' _ _. ap (λ (x : StageAnswer). refusing (number_of x) (place_of x)) (decided e e');
       later = behind_brace s;
       otherwise = λ _ f. absurd (n f);
       as_read = λ i q g. the_only (number_of a) (place_of a) i q (not_grammar a l p e) g;

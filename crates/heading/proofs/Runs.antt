@@ -9,8 +9,9 @@ use Rattle.grammar.specs.Grammar.{Terminal, Token, Class, Trees, nil, leaf, node
 use Rattle.grammar.specs.Factored.{Nonterminal, paper, Symbols, lift, ◌⟹◌, keep, kept, choices, by}
 use Rattle.grammar.proofs.Checks.{takes}
 use Rattle.grammar.specs.Machine.{nullable, nullable_form, starts, feed, Stream, ended, bad, ◌▹◌, prepend, opened, deeper, deeper_by, at_end, next, run}
-use Rattle.grammar.specs.declared.Answer.{Answer}
-use Rattle.grammar.specs.declared.Answer.TheVariants.{Passes, NoToken, NotAdmitted, TooDeep}
+use Rattle.grammar.specs.Answered.{Answer}
+use Rattle.std.specs.Prelude.{Ok, Err}
+use Rattle.grammar.specs.declared.Refusal.TheVariants.{NoToken, NotAdmitted, TooDeep}
 use Rattle.grammar.proofs.Uniqueness.{takes_tok}
 use Rattle.grammar.proofs.Braces.{terminal_code, opening, closing, agree, true_T}
 use Rattle.grammar.proofs.Steps.{when, feed_tok, feed_enter, feed_only, run_pass, starts_any, any_takes}
@@ -106,10 +107,10 @@ Late e (t ▹ u) = (e ≤ t.place) × Late e u
 
 -- Nor does what is answered.
 abbrev pub Behind : ℕ → Answer → Type 0
-Behind e Passes = Unit {0}
-Behind e (NoToken p) = e ≤ p
-Behind e (NotAdmitted p) = e ≤ p
-Behind e (TooDeep p) = e ≤ p
+Behind e (Ok _) = Unit {0}
+Behind e (Err (NoToken p)) = e ≤ p
+Behind e (Err (NotAdmitted p)) = e ≤ p
+Behind e (Err (TooDeep p)) = e ≤ p
 
 pub run_late : (e : ℕ) (u : Stream) → Late e u → (d : ℕ) (k : Symbols) → Behind e (run d k u)
 unfolding run at_end next

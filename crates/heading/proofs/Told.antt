@@ -10,8 +10,9 @@ use Rattle.grammar.specs.Stage.{number_of, place_of}
 use Rattle.grammar.specs.Factored.{lift}
 use Rattle.grammar.specs.Readers.{class_at, look_at, refusal, expected, seen, answer_of, Meets}
 use Rattle.grammar.specs.declared.Look.{Look}
-use Rattle.grammar.specs.declared.Answer.{Answer}
-use Rattle.grammar.specs.declared.Answer.TheVariants.{Passes, NoToken, NotAdmitted, TooDeep}
+use Rattle.grammar.specs.Answered.{Answer}
+use Rattle.std.specs.Prelude.{Ok, Err}
+use Rattle.grammar.specs.declared.Refusal.TheVariants.{NoToken, NotAdmitted, TooDeep}
 use Rattle.grammar.proofs.Codes.{not_code}
 use Rattle.grammar.proofs.Meeting.{◌⊳◌, not_taken}
 use Rattle.grammar.proofs.Terminals.{oil_version_is, equals_is, string_is, implementation_is}
@@ -19,7 +20,8 @@ use Rattle.grammar.proofs.Rules.{version_by, implementation_by, file_by}
 use Rattle.grammar.proofs.Lookaheads.{answer_no_token, answer_not_admitted, answer_too_deep}
 use Rattle.grammar.proofs.Answering.{stage_answers}
 use Rattle.heading.specs.Headings.{Front, name_in, version_and_name, Heads, headed, refused}
-use Rattle.heading.specs.declared.Answer.TheVariants.{VersionAndName, Refused}
+use Rattle.heading.specs.Answered.{heading_at}
+use Rattle.rows.specs.Refusing.{refusing}
 use Rattle.heading.proofs.Looks.{look_fits, look_string, refusal_high, expected_look, sticky}
 use Rattle.heading.proofs.Fronts.{looked, no_front}
 use Rattle.heading.proofs.Places.{follows}
@@ -67,7 +69,7 @@ module _ {s : List ℕ} {a b c d e f g : Look} (w : Ahead s a b c d e f g) where
         let p = expected_look 7 refl refl s e f w.implemented f_low in
         subst (λ (l : Look). l.at ≤ l.next) (sym p.1) (look_fits s e.next e.depth).0
 
-    pub told : length s ≤ 65535 → Heads s (VersionAndName (c.at + 1) ((c.next - c.at) - 2) f.at (f.next - f.at))
+    pub told : length s ≤ 65535 → Heads s (heading_at (c.at + 1) ((c.next - c.at) - 2) f.at (f.next - f.at))
     unfolding version_and_name seen
     told short =
         let v = looked s a c d e f g w.at_start (oil_version_is w.oil ⊳ equals_is w.equal) (string_is w.quoted) w.finished (implementation_is w.implemented) w.named h in
@@ -92,18 +94,18 @@ module _ {s : List ℕ} {a b c d e f g : Look} (w : Ahead s a b c d e f g) where
         (version_by (oil_version_is w.oil ⊳ equals_is w.equal ⊳ string_is w.quoted ⊳ w.finished) ⊳ implementation_is w.implemented ⊳ w.named)
         h t.tree (follows s t)
 
-    by_answer : length s ≤ 65535 → (n : Answer) → n ≡ answer_of r → (n ≡ Passes → ⊥) → Heads s (Refused (number_of n) (place_of n))
+    by_answer : length s ≤ 65535 → (n : Answer) → n ≡ answer_of r → (n ≡ Ok tt → ⊥) → Heads s (refusing (number_of n) (place_of n))
     by_answer short n e p = refused short none n p (stage_answers s a r n w.at_start whole e)
 
-    pub told_3 : length s ≤ 65535 → r.code ≡ 59 → Heads s (Refused 3 r.at)
+    pub told_3 : length s ≤ 65535 → r.code ≡ 59 → Heads s (refusing 3 r.at)
     unfolding number_of place_of
-    told_3 short z = by_answer short (NoToken r.at) (answer_no_token r (omega (arith, r_high)) z) (λ y. let x : ◌≡◌ {A = ℕ} 0 1 = cc in omega arith)
+    told_3 short z = by_answer short (Err (NoToken r.at)) (answer_no_token r (omega (arith, r_high)) z) (λ y. let x : ◌≡◌ {A = ℕ} 0 1 = cc in omega arith)
 
-    pub told_4 : length s ≤ 65535 → r.code ≡ 60 → Heads s (Refused 4 r.at)
+    pub told_4 : length s ≤ 65535 → r.code ≡ 60 → Heads s (refusing 4 r.at)
     unfolding number_of place_of
-    told_4 short z = by_answer short (NotAdmitted r.at) (answer_not_admitted r (omega (arith, r_high)) z) (λ y. let x : ◌≡◌ {A = ℕ} 0 1 = cc in omega arith)
+    told_4 short z = by_answer short (Err (NotAdmitted r.at)) (answer_not_admitted r (omega (arith, r_high)) z) (λ y. let x : ◌≡◌ {A = ℕ} 0 1 = cc in omega arith)
 
-    pub told_5 : length s ≤ 65535 → (r.code ≡ 59 → ⊥) → (r.code ≡ 60 → ⊥) → Heads s (Refused 5 r.at)
+    pub told_5 : length s ≤ 65535 → (r.code ≡ 59 → ⊥) → (r.code ≡ 60 → ⊥) → Heads s (refusing 5 r.at)
     unfolding number_of place_of
     told_5 short z₃ z₄ =
-        by_answer short (TooDeep r.at) (answer_too_deep r (λ y. omega (arith, r_high)) (omega (arith, r_high)) z₃ z₄) (λ y. let x : ◌≡◌ {A = ℕ} 0 1 = cc in omega arith)
+        by_answer short (Err (TooDeep r.at)) (answer_too_deep r (λ y. omega (arith, r_high)) (omega (arith, r_high)) z₃ z₄) (λ y. let x : ◌≡◌ {A = ℕ} 0 1 = cc in omega arith)

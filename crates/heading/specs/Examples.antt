@@ -1,16 +1,16 @@
 -- Examples to each sentence of Q-7 (document 02), with the bytes that are told: `Hold examples`, which proofs/Examples has. Assumes nothing.
-use Rattle.std.specs.Prelude.{◌≡◌, List, [], ◌∷◌, ◌++◌, ℕ, ◌<◌, length}
+use Rattle.std.specs.Prelude.{◌≡◌, List, [], ◌∷◌, ◌++◌, ℕ, ◌<◌, length, Ok, Err}
 use Prim.Native.String.{String as Literal}
 use Rattle.token.specs.Words.{bytes_of}
 use Rattle.token.specs.Tokens.{part_of}
 use Rattle.heading.specs.Headings.{Heads}
-use Rattle.heading.specs.declared.Answer.{Answer}
-use Rattle.heading.specs.declared.Answer.TheVariants.{VersionAndName, Refused}
+use Rattle.heading.specs.Answered.{Answer, heading_at}
+use Rattle.rows.specs.Refusing.{refusing}
 
 -- The parts of a text that an answer tells.
 unfoldable pub parts_told : List ℕ → Answer → List (List ℕ)
-parts_told s (VersionAndName p n q m) = part_of s p n ∷ part_of s q m ∷ []
-parts_told s (Refused n p) = []
+parts_told s (Ok h) = part_of s h.version_at h.version_len ∷ part_of s h.name_at h.name_len ∷ []
+parts_told s (Err r) = []
 
 -- A text, the answer to it, and the version and name that it tells.
 pub record Example : Type 0 where
@@ -31,10 +31,10 @@ Hold [] = Unit {0}
 Hold (e ∷ es) = Holds e × Hold es
 
 abbrev answered : Literal → (p n q m : ℕ) → Literal → Literal → Example
-answered t p n q m v i = record { text = t; answer = VersionAndName p n q m; told = v ∷ i ∷ [] }
+answered t p n q m v i = record { text = t; answer = heading_at p n q m; told = v ∷ i ∷ [] }
 
 abbrev not_answered : Literal → (n p : ℕ) → Example
-not_answered t n p = record { text = t; answer = Refused n p; told = [] }
+not_answered t n p = record { text = t; answer = refusing n p; told = [] }
 
 abbrev pub examples : List Example
 examples =
@@ -61,4 +61,4 @@ ExamplesHold = Hold examples
 
 -- "Refusal 2 comes first.": a heading stands in front.
 abbrev pub LongText : Type 0
-LongText = (b : List ℕ) → 65535 < length b → Heads (bytes_of "OIL_VERSION = \"2.5\"; IMPLEMENTATION m {" ++ b) (Refused 2 0)
+LongText = (b : List ℕ) → 65535 < length b → Heads (bytes_of "OIL_VERSION = \"2.5\"; IMPLEMENTATION m {" ++ b) (refusing 2 0)

@@ -1,4 +1,5 @@
 -- What Q-7 of document 02 asks and promises. Assumes nothing.
+pub mod Answered
 pub mod Headings
 pub mod Promises
 pub mod Examples

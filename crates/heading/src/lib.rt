@@ -8,23 +8,27 @@ use grammar::lookahead::{
     EQUALS, IMPLEMENTATION, LBRACE, NO_TOKEN, NOT_ADMITTED, OIL_VERSION, QUOTED,
 };
 use grammar::{lookahead, parts};
-use rows::refusals;
+use rows::{Fault, refusals};
 
-#[derive(Clone, Copy)]
-pub enum Answer {
-    // The version string without its quotes, and the implementation's name: place and length of each.
-    VersionAndName(usize, usize, usize, usize),
-    // One of the refusals 2 to 5, and its place.
-    Refused(u8, usize),
+// The version string without its quotes, and the implementation's name: place and length of each.
+#[derive(Clone, Copy, Debug, PartialEq, Eq)]
+pub struct VersionAndName {
+    pub version_at: usize,
+    pub version_len: usize,
+    pub name_at: usize,
+    pub name_len: usize,
 }
 
-// OIL_VERSION `=` string D `;` IMPLEMENTATION name `{`: no byte after the brace is looked at.
-pub fn heading(text: &[u8]) -> Answer
+// OIL_VERSION `=` string D `;` IMPLEMENTATION name `{`: no byte after the brace is looked at. What is refused has one of the numbers 2 to 5.
+pub fn heading(text: &[u8]) -> Result<VersionAndName, Fault>
     ensures heads { Heads text.now result }
     ensures q_7 { Q-7 text.now result }
 {
     if text.len() > token::LONGEST {
-        return Answer::Refused(refusals::LONG_TEXT, 0);
+        return Err(Fault {
+            number: refusals::LONG_TEXT,
+            place: 0,
+        });
     }
     let a = lookahead::look_at(text, 0, 0);
     let b = lookahead::expect(text, a, OIL_VERSION);
@@ -34,17 +38,29 @@ pub fn heading(text: &[u8]) -> Answer
     let f = lookahead::expect(text, e, IMPLEMENTATION);
     let g = lookahead::expect_name(text, f);
     if g.code == LBRACE {
-        let place = c.at + 1;
-        let length = c.next - c.at - 2;
-        let name_length = f.next - f.at;
-        return Answer::VersionAndName(place, length, f.at, name_length);
+        let told = VersionAndName {
+            version_at: c.at + 1,
+            version_len: c.next - c.at - 2,
+            name_at: f.at,
+            name_len: f.next - f.at,
+        };
+        return Ok(told);
     }
     let h = lookahead::refuse(g);
     if h.code == NO_TOKEN {
-        return Answer::Refused(refusals::NO_TOKEN, h.at);
+        return Err(Fault {
+            number: refusals::NO_TOKEN,
+            place: h.at,
+        });
     }
     if h.code == NOT_ADMITTED {
-        return Answer::Refused(refusals::NOT_ADMITTED, h.at);
+        return Err(Fault {
+            number: refusals::NOT_ADMITTED,
+            place: h.at,
+        });
     }
-    Answer::Refused(refusals::TOO_DEEP, h.at)
+    Err(Fault {
+        number: refusals::TOO_DEEP,
+        place: h.at,
+    })
 }

@@ -13,19 +13,21 @@ use Rattle.meaning.specs.Actions.{syntax}
 use Rattle.meaning.specs.Answers.{refused as is_refused}
 use Rattle.heading.specs.Headings.{Front, version_and_name, string_in, name_in, answer_in, Heads, too_long as heads-too-long, headed as heads-headed, refused as heads-refused}
 use Rattle.heading.specs.Promises.{Q-7, token_of_word, its_version_and_name, InQuotes}
-use Rattle.heading.specs.declared.Answer.{Answer}
-use Rattle.heading.specs.declared.Answer.TheVariants.{VersionAndName, Refused}
+use Rattle.heading.specs.Answered.{Answer, told_at, heading_at}
+use Rattle.rows.specs.Refusing.{refusing}
+use Rattle.std.specs.Prelude.{Result, Ok, Err}
 use Rattle.heading.proofs.Promises.{q_7, behind_brace}
 use Rattle.sources.specs.Expanding.{expanded, expansion_of}
 use Rattle.sources_reading.specs.Answering.{text, found}
 use Rattle.sources_reading.proofs.Answered.{within}
 use Rattle.placing.specs.Placed.{place_in}
 use Rattle.lent_texts.specs.Answered.{place_of, TheAnswer, FaultNumber, no_fault, no_token, still_open, not_lent, other_hash}
-use Rattle.lent_texts.specs.Expanded.{refusal_at, refusal_in, Rooms, Filled, Holds, ExpandsTexts}
+use Rattle.lent_texts.specs.Expanded.{refusal_at, refusal_in, Rooms, Filled, Holds, ExpandsTexts, Lent}
 use Rattle.lent_texts.specs.declared.Expanded.{Expanded}
-use Rattle.lent_texts.specs.declared.Refusal.{Refusal}
-use Rattle.lent_texts.specs.declared.Lent.{Lent}
-use Rattle.lent_texts.specs.declared.Lent.TheVariants.{Stopped, Text}
+use Rattle.rows.specs.Refusing.{fault_at}
+use Rattle.rows.specs.declared.Fault.{Fault}
+use Rattle.rows.proofs.Refusing.{ok_is, number_is, place_is}
+use Rattle.heading.specs.declared.VersionAndName.{VersionAndName}
 use Rattle.lent_texts.proofs.Told.{AtOnce, by_1, by_30, at_once, There, there, answered_refused, thirty_answer, one_told}
 use Rattle.lent_texts.proofs.Numbers.{fault_numbers}
 use Rattle.heading_texts.specs.Headings.{placed_heading, TextsHead, too_long, headed, refused, HeadsTexts, short_rooms, by_rules, told_in, HeadsExpanded}
@@ -33,23 +35,22 @@ use Rattle.heading_texts.specs.Promises.{Quoted, Q-7-Texts}
 
 -- ---- the inner function
 
-pub names_expanded : {s g : List ℕ} {e : Expanded} {a : Answer} {p n q m p' q' : ℕ} → Heads s a → a ≡ VersionAndName p n q m →
-    p' ≡ place_in g e.length e.main p → q' ≡ place_in g e.length e.main q → HeadsExpanded s g e (VersionAndName p' n q' m)
+pub names_expanded : {s g : List ℕ} {e : Expanded} {a : Answer} {o : VersionAndName} {p q : ℕ} → Heads s a → a ≡ Ok o →
+    p ≡ place_in g e.length e.main o.version_at → q ≡ place_in g e.length e.main o.name_at → HeadsExpanded s g e (heading_at p o.version_len q o.name_len)
 unfolding told_in
-names_expanded {g = g} {e = e} {a = a} {p} {n} {q} {m} {p'} {q'} h i j k =
-    record { in_expanded = a; heads = h; told = ap₂ (λ (x y : ℕ). VersionAndName x n y m) j k ∙ ap (told_in g e) (sym i) }
+names_expanded {g = g} {e = e} {a = a} {o} h i j k =
+    record { in_expanded = a; heads = h; told = ap₂ (λ (x y : ℕ). heading_at x o.version_len y o.name_len) j k ∙ ap (told_in g e) (sym i) }
 
-pub refuses_expanded : {s g : List ℕ} {e : Expanded} {a : Answer} {n p : ℕ} {r : Refusal} → Heads s a → a ≡ Refused n p → r ≡ refusal_in g e n p →
-    HeadsExpanded s g e (Refused r.number r.place)
+pub refuses_expanded : {s g : List ℕ} {e : Expanded} {a : Answer} {f r : Fault} → Heads s a → a ≡ Err f → r ≡ refusal_in g e f.number f.place →
+    HeadsExpanded s g e (Err r)
 unfolding told_in
-refuses_expanded {g = g} {e = e} {a = a} h i j =
-    record { in_expanded = a; heads = h; told = ap (λ (y : Refusal). Refused y.number y.place) j ∙ ap (told_in g e) (sym i) }
+refuses_expanded {g = g} {e = e} {a = a} h i j = record { in_expanded = a; heads = h; told = ap Err j ∙ ap (told_in g e) (sym i) }
 
 -- ---- the expanded text
 
 version_placed : {b l x g : List ℕ} {e : Expanded} (v n : Token) → Holds b l x g e → told_in g e (version_and_name v n) ≡ placed_heading (place_of b l) (version_and_name v n)
 unfolding told_in placed_heading version_and_name
-version_placed v n k = ap₂ (λ (y z : ℕ). VersionAndName y (v.length - 2) z n.length) (k.place (v.place + 1)) (k.place n.place)
+version_placed v n k = ap₂ (λ (y z : ℕ). heading_at y (v.length - 2) z n.length) (k.place (v.place + 1)) (k.place n.place)
 
 six_number : (k f : ℕ) → (k ≡ 6 → ⊥) → FaultNumber f → pick (eqb k 3) f k ≡ 6 → ⊥
 six_number k f n h e =
@@ -73,50 +74,49 @@ module _ {b l x g : List ℕ} {e : Expanded} (k : Holds b l x g e) where
       subst (TextsHead b l) (sym (q ∙ version_placed (string_in f.tree) (name_in f.tree) k)) (headed k.within f)
   head_of _ r (heads-refused h n a i j) q =
       let w = heads-refused h n a i j in
-      let t = (q_7 (text b l) (Refused (number_of a) (stage_place a)) w).as_read (number_of a) (stage_place a) refl in
+      let t = (q_7 (text b l) (refusing (number_of a) (stage_place a)) w).as_read (number_of a) (stage_place a) refl in
       let u = refusal_in g e (number_of a) (stage_place a) in
       subst (TextsHead b l) (sym q) (refused k.within n u.number u.place (answered_refused (number_of a) (stage_place a) k t u refl))
 
-  quoted_by : (a r : Answer) → Q-7 (text b l) a → r ≡ told_in g e a → (p n q m : ℕ) → r ≡ VersionAndName p n q m → Quoted b l p n
+  quoted_by : (a r : Answer) → Q-7 (text b l) a → r ≡ told_in g e a → (p n q m : ℕ) → r ≡ heading_at p n q m → Quoted b l p n
   unfolding told_in
-  quoted_by (Refused i j) r w z p n q m y = absurd (let c = sym z ∙ y in let d : ◌≡◌ {A = ℕ} 0 1 = cc in omega arith)
-  quoted_by (VersionAndName p₀ n₀ q₀ m₀) r w z p n q m y =
-      let c = sym z ∙ y in
-      let i : place_in g e.length e.main p₀ ≡ p = cc in
-      let j : n₀ ≡ n = cc in
+  quoted_by (Err x) r w z p n q m y = absurd (let c = sym z ∙ y in let d : ◌≡◌ {A = ℕ} 0 1 = cc in omega arith)
+  quoted_by (Ok h) r w z p n q m y =
+      let o : told_at (place_in g e.length e.main h.version_at) h.version_len (place_in g e.length e.main h.name_at) h.name_len ≡ told_at p n q m = ok_is (sym z ∙ y) in
+      let i : place_in g e.length e.main h.version_at ≡ p = ap (λ (v : VersionAndName). v.version_at) o in
+      let j : h.version_len ≡ n = ap (λ (v : VersionAndName). v.version_len) o in
       record {
-        at = p₀;
-        placed = sym i ∙ k.place p₀;
-        in_quotes = subst (λ (o : ℕ). InQuotes (text b l) (p₀ - 1) (p₀ + o + 1)) j (w.without_quotes p₀ n₀ q₀ m₀ refl);
+        at = h.version_at;
+        placed = sym i ∙ k.place h.version_at;
+        in_quotes = subst (λ (o : ℕ). InQuotes (text b l) (h.version_at - 1) (h.version_at + o + 1)) j (w.without_quotes h.version_at h.version_len h.name_at h.name_len refl);
       }
 
-  read_by : (a r : Answer) → Q-7 (text b l) a → r ≡ told_in g e a → (n p : ℕ) → r ≡ Refused n p → TheAnswer b l (is_refused n p)
+  read_by : (a r : Answer) → Q-7 (text b l) a → r ≡ told_in g e a → (n p : ℕ) → r ≡ refusing n p → TheAnswer b l (is_refused n p)
   unfolding told_in
-  read_by (VersionAndName p₀ n₀ q₀ m₀) r w z n p y = absurd (let c = sym z ∙ y in let d : ◌≡◌ {A = ℕ} 0 1 = cc in omega arith)
-  read_by (Refused i j) r w z n p y =
-      let u = refusal_in g e i j in
-      let c : Refused u.number u.place ≡ Refused n p = sym z ∙ y in
-      let s : u.number ≡ n = cc in
-      let t : u.place ≡ p = cc in
-      subst (λ (o : ℕ). TheAnswer b l (is_refused o p)) s (subst (λ (o : ℕ). TheAnswer b l (is_refused u.number o)) t (answered_refused i j k (w.as_read i j refl) u refl))
+  read_by (Ok h) r w z n p y = absurd (let c = sym z ∙ y in let d : ◌≡◌ {A = ℕ} 0 1 = cc in omega arith)
+  read_by (Err x) r w z n p y =
+      let u = refusal_in g e x.number x.place in
+      let c : refusing {A = VersionAndName} u.number u.place ≡ refusing n p = sym z ∙ y in
+      let s : u.number ≡ n = number_is c in
+      let t : u.place ≡ p = place_is c in
+      subst (λ (o : ℕ). TheAnswer b l (is_refused o p)) s (subst (λ (o : ℕ). TheAnswer b l (is_refused u.number o)) t (answered_refused x.number x.place k (w.as_read x.number x.place refl) u refl))
 
-  six_by : (a r : Answer) → Q-7 (text b l) a → r ≡ told_in g e a → (p : ℕ) → r ≡ Refused 6 p → ⊥
+  six_by : (a r : Answer) → Q-7 (text b l) a → r ≡ told_in g e a → (p : ℕ) → r ≡ refusing 6 p → ⊥
   unfolding told_in refusal_at refusal_in
-  six_by (VersionAndName p₀ n₀ q₀ m₀) r w z p y = let c = sym z ∙ y in let d : ◌≡◌ {A = ℕ} 0 1 = cc in omega arith
-  six_by (Refused i j) r w z p y =
-      let c = sym z ∙ y in
-      let d : pick (eqb i 3) e.fault i ≡ 6 = cc in
-      six_number i e.fault (λ f. w.never_6 j (ap (λ (o : ℕ). Refused o j) f)) (subst FaultNumber (sym k.fault) (fault_numbers b l)) d
+  six_by (Ok h) r w z p y = let c = sym z ∙ y in let d : ◌≡◌ {A = ℕ} 0 1 = cc in omega arith
+  six_by (Err x) r w z p y =
+      let d : pick (eqb x.number 3) e.fault x.number ≡ 6 = number_is (sym z ∙ y) in
+      six_number x.number e.fault (λ f. w.never_6 x.place (ap (λ (o : ℕ). refusing {A = VersionAndName} o x.place) f)) (subst FaultNumber (sym k.fault) (fault_numbers b l)) d
 
-  same_by : (a r : Answer) → Q-7 (text b l) a → r ≡ told_in g e a → (i j : ℕ) → a ≡ Refused i j → (n p : ℕ) → TheAnswer b l (is_refused n p) → r ≡ Refused n p
+  same_by : (a r : Answer) → Q-7 (text b l) a → r ≡ told_in g e a → (i j : ℕ) → a ≡ refusing i j → (n p : ℕ) → TheAnswer b l (is_refused n p) → r ≡ refusing n p
   unfolding told_in
   same_by a r w z i j y n p t =
       let u = refusal_in g e i j in
-      let c : r ≡ Refused u.number u.place = z ∙ ap (told_in g e) y in
+      let c : r ≡ refusing u.number u.place = z ∙ ap (told_in g e) y in
       let d : is_refused u.number u.place ≡ is_refused n p = one_told (read_by a r w z u.number u.place c) t in
       let f : u.number ≡ n = cc in
       let h : u.place ≡ p = cc in
-      c ∙ ap₂ Refused f h
+      c ∙ ap₂ (refusing {A = VersionAndName}) f h
 
   q_7_by : (a r : Answer) → Q-7 (text b l) a → r ≡ told_in g e a → Q-7-Texts b l r
   unfolding its_version_and_name token_of_word
@@ -137,7 +137,7 @@ module _ {b l x g : List ℕ} {e : Expanded} (k : Holds b l x g e) where
 abbrev Both : (b l x g x' g' : List ℕ) → Answer → Type 0
 Both b l x g x' g' r = HeadsTexts b l x g x' g' r × (Rooms x g → Q-7-Texts b l r)
 
-thirty : (b l : List ℕ) → (expansion_of b l).number ≡ 30 → Q-7-Texts b l (Refused 30 0)
+thirty : (b l : List ℕ) → (expansion_of b l).number ≡ 30 → Q-7-Texts b l (refusing 30 0)
 thirty b l n =
     record {
       without_quotes = λ p i q m e. absurd (let z : ◌≡◌ {A = ℕ} 0 1 = cc in omega arith);
@@ -147,21 +147,21 @@ thirty b l n =
       later = behind_brace (text b l);
       otherwise = λ u. absurd (u n);
       as_read = λ i p e.
-          let s : 30 ≡ i = cc in
-          let t : 0 ≡ p = cc in
+          let s : 30 ≡ i = number_is e in
+          let t : 0 ≡ p = place_is e in
           subst (λ (o : ℕ). TheAnswer b l (is_refused o p)) s (subst (λ (o : ℕ). TheAnswer b l (is_refused 30 o)) t (thirty_answer b l n));
-      never_6 = λ p e. let z : ◌≡◌ {A = ℕ} 30 6 = cc in omega arith;
+      never_6 = λ p e. let z : ◌≡◌ {A = ℕ} 30 6 = number_is e in omega arith;
     }
 
-once : {b l x g x' g' : List ℕ} (n : ℕ) → AtOnce b l x g x' g' n → Both b l x g x' g' (Refused n 0)
-once n (by_1 h i j k) = (short_rooms h (ap (λ (o : ℕ). Refused o 0) i) j k, λ r. absurd (h r))
+once : {b l x g x' g' : List ℕ} (n : Fault) → AtOnce b l x g x' g' n → Both b l x g x' g' (Err n)
+once n (by_1 h i j k) = (short_rooms h (ap Err i) j k, λ r. absurd (h r))
 once {b} {l} {x} {g} {x'} {g'} n (by_30 h i j k f) =
-    subst (λ (o : ℕ). Both b l x g x' g' (Refused o 0)) (sym i) (by_rules h (too_long j) f, λ _. thirty b l j)
+    subst (λ (o : Fault). Both b l x g x' g' (Err o)) (sym i) (by_rules h (too_long j) f, λ _. thirty b l j)
 
-pub stopped_heads : {b l x g x' g' : List ℕ} {r : Lent} (n : ℕ) → ExpandsTexts b l x g x' g' r → r ≡ Stopped n → Both b l x g x' g' (Refused n 0)
-stopped_heads n u q = once n (at_once n u q)
+pub stopped_heads : {b l x g x' g' : List ℕ} {r : Lent} {n : Fault} {a : Answer} → ExpandsTexts b l x g x' g' r → r ≡ Err n → a ≡ Err n → Both b l x g x' g' a
+stopped_heads {b} {l} {x} {g} {x'} {g'} {n = n} u q z = subst (Both b l x g x' g') (sym z) (once n (at_once n u q))
 
-pub text_heads : {b l x g x' g' : List ℕ} {r : Lent} {e : Expanded} {a : Answer} → ExpandsTexts b l x g x' g' r → r ≡ Text e →
+pub text_heads : {b l x g x' g' : List ℕ} {r : Lent} {e : Expanded} {a : Answer} → ExpandsTexts b l x g x' g' r → r ≡ Ok e →
     HeadsExpanded (take e.length x') g' e a → Both b l x g x' g' a
 text_heads {b} {l} {e = e} {a = a} u q w =
     let t = there e u q in

@@ -5,24 +5,21 @@ ghost use Rattle.lent_texts.specs.Expanded.{Rooms};
 ghost use Rattle.heading_texts.specs.Headings.{HeadsExpanded, HeadsTexts};
 ghost use Rattle.heading_texts.specs.Promises.{Q-7-Texts};
 
-use heading::Answer;
-use lent_texts::{Expanded, Lent};
+use heading::VersionAndName;
+use lent_texts::Expanded;
+use rows::Fault;
 
 // The answer to the expanded text, with its places in the lent texts.
-fn heading_expanded(text: &[u8], origins: &[usize], e: Expanded) -> Answer
+fn heading_expanded(text: &[u8], origins: &[usize], e: Expanded) -> Result<VersionAndName, Fault>
     ensures { HeadsExpanded text.now origins.now e result }
 {
-    let answer = heading::heading(text);
-    match answer {
-        Answer::VersionAndName(place, length, name, name_length) => {
-            let p = placing::place_in(origins, e.length, e.main, place);
-            let q = placing::place_in(origins, e.length, e.main, name);
-            Answer::VersionAndName(p, length, q, name_length)
-        }
-        Answer::Refused(number, place) => {
-            let r = lent_texts::refused(origins, e, number, place);
-            Answer::Refused(r.number, r.place)
-        }
+    match heading::heading(text) {
+        Ok(h) => Ok(VersionAndName {
+            version_at: placing::place_in(origins, e.length, e.main, h.version_at),
+            name_at: placing::place_in(origins, e.length, e.main, h.name_at),
+            ..h
+        }),
+        Err(f) => Err(lent_texts::refused(origins, e, f)),
     }
 }
 
@@ -34,15 +31,12 @@ pub fn heading(
     lengths: &[usize],
     expanded: &mut [u8],
     origins: &mut [usize],
-) -> Answer
+) -> Result<VersionAndName, Fault>
     ensures heads { HeadsTexts buffer.now lengths.now expanded.old origins.old
         expanded.new origins.new result }
     ensures q_7 { Rooms expanded.old origins.old
         → Q-7-Texts buffer.now lengths.now result }
 {
-    let lent = lent_texts::expand(buffer, lengths, expanded, origins);
-    match lent {
-        Lent::Stopped(number) => Answer::Refused(number, 0),
-        Lent::Text(e) => heading_expanded(&expanded[..e.length], origins, e),
-    }
+    let e = lent_texts::expand(buffer, lengths, expanded, origins)?;
+    heading_expanded(&expanded[..e.length], origins, e)
 }

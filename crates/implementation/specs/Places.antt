@@ -1,5 +1,6 @@
 -- The kinds that an implementation specifies, with the places of their words, and its rows. Assumes nothing.
-use Rattle.std.specs.Prelude.{◌≡◌, List, [], ◌∷◌, ℕ, ◌-◌, get_or, set, eqb}
+use Rattle.std.specs.Prelude.{◌≡◌, List, [], ◌∷◌, ℕ, ◌-◌, get_or, set, eqb, Option, Some}
+use Rattle.std.specs.Option.{option_or}
 use Rattle.filling.specs.Tables.{Table}
 use Rattle.token.specs.Find.{pick}
 use Rattle.grammar.specs.declared.Look.{Look}
@@ -11,21 +12,17 @@ use Rattle.filling.specs.Fills.{Seen}
 use Rattle.definitions.specs.Rows.{Done, Fill, rows_of, choice_rows}
 use Rattle.definitions.specs.Parts.{Spanned}
 
--- What is noted of kinds: 1 for each that has come, the place of its first word; the place of the first word that came again, and 1 when one has.
+-- What is noted of kinds: 1 for each that has come, the place of its first word; the place of the first word that came again, if one has.
 pub record Noted : Type 0 where
   pub marks : List ℕ
   pub places : List ℕ
-  pub again : ℕ
-  pub found : ℕ
+  pub again : Option ℕ
 
 abbrev pub placed : List ℕ → ℕ → ℕ → ℕ → List ℕ
 placed places mark k p = pick (eqb mark 0) (set places k p) places
 
-abbrev pub again_after : ℕ → ℕ → ℕ → ℕ → ℕ
-again_after mark found again p = pick (eqb mark 0) again (pick (eqb found 0) p again)
-
-abbrev pub found_after : ℕ → ℕ → ℕ
-found_after mark found = pick (eqb mark 0) found 1
+abbrev pub again_after : ℕ → Option ℕ → ℕ → Option ℕ
+again_after mark again p = pick (eqb mark 0) again (option_or again (Some p))
 
 -- One more word of the kind with the number k, at p.
 unfoldable pub note : Noted → ℕ → ℕ → Noted
@@ -33,8 +30,7 @@ note x k p =
     record {
       marks = set x.marks k 1;
       places = placed x.places (get_or x.marks k 0) k p;
-      again = again_after (get_or x.marks k 0) x.found x.again p;
-      found = found_after (get_or x.marks k 0) x.found;
+      again = again_after (get_or x.marks k 0) x.again p;
     }
 
 unfoldable pub note_all : Noted → List (ℕ × ℕ) → Noted

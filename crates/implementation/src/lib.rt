@@ -5,7 +5,7 @@ ghost use Rattle.std.specs.Prelude.{◌≡◌, get_or, set, replicate};
 ghost use Rattle.grammar.specs.Grammar.{◌▸◌, ∎, spec, specs, implementation};
 ghost use Rattle.filling.specs.Fills.{Walks};
 ghost use Rattle.definitions.specs.Rows.{Fill};
-ghost use Rattle.implementation.specs.Places.{placed, again_after, found_after, SpecRows, AllRows, FillAll, ImplementationRows};
+ghost use Rattle.implementation.specs.Places.{placed, again_after, SpecRows, AllRows, FillAll, ImplementationRows};
 
 use definitions::{Spot, Under};
 use grammar::lookahead::{IMPLEMENTATION, LBRACE, RBRACE, SEMICOLON};
@@ -13,7 +13,8 @@ use grammar::{Look, lookahead, parts};
 use rows::counts;
 
 // A look, how many definitions and enumerators have been counted before it, and of each kind: 1 where it has come, the place of its word; the
-// place of the first kind's word that came again, and 1 where one has.
+// place of the first kind's word that came again, if one has. Marks stand beside places: what a walk tells has the places
+// alone, and one array of Options would be taken apart again for it.
 #[derive(Drop)]
 pub struct Specified {
     pub look: Look,
@@ -21,8 +22,7 @@ pub struct Specified {
     pub enumerators: usize,
     pub marks: [usize; counts::KINDS],
     pub places: [usize; counts::KINDS],
-    pub again: usize,
-    pub found: usize,
+    pub again: Option<usize>,
 }
 
 // With the place and length of the implementation.
@@ -35,17 +35,13 @@ pub struct Implemented {
     pub enumerators: usize,
     pub marks: [usize; counts::KINDS],
     pub places: [usize; counts::KINDS],
-    pub again: usize,
-    pub found: usize,
+    pub again: Option<usize>,
 }
 
 fn cell(cells: [usize; counts::KINDS], i: usize) -> usize
     ensures { result ≡ get_or cells i 0 }
 {
-    if counts::KINDS <= i {
-        return 0;
-    }
-    cells[i]
+    if counts::KINDS <= i { 0 } else { cells[i] }
 }
 
 fn with_cell(cells: [usize; counts::KINDS], i: usize, v: usize) -> [usize; counts::KINDS]
@@ -68,30 +64,16 @@ fn with_place(
     ensures { result ≡ placed places mark kind at }
 {
     if mark == 0 {
-        return with_cell(places, kind, at);
+        with_cell(places, kind, at)
+    } else {
+        places
     }
-    places
 }
 
-fn again_at(mark: usize, found: usize, again: usize, at: usize) -> usize
-    ensures { result ≡ again_after mark found again at }
+fn again_at(mark: usize, again: Option<usize>, at: usize) -> Option<usize>
+    ensures { result ≡ again_after mark again at }
 {
-    if mark == 0 {
-        return again;
-    }
-    if found == 0 {
-        return at;
-    }
-    again
-}
-
-fn found_by(mark: usize, found: usize) -> usize
-    ensures { result ≡ found_after mark found }
-{
-    if mark == 0 {
-        return found;
-    }
-    1
+    if mark == 0 { again } else { again.or(Some(at)) }
 }
 
 pub fn spec(text: &[u8], d: &mut [usize], e: &mut [usize], a: Look, n: usize, m: usize) -> Spot
@@ -109,7 +91,7 @@ pub fn spec(text: &[u8], d: &mut [usize], e: &mut [usize], a: Look, n: usize, m:
         m,
         Under {
             at: a.at,
-            len: len,
+            len,
             list: 0,
         },
     );
@@ -122,44 +104,40 @@ pub fn spec(text: &[u8], d: &mut [usize], e: &mut [usize], a: Look, n: usize, m:
 }
 
 pub fn specs(text: &[u8], d: &mut [usize], e: &mut [usize], from: Look) -> Specified
-    ensures { Walks FillAll 0 (specs ▸ ∎) (λ w x. AllRows w x.0) text.now from result.look (record { marks = replicate 13 0; places = replicate 13 0; again = 0; found = 0 }, ((d.old, 0), (e.old, 0))) (record { marks = result.marks; places = result.places; again = result.again; found = result.found }, ((d.new, result.definitions), (e.new, result.enumerators))) }
+    ensures { Walks FillAll 0 (specs ▸ ∎) (λ w x. AllRows w x.0) text.now from result.look (record { marks = replicate 13 0; places = replicate 13 0; again = None }, ((d.old, 0), (e.old, 0))) (record { marks = result.marks; places = result.places; again = result.again }, ((d.new, result.definitions), (e.new, result.enumerators))) }
 {
-    let mut a = from;
-    let mut n = 0;
-    let mut m = 0;
+    let mut spot = Spot {
+        look: from,
+        definitions: 0,
+        enumerators: 0,
+    };
     let mut marks = [0; counts::KINDS];
     let mut places = [0; counts::KINDS];
-    let mut again = 0;
-    let mut found = 0;
-    while lookahead::is_kind(a.code) {
-        let kind = filling::kind_number(a.code);
+    let mut again = None;
+    // A `while`: the look says whether another spec comes, so no range counts it.
+    while lookahead::is_kind(spot.look.code) {
+        let kind = filling::kind_number(spot.look.code);
         let mark = cell(marks, kind);
-        let p = with_place(places, mark, kind, a.at);
-        let g = again_at(mark, found, again, a.at);
-        let f = found_by(mark, found);
+        let p = with_place(places, mark, kind, spot.look.at);
+        let g = again_at(mark, again, spot.look.at);
         let q = with_cell(marks, kind, 1);
-        let y = spec(text, d, e, a, n, m);
         marks = q;
         places = p;
         again = g;
-        found = f;
-        a = y.look;
-        n = y.definitions;
-        m = y.enumerators;
+        spot = spec(text, d, e, spot.look, spot.definitions, spot.enumerators);
     }
     Specified {
-        look: a,
-        definitions: n,
-        enumerators: m,
-        marks: marks,
-        places: places,
-        again: again,
-        found: found,
+        look: spot.look,
+        definitions: spot.definitions,
+        enumerators: spot.enumerators,
+        marks,
+        places,
+        again,
     }
 }
 
 pub fn implementation(text: &[u8], d: &mut [usize], e: &mut [usize], a: Look) -> Implemented
-    ensures { Walks FillAll 1 (implementation ▸ ∎) (λ w x. ImplementationRows result.at result.len w x.0) text.now a result.look (record { marks = replicate 13 0; places = replicate 13 0; again = 0; found = 0 }, ((d.old, 0), (e.old, 0))) (record { marks = result.marks; places = result.places; again = result.again; found = result.found }, ((d.new, result.definitions), (e.new, result.enumerators))) }
+    ensures { Walks FillAll 1 (implementation ▸ ∎) (λ w x. ImplementationRows result.at result.len w x.0) text.now a result.look (record { marks = replicate 13 0; places = replicate 13 0; again = None }, ((d.old, 0), (e.old, 0))) (record { marks = result.marks; places = result.places; again = result.again }, ((d.new, result.definitions), (e.new, result.enumerators))) }
 {
     let b = lookahead::expect(text, a, IMPLEMENTATION);
     let c = lookahead::expect_name(text, b);
@@ -174,12 +152,11 @@ pub fn implementation(text: &[u8], d: &mut [usize], e: &mut [usize], a: Look) ->
     Implemented {
         look: i,
         at: a.at,
-        len: len,
+        len,
         definitions: x.definitions,
         enumerators: x.enumerators,
-        marks: marks,
-        places: places,
+        marks,
+        places,
         again: x.again,
-        found: x.found,
     }
 }

@@ -16,8 +16,7 @@ use Rattle.sources.specs.Expanding.{Piece, origin, onto, onto_part, stopped, ont
 use Rattle.sources.specs.declared.Line.{Line}
 use Rattle.sources.specs.declared.Stop.{Stop}
 use Rattle.sources.specs.declared.Stop.TheVariants.{At, Line as AtLine}
-use Rattle.sources.specs.declared.Hit.{Hit}
-use Rattle.sources.specs.declared.Hit.TheVariants.{Present, Absent}
+use Rattle.std.specs.Prelude.{Option, Some, None}
 use Rattle.sources.specs.declared.Include.{Include}
 use Rattle.sources.specs.declared.Event.{Event}
 use Rattle.sources.specs.declared.Event.TheVariants.{Stop as Stops, Include as Includes}
@@ -44,10 +43,10 @@ abbrev Free : List ℕ → Event → Type 0
 Free o (Stops n q) = Unit {0}
 Free o (Includes i) = get_or o i.number 0 ≡ 1 → ⊥
 
-hit_free : (o : List ℕ) (i : Line) (h : Hit) → Free o (include_by o i h)
-hit_free o i (Present n f t) =
+hit_free : (o : List ℕ) (i : Line) (h : Option (ℕ × ℕ × ℕ)) → Free o (include_by o i h)
+hit_free o i (Some (n, f, t)) =
     by_test (Free o) (eqb (get_or o n 0) 1) (Stops 27 i.hash) _ (λ _. tt) (λ e. eqb-false (get_or o n 0) 1 e)
-hit_free o i Absent = tt
+hit_free o i None = tt
 
 stop_free : (b l s o : List ℕ) (x : Stop) → Free o (event_by b l s o x)
 unfolding include_of

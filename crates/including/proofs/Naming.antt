@@ -18,9 +18,8 @@ use Rattle.token.proofs.Find.{find_here, find_next}
 use Rattle.token.proofs.Bytes.{both_true, both_second, not_true}
 use Rattle.token.proofs.Codes.{same_equal}
 use Rattle.sources.specs.Lines.{is_aside, aside, closing, quoted, named}
-use Rattle.sources.specs.declared.Name.{Name}
-use Rattle.sources.specs.declared.Name.TheVariants.{Is, Not}
-use Rattle.sources.proofs.Namings.{closing_is, quoted_quote, quoted_angle, named_is}
+use Rattle.std.specs.Prelude.{Option, Some, None}
+use Rattle.sources.proofs.Namings.{closing_is, quoted_quote, quoted_angle, named_is, same_start, same_end}
 use Rattle.including.specs.IncludeLines.{Aside, AsideEnd, Quotes, quotes, brackets, Without, IncludeLine, name_place, Includes, IncludeLines}
 use Rattle.including.proofs.Onwards.{byte_up, aside_on, byte_on}
 use Rattle.including.proofs.Settings.{passes, stays_at, passes_end, passed, passed_end}
@@ -131,7 +130,7 @@ open_quoted : {o c : ℕ} → Quotes o c → (l : List ℕ) (p : ℕ) → byte l
 open_quoted quotes l p e = quoted_quote l p e
 open_quoted brackets l p e = quoted_angle l p (λ z. absurd (omega arith)) e
 
-every_line : (line name : List ℕ) (i : IncludeLine line name) → named line (length i.before) ≡ Is (name_place i) (name_place i + length name)
+every_line : (line name : List ℕ) (i : IncludeLine line name) → named line (length i.before) ≡ Some (name_place i, name_place i + length name)
 unfolding name_place same
 every_line line name i =
     let h = length i.before in
@@ -156,20 +155,20 @@ every_line line name i =
     let a₂ = from_aside i.behind k₅ in
     let n₅ = from_length i.behind k₅ in
     let e₅ = passes_end i.behind_aside in
-    let g : Is (p + 1) (p + 1 + length name) ≡ closing line p i.closes =
+    let g : Some (p + 1, p + 1 + length name) ≡ closing line p i.closes =
     closing_is line p i.closes (p + 1 + length name) (length line) c (omega arith) (let y : length line ≡ aside line (p + 1 + length name + 1) = omega arith in y) refl in
     let q : p + 1 ≡ h + (8 + (length i.between + 1)) = omega arith in
     sym (named_is line h h p a₀ refl (ap (λ (x : List ℕ). same x word) w) a₁) ∙ sym (open_quoted i.quoted line p (from_byte file k₂)) ∙ sym g
-    ∙ ap (λ (x : ℕ). Is x (x + length name)) q
+    ∙ ap (λ (x : ℕ). Some (x, x + length name)) q
 
 -- ---- a line with a name is an include line
 
 no_numbers : {A : Type 0} → ◌≡◌ {A = ℕ} 0 1 → A
 no_numbers e = absurd (omega arith)
 
-chosen : (b : Bool) (x : Name) (f t : ℕ) → pick b x Not ≡ Is f t → (b ≡ true) × (x ≡ Is f t)
+chosen : (b : Bool) (x : Option (ℕ × ℕ)) (f t : ℕ) → pick b x None ≡ Some (f, t) → (b ≡ true) × (x ≡ Some (f, t))
 chosen true x f t e = (refl, e)
-chosen false x f t e = no_numbers (let d : Not ≡ Is f t = e in cc)
+chosen false x f t e = no_numbers (let d : ◌≡◌ {A = Option (ℕ × ℕ)} None (Some (f, t)) = e in cc)
 
 -- the quotes, and the name in them
 record QuotedBy (l : List ℕ) (p f t : ℕ) : Type 0 where
@@ -177,13 +176,13 @@ record QuotedBy (l : List ℕ) (p f t : ℕ) : Type 0 where
   closes : ℕ
   marks : Quotes opens closes
   byte_is : byte l p ≡ opens
-  name : closing l p closes ≡ Is f t
+  name : closing l p closes ≡ Some (f, t)
 
-quoted_by : (l : List ℕ) (p f t : ℕ) → quoted l p ≡ Is f t → QuotedBy l p f t
+quoted_by : (l : List ℕ) (p f t : ℕ) → quoted l p ≡ Some (f, t) → QuotedBy l p f t
 unfolding quoted
 quoted_by l p f t = by (eqb (byte l p) 34) refl
   where
-    by : (b : Bool) → eqb (byte l p) 34 ≡ b → pick b (closing l p 34) (pick (eqb (byte l p) 60) (closing l p 62) Not) ≡ Is f t → QuotedBy l p f t
+    by : (b : Bool) → eqb (byte l p) 34 ≡ b → pick b (closing l p 34) (pick (eqb (byte l p) 60) (closing l p 62) None) ≡ Some (f, t) → QuotedBy l p f t
     by true e q = record { opens = 34; closes = 34; marks = quotes; byte_is = eqb-true (byte l p) 34 e; name = q }
     by false e q =
         let k = chosen (eqb (byte l p) 60) (closing l p 62) f t q in
@@ -202,8 +201,8 @@ front_aside : {f r : List ℕ} (b : ℕ) (q : List ℕ) → r ≡ b ∷ q → As
 front_aside b q e (inl a) = a
 front_aside b q e (inr a) = absurd (let n = ap length (sym e ∙ a.1) in omega arith)
 
-module _ (line : List ℕ) (h f t : ℕ) (e : named line h ≡ Is f t) where
-  tests : (both (eqb (aside line 0) h) (same (bytes_between line h (h + 8)) word) ≡ true) × (quoted line (aside line (h + 8)) ≡ Is f t)
+module _ (line : List ℕ) (h f t : ℕ) (e : named line h ≡ Some (f, t)) where
+  tests : (both (eqb (aside line 0) h) (same (bytes_between line h (h + 8)) word) ≡ true) × (quoted line (aside line (h + 8)) ≡ Some (f, t))
   unfolding named
   tests = chosen (both (eqb (aside line 0) h) (same (bytes_between line h (h + 8)) word)) (quoted line (aside line (h + 8))) f t e
 
@@ -235,8 +234,8 @@ module _ (line : List ℕ) (h f t : ℕ) (e : named line h ≡ Is f t) where
       let o = h + 8 + length between in
       let k₃ : From line (o + 1) inside = from_on (q.opens ∷ []) inside (from_same refl w₂ k₂) in
       let c = q.closes in
-      let named_by : closing line o c ≡ Is f t = ap (λ (x : ℕ). closing line x c) (sym s₁) ∙ q.name in
-      let u = chosen (both (ltb (find_byte c line (o + 1)) (length line)) (eqb (aside line (find_byte c line (o + 1) + 1)) (length line))) (Is (o + 1) (find_byte c line (o + 1))) f t named_by in
+      let named_by : closing line o c ≡ Some (f, t) = ap (λ (x : ℕ). closing line x c) (sym s₁) ∙ q.name in
+      let u = chosen (both (ltb (find_byte c line (o + 1)) (length line)) (eqb (aside line (find_byte c line (o + 1) + 1)) (length line))) (Some (o + 1, find_byte c line (o + 1))) f t named_by in
       let v : find_byte c line (o + 1) < length line =
       ltb-true (find_byte c line (o + 1)) (length line) (both_true (ltb (find_byte c line (o + 1)) (length line)) (eqb (aside line (find_byte c line (o + 1) + 1)) (length line)) u.0) in
       let z : aside line (find_byte c line (o + 1) + 1) ≡ length line =
@@ -266,15 +265,9 @@ module _ (line : List ℕ) (h f t : ℕ) (e : named line h ≡ Is f t) where
         quoted = q.marks;
         closed = d.free;
       } in
-      let r₀ : o + 1 ≡ f = name_from u.1 in
-      let r₁ : find_byte c line (o + 1) ≡ t = name-to u.1 in
+      let r₀ : o + 1 ≡ f = same_start u.1 in
+      let r₁ : find_byte c line (o + 1) ≡ t = same_end u.1 in
       record { name = d.front; is = is; hash = sym s₀; from = omega arith; to = omega arith }
-    where
-      name_from : {a b c d : ℕ} → Is a b ≡ Is c d → a ≡ c
-      name_from e = cc
-
-      name-to : {a b c d : ℕ} → Is a b ≡ Is c d → b ≡ d
-      name-to e = cc
 
 -- THE THEOREM.
 pub include_lines : IncludeLines
@@ -282,5 +275,5 @@ include_lines line =
     record {
       found = found_line line;
       every = λ h f t i.
-          ap (named line) i.hash ∙ every_line line i.name i.is ∙ ap₂ Is (sym i.from) (sym i.to);
+          ap (named line) i.hash ∙ every_line line i.name i.is ∙ ap₂ (λ (x y : ℕ). Some (x, y)) (sym i.from) (sym i.to);
     }

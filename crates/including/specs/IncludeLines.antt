@@ -2,10 +2,9 @@
 -- comments wholly on it aside". `named` (crates/sources/specs/Lines.antt) goes over the places of a line; it finds the name exactly where a line is
 -- this (proofs/Naming, `include_lines`). A line is the list of its bytes, without its LF.
 -- Assumes nothing.
-use Rattle.std.specs.Prelude.{◌≡◌, List, [], ◌∷◌, ◌++◌, ℕ, ◌+◌, length}
+use Rattle.std.specs.Prelude.{◌≡◌, List, [], ◌∷◌, ◌++◌, ℕ, ◌+◌, length, Some}
 use Rattle.token.specs.Words.{bytes_of}
 use Rattle.sources.specs.Lines.{named}
-use Rattle.sources.specs.declared.Name.TheVariants.{Is}
 
 -- "spaces, tabs, CR"
 pub data Blank : ℕ → Type 0 where
@@ -65,8 +64,8 @@ pub record Includes (line : List ℕ) (h f t : ℕ) : Type 0 where
 
 -- THE STATEMENT: `named` finds a name on a line with a `#` at h exactly where it is an include line.
 pub record NamedExactly (line : List ℕ) : Type 0 where
-  pub found : (h f t : ℕ) → named line h ≡ Is f t → Includes line h f t
-  pub every : (h f t : ℕ) → Includes line h f t → named line h ≡ Is f t
+  pub found : (h f t : ℕ) → named line h ≡ Some (f, t) → Includes line h f t
+  pub every : (h f t : ℕ) → Includes line h f t → named line h ≡ Some (f, t)
 
 abbrev pub IncludeLines : Type 0
 IncludeLines = (line : List ℕ) → NamedExactly line

@@ -7,7 +7,7 @@ use native.Mathlib.Omega.{arith}
 use lib.ListN.{length, get_or}
 use Rattle.rows.specs.Table.{cell_of}
 use Rattle.rows.specs.Search.{row_name}
-use Rattle.indexes.specs.declared.Order.TheVariants.{Less, Same}
+use Rattle.std.specs.declared.cmp.Ordering.TheVariants.{Less, Equal}
 use Rattle.indexes.specs.Numbers.{name_number, summary_of}
 use Rattle.indexes.specs.Indexing.{row_key, pair_of, row_pair, row_cell, least_of, RowCompared, entry_of, span, cell_number, least_at, CellCompared}
 use Rattle.indexes.proofs.Digits.{Bytes, part_short, part_bytes}
@@ -69,7 +69,7 @@ name_bytes s t w m i b = part_bytes s (cell_of t w i m) (cell_of t w i (m + 1)) 
 
 module _ (s t : List ℕ) (w c m : ℕ) where
   -- The cell of row i.
-  own_cell : (i : ℕ) → i < 65536 → CellCompared s t w c m (entry_of s t w m i) (row_key t w c i) (row_name s t w m i) Same
+  own_cell : (i : ℕ) → i < 65536 → CellCompared s t w c m (entry_of s t w m i) (row_key t w c i) (row_name s t w m i) Equal
   unfolding RowCompared
   own_cell i h = entry_same s t w c m i (row_key t w c i) (row_name s t w m i) (refl, refl) h
 

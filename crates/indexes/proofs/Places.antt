@@ -16,10 +16,10 @@ use Rattle.indexes.specs.Numbers.{name_number, turned, digits, summary_of}
 use Rattle.token.proofs.Find.{by_test}
 use Rattle.sorting.specs.Sorted.{Rising, among_cells}
 use Rattle.sorting.proofs.Cells.{rising_places}
-use Rattle.indexes.specs.declared.Order.{Order}
-use Rattle.indexes.specs.declared.Place.{Place as Spot}
-use Rattle.indexes.specs.declared.Order.TheVariants.{Less, Same, More}
-use Rattle.indexes.specs.Indexing.{row_pair, pair_of, row_cell, least_of, span, cell_number, least_at, CellCompared, rank, Parts, PartsAt, Stopped, Ends, name_rank, Ranks}
+use Rattle.std.specs.declared.cmp.Ordering.{Ordering}
+use Rattle.std.specs.Prelude.{Result, Ok, Err}
+use Rattle.std.specs.declared.cmp.Ordering.TheVariants.{Less, Equal, Greater}
+use Rattle.indexes.specs.Indexing.{row_pair, pair_of, row_cell, least_of, span, cell_number, least_at, CellCompared, rank, Parts, PartsAt, Stopped, place_of, Ends, name_rank, Ranks}
 use Rattle.indexes.proofs.Digits.{number_positive}
 use Rattle.indexes.proofs.Comparisons.{cell_number_lem}
 
@@ -75,8 +75,8 @@ module _ (s t : List ℕ) (w c k m : ℕ) (x l : List ℕ) where
     unfolding PartsAt
     at_or_past h d = record { inside = (p d).inside; less = (p d).less; more = λ j a b. omega (arith, rising_rows (cell_number s t w c m) x i j d a b) }
 
-    module _ (r : Order) (o : CellCompared s t w c m (get_or x i 0) k l r) where
-      compared : (q : Order) → r ≡ q → CellCompared s t w c m (get_or x i 0) k l q
+    module _ (r : Ordering) (o : CellCompared s t w c m (get_or x i 0) k l r) where
+      compared : (q : Ordering) → r ≡ q → CellCompared s t w c m (get_or x i 0) k l q
       compared q e = subst (CellCompared s t w c m (get_or x i 0) k l) e o
 
       -- the cell at i is less
@@ -91,27 +91,49 @@ module _ (s t : List ℕ) (w c k m : ℕ) (x l : List ℕ) where
           }
 
       -- it is not
-      pub parts_same : r ≡ Same → PartsAt s t w c k m x l low i
-      parts_same e = at_or_past (omega (arith, cell_number_lem s t w c m (get_or x i 0) k l (compared Same e)))
+      pub parts_same : r ≡ Equal → PartsAt s t w c k m x l low i
+      parts_same e = at_or_past (omega (arith, cell_number_lem s t w c m (get_or x i 0) k l (compared Equal e)))
 
-      pub parts_more : r ≡ More → PartsAt s t w c k m x l low i
+      pub parts_more : r ≡ Greater → PartsAt s t w c k m x l low i
       unfolding CellCompared
-      parts_more e = let above : least_at l k + 18446744073709551616 ≤ cell_number s t w c m (get_or x i 0) = compared More e in at_or_past (omega arith)
+      parts_more e = let above : least_at l k + 18446744073709551616 ≤ cell_number s t w c m (get_or x i 0) = compared Greater e in at_or_past (omega arith)
 
-      pub stopped-same : r ≡ Same → Stopped s t w c k m x l i true
-      stopped-same e = record { here = λ _. (g, compared Same e); past = λ f. absurd (false≢true (sym f)) }
+      pub stopped-same : r ≡ Equal → Stopped s t w c k m x l i true
+      stopped-same e = record { here = λ _. (g, compared Equal e); past = λ f. absurd (false≢true (sym f)) }
 
-      pub stopped_more : r ≡ More → Stopped s t w c k m x l i false
-      stopped_more e = record { here = λ f. absurd (false≢true f); past = λ _ _. compared More e }
+      pub stopped_more : r ≡ Greater → Stopped s t w c k m x l i false
+      stopped_more e = record { here = λ f. absurd (false≢true f); past = λ _ _. compared Greater e }
 
   -- no place is left
-  pub ends_at : (low high : ℕ) (same : Bool) → PartsAt s t w c k m x l low high → Stopped s t w c k m x l high same → high ≡ low → Ends s t w c k m x l (record { at = low; same = same })
-  ends_at low high same p o e = record { parts = subst (PartsAt s t w c k m x l low) e p; stopped = subst (λ (i : ℕ). Stopped s t w c k m x l i same) e o }
+  module _ (low high : ℕ) (same : Bool) (p : PartsAt s t w c k m x l low high) (o : Stopped s t w c k m x l high same) (e : high ≡ low) where
+    stopped_at : (r : Bool) → same ≡ r → Stopped s t w c k m x l low r
+    stopped_at r d = subst (λ (b : Bool). Stopped s t w c k m x l low b) d (subst (λ (i : ℕ). Stopped s t w c k m x l i same) e o)
+
+    pub ends_ok : same ≡ true → Ends s t w c k m x l (Ok low)
+    unfolding place_of
+    ends_ok d = record { parts = subst (PartsAt s t w c k m x l low) e p; stopped = stopped_at true d }
+
+    pub ends_err : same ≡ false → Ends s t w c k m x l (Err low)
+    unfolding place_of
+    ends_err d = record { parts = subst (PartsAt s t w c k m x l low) e p; stopped = stopped_at false d }
 
 -- the place for a name and the key 0 is the name's rank
-pub ends_ranks : (s t : List ℕ) (w c m : ℕ) (x l : List ℕ) (p : Spot) → Ends s t w c 0 m x l p → Ranks s t w c m x l p.at
+pub ends_ranks : (s t : List ℕ) (w c m : ℕ) (x l : List ℕ) (p : Result ℕ ℕ) → Ends s t w c 0 m x l p → Ranks s t w c m x l (place_of p)
 unfolding PartsAt Ranks name_rank
-ends_ranks s t w c m x l p h n d b = parts_rank (cell_number s t w c m) x (least_at l 0) p.at (h.parts d.rising)
+ends_ranks s t w c m x l p h n d b = parts_rank (cell_number s t w c m) x (least_at l 0) (place_of p) (h.parts d.rising)
+
+-- what holds of a place holds of it by either answer
+module _ (s t : List ℕ) (w c m : ℕ) (x l : List ℕ) (p : Result ℕ ℕ) (h : Ranks s t w c m x l (place_of p)) (i : ℕ) where
+  ranks_by : (q : Result ℕ ℕ) → p ≡ q → Ranks s t w c m x l (place_of q)
+  ranks_by q e = subst (λ (r : Result ℕ ℕ). Ranks s t w c m x l (place_of r)) e h
+
+  pub place_ok : p ≡ Ok i → Ranks s t w c m x l i
+  unfolding place_of
+  place_ok e = ranks_by (Ok i) e
+
+  pub place_err : p ≡ Err i → Ranks s t w c m x l i
+  unfolding place_of
+  place_err e = ranks_by (Err i) e
 
 -- no cell stands before those with an empty name
 part_none : (s : List ℕ) (at : ℕ) → part_of s at 0 ≡ []

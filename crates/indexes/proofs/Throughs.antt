@@ -5,7 +5,7 @@ use Prim.Native.Nat.{ℕ, ◌+◌, ◌*◌, ◌≤◌}
 use native.Mathlib.Omega.{arith}
 use lib.ListN.{length, take}
 use lib.Seq.{length-take-le}
-use Rattle.rows.specs.declared.Found.{Found}
+use Rattle.rows.specs.Found.{Found}
 use Rattle.rows.specs.Search.{find_named}
 use Rattle.indexes.specs.Indexing.{Indexed, Makes, FindsBefore, By, ByTwo, Fits, Through}
 

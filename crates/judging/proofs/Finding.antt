@@ -4,7 +4,7 @@ use mathlib.Core.List.{List}
 use Prim.Native.Nat.{ℕ, ◌+◌, ◌*◌, ◌≤◌, ◌<◌, min}
 use native.Mathlib.Omega.{arith}
 use lib.ListN.{length, get_or}
-use Rattle.rows.specs.declared.Found.TheVariants.{At}
+use Rattle.std.specs.Prelude.{Some}
 use Rattle.rows.specs.Search.{find_row}
 use Rattle.rows.proofs.Searches.{row_stop, row_more}
 
@@ -17,7 +17,7 @@ module _ (d : List ℕ) (n key k p : ℕ) (h : k < n) (f : n ≤ 512) (g : 9728 
   first_cell = let z : p + 0 ≡ p = omega arith in ap (λ (i : ℕ). get_or d i 0) z
 
   -- it stands under the word
-  pub under_stop : get_or d p 0 ≡ key → find_row d 19 n 0 key k ≡ At k
+  pub under_stop : get_or d p 0 ≡ key → find_row d 19 n 0 key k ≡ Some k
   under_stop c = row_stop d 19 n 0 key k p h begins (first_cell ∙ c)
 
   -- it does not

@@ -9,19 +9,18 @@ use native.Mathlib.Decide.{ℕ_discrete}
 use lib.ListN.{length, length-append, get_or}
 use lib.Dec.{eqb, leb}
 use borrow.Author.Tests.{eq-eqb, ne_eqb, le-leb}
+use Rattle.std.specs.Prelude.{Some, None, is_some}
 use Rattle.meaning.proofs.Rooms.{no_first}
-use Rattle.meaning.proofs.Numbered.{of_reference, of_brace, of_type, of_own, of_judged, of_judge, of_object, of_objects_judged, of_first}
 use Rattle.meaning.proofs.Entries.{then_assoc}
 use Rattle.meaning.specs.Merging.{then}
-use Rattle.rows.proofs.Orders.{is_none}
+use Rattle.rows.proofs.Orders.{none_is}
 use Rattle.token.specs.Find.{pick, both, bit, is_there}
 use Rattle.token.specs.Tokens.{part_of}
 use Rattle.grammar.specs.Grammar.{Class, Kind, word}
-use Rattle.rows.specs.declared.Fault.{Fault}
-use Rattle.rows.specs.declared.Found.{Found}
-use Rattle.rows.specs.declared.Found.TheVariants.{At, Nothing}
+use Rattle.rows.specs.Found.{Found}
+use Rattle.std.specs.Prelude.{Some, None}
 use Rattle.rows.specs.Search.{is_found, row_of}
-use Rattle.rows.specs.Order.{fault_if, is_fault, sooner as sooner-of}
+use Rattle.rows.specs.Order.{MaybeFault, fault_if, sooner as sooner-of}
 use Rattle.meaning.specs.Syntax.{Word, AttributeType, integer, string, boolean, enum, float, reference, Definitions, Values, Defined, Statement, Statements, done, state, Object, File, statements_in}
 use Rattle.meaning.specs.Words.{among}
 use Rattle.meaning.specs.Kinds.{kind_number}
@@ -43,7 +42,7 @@ use Rattle.lookups.proofs.Attributes.{read_at, AttributeRow, stands_below, reach
 use Rattle.sorting.specs.Sorted.{Tells}
 use Rattle.lookups.specs.Owners.{Owners}
 use Rattle.judging.proofs.Lacking.{unowned}
-use Rattle.scopes.proofs.Firsts.{real, real_if, fault_append, fault_at, none_there}
+use Rattle.scopes.proofs.Firsts.{fault_append, fault_at, none_there}
 use Rattle.blocks.proofs.Ranges.{first_cell, first_name, first_value, first_brace, first_after, inside_at, in_then, then_done, back_at}
 use Rattle.layout.proofs.Codes.{kind_low, integer_low}
 
@@ -117,7 +116,7 @@ found_there (some x) = refl
 
 -- A reference's value: no name; no object; an object.
 module _ (s o : List ℕ) (n kind at len code : ℕ) where
-  pub reference_no_name : name_code code ≡ false → ReferenceFault s o n kind at len code (record { number = 15; place = at })
+  pub reference_no_name : name_code code ≡ false → ReferenceFault s o n kind at len code (Some (record { number = 15; place = at }))
   unfolding code_of fault_if
   reference_no_name h f k t p q l m i b pl e =
       fault_at true t 15 at pl
@@ -131,13 +130,13 @@ module _ (s o : List ℕ) (n kind at len code : ℕ) where
       ∙ fault_at (not (is_there (find_object k f.objects t))) t 18 at pl
       ∙ ap (λ l. fault_of (first l)) (sym (reference_by f.objects k t t.class ∙ ap (λ b. pick b (faults_if (not (is_there (find_object k f.objects t))) t 18) (faults_if true t 15)) (ap name_code e ∙ h)))
 
-  pub reference_nothing : name_code code ≡ true → FindsObject s o n kind at len Nothing → ReferenceFault s o n kind at len code (record { number = 18; place = at })
+  pub reference_nothing : name_code code ≡ true → FindsObject s o n kind at len None → ReferenceFault s o n kind at len code (Some (record { number = 18; place = at }))
   unfolding fault_if
-  reference_nothing h g = reference_name Nothing h g
+  reference_nothing h g = reference_name None h g
 
-  pub reference_object : (i : ℕ) → name_code code ≡ true → FindsObject s o n kind at len (At i) → ReferenceFault s o n kind at len code (record { number = 0; place = 0 })
+  pub reference_object : (i : ℕ) → name_code code ≡ true → FindsObject s o n kind at len (Some i) → ReferenceFault s o n kind at len code None
   unfolding fault_if
-  reference_object i h g = reference_name (At i) h g
+  reference_object i h g = reference_name (Some i) h g
 
 -- A statement's cells ----------------------------------------------------------------------------------------------------------------------
 
@@ -204,7 +203,7 @@ module _ {s d e o st : List ℕ} {z : Sizes} {k j : ℕ} {f : File} {x : Stateme
       go q (a_reference r t w b) = omega arith
 
   -- From 22 up to 34 it is a reference.
-  pub value_reference : (c at len code brace : ℕ) (g : Fault) → c ≡ get_or d (j * 19 + 12) 0 → 22 ≤ c → c < 35
+  pub value_reference : (c at len code brace : ℕ) (g : MaybeFault) → c ≡ get_or d (j * 19 + 12) 0 → 22 ≤ c → c < 35
       → at ≡ get_or st (k * 7 + 2) 0 → len ≡ get_or st (k * 7 + 3) 0 → code ≡ get_or st (k * 7 + 4) 0 → brace ≡ get_or st (k * 7 + 5) 0
       → ReferenceFault s o z.objects (c - 22) at len code g
       → sooner-of g (fault_if (not (eqb brace 0)) 15 brace) ≡ fault_of (first (faults_as y.definition.type f.objects x y))
@@ -230,8 +229,7 @@ module _ {s d e o st : List ℕ} {z : Sizes} {k j : ℕ} {f : File} {x : Stateme
           r f q x.value a.given.tables.situation a.given.tables.in_objects a.given.tables.objects (omega arith) n (v.bytes ∙ sym (ap₂ (part_of s) (pa ∙ value_place) (pl ∙ value_size)))
           (sym (pa ∙ value_place)) (sym (pc ∙ value_code)) in
           ap₂ sooner-of g-is (brace_fault x.brace brace (pb ∙ brace_place) (first_brace a.block))
-          ∙ sym (fault_append (reference_faults f.objects q (sort_of x.value.class) x.value) (brace_faults x.brace)
-          (real (of_reference f.objects q (sort_of x.value.class) x.value)) (real (of_brace x.brace)))
+          ∙ sym (fault_append (reference_faults f.objects q (sort_of x.value.class) x.value) (brace_faults x.brace))
           ∙ unfolded q t
 
   -- From 35 on it is not.
@@ -286,23 +284,23 @@ module _ {s d e o st : List ℕ} {z : Sizes} {k j : ℕ} {f : File} {x : Stateme
       go false q = refl
 
   -- 14, and then those of the value.
-  pub own_by : (name : ℕ) (r : Bool) (g : Fault) (before : Statements) → name ≡ get_or st (k * 7 + 0) 0 → r ≡ both (not y.definition.list) (among x.name (names before))
+  pub own_by : (name : ℕ) (r : Bool) (g : MaybeFault) (before : Statements) → name ≡ get_or st (k * 7 + 0) 0 → r ≡ both (not y.definition.list) (among x.name (names before))
       → g ≡ fault_of (first (faults_as y.definition.type f.objects x y)) → sooner-of (fault_if r 14 name) g ≡ fault_of (first (own_faults f.objects x y (names before)))
   unfolding own_faults
   own_by name r g before n e q =
       let t = both (not y.definition.list) (among x.name (names before)) in
       ap₂ sooner-of (ap (λ b. fault_if b 14 name) e ∙ fault_at t x.name 14 name (sym (n ∙ name_place))) q
-      ∙ sym (fault_append (faults_if t x.name 14) (faults_as y.definition.type f.objects x y) (real_if t x.name 14 (omega arith)) (real (of_type y.definition.type f.objects x y)))
+      ∙ sym (fault_append (faults_if t x.name 14) (faults_as y.definition.type f.objects x y))
 
 -- 16 ---------------------------------------------------------------------------------------------------------------------------------------
 
 module _ (s d st ms : List ℕ) (z : Sizes) (key m n owner : ℕ) where
   -- The place 0 is no word's.
-  pub lack_none : key ≡ 0 → LackFault s d st ms z key m n owner (record { number = 0; place = 0 })
+  pub lack_none : key ≡ 0 → LackFault s d st ms z key m n owner None
   unfolding lacks faults_if first fault_of
   lack_none h e o f ds ss w c b p = go c.scope h
     where
-      go : {k : ℕ} {us : Definitions} → ScopeAt f k us → k ≡ 0 → record { number = 0; place = 0 } ≡ fault_of (first (faults_if (lacks us (names ss)) w 16))
+      go : {k : ℕ} {us : Definitions} → ScopeAt f k us → k ≡ 0 → None ≡ fault_of (first (faults_if (lacks us (names ss)) w 16))
       go no_scope q = refl
       go (scope g t) q = let l = (file_stands c.given.tables.situation t).0.later in absurd (omega arith)
 
@@ -327,13 +325,13 @@ module _ (s d st ms : List ℕ) (z : Sizes) (key m n owner : ℕ) where
           (stands_below c.given.tables t)
 
   -- Nothing that must be stated stands under the word.
-  pub lack_unowned : (u : List ℕ) → (key ≡ 0 → ⊥) → Owners d ms u → Tells u key false → LackFault s d st ms z key m n owner (record { number = 0; place = 0 })
+  pub lack_unowned : (u : List ℕ) → (key ≡ 0 → ⊥) → Owners d ms u → Tells u key false → LackFault s d st ms z key m n owner None
   unfolding fault_if
   lack_unowned u h w t = lack_some false h (unowned s d st ms u z.definitions key m n w t)
 
 -- One statement ----------------------------------------------------------------------------------------------------------------------------
 
-pub row_nothing : (o : Option Defined) → Nothing ≡ row_found o → o ≡ none
+pub row_nothing : (o : Option Defined) → None ≡ row_found o → o ≡ none
 unfolding row_found
 row_nothing none h = refl
 row_nothing (some y) h = absurd (false≢true (ap is_found h))
@@ -343,7 +341,7 @@ pub record FoundAs (o : Option Defined) (j : ℕ) : Type 0 where
   pub is : o ≡ some defined
   pub row : defined.definition.row ≡ j
 
-pub row_found_as : (o : Option Defined) (j : ℕ) → At j ≡ row_found o → FoundAs o j
+pub row_found_as : (o : Option Defined) (j : ℕ) → Some j ≡ row_found o → FoundAs o j
 unfolding row_found row_of
 row_found_as none j h = absurd (false≢true (sym (ap is_found h)))
 row_found_as (some y) j h = record { defined = y; is = refl; row = sym (ap row_of h) }
@@ -357,8 +355,8 @@ pub stands_of : {f : File} {key : ℕ} {ds : Definitions} {y : Defined} → Scop
 stands_of (scope {u} g t) h = record { word_of = u; stands = t }
 stands_of {f = f} {y = y} no_scope h = elim h [ ]
 
-inside_fault : (l : List Refusal) (x : Statement) (us : Definitions) (ns : List Word) (k : Definitions → List Refusal) → is_fault (fault_of (first l)) ≡ true → and_inside l x us ns k ≡ l
-unfolding and_inside first fault_of is_fault
+inside_fault : (l : List Refusal) (x : Statement) (us : Definitions) (ns : List Word) (k : Definitions → List Refusal) → is_some (fault_of (first l)) ≡ true → and_inside l x us ns k ≡ l
+unfolding and_inside first fault_of
 inside_fault [] x us ns k h = absurd (false≢true h)
 inside_fault (f ∷ fs) x us ns k h = refl
 
@@ -385,37 +383,37 @@ stated_as {after = after} {ds = ds} {x = x} {inside = inside} {rest = rest} j y 
     record { given = c; inside = inside; rest = rest; after = after; block = b; attribute = record { under = u.word_of; scope = ds; stands = u.stands; has = t; row = r } }
 
 module _ (s d e o st ms : List ℕ) (z : Sizes) (key m k n v name size : ℕ) (pn : name ≡ get_or st (k * 7 + 0) 0) (ps : size ≡ get_or st (k * 7 + 1) 0) where
-  pub one_undefined : FindsDefinition s d z.definitions key name size Nothing → JudgesOne s d e o st ms z key m k n v (record { number = 13; place = name })
+  pub one_undefined : FindsDefinition s d z.definitions key name size None → JudgesOne s d e o st ms z key m k n v (Some (record { number = 13; place = name }))
   unfolding judged fault_if statement_cells
   one_undefined g f ds before x inside rest c b p q =
       let a = own_at before b p in
-      let h = row_nothing (find_definition ds x.name) (looked_up Nothing pn ps c.given c.scope a g) in
+      let h = row_nothing (find_definition ds x.name) (looked_up None pn ps c.given c.scope a g) in
       fault_at true x.name 13 name (sym (pn ∙ first_cell a 0 (omega arith)))
       ∙ ap (λ t. fault_of (first (judged t f.objects x (names before) (names inside) (λ us. judge inside f.objects us [])))) (sym h)
 
-  pub one_fault : (j : ℕ) (g : Fault) → FindsDefinition s d z.definitions key name size (At j) → OwnFault s d e o st z m k v j g → is_fault g ≡ true → JudgesOne s d e o st ms z key m k n v g
+  pub one_fault : (j : ℕ) (g : MaybeFault) → FindsDefinition s d z.definitions key name size (Some j) → OwnFault s d e o st z m k v j g → is_some g ≡ true → JudgesOne s d e o st ms z key m k n v g
   unfolding judged stated_as
   one_fault j g p w h f ds before x inside rest c b t q =
       let a = own_at before b t in
-      let y = row_found_as (find_definition ds x.name) j (looked_up (At j) pn ps c.given c.scope a p) in
+      let y = row_found_as (find_definition ds x.name) j (looked_up (Some j) pn ps c.given c.scope a p) in
       let i = w f x y.defined before (stated_as j y.defined c.given c.scope a y.is y.row) b t in
       i
       ∙ ap (λ l. fault_of (first l)) (sym (inside_fault (own_faults f.objects x y.defined (names before)) x (under y.defined.values x.value) (names inside) (λ us. judge inside f.objects us [])
-      (ap is_fault (sym i) ∙ h)))
+      (ap is_some (sym i) ∙ h)))
       ∙ ap (λ t. fault_of (first (judged t f.objects x (names before) (names inside) (λ us. judge inside f.objects us [])))) (sym y.is)
 
-  pub one_inside : (j at len key' : ℕ) (g r : Fault) → FindsDefinition s d z.definitions key name size (At j) → OwnFault s d e o st z m k v j g → is_fault g ≡ false
+  pub one_inside : (j at len key' : ℕ) (g r : MaybeFault) → FindsDefinition s d z.definitions key name size (Some j) → OwnFault s d e o st z m k v j g → is_some g ≡ false
       → at ≡ get_or st (k * 7 + 2) 0 → len ≡ get_or st (k * 7 + 3) 0 → FindsWord s d e z.enumerators j at len key' → JudgesBlock s d e o st ms z key' (k + 1) n at r
       → JudgesOne s d e o st ms z key m k n v r
   unfolding judged and_inside statement_cells stated_as
   one_inside j at len key' g r p w h pa pl u l f ds before x inside rest c b i₀ q =
       let a = own_at before b i₀ in
-      let y = row_found_as (find_definition ds x.name) j (looked_up (At j) pn ps c.given c.scope a p) in
+      let y = row_found_as (find_definition ds x.name) j (looked_up (Some j) pn ps c.given c.scope a p) in
       let t = y.defined in
       let sa = stated_as j t c.given c.scope a y.is y.row in
       let i = w f x t before sa b i₀ in
       let L = own_faults f.objects x t (names before) in
-      let none_own = no_first L (none_there (first L) (of_first L (of_own f.objects x t (names before))) (ap (λ (u : Fault). u.number) (sym i) ∙ is_none g h)) in
+      let none_own = no_first L (none_there (first L) (sym i ∙ none_is g h)) in
       let pa' = pa ∙ first_cell a 2 (omega arith) in
       let sc = value_scope sa at len key' pa pl u in
       let k₁ : suc k ≡ k + 1 = omega arith in
@@ -432,28 +430,28 @@ under_at s d e st m j k at len u pa pl w =
 
 -- A block ----------------------------------------------------------------------------------------------------------------------------------
 
-pub block_by : (s d e o st ms : List ℕ) (z : Sizes) (key m n owner : ℕ) (a b r : Fault) → r ≡ sooner-of a b → LackFault s d st ms z key m n owner a → Judges s d e o st ms z key m n b
+pub block_by : (s d e o st ms : List ℕ) (z : Sizes) (key m n owner : ℕ) (a b r : MaybeFault) → r ≡ sooner-of a b → LackFault s d st ms z key m n owner a → Judges s d e o st ms z key m n b
     → JudgesBlock s d e o st ms z key m n owner r
 block_by s d e o st ms z key m n owner a b r i g h f ds ss w c t p =
     i
     ∙ ap₂ sooner-of (g e o f ds ss w c t p) (h f ds ss c t)
-    ∙ sym (fault_append (faults_if (lacks ds (names ss)) w 16) (judge ss f.objects ds []) (real_if (lacks ds (names ss)) w 16 (omega arith)) (real (of_judge ss f.objects ds [])))
+    ∙ sym (fault_append (faults_if (lacks ds (names ss)) w 16) (judge ss f.objects ds []))
 
 -- An empty one.
-pub block_empty : (s d e o st ms : List ℕ) (z : Sizes) (key m n owner : ℕ) (r : Fault) → n ≤ m → LackFault s d st ms z key m n owner r → JudgesBlock s d e o st ms z key m n owner r
+pub block_empty : (s d e o st ms : List ℕ) (z : Sizes) (key m n owner : ℕ) (r : MaybeFault) → n ≤ m → LackFault s d st ms z key m n owner r → JudgesBlock s d e o st ms z key m n owner r
 unfolding statements_in judge
 block_empty s d e o st ms z key m n owner r l g f ds done w c t p = g e o f ds done w c t p ∙ ap (λ v. fault_of (first v)) (sym (append-nil (faults_if (lacks ds (names done)) w 16)))
 block_empty s d e o st ms z key m n owner r l g f ds (state x inside rest) w c t p = let q = t.after in absurd (omega arith)
 
 -- The loop over a block's own statements: those in front are judged.
-pub record Gone (m k : ℕ) (f : File) (ds : Definitions) (ss : Statements) (best : Fault) : Type 0 where
+pub record Gone (m k : ℕ) (f : File) (ds : Definitions) (ss : Statements) (best : MaybeFault) : Type 0 where
   pub front : Statements
   pub rest : Statements
   pub whole : ss ≡ then front rest
   pub row : k ≡ m + statements_in front
   pub found : best ≡ fault_of (first (judge front f.objects ds []))
 
-abbrev pub Judging : (s d e o st ms : List ℕ) → Sizes → (key m n k : ℕ) → Fault → Type 0
+abbrev pub Judging : (s d e o st ms : List ℕ) → Sizes → (key m n k : ℕ) → MaybeFault → Type 0
 Judging s d e o st ms z key m n k best =
     (f : File) (ds : Definitions) (ss : Statements) → Scoped s d e o st ms z key f ds → BlockAt s st m n ss → Gone m k f ds ss best
 
@@ -467,11 +465,11 @@ judge_then (state x inside rest) b os ds ns =
     ∙ sym (append_assoc l (judge rest os ds (ns ++ (x.name ∷ []))) (judge b os ds (ns ++ (x.name ∷ names rest))))
 
 module _ (s d e o st ms : List ℕ) (z : Sizes) (key m n : ℕ) where
-  pub judging_start : Judging s d e o st ms z key m n m (record { number = 0; place = 0 })
+  pub judging_start : Judging s d e o st ms z key m n m None
   unfolding then statements_in judge first fault_of
   judging_start f ds ss c b = record { front = done; rest = ss; whole = refl; row = omega arith; found = refl }
 
-  pub judging_more : (k : ℕ) (best g : Fault) → k < n → JudgesOne s d e o st ms z key m k (row_after st k n) n g → Judging s d e o st ms z key m n k best
+  pub judging_more : (k : ℕ) (best g : MaybeFault) → k < n → JudgesOne s d e o st ms z key m k (row_after st k n) n g → Judging s d e o st ms z key m n k best
       → Judging s d e o st ms z key m n (row_after st k n) (sooner-of best g)
   unfolding then statements_in judge
   judging_more k best g h w i f ds ss c b = go (i f ds ss c b).front (i f ds ss c b).rest (i f ds ss c b).whole (i f ds ss c b).row (i f ds ss c b).found
@@ -497,20 +495,19 @@ module _ (s d e o st ms : List ℕ) (z : Sizes) (key m n : ℕ) where
             whole = p ∙ sym (then_assoc front (state x inside done) rest);
             row = omega arith;
             found = ap₂ sooner-of t v
-                ∙ sym (fault_append (judge front f.objects ds []) j (real (of_judge front f.objects ds []))
-                (real (of_judged (find_definition ds x.name) f.objects x (names front) (names inside) (λ us. judge inside f.objects us []) (λ us. of_judge inside f.objects us []))))
+                ∙ sym (fault_append (judge front f.objects ds []) j)
                 ∙ ap (λ r. fault_of (first (judge front f.objects ds [] ++ r))) (sym one)
                 ∙ ap (λ r. fault_of (first r)) (sym (judge_then front (state x inside done) f.objects ds []));
           }
 
-  pub judging_step : (k next : ℕ) (best g r : Fault) → next ≡ row_after st k n → r ≡ sooner-of best g → k < n → JudgesOne s d e o st ms z key m k next n g
+  pub judging_step : (k next : ℕ) (best g r : MaybeFault) → next ≡ row_after st k n → r ≡ sooner-of best g → k < n → JudgesOne s d e o st ms z key m k next n g
       → Judging s d e o st ms z key m n k best → Judging s d e o st ms z key m n next r
   judging_step k next best g r p q h w i =
       subst (λ b. Judging s d e o st ms z key m n next b) (sym q)
       (subst (λ a. Judging s d e o st ms z key m n a (sooner-of best g)) (sym p)
       (judging_more k best g h (subst (λ a. JudgesOne s d e o st ms z key m k a n g) p w) i))
 
-  pub judging_end : (k : ℕ) (best : Fault) → n ≤ k → Judging s d e o st ms z key m n k best → Judges s d e o st ms z key m n best
+  pub judging_end : (k : ℕ) (best : MaybeFault) → n ≤ k → Judging s d e o st ms z key m n k best → Judges s d e o st ms z key m n best
   unfolding statements_in
   judging_end k best h i f ds ss c b = go (i f ds ss c b).front (i f ds ss c b).rest (i f ds ss c b).whole (i f ds ss c b).row (i f ds ss c b).found
     where
@@ -525,7 +522,7 @@ module _ (s d e o st ms : List ℕ) (z : Sizes) (key m n : ℕ) where
 
 -- All objects ------------------------------------------------------------------------------------------------------------------------------
 
-pub object_by : (s d e o st ms : List ℕ) (z : Sizes) (ps : List ℕ) (i kind key owner m n : ℕ) (r : Fault)
+pub object_by : (s d e o st ms : List ℕ) (z : Sizes) (ps : List ℕ) (i kind key owner m n : ℕ) (r : MaybeFault)
     → kind ≡ get_or o (i * 10 + 0) 0 → key ≡ get_or ps kind 0 → owner ≡ get_or o (i * 10 + 3) 0 → m ≡ get_or o (i * 10 + 8) 0 → n ≡ get_or o (i * 10 + 9) 0
     → JudgesBlock s d e o st ms z key m n owner r → JudgesObject s d e o st ms z ps i r
 unfolding judge_object
@@ -548,22 +545,22 @@ objects_append f (y ∷ a) x =
     ap (λ r. l ++ r) (objects_append f a x) ∙ sym (append_assoc l (judge_objects f a) (judge_object f x (of_kind x.kind f.specs)))
 
 -- The loop over the objects: those in front are judged.
-pub record GoneObjects (i : ℕ) (f : File) (best : Fault) : Type 0 where
+pub record GoneObjects (i : ℕ) (f : File) (best : MaybeFault) : Type 0 where
   pub front : List Object
   pub rest : List Object
   pub whole : f.objects ≡ front ++ rest
   pub row : length front ≡ i
   pub found : best ≡ fault_of (first (judge_objects f front))
 
-abbrev pub JudgingObjects : (s d e o st ms : List ℕ) → Sizes → (ps : List ℕ) → ℕ → Fault → Type 0
+abbrev pub JudgingObjects : (s d e o st ms : List ℕ) → Sizes → (ps : List ℕ) → ℕ → MaybeFault → Type 0
 JudgingObjects s d e o st ms z ps i best = (f : File) → Given s d e o st z f → Marked f ms z.definitions → Places f ps → GoneObjects i f best
 
 module _ (s d e o st ms : List ℕ) (z : Sizes) (ps : List ℕ) where
-  pub objects_start : JudgingObjects s d e o st ms z ps 0 (record { number = 0; place = 0 })
+  pub objects_start : JudgingObjects s d e o st ms z ps 0 None
   unfolding judge_objects first fault_of
   objects_start f c mk pl = record { front = []; rest = f.objects; whole = refl; row = refl; found = refl }
 
-  pub objects_more : (i : ℕ) (best g : Fault) → i < z.objects → JudgesObject s d e o st ms z ps i g → JudgingObjects s d e o st ms z ps i best
+  pub objects_more : (i : ℕ) (best g : MaybeFault) → i < z.objects → JudgesObject s d e o st ms z ps i g → JudgingObjects s d e o st ms z ps i best
       → JudgingObjects s d e o st ms z ps (i + 1) (sooner-of best g)
   objects_more i best g h w v f c mk pl = go (v f c mk pl).front (v f c mk pl).rest (v f c mk pl).whole (v f c mk pl).row (v f c mk pl).found
     where
@@ -581,15 +578,15 @@ module _ (s d e o st ms : List ℕ) (z : Sizes) (ps : List ℕ) where
             whole = p ∙ sym (append_assoc front (x ∷ []) rest);
             row = omega arith;
             found = ap₂ sooner-of t (w f front x rest c mk pl p q)
-                ∙ sym (fault_append (judge_objects f front) j (real (of_objects_judged f front)) (real (of_object f x (of_kind x.kind f.specs))))
+                ∙ sym (fault_append (judge_objects f front) j)
                 ∙ ap (λ r. fault_of (first r)) (sym (objects_append f front x));
           }
 
-  pub objects_step : (i : ℕ) (best g r : Fault) → r ≡ sooner-of best g → i < z.objects → JudgesObject s d e o st ms z ps i g → JudgingObjects s d e o st ms z ps i best
+  pub objects_step : (i : ℕ) (best g r : MaybeFault) → r ≡ sooner-of best g → i < z.objects → JudgesObject s d e o st ms z ps i g → JudgingObjects s d e o st ms z ps i best
       → JudgingObjects s d e o st ms z ps (i + 1) r
   objects_step i best g r q h w v = subst (λ b. JudgingObjects s d e o st ms z ps (i + 1) b) (sym q) (objects_more i best g h w v)
 
-  pub objects_end : (i : ℕ) (best : Fault) → z.objects ≤ i → JudgingObjects s d e o st ms z ps i best → JudgesObjects s d e o st ms z ps best
+  pub objects_end : (i : ℕ) (best : MaybeFault) → z.objects ≤ i → JudgingObjects s d e o st ms z ps i best → JudgesObjects s d e o st ms z ps best
   unfolding statement_stage
   objects_end i best h v f c mk pl = go (v f c mk pl).front (v f c mk pl).rest (v f c mk pl).whole (v f c mk pl).row (v f c mk pl).found
     where

@@ -13,7 +13,7 @@ use borrow.Author.Tests.{eq-eqb, eqb-true}
 use Rattle.scopes.proofs.Rooms.{nth_of}
 use Rattle.token.specs.Find.{both, either, bit}
 use Rattle.grammar.specs.Grammar.{word}
-use Rattle.rows.specs.declared.Found.TheVariants.{At, Nothing}
+use Rattle.std.specs.Prelude.{Some, None}
 use Rattle.rows.specs.Search.{has_key, find_row}
 use Rattle.rows.proofs.Searches.{found_first, nothing_none}
 use Rattle.meaning.specs.Syntax.{Word, Definitions, no_more, define, Defined, Statements, done, File, statements_in}
@@ -125,7 +125,7 @@ unfolding has_key
 has_key_lem d i key h = eqb-true (get_or d (i * 19 + 0) 0) key h
 
 -- The row found is not before, and one of the first n.
-module _ (d : List ℕ) (n key i j : ℕ) (g : find_row d 19 n 0 key i ≡ At j) where
+module _ (d : List ℕ) (n key i j : ℕ) (g : find_row d 19 n 0 key i ≡ Some j) where
   pub found_low : i ≤ j
   unfolding find_row
   found_low = (found_first (λ k. has_key d (k * 19) 0 key) n i j g).low
@@ -156,7 +156,7 @@ module _ (s d st ms : List ℕ) (n key m e : ℕ) where
   pub passed_end : (i : ℕ) → n ≤ i → Passed s d st ms n key m e i → Lacks s d st ms n key m e false
   passed_end i h p f u ds ss o b = sym (none_lacks ds (names ss) (λ x q. let k = b x q in p f u ds ss o x q (omega arith)))
 
-  pub passed_stop : (i j : ℕ) → find_row d 19 n 0 key i ≡ At j → LacksRow s d st ms j m e true → Lacks s d st ms n key m e true
+  pub passed_stop : (i j : ℕ) → find_row d 19 n 0 key i ≡ Some j → LacksRow s d st ms j m e true → Lacks s d st ms n key m e true
   unfolding find_row
   passed_stop i j g l f u ds ss o b =
       let a = found_first (λ k. has_key d (k * 19) 0 key) n i j g in
@@ -164,14 +164,14 @@ module _ (s d st ms : List ℕ) (n key m e : ℕ) where
       let y = r.some refl in
       sym (has_lacks (names ss) y.has (sym (r.own y.defined y.has y.row)))
 
-  pub passed_more : (i j : ℕ) → find_row d 19 n 0 key i ≡ At j → LacksRow s d st ms j m e false → Passed s d st ms n key m e i → Passed s d st ms n key m e (j + 1)
+  pub passed_more : (i j : ℕ) → find_row d 19 n 0 key i ≡ Some j → LacksRow s d st ms j m e false → Passed s d st ms n key m e i → Passed s d st ms n key m e (j + 1)
   unfolding find_row
   passed_more i j g l p =
       let a = found_first (λ k. has_key d (k * 19) 0 key) n i j g in
       passed_one j a.high (has_key_lem d j key a.holds) l (passed_on i j a.fails p)
 
   -- There is none left.
-  pub passed_none : (i : ℕ) → find_row d 19 n 0 key i ≡ Nothing → Passed s d st ms n key m e i → Lacks s d st ms n key m e false
+  pub passed_none : (i : ℕ) → find_row d 19 n 0 key i ≡ None → Passed s d st ms n key m e i → Lacks s d st ms n key m e false
   unfolding find_row
   passed_none i g p = passed_end n (omega arith) (passed_on i n (nothing_none (λ k. has_key d (k * 19) 0 key) n i g) p)
 

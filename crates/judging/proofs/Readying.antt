@@ -13,7 +13,7 @@ use Rattle.judging.specs.Names.{Ready, MarksReady, Blank, SameRoom, StaysBlank}
 use Rattle.judging.specs.Promises.{JudgesObjects, JudgesAll, Marks}
 use Rattle.judging.proofs.Lacking.{table_known, table_marked, table_owners}
 use Rattle.amounts.specs.Promises.{Notes}
-use Rattle.rows.specs.declared.Fault.{Fault}
+use Rattle.rows.specs.Order.{MaybeFault}
 use Rattle.scopes.specs.declared.Sizes.{Sizes}
 
 -- The words under which something must be stated are put behind the names.
@@ -34,7 +34,7 @@ module _ (s d e o st : List ℕ) (z : Sizes) (x ms k₀ k k₁ : List ℕ) (r : 
   pub ready_by : Ready s d e o st z x k₁
   ready_by = record { known = table_known s d k ms known r.size k₁ q; named = r.named; owners = table_owners s d k ms known r.size k₁ q (owner_words x) r.owners }
 
-  pub judges_marked : (ps : List ℕ) (a : Fault) → JudgesObjects s d e o st k₁ z ps a → JudgesObjects s d e o st ms z ps a
+  pub judges_marked : (ps : List ℕ) (a : MaybeFault) → JudgesObjects s d e o st k₁ z ps a → JudgesObjects s d e o st ms z ps a
   judges_marked ps a j f g m p = j f g (table_marked s d k ms known r.size k₁ q f z.definitions r.few m) p
 
 pub blank_of : (n : ℕ) → 3072 ≤ n → Blank (replicate n 0)
@@ -48,5 +48,5 @@ pub blank_again : (x y : List ℕ) → y ≡ replicate (length x) 0 → StaysBla
 blank_again x y e n b = e ∙ ap (λ (i : ℕ). replicate i 0) (ap length b ∙ length-replicate {A = ℕ} n 0)
 
 -- All objects are judged by the marks.
-pub judged_all : (s d e o st : List ℕ) (z : Sizes) (ps ms : List ℕ) (a : Fault) → Marks s d e st z ms → JudgesObjects s d e o st ms z ps a → JudgesAll s d e o st z ps a
+pub judged_all : (s d e o st : List ℕ) (z : Sizes) (ps ms : List ℕ) (a : MaybeFault) → Marks s d e st z ms → JudgesObjects s d e o st ms z ps a → JudgesAll s d e o st z ps a
 judged_all s d e o st z ps ms a m j f g p = j f g (m o f g) p

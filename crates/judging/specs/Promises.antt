@@ -4,7 +4,7 @@ use Rattle.meaning.specs.Merging.{then}
 use Rattle.token.specs.Find.{pick, both, bit}
 use Rattle.token.specs.Tokens.{part_of}
 use Rattle.grammar.specs.Grammar.{Kind}
-use Rattle.rows.specs.declared.Fault.{Fault}
+use Rattle.rows.specs.Order.{MaybeFault}
 use Rattle.meaning.specs.Syntax.{Word, Definitions, Defined, Statement, Statements, state, Object, File, statements_in}
 use Rattle.meaning.specs.Words.{among}
 use Rattle.meaning.specs.Kinds.{kind_number}
@@ -82,7 +82,7 @@ unfoldable pub name_code : ℕ → Bool
 name_code c = pick (eqb c 43) false (pick (eqb c 44) false (pick (eqb c 0) true (pick (eqb c 54) false (leb 5 c))))
 
 -- 15 and 18 of a reference to the kind of a number, whose value is the word at a place with a code.
-abbrev pub ReferenceFault : (s o : List ℕ) → (n kind at len code : ℕ) → Fault → Type 0
+abbrev pub ReferenceFault : (s o : List ℕ) → (n kind at len code : ℕ) → MaybeFault → Type 0
 ReferenceFault s o n kind at len code r =
     (f : File) (k : Kind) (t : Word) → Situation s f → o ≡ kept_objects f → n ≡ length f.objects → n ≤ 257 → kind ≡ kind_number k
     → t.bytes ≡ part_of s at len → t.place ≡ at → code_of t ≡ code → r ≡ fault_of (first (reference_faults f.objects k (sort_of t.class) t))
@@ -97,7 +97,7 @@ pub record StatedAs (s d e o st : List ℕ) (z : Sizes) (k j : ℕ) (f : File) (
   pub attribute : Attribute f j y
 
 -- 15 and 18 of the statement of row k, whose attribute has the row j.
-abbrev pub ValueFault : (s d e o st : List ℕ) → Sizes → (k j : ℕ) → Fault → Type 0
+abbrev pub ValueFault : (s d e o st : List ℕ) → Sizes → (k j : ℕ) → MaybeFault → Type 0
 ValueFault s d e o st z k j r =
     (f : File) (x : Statement) (y : Defined) → StatedAs s d e o st z k j f x y → r ≡ fault_of (first (faults_as y.definition.type f.objects x y))
 
@@ -108,7 +108,7 @@ Again s d e o st z m k n j r =
     → BlockAt s st m n (then before (state x a.inside a.rest)) → k ≡ m + statements_in before → r ≡ both (not y.definition.list) (among x.name (names before))
 
 -- 14, 15 and 18 of the statement of row k, in the block from m to n.
-abbrev pub OwnFault : (s d e o st : List ℕ) → Sizes → (m k n j : ℕ) → Fault → Type 0
+abbrev pub OwnFault : (s d e o st : List ℕ) → Sizes → (m k n j : ℕ) → MaybeFault → Type 0
 OwnFault s d e o st z m k n j r =
     (f : File) (x : Statement) (y : Defined) (before : Statements) (a : StatedAs s d e o st z k j f x y)
     → BlockAt s st m n (then before (state x a.inside a.rest)) → k ≡ m + statements_in before → r ≡ fault_of (first (own_faults f.objects x y (names before)))
@@ -122,40 +122,40 @@ pub record Scoped (s d e o st ms : List ℕ) (z : Sizes) (key : ℕ) (f : File) 
   pub scope : ScopeAt f key ds
 
 -- The faults of a block's statements.
-abbrev pub Judges : (s d e o st ms : List ℕ) → Sizes → (key m n : ℕ) → Fault → Type 0
+abbrev pub Judges : (s d e o st ms : List ℕ) → Sizes → (key m n : ℕ) → MaybeFault → Type 0
 Judges s d e o st ms z key m n r =
     (f : File) (ds : Definitions) (ss : Statements) → Scoped s d e o st ms z key f ds → BlockAt s st m n ss → r ≡ fault_of (first (judge ss f.objects ds []))
 
 -- The faults of the statement of row k, in the block from m to v, and of those in its braces, which end before n.
-abbrev pub JudgesOne : (s d e o st ms : List ℕ) → Sizes → (key m k n v : ℕ) → Fault → Type 0
+abbrev pub JudgesOne : (s d e o st ms : List ℕ) → Sizes → (key m k n v : ℕ) → MaybeFault → Type 0
 JudgesOne s d e o st ms z key m k n v r =
     (f : File) (ds : Definitions) (before : Statements) (x : Statement) (inside rest : Statements) → Scoped s d e o st ms z key f ds
     → BlockAt s st m v (then before (state x inside rest)) → k ≡ m + statements_in before → n ≡ suc k + statements_in inside
     → r ≡ fault_of (first (judged (find_definition ds x.name) f.objects x (names before) (names inside) (λ us. judge inside f.objects us [])))
 
 -- 16 at the owner's word, and the faults of its block's statements.
-abbrev pub JudgesBlock : (s d e o st ms : List ℕ) → Sizes → (key m n owner : ℕ) → Fault → Type 0
+abbrev pub JudgesBlock : (s d e o st ms : List ℕ) → Sizes → (key m n owner : ℕ) → MaybeFault → Type 0
 JudgesBlock s d e o st ms z key m n owner r =
     (f : File) (ds : Definitions) (ss : Statements) (w : Word) → Scoped s d e o st ms z key f ds → BlockAt s st m n ss → w.place ≡ owner
     → r ≡ fault_of (first (faults_if (lacks ds (names ss)) w 16 ++ judge ss f.objects ds []))
 
 -- 16 alone.
-abbrev pub LackFault : (s d st ms : List ℕ) → Sizes → (key m n owner : ℕ) → Fault → Type 0
+abbrev pub LackFault : (s d st ms : List ℕ) → Sizes → (key m n owner : ℕ) → MaybeFault → Type 0
 LackFault s d st ms z key m n owner r =
     (e o : List ℕ) (f : File) (ds : Definitions) (ss : Statements) (w : Word) → Scoped s d e o st ms z key f ds → BlockAt s st m n ss → w.place ≡ owner
     → r ≡ fault_of (first (faults_if (lacks ds (names ss)) w 16))
 
 -- The faults of the object of row i.
-abbrev pub JudgesObject : (s d e o st ms : List ℕ) → Sizes → (ps : List ℕ) → ℕ → Fault → Type 0
+abbrev pub JudgesObject : (s d e o st ms : List ℕ) → Sizes → (ps : List ℕ) → ℕ → MaybeFault → Type 0
 JudgesObject s d e o st ms z ps i r =
     (f : File) (front : List Object) (x : Object) (rest : List Object) → Given s d e o st z f → Marked f ms z.definitions → Places f ps
     → f.objects ≡ front ++ (x ∷ rest) → length front ≡ i → r ≡ fault_of (first (judge_object f x (of_kind x.kind f.specs)))
 
 -- The faults of all objects, where the rows of definitions are marked.
-abbrev pub JudgesObjects : (s d e o st ms : List ℕ) → Sizes → List ℕ → Fault → Type 0
+abbrev pub JudgesObjects : (s d e o st ms : List ℕ) → Sizes → List ℕ → MaybeFault → Type 0
 JudgesObjects s d e o st ms z ps r =
     (f : File) → Given s d e o st z f → Marked f ms z.definitions → Places f ps → r ≡ fault_of (first (statement_stage f))
 
 -- The fault by which the stage of 13 to 16 and 18 answers.
-abbrev pub JudgesAll : (s d e o st : List ℕ) → Sizes → List ℕ → Fault → Type 0
+abbrev pub JudgesAll : (s d e o st : List ℕ) → Sizes → List ℕ → MaybeFault → Type 0
 JudgesAll s d e o st z ps r = (f : File) → Given s d e o st z f → Places f ps → r ≡ fault_of (first (statement_stage f))

@@ -12,7 +12,7 @@ use amounts::ranges;
 use blocks::after;
 use layout::{definition, enumerator, object, statement};
 use lookups::names;
-use rows::{Fault, Found, cells, counts, faults, refusals};
+use rows::{Fault, cells, counts, faults, refusals};
 use scopes::Sizes;
 
 mod marking;
@@ -33,12 +33,12 @@ fn lack_fault(
     from: usize,
     end: usize,
     owner: usize,
-) -> Fault
+) -> Option<Fault>
     requires { Ranks text.now d.now st.now names.now × Firsts st.now (statement_ranks names.now) from end first.now × Owners d.now missing.now (owner_words names.now) }
     ensures { LackFault text.now d.now st.now missing.now z key from end owner result }
 {
     if key == 0 {
-        return faults::NONE;
+        return None;
     }
     if names::is_owner(names, key) {
         return faults::fault_if(
@@ -58,7 +58,7 @@ fn lack_fault(
             owner,
         );
     }
-    faults::NONE
+    None
 }
 
 // The faults of the statements of a block, in the scope of the word at key. Here and below `names` is the table of names; `known` has the marks of the
@@ -77,12 +77,13 @@ fn judge(
     key: usize,
     from: usize,
     end: usize,
-) -> Fault
+) -> Option<Fault>
     requires { Ready text.now d.now e.now o.now st.now z names.now known.now × Firsts st.now (statement_ranks names.now) from end first.now }
     ensures { Judges text.now d.now e.now o.now st.now known.now z key from end result }
 {
-    let mut best = faults::NONE;
+    let mut best = None;
     let mut k = from;
+    // A `while`: the next statement of the block is behind the rows in this one's braces.
     while k < end {
         let next = after(st, k, end);
         let f = judge_one(
@@ -111,17 +112,17 @@ fn judge_one(
     k: usize,
     next: usize,
     end: usize,
-) -> Fault
+) -> Option<Fault>
     requires { (k < next) × Ready text.now d.now e.now o.now st.now z names.now known.now × Firsts st.now (statement_ranks names.now) from end first.now }
     ensures { JudgesOne text.now d.now e.now o.now st.now known.now z key from k next end result }
 {
     let name = cells::cell_of(st, statement::WIDTH, k, statement::NAME);
     let size = cells::cell_of(st, statement::WIDTH, k, statement::NAME_LENGTH);
-    let Found::At(j) = names::find_definition(text, d, names, z.definitions, key, name, size) else {
-        return Fault {
+    let Some(j) = names::find_definition(text, d, names, z.definitions, key, name, size) else {
+        return Some(Fault {
             number: refusals::NOT_DEFINED,
             place: name,
-        };
+        });
     };
     let at = cells::cell_of(st, statement::WIDTH, k, statement::VALUE);
     let len = cells::cell_of(st, statement::WIDTH, k, statement::VALUE_LENGTH);
@@ -129,7 +130,7 @@ fn judge_one(
     let f = values::own_fault(
         text, d, e, o, st, names, first, known, z, from, k, end, j, under,
     );
-    if faults::is_fault(f) {
+    if f.is_some() {
         return f;
     }
     judge_block(text, d, e, o, st, names, known, z, under, k + 1, next, at)
@@ -151,7 +152,7 @@ fn judge_block(
     from: usize,
     end: usize,
     owner: usize,
-) -> Fault
+) -> Option<Fault>
     requires { Ready text.now d.now e.now o.now st.now z names.now known.now }
     ensures { JudgesBlock text.now d.now e.now o.now st.now known.now z key from end owner result }
 {
@@ -226,7 +227,7 @@ fn judge_object(
     z: Sizes,
     places: &[usize],
     i: usize,
-) -> Fault
+) -> Option<Fault>
     requires { Ready text.now d.now e.now o.now st.now z names.now known.now }
     ensures { JudgesObject text.now d.now e.now o.now st.now known.now z places.now i result }
 {
@@ -249,16 +250,14 @@ fn judge_objects(
     known: &[usize],
     z: Sizes,
     places: &[usize],
-) -> Fault
+) -> Option<Fault>
     requires { Ready text.now d.now e.now o.now st.now z names.now known.now }
     ensures { JudgesObjects text.now d.now e.now o.now st.now known.now z places.now result }
 {
-    let mut best = faults::NONE;
-    let mut i = 0;
-    while i < z.objects {
+    let mut best = None;
+    for i in 0..z.objects {
         let f = judge_object(text, d, e, o, st, names, known, z, places, i);
         best = faults::sooner(best, f);
-        i += 1;
     }
     best
 }
@@ -277,7 +276,7 @@ fn judge_ranged(
     spare: &mut [usize],
     z: Sizes,
     places: &[usize],
-) -> Fault
+) -> Option<Fault>
     requires { MarksReady text.now d.now e.now o.now st.now z names.now missing.now × Blank known.old }
     ensures judges { JudgesObjects text.now d.now e.now o.now st.now missing.now z places.now result }
     ensures lends { SameRoom spare.old spare.new }
@@ -299,7 +298,7 @@ fn judge_few(
     wanted: &[usize],
     z: Sizes,
     places: &[usize],
-) -> Fault
+) -> Option<Fault>
     requires { MarksReady text.now d.now e.now o.now st.now z names.now missing.now }
     ensures { JudgesObjects text.now d.now e.now o.now st.now missing.now z places.now result }
 {
@@ -323,7 +322,7 @@ fn judge_many(
     lent: &mut [usize],
     z: Sizes,
     places: &[usize],
-) -> Fault
+) -> Option<Fault>
     requires { MarksReady text.now d.now e.now o.now st.now z names.now missing.now }
     ensures judges { JudgesObjects text.now d.now e.now o.now st.now missing.now z places.now result }
     ensures blank { lent.new ≡ replicate (length lent.old) 0 }
@@ -348,20 +347,20 @@ pub fn judge_all(
     lent: &mut [usize],
     z: Sizes,
     places: [usize; counts::KINDS],
-) -> Fault
+) -> Option<Fault>
     requires { Names text.now d.now e.now o.now st.now z names.old }
     ensures judges { JudgesAll text.now d.now e.now o.now st.now z places result }
     ensures keeps { Names text.now d.now e.now o.now st.now z names.new }
     ensures lends { StaysBlank lent.old lent.new }
 {
     if definition::MOST < z.definitions {
-        return faults::NONE;
+        return None;
     }
     if enumerator::MOST < z.enumerators {
-        return faults::NONE;
+        return None;
     }
     if object::MOST < z.objects {
-        return faults::NONE;
+        return None;
     }
     let missing = marking::marks(text, d, e, st, names, z);
     let owners = lookups::owners::owners(d, &missing);

@@ -8,7 +8,7 @@ ghost use Rattle.judging.specs.Promises.{LacksRow, Lacks, Needs, Marks};
 
 use layout::{definition, word_codes};
 use lookups::names;
-use rows::{Found, cells, finding};
+use rows::{cells, finding};
 use scopes::Sizes;
 
 // Whether the attribute of row i, which stands under the word at key, is marked, and the block does not state it; `first` has the first row of
@@ -34,7 +34,7 @@ fn lacks_row(
 }
 
 // The first row from i on, among the first n, that stands under the word at key: `find_row`, without its tests where all rows lie inside.
-fn find_under(d: &[usize], n: usize, key: usize, i: usize) -> Found
+fn find_under(d: &[usize], n: usize, key: usize, i: usize) -> Option<usize>
     ensures { result ≡ find_row d.now 19 n 0 key i }
 {
     if definition::MOST < n {
@@ -44,18 +44,16 @@ fn find_under(d: &[usize], n: usize, key: usize, i: usize) -> Found
         return finding::find_row(d, definition::WIDTH, n, definition::UNDER, key, i);
     }
     if n <= i {
-        return Found::Nothing;
+        return None;
     }
     let mut p = i * definition::WIDTH;
-    let mut k = i;
-    while k < n {
+    for k in i..n {
         if d[p] == key {
-            return Found::At(k);
+            return Some(k);
         }
         p += definition::WIDTH;
-        k += 1;
     }
-    Found::Nothing
+    None
 }
 
 // Whether a block lacks one of the attributes under the word at key, among the first n rows.
@@ -75,8 +73,9 @@ pub fn lacks(
     ensures { Lacks text.now d.now st.now missing.now n key from end result }
 {
     let mut i = 0;
+    // A `while`: the search goes on behind the row that was found.
     while i < n {
-        let Found::At(j) = find_under(d, n, key, i) else {
+        let Some(j) = find_under(d, n, key, i) else {
             return false;
         };
         if lacks_row(text, d, st, names, missing, first, j, from, end) {
@@ -143,14 +142,12 @@ pub fn marks(
     ensures { Marks text.now d.now e.now st.now z result }
 {
     let mut missing = [0; definition::MOST];
-    let mut j = 0;
-    while j < z.definitions {
+    for j in 0..z.definitions {
         if definition::MOST <= j {
             return missing;
         }
         let m = needs(text, d, e, st, names, &missing, z, j);
         missing[j] = m;
-        j += 1;
     }
     missing
 }

@@ -9,7 +9,7 @@ ghost use Rattle.judging.specs.Promises.{name_code, ReferenceFault, ValueFault, 
 use amounts::asking::takes;
 use layout::{definition, statement, word_codes};
 use lookups::names;
-use rows::{Fault, Found, cells, faults, refusals};
+use rows::{Fault, cells, faults, refusals};
 use scopes::Sizes;
 
 // Whether a word with this code is a name.
@@ -41,23 +41,23 @@ fn reference_fault(
     at: usize,
     len: usize,
     code: usize,
-) -> Fault
+) -> Option<Fault>
     requires { IndexAt text.now o.now 10 3 objects 1536 names.now }
     ensures { ReferenceFault text.now o.now objects kind at len code result }
 {
     if !is_name(code) {
-        return Fault {
+        return Some(Fault {
             number: refusals::WRONG_VALUE,
             place: at,
-        };
+        });
     }
-    let Found::At(_) = names::find_object(text, o, names, objects, kind, at, len) else {
-        return Fault {
+    let Some(_) = names::find_object(text, o, names, objects, kind, at, len) else {
+        return Some(Fault {
             number: refusals::NO_OBJECT,
             place: at,
-        };
+        });
     };
-    faults::NONE
+    None
 }
 
 // 15 and 18 of the statement of row k, whose attribute has the row j.
@@ -73,7 +73,7 @@ pub fn value_fault(
     k: usize,
     j: usize,
     under: usize,
-) -> Fault
+) -> Option<Fault>
     requires { Known text.now d.now known.now × Named text.now d.now e.now o.now st.now z names.now × FindsWord text.now d.now e.now z.enumerators j (get_or st.now (k * 7 + 2) 0) (get_or st.now (k * 7 + 3) 0) under }
     ensures { ValueFault text.now d.now e.now o.now st.now z k j result }
 {
@@ -82,10 +82,10 @@ pub fn value_fault(
     let code = cells::cell_of(st, statement::WIDTH, k, statement::CODE);
     let kind = cells::cell_of(d, definition::WIDTH, j, definition::CODE);
     if kind < word_codes::FIRST_TYPE {
-        return Fault {
+        return Some(Fault {
             number: refusals::WRONG_VALUE,
             place: at,
-        };
+        });
     }
     if kind < word_codes::UINT32 {
         let a = reference_fault(
@@ -150,7 +150,7 @@ pub fn own_fault(
     end: usize,
     j: usize,
     under: usize,
-) -> Fault
+) -> Option<Fault>
     requires { Known text.now d.now known.now × Named text.now d.now e.now o.now st.now z names.now × Firsts st.now (statement_ranks names.now) from end first.now × FindsWord text.now d.now e.now z.enumerators j (get_or st.now (k * 7 + 2) 0) (get_or st.now (k * 7 + 3) 0) under }
     ensures { OwnFault text.now d.now e.now o.now st.now z from k end j result }
 {

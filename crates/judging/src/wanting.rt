@@ -9,10 +9,7 @@ use scopes::numbers;
 
 // Whether a word with this code is a number or a float.
 fn is_number(code: usize) -> bool {
-    if code == word_codes::NUMERAL {
-        return true;
-    }
-    code == word_codes::FLOATING
+    code == word_codes::NUMERAL || code == word_codes::FLOATING
 }
 
 // Counts a rank, up to 2, if the word that is stated is a number or a float.
@@ -30,11 +27,9 @@ fn count(counts: &mut [usize], rank: usize, code: usize) {
 
 // Counts the rank of each such statement, up to 2.
 fn count_all(st: &[usize], ranks: &[usize], counts: &mut [usize]) {
-    let mut i = 0;
-    while i < ranks.len() {
+    for (i, rank) in ranks.iter().enumerate() {
         let code = cells::cell_of(st, statement::WIDTH, i, statement::CODE);
-        count(counts, ranks[i], code);
-        i += 1;
+        count(counts, *rank, code);
     }
 }
 
@@ -48,10 +43,8 @@ fn mark_of(counts: &[usize], rank: usize) -> usize {
 
 // Marks the rows whose rank was counted twice.
 fn mark(ranks: &[usize], counts: &[usize], marks: &mut [usize]) {
-    let mut i = 0;
-    while i < marks.len() {
-        marks[i] = mark_of(counts, cells::get(ranks, i));
-        i += 1;
+    for (i, m) in marks.iter_mut().enumerate() {
+        *m = mark_of(counts, cells::get(ranks, i));
     }
 }
 
@@ -81,10 +74,8 @@ fn listed_of(d: &[usize], mark: usize, i: usize) -> usize
 // The same of all marked definitions; 65,535 where there are more.
 pub fn listed(d: &[usize], marks: &[usize]) -> usize {
     let mut numbers = 0;
-    let mut i = 0;
-    while i < marks.len() {
-        numbers = cells::least_of(numbers + listed_of(d, marks[i], i), token::LONGEST);
-        i += 1;
+    for (i, m) in marks.iter().enumerate() {
+        numbers = cells::least_of(numbers + listed_of(d, *m, i), token::LONGEST);
     }
     numbers
 }
@@ -117,10 +108,8 @@ fn in_list(text: &[u8], d: &[usize], mark: usize, i: usize) -> usize
 // The same of all marked definitions; 65,535 where there are more.
 pub fn in_lists(text: &[u8], d: &[usize], marks: &[usize]) -> usize {
     let mut count = 0;
-    let mut i = 0;
-    while i < marks.len() {
-        count = cells::least_of(count + in_list(text, d, marks[i], i), token::LONGEST);
-        i += 1;
+    for (i, m) in marks.iter().enumerate() {
+        count = cells::least_of(count + in_list(text, d, *m, i), token::LONGEST);
     }
     count
 }

@@ -1,13 +1,11 @@
 -- What the values of the code's kind type stand for. Assumes nothing.
 use Rattle.std.proofs.Math.Option.{Option, none, some}
-use Rattle.std.specs.Prelude.{List, [], ◌++◌, ℕ, ◌+◌, ◌-◌, length, get_or, replicate}
+use Rattle.std.specs.Prelude.{List, [], ℕ, ◌+◌, get_or, Option as Most, Some, None}
 use Rattle.token.specs.Words.{known}
 use Rattle.grammar.specs.Grammar.{Kind as Kind-of, OS, APPMODE, TASK, ISR, COUNTER, ALARM, RESOURCE, EVENT, COM, MESSAGE, NETWORKMESSAGE, IPDU, NM}
 use Rattle.meaning.specs.Kinds.{kinds, kind_number}
 use Rattle.kinds.specs.declared.Kind.{Kind}
 use Rattle.kinds.specs.declared.Kind.TheVariants.{Os, Appmode, Task, Isr, Counter, Alarm, Resource, Event, Com, Message, Networkmessage, Ipdu, Nm}
-use Rattle.kinds.specs.declared.Most.{Most}
-use Rattle.kinds.specs.declared.Most.TheVariants.{Of, Any}
 
 -- The kind of document 01 that a value is.
 unfoldable pub kind_of : Kind → Kind-of
@@ -30,14 +28,10 @@ unfoldable pub kind_at : ℕ → Kind-of
 kind_at n = get_or kinds n NM
 
 -- A kind's most, where there is one.
-unfoldable pub most_of : Option ℕ → Most
-most_of none = Any
-most_of (some n) = Of n
+unfoldable pub most_of : Option ℕ → Most ℕ
+most_of none = None
+most_of (some n) = Some n
 
 -- A kind's word: the token reader has the kinds after its first eight known words.
 unfoldable pub word_of : Kind-of → List ℕ
 word_of k = get_or known (8 + kind_number k) []
-
--- A word with spaces after it, fourteen bytes in all.
-unfoldable pub padded : List ℕ → List ℕ
-padded w = w ++ replicate (14 - length w) 32

@@ -14,10 +14,7 @@ use Rattle.sources.specs.Lines.{line_start, whole_to, named, line_by, line_of, h
 use Rattle.sources.specs.Texts.{find_name, include_by, include_of, event_by, event_at}
 use Rattle.sources.specs.Expanding.{Piece, onto, onto_part, nothing, stopped, onto_end, with_rest, included_by, included, after_event, walk_n, walk, expand_n, main_open, main_text, expanded}
 use Rattle.sources.specs.declared.Line.{Line}
-use Rattle.sources.specs.declared.Name.{Name}
-use Rattle.sources.specs.declared.Name.TheVariants.{Is, Not}
-use Rattle.sources.specs.declared.Hit.{Hit}
-use Rattle.sources.specs.declared.Hit.TheVariants.{Present, Absent}
+use Rattle.std.specs.Prelude.{Option, Some, None}
 use Rattle.sources.specs.declared.Stop.{Stop}
 use Rattle.sources.specs.declared.Stop.TheVariants.{At, Line as AtLine}
 use Rattle.sources.specs.declared.Include.{Include}
@@ -31,9 +28,9 @@ abbrev ByStop : Stop → Type 0
 ByStop (At n q) = FaultNumber n
 ByStop (AtLine i) = Unit {0}
 
-by_name : (s : List ℕ) (h a e : ℕ) (x : Name) → ByStop (line_by s h a e x)
-by_name s h a e (Is f t) = tt
-by_name s h a e Not = other_hash
+by_name : (s : List ℕ) (h a e : ℕ) (x : Option (ℕ × ℕ)) → ByStop (line_by s h a e x)
+by_name s h a e (Some (f, t)) = tt
+by_name s h a e None = other_hash
 
 by_hash : (s : List ℕ) (p q : ℕ) → ByStop (hash_at s p q)
 unfolding hash_at line_of
@@ -60,9 +57,9 @@ abbrev ByEvent : Event → Type 0
 ByEvent (Stops n q) = FaultNumber n
 ByEvent (Includes i) = Unit {0}
 
-by_include : (o : List ℕ) (i : Line) (h : Hit) → ByEvent (include_by o i h)
-by_include o i (Present n f t) = by_test ByEvent (eqb (get_or o n 0) 1) (Stops 27 i.hash) _ (λ _. still_open) (λ _. tt)
-by_include o i Absent = not_lent
+by_include : (o : List ℕ) (i : Line) (h : Option (ℕ × ℕ × ℕ)) → ByEvent (include_by o i h)
+by_include o i (Some (n, f, t)) = by_test ByEvent (eqb (get_or o n 0) 1) (Stops 27 i.hash) _ (λ _. still_open) (λ _. tt)
+by_include o i None = not_lent
 
 by_stop : (b l s o : List ℕ) (x : Stop) → ByStop x → ByEvent (event_by b l s o x)
 unfolding include_of

@@ -19,11 +19,12 @@ use Rattle.sources_reading.proofs.Answered.{answers, one_answer}
 use Rattle.sources_reading.proofs.Renumbered.{is_renumbered}
 use Rattle.placing.specs.Placed.{place_in, placed_tables, is_at_start, placed_answer}
 use Rattle.lent_texts.specs.Answered.{place_of, TheAnswer}
-use Rattle.lent_texts.specs.Expanded.{refusal_at, refusal_in, Rooms, Filled, Holds, ExpandsTexts, short_rooms, too_long, expands}
+use Rattle.lent_texts.specs.Expanded.{refusal_at, refusal_in, Rooms, Filled, Holds, ExpandsTexts, short_rooms, too_long, expands, Lent}
 use Rattle.lent_texts.specs.declared.Expanded.{Expanded}
-use Rattle.lent_texts.specs.declared.Refusal.{Refusal}
-use Rattle.lent_texts.specs.declared.Lent.{Lent}
-use Rattle.lent_texts.specs.declared.Lent.TheVariants.{Stopped, Text}
+use Rattle.rows.specs.Refusing.{fault_at, refusing}
+use Rattle.rows.specs.declared.Fault.{Fault}
+use Rattle.std.specs.Prelude.{Result, Ok, Err, IsErrAnd}
+use Rattle.std.proofs.lemmas.Result.{err_from_is_err_and}
 use Rattle.lent_texts.proofs.Kept.{Kept, kept}
 
 -- ---- a refusal
@@ -42,7 +43,7 @@ refused_is g e k p n q i j =
 
 -- ---- `expand`
 
-pub short_expands : {b l x g : List ℕ} → (Rooms x g → ⊥) → ExpandsTexts b l x g x g (Stopped 1)
+pub short_expands : {b l x g : List ℕ} → (Rooms x g → ⊥) → ExpandsTexts b l x g x g (refusing 1 0)
 short_expands n = short_rooms n refl refl
 
 module _ (b l x g x' g' : List ℕ) (e : Expansion) (u : Expands 65535 b l x g x' g' e) (hx : 65535 ≤ length x) (hg : 65535 ≤ length g) where
@@ -52,7 +53,7 @@ module _ (b l x g x' g' : List ℕ) (e : Expansion) (u : Expands 65535 b l x g x
   filled_is : Filled b l x g x' g'
   filled_is = record { bytes = u.bytes; origins = u.origins }
 
-  pub long_expands : e.number ≡ 30 → ExpandsTexts b l x g x' g' (Stopped 30)
+  pub long_expands : e.number ≡ 30 → ExpandsTexts b l x g x' g' (refusing 30 0)
   long_expands n = too_long rooms (sym (ap (λ (y : Expansion). y.number) u.result) ∙ n) filled_is
 
   module _ (not : e.number ≡ 30 → ⊥) where
@@ -65,7 +66,7 @@ module _ (b l x g x' g' : List ℕ) (e : Expansion) (u : Expands 65535 b l x g x
     pub small_number : e.number ≤ 29
     small_number = k.small
 
-    pub text_expands : ExpandsTexts b l x g x' g' (Text (record { fault = e.number; length = e.length; main = get_or l 1 0 }))
+    pub text_expands : ExpandsTexts b l x g x' g' (Ok (record { fault = e.number; length = e.length; main = get_or l 1 0 }))
     text_expands =
         expands rooms (record {
           within = λ z. not (ap (λ (y : Expansion). y.number) u.result ∙ z);
@@ -78,9 +79,9 @@ module _ (b l x g x' g' : List ℕ) (e : Expansion) (u : Expands 65535 b l x g x
 -- ---- what a call takes from it
 
 -- the lent texts are refused at once
-pub data AtOnce (b l x g x' g' : List ℕ) (n : ℕ) : Type 0 where
-  by_1 : (Rooms x g → ⊥) → n ≡ 1 → x' ≡ x → g' ≡ g → AtOnce b l x g x' g' n
-  by_30 : Rooms x g → n ≡ 30 → (expansion_of b l).number ≡ 30 → TheAnswer b l (refused 30 0) → Filled b l x g x' g' → AtOnce b l x g x' g' n
+pub data AtOnce (b l x g x' g' : List ℕ) (f : Fault) : Type 0 where
+  by_1 : (Rooms x g → ⊥) → f ≡ fault_at 1 0 → x' ≡ x → g' ≡ g → AtOnce b l x g x' g' f
+  by_30 : Rooms x g → f ≡ fault_at 30 0 → (expansion_of b l).number ≡ 30 → TheAnswer b l (refused 30 0) → Filled b l x g x' g' → AtOnce b l x g x' g' f
 
 pub thirty_answer : (b l : List ℕ) → (expansion_of b l).number ≡ 30 → TheAnswer b l (refused 30 0)
 unfolding placed_answer is_at_start
@@ -88,10 +89,14 @@ thirty_answer b l n =
     let h : Answers b l (refused 30 0) = texts-too-long n in
     record { in_expanded = refused 30 0; given = h; no_other = λ y k. sym (one_answer k) ∙ one_answer h; placed = refl }
 
-pub at_once : {b l x g x' g' : List ℕ} {r : Lent} (n : ℕ) → ExpandsTexts b l x g x' g' r → r ≡ Stopped n → AtOnce b l x g x' g' n
-at_once n (short_rooms h i j) q = by_1 h (let z : n ≡ 1 = cc in z) i j
-at_once {b} {l} n (too_long h i j) q = by_30 h (let z : n ≡ 30 = cc in z) i (thirty_answer b l i) j
-at_once n (expands h i j) q = absurd (let z : ◌≡◌ {A = ℕ} 0 1 = cc in omega arith)
+pub at_once : {b l x g x' g' : List ℕ} {r : Lent} (f : Fault) → ExpandsTexts b l x g x' g' r → r ≡ Err f → AtOnce b l x g x' g' f
+at_once f (short_rooms h i j) q = by_1 h (let z : f ≡ fault_at 1 0 = cc in z) i j
+at_once {b} {l} f (too_long h i j) q = by_30 h (let z : f ≡ fault_at 30 0 = cc in z) i (thirty_answer b l i) j
+at_once f (expands h i j) q = absurd (let z : ◌≡◌ {A = ℕ} 0 1 = cc in omega arith)
+
+-- what `?` hands on is the refusal itself
+pub passed_on : {A : Type 0} {r : Result A Fault} {f : Fault} → IsErrAnd r (λ y. y ≡ f) → r ≡ Err f
+passed_on {r} h = let p = err_from_is_err_and r h in p.1 ∙ ap Err p.2
 
 -- there is the expanded text
 pub record There (b l x g x' g' : List ℕ) (e : Expanded) : Type 0 where
@@ -99,14 +104,14 @@ pub record There (b l x g x' g' : List ℕ) (e : Expanded) : Type 0 where
   pub holds : Holds b l x' g' e
   pub filled : Filled b l x g x' g'
 
-pub there : {b l x g x' g' : List ℕ} {r : Lent} (e : Expanded) → ExpandsTexts b l x g x' g' r → r ≡ Text e → There b l x g x' g' e
+pub there : {b l x g x' g' : List ℕ} {r : Lent} (e : Expanded) → ExpandsTexts b l x g x' g' r → r ≡ Ok e → There b l x g x' g' e
 there e (short_rooms h i j) q = absurd (let z : ◌≡◌ {A = ℕ} 0 1 = cc in omega arith)
 there e (too_long h i j) q = absurd (let z : ◌≡◌ {A = ℕ} 0 1 = cc in omega arith)
 there {b} {l} {x' = x'} {g' = g'} e (expands {e = f} h i j) q =
     let z : f ≡ e = cc in
     record { rooms = h; holds = subst (Holds b l x' g') z i; filled = j }
 
-pub inside : {b l x g x' g' : List ℕ} {r : Lent} {e : Expanded} → ExpandsTexts b l x g x' g' r → r ≡ Text e → e.length ≤ length x'
+pub inside : {b l x g x' g' : List ℕ} {r : Lent} {e : Expanded} → ExpandsTexts b l x g x' g' r → r ≡ Ok e → e.length ≤ length x'
 inside {e = e} u q = (there e u q).holds.inside
 
 -- the answer to the lent texts, by that to the expanded text
@@ -131,10 +136,10 @@ refusal_of {b} {l} {g = g} {e = e} n p k =
     sym (ap (λ (y : ℕ). refused (pick (eqb n 3) y n) (pick (is_at_start (pick (eqb n 3) y n)) p (place_in g e.length e.main p))) k.fault
     ∙ ap (λ (y : ℕ). refused (pick (eqb n 3) (expanded b l).number n) (pick (is_at_start (pick (eqb n 3) (expanded b l).number n)) p y)) (k.place p))
 
-pub answered_refused : {b l x g : List ℕ} {e : Expanded} (n p : ℕ) → Holds b l x g e → TheTextsAnswer (expanded b l).bytes (refused n p) → (r : Refusal) →
+pub answered_refused : {b l x g : List ℕ} {e : Expanded} (n p : ℕ) → Holds b l x g e → TheTextsAnswer (expanded b l).bytes (refused n p) → (r : Fault) →
     r ≡ refusal_in g e n p → TheAnswer b l (refused r.number r.place)
 answered_refused {b} {l} {g = g} {e = e} n p k h r q =
-    subst (TheAnswer b l) (refusal_of n p k ∙ ap (λ (y : Refusal). refused y.number y.place) (sym q)) (the_answer (refused n p) k h)
+    subst (TheAnswer b l) (refusal_of n p k ∙ ap (λ (y : Fault). refused y.number y.place) (sym q)) (the_answer (refused n p) k h)
 
 -- there is one answer
 pub one_told : {b l : List ℕ} {a c : Answer} → TheAnswer b l a → TheAnswer b l c → a ≡ c

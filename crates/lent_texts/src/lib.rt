@@ -5,28 +5,14 @@ ghost use Rattle.std.specs.Prelude.{◌≡◌, eqb};
 ghost use Rattle.token.specs.Find.{pick};
 ghost use Rattle.lent_texts.specs.Expanded.{refusal_in, ExpandsTexts};
 
-use rows::refusals;
+use rows::{Fault, refusals};
 
 // The expanded text: the number of its first fault of 3 and 27 to 29, 0 for none; how long it is; and how long the main text is.
-#[derive(Clone, Copy)]
+#[derive(Clone, Copy, Debug, PartialEq, Eq)]
 pub struct Expanded {
     pub fault: u8,
     pub length: usize,
     pub main: usize,
-}
-
-// The lent texts are refused at once, by 1 or 30, or there is the expanded text.
-#[derive(Clone, Copy)]
-pub enum Lent {
-    Stopped(u8),
-    Text(Expanded),
-}
-
-// A refusal: its number, and its place in the lent texts.
-#[derive(Clone, Copy)]
-pub struct Refusal {
-    pub number: u8,
-    pub place: usize,
 }
 
 // Refusal 3 takes the number of the fault that stands there.
@@ -40,37 +26,49 @@ pub fn renumbered(number: u8, fault: u8) -> u8
 }
 
 // A refusal of the expanded text, as that of the lent texts.
-pub fn refused(origins: &[usize], e: Expanded, number: u8, place: usize) -> Refusal
-    ensures { result ≡ refusal_in origins.now e number place }
+pub fn refused(origins: &[usize], e: Expanded, f: Fault) -> Fault
+    ensures { result ≡ refusal_in origins.now e f.number f.place }
 {
-    let n = renumbered(number, e.fault);
-    let p = placing::place_refused(origins, e.length, e.main, n, place);
-    Refusal {
-        number: n,
-        place: p,
-    }
+    let number = renumbered(f.number, e.fault);
+    let place = placing::place_refused(origins, e.length, e.main, number, f.place);
+    Fault { number, place }
 }
 
-// Expands lent texts into lent memory, with the origins of its bytes, 65,535 of each; where one is shorter, nothing is touched. In the buffer stand
+// Expands lent texts into lent memory, with the origins of its bytes, 65,535 of each; where one is shorter, nothing is touched. They are refused at
+// once by 1 or 30, at 0. In the buffer stand
 // a name, its text, the next name and so on, the main text first; lengths has their lengths in that order.
-pub fn expand(buffer: &[u8], lengths: &[usize], expanded: &mut [u8], origins: &mut [usize]) -> Lent
+pub fn expand(
+    buffer: &[u8],
+    lengths: &[usize],
+    expanded: &mut [u8],
+    origins: &mut [usize],
+) -> Result<Expanded, Fault>
     ensures { ExpandsTexts buffer.now lengths.now expanded.old origins.old
         expanded.new origins.new result }
 {
     if expanded.len() < token::LONGEST {
-        return Lent::Stopped(refusals::SHORT_TABLES);
+        return Err(Fault {
+            number: refusals::SHORT_TABLES,
+            place: 0,
+        });
     }
     if origins.len() < token::LONGEST {
-        return Lent::Stopped(refusals::SHORT_TABLES);
+        return Err(Fault {
+            number: refusals::SHORT_TABLES,
+            place: 0,
+        });
     }
     let e = sources::expand(buffer, lengths, expanded, origins);
     if e.number == sources::refusals::LONG_TEXTS {
-        return Lent::Stopped(refusals::LONG_TEXTS);
+        return Err(Fault {
+            number: refusals::LONG_TEXTS,
+            place: 0,
+        });
     }
     let text = Expanded {
         fault: e.number as u8,
         length: e.length,
         main: lengths[1],
     };
-    Lent::Text(text)
+    Ok(text)
 }

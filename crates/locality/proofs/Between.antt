@@ -11,7 +11,8 @@ use lib.Seq.{length-take-le}
 use lib.Dec.{eqb}
 use borrow.Author.Tests.{eqb-true}
 use Rattle.token.specs.Find.{byte, find}
-use Rattle.token.specs.Bytes.{blank, class_of, find_byte, find_close}
+use Rattle.token.specs.Bytes.{class_of, find_byte, find_close}
+use Rattle.token.specs.declared.scan.Class.TheVariants.{Blank as blank}
 use Rattle.token.specs.Tokens.{token_at, step_at}
 use Rattle.token.specs.Lexing.{Lexed, more, ended, refused, Divides, lex_from, after_step}
 use Rattle.token.proofs.Sequences.{tokens_of, after_all}

@@ -11,13 +11,13 @@ use lib.Seq.{take-length}
 use lib.Dec.{T, ltb, eqb}
 use borrow.Author.Tests.{lt-ltb, ltb-true, ne_eqb, eqb-true}
 use Rattle.token.specs.Find.{both, byte}
-use Rattle.token.specs.Bytes.{digit, plus_minus, class_of, class_code, is_word_byte, word_end, is_dotted, find_mark}
+use Rattle.token.specs.Bytes.{class_of, is_word_byte, word_end, is_dotted, find_mark}
+use Rattle.token.specs.declared.scan.Class.TheVariants.{Digit as digit, Sign as plus_minus}
+use Rattle.token.proofs.Bytes.{class_code}
 use Rattle.token.specs.Numbers.{digit_of, all_digits, value_after, digits_after, numeral}
 use Rattle.token.specs.Floats.{mantissa_of, power_at}
-use Rattle.token.specs.declared.Amount.{Amount}
-use Rattle.token.specs.declared.Amount.TheVariants.{Is, Not}
+use Rattle.std.specs.Prelude.{Option, Some, None}
 use Rattle.token.specs.declared.Power.{Power}
-use Rattle.token.specs.declared.Power.TheVariants.{Times, None}
 use Rattle.token.proofs.Lexemes.{number_whole}
 use Rattle.token.proofs.Decimals.{dotted_short}
 use Rattle.token.specs.Tokens.{bytes_between, found, word_at, limit_of, is_negative, number_of, whole_at, float_of, float_by, float_at, number_by, number_at, token_of, step_at}
@@ -69,12 +69,11 @@ whole_ok s p q =
     number_form (eqb (byte s p) 45) (ltb p q) (limit_of (eqb (byte s p) 45)) (λ (f : ℕ → ℕ → Step). StepNumber (f p (word_end s q)))
     (λ m h. within (eqb (byte s p) 45) m h) tt (bytes_between s q (word_end s q))
 
-float_ok : (minus : Bool) (v : Amount) (w : Power) (n p : ℕ) → StepNumber (float_of minus v w n p)
+float_ok : (minus : Bool) (v : Option ℕ) (w : Option Power) (n p : ℕ) → StepNumber (float_of minus v w n p)
 unfolding found
-float_ok minus (Is m) (Times b x e) n p = tt
-float_ok minus (Is m) None n p = tt
-float_ok minus Not (Times b x e) n p = tt
-float_ok minus Not None n p = tt
+float_ok minus (Some m) (Some x) n p = tt
+float_ok minus (Some m) None n p = tt
+float_ok minus None w n p = tt
 
 number_by_ok : (b : Bool) (s : List ℕ) (p q : ℕ) → StepNumber (number_by b s p q)
 unfolding number_by float_at float_by

@@ -8,7 +8,9 @@ use lib.ListN.{length, drop}
 use lib.Dec.{ltb, eqb, leb}
 use borrow.Author.Tests.{ltb-true, leb-true}
 use Rattle.token.specs.Find.{byte, both}
-use Rattle.token.specs.Bytes.{Class, letter, digit, blank, plus_minus, quote, punctuator, dot, slash, other, class_of, find_byte, pair_at}
+use Rattle.token.specs.Bytes.{class_of, find_byte, pair_at}
+use Rattle.token.specs.declared.scan.Class.{Class}
+use Rattle.token.specs.declared.scan.Class.TheVariants.{Letter as letter, Digit as digit, Blank as blank, Sign as plus_minus, Quote as quote, Punctuator as punctuator, Dot as dot, Slash as slash, Other as other}
 use Rattle.token.specs.Numbers.{all_digits, value_after, at_most, digits_after, numeral}
 use Rattle.token.specs.Tokens.{found, word_at, number_of, is_negative, number_at, string_at, dots_at, token_of, token_at, step_at}
 use Rattle.token.specs.declared.Sort.TheVariants.{Number, String, Punctuator}

@@ -12,12 +12,12 @@ use lib.Seq.{ext_get_or, get_or-take, get_or-drop}
 use lib.Dec.{ltb, eqb}
 use borrow.Author.Tests.{lt-ltb, ltb-true, eqb-true}
 use Rattle.token.specs.Find.{byte, find, both, either}
-use Rattle.token.specs.Bytes.{Class, letter, digit, blank, plus_minus, quote, punctuator, dot, slash, other, class_of, is_word_byte, word_end, find_byte, pair_at, find_close, is_digit, is_letter, is_plus_minus, is_exponent_mark, is_dotted, find_mark, is_signed}
-use Rattle.token.specs.Floats.{some_digits, mantissa_of, power_of, power_at}
-use Rattle.token.specs.declared.Amount.{Amount}
-use Rattle.token.specs.declared.Amount.TheVariants.{Is, Not}
+use Rattle.token.specs.Bytes.{class_of, is_word_byte, word_end, find_byte, pair_at, find_close, is_digit, is_letter, is_plus_minus, is_exponent_mark, is_dotted, find_mark, is_signed}
+use Rattle.token.specs.declared.scan.Class.{Class}
+use Rattle.token.specs.declared.scan.Class.TheVariants.{Letter as letter, Digit as digit, Blank as blank, Sign as plus_minus, Quote as quote, Punctuator as punctuator, Dot as dot, Slash as slash, Other as other}
+use Rattle.token.specs.Floats.{some_digits, mantissa_of, times, power_of, power_at}
+use Rattle.std.specs.Prelude.{Option, Some, None}
 use Rattle.token.specs.declared.Power.{Power}
-use Rattle.token.specs.declared.Power.TheVariants.{Times, None}
 use Rattle.token.proofs.Lexemes.{number_float, number_whole}
 use Rattle.token.proofs.Decimals.{mark_low, mark_high, dotted_inside, signed_inside, signed_past, signed_other, power_none, power_signed, power_unsigned, some_none, power_fits}
 use Rattle.token.specs.Tokens.{bytes_between, found, word_at, limit_of, whole_at, float_of, float_by, float_at, number_by, number_at, string_at, dots_at, token_of, token_at, step_at}
@@ -178,18 +178,20 @@ module _ (s u : List ℕ) (z e : ℕ) (es : e ≤ length s) (eu : e ≤ length u
 
 -- ---- floats
 
-power_end : (b : Bool) (v : Amount) (E : ℕ) (c : Bool) (x e : ℕ) → power_of b v E ≡ Times c x e → e ≡ E
+power_end : (b : Bool) (v : Option ℕ) (E : ℕ) (c : Bool) (x e : ℕ) → power_of b v E ≡ times c x e → e ≡ E
 unfolding power_of
-power_end b (Is m) E c x e q = cc
-power_end b Not E c x e q = absurd (let y : ◌≡◌ {A = ℕ} 0 1 = cc in omega arith)
+power_end b (Some m) E c x e q =
+    let z : ◌≡◌ {A = Power} (record { below = b; amount = m; end = E }) (record { below = c; amount = x; end = e }) = cc in
+    sym (ap (λ (y : Power). y.end) z)
+power_end b None E c x e q = absurd (let y : ◌≡◌ {A = ℕ} 0 1 = cc in omega arith)
 
-no_power : (b : Bool) (v : Amount) (E : ℕ) (c : Bool) (x e : ℕ) → v ≡ Not → power_of b v E ≡ Times c x e → ⊥
+no_power : (b : Bool) (v : Option ℕ) (E : ℕ) (c : Bool) (x e : ℕ) → v ≡ None → power_of b v E ≡ times c x e → ⊥
 unfolding power_of
-no_power b v E c x e n q = let z : None ≡ Times c x e = sym (ap (λ (w : Amount). power_of b w E) n) ∙ q in let y : ◌≡◌ {A = ℕ} 0 1 = cc in omega arith
+no_power b v E c x e n q = let z : None ≡ times c x e = sym (ap (λ (w : Option ℕ). power_of b w E) n) ∙ q in let y : ◌≡◌ {A = ℕ} 0 1 = cc in omega arith
 
 -- a float of s that ends at e is one of u, if u has its bytes and its run ends there too
 module _ (s u : List ℕ) (p q d r m : ℕ) (dd : d ≡ word_end s q) (rr : r ≡ word_end s (d + 1)) (mm : m ≡ find_mark s r (d + 1)) (pq : p ≤ q) (ql : q ≤ length s)
-    (dot_at : is_dotted s d ≡ true) (low : Bool) (x e : ℕ) (pw : power_at s m r ≡ Times low x e) (eu : e ≤ length u) (same : Same s u p e)
+    (dot_at : is_dotted s d ≡ true) (low : Bool) (x e : ℕ) (pw : power_at s m r ≡ times low x e) (eu : e ≤ length u) (same : Same s u p e)
     (stops : not (is_word_byte (byte (drop e u) 0)) ≡ true) where
   digit_at : is_digit (byte s (d + 1)) ≡ true
   unfolding is_dotted
@@ -208,10 +210,10 @@ module _ (s u : List ℕ) (p q d r m : ℕ) (dd : d ≡ word_end s q) (rr : r �
   rl = let i = di in let z = word_high s (d + 1) (omega arith) in omega arith
 
   re : r ≤ e
-  re = (power_fits s m r rl low x e pw).1
+  re = (power_fits s m r rl _ pw).1
 
   el : e ≤ length s
-  el = (power_fits s m r rl low x e pw).2
+  el = (power_fits s m r rl _ pw).2
 
   md : d + 1 ≤ m
   md = let z = mark_low s r (d + 1) in omega arith
@@ -371,16 +373,15 @@ module _ (s u : List ℕ) (p : ℕ) (inside : p < length s) where
       m : ℕ
       m = find_mark s (word_end s (word_end s q + 1)) (word_end s q + 1)
 
-      by : (v : Amount) (w : Power)
+      by : (v : Option ℕ) (w : Option Power)
           → mantissa_of (bytes_between s q (word_end s q)) (bytes_between s (word_end s q + 1) (find_mark s (word_end s (word_end s q + 1)) (word_end s q + 1))) ≡ v
           → power_at s (find_mark s (word_end s (word_end s q + 1)) (word_end s q + 1)) (word_end s (word_end s q + 1)) ≡ w
           → Kept s u p (number_at u p q) (float_of (eqb (byte s p) 45) v w (find_mark s (word_end s (word_end s q + 1)) (word_end s q + 1) - (word_end s q + 1)) p)
-      by (Is a) (Times b x e) f g = λ _ k sm st.
-          float_same s u p q (word_end s q) (word_end s (word_end s q + 1)) (find_mark s (word_end s (word_end s q + 1)) (word_end s q + 1)) refl refl refl h l t b x e g k sm st
-          ∙ ap₂ (λ (v : Amount) (w : Power). float_of (eqb (byte s p) 45) v w (find_mark s (word_end s (word_end s q + 1)) (word_end s q + 1) - (word_end s q + 1)) p) f g
-      by (Is a) None f g = tt
-      by Not (Times b x e) f g = tt
-      by Not None f g = tt
+      by (Some a) (Some x) f g = λ _ k sm st.
+          float_same s u p q (word_end s q) (word_end s (word_end s q + 1)) (find_mark s (word_end s (word_end s q + 1)) (word_end s q + 1)) refl refl refl h l t x.below x.amount x.end g k sm st
+          ∙ ap₂ (λ (v : Option ℕ) (w : Option Power). float_of (eqb (byte s p) 45) v w (find_mark s (word_end s (word_end s q + 1)) (word_end s q + 1) - (word_end s q + 1)) p) f g
+      by (Some a) None f g = tt
+      by None w f g = tt
 
   number_by_kept : (q : ℕ) → p ≤ q → q ≤ length s → (b : Bool) → is_dotted s (word_end s q) ≡ b → Kept s u p (number_at u p q) (number_by b s p q)
   unfolding number_by

@@ -12,12 +12,12 @@ use lib.Seq.{length-take-le, drop-append-le, drop-append_seam, drop-drop}
 use lib.Dec.{ltb, eqb}
 use borrow.Author.Tests.{lt-ltb}
 use Rattle.token.specs.Find.{byte, both}
-use Rattle.token.specs.Bytes.{Class, punctuator, class_of, is_word_byte, word_end, is_digit, is_dotted, find_mark, is_signed}
-use Rattle.token.specs.Floats.{some_digits, mantissa_of, power_of, power_at}
-use Rattle.token.specs.declared.Amount.{Amount}
-use Rattle.token.specs.declared.Amount.TheVariants.{Is, Not}
+use Rattle.token.specs.Bytes.{class_of, is_word_byte, word_end, is_digit, is_dotted, find_mark, is_signed}
+use Rattle.token.specs.declared.scan.Class.{Class}
+use Rattle.token.specs.declared.scan.Class.TheVariants.{Punctuator as punctuator}
+use Rattle.token.specs.Floats.{some_digits, mantissa_of, times, power_of, power_at}
+use Rattle.std.specs.Prelude.{Option, Some, None}
 use Rattle.token.specs.declared.Power.{Power}
-use Rattle.token.specs.declared.Power.TheVariants.{Times, None}
 use Rattle.token.proofs.Decimals.{dotted_inside, signed_inside, dotted_other, dotted_short}
 use Rattle.token.specs.Tokens.{bytes_between, found, word_at, limit_of, whole_at, float_of, float_by, float_at, number_by, number_at, token_of, token_at, step_at}
 use Rattle.token.specs.Lexing.{Lexed, more, ended, lex_from}
@@ -90,19 +90,19 @@ module _ (s : List ℕ) where
       number_form (eqb (byte s p) 45) (ltb p q) (limit_of (eqb (byte s p) 45)) (λ (f : ℕ → ℕ → Step). EndsOk s (f p (word_end s q)))
       (λ m _. rw (word_ends s q h, dotted_rest s (word_end s q), f)) tt (bytes_between s q (word_end s q))
 
-  abbrev PowerEnds : Power → Type 0
-  PowerEnds (Times b x e) = not (is_word_byte (byte (drop e s) 0)) ≡ true
+  abbrev PowerEnds : Option Power → Type 0
+  PowerEnds (Some x) = not (is_word_byte (byte (drop x.end s) 0)) ≡ true
   PowerEnds None = Unit {0}
 
-  power_of_ends : (b : Bool) (v : Amount) (e : ℕ) → not (is_word_byte (byte (drop e s) 0)) ≡ true → PowerEnds (power_of b v e)
+  power_of_ends : (b : Bool) (v : Option ℕ) (e : ℕ) → not (is_word_byte (byte (drop e s) 0)) ≡ true → PowerEnds (power_of b v e)
   unfolding power_of
-  power_of_ends b (Is m) e h = h
-  power_of_ends b Not e h = tt
+  power_of_ends b (Some m) e h = h
+  power_of_ends b None e h = tt
 
   power_ends : (m r : ℕ) → not (is_word_byte (byte (drop r s) 0)) ≡ true → PowerEnds (power_at s m r)
   unfolding power_at
   power_ends m r h =
-      by_test PowerEnds (eqb m r) (Times false 0 r) _ (λ _. h)
+      by_test PowerEnds (eqb m r) (times false 0 r) _ (λ _. h)
       (λ _.
       by_test PowerEnds (is_signed s m r) _ _
       (λ t.
@@ -110,12 +110,11 @@ module _ (s : List ℕ) where
       power_of_ends (eqb (byte s r) 45) (some_digits 64 0 (bytes_between s (r + 1) (word_end s (r + 1)))) (word_end s (r + 1)) (word_ends s (r + 1) (omega arith)))
       (λ _. power_of_ends false (some_digits 64 0 (bytes_between s (m + 1) r)) r h))
 
-  float_of_ends : (minus : Bool) (v : Amount) (w : Power) (n p : ℕ) → PowerEnds w → EndsOk s (float_of minus v w n p)
+  float_of_ends : (minus : Bool) (v : Option ℕ) (w : Option Power) (n p : ℕ) → PowerEnds w → EndsOk s (float_of minus v w n p)
   unfolding found ends
-  float_of_ends minus (Is m) (Times b x e) n p h = h
-  float_of_ends minus (Is m) None n p h = tt
-  float_of_ends minus Not (Times b x e) n p h = tt
-  float_of_ends minus Not None n p h = tt
+  float_of_ends minus (Some m) (Some x) n p h = h
+  float_of_ends minus (Some m) None n p h = tt
+  float_of_ends minus None w n p h = tt
 
   number_by_ends : (p q : ℕ) → q ≤ length s → (b : Bool) → is_dotted s (word_end s q) ≡ b → EndsOk s (number_by b s p q)
   unfolding number_by float_at float_by

@@ -13,7 +13,8 @@ use Rattle.token.specs.Find.{byte, both}
 use Rattle.token.proofs.Find.{by_test}
 use Rattle.token.proofs.Bytes.{both_true, both_second}
 use Rattle.token.proofs.Decimals.{dotted_other}
-use Rattle.token.specs.Bytes.{blank, pair_at, class_of, is_word_byte}
+use Rattle.token.specs.Bytes.{pair_at, class_of, is_word_byte}
+use Rattle.token.specs.declared.scan.Class.TheVariants.{Blank as blank}
 use Rattle.token.specs.Tokens.{step_at, found, dots_at, token_of, token_at}
 use Rattle.token.specs.Lexing.{Lexed, more, ended, refused, after_step, Divides, lex_from}
 use Rattle.token.proofs.Sequences.{tokens_of, after_all}

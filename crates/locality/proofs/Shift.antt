@@ -8,14 +8,14 @@ use native.Mathlib.Nat.{suc-add, zero-add, add-zero, suc-sub-suc}
 use lib.ListN.{length, take, drop}
 use lib.Dec.{ltb, eqb, leb-suc-suc, eqb-suc-suc}
 use Rattle.token.specs.Find.{pick, both, byte, first_of, find}
-use Rattle.token.specs.Bytes.{Class, letter, digit, blank, plus_minus, quote, punctuator, dot, slash, other, class_of, is_word_byte, word_end, find_byte, pair_at, find_close, is_digit, is_plus_minus, is_exponent_mark, is_dotted, find_mark, is_signed}
+use Rattle.token.specs.Bytes.{class_of, is_word_byte, word_end, find_byte, pair_at, find_close, is_digit, is_plus_minus, is_exponent_mark, is_dotted, find_mark, is_signed}
+use Rattle.token.specs.declared.scan.Class.{Class}
+use Rattle.token.specs.declared.scan.Class.TheVariants.{Letter as letter, Digit as digit, Blank as blank, Sign as plus_minus, Quote as quote, Punctuator as punctuator, Dot as dot, Slash as slash, Other as other}
 use Rattle.token.specs.Words.{code_of}
 use Rattle.token.specs.Numbers.{numeral}
-use Rattle.token.specs.Floats.{some_digits, mantissa_of, power_of, power_at, scale_of}
-use Rattle.token.specs.declared.Amount.{Amount}
-use Rattle.token.specs.declared.Amount.TheVariants.{Is, Not}
+use Rattle.token.specs.Floats.{some_digits, mantissa_of, times, power_of, power_at, scale_of}
+use Rattle.std.specs.Prelude.{Option, Some, None}
 use Rattle.token.specs.declared.Power.{Power}
-use Rattle.token.specs.declared.Power.TheVariants.{Times, None}
 use Rattle.token.specs.Tokens.{bytes_between, found, word_at, limit_of, is_negative, number_of, whole_at, float_of, float_by, float_at, number_by, number_at, string_at, dots_at, token_of, token_at, step_at}
 use Rattle.token.specs.Lexing.{Lexed, more, ended, refused, lex_from}
 use Rattle.token.specs.declared.Sort.{Sort}
@@ -131,25 +131,24 @@ number_up minus signed max w p e =
     number_form minus signed max (λ (f : ℕ → ℕ → Step). f (suc p) (suc e) ≡ up (f p e)) (λ m _. found_up (Number (is_negative minus m) m) p e) refl w
 
 -- the end of an exponent, one place further on
-abbrev later : Power → Power
-later (Times t m e) = Times t m (suc e)
+abbrev later : Option Power → Option Power
+later (Some x) = times x.below x.amount (suc x.end)
 later None = None
 
-power_of_up : (t : Bool) (v : Amount) (e : ℕ) → power_of t v (suc e) ≡ later (power_of t v e)
+power_of_up : (t : Bool) (v : Option ℕ) (e : ℕ) → power_of t v (suc e) ≡ later (power_of t v e)
 unfolding power_of
-power_of_up t (Is m) e = refl
-power_of_up t Not e = refl
+power_of_up t (Some m) e = refl
+power_of_up t None e = refl
 
-two_up : (t v : Bool) (x y z : Power) → pick t (later x) (pick v (later y) (later z)) ≡ later (pick t x (pick v y z))
+two_up : (t v : Bool) (x y z : Option Power) → pick t (later x) (pick v (later y) (later z)) ≡ later (pick t x (pick v y z))
 two_up true v x y z = refl
 two_up false true x y z = refl
 two_up false false x y z = refl
 
-float_of_up : (minus : Bool) (v : Amount) (w : Power) (n p : ℕ) → float_of minus v (later w) n (suc p) ≡ up (float_of minus v w n p)
-float_of_up minus (Is m) (Times t x e) n p = found_up (Float (is_negative minus m) m (scale_of t x n)) p e
-float_of_up minus (Is m) None n p = refl
-float_of_up minus Not (Times t x e) n p = refl
-float_of_up minus Not None n p = refl
+float_of_up : (minus : Bool) (v : Option ℕ) (w : Option Power) (n p : ℕ) → float_of minus v (later w) n (suc p) ≡ up (float_of minus v w n p)
+float_of_up minus (Some m) (Some x) n p = found_up (Float (is_negative minus m) m (scale_of x.below x.amount n)) p x.end
+float_of_up minus (Some m) None n p = refl
+float_of_up minus None w n p = refl
 
 module _ (x : ℕ) (b : List ℕ) where
   word_at_up : (p : ℕ) → word_at (x ∷ b) (suc p) ≡ up (word_at b p)
@@ -177,7 +176,7 @@ module _ (x : ℕ) (b : List ℕ) where
         power_of_up (eqb (byte b r) 45) (some_digits 64 0 (bytes_between b (r + 1) (word_end b (r + 1)))) (word_end b (r + 1)),
         power_of_up false (some_digits 64 0 (bytes_between b (m + 1) r)) r,
       )
-      (two_up (eqb m r) (is_signed b m r) (Times false 0 r)
+      (two_up (eqb m r) (is_signed b m r) (times false 0 r)
       (power_of (eqb (byte b r) 45) (some_digits 64 0 (bytes_between b (r + 1) (word_end b (r + 1)))) (word_end b (r + 1)))
       (power_of false (some_digits 64 0 (bytes_between b (m + 1) r)) r))
 

@@ -8,7 +8,9 @@ use lib.ListN.{length}
 use lib.Dec.{ltb}
 use borrow.Author.Tests.{ltb-true, ltb-false}
 use Rattle.token.specs.Find.{byte}
-use Rattle.token.specs.Bytes.{Class, letter, digit, blank, plus_minus, quote, punctuator, dot, slash, other, class_of, find_byte, pair_at, find_close}
+use Rattle.token.specs.Bytes.{class_of, find_byte, pair_at, find_close}
+use Rattle.token.specs.declared.scan.Class.{Class}
+use Rattle.token.specs.declared.scan.Class.TheVariants.{Letter as letter, Digit as digit, Blank as blank, Sign as plus_minus, Quote as quote, Punctuator as punctuator, Dot as dot, Slash as slash, Other as other}
 use Rattle.token.specs.Gaps.{gap_of, gap_at}
 use Rattle.token.specs.Tokens.{token_at, after_skip, step_at}
 use Rattle.token.specs.declared.Step.TheVariants.{Refused}

@@ -3,9 +3,9 @@
 use Prim.Native.Nat.{ℕ, ◌+◌, ◌*◌, ◌≤◌, ◌<◌, min}
 use mathlib.Core.Path.{◌≡◌, refl, sym, ap, ap₂, ◌∙◌, subst}
 use mathlib.Core.Bool.{Bool, true, false, false≢true}
-use mathlib.Core.List.{List, ◌++◌, append-nil}
+use mathlib.Core.List.{List}
 use native.Mathlib.Omega.{arith}
-use lib.ListN.{length, get_or, set, drop, replicate, length-set, length-replicate, get_or-replicate, drop_of_length-le}
+use lib.ListN.{length, get_or, set, replicate, length-set, length-replicate, get_or-replicate}
 use lib.Seq.{get_or-set_same, get_or-set_other, set_out}
 use lib.Dec.{ltb, eqb}
 use native.Mathlib.Decide.{ℕ_discrete}
@@ -15,19 +15,13 @@ use Rattle.token.specs.Words.{same}
 use Rattle.token.specs.Tokens.{part_of}
 use Rattle.token.proofs.Bytes.{not_true}
 use Rattle.token.proofs.Codes.{same_equal}
-use Rattle.rows.specs.declared.Found.{Found}
-use Rattle.rows.specs.declared.Found.TheVariants.{At, Nothing}
+use Rattle.rows.specs.Found.{Found}
+use Rattle.std.specs.Prelude.{Some, None}
 use Rattle.rows.specs.Search.{is_found, row_name}
 use Rattle.blocks.specs.Blocks.{row_after, FindsStated, IsStated}
 use Rattle.blocks.proofs.Ranges.{looking_start, looking_stop, looking_more, looking_end, is_stated, after_later, after_back, after_past, after_next}
 use Rattle.lookups.proofs.Notes.{row_place, row_size}
 use Rattle.lookups.specs.Ranks.{Ranked, NextRow, Skips, start_of, first_noted, Firsts, FirstsTo, MayState, StatedRanked, RowStated, IsRowStated}
-
--- a loop that fills one cell a turn
-pub filled : (l : List ℕ) (i v : ℕ) → i ≡ length l → replicate i v ++ drop i l ≡ replicate (length l) v
-filled l i v e =
-    let h : length l ≤ i = omega arith in
-    rw (drop_of_length-le l h, append-nil {A = ℕ} (replicate i v), e)
 
 -- the cases of the row after that of row k
 module _ (k v e : ℕ) where
@@ -53,7 +47,7 @@ next_later st k e j n l = subst (λ (x : ℕ). k < x) (sym (n st refl)) (after_l
 
 -- the search from row k on: it has the name, it has not, or the block ends there
 module _ (s st : List ℕ) (k e at len : ℕ) where
-  finds_here : k < e → same (part_of s at len) (row_name s st 7 0 k) ≡ true → FindsStated s st k e at len (At k)
+  finds_here : k < e → same (part_of s at len) (row_name s st 7 0 k) ≡ true → FindsStated s st k e at len (Some k)
   unfolding row_name
   finds_here h q = looking_stop k e at len k (looking_start s st k e at len) h q
 
@@ -61,7 +55,7 @@ module _ (s st : List ℕ) (k e at len : ℕ) where
   unfolding row_name
   finds_after r h q n ss t b p = let l = looking_more k e at len k (looking_start s st k e at len) h q ss t b p in n l.left t l.block p ∙ l.same_found
 
-  pub finds_end : e ≤ k → FindsStated s st k e at len Nothing
+  pub finds_end : e ≤ k → FindsStated s st k e at len None
   finds_end h = looking_end k e at len k (looking_start s st k e at len) h
 
 -- rows of another rank are passed
@@ -89,7 +83,7 @@ module _ (st h : List ℕ) (a e g : ℕ) where
 
   pub states_nothing : (F : List ℕ) (k : ℕ) → k ≡ start_of F a g → e ≤ k → MayState st h F a e g false
   states_nothing F k p l =
-      record { none = λ s at len f z b c q. (subst (λ (x : ℕ). Skips st h a e g x) (sym p) (z.skips g)).finds s at len f Nothing b c (finds_end s st k e at len l) }
+      record { none = λ s at len f z b c q. (subst (λ (x : ℕ). Skips st h a e g x) (sym p) (z.skips g)).finds s at len f None b c (finds_end s st k e at len l) }
 
 module _ (s st h : List ℕ) (a e at len g : ℕ) where
   -- what is found from row k on is what is found
@@ -107,9 +101,9 @@ module _ (s st h : List ℕ) (a e at len g : ℕ) where
     name_same = d ∙ ap₂ (λ (x y : ℕ). same (part_of s at len) (part_of s x y)) c₁ c₂
 
     -- row k has the name
-    pub onward_stop : q ≡ true → StatedRanked s st h a e at len g (At k)
+    pub onward_stop : q ≡ true → StatedRanked s st h a e at len g (Some k)
     unfolding Onward StatedRanked
-    onward_stop t f b c = o f (At k) b c (finds_here s st k e at len l (sym name_same ∙ t))
+    onward_stop t f b c = o f (Some k) b c (finds_here s st k e at len l (sym name_same ∙ t))
 
     -- it has not
     pub onward_more : q ≡ false → (x y : ℕ) → x ≡ row_after st k e → Skips st h x e g y → Onward y
@@ -118,9 +112,9 @@ module _ (s st h : List ℕ) (a e at len g : ℕ) where
         o f r b c (finds_after s st k e at len r l (sym name_same ∙ t) (subst (λ (v : ℕ). FindsStated s st v e at len r) w (z.finds s at len f r b c u)))
 
   -- the block ends
-  pub onward_end : (k : ℕ) → Onward k → e ≤ k → StatedRanked s st h a e at len g Nothing
+  pub onward_end : (k : ℕ) → Onward k → e ≤ k → StatedRanked s st h a e at len g None
   unfolding Onward StatedRanked
-  onward_end k o l f b c = o f Nothing b c (finds_end s st k e at len l)
+  onward_end k o l f b c = o f None b c (finds_end s st k e at len l)
 
 -- the row behind is later
 pub skips_later : (st h : List ℕ) (k e g x y : ℕ) → k < e → x ≡ row_after st k e → Skips st h x e g y → k < y
@@ -255,10 +249,10 @@ module _ (s t : List ℕ) (w m : ℕ) (v : List ℕ) (i : ℕ) (st h F : List �
     row_searched z f b g o = z
 
   -- no row has it
-  pub row_none : (j k : ℕ) → i < length v → j ≡ start_of F a (get_or v i 0) → Skips st h j e (get_or v i 0) k → e ≤ k → RowStated s t w m v i st h F a e Nothing
+  pub row_none : (j k : ℕ) → i < length v → j ≡ start_of F a (get_or v i 0) → Skips st h j e (get_or v i 0) k → e ≤ k → RowStated s t w m v i st h F a e None
   unfolding RowStated row_name
   row_none j k l y x g f b c o =
-      (skips_on st h a e (get_or v i 0) j k (subst (λ (u : ℕ). Skips st h a e (get_or v i 0) u) (sym y) (o.skips (get_or v i 0))) x).finds s (get_or t (i * w + m) 0) (get_or t (i * w + (m + 1)) 0) f Nothing c (b.cell i l) (finds_end s st k e (get_or t (i * w + m) 0) (get_or t (i * w + (m + 1)) 0) g)
+      (skips_on st h a e (get_or v i 0) j k (subst (λ (u : ℕ). Skips st h a e (get_or v i 0) u) (sym y) (o.skips (get_or v i 0))) x).finds s (get_or t (i * w + m) 0) (get_or t (i * w + (m + 1)) 0) f None c (b.cell i l) (finds_end s st k e (get_or t (i * w + m) 0) (get_or t (i * w + (m + 1)) 0) g)
 
   -- whether one is found
   pub row_is : (r z : Found) → RowStated s t w m v i st h F a e r → r ≡ z → IsRowStated s t w m v i st h F a e (is_found z)

@@ -12,8 +12,8 @@ use lib.Dec.{ltb, leb}
 use Rattle.token.specs.Find.{pick, both}
 use Rattle.token.specs.Tokens.{part_of}
 use Rattle.rows.specs.Search.{row_name}
-use Rattle.rows.specs.declared.Found.{Found}
-use Rattle.rows.specs.declared.Found.TheVariants.{Nothing}
+use Rattle.rows.specs.Found.{Found}
+use Rattle.std.specs.Prelude.{None}
 use Rattle.rows.proofs.Starts.{cell_past}
 use Rattle.blocks.specs.Blocks.{row_after, FindsStated}
 use Rattle.blocks.proofs.Ranges.{after_later, after_inside, after_back, after_past, after_next}
@@ -227,11 +227,11 @@ module _ (s t : List ℕ) (w m : ℕ) (v : List ℕ) (i : ℕ) (st h l : List �
   pub after_searched : (r : Found) → FindsStated s st a e (get_or t (i * w + m) 0) (get_or t (i * w + (m + 1)) 0) r → StatedAfter s t w m v i st h l k a e r
   after_searched r z = record { finds = λ f x y L F. z }
 
-  pub after_none : (j b : ℕ) → i < length v → Begins st h l k a e (get_or v i 0) j → Skips st h j e (get_or v i 0) b → e ≤ b → StatedAfter s t w m v i st h l k a e Nothing
+  pub after_none : (j b : ℕ) → i < length v → Begins st h l k a e (get_or v i 0) j → Skips st h j e (get_or v i 0) b → e ≤ b → StatedAfter s t w m v i st h l k a e None
   unfolding row_name
   after_none j b n B S q = record {
     finds = λ f x y L F.
-        (skips_on st h a e (get_or v i 0) j b (B.skips L F) S).finds s (get_or t (i * w + m) 0) (get_or t (i * w + (m + 1)) 0) f Nothing y (x.cell i n)
+        (skips_on st h a e (get_or v i 0) j b (B.skips L F) S).finds s (get_or t (i * w + m) 0) (get_or t (i * w + (m + 1)) 0) f None y (x.cell i n)
         (finds_end s st b e (get_or t (i * w + m) 0) (get_or t (i * w + (m + 1)) 0) q);
   }
 

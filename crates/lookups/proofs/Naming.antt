@@ -9,7 +9,7 @@ use borrow.Rule.Slice.PartMut.{put_mid, Post-is, mid_len}
 use lib.ListN.{length, get_or, set, take, drop, length-set, length-drop, drop_of_length-le}
 use lib.Seq.{sets, sets-eq, length-sets, take_all, get_or-take, get_or-drop, get_or-set_same, get_or-set_other}
 use Rattle.rows.specs.Table.{part}
-use Rattle.rows.specs.declared.Found.{Found}
+use Rattle.rows.specs.Found.{Found}
 use Rattle.rows.proofs.Stores.{part_sets_same, part_sets_before, part_sets_after}
 use Rattle.indexes.specs.Indexing.{Indexed, Makes, name_rank}
 use Rattle.lookups.specs.Answers.{DefinitionIndexed, ObjectIndexed, WordIndexed}

@@ -3,8 +3,8 @@ use Prim.Native.Nat.{ℕ, ◌+◌, ◌*◌}
 use mathlib.Core.Path.{◌≡◌}
 use mathlib.Core.List.{List}
 use lib.ListN.{get_or}
-use Rattle.rows.specs.declared.Found.{Found}
-use Rattle.rows.specs.declared.Found.TheVariants.{At, Nothing}
+use Rattle.rows.specs.Found.{Found}
+use Rattle.std.specs.Prelude.{Some, None}
 use Rattle.indexes.specs.Indexing.{Finds}
 use Rattle.scopes.specs.Promises.{FindsTruth}
 use Rattle.scopes.proofs.Answering.{finds_in_scope, finds_in_objects}
@@ -40,11 +40,11 @@ module _ (s d e x : List ℕ) (j at len : ℕ) where
 
     module _ (k : c ≡ 41) (z : Found) (g : EnumeratorIndexed s d e x j at len z) where
       -- of an ENUM: none
-      pub none-indexed : z ≡ Nothing → WordIndexed s d e x j at len 0
+      pub none-indexed : z ≡ None → WordIndexed s d e x j at len 0
       unfolding EnumeratorIndexed WordIndexed
       none-indexed y n i b = word_none s d e n j at len c h k z (g n i b) y
 
       -- and one
-      pub word-indexed : (v r : ℕ) → z ≡ At v → r ≡ get_or e (v * 3 + 1) 0 → WordIndexed s d e x j at len r
+      pub word-indexed : (v r : ℕ) → z ≡ Some v → r ≡ get_or e (v * 3 + 1) 0 → WordIndexed s d e x j at len r
       unfolding EnumeratorIndexed WordIndexed
       word-indexed v r y w n i b = word_some s d e n j at len c h k z (g n i b) v r y w

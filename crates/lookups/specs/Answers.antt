@@ -1,6 +1,6 @@
 -- What the lookups through an index x of the rows find, if these are at most 65536. Assumes nothing.
 use Rattle.std.specs.Prelude.{ℕ, ◌≤◌, List}
-use Rattle.rows.specs.declared.Found.{Found}
+use Rattle.rows.specs.Found.{Found}
 use Rattle.indexes.specs.Indexing.{Indexed}
 use Rattle.scopes.specs.Promises.{FindsDefinition, FindsObject, FindsEnumerator, FindsWord}
 

@@ -1,7 +1,7 @@
 -- For each statement the next one of its rank, noted once. Assumes nothing.
 use Rattle.std.specs.Prelude.{ℕ, zero, suc, ◌+◌, ◌*◌, ◌<◌, ◌≤◌, ◌≡◌, List, length, get_or, set, replicate, ltb}
 use Rattle.token.specs.Find.{pick}
-use Rattle.rows.specs.declared.Found.{Found}
+use Rattle.rows.specs.Found.{Found}
 use Rattle.blocks.specs.Blocks.{row_after, FindsStated}
 use Rattle.lookups.specs.Ranks.{Ranked, Skips}
 

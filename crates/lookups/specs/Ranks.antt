@@ -6,8 +6,8 @@ use Rattle.std.specs.Prelude.{ℕ, ◌+◌, ◌*◌, ◌<◌, ◌≤◌, ◌≡�
 use Rattle.rows.specs.Search.{row_name}
 use Rattle.token.specs.Find.{pick}
 use Rattle.token.specs.Tokens.{part_of}
-use Rattle.rows.specs.declared.Found.{Found}
-use Rattle.rows.specs.declared.Found.TheVariants.{Nothing}
+use Rattle.rows.specs.Found.{Found}
+use Rattle.std.specs.Prelude.{None}
 use Rattle.indexes.specs.Indexing.{Indexed, name_rank}
 use Rattle.blocks.specs.Blocks.{row_after, FindsStated, IsStated}
 
@@ -47,7 +47,7 @@ pub record FirstsTo (st h : List ℕ) (a e k : ℕ) (F : List ℕ) : Type 0 wher
 
 -- where r says no, no statement of the block from a to e has a name whose number is g, if h has the statements' numbers
 pub record MayState (st h F : List ℕ) (a e g : ℕ) (r : Bool) : Type 0 where
-  pub none : (s : List ℕ) (at len : ℕ) (f : List ℕ → ℕ) → Firsts st h a e F → Ranked f s st 7 0 h → g ≡ f (part_of s at len) → r ≡ false → FindsStated s st a e at len Nothing
+  pub none : (s : List ℕ) (at len : ℕ) (f : List ℕ → ℕ) → Firsts st h a e F → Ranked f s st 7 0 h → g ≡ f (part_of s at len) → r ≡ false → FindsStated s st a e at len None
 
 -- r is the first statement of the block from a to e that has the name at a place, if h has the statements' numbers and g is that of the name
 unfoldable pub StatedRanked : List ℕ → List ℕ → List ℕ → (a e at len g : ℕ) → Found → Type 0

@@ -1,7 +1,7 @@
 // Names looked up in the kept rows through indexes and noted ranks: each answer is the one that comparing all bytes gives.
 #![tactic(auto)]
 
-ghost use Rattle.std.specs.Prelude.{◌≡◌, List, ℕ, ◌+◌, ◌*◌, min, length, get_or, replicate};
+ghost use Rattle.std.specs.Prelude.{◌≡◌, List, ℕ, ◌+◌, ◌*◌, length, get_or};
 ghost use Rattle.blocks.specs.Blocks.{FindsStated};
 ghost use Rattle.lookups.specs.Ranks.{NotesRanks, NextRow, Skips, start_of, first_noted, Firsts, FirstsTo, MayState, StatedRanked, RowStated, IsRowStated};
 ghost use Rattle.lookups.specs.Links.{Begins, StatedAfter};
@@ -12,7 +12,7 @@ pub mod names;
 pub mod owners;
 
 use layout::{definition, enumerator, object, statement, word_codes};
-use rows::{Found, cells, parts};
+use rows::{cells, parts};
 
 // Few ranks: of a text with fewer definitions.
 pub const FEW: usize = 64;
@@ -25,7 +25,7 @@ pub fn find_definition(
     key: usize,
     at: usize,
     len: usize,
-) -> Found
+) -> Option<usize>
     ensures { DefinitionIndexed text.now d.now x.now key at len result }
 {
     indexes::find_indexed(
@@ -49,7 +49,7 @@ pub fn find_object(
     kind: usize,
     at: usize,
     len: usize,
-) -> Found
+) -> Option<usize>
     ensures { ObjectIndexed text.now o.now x.now kind at len result }
 {
     indexes::find_indexed(
@@ -74,7 +74,7 @@ pub fn find_enumerator(
     j: usize,
     at: usize,
     len: usize,
-) -> Found
+) -> Option<usize>
     ensures { EnumeratorIndexed text.now d.now e.now x.now j at len result }
 {
     let key = cells::cell_of(d, definition::WIDTH, j, definition::KEY);
@@ -110,7 +110,7 @@ pub fn word_under(
     if code != word_codes::ENUM {
         return 0;
     }
-    let Found::At(i) = find_enumerator(text, d, e, x, j, at, len) else {
+    let Some(i) = find_enumerator(text, d, e, x, j, at, len) else {
         return 0;
     };
     cells::cell_of(e, enumerator::WIDTH, i, enumerator::NAME)
@@ -130,11 +130,10 @@ pub fn note_ranks(
 {
     let second = cells::place_after(t.len(), name, 1);
     let mut start = 0;
-    let mut i = 0;
-    while i < h.len() {
+    for rank in h.iter_mut() {
         let p = cells::cell(t, start, name);
         let n = cells::cell(t, start, second);
-        h[i] = indexes::rank(
+        *rank = indexes::rank(
             text,
             d,
             definition::WIDTH,
@@ -145,18 +144,7 @@ pub fn note_ranks(
             x,
         );
         start = cells::place_after(t.len(), start, width);
-        i += 1;
     }
-}
-
-// The lesser of two numbers.
-fn least(a: usize, b: usize) -> usize
-    ensures { result ≡ min a b }
-{
-    if a <= b {
-        return a;
-    }
-    b
 }
 
 // The row after the statement of row k and those in its braces, in a block that ends before row `end`; v is its last cell.
@@ -177,8 +165,9 @@ fn next_row(k: usize, v: usize, end: usize) -> usize
 fn skip(st: &[usize], h: &[usize], from: usize, end: usize, rank: usize) -> usize
     ensures { Skips st.now h.now from end rank result }
 {
-    let limit = least(end, least(h.len(), st.len() / statement::WIDTH));
+    let limit = end.min(h.len()).min(st.len() / statement::WIDTH);
     let mut k = from;
+    // A `while`: the next row is the one that the statement's last cell names.
     while k < limit {
         if h[k] == rank {
             return k;
@@ -206,24 +195,14 @@ fn note_firsts(st: &[usize], h: &[usize], first: &mut [usize], from: usize, end:
     requires { FirstsTo st.now h.now from end from first.old }
     ensures { FirstsTo st.now h.now from end result first.new }
 {
-    let limit = least(end, least(h.len(), st.len() / statement::WIDTH));
+    let limit = end.min(h.len()).min(st.len() / statement::WIDTH);
     let mut k = from;
+    // A `while`: the next row is the one that the statement's last cell names.
     while k < limit {
         note_first(first, end, h[k], k);
         k = next_row(k, st[k * statement::WIDTH + statement::AFTER], end);
     }
     k
-}
-
-// All cells become v.
-fn fill(t: &mut [usize], v: usize)
-    ensures { t.new ≡ replicate (length t.old) v }
-{
-    let mut i = 0;
-    while i < t.len() {
-        t[i] = v;
-        i += 1;
-    }
 }
 
 // Makes `first` for each of its ranks a row of a block before which no statement has a name of that rank; h has the statements' ranks. All cells are
@@ -235,23 +214,14 @@ pub fn fill_firsts(st: &[usize], h: &[usize], first: &mut [usize], from: usize, 
     if note_firsts(st, h, first, from, end) == end {
         return;
     }
-    fill(first, from);
+    first.fill(from);
 }
 
-// For each rank a row of a block before which no statement has a name of that rank; h has the statements' ranks.
-pub fn firsts(st: &[usize], h: &[usize], from: usize, end: usize) -> [usize; definition::ROWS]
+// For each rank below N a row of a block before which no statement has a name of that rank; h has the statements' ranks.
+pub fn firsts<const N: usize>(st: &[usize], h: &[usize], from: usize, end: usize) -> [usize; N]
     ensures { Firsts st.now h.now from end result }
 {
-    let mut first = [end; definition::ROWS];
-    fill_firsts(st, h, &mut first, from, end);
-    first
-}
-
-// The same for the ranks below 64.
-pub fn few_firsts(st: &[usize], h: &[usize], from: usize, end: usize) -> [usize; FEW]
-    ensures { Firsts st.now h.now from end result }
-{
-    let mut first = [end; FEW];
+    let mut first = [end; N];
     fill_firsts(st, h, &mut first, from, end);
     first
 }
@@ -294,19 +264,20 @@ fn stated(
     at: usize,
     len: usize,
     rank: usize,
-) -> Found
+) -> Option<usize>
     ensures { StatedRanked text.now st.now h.now from end at len rank result }
 {
     let mut k = skip(st, h, from, end, rank);
+    // A `while`: the next row is the next one of the rank.
     while k < end {
         let place = cells::cell_of(st, statement::WIDTH, k, statement::NAME);
         let size = cells::cell_of(st, statement::WIDTH, k, statement::NAME_LENGTH);
         if parts::same_part(text, at, len, place, size) {
-            return Found::At(k);
+            return Some(k);
         }
         k = skip(st, h, blocks::after(st, k, end), end, rank);
     }
-    Found::Nothing
+    None
 }
 
 // The first statement of a block that has the name of row i of a table, found by comparing bytes.
@@ -319,7 +290,7 @@ fn searched(
     st: &[usize],
     from: usize,
     end: usize,
-) -> Found
+) -> Option<usize>
     ensures { FindsStated text.now st.now from end (get_or t.now (i * width + name) 0) (get_or t.now (i * width + (name + 1)) 0) result }
 {
     let second = cells::place_after(t.len(), name, 1);
@@ -343,7 +314,7 @@ pub fn row_stated(
     first: &[usize],
     from: usize,
     end: usize,
-) -> Found
+) -> Option<usize>
     ensures { RowStated text.now t.now width name ranks.now i st.now h.now first.now from end result }
 {
     if ranks.len() <= i {
@@ -352,7 +323,7 @@ pub fn row_stated(
     let rank = ranks[i];
     let k = skip(st, h, start(first, from, rank), end, rank);
     if end <= k {
-        return Found::Nothing;
+        return None;
     }
     let second = cells::place_after(t.len(), name, 1);
     let start = cells::row_start(t.len(), width, i);
@@ -379,7 +350,7 @@ fn begin(h: &[usize], next: &[usize], last: usize, from: usize, end: usize, rank
     if h.len() < end {
         return from;
     }
-    least(row, end)
+    row.min(end)
 }
 
 // The first statement from row `from` on, in a block that ends before row `end`, that has the name of row i of a table: the one noted in `next` as that
@@ -397,7 +368,7 @@ pub fn stated_after(
     last: usize,
     from: usize,
     end: usize,
-) -> Found
+) -> Option<usize>
     ensures { StatedAfter text.now t.now width name ranks.now i st.now h.now next.now last from end result }
 {
     if ranks.len() <= i {
@@ -406,7 +377,7 @@ pub fn stated_after(
     let rank = ranks[i];
     let k = skip(st, h, begin(h, next, last, from, end, rank), end, rank);
     if end <= k {
-        return Found::Nothing;
+        return None;
     }
     let second = cells::place_after(t.len(), name, 1);
     let start = cells::row_start(t.len(), width, i);
@@ -433,7 +404,7 @@ pub fn is_row_stated(
     ensures { IsRowStated text.now t.now width name ranks.now i st.now h.now first.now from end result }
 {
     match row_stated(text, t, width, name, ranks, i, st, h, first, from, end) {
-        Found::At(_) => true,
-        Found::Nothing => false,
+        Some(_) => true,
+        None => false,
     }
 }

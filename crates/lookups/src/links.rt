@@ -28,6 +28,7 @@ fn pass(
     ensures { rows.new ≡ ahead st.now h.now result }
 {
     let mut p = from;
+    // A `while`: the next row is the one after those in the statement's braces.
     while p < to {
         let rank = cells::get(h, p);
         let row = cells::get(next, p);
@@ -48,15 +49,13 @@ pub fn note_next(st: &[usize], h: &[usize], next: &mut [usize])
 {
     cells::clear(next);
     let mut rows = [h.len(); definition::ROWS];
-    let mut k = h.len();
-    while 0 < k {
-        let i = k - 1;
+    for i in (0..h.len()).rev() {
         let after = next_row(
             i,
             cells::cell_of(st, statement::WIDTH, i, statement::AFTER),
             h.len(),
         );
-        let p = pass(st, h, next, &mut rows, k, after);
+        let p = pass(st, h, next, &mut rows, i + 1, after);
         if p != after {
             return;
         }
@@ -64,6 +63,5 @@ pub fn note_next(st: &[usize], h: &[usize], next: &mut [usize])
         let row = cells::get(&rows, rank);
         next[i] = row;
         put(&mut rows, rank, i);
-        k = i;
     }
 }

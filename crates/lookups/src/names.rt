@@ -12,7 +12,7 @@ ghost use Rattle.lookups.specs.Names.{IndexAt, Ranks, PutsIndex, PutsRanks, FewR
 
 use super::links;
 use layout::{definition, enumerator, object, statement};
-use rows::{Found, cells};
+use rows::cells;
 use scopes::Sizes;
 
 // Where the index of the enumerators begins, after that of the definitions; that of the objects; the ranks of the statements' names and of the
@@ -41,12 +41,10 @@ fn cells_from(t: &[usize], at: usize, n: usize) -> &[usize]
 {
     if t.len() <= at {
         &t[..0]
+    } else if t.len() - at <= n {
+        &t[at..]
     } else {
-        if t.len() - at <= n {
-            &t[at..]
-        } else {
-            &t[at..at + n]
-        }
+        &t[at..at + n]
     }
 }
 
@@ -97,7 +95,7 @@ pub fn find_definition(
     key: usize,
     at: usize,
     len: usize,
-) -> Found
+) -> Option<usize>
     requires { IndexAt text.now d.now 19 2 definitions 0 names.now }
     ensures { FindsDefinition text.now d.now definitions key at len result }
 {
@@ -113,7 +111,7 @@ pub fn find_object(
     kind: usize,
     at: usize,
     len: usize,
-) -> Found
+) -> Option<usize>
     requires { IndexAt text.now o.now 10 3 objects 1536 names.now }
     ensures { FindsObject text.now o.now objects kind at len result }
 {
@@ -153,18 +151,11 @@ pub fn fill_firsts(st: &[usize], names: &[usize], first: &mut [usize], from: usi
     super::fill_firsts(st, statement_ranks(names), first, from, end);
 }
 
-// The first row of each rank in a block.
-pub fn firsts(st: &[usize], names: &[usize], from: usize, end: usize) -> [usize; definition::ROWS]
+// The first row of each rank below N in a block.
+pub fn firsts<const N: usize>(st: &[usize], names: &[usize], from: usize, end: usize) -> [usize; N]
     ensures { Firsts st.now (statement_ranks names.now) from end result }
 {
     super::firsts(st, statement_ranks(names), from, end)
-}
-
-// The same for the ranks below 64.
-pub fn few_firsts(st: &[usize], names: &[usize], from: usize, end: usize) -> [usize; super::FEW]
-    ensures { Firsts st.now (statement_ranks names.now) from end result }
-{
-    super::few_firsts(st, statement_ranks(names), from, end)
 }
 
 // Whether a block states the attribute of row i; `first` has the first row of each rank in the block.
@@ -225,8 +216,8 @@ pub fn is_before(
         from,
         end,
     ) {
-        Found::At(i) => i != k,
-        Found::Nothing => false,
+        Some(i) => i != k,
+        None => false,
     }
 }
 

@@ -19,10 +19,8 @@ fn owner(d: &[usize], marks: &[usize], i: usize) -> usize
 fn note_owners(d: &[usize], marks: &[usize], owners: &mut [usize])
     ensures { NotesOwners d.now marks.now (length owners.old) owners.new }
 {
-    let mut i = 0;
-    while i < owners.len() {
-        owners[i] = owner(d, marks, i);
-        i += 1;
+    for (i, cell) in owners.iter_mut().enumerate() {
+        *cell = owner(d, marks, i);
     }
 }
 

@@ -14,30 +14,31 @@ use Rattle.reading.specs.Decisions.{RoomSizes}
 use Rattle.reading.specs.declared.Answer.TheVariants.{Accepted, Refused}
 use Rattle.reading.specs.declared.Spanned.{Spanned}
 use Rattle.writing.proofs.Calling.{file, own, own_fits, reads_own, given_whole, many_definitions, refused_reading}
-use Rattle.masks.specs.Results.{check_answered, check_parsed, check, Made, left, plan_answered, plan_parsed, plan_text, Leaves, PlansText}
+use Rattle.masks.specs.Results.{check_answered, check_parsed, check, Made, left, answered, plan_answered, plan_parsed, plan_text, Leaves, PlansText}
 use Rattle.masks.specs.Promises.{ReadAs, ChecksRead, PlansRead}
 use Rattle.masks.specs.declared.Checked.{Checked}
-use Rattle.masks.specs.declared.Checked.TheVariants as c
 use Rattle.masks.specs.declared.Planned.{Planned}
-use Rattle.masks.specs.declared.Planned.TheVariants as p
+use Rattle.std.specs.Prelude.{Result, Ok}
+use Rattle.rows.specs.Refusing.{refusing}
+use Rattle.rows.specs.declared.Fault.{Fault}
 
 -- A refused text ---------------------------------------------------------------------------------------------------------------------------
 
 module _ (n q : ℕ) (l : List ℕ) where
-  check_file_refused : (a : Answer) (f : File) → a ≡ refused n q → c.Refused n q ≡ check_answered a f l
+  check_file_refused : (a : Answer) (f : File) → a ≡ refused n q → refusing n q ≡ check_answered a f l
   unfolding check_answered
   check_file_refused a f e = ap (λ (x : Answer). check_answered x f l) (sym e)
 
-  check_refused_by : (x : Parsed) → answer_of_parsed x ≡ refused n q → c.Refused n q ≡ check_parsed x l
+  check_refused_by : (x : Parsed) → answer_of_parsed x ≡ refused n q → refusing n q ≡ check_parsed x l
   unfolding check_parsed answer_of_parsed
   check_refused_by (parsed f) e = check_file_refused (answer f) f e
   check_refused_by (not_parsed m k) e = let y : m ≡ n = cc in let z : k ≡ q = cc in cc
 
-  plan_file_refused : (a : Answer) (f : File) → a ≡ refused n q → left (p.Refused n q) l ≡ plan_answered a f l
+  plan_file_refused : (a : Answer) (f : File) → a ≡ refused n q → left (refusing {A = Planned} n q) l ≡ plan_answered a f l
   unfolding plan_answered
   plan_file_refused a f e = ap (λ (x : Answer). plan_answered x f l) (sym e)
 
-  plan_refused_by : (x : Parsed) → answer_of_parsed x ≡ refused n q → left (p.Refused n q) l ≡ plan_parsed x l
+  plan_refused_by : (x : Parsed) → answer_of_parsed x ≡ refused n q → left (refusing {A = Planned} n q) l ≡ plan_parsed x l
   unfolding plan_parsed answer_of_parsed
   plan_refused_by (parsed f) e = plan_file_refused (answer f) f e
   plan_refused_by (not_parsed m k) e = let y : m ≡ n = cc in let z : k ≡ q = cc in cc
@@ -61,15 +62,15 @@ full_room k =
     record { definitions = omega (arith, a); enumerators = omega (arith, b); objects = omega (arith, c); values = omega (arith, g) }
 
 module _ {s d₁ e₁ o₁ v₁ : List ℕ} {w : Spanned} (h : ReadsSpanned s (replicate 6656 0) (replicate 3072 0) (replicate 2048 0) (replicate 18432 0) d₁ e₁ o₁ v₁ w) where
-  pub check_refused : (n q : ℕ) → w.reading.answer ≡ Refused n q → (l : List ℕ) → c.Refused n q ≡ check s l
+  pub check_refused : (n q : ℕ) → w.reading.answer ≡ Refused n q → (l : List ℕ) → refusing n q ≡ check s l
   unfolding check reading
   check_refused n q i l = check_refused_by n q l (parse s) (refused_reading h (full_room rooms) n q i)
 
-  pub plan_refused : (n q : ℕ) → w.reading.answer ≡ Refused n q → (l : List ℕ) → PlansText s l l (p.Refused n q)
+  pub plan_refused : (n q : ℕ) → w.reading.answer ≡ Refused n q → (l : List ℕ) → PlansText s l l (refusing n q)
   unfolding plan_text reading left
   plan_refused n q i l =
       let e = plan_refused_by n q l (parse s) (refused_reading h (full_room rooms) n q i) in
-      record { result = ap (λ (x : Made). x.result) e; list = ap (λ (x : Made). x.list) e }
+      record { result = ap (λ (x : Made (Result Planned Fault)). x.result) e; list = ap (λ (x : Made (Result Planned Fault)). x.list) e }
 
   module _ (i : w.reading.answer ≡ Accepted) where
     read_as : ReadAs s d₁ o₁ v₁ w (file h i)
@@ -86,13 +87,14 @@ module _ {s d₁ e₁ o₁ v₁ : List ℕ} {w : Spanned} (h : ReadsSpanned s (r
     answer_is : answer (file h i) ≡ accepted (own h i)
     answer_is = sym (h.spans i).answered ∙ reads_own h i
 
-    pub check_accepted : (l : List ℕ) (r : Checked) → ChecksRead s d₁ o₁ v₁ w l r → r ≡ check s l
+    pub check_accepted : (l : List ℕ) (r : Checked) → ChecksRead s d₁ o₁ v₁ w l r → Ok r ≡ check s l
     unfolding check check_parsed check_answered
     check_accepted l r k =
-        k (file h i) read_as ∙ sym (ap (λ (x : Parsed). check_parsed x l) parse_is ∙ ap (λ (x : Answer). check_answered x (file h i) l) answer_is)
+        ap Ok (k (file h i) read_as) ∙ sym (ap (λ (x : Parsed). check_parsed x l) parse_is ∙ ap (λ (x : Answer). check_answered x (file h i) l) answer_is)
 
-    pub plan_accepted : (l l' : List ℕ) (r : Planned) → PlansRead s d₁ o₁ v₁ w l l' r → PlansText s l l' r
-    unfolding plan_text plan_parsed plan_answered
+    pub plan_accepted : (l l' : List ℕ) (r : Planned) → PlansRead s d₁ o₁ v₁ w l l' r → PlansText s l l' (Ok r)
+    unfolding plan_text plan_parsed plan_answered answered
     plan_accepted l l' r k =
-        subst (λ (x : Made). Leaves x l' r) (sym (ap (λ (x : Parsed). plan_parsed x l) parse_is ∙ ap (λ (x : Answer). plan_answered x (file h i) l) answer_is))
-        (k (file h i) read_as)
+        let m = k (file h i) read_as in
+        subst (λ (x : Made (Result Planned Fault)). Leaves x l' (Ok r)) (sym (ap (λ (x : Parsed). plan_parsed x l) parse_is ∙ ap (λ (x : Answer). plan_answered x (file h i) l) answer_is))
+        (record { result = ap Ok m.result; list = m.list })

@@ -20,9 +20,12 @@ use Rattle.meaning.proofs.Whole.{one_answer}
 use Rattle.reading.proofs.Derived.{derived, the_refusal, the_accepted, derivation_of, own_file}
 use Rattle.masks.specs.Masks.{breaking, Plan, planned, full, plan}
 use Rattle.masks.specs.Events.{plannable, masks_of, tasks_of}
-use Rattle.masks.specs.Results.{named_first, check_file, check_answered, check_parsed, check, Made, left, made, plan_file, plan_answered, plan_parsed, plan_text, PlansText}
+use Rattle.masks.specs.Results.{named_first, check_file, check_answered, check_parsed, check, Made, left, made, plan_file, answered, plan_answered, plan_parsed, plan_text, PlansText}
 use Rattle.masks.specs.Rules.{Verdict, Outcome, ChecksByRules, PlansByRules, AcceptsExactly, RefusesExactly}
 use Rattle.masks.specs.Rules as rules
+use Rattle.std.specs.Prelude.{Result, Ok}
+use Rattle.rows.proofs.Refusing.{ok_is}
+use Rattle.rows.specs.declared.Fault.{Fault}
 use Rattle.masks.specs.declared.Checked.{Checked}
 use Rattle.masks.specs.declared.Checked.TheVariants as c
 use Rattle.masks.specs.declared.Planned.{Planned}
@@ -74,7 +77,7 @@ module _ (s : List ℕ) where
     unfolding check_answered reading answer_of_parsed
     check_answer f e (refused n q) h = rules.ChecksByRules.refuses n q (the_refusal s n q (ap answer_of_parsed e ∙ h)) refl
     check_answer f e (accepted t) h =
-        rules.ChecksByRules.judges t (the_accepted s f e t h) (derivation_of s f e t h).derivation (λ d. subst (λ (g : File). Verdict g l (check_file f l)) (own_file s f e t h d) (verdict f l))
+        rules.ChecksByRules.judges t (the_accepted s f e t h) (derivation_of s f e t h).derivation (check_file f l) refl (λ d. subst (λ (g : File). Verdict g l (check_file f l)) (own_file s f e t h d) (verdict f l))
 
     check_parse : (x : Parsed) → parse s ≡ x → ChecksByRules s l (check_parsed x l)
     unfolding check_parsed reading answer_of_parsed
@@ -85,14 +88,14 @@ module _ (s : List ℕ) where
     unfolding check
     check_by_rules = check_parse (parse s) refl
 
-    abbrev ByRules : Made → Type 0
+    abbrev ByRules : Made (Result Planned Fault) → Type 0
     ByRules m = PlansByRules s l m.list m.result
 
     plan_answer : (f : File) → parse s ≡ parsed f → (a : Answer) → answer f ≡ a → ByRules (plan_answered a f l)
-    unfolding plan_answered left reading answer_of_parsed
+    unfolding plan_answered answered left reading answer_of_parsed
     plan_answer f e (refused n q) h = rules.PlansByRules.refuses n q (the_refusal s n q (ap answer_of_parsed e ∙ h)) refl refl
     plan_answer f e (accepted t) h =
-        rules.PlansByRules.judges t (the_accepted s f e t h) (derivation_of s f e t h).derivation
+        rules.PlansByRules.judges t (the_accepted s f e t h) (derivation_of s f e t h).derivation (plan_file f l).result refl
         (λ d. subst (λ (g : File). Outcome g l (plan_file f l).list (plan_file f l).result) (own_file s f e t h d) (outcome f l))
 
     plan_parse : (x : Parsed) → parse s ≡ x → ByRules (plan_parsed x l)
@@ -105,10 +108,10 @@ module _ (s : List ℕ) where
     plan_by_rules = plan_parse (parse s) refl
 
 -- The clauses of `check_masks` and of `plan_masks`: from the first, the second.
-pub checks_rules : {s l : List ℕ} {r : Checked} → r ≡ check s l → (r ≡ check s l) × ChecksByRules s l r
+pub checks_rules : {s l : List ℕ} {r : Result Checked Fault} → r ≡ check s l → (r ≡ check s l) × ChecksByRules s l r
 checks_rules {s} {l} e = (e, subst (ChecksByRules s l) (sym e) (check_by_rules s l))
 
-pub plans_rules : {s l l' : List ℕ} {r : Planned} → PlansText s l l' r → PlansText s l l' r × PlansByRules s l l' r
+pub plans_rules : {s l l' : List ℕ} {r : Result Planned Fault} → PlansText s l l' r → PlansText s l l' r × PlansByRules s l l' r
 plans_rules {s} {l} {l'} {r} k =
     (k, subst (PlansByRules s l l') (sym k.result) (subst (λ (x : List ℕ). PlansByRules s l x (plan_text s l).result) (sym k.list) (plan_by_rules s l)))
 
@@ -138,13 +141,13 @@ unfolding made left
 full_made x l i e = ap (λ (y : Plan). (made y l).result) e
 
 pub refuses_exactly : RefusesExactly
-unfolding plan_text plan_parsed plan_answered plan_file choose
+unfolding plan_text plan_parsed plan_answered answered plan_file choose
 refuses_exactly s l t a d e h i =
     let f = syntax s d.tree in
-    let q : plan_text s l ≡ made (plan (tasks_of f) (masks_of f)) l =
+    let q : plan_text s l ≡ answered (made (plan (tasks_of f) (masks_of f)) l) =
     ap (λ (x : Parsed). plan_parsed x l) (parse_is s t a d) ∙ ap (λ (x : Answer). plan_answered x f l) (answer_is s t a d)
-    ∙ ap (λ (b : Bool). choose b (λ _. choose (ltb (length l) (length (masks_of f))) (λ _. left p.WrongLength l) (λ _. made (plan (tasks_of f) (masks_of f)) l)) (λ _. left p.NotPlannable l)) e
-    ∙ ap (λ (b : Bool). choose b (λ _. left p.WrongLength l) (λ _. made (plan (tasks_of f) (masks_of f)) l)) (le-ltb (length l) (length (masks_of f)) h) in (
-      (λ g. refuses_only (tasks_of f) (masks_of f) i (made_full (plan (tasks_of f) (masks_of f)) l i (sym (ap (λ (m : Made). m.result) q) ∙ g))),
-      (λ g. ap (λ (m : Made). m.result) q ∙ full_made (plan (tasks_of f) (masks_of f)) l i (refuses_all (tasks_of f) (masks_of f) i g)),
+    ∙ ap (λ (m : Made Planned). answered m) (ap (λ (b : Bool). choose b (λ _. choose (ltb (length l) (length (masks_of f))) (λ _. left p.WrongLength l) (λ _. made (plan (tasks_of f) (masks_of f)) l)) (λ _. left p.NotPlannable l)) e
+    ∙ ap (λ (b : Bool). choose b (λ _. left p.WrongLength l) (λ _. made (plan (tasks_of f) (masks_of f)) l)) (le-ltb (length l) (length (masks_of f)) h)) in (
+      (λ g. refuses_only (tasks_of f) (masks_of f) i (made_full (plan (tasks_of f) (masks_of f)) l i (ok_is (sym (ap (λ (m : Made (Result Planned Fault)). m.result) q) ∙ g)))),
+      (λ g. ap (λ (m : Made (Result Planned Fault)). m.result) q ∙ ap Ok (full_made (plan (tasks_of f) (masks_of f)) l i (refuses_all (tasks_of f) (masks_of f) i g))),
     )

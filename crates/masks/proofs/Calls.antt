@@ -9,8 +9,8 @@ use lib.ListN.{length, get_or, take, drop, replicate, length-replicate, get_or-r
 use lib.Seq.{sets, sets-eq, length-take-le}
 use lib.Dec.{eqb, ltb}
 use borrow.Author.Tests.{eq-eqb, ne_eqb, lt-ltb, le-ltb}
-use Rattle.rows.specs.declared.Found.{Found}
-use Rattle.rows.specs.declared.Found.TheVariants.{At, Nothing}
+use Rattle.rows.specs.Found.{Found}
+use Rattle.std.specs.Prelude.{Some, None}
 use Rattle.meaning.specs.Syntax.{File}
 use Rattle.meaning.specs.Words.{choose}
 use Rattle.writing.specs.Promises.{Tables}
@@ -36,25 +36,25 @@ unfolding named_found found_of named_first
 found_named none = refl
 found_named (some i) = refl
 
-pub named_at : (f : Found) (i : ℕ) → f ≡ At i → c.Breaks i ≡ named_found f
+pub named_at : (f : Found) (i : ℕ) → f ≡ Some i → c.Breaks i ≡ named_found f
 unfolding named_found
 named_at f i e = ap named_found (sym e)
 
-pub named_nothing : (f : Found) → f ≡ Nothing → c.Accepted ≡ named_found f
+pub named_nothing : (f : Found) → f ≡ None → c.Accepted ≡ named_found f
 unfolding named_found
 named_nothing f e = ap named_found (sym e)
 
 -- The list stays.
-leaves_left : (m : Made) (r : Planned) (l : List ℕ) → m ≡ left r l → Leaves m l r
+leaves_left : (m : Made Planned) (r : Planned) (l : List ℕ) → m ≡ left r l → Leaves m l r
 unfolding left
-leaves_left m r l e = record { result = ap (λ (x : Made). x.result) (sym e); list = ap (λ (x : Made). x.list) (sym e) }
+leaves_left m r l e = record { result = ap (λ (x : Made Planned). x.result) (sym e); list = ap (λ (x : Made Planned). x.list) (sym e) }
 
 -- What the planner found, and its plan to the front of the list.
-pub full_delivered : (x : Found) (ms l : List ℕ) (i : ℕ) → x ≡ At i → Delivers (plan_of x ms) l l (p.Full i)
+pub full_delivered : (x : Found) (ms l : List ℕ) (i : ℕ) → x ≡ Some i → Delivers (plan_of x ms) l l (p.Full i)
 unfolding plan_of made
 full_delivered x ms l i e = leaves_left _ (p.Full i) l (ap (λ (y : Found). made (plan_of y ms) l) e)
 
-pub plan_delivered : (x : Found) (ms l l' : List ℕ) → x ≡ Nothing → length ms ≤ length l → l' ≡ sets l 0 ms → Delivers (plan_of x ms) l l' (p.Made (length ms))
+pub plan_delivered : (x : Found) (ms l l' : List ℕ) → x ≡ None → length ms ≤ length l → l' ≡ sets l 0 ms → Delivers (plan_of x ms) l l' (p.Made (length ms))
 unfolding plan_of made
 plan_delivered x ms l l' e h q =
     let z : 0 + length ms ≡ length ms = omega arith in
@@ -117,7 +117,7 @@ module _ {s d o v : List ℕ} {m n : ℕ} {rows₀ rows : List ℕ} {e : ℕ} (w
       let x : made (plan_from (tasks_at marks rows m 0) (before_plan (masks_at given j 0)) 0 (masks_at given j 0)) l ≡ plan_listed f l =
       ap (λ (c : Plan). made c l) u
       ∙ sym (ap (λ (b : Bool). choose b (λ _. left p.WrongLength l) (λ _. made (plan (tasks_of f) (masks_of f)) l)) (le-ltb (length l) (length (masks_of f)) (omega (arith, w, z)))) in
-      subst (λ (c : Made). Leaves c l' r) x y
+      subst (λ (c : Made Planned). Leaves c l' r) x y
 
 pub cleared : (a : ℕ) → a < 65536 → ◌≡◌ {A = ℕ} (get_or {A = ℕ} (replicate {A = ℕ} 65536 0) a 0) 0
 cleared a h = get_or-replicate 65536 a 0 0 h
@@ -163,7 +163,7 @@ module _ {s d o v : List ℕ} {w : Spanned} where
     pub plan_so : b ≡ true → (l l' : List ℕ) (r : Planned) → PlansRows s d o v w.reading.objects w.reading.values l l' r → PlansRead s d o v w l l' r
     unfolding plan_file plan_listed choose
     plan_so e l l' r k f h =
-        subst (λ (x : Made). Leaves x l' r)
+        subst (λ (x : Made Planned). Leaves x l' r)
         (sym (ap (λ (x : Bool). choose x (λ _. choose (ltb (length l) (length (masks_of f))) (λ _. left p.WrongLength l) (λ _. made (plan (tasks_of f) (masks_of f)) l)) (λ _. left p.NotPlannable l))
         (sym (defines h) ∙ sym q ∙ e)))
         (k f h.tables h.few)

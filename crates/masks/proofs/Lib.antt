@@ -6,6 +6,7 @@ pub mod Checking
 pub mod Planning
 pub mod Texts
 pub mod Looping
+pub mod Counts
 pub mod Rules
 pub mod Refers
 pub mod Referring

@@ -4,7 +4,7 @@ use mathlib.Core.List.{List, [], ◌∷◌}
 use mathlib.Core.Bool.{Bool, true, false, not}
 use Prim.Native.Nat.{ℕ, zero, suc, ◌+◌, ◌*◌, ◌/◌, ◌%◌, ◌-◌, ◌<◌, ◌≤◌, ◌^◌, max, min}
 use native.Mathlib.Omega.{arith}
-use native.Mathlib.Nat.{mul-div_cancel, pow-suc, mul-add-mod_self_right, mod-eq_of_lt}
+use native.Mathlib.Nat.{mul-add-mod_self_right, mod-eq_of_lt}
 use lib.Bits.{bit_or, or_step, or_shr}
 use Rattle.token.proofs.Bytes.{either_assoc, either_false}
 use Rattle.rows.proofs.Starts.{cell_past, cell_start}
@@ -12,11 +12,9 @@ use Rattle.masks.proofs.Powers.{has_zero}
 use native.Mathlib.Numerals.{add-one}
 use lib.ListN.{length, get_or, drop}
 use lib.Dec.{eqb, lit<}
-use lib.Pow.{shl_exact, shr-shr}
-use borrow.Author.Tests.{eq-eqb, ne_eqb}
-use Rattle.token.specs.Find.{both, either, find}
-use Rattle.token.proofs.Find.{find_here, find_next, find_past}
-use Rattle.masks.specs.Bits.{has, some_below, single}
+use lib.Pow.{shl_exact}
+use Rattle.token.specs.Find.{both, either}
+use Rattle.masks.specs.Bits.{has}
 use Rattle.masks.specs.Masks.{Task, meets, beside}
 use Rattle.masks.specs.Marks.{task_at, tasks_at, has_power, another}
 
@@ -29,45 +27,6 @@ pub second_decides : (a b r : Bool) → a ≡ true → r ≡ b → r ≡ both a 
 second_decides a b r e q = q ∙ ap (λ (x : Bool). both x b) (sym e)
 
 -- Powers -----------------------------------------------------------------------------------------------------------------------------------
-
-half : (k : ℕ) → 2 ^ suc k / 2 ≡ 2 ^ k
-half k = ap (λ (x : ℕ). x / 2) (pow-suc 2 k) ∙ mul-div_cancel (2 ^ k) (lit< tt)
-
-abbrev is_power : ℕ → ℕ → Bool
-is_power m j = eqb m (2 ^ j)
-
-pub single_stop : (m k p : ℕ) → 0 < k → p ≡ 2 ^ k / 2 → m ≡ p → some_below k (λ j. eqb m (2 ^ j)) ≡ single m → true ≡ single m
-unfolding some_below
-single_stop m zero p h e q i = absurd (omega arith)
-single_stop m (suc k) p h e q i = sym (ap (λ (b : Bool). either b (some_below k (λ j. eqb m (2 ^ j)))) (eq-eqb m (2 ^ k) (q ∙ e ∙ half k))) ∙ i
-
-pub single_more : (m k p : ℕ) → 0 < k → p ≡ 2 ^ k / 2 → (m ≡ p → ⊥) → some_below k (λ j. eqb m (2 ^ j)) ≡ single m → (p / 2 ≡ 2 ^ (k - 1) / 2) × (some_below (k - 1) (λ j. eqb m (2 ^ j)) ≡ single m)
-unfolding some_below
-single_more m zero p h e q i = absurd (omega arith)
-single_more m (suc k) p h e q i =
-    let z : suc k - 1 ≡ k = omega arith in (
-      ap (λ (x : ℕ). x / 2) (e ∙ half k) ∙ ap (λ (x : ℕ). 2 ^ x / 2) (sym z),
-      ap (λ (x : ℕ). some_below x (λ j. eqb m (2 ^ j))) z ∙ sym (ap (λ (b : Bool). either b (some_below k (λ j. eqb m (2 ^ j)))) (ne_eqb m (2 ^ k) (λ y. q (y ∙ sym (half k) ∙ sym e)))) ∙ i,
-    )
-
-pub single_end : (m k : ℕ) → k ≤ 0 → some_below k (λ j. eqb m (2 ^ j)) ≡ single m → false ≡ single m
-unfolding some_below
-single_end m zero h i = i
-single_end m (suc k) h i = absurd (omega (arith, h))
-
--- The lowest bit that is not set.
-pub zero_stop : (m k x : ℕ) → k < 64 → x ≡ m / 2 ^ k → (x % 2 ≡ 1 → ⊥) → find (λ j. not (has m j)) 64 k ≡ find (λ j. not (has m j)) 64 0 → k ≡ find (λ j. not (has m j)) 64 0
-unfolding has
-zero_stop m k x h e q i = sym (find_here (λ j. not (has m j)) 64 k h (ap not (ne_eqb (m / 2 ^ k % 2) 1 (λ y. q (ap (λ (n : ℕ). n % 2) e ∙ y))))) ∙ i
-
-pub zero_more : (m k x : ℕ) → k < 64 → x ≡ m / 2 ^ k → x % 2 ≡ 1 → find (λ j. not (has m j)) 64 k ≡ find (λ j. not (has m j)) 64 0
-    → (x / 2 ≡ m / 2 ^ (k + 1)) × (find (λ j. not (has m j)) 64 (k + 1) ≡ find (λ j. not (has m j)) 64 0)
-unfolding has
-zero_more m k x h e q i =
-    (ap (λ (n : ℕ). n / 2) e ∙ shr-shr m k 1, sym (find_next (λ j. not (has m j)) 64 k h (ap not (eq-eqb (m / 2 ^ k % 2) 1 (ap (λ (n : ℕ). n % 2) (sym e) ∙ q)))) ∙ i)
-
-pub zero_end : (m k : ℕ) → 64 ≤ k → find (λ j. not (has m j)) 64 k ≡ find (λ j. not (has m j)) 64 0 → k ≡ find (λ j. not (has m j)) 64 0
-zero_end m k h i = sym (find_past (λ j. not (has m j)) 64 k h) ∙ i
 
 pub shifted : (k : ℕ) → k < 64 → (1 * 2 ^ k) % 2 ^ 64 ≡ 2 ^ k
 shifted k h = let e : 1 + k ≤ 64 = omega (arith, h) in let z : 1 * 2 ^ k ≡ 2 ^ k = omega arith in shl_exact {a = 1} 1 k 64 (lit< tt) e ∙ z
@@ -115,16 +74,6 @@ module _ (t : Task) (i : ℕ) (p : ℕ → Bool) (l : List ℕ) where
   unfolding meets another
   meets_next j h = ap (λ (x : List ℕ). meets t i p x j) (drop_here l j h) ∙ ap (λ (k : ℕ). either (both (both (t j) (not (eqb i j))) (p (get_or l j 0))) (meets t i p (drop (j + 1) l) k)) (sym (add-one j))
 
-  pub meets_stop : (j : ℕ) → j < length l → both (another t i j) (p (get_or l j 0)) ≡ true → meets t i p (drop j l) j ≡ meets t i p l 0 → true ≡ meets t i p l 0
-  meets_stop j h e q = sym (meets_next j h ∙ ap (λ (b : Bool). either b (meets t i p (drop (j + 1) l) (j + 1))) e) ∙ q
-
-  pub meets_more : (j : ℕ) → j < length l → both (another t i j) (p (get_or l j 0)) ≡ false → meets t i p (drop j l) j ≡ meets t i p l 0 → meets t i p (drop (j + 1) l) (j + 1) ≡ meets t i p l 0
-  meets_more j h e q = sym (meets_next j h ∙ ap (λ (b : Bool). either b (meets t i p (drop (j + 1) l) (j + 1))) e) ∙ q
-
-  pub meets_end : (j : ℕ) → length l ≤ j → meets t i p (drop j l) j ≡ meets t i p l 0 → false ≡ meets t i p l 0
-  unfolding meets
-  meets_end j h q = sym (ap (λ (x : List ℕ). meets t i p x j) (drop_past l j h)) ∙ q
-
 -- Tasks ------------------------------------------------------------------------------------------------------------------------------------
 
 module _ (marks rows : List ℕ) where
@@ -148,16 +97,6 @@ module _ (marks rows : List ℕ) where
     beside_next : (t : ℕ) → t < c → beside (tasks_at marks rows (c - t) t) i p l ≡ either (both (task_at marks rows t i) (meets (task_at marks rows t) i p l 0)) (beside (tasks_at marks rows (c - (t + 1)) (t + 1)) i p l)
     unfolding beside
     beside_next t h = ap (λ (x : List Task). beside x i p l) (tasks_here c t h)
-
-    pub beside_stop : (t : ℕ) → t < c → both (task_at marks rows t i) (meets (task_at marks rows t) i p l 0) ≡ true → beside (tasks_at marks rows (c - t) t) i p l ≡ beside (tasks_at marks rows c 0) i p l → true ≡ beside (tasks_at marks rows c 0) i p l
-    beside_stop t h e q = sym (beside_next t h ∙ ap (λ (b : Bool). either b (beside (tasks_at marks rows (c - (t + 1)) (t + 1)) i p l)) e) ∙ q
-
-    pub beside_more : (t : ℕ) → t < c → both (task_at marks rows t i) (meets (task_at marks rows t) i p l 0) ≡ false → beside (tasks_at marks rows (c - t) t) i p l ≡ beside (tasks_at marks rows c 0) i p l → beside (tasks_at marks rows (c - (t + 1)) (t + 1)) i p l ≡ beside (tasks_at marks rows c 0) i p l
-    beside_more t h e q = sym (beside_next t h ∙ ap (λ (b : Bool). either b (beside (tasks_at marks rows (c - (t + 1)) (t + 1)) i p l)) e) ∙ q
-
-    pub beside_end : (t : ℕ) → c ≤ t → beside (tasks_at marks rows (c - t) t) i p l ≡ beside (tasks_at marks rows c 0) i p l → false ≡ beside (tasks_at marks rows c 0) i p l
-    unfolding beside
-    beside_end t h q = sym (ap (λ (x : List Task). beside x i p l) (tasks_none c t h)) ∙ q
 
 -- Bits gathered ----------------------------------------------------------------------------------------------------------------------------
 

@@ -13,11 +13,11 @@ use lib.Pow.{pow_pos}
 use borrow.Author.Tests.{eq-eqb, ne_eqb, lt-ltb, le-ltb}
 use Rattle.token.specs.Find.{pick, both, find}
 use Rattle.token.proofs.Bytes.{both_true, both_second}
-use Rattle.rows.specs.declared.Found.TheVariants.{At, Nothing}
+use Rattle.std.specs.Prelude.{Some, None}
 use Rattle.meaning.specs.Words.{choose}
 use Rattle.masks.specs.Bits.{has, some_below, single, common}
 use Rattle.masks.specs.Masks.{Mask, given, automatic, Task, beside, keeps, breaking, before_plan, taken, lowest, Plan, full, plan_from}
-use Rattle.masks.specs.Marks.{mask_at, masks_at, has_power, found_of, plan_of, start_of, Turned}
+use Rattle.masks.specs.Marks.{mask_at, masks_at, has_power, found_of, plan_of, start_of, GathersAll, Turned}
 use Rattle.masks.specs.Statements.{OneBit}
 use Rattle.masks.proofs.Reflections.{not_both, both_intro, Cases, yes, no, cases, some_below_true, some_below_is, single_true, Order, less, same, more, order, from_zero}
 use Rattle.masks.proofs.Powers.{has_own, has_only}
@@ -37,6 +37,10 @@ mask_auto t i x e z = ap (λ (b : Bool). pick b (given (get_or t (i * 2 + 1) 0))
 
 pub single_positive : (m : ℕ) → single m ≡ true → 0 < m
 single_positive m e = let o = single_true m e in subst (λ (x : ℕ). 0 < x) (sym o.is) (pow_pos o.bit)
+
+power_bit : (m n : ℕ) (o : OneBit m) → has_power m n ≡ has n o.bit
+unfolding has_power has
+power_bit m n o = ap (λ (x : ℕ). eqb (n / x % 2) 1) o.is
 
 common_power : (m n : ℕ) → OneBit m → common m n ≡ has_power m n
 unfolding common has_power has
@@ -71,12 +75,12 @@ module _ (ts : List Task) (l t : List ℕ) (i m x : ℕ) (e : x ≡ get_or t (i 
   unfolding keeps
   rule_many z q = ap (λ (b : Bool). both b (not (beside ts i (common m) l))) (sym q) ∙ ap (λ (r : Mask). keeps ts l i r m) (sym (mask_auto t i x e z))
 
-  pub rule_clash : (x ≡ 0 → ⊥) → single m ≡ true → (b : Bool) → b ≡ beside ts i (has_power m) l → not b ≡ keeps ts l i (mask_at t i) m
+  pub rule_clash : (x ≡ 0 → ⊥) → single m ≡ true → (u : ℕ) (b : Bool) → GathersAll ts i l u → b ≡ has_power m u → not b ≡ keeps ts l i (mask_at t i) m
   unfolding keeps
-  rule_clash z q b h =
+  rule_clash z q u b h k =
       let o = single_true m q in
-      let f : ◌≡◌ {A = ℕ → Bool} (has_power m) (common m) = λ j n. sym (common_power m n o) j in
-      ap not (h ∙ ap (λ (p : ℕ → Bool). beside ts i p l) f)
+      let f : ◌≡◌ {A = ℕ → Bool} (λ n. has n o.bit) (common m) = λ j n. sym (common_power m n o ∙ power_bit m n o) j in
+      ap not (k ∙ power_bit m u o ∙ h o.bit ∙ ap (λ (p : ℕ → Bool). beside ts i p l) f)
       ∙ ap (λ (s : Bool). both s (not (beside ts i (common m) l))) (sym q) ∙ ap (λ (r : Mask). keeps ts l i r m) (sym (mask_auto t i x e z))
 
 -- Its turns --------------------------------------------------------------------------------------------------------------------------------
@@ -104,7 +108,7 @@ module _ (ts : List Task) (t l : List ℕ) where
   pub left_start : left 0 ≡ breaking ts l 0 (masks_at t (length l) 0) l
   left_start = let e : length l - 0 ≡ length l = omega arith in ap (λ (n : ℕ). breaking ts l 0 (masks_at t n 0) l) e
 
-  pub left_stop : (i : ℕ) (o : Option ℕ) → i < length l → keeps ts l i (mask_at t i) (get_or l i 0) ≡ false → left i ≡ o → At i ≡ found_of o
+  pub left_stop : (i : ℕ) (o : Option ℕ) → i < length l → keeps ts l i (mask_at t i) (get_or l i 0) ≡ false → left i ≡ o → Some i ≡ found_of o
   unfolding found_of choose
   left_stop i o h e q = ap found_of (sym (left_next i h ∙ ap (λ (b : Bool). choose b (λ _. left (i + 1)) (λ _. some i)) e) ∙ q)
 
@@ -112,7 +116,7 @@ module _ (ts : List Task) (t l : List ℕ) where
   unfolding choose
   left_more i o h e q = sym (left_next i h ∙ ap (λ (b : Bool). choose b (λ _. left (i + 1)) (λ _. some i)) e) ∙ q
 
-  pub left_end : (i : ℕ) (o : Option ℕ) → length l ≤ i → left i ≡ o → Nothing ≡ found_of o
+  pub left_end : (i : ℕ) (o : Option ℕ) → length l ≤ i → left i ≡ o → None ≡ found_of o
   unfolding found_of breaking
   left_end i o h q = ap found_of (sym (ap (λ (rs : List Mask). breaking ts l i rs (drop i l)) (masks_none t (length l) i h)) ∙ q)
 
@@ -217,10 +221,10 @@ module _ (ts : List Task) (t : List ℕ) (n : ℕ) (p : Plan) where
       ap (λ (k : ℕ). plan_from ts l' k (masks_at t (n - (i + 1)) (i + 1))) (add-one i)
       ∙ sym (w.goes_on e (masks_at t (n - (i + 1)) (i + 1))) ∙ sym (ap (plan_from ts l i) (masks_here t n i h)) ∙ q
 
-  pub turns_stop : (l l' : List ℕ) (i : ℕ) (b : Bool) → i < n → Turned ts (mask_at t i) i l l' b → b ≡ false → plan_from ts l i (masks_at t (n - i) i) ≡ p → p ≡ plan_of (At i) l'
+  pub turns_stop : (l l' : List ℕ) (i : ℕ) (b : Bool) → i < n → Turned ts (mask_at t i) i l l' b → b ≡ false → plan_from ts l i (masks_at t (n - i) i) ≡ p → p ≡ plan_of (Some i) l'
   unfolding plan_of
   turns_stop l l' i b h w e q = sym q ∙ ap (plan_from ts l i) (masks_here t n i h) ∙ w.stops e (masks_at t (n - (i + 1)) (i + 1))
 
-  pub turns_end : (l : List ℕ) (i : ℕ) → n ≤ i → plan_from ts l i (masks_at t (n - i) i) ≡ p → p ≡ plan_of Nothing l
+  pub turns_end : (l : List ℕ) (i : ℕ) → n ≤ i → plan_from ts l i (masks_at t (n - i) i) ≡ p → p ≡ plan_of None l
   unfolding plan_of plan_from
   turns_end l i h q = sym q ∙ ap (plan_from ts l i) (masks_none t n i h)

@@ -1,12 +1,12 @@
 -- The laws of the rows of the events and of their masks. Assumes nothing.
 use mathlib.Core.Path.{◌≡◌, refl, sym, ◌∙◌, ap, ap₂}
-use mathlib.Core.List.{List, [], ◌∷◌}
+use mathlib.Core.List.{List, [], ◌∷◌, ◌++◌}
 use mathlib.Core.Bool.{Bool, true, false}
 use Prim.Native.Nat.{ℕ, suc, ◌+◌, ◌*◌, ◌-◌, ◌<◌, ◌≤◌}
 use native.Mathlib.Omega.{arith}
 use native.Mathlib.Numerals.{add-one}
-use lib.ListN.{length, get_or, set, length-set}
-use lib.Seq.{sets, get_or-set_same, get_or-set_other}
+use lib.ListN.{length, get_or, set, drop, length-set}
+use lib.Seq.{sets, sets-eq, get_or-set_same, get_or-set_other}
 use lib.Dec.{eqb}
 use borrow.Author.Tests.{eq-eqb, ne_eqb}
 use Rattle.token.specs.Find.{pick, both}
@@ -14,8 +14,8 @@ use Rattle.token.specs.Tokens.{part_of}
 use Rattle.token.specs.Words.{bytes_of, same}
 use Rattle.rows.specs.Table.{cell_of}
 use Rattle.rows.specs.Search.{row_name, find_from}
-use Rattle.rows.specs.declared.Found.{Found}
-use Rattle.rows.specs.declared.Found.TheVariants.{At, Nothing}
+use Rattle.rows.specs.Found.{Found}
+use Rattle.std.specs.Prelude.{Some, None}
 use Rattle.rows.proofs.Stores.{sets_append}
 use Rattle.rows.proofs.Searches.{find_stop, find_more, find_end}
 use Rattle.masks.specs.Masks.{given, automatic}
@@ -106,13 +106,13 @@ module _ (s d v : List ℕ) (row k x : ℕ) (e : x ≡ cell_of v 9 k 1) where
       (sym (ap₂ both (eq-eqb (cell_of v 9 k 1) 0 (sym e ∙ z)) (eq-eqb (cell_of v 9 k 2) row (sym f ∙ g))))
 
 module _ (t : ℕ → Bool) (n : ℕ) where
-  pub seek_stop : (k : ℕ) → k < n → t k ≡ true → find_from t n k ≡ find_from t n 0 → At k ≡ find_from t n 0
+  pub seek_stop : (k : ℕ) → k < n → t k ≡ true → find_from t n k ≡ find_from t n 0 → Some k ≡ find_from t n 0
   seek_stop k h e q = sym (find_stop t n k h e) ∙ q
 
   pub seek_more : (k : ℕ) → k < n → t k ≡ false → find_from t n k ≡ find_from t n 0 → find_from t n (k + 1) ≡ find_from t n 0
   seek_more k h e q = sym (find_more t n k h e) ∙ q
 
-  pub seek_end : (k : ℕ) → n ≤ k → find_from t n k ≡ find_from t n 0 → Nothing ≡ find_from t n 0
+  pub seek_end : (k : ℕ) → n ≤ k → find_from t n k ≡ find_from t n 0 → None ≡ find_from t n 0
   seek_end k h q = sym (find_end t n k h) ∙ q
 
 -- The two cells of an event's mask, stored.
@@ -139,19 +139,19 @@ stored_given v l f j a b h e q = record {
     high : j * 2 + 1 < length (set l (j * 2) a)
     high = let x = length-set l (j * 2) a in omega (arith, h, x)
 
-pub sort_at : (v : List ℕ) (f : Found) (k r : ℕ) → f ≡ At k → r ≡ cell_of v 9 k 3 → r ≡ sort_found v f
+pub sort_at : (v : List ℕ) (f : Found) (k r : ℕ) → f ≡ Some k → r ≡ cell_of v 9 k 3 → r ≡ sort_found v f
 unfolding sort_found
 sort_at v f k r e q = q ∙ ap (sort_found v) (sym e)
 
-pub sort_nothing : (v : List ℕ) (f : Found) → f ≡ Nothing → 2 ≡ sort_found v f
+pub sort_nothing : (v : List ℕ) (f : Found) → f ≡ None → 2 ≡ sort_found v f
 unfolding sort_found
 sort_nothing v f e = ap (sort_found v) (sym e)
 
-pub amount_at : (v : List ℕ) (f : Found) (k r : ℕ) → f ≡ At k → r ≡ cell_of v 9 k 5 → r ≡ amount_found v f
+pub amount_at : (v : List ℕ) (f : Found) (k r : ℕ) → f ≡ Some k → r ≡ cell_of v 9 k 5 → r ≡ amount_found v f
 unfolding amount_found
 amount_at v f k r e q = q ∙ ap (amount_found v) (sym e)
 
-pub amount_nothing : (v : List ℕ) (f : Found) → f ≡ Nothing → 0 ≡ amount_found v f
+pub amount_nothing : (v : List ℕ) (f : Found) → f ≡ None → 0 ≡ amount_found v f
 unfolding amount_found
 amount_nothing v f e = ap (amount_found v) (sym e)
 
@@ -172,3 +172,7 @@ filled_more {s} {d} {v} {n} {rows} {l} {l₁} {l₂} {j} f r e q w h = record { 
 
 pub filled_end : {s d v : List ℕ} {n : ℕ} {rows : List ℕ} {l l' : List ℕ} (j e : ℕ) → e ≤ j → Filled s d v n rows j l l' → Filled s d v n rows e l l'
 filled_end j e h f = record { size = f.size; masks = λ i b. let c : i < j = omega (arith, b, h) in f.masks i c }
+
+-- The cells of v over the first ones of l.
+pub sets_front : (v l : List ℕ) → length v ≤ length l → v ++ drop (length v) l ≡ sets l 0 v
+sets_front v l h = let e : 0 + length v ≤ length l = omega (arith, h) in let z : 0 + length v ≡ length v = omega arith in ap (λ (n : ℕ). v ++ drop n l) (sym z) ∙ sym (sets-eq v l 0 e)

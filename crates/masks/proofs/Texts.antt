@@ -15,9 +15,11 @@ use Rattle.meaning.specs.Answers.{Answer, Tables, accepted, refused, answer}
 use Rattle.meaning.specs.Reading.{Parsed, parsed, not_parsed, parse}
 use Rattle.masks.specs.Masks.{breaking, Plan, planned, full, plan}
 use Rattle.masks.specs.Events.{plannable, masks_of, tasks_of}
-use Rattle.masks.specs.Results.{named_first, check_file, check_answered, check_parsed, check, left, made, plan_file, plan_answered, plan_parsed, plan_text}
+use Rattle.masks.specs.Results.{named_first, check_file, check_answered, check_parsed, check, left, made, plan_file, answered, plan_answered, plan_parsed, plan_text}
 use Rattle.masks.specs.Statements.{Fine}
 use Rattle.masks.specs.Rules.{PlanAccepted}
+use Rattle.std.specs.Prelude.{Ok}
+use Rattle.rows.proofs.Refusing.{ok_is}
 use Rattle.masks.specs.declared.Checked.TheVariants as c
 use Rattle.masks.specs.declared.Planned.TheVariants as p
 use Rattle.masks.proofs.Checking.{accepts_only, accepts_all}
@@ -63,12 +65,12 @@ module _ (n : ℕ) where
           ∙ fine_checked f ms e (plan_fine (tasks_of f) (masks_of f) ms (plans (tasks_of f) (masks_of f) ms w))
   file_checked f l false d e q h = absurd (let z : ◌≡◌ {A = ℕ} 0 1 = cc in omega (arith, z))
 
-  answered_checked : (a : Answer) (f : File) (l : List ℕ) → (plan_answered a f l).result ≡ p.Made n → check_answered a f (take n (plan_answered a f l).list) ≡ c.Accepted
-  unfolding plan_answered check_answered plan_file left
-  answered_checked (accepted t) f l h = file_checked f l (plannable f) (ltb (length l) (length (masks_of f))) refl refl h
+  answered_checked : (a : Answer) (f : File) (l : List ℕ) → (plan_answered a f l).result ≡ Ok (p.Made n) → check_answered a f (take n (plan_answered a f l).list) ≡ Ok c.Accepted
+  unfolding plan_answered answered check_answered plan_file left
+  answered_checked (accepted t) f l h = ap Ok (file_checked f l (plannable f) (ltb (length l) (length (masks_of f))) refl refl (ok_is h))
   answered_checked (refused m q) f l h = absurd (let z : ◌≡◌ {A = ℕ} 0 1 = cc in omega (arith, z))
 
-  parsed_checked : (x : Parsed) (l : List ℕ) → (plan_parsed x l).result ≡ p.Made n → check_parsed x (take n (plan_parsed x l).list) ≡ c.Accepted
+  parsed_checked : (x : Parsed) (l : List ℕ) → (plan_parsed x l).result ≡ Ok (p.Made n) → check_parsed x (take n (plan_parsed x l).list) ≡ Ok c.Accepted
   unfolding plan_parsed check_parsed left
   parsed_checked (parsed f) l h = answered_checked (answer f) f l h
   parsed_checked (not_parsed m q) l h = absurd (let z : ◌≡◌ {A = ℕ} 0 1 = cc in omega (arith, z))
@@ -98,12 +100,12 @@ module _ (f : File) (l : List ℕ) where
 
 -- THE CHECKER ACCEPTS EXACTLY, for an accepted text with the syntax f.
 module _ (s : List ℕ) (f : File) (t : Tables) (a : parse s ≡ parsed f) (b : answer f ≡ accepted t) (l : List ℕ) where
-  check_is : check s l ≡ check_file f l
+  check_is : check s l ≡ Ok (check_file f l)
   unfolding check check_parsed check_answered
   check_is = ap (λ (x : Parsed). check_parsed x l) a ∙ ap (λ (x : Answer). check_answered x f l) b
 
-  pub text_fine : check s l ≡ c.Accepted → (plannable f ≡ true) × Fine (tasks_of f) (masks_of f) l
-  text_fine h = file_fine f l (sym check_is ∙ h)
+  pub text_fine : check s l ≡ Ok c.Accepted → (plannable f ≡ true) × Fine (tasks_of f) (masks_of f) l
+  text_fine h = file_fine f l (ok_is (sym check_is ∙ h))
 
-  pub fine_text : plannable f ≡ true → Fine (tasks_of f) (masks_of f) l → check s l ≡ c.Accepted
-  fine_text e h = check_is ∙ fine_checked f l e h
+  pub fine_text : plannable f ≡ true → Fine (tasks_of f) (masks_of f) l → check s l ≡ Ok c.Accepted
+  fine_text e h = check_is ∙ ap Ok (fine_checked f l e h)

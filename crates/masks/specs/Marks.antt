@@ -3,10 +3,11 @@
 -- public contract. Assumes nothing.
 use Rattle.std.specs.Prelude.{◌≡◌, List, [], ◌∷◌, Bool, true, false, not, ℕ, zero, suc, ◌+◌, ◌*◌, ◌/◌, ◌%◌, get_or, eqb}
 use Rattle.std.proofs.Math.Option.{Option, none, some}
-use Rattle.rows.specs.declared.Found.{Found}
-use Rattle.rows.specs.declared.Found.TheVariants.{At, Nothing}
+use Rattle.rows.specs.Found.{Found}
+use Rattle.std.specs.Prelude.{Some, None}
 use Rattle.token.specs.Find.{pick, both, either}
 use Rattle.masks.specs.Bits.{has}
+use Rattle.masks.specs.declared.marks.Tasks.{Tasks}
 use Rattle.masks.specs.Masks.{Mask, automatic, Task, meets, beside, Plan, planned, full, plan_from, given as given-mask}
 
 unfoldable pub task_at : (marks rows : List ℕ) → ℕ → Task
@@ -16,6 +17,10 @@ task_at marks rows t j = eqb (get_or marks (t * 256 + get_or rows j 0) 0) 1
 unfoldable pub tasks_at : (marks rows : List ℕ) → ℕ → ℕ → List Task
 tasks_at marks rows zero t = []
 tasks_at marks rows (suc c) t = task_at marks rows t ∷ tasks_at marks rows c (suc t)
+
+-- Those that the code holds.
+abbrev pub tasks_of : Tasks → List Task
+tasks_of x = tasks_at x.marks.now x.rows.now x.count 0
 
 unfoldable pub mask_at : List ℕ → ℕ → Mask
 mask_at given i = pick (eqb (get_or given (i * 2 + 0) 0) 0) (given-mask (get_or given (i * 2 + 1) 0)) automatic
@@ -54,13 +59,13 @@ pub record Turned (ts : List Task) (r : Mask) (i : ℕ) (l l' : List ℕ) (b : B
 
 -- What was found, as an answer of the code.
 unfoldable pub found_of : Option ℕ → Found
-found_of none = Nothing
-found_of (some i) = At i
+found_of none = None
+found_of (some i) = Some i
 
 -- What the planner came to, where the masks are l: nothing found is a plan.
 unfoldable pub plan_of : Found → List ℕ → Plan
-plan_of Nothing l = planned l
-plan_of (At i) l = full i
+plan_of None l = planned l
+plan_of (Some i) l = full i
 
 -- The mask of an event before any proposal.
 unfoldable pub start_of : Mask → ℕ

@@ -5,8 +5,8 @@ use Rattle.std.proofs.lemmas.List.Edits.{sets}
 use Rattle.token.specs.Find.{pick, both, either}
 use Rattle.rows.specs.Table.{cell_of}
 use Rattle.rows.specs.Search.{row_name, find_from}
-use Rattle.rows.specs.declared.Found.{Found}
-use Rattle.rows.specs.declared.Found.TheVariants.{At, Nothing}
+use Rattle.rows.specs.Found.{Found}
+use Rattle.std.specs.Prelude.{Some, None}
 use Rattle.token.specs.Words.{bytes_of, same}
 use Rattle.masks.specs.Masks.{Mask, given, automatic}
 use Rattle.masks.specs.Marks.{mask_at}
@@ -55,12 +55,12 @@ is_mask_at s d v row k = both (both (eqb (cell_of v 9 k 1) 0) (eqb (cell_of v 9 
 
 -- The sort and the amount of the value of a row that was found; nothing found counts as AUTO.
 unfoldable pub sort_found : List ℕ → Found → ℕ
-sort_found v (At k) = cell_of v 9 k 3
-sort_found v Nothing = 2
+sort_found v (Some k) = cell_of v 9 k 3
+sort_found v None = 2
 
 unfoldable pub amount_found : List ℕ → Found → ℕ
-amount_found v (At k) = cell_of v 9 k 5
-amount_found v Nothing = 0
+amount_found v (Some k) = cell_of v 9 k 5
+amount_found v None = 0
 
 unfoldable pub mask_found : List ℕ → Found → Mask
 mask_found v f = pick (eqb (sort_found v f) 0) (given (amount_found v f)) automatic

@@ -1,7 +1,7 @@
 -- The contracts of the inner functions that see the tables. No part of the public contract. Assumes nothing.
 use Rattle.std.specs.Prelude.{◌≡◌, List, ℕ, ◌≤◌, length, eqb, ltb}
-use Rattle.rows.specs.declared.Found.{Found}
-use Rattle.rows.specs.declared.Found.TheVariants.{At, Nothing}
+use Rattle.rows.specs.Found.{Found}
+use Rattle.std.specs.Prelude.{Some, None}
 use Rattle.meaning.specs.Syntax.{File}
 use Rattle.meaning.specs.Words.{choose}
 use Rattle.meaning.specs.Defining.{all_definition_rows}
@@ -19,15 +19,15 @@ use Rattle.masks.specs.declared.Planned.TheVariants as p
 -- The rows ---------------------------------------------------------------------------------------------------------------------------------
 
 unfoldable pub named_found : Found → Checked
-named_found (At i) = c.Breaks i
-named_found Nothing = c.Accepted
+named_found (Some i) = c.Breaks i
+named_found None = c.Accepted
 
 -- The checker's answer for a plannable file.
 unfoldable pub check_listed : File → List ℕ → Checked
 check_listed f l = choose (eqb (length l) (length (masks_of f))) (λ _. named_first (breaking (tasks_of f) l 0 (masks_of f) l)) (λ _. c.WrongLength)
 
 -- The planner's for a plannable file.
-unfoldable pub plan_listed : File → List ℕ → Made
+unfoldable pub plan_listed : File → List ℕ → Made Planned
 plan_listed f l = choose (ltb (length l) (length (masks_of f))) (λ _. left p.WrongLength l) (λ _. made (plan (tasks_of f) (masks_of f)) l)
 
 -- `check_rows`: the answer for every plannable file whose rows the tables hold.

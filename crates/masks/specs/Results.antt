@@ -7,6 +7,9 @@ use Rattle.meaning.specs.Answers.{Answer, accepted, refused, answer}
 use Rattle.meaning.specs.Reading.{Parsed, parsed, not_parsed, parse}
 use Rattle.masks.specs.Masks.{breaking, Plan, planned, full, plan}
 use Rattle.masks.specs.Events.{plannable, masks_of, tasks_of}
+use Rattle.std.specs.Prelude.{Result, Ok}
+use Rattle.rows.specs.Refusing.{refusing}
+use Rattle.rows.specs.declared.Fault.{Fault}
 use Rattle.masks.specs.declared.Checked.{Checked}
 use Rattle.masks.specs.declared.Checked.TheVariants as c
 use Rattle.masks.specs.declared.Planned.{Planned}
@@ -26,57 +29,61 @@ check_file f l =
     choose (eqb (length l) (length (masks_of f))) (λ _. named_first (breaking (tasks_of f) l 0 (masks_of f) l)) (λ _. c.WrongLength))
     (λ _. c.NotPlannable)
 
-unfoldable pub check_answered : Answer → File → List ℕ → Checked
-check_answered (accepted t) f l = check_file f l
-check_answered (refused n p) f l = c.Refused n p
+unfoldable pub check_answered : Answer → File → List ℕ → Result Checked Fault
+check_answered (accepted t) f l = Ok (check_file f l)
+check_answered (refused n p) f l = refusing n p
 
 -- "A refused text gives its refusal".
-unfoldable pub check_parsed : Parsed → List ℕ → Checked
+unfoldable pub check_parsed : Parsed → List ℕ → Result Checked Fault
 check_parsed (parsed f) l = check_answered (answer f) f l
-check_parsed (not_parsed n p) l = c.Refused n p
+check_parsed (not_parsed n p) l = refusing n p
 
 -- The checker's answer to the text s and the list l.
-unfoldable pub check : List ℕ → List ℕ → Checked
+unfoldable pub check : List ℕ → List ℕ → Result Checked Fault
 check s l = check_parsed (parse s) l
 
 -- The planner ------------------------------------------------------------------------------------------------------------------------------
 
 -- The planner's answer, and the lent list after it.
-pub record Made : Type 0 where
-  pub result : Planned
+pub record Made (R : Type 0) : Type 0 where
+  pub result : R
   pub list : List ℕ
 
-unfoldable pub left : Planned → List ℕ → Made
+unfoldable pub left : {R : Type 0} → R → List ℕ → Made R
 left r l = record { result = r; list = l }
 
 -- "filled from the start"; "entries past them, and all on a refusal, stay".
-unfoldable pub made : Plan → List ℕ → Made
+unfoldable pub made : Plan → List ℕ → Made Planned
 made (planned ms) l = record { result = p.Made (length ms); list = ms ++ drop (length ms) l }
 made (full i) l = left (p.Full i) l
 
 -- "Its lent list .. is first refused as of wrong length if shorter than the events".
-unfoldable pub plan_file : File → List ℕ → Made
+unfoldable pub plan_file : File → List ℕ → Made Planned
 plan_file f l =
     choose (plannable f) (λ _.
     choose (ltb (length l) (length (masks_of f))) (λ _. left p.WrongLength l) (λ _. made (plan (tasks_of f) (masks_of f)) l))
     (λ _. left p.NotPlannable l)
 
-unfoldable pub plan_answered : Answer → File → List ℕ → Made
-plan_answered (accepted t) f l = plan_file f l
-plan_answered (refused n q) f l = left (p.Refused n q) l
+-- No refusal of the text.
+unfoldable pub answered : Made Planned → Made (Result Planned Fault)
+answered m = record { result = Ok m.result; list = m.list }
 
-unfoldable pub plan_parsed : Parsed → List ℕ → Made
+unfoldable pub plan_answered : Answer → File → List ℕ → Made (Result Planned Fault)
+plan_answered (accepted t) f l = answered (plan_file f l)
+plan_answered (refused n q) f l = left (refusing n q) l
+
+unfoldable pub plan_parsed : Parsed → List ℕ → Made (Result Planned Fault)
 plan_parsed (parsed f) l = plan_answered (answer f) f l
-plan_parsed (not_parsed n q) l = left (p.Refused n q) l
+plan_parsed (not_parsed n q) l = left (refusing n q) l
 
-unfoldable pub plan_text : List ℕ → List ℕ → Made
+unfoldable pub plan_text : List ℕ → List ℕ → Made (Result Planned Fault)
 plan_text s l = plan_parsed (parse s) l
 
 -- A call gives r, and the lent list is l' afterwards.
-pub record Leaves (m : Made) (l' : List ℕ) (r : Planned) : Type 0 where
+pub record Leaves {R : Type 0} (m : Made R) (l' : List ℕ) (r : R) : Type 0 where
   pub result : r ≡ m.result
   pub list : l' ≡ m.list
 
 -- THE CONTRACT of `plan_masks` as equations, for the text s and the lent list l, which is l' afterwards.
-abbrev pub PlansText : (s l l' : List ℕ) → Planned → Type 0
+abbrev pub PlansText : (s l l' : List ℕ) → Result Planned Fault → Type 0
 PlansText s l l' r = Leaves (plan_text s l) l' r

@@ -12,6 +12,9 @@ use Rattle.meaning.specs.Rules.{TheAnswer}
 use Rattle.masks.specs.Events.{plannable, masks_of, tasks_of}
 use Rattle.masks.specs.Results.{check, plan_text}
 use Rattle.masks.specs.Statements.{Fine, FirstBroken, PlanBefore, FullAt}
+use Rattle.std.specs.Prelude.{Result, Ok}
+use Rattle.rows.specs.Refusing.{refusing}
+use Rattle.rows.specs.declared.Fault.{Fault}
 use Rattle.masks.specs.declared.Checked.{Checked}
 use Rattle.masks.specs.declared.Checked.TheVariants as c
 use Rattle.masks.specs.declared.Planned.{Planned}
@@ -31,11 +34,11 @@ pub data Verdict (f : File) (l : List ℕ) : Checked → Type 0 where
   accepts : plannable f ≡ true → Fine (tasks_of f) (masks_of f) l → Verdict f l c.Accepted
 
 -- For the text s and the list l; r is what is returned.
-pub data ChecksByRules (s l : List ℕ) (r : Checked) : Type 0 where
+pub data ChecksByRules (s l : List ℕ) (r : Result Checked Fault) : Type 0 where
   -- "A refused text gives its refusal"
-  refuses : (n q : ℕ) → TheAnswer s (refused n q) → r ≡ c.Refused n q → ChecksByRules s l r
+  refuses : (n q : ℕ) → TheAnswer s (refused n q) → r ≡ refusing n q → ChecksByRules s l r
   -- "A checker takes an accepted text and anyone's list of masks."
-  judges : (t : Tables) → TheAnswer s (accepted t) → Derivation (tokens s) → ((d : Derivation (tokens s)) → Verdict (syntax s d.tree) l r) → ChecksByRules s l r
+  judges : (t : Tables) → TheAnswer s (accepted t) → Derivation (tokens s) → (v : Checked) → r ≡ Ok v → ((d : Derivation (tokens s)) → Verdict (syntax s d.tree) l v) → ChecksByRules s l r
 
 -- The planner ------------------------------------------------------------------------------------------------------------------------------
 
@@ -50,9 +53,9 @@ pub data Outcome (f : File) (l l' : List ℕ) : Planned → Type 0 where
   makes : plannable f ≡ true → length (masks_of f) ≤ length l → (ms : List ℕ) → PlanBefore (tasks_of f) (masks_of f) ms (length (masks_of f))
       → l' ≡ ms ++ drop (length ms) l → Outcome f l l' (p.Made (length ms))
 
-pub data PlansByRules (s l l' : List ℕ) (r : Planned) : Type 0 where
-  refuses : (n q : ℕ) → TheAnswer s (refused n q) → r ≡ p.Refused n q → l' ≡ l → PlansByRules s l l' r
-  judges : (t : Tables) → TheAnswer s (accepted t) → Derivation (tokens s) → ((d : Derivation (tokens s)) → Outcome (syntax s d.tree) l l' r) → PlansByRules s l l' r
+pub data PlansByRules (s l l' : List ℕ) (r : Result Planned Fault) : Type 0 where
+  refuses : (n q : ℕ) → TheAnswer s (refused n q) → r ≡ refusing n q → l' ≡ l → PlansByRules s l l' r
+  judges : (t : Tables) → TheAnswer s (accepted t) → Derivation (tokens s) → (v : Planned) → r ≡ Ok v → ((d : Derivation (tokens s)) → Outcome (syntax s d.tree) l l' v) → PlansByRules s l l' r
 
 -- Theorems -----------------------------------------------------------------------------------------------------------------------------------
 
@@ -61,17 +64,17 @@ pub data PlansByRules (s l l' : List ℕ) (r : Planned) : Type 0 where
 -- derivation. proofs/ByRules has `accepts_exactly`.
 abbrev pub AcceptsExactly : Type 0
 AcceptsExactly = (s l : List ℕ) (t : Tables) → Answers s (accepted t) → (d : Derivation (tokens s)) → plannable (syntax s d.tree) ≡ true
-    → (check s l ≡ c.Accepted → Fine (tasks_of (syntax s d.tree)) (masks_of (syntax s d.tree)) l)
-    × (Fine (tasks_of (syntax s d.tree)) (masks_of (syntax s d.tree)) l → check s l ≡ c.Accepted)
+    → (check s l ≡ Ok c.Accepted → Fine (tasks_of (syntax s d.tree)) (masks_of (syntax s d.tree)) l)
+    × (Fine (tasks_of (syntax s d.tree)) (masks_of (syntax s d.tree)) l → check s l ≡ Ok c.Accepted)
 
 -- "It refuses exactly when all 64 bits are taken for some event, and names the first such event." The lent list is long enough.
 -- proofs/ByRules has `refuses_exactly`.
 abbrev pub RefusesExactly : Type 0
 RefusesExactly = (s l : List ℕ) (t : Tables) → Answers s (accepted t) → (d : Derivation (tokens s)) → plannable (syntax s d.tree) ≡ true
     → length (masks_of (syntax s d.tree)) ≤ length l → (i : ℕ)
-    → ((plan_text s l).result ≡ p.Full i → FullAt (tasks_of (syntax s d.tree)) (masks_of (syntax s d.tree)) i)
-    × (FullAt (tasks_of (syntax s d.tree)) (masks_of (syntax s d.tree)) i → (plan_text s l).result ≡ p.Full i)
+    → ((plan_text s l).result ≡ Ok (p.Full i) → FullAt (tasks_of (syntax s d.tree)) (masks_of (syntax s d.tree)) i)
+    × (FullAt (tasks_of (syntax s d.tree)) (masks_of (syntax s d.tree)) i → (plan_text s l).result ≡ Ok (p.Full i))
 
 -- "The checker accepts every plan it makes." Of any text and any lent list. proofs/Texts has `plan_checked`.
 abbrev pub PlanAccepted : Type 0
-PlanAccepted = (s l : List ℕ) (n : ℕ) → (plan_text s l).result ≡ p.Made n → check s (take n (plan_text s l).list) ≡ c.Accepted
+PlanAccepted = (s l : List ℕ) (n : ℕ) → (plan_text s l).result ≡ Ok (p.Made n) → check s (take n (plan_text s l).list) ≡ Ok c.Accepted

@@ -11,32 +11,14 @@ pub const BITS: usize = 64;
 pub fn is_single(m: u64) -> bool
     ensures { result ≡ single m }
 {
-    let mut k: usize = BITS;
-    let mut p = 0x8000_0000_0000_0000u64;
-    while 0 < k {
-        if m == p {
-            return true;
-        }
-        p = p / 2;
-        k -= 1;
-    }
-    false
+    m.is_power_of_two()
 }
 
 // The lowest bit that is not set, or 64.
 pub fn lowest_zero(m: u64) -> usize
     ensures { result ≡ find (λ k. not (has m k)) 64 0 }
 {
-    let mut k: usize = 0;
-    let mut x = m;
-    while k < BITS {
-        if x % 2 != 1 {
-            return k;
-        }
-        x = x / 2;
-        k += 1;
-    }
-    k
+    m.trailing_ones() as usize
 }
 
 // The mask of a single bit.

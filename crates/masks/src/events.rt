@@ -4,7 +4,7 @@ ghost use Rattle.rows.specs.Search.{find_from};
 ghost use Rattle.masks.specs.Members.{event_rows_at, PutEvent, PutEvents, is_mask_at};
 
 use layout::{definition, object, value};
-use rows::{Found, cells, parts};
+use rows::{cells, parts};
 
 // Row i at a place, if it is an event's; returns the place after.
 fn put_event(o: &[usize], i: usize, rows: &mut [usize], e: usize) -> usize
@@ -23,11 +23,9 @@ fn put_event(o: &[usize], i: usize, rows: &mut [usize], e: usize) -> usize
 pub fn event_rows(o: &[usize], m: usize, rows: &mut [usize]) -> usize
     ensures { PutEvents rows.old (event_rows_at o.now m 0) rows.new result }
 {
-    let mut i = 0;
     let mut e = 0;
-    while i < m {
+    for i in 0..m {
         e = put_event(o, i, rows, e);
-        i += 1;
     }
     e
 }
@@ -49,15 +47,13 @@ fn is_mask(text: &[u8], d: &[usize], v: &[usize], row: usize, k: usize) -> bool
 }
 
 // The row of the MASK of the object of a row, of the first n values.
-pub fn find_mask(text: &[u8], d: &[usize], v: &[usize], n: usize, row: usize) -> Found
+pub fn find_mask(text: &[u8], d: &[usize], v: &[usize], n: usize, row: usize) -> Option<usize>
     ensures { result ≡ find_from (is_mask_at text.now d.now v.now row) n 0 }
 {
-    let mut k = 0;
-    while k < n {
+    for k in 0..n {
         if is_mask(text, d, v, row, k) {
-            return Found::At(k);
+            return Some(k);
         }
-        k += 1;
     }
-    Found::Nothing
+    None
 }

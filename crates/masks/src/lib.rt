@@ -7,8 +7,9 @@ ghost use Rattle.masks.specs.Results.{check, PlansText};
 ghost use Rattle.masks.specs.Rules.{ChecksByRules, PlansByRules};
 
 use layout::{definition, enumerator, object, value};
+use marks::Tasks;
 use reading::{Answer, Spanned};
-use rows::Found;
+use rows::Fault;
 
 mod bits;
 pub mod events;
@@ -23,11 +24,10 @@ const GIVEN_SORT: usize = 0;
 
 const GIVEN_AMOUNT: usize = 1;
 
-// The checker's answer: the text's refusal, with its number and place; no single UINT64 MASK in EVENT itself; a list of another length than there
-// are events; the first event that breaks its own rule, by its number among the events from 0; accepted.
-#[derive(Clone, Copy)]
+// The checker's answer to an accepted text: no single UINT64 MASK in EVENT itself; a list of another length than there are events; the first event
+// that breaks its own rule, by its number among the events from 0; accepted.
+#[derive(Clone, Copy, Debug, PartialEq, Eq)]
 pub enum Checked {
-    Refused(u8, usize),
     NotPlannable,
     WrongLength,
     Breaks(usize),
@@ -35,9 +35,8 @@ pub enum Checked {
 }
 
 // The planner's answer: the same, with the first event for which all 64 bits are taken, or how many events have their masks.
-#[derive(Clone, Copy)]
+#[derive(Clone, Copy, Debug, PartialEq, Eq)]
 pub enum Planned {
-    Refused(u8, usize),
     NotPlannable,
     WrongLength,
     Full(usize),
@@ -45,12 +44,12 @@ pub enum Planned {
 }
 
 // The checker's answer by what was found.
-fn verdict(found: Found) -> Checked
+fn verdict(found: Option<usize>) -> Checked
     ensures { result ≡ named_found found }
 {
     match found {
-        Found::At(i) => Checked::Breaks(i),
-        Found::Nothing => Checked::Accepted,
+        Some(i) => Checked::Breaks(i),
+        None => Checked::Accepted,
     }
 }
 
@@ -78,7 +77,12 @@ fn check_rows(
     members::mark_all(o, v, n, &mut marks);
     let mut given = [0usize; object::MOST * GIVEN_WIDTH];
     members::fill_given(text, d, v, n, &rows, e, &mut given);
-    verdict(turns::first_breaking(&marks, &rows, m, &given, list))
+    let tasks = Tasks {
+        marks: &marks,
+        rows: &rows,
+        count: m,
+    };
+    verdict(turns::first_breaking(&tasks, &given, list))
 }
 
 // The planner for such a text.
@@ -105,8 +109,13 @@ fn plan_rows(
     members::mark_all(o, v, n, &mut marks);
     let mut given = [0usize; object::MOST * GIVEN_WIDTH];
     members::fill_given(text, d, v, n, &rows, e, &mut given);
+    let tasks = Tasks {
+        marks: &marks,
+        rows: &rows,
+        count: m,
+    };
     let mut masks = [0u64; object::MOST];
-    turns::hand_out(&marks, &rows, m, &given, &mut masks[..e], list)
+    turns::hand_out(&tasks, &given, &mut masks[..e], list)
 }
 
 // The checker for an accepted text: its reading w, and its rows in the tables.
@@ -148,7 +157,7 @@ fn plan_read(
 }
 
 // Whether a list has a mask for each event of a text, in object order, as the events' own rules ask.
-pub fn check_masks(text: &[u8], masks: &[u64]) -> Checked
+pub fn check_masks(text: &[u8], masks: &[u64]) -> Result<Checked, Fault>
     ensures checks { result ≡ check text.now masks.now }
     ensures rules { ChecksByRules text.now masks.now result }
 {
@@ -160,13 +169,13 @@ pub fn check_masks(text: &[u8], masks: &[u64]) -> Checked
     let r = w.reading;
     let answer = r.answer;
     match answer {
-        Answer::Refused(number, place) => Checked::Refused(number, place),
-        Answer::Accepted => check_read(text, &d, &o, &v, w, masks),
+        Answer::Refused(number, place) => Err(Fault { number, place }),
+        Answer::Accepted => Ok(check_read(text, &d, &o, &v, w, masks)),
     }
 }
 
 // A mask for each event of a text, in object order, to the front of the list; the list stays on any refusal.
-pub fn plan_masks(text: &[u8], masks: &mut [u64]) -> Planned
+pub fn plan_masks(text: &[u8], masks: &mut [u64]) -> Result<Planned, Fault>
     ensures plans { PlansText text.now masks.old masks.new result }
     ensures rules { PlansByRules text.now masks.old masks.new result }
 {
@@ -178,7 +187,7 @@ pub fn plan_masks(text: &[u8], masks: &mut [u64]) -> Planned
     let r = w.reading;
     let answer = r.answer;
     match answer {
-        Answer::Refused(number, place) => Planned::Refused(number, place),
-        Answer::Accepted => plan_read(text, &d, &o, &v, w, masks),
+        Answer::Refused(number, place) => Err(Fault { number, place }),
+        Answer::Accepted => Ok(plan_read(text, &d, &o, &v, w, masks)),
     }
 }

@@ -1,12 +1,34 @@
-// Masks judged and proposed, over the marks of the tasks.
-ghost use Rattle.std.specs.Prelude.{◌≡◌, true, ◌+◌, ◌<◌, get_or, eqb};
-ghost use Rattle.token.specs.Find.{both};
-ghost use Rattle.masks.specs.Masks.{meets, beside};
-ghost use Rattle.masks.specs.Marks.{task_at, tasks_at, has_power, another, Gathers, GathersOne, GathersIn, GathersAll};
+// The bits that the masks of the other events of an event's tasks take, over the marks of the tasks.
+ghost use Rattle.std.specs.Prelude.{◌≡◌, ◌+◌, get_or, eqb};
+ghost use Rattle.masks.specs.Marks.{task_at, tasks_of, another, Gathers, GathersOne, GathersIn, GathersAll};
 
-use super::bits;
 use layout::object;
 use rows::cells;
+
+// The tasks of a text: `rows` has the object row of each event, and the mark in column o of row t is set where the task of row t refers to the object
+// of row o. The tasks are among the first `count` rows.
+#[derive(Clone, Copy)]
+pub struct Tasks<'a> {
+    pub marks: &'a [u8],
+    pub rows: &'a [usize],
+    pub count: usize,
+}
+
+impl<'a> Tasks<'a> {
+    // The bits that are taken for the event i.
+    pub fn taken_bits(&self, i: usize, list: &[u64]) -> u64
+        ensures { GathersAll (tasks_of self.now) i list.now result }
+    {
+        let marks = self.marks;
+        let rows = self.rows;
+        let count = self.count;
+        let mut b = 0;
+        for t in 0..count {
+            b = gather_in(marks, rows, t, i, list, b);
+        }
+        b
+    }
+}
 
 // Whether the mark in column x of the row that begins at a place is set; it is not where it lies past the end.
 fn is_marked(marks: &[u8], at: usize, x: usize) -> bool
@@ -40,59 +62,6 @@ fn is_another(marks: &[u8], rows: &[usize], t: usize, i: usize, j: usize) -> boo
     i != j
 }
 
-// Whether the event j, whose mask is n, is such a one and has the bit of p.
-fn is_met(marks: &[u8], rows: &[usize], t: usize, i: usize, j: usize, p: u64, n: u64) -> bool
-    requires { 0 < p }
-    ensures { result ≡ both (another (task_at marks.now rows.now t) i j) (has_power p n) }
-{
-    if !is_another(marks, rows, t, i, j) {
-        return false;
-    }
-    bits::has_power(p, n)
-}
-
-// Whether one of the masks of the other events of the task of row t has the bit of p.
-fn meets_power(marks: &[u8], rows: &[usize], t: usize, i: usize, p: u64, list: &[u64]) -> bool
-    requires { 0 < p }
-    ensures { result ≡ meets (task_at marks.now rows.now t) i (has_power p) list.now 0 }
-{
-    let mut j = 0;
-    while j < list.len() {
-        let n = list[j];
-        if is_met(marks, rows, t, i, j, p, n) {
-            return true;
-        }
-        j += 1;
-    }
-    false
-}
-
-// The same, where the task of row t has the event i.
-fn meets_in(marks: &[u8], rows: &[usize], t: usize, i: usize, p: u64, list: &[u64]) -> bool
-    requires { 0 < p }
-    ensures { result ≡ both (task_at marks.now rows.now t i) (meets (task_at marks.now rows.now t) i (has_power p) list.now 0) }
-{
-    if !has_event(marks, rows, t, i) {
-        return false;
-    }
-    meets_power(marks, rows, t, i, p, list)
-}
-
-// Whether a mask of another event of any same task has the bit of p; the tasks are among the first c rows.
-pub fn clashes(marks: &[u8], rows: &[usize], c: usize, i: usize, p: u64, list: &[u64]) -> bool
-    requires { 0 < p }
-    ensures { result ≡ beside (tasks_at marks.now rows.now c 0) i (has_power p) list.now }
-{
-    let mut t = 0;
-    while t < c {
-        if meets_in(marks, rows, t, i, p, list) {
-            return true;
-        }
-        t += 1;
-    }
-    false
-}
-
 // The bits so far, and those of the mask n of the event j, where it is another than i and of the task of row t.
 fn gather_one(marks: &[u8], rows: &[usize], t: usize, i: usize, j: usize, n: u64, a: u64) -> u64
     ensures { GathersOne (task_at marks.now rows.now t) i j n a result }
@@ -107,12 +76,9 @@ fn gather_one(marks: &[u8], rows: &[usize], t: usize, i: usize, j: usize, n: u64
 fn gather(marks: &[u8], rows: &[usize], t: usize, i: usize, list: &[u64], a: u64) -> u64
     ensures { Gathers (task_at marks.now rows.now t) i list.now a result }
 {
-    let mut j = 0;
     let mut b = a;
-    while j < list.len() {
-        let n = list[j];
-        b = gather_one(marks, rows, t, i, j, n, b);
-        j += 1;
+    for (j, n) in list.iter().enumerate() {
+        b = gather_one(marks, rows, t, i, j, *n, b);
     }
     b
 }
@@ -125,17 +91,4 @@ fn gather_in(marks: &[u8], rows: &[usize], t: usize, i: usize, list: &[u64], a: 
         return a;
     }
     gather(marks, rows, t, i, list, a)
-}
-
-// The bits that are taken for the event i; the tasks are among the first c rows.
-pub fn taken_bits(marks: &[u8], rows: &[usize], c: usize, i: usize, list: &[u64]) -> u64
-    ensures { GathersAll (tasks_at marks.now rows.now c 0) i list.now result }
-{
-    let mut t = 0;
-    let mut b = 0;
-    while t < c {
-        b = gather_in(marks, rows, t, i, list, b);
-        t += 1;
-    }
-    b
 }

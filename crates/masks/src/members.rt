@@ -4,7 +4,7 @@ ghost use Rattle.masks.specs.Members.{object_at, hits, refers_at, Marked, sort_f
 
 use super::events;
 use layout::{definition, object, sorts, value, word_codes};
-use rows::{Found, cells, parts};
+use rows::{cells, parts};
 
 // The object of row k: its owner, or that of the row before.
 fn object_of(v: &[usize], k: usize, last: usize) -> usize
@@ -42,37 +42,35 @@ pub fn mark_all(o: &[usize], v: &[usize], n: usize, marks: &mut [u8])
     requires { length marks.old ≡ 65536 }
     ensures { Marked marks.old (refers_at o.now v.now n 0 0) marks.new }
 {
-    let mut k = 0;
     let mut last = 0;
-    while k < n {
+    for k in 0..n {
         last = object_of(v, k, last);
         mark_one(o, v, k, last, marks);
-        k += 1;
     }
 }
 
 // The sort of the value that was found.
-fn sort_of(v: &[usize], found: Found) -> usize
+fn sort_of(v: &[usize], found: Option<usize>) -> usize
     ensures { result ≡ sort_found v.now found }
 {
     match found {
-        Found::At(k) => cells::cell_of(v, value::WIDTH, k, value::SORT),
-        Found::Nothing => sorts::AUTO,
+        Some(k) => cells::cell_of(v, value::WIDTH, k, value::SORT),
+        None => sorts::AUTO,
     }
 }
 
 // The amount of the value that was found.
-fn amount_of(v: &[usize], found: Found) -> usize
+fn amount_of(v: &[usize], found: Option<usize>) -> usize
     ensures { result ≡ amount_found v.now found }
 {
     match found {
-        Found::At(k) => cells::cell_of(v, value::WIDTH, k, value::AMOUNT),
-        Found::Nothing => 0,
+        Some(k) => cells::cell_of(v, value::WIDTH, k, value::AMOUNT),
+        None => 0,
     }
 }
 
 // The mask of the event j.
-fn put_given(v: &[usize], found: Found, j: usize, given: &mut [usize])
+fn put_given(v: &[usize], found: Option<usize>, j: usize, given: &mut [usize])
     requires { j * 2 + 1 < length given.old }
     ensures { PutGiven v.now found j given.old given.new }
 {
@@ -95,11 +93,9 @@ pub fn fill_given(
     requires { e * 2 ≤ length given.old }
     ensures { Filled text.now d.now v.now n rows.now e given.old given.new }
 {
-    let mut j = 0;
-    while j < e {
+    for j in 0..e {
         let found = events::find_mask(text, d, v, n, cells::get(rows, j));
         put_given(v, found, j, given);
-        j += 1;
     }
 }
 
@@ -128,12 +124,10 @@ pub fn defines_mask(text: &[u8], d: &[usize], place: usize, n: usize) -> bool
     if place == 0 {
         return false;
     }
-    let mut j = 0;
-    while j < n {
+    for j in 0..n {
         if is_mask_row(text, d, place, j) {
             return true;
         }
-        j += 1;
     }
     false
 }

@@ -2,24 +2,17 @@
 ghost use Rattle.std.specs.Prelude.{◌≡◌, ◌<◌, ◌≤◌, length};
 ghost use Rattle.std.proofs.lemmas.List.Edits.{sets};
 ghost use Rattle.masks.specs.Masks.{keeps, breaking, before_plan, plan_from};
-ghost use Rattle.masks.specs.Marks.{tasks_at, mask_at, masks_at, found_of, start_of, plan_of, Turned};
+ghost use Rattle.masks.specs.Marks.{tasks_of, mask_at, masks_at, found_of, start_of, plan_of, Turned};
 ghost use Rattle.masks.specs.Promises.{Delivers, HandsOut};
 
-use super::{Planned, bits, marks};
+use super::marks::Tasks;
+use super::{Planned, bits};
 use layout::sorts;
-use rows::{Found, cells};
+use rows::cells;
 
 // Whether the mask m of the event i keeps the event's own rule.
-fn keeps_rule(
-    marks: &[u8],
-    rows: &[usize],
-    c: usize,
-    given: &[usize],
-    list: &[u64],
-    i: usize,
-    m: u64,
-) -> bool
-    ensures { result ≡ keeps (tasks_at marks.now rows.now c 0) list.now i (mask_at given.now i) m }
+fn keeps_rule(tasks: &Tasks, given: &[usize], list: &[u64], i: usize, m: u64) -> bool
+    ensures { result ≡ keeps (tasks_of tasks.now) list.now i (mask_at given.now i) m }
 {
     if cells::cell_of(given, super::GIVEN_WIDTH, i, super::GIVEN_SORT) == sorts::NUMBER {
         let g = cells::cell_of(given, super::GIVEN_WIDTH, i, super::GIVEN_AMOUNT) as u64;
@@ -28,28 +21,19 @@ fn keeps_rule(
     if !bits::is_single(m) {
         return false;
     }
-    !marks::clashes(marks, rows, c, i, m, list)
+    !bits::has_power(m, tasks.taken_bits(i, list))
 }
 
 // The first event that breaks its own rule; there is a mask for each.
-pub fn first_breaking(
-    marks: &[u8],
-    rows: &[usize],
-    c: usize,
-    given: &[usize],
-    list: &[u64],
-) -> Found
-    ensures { result ≡ found_of (breaking (tasks_at marks.now rows.now c 0) list.now 0 (masks_at given.now (length list.now) 0) list.now) }
+pub fn first_breaking(tasks: &Tasks, given: &[usize], list: &[u64]) -> Option<usize>
+    ensures { result ≡ found_of (breaking (tasks_of tasks.now) list.now 0 (masks_at given.now (length list.now) 0) list.now) }
 {
-    let mut i = 0;
-    while i < list.len() {
-        let m = list[i];
-        if !keeps_rule(marks, rows, c, given, list, i, m) {
-            return Found::At(i);
+    for (i, m) in list.iter().enumerate() {
+        if !keeps_rule(tasks, given, list, i, *m) {
+            return Some(i);
         }
-        i += 1;
     }
-    Found::Nothing
+    None
 }
 
 // The mask of the event i before any proposal.
@@ -66,29 +50,20 @@ fn start_of(given: &[usize], i: usize) -> u64
 fn start_masks(given: &[usize], masks: &mut [u64])
     ensures { masks.new ≡ before_plan (masks_at given.now (length masks.old) 0) }
 {
-    let mut i = 0;
-    while i < masks.len() {
-        masks[i] = start_of(given, i);
-        i += 1;
+    for (i, m) in masks.iter_mut().enumerate() {
+        *m = start_of(given, i);
     }
 }
 
 // The turn of the event i: false where all bits are taken.
-fn take_turn(
-    marks: &[u8],
-    rows: &[usize],
-    c: usize,
-    given: &[usize],
-    masks: &mut [u64],
-    i: usize,
-) -> bool
+fn take_turn(tasks: &Tasks, given: &[usize], masks: &mut [u64], i: usize) -> bool
     requires { i < length masks.old }
-    ensures { Turned (tasks_at marks.now rows.now c 0) (mask_at given.now i) i masks.old masks.new result }
+    ensures { Turned (tasks_of tasks.now) (mask_at given.now i) i masks.old masks.new result }
 {
     if cells::cell_of(given, super::GIVEN_WIDTH, i, super::GIVEN_SORT) == sorts::NUMBER {
         return true;
     }
-    let k = bits::lowest_zero(marks::taken_bits(marks, rows, c, i, masks));
+    let k = bits::lowest_zero(tasks.taken_bits(i, masks));
     if k < bits::BITS {
         masks[i] = bits::power(k);
         return true;
@@ -97,17 +72,15 @@ fn take_turn(
 }
 
 // A mask for each event, or the first for which all bits are taken.
-fn take_turns(marks: &[u8], rows: &[usize], c: usize, given: &[usize], masks: &mut [u64]) -> Found
-    ensures { plan_from (tasks_at marks.now rows.now c 0) masks.old 0 (masks_at given.now (length masks.old) 0) ≡ plan_of result masks.new }
+fn take_turns(tasks: &Tasks, given: &[usize], masks: &mut [u64]) -> Option<usize>
+    ensures { plan_from (tasks_of tasks.now) masks.old 0 (masks_at given.now (length masks.old) 0) ≡ plan_of result masks.new }
 {
-    let mut i = 0;
-    while i < masks.len() {
-        if !take_turn(marks, rows, c, given, masks, i) {
-            return Found::At(i);
+    for i in 0..masks.len() {
+        if !take_turn(tasks, given, masks, i) {
+            return Some(i);
         }
-        i += 1;
     }
-    Found::Nothing
+    None
 }
 
 // The masks to the front of the list.
@@ -115,21 +88,17 @@ fn put_masks(masks: &[u64], list: &mut [u64])
     requires { length masks.now ≤ length list.old }
     ensures { list.new ≡ sets list.old 0 masks.now }
 {
-    let mut i = 0;
-    while i < masks.len() {
-        list[i] = masks[i];
-        i += 1;
-    }
+    list[..masks.len()].copy_from_slice(masks);
 }
 
 // The planner's answer by what was found; a plan goes to the front of the list.
-fn deliver(found: Found, masks: &[u64], list: &mut [u64]) -> Planned
+fn deliver(found: Option<usize>, masks: &[u64], list: &mut [u64]) -> Planned
     requires { length masks.now ≤ length list.old }
     ensures { Delivers (plan_of found masks.now) list.old list.new result }
 {
     match found {
-        Found::At(i) => Planned::Full(i),
-        Found::Nothing => {
+        Some(i) => Planned::Full(i),
+        None => {
             put_masks(masks, list);
             Planned::Made(masks.len())
         }
@@ -137,18 +106,11 @@ fn deliver(found: Found, masks: &[u64], list: &mut [u64]) -> Planned
 }
 
 // A mask for each event, first the given ones, then the proposals; a plan goes to the front of the list.
-pub fn hand_out(
-    marks: &[u8],
-    rows: &[usize],
-    c: usize,
-    given: &[usize],
-    masks: &mut [u64],
-    list: &mut [u64],
-) -> Planned
+pub fn hand_out(tasks: &Tasks, given: &[usize], masks: &mut [u64], list: &mut [u64]) -> Planned
     requires { length masks.old ≤ length list.old }
-    ensures { HandsOut (tasks_at marks.now rows.now c 0) (masks_at given.now (length masks.old) 0) list.old list.new result }
+    ensures { HandsOut (tasks_of tasks.now) (masks_at given.now (length masks.old) 0) list.old list.new result }
 {
     start_masks(given, masks);
-    let found = take_turns(marks, rows, c, given, masks);
+    let found = take_turns(tasks, given, masks);
     deliver(found, masks, list)
 }

@@ -5,10 +5,11 @@ use Rattle.grammar.specs.Grammar.{Derivation}
 use Rattle.meaning.specs.Actions.{syntax}
 use Rattle.meaning.specs.Answers.{Tables, accepted, refused}
 use Rattle.masks.specs.Rules.{Verdict, ChecksByRules, Outcome, PlansByRules}
+use Rattle.std.specs.Prelude.{Result, Ok, Err}
+use Rattle.rows.specs.Refusing.{refusing}
+use Rattle.rows.specs.declared.Fault.{Fault}
 use Rattle.masks.specs.declared.Checked.{Checked}
-use Rattle.masks.specs.declared.Checked.TheVariants as c
 use Rattle.masks.specs.declared.Planned.{Planned}
-use Rattle.masks.specs.declared.Planned.TheVariants as p
 use Rattle.sources_reading.specs.Answering.{text, found}
 use Rattle.lent_texts.specs.Answered.{TheAnswer}
 use Rattle.lent_texts.specs.Expanded.{refusal_in, Rooms, Filled}
@@ -16,45 +17,39 @@ use Rattle.lent_texts.specs.declared.Expanded.{Expanded}
 
 -- The checker, for the texts of the buffer b with lengths l and the list ms; x and g are lent for the expanded text and its origins, x' and g' is
 -- what they hold afterwards; r is what is returned.
-pub data ChecksTexts (b l x g x' g' ms : List ℕ) (r : Checked) : Type 0 where
+pub data ChecksTexts (b l x g x' g' ms : List ℕ) (r : Result Checked Fault) : Type 0 where
   -- 1, "lent tables too short", at 0. "Refusal 1 changes nothing."
-  short_rooms : (Rooms x g → ⊥) → r ≡ c.Refused 1 0 → x' ≡ x → g' ≡ g → ChecksTexts b l x g x' g' ms r
+  short_rooms : (Rooms x g → ⊥) → r ≡ refusing 1 0 → x' ≡ x → g' ≡ g → ChecksTexts b l x g x' g' ms r
   -- "A refused text gives its refusal"
-  refuses : Rooms x g → Filled b l x g x' g' → (n q : ℕ) → TheAnswer b l (refused n q) → r ≡ c.Refused n q → ChecksTexts b l x g x' g' ms r
+  refuses : Rooms x g → Filled b l x g x' g' → (n q : ℕ) → TheAnswer b l (refused n q) → r ≡ refusing n q → ChecksTexts b l x g x' g' ms r
   -- "A checker takes an accepted text and anyone's list of masks."
-  judges : Rooms x g → Filled b l x g x' g' → (t : Tables) → TheAnswer b l (accepted t) → Derivation (found b l)
-      → ((d : Derivation (found b l)) → Verdict (syntax (text b l) d.tree) ms r) → ChecksTexts b l x g x' g' ms r
+  judges : Rooms x g → Filled b l x g x' g' → (t : Tables) → TheAnswer b l (accepted t) → Derivation (found b l) → (v : Checked) → r ≡ Ok v
+      → ((d : Derivation (found b l)) → Verdict (syntax (text b l) d.tree) ms v) → ChecksTexts b l x g x' g' ms r
 
 -- The planner, with the lent list ms, which is ms' afterwards.
-pub data PlansTexts (b l x g x' g' ms ms' : List ℕ) (r : Planned) : Type 0 where
-  short_rooms : (Rooms x g → ⊥) → r ≡ p.Refused 1 0 → x' ≡ x → g' ≡ g → ms' ≡ ms → PlansTexts b l x g x' g' ms ms' r
-  refuses : Rooms x g → Filled b l x g x' g' → (n q : ℕ) → TheAnswer b l (refused n q) → r ≡ p.Refused n q → ms' ≡ ms → PlansTexts b l x g x' g' ms ms' r
-  judges : Rooms x g → Filled b l x g x' g' → (t : Tables) → TheAnswer b l (accepted t) → Derivation (found b l)
-      → ((d : Derivation (found b l)) → Outcome (syntax (text b l) d.tree) ms ms' r) → PlansTexts b l x g x' g' ms ms' r
+pub data PlansTexts (b l x g x' g' ms ms' : List ℕ) (r : Result Planned Fault) : Type 0 where
+  short_rooms : (Rooms x g → ⊥) → r ≡ refusing 1 0 → x' ≡ x → g' ≡ g → ms' ≡ ms → PlansTexts b l x g x' g' ms ms' r
+  refuses : Rooms x g → Filled b l x g x' g' → (n q : ℕ) → TheAnswer b l (refused n q) → r ≡ refusing n q → ms' ≡ ms → PlansTexts b l x g x' g' ms ms' r
+  judges : Rooms x g → Filled b l x g x' g' → (t : Tables) → TheAnswer b l (accepted t) → Derivation (found b l) → (v : Planned) → r ≡ Ok v
+      → ((d : Derivation (found b l)) → Outcome (syntax (text b l) d.tree) ms ms' v) → PlansTexts b l x g x' g' ms ms' r
 
 -- The inner functions --------------------------------------------------------------------------------------------------------------------------
 
 -- The answer to an expanded text e with the origins g, as that to the lent texts.
-unfoldable pub told_check : List ℕ → Expanded → Checked → Checked
-told_check g e (c.Refused n q) = c.Refused (refusal_in g e n q).number (refusal_in g e n q).place
-told_check g e c.NotPlannable = c.NotPlannable
-told_check g e c.WrongLength = c.WrongLength
-told_check g e (c.Breaks i) = c.Breaks i
-told_check g e c.Accepted = c.Accepted
+unfoldable pub told_check : List ℕ → Expanded → Result Checked Fault → Result Checked Fault
+told_check g e (Ok v) = Ok v
+told_check g e (Err f) = Err (refusal_in g e f.number f.place)
 
-unfoldable pub told_plan : List ℕ → Expanded → Planned → Planned
-told_plan g e (p.Refused n q) = p.Refused (refusal_in g e n q).number (refusal_in g e n q).place
-told_plan g e p.NotPlannable = p.NotPlannable
-told_plan g e p.WrongLength = p.WrongLength
-told_plan g e (p.Full i) = p.Full i
-told_plan g e (p.Made n) = p.Made n
+unfoldable pub told_plan : List ℕ → Expanded → Result Planned Fault → Result Planned Fault
+told_plan g e (Ok v) = Ok v
+told_plan g e (Err f) = Err (refusal_in g e f.number f.place)
 
-pub record ChecksExpanded (s g : List ℕ) (e : Expanded) (ms : List ℕ) (r : Checked) : Type 0 where
-  pub in_expanded : Checked
+pub record ChecksExpanded (s g : List ℕ) (e : Expanded) (ms : List ℕ) (r : Result Checked Fault) : Type 0 where
+  pub in_expanded : Result Checked Fault
   pub rules : ChecksByRules s ms in_expanded
   pub told : r ≡ told_check g e in_expanded
 
-pub record PlansExpanded (s g : List ℕ) (e : Expanded) (ms ms' : List ℕ) (r : Planned) : Type 0 where
-  pub in_expanded : Planned
+pub record PlansExpanded (s g : List ℕ) (e : Expanded) (ms ms' : List ℕ) (r : Result Planned Fault) : Type 0 where
+  pub in_expanded : Result Planned Fault
   pub rules : PlansByRules s ms ms' in_expanded
   pub told : r ≡ told_plan g e in_expanded

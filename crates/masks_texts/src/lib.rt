@@ -3,40 +3,37 @@
 
 ghost use Rattle.masks_texts.specs.Masks.{ChecksExpanded, PlansExpanded, ChecksTexts, PlansTexts};
 
-use lent_texts::{Expanded, Lent};
+use lent_texts::Expanded;
 use masks::{Checked, Planned};
+use rows::Fault;
 
 // The checker's answer to the expanded text, with its place in the lent texts.
-fn check_expanded(text: &[u8], origins: &[usize], e: Expanded, list: &[u64]) -> Checked
+fn check_expanded(
+    text: &[u8],
+    origins: &[usize],
+    e: Expanded,
+    list: &[u64],
+) -> Result<Checked, Fault>
     ensures { ChecksExpanded text.now origins.now e list.now result }
 {
-    let answer = masks::check_masks(text, list);
-    match answer {
-        Checked::Refused(number, place) => {
-            let r = lent_texts::refused(origins, e, number, place);
-            Checked::Refused(r.number, r.place)
-        }
-        Checked::NotPlannable => Checked::NotPlannable,
-        Checked::WrongLength => Checked::WrongLength,
-        Checked::Breaks(i) => Checked::Breaks(i),
-        Checked::Accepted => Checked::Accepted,
+    match masks::check_masks(text, list) {
+        Ok(checked) => Ok(checked),
+        Err(f) => Err(lent_texts::refused(origins, e, f)),
     }
 }
 
 // The planner's.
-fn plan_expanded(text: &[u8], origins: &[usize], e: Expanded, list: &mut [u64]) -> Planned
+fn plan_expanded(
+    text: &[u8],
+    origins: &[usize],
+    e: Expanded,
+    list: &mut [u64],
+) -> Result<Planned, Fault>
     ensures { PlansExpanded text.now origins.now e list.old list.new result }
 {
-    let answer = masks::plan_masks(text, list);
-    match answer {
-        Planned::Refused(number, place) => {
-            let r = lent_texts::refused(origins, e, number, place);
-            Planned::Refused(r.number, r.place)
-        }
-        Planned::NotPlannable => Planned::NotPlannable,
-        Planned::WrongLength => Planned::WrongLength,
-        Planned::Full(i) => Planned::Full(i),
-        Planned::Made(n) => Planned::Made(n),
+    match masks::plan_masks(text, list) {
+        Ok(planned) => Ok(planned),
+        Err(fault) => Err(lent_texts::refused(origins, e, fault)),
     }
 }
 
@@ -49,15 +46,12 @@ pub fn check_masks(
     expanded: &mut [u8],
     origins: &mut [usize],
     list: &[u64],
-) -> Checked
+) -> Result<Checked, Fault>
     ensures { ChecksTexts buffer.now lengths.now expanded.old origins.old
         expanded.new origins.new list.now result }
 {
-    let lent = lent_texts::expand(buffer, lengths, expanded, origins);
-    match lent {
-        Lent::Stopped(number) => Checked::Refused(number, 0),
-        Lent::Text(e) => check_expanded(&expanded[..e.length], origins, e, list),
-    }
+    let e = lent_texts::expand(buffer, lengths, expanded, origins)?;
+    check_expanded(&expanded[..e.length], origins, e, list)
 }
 
 // A mask for each event of lent texts, in object order, to the front of the list; the list stays on any refusal.
@@ -67,13 +61,10 @@ pub fn plan_masks(
     expanded: &mut [u8],
     origins: &mut [usize],
     list: &mut [u64],
-) -> Planned
+) -> Result<Planned, Fault>
     ensures { PlansTexts buffer.now lengths.now expanded.old origins.old
         expanded.new origins.new list.old list.new result }
 {
-    let lent = lent_texts::expand(buffer, lengths, expanded, origins);
-    match lent {
-        Lent::Stopped(number) => Planned::Refused(number, 0),
-        Lent::Text(e) => plan_expanded(&expanded[..e.length], origins, e, list),
-    }
+    let e = lent_texts::expand(buffer, lengths, expanded, origins)?;
+    plan_expanded(&expanded[..e.length], origins, e, list)
 }

@@ -13,8 +13,9 @@ use Rattle.grammar.specs.Demand.{Covered}
 use Rattle.grammar.specs.Factored.{Symbols, paper, ◌⟹◌}
 use Rattle.grammar.specs.Machine.{Move, move, after, run}
 use Rattle.grammar.specs.Readers.{stream_of, lex_at}
-use Rattle.grammar.specs.declared.Answer.{Answer as GrammarAnswer}
-use Rattle.grammar.specs.declared.Answer.TheVariants.{Passes, NoToken, NotAdmitted, TooDeep}
+use Rattle.grammar.specs.Answered.{Answer as GrammarAnswer}
+use Rattle.std.specs.Prelude.{Ok, Err}
+use Rattle.grammar.specs.declared.Refusal.TheVariants.{NoToken, NotAdmitted, TooDeep}
 use Rattle.grammar.proofs.Uniqueness.{back, empty, tokens_empty, empty_unique, nullable_of, Good, one_good, left_good, complete, forth, test_is}
 use Rattle.grammar.proofs.Literal.{from, lifted, to, tokens_to, back as there_and_back}
 use Rattle.grammar.proofs.Answering.{answer_to_lem}
@@ -77,14 +78,14 @@ reading_long s h =
     ap (λ b. answer_of_parsed (choose b (λ _. not_parsed 2 0) (λ _. after_grammar s (run 0 (paper file ▸ ∎) (stream_of (lex_from s 0))) (λ _. tree (tokens_in (lex_from s 0)))))) (lt-ltb 65535 (length s) h)
 
 -- A text that the grammar stage refuses is refused so.
-refused_by : (s : List ℕ) (a : GrammarAnswer) (t : Unit {0} → _) → (a ≡ Passes → ⊥) → answer_of_parsed (after_grammar s a t) ≡ refused (number_of a) (place_of a)
+refused_by : (s : List ℕ) (a : GrammarAnswer) (t : Unit {0} → _) → (a ≡ Ok tt → ⊥) → answer_of_parsed (after_grammar s a t) ≡ refused (number_of a) (place_of a)
 unfolding answer_of_parsed after_grammar number_of place_of
-refused_by s Passes t n = absurd (n refl)
-refused_by s (NoToken p) t n = refl
-refused_by s (NotAdmitted p) t n = refl
-refused_by s (TooDeep p) t n = refl
+refused_by s (Ok _) t n = absurd (n refl)
+refused_by s (Err (NoToken p)) t n = refl
+refused_by s (Err (NotAdmitted p)) t n = refl
+refused_by s (Err (TooDeep p)) t n = refl
 
-pub reading_refused : (s : List ℕ) (a : GrammarAnswer) → length s ≤ 65535 → run 0 (paper file ▸ ∎) (stream_of (lex_from s 0)) ≡ a → (a ≡ Passes → ⊥)
+pub reading_refused : (s : List ℕ) (a : GrammarAnswer) → length s ≤ 65535 → run 0 (paper file ▸ ∎) (stream_of (lex_from s 0)) ≡ a → (a ≡ Ok tt → ⊥)
     → reading s ≡ refused (number_of a) (place_of a)
 unfolding reading parse choose
 reading_refused s a h e n =

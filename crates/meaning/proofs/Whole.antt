@@ -15,8 +15,9 @@ use Rattle.grammar.specs.Factored.{paper}
 use Rattle.grammar.specs.Machine.{run}
 use Rattle.grammar.specs.Readers.{stream_of}
 use Rattle.grammar.proofs.Decided.{decided}
-use Rattle.grammar.specs.declared.Answer.{Answer as GrammarAnswer}
-use Rattle.grammar.specs.declared.Answer.TheVariants.{Passes, NoToken, NotAdmitted, TooDeep}
+use Rattle.grammar.specs.Answered.{Answer as GrammarAnswer}
+use Rattle.std.specs.Prelude.{Ok, Err}
+use Rattle.grammar.specs.declared.Refusal.TheVariants.{NoToken, NotAdmitted, TooDeep}
 use Rattle.meaning.specs.Answers.{Tables, Answer, accepted}
 use Rattle.meaning.specs.Reading.{Answers, too_long, not_grammar, meant, reading, normal_text}
 use Rattle.meaning.specs.Rules.{TheNormalText}
@@ -24,16 +25,16 @@ use Rattle.meaning.specs.Computed.{OneAnswer, OneNormalText}
 use Rattle.meaning.proofs.Found.{run_answers, reading_long, reading_derived, reading_refused, normal_derived}
 
 module _ (s : List ℕ) (h : length s ≤ 65535) where
-  refusing : (a : GrammarAnswer) → run 0 (paper file ▸ ∎) (stream_of (lex_from s 0)) ≡ a → (a ≡ Passes → ⊥) → StageAnswers s a → Answers s (reading s)
+  refusing : (a : GrammarAnswer) → run 0 (paper file ▸ ∎) (stream_of (lex_from s 0)) ≡ a → (a ≡ Ok tt → ⊥) → StageAnswers s a → Answers s (reading s)
   refusing a e n t = subst (λ b. Answers s b) (sym (reading_refused s a h e n)) (not_grammar a h n t)
 
   by_stage : (a : GrammarAnswer) → run 0 (paper file ▸ ∎) (stream_of (lex_from s 0)) ≡ a → StageAnswers s a → Answers s (reading s)
-  by_stage Passes e (passes v q d) =
+  by_stage (Ok _) e (passes v q d) =
       let w : Covered s = record { short = h; divides = v; shallow = q } in
       subst (λ b. Answers s b) (sym (reading_derived s w d)) (meant w d)
-  by_stage (NoToken p) e t = refusing (NoToken p) e (λ q. let z : ◌≡◌ {A = ℕ} 0 1 = cc in omega arith) t
-  by_stage (NotAdmitted p) e t = refusing (NotAdmitted p) e (λ q. let z : ◌≡◌ {A = ℕ} 0 1 = cc in omega arith) t
-  by_stage (TooDeep p) e t = refusing (TooDeep p) e (λ q. let z : ◌≡◌ {A = ℕ} 0 1 = cc in omega arith) t
+  by_stage (Err (NoToken p)) e t = refusing (Err (NoToken p)) e (λ q. let z : ◌≡◌ {A = ℕ} 0 1 = cc in omega arith) t
+  by_stage (Err (NotAdmitted p)) e t = refusing (Err (NotAdmitted p)) e (λ q. let z : ◌≡◌ {A = ℕ} 0 1 = cc in omega arith) t
+  by_stage (Err (TooDeep p)) e t = refusing (Err (TooDeep p)) e (λ q. let z : ◌≡◌ {A = ℕ} 0 1 = cc in omega arith) t
 
 -- Every text has its answer, and `reading` gives it.
 pub answers : (s : List ℕ) → Answers s (reading s)

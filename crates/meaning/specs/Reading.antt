@@ -1,6 +1,6 @@
 -- The reading of a text (document 01, "Refusals and their order": stages 2 to 19): first what its answer is, by the text's derivation; then the
 -- same as a definition that computes, with the derivation that the grammar's machine finds. proofs/Whole has that they agree. Assumes nothing.
-use Rattle.std.specs.Prelude.{◌≡◌, List, [], ℕ, ◌≤◌, ◌<◌, length, ltb}
+use Rattle.std.specs.Prelude.{◌≡◌, List, [], ℕ, ◌≤◌, ◌<◌, length, ltb, Ok, Err}
 use Rattle.std.proofs.Math.Option.{Option, none, some}
 use Rattle.token.specs.Lexing.{lex_from}
 use Rattle.grammar.specs.Grammar.{file, ◌▸◌, ∎, ◌⟶◌, Trees, Derivation}
@@ -10,8 +10,8 @@ use Rattle.grammar.specs.Demand.{Covered}
 use Rattle.grammar.specs.Factored.{paper}
 use Rattle.grammar.specs.Machine.{run}
 use Rattle.grammar.specs.Readers.{stream_of}
-use Rattle.grammar.specs.declared.Answer.{Answer as GrammarAnswer}
-use Rattle.grammar.specs.declared.Answer.TheVariants.{Passes, NoToken, NotAdmitted, TooDeep}
+use Rattle.grammar.specs.Answered.{Answer as GrammarAnswer}
+use Rattle.grammar.specs.declared.Refusal.TheVariants.{NoToken, NotAdmitted, TooDeep}
 use Rattle.meaning.specs.Syntax.{File}
 use Rattle.meaning.specs.Words.{choose}
 use Rattle.meaning.specs.Actions.{syntax}
@@ -24,7 +24,7 @@ pub data Answers (s : List ℕ) : Answer → Type 0 where
   -- 2: "text too long", at 0. "The text is at most 65,535 bytes."
   too_long : 65535 < length s → Answers s (refused 2 0)
   -- 3, 4 and 5: what the grammar stage answers
-  not_grammar : (a : GrammarAnswer) → length s ≤ 65535 → (a ≡ Passes → ⊥) → StageAnswers s a → Answers s (refused (number_of a) (place_of a))
+  not_grammar : (a : GrammarAnswer) → length s ≤ 65535 → (a ≡ Ok tt → ⊥) → StageAnswers s a → Answers s (refused (number_of a) (place_of a))
   -- 6 to 19, or accepted: by the derivation of the text's tokens
   meant : Covered s → (d : Derivation (tokens s)) → Answers s (answer (syntax s d.tree))
 
@@ -41,10 +41,10 @@ by_tree s none = not_parsed 4 (length s)
 by_tree s (some t) = parsed (syntax s t)
 
 unfoldable pub after_grammar : List ℕ → GrammarAnswer → (Unit {0} → Option (Trees ◌⟶◌ (file ▸ ∎))) → Parsed
-after_grammar s Passes t = by_tree s (t tt)
-after_grammar s (NoToken p) t = not_parsed 3 p
-after_grammar s (NotAdmitted p) t = not_parsed 4 p
-after_grammar s (TooDeep p) t = not_parsed 5 p
+after_grammar s (Ok _) t = by_tree s (t tt)
+after_grammar s (Err (NoToken p)) t = not_parsed 3 p
+after_grammar s (Err (NotAdmitted p)) t = not_parsed 4 p
+after_grammar s (Err (TooDeep p)) t = not_parsed 5 p
 
 -- 2, "text too long", at 0; then 3 to 5.
 unfoldable pub parse : List ℕ → Parsed

@@ -7,11 +7,11 @@ use Prim.Native.Nat.{ℕ, zero, suc, ◌+◌, ◌-◌, ◌≤◌, ◌<◌}
 use native.Mathlib.Omega.{arith}
 use native.Mathlib.Decide.{dec_le}
 use native.Mathlib.Numerals.{add-one}
-use lib.ListN.{length, take, drop, get_or, drop_of_length-le}
+use lib.ListN.{length, take, drop, drop_of_length-le}
 use lib.Seq.{take_at, drop-cons}
 use lib.Dec.{ltb}
 use borrow.Author.Tests.{le-ltb}
-use Rattle.token.specs.Find.{pick, either, byte}
+use Rattle.token.specs.Find.{either, byte}
 use Rattle.meaning.specs.Syntax.{Word, Definitions, Defined, Statement, Statements, done, state, Object, File}
 use Rattle.meaning.specs.Words.{choose}
 use Rattle.meaning.specs.Actions.{syntax}
@@ -20,21 +20,22 @@ use Rattle.meaning.specs.Defining.{definition_faults}
 use Rattle.meaning.specs.Applying.{object_faults}
 use Rattle.meaning.specs.Scopes.{under, find_definition, of_kind, names}
 use Rattle.meaning.specs.Judging.{lacks, own_faults, and_inside, judged, judge, judge_object, judge_objects, statement_stage}
-use Rattle.meaning.specs.Answers.{Answer, Tables, accepted, refused, unless, answer}
-use Rattle.meaning.specs.Reading.{Parsed, parsed, parse, reading}
+use Rattle.meaning.specs.Answers.{Answer, Tables, accepted, unless, answer}
+use Rattle.meaning.specs.Reading.{Parsed, reading}
 use Rattle.meaning.specs.Rules.{TheAnswer}
 use Rattle.meaning.proofs.Found.{parse_derived, reading_derived}
 use Rattle.meaning.proofs.Whole.{answers}
 use Rattle.reading.proofs.Derived.{derived}
-use Rattle.dropping.specs.Drops.{Drop, drop_if, stated_again, or_inside, drops as drops-in, dropped as dropped-by, drops_of, all_drops}
+use Rattle.dropping.specs.Drops.{Drop, stated_again, or_inside, drops as drops-in, dropped as dropped-by, drops_of, all_drops}
 use Rattle.mending.specs.Ends.{end_of}
-use Rattle.mending.specs.Pieces.{Dropped, Piece, keeps, drops, piece_at, next_place, pieces, kept_of, dropped_of, bytes_at, lines, number_or, number_at, kept, dropped, mended}
-use Rattle.mending.specs.Results.{Outcome, left, written, by_answer, mend_by, or_refused, mend_parsed, mend_text}
+use Rattle.mending.specs.Pieces.{Dropped, Piece, keeps, piece_at, next_place, pieces, kept_of, dropped_of, bytes_at, lines, number_or, number_at, kept, dropped, mended}
+use Rattle.mending.specs.Results.{left, written, by_answer, mend_by, mend_parsed, mend_text}
 use Rattle.mending.specs.Rules.{Mending, not_mended, too_short, done as is-done, MendsByRules, refuses, mends}
 use Rattle.mending.specs.Assured.{Accepts, WrittenAccepted, AcceptedStays, MendedStays, Follow, at_end, byte_kept, span_dropped, PiecesFollow}
-use Rattle.mending.specs.declared.Mended.{Mended}
-use Rattle.mending.specs.declared.Mended.TheVariants as m
-use Rattle.mending.proofs.Endings.{end_after, end_inside}
+use Rattle.mending.specs.Answered.{Answer as Mended, refused_at, not_mended_at, done_at}
+use Rattle.mending.specs.declared.Mended.{Mended as Lengths}
+use Rattle.rows.proofs.Refusing.{ok_is}
+use Rattle.mending.proofs.Endings.{end_after}
 use Rattle.mending.proofs.Piecing.{next_on, next_in, pieces_here, pieces_past}
 use Rattle.mending.proofs.Judged.{text_by_rules}
 use Rattle.mending.proofs.Wholes.{none_faulty}
@@ -42,16 +43,16 @@ use Rattle.mending.proofs.Wholes.{none_faulty}
 -- Accepted -----------------------------------------------------------------------------------------------------------------------------------
 
 module _ {s g l k l' k' : List ℕ} (n c : ℕ) where
-  from_mending : {ds : List Drop} {r : Mended} → Mending s g ds l k l' k' r → r ≡ m.Done n c → Accepts (take n l')
+  from_mending : {ds : List Drop} {r : Mended} → Mending s g ds l k l' k' r → r ≡ done_at n c → Accepts (take n l')
   from_mending (not_mended a p h i j) e = absurd (let z : ◌≡◌ {A = Bool} false true = cc in false≢true z)
   from_mending (too_short t h w i j) e = absurd (let z : ◌≡◌ {A = Bool} false true = cc in false≢true z)
   from_mending {ds = ds} (is-done t h v w i j) e =
-      let z : length (mended s ds) ≡ n = cc in
+      let z : length (mended s ds) ≡ n = ap (λ (x : Lengths). x.text) (ok_is e) in
       let y : take n l' ≡ mended s ds = ap (take n) i ∙ take_at (mended s ds) (drop (length (mended s ds)) l) n z in
       record { tables = t; answer = subst (λ (x : List ℕ). TheAnswer x (accepted t)) (sym y) h }
 
-  from_rules : {r : Mended} → MendsByRules s g l k l' k' r → r ≡ m.Done n c → Accepts (take n l')
-  from_rules (refuses h a p t i j v) e = absurd (let z : ◌≡◌ {A = Mended} (m.Refused a p) (m.Done n c) = sym i ∙ e in let y : ◌≡◌ {A = Bool} false true = cc in false≢true y)
+  from_rules : {r : Mended} → MendsByRules s g l k l' k' r → r ≡ done_at n c → Accepts (take n l')
+  from_rules (refuses h a p t i j v) e = absurd (let z : ◌≡◌ {A = Mended} (refused_at a p) (done_at n c) = sym i ∙ e in let y : ◌≡◌ {A = Bool} false true = cc in false≢true y)
   from_rules (mends p h) e = from_mending (h p.derivation) e
 
 pub written_accepted : WrittenAccepted
@@ -159,11 +160,11 @@ unfolding unless
 passes_on none k t e = (refl, e)
 passes_on (some x) k t e = absurd (let z : ◌≡◌ {A = Bool} false true = cc in false≢true z)
 
-written_whole : (s g l k : List ℕ) → length s ≤ length l → written s (lines g []) l k ≡ record { result = m.Done (length s) 0; text = s ++ drop (length s) l; lines = k }
+written_whole : (s g l k : List ℕ) → length s ≤ length l → written s (lines g []) l k ≡ record { result = done_at (length s) 0; text = s ++ drop (length s) l; lines = k }
 unfolding written choose lines
 written_whole s g l k h =
-    ap (λ (b : Bool). choose (either b (ltb (length k) 0)) (λ _. left (m.NotMended 20 0) l k) (λ _. record { result = m.Done (length s) 0; text = s ++ drop (length s) l; lines = k })) (le-ltb (length l) (length s) h)
-    ∙ ap (λ (b : Bool). choose b (λ _. left (m.NotMended 20 0) l k) (λ _. record { result = m.Done (length s) 0; text = s ++ drop (length s) l; lines = k })) (le-ltb (length k) 0 (omega arith))
+    ap (λ (b : Bool). choose (either b (ltb (length k) 0)) (λ _. left (not_mended_at 20 0) l k) (λ _. record { result = done_at (length s) 0; text = s ++ drop (length s) l; lines = k })) (le-ltb (length l) (length s) h)
+    ∙ ap (λ (b : Bool). choose b (λ _. left (not_mended_at 20 0) l k) (λ _. record { result = done_at (length s) 0; text = s ++ drop (length s) l; lines = k })) (le-ltb (length k) 0 (omega arith))
 
 pub accepted_stays : AcceptedStays
 unfolding mend_text mend_by by_answer answer

@@ -4,6 +4,7 @@ use mathlib.Core.List.{List}
 use mathlib.Core.Bool.{Bool, true, false}
 use Prim.Native.Nat.{ℕ, zero, suc, ◌+◌, ◌-◌, ◌≤◌, ◌<◌}
 use native.Mathlib.Omega.{arith}
+use native.Mathlib.Decide.{dec_lt}
 use native.Mathlib.Decide.{dec_le}
 use lib.ListN.{length}
 use lib.Dec.{eqb}
@@ -13,6 +14,7 @@ use Rattle.token.specs.Tokens.{step_at}
 use Rattle.token.specs.declared.Token.{Token}
 use Rattle.token.specs.declared.Cursor.{Cursor}
 use Rattle.token.specs.declared.Sort.{Sort}
+use Rattle.token.specs.declared.Sort.TheVariants.{Word, Number, String, Punctuator, Float}
 use Rattle.token.specs.declared.Step.{Step}
 use Rattle.token.specs.declared.Step.TheVariants.{Found, Refused, End}
 use Rattle.token.proofs.Steps.{StepOk, step_ok, found_fits, step_past}
@@ -30,9 +32,6 @@ unfolding open_after
 closing d b n e =
     sym (ap (λ (t : Bool). pick t (d + 1) (pick (eqb b 125) (d - 1) d)) (ne_eqb b 123 n) ∙ ap (λ (t : Bool). pick t (d - 1) d) (eq-eqb b 125 e))
 
-pub closes_none : (d b : ℕ) → (b ≡ 123 → ⊥) → b ≡ 125 → d ≡ 0 → 0 ≡ open_after d b
-closes_none d b n e z = let i : 0 ≡ d - 1 = omega arith in i ∙ closing d b n e
-
 pub closes_one : (d b : ℕ) → (b ≡ 123 → ⊥) → b ≡ 125 → d - 1 ≡ open_after d b
 closes_one d b n e = closing d b n e
 
@@ -41,13 +40,21 @@ unfolding open_after
 stays_open d b n m =
     sym (ap (λ (t : Bool). pick t (d + 1) (pick (eqb b 125) (d - 1) d)) (ne_eqb b 123 n) ∙ ap (λ (t : Bool). pick t (d - 1) d) (ne_eqb b 125 m))
 
-pub not_semicolon : (d b : ℕ) → (b ≡ 59 → ⊥) → false ≡ is_last d b
+pub not_semicolon : (d b : ℕ) → (b ≡ 59 → ⊥) → eqb b 59 ≡ is_last d b
 unfolding is_last
-not_semicolon d b n = sym (ap (λ (t : Bool). both t (eqb d 0)) (ne_eqb b 59 n))
+not_semicolon d b n = ne_eqb b 59 n ∙ sym (ap (λ (t : Bool). both t (eqb d 0)) (ne_eqb b 59 n))
 
 pub semicolon : (d b : ℕ) (r : Bool) → b ≡ 59 → r ≡ eqb d 0 → r ≡ is_last d b
 unfolding is_last
 semicolon d b r e q = q ∙ sym (ap (λ (t : Bool). both t (eqb d 0)) (eq-eqb b 59 e))
+
+pub no_punctuator : (t : Sort) → ((b : ℕ) → t ≡ Punctuator b → ⊥) → 0 ≡ punctuator_of t
+unfolding punctuator_of
+no_punctuator (Word k) n = refl
+no_punctuator (Number k m) n = refl
+no_punctuator String n = refl
+no_punctuator (Punctuator b) n = absurd (n b refl)
+no_punctuator (Float k m e) n = refl
 
 -- Steps --------------------------------------------------------------------------------------------------------------------------------------
 
@@ -190,16 +197,35 @@ module _ {s : List ℕ} {at d p : ℕ} (u : Ending s at d p) where
     pub ending_none : (q : ℕ) → step_at s p ≡ End q → length s ≡ end_of s at
     ending_none q e = sym (end_none s d p h q e) ∙ u.left
 
-    module _ (t : Token) (c : Cursor) (b : ℕ) (e : step_at s p ≡ Found t c) (i : b ≡ punctuator_of t.sort) (r : Bool) (k : r ≡ is_last d b) where
-      pub ending-found : r ≡ true → c.at ≡ end_of s at
-      ending-found q = sym (end_found s d p h t c e b i (sym k ∙ q)) ∙ u.left
+  -- No token is found from p on.
+  pub ending_rest : ((t : Token) (c : Cursor) → step_at s p ≡ Found t c → ⊥) → length s ≡ end_of s at
+  ending_rest n = by (dec_lt p (length s)) (step_at s p) refl
+    where
+      by : Dec (p < length s) → (r : Step) → step_at s p ≡ r → length s ≡ end_of s at
+      by (no h) r e = ending_past (omega (arith, h))
+      by (yes h) (Found t c) e = absurd (n t c e)
+      by (yes h) (Refused q) e = ending_bad h q e
+      by (yes h) (End q) e = ending_none h q e
 
-      pub ending-on : r ≡ false → (d' : ℕ) → d' ≡ open_after d b → Ending s at d' c.at
-      ending-on q d' z =
-          let o = found_fits s p t c e in
-          let a = o.after in
-          let l = o.long in
-          let n = o.next in
-          let w = u.low in
-          let y = open_low d b in
-          record { left = ap (λ (x : ℕ). end_from s x c.at) z ∙ sym (end_on s d p h t c e b i (sym k ∙ q)) ∙ u.left; low = omega arith }
+  module _ (t : Token) (c : Cursor) (b : ℕ) (e : step_at s p ≡ Found t c) (i : b ≡ punctuator_of t.sort) (r : Bool) (k : r ≡ is_last d b) where
+    inside : p < length s
+    inside =
+        let o = found_fits s p t c e in
+        let a = o.after in
+        let l = o.long in
+        let n = o.next in
+        let m = o.inside in
+        omega arith
+
+    pub ending-found : r ≡ true → c.at ≡ end_of s at
+    ending-found q = sym (end_found s d p inside t c e b i (sym k ∙ q)) ∙ u.left
+
+    pub ending-on : r ≡ false → (d' : ℕ) → d' ≡ open_after d b → Ending s at d' c.at
+    ending-on q d' z =
+        let o = found_fits s p t c e in
+        let a = o.after in
+        let l = o.long in
+        let n = o.next in
+        let w = u.low in
+        let y = open_low d b in
+        record { left = ap (λ (x : ℕ). end_from s x c.at) z ∙ sym (end_on s d p inside t c e b i (sym k ∙ q)) ∙ u.left; low = omega arith }

@@ -4,21 +4,20 @@ use mathlib.Core.List.{List, ◌++◌}
 use mathlib.Core.Bool.{Bool, true, false, false≢true}
 use mathlib.Core.Option.{Option, none, some}
 use Prim.Native.Nat.{ℕ, ◌≤◌, ◌<◌}
-use native.Mathlib.Omega.{arith}
 use lib.ListN.{length, drop}
 use lib.Dec.{ltb}
-use borrow.Author.Tests.{ltb-true, ltb-false, le-ltb, lt-ltb}
-use Rattle.token.specs.Find.{pick, either}
+use borrow.Author.Tests.{ltb-true, ltb-false, lt-ltb}
+use Rattle.token.specs.Find.{either}
 use Rattle.token.specs.Lexing.{lex_from}
 use Rattle.grammar.specs.Grammar.{file, ◌▸◌, ∎, Derivation}
 use Rattle.grammar.specs.Terminals.{tokens, tokens_in}
 use Rattle.grammar.specs.Stage.{passes, Answers as StageAnswers}
-use Rattle.grammar.specs.Demand.{Covered}
 use Rattle.grammar.specs.Factored.{paper}
 use Rattle.grammar.specs.Machine.{run}
 use Rattle.grammar.specs.Readers.{stream_of}
-use Rattle.grammar.specs.declared.Answer.{Answer as GrammarAnswer}
-use Rattle.grammar.specs.declared.Answer.TheVariants.{Passes as GrammarPasses, NoToken, NotAdmitted, TooDeep}
+use Rattle.grammar.specs.Answered.{Answer as GrammarAnswer}
+use Rattle.std.specs.Prelude.{Ok, Err}
+use Rattle.grammar.specs.declared.Refusal.TheVariants.{NoToken, NotAdmitted, TooDeep}
 use Rattle.meaning.specs.Syntax.{File}
 use Rattle.meaning.specs.Words.{choose}
 use Rattle.meaning.specs.Faults.{Fault, first}
@@ -36,10 +35,9 @@ use Rattle.meaning.proofs.Whole.{the_answer}
 use Rattle.reading.proofs.Derived.{Derived, the_refusal}
 use Rattle.dropping.specs.Drops.{Drop, all_drops}
 use Rattle.mending.specs.Pieces.{dropped, mended, lines}
-use Rattle.mending.specs.Results.{Outcome, left, place_back, written, by_answer, mend_by, or_refused, mend_parsed, mend_text, MendsText}
-use Rattle.mending.specs.Rules.{Passes, TooShort, text_short, lines_short, Mending, not_mended, too_short, done, MendsByRules, refuses, mends}
-use Rattle.mending.specs.declared.Mended.{Mended}
-use Rattle.mending.specs.declared.Mended.TheVariants as m
+use Rattle.mending.specs.Results.{Outcome, left, written, by_answer, mend_by, or_refused, mend_parsed, mend_text, MendsText}
+use Rattle.mending.specs.Rules.{Passes, text_short, lines_short, Mending, not_mended, too_short, done, MendsByRules, refuses, mends}
+use Rattle.mending.specs.Answered.{Answer as Mended, not_mended_at, done_at}
 
 -- What is parsed is derived --------------------------------------------------------------------------------------------------------------------
 
@@ -52,10 +50,10 @@ module _ (s : List ℕ) (f : File) (e : parse s ≡ parsed f) where
 
   by_stage : length s ≤ 65535 → (a : GrammarAnswer) → StageAnswers s a → after a ≡ parsed f → Derived s
   unfolding after_grammar
-  by_stage h GrammarPasses (passes v q d) i = record { covered = record { short = h; divides = v; shallow = q }; derivation = d }
-  by_stage h (NoToken p) t i = not_parsed_here i
-  by_stage h (NotAdmitted p) t i = not_parsed_here i
-  by_stage h (TooDeep p) t i = not_parsed_here i
+  by_stage h (Ok _) (passes v q d) i = record { covered = record { short = h; divides = v; shallow = q }; derivation = d }
+  by_stage h (Err (NoToken p)) t i = not_parsed_here i
+  by_stage h (Err (NotAdmitted p)) t i = not_parsed_here i
+  by_stage h (Err (TooDeep p)) t i = not_parsed_here i
 
   by_length : (b : Bool) → ltb 65535 (length s) ≡ b → choose b (λ _. not_parsed 2 0) (λ _. after (run 0 (paper file ▸ ∎) (stream_of (lex_from s 0)))) ≡ parsed f → Derived s
   unfolding choose
@@ -90,9 +88,9 @@ module _ (s g : List ℕ) (ds : List Drop) (l k : List ℕ) where
   Comes o = Mending s g ds l k o.text o.lines o.result
 
   by_room : (t : Tables) → TheAnswer (mended s ds) (accepted t) → (a b : Bool) → ltb (length l) (length (mended s ds)) ≡ a → ltb (length k) (length (lines g (dropped s ds))) ≡ b
-      → Comes (choose (either a b) (λ _. left (m.NotMended 20 0) l k)
+      → Comes (choose (either a b) (λ _. left (not_mended_at 20 0) l k)
       (λ _. record {
-        result = m.Done (length (mended s ds)) (length (lines g (dropped s ds)));
+        result = done_at (length (mended s ds)) (length (lines g (dropped s ds)));
         text = mended s ds ++ drop (length (mended s ds)) l;
         lines = lines g (dropped s ds) ++ drop (length (lines g (dropped s ds))) k;
       }))

@@ -8,14 +8,14 @@ use native.Mathlib.Decide.{dec_le}
 use native.Mathlib.Numerals.{add-one}
 use lib.ListN.{length, get_or, set, length-set}
 use lib.Seq.{sets}
-use lib.Dec.{ltb, eqb}
+use lib.Dec.{eqb}
 use borrow.Author.Tests.{eq-eqb, ne_eqb, eqb-true, lt-ltb, le-ltb}
 use Rattle.token.specs.Find.{pick, both, byte}
 use Rattle.meaning.specs.Words.{choose}
 use Rattle.writing.specs.Wrote.{Wrote}
 use Rattle.writing.proofs.Writes.{wrote_length, wrote_low, wrote_then, wrote_as, wrote_none}
 use Rattle.mending.specs.Ends.{end_of}
-use Rattle.mending.specs.Pieces.{Dropped, Piece, keeps, drops, piece_at, next_place, pieces_in, pieces, kept_of, dropped_of, bytes_at, line, lines}
+use Rattle.mending.specs.Pieces.{Piece, piece_at, next_place, pieces_in, pieces, kept_of, dropped_of, bytes_at, line, lines}
 use Rattle.mending.specs.Promises.{marked, next_by, kept_by, mended_by, lines_by, is_here, left_after, stored, place_after, line_at, PutsKept, PutsMended}
 use Rattle.mending.proofs.Endings.{end_after, end_inside}
 
@@ -184,9 +184,6 @@ module _ (m : List ℕ) (p left k : ℕ) (e : k ≡ marked m p) where
   pub left_kept : k ≡ 0 → left - 1 ≡ left_after m p left
   unfolding left_after
   left_kept z = sym (ap (λ (b : Bool). pick b (left - 1) left) (eq-eqb (marked m p) 0 (sym e ∙ z)))
-
-  pub left_none : k ≡ 0 → left ≡ 0 → 0 ≡ left_after m p left
-  left_none z n = let i : 0 ≡ left - 1 = omega arith in i ∙ left_kept z
 
 -- The loop of `put_mended` -------------------------------------------------------------------------------------------------------------------
 

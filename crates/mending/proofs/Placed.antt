@@ -1,13 +1,13 @@
 -- The lines depend on the origins of the text's own bytes alone. Assumes nothing.
-use mathlib.Core.Path.{◌≡◌, refl, sym, ◌∙◌, ap}
-use mathlib.Core.List.{List, [], ◌∷◌, ◌++◌}
+use mathlib.Core.Path.{◌≡◌, sym, ◌∙◌, ap}
+use mathlib.Core.List.{List, ◌∷◌, ◌++◌}
 use Prim.Native.Nat.{ℕ, zero, suc, ◌+◌, ◌-◌, ◌≤◌, ◌<◌}
 use native.Mathlib.Omega.{arith}
 use native.Mathlib.Decide.{dec_le}
 use lib.ListN.{length, get_or}
 use Rattle.dropping.specs.Drops.{Drop}
 use Rattle.mending.specs.Ends.{end_of}
-use Rattle.mending.specs.Pieces.{Dropped, Piece, keeps, drops, piece_at, next_place, pieces, dropped_of, line, lines, number_at, dropped}
+use Rattle.mending.specs.Pieces.{Piece, piece_at, next_place, pieces, dropped_of, line, lines, number_at, dropped}
 use Rattle.mending.proofs.Piecing.{next_on, pieces_here, pieces_past}
 
 module _ (s g h : List ℕ) (m : ℕ → ℕ) (e : (p : ℕ) → p < length s → get_or g p 0 ≡ get_or h p 0) where

@@ -2,7 +2,7 @@
 use mathlib.Core.Path.{◌≡◌, refl, sym, ◌∙◌, ap}
 use mathlib.Core.List.{List, [], ◌∷◌}
 use mathlib.Core.Bool.{Bool, true, false}
-use Prim.Native.Nat.{ℕ, zero, suc, ◌+◌, ◌-◌, ◌≤◌, ◌<◌}
+use Prim.Native.Nat.{ℕ, zero, suc, ◌+◌, ◌≤◌, ◌<◌}
 use native.Mathlib.Omega.{arith}
 use native.Mathlib.Decide.{dec_le}
 use lib.ListN.{length, get_or, set, replicate, length-set, length-replicate, get_or-replicate}
@@ -11,7 +11,7 @@ use lib.Dec.{eqb}
 use borrow.Author.Tests.{eqb-true, eqb-false}
 use Rattle.token.specs.Find.{pick}
 use Rattle.dropping.specs.Drops.{Drop, scatter}
-use Rattle.mending.specs.Pieces.{Piece, piece_at, next_place, pieces, kept_of, dropped_of, bytes_at, lines, number_or, number_at, kept, dropped, mended, back}
+use Rattle.mending.specs.Pieces.{Piece, piece_at, next_place, pieces, kept_of, dropped_of, bytes_at, lines, number_or, number_at, kept, dropped, mended}
 use Rattle.mending.specs.Promises.{marked, kept_by, mended_by, lines_by}
 use Rattle.mending.proofs.Piecing.{next_on, pieces_here, pieces_past}
 

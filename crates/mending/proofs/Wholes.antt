@@ -1,20 +1,19 @@
 -- From the inner functions to the call. Assumes nothing.
 use mathlib.Core.Path.{◌≡◌, refl, sym, ◌∙◌, ap, subst}
-use mathlib.Core.List.{List, [], ◌++◌}
+use mathlib.Core.List.{List, ◌++◌}
 use mathlib.Core.Bool.{Bool, true, false, false≢true}
 use mathlib.Core.Option.{Option, none, some}
-use Prim.Native.Nat.{ℕ, ◌+◌, ◌≤◌, ◌<◌, min}
+use Prim.Native.Nat.{ℕ, ◌≤◌, ◌<◌}
 use native.Mathlib.Omega.{arith}
 use native.Mathlib.Nat.{zero-add}
 use lib.ListN.{length, take, drop, get_or, replicate, length-replicate}
-use lib.Seq.{sets, sets-eq, length-sets, take_at}
+use lib.Seq.{sets, sets-eq, length-sets}
 use lib.Dec.{ltb}
 use borrow.Author.Tests.{lt-ltb, le-ltb}
 use Rattle.token.specs.Find.{pick, either}
 use Rattle.token.specs.Tokens.{part_of}
-use Rattle.rows.specs.Order.{is_fault}
+use Rattle.std.specs.Prelude.{Some, None, Ok, Err, ⊤}
 use Rattle.rows.specs.declared.Fault.{Fault}
-use Rattle.rows.proofs.Orders.{is_one, is_none}
 use Rattle.rows.proofs.Stores.{part_sets_same}
 use Rattle.blocks.proofs.Files.{part_inside}
 use Rattle.meaning.specs.Syntax.{File}
@@ -30,41 +29,38 @@ use Rattle.meaning.proofs.Whole.{answers}
 use Rattle.placing.specs.Placed.{is_at_start}
 use Rattle.reading.specs.Results.{reading_of}
 use Rattle.reading.specs.Rules.{ReadsByRules, short_tables, by_rules}
-use Rattle.reading.specs.Decisions.{Merged, or_else, stage_fault, Passed, Decides}
+use Rattle.reading.specs.Decisions.{Merged, or_else, stage_fault, Decides}
 use Rattle.reading.specs.declared.Answer.{Answer}
 use Rattle.reading.specs.declared.Answer.TheVariants.{Accepted, Refused}
 use Rattle.reading.specs.declared.Decision.{Decision}
 use Rattle.reading.specs.declared.Reading.{Reading}
 use Rattle.writing.specs.Wrote.{cap, Wrote}
 use Rattle.dropping.specs.Drops.{Drop, all_drops, scatter}
-use Rattle.mending.specs.Pieces.{kept, dropped, mended, back, lines}
+use Rattle.mending.specs.Pieces.{dropped, mended, back, lines}
 use Rattle.mending.specs.Results.{Outcome, left, place_back, written, by_answer, mend_by, or_refused, mend_parsed, mend_text, Leaves, MendsText}
-use Rattle.mending.specs.Promises.{kept_by, mended_by, lines_by, PutsMended, place_by, AnswersTo, PutsOut, DropsKept, MarksDrops, stops, marks}
-use Rattle.mending.specs.declared.Mended.{Mended}
-use Rattle.mending.specs.declared.Mended.TheVariants as the
+use Rattle.mending.specs.Promises.{kept_by, mended_by, PutsMended, place_by, AnswersTo, PutsOut, DropsKept, MarksDrops, stops, marks}
+use Rattle.mending.specs.Answered.{Answer as Mended, refused_at, not_mended_at, done_at}
 use Rattle.mending.proofs.Scattered.{kept_is, mended_is, lines_are}
 use Rattle.mending.proofs.Judged.{parsed_derived, own_syntax, parse_long, not_parsed_here}
 
 -- `mark_drops` ---------------------------------------------------------------------------------------------------------------
 
-pub long_stops : (s l : List ℕ) → 65535 < length s → MarksDrops s l l (record { number = 2; place = 0 })
+pub long_stops : (s l : List ℕ) → 65535 < length s → MarksDrops s l l (Err (record { number = 2; place = 0 }))
 long_stops s l h =
-    stops (λ z. let y : ◌≡◌ {A = ℕ} 2 0 = z in omega arith) (reading_long s h) (λ f e n. not_parsed_here (sym (parse_long s h) ∙ e))
+    stops (reading_long s h) (λ f e n. not_parsed_here (sym (parse_long s h) ∙ e))
 
 module _ {s : List ℕ} {y : Merged} {r : Decision} (l : length s ≤ 65535) (h : Decides s (replicate 9747 0) (replicate 3075 0) (replicate 2570 0) (replicate 14343 0) y r) where
-  pub fault_stops : {m : List ℕ} → is_fault r.fault ≡ true → MarksDrops s m m r.fault
-  fault_stops i =
+  pub fault_stops : {m : List ℕ} (x : Fault) → r.fault ≡ Some x → MarksDrops s m m (Err x)
+  fault_stops x i =
       let d = h.decided l refl refl refl refl in
-      let n = is_one r.fault i in
-      stops n (d.refused_by n)
-      (λ f e z. let w = parsed_derived s f e in d.stopped n w.covered w.derivation (ap stage_fault (sym (own_syntax s f e w.derivation)) ∙ z))
+      stops (d.refused_by x i)
+      (λ f e z. let w = parsed_derived s f e in d.stopped x i w.covered w.derivation (ap stage_fault (sym (own_syntax s f e w.derivation)) ∙ z))
 
-  pub kept_marks : {m m' : List ℕ} → is_fault r.fault ≡ false → DropsKept s y r m m' → MarksDrops s m m' r.fault
-  kept_marks i k =
-      let n = is_none r.fault i in
-      let p = (h.decided l refl refl refl refl).passes n in
+  pub kept_marks : {m m' : List ℕ} (u : ⊤) → r.fault ≡ None → DropsKept s y r m m' → MarksDrops s m m' (Ok u)
+  kept_marks u i k =
+      let p = (h.decided l refl refl refl refl).passes i in
       let t = p.kept.situation in
-      marks n l p.file (parse_derived s p.covered t.derivation ∙ ap parsed (sym t.syntax_of)) p.no_definition_fault p.no_object_fault (k p)
+      marks l p.file (parse_derived s p.covered t.derivation ∙ ap parsed (sym t.syntax_of)) p.no_definition_fault p.no_object_fault (k p)
 
 -- `answer_to` --------------------------------------------------------------------------------------------------------------------------------
 
@@ -106,19 +102,19 @@ module _ (s m : List ℕ) (n p : ℕ) {b : Bool} (e : b ≡ is_at_start n) where
 module _ (w x l k : List ℕ) where
   abbrev by_tests : Bool → Bool → Outcome
   by_tests a b =
-      choose (either a b) (λ _. left (the.NotMended 20 0) l k)
-      (λ _. record { result = the.Done (length w) (length x); text = w ++ drop (length w) l; lines = x ++ drop (length x) k })
+      choose (either a b) (λ _. left (not_mended_at 20 0) l k)
+      (λ _. record { result = done_at (length w) (length x); text = w ++ drop (length w) l; lines = x ++ drop (length x) k })
 
-  left_both : (o : Outcome) → o ≡ left (the.NotMended 20 0) l k → Leaves o l k (the.NotMended 20 0)
+  left_both : (o : Outcome) → o ≡ left (not_mended_at 20 0) l k → Leaves o l k (not_mended_at 20 0)
   unfolding left
   left_both o e = record { result = ap (λ (y : Outcome). y.result) (sym e); text = ap (λ (y : Outcome). y.text) (sym e); lines = ap (λ (y : Outcome). y.lines) (sym e) }
 
-  pub text_too_short : length l < length w → Leaves (written w x l k) l k (the.NotMended 20 0)
+  pub text_too_short : length l < length w → Leaves (written w x l k) l k (not_mended_at 20 0)
   unfolding written choose
   text_too_short h = left_both (written w x l k) (ap (λ (a : Bool). by_tests a (ltb (length k) (length x))) (lt-ltb (length l) (length w) h))
 
   module _ (h : length w ≤ length l) (n : ℕ) {y y' : List ℕ} (u : Wrote y 0 x y' n) where
-    pub lines_too_short : length k < n → Leaves (written w x l k) l k (the.NotMended 20 0)
+    pub lines_too_short : length k < n → Leaves (written w x l k) l k (not_mended_at 20 0)
     unfolding written choose
     lines_too_short i =
         let e = u.next in
@@ -126,7 +122,7 @@ module _ (w x l k : List ℕ) where
         left_both (written w x l k)
         (ap (λ (a : Bool). by_tests a (ltb (length k) (length x))) (le-ltb (length l) (length w) h) ∙ ap (λ (b : Bool). by_tests false b) (lt-ltb (length k) (length x) j))
 
-    pub both_put : n ≤ length k → length k < cap → {l' k' : List ℕ} {a r : ℕ} → Wrote l 0 w l' a → Wrote k 0 x k' r → Leaves (written w x l k) l' k' (the.Done (length w) r)
+    pub both_put : n ≤ length k → length k < cap → {l' k' : List ℕ} {a r : ℕ} → Wrote l 0 w l' a → Wrote k 0 x k' r → Leaves (written w x l k) l' k' (done_at (length w) r)
     unfolding written choose
     both_put i b {l'} {k'} {a} {r} p q =
         let e = u.next in
@@ -135,7 +131,7 @@ module _ (w x l k : List ℕ) where
         let z : r ≡ length x = omega arith in
         let o = ap (λ (t : Bool). by_tests t (ltb (length k) (length x))) (le-ltb (length l) (length w) h) ∙ ap (λ (t : Bool). by_tests false t) (le-ltb (length k) (length x) j) in
         record {
-          result = ap (the.Done (length w)) z ∙ ap (λ (t : Outcome). t.result) (sym o);
+          result = ap (done_at (length w)) z ∙ ap (λ (t : Outcome). t.result) (sym o);
           text = p.bytes ∙ sets-eq w l 0 (omega arith) ∙ rw (zero-add (length w)) (ap (λ (t : Outcome). t.text) (sym o));
           lines = q.bytes ∙ sets-eq x k 0 (omega arith) ∙ rw (zero-add (length x)) (ap (λ (t : Outcome). t.lines) (sym o));
         }
@@ -144,22 +140,22 @@ module _ (w x l k : List ℕ) where
 
 -- A refusal of a stage before 13.
 module _ (s g l k : List ℕ) (n p : ℕ) (e : reading s ≡ refused n p) (not : (f : File) → parse s ≡ parsed f → stage_fault f ≡ none → ⊥) where
-  same_refusal : {a b c d : ℕ} → ◌≡◌ {A = Meant} (refused a b) (refused c d) → left (the.Refused a b) l k ≡ left (the.Refused c d) l k
+  same_refusal : {a b c d : ℕ} → ◌≡◌ {A = Meant} (refused a b) (refused c d) → left (refused_at a b) l k ≡ left (refused_at c d) l k
   same_refusal {a} {b} {c} {d} i = let x : a ≡ c = cc in let y : b ≡ d = cc in cc
 
   by_stages : (f : File) → parse s ≡ parsed f → (a b : Option Refusal) → first (definition_faults f) ≡ a → first (object_faults f) ≡ b → (next : Unit {0} → Meant) (o : Unit {0} → Outcome)
-      → unless a (λ _. unless b next) ≡ refused n p → or_refused a l k (λ _. or_refused b l k o) ≡ left (the.Refused n p) l k
+      → unless a (λ _. unless b next) ≡ refused n p → or_refused a l k (λ _. or_refused b l k o) ≡ left (refused_at n p) l k
   unfolding unless or_refused stage_fault or_else
   by_stages f i (some x) b u v next o r = same_refusal r
   by_stages f i none (some x) u v next o r = same_refusal r
   by_stages f i none none u v next o r = absurd (not f i (ap (λ (y : Option Refusal). or_else y (first (object_faults f))) u ∙ v))
 
-  by_parse : (x : Parsed) → parse s ≡ x → mend_parsed x s g l k ≡ left (the.Refused n p) l k
+  by_parse : (x : Parsed) → parse s ≡ x → mend_parsed x s g l k ≡ left (refused_at n p) l k
   unfolding mend_parsed reading answer_of_parsed answer
   by_parse (not_parsed a b) i = same_refusal (sym (ap answer_of_parsed i) ∙ e)
   by_parse (parsed f) i = by_stages f i (first (definition_faults f)) (first (object_faults f)) refl refl _ _ (sym (ap answer_of_parsed i) ∙ e)
 
-  refused_text : mend_text s g l k ≡ left (the.Refused n p) l k
+  refused_text : mend_text s g l k ≡ left (refused_at n p) l k
   unfolding mend_text
   refused_text = by_parse (parse s) refl
 
@@ -167,9 +163,8 @@ leaves_left : {o : Outcome} {r : Mended} (l k : List ℕ) → o ≡ left r l k �
 unfolding left
 leaves_left l k e = record { result = ap (λ (y : Outcome). y.result) (sym e); text = ap (λ (y : Outcome). y.text) (sym e); lines = ap (λ (y : Outcome). y.lines) (sym e) }
 
-pub mends_refused : {s m m' : List ℕ} {f : Fault} (g l k : List ℕ) → MarksDrops s m m' f → is_fault f ≡ true → MendsText s g l k l k (the.Refused f.number f.place)
-mends_refused {s} {f = f} g l k (stops n e h) i = leaves_left l k (refused_text s g l k f.number f.place e h)
-mends_refused {f = f} g l k (marks n z x a b c d) i = absurd (is_one f i n)
+pub mends_refused : {s m m' : List ℕ} {x : Fault} (g l k : List ℕ) → MarksDrops s m m' (Err x) → MendsText s g l k l k (refused_at x.number x.place)
+mends_refused {s} {x = x} g l k (stops e h) = leaves_left l k (refused_text s g l k x.number x.place e h)
 
 -- A text that passes.
 record Ready (s m w : List ℕ) : Type 0 where
@@ -191,10 +186,9 @@ room_holds v w r n h e i j =
     part_inside r 0 n (omega (arith, z, j)) ∙ ap (λ (x : ℕ). take x (drop 0 r)) i ∙ ap (λ (x : List ℕ). take (length w) (drop 0 x)) e
     ∙ part_sets_same v 0 w (omega (arith, h, i, j))
 
-ready : {s m w r : List ℕ} {f : Fault} {n : ℕ} → MarksDrops s (replicate 65536 0) m f → is_fault f ≡ false → PutsMended s m (replicate 65535 0) r n → w ≡ part_of r 0 n → Ready s m w
+ready : {s m w r : List ℕ} {t : ⊤} {n : ℕ} → MarksDrops s (replicate 65536 0) m (Ok t) → PutsMended s m (replicate 65535 0) r n → w ≡ part_of r 0 n → Ready s m w
 unfolding mend_text
-ready {f = f} (stops n e h) i u j = absurd (n (is_none f i))
-ready {s} {m} {w} {r} {f} {n} (marks o z x a b c d) i u j =
+ready {s} {m} {w} {r} {t} {n} (marks z x a b c d) u j =
     let k = u.few in
     let y = room_holds (replicate 65535 0) (mended_by s m 0) r n (length-replicate {A = ℕ} 65535 0) u.bytes u.many (omega (arith, k, z)) in
     record {
@@ -205,23 +199,23 @@ ready {s} {m} {w} {r} {f} {n} (marks o z x a b c d) i u j =
       bytes = j ∙ y ∙ mended_is s m (all_drops x) z d;
     }
 
-module _ {s m w r : List ℕ} {f : Fault} {n : ℕ} (u : MarksDrops s (replicate 65536 0) m f) (i : is_fault f ≡ false) (v : PutsMended s m (replicate 65535 0) r n) (j : w ≡ part_of r 0 n)
+module _ {s m w r : List ℕ} {a : ⊤} {n : ℕ} (u : MarksDrops s (replicate 65536 0) m (Ok a)) (v : PutsMended s m (replicate 65535 0) r n) (j : w ≡ part_of r 0 n)
     {b : Answer} (t : AnswersTo w b) where
   y : Ready s m w
-  y = ready u i v j
+  y = ready u v j
 
   told : b ≡ (reading_of (reading (mended s y.drops))).answer
   told = t ∙ ap (λ (x : List ℕ). (reading_of (reading x)).answer) y.bytes
 
-  pub mends_not : (g l k : List ℕ) (c p : ℕ) → b ≡ Refused c p → {q : ℕ} → q ≡ place_by s m c p → MendsText s g l k l k (the.NotMended c q)
+  pub mends_not : (g l k : List ℕ) (c p : ℕ) → b ≡ Refused c p → {q : ℕ} → q ≡ place_by s m c p → MendsText s g l k l k (not_mended_at c q)
   unfolding mend_by by_answer place_by place_back back
   mends_not g l k c p e {q} h =
       let z = refused_by (reading (mended s y.drops)) c p (sym told ∙ e) in
       leaves_left l k
       (y.text g l k
       ∙ ap (λ (x : Meant). by_answer x s g y.drops l k) z
-      ∙ ap (λ (x : List ℕ). left (the.NotMended c (pick (is_at_start c) p (get_or x p (length s)))) l k) (sym (kept_is s m y.drops y.short y.marked))
-      ∙ ap (λ (x : ℕ). left (the.NotMended c x) l k) (sym h))
+      ∙ ap (λ (x : List ℕ). left (not_mended_at c (pick (is_at_start c) p (get_or x p (length s)))) l k) (sym (kept_is s m y.drops y.short y.marked))
+      ∙ ap (λ (x : ℕ). left (not_mended_at c x) l k) (sym h))
 
   pub mends_done : (g l k : List ℕ) → b ≡ Accepted → {l' k' : List ℕ} {q : Mended} → PutsOut s g m w l k l' k' q → MendsText s g l k l' k' q
   unfolding mend_by

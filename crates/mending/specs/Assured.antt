@@ -5,7 +5,7 @@ use Rattle.meaning.specs.Rules.{TheAnswer}
 use Rattle.dropping.specs.Drops.{Drop}
 use Rattle.mending.specs.Pieces.{Dropped, Piece, keeps, drops, pieces, number_at}
 use Rattle.mending.specs.Results.{mend_text}
-use Rattle.mending.specs.declared.Mended.TheVariants as m
+use Rattle.mending.specs.Answered.{done_at}
 
 -- The rules accept the text.
 pub record Accepts (s : List ℕ) : Type 0 where
@@ -14,19 +14,19 @@ pub record Accepts (s : List ℕ) : Type 0 where
 
 -- What is written is accepted when it is read again. proofs/Again has `written_accepted`.
 abbrev pub WrittenAccepted : Type 0
-WrittenAccepted = (s g l k : List ℕ) (n c : ℕ) → (mend_text s g l k).result ≡ m.Done n c → Accepts (take n (mend_text s g l k).text)
+WrittenAccepted = (s g l k : List ℕ) (n c : ℕ) → (mend_text s g l k).result ≡ done_at n c → Accepts (take n (mend_text s g l k).text)
 
 -- An accepted text is mended to itself, with no line. proofs/Again has `accepted_stays`.
 abbrev pub AcceptedStays : Type 0
 AcceptedStays = (s : List ℕ) → Accepts s → (g l k : List ℕ) → length s ≤ length l
-    → mend_text s g l k ≡ record { result = m.Done (length s) 0; text = s ++ drop (length s) l; lines = k }
+    → mend_text s g l k ≡ record { result = done_at (length s) 0; text = s ++ drop (length s) l; lines = k }
 
 -- So mending a mended text changes nothing. proofs/Again has `mended_stays`.
 abbrev pub MendedStays : Type 0
-MendedStays = (s g l k : List ℕ) (n c : ℕ) → (mend_text s g l k).result ≡ m.Done n c → (g₁ l₁ k₁ : List ℕ) → length (take n (mend_text s g l k).text) ≤ length l₁
+MendedStays = (s g l k : List ℕ) (n c : ℕ) → (mend_text s g l k).result ≡ done_at n c → (g₁ l₁ k₁ : List ℕ) → length (take n (mend_text s g l k).text) ≤ length l₁
     → mend_text (take n (mend_text s g l k).text) g₁ l₁ k₁
     ≡ record {
-      result = m.Done (length (take n (mend_text s g l k).text)) 0;
+      result = done_at (length (take n (mend_text s g l k).text)) 0;
       text = take n (mend_text s g l k).text ++ drop (length (take n (mend_text s g l k).text)) l₁;
       lines = k₁;
     }

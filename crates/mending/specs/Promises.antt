@@ -1,5 +1,5 @@
 -- The contracts of the inner functions of `mend`. No part of the public contract. Assumes nothing.
-use Rattle.std.specs.Prelude.{◌≡◌, List, [], Bool, ℕ, ◌+◌, ◌-◌, ◌≤◌, length, get_or, set, eqb}
+use Rattle.std.specs.Prelude.{Result, Ok, Err, ⊤, ◌≡◌, List, [], Bool, ℕ, ◌+◌, ◌-◌, ◌≤◌, length, get_or, set, eqb}
 use Rattle.std.proofs.lemmas.List.Edits.{sets}
 use Rattle.std.proofs.Math.Option.{none}
 use Rattle.token.specs.Find.{pick, both, byte}
@@ -19,7 +19,7 @@ use Rattle.dropping.specs.Drops.{scatter, all_drops}
 use Rattle.mending.specs.Ends.{end_of}
 use Rattle.mending.specs.Pieces.{next_place, pieces, kept_of, dropped_of, bytes_at, line, lines}
 use Rattle.mending.specs.Results.{written, Leaves}
-use Rattle.mending.specs.declared.Mended.{Mended}
+use Rattle.mending.specs.Answered.{Answer as Mended}
 
 -- The mark at a place is the number of the drop there.
 abbrev pub marked : List ℕ → ℕ → ℕ
@@ -88,7 +88,7 @@ abbrev pub DropsKept : (s : List ℕ) → Merged → Decision → (m m' : List �
 DropsKept s y w m m' = (p : Passed s y w) → m' ≡ scatter m (all_drops p.file)
 
 -- `mark_drops`: a refusal of a stage before 13, or each drop is marked.
-pub data MarksDrops (s m m' : List ℕ) (r : Fault) : Type 0 where
-  stops : (r.number ≡ 0 → ⊥) → reading s ≡ refused r.number r.place → ((f : File) → parse s ≡ parsed f → stage_fault f ≡ none → ⊥) → MarksDrops s m m' r
-  marks : r.number ≡ 0 → length s ≤ 65535 → (f : File) → parse s ≡ parsed f → first (definition_faults f) ≡ none → first (object_faults f) ≡ none
-      → m' ≡ scatter m (all_drops f) → MarksDrops s m m' r
+pub data MarksDrops (s m m' : List ℕ) : Result ⊤ Fault → Type 0 where
+  stops : {x : Fault} → reading s ≡ refused x.number x.place → ((f : File) → parse s ≡ parsed f → stage_fault f ≡ none → ⊥) → MarksDrops s m m' (Err x)
+  marks : {u : ⊤} → length s ≤ 65535 → (f : File) → parse s ≡ parsed f → first (definition_faults f) ≡ none → first (object_faults f) ≡ none
+      → m' ≡ scatter m (all_drops f) → MarksDrops s m m' (Ok u)

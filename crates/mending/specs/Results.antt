@@ -2,7 +2,6 @@
 use Rattle.std.specs.Prelude.{◌≡◌, List, ◌++◌, ℕ, length, drop, ltb}
 use Rattle.std.proofs.Math.Option.{Option, none, some}
 use Rattle.token.specs.Find.{pick, either}
-use Rattle.meaning.specs.Syntax.{File}
 use Rattle.meaning.specs.Words.{choose}
 use Rattle.meaning.specs.Faults.{Fault, first}
 use Rattle.meaning.specs.Defining.{definition_faults}
@@ -12,8 +11,7 @@ use Rattle.meaning.specs.Reading.{Parsed, parsed, not_parsed, parse, reading}
 use Rattle.placing.specs.Placed.{is_at_start}
 use Rattle.dropping.specs.Drops.{Drop, all_drops}
 use Rattle.mending.specs.Pieces.{dropped, mended, back, lines}
-use Rattle.mending.specs.declared.Mended.{Mended}
-use Rattle.mending.specs.declared.Mended.TheVariants as m
+use Rattle.mending.specs.Answered.{Answer as Mended, refused_at, not_mended_at, done_at}
 
 -- The answer, and the two lent outputs after it.
 pub record Outcome : Type 0 where
@@ -32,13 +30,13 @@ place_back s ds n p = pick (is_at_start n) p (back s ds p)
 -- The mended text w and the lines x come into the outputs l and k; "Either too short gets 20 and leaves both."
 unfoldable pub written : (w x l k : List ℕ) → Outcome
 written w x l k =
-    choose (either (ltb (length l) (length w)) (ltb (length k) (length x))) (λ _. left (m.NotMended 20 0) l k)
-    (λ _. record { result = m.Done (length w) (length x); text = w ++ drop (length w) l; lines = x ++ drop (length x) k })
+    choose (either (ltb (length l) (length w)) (ltb (length k) (length x))) (λ _. left (not_mended_at 20 0) l k)
+    (λ _. record { result = done_at (length w) (length x); text = w ++ drop (length w) l; lines = x ++ drop (length x) k })
 
 -- The mended text and the lines "come only if the mended text is accepted. Otherwise give the refusal of the mended text".
 unfoldable pub by_answer : Answer → (s g : List ℕ) → List Drop → (l k : List ℕ) → Outcome
 by_answer (accepted t) s g ds l k = written (mended s ds) (lines g (dropped s ds)) l k
-by_answer (refused n p) s g ds l k = left (m.NotMended n (place_back s ds n p)) l k
+by_answer (refused n p) s g ds l k = left (not_mended_at n (place_back s ds n p)) l k
 
 unfoldable pub mend_by : (s g : List ℕ) → List Drop → (l k : List ℕ) → Outcome
 mend_by s g ds l k = by_answer (reading (mended s ds)) s g ds l k
@@ -46,10 +44,10 @@ mend_by s g ds l k = by_answer (reading (mended s ds)) s g ds l k
 -- "a text that passes all stages before 13 (another gives its refusal)".
 unfoldable pub or_refused : Option Fault → (l k : List ℕ) → (Unit {0} → Outcome) → Outcome
 or_refused none l k next = next tt
-or_refused (some x) l k next = left (m.Refused x.number x.place) l k
+or_refused (some x) l k next = left (refused_at x.number x.place) l k
 
 unfoldable pub mend_parsed : Parsed → (s g l k : List ℕ) → Outcome
-mend_parsed (not_parsed n p) s g l k = left (m.Refused n p) l k
+mend_parsed (not_parsed n p) s g l k = left (refused_at n p) l k
 mend_parsed (parsed f) s g l k =
     or_refused (first (definition_faults f)) l k (λ _.
     or_refused (first (object_faults f)) l k (λ _. let ds = all_drops f in mend_by s g ds l k))

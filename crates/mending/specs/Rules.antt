@@ -14,8 +14,7 @@ use Rattle.meaning.specs.Rules.{TheAnswer}
 use Rattle.dropping.specs.Drops.{Drop, all_drops}
 use Rattle.mending.specs.Pieces.{dropped, mended, lines}
 use Rattle.mending.specs.Results.{place_back}
-use Rattle.mending.specs.declared.Mended.{Mended}
-use Rattle.mending.specs.declared.Mended.TheVariants as m
+use Rattle.mending.specs.Answered.{Answer as Mended, refused_at, not_mended_at, done_at}
 
 -- The text "passes all stages before 13": the grammar derives its tokens, and there is no fault of 6 to 12 and 17.
 pub record Passes (s : List ℕ) : Type 0 where
@@ -32,19 +31,19 @@ pub data TooShort (w x l k : List ℕ) : Type 0 where
 -- With the drops ds, where the outputs are l' and k' afterwards.
 pub data Mending (s g : List ℕ) (ds : List Drop) (l k l' k' : List ℕ) : Mended → Type 0 where
   -- "Otherwise give the refusal of the mended text, with its place in the original, and leave both."
-  not_mended : (n p : ℕ) → TheAnswer (mended s ds) (refused n p) → l' ≡ l → k' ≡ k → Mending s g ds l k l' k' (m.NotMended n (place_back s ds n p))
+  not_mended : (n p : ℕ) → TheAnswer (mended s ds) (refused n p) → l' ≡ l → k' ≡ k → Mending s g ds l k l' k' (not_mended_at n (place_back s ds n p))
   -- "Either too short gets 20 and leaves both."
   too_short : (t : Tables) → TheAnswer (mended s ds) (accepted t) → TooShort (mended s ds) (lines g (dropped s ds)) l k → l' ≡ l → k' ≡ k
-      → Mending s g ds l k l' k' (m.NotMended 20 0)
+      → Mending s g ds l k l' k' (not_mended_at 20 0)
   -- "The mended text in one lent output and, in a second, one line for each drop .. come only if the mended text is accepted."
   done : (t : Tables) → TheAnswer (mended s ds) (accepted t)
       → length (mended s ds) ≤ length l → length (lines g (dropped s ds)) ≤ length k
       → l' ≡ mended s ds ++ drop (length (mended s ds)) l → k' ≡ lines g (dropped s ds) ++ drop (length (lines g (dropped s ds))) k
-      → Mending s g ds l k l' k' (m.Done (length (mended s ds)) (length (lines g (dropped s ds))))
+      → Mending s g ds l k l' k' (done_at (length (mended s ds)) (length (lines g (dropped s ds))))
 
 -- For the text s, whose bytes have the origins g, and the lent outputs l and k, which hold l' and k' afterwards; r is what is returned.
 pub data MendsByRules (s g l k l' k' : List ℕ) (r : Mended) : Type 0 where
   -- "(another gives its refusal)"
-  refuses : (Passes s → ⊥) → (n p : ℕ) → TheAnswer s (refused n p) → r ≡ m.Refused n p → l' ≡ l → k' ≡ k → MendsByRules s g l k l' k' r
+  refuses : (Passes s → ⊥) → (n p : ℕ) → TheAnswer s (refused n p) → r ≡ refused_at n p → l' ≡ l → k' ≡ k → MendsByRules s g l k l' k' r
   -- "Given a text that passes all stages before 13, drop each statement at fault by 13 or 14"
   mends : Passes s → ((d : Derivation (tokens s)) → Mending s g (all_drops (syntax s d.tree)) l k l' k' r) → MendsByRules s g l k l' k' r

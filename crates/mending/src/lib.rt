@@ -9,7 +9,7 @@ ghost use Rattle.mending.specs.Promises.{place_by, AnswersTo, PutsOut, DropsKept
 use layout::{definition, enumerator, object, statement, value};
 use lookups::names;
 use reading::{Answer, Decision};
-use rows::{Fault, faults, refusals};
+use rows::{Fault, refusals};
 use scopes::Sizes;
 use writing::bytes;
 
@@ -17,13 +17,20 @@ mod statements;
 mod telling;
 mod walking;
 
-// The answer: the text's own refusal, from a stage before 13; the refusal of the mended text, with its place in the original, or 20 where an output is
-// too short; how long the mended text and the lines are.
+// How long the mended text and the lines are.
+#[derive(Clone, Copy, Debug, PartialEq, Eq)]
+pub struct Mended {
+    pub text: usize,
+    pub lines: usize,
+}
+
+// Why there is no mended text.
 #[derive(Clone, Copy)]
-pub enum Mended {
-    Refused(u8, usize),
-    NotMended(u8, usize),
-    Done(usize, usize),
+pub enum Unmended {
+    // The text's own refusal, from a stage before 13.
+    Refused(Fault),
+    // The refusal of the mended text, with its place in the original, or 20 where an output is too short.
+    NotMended(Fault),
 }
 
 // Marks what is dropped of a text that passes the stages before 13, whose rows are in the tables.
@@ -50,27 +57,26 @@ fn drop_kept(
     dropping::drop_all(text, d, e, o, s, &table, z, places, marks);
 }
 
-// Marks what is dropped, at the places of the names, by 13 or 14; or returns the fault of a stage before 13. The rows are freed with the frame.
-fn mark_drops(text: &[u8], marks: &mut [u8]) -> Fault
+// Marks what is dropped, at the places of the names, by 13 or 14; the fault of a stage before 13, where there is one. The rows are freed with the frame.
+fn mark_drops(text: &[u8], marks: &mut [u8]) -> Result<(), Fault>
     ensures { MarksDrops text.now marks.old marks.new result }
 {
     if token::LONGEST < text.len() {
-        return Fault {
+        return Err(Fault {
             number: refusals::LONG_TEXT,
             place: 0,
-        };
+        });
     }
     let mut d = [0; definition::KEPT];
     let mut e = [0; enumerator::KEPT];
     let mut o = [0; object::KEPT];
     let mut s = [0; statement::KEPT];
     let r = reading::decide(text, &mut d, &mut e, &mut o, &mut s);
-    let f = r.fault;
-    if faults::is_fault(f) {
-        return f;
+    if let Some(f) = r.fault {
+        return Err(f);
     }
     drop_kept(text, &d, &e, &o, &s, r, marks);
-    f
+    Ok(())
 }
 
 // The answer to a text. The tables are freed with the frame.
@@ -103,31 +109,44 @@ fn put_out(
     mended: &[u8],
     output: &mut [u8],
     lines: &mut [u8],
-) -> Mended
+) -> Result<Mended, Unmended>
     ensures { PutsOut text.now origins.now marks.now mended.now output.old lines.old output.new lines.new result }
 {
     if output.len() < mended.len() {
-        return Mended::NotMended(refusals::SHORT_OUTPUT, 0);
+        return Err(Unmended::NotMended(Fault {
+            number: refusals::SHORT_OUTPUT,
+            place: 0,
+        }));
     }
     let mut scratch = [0u8; 1];
     if lines.len() < telling::put_lines(text, origins, marks, &mut scratch) {
-        return Mended::NotMended(refusals::SHORT_OUTPUT, 0);
+        return Err(Unmended::NotMended(Fault {
+            number: refusals::SHORT_OUTPUT,
+            place: 0,
+        }));
     }
     bytes::put_bytes(output, 0, mended);
     let n = telling::put_lines(text, origins, marks, lines);
-    Mended::Done(mended.len(), n)
+    Ok(Mended {
+        text: mended.len(),
+        lines: n,
+    })
 }
 
 // Mends a text, whose bytes have these origins: text numbers times 65,536, and places. The mended text goes to the front of one output and a line for
 // each drop, in text order, to that of the other. Both stay on any refusal.
-pub fn mend(text: &[u8], origins: &[usize], output: &mut [u8], lines: &mut [u8]) -> Mended
+pub fn mend(
+    text: &[u8],
+    origins: &[usize],
+    output: &mut [u8],
+    lines: &mut [u8],
+) -> Result<Mended, Unmended>
     ensures mends { MendsText text.now origins.now output.old lines.old output.new lines.new result }
     ensures rules { MendsByRules text.now origins.now output.old lines.old output.new lines.new result }
 {
     let mut marks = [0u8; token::PLACES];
-    let f = mark_drops(text, &mut marks);
-    if faults::is_fault(f) {
-        return Mended::Refused(f.number, f.place);
+    if let Err(f) = mark_drops(text, &mut marks) {
+        return Err(Unmended::Refused(f));
     }
     let mut room = [0u8; token::LONGEST];
     let n = walking::put_mended(text, &marks, &mut room);
@@ -136,7 +155,7 @@ pub fn mend(text: &[u8], origins: &[usize], output: &mut [u8], lines: &mut [u8])
     match answer {
         Answer::Refused(number, place) => {
             let p = refusal_back(text, &marks, number, place);
-            Mended::NotMended(number, p)
+            Err(Unmended::NotMended(Fault { number, place: p }))
         }
         Answer::Accepted => put_out(text, origins, &marks, mended, output, lines),
     }

@@ -9,11 +9,8 @@ fn punctuator_of(sort: Sort) -> u8
     ensures { result ≡ punctuator_of sort }
 {
     match sort {
-        Sort::Word(_) => 0,
-        Sort::Number(_, _) => 0,
-        Sort::String => 0,
         Sort::Punctuator(b) => b,
-        Sort::Float(_, _, _) => 0,
+        _ => 0,
     }
 }
 
@@ -23,25 +20,19 @@ fn open_after(depth: usize, b: u8) -> usize
     ensures { result ≡ open_after depth b }
 {
     if b == b'{' {
-        return depth + 1;
+        depth + 1
+    } else if b == b'}' {
+        depth.saturating_sub(1)
+    } else {
+        depth
     }
-    if b == b'}' {
-        if depth == 0 {
-            return 0;
-        }
-        return depth - 1;
-    }
-    depth
 }
 
 // Whether a punctuator is the semicolon, and no brace is open.
 fn is_last(depth: usize, b: u8) -> bool
     ensures { result ≡ is_last depth b }
 {
-    if b != b';' {
-        return false;
-    }
-    depth == 0
+    b == b';' && depth == 0
 }
 
 // The place after the semicolon of the statement whose name stands at a place; the text's end where there is none.
@@ -49,26 +40,14 @@ pub fn statement_end(text: &[u8], at: usize) -> usize
     ensures { result ≡ end_of text.now at }
 {
     let mut depth = 0;
-    let mut p = at;
-    while p < text.len() {
-        let cursor = Cursor { at: p };
-        match cursor.step(text) {
-            Step::Found(t, c) => {
-                let sort = t.sort;
-                let b = punctuator_of(sort);
-                if is_last(depth, b) {
-                    return c.at;
-                }
-                depth = open_after(depth, b);
-                p = c.at;
-            }
-            Step::Refused(_) => {
-                return text.len();
-            }
-            Step::End(_) => {
-                return text.len();
-            }
+    let mut cursor = Cursor { at };
+    while let Step::Found(t, next) = cursor.step(text) {
+        let b = punctuator_of(t.sort);
+        if is_last(depth, b) {
+            return next.at;
         }
+        depth = open_after(depth, b);
+        cursor = next;
     }
     text.len()
 }

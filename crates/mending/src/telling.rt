@@ -53,6 +53,7 @@ pub fn put_lines(text: &[u8], origins: &[usize], marks: &[u8], out: &mut [u8]) -
 {
     let mut p = 0;
     let mut at = bytes::put_bytes(out, 0, b"");
+    // A `while`: a piece is a byte or a statement, and `next` says where the one after it begins.
     while p < text.len() {
         at = put_line_at(text, origins, marks, p, out, at);
         p = walking::next(text, marks, p);

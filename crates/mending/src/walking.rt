@@ -8,10 +8,7 @@ use super::statements;
 pub fn mark_at(marks: &[u8], p: usize) -> u8
     ensures { result ≡ get_or marks.now p 0 }
 {
-    if marks.len() <= p {
-        return 0;
-    }
-    marks[p]
+    marks.get(p).copied().unwrap_or(0)
 }
 
 // The place after the piece at p.
@@ -53,6 +50,7 @@ pub fn put_mended(text: &[u8], marks: &[u8], out: &mut [u8]) -> usize
 {
     let mut p = 0;
     let mut at = 0;
+    // A `while`: a piece is a byte or a statement, and `next` says where the one after it begins.
     while p < text.len() {
         at = put_kept(text, marks, p, out, at);
         p = next(text, marks, p);
@@ -77,10 +75,7 @@ fn left_after(marks: &[u8], p: usize, left: usize) -> usize
     if mark_at(marks, p) != 0 {
         return left;
     }
-    if left == 0 {
-        return 0;
-    }
-    left - 1
+    left.saturating_sub(1)
 }
 
 // The place in the text of a place of the mended text; the text's end for the mended text's.
@@ -89,6 +84,7 @@ pub fn place_back(text: &[u8], marks: &[u8], place: usize) -> usize
 {
     let mut p = 0;
     let mut left = place;
+    // A `while`, as in `put_mended`.
     while p < text.len() {
         if is_here(marks, p, left) {
             return p;

@@ -3,15 +3,9 @@
 
 ghost use Rattle.mending_texts.specs.Telling.{MendsExpanded, MendsTexts};
 
-use lent_texts::{Expanded, Lent};
-use mending::Mended as Answer;
-
-// The answer: a refusal, of the texts or of the mended text, or how long the mended text and the lines are.
-#[derive(Clone, Copy)]
-pub enum Mended {
-    Refused(u8, usize),
-    Done(usize, usize),
-}
+use lent_texts::Expanded;
+use mending::{Mended, Unmended};
+use rows::Fault;
 
 // The answer to the expanded text, with its place in the lent texts.
 fn mend_expanded(
@@ -20,20 +14,16 @@ fn mend_expanded(
     e: Expanded,
     output: &mut [u8],
     lines: &mut [u8],
-) -> Mended
+) -> Result<Mended, Fault>
     ensures { MendsExpanded text.now origins.now e output.old lines.old output.new lines.new result }
 {
-    let answer = mending::mend(text, origins, output, lines);
-    match answer {
-        Answer::Refused(number, place) => {
-            let r = lent_texts::refused(origins, e, number, place);
-            Mended::Refused(r.number, r.place)
-        }
-        Answer::NotMended(number, place) => {
-            let p = placing::place_refused(origins, e.length, e.main, number, place);
-            Mended::Refused(number, p)
-        }
-        Answer::Done(n, m) => Mended::Done(n, m),
+    match mending::mend(text, origins, output, lines) {
+        Ok(mended) => Ok(mended),
+        Err(Unmended::Refused(f)) => Err(lent_texts::refused(origins, e, f)),
+        Err(Unmended::NotMended(f)) => Err(Fault {
+            place: placing::place_refused(origins, e.length, e.main, f.number, f.place),
+            ..f
+        }),
     }
 }
 
@@ -48,13 +38,10 @@ pub fn mend(
     origins: &mut [usize],
     output: &mut [u8],
     lines: &mut [u8],
-) -> Mended
+) -> Result<Mended, Fault>
     ensures { MendsTexts buffer.now lengths.now expanded.old origins.old output.old lines.old
         expanded.new origins.new output.new lines.new result }
 {
-    let lent = lent_texts::expand(buffer, lengths, expanded, origins);
-    match lent {
-        Lent::Stopped(number) => Mended::Refused(number, 0),
-        Lent::Text(e) => mend_expanded(&expanded[..e.length], origins, e, output, lines),
-    }
+    let e = lent_texts::expand(buffer, lengths, expanded, origins)?;
+    mend_expanded(&expanded[..e.length], origins, e, output, lines)
 }

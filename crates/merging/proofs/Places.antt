@@ -10,8 +10,8 @@ use Rattle.token.specs.Words.{same}
 use Rattle.token.proofs.Bytes.{eqb_sym}
 use Rattle.rows.proofs.Walks.{first}
 use Rattle.rows.specs.Search.{find_named, is_found}
-use Rattle.rows.specs.declared.Found.{Found}
-use Rattle.rows.specs.declared.Found.TheVariants.{At, Nothing}
+use Rattle.rows.specs.Found.{Found}
+use Rattle.std.specs.Prelude.{Some, None}
 use Rattle.rows.proofs.Searches.{first_is}
 use Rattle.meaning.specs.Syntax.{Object, File}
 use Rattle.meaning.specs.Words.{alike}
@@ -31,31 +31,31 @@ use Rattle.merging.specs.Promises.{Parted, FirstAt}
 -- Searches -------------------------------------------------------------------------------------------------------------------------------------
 
 -- What is found is a part of the same kind and name.
-found_used : (x : Object) (i : ℕ) (l : List Object) → is_found (first (same_object x) At Nothing i l) ≡ used x l
+found_used : (x : Object) (i : ℕ) (l : List Object) → is_found (first (same_object x) Some None i l) ≡ used x l
 unfolding first
 found_used x i [] = sym (used_none x)
 found_used x i (y ∷ l) = go (same_object x y) (found_used x (suc i) l) ∙ sym (used_more x y l)
   where
-    go : (b : Bool) → is_found (first (same_object x) At Nothing (suc i) l) ≡ used x l → is_found (pick b (At i) (first (same_object x) At Nothing (suc i) l)) ≡ either b (used x l)
+    go : (b : Bool) → is_found (first (same_object x) Some None (suc i) l) ≡ used x l → is_found (pick b (Some i) (first (same_object x) Some None (suc i) l)) ≡ either b (used x l)
     go true e = refl
     go false e = e
 
-not_found : (f : Found) → is_found f ≡ false → f ≡ Nothing
-not_found (At i) e = absurd (false≢true (sym e))
-not_found Nothing e = refl
+not_found : (f : Found) → is_found f ≡ false → f ≡ None
+not_found (Some i) e = absurd (false≢true (sym e))
+not_found None e = refl
 
 -- The first that passes, behind a front of which none does.
-first_at : (p : Object → Bool) (i : ℕ) (front : List Object) (y : Object) (mid : List Object) → is_found (first p At Nothing i front) ≡ false → p y ≡ true
-    → first p At Nothing i (front ++ (y ∷ mid)) ≡ At (i + length front)
+first_at : (p : Object → Bool) (i : ℕ) (front : List Object) (y : Object) (mid : List Object) → is_found (first p Some None i front) ≡ false → p y ≡ true
+    → first p Some None i (front ++ (y ∷ mid)) ≡ Some (i + length front)
 unfolding first
-first_at p i [] y mid e t = let z : i ≡ i + 0 = omega arith in rw t (ap At z)
+first_at p i [] y mid e t = let z : i ≡ i + 0 = omega arith in rw t (ap Some z)
 first_at p i (w ∷ front) y mid e t = go (p w) e (λ h. first_at p (suc i) front y mid h t)
   where
-    go : (b : Bool) → is_found (pick b (At i) (first p At Nothing (suc i) front)) ≡ false
-        → (is_found (first p At Nothing (suc i) front) ≡ false → first p At Nothing (suc i) (front ++ (y ∷ mid)) ≡ At (suc i + length front))
-        → pick b (At i) (first p At Nothing (suc i) (front ++ (y ∷ mid))) ≡ At (i + suc (length front))
+    go : (b : Bool) → is_found (pick b (Some i) (first p Some None (suc i) front)) ≡ false
+        → (is_found (first p Some None (suc i) front) ≡ false → first p Some None (suc i) (front ++ (y ∷ mid)) ≡ Some (suc i + length front))
+        → pick b (Some i) (first p Some None (suc i) (front ++ (y ∷ mid))) ≡ Some (i + suc (length front))
     go true h f = absurd (false≢true (sym h))
-    go false h f = let z : suc i + length front ≡ i + suc (length front) = omega arith in f h ∙ ap At z
+    go false h f = let z : suc i + length front ≡ i + suc (length front) = omega arith in f h ∙ ap Some z
 
 -- The same place of one list.
 same_place : (a : List Object) (x : Object) (b c : List Object) (y : Object) (d : List Object) → a ++ (x ∷ b) ≡ c ++ (y ∷ d) → length a ≡ length c → x ≡ y
@@ -65,14 +65,14 @@ same_place (v ∷ a) x b [] y d e n = absurd (omega arith)
 same_place (v ∷ a) x b (w ∷ c) y d e n = let t : a ++ (x ∷ b) ≡ c ++ (y ∷ d) = cc in same_place a x b c y d t (omega arith)
 
 -- Where the row of y's place is found, y passes.
-at_first : (p : Object → Bool) (front : List Object) (y : Object) (mid : List Object) → first p At Nothing 0 (front ++ (y ∷ mid)) ≡ At (length front) → p y ≡ true
+at_first : (p : Object → Bool) (front : List Object) (y : Object) (mid : List Object) → first p Some None 0 (front ++ (y ∷ mid)) ≡ Some (length front) → p y ≡ true
 at_first p front y mid e =
     let r = first_is p 0 (front ++ (y ∷ mid)) (length front) e in
     let n : length front ≡ length r.front = let z = r.place in omega arith in
     ap p (same_place front y mid r.front r.row r.rest r.whole n) ∙ r.holds
 
 -- A row that is found lies inside.
-found_inside : (p : Object → Bool) (l : List Object) (i : ℕ) → first p At Nothing 0 l ≡ At i → i < length l
+found_inside : (p : Object → Bool) (l : List Object) (i : ℕ) → first p Some None 0 l ≡ Some i → i < length l
 found_inside p l i e =
     let r = first_is p 0 l i e in
     let n = length-append r.front (r.row ∷ r.rest) in
@@ -90,11 +90,11 @@ module _ (s : List ℕ) (x : Object) (g : Good s x.name) where
       ap₂ both (eqb_sym (kind_number y.kind) (kind_number x.kind)) (ap₂ same (sym h.read.bytes) (sym g.read.bytes))
 
   object_tests : (i : ℕ) (l rest : List Object) → Goods s (object_words (l ++ rest))
-      → first (is_object s (kind_number x.kind) x.name.place x.name.length) At Nothing i l ≡ first (same_object x) At Nothing i l
+      → first (is_object s (kind_number x.kind) x.name.place x.name.length) Some None i l ≡ first (same_object x) Some None i l
   unfolding first object_words
   object_tests i [] rest h = refl
   object_tests i (y ∷ l) rest h =
-      ap₂ (λ (b : Bool) (f : Found). pick b (At i) f) (object_test y h.1.0)
+      ap₂ (λ (b : Bool) (f : Found). pick b (Some i) f) (object_test y h.1.0)
       (object_tests (suc i) l rest (good_back s (statement_words y.statements) (object_words (l ++ rest)) h.1.1))
 
 pub good_name : (s : List ℕ) (p : List Object) (x : Object) (rest : List Object) → Goods s (object_words (p ++ (x ∷ rest))) → Good s x.name
@@ -104,7 +104,7 @@ good_name s (y ∷ p) x rest g = good_name s p x rest (good_back s (statement_wo
 
 -- The first row of a part, by the parts before it.
 pub row_is : (s p : List ℕ) (f : File) (j : ℕ) (before : List Object) (z : Object) (rest : List Object) → Situation s f → p ≡ kept_parts f → f.parts ≡ before ++ (z ∷ rest)
-    → length before ≡ j → j < 513 → first_row 0 s p j ≡ row_or j (first (same_object z) At Nothing 0 before)
+    → length before ≡ j → j < 513 → first_row 0 s p j ≡ row_or j (first (same_object z) Some None 0 before)
 unfolding first_row kept_parts object_cells
 row_is s p f j before z rest k e w l h =
     let q : Nth f.parts j z = record { front = before; rest = rest; whole = w; place = l } in
@@ -120,20 +120,20 @@ row_is s p f j before z rest k e w l h =
 
 -- Whether a part is the first of its object -------------------------------------------------------------------------------------------------------
 
-new_row : (z : Object) (before : List Object) (j : ℕ) → used z before ≡ false → row_or j (first (same_object z) At Nothing 0 before) ≡ j
+new_row : (z : Object) (before : List Object) (j : ℕ) → used z before ≡ false → row_or j (first (same_object z) Some None 0 before) ≡ j
 unfolding row_or
-new_row z before j u = ap (row_or j) (not_found (first (same_object z) At Nothing 0 before) (found_used z 0 before ∙ u))
+new_row z before j u = ap (row_or j) (not_found (first (same_object z) Some None 0 before) (found_used z 0 before ∙ u))
 
-old_row : (z : Object) (before : List Object) (j : ℕ) → length before ≡ j → used z before ≡ true → row_or j (first (same_object z) At Nothing 0 before) ≡ j → ⊥
+old_row : (z : Object) (before : List Object) (j : ℕ) → length before ≡ j → used z before ≡ true → row_or j (first (same_object z) Some None 0 before) ≡ j → ⊥
 unfolding row_or
-old_row z before j l u e = go (first (same_object z) At Nothing 0 before) (found_used z 0 before ∙ u) (λ i h. found_inside (same_object z) before i h) e
+old_row z before j l u e = go (first (same_object z) Some None 0 before) (found_used z 0 before ∙ u) (λ i h. found_inside (same_object z) before i h) e
   where
-    go : (f : Found) → is_found f ≡ true → ((i : ℕ) → f ≡ At i → i < length before) → row_or j f ≡ j → ⊥
-    go (At i) t h q = let n = h i refl in omega arith
-    go Nothing t h q = false≢true t
+    go : (f : Found) → is_found f ≡ true → ((i : ℕ) → f ≡ Some i → i < length before) → row_or j f ≡ j → ⊥
+    go (Some i) t h q = let n = h i refl in omega arith
+    go None t h q = false≢true t
 
 -- By the cell of a part's row.
-module _ (j c : ℕ) (before : List Object) (z : Object) (e : c ≡ row_or j (first (same_object z) At Nothing 0 before)) where
+module _ (j c : ℕ) (before : List Object) (z : Object) (e : c ≡ row_or j (first (same_object z) Some None 0 before)) where
   pub new_by : length before ≡ j → c ≡ j → used z before ≡ false
   new_by l h = go (used z before) (λ u. old_row z before j l u (sym e ∙ h))
     where
@@ -151,7 +151,7 @@ module _ (j c : ℕ) (before : List Object) (z : Object) (e : c ≡ row_or j (fi
 module _ {s p st x : List ℕ} {n : ℕ} {f : File} (P : Parted s p st x n f) where
   -- The cell of a part's row.
   cell_is : (j : ℕ) (before : List Object) (z : Object) (rest : List Object) → f.parts ≡ before ++ (z ∷ rest) → length before ≡ j
-      → get_or x j 0 ≡ row_or j (first (same_object z) At Nothing 0 before)
+      → get_or x j 0 ≡ row_or j (first (same_object z) Some None 0 before)
   cell_is j before z rest w l =
       let m = P.parts in
       let c = P.parts_fit in
@@ -191,16 +191,16 @@ module _ {s p st x : List ℕ} {n : ℕ} {f : File} (P : Parted s p st x n f) {i
       let b = r.place in
       behind r.front z r.rest q.front y q.rest (sym r.whole ∙ q.whole) (omega arith)
 
-  by_cell : get_or x j 0 ≡ row_or j (first (same_object z) At Nothing 0 r.front)
+  by_cell : get_or x j 0 ≡ row_or j (first (same_object z) Some None 0 r.front)
   by_cell = cell_is P j r.front z r.rest r.whole r.place
 
   found_here : (mid : List Object) → r.front ≡ q.front ++ (y ∷ mid) → same_object y z ≡ true → get_or x j 0 ≡ i
   unfolding row_or
   found_here mid e t =
-      let u : is_found (first (same_object z) At Nothing 0 q.front) ≡ false = found_used z 0 q.front ∙ sym (used_alike y z q.front (same_alike y z t)) ∙ q.new in
+      let u : is_found (first (same_object z) Some None 0 q.front) ≡ false = found_used z 0 q.front ∙ sym (used_alike y z q.front (same_alike y z t)) ∙ q.new in
       let v = first_at (same_object z) 0 q.front y mid u (same_swap z y ∙ t) in
       let w : 0 + length q.front ≡ i = let a = q.place in omega arith in
-      by_cell ∙ ap (λ (l : List Object). row_or j (first (same_object z) At Nothing 0 l)) e ∙ ap (row_or j) v ∙ w
+      by_cell ∙ ap (λ (l : List Object). row_or j (first (same_object z) Some None 0 l)) e ∙ ap (row_or j) v ∙ w
 
   of_itself : r.front ≡ q.front → z ≡ y → get_or x j 0 ≡ i
   of_itself e g =
@@ -222,12 +222,12 @@ module _ {s p st x : List ℕ} {n : ℕ} {f : File} (P : Parted s p st x n f) {i
   unfolding row_or
   a_part e = go place_of
     where
-      seen : (mid : List Object) → r.front ≡ q.front ++ (y ∷ mid) → (g : Found) → first (same_object z) At Nothing 0 r.front ≡ g → row_or j g ≡ i → same_object z y ≡ true
-      seen mid a (At k) t u =
+      seen : (mid : List Object) → r.front ≡ q.front ++ (y ∷ mid) → (g : Found) → first (same_object z) Some None 0 r.front ≡ g → row_or j g ≡ i → same_object z y ≡ true
+      seen mid a (Some k) t u =
           let b = q.place in
           let c : k ≡ length q.front = omega arith in
-          at_first (same_object z) q.front y mid (ap (first (same_object z) At Nothing 0) (sym a) ∙ t ∙ ap At c)
-      seen mid a Nothing t u =
+          at_first (same_object z) q.front y mid (ap (first (same_object z) Some None 0) (sym a) ∙ t ∙ ap Some c)
+      seen mid a None t u =
           let b = q.place in
           let c = r.place in
           let d = length-append q.front (y ∷ mid) in
@@ -236,4 +236,4 @@ module _ {s p st x : List ℕ} {n : ℕ} {f : File} (P : Parted s p st x n f) {i
 
       go : Behind r.front z q.front y → same_object y z ≡ true
       go (itself a g) = ap (same_object y) g ∙ same_itself y
-      go (later mid a) = same_swap y z ∙ seen mid a (first (same_object z) At Nothing 0 r.front) refl (sym by_cell ∙ e)
+      go (later mid a) = same_swap y z ∙ seen mid a (first (same_object z) Some None 0 r.front) refl (sym by_cell ∙ e)

@@ -8,8 +8,8 @@ use lib.ListN.{length, get_or, replicate, length-append}
 use lib.Seq.{sets}
 use Rattle.token.specs.Find.{pick, bit}
 use Rattle.rows.specs.Search.{find_named}
-use Rattle.rows.specs.declared.Found.{Found}
-use Rattle.rows.specs.declared.Found.TheVariants.{At, Nothing}
+use Rattle.rows.specs.Found.{Found}
+use Rattle.std.specs.Prelude.{Some, None}
 use Rattle.meaning.specs.Syntax.{Statements, done, Object, File, statements_in}
 use Rattle.meaning.specs.Merging.{then, same_object, used, further, continued, merged, merge_from, merge}
 use Rattle.meaning.proofs.Merges.{statements_then}
@@ -29,11 +29,11 @@ module _ (col : ℕ) (s p : List ℕ) (j : ℕ) {k a n : ℕ} {f : Found} (e₁ 
   named h =
       h ∙ ap (λ (x : ℕ). find_named s p 10 j col x 3 a n 0) e₁ ∙ ap₂ (λ (x y : ℕ). find_named s p 10 j col (get_or p (j * 10 + col) 0) 3 x y 0) e₂ e₃
 
-  pub first_found : {i : ℕ} → f ≡ At i → f ≡ find_named s p 10 j col k 3 a n 0 → i ≡ first_row col s p j
+  pub first_found : {i : ℕ} → f ≡ Some i → f ≡ find_named s p 10 j col k 3 a n 0 → i ≡ first_row col s p j
   unfolding first_row row_or
   first_found g h = ap (row_or j) (sym g ∙ named h)
 
-  pub first_nothing : f ≡ Nothing → f ≡ find_named s p 10 j col k 3 a n 0 → j ≡ first_row col s p j
+  pub first_nothing : f ≡ None → f ≡ find_named s p 10 j col k 3 a n 0 → j ≡ first_row col s p j
   unfolding first_row row_or
   first_nothing g h = ap (row_or j) (sym g ∙ named h)
 

@@ -3,13 +3,13 @@ use Rattle.std.specs.Prelude.{◌≡◌, List, [], ◌∷◌, ℕ, zero, suc, �
 use Rattle.std.proofs.lemmas.List.Edits.{sets}
 use Rattle.rows.specs.Table.{cell_of}
 use Rattle.rows.specs.Search.{find_named}
-use Rattle.rows.specs.declared.Found.{Found}
-use Rattle.rows.specs.declared.Found.TheVariants.{At, Nothing}
+use Rattle.rows.specs.Found.{Found}
+use Rattle.std.specs.Prelude.{Some, None}
 
 -- The row that was found, or else row j.
 unfoldable pub row_or : ℕ → Found → ℕ
-row_or j (At i) = i
-row_or j Nothing = j
+row_or j (Some i) = i
+row_or j None = j
 
 -- The first row before row j that has its name and the same in column c; row j itself where there is none. Column 0 is the kind; in a column
 -- past the table, as `length p`, all rows have 0, so that the name alone counts.

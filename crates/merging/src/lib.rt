@@ -8,7 +8,7 @@ ghost use Rattle.indexes.specs.Indexing.{Fits, Through, By};
 ghost use Rattle.merging.specs.Parts.{first_row, first_rows, FirstRows};
 
 use layout::{object, part};
-use rows::{Found, cells};
+use rows::cells;
 
 pub mod objects;
 
@@ -32,8 +32,8 @@ fn first_part(text: &[u8], p: &[usize], column: usize, j: usize, x: &[usize]) ->
         len,
         x,
     ) {
-        Found::At(i) => i,
-        Found::Nothing => j,
+        Some(i) => i,
+        None => j,
     }
 }
 
@@ -41,12 +41,10 @@ fn first_part(text: &[u8], p: &[usize], column: usize, j: usize, x: &[usize]) ->
 fn each_first(text: &[u8], p: &[usize], column: usize, n: usize, x: &[usize], out: &mut [usize])
     ensures { Through (By text.now p.now 10 column 3 x.now) n (out.new ≡ sets out.old 0 (first_rows column text.now p.now n 0)) }
 {
-    let mut j = 0;
-    while j < n {
+    for j in 0..n {
         let i = first_part(text, p, column, j, x);
         let c = [i];
         cells::put_cells(out, j, &c);
-        j += 1;
     }
 }
 

@@ -64,11 +64,9 @@ fn move_rows(st: &[usize], from: usize, end: usize, out: &mut [usize], to: usize
     if statement::ROWS < to {
         return to;
     }
-    let mut k = from;
     let mut row = to;
-    while k < end {
+    for k in from..end {
         move_row(st, k, from, to, out, row);
-        k += 1;
         row += 1;
     }
     row
@@ -89,16 +87,13 @@ fn gather_one(
     ensures { (result.parts ≤ parts + 1) × GathersOne p.now st.now x.now i j out.old m parts out.new result.row result.parts }
 {
     if cells::get(x, j) != i {
-        return Share {
-            row: m,
-            parts: parts,
-        };
+        return Share { row: m, parts };
     }
     let from = cells::cell_of(p, object::WIDTH, j, object::FIRST);
     let end = cells::cell_of(p, object::WIDTH, j, object::END);
     let row = move_rows(st, from, end, out, m);
     Share {
-        row: row,
+        row,
         parts: parts + 1,
     }
 }
@@ -115,19 +110,14 @@ fn gather(
 ) -> Share
     ensures { Gathers p.now st.now x.now i n out.old m out.new result.row result.parts }
 {
-    let mut j = i;
     let mut row = m;
     let mut parts = 0;
-    while j < n {
+    for j in i..n {
         let y = gather_one(p, st, x, i, j, out, row, parts);
         row = y.row;
         parts = y.parts;
-        j += 1;
     }
-    Share {
-        row: row,
-        parts: parts,
-    }
+    Share { row, parts }
 }
 
 // The object that begins with row i, if one does, as row k; its statements from row m on.
@@ -180,14 +170,12 @@ pub fn merge(
 ) -> usize
     ensures { Merges p.now st.now x.now n o.old t.old o.new t.new result }
 {
-    let mut i = 0;
     let mut k = 0;
     let mut m = 0;
-    while i < n {
+    for i in 0..n {
         let y = merge_one(p, st, x, i, n, o, t, k, m);
         k = y.objects;
         m = y.statements;
-        i += 1;
     }
     k
 }

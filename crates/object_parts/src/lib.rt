@@ -147,17 +147,15 @@ pub fn statement(text: &[u8], s: &mut [usize], a: Look, m: usize) -> Spot
 pub fn statements(text: &[u8], s: &mut [usize], from: Look, m: usize) -> Spot
     ensures { Walks Fill 0 (statements ▸ ∎) (λ w x. StatementRows w x.0) text.now from result.look (s.old, m) (s.new, result.statements) }
 {
-    let mut a = from;
-    let mut i = m;
-    while lookahead::is_name(a.code) {
-        let y = statement(text, s, a, i);
-        a = y.look;
-        i = y.statements;
+    let mut spot = Spot {
+        look: from,
+        statements: m,
+    };
+    // A `while`: the look says whether another statement comes, so no range counts it.
+    while lookahead::is_name(spot.look.code) {
+        spot = statement(text, s, spot.look, spot.statements);
     }
-    Spot {
-        look: a,
-        statements: i,
-    }
+    spot
 }
 
 pub fn part(text: &[u8], p: &mut [usize], s: &mut [usize], a: Look, n: usize, m: usize) -> Passed
@@ -208,23 +206,23 @@ pub fn part(text: &[u8], p: &mut [usize], s: &mut [usize], a: Look, n: usize, m:
 pub fn parts(text: &[u8], p: &mut [usize], s: &mut [usize], from: Look) -> Counted
     ensures { Walks FillAll 0 (objects ▸ ∎) (λ w x. AllRows w x.0) text.now from result.look (replicate 13 0, ((p.old, 0), (s.old, 0))) (result.counts, ((p.new, result.parts), (s.new, result.statements))) }
 {
-    let mut a = from;
-    let mut n = 0;
-    let mut m = 0;
+    let mut passed = Passed {
+        look: from,
+        parts: 0,
+        statements: 0,
+    };
     let mut counts = [0; counts::KINDS];
-    while lookahead::is_kind(a.code) {
-        let kind = filling::kind_number(a.code);
+    // A `while`: the look says whether another part comes, so no range counts it.
+    while lookahead::is_kind(passed.look.code) {
+        let kind = filling::kind_number(passed.look.code);
         let more = rows::counts::one_more(counts, kind);
         counts = more;
-        let y = part(text, p, s, a, n, m);
-        a = y.look;
-        n = y.parts;
-        m = y.statements;
+        passed = part(text, p, s, passed.look, passed.parts, passed.statements);
     }
     Counted {
-        look: a,
-        parts: n,
-        statements: m,
-        counts: counts,
+        look: passed.look,
+        parts: passed.parts,
+        statements: passed.statements,
+        counts,
     }
 }

@@ -23,10 +23,8 @@ fn write_cells(
 
 // The bytes in lower-case hex.
 fn write_hex(rt: HostRuntime, page: &mut Page, bytes: &[u8]) {
-    let mut i = 0;
-    while i < bytes.len() {
-        console::write_hex(rt, page, bytes[i]);
-        i += 1;
+    for byte in bytes {
+        console::write_hex(rt, page, *byte);
     }
 }
 
@@ -59,13 +57,10 @@ fn write_value(rt: HostRuntime, page: &mut Page, text: &[u8], v: &[usize], k: us
 
 // Whether two rows have the same owner.
 fn same_owner(v: &[usize], j: usize, k: usize) -> bool {
-    if cells::cell_of(v, value::WIDTH, j, value::OWNER_SORT)
-        != cells::cell_of(v, value::WIDTH, k, value::OWNER_SORT)
-    {
-        return false;
-    }
-    cells::cell_of(v, value::WIDTH, j, value::OWNER)
-        == cells::cell_of(v, value::WIDTH, k, value::OWNER)
+    cells::cell_of(v, value::WIDTH, j, value::OWNER_SORT)
+        == cells::cell_of(v, value::WIDTH, k, value::OWNER_SORT)
+        && cells::cell_of(v, value::WIDTH, j, value::OWNER)
+            == cells::cell_of(v, value::WIDTH, k, value::OWNER)
 }
 
 // Whether their attributes have the same name.
@@ -83,23 +78,18 @@ fn same_attribute(text: &[u8], d: &[usize], v: &[usize], j: usize, k: usize) -> 
 fn entry(text: &[u8], d: &[usize], v: &[usize], j: usize, k: usize) -> usize
     ensures { result ≤ 1 }
 {
-    if !same_owner(v, j, k) {
-        return 0;
+    if same_owner(v, j, k) && same_attribute(text, d, v, j, k) {
+        1
+    } else {
+        0
     }
-    if same_attribute(text, d, v, j, k) {
-        return 1;
-    }
-    0
 }
 
 // The position of row k in its list.
 fn position(text: &[u8], d: &[usize], v: &[usize], k: usize) -> usize {
     let mut p = 0;
-    let mut j = 0;
-    while j < k {
-        let e = entry(text, d, v, j, k);
-        p += e;
-        j += 1;
+    for j in 0..k {
+        p += entry(text, d, v, j, k);
     }
     p
 }
@@ -136,25 +126,21 @@ fn depth(v: &[usize], k: usize) -> usize
     ensures { result ≤ 31 }
 {
     let mut row = k;
-    let mut n = 0;
-    while n < 31 {
+    for n in 0..31 {
         let above = row_above(v, row);
         if above == row {
             return n;
         }
         row = above;
-        n += 1;
     }
-    n
+    31
 }
 
 // The row that stands n rows above row k.
 fn row_up(v: &[usize], k: usize, n: usize) -> usize {
     let mut row = k;
-    let mut i = 0;
-    while i < n {
+    for _ in 0..n {
         row = row_above(v, row);
-        i += 1;
     }
     row
 }
@@ -177,9 +163,7 @@ fn write_level(
 
 // The path of row k: the attributes from the object down, separated by dots.
 fn write_path(rt: HostRuntime, page: &mut Page, text: &[u8], d: &[usize], v: &[usize], k: usize) {
-    let mut n = depth(v, k) + 1;
-    while 0 < n {
-        n -= 1;
+    for n in (0..=depth(v, k)).rev() {
         write_level(rt, page, text, d, v, k, n);
     }
 }
@@ -219,10 +203,7 @@ fn write_who(rt: HostRuntime, page: &mut Page, a: usize, b: usize) {
 
 // Whether the record is that of an object which one text has alone.
 fn is_alone(r: Difference) -> bool {
-    if r.first_object == 0 {
-        return true;
-    }
-    r.second_object == 0
+    r.first_object == 0 || r.second_object == 0
 }
 
 // The line of an object which one text has alone.

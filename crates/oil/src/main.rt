@@ -7,7 +7,6 @@ ghost use Rattle.console.specs.Counts.{IsPrefixLen};
 
 use comparing::Found;
 use console::arguments::Asked;
-use console::inputs::Input;
 use console::{Page, arguments, errors, inputs, whole, write, write_number};
 use layout::{definition, enumerator, object, value};
 use reading::Answer;
@@ -136,10 +135,8 @@ fn write_records(
     v2: &[usize],
     found: &Found,
 ) {
-    let mut k = 0;
-    while k < comparing::RECORDS {
+    for k in 0..comparing::RECORDS {
         write_record(rt, page, first, d, o, v, second, d2, o2, v2, found, k);
-        k += 1;
     }
     write(rt, page, b"total\t");
     write_number(rt, page, found.total);
@@ -234,9 +231,8 @@ fn compare_files(rt: HostRuntime) {
 // The answer to one text.
 fn answer_text(rt: HostRuntime, names: usize) {
     let mut text = [0u8; token::PLACES];
-    match inputs::read_asked(rt, names, &mut text) {
-        Input::Text(n) => write_normal(rt, token::part(&text, 0, n)),
-        Input::Failed(_) => {}
+    if let Ok(n) = inputs::read_asked(rt, names, &mut text) {
+        write_normal(rt, token::part(&text, 0, n));
     }
 }
 

@@ -19,15 +19,10 @@ pub fn write_bytes(rt: HostRuntime, page: &mut Page, text: &[u8], at: usize, len
 
 // What is said before a word of this code: 1 to 5 are the reserved ones.
 fn write_word(rt: HostRuntime, page: &mut Page, code: u8) {
-    if code == 0 {
-        write(rt, page, b"the word ");
-        return;
+    match code {
+        1..=5 => write(rt, page, b"the reserved word "),
+        _ => write(rt, page, b"the word "),
     }
-    if 5 < code {
-        write(rt, page, b"the word ");
-        return;
-    }
-    write(rt, page, b"the reserved word ");
 }
 
 // A string may have any bytes, so they are not written here.
@@ -61,23 +56,11 @@ fn write_found(rt: HostRuntime, page: &mut Page, text: &[u8], place: usize) {
     }
 }
 
-// 1 for a flag that is set, else 0.
-fn one(set: bool) -> usize
-    ensures { result ≤ 1 }
-{
-    if set {
-        return 1;
-    }
-    0
-}
-
 // How many flags are set.
 fn count(flags: [bool; expecting::TERMINALS]) -> usize {
     let mut n = 0;
-    let mut i = 0;
-    while i < expecting::TERMINALS {
-        n += one(flags[i]);
-        i += 1;
+    for i in 0..expecting::TERMINALS {
+        n += usize::from(flags[i]);
     }
     n
 }
@@ -116,11 +99,9 @@ fn write_set(rt: HostRuntime, page: &mut Page, set: bool, i: usize, n: usize, m:
 fn write_names(rt: HostRuntime, page: &mut Page, flags: [bool; expecting::TERMINALS]) {
     let m = count(flags);
     let mut n = 0;
-    let mut i = 0;
-    while i < expecting::TERMINALS {
+    for i in 0..expecting::TERMINALS {
         write_set(rt, page, flags[i], i, n, m);
-        n += one(flags[i]);
-        i += 1;
+        n += usize::from(flags[i]);
     }
 }
 

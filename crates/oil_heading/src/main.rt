@@ -6,7 +6,6 @@
 
 use console::arguments::Asked;
 use console::{Page, arguments, errors, whole, write};
-use heading::Answer;
 use std::io::Read;
 
 // The bytes of a place of the lent texts.
@@ -40,16 +39,16 @@ fn write_heading(
 ) {
     let mut expanded = [0; token::LONGEST];
     match heading_texts::heading(buffer, lengths, &mut expanded, origins) {
-        Answer::VersionAndName(place, length, name, name_length) => {
+        Ok(h) => {
             write(rt, page, b"\t");
-            write_part(rt, page, buffer, lengths, place, length);
+            write_part(rt, page, buffer, lengths, h.version_at, h.version_len);
             write(rt, page, b"\t");
-            write_part(rt, page, buffer, lengths, name, name_length);
+            write_part(rt, page, buffer, lengths, h.name_at, h.name_len);
             write(rt, page, b"\n");
         }
-        Answer::Refused(number, place) => {
+        Err(f) => {
             write(rt, page, b"\t");
-            console::write_refusal(rt, page, number, place);
+            console::write_refusal(rt, page, f.number, f.place);
         }
     }
 }
@@ -84,9 +83,7 @@ fn write_argument(rt: HostRuntime, page: &mut Page, i: usize) {
 }
 
 fn write_files(rt: HostRuntime, page: &mut Page, count: usize) {
-    let mut i = 0;
-    while i < count {
-        i += 1;
+    for i in 1..=count {
         write_argument(rt, page, i);
     }
 }

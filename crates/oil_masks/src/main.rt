@@ -3,20 +3,23 @@
 // with its mask.
 #![tactic(auto)]
 
+ghost use Rattle.std.specs.Prelude.{◌≤◌, length, IfSome};
+
 use console::arguments::Asked;
-use console::inputs::Input;
 use console::{Page, arguments, errors, inputs, number, whole, write};
 use layout::{definition, enumerator, object, sorts, value};
 use masks::{Checked, Planned, events};
-use rows::{Found, cells};
+use rows::cells;
 use token::{Cursor, Sort, Step};
 
-// What stands next in a list of masks: a mask (sort 0), the end (1), or something else (2).
+// What stands next in a list of masks.
 #[derive(Clone, Copy)]
-struct Entry {
-    sort: u8,
-    mask: u64,
-    next: usize,
+enum Entry {
+    // A mask, and the place after it.
+    Mask(u64, usize),
+    End,
+    // Something else.
+    Other,
 }
 
 fn write_not_plannable(rt: HostRuntime, page: &mut Page) {
@@ -37,8 +40,8 @@ fn write_name(rt: HostRuntime, page: &mut Page, text: &[u8], o: &[usize], row: u
 // Whether the mask of the event of a row is given; the values are the first n rows.
 fn is_given(text: &[u8], d: &[usize], v: &[usize], n: usize, row: usize) -> bool {
     match events::find_mask(text, d, v, n, row) {
-        Found::At(k) => cells::cell_of(v, value::WIDTH, k, value::SORT) == sorts::NUMBER,
-        Found::Nothing => false,
+        Some(k) => cells::cell_of(v, value::WIDTH, k, value::SORT) == sorts::NUMBER,
+        None => false,
     }
 }
 
@@ -72,10 +75,7 @@ fn write_mask(rt: HostRuntime, page: &mut Page, mask: u64) {
 }
 
 fn mask_of(masks: &[u64], event: usize) -> u64 {
-    if event < masks.len() {
-        return masks[event];
-    }
-    0
+    masks.get(event).copied().unwrap_or(0)
 }
 
 // A line for each of so many events; their rows are in `rows`.
@@ -91,13 +91,11 @@ fn write_events(
     masks: &[u64],
     count: usize,
 ) {
-    let mut j = 0;
-    while j < count {
+    for j in 0..count {
         let row = cells::get(rows, j);
         write_sort(rt, page, is_given(text, d, v, n, row));
         write_name(rt, page, text, o, row);
         write_mask(rt, page, mask_of(masks, j));
-        j += 1;
     }
 }
 
@@ -114,10 +112,7 @@ fn write_plan(rt: HostRuntime, page: &mut Page, text: &[u8], masks: &[u64], coun
 }
 
 fn is_single(mask: u64) -> bool {
-    if mask == 0 {
-        return false;
-    }
-    mask & (mask - 1) == 0
+    mask.is_power_of_two()
 }
 
 fn write_reason(rt: HostRuntime, page: &mut Page, given: bool, mask: u64) {
@@ -172,77 +167,50 @@ fn plan(rt: HostRuntime, page: &mut Page, buffer: &[u8], lengths: &[usize], orig
     let planned = masks_texts::plan_masks(buffer, lengths, &mut expanded, origins, &mut list);
     let text = token::part(&expanded, 0, e.length);
     match planned {
-        Planned::Refused(number, place) => console::write_refusal(rt, page, number, place),
-        Planned::NotPlannable => write_not_plannable(rt, page),
-        Planned::WrongLength => write(rt, page, b"wrong length\n"),
-        Planned::Full(event) => write_full(rt, page, text, event),
-        Planned::Made(n) => write_plan(rt, page, text, &list, n),
-    }
-}
-
-// An entry without a mask.
-fn no_mask(sort: u8) -> Entry {
-    Entry {
-        sort: sort,
-        mask: 0,
-        next: 0,
+        Err(f) => console::write_refusal(rt, page, f.number, f.place),
+        Ok(Planned::NotPlannable) => write_not_plannable(rt, page),
+        Ok(Planned::WrongLength) => write(rt, page, b"wrong length\n"),
+        Ok(Planned::Full(event)) => write_full(rt, page, text, event),
+        Ok(Planned::Made(n)) => write_plan(rt, page, text, &list, n),
     }
 }
 
 fn entry_of(sort: Sort, next: usize) -> Entry {
     match sort {
-        Sort::Number(negative, amount) => {
-            if negative {
-                return no_mask(2);
-            }
-            Entry {
-                sort: 0,
-                mask: amount,
-                next: next,
-            }
-        }
-        Sort::Word(_) => no_mask(2),
-        Sort::String => no_mask(2),
-        Sort::Punctuator(_) => no_mask(2),
-        Sort::Float(_, _, _) => no_mask(2),
+        Sort::Number(false, amount) => Entry::Mask(amount, next),
+        _ => Entry::Other,
     }
 }
 
 // A mask is a number as in a text: decimal, or hex with 0x.
 fn next_entry(bytes: &[u8], at: usize) -> Entry {
-    let cursor = Cursor { at: at };
+    let cursor = Cursor { at };
     match cursor.step(bytes) {
         Step::Found(t, c) => {
             let sort = t.sort;
             entry_of(sort, c.at)
         }
-        Step::Refused(_) => no_mask(2),
-        Step::End(_) => no_mask(1),
+        Step::Refused(_) => Entry::Other,
+        Step::End(_) => Entry::End,
     }
 }
 
-// How many masks a list has that ends with an entry of a sort: 258, more than there is room for, where that is no end.
-fn counted(sort: u8, count: usize) -> usize {
-    if sort == 1 {
-        return count;
-    }
-    258
-}
-
-// The masks of a list, as far as there is room for them: how many there are.
-fn read_list(bytes: &[u8], list: &mut [u64]) -> usize {
+// The masks of a list, as far as there is room for them: how many there are; `None` where something else stands in it.
+fn read_list(bytes: &[u8], list: &mut [u64]) -> Option<usize>
+    ensures { IfSome result (λ n. n ≤ length list.new) }
+{
     let mut at = 0;
-    let mut count = 0;
-    while count < list.len() {
-        let e = next_entry(bytes, at);
-        if e.sort != 0 {
-            return counted(e.sort, count);
+    for count in 0..list.len() {
+        match next_entry(bytes, at) {
+            Entry::Mask(mask, next) => {
+                list[count] = mask;
+                at = next;
+            }
+            Entry::End => return Some(count),
+            Entry::Other => return None,
         }
-        list[count] = e.mask;
-        at = e.next;
-        count += 1;
     }
-    count
+    Some(list.len())
 }
 
 fn check_list(
@@ -258,33 +226,16 @@ fn check_list(
     let checked = masks_texts::check_masks(buffer, lengths, &mut expanded, origins, masks);
     let text = token::part(&expanded, 0, e.length);
     match checked {
-        Checked::Refused(number, place) => console::write_refusal(rt, page, number, place),
-        Checked::NotPlannable => write_not_plannable(rt, page),
-        Checked::WrongLength => write(
+        Err(f) => console::write_refusal(rt, page, f.number, f.place),
+        Ok(Checked::NotPlannable) => write_not_plannable(rt, page),
+        Ok(Checked::WrongLength) => write(
             rt,
             page,
             b"wrong length: the list has not one mask for each event\n",
         ),
-        Checked::Breaks(event) => write_breaking(rt, page, text, event, mask_of(masks, event)),
-        Checked::Accepted => write(rt, page, b"accepted\n"),
+        Ok(Checked::Breaks(event)) => write_breaking(rt, page, text, event, mask_of(masks, event)),
+        Ok(Checked::Accepted) => write(rt, page, b"accepted\n"),
     }
-}
-
-// Checks so many masks of a list; where there are not so many, something else stands in it.
-fn check_front(
-    rt: HostRuntime,
-    page: &mut Page,
-    buffer: &[u8],
-    lengths: &[usize],
-    origins: &mut [usize],
-    list: &[u64],
-    count: usize,
-) {
-    if list.len() < count {
-        write(rt, page, b"the list has something that is no mask\n");
-        return;
-    }
-    check_list(rt, page, buffer, lengths, origins, &list[..count]);
 }
 
 // The masks of the bytes of a list.
@@ -297,8 +248,10 @@ fn check_bytes(
     bytes: &[u8],
 ) {
     let mut list = [0u64; object::ROWS];
-    let count = read_list(bytes, &mut list);
-    check_front(rt, page, buffer, lengths, origins, &list, count);
+    match read_list(bytes, &mut list) {
+        Some(count) => check_list(rt, page, buffer, lengths, origins, &list[..count]),
+        None => write(rt, page, b"the list has something that is no mask\n"),
+    }
 }
 
 // Checks the masks of the file that the first argument names.
@@ -310,9 +263,8 @@ fn check(
     origins: &mut [usize],
 ) {
     let mut file = [0u8; token::PLACES];
-    match inputs::read_named(rt, 1, &mut file) {
-        Input::Text(n) => check_bytes(rt, page, buffer, lengths, origins, token::part(&file, 0, n)),
-        Input::Failed(_) => {}
+    if let Ok(n) = inputs::read_named(rt, 1, &mut file) {
+        check_bytes(rt, page, buffer, lengths, origins, token::part(&file, 0, n));
     }
 }
 

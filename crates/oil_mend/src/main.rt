@@ -5,7 +5,6 @@
 
 use console::arguments::Asked;
 use console::{Page, arguments, errors, whole, write, write_number};
-use mending_texts::Mended;
 use token::{Cursor, Sort, Step};
 
 // A number, and the place after it.
@@ -23,23 +22,19 @@ fn write_field(rt: HostRuntime, line: &mut Page, n: usize) {
 
 fn amount_of(sort: Sort) -> usize {
     match sort {
-        Sort::Word(_) => 0,
         Sort::Number(_, n) => n as usize,
-        Sort::String => 0,
-        Sort::Punctuator(_) => 0,
-        Sort::Float(_, _, _) => 0,
+        _ => 0,
     }
 }
 
 // The number at a place of the lines.
 fn number_at(lines: &[u8], at: usize) -> Spot {
-    let cursor = Cursor { at: at };
+    let cursor = Cursor { at };
     match cursor.step(lines) {
         Step::Found(t, c) => {
             let sort = t.sort;
-            let n = amount_of(sort);
             Spot {
-                amount: n,
+                amount: amount_of(sort),
                 at: c.at,
             }
         }
@@ -50,7 +45,7 @@ fn number_at(lines: &[u8], at: usize) -> Spot {
 
 // Whether there is a line from a place on.
 fn has_line(lines: &[u8], at: usize) -> bool {
-    let cursor = Cursor { at: at };
+    let cursor = Cursor { at };
     match cursor.step(lines) {
         Step::Found(_, _) => true,
         Step::Refused(_) => false,
@@ -60,22 +55,17 @@ fn has_line(lines: &[u8], at: usize) -> bool {
 
 // Whether a byte with this origin stands at a byte of a text.
 fn is_from(origin: usize, text: usize, byte: usize) -> bool {
-    if origin / token::PLACES != text {
-        return false;
-    }
-    origin % token::PLACES == byte
+    origin / token::PLACES == text && origin % token::PLACES == byte
 }
 
 // The first place of the expanded text, from one on, whose byte stands at a byte of a text.
 fn expanded_at(origins: &[usize], from: usize, text: usize, byte: usize) -> usize {
-    let mut i = from;
-    while i < origins.len() {
+    for i in from..origins.len() {
         if is_from(origins[i], text, byte) {
             return i;
         }
-        i += 1;
     }
-    i
+    from.max(origins.len())
 }
 
 // Says the line at a place, and the dropped words, which are sought in the expanded text from a place on: a statement may have an include line inside.
@@ -111,15 +101,13 @@ fn say_drop(
 fn say_drops(rt: HostRuntime, line: &mut Page, expanded: &[u8], origins: &[usize], lines: &[u8]) {
     let mut at = 0;
     let mut words = 0;
-    let mut i: usize = 0;
-    while i < token::PLACES {
+    for _ in 0..token::PLACES {
         if !has_line(lines, at) {
             return;
         }
         let next = say_drop(rt, line, expanded, origins, lines, at, words);
         at = next.at;
         words = next.amount;
-        i += 1;
     }
 }
 
@@ -142,10 +130,10 @@ fn mend(rt: HostRuntime, buffer: &[u8], lengths: &[usize], origins: &mut [usize]
         &mut text,
         &mut lines,
     ) {
-        Mended::Refused(number, place) => whole::write_refusal(rt, number as usize, place),
-        Mended::Done(n, m) => {
-            whole::write(rt, token::part(&text, 0, n));
-            say_dropped(rt, &expanded, origins, token::part(&lines, 0, m));
+        Err(f) => whole::write_refusal(rt, f.number as usize, f.place),
+        Ok(m) => {
+            whole::write(rt, token::part(&text, 0, m.text));
+            say_dropped(rt, &expanded, origins, token::part(&lines, 0, m.lines));
         }
     }
 }

@@ -5,8 +5,8 @@
 
 use console::arguments::Asked;
 use console::{Page, arguments, errors, whole, write, write_number};
-use rows::{cells, refusals};
-use standard::{Checked, attribute, constants};
+use rows::{Fault, cells, refusals};
+use standard::{Wrong, attribute, constants};
 
 // The word of a kind that has standard attributes, by its number.
 fn write_kind(rt: HostRuntime, page: &mut Page, number: usize) {
@@ -64,21 +64,13 @@ fn write_meaning(rt: HostRuntime, page: &mut Page, number: u8) {
     );
 }
 
-fn write_wrong(
-    rt: HostRuntime,
-    page: &mut Page,
-    buffer: &[u8],
-    lengths: &[usize],
-    number: u8,
-    place: usize,
-    attribute: usize,
-) {
+fn write_wrong(rt: HostRuntime, page: &mut Page, buffer: &[u8], lengths: &[usize], w: Wrong) {
     let mut lines = [0; 160];
-    showing::write_position(rt, page, buffer, lengths, place, &mut lines);
-    write_number(rt, page, number as usize);
+    showing::write_position(rt, page, buffer, lengths, w.place, &mut lines);
+    write_number(rt, page, w.number as usize);
     write(rt, page, b", ");
-    write_path(rt, page, attribute);
-    write_meaning(rt, page, number);
+    write_path(rt, page, w.attribute);
+    write_meaning(rt, page, w.number);
 }
 
 fn write_answer(
@@ -86,19 +78,21 @@ fn write_answer(
     page: &mut Page,
     buffer: &[u8],
     lengths: &[usize],
-    answer: Checked,
+    answer: Result<Option<Wrong>, Fault>,
 ) {
     match answer {
-        Checked::Refused(number, place) => console::write_refusal(rt, page, number, place),
-        Checked::NothingWrong => write(rt, page, b"nothing wrong\n"),
-        Checked::Wrong(number, place, attribute) => {
-            write_wrong(rt, page, buffer, lengths, number, place, attribute)
-        }
+        Err(f) => console::write_refusal(rt, page, f.number, f.place),
+        Ok(None) => write(rt, page, b"nothing wrong\n"),
+        Ok(Some(w)) => write_wrong(rt, page, buffer, lengths, w),
     }
 }
 
 // The answer to lent texts.
-fn answer_of(buffer: &[u8], lengths: &[usize], origins: &mut [usize]) -> Checked {
+fn answer_of(
+    buffer: &[u8],
+    lengths: &[usize],
+    origins: &mut [usize],
+) -> Result<Option<Wrong>, Fault> {
     let mut expanded = [0; token::LONGEST];
     standard_texts::check_standard(buffer, lengths, &mut expanded, origins)
 }

@@ -6,7 +6,6 @@
 ghost use Rattle.console.specs.Counts.{IsPrefixLen};
 
 use console::arguments::Asked;
-use console::inputs::Input;
 use console::{arguments, errors, inputs, whole};
 use std::rt::Env;
 
@@ -49,7 +48,7 @@ fn write_asked(rt: HostRuntime, text: &[u8]) {
 }
 
 // Reads standard input where three arguments are given, else the file that the fourth names, and says so where that fails.
-fn read_text(rt: HostRuntime, count: usize, buffer: &mut [u8]) -> Input {
+fn read_text(rt: HostRuntime, count: usize, buffer: &mut [u8]) -> Result<usize, usize> {
     if count == 3 {
         errors::say_waiting(rt);
         return inputs::read_open(rt, &mut rt.stdin(), b"standard input", buffer);
@@ -70,9 +69,8 @@ fn answer(rt: HostRuntime, count: usize) {
         return;
     }
     let mut text = [0u8; token::PLACES];
-    match read_text(rt, count, &mut text) {
-        Input::Text(n) => write_asked(rt, token::part(&text, 0, n)),
-        Input::Failed(_) => {}
+    if let Ok(n) = read_text(rt, count, &mut text) {
+        write_asked(rt, token::part(&text, 0, n));
     }
 }
 

@@ -90,11 +90,9 @@ fn place_column(
     ensures { table.new ≡ place_column (place_in origins.now size main) width column rows
         table.old }
 {
-    let mut i = 0;
     let mut at = column;
-    while i < rows {
+    for _ in 0..rows {
         place_at(table, at, origins, size, main);
-        i += 1;
         at += width;
     }
 }

@@ -1,12 +1,12 @@
 -- The statements' faults, resolved values, refusal 19 and the lent rows of a text without a fault up to 12 and 17. Assumes nothing.
-use mathlib.Core.Path.{◌≡◌, refl, ◌∙◌, ap}
+use mathlib.Core.Path.{◌≡◌, refl, sym, ◌∙◌, ap}
 use mathlib.Core.List.{List}
 use mathlib.Core.Bool.{true, false}
 use Prim.Native.Nat.{ℕ, ◌≤◌, ◌<◌}
 use native.Mathlib.Omega.{arith}
 use lib.ListN.{length, replicate, length-replicate}
 use lib.Seq.{length-sets}
-use Rattle.rows.proofs.Orders.{is_one, is_none}
+use Rattle.std.specs.Prelude.{Some, None}
 use Rattle.meaning.specs.Answers.{refused}
 use Rattle.meaning.specs.Resolving.{all_values, all_value_rows}
 use Rattle.meaning.specs.Cells.{cells, value_cells}
@@ -18,8 +18,8 @@ use Rattle.copying.proofs.Rooms.{cleared_zeros}
 use Rattle.reading.specs.Results.{reading_of}
 use Rattle.reading.specs.Decisions.{Merged, Passed, Decides, RoomSizes, BlankRooms, Settles, Concludes, Filled}
 use Rattle.reading.specs.declared.Decision.{Decision}
-use Rattle.rows.specs.Order.{is_fault}
 use Rattle.rows.specs.declared.Fault.{Fault}
+use Rattle.rows.specs.Order.{MaybeFault}
 use Rattle.meaning.specs.Faults.{first}
 use Rattle.meaning.specs.Judging.{statement_stage}
 use Rattle.scopes.specs.Promises.{fault_of}
@@ -67,7 +67,7 @@ module _ (s : List ℕ) (y : Merged) (w : Decision) (z : Sizes) (a : z.definitio
 -- The statements are judged ------------------------------------------------------------------------------------------------------------------
 
 module _ (s : List ℕ) (y : Merged) (w : Decision) (z : Sizes) (a : z.definitions ≡ w.walked.definitions) (b : z.enumerators ≡ w.walked.enumerators)
-    (c : z.objects ≡ w.objects) (g : Fault) (j : JudgesAll s y.definitions y.enumerators y.objects y.statements z w.walked.places g) (d e o v : List ℕ) where
+    (c : z.objects ≡ w.objects) (g : MaybeFault) (j : JudgesAll s y.definitions y.enumerators y.objects y.statements z w.walked.places g) (d e o v : List ℕ) where
   judged : (p : Passed s y w) → g ≡ fault_of (first (statement_stage p.file))
   judged p = j p.file (given p.kept p.no_definition_fault p.no_object_fault z a b c) (places p.kept)
 
@@ -76,12 +76,12 @@ module _ (s : List ℕ) (y : Merged) (w : Decision) (z : Sizes) (a : z.definitio
     blank_still : BlankRooms d e o v → BlankRooms d e o v₁
     blank_still k = record { definitions = k.definitions; enumerators = k.enumerators; objects = k.objects; values = l 18432 k.values }
 
-    pub concludes_refused : (r : Reading) → is_fault g ≡ true → r ≡ reading_of (refused g.number g.place) → Concludes s y w d e o v d e o v₁ r
-    concludes_refused r i q p k =
-        refused_fills s g.number g.place d e o v₁ r (statement_refused s y w p g (judged p) (is_one g i)) q k.definitions k.enumerators k.objects (l 18432 k.values)
+    pub concludes_refused : (r : Reading) (x : Fault) → g ≡ Some x → r ≡ reading_of (refused x.number x.place) → Concludes s y w d e o v d e o v₁ r
+    concludes_refused r x i q p k =
+        refused_fills s x.number x.place d e o v₁ r (statement_refused s y w p x (sym (judged p) ∙ i)) q k.definitions k.enumerators k.objects (l 18432 k.values)
 
-    pub concludes_settled : (d' e' o' v' : List ℕ) (r : Reading) → is_fault g ≡ false → Settles s y w d e o v₁ d' e' o' v' r → Concludes s y w d e o v d' e' o' v' r
-    concludes_settled d' e' o' v' r i h p k = h p (no_statement_fault s y w p g (judged p) (is_none g i)) (blank_still k)
+    pub concludes_settled : (d' e' o' v' : List ℕ) (r : Reading) → g ≡ None → Settles s y w d e o v₁ d' e' o' v' r → Concludes s y w d e o v d' e' o' v' r
+    concludes_settled d' e' o' v' r i h p k = h p (no_statement_fault s y w p (sym (judged p) ∙ i)) (blank_still k)
 
 -- Rooms that were cleared first --------------------------------------------------------------------------------------------------------------
 
@@ -100,10 +100,10 @@ module _ (s d₀ e₀ o₀ v₀ d e o v : List ℕ) (z : RoomSizes d₀ e₀ o�
   fill_long r h q = refused_fills s 2 0 d e o v r (reading_long s h) q blanks.definitions blanks.enumerators blanks.objects blanks.values
 
   module _ (h : length s ≤ 65535) (y : Merged) (x : Decision) (t : Decides s (replicate 9747 0) (replicate 3075 0) (replicate 2570 0) (replicate 14343 0) y x) where
-    pub fill_refused : (r : Reading) → is_fault x.fault ≡ true → r ≡ reading_of (refused x.fault.number x.fault.place) → Filled s d e o v r
-    fill_refused r i q =
-        refused_fills s x.fault.number x.fault.place d e o v r ((t.decided h refl refl refl refl).refused_by (is_one x.fault i)) q blanks.definitions blanks.enumerators
+    pub fill_refused : (r : Reading) (g : Fault) → x.fault ≡ Some g → r ≡ reading_of (refused g.number g.place) → Filled s d e o v r
+    fill_refused r g i q =
+        refused_fills s g.number g.place d e o v r ((t.decided h refl refl refl refl).refused_by g i) q blanks.definitions blanks.enumerators
         blanks.objects blanks.values
 
-    pub fill_settled : (d' e' o' v' : List ℕ) (r : Reading) → is_fault x.fault ≡ false → Concludes s y x d e o v d' e' o' v' r → Filled s d' e' o' v' r
-    fill_settled d' e' o' v' r i k = k ((t.decided h refl refl refl refl).passes (is_none x.fault i)) blanks
+    pub fill_settled : (d' e' o' v' : List ℕ) (r : Reading) → x.fault ≡ None → Concludes s y x d e o v d' e' o' v' r → Filled s d' e' o' v' r
+    fill_settled d' e' o' v' r i k = k ((t.decided h refl refl refl refl).passes i) blanks

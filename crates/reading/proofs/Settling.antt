@@ -15,7 +15,7 @@ use Rattle.meaning.specs.Faults.{first, sooner}
 use Rattle.meaning.specs.Defining.{definition_rows, all_definition_rows, enumerator_rows, all_enumerator_rows, definition_faults}
 use Rattle.meaning.specs.Applying.{object_rows, counts, object_faults}
 use Rattle.meaning.specs.Judging.{statement_stage}
-use Rattle.meaning.proofs.Numbered.{of_stage, of_first}
+use Rattle.std.specs.Prelude.{Some, None}
 use Rattle.rows.specs.declared.Fault.{Fault}
 use Rattle.scopes.specs.Promises.{fault_of}
 use Rattle.scopes.proofs.Firsts.{none_there}
@@ -182,14 +182,13 @@ module _ (s : List ℕ) (y : Merged) (w : Decision) (p : Passed s y w) where
   settled = rw (p.no_definition_fault, p.no_object_fault)
 
   -- A fault of theirs refuses the text,
-  pub statement_refused : (c : Fault) → c ≡ fault_of (first (statement_stage p.file)) → (c.number ≡ 0 → ⊥) → reading s ≡ refused c.number c.place
-  statement_refused c e n =
-      reading_is s p.file p.kept.situation p.covered ∙ settled ∙ stage_refuses (first (statement_stage p.file)) _ c e n
+  pub statement_refused : (x : Fault) → fault_of (first (statement_stage p.file)) ≡ Some x → reading s ≡ refused x.number x.place
+  statement_refused x e =
+      reading_is s p.file p.kept.situation p.covered ∙ settled ∙ stage_refuses (first (statement_stage p.file)) _ x e
 
   -- and where there is none,
-  pub no_statement_fault : (c : Fault) → c ≡ fault_of (first (statement_stage p.file)) → c.number ≡ 0 → first (statement_stage p.file) ≡ none
-  no_statement_fault c e n =
-      none_there (first (statement_stage p.file)) (of_first (statement_stage p.file) (of_stage p.file)) (ap (λ (q : Fault). q.number) (sym e) ∙ n)
+  pub no_statement_fault : fault_of (first (statement_stage p.file)) ≡ None → first (statement_stage p.file) ≡ none
+  no_statement_fault e = none_there (first (statement_stage p.file)) e
 
   -- refusal 19, and an accepted text.
   module _ (none_stated : first (statement_stage p.file) ≡ none) where

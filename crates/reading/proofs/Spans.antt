@@ -4,10 +4,9 @@ use mathlib.Core.List.{List}
 use mathlib.Core.Bool.{Bool, true, false, false≢true}
 use Prim.Native.Nat.{ℕ, ◌≤◌}
 use lib.ListN.{length, replicate}
-use Rattle.rows.proofs.Orders.{is_none}
 use Rattle.meaning.specs.Answers.{Answer as Meant, accepted, refused}
 use Rattle.meaning.specs.Reading.{reading}
-use Rattle.rows.specs.Order.{is_fault}
+use Rattle.std.specs.Prelude.{None}
 use Rattle.reading.specs.Results.{reading_of, SpansOf, NoSpans}
 use Rattle.reading.specs.Decisions.{Merged, Decides, Filled, Unspanned, FilledSpanned}
 use Rattle.reading.specs.declared.Answer.{Answer}
@@ -50,11 +49,11 @@ settled_refused s d e o v x r n p f h u =
     (record { result = u.reading ∙ sym q; definitions = f.definitions; enumerators = f.enumerators; objects = f.objects; values = f.values })
 
 -- What passed has the spans that the walk found.
-pub settled_spanned : (s : List ℕ) → length s ≤ 65535 → (y : Merged) (x : Decision) → Decides s (replicate 9747 0) (replicate 3075 0) (replicate 2570 0) (replicate 14343 0) y x → is_fault x.fault ≡ false
+pub settled_spanned : (s : List ℕ) → length s ≤ 65535 → (y : Merged) (x : Decision) → Decides s (replicate 9747 0) (replicate 3075 0) (replicate 2570 0) (replicate 14343 0) y x → x.fault ≡ None
     → (d e o v : List ℕ) (r : Reading) → Filled s d e o v r → r.answer ≡ Accepted
     → FilledSpanned s d e o v (record { reading = r; implementation_at = x.walked.implementation_at; implementation_len = x.walked.implementation_len; cpu_at = x.walked.cpu_at; cpu_len = x.walked.cpu_len; places = x.walked.places })
 settled_spanned s h y x t i d e o v r f a =
-    let p = (t.decided h refl refl refl refl).passes (is_none x.fault i) in
+    let p = (t.decided h refl refl refl refl).passes i in
     let k = p.kept in
     record {
       filled = f;

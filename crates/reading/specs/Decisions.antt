@@ -1,12 +1,13 @@
 -- The contracts of the inner functions of `read`. No part of the public contract. Assumes nothing.
-use Rattle.std.specs.Prelude.{◌≡◌, List, [], ℕ, ◌≤◌, length, replicate}
+use Rattle.std.specs.Prelude.{Some, None, Ok, Err, ◌≡◌, List, [], ℕ, ◌≤◌, length, replicate}
 use Rattle.std.proofs.Math.Option.{Option, none, some}
-use Rattle.grammar.specs.Stage.{number_of, place_of}
 use Rattle.grammar.specs.Demand.{Covered}
 use Rattle.grammar.specs.Grammar.{Derivation}
 use Rattle.grammar.specs.Terminals.{tokens}
-use Rattle.grammar.specs.declared.Answer.{Answer as GrammarAnswer}
+use Rattle.grammar.specs.Answered.{Answer as GrammarAnswer}
+use Rattle.grammar.specs.declared.Refusal.TheVariants.{NoToken, NotAdmitted, TooDeep}
 use Rattle.rows.specs.declared.Fault.{Fault}
+use Rattle.rows.specs.Order.{MaybeFault}
 use Rattle.meaning.specs.Syntax.{File}
 use Rattle.meaning.specs.Actions.{syntax}
 use Rattle.meaning.specs.Faults.{first, Fault as Refusal}
@@ -28,9 +29,12 @@ use Rattle.reading.specs.declared.Decision.{Decision}
 use Rattle.reading.specs.declared.Reading.{Reading}
 use Rattle.reading.specs.declared.Spanned.{Spanned}
 
--- What the grammar stage answers, as a fault; the number 0 where it passes.
-unfoldable pub grammar_fault : GrammarAnswer → Fault
-grammar_fault a = record { number = number_of a; place = place_of a }
+-- What the grammar stage answers, as a fault; none where it passes.
+unfoldable pub grammar_fault : GrammarAnswer → MaybeFault
+grammar_fault (Ok _) = None
+grammar_fault (Err (NoToken p)) = Some (record { number = 3; place = p })
+grammar_fault (Err (NotAdmitted p)) = Some (record { number = 4; place = p })
+grammar_fault (Err (TooDeep p)) = Some (record { number = 5; place = p })
 
 -- The four tables of the merged file: definitions, enumerators, objects, statements.
 pub record Merged : Type 0 where
@@ -91,7 +95,7 @@ stage_fault f = or_else (first (definition_faults f)) (first (object_faults f))
 -- The stages have decided; where none has a fault the rows of the objects are in the tables y.
 pub record Staged (s : List ℕ) (y : Merged) (f : File) (r : Decision) : Type 0 where
   pub fault : r.fault ≡ fault_of (stage_fault f)
-  pub kept : r.fault.number ≡ 0 → Kept s y r f
+  pub kept : r.fault ≡ None → Kept s y r f
 
 -- With the rows of parts in the tables y, and blank tables o and t for those of the objects and their statements.
 abbrev pub Stages : (s : List ℕ) → Rooms → (o t o' t' : List ℕ) → Walked → Decision → Type 0
@@ -109,9 +113,9 @@ pub record Passed (s : List ℕ) (y : Merged) (w : Decision) : Type 0 where
 
 -- What is decided: a refusal, and then the text does not pass these stages, or that it passes them.
 pub record Decided (s : List ℕ) (y : Merged) (r : Decision) : Type 0 where
-  pub refused_by : (r.fault.number ≡ 0 → ⊥) → reading s ≡ refused r.fault.number r.fault.place
-  pub stopped : (r.fault.number ≡ 0 → ⊥) → Covered s → (d : Derivation (tokens s)) → stage_fault (syntax s d.tree) ≡ none → ⊥
-  pub passes : r.fault.number ≡ 0 → Passed s y r
+  pub refused_by : (x : Fault) → r.fault ≡ Some x → reading s ≡ refused x.number x.place
+  pub stopped : (x : Fault) → r.fault ≡ Some x → Covered s → (d : Derivation (tokens s)) → stage_fault (syntax s d.tree) ≡ none → ⊥
+  pub passes : r.fault ≡ None → Passed s y r
 
 -- Blank tables for the rows that the walk keeps.
 abbrev pub blank : Rooms

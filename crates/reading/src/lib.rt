@@ -11,10 +11,10 @@ ghost use Rattle.reading.specs.Rules.{ReadsByRules};
 ghost use Rattle.reading.specs.Demand.{Demand-3};
 ghost use Rattle.reading.specs.Decisions.{grammar_fault, sizes_of, Stages, Decides, Settles, Concludes, RoomSizes, Unspanned, FilledSpanned};
 
-use grammar::{Answer as Grammar, Look};
+use grammar::{Look, Refusal};
 use layout::{definition, enumerator, object, part, statement, value};
 use lookups::names;
-use rows::{Fault, cells, counts, faults, refusals};
+use rows::{Fault, cells, counts, refusals};
 use scopes::Sizes;
 use walk::Walked;
 
@@ -48,11 +48,11 @@ pub struct Spanned {
     pub places: [usize; counts::KINDS],
 }
 
-// The fault up to 12 and 17 by which the text is refused, or one of number 0, with what the walk tells; where there is none, how many objects there are,
-// and how many of each kind.
+// The fault up to 12 and 17 by which the text is refused, where there is one, with what the walk tells; where there is none, how many objects there
+// are, and how many of each kind.
 #[derive(Clone, Copy)]
 pub struct Decision {
-    pub fault: Fault,
+    pub fault: Option<Fault>,
     pub walked: Walked,
     pub objects: usize,
     pub counts: [usize; counts::KINDS],
@@ -88,23 +88,23 @@ fn refused(number: u8, place: usize) -> Spanned
 }
 
 // What the grammar stage answers at the look after the file, as a fault.
-fn grammar_fault(look: Look) -> Fault
+fn grammar_fault(look: Look) -> Option<Fault>
     ensures { result ≡ grammar_fault (answer_of look) }
 {
     match grammar::answer_of(look) {
-        Grammar::Passes => faults::NONE,
-        Grammar::NoToken(p) => Fault {
+        Ok(()) => None,
+        Err(Refusal::NoToken(place)) => Some(Fault {
             number: refusals::NO_TOKEN,
-            place: p,
-        },
-        Grammar::NotAdmitted(p) => Fault {
+            place,
+        }),
+        Err(Refusal::NotAdmitted(place)) => Some(Fault {
             number: refusals::NOT_ADMITTED,
-            place: p,
-        },
-        Grammar::TooDeep(p) => Fault {
+            place,
+        }),
+        Err(Refusal::TooDeep(place)) => Some(Fault {
             number: refusals::TOO_DEEP,
-            place: p,
-        },
+            place,
+        }),
     }
 }
 
@@ -132,7 +132,7 @@ fn stages(
         w.version_len,
         w.again,
     );
-    if faults::is_fault(a) {
+    if a.is_some() {
         return Decision {
             fault: a,
             walked: w,
@@ -154,7 +154,7 @@ fn stages(
         w.cpu_at,
     );
     let own = b.fault;
-    if faults::is_fault(own) {
+    if own.is_some() {
         return Decision {
             fault: own,
             walked: w,
@@ -188,7 +188,7 @@ pub fn decide(
     let w = walk::walk(text, d, e, &mut p, &mut q);
     let look = w.look;
     let g = grammar_fault(look);
-    if faults::is_fault(g) {
+    if g.is_some() {
         return Decision {
             fault: g,
             walked: w,
@@ -267,7 +267,7 @@ fn conclude(
     let mut names = [0; names::CELLS];
     lookups::names::note(text, d, e, o, s, z, w.statements, &mut names);
     let f = judging::judge_all(text, d, e, o, s, &mut names, values, z, places);
-    if faults::is_fault(f) {
+    if let Some(f) = f {
         return refusal(f.number, f.place);
     }
     settle(
@@ -308,8 +308,7 @@ fn fill(
     let mut o = [0; object::KEPT];
     let mut s = [0; statement::KEPT];
     let r = decide(text, &mut d, &mut e, &mut o, &mut s);
-    let f = r.fault;
-    if faults::is_fault(f) {
+    if let Some(f) = r.fault {
         return refused(f.number, f.place);
     }
     let w = r.walked;

@@ -22,7 +22,7 @@ fn refusal(number: u8, place: usize) -> Reading
         enumerators: 0,
         objects: 0,
         values: 0,
-        counts: counts,
+        counts,
     }
 }
 

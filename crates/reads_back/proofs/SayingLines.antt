@@ -4,7 +4,8 @@ use mathlib.Core.Path.{◌≡◌, refl, subst}
 use mathlib.Core.List.{List, [], ◌∷◌, ◌++◌}
 use mathlib.Core.Bool.{true, false}
 use Rattle.token.specs.Find.{first_of, find}
-use Rattle.token.specs.Bytes.{punctuator, class_of, is_word_byte, word_end, find_byte}
+use Rattle.token.specs.Bytes.{class_of, is_word_byte, word_end, find_byte}
+use Rattle.token.specs.declared.scan.Class.TheVariants.{Punctuator as punctuator}
 use Rattle.token.specs.Gaps.{gap_of, gap_at, skip_n, skip}
 use Rattle.token.specs.Words.{bytes_of, same, code_in, code_of}
 use Rattle.token.specs.Tokens.{found, word_at, string_at, token_of, token_at, step_at}

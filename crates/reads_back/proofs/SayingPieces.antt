@@ -6,7 +6,8 @@ use mathlib.Core.Bool.{Bool, true, false}
 use native.Mathlib.Omega.{arith}
 use lib.ListN.{length, take, drop, length-drop}
 use lib.Seq.{take-append-le, drop-append-le, drop-append-add, take-length}
-use Rattle.token.specs.Bytes.{blank, class_of as byteClass}
+use Rattle.token.specs.Bytes.{class_of as byteClass}
+use Rattle.token.specs.declared.scan.Class.TheVariants.{Blank as blank}
 use Rattle.token.specs.declared.Token.{Token as Lexeme}
 use Rattle.token.specs.declared.Sort.{Sort as TokenSort}
 use Rattle.locality.proofs.Shift.{moved}

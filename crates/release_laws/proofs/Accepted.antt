@@ -13,8 +13,9 @@ use Rattle.grammar.specs.Terminals.{tokens_in}
 use Rattle.grammar.specs.Factored.{paper}
 use Rattle.grammar.specs.Machine.{run}
 use Rattle.grammar.specs.Readers.{stream_of}
-use Rattle.grammar.specs.declared.Answer.{Answer as GrammarAnswer}
-use Rattle.grammar.specs.declared.Answer.TheVariants.{Passes, NoToken, NotAdmitted, TooDeep}
+use Rattle.grammar.specs.Answered.{Answer as GrammarAnswer}
+use Rattle.std.specs.Prelude.{Ok, Err}
+use Rattle.grammar.specs.declared.Refusal.TheVariants.{NoToken, NotAdmitted, TooDeep}
 use Rattle.meaning.specs.Syntax.{Word, Object, File}
 use Rattle.meaning.specs.Words.{alike, choose}
 use Rattle.meaning.specs.Kinds.{same_kind}
@@ -129,10 +130,10 @@ module _ (s : List ℕ) (g : File) where
 
   by_grammar : (a : GrammarAnswer) (t : Unit {0} → Option (Trees ◌⟶◌ (file ▸ ∎))) → release_of (after_grammar s a t) ≡ release g → ObjectsApart (contents g)
   unfolding release_of after_grammar is_release
-  by_grammar Passes t e = by_trees (t tt) e
-  by_grammar (NoToken p) t e = absurd (false≢true (ap is_release e))
-  by_grammar (NotAdmitted p) t e = absurd (false≢true (ap is_release e))
-  by_grammar (TooDeep p) t e = absurd (false≢true (ap is_release e))
+  by_grammar (Ok _) t e = by_trees (t tt) e
+  by_grammar (Err (NoToken p)) t e = absurd (false≢true (ap is_release e))
+  by_grammar (Err (NotAdmitted p)) t e = absurd (false≢true (ap is_release e))
+  by_grammar (Err (TooDeep p)) t e = absurd (false≢true (ap is_release e))
 
   pub accepted_apart : release_of (parse s) ≡ release g → ObjectsApart (contents g)
   unfolding parse choose release_of is_release

@@ -1,19 +1,17 @@
 -- From what was read and found to the answer. Assumes nothing.
 use mathlib.Core.Path.{◌≡◌, refl, sym, ◌∙◌, ap, ap₂, subst}
-use mathlib.Core.List.{List, [], ◌∷◌, ◌++◌}
+use mathlib.Core.List.{List, [], ◌∷◌}
 use mathlib.Core.Bool.{Bool, true, false}
 use mathlib.Core.Option.{Option, none, some}
-use Prim.Native.Nat.{ℕ, zero, suc, ◌+◌, ◌*◌, ◌<◌, ◌≤◌, min}
+use Prim.Native.Nat.{ℕ, zero, suc, ◌*◌, ◌<◌, ◌≤◌, min}
 use native.Mathlib.Omega.{arith}
 use native.Mathlib.Nat.{suc-mul}
 use lib.ListN.{length, get_or, take, length-append}
-use Rattle.token.specs.Find.{pick, is_there}
+use Rattle.token.specs.Find.{is_there}
 use Rattle.meaning.specs.Syntax.{File}
 use Rattle.meaning.specs.Words.{choose}
-use Rattle.meaning.specs.Actions.{syntax}
 use Rattle.meaning.specs.Defining.{all_definition_rows}
-use Rattle.meaning.specs.Resolving.{how_many_values, all_values}
-use Rattle.meaning.specs.Answers.{Answer as Meant, accepted, refused, tables, answer}
+use Rattle.meaning.specs.Answers.{refused, tables}
 use Rattle.meaning.specs.Reading.{Parsed, parsed, not_parsed, parse, answer_of_parsed, reading}
 use Rattle.meaning.specs.Rules.{FullRoom}
 use Rattle.meaning.proofs.Found.{parse_derived}
@@ -24,15 +22,13 @@ use Rattle.reading.specs.declared.Spanned.{Spanned}
 use Rattle.writing.specs.Promises.{Tables}
 use Rattle.writing.proofs.Calling.{given_whole, many_definitions, own_fits, reads_own, refused_reading}
 use Rattle.comparing.specs.Lists.{the_first, each_of, overwrite}
-use Rattle.comparing.specs.Contents.{Placed, placed, same_value, Content, contents, same_object, same_path}
-use Rattle.comparing.specs.Differences.{Compared, compared, not_compared, Release, release, no_release, released, release_of, compare_releases, compare_texts, differences, told, record_of, records_of, met, of_first_value, of_second_value, of_pair, matched, of_first_object, of_second_object, of_contents, object_in_second, value_in_second, values_differ, Difference as Change}
-use Rattle.comparing.specs.Gathered.{cap, Told}
+use Rattle.comparing.specs.Contents.{Placed, same_value, Content, contents, same_object, same_path}
+use Rattle.comparing.specs.Differences.{Compared, not_compared, Release, release, no_release, released, release_of, compare_releases, compare_texts, differences, told, record_of, records_of, met, of_first_value, of_second_value, of_pair, matched, of_first_object, of_second_object, of_contents, object_in_second, value_in_second, values_differ, Difference as Change}
 use Rattle.comparing.specs.declared.Difference.{Difference}
 use Rattle.comparing.specs.declared.Found.{Found}
-use Rattle.comparing.specs.declared.Compared.{Compared as Result}
 use Rattle.comparing.proofs.Rooting.{placed_length}
 use Rattle.comparing.proofs.Tellings.{told_list}
-use Rattle.releases.specs.Settings.{Located, AllLocated, Scene}
+use Rattle.releases.specs.Settings.{Located, Scene}
 use Rattle.releases.specs.Promises.{Counted, Stopped, Answered, all_told, refused_told, DifferencesTold, SecondRead, list_after, answer_for, Compares}
 use Rattle.releases.proofs.Scenes.{scene}
 use Rattle.releases.proofs.ByRules.{by_rules}

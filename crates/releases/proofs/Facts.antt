@@ -5,7 +5,7 @@ use mathlib.Core.Bool.{Bool, true, false}
 use mathlib.Core.Option.{Option, none, some}
 use Prim.Native.Nat.{ℕ, suc, ◌+◌, ◌*◌, ◌<◌}
 use native.Mathlib.Omega.{arith}
-use lib.ListN.{length, get_or, length-append}
+use lib.ListN.{length}
 use Rattle.token.specs.Find.{bit}
 use Rattle.token.specs.Tokens.{part_of}
 use Rattle.rows.specs.Table.{cell_of}
@@ -15,7 +15,7 @@ use Rattle.meaning.specs.Words.{alike, among, choose}
 use Rattle.meaning.specs.Scopes.{Sort, a_number, a_string, a_truth, an_auto, a_no_default, a_name, a_float, Under, names, sort_of}
 use Rattle.meaning.specs.Defining.{DefinitionRow, definition_row, all_definition_rows}
 use Rattle.meaning.specs.Judging.{is_no_default, taken_by, taken}
-use Rattle.meaning.specs.Resolving.{Value, Taken, Resolved, end, resolved, named, valued, take_value, entries, default_entry, resolve, resolve_under}
+use Rattle.meaning.specs.Resolving.{Taken, Resolved, end, resolved, named, valued, take_value, entries, default_entry, resolve, resolve_under}
 use Rattle.meaning.specs.Cells.{type_code, definition_cells, definition_room}
 use Rattle.meaning.proofs.Rooms.{definition_width}
 use Rattle.meaning.proofs.Sites.{option_words}

@@ -1,6 +1,5 @@
 -- What becomes of a lent list, and what is answered, by computation. Assumes nothing.
 use mathlib.Core.Path.{refl}
-use lib.ListN.{drop, replicate}
 use Rattle.meaning.proofs.Everything.{everything}
 use Rattle.comparing.specs.Lists.{overwrite}
 use Rattle.comparing.specs.Differences.{record_of, records_of, told}

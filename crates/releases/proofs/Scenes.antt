@@ -1,34 +1,33 @@
 -- From the tables of an accepted reading to where each object and its values stand. Assumes nothing.
 use mathlib.Core.Path.{◌≡◌, refl, sym, ◌∙◌, ap, ap₂, subst}
 use mathlib.Core.List.{List, [], ◌∷◌, ◌++◌, append_assoc}
-use Prim.Native.Nat.{ℕ, zero, suc, ◌+◌, ◌*◌, ◌<◌, ◌≤◌}
+use Prim.Native.Nat.{ℕ, suc, ◌+◌, ◌*◌, ◌<◌, ◌≤◌}
 use native.Mathlib.Omega.{arith}
 use native.Mathlib.Numerals.{add-one}
 use lib.ListN.{length, get_or, length-append}
 use Rattle.token.specs.Tokens.{part_of, step_at}
 use Rattle.rows.specs.Table.{cell_of}
 use Rattle.rows.specs.Search.{row_name}
-use Rattle.meaning.specs.Syntax.{Word, span_of, Object, File}
-use Rattle.meaning.specs.Kinds.{kind_number}
-use Rattle.meaning.specs.Actions.{syntax, float_of_step}
+use Rattle.meaning.specs.Syntax.{span_of, Object, File}
+use Rattle.meaning.specs.Actions.{float_of_step}
 use Rattle.meaning.specs.Defining.{all_definition_rows}
 use Rattle.meaning.specs.Applying.{ObjectRow, object_rows}
 use Rattle.meaning.specs.Resolving.{Taken, Resolved, end, resolved, Owner, of_object, of_value, ValueRow, value_row, value_rows, all_values, all_value_rows, object_values, how_many_values}
-use Rattle.meaning.specs.Cells.{owner_sort, owner_row, object_cells, value_cells, object_room, value_room}
+use Rattle.meaning.specs.Cells.{owner_row, object_cells, value_cells, object_room, value_room}
 use Rattle.meaning.proofs.Rooms.{object_width, value_width}
 use Rattle.meaning.proofs.Entries.{length_values}
 use Rattle.meaning.proofs.Sites.{statement_words, object_words}
-use Rattle.meaning.proofs.Numbering.{Counts, counts_none, counts_more, object_numbers, numbered}
+use Rattle.meaning.proofs.Numbering.{Counts, counts_more, object_numbers, numbered}
 use Rattle.blocks.specs.Blocks.{WordIn}
 use Rattle.blocks.proofs.Files.{AllIn, in_front, in_back, objects_in, statements_in_text}
 use Rattle.scopes.proofs.Descents.{scope_of_kind}
 use Rattle.writing.specs.Promises.{From, Tables}
 use Rattle.writing.proofs.Froms.{from_cell, from_append, from_room}
-use Rattle.comparing.specs.Contents.{Placed, placed, Content, contents_from, contents}
+use Rattle.comparing.specs.Contents.{Placed, placed, contents_from, contents}
 use Rattle.comparing.specs.Keys.{row_float}
-use Rattle.comparing.specs.Standing.{Row, RowIs, TreeAt, no_rows, some_rows, ObjectIs, ObjectsAt, no_objects, some_objects}
+use Rattle.comparing.specs.Standing.{RowIs, TreeAt, no_rows, some_rows, ObjectIs, ObjectsAt, no_objects, some_objects}
 use Rattle.releases.specs.Starts.{object_end, start_at}
-use Rattle.releases.specs.Settings.{Located, AllLocated, none_located, more_located, Scene}
+use Rattle.releases.specs.Settings.{AllLocated, none_located, more_located, Scene}
 use Rattle.releases.proofs.Starting.{object_ends}
 use Rattle.releases.proofs.Facts.{AllTaken, no_taken, more_taken, Fact, all_facts}
 

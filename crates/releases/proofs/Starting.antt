@@ -1,16 +1,17 @@
 -- The rows of an object's values end where those of another object begin. Assumes nothing.
-use mathlib.Core.Path.{◌≡◌, refl, sym, ◌∙◌, ap, ap₂, subst}
+use mathlib.Core.Path.{◌≡◌, refl, sym, ◌∙◌, ap, ap₂}
 use mathlib.Core.List.{List, [], ◌∷◌, ◌++◌}
 use mathlib.Core.Bool.{Bool, true, false, not}
-use Prim.Native.Nat.{ℕ, zero, suc, ◌+◌, ◌-◌, ◌*◌, ◌<◌, ◌≤◌, min}
+use Prim.Native.Nat.{ℕ, suc, ◌+◌, ◌-◌, ◌<◌, ◌≤◌, max}
 use native.Mathlib.Omega.{arith}
+use native.Mathlib.Decide.{dec_le}
 use lib.Dec.{eqb}
-use lib.ListN.{length, get_or}
+use lib.ListN.{length}
 use borrow.Author.Tests.{eq-eqb, ne_eqb}
 use Rattle.token.specs.Find.{both, find}
 use Rattle.token.proofs.Find.{find_past, find_here, find_next}
 use Rattle.rows.specs.Table.{cell_of}
-use Rattle.meaning.specs.Resolving.{Taken, Resolved, end, resolved, Owner, of_object, of_value, ValueRow, value_row, value_rows, all_value_rows, how_many_values}
+use Rattle.meaning.specs.Resolving.{Resolved, end, resolved, Owner, of_object, of_value, ValueRow, value_row, value_rows, all_value_rows, how_many_values}
 use Rattle.meaning.specs.Cells.{owner_sort, owner_row, value_cells}
 use Rattle.meaning.proofs.Rooms.{value_width}
 use Rattle.meaning.proofs.Entries.{length_values}
@@ -39,6 +40,15 @@ module _ (v : List ℕ) (n i k : ℕ) where
   pub end_past : (j : ℕ) → n ≤ j → find (other_object v i) n j ≡ object_end v n i k → j ≡ object_end v n i k
   end_past j h q = sym (find_past (other_object v i) n j h) ∙ q
 
+  -- a walk from k to n, or one that begins past it, found no other object
+  pub end_walked : (j : ℕ) → n ≤ j → (k ≤ n → j ≤ n) → find (other_object v i) n j ≡ object_end v n i k → max n k ≡ object_end v n i k
+  unfolding object_end
+  end_walked j h t q = by (dec_le k n)
+    where
+      by : Dec (k ≤ n) → max n k ≡ find (other_object v i) n k
+      by (yes l) = let m : max n k ≡ j = omega (arith, t l) in m ∙ end_past j h q
+      by (no l) = let m : max n k ≡ k = omega arith in m ∙ sym (find_past (other_object v i) n k (omega arith))
+
   pub end_start : find (other_object v i) n k ≡ object_end v n i k
   unfolding object_end
   end_start = refl
@@ -51,10 +61,6 @@ start_next v n i k e p q =
 pub start_none : (v : List ℕ) (n : ℕ) → 0 ≡ start_at v n 0
 unfolding start_at
 start_none v n = refl
-
-pub rows_none : (st : List ℕ) (i a b : ℕ) → a ≡ first_row st i → b ≡ first_row st (one_more i) → b < a → 0 ≡ many_rows st i
-unfolding many_rows
-rows_none st i a b e f h = let z : 0 ≡ first_row st (one_more i) - first_row st i = omega (arith, e, f, h) in z
 
 pub rows_some : (st : List ℕ) (i a b : ℕ) → a ≡ first_row st i → b ≡ first_row st (one_more i) → b - a ≡ many_rows st i
 unfolding many_rows

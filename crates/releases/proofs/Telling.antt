@@ -3,29 +3,27 @@ use mathlib.Core.Path.{◌≡◌, refl, sym, ◌∙◌, ap, ap₂, subst}
 use mathlib.Core.List.{List, [], ◌∷◌, ◌++◌, append_assoc, append-nil}
 use mathlib.Core.Bool.{Bool, true, false}
 use mathlib.Core.Option.{Option, none, some}
-use Prim.Native.Nat.{ℕ, zero, suc, ◌+◌, ◌-◌, ◌*◌, ◌<◌, ◌≤◌, min}
+use Prim.Native.Nat.{ℕ, zero, suc, ◌+◌, ◌-◌, ◌<◌, ◌≤◌, min}
 use native.Mathlib.Omega.{arith}
-use native.Mathlib.Numerals.{add-one}
 use lib.ListN.{length, get_or, length-append}
 use Rattle.token.specs.Find.{pick, is_there}
-use Rattle.rows.specs.Table.{cell_of}
-use Rattle.rows.specs.Search.{row_name, find_from}
-use Rattle.rows.specs.declared.Found.{Found as Row}
-use Rattle.rows.specs.declared.Found.TheVariants.{At, Nothing}
+use Rattle.rows.specs.Search.{find_from}
+use Rattle.rows.specs.Found.{Found as Row}
+use Rattle.std.specs.Prelude.{Some, None}
 use Rattle.indexes.specs.Indexing.{Indexed, Makes, has_word, FindsWord}
-use Rattle.meaning.specs.Syntax.{Object, File}
+use Rattle.meaning.specs.Syntax.{File}
 use Rattle.meaning.specs.Words.{choose}
 use Rattle.meaning.specs.Kinds.{kind_number}
-use Rattle.meaning.specs.Resolving.{Resolved, of_object, how_many_values}
+use Rattle.meaning.specs.Resolving.{how_many_values}
 use Rattle.scopes.specs.Situations.{Nth}
 use Rattle.comparing.specs.Lists.{the_first, each_of}
-use Rattle.comparing.specs.Contents.{Step, Placed, placed, Content, contents, same_object}
-use Rattle.comparing.specs.Differences.{Difference, object_in_first, object_in_second, of_pair, matched, of_first_object, of_second_object, of_contents, differences, records_of, record_of}
+use Rattle.comparing.specs.Contents.{Content, contents, same_object}
+use Rattle.comparing.specs.Differences.{Difference, object_in_second, of_pair, matched, of_first_object, of_second_object, of_contents, differences, records_of, record_of}
 use Rattle.comparing.specs.Objecting.{FindsObject}
 use Rattle.comparing.specs.Naming.{Index}
 use Rattle.comparing.specs.Columns.{Holds, name_of}
 use Rattle.comparing.specs.Gathered.{Told, ToldMore, ToldAlso, pair_partners, pair_records}
-use Rattle.comparing.specs.Standing.{ObjectIs, ObjectsAt, no_objects, some_objects}
+use Rattle.comparing.specs.Standing.{ObjectIs, ObjectsAt, some_objects}
 use Rattle.comparing.specs.declared.Difference.{Difference as Record}
 use Rattle.comparing.specs.declared.Found.{Found}
 use Rattle.comparing.proofs.Alikes.{keyed_flip, object_keyed}
@@ -34,7 +32,7 @@ use Rattle.comparing.proofs.Recorded.{records_append}
 use Rattle.comparing.proofs.Pairing.{also_none, also_then}
 use Rattle.comparing.proofs.Closings.{pair_asked}
 use Rattle.releases.specs.Starts.{start_at, one_more, first_row, many_rows}
-use Rattle.releases.specs.Settings.{Located, AllLocated, none_located, more_located, Scene, Made, Setting}
+use Rattle.releases.specs.Settings.{Located, AllLocated, more_located, Scene, Setting}
 use Rattle.releases.specs.Promises.{pair_at, ObjectTold, FirstTold, ObjectAdded, SecondTold, BothTold, Fitting, Prepares, NamedTold, PreparedTold, DifferencesTold}
 
 -- Places in lists --------------------------------------------------------------------------------------------------------------------------
@@ -93,11 +91,11 @@ record HitAt (c : Option Content) (j : ℕ) : Type 0 where
   is : c ≡ some content
   row : content.object.row ≡ j
 
-hit_none : {c : Option Content} {r : Row} → Hit c r → r ≡ Nothing → c ≡ none
+hit_none : {c : Option Content} {r : Row} → Hit c r → r ≡ None → c ≡ none
 hit_none no_hit e = refl
 hit_none (a_hit y) e = absurd (let z : ◌≡◌ {A = ℕ} 0 1 = cc in omega arith)
 
-hit_some : {c : Option Content} {r : Row} → Hit c r → (j : ℕ) → r ≡ At j → HitAt c j
+hit_some : {c : Option Content} {r : Row} → Hit c r → (j : ℕ) → r ≡ Some j → HitAt c j
 hit_some no_hit j e = absurd (let z : ◌≡◌ {A = ℕ} 0 1 = cc in omega arith)
 hit_some (a_hit y) j e = record { content = y; is = refl; row = cc }
 
@@ -185,7 +183,7 @@ module _ {s d o v h y st s2 d2 o2 v2 h2 y2 st2 : List ℕ} {m m2 : ℕ} {f g : F
     hit : (r : Row) → FindsObject s o i s2 o2 y2 r → Hit (the_first (same_object x) (contents g)) r
     hit r t = hits s o s2 o2 y2 i m2 x (contents g) r own S.second.objects S.second.count S.second.few S.made2.objects S.indexed2 t
 
-    pub object_paired : (r : Row) (j : ℕ) (found q : Found) → FindsObject s o i s2 o2 y2 r → r ≡ At j → ToldAlso found (pair_at s d v h st s2 d2 v2 h2 st2 i j) q
+    pub object_paired : (r : Row) (j : ℕ) (found q : Found) → FindsObject s o i s2 o2 y2 r → r ≡ Some j → ToldAlso found (pair_at s d v h st s2 d2 v2 h2 st2 i j) q
         → ToldAlso found (records_of (of_first_object (contents g) x)) q
     unfolding of_first_object matched
     object_paired r j found q t e told =
@@ -201,7 +199,7 @@ module _ {s d o v h y st s2 d2 o2 v2 h2 y2 st2 : List ℕ} {m m2 : ℕ} {f g : F
         subst (λ (l : List Record). ToldAlso found l q)
         (pair_told x w i j own.row H.row K L inside low ∙ ap (λ (c : Option Content). records_of (matched x c)) (sym H.is)) told
 
-    pub object_alone : (r : Row) (n : ℕ) (found q : Found) → FindsObject s o i s2 o2 y2 r → r ≡ Nothing → n ≡ one_more i
+    pub object_alone : (r : Row) (n : ℕ) (found q : Found) → FindsObject s o i s2 o2 y2 r → r ≡ None → n ≡ one_more i
         → ToldMore found (record { first_object = n; second_object = 0; first_value = 0; second_value = 0 }) q → ToldAlso found (records_of (of_first_object (contents g) x)) q
     unfolding of_first_object matched records_of record_of one_more
     object_alone r n found q t e k told ds p =
@@ -226,14 +224,14 @@ module _ {s d o v h y st s2 d2 o2 v2 h2 y2 st2 : List ℕ} {m m2 : ℕ} {f g : F
         subst (λ (c : Option Content). Hit c r) (first_flip x (contents f))
         (hits s2 o2 s o y j m x (contents f) r own2 S.first.objects S.first.count S.first.few S.made.objects S.indexed t)
 
-    pub added_not : (r : Row) (k : ℕ) (found : Found) → FindsObject s2 o2 j s o y r → r ≡ At k → ToldAlso found (records_of (of_second_object (contents f) x)) found
+    pub added_not : (r : Row) (k : ℕ) (found : Found) → FindsObject s2 o2 j s o y r → r ≡ Some k → ToldAlso found (records_of (of_second_object (contents f) x)) found
     unfolding of_second_object records_of is_there choose
     added_not r k found t e ds p =
         let H = hit_some (hit2 r t) k e in
         subst (λ (l : List Record). Told (ds ++ l) found)
         (ap (λ (c : Option Content). records_of (choose (is_there c) (λ _. []) (λ _. object_in_second x.object ∷ []))) (sym H.is)) (also_none found ds p)
 
-    pub added_alone : (r : Row) (n : ℕ) (found q : Found) → FindsObject s2 o2 j s o y r → r ≡ Nothing → n ≡ one_more j
+    pub added_alone : (r : Row) (n : ℕ) (found q : Found) → FindsObject s2 o2 j s o y r → r ≡ None → n ≡ one_more j
         → ToldMore found (record { first_object = 0; second_object = n; first_value = 0; second_value = 0 }) q → ToldAlso found (records_of (of_second_object (contents f) x)) q
     unfolding of_second_object records_of record_of is_there choose one_more
     added_alone r n found q t e k told ds p =
@@ -349,18 +347,18 @@ module _ (s o y s2 o2 : List ℕ) (m2 : ℕ) (found : Found) where
       so_all (of_second_object (contents f)) (contents g) found j all (G.told d v h st d2 v2 h2 y2 st2 m f g S) (omega (arith, a, l, c))
 
 -- One object, by the cases of what was found.
-pub object_at : (s d o v h st s2 d2 o2 v2 h2 y2 st2 : List ℕ) (i j : ℕ) (r : Row) (found q : Found) → FindsObject s o i s2 o2 y2 r → r ≡ At j
+pub object_at : (s d o v h st s2 d2 o2 v2 h2 y2 st2 : List ℕ) (i j : ℕ) (r : Row) (found q : Found) → FindsObject s o i s2 o2 y2 r → r ≡ Some j
     → ToldAlso found (pair_at s d v h st s2 d2 v2 h2 st2 i j) q → ObjectTold s d o v h st s2 d2 o2 v2 h2 y2 st2 i found q
 object_at s d o v h st s2 d2 o2 v2 h2 y2 st2 i j r found q t e told y m m2 f g S x n = object_paired S x i n r j found q t e told
 
-pub object_not : (s d o v h st s2 d2 o2 v2 h2 y2 st2 : List ℕ) (i k : ℕ) (r : Row) (found q : Found) → FindsObject s o i s2 o2 y2 r → r ≡ Nothing → k ≡ one_more i
+pub object_not : (s d o v h st s2 d2 o2 v2 h2 y2 st2 : List ℕ) (i k : ℕ) (r : Row) (found q : Found) → FindsObject s o i s2 o2 y2 r → r ≡ None → k ≡ one_more i
     → ToldMore found (record { first_object = k; second_object = 0; first_value = 0; second_value = 0 }) q → ObjectTold s d o v h st s2 d2 o2 v2 h2 y2 st2 i found q
 object_not s d o v h st s2 d2 o2 v2 h2 y2 st2 i k r found q t e z told y m m2 f g S x n = object_alone S x i n r k found q t e z told
 
-pub added_at : (s o y s2 o2 : List ℕ) (j k : ℕ) (r : Row) (found : Found) → FindsObject s2 o2 j s o y r → r ≡ At k → ObjectAdded s o y s2 o2 j found found
+pub added_at : (s o y s2 o2 : List ℕ) (j k : ℕ) (r : Row) (found : Found) → FindsObject s2 o2 j s o y r → r ≡ Some k → ObjectAdded s o y s2 o2 j found found
 added_at s o y s2 o2 j k r found t e d v h st d2 v2 h2 y2 st2 m m2 f g S x n = added_not S x j n r k found t e
 
-pub added_new : (s o y s2 o2 : List ℕ) (j k : ℕ) (r : Row) (found q : Found) → FindsObject s2 o2 j s o y r → r ≡ Nothing → k ≡ one_more j
+pub added_new : (s o y s2 o2 : List ℕ) (j k : ℕ) (r : Row) (found q : Found) → FindsObject s2 o2 j s o y r → r ≡ None → k ≡ one_more j
     → ToldMore found (record { first_object = 0; second_object = k; first_value = 0; second_value = 0 }) q → ObjectAdded s o y s2 o2 j found q
 added_new s o y s2 o2 j k r found q t e z told d v h st d2 v2 h2 y2 st2 m m2 f g S x n = added_alone S x j n r k found q t e z told
 

@@ -1,5 +1,5 @@
 -- The contracts of the functions that compare two texts. Assumes nothing.
-use Rattle.std.specs.Prelude.{◌≡◌, List, [], ◌∷◌, ◌++◌, ℕ, suc, ◌+◌, ◌≤◌, length}
+use Rattle.std.specs.Prelude.{◌≡◌, List, ℕ, suc, ◌≤◌, length}
 use Rattle.meaning.specs.Syntax.{File}
 use Rattle.meaning.specs.Defining.{all_definition_rows}
 use Rattle.meaning.specs.Reading.{parse}

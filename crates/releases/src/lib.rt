@@ -7,7 +7,7 @@ ghost use Rattle.comparing.specs.Differences.{compare_texts};
 ghost use Rattle.reading.specs.Decisions.{RoomSizes};
 ghost use Rattle.releases.specs.Promises.{Fitting, Prepares, NamedTold, PreparedTold, DifferencesTold, Counted, Stopped, Answered, SecondRead, Compares};
 
-use comparing::{Compared, Difference, Found, gathering, names};
+use comparing::{Compared, Difference, Found, Side, gathering, names};
 use layout::{definition, enumerator, object, value};
 use reading::Answer;
 use rows::cells;
@@ -15,23 +15,34 @@ use rows::cells;
 pub mod matching;
 pub mod starts;
 
+// A text with the tables of its rows, and how many rows of definitions, objects and values there are.
+#[derive(Clone, Copy)]
+pub struct Lent<'a> {
+    pub side: Side<'a>,
+    pub definitions: usize,
+    pub objects: usize,
+    pub values: usize,
+}
+
+// A text with what is made of its tables: the indexes of its definitions and its objects, the first rows of the objects' values; and how many
+// objects it has.
+#[derive(Clone, Copy)]
+pub struct Release<'a> {
+    pub side: Side<'a>,
+    pub definitions: &'a [usize],
+    pub objects: &'a [usize],
+    pub starts: &'a [usize],
+    pub many: usize,
+}
+
 // Makes x and y the indexes of the first definitions and objects, and st the first rows of the objects' values, of n rows in all.
-fn prepare(
-    text: &[u8],
-    d: &[usize],
-    o: &[usize],
-    v: &[usize],
-    n: usize,
-    x: &mut [usize],
-    y: &mut [usize],
-    st: &mut [usize],
-)
-    ensures { Prepares text.now d.now o.now v.now n (length x.old) (length y.old) x.new y.new st.new }
+fn prepare(side: Side, n: usize, x: &mut [usize], y: &mut [usize], st: &mut [usize])
+    ensures { Prepares side.entry.text.now side.entry.definitions.now side.entry.objects.now side.entry.values.now n (length x.old) (length y.old) x.new y.new st.new }
 {
     let mut room = [0; definition::MOST / 2];
     indexes::index(
-        text,
-        d,
+        side.text,
+        side.definitions,
         definition::LENT_WIDTH,
         definition::UNDER,
         definition::NAME,
@@ -39,126 +50,43 @@ fn prepare(
         &mut room,
     );
     indexes::index(
-        text,
-        o,
+        side.text,
+        side.objects,
         object::LENT_WIDTH,
         object::KIND,
         object::NAME,
         y,
         &mut room,
     );
-    starts::fill_starts(v, n, st);
+    starts::fill_starts(side.values, n, st);
 }
 
 // The differences, where h and h2 are room for the numbers of the definitions' names.
-fn compare_named(
-    first: &[u8],
-    d: &[usize],
-    o: &[usize],
-    v: &[usize],
-    x: &[usize],
-    y: &[usize],
-    st: &[usize],
-    m: usize,
-    second: &[u8],
-    d2: &[usize],
-    o2: &[usize],
-    v2: &[usize],
-    x2: &[usize],
-    y2: &[usize],
-    st2: &[usize],
-    m2: usize,
-    h: &mut [usize],
-    h2: &mut [usize],
-) -> Found
-    requires { (Index first.now d.now x.now × Index second.now d2.now x2.now) × ((length h.old ≡ length x.now) × (length h2.old ≡ length x2.now)) }
-    ensures { NamedTold first.now d.now o.now v.now x.now y.now st.now m second.now d2.now o2.now v2.now x2.now y2.now st2.now m2 result }
+fn compare_named(a: Release, b: Release, h: &mut [usize], h2: &mut [usize]) -> Found
+    requires { (Index a.side.text.now a.side.definitions.now a.definitions.now × Index b.side.text.now b.side.definitions.now b.definitions.now) × ((length h.old ≡ length a.definitions.now) × (length h2.old ≡ length b.definitions.now)) }
+    ensures { NamedTold a.entry.side.text.now a.entry.side.definitions.now a.entry.side.objects.now a.entry.side.values.now a.entry.definitions.now a.entry.objects.now a.entry.starts.now a.entry.many b.entry.side.text.now b.entry.side.definitions.now b.entry.side.objects.now b.entry.side.values.now b.entry.definitions.now b.entry.objects.now b.entry.starts.now b.entry.many result }
 {
-    names::number_names(first, d, x, second, d2, x2, first, d, h);
-    names::number_names(first, d, x, second, d2, x2, second, d2, h2);
-    matching::both_objects(
-        gathering::nothing(),
-        first,
-        d,
-        o,
-        v,
-        h,
-        y,
-        st,
-        m,
-        second,
-        d2,
-        o2,
-        v2,
-        h2,
-        y2,
-        st2,
-        m2,
-    )
+    names::number_names(a.side, a.definitions, b.side, b.definitions, a.side, h);
+    names::number_names(a.side, a.definitions, b.side, b.definitions, b.side, h2);
+    matching::both_objects(gathering::nothing(), a, h, b, h2)
 }
 
 // The same with room for 512 names each.
-fn compare_made(
-    first: &[u8],
-    d: &[usize],
-    o: &[usize],
-    v: &[usize],
-    x: &[usize],
-    y: &[usize],
-    st: &[usize],
-    m: usize,
-    second: &[u8],
-    d2: &[usize],
-    o2: &[usize],
-    v2: &[usize],
-    x2: &[usize],
-    y2: &[usize],
-    st2: &[usize],
-    m2: usize,
-) -> Found
-    requires { (Index first.now d.now x.now × Index second.now d2.now x2.now) × ((length x.now ≤ 512) × (length x2.now ≤ 512)) }
-    ensures { NamedTold first.now d.now o.now v.now x.now y.now st.now m second.now d2.now o2.now v2.now x2.now y2.now st2.now m2 result }
+fn compare_made(a: Release, b: Release) -> Found
+    requires { (Index a.side.text.now a.side.definitions.now a.definitions.now × Index b.side.text.now b.side.definitions.now b.definitions.now) × ((length a.definitions.now ≤ 512) × (length b.definitions.now ≤ 512)) }
+    ensures { NamedTold a.entry.side.text.now a.entry.side.definitions.now a.entry.side.objects.now a.entry.side.values.now a.entry.definitions.now a.entry.objects.now a.entry.starts.now a.entry.many b.entry.side.text.now b.entry.side.definitions.now b.entry.side.objects.now b.entry.side.values.now b.entry.definitions.now b.entry.objects.now b.entry.starts.now b.entry.many result }
 {
-    let n = x.len();
-    let n2 = x2.len();
+    let n = a.definitions.len();
+    let n2 = b.definitions.len();
     let mut h = [0; definition::MOST];
     let mut h2 = [0; definition::MOST];
-    compare_named(
-        first,
-        d,
-        o,
-        v,
-        x,
-        y,
-        st,
-        m,
-        second,
-        d2,
-        o2,
-        v2,
-        x2,
-        y2,
-        st2,
-        m2,
-        &mut h[..n],
-        &mut h2[..n2],
-    )
+    compare_named(a, b, &mut h[..n], &mut h2[..n2])
 }
 
 // The same with room for the indexes and the first rows.
 fn compare_prepared(
-    first: &[u8],
-    d: &[usize],
-    o: &[usize],
-    v: &[usize],
-    m: usize,
-    n: usize,
-    second: &[u8],
-    d2: &[usize],
-    o2: &[usize],
-    v2: &[usize],
-    m2: usize,
-    n2: usize,
+    a: Lent,
+    b: Lent,
     x: &mut [usize],
     y: &mut [usize],
     st: &mut [usize],
@@ -167,40 +95,35 @@ fn compare_prepared(
     st2: &mut [usize],
 ) -> Found
     requires { Fitting x.old x2.old y.old y2.old }
-    ensures { PreparedTold first.now d.now o.now v.now m n (length x.old) (length y.old) (length st.old) second.now d2.now o2.now v2.now m2 n2 (length x2.old) (length y2.old) (length st2.old) result }
+    ensures { PreparedTold a.entry.side.text.now a.entry.side.definitions.now a.entry.side.objects.now a.entry.side.values.now a.entry.objects a.entry.values (length x.old) (length y.old) (length st.old) b.entry.side.text.now b.entry.side.definitions.now b.entry.side.objects.now b.entry.side.values.now b.entry.objects b.entry.values (length x2.old) (length y2.old) (length st2.old) result }
 {
-    prepare(first, d, o, v, n, x, y, st);
-    prepare(second, d2, o2, v2, n2, x2, y2, st2);
-    compare_made(
-        first, d, o, v, x, y, st, m, second, d2, o2, v2, x2, y2, st2, m2,
-    )
+    prepare(a.side, a.values, x, y, st);
+    prepare(b.side, b.values, x2, y2, st2);
+    let first = Release {
+        side: a.side,
+        definitions: x,
+        objects: y,
+        starts: st,
+        many: a.objects,
+    };
+    let second = Release {
+        side: b.side,
+        definitions: x2,
+        objects: y2,
+        starts: st2,
+        many: b.objects,
+    };
+    compare_made(first, second)
 }
 
-// The differences of two accepted texts with these tables, which have so many rows of definitions, m of objects and n of values.
-pub fn differences_of(
-    first: &[u8],
-    d: &[usize],
-    o: &[usize],
-    v: &[usize],
-    many: usize,
-    m: usize,
-    n: usize,
-    second: &[u8],
-    d2: &[usize],
-    o2: &[usize],
-    v2: &[usize],
-    many2: usize,
-    m2: usize,
-    n2: usize,
-) -> Found
-    ensures { DifferencesTold first.now d.now o.now v.now second.now d2.now o2.now v2.now many m n many2 m2 n2 result }
+// The differences of two accepted texts.
+pub fn differences_of(a: Lent, b: Lent) -> Found
+    ensures { DifferencesTold a.entry.side.text.now a.entry.side.definitions.now a.entry.side.objects.now a.entry.side.values.now b.entry.side.text.now b.entry.side.definitions.now b.entry.side.objects.now b.entry.side.values.now a.entry.definitions a.entry.objects a.entry.values b.entry.definitions b.entry.objects b.entry.values result }
 {
-    let a = cells::least_of(many, definition::MOST);
-    let b = cells::least_of(m, object::MOST);
-    let c = b + 1;
-    let a2 = cells::least_of(many2, definition::MOST);
-    let b2 = cells::least_of(m2, object::MOST);
-    let c2 = b2 + 1;
+    let n = cells::least_of(a.definitions, definition::MOST);
+    let m = cells::least_of(a.objects, object::MOST);
+    let n2 = cells::least_of(b.definitions, definition::MOST);
+    let m2 = cells::least_of(b.objects, object::MOST);
     let mut x = [0; definition::MOST];
     let mut y = [0; object::MOST];
     let mut st = [0; object::ROWS];
@@ -208,24 +131,14 @@ pub fn differences_of(
     let mut y2 = [0; object::MOST];
     let mut st2 = [0; object::ROWS];
     compare_prepared(
-        first,
-        d,
-        o,
-        v,
-        m,
-        n,
-        second,
-        d2,
-        o2,
-        v2,
-        m2,
-        n2,
-        &mut x[..a],
-        &mut y[..b],
-        &mut st[..c],
-        &mut x2[..a2],
-        &mut y2[..b2],
-        &mut st2[..c2],
+        a,
+        b,
+        &mut x[..n],
+        &mut y[..m],
+        &mut st[..m + 1],
+        &mut x2[..n2],
+        &mut y2[..m2],
+        &mut st2[..m2 + 1],
     )
 }
 
@@ -269,6 +182,7 @@ fn stopped(which: usize, number: u8, place: usize) -> Found
 }
 
 // Reads the second text, where the first one is accepted.
+// The first text's tables come apart: that their cells fit their type is known of a parameter that is a slice, and not of a field.
 fn second_read(
     first: &[u8],
     d: &[usize],
@@ -292,23 +206,29 @@ fn second_read(
     match answer {
         Answer::Refused(number, place) => stopped(2, number, place),
         Answer::Accepted => {
-            let found = differences_of(
-                first,
-                d,
-                o,
-                v,
-                many,
-                m,
-                n,
-                second,
-                d2,
-                o2,
-                v2,
-                r.definitions,
-                r.objects,
-                r.values,
-            );
-            counted(found)
+            let a = Lent {
+                side: Side {
+                    text: first,
+                    definitions: d,
+                    objects: o,
+                    values: v,
+                },
+                definitions: many,
+                objects: m,
+                values: n,
+            };
+            let b = Lent {
+                side: Side {
+                    text: second,
+                    definitions: d2,
+                    objects: o2,
+                    values: v2,
+                },
+                definitions: r.definitions,
+                objects: r.objects,
+                values: r.values,
+            };
+            counted(differences_of(a, b))
         }
     }
 }

@@ -2,62 +2,45 @@
 ghost use Rattle.comparing.specs.Gathered.{ToldAlso};
 ghost use Rattle.releases.specs.Promises.{pair_at, ObjectTold, FirstTold, ObjectAdded, SecondTold, BothTold};
 
-use super::starts;
-use comparing::{Difference, Found, couples, gathering, matches_of};
-use rows::Found as Row;
+use super::{Release, starts};
+use comparing::{Difference, Found, Object, couples, gathering, matches_of};
 
 // The pair of object i of the first text and object j of the second.
 fn pair_objects(
     found: Found,
-    first: &[u8],
-    d: &[usize],
-    v: &[usize],
+    a: Release,
     h: &[usize],
-    st: &[usize],
     i: usize,
-    second: &[u8],
-    d2: &[usize],
-    v2: &[usize],
+    b: Release,
     h2: &[usize],
-    st2: &[usize],
     j: usize,
 ) -> Found
-    ensures { ToldAlso found (pair_at first.now d.now v.now h.now st.now second.now d2.now v2.now h2.now st2.now i j) result }
+    ensures { ToldAlso found (pair_at a.entry.side.text.now a.entry.side.definitions.now a.entry.side.values.now h.now a.entry.starts.now b.entry.side.text.now b.entry.side.definitions.now b.entry.side.values.now h2.now b.entry.starts.now i j) result }
 {
-    let r = starts::first_row(st, i);
-    let n = starts::many_rows(st, i);
-    let r2 = starts::first_row(st2, j);
-    let n2 = starts::many_rows(st2, j);
-    let x = starts::one_more(i);
-    let y = starts::one_more(j);
-    couples::pair_of(
-        found, first, d, v, h, r, n, second, d2, v2, h2, r2, n2, x, y,
-    )
+    let first = Object {
+        side: a.side,
+        names: h,
+        number: starts::one_more(i),
+        from: starts::first_row(a.starts, i),
+        many: starts::many_rows(a.starts, i),
+    };
+    let second = Object {
+        side: b.side,
+        names: h2,
+        number: starts::one_more(j),
+        from: starts::first_row(b.starts, j),
+        many: starts::many_rows(b.starts, j),
+    };
+    couples::pair_of(found, first, second)
 }
 
-// Object i of the first text; y2 is the index of the second's objects.
-fn one_object(
-    found: Found,
-    first: &[u8],
-    d: &[usize],
-    o: &[usize],
-    v: &[usize],
-    h: &[usize],
-    st: &[usize],
-    i: usize,
-    second: &[u8],
-    d2: &[usize],
-    o2: &[usize],
-    v2: &[usize],
-    h2: &[usize],
-    y2: &[usize],
-    st2: &[usize],
-) -> Found
-    ensures { ObjectTold first.now d.now o.now v.now h.now st.now second.now d2.now o2.now v2.now h2.now y2.now st2.now i found result }
+// Object i of the first text.
+fn one_object(found: Found, a: Release, h: &[usize], i: usize, b: Release, h2: &[usize]) -> Found
+    ensures { ObjectTold a.entry.side.text.now a.entry.side.definitions.now a.entry.side.objects.now a.entry.side.values.now h.now a.entry.starts.now b.entry.side.text.now b.entry.side.definitions.now b.entry.side.objects.now b.entry.side.values.now h2.now b.entry.objects.now b.entry.starts.now i found result }
 {
-    match matches_of::find_object(first, o, i, second, o2, y2) {
-        Row::At(j) => pair_objects(found, first, d, v, h, st, i, second, d2, v2, h2, st2, j),
-        Row::Nothing => {
+    match matches_of::find_object(a.side, i, b.side, b.objects) {
+        Some(j) => pair_objects(found, a, h, i, b, h2, j),
+        None => {
             let alone = Difference {
                 first_object: starts::one_more(i),
                 second_object: 0,
@@ -69,53 +52,24 @@ fn one_object(
     }
 }
 
-// The first m objects of the first text.
-fn first_objects(
-    found: Found,
-    first: &[u8],
-    d: &[usize],
-    o: &[usize],
-    v: &[usize],
-    h: &[usize],
-    st: &[usize],
-    m: usize,
-    second: &[u8],
-    d2: &[usize],
-    o2: &[usize],
-    v2: &[usize],
-    h2: &[usize],
-    y2: &[usize],
-    st2: &[usize],
-) -> Found
-    ensures { FirstTold first.now d.now o.now v.now h.now st.now second.now d2.now o2.now v2.now h2.now y2.now st2.now m found result }
+// The objects of the first text.
+fn first_objects(found: Found, a: Release, h: &[usize], b: Release, h2: &[usize]) -> Found
+    ensures { FirstTold a.entry.side.text.now a.entry.side.definitions.now a.entry.side.objects.now a.entry.side.values.now h.now a.entry.starts.now b.entry.side.text.now b.entry.side.definitions.now b.entry.side.objects.now b.entry.side.values.now h2.now b.entry.objects.now b.entry.starts.now a.entry.many found result }
 {
     let mut all = found;
-    let mut i = 0;
-    while i < m {
-        let next = one_object(
-            all, first, d, o, v, h, st, i, second, d2, o2, v2, h2, y2, st2,
-        );
-        all = next;
-        i += 1;
+    for i in 0..a.many {
+        all = one_object(all, a, h, i, b, h2);
     }
     all
 }
 
-// Object j of the second text; y is the index of the first's objects.
-fn one_added(
-    found: Found,
-    first: &[u8],
-    o: &[usize],
-    y: &[usize],
-    second: &[u8],
-    o2: &[usize],
-    j: usize,
-) -> Found
-    ensures { ObjectAdded first.now o.now y.now second.now o2.now j found result }
+// Object j of the second text.
+fn one_added(found: Found, a: Release, b: Release, j: usize) -> Found
+    ensures { ObjectAdded a.entry.side.text.now a.entry.side.objects.now a.entry.objects.now b.entry.side.text.now b.entry.side.objects.now j found result }
 {
-    match matches_of::find_object(second, o2, j, first, o, y) {
-        Row::At(_) => found,
-        Row::Nothing => {
+    match matches_of::find_object(b.side, j, a.side, a.objects) {
+        Some(_) => found,
+        None => {
             let alone = Difference {
                 first_object: 0,
                 second_object: starts::one_more(j),
@@ -127,52 +81,21 @@ fn one_added(
     }
 }
 
-// The first m objects of the second text.
-fn second_objects(
-    found: Found,
-    first: &[u8],
-    o: &[usize],
-    y: &[usize],
-    second: &[u8],
-    o2: &[usize],
-    m: usize,
-) -> Found
-    ensures { SecondTold first.now o.now y.now second.now o2.now m found result }
+// The objects of the second text.
+fn second_objects(found: Found, a: Release, b: Release) -> Found
+    ensures { SecondTold a.entry.side.text.now a.entry.side.objects.now a.entry.objects.now b.entry.side.text.now b.entry.side.objects.now b.entry.many found result }
 {
     let mut all = found;
-    let mut j = 0;
-    while j < m {
-        let next = one_added(all, first, o, y, second, o2, j);
-        all = next;
-        j += 1;
+    for j in 0..b.many {
+        all = one_added(all, a, b, j);
     }
     all
 }
 
-// The first m objects of the first text and the first m2 of the second.
-pub fn both_objects(
-    found: Found,
-    first: &[u8],
-    d: &[usize],
-    o: &[usize],
-    v: &[usize],
-    h: &[usize],
-    y: &[usize],
-    st: &[usize],
-    m: usize,
-    second: &[u8],
-    d2: &[usize],
-    o2: &[usize],
-    v2: &[usize],
-    h2: &[usize],
-    y2: &[usize],
-    st2: &[usize],
-    m2: usize,
-) -> Found
-    ensures { BothTold first.now d.now o.now v.now h.now y.now st.now second.now d2.now o2.now v2.now h2.now y2.now st2.now m m2 found result }
+// The objects of the first text and those of the second.
+pub fn both_objects(found: Found, a: Release, h: &[usize], b: Release, h2: &[usize]) -> Found
+    ensures { BothTold a.entry.side.text.now a.entry.side.definitions.now a.entry.side.objects.now a.entry.side.values.now h.now a.entry.objects.now a.entry.starts.now b.entry.side.text.now b.entry.side.definitions.now b.entry.side.objects.now b.entry.side.values.now h2.now b.entry.objects.now b.entry.starts.now a.entry.many b.entry.many found result }
 {
-    let all = first_objects(
-        found, first, d, o, v, h, st, m, second, d2, o2, v2, h2, y2, st2,
-    );
-    second_objects(all, first, o, y, second, o2, m2)
+    let all = first_objects(found, a, h, b, h2);
+    second_objects(all, a, b)
 }

@@ -20,26 +20,22 @@ fn is_other(v: &[usize], i: usize, j: usize) -> bool
 fn object_end(v: &[usize], n: usize, i: usize, k: usize) -> usize
     ensures { result ≡ object_end v.now n i k }
 {
-    let mut j = k;
-    while j < n {
+    for j in k..n {
         if is_other(v, i, j) {
             return j;
         }
-        j += 1;
     }
-    j
+    n.max(k)
 }
 
 // Makes st the first rows of the objects' values, of n rows in all: as many objects as there are cells.
 pub fn fill_starts(v: &[usize], n: usize, st: &mut [usize])
     ensures { Holds (start_at v.now n) (length st.new) st.new }
 {
-    let mut i = 0;
     let mut k = 0;
-    while i < st.len() {
-        st[i] = k;
+    for (i, start) in st.iter_mut().enumerate() {
+        *start = k;
         k = object_end(v, n, i, k);
-        i += 1;
     }
 }
 
@@ -63,8 +59,5 @@ pub fn many_rows(st: &[usize], i: usize) -> usize
 {
     let a = first_row(st, i);
     let b = first_row(st, one_more(i));
-    if b < a {
-        return 0;
-    }
-    b - a
+    b.saturating_sub(a)
 }

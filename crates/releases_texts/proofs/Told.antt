@@ -27,12 +27,11 @@ use Rattle.releases.proofs.Answering.{compares_so}
 use Rattle.sources_reading.specs.Answering.{text}
 use Rattle.placing.specs.Placed.{place_in, placed_tables, is_at_start}
 use Rattle.lent_texts.specs.Answered.{place_of, TheAnswer}
-use Rattle.lent_texts.specs.Expanded.{refusal_in, ExpandsTexts}
+use Rattle.lent_texts.specs.Expanded.{refusal_in, ExpandsTexts, Lent}
 use Rattle.lent_texts.specs.Expanded as lent
 use Rattle.lent_texts.specs.declared.Expanded.{Expanded}
-use Rattle.lent_texts.specs.declared.Refusal.{Refusal}
-use Rattle.lent_texts.specs.declared.Lent.{Lent}
-use Rattle.lent_texts.specs.declared.Lent.TheVariants.{Stopped, Text}
+use Rattle.rows.specs.declared.Fault.{Fault}
+use Rattle.std.specs.Prelude.{Ok, Err}
 use Rattle.lent_texts.proofs.Told.{refused_is, AtOnce, by_1, by_30, at_once, There, there, answered_refused, answered_accepted}
 use Rattle.releases_texts.specs.Comparing.{SideAnswer, short_rooms, by_rules, SideMemory, untouched, is_filled, SidesCompared, first_refused, second_refused, both_accepted, put, ListsTexts, ComparesTexts, side_in, told_in, ComparesExpanded, ListsExpanded, With, AnswersText, FirstOr, of_first, of_second}
 
@@ -42,7 +41,7 @@ pub side_is : (g : List ℕ) (e : Expanded) (c : Result) (n p : ℕ) → n ≡ p
     p ≡ pick (is_at_start n) c.place (place_in g e.length e.main c.place) → record { which = c.which; number = n; place = p; total = 0 } ≡ side_in g e c
 unfolding side_in
 side_is g e c n p i j =
-    ap (λ (y : Refusal). record { which = c.which; number = y.number; place = y.place; total = 0 }) (refused_is g e c.number c.place n p i j)
+    ap (λ (y : Fault). record { which = c.which; number = y.number; place = y.place; total = 0 }) (refused_is g e c.number c.place n p i j)
 
 first_told : (g : List ℕ) (e : Expanded) (h : List ℕ) (f : Expanded) (q r : Result) → q.which ≡ 1 → r ≡ side_in g e q → r ≡ told_in g e h f q
 unfolding told_in
@@ -97,7 +96,7 @@ by_answer (reads.by_rules k x t q m) k' = record { answer = x; rules = t; result
 pub answers_text : {s d' e' o' v' : List ℕ} {r : Reading} → ReadsByRules s (replicate 6656 0) (replicate 3072 0) (replicate 2048 0) (replicate 18432 0) d' e' o' v' r → AnswersText s r.answer
 answers_text h = by_answer h full_room
 
-refused_by : (s g : List ℕ) (e : Expanded) (n k p : ℕ) (r : Refusal) (o : Found) (x : Answer) → TheTextsAnswer s x → (reading_of x).answer ≡ a.Refused k p →
+refused_by : (s g : List ℕ) (e : Expanded) (n : Fault) (k p : ℕ) (r : Fault) (o : Found) (x : Answer) → TheTextsAnswer s x → (reading_of x).answer ≡ a.Refused k p →
     r ≡ refusal_in g e k p → Halted 1 r.number r.place o → FirstOr s g e n o
 unfolding reading_of
 refused_by s g e n k p r o (accepted y) t q z w = absurd (let w : ◌≡◌ {A = ℕ} 0 1 = cc in omega arith)
@@ -105,18 +104,18 @@ refused_by s g e n k p r o (refused i j) t q z w =
     let u : i ≡ k = cc in
     let v : j ≡ p = cc in
     of_first k p (subst (λ (y : ℕ). TheTextsAnswer s (refused y p)) u (subst (λ (y : ℕ). TheTextsAnswer s (refused i y)) v t))
-    (subst (λ (y : Refusal). Halted 1 y.number y.place o) z w)
+    (subst (λ (y : Fault). Halted 1 y.number y.place o) z w)
 
-pub first_refuses : {s g : List ℕ} {e : Expanded} {n k p : ℕ} {r : Refusal} {x : Given} {o : Found} → AnswersText s x → x ≡ a.Refused k p → r ≡ refusal_in g e k p →
+pub first_refuses : {s g : List ℕ} {e : Expanded} {n : Fault} {k p : ℕ} {r : Fault} {x : Given} {o : Found} → AnswersText s x → x ≡ a.Refused k p → r ≡ refusal_in g e k p →
     Halted 1 r.number r.place o → FirstOr s g e n o
 first_refuses {s} {g} {e} {n} {k} {p} {r} {o = o} w q z v = refused_by s g e n k p r o w.answer w.rules (sym w.result ∙ q) z v
 
-accepted_by : (s g : List ℕ) (e : Expanded) (n : ℕ) (o : Found) (x : Answer) → TheTextsAnswer s x → (reading_of x).answer ≡ a.Accepted → Halted 2 n 0 o → FirstOr s g e n o
+accepted_by : (s g : List ℕ) (e : Expanded) (n : Fault) (o : Found) (x : Answer) → TheTextsAnswer s x → (reading_of x).answer ≡ a.Accepted → Halted 2 n.number n.place o → FirstOr s g e n o
 unfolding reading_of
 accepted_by s g e n o (accepted y) t q w = of_second y t w
 accepted_by s g e n o (refused i j) t q w = absurd (let w : ◌≡◌ {A = ℕ} 0 1 = cc in omega arith)
 
-pub first_accepts : {s g : List ℕ} {e : Expanded} {n : ℕ} {x : Given} {o : Found} → AnswersText s x → x ≡ a.Accepted → Halted 2 n 0 o → FirstOr s g e n o
+pub first_accepts : {s g : List ℕ} {e : Expanded} {n : Fault} {x : Given} {o : Found} → AnswersText s x → x ≡ a.Accepted → Halted 2 n.number n.place o → FirstOr s g e n o
 first_accepts {s} {g} {e} {n} {o = o} w q v = accepted_by s g e n o w.answer w.rules (sym w.result ∙ q) v
 
 -- ---- the sides
@@ -126,9 +125,9 @@ memory (lent.short_rooms h i j) = untouched h i j
 memory (lent.too_long h i j) = is_filled h j
 memory (lent.expands h i j) = is_filled h j
 
-once : {b l x g x' g' : List ℕ} (n : ℕ) → AtOnce b l x g x' g' n → SideAnswer b l x g (refused n 0)
-once {b} {l} {x} {g} n (by_1 h i j k) = subst (λ (o : ℕ). SideAnswer b l x g (refused o 0)) (sym i) (short_rooms h)
-once {b} {l} {x} {g} n (by_30 h i _ k f) = subst (λ (o : ℕ). SideAnswer b l x g (refused o 0)) (sym i) (by_rules h k)
+once : {b l x g x' g' : List ℕ} (n : Fault) → AtOnce b l x g x' g' n → SideAnswer b l x g (refused n.number n.place)
+once {b} {l} {x} {g} n (by_1 h i j k) = subst (λ (o : Fault). SideAnswer b l x g (refused o.number o.place)) (sym i) (short_rooms h)
+once {b} {l} {x} {g} n (by_30 h i _ k f) = subst (λ (o : Fault). SideAnswer b l x g (refused o.number o.place)) (sym i) (by_rules h k)
 
 -- ---- the public call
 
@@ -144,19 +143,19 @@ leaves : (k n p : ℕ) (q : Found) (ds : List Difference) → Halted k n p q →
 leaves k n p q ds w = record { list = put_stopped k n p q ds w; result = w.answer }
 
 module _ {b l x g x' g' c m y h y' h' : List ℕ} {o o₂ : Lent} (u : ExpandsTexts b l x g x' g' o) (u₂ : ExpandsTexts c m y h y' h' o₂) where
-  pub stopped_first : {q : Found} (n : ℕ) → o ≡ Stopped n → Halted 1 n 0 q → ListsTexts b l x g x' g' c m y h y' h' q
+  pub stopped_first : {q : Found} (n : Fault) → o ≡ Err n → Halted 1 n.number n.place q → ListsTexts b l x g x' g' c m y h y' h' q
   stopped_first {q} n z w =
-      record { first = memory u; second = memory u₂; rules = λ ds. first_refused n 0 (once n (at_once n u z)) (leaves 1 n 0 q ds w) }
+      record { first = memory u; second = memory u₂; rules = λ ds. first_refused n.number n.place (once n (at_once n u z)) (leaves 1 n.number n.place q ds w) }
 
-  by_first : {e : Expanded} (n : ℕ) (q : Found) (ds : List Difference) → There b l x g x' g' e → AtOnce c m y h y' h' n → FirstOr (text b l) g' e n q →
+  by_first : {e : Expanded} (n : Fault) (q : Found) (ds : List Difference) → There b l x g x' g' e → AtOnce c m y h y' h' n → FirstOr (text b l) g' e n q →
       SidesCompared b l x g c m y h ds (put q ds) q.compared
   by_first {e} n q ds t k (of_first i p w z) =
       let v = refusal_in g' e i p in
       first_refused v.number v.place (by_rules t.rooms (answered_refused i p t.holds w v refl)) (leaves 1 v.number v.place q ds z)
   by_first n q ds t k (of_second i w z) =
-      second_refused (placed_tables (place_of b l) i) (by_rules t.rooms (answered_accepted i t.holds w)) n 0 (once n k) (leaves 2 n 0 q ds z)
+      second_refused (placed_tables (place_of b l) i) (by_rules t.rooms (answered_accepted i t.holds w)) n.number n.place (once n k) (leaves 2 n.number n.place q ds z)
 
-  pub stopped_second : {e : Expanded} {q : Found} (n : ℕ) → o ≡ Text e → o₂ ≡ Stopped n → FirstOr (take e.length x') g' e n q →
+  pub stopped_second : {e : Expanded} {q : Found} (n : Fault) → o ≡ Ok e → o₂ ≡ Err n → FirstOr (take e.length x') g' e n q →
       ListsTexts b l x g x' g' c m y h y' h' q
   stopped_second {e} {q} n z z₂ w =
       let t = there e u z in
@@ -191,7 +190,7 @@ module _ {b l x g x' g' c m y h y' h' : List ℕ} {o o₂ : Lent} (u : ExpandsTe
       (subst (λ (i : List ℕ). ComparesByRules (take e.length x') i ds (put q ds) w.in_expanded) t₂.holds.bytes w.rules) in
       compared_by ds (put q ds) w.in_expanded q.compared t t₂ v w.told
 
-  pub both_there : {e f : Expanded} {q : Found} → o ≡ Text e → o₂ ≡ Text f → ListsExpanded (take e.length x') g' e (take f.length y') h' f q →
+  pub both_there : {e f : Expanded} {q : Found} → o ≡ Ok e → o₂ ≡ Ok f → ListsExpanded (take e.length x') g' e (take f.length y') h' f q →
       ListsTexts b l x g x' g' c m y h y' h' q
   both_there {e} {f} {q} z z₂ w =
       record { first = memory u; second = memory u₂; rules = λ ds. both_by q ds (there e u z) (there f u₂ z₂) (w ds) }

@@ -19,6 +19,7 @@ use Rattle.sources_reading.specs.Answering.{text, found}
 use Rattle.lent_texts.specs.Answered.{TheAnswer}
 use Rattle.lent_texts.specs.Expanded.{refusal_in, Rooms, Filled}
 use Rattle.lent_texts.specs.declared.Expanded.{Expanded}
+use Rattle.rows.specs.declared.Fault.{Fault}
 
 -- A side, the texts of the buffer b with lengths l, where x and g are lent for the expanded text and its origins: its answer.
 pub data SideAnswer (b l x g : List ℕ) : Answer → Type 0 where
@@ -93,7 +94,7 @@ pub record AnswersText (s : List ℕ) (r : Given) : Type 0 where
   pub rules : TheTextsAnswer s answer
   pub result : r ≡ (reading_of answer).answer
 
--- The first side's refusal, or n at 0 as the second's.
-pub data FirstOr (s g : List ℕ) (e : Expanded) (n : ℕ) (r : Found) : Type 0 where
+-- The first side's refusal, or n as the second's.
+pub data FirstOr (s g : List ℕ) (e : Expanded) (n : Fault) (r : Found) : Type 0 where
   of_first : (k p : ℕ) → TheTextsAnswer s (refused k p) → Stopped 1 (refusal_in g e k p).number (refusal_in g e k p).place r → FirstOr s g e n r
-  of_second : (t : Tables) → TheTextsAnswer s (accepted t) → Stopped 2 n 0 r → FirstOr s g e n r
+  of_second : (t : Tables) → TheTextsAnswer s (accepted t) → Stopped 2 n.number n.place r → FirstOr s g e n r

@@ -10,9 +10,9 @@ ghost use Rattle.releases_texts.specs.Comparing.{side_in, With, ListsExpanded, A
 
 use comparing::{Compared, Difference, Found};
 use layout::{definition, enumerator, object, value};
-use lent_texts::{Expanded, Lent};
+use lent_texts::Expanded;
 use reading::Answer;
-use rows::refusals;
+use rows::{Fault, refusals};
 
 // Refusal 3 takes the number of the fault that stands there.
 fn renumbered(number: usize, fault: u8) -> usize
@@ -45,14 +45,14 @@ fn with(found: Found, c: Compared) -> Found
     let records = found.records;
     Found {
         total: found.total,
-        records: records,
+        records,
         compared: c,
     }
 }
 
 // The answer for a side that is refused.
-fn stopped(which: usize, number: u8, place: usize) -> Found
-    ensures { Stopped which number place result }
+fn stopped(which: usize, f: Fault) -> Found
+    ensures { Stopped which f.number f.place result }
 {
     let none = Difference {
         first_object: 0,
@@ -64,9 +64,9 @@ fn stopped(which: usize, number: u8, place: usize) -> Found
         total: 0,
         records: [none; comparing::RECORDS],
         compared: Compared {
-            which: which,
-            number: number as usize,
-            place: place,
+            which,
+            number: f.number as usize,
+            place: f.place,
             total: 0,
         },
     }
@@ -122,16 +122,15 @@ fn answer_of(text: &[u8]) -> Answer
 }
 
 // The first side's refusal; else the second's, which is refused at once, by 1 or 30.
-fn first_or(text: &[u8], origins: &[usize], e: Expanded, number: u8) -> Found
-    ensures { FirstOr text.now origins.now e number result }
+fn first_or(text: &[u8], origins: &[usize], e: Expanded, second: Fault) -> Found
+    ensures { FirstOr text.now origins.now e second result }
 {
     let answer = answer_of(text);
     match answer {
-        Answer::Refused(n, place) => {
-            let r = lent_texts::refused(origins, e, n, place);
-            stopped(1, r.number, r.place)
+        Answer::Refused(number, place) => {
+            stopped(1, lent_texts::refused(origins, e, Fault { number, place }))
         }
-        Answer::Accepted => stopped(2, number, 0),
+        Answer::Accepted => stopped(2, second),
     }
 }
 
@@ -163,10 +162,10 @@ pub fn listed_into(
     let one = lent_texts::expand(first, first_lengths, expanded, origins);
     let two = lent_texts::expand(second, second_lengths, second_expanded, second_origins);
     match one {
-        Lent::Stopped(number) => stopped(1, number, 0),
-        Lent::Text(e) => match two {
-            Lent::Stopped(number) => first_or(&expanded[..e.length], origins, e, number),
-            Lent::Text(e2) => listed_expanded(
+        Err(f) => stopped(1, f),
+        Ok(e) => match two {
+            Err(f) => first_or(&expanded[..e.length], origins, e, f),
+            Ok(e2) => listed_expanded(
                 &expanded[..e.length],
                 origins,
                 e,

@@ -22,6 +22,7 @@ use Rattle.scopes.specs.Situations.{Situation, HasDefinition, this_definition, l
 use Rattle.scopes.specs.Promises.{FindsWord}
 use Rattle.scopes.specs.declared.Sizes.{Sizes}
 use Rattle.resolving.specs.declared.Owner.{Owner as OwnerOf}
+use Rattle.resolving.specs.declared.Owner.TheVariants.{Value as ValueOwner}
 use Rattle.scopes.specs.Given.{Attribute, Below}
 use Rattle.resolving.specs.Promises.{WordAt, PutValue, inner_of, one_entry, stated_entries, default_entries, Enters, EntersStated, ResolvesDefault, Resolves}
 use Rattle.scopes.proofs.Descents.{found_value, scope_under}
@@ -67,7 +68,7 @@ module _ {s d e o st v : List ℕ} {z : Sizes} {j stated at len code from till :
   enter_full h f x t us b ow g a wa bl own fl room = wrote_full v n (one_entry b f x t us) ow room.room h room.low
 
   pub enter_more : {v₁ : List ℕ} {key : ℕ} {v₂ : List ℕ} {r : ℕ} → n ≤ 2048 → PutValue s d e o v z n w j stated at len code v₁
-      → FindsWord s d e z.enumerators j at len key → Resolves s d e o st v₁ z j key from till (record { sort = 1; row = n }) (n + 1) v₂ r
+      → FindsWord s d e z.enumerators j at len key → Resolves s d e o st v₁ z j key from till (ValueOwner n) (n + 1) v₂ r
       → Enters s d e o st v z j stated at len code from till w n v₂ r
   unfolding one_entry inner_of owner_sort owner_row
   enter_more {v₁} {key} {v₂} {r} h put finds res f x t us b ow g a wa bl own fl room =

@@ -6,8 +6,8 @@ use native.Mathlib.Omega.{arith}
 use native.Mathlib.Decide.{ℕ_discrete, dec_le}
 use lib.ListN.{length, get_or, set}
 use lib.Seq.{get_or-set_same, get_or-set_other}
-use Rattle.rows.specs.declared.Found.{Found}
-use Rattle.rows.specs.declared.Found.TheVariants.{At, Nothing}
+use Rattle.rows.specs.Found.{Found}
+use Rattle.std.specs.Prelude.{Some, None}
 use Rattle.rows.proofs.Starts.{cell_past}
 use Rattle.scopes.specs.Promises.{FindsEnumerator, FindsObject, FindsWord}
 use Rattle.scopes.proofs.Taking.{word_none, word_some}
@@ -22,15 +22,15 @@ module _ {s d e x : List ℕ} {j : ℕ} where
   notes_none = record { noted = λ n h l. record { told = λ i q. absurd (omega arith) } }
 
   -- The row that was found.
-  pub notes_found : (at len : ℕ) (r : Found) (i : ℕ) → at ≡ get_or d (j * 19 + 10) 0 → len ≡ get_or d (j * 19 + 11) 0 → EnumeratorIndexed s d e x j at len r → r ≡ At i
+  pub notes_found : (at len : ℕ) (r : Found) (i : ℕ) → at ≡ get_or d (j * 19 + 10) 0 → len ≡ get_or d (j * 19 + 11) 0 → EnumeratorIndexed s d e x j at len r → r ≡ Some i
       → NotesWord s d e x j (i + 1)
   unfolding EnumeratorIndexed
   notes_found at len r i a b f p = record {
     noted = λ n h l. record {
       told = λ k q.
           let m : i ≡ k = omega arith in
-          let g : FindsEnumerator s d e n j at len (At k) = subst (λ y. FindsEnumerator s d e n j at len y) (p ∙ ap At m) (f n h l) in
-          subst (λ y. FindsEnumerator s d e n j y (get_or d (j * 19 + 11) 0) (At k)) a (subst (λ y. FindsEnumerator s d e n j at y (At k)) b g);
+          let g : FindsEnumerator s d e n j at len (Some k) = subst (λ y. FindsEnumerator s d e n j at len y) (p ∙ ap Some m) (f n h l) in
+          subst (λ y. FindsEnumerator s d e n j y (get_or d (j * 19 + 11) 0) (Some k)) a (subst (λ y. FindsEnumerator s d e n j at y (Some k)) b g);
     };
   }
 
@@ -66,11 +66,11 @@ module _ {s d e x words : List ℕ} {j : ℕ} where
   enumerator_looked f = record { finds = λ n h l k. f n h l }
 
   pub enumerator_noted : {at len c c₁ c₂ : ℕ} → c ≡ get_or words j 0 → (c ≡ 0 → ⊥) → c₁ ≡ get_or d (j * 19 + 10) 0 → c₁ ≡ at → c₂ ≡ get_or d (j * 19 + 11) 0 → c₂ ≡ len
-      → EnumeratorNoted s d e x words j at len (At (c - 1))
+      → EnumeratorNoted s d e x words j at len (Some (c - 1))
   enumerator_noted {at} {len} {c} p nz a₁ b₁ a₂ b₂ = record {
     finds = λ n h l k.
         let g = (k.cell j).told (c - 1) (sym p ∙ back nz) in
-        subst (λ y. FindsEnumerator s d e n j y len (At (c - 1))) (sym a₁ ∙ b₁) (subst (λ y. FindsEnumerator s d e n j (get_or d (j * 19 + 10) 0) y (At (c - 1))) (sym a₂ ∙ b₂) g);
+        subst (λ y. FindsEnumerator s d e n j y len (Some (c - 1))) (sym a₁ ∙ b₁) (subst (λ y. FindsEnumerator s d e n j (get_or d (j * 19 + 10) 0) y (Some (c - 1))) (sym a₂ ∙ b₂) g);
   }
 
   module _ {at len : ℕ} where
@@ -79,10 +79,10 @@ module _ {s d e x words : List ℕ} {j : ℕ} where
     word_looked f = record { finds = λ n h l k. f n h l }
 
     module _ {c : ℕ} {q : Found} (a : c ≡ get_or d (j * 19 + 12) 0) (b : c ≡ 41) (f : EnumeratorNoted s d e x words j at len q) where
-      pub word_nothing : q ≡ Nothing → WordFound s d e x words j at len 0
+      pub word_nothing : q ≡ None → WordFound s d e x words j at len 0
       word_nothing p = record { finds = λ n h l k. word_none s d e n j at len c a b q (f.finds n h l k) p }
 
-      pub word_found : {i r : ℕ} → q ≡ At i → r ≡ get_or e (i * 3 + 1) 0 → WordFound s d e x words j at len r
+      pub word_found : {i r : ℕ} → q ≡ Some i → r ≡ get_or e (i * 3 + 1) 0 → WordFound s d e x words j at len r
       word_found {i} {r} p w = record { finds = λ n h l k. word_some s d e n j at len c a b q (f.finds n h l k) i r p w }
 
 -- What is found where the names are indexed.

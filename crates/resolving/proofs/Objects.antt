@@ -14,6 +14,7 @@ use Rattle.blocks.specs.Blocks.{BlockAt}
 use Rattle.scopes.specs.Situations.{ScopeAt, no_scope, scope}
 use Rattle.scopes.specs.declared.Sizes.{Sizes}
 use Rattle.scopes.specs.Given.{Tables, Given, Below, Places}
+use Rattle.resolving.specs.declared.Owner.TheVariants.{Object as ObjectOwner}
 use Rattle.resolving.specs.Written.{WroteAll}
 use Rattle.resolving.specs.Promises.{Resolves, ResolvesAll}
 use Rattle.layout.proofs.Codes.{kind_low}
@@ -101,7 +102,7 @@ module _ {s d e o st v : List ℕ} {z : Sizes} {ps : List ℕ} where
         absurd (omega arith)
 
     pub does_more : {key from till : ℕ} {v₂ : List ℕ} {r : ℕ} → key ≡ get_or ps kind 0 → from ≡ get_or o (i * 10 + 8) 0 → till ≡ get_or o (i * 10 + 9) 0
-        → Resolves s d e o st v₁ z z.definitions key from till (record { sort = 0; row = i }) n v₂ r → Does s d e o st v z ps v₂ r (i + 1)
+        → Resolves s d e o st v₁ z z.definitions key from till (ObjectOwner i) n v₂ r → Does s d e o st v z ps v₂ r (i + 1)
     unfolding object_values owner_sort owner_row
     does_more {key} {from} {till} {v₂} {r} c₁ c₂ c₃ res f g p l =
         let x = here h t g p l in

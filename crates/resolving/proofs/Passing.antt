@@ -10,7 +10,7 @@ use lib.Seq.{length-sets, get_or-set_same, get_or-set_other}
 use Rattle.rows.specs.Search.{row_name}
 use Rattle.rows.specs.Table.{part}
 use Rattle.rows.proofs.Starts.{cell_past}
-use Rattle.rows.specs.declared.Found.{Found}
+use Rattle.rows.specs.Found.{Found}
 use Rattle.meaning.specs.Syntax.{done, state, statements_in}
 use Rattle.meaning.specs.Words.{among}
 use Rattle.meaning.specs.Scopes.{names}
@@ -25,7 +25,7 @@ use Rattle.blocks.specs.Blocks.{row_after, FindsStated, IsStated}
 use Rattle.blocks.proofs.Ranges.{after_later, is_stated}
 use Rattle.scopes.specs.declared.Sizes.{Sizes}
 use Rattle.resolving.specs.declared.Owner.{Owner as OwnerOf}
-use Rattle.resolving.specs.Noted.{NotesTo, NamesRanked, Lent, Taken, NotesTaken, DefaultOwners, IsQuiet, Noted, Bare, no_default, not_taken, Quiet, elsewhere, silent, Defaults, Stirs, Elsewhere, NextUnder, Passes, NextRow}
+use Rattle.resolving.specs.Noted.{NotesTo, NamesRanked, Lent, Taken, NotesTaken, DefaultOwners, IsQuiet, Noted, Bare, no_default, not_taken, Quiet, elsewhere, silent, Defaults, Stirs, NextUnder, Passes, NextRow}
 use Rattle.resolving.specs.Promises.{ResolvesDefault, ResolvesRow, Resolves, ResolvesAll}
 use Rattle.resolving.proofs.Turns.{row_other, row_default, Goes, goes_start, goes_more, goes_end}
 use Rattle.resolving.proofs.Namings.{words_noted}
@@ -86,25 +86,6 @@ stirs_stated {s} {d} {st} {rs} {rd} {key} {from} {till} {j} {p} {g} {q} {r} h k 
 }
 
 -- Passing them -----------------------------------------------------------------------------------------------------------------------------
-
-pub elsewhere_none : {d : List ℕ} {key j : ℕ} → Elsewhere d key j j
-elsewhere_none = record { other = λ i a b. absurd (omega arith) }
-
-pub elsewhere_more : {d : List ℕ} {key j i p : ℕ} → Elsewhere d key j i → p ≡ i * 19 → (get_or d p 0 ≡ key → ⊥) → Elsewhere d key j (i + 1)
-elsewhere_more {d} {key} {j} {i} {p} h e n = record { other = λ k a b. by k a b (ℕ_discrete k i) }
-  where
-    by : (k : ℕ) → j ≤ k → k < i + 1 → Dec (k ≡ i) → get_or d (k * 19 + 0) 0 ≡ key → ⊥
-    by k a b (yes m) q = let u : p ≡ k * 19 + 0 = omega arith in n (ap (λ i. get_or d i 0) u ∙ q)
-    by k a b (no m) q = h.other k a (omega arith) q
-
-pub next_here : {d : List ℕ} {limit key j i p : ℕ} → j ≤ i → i < limit → Elsewhere d key j i → p ≡ i * 19 → get_or d p 0 ≡ key → NextUnder d limit key j i
-next_here {d} {i = i} {p = p} a b h e q =
-    record { low = a; high = omega arith; elsewhere = h; here = λ _. let u : i * 19 + 0 ≡ p = omega arith in ap (λ k. get_or d k 0) u ∙ q }
-
-pub next_none : {d : List ℕ} {limit key j i : ℕ} → j ≤ i → i ≤ limit → limit ≤ i → Elsewhere d key j i → NextUnder d limit key j limit
-next_none {d} {limit} {key} {j} {i} a b c h =
-    let e : i ≡ limit = omega arith in
-    record { low = omega arith; high = omega arith; elsewhere = subst (Elsewhere d key j) e h; here = λ l. absurd (omega arith) }
 
 pub passes_start : {s d st : List ℕ} {limit key from till j r : ℕ} → NextUnder d limit key j r → Passes s d st key from till j r
 passes_start h = record { quiet = λ i a b. elsewhere (h.elsewhere.other i a b) }

@@ -7,8 +7,8 @@ use native.Mathlib.Omega.{arith}
 use lib.ListN.{get_or}
 use Rattle.token.specs.Find.{pick}
 use Rattle.rows.specs.Search.{is_found, row_of}
-use Rattle.rows.specs.declared.Found.{Found}
-use Rattle.rows.specs.declared.Found.TheVariants.{At, Nothing}
+use Rattle.rows.specs.Found.{Found}
+use Rattle.std.specs.Prelude.{Some, None}
 use Rattle.meaning.specs.Syntax.{Word, Defined, Statement, Statements, done, state, File, statements_in}
 use Rattle.meaning.specs.Words.{alike}
 use Rattle.meaning.specs.Resolving.{Resolved, end, Owner}
@@ -49,14 +49,14 @@ unfolding joins
 pass f x y inside rest q =
     entries_more f x y inside rest ∙ ap (λ a. joins a (stated_entries f x rest)) (sym (entries_other f x y inside (alike_sym y.name x.definition.name ∙ q)))
 
-match : {s st : List ℕ} (f : File) (x : Defined) (left : Statements) {k till i : ℕ} → BlockAt s st k till left → At i ≡ first_stated left k x.definition.name
+match : {s st : List ℕ} (f : File) (x : Defined) (left : Statements) {k till i : ℕ} → BlockAt s st k till left → Some i ≡ first_stated left k x.definition.name
     → Match s st f x left k till i
 unfolding first_stated statements_in row_of
 match f x done b e = absurd (false≢true (sym (ap is_found e)))
 match {s} {st} f x (state y inside rest) {k} {till} {i} b e = by (alike x.definition.name y.name) refl e (match f x rest (rest_at b))
   where
-    by : (a : Bool) → alike x.definition.name y.name ≡ a → At i ≡ pick a (At k) (first_stated rest (suc k + statements_in inside) x.definition.name)
-        → (At i ≡ first_stated rest (suc k + statements_in inside) x.definition.name → Match s st f x rest (suc k + statements_in inside) till i)
+    by : (a : Bool) → alike x.definition.name y.name ≡ a → Some i ≡ pick a (Some k) (first_stated rest (suc k + statements_in inside) x.definition.name)
+        → (Some i ≡ first_stated rest (suc k + statements_in inside) x.definition.name → Match s st f x rest (suc k + statements_in inside) till i)
         → Match s st f x (state y inside rest) k till i
     by true q p ih =
         let h : i ≡ k = ap row_of p in
@@ -85,13 +85,13 @@ match {s} {st} f x (state y inside rest) {k} {till} {i} b e = by (alike x.defini
           skips = pass f x y inside rest q ∙ m.skips;
         }
 
-no_match : (f : File) (x : Defined) (left : Statements) (k : ℕ) → Nothing ≡ first_stated left k x.definition.name → stated_entries f x left ≡ end
+no_match : (f : File) (x : Defined) (left : Statements) (k : ℕ) → None ≡ first_stated left k x.definition.name → stated_entries f x left ≡ end
 unfolding first_stated
 no_match f x done k e = entries_none f x
 no_match f x (state y inside rest) k e = by (alike x.definition.name y.name) refl e (no_match f x rest (suc k + statements_in inside))
   where
-    by : (a : Bool) → alike x.definition.name y.name ≡ a → Nothing ≡ pick a (At k) (first_stated rest (suc k + statements_in inside) x.definition.name)
-        → (Nothing ≡ first_stated rest (suc k + statements_in inside) x.definition.name → stated_entries f x rest ≡ end)
+    by : (a : Bool) → alike x.definition.name y.name ≡ a → None ≡ pick a (Some k) (first_stated rest (suc k + statements_in inside) x.definition.name)
+        → (None ≡ first_stated rest (suc k + statements_in inside) x.definition.name → stated_entries f x rest ≡ end)
         → stated_entries f x (state y inside rest) ≡ end
     by true q p ih = absurd (false≢true (ap is_found p))
     by false q p ih = pass f x y inside rest q ∙ ih p
@@ -130,26 +130,26 @@ module _ {s d e o st v : List ℕ} {z : Sizes} {j from till : ℕ} {w : OwnerOf}
 
   module _ {at len : ℕ} (c₁ : at ≡ get_or d (j * 19 + 2) 0) (c₂ : len ≡ get_or d (j * 19 + 3) 0) {v₁ : List ℕ} {m k : ℕ} (t : States s d e o st v z j from till w n v₁ m k) where
     -- No statement left has the name,
-    pub states_none : {r : Found} → FindsStated s st k till at len r → r ≡ Nothing → ResolvesStated s d e o st v z j from till w n v₁ m
+    pub states_none : {r : Found} → FindsStated s st k till at len r → r ≡ None → ResolvesStated s d e o st v z j from till w n v₁ m
     states_none finds p f x ss ow g a b own room =
         let K = t f x ss ow g a b own room in
         states_done K (no_match f x K.left k (sym p ∙ finds K.left x.definition.name K.block (name_at g.tables a at len c₁ c₂)))
 
     -- or that of row i is the first, which is one of those left.
-    matched : {r : Found} {i : ℕ} → FindsStated s st k till at len r → r ≡ At i → (f : File) (x : Defined) (ss : Statements) (ow : Owner) (g : Given s d e o st z f) (a : Attribute f j x)
+    matched : {r : Found} {i : ℕ} → FindsStated s st k till at len r → r ≡ Some i → (f : File) (x : Defined) (ss : Statements) (ow : Owner) (g : Given s d e o st z f) (a : Attribute f j x)
         (b : BlockAt s st from till ss) (own : Owns w ow) (room : Room v n) → Match s st f x (t f x ss ow g a b own room).left k till i
     matched finds p f x ss ow g a b own room =
         let K = t f x ss ow g a b own room in
         match f x K.left K.block (sym p ∙ finds K.left x.definition.name K.block (name_at g.tables a at len c₁ c₂))
 
-    pub states_out : {r : Found} {i : ℕ} → FindsStated s st k till at len r → r ≡ At i → (k ≤ i → till ≤ i) → ResolvesStated s d e o st v z j from till w n v₁ m
+    pub states_out : {r : Found} {i : ℕ} → FindsStated s st k till at len r → r ≡ Some i → (k ≤ i → till ≤ i) → ResolvesStated s d e o st v z j from till w n v₁ m
     states_out finds p h f x ss ow g a b own room =
         let M = matched finds p f x ss ow g a b own room in
         let l = h M.low in
         let u = M.high in
         absurd (omega arith)
 
-    pub states_more : {q : Found} {i next inner : ℕ} {v₂ : List ℕ} {r : ℕ} → FindsStated s st k till at len q → q ≡ At i → next ≡ row_after st i till → inner ≡ i + 1
+    pub states_more : {q : Found} {i next inner : ℕ} {v₂ : List ℕ} {r : ℕ} → FindsStated s st k till at len q → q ≡ Some i → next ≡ row_after st i till → inner ≡ i + 1
         → EntersStated s d e o st v₁ z j i inner next w m v₂ r → States s d e o st v z j from till w n v₂ r next
     unfolding statements_in
     states_more {q} {i} {next} {inner} {v₂} {r} finds p na ni en f x ss ow g a b own room =
@@ -174,15 +174,15 @@ module _ {s d e o st v : List ℕ} {z : Sizes} {j from till : ℕ} {w : OwnerOf}
 module _ {s d e o st v : List ℕ} {z : Sizes} {j from till : ℕ} {w : OwnerOf} {n : ℕ} where
   -- The values that a block states are those that it states from the first one on.
   pub stated_from : {at len : ℕ} → at ≡ get_or d (j * 19 + 2) 0 → len ≡ get_or d (j * 19 + 3) 0 → {q : Found} {i : ℕ} {v' : List ℕ} {r : ℕ}
-      → FindsStated s st from till at len q → q ≡ At i → ResolvesStated s d e o st v z j i till w n v' r → ResolvesStated s d e o st v z j from till w n v' r
+      → FindsStated s st from till at len q → q ≡ Some i → ResolvesStated s d e o st v z j i till w n v' r → ResolvesStated s d e o st v z j from till w n v' r
   stated_from {at} {len} c₁ c₂ finds p res f x ss ow g a b own room =
       let M = match f x ss b (sym p ∙ finds ss x.definition.name b (name_at g.tables a at len c₁ c₂)) in
       wrote_same (sym M.skips) (res f x (state M.statement M.inside M.rest) ow g a M.block own room)
 
   -- The attribute of a row is stated, first by the statement of row i, or it is not.
   module _ {key : ℕ} {q : Found} {v' : List ℕ} {r : ℕ} (finds : FindsStated s st from till (get_or d (j * 19 + 2) 0) (get_or d (j * 19 + 3) 0) q) where
-    pub row_found : {i : ℕ} → q ≡ At i → ResolvesStated s d e o st v z j i till w n v' r → ResolvesUnder s d e o st v z j key from till w n v' r
+    pub row_found : {i : ℕ} → q ≡ Some i → ResolvesStated s d e o st v z j i till w n v' r → ResolvesUnder s d e o st v z j key from till w n v' r
     row_found p res = row_stated refl refl (is_stated _ _ finds) (ap is_found p) (stated_from refl refl finds p res)
 
-    pub row_missing : q ≡ Nothing → ResolvesDefault s d e o st v z j w n v' r → ResolvesUnder s d e o st v z j key from till w n v' r
+    pub row_missing : q ≡ None → ResolvesDefault s d e o st v z j w n v' r → ResolvesUnder s d e o st v z j key from till w n v' r
     row_missing p res = row_default refl refl (is_stated _ _ finds) (ap is_found p) res

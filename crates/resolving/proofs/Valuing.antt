@@ -12,7 +12,7 @@ use Rattle.rows.specs.Search.{row_of}
 use Rattle.token.specs.Find.{bit}
 use Rattle.token.specs.Tokens.{step_at}
 use Rattle.grammar.specs.Grammar.{Kind}
-use Rattle.rows.specs.declared.Found.{Found}
+use Rattle.rows.specs.Found.{Found}
 use Rattle.meaning.specs.Syntax.{Num, Word, span_of, AttributeType, integer, string, boolean, enum, float, reference, Values, Defined, Object, File, is_enum}
 use Rattle.meaning.specs.Kinds.{kind_number}
 use Rattle.meaning.specs.Actions.{num_of_step}
@@ -27,8 +27,9 @@ use Rattle.scopes.specs.Promises.{FindsEnumerator, FindsObject, number_found, ob
 use Rattle.scopes.specs.declared.Sizes.{Sizes}
 use Rattle.resolving.specs.declared.Owner.{Owner as OwnerOf}
 use Rattle.resolving.specs.declared.Held.{Held}
+use Rattle.resolving.specs.declared.Held.TheVariants.{Number as ANumber, Truth as ATruth, Auto as AnAuto, String as AString, Enumerator as AnEnumerator, Object as AnObject, Float as AFloat}
 use Rattle.scopes.specs.Given.{Tables, Attribute}
-use Rattle.resolving.specs.Written.{Holds}
+use Rattle.resolving.specs.Written.{Holds, sort_cell, row_cell, held_sort, held_negative, held_amount}
 use Rattle.resolving.specs.Promises.{WordAt, NamedValue, ValueOf, PutValue}
 use Rattle.scopes.proofs.Sorts.{sort_coded, tells, name_coded}
 use Rattle.lookups.proofs.Attributes.{reached, known, formed}
@@ -39,11 +40,8 @@ nine : {a b c d e f g h i a' b' c' d' e' f' g' h' i' : ℕ} → a ≡ a' → b �
     → a ∷ b ∷ c ∷ d ∷ e ∷ f ∷ g ∷ h ∷ i ∷ [] ≡ a' ∷ b' ∷ c' ∷ d' ∷ e' ∷ f' ∷ g' ∷ h' ∷ i' ∷ []
 nine p₁ p₂ p₃ p₄ p₅ p₆ p₇ p₈ p₉ = cc
 
-abbrev held : ℕ → ℕ → ℕ → Held
-held k n a = record { sort = k; negative = n; amount = a }
-
 -- A number.
-pub holds_number : (y : Num) (n k : ℕ) → InCells y n k → Holds (held 0 n k) (number y)
+pub holds_number : (y : Num) (n k : ℕ) → InCells y n k → Holds (ANumber n k) (number y)
 unfolding value_sort value_negative value_amount
 holds_number y n k h = record { sort = refl; negative = h.negative; amount = h.amount }
 
@@ -84,16 +82,16 @@ type_of {t = t} {x = x} c g a = typed x x.values t (formed g a) (c ∙ (known g 
 
 module _ {s d e o : List ℕ} {z : Sizes} {j at len t : ℕ} (c : t ≡ get_or d (j * 19 + 12) 0) where
   -- No enumeration and no reference.
-  pub named_string : (t ≡ 41 → ⊥) → (22 ≤ t → 34 < t) → NamedValue s d e o z j at len (held 3 0 0)
+  pub named_string : (t ≡ 41 → ⊥) → (22 ≤ t → 34 < t) → NamedValue s d e o z j at len AString
   unfolding value_sort value_negative value_amount bit
   named_string n₁ n₂ f x w g a r = by (type_of c g a)
     where
-      by : Typed x.definition.type t → Holds (held 3 0 0) (named x.definition.type f.objects x.values w)
-      by (is_other h i k) = subst (Holds (held 3 0 0)) (sym (h f.objects x.values w)) (record { sort = refl; negative = refl; amount = refl })
+      by : Typed x.definition.type t → Holds AString (named x.definition.type f.objects x.values w)
+      by (is_other h i k) = subst (Holds AString) (sym (h f.objects x.values w)) (record { sort = refl; negative = refl; amount = refl })
       by (an_enumeration h i) = absurd (n₁ i)
       by (a_kind k h i) = let l = kind_low k in let q = n₂ (omega arith) in absurd (omega arith)
 
-  pub named_enumerator : {r : Found} {m : ℕ} → t ≡ 41 → FindsEnumerator s d e z.enumerators j at len r → m ≡ row_of r → NamedValue s d e o z j at len (held 4 0 m)
+  pub named_enumerator : {r : Found} {m : ℕ} → t ≡ 41 → FindsEnumerator s d e z.enumerators j at len r → m ≡ row_of r → NamedValue s d e o z j at len (AnEnumerator m)
   unfolding number_found number_or row_of named value_sort value_negative value_amount bit is_enum
   named_enumerator {r} {m} q finds k f x w g a h = by (type_of c g a)
     where
@@ -101,13 +99,13 @@ module _ {s d e o : List ℕ} {z : Sizes} {j at len t : ℕ} (c : t ≡ get_or d
       value_is none p = k ∙ ap row_of p
       value_is (some u) p = k ∙ ap row_of p
 
-      holds : x.definition.type ≡ enum → m ≡ number_or (find_value x.values w) → Holds (held 4 0 m) (named x.definition.type f.objects x.values w)
-      holds p i = subst (λ y. Holds (held 4 0 m) (named y f.objects x.values w)) (sym p) (record { sort = refl; negative = refl; amount = i })
+      holds : x.definition.type ≡ enum → m ≡ number_or (find_value x.values w) → Holds (AnEnumerator m) (named x.definition.type f.objects x.values w)
+      holds p i = subst (λ y. Holds (AnEnumerator m) (named y f.objects x.values w)) (sym p) (record { sort = refl; negative = refl; amount = i })
 
       enum_is : x.definition.type ≡ enum → is_enum x.definition.type ≡ true
       enum_is p = ap is_enum p
 
-      by : Typed x.definition.type t → Holds (held 4 0 m) (named x.definition.type f.objects x.values w)
+      by : Typed x.definition.type t → Holds (AnEnumerator m) (named x.definition.type f.objects x.values w)
       by (is_other _ i _) = absurd (i q)
       by (an_enumeration p i) =
           let K = known g a in
@@ -115,7 +113,7 @@ module _ {s d e o : List ℕ} {z : Sizes} {j at len t : ℕ} (c : t ≡ get_or d
       by (a_kind y p i) = let l = kind_low y in absurd (omega arith)
 
   pub named_object : {r : Found} {m kind : ℕ} → (t ≡ 41 → ⊥) → 22 ≤ t → t ≤ 34 → kind ≡ t - 22 → FindsObject s o z.objects kind at len r → m ≡ row_of r
-      → NamedValue s d e o z j at len (held 5 0 m)
+      → NamedValue s d e o z j at len (AnObject m)
   unfolding object_found row_or row_of named value_sort value_negative value_amount bit
   named_object {r} {m} {kind} n₁ lo hi e finds k f x w g a h = by (type_of c g a)
     where
@@ -123,10 +121,10 @@ module _ {s d e o : List ℕ} {z : Sizes} {j at len t : ℕ} (c : t ≡ get_or d
       value_is none p = k ∙ ap row_of p
       value_is (some u) p = k ∙ ap row_of p
 
-      holds : (y : Kind) → x.definition.type ≡ reference y → m ≡ row_or (find_object y f.objects w) → Holds (held 5 0 m) (named x.definition.type f.objects x.values w)
-      holds y p i = subst (λ q. Holds (held 5 0 m) (named q f.objects x.values w)) (sym p) (record { sort = refl; negative = refl; amount = i })
+      holds : (y : Kind) → x.definition.type ≡ reference y → m ≡ row_or (find_object y f.objects w) → Holds (AnObject m) (named x.definition.type f.objects x.values w)
+      holds y p i = subst (λ q. Holds (AnObject m) (named q f.objects x.values w)) (sym p) (record { sort = refl; negative = refl; amount = i })
 
-      by : Typed x.definition.type t → Holds (held 5 0 m) (named x.definition.type f.objects x.values w)
+      by : Typed x.definition.type t → Holds (AnObject m) (named x.definition.type f.objects x.values w)
       by (is_other _ _ i) = absurd (let q = i lo in omega arith)
       by (an_enumeration p i) = absurd (n₁ i)
       by (a_kind y p i) =
@@ -150,31 +148,31 @@ module _ {s d e o : List ℕ} {z : Sizes} {j at len code : ℕ} where
   unfolding sort_coded valued
   value_number {h} c k f x t g a w = by_sort f x t a_number (sort_is w (ap sort_coded c)) (subst (λ y. Holds h (number y)) (sym w.read.number) k)
 
-  pub value_string : code ≡ 44 → ValueOf s d e o z j at len code (held 3 0 0)
+  pub value_string : code ≡ 44 → ValueOf s d e o z j at len code AString
   unfolding sort_coded valued value_sort value_negative value_amount bit
   value_string c f x t g a w = by_sort f x t a_string (sort_is w (ap sort_coded c)) (record { sort = refl; negative = refl; amount = refl })
 
-  pub value_float : code ≡ 54 → ValueOf s d e o z j at len code (held 6 0 0)
+  pub value_float : code ≡ 54 → ValueOf s d e o z j at len code AFloat
   unfolding sort_coded valued value_sort value_negative value_amount bit
   value_float c f x t g a w = by_sort f x t float-sort (sort_is w (ap sort_coded c)) (record { sort = refl; negative = refl; amount = refl })
 
-  pub value_true : code ≡ 1 → ValueOf s d e o z j at len code (held 1 0 1)
+  pub value_true : code ≡ 1 → ValueOf s d e o z j at len code (ATruth true)
   unfolding sort_coded valued value_sort value_negative value_amount bit code_of
   value_true c f x t g a w =
       let b : is_true t.class ≡ true = (tells t.class).truth ∙ ap (λ n. eqb n 1) (w.coded ∙ c) in
       by_sort f x t a_truth (sort_is w (ap sort_coded c)) (record { sort = refl; negative = refl; amount = sym (ap bit b) })
 
-  pub value_false : code ≡ 2 → ValueOf s d e o z j at len code (held 1 0 0)
+  pub value_false : code ≡ 2 → ValueOf s d e o z j at len code (ATruth false)
   unfolding sort_coded valued value_sort value_negative value_amount bit code_of
   value_false c f x t g a w =
       let b : is_true t.class ≡ false = (tells t.class).truth ∙ ap (λ n. eqb n 1) (w.coded ∙ c) in
       by_sort f x t a_truth (sort_is w (ap sort_coded c)) (record { sort = refl; negative = refl; amount = sym (ap bit b) })
 
-  pub value_auto : code ≡ 3 → ValueOf s d e o z j at len code (held 2 0 0)
+  pub value_auto : code ≡ 3 → ValueOf s d e o z j at len code AnAuto
   unfolding sort_coded valued value_sort value_negative value_amount bit
   value_auto c f x t g a w = by_sort f x t an_auto (sort_is w (ap sort_coded c)) (record { sort = refl; negative = refl; amount = refl })
 
-  pub value_no_default : code ≡ 4 → ValueOf s d e o z j at len code (held 2 0 0)
+  pub value_no_default : code ≡ 4 → ValueOf s d e o z j at len code AnAuto
   unfolding sort_coded valued value_sort value_negative value_amount bit
   value_no_default c f x t g a w = by_sort f x t a_no_default (sort_is w (ap sort_coded c)) (record { sort = refl; negative = refl; amount = refl })
 
@@ -184,9 +182,9 @@ module _ {s d e o : List ℕ} {z : Sizes} {j at len code : ℕ} where
   value_name h₁ h₂ h₃ h₄ h₅ h₆ h₇ k f x t g a w = by_sort f x t a_name (sort_is w (name_coded code h₁ h₂ h₃ h₄ h₅ h₆ h₇)) (k f x t g a w.read)
 
   -- The row of a value.
-  pub put_row : (v : List ℕ) (n : ℕ) (w : OwnerOf) (stated : ℕ) (h : Held) (v' : List ℕ) → ValueOf s d e o z j at len code h
-      → v' ≡ sets v (n * 9) (j ∷ w.sort ∷ w.row ∷ h.sort ∷ h.negative ∷ h.amount ∷ stated ∷ at ∷ len ∷ []) → PutValue s d e o v z n w j stated at len code v'
+  pub put_row : (v : List ℕ) (n : ℕ) (w : OwnerOf) (stated : ℕ) (h : Held) (a b k l m : ℕ) (v' : List ℕ) → a ≡ sort_cell w → b ≡ row_cell w → k ≡ held_sort h → l ≡ held_negative h → m ≡ held_amount h → ValueOf s d e o z j at len code h
+      → v' ≡ sets v (n * 9) (j ∷ a ∷ b ∷ k ∷ l ∷ m ∷ stated ∷ at ∷ len ∷ []) → PutValue s d e o v z n w j stated at len code v'
   unfolding value_cells value_row take_value span_of
-  put_row v n w stated h v' k p f x t b ow g a wa own fl =
+  put_row v n w stated h c e k₁ k₂ k₃ v' eq er e₁ e₂ e₃ k p f x t b ow g a wa own fl =
       let q = k f x t g a wa in
-      p ∙ ap (sets v (n * 9)) (nine (sym a.row) own.sort own.row q.sort q.negative q.amount fl (sym wa.place) (sym wa.length))
+      p ∙ ap (sets v (n * 9)) (nine (sym a.row) (eq ∙ own.sort) (er ∙ own.row) (e₁ ∙ q.sort) (e₂ ∙ q.negative) (e₃ ∙ q.amount) fl (sym wa.place) (sym wa.length))

@@ -1,7 +1,7 @@
 -- What is noted of a text's names before its values are resolved, and which rows a loop over the definitions may pass. Assumes nothing.
 use Rattle.std.specs.Prelude.{◌≡◌, List, Bool, true, false, ℕ, suc, ◌+◌, ◌*◌, ◌≤◌, ◌<◌, length, get_or}
-use Rattle.rows.specs.declared.Found.{Found}
-use Rattle.rows.specs.declared.Found.TheVariants.{At}
+use Rattle.rows.specs.Found.{Found}
+use Rattle.std.specs.Prelude.{Some}
 use Rattle.indexes.specs.Indexing.{Indexed}
 use Rattle.lookups.specs.Names.{FewRows, Named}
 use Rattle.lookups.specs.Ranks.{Ranked}
@@ -12,12 +12,13 @@ use Rattle.amounts.specs.Known.{KnownDefaults}
 use Rattle.blocks.specs.Blocks.{IsStated}
 use Rattle.scopes.specs.Promises.{FindsEnumerator, FindsWord}
 use Rattle.scopes.specs.declared.Sizes.{Sizes}
+use Rattle.resolving.specs.declared.Notes.{Notes}
 
 -- What is noted ----------------------------------------------------------------------------------------------------------------------------
 
 -- The number c notes the enumerator that the default of row j is: one more than its row, or 0 where nothing is noted.
 pub record WordNoted (s d e : List ℕ) (n j c : ℕ) : Type 0 where
-  pub told : (i : ℕ) → c ≡ suc i → FindsEnumerator s d e n j (get_or d (j * 19 + 10) 0) (get_or d (j * 19 + 11) 0) (At i)
+  pub told : (i : ℕ) → c ≡ suc i → FindsEnumerator s d e n j (get_or d (j * 19 + 10) 0) (get_or d (j * 19 + 11) 0) (Some i)
 
 -- So do the cells of t; of the enumerators the first n are looked at.
 pub record WordsNoted (s d e : List ℕ) (n : ℕ) (t : List ℕ) : Type 0 where
@@ -64,6 +65,22 @@ pub record Noted (s d e o st : List ℕ) (z : Sizes) (known words xe xo rs nx rd
   pub ranks : NamesRanked s d st rs rd
   pub links : Linked st rs nx
   pub owners : DefaultOwners d us
+
+-- The same of the struct that holds it all.
+abbrev pub InNotes : Notes → Type 0
+InNotes n =
+    Noted n.tables.text.now n.tables.definitions.now n.tables.enumerators.now n.tables.objects.now n.tables.statements.now n.tables.sizes
+    n.known.now n.words.now n.enumerator_index.now n.object_index.now n.statement_ranks.now n.next_rows.now n.definition_ranks.now n.owners.now
+
+-- The part of it by which a value is told.
+abbrev pub InDefaults : Notes → Type 0
+InDefaults n =
+    KnownDefaults n.tables.text.now n.tables.definitions.now n.known.now
+    × Indexes n.tables.text.now n.tables.definitions.now n.tables.enumerators.now n.tables.objects.now n.tables.sizes n.words.now n.enumerator_index.now n.object_index.now
+
+-- The part of it by which a row is found.
+abbrev pub InRanks : Notes → Type 0
+InRanks n = NamesRanked n.tables.text.now n.tables.definitions.now n.tables.statements.now n.statement_ranks.now n.definition_ranks.now
 
 -- What is lent: the names, and what is known of the defaults; the table of definitions has 513 rows.
 pub record Lent (s d e o st : List ℕ) (z : Sizes) (names known us : List ℕ) : Type 0 where

@@ -2,35 +2,22 @@
 ghost use Rattle.std.specs.Prelude.{◌≤◌, ◌<◌};
 ghost use Rattle.lookups.specs.Names.{Names};
 ghost use Rattle.lookups.specs.Ranks.{Firsts};
-ghost use Rattle.resolving.specs.Noted.{Noted, Lent};
+ghost use Rattle.resolving.specs.Noted.{InNotes, Lent};
 ghost use Rattle.resolving.specs.Promises.{Enters, EntersStated, ResolvesStated, ResolvesDefault, ResolvesUnder, Resolves, ResolvesAll};
 
-use super::{Owner, scanning, values, words};
+use super::{Notes, Owner, Tables, scanning, values, words};
 use amounts::defaults;
 use layout::{definition, enumerator, object, statement, value, word_codes};
 use lookups::names;
-use rows::{Found, cells, counts};
+use rows::{cells, counts};
 use scopes::Sizes;
 
 // The value of the word at a place, of the attribute of row j, and what is under it; the statements in its braces are the rows from one up to
 // another.
 #[cycle(enter_enter_stated_resolve_resolve_default_resolve_row_resolve_scope_resolve_stated)]
 fn enter(
-    text: &[u8],
-    d: &[usize],
-    e: &[usize],
-    o: &[usize],
-    st: &[usize],
-    known: &[usize],
-    noted: &[usize],
-    xe: &[usize],
-    xo: &[usize],
-    rs: &[usize],
-    nx: &[usize],
-    rd: &[usize],
-    owners: &[usize],
+    t: Notes,
     v: &mut [usize],
-    z: Sizes,
     j: usize,
     stated: usize,
     at: usize,
@@ -41,60 +28,23 @@ fn enter(
     w: Owner,
     n: usize,
 ) -> usize
-    requires { Noted text.now d.now e.now o.now st.now z known.now noted.now xe.now xo.now rs.now nx.now rd.now owners.now }
-    ensures { Enters text.now d.now e.now o.now st.now v.old z j stated at len code from end w n v.new result }
+    requires { InNotes t }
+    ensures { let x = t.entry.tables in Enters x.text.now x.definitions.now x.enumerators.now x.objects.now x.statements.now v.old x.sizes j stated at len code from end w n v.new result }
 {
     if value::MOST < n {
         return n;
     }
-    values::put_value(
-        text, d, e, o, known, noted, xe, xo, v, z, n, w, j, stated, at, len, code,
-    );
-    let key = words::word_of(text, d, e, xe, noted, j, at, len);
-    resolve(
-        text,
-        d,
-        e,
-        o,
-        st,
-        known,
-        noted,
-        xe,
-        xo,
-        rs,
-        nx,
-        rd,
-        owners,
-        v,
-        z,
-        j,
-        key,
-        from,
-        end,
-        Owner { sort: 1, row: n },
-        n + 1,
-    )
+    values::put_value(t, v, n, w, j, stated, at, len, code);
+    let key = words::word_of(t, j, at, len);
+    resolve(t, v, j, key, from, end, Owner::Value(n), n + 1)
 }
 
 // The value of the statement of row k, which has the name of the attribute of row j; the statements in its braces are the rows from `inner` up
 // to `next`.
 #[cycle(enter_enter_stated_resolve_resolve_default_resolve_row_resolve_scope_resolve_stated)]
 fn enter_stated(
-    text: &[u8],
-    d: &[usize],
-    e: &[usize],
-    o: &[usize],
-    st: &[usize],
-    known: &[usize],
-    noted: &[usize],
-    xe: &[usize],
-    xo: &[usize],
-    rs: &[usize],
-    nx: &[usize],
-    rd: &[usize],
-    owners: &[usize],
+    t: Notes,
     v: &mut [usize],
-    z: Sizes,
     j: usize,
     k: usize,
     inner: usize,
@@ -102,59 +52,49 @@ fn enter_stated(
     w: Owner,
     n: usize,
 ) -> usize
-    requires { Noted text.now d.now e.now o.now st.now z known.now noted.now xe.now xo.now rs.now nx.now rd.now owners.now }
-    ensures { EntersStated text.now d.now e.now o.now st.now v.old z j k inner next w n v.new result }
+    requires { InNotes t }
+    ensures { let x = t.entry.tables in EntersStated x.text.now x.definitions.now x.enumerators.now x.objects.now x.statements.now v.old x.sizes j k inner next w n v.new result }
 {
-    let at = cells::cell_of(st, statement::WIDTH, k, statement::VALUE);
-    let len = cells::cell_of(st, statement::WIDTH, k, statement::VALUE_LENGTH);
-    let code = cells::cell_of(st, statement::WIDTH, k, statement::CODE);
-    enter(
-        text, d, e, o, st, known, noted, xe, xo, rs, nx, rd, owners, v, z, j, 1, at, len, code,
-        inner, next, w, n,
-    )
+    let at = cells::cell_of(t.tables.statements, statement::WIDTH, k, statement::VALUE);
+    let len = cells::cell_of(
+        t.tables.statements,
+        statement::WIDTH,
+        k,
+        statement::VALUE_LENGTH,
+    );
+    let code = cells::cell_of(t.tables.statements, statement::WIDTH, k, statement::CODE);
+    enter(t, v, j, 1, at, len, code, inner, next, w, n)
 }
 
-// The values that a block states of the attribute of row j, in the order of the text; nx has the next statement of each one's rank.
+// The values that a block states of the attribute of row j, in the order of the text.
 #[cycle(enter_enter_stated_resolve_resolve_default_resolve_row_resolve_scope_resolve_stated)]
 fn resolve_stated(
-    text: &[u8],
-    d: &[usize],
-    e: &[usize],
-    o: &[usize],
-    st: &[usize],
-    known: &[usize],
-    noted: &[usize],
-    xe: &[usize],
-    xo: &[usize],
-    rs: &[usize],
-    nx: &[usize],
-    rd: &[usize],
-    owners: &[usize],
+    t: Notes,
     v: &mut [usize],
-    z: Sizes,
     j: usize,
     from: usize,
     end: usize,
     w: Owner,
     n: usize,
 ) -> usize
-    requires { Noted text.now d.now e.now o.now st.now z known.now noted.now xe.now xo.now rs.now nx.now rd.now owners.now }
-    ensures { ResolvesStated text.now d.now e.now o.now st.now v.old z j from end w n v.new result }
+    requires { InNotes t }
+    ensures { let x = t.entry.tables in ResolvesStated x.text.now x.definitions.now x.enumerators.now x.objects.now x.statements.now v.old x.sizes j from end w n v.new result }
 {
     let mut m = n;
-    let mut last = nx.len();
+    let mut last = t.next_rows.len();
     let mut k = from;
+    // A `while`: the next row to look at is the one after those in the braces of the statement found.
     while k < end {
-        let Found::At(i) = lookups::stated_after(
-            text,
-            d,
+        let Some(i) = lookups::stated_after(
+            t.tables.text,
+            t.tables.definitions,
             definition::WIDTH,
             definition::NAME,
-            rd,
+            t.definition_ranks,
             j,
-            st,
-            rs,
-            nx,
+            t.tables.statements,
+            t.statement_ranks,
+            t.next_rows,
             last,
             k,
             end,
@@ -167,30 +107,8 @@ fn resolve_stated(
         if end <= i {
             return m;
         }
-        let next = blocks::after(st, i, end);
-        m = enter_stated(
-            text,
-            d,
-            e,
-            o,
-            st,
-            known,
-            noted,
-            xe,
-            xo,
-            rs,
-            nx,
-            rd,
-            owners,
-            v,
-            z,
-            j,
-            i,
-            i + 1,
-            next,
-            w,
-            m,
-        );
+        let next = blocks::after(t.tables.statements, i, end);
+        m = enter_stated(t, v, j, i, i + 1, next, w, m);
         last = i;
         k = next;
     }
@@ -199,63 +117,43 @@ fn resolve_stated(
 
 // The value that the attribute of row j takes where it is not stated, if there is one.
 #[cycle(enter_enter_stated_resolve_resolve_default_resolve_row_resolve_scope_resolve_stated)]
-fn resolve_default(
-    text: &[u8],
-    d: &[usize],
-    e: &[usize],
-    o: &[usize],
-    st: &[usize],
-    known: &[usize],
-    noted: &[usize],
-    xe: &[usize],
-    xo: &[usize],
-    rs: &[usize],
-    nx: &[usize],
-    rd: &[usize],
-    owners: &[usize],
-    v: &mut [usize],
-    z: Sizes,
-    j: usize,
-    w: Owner,
-    n: usize,
-) -> usize
-    requires { Noted text.now d.now e.now o.now st.now z known.now noted.now xe.now xo.now rs.now nx.now rd.now owners.now }
-    ensures { ResolvesDefault text.now d.now e.now o.now st.now v.old z j w n v.new result }
+fn resolve_default(t: Notes, v: &mut [usize], j: usize, w: Owner, n: usize) -> usize
+    requires { InNotes t }
+    ensures { let x = t.entry.tables in ResolvesDefault x.text.now x.definitions.now x.enumerators.now x.objects.now x.statements.now v.old x.sizes j w n v.new result }
 {
-    let len = cells::cell_of(d, definition::WIDTH, j, definition::DEFAULT_LENGTH);
+    let len = cells::cell_of(
+        t.tables.definitions,
+        definition::WIDTH,
+        j,
+        definition::DEFAULT_LENGTH,
+    );
     if len == 0 {
         return n;
     }
-    let code = cells::cell_of(d, definition::WIDTH, j, definition::DEFAULT_CODE);
+    let code = cells::cell_of(
+        t.tables.definitions,
+        definition::WIDTH,
+        j,
+        definition::DEFAULT_CODE,
+    );
     if code == word_codes::NO_DEFAULT {
         return n;
     }
-    let at = cells::cell_of(d, definition::WIDTH, j, definition::DEFAULT);
-    enter(
-        text, d, e, o, st, known, noted, xe, xo, rs, nx, rd, owners, v, z, j, 0, at, len, code, 0,
-        0, w, n,
-    )
+    let at = cells::cell_of(
+        t.tables.definitions,
+        definition::WIDTH,
+        j,
+        definition::DEFAULT,
+    );
+    enter(t, v, j, 0, at, len, code, 0, 0, w, n)
 }
 
 // The values of the attribute of row j, which stands under the word at key; `first` has the first row of each rank in the block.
 #[cycle(enter_enter_stated_resolve_resolve_default_resolve_row_resolve_scope_resolve_stated)]
 fn resolve_row(
-    text: &[u8],
-    d: &[usize],
-    e: &[usize],
-    o: &[usize],
-    st: &[usize],
-    known: &[usize],
-    noted: &[usize],
-    xe: &[usize],
-    xo: &[usize],
-    rs: &[usize],
-    nx: &[usize],
-    rd: &[usize],
-    owners: &[usize],
+    t: Notes,
     first: &[usize],
     v: &mut [usize],
-    z: Sizes,
     j: usize,
     key: usize,
     from: usize,
@@ -263,51 +161,34 @@ fn resolve_row(
     w: Owner,
     n: usize,
 ) -> usize
-    requires { Noted text.now d.now e.now o.now st.now z known.now noted.now xe.now xo.now rs.now nx.now rd.now owners.now × Firsts st.now rs.now from end first.now }
-    ensures { ResolvesUnder text.now d.now e.now o.now st.now v.old z j key from end w n v.new result }
+    requires { InNotes t × Firsts t.tables.statements.now t.statement_ranks.now from end first.now }
+    ensures { let x = t.entry.tables in ResolvesUnder x.text.now x.definitions.now x.enumerators.now x.objects.now x.statements.now v.old x.sizes j key from end w n v.new result }
 {
-    let Found::At(k) = lookups::row_stated(
-        text,
-        d,
+    let Some(k) = lookups::row_stated(
+        t.tables.text,
+        t.tables.definitions,
         definition::WIDTH,
         definition::NAME,
-        rd,
+        t.definition_ranks,
         j,
-        st,
-        rs,
+        t.tables.statements,
+        t.statement_ranks,
         first,
         from,
         end,
     ) else {
-        return resolve_default(
-            text, d, e, o, st, known, noted, xe, xo, rs, nx, rd, owners, v, z, j, w, n,
-        );
+        return resolve_default(t, v, j, w, n);
     };
-    resolve_stated(
-        text, d, e, o, st, known, noted, xe, xo, rs, nx, rd, owners, v, z, j, k, end, w, n,
-    )
+    resolve_stated(t, v, j, k, end, w, n)
 }
 
 // The values of the scope of the word at key, in the order of its definitions, whose rows are below a limit; `first` has the first row of each rank in
 // the block.
 #[cycle(enter_enter_stated_resolve_resolve_default_resolve_row_resolve_scope_resolve_stated)]
 fn resolve_scope(
-    text: &[u8],
-    d: &[usize],
-    e: &[usize],
-    o: &[usize],
-    st: &[usize],
-    known: &[usize],
-    noted: &[usize],
-    xe: &[usize],
-    xo: &[usize],
-    rs: &[usize],
-    nx: &[usize],
-    rd: &[usize],
-    owners: &[usize],
+    t: Notes,
     first: &[usize],
     v: &mut [usize],
-    z: Sizes,
     limit: usize,
     key: usize,
     from: usize,
@@ -315,17 +196,15 @@ fn resolve_scope(
     w: Owner,
     n: usize,
 ) -> usize
-    requires { (0 < key) × ((limit ≤ 512) × (Noted text.now d.now e.now o.now st.now z known.now noted.now xe.now xo.now rs.now nx.now rd.now owners.now × Firsts st.now rs.now from end first.now)) }
-    ensures { Resolves text.now d.now e.now o.now st.now v.old z limit key from end w n v.new result }
+    requires { (0 < key) × ((limit ≤ 512) × (InNotes t × Firsts t.tables.statements.now t.statement_ranks.now from end first.now)) }
+    ensures { let x = t.entry.tables in Resolves x.text.now x.definitions.now x.enumerators.now x.objects.now x.statements.now v.old x.sizes limit key from end w n v.new result }
 {
     let mut m = n;
-    let mut j = scanning::next_row(text, d, st, rs, rd, first, limit, key, from, end, 0);
+    let mut j = scanning::next_row(t, first, limit, key, from, end, 0);
+    // A `while`: `next_row` passes the rows that give no value.
     while j < limit {
-        m = resolve_row(
-            text, d, e, o, st, known, noted, xe, xo, rs, nx, rd, owners, first, v, z, j, key, from,
-            end, w, m,
-        );
-        j = scanning::next_row(text, d, st, rs, rd, first, limit, key, from, end, j + 1);
+        m = resolve_row(t, first, v, j, key, from, end, w, m);
+        j = scanning::next_row(t, first, limit, key, from, end, j + 1);
     }
     m
 }
@@ -333,21 +212,8 @@ fn resolve_scope(
 // The same; the place 0 has no scope.
 #[cycle(enter_enter_stated_resolve_resolve_default_resolve_row_resolve_scope_resolve_stated)]
 pub fn resolve(
-    text: &[u8],
-    d: &[usize],
-    e: &[usize],
-    o: &[usize],
-    st: &[usize],
-    known: &[usize],
-    noted: &[usize],
-    xe: &[usize],
-    xo: &[usize],
-    rs: &[usize],
-    nx: &[usize],
-    rd: &[usize],
-    owners: &[usize],
+    t: Notes,
     v: &mut [usize],
-    z: Sizes,
     limit: usize,
     key: usize,
     from: usize,
@@ -355,8 +221,8 @@ pub fn resolve(
     w: Owner,
     n: usize,
 ) -> usize
-    requires { Noted text.now d.now e.now o.now st.now z known.now noted.now xe.now xo.now rs.now nx.now rd.now owners.now }
-    ensures { Resolves text.now d.now e.now o.now st.now v.old z limit key from end w n v.new result }
+    requires { InNotes t }
+    ensures { let x = t.entry.tables in Resolves x.text.now x.definitions.now x.enumerators.now x.objects.now x.statements.now v.old x.sizes limit key from end w n v.new result }
 {
     if key == 0 {
         return n;
@@ -367,107 +233,52 @@ pub fn resolve(
     if value::MOST < n {
         return n;
     }
-    if scanning::is_quiet(owners, key, from, end) {
+    if scanning::is_quiet(t.owners, key, from, end) {
         return n;
     }
     if end <= from {
-        return resolve_scope(
-            text,
-            d,
-            e,
-            o,
-            st,
-            known,
-            noted,
-            xe,
-            xo,
-            rs,
-            nx,
-            rd,
-            owners,
-            &rs[..0],
-            v,
-            z,
-            limit,
-            key,
-            from,
-            end,
-            w,
-            n,
-        );
+        return resolve_scope(t, &t.statement_ranks[..0], v, limit, key, from, end, w, n);
     }
-    if z.definitions < lookups::FEW {
+    if t.tables.sizes.definitions < lookups::FEW {
         let mut few = [end; lookups::FEW];
-        lookups::fill_firsts(st, rs, &mut few, from, end);
-        return resolve_scope(
-            text, d, e, o, st, known, noted, xe, xo, rs, nx, rd, owners, &few, v, z, limit, key,
-            from, end, w, n,
-        );
+        lookups::fill_firsts(t.tables.statements, t.statement_ranks, &mut few, from, end);
+        return resolve_scope(t, &few, v, limit, key, from, end, w, n);
     }
     let mut first = [end; definition::ROWS];
-    lookups::fill_firsts(st, rs, &mut first, from, end);
-    resolve_scope(
-        text, d, e, o, st, known, noted, xe, xo, rs, nx, rd, owners, &first, v, z, limit, key,
-        from, end, w, n,
-    )
+    lookups::fill_firsts(
+        t.tables.statements,
+        t.statement_ranks,
+        &mut first,
+        from,
+        end,
+    );
+    resolve_scope(t, &first, v, limit, key, from, end, w, n)
 }
 
 // The values of all objects, object by object; returns how many there are, or 2049 where there are more than 2048.
-fn resolve_objects(
-    text: &[u8],
-    d: &[usize],
-    e: &[usize],
-    o: &[usize],
-    st: &[usize],
-    known: &[usize],
-    noted: &[usize],
-    xe: &[usize],
-    xo: &[usize],
-    rs: &[usize],
-    nx: &[usize],
-    rd: &[usize],
-    owners: &[usize],
-    v: &mut [usize],
-    z: Sizes,
-    places: [usize; counts::KINDS],
-) -> usize
-    requires { Noted text.now d.now e.now o.now st.now z known.now noted.now xe.now xo.now rs.now nx.now rd.now owners.now }
-    ensures { ResolvesAll text.now d.now e.now o.now st.now v.old z places v.new result }
+fn resolve_objects(t: Notes, v: &mut [usize], places: [usize; counts::KINDS]) -> usize
+    requires { InNotes t }
+    ensures { let x = t.entry.tables in ResolvesAll x.text.now x.definitions.now x.enumerators.now x.objects.now x.statements.now v.old x.sizes places v.new result }
 {
     let mut n = 0;
-    let mut i = 0;
-    while i < z.objects {
-        let kind = cells::cell_of(o, object::WIDTH, i, object::KIND);
+    for i in 0..t.tables.sizes.objects {
+        let kind = cells::cell_of(t.tables.objects, object::WIDTH, i, object::KIND);
         if counts::KINDS <= kind {
             return n;
         }
         let key = places[kind];
-        let from = cells::cell_of(o, object::WIDTH, i, object::FIRST);
-        let end = cells::cell_of(o, object::WIDTH, i, object::END);
+        let from = cells::cell_of(t.tables.objects, object::WIDTH, i, object::FIRST);
+        let end = cells::cell_of(t.tables.objects, object::WIDTH, i, object::END);
         n = resolve(
-            text,
-            d,
-            e,
-            o,
-            st,
-            known,
-            noted,
-            xe,
-            xo,
-            rs,
-            nx,
-            rd,
-            owners,
+            t,
             v,
-            z,
-            z.definitions,
+            t.tables.sizes.definitions,
             key,
             from,
             end,
-            Owner { sort: 0, row: i },
+            Owner::Object(i),
             n,
         );
-        i += 1;
     }
     n
 }
@@ -490,15 +301,27 @@ fn resolve_noted(
     requires { Lent text.now d.now e.now o.now st.now z names.now known.now owners.now }
     ensures { ResolvesAll text.now d.now e.now o.now st.now v.old z places v.new result }
 {
-    let xe = names::enumerators(names, z.enumerators);
-    words::note_words(text, d, e, xe, noted);
-    let xo = names::objects(names, z.objects);
-    let rs = names::statement_ranks(names);
-    let nx = names::next_rows(names);
-    let rd = names::definition_ranks(names);
-    resolve_objects(
-        text, d, e, o, st, known, noted, xe, xo, rs, nx, rd, owners, v, z, places,
-    )
+    let enumerator_index = names::enumerators(names, z.enumerators);
+    words::note_words(text, d, e, enumerator_index, noted);
+    let t = Notes {
+        tables: Tables {
+            text,
+            definitions: d,
+            enumerators: e,
+            objects: o,
+            statements: st,
+            sizes: z,
+        },
+        known,
+        words: noted,
+        enumerator_index,
+        object_index: names::objects(names, z.objects),
+        statement_ranks: names::statement_ranks(names),
+        next_rows: names::next_rows(names),
+        definition_ranks: names::definition_ranks(names),
+        owners,
+    };
+    resolve_objects(t, v, places)
 }
 
 // The same; the defaults that are numbers are read once before.

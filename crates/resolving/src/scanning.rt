@@ -1,8 +1,9 @@
 // The rows of the definitions of a scope that give values.
 ghost use Rattle.std.specs.Prelude.{◌≡◌, ◌+◌, ◌≤◌, ◌<◌, length};
 ghost use Rattle.lookups.specs.Ranks.{Firsts};
-ghost use Rattle.resolving.specs.Noted.{NamesRanked, Taken, NotesTaken, DefaultOwners, IsQuiet, Defaults, Stirs, NextUnder, NextRow};
+ghost use Rattle.resolving.specs.Noted.{InRanks, Taken, NotesTaken, DefaultOwners, IsQuiet, Defaults, Stirs, NextUnder, NextRow};
 
+use super::Notes;
 use layout::{definition, word_codes};
 use rows::cells;
 
@@ -23,10 +24,8 @@ fn taken(d: &[usize], i: usize) -> usize
 fn note_taken(d: &[usize], marks: &mut [usize])
     ensures { NotesTaken d.now (length marks.old) marks.new }
 {
-    let mut i = 0;
-    while i < marks.len() {
-        marks[i] = taken(d, i);
-        i += 1;
+    for (i, mark) in marks.iter_mut().enumerate() {
+        *mark = taken(d, i);
     }
 }
 
@@ -68,32 +67,27 @@ fn has_default(d: &[usize], p: usize) -> bool
 
 // Whether the attribute of row j, whose cells begin at p, has a default or may be stated in a block; `first` has the first row of each rank in
 // the block.
-fn stirs(
-    text: &[u8],
-    d: &[usize],
-    st: &[usize],
-    rs: &[usize],
-    rd: &[usize],
-    first: &[usize],
-    key: usize,
-    from: usize,
-    end: usize,
-    j: usize,
-    p: usize,
-) -> bool
-    requires { (p + 18 < length d.now) × NamesRanked text.now d.now st.now rs.now rd.now × Firsts st.now rs.now from end first.now }
-    ensures { Stirs text.now d.now st.now key from end j p result }
+fn stirs(t: Notes, first: &[usize], key: usize, from: usize, end: usize, j: usize, p: usize) -> bool
+    requires { (p + 18 < length t.tables.definitions.now) × InRanks t × Firsts t.tables.statements.now t.statement_ranks.now from end first.now }
+    ensures { let x = t.entry.tables in Stirs x.text.now x.definitions.now x.statements.now key from end j p result }
 {
-    if has_default(d, p) {
+    if has_default(t.tables.definitions, p) {
         return true;
     }
     if end <= from {
         return false;
     }
-    if rd.len() <= j {
+    if t.definition_ranks.len() <= j {
         return true;
     }
-    lookups::may_state(st, rs, first, from, end, rd[j])
+    lookups::may_state(
+        t.tables.statements,
+        t.statement_ranks,
+        first,
+        from,
+        end,
+        t.definition_ranks[j],
+    )
 }
 
 // The first row from j on, below a limit, that stands under the word at key; the limit for none.
@@ -101,25 +95,17 @@ fn next_under(d: &[usize], limit: usize, key: usize, j: usize) -> usize
     requires { (limit ≤ 512) × ((j ≤ limit) × (length d.now ≡ 9747)) }
     ensures { NextUnder d.now limit key j result }
 {
-    let mut p = j * definition::WIDTH;
-    let mut i = j;
-    while i < limit {
-        if d[p] == key {
+    for i in j..limit {
+        if d[i * definition::WIDTH] == key {
             return i;
         }
-        p += definition::WIDTH;
-        i += 1;
     }
     limit
 }
 
 // The first of these rows that may have a default or be stated in a block: those before it have and are not.
 pub fn next_row(
-    text: &[u8],
-    d: &[usize],
-    st: &[usize],
-    rs: &[usize],
-    rd: &[usize],
+    t: Notes,
     first: &[usize],
     limit: usize,
     key: usize,
@@ -127,27 +113,16 @@ pub fn next_row(
     end: usize,
     j: usize,
 ) -> usize
-    requires { (limit ≤ 512) × ((j ≤ limit) × (NamesRanked text.now d.now st.now rs.now rd.now × Firsts st.now rs.now from end first.now)) }
-    ensures { NextRow text.now d.now st.now limit key from end j result }
+    requires { (limit ≤ 512) × ((j ≤ limit) × (InRanks t × Firsts t.tables.statements.now t.statement_ranks.now from end first.now)) }
+    ensures { let x = t.entry.tables in NextRow x.text.now x.definitions.now x.statements.now limit key from end j result }
 {
-    let mut i = next_under(d, limit, key, j);
+    let mut i = next_under(t.tables.definitions, limit, key, j);
+    // A `while`: `next_under` passes the rows that stand under another word.
     while i < limit {
-        if stirs(
-            text,
-            d,
-            st,
-            rs,
-            rd,
-            first,
-            key,
-            from,
-            end,
-            i,
-            i * definition::WIDTH,
-        ) {
+        if stirs(t, first, key, from, end, i, i * definition::WIDTH) {
             return i;
         }
-        i = next_under(d, limit, key, i + 1);
+        i = next_under(t.tables.definitions, limit, key, i + 1);
     }
     limit
 }

@@ -6,3 +6,4 @@ pub mod Orders
 pub mod Searches
 pub mod Tallies
 pub mod Firsts
+pub mod Refusing

@@ -12,8 +12,8 @@ use lib.Dec.{eqb, ltb}
 use borrow.Author.Tests.{lt-ltb, le-ltb, ltb-true, ltb-false, eq-eqb, ne_eqb}
 use Rattle.token.specs.Find.{pick, either, find}
 use Rattle.token.proofs.Find.{find_past, find_here, find_next, find_low, find_holds, by_test, find_before}
-use Rattle.rows.specs.declared.Found.{Found}
-use Rattle.rows.specs.declared.Found.TheVariants.{At, Nothing}
+use Rattle.rows.specs.Found.{Found}
+use Rattle.std.specs.Prelude.{Some, None}
 use Rattle.rows.proofs.Walks.{first, any_of}
 use Rattle.rows.specs.Search.{found_below, find_from, has_key, find_row, is_found, row_of}
 use Rattle.rows.proofs.Starts.{cell_start}
@@ -38,7 +38,7 @@ pub record FirstOf {R : Type 0} (p : R → Bool) (i : ℕ) (rs : List R) (j : �
 -- a loop at row i: what is left decides the whole
 
 module _ (t : ℕ → Bool) (n i : ℕ) where
-  pub find_stop : i < n → t i ≡ true → find_from t n i ≡ At i
+  pub find_stop : i < n → t i ≡ true → find_from t n i ≡ Some i
   unfolding find_from found_below
   find_stop h e = rw (find_here t n i h e, lt-ltb i n h)
 
@@ -46,7 +46,7 @@ module _ (t : ℕ → Bool) (n i : ℕ) where
   unfolding find_from
   find_more h e = ap (found_below n) (find_next t n i h e)
 
-  pub find_end : n ≤ i → find_from t n i ≡ Nothing
+  pub find_end : n ≤ i → find_from t n i ≡ None
   unfolding find_from found_below
   find_end h = rw (find_past t n i h, le-ltb i n h)
 
@@ -57,21 +57,21 @@ module _ (t : ℕ → Bool) (n i : ℕ) where
   is_first h =
       record { low = find_low t n i; high = h; holds = find_holds t n i (omega (arith, find_low t n i)) h; fails = find_before t n i }
 
-  pub found_first : (j : ℕ) → find_from t n i ≡ At j → IsFirst t n i j
+  pub found_first : (j : ℕ) → find_from t n i ≡ Some j → IsFirst t n i j
   unfolding find_from found_below row_of
   found_first j =
-      by_test (λ (f : Found). f ≡ At j → IsFirst t n i j) (ltb (find t n i) n) (At (find t n i)) Nothing
+      by_test (λ (f : Found). f ≡ Some j → IsFirst t n i j) (ltb (find t n i) n) (Some (find t n i)) None
       (λ h e. subst (IsFirst t n i) (ap row_of e) (is_first (ltb-true (find t n i) n h)))
       (λ h e. absurd (false≢true (ap is_found e)))
 
-  pub nothing_none : find_from t n i ≡ Nothing → (k : ℕ) → i ≤ k → k < n → t k ≡ false
+  pub nothing_none : find_from t n i ≡ None → (k : ℕ) → i ≤ k → k < n → t k ≡ false
   unfolding find_from found_below
   nothing_none =
-      by_test (λ (f : Found). f ≡ Nothing → (k : ℕ) → i ≤ k → k < n → t k ≡ false) (ltb (find t n i) n) (At (find t n i)) Nothing
+      by_test (λ (f : Found). f ≡ None → (k : ℕ) → i ≤ k → k < n → t k ≡ false) (ltb (find t n i) n) (Some (find t n i)) None
       (λ h e. absurd (false≢true (sym (ap is_found e))))
       (λ h e k a b. find_before t n i k a (omega (arith, ltb-false (find t n i) n h)))
 
-  pub first_found : (j : ℕ) → IsFirst t n i j → find_from t n i ≡ At j
+  pub first_found : (j : ℕ) → IsFirst t n i j → find_from t n i ≡ Some j
   unfolding find_from found_below
   first_found j f = rw (same_place, lt-ltb j n f.high)
     where
@@ -88,10 +88,10 @@ module _ (t : ℕ → Bool) (n i : ℕ) where
       same_place : find t n i ≡ j
       same_place = by (dec_lt (find t n i) j) (dec_lt j (find t n i))
 
-  pub none_nothing : ((k : ℕ) → i ≤ k → k < n → t k ≡ false) → find_from t n i ≡ Nothing
+  pub none_nothing : ((k : ℕ) → i ≤ k → k < n → t k ≡ false) → find_from t n i ≡ None
   unfolding find_from found_below
   none_nothing f =
-      by_test (λ (g : Found). g ≡ Nothing) (ltb (find t n i) n) (At (find t n i)) Nothing
+      by_test (λ (g : Found). g ≡ None) (ltb (find t n i) n) (Some (find t n i)) None
       (λ h. absurd (clash (ltb-true (find t n i) n h)))
       (λ h. refl)
     where
@@ -102,20 +102,20 @@ module _ (t : ℕ → Bool) (n i : ℕ) where
 -- a search over a list of rows: what is found is the first, and nothing means none
 
 module _ {R : Type 0} (p : R → Bool) where
-  pub first_any : (i : ℕ) (rs : List R) → is_found (first p At Nothing i rs) ≡ any_of p rs
+  pub first_any : (i : ℕ) (rs : List R) → is_found (first p Some None i rs) ≡ any_of p rs
   unfolding first any_of
   first_any i [] = refl
   first_any i (r ∷ rs) = by (first_any (suc i) rs) (p r)
     where
-      by : is_found (first p At Nothing (suc i) rs) ≡ any_of p rs → (b : Bool) → is_found (pick b (At i) (first p At Nothing (suc i) rs)) ≡ either b (any_of p rs)
+      by : is_found (first p Some None (suc i) rs) ≡ any_of p rs → (b : Bool) → is_found (pick b (Some i) (first p Some None (suc i) rs)) ≡ either b (any_of p rs)
       by e true = refl
       by e false = e
 
-  pub first_nothing : (i : ℕ) (rs : List R) → first p At Nothing i rs ≡ Nothing → any_of p rs ≡ false
+  pub first_nothing : (i : ℕ) (rs : List R) → first p Some None i rs ≡ None → any_of p rs ≡ false
   first_nothing i rs e = sym (first_any i rs) ∙ ap is_found e
 
   -- where the first row passes, and where the search goes on past it
-  here_first : (i : ℕ) (r : R) (rs : List R) (j : ℕ) → p r ≡ true → At i ≡ At j → FirstOf p i (r ∷ rs) j
+  here_first : (i : ℕ) (r : R) (rs : List R) (j : ℕ) → p r ≡ true → Some i ≡ Some j → FirstOf p i (r ∷ rs) j
   unfolding any_of row_of
   here_first i r rs j h e = record { front = []; row = r; rest = rs; whole = refl; place = sym (ap row_of e) ∙ sym (add-zero i); holds = h; fails = refl }
 
@@ -132,11 +132,11 @@ module _ {R : Type 0} (p : R → Bool) where
         fails = rw h f.fails;
       }
 
-  pub first_is : (i : ℕ) (rs : List R) (j : ℕ) → first p At Nothing i rs ≡ At j → FirstOf p i rs j
+  pub first_is : (i : ℕ) (rs : List R) (j : ℕ) → first p Some None i rs ≡ Some j → FirstOf p i rs j
   unfolding first
   first_is i [] j = λ e. absurd (false≢true (ap is_found e))
   first_is i (r ∷ rs) j =
-      by_test (λ (f : Found). f ≡ At j → FirstOf p i (r ∷ rs) j) (p r) (At i) (first p At Nothing (suc i) rs)
+      by_test (λ (f : Found). f ≡ Some j → FirstOf p i (r ∷ rs) j) (p r) (Some i) (first p Some None (suc i) rs)
       (λ h e. here_first i r rs j h e)
       (λ h e. later_first i r rs j h (first_is (suc i) rs j e))
 
@@ -153,7 +153,7 @@ module _ (l : List ℕ) (a b : ℕ) (e : a ≡ min (length l) b) where
 
 -- the loop of `find_row` at row i, which begins at a
 module _ (l : List ℕ) (w n c k i : ℕ) where
-  pub row_stop : (a : ℕ) → i < n → a ≡ min (length l) (i * w) → get_or l (a + c) 0 ≡ k → find_row l w n c k i ≡ At i
+  pub row_stop : (a : ℕ) → i < n → a ≡ min (length l) (i * w) → get_or l (a + c) 0 ≡ k → find_row l w n c k i ≡ Some i
   unfolding find_row has_key
   row_stop a h e f = find_stop (λ j. has_key l (j * w) c k) n i h (sym (key_start l a (i * w) e c k) ∙ eq-eqb (get_or l (a + c) 0) k f)
 
@@ -161,6 +161,6 @@ module _ (l : List ℕ) (w n c k i : ℕ) where
   unfolding find_row has_key
   row_more a h e f = find_more (λ j. has_key l (j * w) c k) n i h (sym (key_start l a (i * w) e c k) ∙ ne_eqb (get_or l (a + c) 0) k f)
 
-  pub row_end : n ≤ i → find_row l w n c k i ≡ Nothing
+  pub row_end : n ≤ i → find_row l w n c k i ≡ None
   unfolding find_row
   row_end h = find_end (λ j. has_key l (j * w) c k) n i h

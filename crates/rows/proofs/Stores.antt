@@ -1,21 +1,22 @@
 -- The laws of runs of stores: `sets l i vs` is l with vs stored from place i on.
 -- Assumes nothing.
-use Prim.Native.Nat.{ℕ, suc, ◌+◌, ◌-◌, ◌<◌, ◌≤◌}
+use Prim.Native.Nat.{ℕ, suc, ◌+◌, ◌-◌, ◌<◌, ◌≤◌, min}
 use mathlib.Core.Path.{◌≡◌, refl, sym, ap, ◌∙◌}
-use mathlib.Core.List.{List, [], ◌∷◌, ◌++◌, append_assoc, append-nil}
+use mathlib.Core.List.{List, [], ◌∷◌, ◌++◌, append_assoc}
 use native.Mathlib.Nat.{add-zero}
 use native.Mathlib.Omega.{arith}
 use native.Mathlib.Numerals.{add-one}
-use lib.ListN.{length, take, drop, get_or, set, replicate, drop_of_length-le}
-use lib.Seq.{sets, sets-eq, set_out, take-set-le, drop-set-lt, drop-set-add, take_at, drop_at, length-take-le, drop-cons}
+use native.Mathlib.Decide.{dec_le}
+use lib.ListN.{length, take, drop, get_or, set, take-append-drop, drop_of_length-le}
+use lib.Seq.{sets, sets-eq, length-sets, set_out, take-set-le, drop-set-lt, drop-set-add, drop-drop, take_at, take_all, drop_at, length-take-le, drop-cons}
 use Rattle.rows.specs.Table.{part}
 
-pub sets_append : (l : List ℕ) (i : ℕ) (xs ys : List ℕ) → sets l i (xs ++ ys) ≡ sets (sets l i xs) (i + length xs) ys
+pub sets_append : {A : Type 0} (l : List A) (i : ℕ) (xs ys : List A) → sets l i (xs ++ ys) ≡ sets (sets l i xs) (i + length xs) ys
 sets_append l i [] ys = rw (add-zero i)
 sets_append l i (x ∷ xs) ys = sets_append (set l i x) (suc i) xs ys ∙ ap (λ (k : ℕ). sets (sets (set l i x) (suc i) xs) k ys) (omega arith)
 
 -- past the end nothing is stored
-pub sets_out : (l : List ℕ) (i : ℕ) (vs : List ℕ) → length l ≤ i → sets l i vs ≡ l
+pub sets_out : {A : Type 0} (l : List A) (i : ℕ) (vs : List A) → length l ≤ i → sets l i vs ≡ l
 sets_out l i [] h = refl
 sets_out l i (v ∷ vs) h = rw (set_out l i v h) (sets_out l (suc i) vs (omega arith))
 
@@ -54,8 +55,29 @@ module _ (l : List ℕ) (j : ℕ) (vs : List ℕ) (i : ℕ) where
   pub stores_end : length vs ≤ i → l ≡ sets l j (drop i vs)
   stores_end h = rw (drop_of_length-le vs h)
 
--- a loop that clears one cell a turn
-pub cleared : (l : List ℕ) (i : ℕ) → i ≡ length l → replicate i 0 ++ drop i l ≡ replicate (length l) 0
-cleared l i e =
-    let h : length l ≤ i = omega arith in
-    rw (drop_of_length-le l h, append-nil {A = ℕ} (replicate i 0), e)
+-- cells that are stored at once: as many as there is room for from a place inside on
+module _ {A : Type 0} (l : List A) (i : ℕ) where
+  stored_all : (vs : List A) → i + length vs ≤ length l → take i l ++ (vs ++ drop (length vs) (drop i l)) ≡ sets l i vs
+  stored_all vs h =
+      let e : drop (length vs) (drop i l) ≡ drop (i + length vs) l = drop-drop (length vs) i l in
+      sym (sets-eq vs l i h ∙ append_assoc (take i l) vs (drop (i + length vs) l) ∙ ap (λ (r : List A). take i l ++ (vs ++ r)) (sym e))
+
+  -- what there is no room for is not stored
+  stored_some : (vs : List A) (n : ℕ) → length l ≤ i + n → n ≤ length vs → sets l i (take n vs) ≡ sets l i vs
+  stored_some vs n h g =
+      let k : length (take n vs) ≡ n = length-take-le n vs g in
+      let o : length (sets l i (take n vs)) ≤ i + length (take n vs) = omega (arith, length-sets l i (take n vs)) in
+      sym (ap (sets l i) (sym (take-append-drop n vs)) ∙ sets_append l i (take n vs) (drop n vs) ∙ sets_out (sets l i (take n vs)) (i + length (take n vs)) (drop n vs) o)
+
+  stored_by : (vs : List A) (n : ℕ) → i < length l → Dec (length vs ≤ length l - i) → n ≡ min (length vs) (length l - i) → take i l ++ (take n vs ++ drop n (drop i l)) ≡ sets l i vs
+  stored_by vs n h (yes d) e =
+      let k : n ≡ length vs = omega arith in
+      rw (k, take_all (length vs) vs (omega arith)) (stored_all vs (omega arith))
+  stored_by vs n h (no d) e =
+      let k : length (take n vs) ≡ n = length-take-le n vs (omega arith) in
+      ap (λ (m : ℕ). take i l ++ (take n vs ++ drop m (drop i l))) (sym k)
+      ∙ stored_all (take n vs) (omega arith)
+      ∙ stored_some vs n (omega arith) (omega arith)
+
+  pub stored : (vs : List A) (n : ℕ) → i < length l → n ≡ min (length vs) (length l - i) → take i l ++ (take n vs ++ drop n (drop i l)) ≡ sets l i vs
+  stored vs n h = stored_by vs n h (dec_le (length vs) (length l - i))

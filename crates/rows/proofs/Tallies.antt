@@ -1,13 +1,13 @@
 -- The laws of thirteen counts.
 -- Assumes nothing.
 use Prim.Native.Nat.{ℕ, zero, suc, ◌+◌, ◌<◌, ◌≤◌, min}
-use mathlib.Core.Path.{◌≡◌, refl, sym, ◌∙◌}
+use mathlib.Core.Path.{◌≡◌, refl, sym, ap, ◌∙◌}
 use mathlib.Core.Bool.{Bool, true, false}
 use mathlib.Core.List.{List, [], ◌∷◌, ◌++◌}
 use native.Mathlib.Omega.{arith}
 use native.Mathlib.Decide.{ℕ_discrete, dec_lt}
 use lib.ListN.{length, get_or, set, length-set, replicate}
-use lib.Seq.{set_out, get_or-set_same, get_or-set_other}
+use lib.Seq.{set_out, set-get_or, get_or-set_same, get_or-set_other}
 use lib.Dec.{eqb, ltb}
 use borrow.Author.Tests.{eq-eqb, ne_eqb, lt-ltb, le-ltb}
 use Rattle.token.specs.Find.{pick}
@@ -39,6 +39,18 @@ module _ (cs : List ℕ) (k : ℕ) where
   pub one_more_next : get_or cs k 0 < full → one_more cs k ≡ set cs k (get_or cs k 0 + 1)
   unfolding one_more
   one_more_next h = rw (lt-ltb (get_or cs k 0) full h)
+
+  -- a cell that is full is stored as it was
+  one_more_by : Dec (get_or cs k 0 < full) → get_or cs k 0 ≤ full → set cs k (min (get_or cs k 0 + 1) full) ≡ one_more cs k
+  one_more_by (yes h) b =
+      let e : min (get_or cs k 0 + 1) full ≡ get_or cs k 0 + 1 = omega arith in
+      ap (set cs k) e ∙ sym (one_more_next h)
+  one_more_by (no h) b =
+      let e : min (get_or cs k 0 + 1) full ≡ get_or cs k 0 = omega arith in
+      ap (set cs k) e ∙ set-get_or cs k 0 ∙ sym (one_more_full (omega arith))
+
+  pub one_more_kept : get_or cs k 0 ≤ full → set cs k (min (get_or cs k 0 + 1) full) ≡ one_more cs k
+  one_more_kept b = one_more_by (dec_lt (get_or cs k 0) full) b
 
   -- one cell changes
   by_full : (P : List ℕ → Type 0) → (get_or cs k 0 < full → P (set cs k (get_or cs k 0 + 1))) → (full ≤ get_or cs k 0 → P cs) → P (one_more cs k)

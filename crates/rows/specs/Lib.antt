@@ -1,4 +1,6 @@
-pub mod Table
-pub mod Search
+pub mod Found
 pub mod Order
+pub mod Search
+pub mod Table
 pub mod Tally
+pub mod Refusing

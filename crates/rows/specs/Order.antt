@@ -1,26 +1,22 @@
 -- Which of two faults answers: the leftmost place, then the smaller number.
 -- Assumes nothing.
-use Rattle.std.specs.Prelude.{ℕ, Bool, true, not, ltb, eqb}
-use Rattle.token.specs.Find.{pick, both}
+use Rattle.std.specs.Prelude.{ℕ, Bool, ltb, eqb, Option, Some, None}
+use Rattle.token.specs.Find.{pick}
 use Rattle.rows.specs.declared.Fault.{Fault}
 
--- no fault
-abbrev pub none : Fault
-none = record { number = 0; place = 0 }
+-- a fault, or none
+abbrev pub MaybeFault : Type 0
+MaybeFault = Option Fault
 
--- number 0 is no fault, whatever its place
-unfoldable pub is_fault : Fault → Bool
-is_fault f = not (eqb f.number 0)
-
--- a answers rather than b. A fault answers rather than none. Two of number 0 go by the larger place, so that `none` is the last of all.
+-- a answers rather than b
 unfoldable pub before : Fault → Fault → Bool
-before a b =
-    pick (eqb a.number 0) (both (eqb b.number 0) (ltb b.place a.place))
-    (pick (eqb b.number 0) true
-    (pick (eqb a.place b.place) (ltb a.number b.number) (ltb a.place b.place)))
+before a b = pick (eqb a.place b.place) (ltb a.number b.number) (ltb a.place b.place)
 
-unfoldable pub sooner : Fault → Fault → Fault
-sooner a b = pick (before b a) b a
+-- the one that answers of two, where there are any
+unfoldable pub sooner : MaybeFault → MaybeFault → MaybeFault
+sooner None b = b
+sooner (Some a) None = Some a
+sooner (Some a) (Some b) = Some (pick (before b a) b a)
 
-unfoldable pub fault_if : Bool → ℕ → ℕ → Fault
-fault_if b n p = pick b (record { number = n; place = p }) none
+unfoldable pub fault_if : Bool → ℕ → ℕ → MaybeFault
+fault_if b n p = pick b (Some (record { number = n; place = p })) None

@@ -5,12 +5,12 @@ use Rattle.token.specs.Find.{pick, both, find}
 use Rattle.token.specs.Words.{same}
 use Rattle.token.specs.Tokens.{part_of}
 use Rattle.rows.specs.Table.{cell_of}
-use Rattle.rows.specs.declared.Found.{Found}
-use Rattle.rows.specs.declared.Found.TheVariants.{At, Nothing}
+use Rattle.rows.specs.Found.{Found}
+use Rattle.std.specs.Prelude.{Some, None}
 
 -- a row that was found below n
 unfoldable pub found_below : ℕ → ℕ → Found
-found_below n i = pick (ltb i n) (At i) Nothing
+found_below n i = pick (ltb i n) (Some i) None
 
 -- the first row from i on, below n, for which t holds
 unfoldable pub find_from : (ℕ → Bool) → ℕ → ℕ → Found
@@ -38,10 +38,10 @@ find_named s l w n c k m p len i = find_from (λ j. is_named s l (j * w) c k m (
 
 -- something was found
 abbrev pub is_found : Found → Bool
-is_found (At i) = true
-is_found Nothing = false
+is_found (Some i) = true
+is_found None = false
 
 -- the row that was found, 0 for none
 unfoldable pub row_of : Found → ℕ
-row_of (At i) = i
-row_of Nothing = 0
+row_of (Some i) = i
+row_of None = 0

@@ -3,19 +3,13 @@
 ghost use Rattle.std.specs.Prelude.{◌≡◌, ◌+◌, ◌*◌, min, length, get_or, replicate};
 ghost use Rattle.std.proofs.lemmas.List.Edits.{sets};
 
-// The cells at a place, one after another.
-pub fn put_cells(t: &mut [usize], at: usize, cells: &[usize])
+// The cells at a place, one after another: numbers, or bytes.
+pub fn put_cells<T: Copy>(t: &mut [T], at: usize, cells: &[T])
     ensures { t.new ≡ sets t.old at cells.now }
 {
-    let mut i = 0;
-    let mut j = at;
-    while i < cells.len() {
-        if t.len() <= j {
-            return;
-        }
-        t[j] = cells[i];
-        i += 1;
-        j += 1;
+    if at < t.len() {
+        let n = cells.len().min(t.len() - at);
+        t[at..at + n].copy_from_slice(&cells[..n]);
     }
 }
 
@@ -23,76 +17,47 @@ pub fn put_cells(t: &mut [usize], at: usize, cells: &[usize])
 pub fn clear(t: &mut [usize])
     ensures { t.new ≡ replicate (length t.old) 0 }
 {
-    let mut i = 0;
-    while i < t.len() {
-        t[i] = 0;
-        i += 1;
-    }
+    t.fill(0);
 }
 
 // The cell at a place.
 pub fn get(t: &[usize], at: usize) -> usize
     ensures { result ≡ get_or t.now at 0 }
 {
-    if at < t.len() {
-        return t[at];
-    }
-    0
+    t.get(at).copied().unwrap_or(0)
 }
 
 // The smaller of two.
 pub fn least_of(a: usize, b: usize) -> usize
     ensures { result ≡ min a b }
 {
-    if a < b {
-        return a;
-    }
-    b
+    a.min(b)
 }
 
 // A column of the row that begins at a place.
 pub fn cell(t: &[usize], at: usize, column: usize) -> usize
     ensures { result ≡ get_or t.now (at + column) 0 }
 {
-    if t.len() <= at {
-        return 0;
-    }
-    if t.len() - at <= column {
-        return 0;
-    }
-    t[at + column]
+    get(t, at.saturating_add(column))
 }
 
 // Where a row begins, or the end where it begins past it.
 pub fn row_start(end: usize, width: usize, row: usize) -> usize
     ensures { result ≡ min end (row * width) }
 {
-    if width == 0 {
-        return 0;
-    }
-    if end / width < row {
-        return end;
-    }
-    row * width
+    end.min(row.saturating_mul(width))
 }
 
 // A column of row `row`.
 pub fn cell_of(t: &[usize], width: usize, row: usize, column: usize) -> usize
     ensures { result ≡ get_or t.now (row * width + column) 0 }
 {
-    let start = row_start(t.len(), width, row);
-    cell(t, start, column)
+    cell(t, row.saturating_mul(width), column)
 }
 
 // The place so many cells after a place, or the end where it is past it.
 pub fn place_after(end: usize, at: usize, cells: usize) -> usize
     ensures { result ≡ min end (at + cells) }
 {
-    if end <= at {
-        return end;
-    }
-    if end - at <= cells {
-        return end;
-    }
-    at + cells
+    end.min(at.saturating_add(cells))
 }

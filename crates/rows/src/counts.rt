@@ -6,16 +6,11 @@ ghost use Rattle.rows.specs.Tally.{one_more};
 pub const KINDS: usize = 13;
 
 // One more of a kind; a kind past the thirteen is not counted. A full cell stays.
-pub fn one_more(counts: [usize; KINDS], kind: usize) -> [usize; KINDS]
+pub fn one_more(mut counts: [usize; KINDS], kind: usize) -> [usize; KINDS]
     ensures { result ≡ one_more counts kind }
 {
-    if KINDS <= kind {
-        return counts;
+    if kind < KINDS {
+        counts[kind] = counts[kind].saturating_add(1);
     }
-    let mut c = counts;
-    if 18446744073709551615 <= c[kind] {
-        return c;
-    }
-    c[kind] = c[kind] + 1;
-    c
+    counts
 }

@@ -2,7 +2,7 @@
 ghost use Rattle.std.specs.Prelude.{◌≡◌};
 ghost use Rattle.rows.specs.Search.{find_row};
 
-use super::{Found, cells};
+use super::cells;
 
 // The first row from `from` on, below `rows`, whose cell in the column is the key.
 pub fn find_row(
@@ -12,17 +12,15 @@ pub fn find_row(
     column: usize,
     key: usize,
     from: usize,
-) -> Found
+) -> Option<usize>
     ensures { result ≡ find_row t.now width rows column key from }
 {
     let mut at = cells::row_start(t.len(), width, from);
-    let mut i = from;
-    while i < rows {
+    for i in from..rows {
         if cells::cell(t, at, column) == key {
-            return Found::At(i);
+            return Some(i);
         }
         at = cells::place_after(t.len(), at, width);
-        i += 1;
     }
-    Found::Nothing
+    None
 }

@@ -8,17 +8,9 @@ pub mod finding;
 pub mod parts;
 pub mod refusals;
 
-// A refusal's number and place; number 0: no fault.
-#[derive(Clone, Copy)]
+// A refusal's place and number, which order it among others.
+#[derive(Clone, Copy, PartialEq, Eq, PartialOrd, Ord)]
 pub struct Fault {
-    pub number: u8,
     pub place: usize,
-}
-
-// What a lookup finds.
-#[derive(Clone, Copy)]
-pub enum Found {
-    // The row.
-    At(usize),
-    Nothing,
+    pub number: u8,
 }

@@ -8,12 +8,11 @@ fn same_rest(a: &[u8], b: &[u8]) -> bool
     requires { (length a.now ≡ length b.now) × (get_or a.now 0 0 ≡ get_or b.now 0 0) }
     ensures { result ≡ same a.now b.now }
 {
-    let mut i = 1;
-    while i < a.len() {
+    // Not `a == b`, which would compare the lengths and the first bytes again.
+    for i in 1..a.len() {
         if a[i] != b[i] {
             return false;
         }
-        i += 1;
     }
     true
 }
@@ -22,27 +21,15 @@ fn same_rest(a: &[u8], b: &[u8]) -> bool
 pub fn same_bytes(a: &[u8], b: &[u8]) -> bool
     ensures { result ≡ same a.now b.now }
 {
-    if a.len() != b.len() {
-        return false;
-    }
-    if a.len() == 0 {
-        return true;
-    }
-    if a[0] != b[0] {
-        return false;
-    }
-    same_rest(a, b)
+    a.len() == b.len() && (a.is_empty() || a[0] == b[0] && same_rest(a, b))
 }
 
 // Whether two parts of the text are the same bytes; a part that does not lie inside is empty. The same part is not read.
 pub fn same_part(text: &[u8], at: usize, len: usize, at2: usize, len2: usize) -> bool
     ensures { result ≡ same (part_of text.now at len) (part_of text.now at2 len2) }
 {
-    if at != at2 {
-        return same_bytes(token::part(text, at, len), token::part(text, at2, len2));
+    if at == at2 && len == len2 {
+        return true;
     }
-    if len != len2 {
-        return same_bytes(token::part(text, at, len), token::part(text, at2, len2));
-    }
-    true
+    same_bytes(token::part(text, at, len), token::part(text, at2, len2))
 }

@@ -14,8 +14,8 @@ use Rattle.token.specs.Words.{same}
 use Rattle.token.specs.Tokens.{part_of}
 use Rattle.token.proofs.Bytes.{eqb_sym}
 use Rattle.grammar.specs.Grammar.{Kind}
-use Rattle.rows.specs.declared.Found.{Found}
-use Rattle.rows.specs.declared.Found.TheVariants.{At, Nothing}
+use Rattle.rows.specs.Found.{Found}
+use Rattle.std.specs.Prelude.{Some, None}
 use Rattle.rows.proofs.Walks.{first, any_of}
 use Rattle.rows.specs.Search.{find_named}
 use Rattle.meaning.specs.Kinds.{kind_number, same_kind}
@@ -31,7 +31,7 @@ use Rattle.meaning.proofs.Lookups.{InText, first_standing, row_under, finds_defi
 use Rattle.layout.specs.Kept.{Entry, list_key, entries, entries_under, spec_entries, spec_choices, kept_enumerators, choice_cells}
 use Rattle.scopes.specs.Situations.{Situation, ScopeAt, no_scope, scope, Reached}
 use Rattle.scopes.specs.Given.{entry_rows}
-use Rattle.scopes.proofs.Forms.{Some, Formed, an_integer, a_string, a_boolean, an_enum, a_float, a_reference}
+use Rattle.scopes.proofs.Forms.{NotEmpty, Formed, an_integer, a_string, a_boolean, an_enum, a_float, a_reference}
 use Rattle.scopes.specs.Promises.{row_found, number_found, object_found, FindsDefinition, FindsObject}
 use Rattle.scopes.proofs.Goodness.{Good, Goods, good_back, object_good}
 use Rattle.scopes.proofs.Finding.{is_row, is_choice, is_object, first_front, none_first, none_chosen, first_one, found_one, found_below, find_in_definitions, find_in_enumerators, find_in_objects}
@@ -65,11 +65,11 @@ spec_rows [] = refl
 spec_rows (x ∷ xs) = rows_append (entries x.definitions x.word 0) (spec_entries xs) ∙ ap₂ ◌++◌ (rows_of x.definitions x.word 0) (spec_rows xs)
 
 unfoldable standing_found : Option Standing → Found
-standing_found none = Nothing
-standing_found (some x) = At x.number
+standing_found none = None
+standing_found (some x) = Some x.number
 
 search_rows : (s : List ℕ) (key at len : ℕ) (t : Word) → t.bytes ≡ part_of s at len → (i : ℕ) (E : List Entry) → ((x : Entry) → In x E → Good s x.definition.name)
-    → first (is_row s key at len) At Nothing i E ≡ standing_found (first_standing s t (select key i (entry_rows E)))
+    → first (is_row s key at len) Some None i E ≡ standing_found (first_standing s t (select key i (entry_rows E)))
 unfolding first is_row select standing_if first_standing standing_found entry_rows definition_row span_of
 search_rows s key at len t q i [] g = refl
 search_rows s key at len t q i (x ∷ E) g =
@@ -79,14 +79,14 @@ search_rows s key at len t q i (x ∷ E) g =
     n : List ℕ
     n = part_of s x.definition.name.place x.definition.name.length
 
-    by : (b : Bool) → first (is_row s key at len) At Nothing (suc i) E ≡ standing_found (first_standing s t (select key (suc i) (entry_rows E)))
+    by : (b : Bool) → first (is_row s key at len) Some None (suc i) E ≡ standing_found (first_standing s t (select key (suc i) (entry_rows E)))
         → same (part_of s x.definition.name.place x.definition.name.length) (part_of s at len) ≡ same (part s (span_of x.definition.name)) t.bytes
-        → pick (both b (same (part_of s x.definition.name.place x.definition.name.length) (part_of s at len))) (At i) (first (is_row s key at len) At Nothing (suc i) E)
+        → pick (both b (same (part_of s x.definition.name.place x.definition.name.length) (part_of s at len))) (Some i) (first (is_row s key at len) Some None (suc i) E)
         ≡ standing_found (first_standing s t (standing_if b i (definition_row x.under x.definition) ++ select key (suc i) (entry_rows E)))
     by false e z = e
-    by true e z = ap (λ c. pick c (At i) (first (is_row s key at len) At Nothing (suc i) E)) z ∙ pick-it (same (part s (span_of x.definition.name)) t.bytes)
+    by true e z = ap (λ c. pick c (Some i) (first (is_row s key at len) Some None (suc i) E)) z ∙ pick-it (same (part s (span_of x.definition.name)) t.bytes)
       where
-        pick-it : (c : Bool) → pick c (At i) (first (is_row s key at len) At Nothing (suc i) E)
+        pick-it : (c : Bool) → pick c (Some i) (first (is_row s key at len) Some None (suc i) E)
             ≡ standing_found (pick c (some (record { number = i; row = definition_row x.under x.definition })) (first_standing s t (select key (suc i) (entry_rows E))))
         pick-it true = refl
         pick-it false = e
@@ -109,7 +109,7 @@ texts s [] g = tt
 texts s (w ∷ l) g = (g.0.text, texts s l g.1)
 
 in_scope : {s : List ℕ} {f : File} (key at len : ℕ) (ds : Definitions) (t : Word) → Situation s f → ScopeAt f key ds → t.bytes ≡ part_of s at len
-    → first (is_row s key at len) At Nothing 0 (spec_entries f.specs) ≡ row_found (find_definition ds t)
+    → first (is_row s key at len) Some None 0 (spec_entries f.specs) ≡ row_found (find_definition ds t)
 unfolding find_definition row_found
 in_scope {s} {f} key at len ds t k no_scope q =
     none_first (is_row s 0 at len) (λ j. true) 0 (spec_entries f.specs) (none_at_start s at len (spec_entries f.specs) (λ x m. (entry_facts k m).scope.good))
@@ -128,7 +128,7 @@ finds_in_scope s d n key at len r e f ds t k h m l p q =
 
 -- Enumerators --------------------------------------------------------------------------------------------------------------------------------
 
-some_values : {s : List ℕ} {d : Definition} {vs : Values} → is_enum d.type ≡ true → Formed s d vs → Some vs
+some_values : {s : List ℕ} {d : Definition} {vs : Values} → is_enum d.type ≡ true → Formed s d vs → NotEmpty vs
 unfolding is_enum
 some_values e (an_integer i t c r) = absurd (false≢true (sym (ap is_enum t) ∙ e))
 some_values e (a_string t c r) = absurd (false≢true (sym (ap is_enum t) ∙ e))
@@ -146,7 +146,7 @@ in_list {s} {f} e x m at len t k i h b r q =
     let p = is_choice s key at len in
     find_in_enumerators f s e r.front r.rest m key at len h r.whole (sym r.many) r.room
     ∙ sym (first_front p (λ j. true) 0 r.front r.rest (none_chosen s key at len r.rest r.free))
-    ∙ ap (first p At Nothing 0) (sym r.whole)
+    ∙ ap (first p Some None 0) (sym r.whole)
     ∙ (g.own b (some_values b g.formed)).number at len t q
 
 -- The row that is found has the value's word.
@@ -159,10 +159,10 @@ word_in_list {s} {f} e x m at len j t v k i h b r q z y =
     let o = g.own b (some_values b g.formed) in
     let key = list_key x.values in
     let p = is_choice s key at len in
-    let n : first p At Nothing 0 r.front ≡ At j =
+    let n : first p Some None 0 r.front ≡ Some j =
     sym (first_front p (λ j. true) 0 r.front r.rest (none_chosen s key at len r.rest r.free))
-    ∙ ap (first p At Nothing 0) (sym r.whole) ∙ o.number at len t q ∙ ap number_found z ∙ ap At (sym y) in
-    let n₀ : first p At Nothing 0 (spec_choices f.specs) ≡ At j = o.number at len t q ∙ ap number_found z ∙ ap At (sym y) in
+    ∙ ap (first p Some None 0) (sym r.whole) ∙ o.number at len t q ∙ ap number_found z ∙ ap Some (sym y) in
+    let n₀ : first p Some None 0 (spec_choices f.specs) ≡ Some j = o.number at len t q ∙ ap number_found z ∙ ap Some (sym y) in
     let w : first_one p (spec_choices f.specs) ≡ some (record { list = key; word = v.word }) = o.word at len t q ∙ ap (chosen key) z in
     let l = found_below p (λ j. true) r.front j n in
     let u = r.many in
@@ -172,18 +172,18 @@ word_in_list {s} {f} e x m at len j t v k i h b r q z y =
 -- Objects ------------------------------------------------------------------------------------------------------------------------------------
 
 search_objects : (s : List ℕ) (k : Kind) (at len : ℕ) (t : Word) → t.bytes ≡ part_of s at len → (i : ℕ) (os : List Object) → Goods s (object_words os) → Counts i (object_numbers os)
-    → first (is_object s (kind_number k) at len) At Nothing i os ≡ object_found (find_object k os t)
+    → first (is_object s (kind_number k) at len) Some None i os ≡ object_found (find_object k os t)
 unfolding first is_object find_object object_found object_words object_numbers same_kind alike
 search_objects s k at len t q i [] g c = refl
 search_objects s k at len t q i (x ∷ os) g c =
-    ap₂ (λ a b. pick (both a b) (At i) (first (is_object s (kind_number k) at len) At Nothing (suc i) os)) (eqb_sym (kind_number x.kind) (kind_number k))
+    ap₂ (λ a b. pick (both a b) (Some i) (first (is_object s (kind_number k) at len) Some None (suc i) os)) (eqb_sym (kind_number x.kind) (kind_number k))
     (ap₂ same (sym g.1.0.read.bytes) (sym q))
     ∙ by (both (eqb (kind_number k) (kind_number x.kind)) (same x.name.bytes t.bytes))
     (search_objects s k at len t q (suc i) os (good_back s (statement_words x.statements) (object_words os) g.1.1) (counts_tail c)) (sym (counts_head c))
   where
-    by : (b : Bool) → first (is_object s (kind_number k) at len) At Nothing (suc i) os ≡ object_found (find_object k os t) → i ≡ x.row
-        → pick b (At i) (first (is_object s (kind_number k) at len) At Nothing (suc i) os) ≡ object_found (pick b (some x) (find_object k os t))
-    by true e n = ap At n
+    by : (b : Bool) → first (is_object s (kind_number k) at len) Some None (suc i) os ≡ object_found (find_object k os t) → i ≡ x.row
+        → pick b (Some i) (first (is_object s (kind_number k) at len) Some None (suc i) os) ≡ object_found (pick b (some x) (find_object k os t))
+    by true e n = ap Some n
     by false e n = e
 
 pub finds_in_objects : (s o : List ℕ) (n kind at len : ℕ) (r : Found) → r ≡ find_named s o 10 n 0 kind 3 at len 0 → FindsObject s o n kind at len r

@@ -6,7 +6,9 @@ use Prim.Native.Nat.{ℕ, ◌+◌, ◌<◌}
 use lib.ListN.{length}
 use borrow.Author.Tests.{lt-ltb}
 use Rattle.token.specs.Find.{byte}
-use Rattle.token.specs.Bytes.{Class, punctuator, class_of}
+use Rattle.token.specs.Bytes.{class_of}
+use Rattle.token.specs.declared.scan.Class.{Class}
+use Rattle.token.specs.declared.scan.Class.TheVariants.{Punctuator as punctuator}
 use Rattle.token.specs.Gaps.{gap_at, gap_of}
 use Rattle.token.specs.Tokens.{found, token_of, token_at, step_at}
 use Rattle.token.specs.declared.Sort.TheVariants.{Punctuator}

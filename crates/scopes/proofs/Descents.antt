@@ -26,7 +26,7 @@ use Rattle.meaning.proofs.Numbering.{numbered, Counts, N, definition_numbers, nu
 use Rattle.meaning.proofs.Standing.{Scope, Deep, deep_more, DeepValues, more_values, DeepSpecs, more_specs, scopes, counts_back, counts_head}
 use Rattle.layout.specs.Kept.{Entry, list_key, entries, entries_under, spec_entries, spec_choices, kind_place}
 use Rattle.scopes.specs.Situations.{Situation, HasDefinition, this_definition, later_definition, HasValue, this_value, later_value, HasSpec, this_spec, later_spec, Stands, under_kind, under_value, ScopeAt, no_scope, scope, Nth, RowOf, ReadAt}
-use Rattle.scopes.proofs.Forms.{Some, Formed, AllFormed, more_formed, AllFormedUnder, more_under}
+use Rattle.scopes.proofs.Forms.{NotEmpty, Formed, AllFormed, more_formed, AllFormedUnder, more_under}
 use Rattle.scopes.specs.Promises.{place_found}
 use Rattle.scopes.proofs.Chains.{Chain, text_chain}
 use Rattle.scopes.proofs.Forming.{FormedSpecs, formed}
@@ -115,7 +115,7 @@ pub record ValueFacts (s : List ℕ) (f : File) (o : ℕ) (vs : Values) : Type 0
 pub record DefinitionFacts (s : List ℕ) (f : File) (u : Word) (o : ℕ) (x : Defined) : Type 0 where
   pub formed : Formed s x.definition x.values
   pub typed : ReadAt s x.definition.word x.definition.word.place x.definition.word.length
-  pub own : is_enum x.definition.type ≡ true → Some x.values → Own s (spec_choices f.specs) x.values
+  pub own : is_enum x.definition.type ≡ true → NotEmpty x.values → Own s (spec_choices f.specs) x.values
   pub name : Good s x.definition.name
   pub default : Goods s (option_words x.definition.default)
   pub values : ValueFacts s f (list_key x.values) x.values

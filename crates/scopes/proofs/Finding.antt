@@ -13,7 +13,7 @@ use Rattle.token.specs.Find.{pick, both, either}
 use Rattle.token.specs.Words.{same}
 use Rattle.token.specs.Tokens.{part_of}
 use Rattle.token.proofs.Bytes.{neither_first, neither_second, eqb_sym}
-use Rattle.rows.specs.declared.Found.TheVariants.{At, Nothing}
+use Rattle.std.specs.Prelude.{Some, None}
 use Rattle.rows.proofs.Walks.{first, any_of}
 use Rattle.rows.specs.Search.{find_from, has_key, is_named, find_named}
 use Rattle.rows.proofs.Searches.{find_stop, find_more, find_end, first_is}
@@ -37,7 +37,7 @@ some_is x y e = cc
 -- A loop over n rows, of which row i + length a has the test of x.
 module _ {R : Type 0} (p : R → Bool) (t : ℕ → Bool) where
   pub seek : (i : ℕ) (xs : List R) → ((a : List R) (x : R) (b : List R) → xs ≡ a ++ (x ∷ b) → t (i + length a) ≡ p x)
-      → find_from t (i + length xs) i ≡ first p At Nothing i xs
+      → find_from t (i + length xs) i ≡ first p Some None i xs
   unfolding first
   seek i [] h = find_end t (i + 0) i (omega arith)
   seek i (x ∷ xs) h =
@@ -46,31 +46,31 @@ module _ {R : Type 0} (p : R → Bool) (t : ℕ → Bool) where
       ap (λ (k : ℕ). find_from t k (suc i)) n
       ∙ seek (suc i) xs (λ a y b e. let k : suc i + length a ≡ i + suc (length a) = omega arith in ap t k ∙ h (x ∷ a) y b (ap (λ (l : List R). x ∷ l) e)))
     where
-      by : (b : Bool) → t i ≡ b → find_from t (i + suc (length xs)) (suc i) ≡ first p At Nothing (suc i) xs
-          → find_from t (i + suc (length xs)) i ≡ pick b (At i) (first p At Nothing (suc i) xs)
+      by : (b : Bool) → t i ≡ b → find_from t (i + suc (length xs)) (suc i) ≡ first p Some None (suc i) xs
+          → find_from t (i + suc (length xs)) i ≡ pick b (Some i) (first p Some None (suc i) xs)
       by true e rest = find_stop t (i + suc (length xs)) i (omega arith) e
       by false e rest = find_more t (i + suc (length xs)) i (omega arith) e ∙ ap (find_from t (i + suc (length xs))) (add-one i) ∙ rest
 
   -- Rows from the first on.
-  pub seek_all : (xs : List R) → ((a : List R) (x : R) (b : List R) → xs ≡ a ++ (x ∷ b) → t (length a) ≡ p x) → find_from t (length xs) 0 ≡ first p At Nothing 0 xs
+  pub seek_all : (xs : List R) → ((a : List R) (x : R) (b : List R) → xs ≡ a ++ (x ∷ b) → t (length a) ≡ p x) → find_from t (length xs) 0 ≡ first p Some None 0 xs
   seek_all xs h =
       let e : length xs ≡ 0 + length xs = omega arith in
       ap (λ (k : ℕ). find_from t k 0) e ∙ seek 0 xs (λ a x b g. let z : 0 + length a ≡ length a = omega arith in ap t z ∙ h a x b g)
 
-  pub none_first : (i : ℕ) (ys : List R) → any_of p ys ≡ false → first p At Nothing i ys ≡ Nothing
+  pub none_first : (i : ℕ) (ys : List R) → any_of p ys ≡ false → first p Some None i ys ≡ None
   unfolding first any_of
   none_first i [] e = refl
   none_first i (y ∷ ys) e = by (p y) e (none_first (suc i) ys)
     where
-      by : (b : Bool) → either b (any_of p ys) ≡ false → (any_of p ys ≡ false → first p At Nothing (suc i) ys ≡ Nothing) → pick b (At i) (first p At Nothing (suc i) ys) ≡ Nothing
+      by : (b : Bool) → either b (any_of p ys) ≡ false → (any_of p ys ≡ false → first p Some None (suc i) ys ≡ None) → pick b (Some i) (first p Some None (suc i) ys) ≡ None
       by true e h = absurd (false≢true (sym e))
       by false e h = h e
 
   -- Where none of those behind passes, they may be left out.
-  pub first_front : (i : ℕ) (xs ys : List R) → any_of p ys ≡ false → first p At Nothing i (xs ++ ys) ≡ first p At Nothing i xs
+  pub first_front : (i : ℕ) (xs ys : List R) → any_of p ys ≡ false → first p Some None i (xs ++ ys) ≡ first p Some None i xs
   unfolding first
   first_front i [] ys e = none_first i ys e
-  first_front i (x ∷ xs) ys e = ap (pick (p x) (At i)) (first_front (suc i) xs ys e)
+  first_front i (x ∷ xs) ys e = ap (pick (p x) (Some i)) (first_front (suc i) xs ys e)
 
 -- The first that passes.
 module _ {R : Type 0} (p : R → Bool) where
@@ -88,7 +88,7 @@ module _ {R : Type 0} (p : R → Bool) where
   one_append [] ys e = refl
   one_append (x ∷ xs) ys e = ap (λ b. pick b (some x) (first_one (xs ++ ys))) (neither_first (p x) (any_of p xs) e) ∙ one_append xs ys (neither_second (p x) (any_of p xs) e)
 
-  pub found_below : (t : ℕ → Bool) (xs : List R) (j : ℕ) → first p At Nothing 0 xs ≡ At j → j < length xs
+  pub found_below : (t : ℕ → Bool) (xs : List R) (j : ℕ) → first p Some None 0 xs ≡ Some j → j < length xs
   found_below t xs j e =
       let f = first_is p 0 xs j e in
       let z = f.place in
@@ -97,7 +97,7 @@ module _ {R : Type 0} (p : R → Bool) where
       omega arith
 
   -- It is the one with the number that a search finds.
-  pub found_one : (xs : List R) (j : ℕ) (x : R) → first p At Nothing 0 xs ≡ At j → first_one xs ≡ some x → Nth xs j x
+  pub found_one : (xs : List R) (j : ℕ) (x : R) → first p Some None 0 xs ≡ Some j → first_one xs ≡ some x → Nth xs j x
   unfolding first_one
   found_one xs j x e h =
       let f = first_is p 0 xs j e in
@@ -133,7 +133,7 @@ below_front f a x b h =
     omega arith
 
 pub find_in_definitions : (f : File) (s d : List ℕ) (front rest : List Entry) (n key at len : ℕ) → d ≡ kept_definitions f → spec_entries f.specs ≡ front ++ rest
-    → n ≡ length front → n ≤ 513 → find_named s d 19 n 0 key 2 at len 0 ≡ first (is_row s key at len) At Nothing 0 front
+    → n ≡ length front → n ≤ 513 → find_named s d 19 n 0 key 2 at len 0 ≡ first (is_row s key at len) Some None 0 front
 unfolding find_named is_row definition_cells
 find_in_definitions f s d front rest n key at len e w k h =
     ap (λ (m : ℕ). find_from (λ j. is_named s d (j * 19) 0 key 2 3 at len) m 0) k
@@ -146,7 +146,7 @@ find_in_definitions f s d front rest n key at len e w k h =
     (definition_cell f d (length a) 3 x e q (omega arith) (omega arith)))
 
 pub find_in_enumerators : (f : File) (s e : List ℕ) (front rest : List Choice) (n key at len : ℕ) → e ≡ kept_enumerators f → spec_choices f.specs ≡ front ++ rest
-    → n ≡ length front → n ≤ 1025 → find_named s e 3 n 0 key 1 at len 0 ≡ first (is_choice s key at len) At Nothing 0 front
+    → n ≡ length front → n ≤ 1025 → find_named s e 3 n 0 key 1 at len 0 ≡ first (is_choice s key at len) Some None 0 front
 unfolding find_named is_choice choice_cells
 find_in_enumerators f s e front rest n key at len t w k h =
     ap (λ (m : ℕ). find_from (λ j. is_named s e (j * 3) 0 key 1 2 at len) m 0) k
@@ -160,7 +160,7 @@ find_in_enumerators f s e front rest n key at len t w k h =
 
 -- Among objects, or their parts, of which the table has room for so many.
 pub find_in_rows : (room : ℕ) (os : List Object) (s o : List ℕ) (front rest : List Object) (n key at len : ℕ) → o ≡ kept (room * 10) (object_rows os 0)
-    → os ≡ front ++ rest → n ≡ length front → n ≤ room → find_named s o 10 n 0 key 3 at len 0 ≡ first (is_object s key at len) At Nothing 0 front
+    → os ≡ front ++ rest → n ≡ length front → n ≤ room → find_named s o 10 n 0 key 3 at len 0 ≡ first (is_object s key at len) Some None 0 front
 unfolding find_named is_object object_cells
 find_in_rows room os s o front rest n key at len e w k h =
     ap (λ (m : ℕ). find_from (λ j. is_named s o (j * 10) 0 key 3 4 at len) m 0) k
@@ -173,7 +173,7 @@ find_in_rows room os s o front rest n key at len e w k h =
     (row_cell_lem room os o (length a) 4 x e q (omega arith) (omega arith)))
 
 pub find_in_objects : (f : File) (s o : List ℕ) (front rest : List Object) (n key at len : ℕ) → o ≡ kept_objects f → f.objects ≡ front ++ rest
-    → n ≡ length front → n ≤ 257 → find_named s o 10 n 0 key 3 at len 0 ≡ first (is_object s key at len) At Nothing 0 front
+    → n ≡ length front → n ≤ 257 → find_named s o 10 n 0 key 3 at len 0 ≡ first (is_object s key at len) Some None 0 front
 unfolding kept_objects
 find_in_objects f s o front rest n key at len e w k h = find_in_rows 257 f.objects s o front rest n key at len e w k h
 

@@ -16,14 +16,14 @@ pub data Truths : Values → Type 0 where
   both_truths : {t f : Word} {a b : ℕ} {us vs : Definitions} → Truths (value t a us (value f b vs no_value))
 
 -- One or more.
-pub data Some : Values → Type 0 where
-  at_least_one : {w : Word} {e : ℕ} {us : Definitions} {vs : Values} → Some (value w e us vs)
+pub data NotEmpty : Values → Type 0 where
+  at_least_one : {w : Word} {e : ℕ} {us : Definitions} {vs : Values} → NotEmpty (value w e us vs)
 
 pub data Formed (s : List ℕ) (d : Definition) : Values → Type 0 where
   an_integer : (i : Integer) → d.type ≡ integer i → code_of d.word ≡ integer_code i → RangeAt s d.range.place d.bounds → Formed s d no_value
   a_string : d.type ≡ string → code_of d.word ≡ 39 → d.bounds ≡ no_bounds → Formed s d no_value
   a_boolean : {vs : Values} → d.type ≡ boolean → code_of d.word ≡ 40 → d.bounds ≡ no_bounds → Truths vs → Formed s d vs
-  an_enum : {vs : Values} → d.type ≡ enum → code_of d.word ≡ 41 → d.bounds ≡ no_bounds → Some vs → Formed s d vs
+  an_enum : {vs : Values} → d.type ≡ enum → code_of d.word ≡ 41 → d.bounds ≡ no_bounds → NotEmpty vs → Formed s d vs
   a_float : d.type ≡ float → code_of d.word ≡ 42 → FloatsAt s d.range.place d.bounds → Formed s d no_value
   a_reference : (k : Kind) → d.type ≡ reference k → code_of d.word ≡ 22 + kind_number k → d.bounds ≡ no_bounds → Formed s d no_value
 

@@ -11,7 +11,7 @@ use borrow.Author.Tests.{eq-eqb}
 use Rattle.token.specs.Find.{pick, both}
 use Rattle.token.specs.Words.{same}
 use Rattle.token.specs.Tokens.{part_of}
-use Rattle.rows.specs.declared.Found.TheVariants.{At, Nothing}
+use Rattle.std.specs.Prelude.{Some, None}
 use Rattle.rows.proofs.Walks.{first, first_append}
 use Rattle.meaning.specs.Syntax.{Word, Definition, Definitions, no_more, define, Values, no_value, value, Spec, is_enum}
 use Rattle.meaning.specs.Words.{alike}
@@ -22,7 +22,7 @@ use Rattle.meaning.proofs.Sites.{bound_words, option_words, definition_words, va
 use Rattle.layout.specs.Kept.{Choice, list_key, choice_if, choices, choices_of, spec_choices}
 use Rattle.layout.proofs.Lengths.{length_choice, length_choices, length_choices_of}
 use Rattle.scopes.specs.Situations.{NoneOf}
-use Rattle.scopes.proofs.Forms.{Some, at_least_one}
+use Rattle.scopes.proofs.Forms.{NotEmpty, at_least_one}
 use Rattle.scopes.specs.Promises.{number_found}
 use Rattle.scopes.proofs.Goodness.{Goods, good_front, good_back}
 use Rattle.meaning.proofs.Runs.{run_le, cut, Out, cuts}
@@ -75,7 +75,7 @@ mutual
 -- A search by its key in a list's own rows, and some more with other keys.
 own_rows : (s : List ℕ) (key at len : ℕ) (t : Word) → t.bytes ≡ part_of s at len → (vs : Values) (B : List Choice) (lo hi i : ℕ)
     → Run lo (value_words vs) hi → key ≤ lo → Counts i (enumerator_numbers_of vs true) → Goods s (value_words vs) → NoneOf key B
-    → first (is_choice s key at len) At Nothing i (choices_of vs true key ++ B) ≡ number_found (find_value vs t)
+    → first (is_choice s key at len) Some None i (choices_of vs true key ++ B) ≡ number_found (find_value vs t)
 unfolding choices choice_if find_value number_found first is_choice value_words enumerator_numbers number_if alike
 own_rows s key at len t q no_value B lo hi i r h c g n = none_first (is_choice s key at len) (λ j. true) i B (none_chosen s key at len B n)
 own_rows s key at len t q (value w e us vs) B lo hi i r h c g n =
@@ -89,16 +89,16 @@ own_rows s key at len t q (value w e us vs) B lo hi i r h c g n =
     ap (λ b. both b (same (part_of s w.place w.length) (part_of s at len))) (eq-eqb key key refl) ∙ ap₂ same (sym g.0.read.bytes) (sym q) in
     let y = none_in us (suc w.place) k.mid key k.front (λ z p q' d. omega arith) in
     let assoc = append_assoc (choices us) (choices_of vs true key) B in
-    ap (λ b. pick b (At i) (first (is_choice s key at len) At Nothing (suc i) ((choices us ++ choices_of vs true key) ++ B))) x
-    ∙ ap (λ m. pick (same w.bytes t.bytes) (At i) m)
-    (ap (first (is_choice s key at len) At Nothing (suc i)) assoc
-    ∙ first_append (is_choice s key at len) At Nothing (suc i) (choices us) (choices_of vs true key ++ B) (none_chosen s key at len (choices us) y)
+    ap (λ b. pick b (Some i) (first (is_choice s key at len) Some None (suc i) ((choices us ++ choices_of vs true key) ++ B))) x
+    ∙ ap (λ m. pick (same w.bytes t.bytes) (Some i) m)
+    (ap (first (is_choice s key at len) Some None (suc i)) assoc
+    ∙ first_append (is_choice s key at len) Some None (suc i) (choices us) (choices_of vs true key ++ B) (none_chosen s key at len (choices us) y)
     ∙ own_rows s key at len t q vs B k.mid hi i' k.back (omega arith) (counts_back (enumerator_numbers us) (counts_tail c) (omega arith))
     (good_back s (definition_words us) (value_words vs) g.1) n)
     ∙ go (same w.bytes t.bytes) (sym (counts_head c))
   where
-    go : (b : Bool) → i ≡ e → pick b (At i) (number_found (find_value vs t)) ≡ number_found (pick b (some (record { word = w; number = e; definitions = us })) (find_value vs t))
-    go true z = ap At z
+    go : (b : Bool) → i ≡ e → pick b (Some i) (number_found (find_value vs t)) ≡ number_found (pick b (some (record { word = w; number = e; definitions = us })) (find_value vs t))
+    go true z = ap Some z
     go false z = refl
 
 -- The row itself of a value.
@@ -133,19 +133,19 @@ own_words s key at len t q (value w e us vs) B lo hi r h g n =
 
 -- In the rows C, a search by the key of the list vs finds what the list has.
 pub record Own (s : List ℕ) (C : List Choice) (vs : Values) : Type 0 where
-  pub number : (at len : ℕ) (t : Word) → t.bytes ≡ part_of s at len → first (is_choice s (list_key vs) at len) At Nothing 0 C ≡ number_found (find_value vs t)
+  pub number : (at len : ℕ) (t : Word) → t.bytes ≡ part_of s at len → first (is_choice s (list_key vs) at len) Some None 0 C ≡ number_found (find_value vs t)
   pub word : (at len : ℕ) (t : Word) → t.bytes ≡ part_of s at len → first_one (is_choice s (list_key vs) at len) C ≡ chosen (list_key vs) (find_value vs t)
 
-own_in : (s : List ℕ) (vs : Values) (C A B : List Choice) (lo hi : ℕ) → Some vs → C ≡ A ++ (choices_of vs true (list_key vs) ++ B) → Run lo (value_words vs) hi
+own_in : (s : List ℕ) (vs : Values) (C A B : List Choice) (lo hi : ℕ) → NotEmpty vs → C ≡ A ++ (choices_of vs true (list_key vs) ++ B) → Run lo (value_words vs) hi
     → Counts (length A) (enumerator_numbers_of vs true) → NoneOf (list_key vs) A → NoneOf (list_key vs) B → Goods s (value_words vs) → Own s C vs
 unfolding list_key value_words
 own_in s (value w e us vs) C A B lo hi at_least_one q r c f g h = record {
   number = λ at len t z.
       let key = w.place in
       let m : 0 + length A ≡ length A = omega arith in
-      ap (first (is_choice s key at len) At Nothing 0) q
-      ∙ first_append (is_choice s key at len) At Nothing 0 A (choices_of (value w e us vs) true key ++ B) (none_chosen s key at len A f)
-      ∙ ap (λ k. first (is_choice s key at len) At Nothing k (choices_of (value w e us vs) true key ++ B)) m
+      ap (first (is_choice s key at len) Some None 0) q
+      ∙ first_append (is_choice s key at len) Some None 0 A (choices_of (value w e us vs) true key ++ B) (none_chosen s key at len A f)
+      ∙ ap (λ k. first (is_choice s key at len) Some None k (choices_of (value w e us vs) true key ++ B)) m
       ∙ own_rows s key at len t z (value w e us vs) B key hi (length A) (omega arith, r.1) (omega arith) c h g;
   word = λ at len t z.
       let key = w.place in
@@ -159,7 +159,7 @@ own_in s no_value C A B lo hi x7 q r c f g h = elim x7 [ ]
 mutual
   pub data Deep (s : List ℕ) (C : List Choice) : Definitions → Type 0 where
     deep_none : Deep s C no_more
-    deep_more : {d : Definition} {vs : Values} {ds : Definitions} → (is_enum d.type ≡ true → Some vs → Own s C vs) → DeepValues s C vs → Deep s C ds
+    deep_more : {d : Definition} {vs : Values} {ds : Definitions} → (is_enum d.type ≡ true → NotEmpty vs → Own s C vs) → DeepValues s C vs → Deep s C ds
         → Deep s C (define d vs ds)
 
   pub data DeepValues (s : List ℕ) (C : List Choice) : Values → Type 0 where
@@ -181,7 +181,7 @@ unfolding value_words
 key_next no_value key lo hi r h = tt
 key_next (value w e us vs) key lo hi r h = let a = r.0 in omega arith
 
-own_free : (vs : Values) → Some vs → (lo hi : ℕ) → Run lo (value_words vs) hi → (l : List Choice) → ((x : ℕ) → lo ≤ x → x < hi → NoneOf x l) → NoneOf (list_key vs) l
+own_free : (vs : Values) → NotEmpty vs → (lo hi : ℕ) → Run lo (value_words vs) hi → (l : List Choice) → ((x : ℕ) → lo ≤ x → x < hi → NoneOf x l) → NoneOf (list_key vs) l
 unfolding list_key value_words
 own_free (value w e us vs) at_least_one lo hi r l f = let a = run_le (definition_words us ++ value_words vs) r.1 in f w.place r.0 (omega arith)
 own_free no_value x3 lo hi r l f = elim x3 [ ]

@@ -9,6 +9,7 @@ use native.Mathlib.Decide.{dec_lt}
 use lib.ListN.{length}
 use lib.Dec.{eqb, ltb, leb}
 use borrow.Author.Tests.{eq-eqb, lt-ltb, le-leb}
+use Rattle.std.specs.Prelude.{Some, None}
 use Rattle.token.specs.Find.{pick, both, either}
 use Rattle.token.specs.Tokens.{step_at}
 use Rattle.token.specs.declared.Step.{Step}
@@ -16,8 +17,7 @@ use Rattle.token.specs.declared.Step.TheVariants.{Found, Refused, End}
 use Rattle.token.proofs.Steps.{found_fits, bad_fits, end_fits}
 use Rattle.token.proofs.Bytes.{either_true}
 use Rattle.grammar.specs.Grammar.{Integer}
-use Rattle.rows.specs.declared.Fault.{Fault}
-use Rattle.rows.specs.Order.{fault_if, none as no_fault}
+use Rattle.rows.specs.Order.{MaybeFault, fault_if}
 use Rattle.meaning.specs.Syntax.{Num, Word, Bounds, from_to, one_of}
 use Rattle.meaning.specs.Words.{num_at_most, equal, in_type, in_bounds, among_numbers}
 use Rattle.meaning.specs.Faults.{Fault as Refusal, faults_if, ahead, sooner, first}
@@ -307,19 +307,19 @@ module _ (s : List ℕ) (i : Integer) (from : ℕ) where
   out_start ws l = record { left = ws; listed = l; whole = refl }
 
   module _ (at : ℕ) (k : SeekingOut s i from at) where
-    pub out_stop : (x : Item) → x ≡ item_at s at → (x.sign ≡ 44 → ⊥) → ListFault s i from no_fault
+    pub out_stop : (x : Item) → x ≡ item_at s at → (x.sign ≡ 44 → ⊥) → ListFault s i from None
     unfolding outside first fault_of
     out_stop x e h ws l = by (k ws l).listed ∙ sym (ap fault_of (k ws l).whole)
       where
-        by : {us : List Word} → Listed s at us → no_fault ≡ fault_of (first (outside i us))
+        by : {us : List Word} → Listed s at us → None ≡ fault_of (first (outside i us))
         by (listed_none z) = refl
         by (listed_more z w r) = absurd (h (ap (λ (y : Item). y.sign) e ∙ z.sign))
 
-    pub out_end : length s ≤ at → ListFault s i from no_fault
+    pub out_end : length s ≤ at → ListFault s i from None
     unfolding outside first fault_of
     out_end h ws l = by (k ws l).listed ∙ sym (ap fault_of (k ws l).whole)
       where
-        by : {us : List Word} → Listed s at us → no_fault ≡ fault_of (first (outside i us))
+        by : {us : List Word} → Listed s at us → None ≡ fault_of (first (outside i us))
         by (listed_none z) = refl
         by (listed_more z w r) = absurd (let a = sign_on s at (λ y. let b = z.sign in omega (arith, b, y)) in omega (arith, a))
 
@@ -330,15 +330,15 @@ module _ (s : List ℕ) (i : Integer) (from : ℕ) where
           let u : y ≡ item_at s p = g ∙ ap (item_at s) (sym m) in
           (ap (in_type i) (sym v.number ∙ ap (λ (j : Item). num j.number) (sym u)) ∙ sym q, (ap (λ (j : Item). j.next) u ∙ v.next, ap (λ (j : Item). j.at) u ∙ v.place))
 
-      pub out-hit : b ≡ false → ListFault s i from (record { number = 21; place = y.at })
+      pub out-hit : b ≡ false → ListFault s i from (Some (record { number = 21; place = y.at }))
       unfolding fault_of
       out-hit t ws l = by (k ws l).listed ∙ sym (ap fault_of (k ws l).whole)
         where
-          by : {us : List Word} → Listed s at us → record { number = 21; place = y.at } ≡ fault_of (first (outside i us))
+          by : {us : List Word} → Listed s at us → Some (record { number = 21; place = y.at }) ≡ fault_of (first (outside i us))
           by (listed_none z) = absurd (z (ap (λ (j : Item). j.sign) (sym e) ∙ h))
           by (listed_more {r = r₁} {w = w} {ws = rest} z v r) =
               let m = v.long in
-              ap (λ (n : ℕ). record { number = 21; place = n }) (found-is z v).1.1
+              ap (λ (n : ℕ). Some (record { number = 21; place = n })) (found-is z v).1.1
               ∙ sym (ap fault_of (first_out i w rest (ordered_from rest (omega (arith, m)) (listed_order s r₁ rest r)) ((found-is z v).0 ∙ t)))
 
       pub out-on : b ≡ true → SeekingOut s i from y.next
@@ -368,11 +368,11 @@ module _ (i : Integer) (a b : Word) (l : a.place < b.place) where
 
 pub fault_if_is : (t : Bool) (w : Word) (p : ℕ) → p ≡ w.place → fault_if t 21 p ≡ fault_of (first (faults_if t w 21))
 unfolding fault_if fault_of first sooner faults_if
-fault_if_is true w p e = ap (λ (n : ℕ). record { number = 21; place = n }) e
+fault_if_is true w p e = ap (λ (n : ℕ). Some (record { number = 21; place = n })) e
 fault_if_is false w p e = refl
 
 module _ (s : List ℕ) (i : Integer) (p : ℕ) where
-  pub bound_zero : p ≡ 0 → BoundFault s i p no_fault
+  pub bound_zero : p ≡ 0 → BoundFault s i p None
   unfolding bound_faults first fault_of
   bound_zero e b (range_none j) = refl
   bound_zero e b (range_two h o a t c) = absurd (h e)
@@ -380,26 +380,26 @@ module _ (s : List ℕ) (i : Integer) (p : ℕ) where
 
   module _ (h : p ≡ 0 → ⊥) (o a z : Item) (e : o ≡ item_at s p) (g : a ≡ item_at s o.next) (k : z ≡ item_at s a.next) where
     module _ (y : Item) (t : z.sign ≡ 46) (v : y ≡ item_at s z.next) (c : Bool) (q : c ≡ num_at_most (num a.number) (num y.number)) where
-      pub bound-crossed : c ≡ false → BoundFault s i p (record { number = 21; place = a.at })
+      pub bound-crossed : c ≡ false → BoundFault s i p (Some (record { number = 21; place = a.at }))
       unfolding fault_of
       bound-crossed u b d =
           let x = two s p h o a z e g k y b t v d in
-          ap (λ (n : ℕ). record { number = 21; place = n }) x.low-place
+          ap (λ (n : ℕ). Some (record { number = 21; place = n })) x.low-place
           ∙ sym (ap (λ b. fault_of (first (bound_faults i b))) x.bounds
           ∙ ap fault_of (two_crossed i x.low x.high x.order (sym (ap₂ num_at_most x.low_number x.high_number) ∙ sym q ∙ u)))
 
       module _ (u : c ≡ true) (c₁ : Bool) (q₁ : c₁ ≡ in_type i (num a.number)) where
-        pub bound-low : c₁ ≡ false → BoundFault s i p (record { number = 21; place = a.at })
+        pub bound-low : c₁ ≡ false → BoundFault s i p (Some (record { number = 21; place = a.at }))
         unfolding fault_of
         bound-low u₁ b d =
             let x = two s p h o a z e g k y b t v d in
             let w = x.order in
-            ap (λ (n : ℕ). record { number = 21; place = n }) x.low-place
+            ap (λ (n : ℕ). Some (record { number = 21; place = n })) x.low-place
             ∙ sym (ap (λ b. fault_of (first (bound_faults i b))) x.bounds
             ∙ ap fault_of (two_straight i x.low x.high x.order (sym (ap₂ num_at_most x.low_number x.high_number) ∙ sym q ∙ u)
             ∙ first_out i x.low (x.high ∷ []) (omega arith, tt) (ap (in_type i) (sym x.low_number) ∙ sym q₁ ∙ u₁)))
 
-        pub bound-high : (c₂ : Bool) (r : Fault) → c₁ ≡ true → c₂ ≡ in_type i (num y.number) → r ≡ fault_if (not c₂) 21 y.at → BoundFault s i p r
+        pub bound-high : (c₂ : Bool) (r : MaybeFault) → c₁ ≡ true → c₂ ≡ in_type i (num y.number) → r ≡ fault_if (not c₂) 21 y.at → BoundFault s i p r
         bound-high c₂ r u₁ q₂ f b d =
             let x = two s p h o a z e g k y b t v d in
             f ∙ fault_if_is (not c₂) x.high y.at x.high-place
@@ -409,16 +409,16 @@ module _ (s : List ℕ) (i : Integer) (p : ℕ) where
             ∙ high_fault i x.low x.high x.order c₂ (ap (in_type i) (sym x.high_number) ∙ sym q₂)))
 
     module _ (t : z.sign ≡ 46 → ⊥) (c : Bool) (q : c ≡ in_type i (num a.number)) where
-      pub bound-first : c ≡ false → BoundFault s i p (record { number = 21; place = a.at })
+      pub bound-first : c ≡ false → BoundFault s i p (Some (record { number = 21; place = a.at }))
       unfolding fault_of bound_faults
       bound-first u b d =
           let x = many s p h o a z e g k b t d in
           let w = x.before in
-          ap (λ (n : ℕ). record { number = 21; place = n }) x.place
+          ap (λ (n : ℕ). Some (record { number = 21; place = n })) x.place
           ∙ sym (ap (λ b. fault_of (first (bound_faults i b))) x.bounds
           ∙ ap fault_of (first_out i x.head x.tail (ordered_from x.tail (omega (arith, w)) (listed_order s a.next x.tail x.listed)) (ap (in_type i) (sym x.number) ∙ sym q ∙ u)))
 
-      pub bound-rest : (r : Fault) → c ≡ true → ListFault s i a.next r → BoundFault s i p r
+      pub bound-rest : (r : MaybeFault) → c ≡ true → ListFault s i a.next r → BoundFault s i p r
       unfolding bound_faults
       bound-rest r u w b d =
           let x = many s p h o a z e g k b t d in

@@ -9,13 +9,14 @@ use lib.ListN.{length, get_or}
 use lib.Dec.{eqb}
 use borrow.Author.Tests.{eq-eqb, ne_eqb}
 use Rattle.meaning.specs.Cells.{integer_code}
+use Rattle.std.specs.Prelude.{None}
 use Rattle.token.specs.Find.{pick, both, bit, is_there}
 use Rattle.token.specs.Words.{same}
 use Rattle.token.specs.Tokens.{step_at, part_of}
 use Rattle.grammar.specs.Grammar.{Integer, UINT32, INT32, UINT64, INT64}
-use Rattle.rows.specs.declared.Fault.{Fault}
-use Rattle.rows.specs.declared.Found.{Found}
-use Rattle.rows.specs.declared.Found.TheVariants.{At, Nothing}
+use Rattle.rows.specs.Order.{MaybeFault}
+use Rattle.rows.specs.Found.{Found}
+use Rattle.std.specs.Prelude.{Some, None}
 use Rattle.rows.specs.Search.{find_named, is_found}
 use Rattle.meaning.specs.Faults.{first}
 use Rattle.meaning.specs.Syntax.{Num, Word, AttributeType, boolean, Definition, Values, no_value, value, Defined, File, is_enum}
@@ -228,16 +229,16 @@ module _ (s d e : List ℕ) (m j at len c : ℕ) (h : c ≡ get_or d (j * 19 + 1
       sym (ap (λ vs. place_found (find_value vs t)) (coded_none (row_facts st row).formed (λ y. n (z ∙ y)) (λ y. n₂ (z ∙ y))))
 
   module _ (k : c ≡ 41) (z : Found) (g : FindsEnumerator s d e m j at len z) where
-    pub word_none : z ≡ Nothing → FindsWord s d e m j at len 0
+    pub word_none : z ≡ None → FindsWord s d e m j at len 0
     unfolding number_found place_found
     word_none y f x t st hd he row l rch q =
         by (find_value x.values t) (sym y ∙ g f x t st hd he row l rch (coded_enum (row_facts st row).formed (sym (h ∙ code_cell f d j x hd row l) ∙ k)) q)
       where
-        by : (o : Option Under) → Nothing ≡ number_found o → 0 ≡ place_found o
+        by : (o : Option Under) → None ≡ number_found o → 0 ≡ place_found o
         by none p = refl
         by (some v) p = absurd (false≢true (ap is_found p))
 
-    pub word_some : (i r : ℕ) → z ≡ At i → r ≡ get_or e (i * 3 + 1) 0 → FindsWord s d e m j at len r
+    pub word_some : (i r : ℕ) → z ≡ Some i → r ≡ get_or e (i * 3 + 1) 0 → FindsWord s d e m j at len r
     unfolding number_found place_found
     word_some i r y w f x t st hd he row l rch q =
         let b = coded_enum (row_facts st row).formed (sym (h ∙ code_cell f d j x hd row l) ∙ k) in
@@ -245,10 +246,10 @@ module _ (s d e : List ℕ) (m j at len c : ℕ) (h : c ≡ get_or d (j * 19 + 1
         (λ v p n. w ∙ word_in_list e (entry f j x row) m at len i t v st (nth_in row.nth) he b rch q p n) refl
       where
         row_of : Found → ℕ
-        row_of (At n) = n
-        row_of Nothing = 0
+        row_of (Some n) = n
+        row_of None = 0
 
-        by : (o : Option Under) → At i ≡ number_found o → ((v : Under) → find_value x.values t ≡ some v → i ≡ v.number → r ≡ v.word.place) → find_value x.values t ≡ o → r ≡ place_found o
+        by : (o : Option Under) → Some i ≡ number_found o → ((v : Under) → find_value x.values t ≡ some v → i ≡ v.number → r ≡ v.word.place) → find_value x.values t ≡ o → r ≡ place_found o
         by none p u n = absurd (false≢true (sym (ap is_found p)))
         by (some v) p u n = u v n (ap row_of p)
 
@@ -422,7 +423,7 @@ module _ {s : List ℕ} {d : Definition} where
   no_range (an_enum t c b v) h g = ap (λ y. range_faults y d.bounds) t
   no_range (a_reference k t c b) h g = ap (λ y. range_faults y d.bounds) t
 
-  a_range : {vs : Values} → Formed s d vs → 35 ≤ code_of d.word → code_of d.word ≤ 38 → (r : Fault)
+  a_range : {vs : Values} → Formed s d vs → 35 ≤ code_of d.word → code_of d.word ≤ 38 → (r : MaybeFault)
       → (RangeAt s d.range.place d.bounds → r ≡ fault_of (first (bound_faults (integer_coded (code_of d.word)) d.bounds))) → r ≡ fault_of (first (range_faults d.type d.bounds))
   unfolding range_faults
   a_range (an_integer i t c g) h l r k =
@@ -433,7 +434,7 @@ module _ {s : List ℕ} {d : Definition} where
   a_range (an_enum t c b v) h l r k = absurd (omega arith)
   a_range (a_reference z t c b) h l r k = let a = kind_low z in absurd (omega arith)
 
-  floats_range : {vs : Values} → Formed s d vs → code_of d.word ≡ 42 → (r : Fault)
+  floats_range : {vs : Values} → Formed s d vs → code_of d.word ≡ 42 → (r : MaybeFault)
       → (FloatsAt s d.range.place d.bounds → r ≡ fault_of (first (low_faults d.bounds))) → r ≡ fault_of (first (range_faults d.type d.bounds))
   unfolding range_faults
   floats_range (an_integer i t c g) h r k = let a = integer_low i in absurd (omega arith)
@@ -444,25 +445,25 @@ module _ {s : List ℕ} {d : Definition} where
   floats_range (a_reference z t c b) h r k = let a = kind_low z in absurd (omega arith)
 
 module _ (s d : List ℕ) (j c : ℕ) (h : c ≡ get_or d (j * 19 + 12) 0) where
-  pub range_below : c < 35 → RangeFault s d j (record { number = 0; place = 0 })
+  pub range_below : c < 35 → RangeFault s d j None
   unfolding first fault_of
   range_below k f x st hd row l =
       let z = h ∙ code_cell f d j x hd row l in
       sym (ap (λ y. fault_of (first y)) (no_range (row_facts st row).formed (λ i e. let a = integer_low i in omega arith) (λ e. omega arith)))
 
-  pub range_above : 38 < c → (c ≡ 42 → ⊥) → RangeFault s d j (record { number = 0; place = 0 })
+  pub range_above : 38 < c → (c ≡ 42 → ⊥) → RangeFault s d j None
   unfolding first fault_of
   range_above k n f x st hd row l =
       let z = h ∙ code_cell f d j x hd row l in
       sym (ap (λ y. fault_of (first y)) (no_range (row_facts st row).formed (λ i e. let a = integer_low i in omega arith) (λ e. n (z ∙ e))))
 
-  pub range_float : c ≡ 42 → (p : ℕ) (r : Fault) → p ≡ get_or d (j * 19 + 8) 0 → LowFault s p r → RangeFault s d j r
+  pub range_float : c ≡ 42 → (p : ℕ) (r : MaybeFault) → p ≡ get_or d (j * 19 + 8) 0 → LowFault s p r → RangeFault s d j r
   range_float k p r q g f x st hd row l =
       let z = h ∙ code_cell f d j x hd row l in
       floats_range (row_facts st row).formed (sym z ∙ k) r
       (λ w. g x.definition.bounds (subst (λ a. FloatsAt s a x.definition.bounds) (sym (q ∙ range_cell f d j x hd row l)) w))
 
-  pub range_between : 35 ≤ c → c ≤ 38 → (p : ℕ) (r : Fault) → p ≡ get_or d (j * 19 + 8) 0 → BoundFault s (integer_coded c) p r → RangeFault s d j r
+  pub range_between : 35 ≤ c → c ≤ 38 → (p : ℕ) (r : MaybeFault) → p ≡ get_or d (j * 19 + 8) 0 → BoundFault s (integer_coded c) p r → RangeFault s d j r
   range_between lo hi p r q g f x st hd row l =
       let z = h ∙ code_cell f d j x hd row l in
       a_range (row_facts st row).formed (omega arith) (omega arith) r

@@ -1,11 +1,11 @@
 -- What the functions over kept rows promise, for every file whose text and rows these are. Assumes nothing.
-use Rattle.std.specs.Prelude.{◌≡◌, List, Bool, true, ℕ, ◌≤◌, ◌<◌, length}
+use Rattle.std.specs.Prelude.{Some, None, ◌≡◌, List, Bool, true, ℕ, ◌≤◌, ◌<◌, length}
 use Rattle.std.proofs.Math.Option.{Option, none, some}
 use Rattle.token.specs.Tokens.{step_at, part_of}
 use Rattle.grammar.specs.Grammar.{Kind, Integer}
-use Rattle.rows.specs.declared.Fault.{Fault}
-use Rattle.rows.specs.declared.Found.{Found}
-use Rattle.rows.specs.declared.Found.TheVariants.{At, Nothing}
+use Rattle.rows.specs.Order.{MaybeFault}
+use Rattle.rows.specs.Found.{Found}
+use Rattle.std.specs.Prelude.{Some, None}
 use Rattle.meaning.specs.Syntax.{Num, Word, boolean, Bounds, Definitions, Defined, Object, File, is_enum}
 use Rattle.meaning.specs.Actions.{num_of_step, float_of_step}
 use Rattle.meaning.specs.Words.{in_bounds, in_float_bounds, among_numbers}
@@ -19,10 +19,10 @@ use Rattle.scopes.specs.Ranges.{Listed, RangeAt, FloatsAt}
 
 -- Faults -----------------------------------------------------------------------------------------------------------------------------------
 
--- A fault as a struct: the number 0 for none.
-unfoldable pub fault_of : Option Refusal → Fault
-fault_of none = record { number = 0; place = 0 }
-fault_of (some x) = record { number = x.number; place = x.place }
+-- A fault as a struct, where there is one.
+unfoldable pub fault_of : Option Refusal → MaybeFault
+fault_of none = None
+fault_of (some x) = Some (record { number = x.number; place = x.place })
 
 -- Ranges -----------------------------------------------------------------------------------------------------------------------------------
 
@@ -35,11 +35,11 @@ abbrev pub InRange : List ℕ → ℕ → Num → Bool → Type 0
 InRange s p n r = (b : Bounds) → RangeAt s p b → r ≡ in_bounds n b
 
 -- 21 at the numbers listed from p on.
-abbrev pub ListFault : List ℕ → Integer → ℕ → Fault → Type 0
+abbrev pub ListFault : List ℕ → Integer → ℕ → MaybeFault → Type 0
 ListFault s i p r = (ws : List Word) → Listed s p ws → r ≡ fault_of (first (outside i ws))
 
 -- 21 at the bounds of the range whose `[` stands at p.
-abbrev pub BoundFault : List ℕ → Integer → ℕ → Fault → Type 0
+abbrev pub BoundFault : List ℕ → Integer → ℕ → MaybeFault → Type 0
 BoundFault s i p r = (b : Bounds) → RangeAt s p b → r ≡ fault_of (first (bound_faults i b))
 
 -- Whether n is in the bounds of the range of floats whose `[` stands at p.
@@ -47,15 +47,15 @@ abbrev pub InFloats : List ℕ → ℕ → Num → Bool → Type 0
 InFloats s p n r = (b : Bounds) → FloatsAt s p b → r ≡ in_float_bounds n b
 
 -- 21 at the low of the range of floats whose `[` stands at p, where it is above the high.
-abbrev pub LowFault : List ℕ → ℕ → Fault → Type 0
+abbrev pub LowFault : List ℕ → ℕ → MaybeFault → Type 0
 LowFault s p r = (b : Bounds) → FloatsAt s p b → r ≡ fault_of (first (low_faults b))
 
 -- Lookups ----------------------------------------------------------------------------------------------------------------------------------
 
 -- Row n of the definitions, where there is one of the name.
 unfoldable pub row_found : Option Defined → Found
-row_found none = Nothing
-row_found (some x) = At x.definition.row
+row_found none = None
+row_found (some x) = Some x.definition.row
 
 -- The row of the definition that the name at a place has in the scope of the word at key.
 abbrev pub FindsDefinition : List ℕ → List ℕ → (n key at len : ℕ) → Found → Type 0
@@ -64,8 +64,8 @@ FindsDefinition s d n key at len r =
     → ScopeAt f key ds → t.bytes ≡ part_of s at len → r ≡ row_found (find_definition ds t)
 
 unfoldable pub number_found : Option Under → Found
-number_found none = Nothing
-number_found (some x) = At x.number
+number_found none = None
+number_found (some x) = Some x.number
 
 -- The row of the enumerator that the word at a place is, of the list of the attribute of row j.
 abbrev pub FindsEnumerator : List ℕ → List ℕ → List ℕ → (m j at len : ℕ) → Found → Type 0
@@ -84,8 +84,8 @@ FindsWord s d e m j at len r =
     → Reached f m x.values → t.bytes ≡ part_of s at len → r ≡ place_found (find_value x.values t)
 
 unfoldable pub object_found : Option Object → Found
-object_found none = Nothing
-object_found (some x) = At x.row
+object_found none = None
+object_found (some x) = Some x.row
 
 -- The row of the object of a kind, by its number, that has the name at a place.
 abbrev pub FindsObject : List ℕ → List ℕ → (n kind at len : ℕ) → Found → Type 0
@@ -126,7 +126,7 @@ TakesFloat s d j at r =
     → r ≡ fits_float x.definition.type x.definition.bounds (float_of_step (step_at s at))
 
 -- 21 at the bounds of the range of the attribute of row j.
-abbrev pub RangeFault : List ℕ → List ℕ → ℕ → Fault → Type 0
+abbrev pub RangeFault : List ℕ → List ℕ → ℕ → MaybeFault → Type 0
 RangeFault s d j r =
     (f : File) (x : Defined) → Situation s f → d ≡ kept_definitions f → RowOf f j x → j < 513
     → r ≡ fault_of (first (range_faults x.definition.type x.definition.bounds))

@@ -4,13 +4,14 @@ ghost use Rattle.scopes.specs.Items.{num, integer_coded};
 ghost use Rattle.scopes.specs.Promises.{IsListed, InRange, ListFault, BoundFault};
 
 use super::{Num, numbers};
-use rows::{Fault, faults, refusals};
+use rows::{Fault, refusals};
 
 // Whether a number is among those that stand from a place on, a comma before each.
 fn is_listed(text: &[u8], from: usize, n: Num) -> bool
     ensures { IsListed text.now from (num n) result }
 {
     let mut at = from;
+    // A `while`: the next comma stands behind the number that was read.
     while at < text.len() {
         let s = numbers::comma_at(text, at);
         if s.sign != b',' {
@@ -59,30 +60,31 @@ pub fn wrong_bound(at: usize) -> Fault
 }
 
 // 21 at the first number outside the type of those that stand from a place on, a comma before each.
-fn list_fault(text: &[u8], code: usize, from: usize) -> Fault
+fn list_fault(text: &[u8], code: usize, from: usize) -> Option<Fault>
     ensures { ListFault text.now (integer_coded code) from result }
 {
     let mut at = from;
+    // A `while`: the next comma stands behind the number that was read.
     while at < text.len() {
         let s = numbers::comma_at(text, at);
         if s.sign != b',' {
-            return faults::NONE;
+            return None;
         }
         let x = numbers::item_at(text, s.next);
         if !numbers::in_type(code, x.number) {
-            return wrong_bound(x.at);
+            return Some(wrong_bound(x.at));
         }
         at = x.next;
     }
-    faults::NONE
+    None
 }
 
 // 21 at the bounds of the range whose `[` stands at a place.
-pub fn bound_fault(text: &[u8], code: usize, range: usize) -> Fault
+pub fn bound_fault(text: &[u8], code: usize, range: usize) -> Option<Fault>
     ensures { BoundFault text.now (integer_coded code) range result }
 {
     if range == 0 {
-        return faults::NONE;
+        return None;
     }
     let o = numbers::item_at(text, range);
     let a = numbers::item_at(text, o.next);
@@ -90,18 +92,18 @@ pub fn bound_fault(text: &[u8], code: usize, range: usize) -> Fault
     if s.sign == b'.' {
         let b = numbers::item_at(text, s.next);
         if !numbers::at_most(a.number, b.number) {
-            return wrong_bound(a.at);
+            return Some(wrong_bound(a.at));
         }
         if !numbers::in_type(code, a.number) {
-            return wrong_bound(a.at);
+            return Some(wrong_bound(a.at));
         }
         if !numbers::in_type(code, b.number) {
-            return wrong_bound(b.at);
+            return Some(wrong_bound(b.at));
         }
-        return faults::NONE;
+        return None;
     }
     if !numbers::in_type(code, a.number) {
-        return wrong_bound(a.at);
+        return Some(wrong_bound(a.at));
     }
     list_fault(text, code, a.next)
 }

@@ -7,79 +7,53 @@ ghost use Rattle.scopes.specs.Items.{real};
 ghost use Rattle.scopes.specs.Promises.{InFloats, LowFault};
 
 use super::{Float, bounds, numbers};
-use rows::{Fault, faults};
+use rows::Fault;
 use token::{Cursor, Sort, Step};
 
+const ZERO: Float = Float {
+    negative: false,
+    digits: 0,
+    scale: 0,
+};
+
 // The float that a token of a sort is; 0 for any other.
+#[tactic(auto, unfolding(meaning::specs::Actions::float_of_sort, meaning::specs::Actions::zero_num))]
 fn float_of(sort: Sort) -> Float
     ensures { real result ≡ float_of_sort sort }
 {
     match sort {
-        Sort::Word(_) => Float {
-            negative: false,
-            digits: 0,
-            scale: 0,
-        },
-        Sort::Number(_, _) => Float {
-            negative: false,
-            digits: 0,
-            scale: 0,
-        },
-        Sort::String => Float {
-            negative: false,
-            digits: 0,
-            scale: 0,
-        },
-        Sort::Punctuator(_) => Float {
-            negative: false,
-            digits: 0,
-            scale: 0,
-        },
         Sort::Float(negative, digits, scale) => Float {
-            negative: negative,
-            digits: digits,
-            scale: scale,
+            negative,
+            digits,
+            scale,
         },
+        _ => ZERO,
     }
 }
 
 // The float at a place; 0 where none stands.
+#[tactic(auto, unfolding(meaning::specs::Actions::float_of_step, meaning::specs::Actions::zero_num))]
 pub fn float_at(text: &[u8], at: usize) -> Float
     ensures { real result ≡ float_of_step (step_at text.now at) }
 {
-    let cursor = Cursor { at: at };
+    let cursor = Cursor { at };
     match cursor.step(text) {
-        Step::Found(t, _) => {
-            let sort = t.sort;
-            float_of(sort)
-        }
-        Step::Refused(_) => Float {
-            negative: false,
-            digits: 0,
-            scale: 0,
-        },
-        Step::End(_) => Float {
-            negative: false,
-            digits: 0,
-            scale: 0,
-        },
+        Step::Found(t, _) => float_of(t.sort),
+        _ => ZERO,
     }
 }
 
 // Whether a float is at most another, exactly.
+#[tactic(auto, unfolding(meaning::specs::Words::num_at_most))]
 pub fn at_most(a: Float, b: Float) -> bool
     ensures { result ≡ num_at_most (real a) (real b) }
 {
-    if a.negative {
-        if b.negative {
-            return decimals::at_most(b.digits, b.scale, a.digits, a.scale);
-        }
-        return true;
+    match (a.negative, b.negative) {
+        (true, true) => decimals::at_most(b.digits, b.scale, a.digits, a.scale),
+        (true, false) => true,
+        (false, true) => false,
+        (false, false) => decimals::at_most(a.digits, a.scale, b.digits, b.scale),
     }
-    if b.negative {
-        return false;
-    }
-    decimals::at_most(a.digits, a.scale, b.digits, b.scale)
 }
 
 // Whether a float is in the range whose `[` stands at a place; 0 for no range.
@@ -101,11 +75,11 @@ pub fn in_range(text: &[u8], range: usize, f: Float) -> bool
 }
 
 // 21 at the low of the range whose `[` stands at a place, where it is above the high.
-pub fn low_fault(text: &[u8], range: usize) -> Fault
+pub fn low_fault(text: &[u8], range: usize) -> Option<Fault>
     ensures { LowFault text.now range result }
 {
     if range == 0 {
-        return faults::NONE;
+        return None;
     }
     let o = numbers::item_at(text, range);
     let a = numbers::item_at(text, o.next);
@@ -113,7 +87,7 @@ pub fn low_fault(text: &[u8], range: usize) -> Fault
     let low = float_at(text, o.next);
     let high = float_at(text, s.next);
     if !at_most(low, high) {
-        return bounds::wrong_bound(a.at);
+        return Some(bounds::wrong_bound(a.at));
     }
-    faults::NONE
+    None
 }

@@ -13,6 +13,11 @@ pub struct Num {
     pub amount: u64,
 }
 
+pub const ZERO: Num = Num {
+    negative: false,
+    amount: 0,
+};
+
 // A float: whether it is negative, its digits as one whole number, and the power of ten by which they count, plus 82.
 #[derive(Clone, Copy)]
 pub struct Float {

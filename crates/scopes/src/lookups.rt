@@ -3,7 +3,7 @@ ghost use Rattle.scopes.specs.Promises.{TakesWord, TakesUnder, TakesNumber, Take
 
 use super::{Num, bounds, floats, numbers};
 use layout::{definition, word_codes};
-use rows::{Fault, cells, faults, parts};
+use rows::{Fault, cells, parts};
 
 // The word TRUE or FALSE of the list of the BOOLEAN of row j that a word is; 0 for none.
 pub fn truth_under(text: &[u8], d: &[usize], j: usize, at: usize, len: usize) -> usize
@@ -101,12 +101,12 @@ pub fn takes(text: &[u8], d: &[usize], j: usize, at: usize, code: usize, under: 
 }
 
 // 21 at the bounds of the range of the attribute of row j.
-pub fn range_fault(text: &[u8], d: &[usize], j: usize) -> Fault
+pub fn range_fault(text: &[u8], d: &[usize], j: usize) -> Option<Fault>
     ensures { RangeFault text.now d.now j result }
 {
     let code = cells::cell_of(d, definition::WIDTH, j, definition::CODE);
     if code < word_codes::UINT32 {
-        return faults::NONE;
+        return None;
     }
     if word_codes::INT64 < code {
         if code == word_codes::FLOAT {
@@ -115,7 +115,7 @@ pub fn range_fault(text: &[u8], d: &[usize], j: usize) -> Fault
                 cells::cell_of(d, definition::WIDTH, j, definition::RANGE),
             );
         }
-        return faults::NONE;
+        return None;
     }
     bounds::bound_fault(
         text,

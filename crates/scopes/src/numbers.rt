@@ -1,117 +1,78 @@
 // Numbers, and those that an integer type has.
-ghost use Rattle.std.specs.Prelude.{◌≡◌, ◌≤◌, ◌<◌, ◌^◌};
+ghost use Rattle.std.specs.Prelude.{◌≡◌, ◌≤◌, ◌<◌, ◌^◌, false};
 ghost use Rattle.token.specs.Tokens.{step_at};
 ghost use Rattle.meaning.specs.Actions.{num_of_step};
 ghost use Rattle.meaning.specs.Words.{num_at_most, equal, least_of, greatest_of, signed, width, in_type};
 ghost use Rattle.scopes.specs.Items.{num, item_of, item_at, integer_coded};
 
-use super::{Item, Num};
+use super::{Item, Num, ZERO};
 use layout::word_codes;
 use token::{Cursor, Sort, Step};
 
 // A token of a sort, at a place, with the place after it.
+#[tactic(auto, unfolding(crate::specs::Items::item_of))]
 fn item_of(sort: Sort, at: usize, next: usize) -> Item
     ensures { result ≡ item_of sort at next }
 {
     match sort {
-        Sort::Word(_) => Item {
-            number: Num {
-                negative: false,
-                amount: 0,
-            },
-            sign: 0,
-            at: at,
-            next: next,
-        },
         Sort::Number(negative, amount) => Item {
-            number: Num {
-                negative: negative,
-                amount: amount,
-            },
+            number: Num { negative, amount },
             sign: 0,
-            at: at,
-            next: next,
+            at,
+            next,
         },
-        Sort::String => Item {
-            number: Num {
-                negative: false,
-                amount: 0,
-            },
+        Sort::Punctuator(sign) => Item {
+            number: ZERO,
+            sign,
+            at,
+            next,
+        },
+        _ => Item {
+            number: ZERO,
             sign: 0,
-            at: at,
-            next: next,
+            at,
+            next,
         },
-        Sort::Punctuator(b) => Item {
-            number: Num {
-                negative: false,
-                amount: 0,
-            },
-            sign: b,
-            at: at,
-            next: next,
-        },
-        Sort::Float(_, _, _) => Item {
-            number: Num {
-                negative: false,
-                amount: 0,
-            },
-            sign: 0,
-            at: at,
-            next: next,
-        },
+    }
+}
+
+// No number and no sign, at a place.
+fn nothing_at(at: usize) -> Item
+    ensures { result ≡ record { number = record { negative = false; amount = 0 }; sign = 0; at = at; next = at } }
+{
+    Item {
+        number: ZERO,
+        sign: 0,
+        at,
+        next: at,
     }
 }
 
 // What a step from a place finds.
+#[tactic(auto, unfolding(crate::specs::Items::item_at, crate::specs::Items::item_of_step))]
 pub fn item_at(text: &[u8], at: usize) -> Item
     ensures { result ≡ item_at text.now at }
 {
-    let cursor = Cursor { at: at };
+    let cursor = Cursor { at };
     match cursor.step(text) {
-        Step::Found(t, c) => {
-            let sort = t.sort;
-            let p = t.at;
-            let q = c.at;
-            item_of(sort, p, q)
-        }
-        Step::Refused(p) => Item {
-            number: Num {
-                negative: false,
-                amount: 0,
-            },
-            sign: 0,
-            at: p,
-            next: p,
-        },
-        Step::End(n) => Item {
-            number: Num {
-                negative: false,
-                amount: 0,
-            },
-            sign: 0,
-            at: n,
-            next: n,
-        },
+        Step::Found(t, c) => item_of(t.sort, t.at, c.at),
+        Step::Refused(p) => nothing_at(p),
+        Step::End(n) => nothing_at(n),
     }
 }
 
 // The same; a comma that stands right at the place is told from its byte.
+#[tactic(auto, using(crate::proofs::Commas::comma_item))]
 pub fn comma_at(text: &[u8], at: usize) -> Item
     ensures { result ≡ item_at text.now at }
 {
-    if text.len() <= at {
-        return item_at(text, at);
-    }
-    if text[at] != b',' {
+    if text.len() <= at || text[at] != b',' {
         return item_at(text, at);
     }
     Item {
-        number: Num {
-            negative: false,
-            amount: 0,
-        },
+        number: ZERO,
         sign: b',',
-        at: at,
+        at,
         next: at + 1,
     }
 }
@@ -120,52 +81,36 @@ pub fn comma_at(text: &[u8], at: usize) -> Item
 pub fn number_at(text: &[u8], at: usize) -> Num
     ensures { num result ≡ num_of_step (step_at text.now at) }
 {
-    let x = item_at(text, at);
-    x.number
+    item_at(text, at).number
 }
 
+// Whether a number is at most another. No derived order: of two negative numbers the one with the greater amount is the less.
+#[tactic(auto, unfolding(meaning::specs::Words::num_at_most))]
 pub fn at_most(a: Num, b: Num) -> bool
     ensures { result ≡ num_at_most (num a) (num b) }
 {
-    if a.negative {
-        if b.negative {
-            return b.amount <= a.amount;
-        }
-        return true;
+    match (a.negative, b.negative) {
+        (true, true) => b.amount <= a.amount,
+        (true, false) => true,
+        (false, true) => false,
+        (false, false) => a.amount <= b.amount,
     }
-    if b.negative {
-        return false;
-    }
-    a.amount <= b.amount
 }
 
+// Whether each of two numbers is at most the other.
+#[tactic(auto, unfolding(meaning::specs::Words::equal))]
 pub fn equal(a: Num, b: Num) -> bool
     ensures { result ≡ equal (num a) (num b) }
 {
-    if at_most(a, b) {
-        return at_most(b, a);
-    }
-    false
+    at_most(a, b) && at_most(b, a)
 }
 
-// 2 to the power k; those of the four types are not counted out.
+// 2 to the power k.
 fn power(k: usize) -> u64
     requires { k < 64 }
     ensures { result ≡ 2 ^ k }
 {
-    if k == 31 {
-        return 2147483648;
-    }
-    if k == 63 {
-        return 9223372036854775808;
-    }
-    let mut p = 1;
-    let mut i = 0;
-    while i < k {
-        p = p * 2;
-        i += 1;
-    }
-    p
+    1 << k
 }
 
 // The least number of so many bits, with a sign or without.
@@ -179,10 +124,7 @@ pub fn least_of(negatives: bool, bits: usize) -> Num
             amount: power(bits - 1),
         };
     }
-    Num {
-        negative: false,
-        amount: 0,
-    }
+    ZERO
 }
 
 // The greatest number of so many bits, with a sign or without.
@@ -226,26 +168,19 @@ fn width_of(code: usize) -> usize
 }
 
 // Whether the integer type with the code has the number, by the type's least and greatest.
+#[tactic(auto, using(crate::proofs::Deciding::width_fits), unfolding(meaning::specs::Words::in_type))]
 fn is_between(code: usize, n: Num) -> bool
     ensures { result ≡ in_type (integer_coded code) (num n) }
 {
     let s = is_signed(code);
     let w = width_of(code);
-    if at_most(least_of(s, w), n) {
-        return at_most(n, greatest_of(s, w));
-    }
-    false
+    at_most(least_of(s, w), n) && at_most(n, greatest_of(s, w))
 }
 
 // Whether the integer type with the code has the number. Each of the four has those from 0 to the greatest of INT32.
+#[tactic(auto, using(crate::proofs::Deciding::small_in_type))]
 pub fn in_type(code: usize, n: Num) -> bool
     ensures { result ≡ in_type (integer_coded code) (num n) }
 {
-    if n.negative {
-        return is_between(code, n);
-    }
-    if n.amount <= 2147483647 {
-        return true;
-    }
-    is_between(code, n)
+    !n.negative && n.amount <= 2147483647 || is_between(code, n)
 }

@@ -2,3 +2,4 @@ pub mod Cells
 pub mod Merges
 pub mod Turns
 pub mod Halves
+pub mod Answering

@@ -18,8 +18,8 @@ use Rattle.sources.specs.Promises.{Puts, Fills, Goes, EndsLine, Steps}
 use Rattle.sources.specs.declared.Include.{Include}
 use Rattle.sources.specs.declared.Event.TheVariants.{Stop as Stops, Include as Includes}
 use Rattle.sources.specs.declared.Fill.{Fill}
-use Rattle.sources.specs.declared.Next.{Next}
-use Rattle.sources.specs.declared.Next.TheVariants.{On, Done}
+use Rattle.std.specs.declared.ops.ControlFlow.{ControlFlow}
+use Rattle.std.specs.declared.ops.ControlFlow.TheVariants.{Continue, Break}
 use Rattle.sources.proofs.Singles.{fill_long, fill_short, split}
 use Rattle.sources.proofs.Stops.{length_between}
 use Rattle.sources.proofs.Pieces.{length_up, Good, good_inner, included_whole, included_faulty, expand_law, stop_piece, line_piece, include_fits}
@@ -141,10 +141,10 @@ module _ (max : ℕ) where
   -- the LF after it, and on
   end_steps : (c e q : ℕ) (w : ℕ → Piece) (N : ℕ → Type 0) (n p : ℕ) (x : Piece) (o h : List ℕ) (a : ℕ) (o₁ h₁ o₂ h₂ : List ℕ) → p < q → q ≤ n → N q →
       x ≡ w p → Goes max x o h a (onto_end c (w q)) o₁ h₁ e → length o₁ ≤ max → length h₁ ≤ max →
-      o₂ ≡ sets o₁ e (10 ∷ []) → h₂ ≡ sets h₁ e (c ∷ []) → Steps max w N n p o h a o₂ h₂ (pick (eqb e max) (Done (is_too_long max)) (On q (e + 1)))
+      o₂ ≡ sets o₁ e (10 ∷ []) → h₂ ≡ sets h₁ e (c ∷ []) → Steps max w N n p o h a o₂ h₂ (pick (eqb e max) (Break (is_too_long max)) (Continue (q, e + 1)))
   unfolding onto_end Steps
   end_steps c e q w N n p x o h a o₁ h₁ o₂ h₂ i j k y u l m f g =
-      by_test (Steps max w N n p o h a o₂ h₂) (eqb e max) (Done (is_too_long max)) (On q (e + 1))
+      by_test (Steps max w N n p o h a o₂ h₂) (eqb e max) (Break (is_too_long max)) (Continue (q, e + 1))
       (λ t.
       let z = eqb-true e max t in
       subst (λ (v : Piece). Fills max v o h a o₂ h₂ (is_too_long max)) y
@@ -247,7 +247,7 @@ module _ (max : ℕ) where
           subst (λ (x : Piece). Fills max x g h a g' h' r) (line_piece b l k s o d p i t j f)
           (put_long s p i.start k g h a g' h' e _ r (omega arith) w u v m z)
 
-      pub text-steps : (N : ℕ → Type 0) (g₁ h₁ : List ℕ) (e : ℕ) (g₂ h₂ : List ℕ) (r : Fill) (g₃ h₃ : List ℕ) (x : Next) → Puts s p i.start k g h a g₁ h₁ e → e ≤ max →
+      pub text-steps : (N : ℕ → Type 0) (g₁ h₁ : List ℕ) (e : ℕ) (g₂ h₂ : List ℕ) (r : Fill) (g₃ h₃ : List ℕ) (x : ControlFlow Fill (ℕ × ℕ)) → Puts s p i.start k g h a g₁ h₁ e → e ≤ max →
           Fills max (inner d b l o i) g₁ h₁ e g₂ h₂ r → r.number ≡ 0 → length g ≤ max → length h ≤ max → N i.after →
           EndsLine max r.end i.after (origin k i.hash) g₂ h₂ g₃ h₃ x → Steps max (walk b l k s o (inner d b l o)) N (length s) p g h a g₃ h₃ x
       text-steps N g₁ h₁ e g₂ h₂ r g₃ h₃ x w m u z q v k' y =
@@ -276,7 +276,7 @@ module _ (max : ℕ) where
 
   -- ---- what a step says
 
-  pub done : (w : ℕ → Piece) (N : ℕ → Type 0) (n p : ℕ) (o g : List ℕ) (a : ℕ) (o' g' : List ℕ) (f : Fill) → Fills max (w p) o g a o' g' f → Steps max w N n p o g a o' g' (Done f)
+  pub done : (w : ℕ → Piece) (N : ℕ → Type 0) (n p : ℕ) (o g : List ℕ) (a : ℕ) (o' g' : List ℕ) (f : Fill) → Fills max (w p) o g a o' g' f → Steps max w N n p o g a o' g' (Break f)
   unfolding Steps
   done w N n p o g a o' g' f u = u
 
@@ -286,14 +286,14 @@ module _ (max : ℕ) where
     pub noted : N q
     pub goes : Goes max (w p) o g a (w q) o' g' c
 
-  pub stepped : {w : ℕ → Piece} {N : ℕ → Type 0} {n p : ℕ} {o g : List ℕ} {a : ℕ} {o' g' : List ℕ} {r : Next} {q c : ℕ} → Steps max w N n p o g a o' g' r → r ≡ On q c →
+  pub stepped : {w : ℕ → Piece} {N : ℕ → Type 0} {n p : ℕ} {o g : List ℕ} {a : ℕ} {o' g' : List ℕ} {r : ControlFlow Fill (ℕ × ℕ)} {q c : ℕ} → Steps max w N n p o g a o' g' r → r ≡ Continue (q, c) →
       Stepped w N n p o g a o' g' q c
   unfolding Steps
   stepped {w} {N} {n} {p} {o} {g} {a} {o'} {g'} u e =
       let v = subst (Steps max w N n p o g a o' g') e u in
       record { later = v.0; inside = v.1; noted = v.2; goes = v.3 }
 
-  pub finished : (w : ℕ → Piece) (N : ℕ → Type 0) (n p : ℕ) (o g : List ℕ) (a : ℕ) (o' g' : List ℕ) (r : Next) (f : Fill) → Steps max w N n p o g a o' g' r → r ≡ Done f →
+  pub finished : (w : ℕ → Piece) (N : ℕ → Type 0) (n p : ℕ) (o g : List ℕ) (a : ℕ) (o' g' : List ℕ) (r : ControlFlow Fill (ℕ × ℕ)) (f : Fill) → Steps max w N n p o g a o' g' r → r ≡ Break f →
       Fills max (w p) o g a o' g' f
   unfolding Steps
   finished w N n p o g a o' g' r f u e = subst (Steps max w N n p o g a o' g') e u

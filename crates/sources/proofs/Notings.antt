@@ -20,20 +20,17 @@ use Rattle.sources.specs.Texts.{told_well, find_from, find_name, include_by, inc
 use Rattle.sources.specs.Numbering.{span_from, span_of}
 use Rattle.sources.specs.Notes.{cell_for, packed, note_of, none_open, open_by, event_back, Noted, ends, goes, AllNoted}
 use Rattle.sources.specs.Promises.{AsksFrom, NotesText}
-use Rattle.sources.specs.declared.Name.{Name}
-use Rattle.sources.specs.declared.Name.TheVariants.{Is, Not}
+use Rattle.std.specs.Prelude.{Option, Some, None}
 use Rattle.sources.specs.declared.Line.{Line}
 use Rattle.sources.specs.declared.Stop.{Stop}
 use Rattle.sources.specs.declared.Stop.TheVariants.{At, Line as AtLine}
-use Rattle.sources.specs.declared.Hit.{Hit}
-use Rattle.sources.specs.declared.Hit.TheVariants.{Present, Absent}
 use Rattle.sources.specs.declared.Include.{Include}
 use Rattle.sources.specs.declared.Event.{Event}
 use Rattle.sources.specs.declared.Event.TheVariants.{Stop as Stops, Include as Includes}
 use Rattle.sources.proofs.Singles.{split}
 use Rattle.sources.proofs.Stops.{length_between}
 use Rattle.sources.proofs.Events.{IncludeFits, EventOk, event_ok}
-use Rattle.sources.proofs.Numberings.{span_ok}
+use Rattle.sources.proofs.Numberings.{span_ok, same_from, same_to}
 
 -- ---- four numbers in one
 
@@ -60,9 +57,9 @@ abbrev Low : Stop → Type 0
 Low (At n q) = n ≤ 29
 Low (AtLine i) = Unit {0}
 
-low_name : (s : List ℕ) (h a e : ℕ) (x : Name) → Low (line_by s h a e x)
-low_name s h a e (Is f t) = tt
-low_name s h a e Not = omega arith
+low_name : (s : List ℕ) (h a e : ℕ) (x : Option (ℕ × ℕ)) → Low (line_by s h a e x)
+low_name s h a e (Some (f, t)) = tt
+low_name s h a e None = omega arith
 
 low_hash : (s : List ℕ) (p q : ℕ) → Low (hash_at s p q)
 unfolding hash_at line_of
@@ -87,9 +84,9 @@ abbrev pub LowEvent : Event → Type 0
 LowEvent (Stops n q) = n ≤ 29
 LowEvent (Includes i) = Unit {0}
 
-low_include : (o : List ℕ) (i : Line) (h : Hit) → LowEvent (include_by o i h)
-low_include o i (Present n f t) = by_test LowEvent (eqb (get_or o n 0) 1) (Stops 27 i.hash) _ (λ _. omega arith) (λ _. tt)
-low_include o i Absent = omega arith
+low_include : (o : List ℕ) (i : Line) (h : Option (ℕ × ℕ × ℕ)) → LowEvent (include_by o i h)
+low_include o i (Some (n, f, t)) = by_test LowEvent (eqb (get_or o n 0) 1) (Stops 27 i.hash) _ (λ _. omega arith) (λ _. tt)
+low_include o i None = omega arith
 
 low_stop : (b l s o : List ℕ) (x : Stop) → Low x → LowEvent (event_by b l s o x)
 unfolding include_of
@@ -102,19 +99,19 @@ low_event b l s o p = low_stop b l s o (stop_at s p) (low_n (suc (length s - p))
 
 -- ---- a text that is found by its name is that of its number
 
-abbrev ByNumber : ℕ → List ℕ → ℕ → Hit → Type 0
-ByNumber a l i (Present n f t) = (i ≤ n) × ((m : ℕ) → span_from m a l (n - i) ≡ Present m f t)
-ByNumber a l i Absent = Unit {0}
+abbrev ByNumber : ℕ → List ℕ → ℕ → Option (ℕ × ℕ × ℕ) → Type 0
+ByNumber a l i (Some (n, f, t)) = (i ≤ n) × ((m : ℕ) → span_from m a l (n - i) ≡ Some (m, f, t))
+ByNumber a l i None = Unit {0}
 
-later_number : (a x t i : ℕ) (l : List ℕ) (h : Hit) → ByNumber (a + x + t) l (suc i) h → ByNumber a (x ∷ t ∷ l) i h
+later_number : (a x t i : ℕ) (l : List ℕ) (h : Option (ℕ × ℕ × ℕ)) → ByNumber (a + x + t) l (suc i) h → ByNumber a (x ∷ t ∷ l) i h
 unfolding span_from
-later_number a x t i l (Present n f e) o =
+later_number a x t i l (Some (n, f, e)) o =
     let k = o.0 in
     let z : n - i ≡ suc (n - suc i) = omega arith in
     (omega arith, λ m. ap (span_from m a (x ∷ t ∷ l)) z ∙ o.1 m)
-later_number a x t i l Absent o = tt
+later_number a x t i l None o = tt
 
-first_number : (a x t i : ℕ) (l : List ℕ) → ByNumber a (x ∷ t ∷ l) i (Present i (a + x) (a + x + t))
+first_number : (a x t i : ℕ) (l : List ℕ) → ByNumber a (x ∷ t ∷ l) i (Some (i, a + x, a + x + t))
 unfolding span_from
 first_number a x t i l = let z : i - i ≡ 0 = omega arith in (omega arith, λ m. ap (span_from m a (x ∷ t ∷ l)) z)
 
@@ -123,20 +120,20 @@ unfolding find_from
 find_number b i a [] w = tt
 find_number b i a (x ∷ []) w = tt
 find_number b i a (x ∷ t ∷ l) w =
-    by_test (ByNumber a (x ∷ t ∷ l) i) (same (bytes_between b a (a + x)) w) (Present i (a + x) (a + x + t)) (find_from b (suc i) (a + x + t) l w)
+    by_test (ByNumber a (x ∷ t ∷ l) i) (same (bytes_between b a (a + x)) w) (Some (i, a + x, a + x + t)) (find_from b (suc i) (a + x + t) l w)
     (λ _. first_number a x t i l)
     (λ _. later_number a x t i l (find_from b (suc i) (a + x + t) l w) (find_number b (suc i) (a + x + t) l w))
 
 abbrev EventNumber : List ℕ → Event → Type 0
 EventNumber l (Stops n q) = Unit {0}
-EventNumber l (Includes i) = span_of l i.number ≡ Present i.number i.from i.to
+EventNumber l (Includes i) = span_of l i.number ≡ Some (i.number, i.from, i.to)
 
-hit_number : (l o : List ℕ) (i : Line) (h : Hit) → ByNumber 0 l 0 h → EventNumber l (include_by o i h)
+hit_number : (l o : List ℕ) (i : Line) (h : Option (ℕ × ℕ × ℕ)) → ByNumber 0 l 0 h → EventNumber l (include_by o i h)
 unfolding span_of
-hit_number l o i (Present n f t) k =
+hit_number l o i (Some (n, f, t)) k =
     by_test (EventNumber l) (eqb (get_or o n 0) 1) (Stops 27 i.hash) _ (λ _. tt)
     (λ _. let z : n - 0 ≡ n = omega arith in ap (span_from n 0 l) (sym z) ∙ k.1 n)
-hit_number l o i Absent k = tt
+hit_number l o i None k = tt
 
 stop_number : (b l s o : List ℕ) (x : Stop) → EventNumber l (event_by b l s o x)
 unfolding include_of find_name
@@ -164,11 +161,11 @@ none_open_lem (suc (suc (suc (suc (suc (suc zero)))))) = refl
 none_open_lem (suc (suc (suc (suc (suc (suc (suc zero))))))) = refl
 none_open_lem (suc (suc (suc (suc (suc (suc (suc (suc n)))))))) = refl
 
-hit_reopened : (o : List ℕ) (i : Line) (h : Hit) → include_by o i h ≡ reopened o (include_by none_open i h)
-hit_reopened o i (Present n f t) =
+hit_reopened : (o : List ℕ) (i : Line) (h : Option (ℕ × ℕ × ℕ)) → include_by o i h ≡ reopened o (include_by none_open i h)
+hit_reopened o i (Some (n, f, t)) =
     sym (ap (λ (m : ℕ). reopened o (pick (eqb m 1) (Stops 27 i.hash)
     (Includes (record { number = n; from = f; to = t; hash = i.hash; start = i.start; after = i.after })))) (none_open_lem n))
-hit_reopened o i Absent = refl
+hit_reopened o i None = refl
 
 stop_reopened : (b l s o : List ℕ) (x : Stop) → event_by b l s o x ≡ reopened o (event_by b l s none_open x)
 unfolding include_of
@@ -188,7 +185,7 @@ back_stop l o n q h k =
     rw (pack_number 8 0 n q z h k, pack_hash 8 0 n q z h k, pack_after 8 0 n q z h k)
 
 back_line : (l o : List ℕ) (i : Include) → i.number < 8 → i.start ≤ 65535 → i.hash ≤ 65535 → i.after ≤ 65535 →
-    span_of l i.number ≡ Present i.number i.from i.to → event_back l o (note_of (Includes i)) ≡ reopened o (Includes i)
+    span_of l i.number ≡ Some (i.number, i.from, i.to) → event_back l o (note_of (Includes i)) ≡ reopened o (Includes i)
 unfolding event_back note_of
 back_line l o i h a k e f =
     let k' = i.number in
@@ -232,10 +229,10 @@ pub event_is : (b l t : List ℕ) (k : ℕ) (s o : List ℕ) (p : ℕ) (r x : Ev
     r ≡ event_back l o (get_or t (cell_for k p) 0) → r ≡ x → event_at b l s o p ≡ x
 event_is b l t k s o p r x w a e f = sym (noted_event b l t k s o p w a.short a.inside a.noted) ∙ sym e ∙ f
 
-include_span : (b l s o : List ℕ) (p : ℕ) (i : Include) → event_at b l s o p ≡ Includes i → span_of l i.number ≡ Present i.number i.from i.to
+include_span : (b l s o : List ℕ) (p : ℕ) (i : Include) → event_at b l s o p ≡ Includes i → span_of l i.number ≡ Some (i.number, i.from, i.to)
 include_span b l s o p i e = subst (EventNumber l) e (event_number b l s o p)
 
-pub span_length : (b l : List ℕ) (k n f e : ℕ) → told_well b l ≡ true → span_of l k ≡ Present n f e → length (bytes_between b f e) ≤ 65535
+pub span_length : (b l : List ℕ) (k n f e : ℕ) → told_well b l ≡ true → span_of l k ≡ Some (n, f, e) → length (bytes_between b f e) ≤ 65535
 span_length b l k n f e w h =
     let o = span_ok b l k n f e w h in
     let z = length_between b f e o.1 in
@@ -351,33 +348,33 @@ pub all_none : (b l t : List ℕ) → AllNoted b l t 0
 all_none b l t = record { each = λ k f e h. absurd (omega arith) }
 
 module _ (b l t : List ℕ) (k : ℕ) (w : told_well b l ≡ true) (a : AllNoted b l t k) where
-  pub all_absent : span_of l k ≡ Absent → AllNoted b l t (k + 1)
+  pub all_absent : span_of l k ≡ None → AllNoted b l t (k + 1)
   all_absent h =
       record { each = λ i f e g z. split i k (λ y. a.each i f e y z) (λ y. absurd (not-absent i f e y g z)) }
     where
-      not-absent : (i f e : ℕ) → k ≤ i → i < k + 1 → span_of l i ≡ Present i f e → ⊥
+      not-absent : (i f e : ℕ) → k ≤ i → i < k + 1 → span_of l i ≡ Some (i, f, e) → ⊥
       not-absent i f e y g z =
           let x : i ≡ k = omega arith in
-          let v : Present i f e ≡ Absent = sym z ∙ ap (span_of l) x ∙ h in
+          let v : ◌≡◌ {A = Option (ℕ × ℕ × ℕ)} (Some (i, f, e)) None = sym z ∙ ap (span_of l) x ∙ h in
           let u : ◌≡◌ {A = ℕ} 0 1 = cc in
           omega arith
 
-  pub all_next : (n f e : ℕ) (t' : List ℕ) → span_of l k ≡ Present n f e → NotesText b l (bytes_between b f e) k t t' → AllNoted b l t' (k + 1)
+  pub all_next : (n f e : ℕ) (t' : List ℕ) → span_of l k ≡ Some (n, f, e) → NotesText b l (bytes_between b f e) k t t' → AllNoted b l t' (k + 1)
   all_next n f e t' h u =
       record { each = λ i x y g z. split i k (λ v. old i x y v z) (λ v. new i x y v g z) }
     where
-      old : (i x y : ℕ) → i < k → span_of l i ≡ Present i x y → Noted b l t' i (bytes_between b x y) 0
+      old : (i x y : ℕ) → i < k → span_of l i ≡ Some (i, x, y) → Noted b l t' i (bytes_between b x y) 0
       old i x y v z =
           let m : (i + 1) * 6554 ≤ k * 6554 = omega arith in
           noted_kept b l t t' i (bytes_between b x y) (k * 6554) 0 w (span_length b l i i x y w z) (omega arith) m u.kept (a.each i x y v z)
 
-      both_ends : (x y : ℕ) → Present n f e ≡ Present k x y → (f ≡ x) × (e ≡ y)
-      both_ends x y v = (cc, cc)
+      both_ends : (x y : ℕ) → ◌≡◌ {A = Option (ℕ × ℕ × ℕ)} (Some (n, f, e)) (Some (k, x, y)) → (f ≡ x) × (e ≡ y)
+      both_ends x y v = (same_from v, same_to v)
 
-      new : (i x y : ℕ) → k ≤ i → i < k + 1 → span_of l i ≡ Present i x y → Noted b l t' i (bytes_between b x y) 0
+      new : (i x y : ℕ) → k ≤ i → i < k + 1 → span_of l i ≡ Some (i, x, y) → Noted b l t' i (bytes_between b x y) 0
       new i x y v g z =
           let p : i ≡ k = omega arith in
-          let q : span_of l k ≡ Present k x y = subst (λ (j : ℕ). span_of l j ≡ Present j x y) p z in
+          let q : span_of l k ≡ Some (k, x, y) = subst (λ (j : ℕ). span_of l j ≡ Some (j, x, y)) p z in
           let r = both_ends x y (sym h ∙ q) in
           subst (λ (j : ℕ). Noted b l t' j (bytes_between b x y) 0) (sym p)
           (subst (λ (j : ℕ). Noted b l t' k (bytes_between b j y) 0) r.0
@@ -391,21 +388,21 @@ module _ (l o : List ℕ) (c : ℕ) where
   back_end h = rw (le-leb 8 (c / 281474976710656) h)
 
   module _ (h : c / 281474976710656 < 8) where
-    by_span : (x : Hit) → span_of l (c / 281474976710656) ≡ x → open_by o c x ≡ event_back l o c
+    by_span : (x : Option (ℕ × ℕ × ℕ)) → span_of l (c / 281474976710656) ≡ x → open_by o c x ≡ event_back l o c
     unfolding event_back
     by_span x e = rw (lt-leb 8 (c / 281474976710656) h, e)
 
-    pub back_absent : span_of l (c / 281474976710656) ≡ Absent → Stops 28 (c / 65536 % 65536) ≡ event_back l o c
-    back_absent e = by_span Absent e
+    pub back_absent : span_of l (c / 281474976710656) ≡ None → Stops 28 (c / 65536 % 65536) ≡ event_back l o c
+    back_absent e = by_span None e
 
-    pub back_open : (n f t m : ℕ) → span_of l (c / 281474976710656) ≡ Present n f t → m ≡ get_or o n 0 → m ≡ 1 → Stops 27 (c / 65536 % 65536) ≡ event_back l o c
+    pub back_open : (n f t m : ℕ) → span_of l (c / 281474976710656) ≡ Some (n, f, t) → m ≡ get_or o n 0 → m ≡ 1 → Stops 27 (c / 65536 % 65536) ≡ event_back l o c
     back_open n f t m e g k =
-        sym (ap (λ (x : Bool). pick x (Stops 27 (c / 65536 % 65536)) (Includes (record { number = n; from = f; to = t; hash = c / 65536 % 65536; start = c / 4294967296 % 65536; after = c % 65536 }))) (eq-eqb (get_or o n 0) 1 (sym g ∙ k))) ∙ by_span (Present n f t) e
+        sym (ap (λ (x : Bool). pick x (Stops 27 (c / 65536 % 65536)) (Includes (record { number = n; from = f; to = t; hash = c / 65536 % 65536; start = c / 4294967296 % 65536; after = c % 65536 }))) (eq-eqb (get_or o n 0) 1 (sym g ∙ k))) ∙ by_span (Some (n, f, t)) e
 
-    pub back_include : (n f t m : ℕ) → span_of l (c / 281474976710656) ≡ Present n f t → m ≡ get_or o n 0 → (m ≡ 1 → ⊥) →
+    pub back_include : (n f t m : ℕ) → span_of l (c / 281474976710656) ≡ Some (n, f, t) → m ≡ get_or o n 0 → (m ≡ 1 → ⊥) →
         Includes (record { number = n; from = f; to = t; hash = c / 65536 % 65536; start = c / 4294967296 % 65536; after = c % 65536 }) ≡ event_back l o c
     back_include n f t m e g k =
-        sym (ap (λ (x : Bool). pick x (Stops 27 (c / 65536 % 65536)) (Includes (record { number = n; from = f; to = t; hash = c / 65536 % 65536; start = c / 4294967296 % 65536; after = c % 65536 }))) (ne_eqb (get_or o n 0) 1 (λ y. k (g ∙ y)))) ∙ by_span (Present n f t) e
+        sym (ap (λ (x : Bool). pick x (Stops 27 (c / 65536 % 65536)) (Includes (record { number = n; from = f; to = t; hash = c / 65536 % 65536; start = c / 4294967296 % 65536; after = c % 65536 }))) (ne_eqb (get_or o n 0) 1 (λ y. k (g ∙ y)))) ∙ by_span (Some (n, f, t)) e
 
 pub at_note : (l o t : List ℕ) (c k p : ℕ) (r : Event) → c ≡ cell_for k p → r ≡ event_back l o (get_or t c 0) → r ≡ event_back l o (get_or t (cell_for k p) 0)
 at_note l o t c k p r e f = f ∙ ap (λ (j : ℕ). event_back l o (get_or t j 0)) e

@@ -19,8 +19,8 @@ use Rattle.sources.specs.declared.Include.{Include}
 use Rattle.sources.specs.declared.Event.{Event}
 use Rattle.sources.specs.declared.Event.TheVariants.{Stop as Stops, Include as Includes}
 use Rattle.sources.specs.declared.Fill.{Fill}
-use Rattle.sources.specs.declared.Next.{Next}
-use Rattle.sources.specs.declared.Next.TheVariants.{On, Done}
+use Rattle.std.specs.declared.ops.ControlFlow.{ControlFlow}
+use Rattle.std.specs.declared.ops.ControlFlow.TheVariants.{Continue, Break}
 use Rattle.sources.proofs.Singles.{fill_long, fill_short, split}
 use Rattle.sources.proofs.Stops.{length_between}
 use Rattle.sources.proofs.Events.{IncludeFits, EventOk, event_ok}

@@ -5,25 +5,27 @@ use mathlib.Core.List.{List}
 use mathlib.Core.Bool.{Bool, true, false}
 use mathlib.Core.Path.{◌≡◌, refl, sym, ◌∙◌, ap, subst}
 use native.Mathlib.Omega.{arith}
-use lib.ListN.{length, get_or, drop, set}
+use lib.ListN.{length, set}
 use lib.Seq.{sets, set_out}
 use lib.Dec.{ltb, eqb}
 use borrow.Author.Tests.{lt-ltb, le-ltb, eq-eqb, ne_eqb, ltb-true, ltb-false}
 use Rattle.token.specs.Find.{pick, byte}
 use Rattle.token.specs.declared.Step.{Step}
-use Rattle.rows.proofs.Stores.{sets_out, stores_more, stores_past, stores_end}
+use Rattle.rows.proofs.Stores.{sets_out}
 use Rattle.token.specs.Tokens.{step_at}
 use Rattle.sources.specs.Lines.{is_aside, line_start, is_end, whole_to, after_line}
 use Rattle.sources.specs.Expanding.{up_from, is_too_long, fill_by}
 use Rattle.sources.specs.declared.Fill.{Fill}
-use Rattle.sources.specs.declared.Next.TheVariants.{On, Done}
+use Rattle.std.specs.declared.ops.ControlFlow.{ControlFlow}
+use Rattle.std.specs.declared.ops.ControlFlow.TheVariants.{Continue, Break}
 
-pub line_here : (s : List ℕ) (i : ℕ) → 0 < i → byte s (i - 1) ≡ 10 → line_start s i ≡ i
+pub line_here : (s : List ℕ) (i : ℕ) → 0 < i → byte s (i - 1) ≡ 10 → line_start s i ≡ (i - 1) + 1
 unfolding line_start
 line_here s zero h e = absurd (omega arith)
 line_here s (suc i) h e =
     let g : suc i - 1 ≡ i = omega arith in
-    rw (eq-eqb (byte s i) 10 (subst (λ (k : ℕ). byte s k ≡ 10) g e))
+    let j : suc i ≡ (suc i - 1) + 1 = omega arith in
+    rw (eq-eqb (byte s i) 10 (subst (λ (k : ℕ). byte s k ≡ 10) g e)) j
 
 pub line_back : (s : List ℕ) (i : ℕ) → 0 < i → (byte s (i - 1) ≡ 10 → ⊥) → line_start s i ≡ line_start s (i - 1)
 unfolding line_start
@@ -76,21 +78,6 @@ split_by a b false e f g = g (ltb-false a b e)
 pub split : (a b : ℕ) {P : Type 0} → (a < b → P) → (b ≤ a → P) → P
 split a b f g = split_by a b (ltb a b) refl f g
 
-pub from_start : (l : List ℕ) (a : ℕ) (x : List ℕ) → sets l (a + 0) x ≡ sets l a x
-from_start l a x =
-    let e : a + 0 ≡ a = omega arith in
-    ap (λ (k : ℕ). sets l k x) e
-
--- a loop that stores as many bytes as fit, from a place on
-module _ (l : List ℕ) (a : ℕ) (x : List ℕ) (i : ℕ) where
-  pub store_more : i < length x → sets l (a + i) (drop i x) ≡ sets (set l (a + i) (get_or x i 0)) (a + (i + 1)) (drop (i + 1) x)
-  store_more h =
-      let e : a + i + 1 ≡ a + (i + 1) = omega arith in
-      stores_more l (a + i) x i h ∙ ap (λ (k : ℕ). sets (set l (a + i) (get_or x i 0)) k (drop (i + 1) x)) e
-
-  pub store_end : min (length x) (length l - a) ≤ i → l ≡ sets l (a + i) (drop i x)
-  store_end h = split i (length x) (λ k. stores_past l (a + i) x i (omega arith)) (λ k. stores_end l (a + i) x i k)
-
 -- a loop that counts up, as far as the cells reach
 module _ (l : List ℕ) (a f i n : ℕ) where
   pub up_more : i < n → sets l (a + i) (up_from (f + i) (n - i)) ≡ sets (set l (a + i) (f + i)) (a + (i + 1)) (up_from (f + (i + 1)) (n - (i + 1)))
@@ -121,8 +108,8 @@ pub set_past : (l : List ℕ) (i v : ℕ) → length l ≤ i → l ≡ set l i v
 set_past l i v h = sym (set_out l i v h)
 
 -- an LF in the stead of a line
-pub end_full : (max a q : ℕ) (x : Fill) → a ≡ max → x ≡ is_too_long max → Done x ≡ pick (eqb a max) (Done (is_too_long max)) (On q (a + 1))
+pub end_full : (max a q : ℕ) (x : Fill) → a ≡ max → x ≡ is_too_long max → ◌≡◌ {A = ControlFlow Fill (ℕ × ℕ)} (Break x) (pick (eqb a max) (Break (is_too_long max)) (Continue (q, a + 1)))
 end_full max a q x h e = rw (eq-eqb a max h, e)
 
-pub end_on : (max a q : ℕ) → (a ≡ max → ⊥) → On q (a + 1) ≡ pick (eqb a max) (Done (is_too_long max)) (On q (a + 1))
+pub end_on : (max a q : ℕ) → (a ≡ max → ⊥) → ◌≡◌ {A = ControlFlow Fill (ℕ × ℕ)} (Continue (q, a + 1)) (pick (eqb a max) (Break (is_too_long max)) (Continue (q, a + 1)))
 end_on max a q h = rw (ne_eqb a max h)

@@ -18,8 +18,7 @@ use Rattle.token.proofs.Find.{by_test}
 use Rattle.token.proofs.Bytes.{both_true, both_false, byte_low}
 use Rattle.token.proofs.Steps.{found_fits, bad_fits, step_past}
 use Rattle.sources.specs.Lines.{named, line_start, moved_name, name_at, whole_to, after_line, line_by, line_of, hash_at, after_token, stop_n, stop_at}
-use Rattle.sources.specs.declared.Name.{Name}
-use Rattle.sources.specs.declared.Name.TheVariants.{Is, Not}
+use Rattle.std.specs.Prelude.{Option, Some, None}
 use Rattle.sources.specs.declared.Line.{Line}
 use Rattle.sources.specs.declared.Stop.{Stop}
 use Rattle.sources.specs.declared.Stop.TheVariants.{At, Line as AtLine}
@@ -49,13 +48,13 @@ module _ (s : List ℕ) (p h : ℕ) where
   line_reached a e k = rw (← e, k, both_false (leb p a))
 
   pub line_named : (a e z f t : ℕ) → a ≡ line_start s h → p ≤ a → whole_to (take a s) p ≡ true → e ≡ find_byte 10 s h →
-      named (bytes_between s a e) (h - a) ≡ Is f t → z ≡ after_line s e →
+      named (bytes_between s a e) (h - a) ≡ Some (f, t) → z ≡ after_line s e →
       AtLine (record { hash = h; start = a; from = a + f; to = a + t; after = z }) ≡ line_of s p h
   unfolding line_of
   line_named a e z f t i j k m n o = rw (← i, le-leb p a j, k, ← m, n, o)
 
   pub line_unnamed : (a e : ℕ) → a ≡ line_start s h → p ≤ a → whole_to (take a s) p ≡ true → e ≡ find_byte 10 s h →
-      named (bytes_between s a e) (h - a) ≡ Not → At 29 h ≡ line_of s p h
+      named (bytes_between s a e) (h - a) ≡ None → At 29 h ≡ line_of s p h
   unfolding line_of
   line_unnamed a e i j k m n = rw (← i, le-leb p a j, k, ← m, n)
 
@@ -70,16 +69,16 @@ module _ (s : List ℕ) (p h : ℕ) where
 -- ---- the name on an include line
 
 module _ (s : List ℕ) (h : ℕ) where
-  pub name_past : length s ≤ h → Not ≡ name_at s h
+  pub name_past : length s ≤ h → None ≡ name_at s h
   unfolding name_at
   name_past k = rw (le-ltb h (length s) k)
 
-  pub name_there : (a e f t : ℕ) → h < length s → a ≡ line_start s h → e ≡ find_byte 10 s h → named (bytes_between s a e) (h - a) ≡ Is f t →
-      Is (a + f) (a + t) ≡ name_at s h
+  pub name_there : (a e f t : ℕ) → h < length s → a ≡ line_start s h → e ≡ find_byte 10 s h → named (bytes_between s a e) (h - a) ≡ Some (f, t) →
+      Some (a + f, a + t) ≡ name_at s h
   unfolding name_at moved_name
   name_there a e f t k i m n = rw (lt-ltb h (length s) k, ← i, ← m, n)
 
-  pub name_none : (a e : ℕ) → h < length s → a ≡ line_start s h → e ≡ find_byte 10 s h → named (bytes_between s a e) (h - a) ≡ Not → Not ≡ name_at s h
+  pub name_none : (a e : ℕ) → h < length s → a ≡ line_start s h → e ≡ find_byte 10 s h → named (bytes_between s a e) (h - a) ≡ None → None ≡ name_at s h
   unfolding name_at moved_name
   name_none a e k i m n = rw (lt-ltb h (length s) k, ← i, ← m, n)
 
@@ -137,9 +136,9 @@ abbrev pub StopOk : List ℕ → ℕ → Stop → Type 0
 StopOk s p (At n q) = (p ≤ q) × (q ≤ length s)
 StopOk s p (AtLine i) = LineFits s p i
 
-name_stops : (s : List ℕ) (p h a e : ℕ) → p ≤ a → a ≤ h → h < length s → e ≡ find_byte 10 s h → (x : Name) → NameOk (h - a + 9) (length (bytes_between s a e)) x →
+name_stops : (s : List ℕ) (p h a e : ℕ) → p ≤ a → a ≤ h → h < length s → e ≡ find_byte 10 s h → (x : Option (ℕ × ℕ)) → NameOk (h - a + 9) (length (bytes_between s a e)) x →
     StopOk s p (line_by s h a e x)
-name_stops s p h a e j k m g (Is f t) o =
+name_stops s p h a e j k m g (Some (f, t)) o =
     let b = byte_high 10 s h (omega arith) in
     let c = byte_low s h 10 in
     let n = length_between s a e (omega arith) in
@@ -148,11 +147,11 @@ name_stops s p h a e j k m g (Is f t) o =
     (λ u. let v = after_inside s e u in (omega arith, omega arith))
     (λ u. let v = after_past s e u in (omega arith, omega arith)) in
     record { first = j; hash = k; after = z.0; last = z.1; name = omega arith; inside = omega arith }
-name_stops s p h a e j k m g Not o = (omega arith, omega arith)
+name_stops s p h a e j k m g None o = (omega arith, omega arith)
 
-name_fits : (l : List ℕ) (h : ℕ) (x : Name) → named l h ≡ x → NameOk (h + 9) (length l) x
-name_fits l h (Is f t) e = named_ok l h f t e
-name_fits l h Not e = tt
+name_fits : (l : List ℕ) (h : ℕ) (x : Option (ℕ × ℕ)) → named l h ≡ x → NameOk (h + 9) (length l) x
+name_fits l h (Some (f, t)) e = named_ok l h f t e
+name_fits l h None e = tt
 
 line_stops : (s : List ℕ) (p h : ℕ) → p ≤ h → h < length s → StopOk s p (line_of s p h)
 unfolding line_of

@@ -1,22 +1,22 @@
 -- The laws of told lengths: a name's and a text's at a time. Assumes nothing.
-use Prim.Native.Nat.{ℕ, suc, ◌+◌, ◌-◌, ◌≤◌, ◌<◌}
+use Prim.Native.Nat.{ℕ, suc, ◌+◌, ◌-◌, ◌*◌, ◌/◌, ◌%◌, ◌≤◌, ◌<◌}
 use mathlib.Core.List.{List, [], ◌∷◌}
 use mathlib.Core.Bool.{Bool, true, false, false≢true}
-use mathlib.Core.Logic.{⊎_elim}
+use mathlib.Core.Logic.{◌⊎◌, inl, inr, ⊎_elim}
 use native.Mathlib.Nat.{eq-or-lt_of_le}
 use native.Mathlib.Numerals.{add-one}
 use mathlib.Core.Path.{◌≡◌, refl, sym, ◌∙◌, ap}
 use native.Mathlib.Omega.{arith}
 use lib.ListN.{length, get_or, drop, drop_of_length-le}
 use lib.Seq.{drop-cons}
-use lib.Dec.{leb}
-use borrow.Author.Tests.{le-leb, lt-leb, leb-true}
+use lib.Dec.{leb, eqb}
+use borrow.Author.Tests.{le-leb, lt-leb, leb-true, eq-eqb, ne_eqb}
 use Rattle.token.specs.Find.{pick, both}
 use Rattle.token.specs.Words.{same}
 use Rattle.token.specs.Tokens.{bytes_between}
 use Rattle.token.proofs.Bytes.{both_true, both_second, both_false}
 use Rattle.sources.specs.Texts.{fitting, told_well, find_from}
-use Rattle.sources.specs.declared.Hit.TheVariants.{Present, Absent}
+use Rattle.std.specs.Prelude.{Some, None}
 
 module _ (b : List ℕ) (a : ℕ) (l : List ℕ) (i : ℕ) where
   pub two : i + 1 < length l → drop i l ≡ get_or l i 0 ∷ get_or l (i + 1) 0 ∷ drop (i + 2) l
@@ -67,6 +67,9 @@ module _ (b : List ℕ) (a : ℕ) (l : List ℕ) (i : ℕ) where
     pub short : get_or l (i + 1) 0 ≤ 65535
     pub more : fitting b (a + get_or l i 0 + get_or l (i + 1) 0) (drop (i + 2) l) ≡ true
 
+halves : (n k : ℕ) → k ≡ n / 2 → (n ≡ k * 2) ⊎ (n ≡ k * 2 + 1)
+halves n k e = grind arith
+
 pub record Four (a b c d : Bool) : Type 0 where
   pub first : a ≡ true
   pub second : b ≡ true
@@ -79,6 +82,16 @@ four true true true false e = absurd (false≢true e)
 four true true false d e = absurd (false≢true e)
 four true false c d e = absurd (false≢true e)
 four false b c d e = absurd (false≢true e)
+
+-- past the name and the text of one number stand those of the next
+pub on_two : (l : List ℕ) (k : ℕ) → drop ((k + 1) * 2) l ≡ drop (k * 2 + 2) l
+on_two l k = let e : (k + 1) * 2 ≡ k * 2 + 2 = omega arith in ap (λ (i : ℕ). drop i l) e
+
+pub fit_last : (b : List ℕ) (a : ℕ) (l : List ℕ) (k : ℕ) → k ≡ length l / 2 → eqb (length l % 2) 0 ≡ fitting b a (drop (k * 2) l)
+fit_last b a l k e =
+    ⊎_elim
+    (λ (z : length l ≡ k * 2). rw (eq-eqb (length l % 2) 0 (omega arith), fit_end b a l (k * 2) (omega arith)))
+    (λ (z : length l ≡ k * 2 + 1). rw (ne_eqb (length l % 2) 0 (λ g. omega arith), fit_one b a l (k * 2) (omega arith))) (halves (length l) k e)
 
 module _ (b : List ℕ) (a : ℕ) (l : List ℕ) (i : ℕ) where
   pub fits : i < length l → fitting b a (drop i l) ≡ true → Fits b a l i
@@ -96,21 +109,34 @@ module _ (b : List ℕ) (a : ℕ) (l : List ℕ) (i : ℕ) where
         more = f.fourth;
       }
 
+-- after the last whole pair of lengths, nothing is left
+pub all_told : (b : List ℕ) (a : ℕ) (l : List ℕ) (k : ℕ) → k ≡ length l / 2 → fitting b a (drop (k * 2) l) ≡ true → length l ≤ k * 2
+all_told b a l k e f =
+    ⊎_elim
+    (λ (z : length l ≡ k * 2). omega arith)
+    (λ (z : length l ≡ k * 2 + 1). let g : k * 2 + 1 ≡ length l = omega arith in absurd (false≢true (sym (fit_one b a l (k * 2) g) ∙ f))) (halves (length l) k e)
+
 -- looking for a name
 module _ (b : List ℕ) (k a : ℕ) (l : List ℕ) (i : ℕ) (w : List ℕ) where
-  found : i + 1 < length l → find_from b k a (drop i l) w ≡ pick (same (bytes_between b a (a + get_or l i 0)) w) (Present k (a + get_or l i 0) (a + get_or l i 0 + get_or l (i + 1) 0)) (find_from b (suc k) (a + get_or l i 0 + get_or l (i + 1) 0) (drop (i + 2) l) w)
+  found : i + 1 < length l → find_from b k a (drop i l) w ≡ pick (same (bytes_between b a (a + get_or l i 0)) w) (Some (k, a + get_or l i 0, a + get_or l i 0 + get_or l (i + 1) 0)) (find_from b (suc k) (a + get_or l i 0 + get_or l (i + 1) 0) (drop (i + 2) l) w)
   unfolding find_from
   found h = ap (λ (x : List ℕ). find_from b k a x w) (two b a l i h)
 
-  pub find_here : i + 1 < length l → same (bytes_between b a (a + get_or l i 0)) w ≡ true → find_from b k a (drop i l) w ≡ Present k (a + get_or l i 0) (a + get_or l i 0 + get_or l (i + 1) 0)
+  pub find_here : i + 1 < length l → same (bytes_between b a (a + get_or l i 0)) w ≡ true → find_from b k a (drop i l) w ≡ Some (k, a + get_or l i 0, a + get_or l i 0 + get_or l (i + 1) 0)
   find_here h e = found h ∙ rw e
 
-  pub find_on : i + 1 < length l → same (bytes_between b a (a + get_or l i 0)) w ≡ false → find_from b k a (drop i l) w ≡ find_from b (k + 1) (a + get_or l i 0 + get_or l (i + 1) 0) (drop (i + 2) l) w
+  find_on : i + 1 < length l → same (bytes_between b a (a + get_or l i 0)) w ≡ false → find_from b k a (drop i l) w ≡ find_from b (k + 1) (a + get_or l i 0 + get_or l (i + 1) 0) (drop (i + 2) l) w
   find_on h e = found h ∙ rw (e, add-one k)
 
-  pub find_none : length l ≤ i → find_from b k a (drop i l) w ≡ Absent
+  find_none : length l ≤ i → find_from b k a (drop i l) w ≡ None
   unfolding find_from
   find_none h = ap (λ (x : List ℕ). find_from b k a x w) (drop_of_length-le l h)
+
+pub find_next : (b : List ℕ) (a : ℕ) (l : List ℕ) (k : ℕ) (w : List ℕ) → k * 2 + 1 < length l → same (bytes_between b a (a + get_or l (k * 2) 0)) w ≡ false → find_from b k a (drop (k * 2) l) w ≡ find_from b (k + 1) (a + get_or l (k * 2) 0 + get_or l (k * 2 + 1) 0) (drop ((k + 1) * 2) l) w
+find_next b a l k w h e = find_on b k a l (k * 2) w h e ∙ ap (λ (x : List ℕ). find_from b (k + 1) (a + get_or l (k * 2) 0 + get_or l (k * 2 + 1) 0) x w) (sym (on_two l k))
+
+pub find_last : (b : List ℕ) (k a : ℕ) (l w : List ℕ) → k ≡ length l / 2 → fitting b a (drop (k * 2) l) ≡ true → find_from b k a (drop (k * 2) l) w ≡ None
+find_last b k a l w e f = find_none b k a l (k * 2) w (all_told b a l k e f)
 
 -- how many are told
 pub told_none : (b l : List ℕ) → length l ≡ 0 → told_well b l ≡ false

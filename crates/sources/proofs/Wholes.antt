@@ -14,7 +14,7 @@ use Rattle.sources.specs.Promises.{AsksFrom, Fills, filled, Expands}
 use Rattle.sources.specs.Notes.{AllNoted}
 use Rattle.sources.specs.declared.Fill.{Fill}
 use Rattle.sources.proofs.Singles.{split}
-use Rattle.sources.specs.declared.Hit.TheVariants.{Present}
+use Rattle.std.specs.Prelude.{Some}
 use Rattle.sources.proofs.Tellings.{Fits, fits, told}
 use Rattle.sources.proofs.Numberings.{span_here}
 use Rattle.sources.proofs.Notings.{span_length}
@@ -76,12 +76,12 @@ told_badly max b l o g t =
     }
 
 -- the main text is the text of number 0
-pub main_span : (b l : List ℕ) → told_well b l ≡ true → span_of l 0 ≡ Present 0 (get_or l 0 0) (get_or l 0 0 + get_or l 1 0)
+pub main_span : (b l : List ℕ) → told_well b l ≡ true → span_of l 0 ≡ Some (0, get_or l 0 0, get_or l 0 0 + get_or l 1 0)
 unfolding span_of
 main_span b l t =
     let f = main_fits b l t in
     let e : 0 + get_or l 0 0 ≡ get_or l 0 0 = omega arith in
-    span_here 0 0 l 0 0 f.two_left refl ∙ ap (λ (x : ℕ). Present 0 x (x + get_or l 1 0)) e
+    span_here 0 0 l 0 0 f.two_left refl ∙ ap (λ (x : ℕ). Some (0, x, x + get_or l 1 0)) e
 
 -- it is noted from its start on
 pub main_asks : (b l t : List ℕ) → told_well b l ≡ true → AllNoted b l t 8 → AsksFrom b l t (bytes_between b (get_or l 0 0) (get_or l 0 0 + get_or l 1 0)) 0 0

@@ -2,15 +2,13 @@
 -- `#include` and a file in quotes or angle brackets, spaces, tabs, CR and comments wholly on it aside."
 -- A line is the list of its bytes, without its LF.
 -- Assumes nothing.
-use Rattle.std.specs.Prelude.{ℕ, zero, suc, ◌+◌, ◌-◌, List, Bool, true, false, length, take, leb, ltb, eqb}
+use Rattle.std.specs.Prelude.{ℕ, zero, suc, ◌+◌, ◌-◌, List, Bool, true, false, length, take, leb, ltb, eqb, Option, Some, None}
 use Rattle.token.specs.Find.{pick, both, either, byte}
 use Rattle.token.specs.Bytes.{find_byte, pair_at, find_close}
 use Rattle.token.specs.Words.{bytes_of, same}
 use Rattle.token.specs.Tokens.{bytes_between, step_at}
 use Rattle.token.specs.declared.Step.{Step}
 use Rattle.token.specs.declared.Step.TheVariants.{Found, Refused, End}
-use Rattle.sources.specs.declared.Name.{Name}
-use Rattle.sources.specs.declared.Name.TheVariants.{Is, Not}
 use Rattle.sources.specs.declared.Stop.{Stop}
 use Rattle.sources.specs.declared.Stop.TheVariants.{At, Line as AtLine}
 
@@ -40,19 +38,19 @@ unfoldable pub aside : List ℕ → ℕ → ℕ
 aside l i = aside_n (length l - i) l i
 
 -- the name from after o up to the next byte b, if only what is set aside follows
-unfoldable pub closing : List ℕ → ℕ → ℕ → Name
+unfoldable pub closing : List ℕ → ℕ → ℕ → Option (ℕ × ℕ)
 closing l o b =
     pick (both (ltb (find_byte b l (o + 1)) (length l)) (eqb (aside l (find_byte b l (o + 1) + 1)) (length l)))
-    (Is (o + 1) (find_byte b l (o + 1))) Not
+    (Some (o + 1, find_byte b l (o + 1))) None
 
 -- "a file in quotes or angle brackets"
-unfoldable pub quoted : List ℕ → ℕ → Name
-quoted l o = pick (eqb (byte l o) 34) (closing l o 34) (pick (eqb (byte l o) 60) (closing l o 62) Not)
+unfoldable pub quoted : List ℕ → ℕ → Option (ℕ × ℕ)
+quoted l o = pick (eqb (byte l o) 34) (closing l o 34) (pick (eqb (byte l o) 60) (closing l o 62) None)
 
 -- the file's name on a line that holds only `#include`, the `#` at h, and a file
-unfoldable pub named : List ℕ → ℕ → Name
+unfoldable pub named : List ℕ → ℕ → Option (ℕ × ℕ)
 named l h =
-    pick (both (eqb (aside l 0) h) (same (bytes_between l h (h + 8)) (bytes_of "#include"))) (quoted l (aside l (h + 8))) Not
+    pick (both (eqb (aside l 0) h) (same (bytes_between l h (h + 8)) (bytes_of "#include"))) (quoted l (aside l (h + 8))) None
 
 -- where the line begins that p is on: after the last LF before p
 unfoldable pub line_start : List ℕ → ℕ → ℕ
@@ -60,14 +58,14 @@ line_start s zero = 0
 line_start s (suc p) = let r = line_start s p in pick (eqb (byte s p) 10) (suc p) r
 
 -- a name, moved by the place a
-unfoldable pub moved_name : ℕ → Name → Name
-moved_name a (Is f t) = Is (a + f) (a + t)
-moved_name a Not = Not
+unfoldable pub moved_name : ℕ → Option (ℕ × ℕ) → Option (ℕ × ℕ)
+moved_name a (Some (f, t)) = Some (a + f, a + t)
+moved_name a None = None
 
 -- the file's name on the include line of the `#` at h, by its places in the text s
-unfoldable pub name_at : List ℕ → ℕ → Name
+unfoldable pub name_at : List ℕ → ℕ → Option (ℕ × ℕ)
 name_at s h =
-    pick (ltb h (length s)) (moved_name (line_start s h) (named (bytes_between s (line_start s h) (find_byte 10 s h)) (h - line_start s h))) Not
+    pick (ltb h (length s)) (moved_name (line_start s h) (named (bytes_between s (line_start s h) (find_byte 10 s h)) (h - line_start s h))) None
 
 abbrev pub is_end : Step → Bool
 is_end (Found t c) = false
@@ -83,9 +81,9 @@ unfoldable pub after_line : List ℕ → ℕ → ℕ
 after_line s e = pick (ltb e (length s)) (e + 1) e
 
 -- an include line of a name, from a to e, with its `#` at h
-abbrev pub line_by : List ℕ → ℕ → ℕ → ℕ → Name → Stop
-line_by s h a e (Is f t) = AtLine (record { hash = h; start = a; from = a + f; to = a + t; after = after_line s e })
-line_by s h a e Not = At 29 h
+abbrev pub line_by : List ℕ → ℕ → ℕ → ℕ → Option (ℕ × ℕ) → Stop
+line_by s h a e (Some (f, t)) = AtLine (record { hash = h; start = a; from = a + f; to = a + t; after = after_line s e })
+line_by s h a e None = At 29 h
 
 -- the `#` at h, with only blanks and comments between p and it: no token and no comment reaches into its line, and the line is an include line;
 -- "29: any other `#` where a token could start"

@@ -2,13 +2,11 @@
 -- the place after each include line, what comes next there. An include line has at least 10 bytes, so no two of these places are less than
 -- 10 bytes apart, and 6,554 cells are enough for the 65,535 bytes of a text.
 -- Assumes nothing.
-use Rattle.std.specs.Prelude.{ℕ, ◌+◌, ◌*◌, ◌/◌, ◌%◌, ◌<◌, ◌≡◌, List, [], ◌∷◌, get_or, leb, eqb}
+use Rattle.std.specs.Prelude.{ℕ, ◌+◌, ◌*◌, ◌/◌, ◌%◌, ◌<◌, ◌≡◌, List, [], ◌∷◌, get_or, leb, eqb, Option, Some, None}
 use Rattle.token.specs.Find.{pick}
 use Rattle.token.specs.Tokens.{bytes_between}
 use Rattle.sources.specs.Texts.{event_at}
 use Rattle.sources.specs.Numbering.{span_of}
-use Rattle.sources.specs.declared.Hit.{Hit}
-use Rattle.sources.specs.declared.Hit.TheVariants.{Present, Absent}
 use Rattle.sources.specs.declared.Include.{Include}
 use Rattle.sources.specs.declared.Event.{Event}
 use Rattle.sources.specs.declared.Event.TheVariants.{Stop as Stops, Include as Includes}
@@ -31,11 +29,11 @@ abbrev pub none_open : List ℕ
 none_open = 0 ∷ 0 ∷ 0 ∷ 0 ∷ 0 ∷ 0 ∷ 0 ∷ 0 ∷ []
 
 -- what comes next by the note c of an include line, and the text of its number; o has 1 for each open text
-abbrev pub open_by : List ℕ → ℕ → Hit → Event
-open_by o c (Present n f t) =
+abbrev pub open_by : List ℕ → ℕ → Option (ℕ × ℕ × ℕ) → Event
+open_by o c (Some (n, f, t)) =
     pick (eqb (get_or o n 0) 1) (Stops 27 (c / 65536 % 65536))
     (Includes (record { number = n; from = f; to = t; hash = c / 65536 % 65536; start = c / 4294967296 % 65536; after = c % 65536 }))
-open_by o c Absent = Stops 28 (c / 65536 % 65536)
+open_by o c None = Stops 28 (c / 65536 % 65536)
 
 -- what comes next by the note c
 unfoldable pub event_back : List ℕ → List ℕ → ℕ → Event
@@ -50,4 +48,4 @@ pub data Noted (b l t : List ℕ) (k : ℕ) (s : List ℕ) : ℕ → Type 0 wher
 
 -- each text whose number is below m is noted
 pub record AllNoted (b l t : List ℕ) (m : ℕ) : Type 0 where
-  pub each : (k f e : ℕ) → k < m → span_of l k ≡ Present k f e → Noted b l t k (bytes_between b f e) 0
+  pub each : (k f e : ℕ) → k < m → span_of l k ≡ Some (k, f, e) → Noted b l t k (bytes_between b f e) 0

@@ -11,8 +11,8 @@ use Rattle.sources.specs.declared.Line.{Line}
 use Rattle.sources.specs.declared.Frame.{Frame}
 use Rattle.sources.specs.declared.Spot.{Spot}
 use Rattle.sources.specs.declared.Fill.{Fill}
-use Rattle.sources.specs.declared.Next.{Next}
-use Rattle.sources.specs.declared.Next.TheVariants.{On, Done}
+use Rattle.std.specs.declared.ops.ControlFlow.{ControlFlow}
+use Rattle.std.specs.declared.ops.ControlFlow.TheVariants.{Continue, Break}
 use Rattle.sources.specs.declared.Expansion.{Expansion}
 
 -- The bytes of text k from p to e, with their origins, at a.
@@ -53,8 +53,8 @@ pub record AsksFrom (b l t s : List ℕ) (k p : ℕ) : Type 0 where
   pub noted : Noted b l t k s p
 
 -- An LF at a, of the origin c, and on at q, unless there is no room for it.
-pub record EndsLine (max a q c : ℕ) (o g o' g' : List ℕ) (r : Next) : Type 0 where
-  pub next : r ≡ pick (eqb a max) (Done (is_too_long max)) (On q (a + 1))
+pub record EndsLine (max a q c : ℕ) (o g o' g' : List ℕ) (r : ControlFlow Fill (ℕ × ℕ)) : Type 0 where
+  pub next : r ≡ pick (eqb a max) (Break (is_too_long max)) (Continue (q, a + 1))
   pub bytes : o' ≡ sets o a (10 ∷ [])
   pub origins : g' ≡ sets g a (c ∷ [])
 
@@ -77,9 +77,9 @@ pub record NotesText (b l s : List ℕ) (k : ℕ) (t t' : List ℕ) : Type 0 whe
   pub kept : (j : ℕ) → j < k * 6554 → get_or t' j 0 ≡ get_or t j 0
 
 -- One step of a text of n bytes from p on, w being the piece from each place on, and N what is known of each place at which it goes on.
-unfoldable pub Steps : ℕ → (ℕ → Piece) → (ℕ → Type 0) → ℕ → ℕ → List ℕ → List ℕ → ℕ → List ℕ → List ℕ → Next → Type 0
-Steps max w N n p o g a o' g' (On q c) = (p < q) × (q ≤ n) × N q × Goes max (w p) o g a (w q) o' g' c
-Steps max w N n p o g a o' g' (Done f) = Fills max (w p) o g a o' g' f
+unfoldable pub Steps : ℕ → (ℕ → Piece) → (ℕ → Type 0) → ℕ → ℕ → List ℕ → List ℕ → ℕ → List ℕ → List ℕ → ControlFlow Fill (ℕ × ℕ) → Type 0
+Steps max w N n p o g a o' g' (Continue (q, c)) = (p < q) × (q ≤ n) × N q × Goes max (w p) o g a (w q) o' g' c
+Steps max w N n p o g a o' g' (Break f) = Fills max (w p) o g a o' g' f
 
 -- The lent memory afterwards: max bytes or cells have room.
 abbrev pub filled : Bool → ℕ → List ℕ → List ℕ → List ℕ

@@ -1,7 +1,7 @@
 -- The lent texts: "The library gets them in one lent buffer with their names, main text first; of equal names the first counts." In the buffer b
 -- stand a name, its text, the next name, its text and so on; l has their lengths in that order, as they are told.
 -- Assumes nothing.
-use Rattle.std.specs.Prelude.{ℕ, suc, ◌+◌, ◌-◌, List, [], ◌∷◌, Bool, true, false, length, get_or, leb, eqb}
+use Rattle.std.specs.Prelude.{ℕ, suc, ◌+◌, ◌-◌, List, [], ◌∷◌, Bool, true, false, length, get_or, leb, eqb, Option, Some, None}
 use Rattle.token.specs.Find.{pick, both}
 use Rattle.token.specs.Words.{same}
 use Rattle.token.specs.Tokens.{bytes_between}
@@ -9,8 +9,6 @@ use Rattle.sources.specs.Lines.{stop_at}
 use Rattle.sources.specs.declared.Line.{Line}
 use Rattle.sources.specs.declared.Stop.{Stop}
 use Rattle.sources.specs.declared.Stop.TheVariants.{At, Line as AtLine}
-use Rattle.sources.specs.declared.Hit.{Hit}
-use Rattle.sources.specs.declared.Hit.TheVariants.{Present, Absent}
 use Rattle.sources.specs.declared.Event.{Event}
 use Rattle.sources.specs.declared.Event.TheVariants.{Stop as Stops, Include as Includes}
 
@@ -25,23 +23,23 @@ unfoldable pub told_well : List ℕ → List ℕ → Bool
 told_well b l = both (leb 1 (length l)) (both (leb (length l) 16) (fitting b 0 l))
 
 -- the first text of the name w, where text i has its name at a: its number, and its bytes from a place to another
-unfoldable pub find_from : List ℕ → ℕ → ℕ → List ℕ → List ℕ → Hit
-find_from b i a [] w = Absent
-find_from b i a (n ∷ []) w = Absent
+unfoldable pub find_from : List ℕ → ℕ → ℕ → List ℕ → List ℕ → Option (ℕ × ℕ × ℕ)
+find_from b i a [] w = None
+find_from b i a (n ∷ []) w = None
 find_from b i a (n ∷ t ∷ l) w =
     let r = find_from b (suc i) (a + n + t) l w in
-    pick (same (bytes_between b a (a + n)) w) (Present i (a + n) (a + n + t)) r
+    pick (same (bytes_between b a (a + n)) w) (Some (i, a + n, a + n + t)) r
 
-unfoldable pub find_name : List ℕ → List ℕ → List ℕ → Hit
+unfoldable pub find_name : List ℕ → List ℕ → List ℕ → Option (ℕ × ℕ × ℕ)
 find_name b l w = find_from b 0 0 l w
 
 -- the text that was found for an include line; o has 1 for each text that is still open.
 -- "Refusal 27: a text included while it is still open. 28: name not among the texts."
-abbrev pub include_by : List ℕ → Line → Hit → Event
-include_by o i (Present n f t) =
+abbrev pub include_by : List ℕ → Line → Option (ℕ × ℕ × ℕ) → Event
+include_by o i (Some (n, f, t)) =
     pick (eqb (get_or o n 0) 1) (Stops 27 i.hash)
     (Includes (record { number = n; from = f; to = t; hash = i.hash; start = i.start; after = i.after }))
-include_by o i Absent = Stops 28 i.hash
+include_by o i None = Stops 28 i.hash
 
 unfoldable pub include_of : List ℕ → List ℕ → List ℕ → List ℕ → Line → Event
 include_of b l s o i = include_by o i (find_name b l (bytes_between s i.from i.to))

@@ -5,43 +5,18 @@ ghost use Rattle.sources.specs.Notes.{Noted};
 ghost use Rattle.sources.specs.Expanding.{up_from, is_too_long, fill_by, inner, walk, expand_n};
 ghost use Rattle.sources.specs.Promises.{Asks, AsksFrom, Puts, Fills, EndsLine, Steps};
 
-use super::{Event, Fill, Frame, Next, Spot, noting};
-
-// How many of n fit into a room from a place on.
-fn fitting(n: usize, at: usize, room: usize) -> usize
-    ensures { result ≡ min n (room - at) }
-{
-    if room <= at {
-        return 0;
-    }
-    if room - at < n {
-        return room - at;
-    }
-    n
-}
-
-// Stores the bytes from a place on, as far as the output reaches.
-fn store(out: &mut [u8], at: usize, bytes: &[u8])
-    ensures { out.new ≡ sets out.old at bytes.now }
-{
-    let n = fitting(bytes.len(), at, out.len());
-    let mut i = 0;
-    while i < n {
-        out[at + i] = bytes[i];
-        i += 1;
-    }
-}
+use super::{Event, Fill, Frame, Spot, noting};
+use rows::cells;
+use std::ops::ControlFlow;
 
 // Stores n numbers that count up, from a place on, as far as the cells reach.
 fn count_up(cells: &mut [usize], at: usize, first: usize, n: usize)
     requires { first + n < 18446744073709551616 }
     ensures { cells.new ≡ sets cells.old at (up_from first n) }
 {
-    let m = fitting(n, at, cells.len());
-    let mut i = 0;
-    while i < m {
+    let m = n.min(cells.len().saturating_sub(at));
+    for i in 0..m {
         cells[at + i] = first + i;
-        i += 1;
     }
 }
 
@@ -59,7 +34,7 @@ pub fn put(
     ensures { Puts text.now from to number out.old origins.old at out.new
         origins.new result }
 {
-    store(out, at, &text[from..to]);
+    cells::put_cells(out, at, &text[from..to]);
     count_up(origins, at, number * token::PLACES + from, to - from);
     at + (to - from)
 }
@@ -86,10 +61,10 @@ fn fill(limit: usize, number: usize, place: usize, end: usize, total: usize) -> 
         return too_long(limit);
     }
     Fill {
-        number: number,
-        place: place,
-        end: end,
-        total: total,
+        number,
+        place,
+        end,
+        total,
     }
 }
 
@@ -105,7 +80,7 @@ fn opened(marks: [usize; super::TEXTS], number: usize) -> [usize; super::TEXTS]
     next
 }
 
-// The LF in place of an include line, with its origin; on after the line.
+// The LF in place of an include line, with its origin; on after the line, at a place of the text and of the expanded text.
 fn line_end(
     limit: usize,
     at: usize,
@@ -113,20 +88,21 @@ fn line_end(
     origin: usize,
     out: &mut [u8],
     origins: &mut [usize],
-) -> Next
+) -> ControlFlow<Fill, (usize, usize)>
     requires { (limit ≤ 1000000) × ((at ≤ limit) × (origin + 1 < 18446744073709551616)) }
     ensures { EndsLine limit at after origin out.old origins.old out.new
         origins.new result }
 {
-    store(out, at, b"\n");
+    cells::put_cells(out, at, b"\n");
     count_up(origins, at, origin, 1);
     if at == limit {
-        return Next::Done(too_long(limit));
+        return ControlFlow::Break(too_long(limit));
     }
-    Next::On(after, at + 1)
+    ControlFlow::Continue((after, at + 1))
 }
 
-// One step of a text from a place on: its rest, or what stands before an include line and the included text.
+// One step of a text from a place on: its rest, or what stands before an include line and the included text; on at a place of the text and of the
+// expanded text, or how far it is filled.
 #[cycle(expand_text_one)]
 fn one(
     buffer: &[u8],
@@ -138,7 +114,7 @@ fn one(
     spot: Spot,
     out: &mut [u8],
     origins: &mut [usize],
-) -> Next
+) -> ControlFlow<Fill, (usize, usize)>
     requires { Asks buffer.now lengths.now notes.now frame out.old origins.old spot.at
         × AsksFrom buffer.now lengths.now notes.now text.now frame.number spot.from }
     ensures { Steps frame.limit (walk buffer.now lengths.now frame.number
@@ -153,7 +129,7 @@ fn one(
     match noting::event_noted(buffer, lengths, notes, marks, frame.number, from) {
         Event::Stop(fault, place) => {
             let end = put(text, from, text.len(), frame.number, out, origins, at);
-            Next::Done(fill(limit, fault, at + (place - from), end, end))
+            ControlFlow::Break(fill(limit, fault, at + (place - from), end, end))
         }
         Event::Include(i) => {
             let first = i.from;
@@ -161,12 +137,12 @@ fn one(
             let inside = opened(marks, i.number);
             let start = put(text, from, i.start, frame.number, out, origins, at);
             if limit < start {
-                return Next::Done(too_long(limit));
+                return ControlFlow::Break(too_long(limit));
             }
             let inner = Frame {
                 number: i.number,
                 depth: frame.depth,
-                limit: limit,
+                limit,
             };
             let f = expand_text(
                 buffer,
@@ -189,7 +165,7 @@ fn one(
                     origins,
                 );
             }
-            Next::Done(fill(
+            ControlFlow::Break(fill(
                 limit,
                 f.number,
                 f.place,
@@ -229,18 +205,15 @@ pub fn expand_text(
     let mut from = 0;
     let mut place = at;
     loop {
-        let spot = Spot {
-            from: from,
-            at: place,
-        };
+        let spot = Spot { from, at: place };
         match one(
             buffer, lengths, notes, text, inside, marks, spot, out, origins,
         ) {
-            Next::On(after, next) => {
+            ControlFlow::Continue((after, next)) => {
                 from = after;
                 place = next;
             }
-            Next::Done(f) => return f,
+            ControlFlow::Break(f) => return f,
         }
     }
 }

@@ -3,27 +3,23 @@ ghost use Rattle.std.specs.Prelude.{◌≡◌, true, ◌≤◌, length, get_or};
 ghost use Rattle.sources.specs.Texts.{fitting, told_well, find_name, include_of, event_at};
 ghost use Rattle.sources.specs.Promises.{AsksName};
 
-use super::{Event, Hit, Include, Line, Stop, lines, scan};
+use super::{Event, Include, Line, Stop, lines};
 
-// The first text of a name.
-fn find_name(buffer: &[u8], lengths: &[usize], name: &[u8]) -> Hit
+// The first text of a name: its number, and its bytes from a place of the buffer to another.
+fn find_name(buffer: &[u8], lengths: &[usize], name: &[u8]) -> Option<(usize, usize, usize)>
     requires { fitting buffer.now 0 lengths.now ≡ true }
     ensures { result ≡ find_name buffer.now lengths.now name.now }
 {
     let mut at = 0;
-    let mut i = 0;
-    let mut number = 0;
-    while i < lengths.len() {
-        let from = at + lengths[i];
-        let to = from + lengths[i + 1];
-        if scan::same(&buffer[at..from], name) {
-            return Hit::Present(number, from, to);
+    for number in 0..lengths.len() / 2 {
+        let from = at + lengths[number * 2];
+        let to = from + lengths[number * 2 + 1];
+        if &buffer[at..from] == name {
+            return Some((number, from, to));
         }
         at = to;
-        i += 2;
-        number += 1;
     }
-    Hit::Absent
+    None
 }
 
 // The mark of a text.
@@ -50,20 +46,20 @@ fn include_of(
     let first = line.from;
     let last = line.to;
     match find_name(buffer, lengths, &text[first..last]) {
-        Hit::Present(number, from, to) => {
+        Some((number, from, to)) => {
             if cell(marks, number) == 1 {
                 return Event::Stop(super::refusals::OPEN_TEXT, line.hash);
             }
             Event::Include(Include {
-                number: number,
-                from: from,
-                to: to,
+                number,
+                from,
+                to,
                 hash: line.hash,
                 start: line.start,
                 after: line.after,
             })
         }
-        Hit::Absent => Event::Stop(super::refusals::NO_TEXT, line.hash),
+        None => Event::Stop(super::refusals::NO_TEXT, line.hash),
     }
 }
 

@@ -46,21 +46,6 @@ pub struct Line {
     pub after: usize,
 }
 
-// The file's name on a line, from a place to another.
-#[derive(Clone, Copy)]
-pub enum Name {
-    Is(usize, usize),
-    Not,
-}
-
-// A text of a name.
-#[derive(Clone, Copy)]
-pub enum Hit {
-    // Its number, and its bytes from a place to another.
-    Present(usize, usize, usize),
-    Absent,
-}
-
 // What comes next in a text that is being expanded.
 #[derive(Clone, Copy)]
 pub enum Event {
@@ -106,13 +91,6 @@ pub struct Spot {
     pub at: usize,
 }
 
-// One step of a text: on at a place of the text and of the expanded text, or done.
-#[derive(Clone, Copy)]
-pub enum Next {
-    On(usize, usize),
-    Done(Fill),
-}
-
 // The expanded text: the number of the first of 3 and 27 to 29, 0 for none, or 30, or 1; its place in the expanded text; and how long that is,
 // through the end of the text that has the fault.
 #[derive(Clone, Copy)]
@@ -144,7 +122,7 @@ fn expand_within(
         let main = Frame {
             number: 0,
             depth: TEXTS,
-            limit: limit,
+            limit,
         };
         let f = filling::expand_text(
             buffer,
@@ -250,18 +228,18 @@ pub fn expand_to_read(
     expand(buffer, lengths, out, origins)
 }
 
-// The file's name on the include line of the `#` at a place of a text.
-pub fn name_at(text: &[u8], hash: usize) -> Name
+// The file's name on the include line of the `#` at a place of a text, from a place to another, if it is such a line.
+pub fn name_at(text: &[u8], hash: usize) -> Option<(usize, usize)>
     ensures { result ≡ name_at text.now hash }
 {
     if text.len() <= hash {
-        return Name::Not;
+        return None;
     }
     let start = scan::line_start(text, hash);
-    let end = scan::find_byte(text, hash, b'\n');
+    let end = token::find_byte(text, hash, b'\n');
     match lines::named(&text[start..end], hash - start) {
-        Name::Is(from, to) => Name::Is(start + from, start + to),
-        Name::Not => Name::Not,
+        Some((from, to)) => Some((start + from, start + to)),
+        None => None,
     }
 }
 
@@ -273,8 +251,8 @@ pub fn text_of<'a>(buffer: &'a [u8], lengths: &[usize], number: usize) -> &'a [u
 {
     if told::told_well(buffer, lengths) {
         match parts::span_of(buffer, lengths, number) {
-            Hit::Present(_, from, to) => &buffer[from..to],
-            Hit::Absent => &buffer[..0],
+            Some((_, from, to)) => &buffer[from..to],
+            None => &buffer[..0],
         }
     } else {
         &buffer[..0]

@@ -2,8 +2,8 @@
 ghost use Rattle.std.specs.Prelude.{◌≡◌, true, ◌≤◌, ◌<◌, length};
 ghost use Rattle.sources.specs.Lines.{is_aside, aside_at, aside, closing, quoted, named, whole_to, after_line, line_of, hash_at, stop_at};
 
-use super::{Line, Name, Stop, scan};
-use token::{Cursor, Step};
+use super::{Line, Stop, scan};
+use token::{Cursor, Step, find_byte, find_close, pair};
 
 // Whether a byte may stand on an include line: space, tab, CR.
 fn is_aside(b: u8) -> bool
@@ -28,11 +28,11 @@ fn aside_at(line: &[u8], at: usize) -> usize
     if is_aside(line[at]) {
         return at + 1;
     }
-    if scan::pair(line, at, b'/', b'/') {
+    if pair(line, at, b'/', b'/') {
         return line.len();
     }
-    if scan::pair(line, at, b'/', b'*') {
-        let close = scan::find_close(line, at + 2);
+    if pair(line, at, b'/', b'*') {
+        let close = find_close(line, at + 2);
         if close < line.len() {
             return close + 2;
         }
@@ -55,28 +55,28 @@ fn aside(line: &[u8], from: usize) -> usize
     }
 }
 
-// The name after its opening byte, up to its closing byte, if only what is set aside follows.
-fn closing(line: &[u8], at: usize, b: u8) -> Name
+// The name after its opening byte, from a place to another, up to its closing byte, if only what is set aside follows.
+fn closing(line: &[u8], at: usize, b: u8) -> Option<(usize, usize)>
     requires { at < length line.now }
     ensures { result ≡ closing line.now at b }
 {
-    let close = scan::find_byte(line, at + 1, b);
+    let close = find_byte(line, at + 1, b);
     if line.len() <= close {
-        return Name::Not;
+        return None;
     }
     let end = aside(line, close + 1);
     if end == line.len() {
-        return Name::Is(at + 1, close);
+        return Some((at + 1, close));
     }
-    Name::Not
+    None
 }
 
 // The name in quotes or angle brackets at a place.
-fn quoted(line: &[u8], at: usize) -> Name
+fn quoted(line: &[u8], at: usize) -> Option<(usize, usize)>
     ensures { result ≡ quoted line.now at }
 {
     if line.len() <= at {
-        return Name::Not;
+        return None;
     }
     let b = line[at];
     if b == b'"' {
@@ -85,33 +85,34 @@ fn quoted(line: &[u8], at: usize) -> Name
     if b == b'<' {
         return closing(line, at, b'>');
     }
-    Name::Not
+    None
 }
 
 // The name on a line with a `#` at a place, if it is an include line.
-pub fn named(line: &[u8], hash: usize) -> Name
+pub fn named(line: &[u8], hash: usize) -> Option<(usize, usize)>
     requires { hash ≤ length line.now }
     ensures { result ≡ named line.now hash }
 {
     let before = aside(line, 0);
     if before != hash {
-        return Name::Not;
+        return None;
     }
     if line.len() - hash < 8 {
-        return Name::Not;
+        return None;
     }
-    if scan::same(&line[hash..hash + 8], b"#include") {
+    let word: &[u8] = b"#include";
+    if &line[hash..hash + 8] == word {
         let at = aside(line, hash + 8);
         return quoted(line, at);
     }
-    Name::Not
+    None
 }
 
 // Whether from a place to the end there are only blanks and ended comments.
 fn whole_to(text: &[u8], at: usize) -> bool
     ensures { result ≡ whole_to text.now at }
 {
-    match (Cursor { at: at }).step(text) {
+    match (Cursor { at }).step(text) {
         Step::Found(_, _) => false,
         Step::Refused(_) => false,
         Step::End(_) => true,
@@ -138,19 +139,19 @@ fn line_of(text: &[u8], last: usize, hash: usize) -> Stop
         return Stop::At(super::refusals::NO_INCLUDE, hash);
     }
     if whole_to(&text[..start], last) {
-        let end = scan::find_byte(text, hash, b'\n');
+        let end = find_byte(text, hash, b'\n');
         match named(&text[start..end], hash - start) {
-            Name::Is(from, to) => {
+            Some((from, to)) => {
                 let after = after_line(text, end);
                 Stop::Line(Line {
-                    hash: hash,
-                    start: start,
+                    hash,
+                    start,
                     from: start + from,
                     to: start + to,
-                    after: after,
+                    after,
                 })
             }
-            Name::Not => Stop::At(super::refusals::NO_INCLUDE, hash),
+            None => Stop::At(super::refusals::NO_INCLUDE, hash),
         }
     } else {
         Stop::At(super::refusals::NO_INCLUDE, hash)

@@ -4,7 +4,7 @@ ghost use Rattle.sources.specs.Texts.{fitting, told_well};
 ghost use Rattle.sources.specs.Notes.{cell_for, packed, event_back, AllNoted};
 ghost use Rattle.sources.specs.Promises.{AsksNotes, NotesText};
 
-use super::{Event, Hit, Include, finding, parts};
+use super::{Event, Include, finding, parts};
 
 // The cells for the notes of a text, one for each ten bytes, and of all texts.
 const CELLS: usize = 6554;
@@ -61,8 +61,8 @@ fn note_number(buffer: &[u8], lengths: &[usize], number: usize, notes: &mut [usi
         → AllNoted buffer.now lengths.now notes.new (number + 1) }
 {
     match parts::span_of(buffer, lengths, number) {
-        Hit::Present(_, from, to) => note_text(buffer, lengths, &buffer[from..to], number, notes),
-        Hit::Absent => {}
+        Some((_, from, to)) => note_text(buffer, lengths, &buffer[from..to], number, notes),
+        None => {}
     }
 }
 
@@ -71,10 +71,8 @@ pub fn note_all(buffer: &[u8], lengths: &[usize], notes: &mut [usize])
     requires { (told_well buffer.now lengths.now ≡ true) × (length notes.old ≡ 52432) }
     ensures { AllNoted buffer.now lengths.now notes.new 8 }
 {
-    let mut number = 0;
-    while number < super::TEXTS {
+    for number in 0..super::TEXTS {
         note_number(buffer, lengths, number, notes);
-        number += 1;
     }
 }
 
@@ -88,20 +86,20 @@ fn event_back(buffer: &[u8], lengths: &[usize], marks: [usize; super::TEXTS], no
         return Event::Stop(hash, note % token::PLACES);
     }
     match parts::span_of(buffer, lengths, note / NUMBERS) {
-        Hit::Present(number, from, to) => {
+        Some((number, from, to)) => {
             if finding::cell(marks, number) == 1 {
                 return Event::Stop(super::refusals::OPEN_TEXT, hash);
             }
             Event::Include(Include {
-                number: number,
-                from: from,
-                to: to,
-                hash: hash,
+                number,
+                from,
+                to,
+                hash,
                 start: note / STARTS % token::PLACES,
                 after: note % token::PLACES,
             })
         }
-        Hit::Absent => Event::Stop(super::refusals::NO_TEXT, hash),
+        None => Event::Stop(super::refusals::NO_TEXT, hash),
     }
 }
 

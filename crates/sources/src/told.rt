@@ -8,13 +8,9 @@ fn fitting(buffer: &[u8], lengths: &[usize]) -> bool
     ensures { result ≡ fitting buffer.now 0 lengths.now }
 {
     let mut at = 0;
-    let mut i = 0;
-    while i < lengths.len() {
-        if lengths.len() - i < 2 {
-            return false;
-        }
-        let n = lengths[i];
-        let t = lengths[i + 1];
+    for k in 0..lengths.len() / 2 {
+        let n = lengths[k * 2];
+        let t = lengths[k * 2 + 1];
         if buffer.len() - at < n {
             return false;
         }
@@ -25,9 +21,8 @@ fn fitting(buffer: &[u8], lengths: &[usize]) -> bool
             return false;
         }
         at = at + n + t;
-        i += 2;
     }
-    true
+    lengths.len() % 2 == 0
 }
 
 // Whether texts are lent as they have to be: at least one and at most eight.

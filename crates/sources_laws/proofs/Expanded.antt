@@ -23,8 +23,7 @@ use Rattle.sources.specs.Expanding.{Piece, origin, onto, onto_part, nothing, sto
 use Rattle.sources.specs.declared.Line.{Line}
 use Rattle.sources.specs.declared.Stop.{Stop}
 use Rattle.sources.specs.declared.Stop.TheVariants.{At, Line as AtLine}
-use Rattle.sources.specs.declared.Hit.{Hit}
-use Rattle.sources.specs.declared.Hit.TheVariants.{Present, Absent}
+use Rattle.std.specs.Prelude.{Option, Some, None}
 use Rattle.sources.specs.declared.Include.{Include}
 use Rattle.sources.specs.declared.Event.{Event}
 use Rattle.sources.specs.declared.Event.TheVariants.{Stop as Stops, Include as Includes}
@@ -100,11 +99,11 @@ abbrev pub EventSays : List ℕ → ℕ → Event → Type 0
 EventSays s p (Stops n q) = (stop_at s p ≡ At n q) ⊎ ((i : Line) × (stop_at s p ≡ AtLine i) × (q ≡ i.hash) × (n ≡ 0 → ⊥))
 EventSays s p (Includes j) = (i : Line) × (stop_at s p ≡ AtLine i) × (j.start ≡ i.start)
 
-hit_says : (s o : List ℕ) (p : ℕ) (i : Line) → stop_at s p ≡ AtLine i → (h : Hit) → EventSays s p (include_by o i h)
-hit_says s o p i e (Present n f t) =
+hit_says : (s o : List ℕ) (p : ℕ) (i : Line) → stop_at s p ≡ AtLine i → (h : Option (ℕ × ℕ × ℕ)) → EventSays s p (include_by o i h)
+hit_says s o p i e (Some (n, f, t)) =
     by_test (EventSays s p) (eqb (get_or o n 0) 1) (Stops 27 i.hash) _
     (λ _. inr (i, e, refl, λ z. absurd (omega arith))) (λ _. (i, e, refl))
-hit_says s o p i e Absent = inr (i, e, refl, λ z. absurd (omega arith))
+hit_says s o p i e None = inr (i, e, refl, λ z. absurd (omega arith))
 
 stop_says : (b l s o : List ℕ) (p : ℕ) (x : Stop) → stop_at s p ≡ x → EventSays s p (event_by b l s o x)
 unfolding include_of

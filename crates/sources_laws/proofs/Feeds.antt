@@ -9,9 +9,11 @@ use lib.Seq.{get_or-drop, drop-append-le}
 use lib.Dec.{ltb, eqb}
 use borrow.Author.Tests.{lt-ltb, not-false}
 use Rattle.token.specs.Find.{byte, either}
-use Rattle.token.specs.Bytes.{Class, letter, digit, blank, plus_minus, quote, punctuator, dot, slash, other, class_of, is_word_byte, word_end, is_letter, is_digit, is_dotted, is_signed, find_mark, find_byte, pair_at}
+use Rattle.token.specs.Bytes.{class_of, is_word_byte, word_end, is_letter, is_digit, is_dotted, is_signed, find_mark, find_byte, pair_at}
+use Rattle.token.specs.declared.scan.Class.{Class}
+use Rattle.token.specs.declared.scan.Class.TheVariants.{Letter as letter, Digit as digit, Blank as blank, Sign as plus_minus, Quote as quote, Punctuator as punctuator, Dot as dot, Slash as slash, Other as other}
 use Rattle.token.specs.Numbers.{numeral}
-use Rattle.token.specs.Floats.{some_digits, mantissa_of, power_of, power_at}
+use Rattle.token.specs.Floats.{some_digits, mantissa_of, times, power_of, power_at}
 use Rattle.token.specs.Tokens.{bytes_between, found, word_at, limit_of, number_of, whole_at, float_of, float_by, float_at, number_by, number_at, string_at, dots_at, token_of, token_at, step_at}
 use Rattle.token.specs.declared.Cursor.{Cursor}
 use Rattle.token.specs.declared.Token.{Token}
@@ -20,9 +22,7 @@ use Rattle.token.specs.declared.Sort.TheVariants.{Word, Number, String, Punctuat
 use Rattle.token.specs.declared.Step.{Step}
 use Rattle.token.specs.declared.Step.TheVariants.{Found, Refused, End}
 use Rattle.token.specs.declared.Power.{Power}
-use Rattle.token.specs.declared.Power.TheVariants.{Times, None}
-use Rattle.token.specs.declared.Amount.{Amount}
-use Rattle.token.specs.declared.Amount.TheVariants.{Is, Not}
+use Rattle.std.specs.Prelude.{Option, Some, None}
 use Rattle.token.proofs.Find.{by_test, find_before, find_next, find_low}
 use Rattle.token.proofs.Bytes.{both_second, either_true}
 use Rattle.token.proofs.Decimals.{dotted_inside}
@@ -86,14 +86,14 @@ digit_on s p h e =
     let l = find_low t (length s) (p + 1) in
     omega arith
 
-abbrev PowerLast : List ℕ → Power → Type 0
-PowerLast s (Times b x e) = byte s (e - 1) ≡ 10 → ⊥
+abbrev PowerLast : List ℕ → Option Power → Type 0
+PowerLast s (Some x) = byte s (x.end - 1) ≡ 10 → ⊥
 PowerLast s None = Unit {0}
 
-power_of_last : (s : List ℕ) (b : Bool) (v : Amount) (e : ℕ) → (byte s (e - 1) ≡ 10 → ⊥) → PowerLast s (power_of b v e)
+power_of_last : (s : List ℕ) (b : Bool) (v : Option ℕ) (e : ℕ) → (byte s (e - 1) ≡ 10 → ⊥) → PowerLast s (power_of b v e)
 unfolding power_of
-power_of_last s b (Is m) e h = h
-power_of_last s b Not e h = tt
+power_of_last s b (Some m) e h = h
+power_of_last s b None e h = tt
 
 signed_last : (s : List ℕ) (b : Bool) (q : ℕ) → PowerLast s (power_of b (some_digits 64 0 (bytes_between s q (word_end s q))) (word_end s q))
 unfolding power_of some_digits
@@ -107,18 +107,17 @@ signed_last s b q =
 power_last : (s : List ℕ) (m r : ℕ) → (byte s (r - 1) ≡ 10 → ⊥) → PowerLast s (power_at s m r)
 unfolding power_at
 power_last s m r h =
-    by_test (PowerLast s) (eqb m r) (Times false 0 r) _ (λ _. h)
+    by_test (PowerLast s) (eqb m r) (times false 0 r) _ (λ _. h)
     (λ _.
     by_test (PowerLast s) (is_signed s m r) _ _
     (λ _. signed_last s (eqb (byte s r) 45) (r + 1))
     (λ _. power_of_last s false (some_digits 64 0 (bytes_between s (m + 1) r)) r h))
 
-float_of_ok : (s : List ℕ) (minus : Bool) (v : Amount) (w : Power) (n p : ℕ) → PowerLast s w → LastOk s (float_of minus v w n p)
+float_of_ok : (s : List ℕ) (minus : Bool) (v : Option ℕ) (w : Option Power) (n p : ℕ) → PowerLast s w → LastOk s (float_of minus v w n p)
 unfolding found
-float_of_ok s minus (Is m) (Times b x e) n p h = λ k f c. absurd (h f)
-float_of_ok s minus (Is m) None n p h = tt
-float_of_ok s minus Not (Times b x e) n p h = tt
-float_of_ok s minus Not None n p h = tt
+float_of_ok s minus (Some m) (Some x) n p h = λ k f c. absurd (h f)
+float_of_ok s minus (Some m) None n p h = tt
+float_of_ok s minus None w n p h = tt
 
 number_by_ok : (s : List ℕ) (p q : ℕ) (b : Bool) → is_dotted s (word_end s q) ≡ b → LastOk s (number_by b s p q)
 unfolding number_by float_at float_by is_dotted
@@ -201,12 +200,11 @@ whole_not s p q =
     number_form (eqb (byte s p) 45) (ltb p q) (limit_of (eqb (byte s p) 45)) (λ (f : ℕ → ℕ → Step). NotEnd (f p (word_end s q)))
     (λ m _. tt) tt (bytes_between s q (word_end s q))
 
-float_not : (minus : Bool) (v : Amount) (w : Power) (n p : ℕ) → NotEnd (float_of minus v w n p)
+float_not : (minus : Bool) (v : Option ℕ) (w : Option Power) (n p : ℕ) → NotEnd (float_of minus v w n p)
 unfolding found
-float_not minus (Is m) (Times b x e) n p = tt
-float_not minus (Is m) None n p = tt
-float_not minus Not (Times b x e) n p = tt
-float_not minus Not None n p = tt
+float_not minus (Some m) (Some x) n p = tt
+float_not minus (Some m) None n p = tt
+float_not minus None w n p = tt
 
 number_by_not : (b : Bool) (s : List ℕ) (p q : ℕ) → NotEnd (number_by b s p q)
 unfolding number_by float_at float_by

@@ -21,8 +21,7 @@ use Rattle.token.proofs.Bytes.{both_true, both_second}
 use Rattle.token.proofs.Steps.{found_fits, bad_fits, lex_bad, lex_end}
 use Rattle.locality.proofs.Onward.{onward}
 use Rattle.sources.specs.Lines.{line_start, named, whole_to, line_by, line_of, hash_at, stop_at}
-use Rattle.sources.specs.declared.Name.{Name}
-use Rattle.sources.specs.declared.Name.TheVariants.{Is, Not}
+use Rattle.std.specs.Prelude.{Option, Some, None}
 use Rattle.sources.specs.declared.Line.{Line}
 use Rattle.sources.specs.declared.Stop.{Stop}
 use Rattle.sources.specs.declared.Stop.TheVariants.{At, Line as AtLine}
@@ -66,10 +65,10 @@ abbrev pub HashSays : List ℕ → ℕ → ℕ → Stop → Type 0
 HashSays s last q (At n r) = (r ≡ q) × (n ≡ 0 → ⊥)
 HashSays s last q (AtLine i) = LineSays s last q i
 
-by_name : (s : List ℕ) (last q e : ℕ) → last ≤ line_start s q → whole_to (take (line_start s q) s) last ≡ true → (x : Name) →
+by_name : (s : List ℕ) (last q e : ℕ) → last ≤ line_start s q → whole_to (take (line_start s q) s) last ≡ true → (x : Option (ℕ × ℕ)) →
     HashSays s last q (line_by s q (line_start s q) e x)
-by_name s last q e h k (Is f t) = record { hash = refl; start = refl; after = h; whole = k }
-by_name s last q e h k Not = (refl, λ z. absurd (omega arith))
+by_name s last q e h k (Some (f, t)) = record { hash = refl; start = refl; after = h; whole = k }
+by_name s last q e h k None = (refl, λ z. absurd (omega arith))
 
 line_says : (s : List ℕ) (last q : ℕ) → HashSays s last q (line_of s last q)
 unfolding line_of

@@ -15,7 +15,7 @@ use Rattle.grammar.specs.Grammar.{file, ◌▸◌, ∎, ◌⟶◌, Trees}
 use Rattle.grammar.specs.Terminals.{tokens_in}
 use Rattle.grammar.specs.Stage.{Divides, StopsAt, passes, no_token, Answers as StageAnswers}
 use Rattle.grammar.specs.Stage as Stage
-use Rattle.grammar.specs.declared.Answer.{Answer as GrammarAnswer}
+use Rattle.grammar.specs.Answered.{Answer as GrammarAnswer}
 use mathlib.Core.Option.{Option, none, some}
 use Rattle.meaning.specs.Words.{choose}
 use Rattle.meaning.specs.Tree.{tree}

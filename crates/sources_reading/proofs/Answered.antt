@@ -18,8 +18,9 @@ use Rattle.grammar.proofs.Decided.{decided}
 use Rattle.grammar.specs.Factored.{paper}
 use Rattle.grammar.specs.Machine.{run}
 use Rattle.grammar.specs.Readers.{stream_of}
-use Rattle.grammar.specs.declared.Answer.{Answer as GrammarAnswer}
-use Rattle.grammar.specs.declared.Answer.TheVariants.{Passes, NoToken, NotAdmitted, TooDeep}
+use Rattle.grammar.specs.Answered.{Answer as GrammarAnswer}
+use Rattle.std.specs.Prelude.{Ok, Err}
+use Rattle.grammar.specs.declared.Refusal.TheVariants.{NoToken, NotAdmitted, TooDeep}
 use Rattle.meaning.specs.Words.{choose}
 use Rattle.meaning.specs.Tree.{tree}
 use Rattle.meaning.specs.Actions.{syntax}
@@ -67,14 +68,14 @@ ends_stops n q p (stopped r) e d = (e.0, sym d ∙ e.1)
 
 -- ---- the grammar's answer
 
-refused_by : (s : List ℕ) (a : GrammarAnswer) (t : Unit {0} → _) → (a ≡ Passes → ⊥) → after_grammar s a t ≡ not_parsed (number_of a) (place_of a)
+refused_by : (s : List ℕ) (a : GrammarAnswer) (t : Unit {0} → _) → (a ≡ Ok tt → ⊥) → after_grammar s a t ≡ not_parsed (number_of a) (place_of a)
 unfolding after_grammar number_of place_of
-refused_by s Passes t n = absurd (n refl)
-refused_by s (NoToken p) t n = refl
-refused_by s (NotAdmitted p) t n = refl
-refused_by s (TooDeep p) t n = refl
+refused_by s (Ok _) t n = absurd (n refl)
+refused_by s (Err (NoToken p)) t n = refl
+refused_by s (Err (NotAdmitted p)) t n = refl
+refused_by s (Err (TooDeep p)) t n = refl
 
-parse_refused : (s : List ℕ) (a : GrammarAnswer) → length s ≤ 65535 → run 0 (paper file ▸ ∎) (stream_of (lex_from s 0)) ≡ a → (a ≡ Passes → ⊥) →
+parse_refused : (s : List ℕ) (a : GrammarAnswer) → length s ≤ 65535 → run 0 (paper file ▸ ∎) (stream_of (lex_from s 0)) ≡ a → (a ≡ Ok tt → ⊥) →
     parse s ≡ not_parsed (number_of a) (place_of a)
 unfolding parse choose
 parse_refused s a h e n =
@@ -86,7 +87,7 @@ parse_refused s a h e n =
 abbrev pub given : List ℕ → List ℕ → Answer
 given b l = answer_of_parsed (numbered (expanded b l).number (parse (text b l)))
 
-given_refused : (b l : List ℕ) (a : GrammarAnswer) → length (text b l) ≤ 65535 → run 0 (paper file ▸ ∎) (stream_of (lex_from (text b l) 0)) ≡ a → (a ≡ Passes → ⊥) →
+given_refused : (b l : List ℕ) (a : GrammarAnswer) → length (text b l) ≤ 65535 → run 0 (paper file ▸ ∎) (stream_of (lex_from (text b l) 0)) ≡ a → (a ≡ Ok tt → ⊥) →
     given b l ≡ refused (pick (eqb (number_of a) 3) (expanded b l).number (number_of a)) (place_of a)
 unfolding answer_of_parsed numbered
 given_refused b l a h e n = ap (λ (x : Parsed). answer_of_parsed (numbered (expanded b l).number x)) (parse_refused (text b l) a h e n)
@@ -103,16 +104,16 @@ by_stage b l n w x e (passes v q d) =
     subst (Answers b l) (sym (given_derived b l c d)) (meant n (ends_wholly _ _ (lex_from (text b l) 0) x v) q d)
 by_stage b l n w x e (no_token p t q g) =
     let u = ends_stops _ _ p (lex_from (text b l) 0) x t in
-    subst (Answers b l) (sym (given_refused b l (NoToken p) w.short e (λ z. absurd (let y : ◌≡◌ {A = ℕ} 0 1 = cc in omega arith))))
+    subst (Answers b l) (sym (given_refused b l (Err (NoToken p)) w.short e (λ z. absurd (let y : ◌≡◌ {A = ℕ} 0 1 = cc in omega arith))))
     (subst (λ (i : ℕ). Answers b l (refused (expanded b l).number i)) (sym u.1) (at_fault n u.0 q g))
 by_stage b l n w x e (Stage.not_admitted f t r i q g h) =
-    subst (Answers b l) (sym (given_refused b l (NotAdmitted t.place) w.short e (λ z. absurd (let y : ◌≡◌ {A = ℕ} 0 1 = cc in omega arith))))
+    subst (Answers b l) (sym (given_refused b l (Err (NotAdmitted t.place)) w.short e (λ z. absurd (let y : ◌≡◌ {A = ℕ} 0 1 = cc in omega arith))))
     (not_admitted n f t r i q g h)
 by_stage b l n w x e (Stage.ends_early v q g h) =
-    subst (Answers b l) (sym (given_refused b l (NotAdmitted (length (text b l))) w.short e (λ z. absurd (let y : ◌≡◌ {A = ℕ} 0 1 = cc in omega arith))))
+    subst (Answers b l) (sym (given_refused b l (Err (NotAdmitted (length (text b l)))) w.short e (λ z. absurd (let y : ◌≡◌ {A = ℕ} 0 1 = cc in omega arith))))
     (ends_early n (ends_wholly _ _ (lex_from (text b l) 0) x v) q g h)
 by_stage b l n w x e (Stage.too_deep f t r i q g h j) =
-    subst (Answers b l) (sym (given_refused b l (TooDeep t.place) w.short e (λ z. absurd (let y : ◌≡◌ {A = ℕ} 0 1 = cc in omega arith))))
+    subst (Answers b l) (sym (given_refused b l (Err (TooDeep t.place)) w.short e (λ z. absurd (let y : ◌≡◌ {A = ℕ} 0 1 = cc in omega arith))))
     (too_deep n f t r i q g h j)
 
 pub lexed : (b l : List ℕ) → told_well b l ≡ true → EndsAs (expanded b l).number (expanded b l).place (lex_from (text b l) 0)
@@ -149,7 +150,7 @@ pub is_given : (b l : List ℕ) → ((expansion_of b l).number ≡ 30 → ⊥) �
 unfolding sources_answer sources_parse
 is_given b l n = ap (λ (t : Bool). answer_of_parsed (parse_if t b l)) (ne_eqb (expansion_of b l).number 30 n)
 
-by_answer : (b l : List ℕ) (a : GrammarAnswer) → ((expansion_of b l).number ≡ 30 → ⊥) → StageAnswers (text b l) a → (a ≡ Passes → ⊥) →
+by_answer : (b l : List ℕ) (a : GrammarAnswer) → ((expansion_of b l).number ≡ 30 → ⊥) → StageAnswers (text b l) a → (a ≡ Ok tt → ⊥) →
     sources_answer b l ≡ refused (pick (eqb (number_of a) 3) (expanded b l).number (number_of a)) (place_of a)
 by_answer b l a n t z = is_given b l n ∙ given_refused b l a (within b l n).short (decided (run_answers (text b l)) t) z
 
@@ -158,15 +159,15 @@ pub one_answer : {b l : List ℕ} {a : Answer} → Answers b l a → sources_ans
 unfolding number_of place_of answer_of_parsed sources_answer sources_parse
 one_answer {b} {l} (too_long h) = ap (λ (t : Bool). answer_of_parsed (parse_if t b l)) (eq-eqb (expansion_of b l).number 30 h)
 one_answer {b} {l} (at_fault n z q g) =
-    by_answer b l (NoToken (expanded b l).place) n
+    by_answer b l (Err (NoToken (expanded b l).place)) n
     (no_token (expanded b l).place (to_stops _ _ (lex_from (text b l) 0) (lexed b l (within b l n).told) z) q g) (λ z. absurd (let y : ◌≡◌ {A = ℕ} 0 1 = cc in omega arith))
 one_answer {b} {l} (not_admitted n f t r i q g h) =
-    by_answer b l (NotAdmitted t.place) n (Stage.not_admitted f t r i q g h) (λ z. absurd (let y : ◌≡◌ {A = ℕ} 0 1 = cc in omega arith))
+    by_answer b l (Err (NotAdmitted t.place)) n (Stage.not_admitted f t r i q g h) (λ z. absurd (let y : ◌≡◌ {A = ℕ} 0 1 = cc in omega arith))
 one_answer {b} {l} (ends_early n z q g h) =
-    by_answer b l (NotAdmitted (length (text b l))) n (Stage.ends_early (to_wholly _ _ (lex_from (text b l) 0) (lexed b l (within b l n).told) z) q g h)
+    by_answer b l (Err (NotAdmitted (length (text b l)))) n (Stage.ends_early (to_wholly _ _ (lex_from (text b l) 0) (lexed b l (within b l n).told) z) q g h)
     (λ z. absurd (let y : ◌≡◌ {A = ℕ} 0 1 = cc in omega arith))
 one_answer {b} {l} (too_deep n f t r i q g h j) =
-    by_answer b l (TooDeep t.place) n (Stage.too_deep f t r i q g h j) (λ z. absurd (let y : ◌≡◌ {A = ℕ} 0 1 = cc in omega arith))
+    by_answer b l (Err (TooDeep t.place)) n (Stage.too_deep f t r i q g h j) (λ z. absurd (let y : ◌≡◌ {A = ℕ} 0 1 = cc in omega arith))
 one_answer {b} {l} (meant n z q d) =
     is_given b l n
     ∙ given_derived b l (record { short = (within b l n).short; divides = to_wholly _ _ (lex_from (text b l) 0) (lexed b l (within b l n).told) z; shallow = q }) d

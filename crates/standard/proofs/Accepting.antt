@@ -3,12 +3,12 @@ use mathlib.Core.Path.{◌≡◌, refl, sym, ◌∙◌, ap, subst}
 use mathlib.Core.List.{List}
 use mathlib.Core.Bool.{Bool, true, false, false≢true}
 use mathlib.Core.Option.{Option, none, some}
-use Prim.Native.Nat.{ℕ, ◌≤◌, ◌<◌}
+use Rattle.std.specs.Prelude.{Option as Maybe}
+use Prim.Native.Nat.{ℕ, ◌≤◌}
 use native.Mathlib.Omega.{arith}
 use lib.ListN.{length, get_or, replicate, length-replicate}
 use lib.Dec.{eqb}
-use borrow.Author.Tests.{eq-eqb, ne_eqb, eqb-true, eqb-false}
-use Rattle.token.specs.Find.{pick}
+use borrow.Author.Tests.{eqb-true, eqb-false}
 use Rattle.grammar.specs.Stage.{number_of}
 use Rattle.grammar.specs.Readers.{answer_of}
 use Rattle.meaning.specs.Syntax.{File}
@@ -35,18 +35,19 @@ use Rattle.reading.proofs.Arriving.{Arrived, arrived, refused_early, reading_is}
 use Rattle.reading.specs.Decisions.{blank}
 use Rattle.walk.proofs.Placing.{each_place}
 use Rattle.reading.proofs.Settling.{Fitting, fitting}
-use Rattle.standard.specs.Asking.{Finding, asked, findings, foremost}
+use Rattle.standard.specs.Asking.{Finding, findings, foremost}
 use Rattle.standard.specs.Section.{section, standard}
 use Rattle.standard.specs.Rows.{rows_written, words_written}
 use Rattle.standard.specs.Heads.{NamesAt}
 use Rattle.standard.specs.Findings.{Knows, RowsAre, as_told, TellsForemost}
 use Rattle.standard.specs.Checking.{told, checked_as, checked_by, checked_against, checked, verdict_of, AnswersText, ChecksAccepted}
-use Rattle.standard.specs.declared.Checked.{Checked}
-use Rattle.standard.specs.declared.Checked.TheVariants as c
+use Rattle.standard.specs.Answered.{Checked, MaybeWrong, wrong}
+use Rattle.rows.specs.Refusing.{refusing}
+use Rattle.rows.specs.Order.{MaybeFault}
+use Rattle.std.specs.Prelude.{Some, None, Ok}
 use Rattle.standard.specs.declared.Known.{Known}
 use Rattle.standard.specs.declared.Told.{Told}
 use Rattle.standard.proofs.Sound.{rows_are}
-use Rattle.standard.proofs.Telling.{foremost_number}
 use Rattle.reading.proofs.Derived.{derived}
 use Rattle.standard.proofs.ByRules.{checked_is}
 use Rattle.standard.proofs.Ranged.{unless_none}
@@ -69,7 +70,7 @@ pub answers_text : {s d' e' o' v' : List ℕ} {r : Reading} → ReadsByRules s (
 answers_text h = by_answer h full_room
 
 -- A refused text.
-refused_by : (x : Parsed) (n q : ℕ) → answer_of_parsed x ≡ refused n q → c.Refused n q ≡ checked_by standard x
+refused_by : (x : Parsed) (n q : ℕ) → answer_of_parsed x ≡ refused n q → refusing n q ≡ checked_by standard x
 unfolding checked_by checked_as answer_of_parsed
 refused_by (parsed f) n q e = sym (ap (checked_as standard f) e)
 refused_by (not_parsed m k) n q e = let y : m ≡ n = cc in let z : k ≡ q = cc in cc
@@ -79,7 +80,7 @@ unfolding reading_of
 refusal_is (accepted t) n q e = absurd (let z : ◌≡◌ {A = ℕ} 0 1 = cc in omega (arith, z))
 refusal_is (refused m k) n q e = let y : m ≡ n = cc in let z : k ≡ q = cc in cc
 
-pub check_refused : (s : List ℕ) (r : Given) (n q : ℕ) → AnswersText s r → r ≡ Refused n q → c.Refused n q ≡ checked s
+pub check_refused : (s : List ℕ) (r : Given) (n q : ℕ) → AnswersText s r → r ≡ Refused n q → refusing n q ≡ checked s
 unfolding checked checked_against reading
 check_refused s r n q h e = refused_by (parse s) n q (refusal_is (reading s) n q (sym h ∙ e))
 
@@ -91,26 +92,18 @@ unfolding reading_of
 accepted_is (accepted t) e = accepts t refl
 accepted_is (refused m k) e = absurd (let z : ◌≡◌ {A = ℕ} 0 1 = cc in omega (arith, z))
 
-pub check_accepts : (s : List ℕ) (r : Given) (v : Checked) → AnswersText s r → r ≡ Accepted → ChecksAccepted s v → v ≡ checked s
+pub check_accepts : (s : List ℕ) (r : Given) (v : MaybeWrong) → AnswersText s r → r ≡ Accepted → ChecksAccepted s v → Ok v ≡ checked s
 check_accepts s r v h e k = by (accepted_is (reading s) (sym h ∙ e))
   where
-    by : Accepts (reading s) → v ≡ checked s
+    by : Accepts (reading s) → Ok v ≡ checked s
     by (accepts t q) = k t q
 
 -- What is told -----------------------------------------------------------------------------------------------------------------------------------
 
-pub tells_nothing : (t : Told) → t.number ≡ 0 → c.NothingWrong ≡ verdict_of t
-unfolding verdict_of
-tells_nothing t e = sym (ap (λ (b : Bool). pick b c.NothingWrong (c.Wrong t.number t.place t.attribute)) (eq-eqb t.number 0 e))
-
-pub tells_wrong : (t : Told) → (t.number ≡ 0 → ⊥) → c.Wrong t.number t.place t.attribute ≡ verdict_of t
-unfolding verdict_of
-tells_wrong t e = sym (ap (λ (b : Bool). pick b c.NothingWrong (c.Wrong t.number t.place t.attribute)) (ne_eqb t.number 0 e))
-
-verdict_told : (o : Option Finding) → ((y : Finding) → o ≡ some y → 0 < y.number) → verdict_of (as_told o) ≡ told o
-unfolding as_told told
-verdict_told none h = sym (tells_nothing (record { number = 0; place = 0; attribute = 0 }) refl)
-verdict_told (some x) h = sym (tells_wrong (record { number = x.number; place = x.place; attribute = x.attribute }) (λ e. let p = h x refl in omega (arith, p, e)))
+verdict_told : (o : Option Finding) → Ok (verdict_of (as_told o)) ≡ told o
+unfolding as_told told verdict_of
+verdict_told none = refl
+verdict_told (some x) = refl
 
 -- An accepted text -------------------------------------------------------------------------------------------------------------------------------
 
@@ -121,14 +114,13 @@ fits s y w a t e =
     let o = unless_none (first (object_faults a.file)) _ t d.1 in
     fitting s a.file a.kept.situation d.0 o.0
 
-passes : (s : List ℕ) (y : Rooms) (w : Walked) → Whole s blank y w → length s ≤ 65535 → (t : Tables) → reading s ≡ accepted t → number_of (answer_of w.look) ≡ 0
-unfolding grammar_fault
-passes s y w h l t e = by (eqb (number_of (answer_of w.look)) 0) refl
+passes : (s : List ℕ) (y : Rooms) (w : Walked) → Whole s blank y w → length s ≤ 65535 → (t : Tables) → reading s ≡ accepted t → grammar_fault (answer_of w.look) ≡ None
+passes s y w h l t e = by (grammar_fault (answer_of w.look)) refl
   where
-    by : (b : Bool) → eqb (number_of (answer_of w.look)) 0 ≡ b → number_of (answer_of w.look) ≡ 0
-    by true q = eqb-true _ 0 q
-    by false q =
-        let g = refused_early s blank y w h l (grammar_fault (answer_of w.look)) refl (eqb-false _ 0 q) in
+    by : (o : MaybeFault) → grammar_fault (answer_of w.look) ≡ o → grammar_fault (answer_of w.look) ≡ None
+    by None q = q
+    by (Some x) q =
+        let g = refused_early s blank y w h l x q in
         absurd (let v = sym g ∙ e in let z : ◌≡◌ {A = Bool} false true = cc in false≢true z)
 
 places_of : {f : File} {s : List ℕ} {y : Rooms} {w : Walked} → KeptParts s y w f → Places f w.places
@@ -143,7 +135,7 @@ rows_in {g} {rs} {ws} e h k =
     subst (λ (x : List ℕ). RowsAre x rs ws) (sym e)
     (subst (λ (x : List ℕ). RowsAre section x ws) (sym h) (subst (λ (x : List ℕ). RowsAre section rows_written x) (sym k) rows_are))
 
-pub check_walked : (s : List ℕ) (y : Rooms) (w : Walked) (n : ℕ) (g rs ws : List ℕ) (v : Told) (r : Checked) → Whole s blank y w → NamesAt s w.implementation_at n
+pub check_walked : (s : List ℕ) (y : Rooms) (w : Walked) (n : ℕ) (g rs ws : List ℕ) (v : Maybe Told) (r : MaybeWrong) → Whole s blank y w → NamesAt s w.implementation_at n
     → g ≡ section → rs ≡ rows_written → ws ≡ words_written
     → TellsForemost g rs ws s y.definitions y.enumerators (record { definitions = w.definitions; enumerators = w.enumerators; name = n; places = w.places }) v
     → r ≡ verdict_of v → ChecksAccepted s r
@@ -174,4 +166,4 @@ check_walked s y w n g rs ws v r h m e₁ e₂ e₃ k q t e =
       named = N.1;
       places = places_of K;
     } in
-    q ∙ ap verdict_of (k f kn (rows_in e₁ e₂ e₃)) ∙ verdict_told (foremost (findings standard f)) (λ z i. foremost_number f (asked standard) i) ∙ sym (checked_is s f t p a)
+    ap Ok (q ∙ ap verdict_of (k f kn (rows_in e₁ e₂ e₃))) ∙ verdict_told (foremost (findings standard f)) ∙ sym (checked_is s f t p a)

@@ -21,8 +21,7 @@ use Rattle.standard.specs.Conforming.{Asks}
 use Rattle.standard.specs.Checking.{told, checked_as, checked_by, checked_against, checked}
 use Rattle.standard.specs.Rules.{Wrong, absent, different, Verdict, ChecksByRules, NothingExactly}
 use Rattle.standard.specs.Rules as rules
-use Rattle.standard.specs.declared.Checked.{Checked}
-use Rattle.standard.specs.declared.Checked.TheVariants as c
+use Rattle.standard.specs.Answered.{Checked, all_right}
 use Rattle.standard.proofs.Members.{Has, here, later, has_left, has_right, has_none, split_by, first_or}
 use Rattle.standard.proofs.Ways.{reached, due}
 use Rattle.standard.proofs.Agreeing.{agrees}
@@ -124,7 +123,7 @@ pub checked_is : (s : List ℕ) (f : File) (t : Tables) → parse s ≡ parsed f
 unfolding checked checked_against checked_by checked_as
 checked_is s f t e h = ap (checked_by standard) e ∙ ap (checked_as standard f) h
 
-told_nothing : (o : Option Finding) → told o ≡ c.NothingWrong → o ≡ none
+told_nothing : (o : Option Finding) → told o ≡ all_right → o ≡ none
 unfolding told
 told_nothing none e = refl
 told_nothing (some x) e = absurd (let z : ◌≡◌ {A = ℕ} 0 1 = cc in omega (arith, z))

@@ -13,8 +13,8 @@ use Rattle.token.specs.Words.{same}
 use Rattle.token.specs.Tokens.{part_of}
 use Rattle.token.proofs.Codes.{same_equal, same_self}
 use Rattle.grammar.specs.Grammar.{ordinary}
-use Rattle.rows.specs.declared.Found.{Found}
-use Rattle.rows.specs.declared.Found.TheVariants.{At, Nothing}
+use Rattle.rows.specs.Found.{Found}
+use Rattle.std.specs.Prelude.{Some, None}
 use Rattle.rows.specs.Search.{has_key, find_from, is_found}
 use Rattle.rows.proofs.Searches.{find_stop, find_more, find_end, IsFirst, found_first, nothing_none}
 use Rattle.meaning.specs.Syntax.{Word, Values, no_value, value, Defined, File, is_enum}
@@ -210,7 +210,7 @@ module _ {s d e : List ℕ} {f : File} {x : Defined} {j m : ℕ} (st : Situation
     extra_is = by (find_from (is_extra s e g ws a z (get_or d (j * 19 + 14) 0)) m 0) refl
       where
         by : (r : Found) → find_from (is_extra s e g ws a z (get_or d (j * 19 + 14) 0)) m 0 ≡ r → is_found r ≡ not (words_in W x.values)
-        by (At i) q =
+        by (Some i) q =
             let c = found_first (is_extra s e g ws a z (get_or d (j * 19 + 14) 0)) m 0 i q in
             sym (ap not (row_extra i c.high c.holds))
-        by Nothing q = sym (ap not (no_extra (λ i h. nothing_none (is_extra s e g ws a z (get_or d (j * 19 + 14) 0)) m 0 q i (omega arith) h)))
+        by None q = sym (ap not (no_extra (λ i h. nothing_none (is_extra s e g ws a z (get_or d (j * 19 + 14) 0)) m 0 q i (omega arith) h)))

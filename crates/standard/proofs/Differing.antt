@@ -3,6 +3,7 @@ use mathlib.Core.Path.{◌≡◌, refl, sym, ◌∙◌, ap, ap₂, subst}
 use mathlib.Core.List.{List}
 use mathlib.Core.Bool.{Bool, true, false, not, false≢true}
 use mathlib.Core.Option.{Option, none, some}
+use Rattle.std.specs.Prelude.{Option as Maybe, Some, None}
 use Prim.Native.Nat.{ℕ, ◌+◌, ◌*◌, ◌<◌}
 use native.Mathlib.Omega.{arith}
 use lib.ListN.{length, get_or}
@@ -11,9 +12,8 @@ use borrow.Author.Tests.{eqb-true}
 use Rattle.token.specs.Find.{either}
 use Rattle.token.specs.Tokens.{part_of}
 use Rattle.grammar.proofs.Uniqueness.{none≢some}
-use Rattle.rows.specs.declared.Fault.{Fault}
-use Rattle.rows.specs.declared.Found.{Found}
-use Rattle.rows.specs.declared.Found.TheVariants.{At, Nothing}
+use Rattle.rows.specs.Found.{Found}
+use Rattle.std.specs.Prelude.{Some, None}
 use Rattle.rows.specs.Search.{is_found, row_of}
 use Rattle.meaning.specs.Syntax.{Word, Definitions, Defined, File}
 use Rattle.meaning.specs.Cells.{type_code}
@@ -26,9 +26,10 @@ use Rattle.scopes.proofs.Descents.{row_of_definition, found_definition}
 use Rattle.standard.specs.Asking.{Asked, Scope, scope_of, along, same_truth, only_where, has_default, wider, differs, finding_if, found, in_scope, finding}
 use Rattle.standard.specs.Naming.{FindsAttribute}
 use Rattle.standard.specs.Shapes.{ShapeDiffers}
-use Rattle.standard.specs.Findings.{Knows, RowIs, ScopeIs, Reaches, nowhere, reaches, Owns, DefaultDiffers, Wider, Differs, fault_told, Finds}
+use Rattle.standard.specs.Findings.{Knows, RowIs, ScopeIs, Reaches, nowhere, reaches, Owns, DefaultDiffers, Wider, Differs, first_told, Finds}
 use Rattle.standard.specs.declared.Known.{Known}
 use Rattle.standard.specs.declared.Owner.{Owner}
+use Rattle.standard.specs.declared.Told.{Told}
 use Rattle.standard.proofs.Owning.{all_reached}
 
 -- What differs -----------------------------------------------------------------------------------------------------------------------------------
@@ -88,7 +89,7 @@ module _ (g rs ws s d e : List ℕ) (m i j code list auto : ℕ) (q₁ : code �
 
 -- One attribute ----------------------------------------------------------------------------------------------------------------------------------
 
-none_of : (o : Option Defined) → Nothing ≡ row_found o → o ≡ none
+none_of : (o : Option Defined) → None ≡ row_found o → o ≡ none
 unfolding row_found
 none_of none e = refl
 none_of (some x) e = absurd (false≢true (ap is_found e))
@@ -100,7 +101,7 @@ record Hit (f : File) (ds : Definitions) (t : Word) (j : ℕ) : Type 0 where
   row : RowOf f j it
   low : j < length (spec_entries f.specs)
 
-standing_row : {s : List ℕ} {f : File} {key : ℕ} {ds : Definitions} (t : Word) (j : ℕ) → Situation s f → ScopeAt f key ds → (o : Option Defined) → find_definition ds t ≡ o → At j ≡ row_found o → Hit f ds t j
+standing_row : {s : List ℕ} {f : File} {key : ℕ} {ds : Definitions} (t : Word) (j : ℕ) → Situation s f → ScopeAt f key ds → (o : Option Defined) → find_definition ds t ≡ o → Some j ≡ row_found o → Hit f ds t j
 unfolding row_found find_definition row_of
 standing_row t j k sc none c e = absurd (false≢true (sym (ap is_found e)))
 standing_row t j k no_scope (some y) c e = absurd (none≢some c)
@@ -114,20 +115,20 @@ unfolding definition_cells
 name_cell {f} {d} {j} {x} hd row l = definition_cell f d j 2 (record { under = row.under; outer = row.outer; definition = x.definition; values = x.values }) hd row.nth l (omega arith)
 
 module _ (g rs ws s d e : List ℕ) (x : Known) (i : ℕ) (u : Owner) (o : Owns g rs s d e x i u) where
-  by_scope : (r : Fault) → ((f : File) (a : Asked) → Knows s d e x f → RowIs g rs ws i a → (v : Scope) → ScopeIs f v u → r ≡ fault_told (in_scope a.wanted (some v)))
+  by_scope : (r : Maybe Told) → ((f : File) (a : Asked) → Knows s d e x f → RowIs g rs ws i a → (v : Scope) → ScopeIs f v u → r ≡ first_told (in_scope a.wanted (some v)))
       → (u.word ≡ 0 → ⊥) → Finds g rs ws s d e x i r
   unfolding finding
   by_scope r h n f a k ri = by (along (scope_of f a.kind) a.path) (o ws f a k ri)
     where
-      by : (y : Option Scope) → Reaches f y u → r ≡ fault_told (in_scope a.wanted y)
+      by : (y : Option Scope) → Reaches f y u → r ≡ first_told (in_scope a.wanted y)
       by _ (nowhere z) = absurd (n z)
       by _ (reaches {u = v} z) = h f a k ri v z
 
-  pub not_asked : u.word ≡ 0 → Finds g rs ws s d e x i (record { number = 0; place = 0 })
-  unfolding finding in_scope fault_told
+  pub not_asked : u.word ≡ 0 → Finds g rs ws s d e x i None
+  unfolding finding in_scope first_told
   not_asked n f a k ri = by (along (scope_of f a.kind) a.path) (o ws f a k ri)
     where
-      by : (y : Option Scope) → Reaches f y u → record { number = 0; place = 0 } ≡ fault_told (in_scope a.wanted y)
+      by : (y : Option Scope) → Reaches f y u → None ≡ first_told (in_scope a.wanted y)
       by _ (nowhere z) = refl
       by _ (reaches z) = absurd (let t = z.there in omega (arith, t, n))
 
@@ -139,13 +140,13 @@ module _ (g rs ws s d e : List ℕ) (x : Known) (i : ℕ) (u : Owner) (o : Owns 
         hz f v.definitions a.wanted.definition.name k.situation k.in_definitions k.definitions (omega (arith, l)) y.at
         (ri.name ∙ sym (hb ∙ ap₂ (part_of g) e₁ e₂))
 
-    pub is_absent : z ≡ Nothing → Finds g rs ws s d e x i (record { number = 25; place = u.word })
-    unfolding in_scope found finding_if fault_told
+    pub is_absent : z ≡ None → Finds g rs ws s d e x i (Some (record { place = u.word; number = 25; attribute = i }))
+    unfolding in_scope found finding_if first_told
     is_absent t = by_scope _ (λ f a k ri v y.
         let c = none_of (find_definition v.definitions a.wanted.definition.name) (sym t ∙ looked_up f a k ri v y) in
-        ap (λ (p : ℕ). record { number = 25; place = p }) (sym y.word) ∙ sym (ap (λ (q : Option Defined). fault_told (found v.word a.wanted q)) c)) n
+        ap₂ (λ (p r : ℕ). Some (record { place = p; number = 25; attribute = r })) (sym y.word) (sym ri.number) ∙ sym (ap (λ (q : Option Defined). first_told (found v.word a.wanted q)) c)) n
 
-    module _ (j : ℕ) (t : z ≡ At j) (c : Bool) (hc : Differs g rs ws s d e x.enumerators i j c) where
+    module _ (j : ℕ) (t : z ≡ Some j) (c : Bool) (hc : Differs g rs ws s d e x.enumerators i j c) where
       hit : (f : File) (a : Asked) → Knows s d e x f → RowIs g rs ws i a → (v : Scope) → ScopeIs f v u → Hit f v.definitions a.wanted.definition.name j
       hit f a k ri v y =
           standing_row a.wanted.definition.name j k.situation y.at (find_definition v.definitions a.wanted.definition.name) refl (sym t ∙ looked_up f a k ri v y)
@@ -154,20 +155,20 @@ module _ (g rs ws s d e : List ℕ) (x : Known) (i : ℕ) (u : Owner) (o : Owns 
       low_row f a k ds h = let p = h.low in let l = k.definitions_fit in let q = k.definitions in omega (arith, p, l, q)
 
       was_found : (f : File) (a : Asked) → Knows s d e x f → RowIs g rs ws i a → (v : Scope) (y : ScopeIs f v u)
-          → fault_told (in_scope a.wanted (some v)) ≡ fault_told (finding_if c (get_or d (j * 19 + 2) 0) 26 a.wanted.definition.row)
+          → first_told (in_scope a.wanted (some v)) ≡ first_told (finding_if c (get_or d (j * 19 + 2) 0) 26 a.wanted.definition.row)
       unfolding in_scope found
       was_found f a k ri v y =
           let h = hit f a k ri v y in
           let l = low_row f a k v.definitions h in
-          ap (λ (q : Option Defined). fault_told (found v.word a.wanted q)) h.found_it
-          ∙ ap₂ (λ (w : Bool) (p : ℕ). fault_told (finding_if w p 26 a.wanted.definition.row))
+          ap (λ (q : Option Defined). first_told (found v.word a.wanted q)) h.found_it
+          ∙ ap₂ (λ (w : Bool) (p : ℕ). first_told (finding_if w p 26 a.wanted.definition.row))
           (sym (hc f h.it a k.situation k.in_definitions k.in_enumerators h.row l (all_reached k) ri)) (sym (name_cell k.in_definitions h.row l))
 
-      pub is-different : c ≡ true → (p : ℕ) → p ≡ get_or d (j * 19 + 2) 0 → Finds g rs ws s d e x i (record { number = 26; place = p })
-      unfolding finding_if fault_told
+      pub is-different : c ≡ true → (p : ℕ) → p ≡ get_or d (j * 19 + 2) 0 → Finds g rs ws s d e x i (Some (record { place = p; number = 26; attribute = i }))
+      unfolding finding_if first_told
       is-different v p q = by_scope _ (λ f a k ri w y.
-          ap (λ (r : ℕ). record { number = 26; place = r }) q ∙ sym (was_found f a k ri w y ∙ ap (λ (b' : Bool). fault_told (finding_if b' (get_or d (j * 19 + 2) 0) 26 a.wanted.definition.row)) v)) n
+          ap₂ (λ (p' r : ℕ). Some (record { place = p'; number = 26; attribute = r })) q (sym ri.number) ∙ sym (was_found f a k ri w y ∙ ap (λ (b' : Bool). first_told (finding_if b' (get_or d (j * 19 + 2) 0) 26 a.wanted.definition.row)) v)) n
 
-      pub is_same : c ≡ false → Finds g rs ws s d e x i (record { number = 0; place = 0 })
-      unfolding finding_if fault_told
-      is_same v = by_scope _ (λ f a k ri w y. sym (was_found f a k ri w y ∙ ap (λ (b' : Bool). fault_told (finding_if b' (get_or d (j * 19 + 2) 0) 26 a.wanted.definition.row)) v)) n
+      pub is_same : c ≡ false → Finds g rs ws s d e x i None
+      unfolding finding_if first_told
+      is_same v = by_scope _ (λ f a k ri w y. sym (was_found f a k ri w y ∙ ap (λ (b' : Bool). first_told (finding_if b' (get_or d (j * 19 + 2) 0) 26 a.wanted.definition.row)) v)) n

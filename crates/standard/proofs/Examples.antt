@@ -6,8 +6,8 @@ use Prim.Native.Nat.{ℕ}
 use Rattle.token.specs.Words.{bytes_of}
 use Rattle.standard.specs.Asking.{Finding}
 use Rattle.standard.specs.Checking.{told, checked, checked_against}
-use Rattle.standard.specs.declared.Checked.{Checked}
-use Rattle.standard.specs.declared.Checked.TheVariants.{Refused}
+use Rattle.standard.specs.Answered.{Checked}
+use Rattle.rows.specs.Refusing.{refusing}
 use Rattle.standard.proofs.Everything.{rules}
 use Rattle.standard.proofs.Sections.{is_standard, written}
 
@@ -23,11 +23,11 @@ nothing_there : checked_against written (bytes_of "OIL_VERSION=\"2.5\";IMPLEMENT
 unfolding rules
 nothing_there = refl
 
-refused_text : checked_against written (bytes_of "OIL_VERSION=\"2.4\";IMPLEMENTATION m{};CPU c{OS o;APPMODE a;};") ≡ Refused 6 12
+refused_text : checked_against written (bytes_of "OIL_VERSION=\"2.4\";IMPLEMENTATION m{};CPU c{OS o;APPMODE a;};") ≡ refusing 6 12
 unfolding rules
 refused_text = refl
 
-not_parsed : checked_against written (bytes_of "OIL_VERSION=\"2.5\";IMPLEMENTATION m{;CPU c{OS o;APPMODE a;};") ≡ Refused 4 35
+not_parsed : checked_against written (bytes_of "OIL_VERSION=\"2.5\";IMPLEMENTATION m{;CPU c{OS o;APPMODE a;};") ≡ refusing 4 35
 unfolding rules
 not_parsed = refl
 

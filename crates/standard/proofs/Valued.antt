@@ -3,31 +3,31 @@ use mathlib.Core.Path.{◌≡◌, refl, sym, ◌∙◌, ap}
 use mathlib.Core.List.{List}
 use mathlib.Core.Bool.{Bool, true, false}
 use mathlib.Core.Option.{Option, none, some}
-use Prim.Native.Nat.{ℕ, ◌+◌, ◌*◌, ◌≤◌, ◌<◌}
-use lib.ListN.{length, get_or}
+use Prim.Native.Nat.{ℕ, ◌+◌, ◌*◌}
+use lib.ListN.{get_or}
 use lib.Dec.{eqb}
-use borrow.Author.Tests.{eq-eqb, ne_eqb, eqb-true, eqb-false}
+use borrow.Author.Tests.{ne_eqb, eqb-true, eqb-false}
 use Rattle.grammar.proofs.Uniqueness.{none≢some}
 use Rattle.token.specs.Find.{pick}
 use Rattle.token.specs.Words.{same}
 use Rattle.token.specs.Tokens.{part_of}
 use Rattle.token.proofs.Codes.{same_equal}
-use Rattle.rows.specs.declared.Found.{Found}
-use Rattle.rows.specs.declared.Found.TheVariants.{At, Nothing}
+use Rattle.rows.specs.Found.{Found}
+use Rattle.std.specs.Prelude.{Some, None}
 use Rattle.rows.specs.Search.{find_from, find_named, is_named, has_key}
-use Rattle.rows.proofs.Searches.{find_stop, find_more, find_end, found_first}
+use Rattle.rows.proofs.Searches.{found_first}
 use Rattle.meaning.specs.Syntax.{Word, Values, no_value, value}
 use Rattle.meaning.specs.Words.{alike}
 use Rattle.meaning.specs.Scopes.{Under, find_value}
 use Rattle.scopes.specs.Promises.{place_found, FindsWord, FindsTruth, FindsEnumerator}
 use Rattle.scopes.proofs.Descents.{nth_in, entry_facts, found_value, value_word}
 use Rattle.scopes.proofs.Taking.{truth_one, truth_two, truth_none, finds_enumerator, word_truth, word_nothing, word_none, word_some}
-use Rattle.standard.specs.Naming.{is_choice, find_choice, truth_named, FindsValue}
+use Rattle.standard.specs.Naming.{is_named_under, is_choice, find_choice, truth_named, FindsValue}
 use Rattle.standard.proofs.Truths.{both_right}
 
 unfoldable pub choice_word : List ℕ → Found → ℕ
-choice_word e (At i) = get_or e (i * 3 + 1) 0
-choice_word e Nothing = 0
+choice_word e (Some i) = get_or e (i * 3 + 1) 0
+choice_word e None = 0
 
 -- the place of the value word of the attribute of row j that has the bytes b; 0 for none
 unfoldable pub word_named : List ℕ → List ℕ → List ℕ → (m j : ℕ) → List ℕ → ℕ
@@ -65,8 +65,8 @@ choice_finds s d e m j at len = finds_enumerator s d e m j at len (get_or d (j *
 
 choice_word_finds : (s d e : List ℕ) (m j at len : ℕ) → get_or d (j * 19 + 12) 0 ≡ 41 → (z : Found) → FindsEnumerator s d e m j at len z → FindsWord s d e m j at len (choice_word e z)
 unfolding choice_word
-choice_word_finds s d e m j at len k (At i) g = word_some s d e m j at len (get_or d (j * 19 + 12) 0) refl k (At i) g i _ refl refl
-choice_word_finds s d e m j at len k Nothing g = word_none s d e m j at len (get_or d (j * 19 + 12) 0) refl k Nothing g refl
+choice_word_finds s d e m j at len k (Some i) g = word_some s d e m j at len (get_or d (j * 19 + 12) 0) refl k (Some i) g i _ refl refl
+choice_word_finds s d e m j at len k None g = word_none s d e m j at len (get_or d (j * 19 + 12) 0) refl k None g refl
 
 pub word_finds : (s d e : List ℕ) (m j at len : ℕ) → FindsWord s d e m j at len (word_named s d e m j (part_of s at len))
 unfolding word_named
@@ -108,8 +108,8 @@ unfolding find_choice choice_word
 choice_somewhere s e m key b = by (find_from (λ j. is_choice s e key j b) m 0) refl
   where
     by : (z : Found) → find_from (λ j. is_choice s e key j b) m 0 ≡ z → Somewhere s b (choice_word e z)
-    by (At i) h = choice_part s e key i b (found_first (λ j. is_choice s e key j b) m 0 i h).holds
-    by Nothing h = nowhere refl
+    by (Some i) h = choice_part s e key i b (found_first (λ j. is_choice s e key j b) m 0 i h).holds
+    by None h = nowhere refl
 
 word_somewhere : (s d e : List ℕ) (m j : ℕ) (b : List ℕ) → Somewhere s b (word_named s d e m j b)
 unfolding word_named
@@ -151,26 +151,10 @@ finds_value s d e m j b r z f x t st hd he row l rch q = by (find_value x.values
 
 -- The tests of the code ----------------------------------------------------------------------------------------------------------------------
 
-pub other_list : (s e : List ℕ) (key i : ℕ) (b : List ℕ) → (get_or e (i * 3 + 0) 0 ≡ key → ⊥) → is_choice s e key i b ≡ false
-unfolding is_choice has_key
-other_list s e key i b h = rw (ne_eqb (get_or e (i * 3 + 0) 0) key h)
-
-pub its_list : (s e : List ℕ) (key i : ℕ) (b : List ℕ) (p n : ℕ) → get_or e (i * 3 + 0) 0 ≡ key → p ≡ get_or e (i * 3 + 1) 0 → n ≡ get_or e (i * 3 + 2) 0
-    → same (part_of s p n) b ≡ is_choice s e key i b
-unfolding is_choice has_key
-its_list s e key i b p n h k g = rw (h, k, g, eq-eqb key key refl)
-
-pub choice_stop : (s e : List ℕ) (n key : ℕ) (b : List ℕ) (i : ℕ) → i < n → is_choice s e key i b ≡ true → find_choice s e n key b i ≡ At i
-unfolding find_choice
-choice_stop s e n key b i h k = find_stop (λ j. is_choice s e key j b) n i h k
-
-pub choice_more : (s e : List ℕ) (n key : ℕ) (b : List ℕ) (i : ℕ) → i < n → is_choice s e key i b ≡ false → find_choice s e n key b i ≡ find_choice s e n key b (i + 1)
-unfolding find_choice
-choice_more s e n key b i h k = find_more (λ j. is_choice s e key j b) n i h k
-
-pub choice_end : (s e : List ℕ) (n key : ℕ) (b : List ℕ) (i : ℕ) → n ≤ i → find_choice s e n key b i ≡ Nothing
-unfolding find_choice
-choice_end s e n key b i h = find_end (λ j. is_choice s e key j b) n i h
+pub of_choices : (s e : List ℕ) (n key : ℕ) (b : List ℕ)
+    → find_from (λ i. is_named_under s e (record { width = 3; under = 0; name = 1; length = 2 }) key i b) n 0 ≡ find_choice s e n key b 0
+unfolding is_named_under is_choice find_choice
+of_choices s e n key b = refl
 
 -- The answers of truth_named, by the parts p and q of the two words.
 pub true_named : (s d : List ℕ) (j : ℕ) (b : List ℕ) (a n : ℕ) → a ≡ get_or d (j * 19 + 14) 0 → n ≡ get_or d (j * 19 + 15) 0 → same (part_of s a n) b ≡ true → a ≡ truth_named s d j b
@@ -196,11 +180,11 @@ pub of_enum : (s d e : List ℕ) (m j : ℕ) (b : List ℕ) (c key : ℕ) → c 
 unfolding word_named
 of_enum s d e m j b c key h k g z q = rw (sym h, k, q, g)
 
-pub word_at : (e : List ℕ) (z : Found) (i r : ℕ) → z ≡ At i → r ≡ get_or e (i * 3 + 1) 0 → r ≡ choice_word e z
+pub word_at : (e : List ℕ) (z : Found) (i r : ℕ) → z ≡ Some i → r ≡ get_or e (i * 3 + 1) 0 → r ≡ choice_word e z
 unfolding choice_word
 word_at e z i r g h = h ∙ sym (ap (choice_word e) g)
 
-pub no_word : (e : List ℕ) (z : Found) → z ≡ Nothing → 0 ≡ choice_word e z
+pub no_word : (e : List ℕ) (z : Found) → z ≡ None → 0 ≡ choice_word e z
 unfolding choice_word
 no_word e z g = sym (ap (choice_word e) g)
 

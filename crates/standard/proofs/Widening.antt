@@ -100,7 +100,7 @@ module _ (g rs ws s d e : List ℕ) (m i j code first end key : ℕ) (q₁ : cod
         sym (wider_as a.wanted.definition.bounds x.definition.bounds a.wanted.values x.values w
         ∙ ap (λ b. both b (not (has_list x.values))) (ri.listed ∙ ap not (eq-eqb (get_or rs (i * 14 + 12) 0) (get_or rs (i * 14 + 13) 0) (sym q₂ ∙ z ∙ q₃))))
 
-    a_list : code ≡ 40 → (first ≡ end → ⊥) → (r : Bool) → r ≡ eqb key 0 → Wider g rs ws s d e m i j r
+    pub a_list : code ≡ 40 → (first ≡ end → ⊥) → (r : Bool) → r ≡ eqb key 0 → Wider g rs ws s d e m i j r
     unfolding wider
     a_list c z r h f x a st hd he row l rc ri tc =
         let w = boolean_coded a.wanted.definition.type (sym (q₁ ∙ ri.type) ∙ c) in
@@ -112,12 +112,6 @@ module _ (g rs ws s d e : List ℕ) (m i j code first end key : ℕ) (q₁ : cod
         twice : (b : Bool) → not (not b) ≡ b
         twice true = refl
         twice false = refl
-
-    pub list_missing : code ≡ 40 → (first ≡ end → ⊥) → key ≡ 0 → Wider g rs ws s d e m i j true
-    list_missing c z y f x a st hd he row l rc ri tc = a_list c z true (sym (eq-eqb key 0 y)) f x a st hd he row l rc ri tc
-
-    pub list_given : code ≡ 40 → (first ≡ end → ⊥) → (key ≡ 0 → ⊥) → Wider g rs ws s d e m i j false
-    list_given c z y f x a st hd he row l rc ri tc = a_list c z false (sym (ne_eqb key 0 y)) f x a st hd he row l rc ri tc
 
     module _ (n₂ : code ≡ 40 → ⊥) (u : ℕ) (q₅ : u ≡ get_or rs (i * 14 + 11) 0) where
       pub unrestricted : u ≡ 0 → Wider g rs ws s d e m i j false

@@ -3,7 +3,7 @@ use Rattle.std.specs.Prelude.{List, Bool, not, ℕ, ◌+◌, ◌*◌, get_or}
 use Rattle.token.specs.Find.{both}
 use Rattle.token.specs.Words.{same}
 use Rattle.token.specs.Tokens.{part_of}
-use Rattle.rows.specs.declared.Found.{Found}
+use Rattle.rows.specs.Found.{Found}
 use Rattle.rows.specs.Search.{has_key, find_from, is_found}
 
 -- The first of the words of the text g, from row a on, below z, that has the bytes b.

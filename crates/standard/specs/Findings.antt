@@ -1,10 +1,9 @@
 -- What is known of a text whose kept rows are looked at, and the finding of one standard attribute. No part of the public contract. Assumes nothing.
-use Rattle.std.specs.Prelude.{◌≡◌, List, [], ◌∷◌, Bool, true, not, ℕ, ◌+◌, ◌*◌, ◌≤◌, ◌<◌, length, get_or, eqb, ltb, leb}
+use Rattle.std.specs.Prelude.{◌≡◌, List, [], ◌∷◌, Bool, true, not, ℕ, ◌+◌, ◌*◌, ◌≤◌, ◌<◌, length, get_or, eqb, Option as Maybe, Some, None}
 use Rattle.std.proofs.Math.Option.{Option, none, some}
 use Rattle.token.specs.Find.{pick, bit, is_there}
 use Rattle.token.specs.Tokens.{part_of}
 use Rattle.grammar.specs.Grammar.{Kind, Integer}
-use Rattle.rows.specs.declared.Fault.{Fault}
 use Rattle.meaning.specs.Syntax.{Word, Bounds, Definition, Values, Defined, integer, File}
 use Rattle.meaning.specs.Kinds.{kind_number}
 use Rattle.meaning.specs.Cells.{type_code}
@@ -12,7 +11,7 @@ use Rattle.meaning.specs.Scopes.{find_value}
 use Rattle.layout.specs.Kept.{spec_entries, spec_choices, kept_definitions, kept_enumerators}
 use Rattle.scopes.specs.Situations.{Situation, ScopeAt, Nth, RowOf, Reached}
 use Rattle.scopes.specs.Given.{Places}
-use Rattle.standard.specs.Asking.{Step, Asked, asked, Scope, scope_of, along, only_where, has_default, has_list, within, wider, differs, Finding, finding, findings, foremost}
+use Rattle.standard.specs.Asking.{Step, Asked, asked, Scope, scope_of, along, only_where, has_default, has_list, within, wider, differs, Finding, finding, findings, not_behind, foremost}
 use Rattle.standard.specs.Section.{standard}
 use Rattle.standard.specs.Choices.{is_word}
 use Rattle.standard.specs.Spans.{within_one_two}
@@ -106,32 +105,33 @@ Differs g rs ws s d e m i j r =
     (f : File) (x : Defined) (a : Asked) → Situation s f → d ≡ kept_definitions f → e ≡ kept_enumerators f → RowOf f j x → j < 513
     → ((vs : Values) → Reached f m vs) → RowIs g rs ws i a → r ≡ differs a.wanted x
 
--- A finding as a struct; the number 0 for none.
-unfoldable pub fault_told : List Finding → Fault
-fault_told [] = record { number = 0; place = 0 }
-fault_told (x ∷ l) = record { number = x.number; place = x.place }
+-- The struct of a finding, and the finding of a struct.
+abbrev pub told_as : Finding → Told
+told_as x = record { place = x.place; number = x.number; attribute = x.attribute }
+
+abbrev pub finding_as : Told → Finding
+finding_as t = record { place = t.place; number = t.number; attribute = t.attribute }
+
+-- Of the first of a list.
+unfoldable pub first_told : List Finding → Maybe Told
+first_told [] = None
+first_told (x ∷ l) = Some (told_as x)
 
 -- What is found of the attribute of row i.
-abbrev pub Finds : (g rs ws s d e : List ℕ) → Known → ℕ → Fault → Type 0
-Finds g rs ws s d e x i r = (f : File) (a : Asked) → Knows s d e x f → RowIs g rs ws i a → r ≡ fault_told (finding f a)
+abbrev pub Finds : (g rs ws s d e : List ℕ) → Known → ℕ → Maybe Told → Type 0
+Finds g rs ws s d e x i r = (f : File) (a : Asked) → Knows s d e x f → RowIs g rs ws i a → r ≡ first_told (finding f a)
 
 -- All attributes ------------------------------------------------------------------------------------------------------------------------------
 
-unfoldable pub as_told : Option Finding → Told
-as_told none = record { number = 0; place = 0; attribute = 0 }
-as_told (some x) = record { number = x.number; place = x.place; attribute = x.attribute }
+unfoldable pub as_told : Option Finding → Maybe Told
+as_told none = None
+as_told (some x) = Some (told_as x)
 
--- What is found of the attribute i, x, before what is told of those after it.
-unfoldable pub sooner : Fault → ℕ → Told → Told
-sooner x i b =
-    let a : Told = record { number = x.number; place = x.place; attribute = i } in
-    pick (eqb x.number 0) b
-    (pick (eqb b.number 0) a
-    (pick (ltb x.place b.place) a
-    (pick (ltb b.place x.place) b
-    (pick (ltb x.number b.number) a
-    (pick (ltb b.number x.number) b
-    (pick (leb i b.attribute) a b))))))
+-- What is found of one attribute, before what is told of those after it.
+abbrev pub sooner : Maybe Told → Maybe Told → Maybe Told
+sooner None b = b
+sooner (Some x) None = Some x
+sooner (Some x) (Some y) = Some (pick (not_behind (finding_as x) (finding_as y)) x y)
 
-abbrev pub TellsForemost : (g rs ws s d e : List ℕ) → Known → Told → Type 0
+abbrev pub TellsForemost : (g rs ws s d e : List ℕ) → Known → Maybe Told → Type 0
 TellsForemost g rs ws s d e x r = (f : File) → Knows s d e x f → RowsAre g rs ws → r ≡ as_told (foremost (findings standard f))

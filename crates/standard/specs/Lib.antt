@@ -1,6 +1,7 @@
 -- The standard attributes, and the question whether an implementation defines them. Assumes nothing.
 pub mod Asking
 pub mod Section
+pub mod Answered
 pub mod Checking
 pub mod Conforming
 pub mod Naming

@@ -4,16 +4,17 @@ use Rattle.token.specs.Find.{pick, both}
 use Rattle.token.specs.Words.{same}
 use Rattle.token.specs.Tokens.{part_of}
 use Rattle.rows.specs.Search.{has_key, find_from}
-use Rattle.rows.specs.declared.Found.{Found}
+use Rattle.rows.specs.Found.{Found}
 use Rattle.meaning.specs.Syntax.{Word, Definitions, Defined, File}
 use Rattle.meaning.specs.Scopes.{find_definition, find_value}
 use Rattle.layout.specs.Kept.{spec_entries, kept_definitions, kept_enumerators}
 use Rattle.scopes.specs.Situations.{Situation, ScopeAt, RowOf, Reached}
 use Rattle.scopes.specs.Promises.{row_found, place_found}
+use Rattle.standard.specs.declared.naming.Columns.{Columns}
 
--- row i stands under the word at key, and its name has the bytes b
-unfoldable pub is_attribute : List ℕ → List ℕ → (key i : ℕ) → List ℕ → Bool
-is_attribute s d key i b = both (has_key d (i * 19) 0 key) (same (part_of s (get_or d (i * 19 + 2) 0) (get_or d (i * 19 + 3) 0)) b)
+-- row i of a table stands under the word at key, and its name has the bytes b
+unfoldable pub is_named_under : List ℕ → List ℕ → Columns → (key i : ℕ) → List ℕ → Bool
+is_named_under s t c key i b = both (has_key t (i * c.width) c.under key) (same (part_of s (get_or t (i * c.width + c.name) 0) (get_or t (i * c.width + c.length) 0)) b)
 
 -- The row of the definition with a name of the bytes b in the scope of the word at key.
 abbrev pub FindsAttribute : List ℕ → List ℕ → (n key : ℕ) → List ℕ → Found → Type 0

@@ -15,8 +15,8 @@ use Rattle.standard.specs.Asking.{Scope, Finding}
 use Rattle.standard.specs.Section.{standard}
 use Rattle.standard.specs.Checking.{checked}
 use Rattle.standard.specs.Conforming.{Asks, Agrees, Conforms, NotBehind}
-use Rattle.standard.specs.declared.Checked.{Checked}
-use Rattle.standard.specs.declared.Checked.TheVariants as c
+use Rattle.standard.specs.Answered.{Checked, all_right, wrong_at}
+use Rattle.rows.specs.Refusing.{refusing}
 
 -- What is wrong with the file f, by the standard: an attribute that is asked for is absent or differs.
 pub data Wrong (f : File) : Finding → Type 0 where
@@ -29,18 +29,18 @@ pub data Wrong (f : File) : Finding → Type 0 where
 
 -- The answer, where f is the syntax of an accepted text.
 pub data Verdict (f : File) : Checked → Type 0 where
-  nothing_wrong : Conforms standard f → Verdict f c.NothingWrong
+  nothing_wrong : Conforms standard f → Verdict f all_right
   -- "Leftmost place, then smaller number, then the order of names in section 5.2; tell too its number, from 0, among these in that order."
-  wrong : (x : Finding) → Wrong f x → ((y : Finding) → Wrong f y → NotBehind x y) → Verdict f (c.Wrong x.number x.place x.attribute)
+  wrong : (x : Finding) → Wrong f x → ((y : Finding) → Wrong f y → NotBehind x y) → Verdict f (wrong_at x.number x.place x.attribute)
 
 -- For the text s; r is what is returned.
 pub data ChecksByRules (s : List ℕ) (r : Checked) : Type 0 where
   -- "another gives its refusal"
-  refuses : (n q : ℕ) → TheAnswer s (refused n q) → r ≡ c.Refused n q → ChecksByRules s r
+  refuses : (n q : ℕ) → TheAnswer s (refused n q) → r ≡ refusing n q → ChecksByRules s r
   -- "a question over an accepted text"
   judges : (t : Tables) → TheAnswer s (accepted t) → Derivation (tokens s) → ((d : Derivation (tokens s)) → Verdict (syntax s d.tree) r) → ChecksByRules s r
 
 -- Theorem: nothing is wrong exactly if every standard attribute that is asked for is there and agrees. Of every accepted text, by any derivation.
 -- proofs/ByRules has `nothing_exactly`.
 abbrev pub NothingExactly : Type 0
-NothingExactly = (s : List ℕ) (t : Tables) → Answers s (accepted t) → (d : Derivation (tokens s)) → (checked s ≡ c.NothingWrong) ↔ Conforms standard (syntax s d.tree)
+NothingExactly = (s : List ℕ) (t : Tables) → Answers s (accepted t) → (d : Derivation (tokens s)) → (checked s ≡ all_right) ↔ Conforms standard (syntax s d.tree)

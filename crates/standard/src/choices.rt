@@ -9,14 +9,12 @@ use rows::{cells, parts};
 fn is_word(section: &[u8], words: &[usize], first: usize, end: usize, name: &[u8]) -> bool
     ensures { result ≡ is_word section.now words.now first end name.now }
 {
-    let mut k = first;
-    while k < end {
+    for k in first..end {
         let at = cells::cell_of(words, 2, k, 0);
         let len = cells::cell_of(words, 2, k, 1);
         if parts::same_bytes(token::part(section, at, len), name) {
             return true;
         }
-        k += 1;
     }
     false
 }
@@ -55,12 +53,10 @@ pub fn has_extra(
 ) -> bool
     ensures { result ≡ has_extra text.now e.now section.now words.now first end key m }
 {
-    let mut i = 0;
-    while i < m {
+    for i in 0..m {
         if is_extra(text, e, section, words, first, end, key, i) {
             return true;
         }
-        i += 1;
     }
     false
 }

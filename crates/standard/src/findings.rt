@@ -4,7 +4,7 @@ ghost use Rattle.standard.specs.Findings.{OwnsKind, Owns, Wider, Differs, Finds,
 
 use super::{Known, Owner, Told, attribute, choices, naming, shapes, spans};
 use layout::{definition, word_codes};
-use rows::{Fault, Found, cells, faults, refusals};
+use rows::{cells, refusals};
 
 // The scope of the kind with the number.
 fn owner_of_kind(x: Known, kind: usize) -> Owner
@@ -18,10 +18,7 @@ fn owner_of_kind(x: Known, kind: usize) -> Owner
             key: 0,
         };
     }
-    Owner {
-        word: key,
-        key: key,
-    }
+    Owner { word: key, key }
 }
 
 // The scope in which the attribute of row i is asked for; the word 0 where it is not.
@@ -85,10 +82,7 @@ fn wider(
         if first == end {
             return false;
         }
-        if key == 0 {
-            return true;
-        }
-        return false;
+        return key == 0;
     }
     if cells::cell_of(rows, attribute::WIDTH, i, attribute::RANGE) == 0 {
         return false;
@@ -129,7 +123,7 @@ fn differs(
     wider(section, rows, words, text, d, e, m, i, j)
 }
 
-// What is found of the attribute of row i; the number 0 for nothing.
+// What is found of the attribute of row i.
 fn finding(
     section: &[u8],
     rows: &[usize],
@@ -139,67 +133,47 @@ fn finding(
     e: &[usize],
     x: Known,
     i: usize,
-) -> Fault
+) -> Option<Told>
     ensures { Finds section.now rows.now words.now text.now d.now e.now x i result }
 {
     let u = owner_of(section, rows, text, d, e, x, i);
     if u.word == 0 {
-        return faults::NONE;
+        return None;
     }
     let at = cells::cell_of(rows, attribute::WIDTH, i, attribute::NAME);
     let len = cells::cell_of(rows, attribute::WIDTH, i, attribute::NAME_LENGTH);
-    let Found::At(j) = naming::find_attribute(
+    let Some(j) = naming::find_attribute(
         text,
         d,
         x.definitions,
         u.key,
         token::part(section, at, len),
     ) else {
-        return Fault {
-            number: refusals::LACKS_STANDARD,
+        return Some(Told {
             place: u.word,
-        };
+            number: refusals::LACKS_STANDARD,
+            attribute: i,
+        });
     };
     if differs(section, rows, words, text, d, e, x.enumerators, i, j) {
-        return Fault {
-            number: refusals::OTHER_STANDARD,
+        return Some(Told {
             place: cells::cell_of(d, definition::WIDTH, j, definition::NAME),
-        };
+            number: refusals::OTHER_STANDARD,
+            attribute: i,
+        });
     }
-    faults::NONE
+    None
 }
 
-// What is found of the attribute i, before what is told of those after it.
-fn sooner(a: Fault, i: usize, b: Told) -> Told
-    ensures { result ≡ sooner a i b }
+// What is found of one attribute, before what is told of those after it.
+fn sooner(a: Option<Told>, b: Option<Told>) -> Option<Told>
+    ensures { result ≡ sooner a b }
 {
-    let n = Told {
-        number: a.number,
-        place: a.place,
-        attribute: i,
-    };
-    if a.number == 0 {
-        return b;
+    match (a, b) {
+        (Some(x), Some(y)) => Some(x.min(y)),
+        (Some(x), None) => Some(x),
+        (None, b) => b,
     }
-    if b.number == 0 {
-        return n;
-    }
-    if a.place < b.place {
-        return n;
-    }
-    if b.place < a.place {
-        return b;
-    }
-    if a.number < b.number {
-        return n;
-    }
-    if b.number < a.number {
-        return b;
-    }
-    if i <= b.attribute {
-        return n;
-    }
-    b
 }
 
 // The foremost of what is found of all attributes.
@@ -211,19 +185,12 @@ pub fn foremost(
     d: &[usize],
     e: &[usize],
     x: Known,
-) -> Told
+) -> Option<Told>
     ensures { TellsForemost section.now rows.now words.now text.now d.now e.now x result }
 {
-    let mut i: usize = attribute::COUNT;
-    let mut best = Told {
-        number: 0,
-        place: 0,
-        attribute: 0,
-    };
-    while 0 < i {
-        i -= 1;
-        let a = finding(section, rows, words, text, d, e, x, i);
-        best = sooner(a, i, best);
+    let mut best = None;
+    for i in (0..attribute::COUNT).rev() {
+        best = sooner(finding(section, rows, words, text, d, e, x, i), best);
     }
     best
 }

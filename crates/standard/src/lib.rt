@@ -8,7 +8,7 @@ ghost use Rattle.standard.specs.Rules.{ChecksByRules};
 
 use layout::{definition, enumerator, object, part, statement, value};
 use reading::Answer;
-use rows::counts;
+use rows::{Fault, counts};
 use scopes::numbers;
 
 pub mod attribute;
@@ -19,12 +19,12 @@ mod naming;
 mod shapes;
 mod spans;
 
-// The answer: the text's refusal, with its number and place; nothing is wrong; or 25 or 26, its place, and the number of the standard attribute.
-#[derive(Clone, Copy)]
-pub enum Checked {
-    Refused(u8, usize),
-    NothingWrong,
-    Wrong(u8, usize, usize),
+// What is wrong: 25 or 26, its place, and the number of the standard attribute.
+#[derive(Clone, Copy, Debug, PartialEq, Eq)]
+pub struct Wrong {
+    pub number: u8,
+    pub place: usize,
+    pub attribute: usize,
 }
 
 // How many definitions and enumerators an implementation has, and the places of its name and of its kinds' words (0: none).
@@ -44,11 +44,11 @@ pub struct Owner {
     pub key: usize,
 }
 
-// 25 or 26, or 0 for nothing, its place, and the number of the standard attribute.
-#[derive(Clone, Copy)]
+// What is told of an attribute: its place, 25 or 26, and the number of the standard attribute. The order is that in which one is told before another.
+#[derive(Clone, Copy, PartialEq, Eq, PartialOrd, Ord)]
 pub struct Told {
-    pub number: u8,
     pub place: usize,
+    pub number: u8,
     pub attribute: usize,
 }
 
@@ -79,18 +79,22 @@ fn name_at(text: &[u8], implementation: usize) -> usize
     name.at
 }
 
-// What is told, as the answer.
-fn verdict(t: Told) -> Checked
-    ensures { result ≡ verdict_of t }
+// What is told, if anything is.
+fn verdict(told: Option<Told>) -> Option<Wrong>
+    ensures { result ≡ verdict_of told }
 {
-    if t.number == 0 {
-        return Checked::NothingWrong;
+    match told {
+        Some(t) => Some(Wrong {
+            number: t.number,
+            place: t.place,
+            attribute: t.attribute,
+        }),
+        None => None,
     }
-    Checked::Wrong(t.number, t.place, t.attribute)
 }
 
 // The answer for an accepted text: its rows are kept once more, in tables of its own.
-fn check_accepted(text: &[u8]) -> Checked
+fn check_accepted(text: &[u8]) -> Option<Wrong>
     ensures { ChecksAccepted text.now result }
 {
     let mut d = [0; definition::KEPT];
@@ -103,8 +107,8 @@ fn check_accepted(text: &[u8]) -> Checked
     let x = Known {
         definitions: w.definitions,
         enumerators: w.enumerators,
-        name: name,
-        places: places,
+        name,
+        places,
     };
     let section = constants::section_text();
     let rows = constants::section_rows();
@@ -112,14 +116,14 @@ fn check_accepted(text: &[u8]) -> Checked
     verdict(findings::foremost(&section, &rows, &words, text, &d, &e, x))
 }
 
-// Whether the implementation of a text defines the standard attributes as section 5.2 of 000 does. For any bytes.
-pub fn check_standard(text: &[u8]) -> Checked
+// Whether the implementation of a text defines the standard attributes as section 5.2 of 000 does: what is wrong, or the text's refusal. For any bytes.
+pub fn check_standard(text: &[u8]) -> Result<Option<Wrong>, Fault>
     ensures checks { result ≡ checked text.now }
     ensures rules { ChecksByRules text.now result }
 {
     let answer = answer_of(text);
     match answer {
-        Answer::Refused(number, place) => Checked::Refused(number, place),
-        Answer::Accepted => check_accepted(text),
+        Answer::Refused(number, place) => Err(Fault { number, place }),
+        Answer::Accepted => Ok(check_accepted(text)),
     }
 }

@@ -27,6 +27,7 @@ fn all_listed(text: &[u8], from: usize) -> bool
     ensures { AllListed text.now from result }
 {
     let mut at = from;
+    // A `while`: the next number stands where the item before it ends, so no range counts it.
     while at < text.len() {
         let s = numbers::item_at(text, at);
         if s.sign != b',' {

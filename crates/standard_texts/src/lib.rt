@@ -4,24 +4,21 @@
 
 ghost use Rattle.standard_texts.specs.Checking.{ChecksExpanded, ChecksTexts};
 
-use lent_texts::{Expanded, Lent};
-use standard::Checked;
+use lent_texts::Expanded;
+use rows::Fault;
+use standard::Wrong;
 
 // The answer to the expanded text, with its place in the lent texts.
-fn check_expanded(text: &[u8], origins: &[usize], e: Expanded) -> Checked
+fn check_expanded(text: &[u8], origins: &[usize], e: Expanded) -> Result<Option<Wrong>, Fault>
     ensures { ChecksExpanded text.now origins.now e result }
 {
-    let answer = standard::check_standard(text);
-    match answer {
-        Checked::Refused(number, place) => {
-            let r = lent_texts::refused(origins, e, number, place);
-            Checked::Refused(r.number, r.place)
-        }
-        Checked::NothingWrong => Checked::NothingWrong,
-        Checked::Wrong(number, place, attribute) => {
-            let p = placing::place_in(origins, e.length, e.main, place);
-            Checked::Wrong(number, p, attribute)
-        }
+    match standard::check_standard(text) {
+        Ok(None) => Ok(None),
+        Ok(Some(w)) => Ok(Some(Wrong {
+            place: placing::place_in(origins, e.length, e.main, w.place),
+            ..w
+        })),
+        Err(f) => Err(lent_texts::refused(origins, e, f)),
     }
 }
 
@@ -33,13 +30,10 @@ pub fn check_standard(
     lengths: &[usize],
     expanded: &mut [u8],
     origins: &mut [usize],
-) -> Checked
+) -> Result<Option<Wrong>, Fault>
     ensures { ChecksTexts buffer.now lengths.now expanded.old origins.old
         expanded.new origins.new result }
 {
-    let lent = lent_texts::expand(buffer, lengths, expanded, origins);
-    match lent {
-        Lent::Stopped(number) => Checked::Refused(number, 0),
-        Lent::Text(e) => check_expanded(&expanded[..e.length], origins, e),
-    }
+    let e = lent_texts::expand(buffer, lengths, expanded, origins)?;
+    check_expanded(&expanded[..e.length], origins, e)
 }

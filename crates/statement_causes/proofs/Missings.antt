@@ -1,22 +1,20 @@
 -- What is missing: the laws over the rows of the definitions. Assumes nothing.
 use mathlib.Core.Path.{◌≡◌, refl, sym, ◌∙◌, ap, subst}
-use mathlib.Core.List.{List, [], ◌∷◌, ◌++◌}
+use mathlib.Core.List.{List, []}
 use mathlib.Core.Bool.{Bool, true, false, not, false≢true}
 use mathlib.Core.Option.{Option, none, some}
 use Prim.Native.Nat.{ℕ, suc, ◌+◌, ◌*◌, ◌≤◌, ◌<◌}
 use native.Mathlib.Omega.{arith}
 use native.Mathlib.Decide.{ℕ_discrete, dec_lt}
-use lib.ListN.{length, get_or}
+use lib.ListN.{get_or}
 use lib.Dec.{eqb}
 use borrow.Author.Tests.{eq-eqb, ne_eqb, eqb-true}
 use Rattle.token.specs.Find.{pick, both, bit}
 use Rattle.token.proofs.Bytes.{both_false}
-use Rattle.rows.specs.declared.Found.{Found}
-use Rattle.rows.specs.declared.Found.TheVariants.{At, Nothing}
+use Rattle.std.specs.Prelude.{Some, None}
 use Rattle.rows.specs.Search.{has_key, find_row}
 use Rattle.rows.proofs.Searches.{found_first, nothing_none}
-use Rattle.meaning.specs.Merging.{then}
-use Rattle.meaning.specs.Syntax.{Word, Definitions, no_more, define, Defined, Statements, done, state, Object, File, statements_in}
+use Rattle.meaning.specs.Syntax.{Word, Definitions, no_more, define, Defined, Statements, done, state, File, statements_in}
 use Rattle.meaning.specs.Words.{among}
 use Rattle.meaning.specs.Kinds.{kind_number}
 use Rattle.meaning.specs.Scopes.{Under, find_value, definitions_or, under, names, find_definition, of_kind}
@@ -26,7 +24,7 @@ use Rattle.layout.specs.Kept.{spec_entries, statement_count, kind_place}
 use Rattle.blocks.specs.Blocks.{BlockAt, IsStated, row_after}
 use Rattle.blocks.proofs.Ranges.{first_after, inside_at, in_then, back_at}
 use Rattle.scopes.specs.Situations.{HasDefinition, this_definition, later_definition, Stands, ScopeAt, no_scope, scope}
-use Rattle.scopes.specs.Given.{Given, Attribute, Below, Places}
+use Rattle.scopes.specs.Given.{Given, Attribute, Below}
 use Rattle.scopes.specs.Promises.{place_found, FindsWord}
 use Rattle.scopes.specs.declared.Sizes.{Sizes}
 use Rattle.scopes.proofs.Rooms.{nth_of}
@@ -34,11 +32,11 @@ use Rattle.scopes.proofs.Descents.{found_value, scope_under, scope_of_kind}
 use Rattle.lookups.proofs.Standings.{file_stands}
 use Rattle.lookups.proofs.Attributes.{AttributeRow, under_cell, stands_below, known, name_at, value_below, none_given, not_taken, nothing_at, kept_object}
 use Rattle.judging.specs.Promises.{needed, lack, HasRow}
-use Rattle.judging.proofs.Lacking.{has_lacks, none_lacks, Taking, taking}
+use Rattle.judging.proofs.Lacking.{none_lacks, taking}
 use Rattle.judging.proofs.Standings.{in_scope}
-use Rattle.statement_causes.specs.Sites.{Site, inner}
-use Rattle.statement_causes.specs.Tellings.{Missing, nothing, itself, by_default, Owner, owner_inside, MissingAt, no_owner, an_owner}
-use Rattle.statement_causes.specs.Promises.{FindsInner, SpotAt, SpotIs, no_spot, a_spot, single_place, RowMisses, MissesRow, MissesIn, Misses, MissesObject, MissesInside}
+use Rattle.statement_causes.specs.Sites.{inner}
+use Rattle.statement_causes.specs.Tellings.{Missing, nothing, itself, by_default, owner_inside, no_owner, an_owner}
+use Rattle.statement_causes.specs.Promises.{FindsInner, no_spot, a_spot, single_place, RowMisses, MissesRow, MissesIn, Misses, MissesObject, MissesInside}
 use Rattle.statement_causes.specs.declared.Spot.{Spot}
 
 -- No definition is one of none.
@@ -174,7 +172,7 @@ Over s d e st z key m v i =
     → (x : Defined) → HasDefinition ds x → x.definition.row < i → lack x (names ss) ≡ false
 
 -- The row found is not before, and one of the first n.
-module _ (d : List ℕ) (n key i j : ℕ) (g : find_row d 19 n 0 key i ≡ At j) where
+module _ (d : List ℕ) (n key i j : ℕ) (g : find_row d 19 n 0 key i ≡ Some j) where
   pub found_low : i ≤ j
   unfolding find_row
   found_low = (found_first (λ k. has_key d (k * 19) 0 key) n i j g).low
@@ -219,11 +217,11 @@ module _ (s d e st : List ℕ) (z : Sizes) (n key m v : ℕ) where
           absurd (no_key d x.definition.row key (g x.definition.row (omega (arith, r)) k) ((row {m = m} {v = v} c w b h refl).under_place ∙ p))
 
   -- There is none left.
-  pub over_none : (i : ℕ) → (key ≡ 0 → ⊥) → find_row d 19 n 0 key i ≡ Nothing → Over s d e st z key m v i → Misses s d e st z n key m v 0
+  pub over_none : (i : ℕ) → (key ≡ 0 → ⊥) → find_row d 19 n 0 key i ≡ None → Over s d e st z key m v i → Misses s d e st z n key m v 0
   unfolding find_row
   over_none i k₀ g a = over_all k₀ (over_on i n (nothing_none (λ k. has_key d (k * 19) 0 key) n i g) a)
 
-  module _ (i j r : ℕ) (g : find_row d 19 n 0 key i ≡ At j) (w : MissesRow s d e st z j m v r) where
+  module _ (i j r : ℕ) (g : find_row d 19 n 0 key i ≡ Some j) (w : MissesRow s d e st z j m v r) where
     pub over_more : r ≡ 0 → Over s d e st z key m v i → Over s d e st z key m v (j + 1)
     unfolding find_row
     over_more q a o f u ds ss c t p b x h k = go (ℕ_discrete x.definition.row j)

@@ -9,9 +9,9 @@ use lib.ListN.{length, length-append, get_or}
 use lib.Dec.{eqb}
 use borrow.Author.Tests.{eq-eqb, ne_eqb}
 use Rattle.token.specs.Find.{either}
-use Rattle.rows.specs.declared.Found.TheVariants.{At, Nothing}
+use Rattle.std.specs.Prelude.{Some, None}
 use Rattle.meaning.specs.Merging.{then}
-use Rattle.meaning.specs.Syntax.{Definitions, Defined, Statement, Statements, done, state, Object, File, statements_in}
+use Rattle.meaning.specs.Syntax.{Definitions, Statement, Statements, done, state, Object, File, statements_in}
 use Rattle.meaning.specs.Kinds.{kind_number}
 use Rattle.meaning.specs.Scopes.{find_definition, of_kind}
 use Rattle.meaning.proofs.Entries.{then_assoc}
@@ -26,7 +26,7 @@ use Rattle.scopes.proofs.Descents.{scope_of_kind}
 use Rattle.lookups.proofs.Attributes.{kept_object}
 use Rattle.judging.proofs.Judgements.{row_nothing, row_found_as, looked_up, stated_as, value_scope}
 use Rattle.statement_causes.specs.Sites.{Site, touches, inner, or_site, site_if, site_in, site_of}
-use Rattle.statement_causes.specs.Promises.{touched, FindsInner, SpotAt, SpotIs, no_spot, a_spot, Seeks, SeeksObject, SeeksAll}
+use Rattle.statement_causes.specs.Promises.{touched, FindsInner, SpotIs, no_spot, a_spot, Seeks, SeeksObject, SeeksAll}
 use Rattle.statement_causes.specs.declared.Spot.{Spot}
 
 -- One statement -------------------------------------------------------------------------------------------------------------------------------
@@ -54,17 +54,17 @@ touched_is p b =
     (ap₂ either (ap (λ (i : ℕ). eqb i p) (first_cell b 2 (omega arith))) (ap (λ (i : ℕ). eqb i p) (first_cell b 5 (omega arith))))
 
 module _ (s d e st : List ℕ) (z : Sizes) (key k name size : ℕ) (pn : name ≡ get_or st (k * 7 + 0) 0) (ps : size ≡ get_or st (k * 7 + 1) 0) where
-  pub inner_none : FindsDefinition s d z.definitions key name size Nothing → FindsInner s d e st z key k 0
+  pub inner_none : FindsDefinition s d z.definitions key name size None → FindsInner s d e st z key k 0
   unfolding inner
   inner_none g o f ds x inside rest v c w b =
-      let h = row_nothing (find_definition ds x.name) (looked_up Nothing pn ps c w b g) in
+      let h = row_nothing (find_definition ds x.name) (looked_up None pn ps c w b g) in
       subst (λ t. ScopeAt f 0 (inner t x)) (sym h) no_scope
 
-  pub inner_some : (j at len u : ℕ) → FindsDefinition s d z.definitions key name size (At j) → at ≡ get_or st (k * 7 + 2) 0 → len ≡ get_or st (k * 7 + 3) 0
+  pub inner_some : (j at len u : ℕ) → FindsDefinition s d z.definitions key name size (Some j) → at ≡ get_or st (k * 7 + 2) 0 → len ≡ get_or st (k * 7 + 3) 0
       → FindsWord s d e z.enumerators j at len u → FindsInner s d e st z key k u
   unfolding inner stated_as
   inner_some j at len u g pa pl i o f ds x inside rest v c w b =
-      let y = row_found_as (find_definition ds x.name) j (looked_up (At j) pn ps c w b g) in
+      let y = row_found_as (find_definition ds x.name) j (looked_up (Some j) pn ps c w b g) in
       let a = stated_as j y.defined c w b y.is y.row in
       subst (λ t. ScopeAt f u (inner t x)) (sym y.is) (value_scope a at len u pa pl i)
 

@@ -18,13 +18,14 @@ use Rattle.grammar.specs.Stage.{passes, Answers as StageAnswers}
 use Rattle.grammar.specs.Factored.{paper}
 use Rattle.grammar.specs.Machine.{run}
 use Rattle.grammar.specs.Readers.{stream_of}
-use Rattle.grammar.specs.declared.Answer.{Answer as GrammarAnswer}
-use Rattle.grammar.specs.declared.Answer.TheVariants.{Passes as GrammarPasses, NoToken, NotAdmitted, TooDeep}
-use Rattle.rows.specs.declared.Found.{Found}
-use Rattle.rows.specs.declared.Found.TheVariants.{At, Nothing}
+use Rattle.grammar.specs.Answered.{Answer as GrammarAnswer}
+use Rattle.std.specs.Prelude.{Ok, Err}
+use Rattle.grammar.specs.declared.Refusal.TheVariants.{NoToken, NotAdmitted, TooDeep}
+use Rattle.rows.specs.Found.{Found}
+use Rattle.std.specs.Prelude.{Some, None}
 use Rattle.rows.specs.Search.{find_row, find_from, has_key}
-use Rattle.rows.specs.Order.{is_fault}
-use Rattle.rows.proofs.Orders.{is_one, is_none}
+use Rattle.std.specs.Prelude.{Some, None}
+use Rattle.rows.specs.declared.Fault.{Fault}
 use Rattle.rows.proofs.Walks.{first as first_row, any_of}
 use Rattle.rows.proofs.Searches.{first_is, first_nothing as no_row}
 use Rattle.meaning.specs.Merging.{then}
@@ -41,8 +42,7 @@ use Rattle.meaning.proofs.Found.{run_answers, parse_derived}
 use Rattle.layout.specs.Kept.{Entry, definition_cells, statement_cells}
 use Rattle.blocks.specs.Blocks.{BlockAt, first_stated, FindsStated}
 use Rattle.blocks.proofs.Ranges.{first_cell, first_name, rest_at, back_at}
-use Rattle.scopes.specs.Situations.{ScopeAt}
-use Rattle.scopes.specs.Given.{Given, Attribute as AttributeAt, Places}
+use Rattle.scopes.specs.Given.{Given, Attribute as AttributeAt}
 use Rattle.scopes.specs.Promises.{FindsDefinition}
 use Rattle.scopes.specs.declared.Sizes.{Sizes}
 use Rattle.scopes.proofs.Rooms.{definition_cell}
@@ -50,11 +50,11 @@ use Rattle.scopes.proofs.Finding.{seek_all}
 use Rattle.lookups.specs.Names.{Names}
 use Rattle.lookups.proofs.Attributes.{known, kept_object}
 use Rattle.judging.proofs.Judgements.{row_nothing, row_found_as, looked_up, stated_as}
-use Rattle.reading.specs.Decisions.{Merged, Passed, Decides, stage_fault, or_else}
+use Rattle.reading.specs.Decisions.{Merged, Decides, stage_fault, or_else}
 use Rattle.reading.specs.declared.Decision.{Decision}
 use Rattle.reading.proofs.Settling.{given, places}
 use Rattle.reading.proofs.Derived.{Derived}
-use Rattle.statement_causes.specs.Sites.{Site, site_of, site_at, attribute_of, first_place, first_of}
+use Rattle.statement_causes.specs.Sites.{Site, site_at, attribute_of, first_place, first_of}
 use Rattle.statement_causes.specs.Tellings.{Defines, AttributeIs, no_attribute, an_attribute, ScopeIs, no_site, a_site, object_at, owner_by, owner_at, MissingAt, an_owner, ToldOf, Tells}
 use Rattle.statement_causes.specs.Promises.{Looked, SpotAt, SpotIs, no_spot, a_spot, SeeksAll, RowTold, TellsAttribute, TellsFirst, MissesObject, MissesInside, MissesAt, TellsRows, TellsKept}
 use Rattle.statement_causes.specs.declared.Spot.{Spot}
@@ -94,26 +94,26 @@ module _ (s d e st : List ℕ) (z : Sizes) (t : Spot) (r : Attribute) where
   attribute_none h l o f (some q) c (a_spot y) = absurd (false≢true (sym h ∙ y.found))
 
   module _ (h : t.found ≡ true) (name size : ℕ) (pn : name ≡ get_or st (t.row * 7 + 0) 0) (ps : size ≡ get_or st (t.row * 7 + 1) 0) where
-    pub attribute_undefined : FindsDefinition s d z.definitions t.key name size Nothing → r.found ≡ false → TellsAttribute s d e st z t r
+    pub attribute_undefined : FindsDefinition s d z.definitions t.key name size None → r.found ≡ false → TellsAttribute s d e st z t r
     unfolding attribute_of
     attribute_undefined g l o f none c (no_spot y) = no_attribute l
     attribute_undefined g l o f (some q) c (a_spot y) =
-        let i = row_nothing (find_definition q.scope q.statement.name) (looked_up Nothing pn ps c y.scope (own_block y) g) in
+        let i = row_nothing (find_definition q.scope q.statement.name) (looked_up None pn ps c y.scope (own_block y) g) in
         subst (AttributeIs r) (sym i) (no_attribute l)
 
-    pub attribute_defined : (j : ℕ) → FindsDefinition s d z.definitions t.key name size (At j) → RowTold d j r → TellsAttribute s d e st z t r
+    pub attribute_defined : (j : ℕ) → FindsDefinition s d z.definitions t.key name size (Some j) → RowTold d j r → TellsAttribute s d e st z t r
     unfolding attribute_of stated_as
     attribute_defined j g l o f none c (no_spot y) = absurd (false≢true (sym y ∙ h))
     attribute_defined j g l o f (some q) c (a_spot y) =
-        let i = row_found_as (find_definition q.scope q.statement.name) j (looked_up (At j) pn ps c y.scope (own_block y) g) in
+        let i = row_found_as (find_definition q.scope q.statement.name) j (looked_up (Some j) pn ps c y.scope (own_block y) g) in
         let a = stated_as j i.defined c y.scope (own_block y) i.is i.row in
         subst (AttributeIs r) (sym i.is) (an_attribute (defines c a.attribute l))
 
 -- The first statement -------------------------------------------------------------------------------------------------------------------------
 
 unfoldable place_of : List ℕ → Found → ℕ
-place_of st (At k) = get_or st (k * 7 + 0) 0
-place_of st Nothing = 0
+place_of st (Some k) = get_or st (k * 7 + 0) 0
+place_of st None = 0
 
 place_by : {s st : List ℕ} (ss : Statements) (m e : ℕ) (t : Word) → BlockAt s st m e ss → place_of st (first_stated ss m t) ≡ first_place t ss
 unfolding place_of first_stated first_place statement_cells
@@ -121,7 +121,7 @@ place_by done m e t b = refl
 place_by {s} {st} (state x inside rest) m e t b = by (alike t x.name) (place_by rest (suc m + statements_in inside) e t (rest_at b))
   where
     by : (c : Bool) → place_of st (first_stated rest (suc m + statements_in inside) t) ≡ first_place t rest
-        → place_of st (pick c (At m) (first_stated rest (suc m + statements_in inside) t)) ≡ pick c x.name.place (first_place t rest)
+        → place_of st (pick c (Some m) (first_stated rest (suc m + statements_in inside) t)) ≡ pick c x.name.place (first_place t rest)
     by true e = first_cell b 0 (omega arith)
     by false e = e
 
@@ -142,12 +142,12 @@ module _ (s st : List ℕ) (t : Spot) where
         (first_name b).bytes ∙ sym (ap₂ (part_of s) (pn ∙ first_cell b 0 (omega arith)) (ps ∙ first_cell b 1 (omega arith))) in
         ap (place_of st) (g ss q.statement.name y.block n) ∙ place_by ss t.from t.end q.statement.name y.block
 
-    pub first_nothing : r ≡ Nothing → TellsFirst s st t 0
+    pub first_nothing : r ≡ None → TellsFirst s st t 0
     unfolding place_of
     first_nothing i f none (no_spot y) = absurd (false≢true (sym y ∙ h))
     first_nothing i f (some q) (a_spot y) = sym (ap (place_of st) i) ∙ first_by f q y
 
-    pub first_found : (k p : ℕ) → r ≡ At k → p ≡ get_or st (k * 7 + 0) 0 → TellsFirst s st t p
+    pub first_found : (k p : ℕ) → r ≡ Some k → p ≡ get_or st (k * 7 + 0) 0 → TellsFirst s st t p
     unfolding place_of
     first_found k p i l f none (no_spot y) = absurd (false≢true (sym y ∙ h))
     first_found k p i l f (some q) (a_spot y) = l ∙ sym (ap (place_of st) i) ∙ first_by f q y
@@ -170,14 +170,14 @@ object_hit p (y ∷ a) x b n h =
     ap (λ (c : Bool). pick c (some y) (object_at p (a ++ (x ∷ b)))) (neither_first (named_at p y) (any_of (named_at p) a) n)
     ∙ object_hit p a x b (neither_second (named_at p y) (any_of (named_at p) a) n) h
 
-row_at : {s d e o st : List ℕ} {z : Sizes} {f : File} (p : ℕ) → Given s d e o st z f → find_row o 10 z.objects 3 p 0 ≡ first_row (named_at p) At Nothing 0 f.objects
+row_at : {s d e o st : List ℕ} {z : Sizes} {f : File} (p : ℕ) → Given s d e o st z f → find_row o 10 z.objects 3 p 0 ≡ first_row (named_at p) Some None 0 f.objects
 unfolding find_row has_key named_at
 row_at {o = o} {f = f} p c =
     ap (λ (m : ℕ). find_from (λ j. has_key o (j * 10) 3 p) m 0) c.tables.objects
     ∙ seek_all (named_at p) (λ j. has_key o (j * 10) 3 p) f.objects (λ a x b g. ap (λ (i : ℕ). eqb i p) (kept_object a x b c g refl).name)
 
 module _ (s d e o st : List ℕ) (z : Sizes) (ps : List ℕ) (t : Spot) (p r : ℕ) where
-  pub owner_object : (i : ℕ) → find_row o 10 z.objects 3 p 0 ≡ At i → MissesObject s d e o st z ps i r → MissesAt s d e o st z ps t p r
+  pub owner_object : (i : ℕ) → find_row o 10 z.objects 3 p 0 ≡ Some i → MissesObject s d e o st z ps i r → MissesAt s d e o st z ps t p r
   unfolding owner_at owner_by
   owner_object i g w f c pl q =
       let y = first_is (named_at p) 0 f.objects i (sym (row_at p c) ∙ g) in
@@ -186,7 +186,7 @@ module _ (s d e o st : List ℕ) (z : Sizes) (ps : List ℕ) (t : Spot) (p r : �
       let l : length y.front ≡ i = omega (arith, pl₁) in
       subst (λ x. MissingAt r (owner_by f x (site_at f p))) (sym h) (an_owner (w f y.front y.row y.rest c pl y.whole l))
 
-  pub owner_value : find_row o 10 z.objects 3 p 0 ≡ Nothing → MissesInside s d e st z t r → MissesAt s d e o st z ps t p r
+  pub owner_value : find_row o 10 z.objects 3 p 0 ≡ None → MissesInside s d e st z t r → MissesAt s d e o st z ps t p r
   unfolding owner_at owner_by
   owner_value g w f c pl q =
       let h = object_none p f.objects (no_row (named_at p) 0 f.objects (sym (row_at p c) ∙ g)) in
@@ -235,10 +235,10 @@ module _ (s : List ℕ) (f : File) (e : parse s ≡ parsed f) where
 
   by_stage : length s ≤ 65535 → (a : GrammarAnswer) → StageAnswers s a → after a ≡ parsed f → Derived s
   unfolding after_grammar
-  by_stage h GrammarPasses (passes v q d) i = record { covered = record { short = h; divides = v; shallow = q }; derivation = d }
-  by_stage h (NoToken p) t i = not_parsed_here i
-  by_stage h (NotAdmitted p) t i = not_parsed_here i
-  by_stage h (TooDeep p) t i = not_parsed_here i
+  by_stage h (Ok _) (passes v q d) i = record { covered = record { short = h; divides = v; shallow = q }; derivation = d }
+  by_stage h (Err (NoToken p)) t i = not_parsed_here i
+  by_stage h (Err (NotAdmitted p)) t i = not_parsed_here i
+  by_stage h (Err (TooDeep p)) t i = not_parsed_here i
 
   by_length : (b : Bool) → ltb 65535 (length s) ≡ b → choose b (λ _. not_parsed 2 0) (λ _. after (run 0 (paper file ▸ ∎) (stream_of (lex_from s 0)))) ≡ parsed f → Derived s
   unfolding choose
@@ -260,14 +260,14 @@ pub tells_long : (s : List ℕ) (p : ℕ) (r : Told) → 65535 < length s → Te
 tells_long s p r h l f e a b = absurd (omega (arith, h, l))
 
 module _ {s : List ℕ} {y : Merged} {w : Decision} (p : ℕ) (r : Told) (h : Decides s (replicate 9747 0) (replicate 3075 0) (replicate 2570 0) (replicate 14343 0) y w) where
-  pub tells_refused : is_fault w.fault ≡ true → Tells s p r
-  tells_refused i l f e a b =
+  pub tells_refused : (x : Fault) → w.fault ≡ Some x → Tells s p r
+  tells_refused x i l f e a b =
       let d = h.decided l refl refl refl refl in
       let t = parsed_derived s f e in
-      absurd (d.stopped (is_one w.fault i) t.covered t.derivation (ap stage_fault (sym (own_syntax s f e t.derivation)) ∙ no_stage_fault s f e a b))
+      absurd (d.stopped x i t.covered t.derivation (ap stage_fault (sym (own_syntax s f e t.derivation)) ∙ no_stage_fault s f e a b))
 
-  pub tells_passed : is_fault w.fault ≡ false → TellsKept s y w p r → Tells s p r
+  pub tells_passed : w.fault ≡ None → TellsKept s y w p r → Tells s p r
   tells_passed i k l f e a b =
-      let t = (h.decided l refl refl refl refl).passes (is_none w.fault i) in
+      let t = (h.decided l refl refl refl refl).passes i in
       let g : f ≡ t.file = own_syntax s f e t.kept.situation.derivation ∙ sym t.kept.situation.syntax_of in
       subst (λ (q : File). ToldOf q p r) (sym g) (k t)

@@ -1,5 +1,5 @@
 -- What is told of a place, by the rules. Assumes nothing.
-use Rattle.std.specs.Prelude.{◌≡◌, List, [], ◌∷◌, Bool, true, false, ℕ, ◌≤◌, length, eqb}
+use Rattle.std.specs.Prelude.{◌≡◌, List, [], ◌∷◌, true, false, ℕ, ◌≤◌, length, eqb}
 use Rattle.std.proofs.Math.Option.{Option, none, some}
 use Rattle.token.specs.Find.{pick, bit}
 use Rattle.meaning.specs.Syntax.{Word, Definitions, Defined, Object, File}

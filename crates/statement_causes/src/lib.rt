@@ -10,7 +10,7 @@ use blocks::after;
 use layout::{definition, enumerator, object, statement, word_codes};
 use lookups::names;
 use reading::Decision;
-use rows::{Found, cells, counts, faults, finding};
+use rows::{cells, counts, faults, finding};
 use scopes::Sizes;
 
 // Where a statement stands in the rows: the place of the word of its scope, the rows of its block, its own row.
@@ -77,7 +77,7 @@ fn scope_inside(
 {
     let name = cells::cell_of(st, statement::WIDTH, k, statement::NAME);
     let size = cells::cell_of(st, statement::WIDTH, k, statement::NAME_LENGTH);
-    let Found::At(j) = names::find_definition(text, d, names, z.definitions, key, name, size) else {
+    let Some(j) = names::find_definition(text, d, names, z.definitions, key, name, size) else {
         return 0;
     };
     let at = cells::cell_of(st, statement::WIDTH, k, statement::VALUE);
@@ -102,14 +102,15 @@ fn seek(
     ensures { Seeks text.now d.now e.now st.now z key from end place result }
 {
     let mut k = from;
+    // A `while`: the next statement of the block stands behind the braces of this one, so no range counts it.
     while k < end {
         if touches(st, k, place) {
             return Spot {
                 found: true,
-                key: key,
-                from: from,
+                key,
+                from,
                 row: k,
-                end: end,
+                end,
             };
         }
         let next = after(st, k, end);
@@ -167,13 +168,11 @@ fn seek_all(
     requires { Looked text.now d.now e.now z names.now }
     ensures { SeeksAll text.now d.now e.now o.now st.now z places.now place result }
 {
-    let mut i = 0;
-    while i < z.objects {
+    for i in 0..z.objects {
         let spot = seek_object(text, d, e, o, st, names, z, places, i, place);
         if spot.found {
             return spot;
         }
-        i += 1;
     }
     Spot {
         found: false,
@@ -230,8 +229,7 @@ fn attribute_of(
     }
     let name = cells::cell_of(st, statement::WIDTH, spot.row, statement::NAME);
     let size = cells::cell_of(st, statement::WIDTH, spot.row, statement::NAME_LENGTH);
-    let Found::At(j) = names::find_definition(text, d, names, z.definitions, spot.key, name, size)
-    else {
+    let Some(j) = names::find_definition(text, d, names, z.definitions, spot.key, name, size) else {
         return none;
     };
     attribute_row(d, j)
@@ -246,7 +244,7 @@ fn first_of(text: &[u8], st: &[usize], spot: Spot) -> usize
     }
     let name = cells::cell_of(st, statement::WIDTH, spot.row, statement::NAME);
     let size = cells::cell_of(st, statement::WIDTH, spot.row, statement::NAME_LENGTH);
-    let Found::At(k) = blocks::stated(text, st, spot.from, spot.end, name, size) else {
+    let Some(k) = blocks::stated(text, st, spot.from, spot.end, name, size) else {
         return 0;
     };
     cells::cell_of(st, statement::WIDTH, k, statement::NAME)
@@ -267,8 +265,8 @@ fn is_stated(text: &[u8], st: &[usize], from: usize, end: usize, at: usize, len:
     ensures { IsStated text.now st.now from end at len result }
 {
     match blocks::stated(text, st, from, end, at, len) {
-        Found::At(_) => true,
-        Found::Nothing => false,
+        Some(_) => true,
+        None => false,
     }
 }
 
@@ -326,9 +324,9 @@ fn missing(
         return 0;
     }
     let mut i = 0;
+    // A `while`: the next row is the next one under the word, so no range counts it.
     while i < n {
-        let Found::At(j) = finding::find_row(d, definition::WIDTH, n, definition::UNDER, key, i)
-        else {
+        let Some(j) = finding::find_row(d, definition::WIDTH, n, definition::UNDER, key, i) else {
             return 0;
         };
         let r = missing_of(text, d, e, st, names, z, j, from, end);
@@ -413,7 +411,7 @@ fn missing_at(
     requires { Looked text.now d.now e.now z names.now }
     ensures { MissesAt text.now d.now e.now o.now st.now z places.now spot place result }
 {
-    let Found::At(i) = finding::find_row(o, object::WIDTH, z.objects, object::NAME, place, 0) else {
+    let Some(i) = finding::find_row(o, object::WIDTH, z.objects, object::NAME, place, 0) else {
         return missing_inside(text, d, e, st, names, z, spot);
     };
     missing_object(text, d, e, o, st, names, z, places, i)
@@ -440,9 +438,9 @@ fn tell_rows(
     let missing = missing_at(text, d, e, o, st, names, z, &places, spot, place);
     Told {
         scope: spot.key,
-        attribute: attribute,
-        first: first,
-        missing: missing,
+        attribute,
+        first,
+        missing,
     }
 }
 
@@ -511,9 +509,8 @@ pub fn tell(text: &[u8], place: usize) -> Told
     let mut o = [0; object::KEPT];
     let mut s = [0; statement::KEPT];
     let r = reading::decide(text, &mut d, &mut e, &mut o, &mut s);
-    let f = r.fault;
-    if faults::is_fault(f) {
-        return nothing();
+    match r.fault {
+        Some(_) => nothing(),
+        None => tell_kept(text, &d, &e, &o, &s, r, place),
     }
-    tell_kept(text, &d, &e, &o, &s, r, place)
 }

@@ -3,7 +3,7 @@ use mathlib.Core.Path.{◌≡◌, ◌∙◌, ap}
 use mathlib.Core.List.{List, [], ◌∷◌}
 use lib.Seq.{sets}
 use Prim.Native.Nat.{ℕ}
-use Rattle.mending_texts.specs.declared.Mended.{Mended}
+use Rattle.mending_texts.specs.Answered.{Answer as Mended}
 use Rattle.testing.specs.Mendings.{mended_case, MendsSet}
 use Rattle.testing.specs.declared.mends.Case.{Case}
 

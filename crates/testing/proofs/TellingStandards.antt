@@ -4,7 +4,7 @@ use mathlib.Core.List.{List, [], ◌∷◌}
 use Prim.Native.Nat.{ℕ}
 use lib.Seq.{sets}
 use Rattle.standard.specs.Checking.{checked}
-use Rattle.standard.specs.declared.Checked.{Checked}
+use Rattle.standard.specs.Answered.{Checked}
 use Rattle.testing.specs.Standards.{told_case, StandardTold}
 use Rattle.testing.specs.declared.standards.Found.{Found}
 

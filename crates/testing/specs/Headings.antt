@@ -1,17 +1,16 @@
 -- What the tests see of a heading. Assumes nothing.
-use Rattle.std.specs.Prelude.{◌≡◌, List, [], ◌∷◌, ℕ}
+use Rattle.std.specs.Prelude.{◌≡◌, List, [], ◌∷◌, ℕ, Ok, Err}
 use Rattle.std.proofs.lemmas.List.Edits.{sets}
 use Rattle.heading.specs.Headings.{Heads}
-use Rattle.heading.specs.declared.Answer.{Answer}
-use Rattle.heading.specs.declared.Answer.TheVariants.{VersionAndName, Refused}
+use Rattle.heading.specs.Answered.{Answer}
 
 unfoldable pub number_of : Answer → ℕ
-number_of (VersionAndName p l q m) = 0
-number_of (Refused n p) = n
+number_of (Ok h) = 0
+number_of (Err r) = r.number
 
 unfoldable pub cells_of : Answer → List ℕ
-cells_of (VersionAndName p l q m) = p ∷ l ∷ q ∷ m ∷ []
-cells_of (Refused n p) = p ∷ []
+cells_of (Ok h) = h.version_at ∷ h.version_len ∷ h.name_at ∷ h.name_len ∷ []
+cells_of (Err r) = r.place ∷ []
 
 -- The answer is that of `heading`; the cells w become w', by its numbers.
 pub record HeadsTold (s w w' : List ℕ) (n : ℕ) : Type 0 where

@@ -1,15 +1,14 @@
 -- What the tests see of the call of Q-9. Assumes nothing.
-use Rattle.std.specs.Prelude.{◌≡◌, List, [], ◌∷◌, ℕ}
+use Rattle.std.specs.Prelude.{◌≡◌, List, [], ◌∷◌, ℕ, Ok, Err, Some, None}
 use Rattle.std.proofs.lemmas.List.Edits.{sets}
 use Rattle.standard.specs.Checking.{checked}
-use Rattle.standard.specs.declared.Checked.{Checked}
-use Rattle.standard.specs.declared.Checked.TheVariants.{Refused, NothingWrong, Wrong}
+use Rattle.standard.specs.Answered.{Checked}
 use Rattle.testing.specs.declared.standards.Found.{Found}
 
 unfoldable pub told_case : Checked → Found
-told_case (Refused n q) = record { number = 0; first = n; second = q; third = 0 }
-told_case NothingWrong = record { number = 1; first = 0; second = 0; third = 0 }
-told_case (Wrong n q a) = record { number = 2; first = n; second = q; third = a }
+told_case (Err r) = record { number = 0; first = r.number; second = r.place; third = 0 }
+told_case (Ok None) = record { number = 1; first = 0; second = 0; third = 0 }
+told_case (Ok (Some w)) = record { number = 2; first = w.number; second = w.place; third = w.attribute }
 
 -- The answer n is that of `check_standard`; the cells w become w'.
 pub record StandardTold (s w w' : List ℕ) (n : ℕ) : Type 0 where

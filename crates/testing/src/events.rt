@@ -5,7 +5,7 @@ ghost use Rattle.testing.specs.SetQuestions.{ChecksSet, PlansSet};
 ghost use Rattle.testing.specs.Masks.{checked_case, planned_case, ChecksTold, PlansTold};
 
 use masks::{Checked, Planned};
-use rows::cells;
+use rows::{Fault, cells};
 
 // An answer as numbers: which case it is, and the two numbers that it has, 0 where it has none.
 #[derive(Clone, Copy)]
@@ -15,67 +15,75 @@ struct Case {
     second: usize,
 }
 
-fn checked_case(answer: Checked) -> Case
+fn checked_case(answer: Result<Checked, Fault>) -> Case
     ensures { result ≡ checked_case answer }
 {
     match answer {
-        Checked::Refused(n, p) => Case {
+        Err(f) => Case {
             number: 0,
-            first: n as usize,
-            second: p,
+            first: f.number as usize,
+            second: f.place,
         },
-        Checked::NotPlannable => Case {
-            number: 1,
-            first: 0,
-            second: 0,
-        },
-        Checked::WrongLength => Case {
-            number: 2,
-            first: 0,
-            second: 0,
-        },
-        Checked::Breaks(i) => Case {
-            number: 3,
-            first: i,
-            second: 0,
-        },
-        Checked::Accepted => Case {
-            number: 4,
-            first: 0,
-            second: 0,
-        },
+        Ok(verdict) => {
+            match verdict {
+                Checked::NotPlannable => Case {
+                    number: 1,
+                    first: 0,
+                    second: 0,
+                },
+                Checked::WrongLength => Case {
+                    number: 2,
+                    first: 0,
+                    second: 0,
+                },
+                Checked::Breaks(i) => Case {
+                    number: 3,
+                    first: i,
+                    second: 0,
+                },
+                Checked::Accepted => Case {
+                    number: 4,
+                    first: 0,
+                    second: 0,
+                },
+            }
+        }
     }
 }
 
-fn planned_case(answer: Planned) -> Case
+fn planned_case(answer: Result<Planned, Fault>) -> Case
     ensures { result ≡ planned_case answer }
 {
     match answer {
-        Planned::Refused(n, p) => Case {
+        Err(f) => Case {
             number: 0,
-            first: n as usize,
-            second: p,
+            first: f.number as usize,
+            second: f.place,
         },
-        Planned::NotPlannable => Case {
-            number: 1,
-            first: 0,
-            second: 0,
-        },
-        Planned::WrongLength => Case {
-            number: 2,
-            first: 0,
-            second: 0,
-        },
-        Planned::Full(i) => Case {
-            number: 3,
-            first: i,
-            second: 0,
-        },
-        Planned::Made(n) => Case {
-            number: 4,
-            first: n,
-            second: 0,
-        },
+        Ok(verdict) => {
+            match verdict {
+                Planned::NotPlannable => Case {
+                    number: 1,
+                    first: 0,
+                    second: 0,
+                },
+                Planned::WrongLength => Case {
+                    number: 2,
+                    first: 0,
+                    second: 0,
+                },
+                Planned::Full(i) => Case {
+                    number: 3,
+                    first: i,
+                    second: 0,
+                },
+                Planned::Made(n) => Case {
+                    number: 4,
+                    first: n,
+                    second: 0,
+                },
+            }
+        }
     }
 }
 

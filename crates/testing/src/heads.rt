@@ -3,7 +3,6 @@ ghost use Rattle.heading_texts.specs.Headings.{HeadsTexts};
 ghost use Rattle.testing.specs.SetQuestions.{HeadsSet};
 ghost use Rattle.testing.specs.Headings.{HeadsTold};
 
-use heading::Answer;
 use rows::cells;
 
 // The version string and the implementation's name of a text. The number of the refusal, 0 where there is none; place and length of both, or the
@@ -13,15 +12,15 @@ pub extern "C" fn kaukslini_heading_cells(text: &[u8], told: &mut [usize]) -> u8
     ensures { HeadsTold text.now told.old told.new result }
 {
     match heading::heading(text) {
-        Answer::VersionAndName(at, len, name_at, name_len) => {
-            let parts = [at, len, name_at, name_len];
+        Ok(h) => {
+            let parts = [h.version_at, h.version_len, h.name_at, h.name_len];
             cells::put_cells(told, 0, &parts);
             0
         }
-        Answer::Refused(n, p) => {
-            let place = [p];
+        Err(f) => {
+            let place = [f.place];
             cells::put_cells(told, 0, &place);
-            n
+            f.number
         }
     }
 }
@@ -41,15 +40,15 @@ pub extern "C" fn kaukslini_heading_texts(
         told.old told.new result }
 {
     match heading_texts::heading(buffer, lengths, expanded, origins) {
-        Answer::VersionAndName(at, len, name_at, name_len) => {
-            let parts = [at, len, name_at, name_len];
+        Ok(h) => {
+            let parts = [h.version_at, h.version_len, h.name_at, h.name_len];
             cells::put_cells(told, 0, &parts);
             0
         }
-        Answer::Refused(n, p) => {
-            let place = [p];
+        Err(f) => {
+            let place = [f.place];
             cells::put_cells(told, 0, &place);
-            n
+            f.number
         }
     }
 }

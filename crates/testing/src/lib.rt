@@ -63,7 +63,7 @@ fn sign_of_sort(sort: Sort) -> bool
 pub extern "C" fn kaukslini_step_sort(text: &[u8], at: usize) -> u8
     ensures { result ≡ sort_of (step_at text.now at) }
 {
-    let cursor = Cursor { at: at };
+    let cursor = Cursor { at };
     match cursor.step(text) {
         Step::Found(t, _) => {
             let sort = t.sort;
@@ -79,7 +79,7 @@ pub extern "C" fn kaukslini_step_sort(text: &[u8], at: usize) -> u8
 pub extern "C" fn kaukslini_step_place(text: &[u8], at: usize) -> usize
     ensures { result ≡ place_of (step_at text.now at) }
 {
-    let cursor = Cursor { at: at };
+    let cursor = Cursor { at };
     match cursor.step(text) {
         Step::Found(t, _) => t.at,
         Step::Refused(p) => p,
@@ -92,7 +92,7 @@ pub extern "C" fn kaukslini_step_place(text: &[u8], at: usize) -> usize
 pub extern "C" fn kaukslini_step_next(text: &[u8], at: usize) -> usize
     ensures { result ≡ next_of (step_at text.now at) }
 {
-    let cursor = Cursor { at: at };
+    let cursor = Cursor { at };
     match cursor.step(text) {
         Step::Found(_, c) => c.at,
         Step::Refused(p) => p,
@@ -105,7 +105,7 @@ pub extern "C" fn kaukslini_step_next(text: &[u8], at: usize) -> usize
 pub extern "C" fn kaukslini_step_detail(text: &[u8], at: usize) -> u64
     ensures { result ≡ detail_of (step_at text.now at) }
 {
-    let cursor = Cursor { at: at };
+    let cursor = Cursor { at };
     match cursor.step(text) {
         Step::Found(t, _) => {
             let sort = t.sort;
@@ -121,7 +121,7 @@ pub extern "C" fn kaukslini_step_detail(text: &[u8], at: usize) -> u64
 pub extern "C" fn kaukslini_step_negative(text: &[u8], at: usize) -> bool
     ensures { result ≡ sign_of (step_at text.now at) }
 {
-    let cursor = Cursor { at: at };
+    let cursor = Cursor { at };
     match cursor.step(text) {
         Step::Found(t, _) => {
             let sort = t.sort;

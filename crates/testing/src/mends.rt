@@ -3,8 +3,8 @@ ghost use Rattle.std.specs.Prelude.{◌≡◌};
 ghost use Rattle.mending_texts.specs.Telling.{MendsTexts};
 ghost use Rattle.testing.specs.Mendings.{mended_case, MendsSet};
 
-use mending_texts::Mended;
-use rows::cells;
+use mending::Mended;
+use rows::{Fault, cells};
 
 // An answer as numbers: the refusal's number, 0 where there is none, and its place; the lengths of the mended text and of the lines.
 #[derive(Clone, Copy)]
@@ -15,21 +15,21 @@ struct Case {
     lines: usize,
 }
 
-fn mended_case(answer: Mended) -> Case
+fn mended_case(answer: Result<Mended, Fault>) -> Case
     ensures { result ≡ mended_case answer }
 {
     match answer {
-        Mended::Refused(n, p) => Case {
-            number: n,
-            place: p,
+        Err(f) => Case {
+            number: f.number,
+            place: f.place,
             text: 0,
             lines: 0,
         },
-        Mended::Done(n, m) => Case {
+        Ok(m) => Case {
             number: 0,
             place: 0,
-            text: n,
-            lines: m,
+            text: m.text,
+            lines: m.lines,
         },
     }
 }

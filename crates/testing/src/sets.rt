@@ -125,12 +125,12 @@ pub extern "C" fn kaukslini_write_texts(
         Answer::Accepted => Told {
             number: 0,
             place: 0,
-            length: length,
+            length,
         },
         Answer::Refused(n, p) => Told {
             number: n as usize,
             place: p,
-            length: length,
+            length,
         },
     }
 }

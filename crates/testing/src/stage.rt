@@ -2,7 +2,7 @@
 ghost use Rattle.std.specs.Prelude.{◌≡◌};
 ghost use Rattle.testing.specs.Stages.{Numbered, Placed};
 
-use grammar::Answer;
+use grammar::Refusal;
 
 // The number of the refusal, 0 where there is none.
 #[unsafe(no_mangle)]
@@ -10,10 +10,10 @@ pub extern "C" fn kaukslini_stage_number(text: &[u8]) -> u8
     ensures { Numbered text.now result }
 {
     match walk::stage(text) {
-        Answer::Passes => 0,
-        Answer::NoToken(_) => 3,
-        Answer::NotAdmitted(_) => 4,
-        Answer::TooDeep(_) => 5,
+        Ok(()) => 0,
+        Err(Refusal::NoToken(_)) => 3,
+        Err(Refusal::NotAdmitted(_)) => 4,
+        Err(Refusal::TooDeep(_)) => 5,
     }
 }
 
@@ -23,9 +23,9 @@ pub extern "C" fn kaukslini_stage_place(text: &[u8]) -> usize
     ensures { Placed text.now result }
 {
     match walk::stage(text) {
-        Answer::Passes => 0,
-        Answer::NoToken(p) => p,
-        Answer::NotAdmitted(p) => p,
-        Answer::TooDeep(p) => p,
+        Ok(()) => 0,
+        Err(Refusal::NoToken(p)) => p,
+        Err(Refusal::NotAdmitted(p)) => p,
+        Err(Refusal::TooDeep(p)) => p,
     }
 }

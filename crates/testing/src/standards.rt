@@ -4,8 +4,8 @@ ghost use Rattle.standard_texts.specs.Checking.{ChecksTexts};
 ghost use Rattle.testing.specs.SetQuestions.{StandardSet};
 ghost use Rattle.testing.specs.Standards.{told_case, StandardTold};
 
-use rows::cells;
-use standard::Checked;
+use rows::{Fault, cells};
+use standard::Wrong;
 
 // An answer as numbers: which case it is, and the three numbers that it has, 0 where it has none.
 #[derive(Clone, Copy)]
@@ -16,28 +16,32 @@ struct Found {
     third: usize,
 }
 
-fn told_case(answer: Checked) -> Found
+fn told_case(answer: Result<Option<Wrong>, Fault>) -> Found
     ensures { result ≡ told_case answer }
 {
     match answer {
-        Checked::Refused(n, p) => Found {
+        Err(f) => Found {
             number: 0,
-            first: n as usize,
-            second: p,
+            first: f.number as usize,
+            second: f.place,
             third: 0,
         },
-        Checked::NothingWrong => Found {
-            number: 1,
-            first: 0,
-            second: 0,
-            third: 0,
-        },
-        Checked::Wrong(n, p, a) => Found {
-            number: 2,
-            first: n as usize,
-            second: p,
-            third: a,
-        },
+        Ok(told) => {
+            match told {
+                None => Found {
+                    number: 1,
+                    first: 0,
+                    second: 0,
+                    third: 0,
+                },
+                Some(w) => Found {
+                    number: 2,
+                    first: w.number as usize,
+                    second: w.place,
+                    third: w.attribute,
+                },
+            }
+        }
     }
 }
 

@@ -1,19 +1,17 @@
 -- The laws of bytes: which case of a test of a byte holds, what the number of its class says of it, and where runs and searches end.
 -- Assumes nothing.
 use Prim.Native.Nat.{ℕ, zero, suc, ◌+◌, ◌≤◌, ◌<◌}
-use mathlib.Core.List.{List, [], ◌∷◌}
-use mathlib.Core.Logic.{inl, inr}
-use native.Mathlib.Omega.{arith}
-use types.Run.{OneOf}
+use mathlib.Core.List.{List}
 use lib.ListN.{length, get_or-eq_default}
-use mathlib.Core.Path.{◌≡◌, refl, sym, ◌∙◌, ap, subst}
+use mathlib.Core.Path.{◌≡◌, refl, sym, ◌∙◌, ap}
 use mathlib.Core.Bool.{Bool, true, false, not, false≢true}
 use native.Mathlib.Decide.{ℕ_discrete}
-use lib.Dec.{T, T_not, leb, ltb, eqb, eqb→eq, eqb_refl}
-use borrow.Author.Tests.{lt-ltb, le-ltb, le-leb, lt-leb, eq-eqb, ne_eqb, ltb-true}
+use lib.Dec.{T, ltb, eqb}
+use borrow.Author.Tests.{lt-ltb, le-ltb, eq-eqb, ne_eqb, ltb-true}
 use Rattle.token.specs.Find.{pick, both, either, byte}
-use Rattle.token.specs.Bytes.{Class, letter, digit, blank, plus_minus, quote, punctuator, dot, slash, other, class_of, class_code, is_letter, is_digit, is_blank, is_plus_minus, is_punctuator, is_word_byte, pair_at, word_end, find_byte}
-use Rattle.token.proofs.Tables.{up_to, below}
+use Rattle.token.specs.declared.scan.Class.{Class}
+use Rattle.token.specs.declared.scan.Class.TheVariants.{Letter as letter, Digit as digit, Blank as blank, Sign as plus_minus, Quote as quote, Punctuator as punctuator, Dot as dot, Slash as slash, Other as other}
+use Rattle.token.specs.Bytes.{class_of, is_letter, is_digit, is_blank, is_plus_minus, is_punctuator, is_word_byte, pair_at, word_end, find_byte}
 use Rattle.token.proofs.Find.{find_low, find_high}
 
 -- ---- two tests together
@@ -65,122 +63,17 @@ eqb_sym a b = by (ℕ_discrete a b)
     by (yes e) = eq-eqb a b e ∙ sym (eq-eqb b a (sym e))
     by (no f) = ne_eqb a b f ∙ sym (ne_eqb b a (λ e. f (sym e)))
 
--- ---- the tests of a byte, one after the other
-
-module _ (b : ℕ) where
-  pub letter_small : 97 ≤ b → leb b 122 ≡ is_letter b
-  letter_small h =
-      rw (le-leb 65 b (omega arith), lt-leb b 90 (omega arith), le-leb 97 b h, ne_eqb b 95 (λ e. omega arith)) (sym (either_false (leb b 122)))
-
-  pub letter_capital : 65 ≤ b → b < 97 → (b ≡ 95 → ⊥) → leb b 90 ≡ is_letter b
-  letter_capital h l f = rw (le-leb 65 b h, lt-leb 97 b l, ne_eqb b 95 f) (sym (either_false (leb b 90)))
-
-  pub letter_low : b < 65 → false ≡ is_letter b
-  letter_low h = rw (lt-leb 65 b h, lt-leb 97 b (omega arith), ne_eqb b 95 (λ e. omega arith))
-
-  pub digit_high : 48 ≤ b → leb b 57 ≡ is_digit b
-  digit_high h = rw (le-leb 48 b h)
-
-  pub digit_low : b < 48 → false ≡ is_digit b
-  digit_low h = rw (lt-leb 48 b h)
-
-  pub word_letter : is_letter b ≡ true → true ≡ is_word_byte b
-  unfolding is_word_byte
-  word_letter e = rw e
-
-  pub word_digit : is_letter b ≡ false → is_digit b ≡ is_word_byte b
-  unfolding is_word_byte
-  word_digit e = rw e
-
-  pub blank_high : 9 ≤ b → (b ≡ 32 → ⊥) → leb b 13 ≡ is_blank b
-  blank_high h f = rw (le-leb 9 b h, ne_eqb b 32 f) (sym (either_false (leb b 13)))
-
-  pub blank_low : b < 9 → false ≡ is_blank b
-  blank_low h = rw (lt-leb 9 b h, ne_eqb b 32 (λ e. omega arith))
-
-  pub punctuator_brackets : OneOf (91 ∷ 93 ∷ 123 ∷ 125 ∷ []) b → true ≡ is_punctuator b
-  punctuator_brackets (inl e) = sym (ap is_punctuator e)
-  punctuator_brackets (inr (inl e)) = sym (ap is_punctuator e)
-  punctuator_brackets (inr (inr (inl e))) = sym (ap is_punctuator e)
-  punctuator_brackets (inr (inr (inr e))) = sym (ap is_punctuator e)
-
-  pub punctuator_stop : OneOf (59 ∷ 61 ∷ []) b → true ≡ is_punctuator b
-  punctuator_stop (inl e) = sym (ap is_punctuator e)
-  punctuator_stop (inr e) = sym (ap is_punctuator e)
-
-  pub punctuator_comma : OneOf (44 ∷ 58 ∷ []) b → true ≡ is_punctuator b
-  punctuator_comma (inl e) = sym (ap is_punctuator e)
-  punctuator_comma (inr e) = sym (ap is_punctuator e)
-
-  pub punctuator_none : (OneOf (91 ∷ 93 ∷ 123 ∷ 125 ∷ []) b → ⊥) → (OneOf (59 ∷ 61 ∷ []) b → ⊥) → (OneOf (44 ∷ 58 ∷ []) b → ⊥) →
-      false ≡ is_punctuator b
-  punctuator_none f g h =
-      rw (
-        ne_eqb b 123 (λ e. f (inr (inr (inl e)))),
-        ne_eqb b 125 (λ e. f (inr (inr (inr e)))),
-        ne_eqb b 91 (λ e. f (inl e)),
-        ne_eqb b 93 (λ e. f (inr (inl e))),
-        ne_eqb b 61 (λ e. g (inr e)),
-        ne_eqb b 59 (λ e. g (inl e)),
-        ne_eqb b 58 (λ e. h (inr e)),
-        ne_eqb b 44 (λ e. h (inl e)),
-      )
-
--- where a test passes that only bytes of one class pass, which antt computes
-class_when : (t : ℕ → Bool) (v : ℕ) → T (up_to (λ b. either (not (t b)) (eqb (class_code (class_of b)) v)) 256) → (b : ℕ) → b < 256 →
-    t b ≡ true → v ≡ class_code (class_of b)
-class_when t v all b h e =
-    sym (eqb→eq _ v (subst (λ (a : Bool). T (either (not a) (eqb (class_code (class_of b)) v))) e (below (λ n. either (not (t n)) (eqb (class_code (class_of n)) v)) 256 all b h)))
-
--- where a test fails that all bytes of a class pass
-class_unless : (t : ℕ → Bool) (v : ℕ) → T (up_to (λ b. either (t b) (not (eqb (class_code (class_of b)) v))) 256) → (b : ℕ) → b < 256 →
-    t b ≡ false → class_code (class_of b) ≡ v → ⊥
-class_unless t v all b h e f =
-    T_not (eqb (class_code (class_of b)) v)
-    (subst (λ (a : Bool). T (either a (not (eqb (class_code (class_of b)) v)))) e
-    (below (λ n. either (t n) (not (eqb (class_code (class_of n)) v))) 256 all b h))
-    (subst (λ (n : ℕ). T (eqb (class_code (class_of b)) n)) f (eqb_refl (class_code (class_of b))))
-
-module _ (b : ℕ) where
-  pub class_no_blank : b < 256 → is_blank b ≡ false → class_code (class_of b) ≡ 2 → ⊥
-  unfolding class_of
-  class_no_blank = class_unless is_blank 2 tt b
-
-  pub class_slash : b ≡ 47 → 7 ≡ class_code (class_of b)
-  unfolding class_of
-  class_slash e = sym (ap (λ (n : ℕ). class_code (class_of n)) e)
-
-  pub class_no_slash : b < 256 → (b ≡ 47 → ⊥) → class_code (class_of b) ≡ 7 → ⊥
-  unfolding class_of
-  class_no_slash h f = class_unless (λ n. eqb n 47) 7 tt b h (ne_eqb b 47 f)
-
-  pub class_letter : b < 256 → is_letter b ≡ true → 0 ≡ class_code (class_of b)
-  unfolding class_of
-  class_letter = class_when is_letter 0 tt b
-
-  pub class_digit : b < 256 → is_digit b ≡ true → 1 ≡ class_code (class_of b)
-  unfolding class_of
-  class_digit = class_when is_digit 1 tt b
-
-  pub class_blank : b < 256 → is_blank b ≡ true → 2 ≡ class_code (class_of b)
-  unfolding class_of
-  class_blank = class_when is_blank 2 tt b
-
-  pub class_punctuator : b < 256 → is_punctuator b ≡ true → 5 ≡ class_code (class_of b)
-  unfolding class_of
-  class_punctuator = class_when is_punctuator 5 tt b
-
-  pub class_sign : OneOf (43 ∷ 45 ∷ []) b → 3 ≡ class_code (class_of b)
-  unfolding class_of
-  class_sign (inl e) = sym (ap (λ (n : ℕ). class_code (class_of n)) e)
-  class_sign (inr e) = sym (ap (λ (n : ℕ). class_code (class_of n)) e)
-
-  pub class_other : is_letter b ≡ false → is_digit b ≡ false → is_blank b ≡ false → is_punctuator b ≡ false →
-      (OneOf (43 ∷ 45 ∷ []) b → ⊥) → (b ≡ 34 → ⊥) → (b ≡ 46 → ⊥) → (b ≡ 47 → ⊥) → 8 ≡ class_code (class_of b)
-  unfolding class_of
-  class_other l d k m s q o f =
-      rw
-      (l, d, k, ne_eqb b 43 (λ e. s (inl e)), ne_eqb b 45 (λ e. s (inr e)), ne_eqb b 34 q, m, ne_eqb b 46 o, ne_eqb b 47 f)
+-- the number of a class, by which a law of all bytes is computed
+abbrev pub class_code : Class → ℕ
+class_code letter = 0
+class_code digit = 1
+class_code blank = 2
+class_code plus_minus = 3
+class_code quote = 4
+class_code punctuator = 5
+class_code dot = 6
+class_code slash = 7
+class_code other = 8
 
 low_two : (l d b p q m o s : Bool) →
     either l d

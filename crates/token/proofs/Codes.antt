@@ -1,9 +1,10 @@
 -- The laws of comparing a word with the known words.
 -- Assumes nothing.
-use Prim.Native.Nat.{ℕ, suc, ◌+◌, ◌-◌, ◌*◌, ◌/◌, ◌%◌, ◌≤◌, ◌<◌}
+use Prim.Native.Nat.{ℕ, suc, ◌+◌, ◌-◌, ◌≤◌, ◌<◌}
 use mathlib.Core.Path.{◌≡◌, refl, sym, ◌∙◌, ap, ap₂, subst}
 use mathlib.Core.List.{List, [], ◌∷◌}
-use mathlib.Core.Bool.{Bool, true, false, false≢true}
+use mathlib.Core.Bool.{Bool, true, false, false≢true, ◌&&◌}
+use lib.Pointwise.{pointwise}
 use mathlib.Core.Logic.{◌⊎◌, inl, inr, ⊎_elim}
 use native.Mathlib.Omega.{arith}
 use native.Mathlib.Numerals.{add-one}
@@ -17,7 +18,7 @@ use Rattle.token.specs.Words.{known, same, code_in, code_of}
 use Rattle.token.proofs.Bytes.{both_false}
 use Rattle.token.specs.Slots.{slot_by, slot_of, candidate_in, candidate_of}
 use Rattle.token.proofs.Find.{by_test}
-use Rattle.token.proofs.Tables.{values_from, at, below}
+use Rattle.token.proofs.Tables.{below}
 
 -- the known words have bytes, and less than twenty
 pub long : (k : ℕ) → k < 42 → 0 < length (get_or known k [])
@@ -25,17 +26,6 @@ long k h = ltb→lt 0 (length (get_or known k [])) (below (λ i. ltb 0 (length (
 
 pub short : (k : ℕ) → k < 42 → length (get_or known k []) < 20
 short k h = ltb→lt (length (get_or known k [])) 20 (below (λ i. ltb (length (get_or known i [])) 20) 42 tt k h)
-
--- the letters of the known words, twenty to a word: past a word's end spaces
-abbrev pub letters : List ℕ
-letters = values_from (λ i. get_or (get_or known (i / 20) []) (i % 20) 32) 0 840
-
-pub letter_at : (k j : ℕ) → k < 42 → j < 20 → get_or letters (k * 20 + j) 0 ≡ get_or (get_or known k []) j 32
-letter_at k j h l =
-    let row : (k * 20 + j) / 20 ≡ k = omega arith in
-    let column : (k * 20 + j) % 20 ≡ j = omega arith in
-    at (λ (i : ℕ). get_or (get_or known (i / 20) []) (i % 20) 32) 840 (k * 20 + j) (omega arith)
-    ∙ ap₂ (λ (n m : ℕ). get_or (get_or known n []) m 32) row column
 
 pub different : (xs ys : List ℕ) → (length ys ≡ length xs → ⊥) → same xs ys ≡ false
 unfolding same
@@ -59,6 +49,18 @@ module _ (w v : List ℕ) (d e j : ℕ) where
 
   pub same_stop : j < length w → j < length v → (get_or w j d ≡ get_or v j e → ⊥) → same (drop j w) (drop j v) ≡ false
   same_stop h k q = opened h k ∙ rw (ne_eqb (get_or w j d) (get_or v j e) q)
+
+and_both : (a b c : Bool) → b ≡ c → (a && b) ≡ both a c
+and_both true b c e = e
+and_both false b c e = refl
+
+-- what `==` answers at two lists of bytes
+pub same_pointwise : (xs ys : List ℕ) → pointwise eqb xs ys ≡ same xs ys
+unfolding same
+same_pointwise [] [] = refl
+same_pointwise [] (y ∷ ys) = refl
+same_pointwise (x ∷ xs) [] = refl
+same_pointwise (x ∷ xs) (y ∷ ys) = and_both (eqb x y) _ _ (same_pointwise xs ys)
 
 pub same_self : (xs : List ℕ) → same xs xs ≡ true
 unfolding same

@@ -8,34 +8,19 @@ use native.Mathlib.Omega.{arith}
 use native.Mathlib.Decide.{dec_lt}
 use lib.ListN.{length, take, drop, length-drop, get_or-eq_default}
 use lib.Seq.{length-take-le}
-use lib.Dec.{leb, ltb, eqb}
-use borrow.Author.Tests.{le-leb, lt-leb, eq-eqb, ne_eqb, leb-true, eqb-true, ltb-true}
-use Rattle.token.specs.Find.{pick, both, either, byte}
+use lib.Dec.{leb, eqb}
+use borrow.Author.Tests.{eq-eqb, ne_eqb, leb-true}
+use Rattle.token.specs.Find.{both, byte}
 use Rattle.token.specs.Bytes.{is_digit, is_plus_minus, is_exponent_mark, is_dotted, find_mark, is_signed, word_end}
-use Rattle.token.specs.Numbers.{all_digits, value_after, at_most, digits_after}
-use Rattle.token.specs.Floats.{some_digits, digits_behind, mantissa_of, power_of, power_at, scale_of}
-use Rattle.token.specs.declared.Amount.{Amount}
-use Rattle.token.specs.declared.Amount.TheVariants.{Is, Not}
+use Rattle.token.specs.Numbers.{all_digits, value_after, digits_after}
+use Rattle.token.specs.Floats.{some_digits, digits_behind, mantissa_of, times, power_of, power_at}
+use Rattle.std.specs.Prelude.{Option, Some, None}
 use Rattle.token.specs.declared.Power.{Power}
-use Rattle.token.specs.declared.Power.TheVariants.{Times, None}
 use Rattle.token.proofs.Find.{by_test, find_low, find_high}
-use Rattle.token.proofs.Bytes.{both_false, both_true, both_second, word_low, word_high}
+use Rattle.token.proofs.Bytes.{both_false, word_low, word_high}
 use Rattle.token.proofs.Values.{was_is}
 
 -- ---- tests of bytes
-
-module _ (b : ℕ) where
-  pub sign_plus : b ≡ 43 → true ≡ is_plus_minus b
-  sign_plus e = sym (ap is_plus_minus e)
-
-  pub sign_minus : (b ≡ 43 → ⊥) → eqb b 45 ≡ is_plus_minus b
-  sign_minus f = rw (ne_eqb b 43 f)
-
-  pub mark_large : b ≡ 69 → true ≡ is_exponent_mark b
-  mark_large e = sym (ap is_exponent_mark e)
-
-  pub mark_small : (b ≡ 69 → ⊥) → eqb b 101 ≡ is_exponent_mark b
-  mark_small f = rw (ne_eqb b 69 f)
 
 module _ (s : List ℕ) (p : ℕ) where
   pub dotted_short : length s ≤ p + 1 → is_dotted s p ≡ false
@@ -46,10 +31,6 @@ module _ (s : List ℕ) (p : ℕ) where
   unfolding is_dotted
   dotted_other f = rw (ne_eqb (byte s p) 46 f)
 
-  pub dotted_digit : byte s p ≡ 46 → is_dotted s p ≡ is_digit (byte s (p + 1))
-  unfolding is_dotted
-  dotted_digit e = rw (eq-eqb (byte s p) 46 e)
-
 module _ (s : List ℕ) (x r : ℕ) where
   pub signed_past : length s ≤ r → is_signed s x r ≡ false
   unfolding is_signed
@@ -58,10 +39,6 @@ module _ (s : List ℕ) (x r : ℕ) where
   pub signed_other : (x + 1 ≡ r → ⊥) → is_signed s x r ≡ false
   unfolding is_signed
   signed_other f = rw (ne_eqb (x + 1) r f)
-
-  pub signed_here : x + 1 ≡ r → is_signed s x r ≡ is_plus_minus (byte s r)
-  unfolding is_signed
-  signed_here e = rw (eq-eqb (x + 1) r e)
 
 -- a sign stands inside the text
 pub signed_inside : (s : List ℕ) (x r : ℕ) → is_signed s x r ≡ true → r < length s
@@ -92,62 +69,45 @@ module _ (s : List ℕ) (e p : ℕ) where
 
 -- ---- digits
 
-no_is : {A : Type 0} (n : ℕ) → ◌≡◌ {A = Amount} Not (Is n) → A
+no_is : {A : Type 0} (n : ℕ) → ◌≡◌ {A = Option ℕ} None (Some n) → A
 no_is n e = absurd (let z : ◌≡◌ {A = ℕ} 0 1 = cc in omega arith)
 
 module _ (b max a : ℕ) (w : List ℕ) (n : ℕ) where
-  digits_limit : digits_after b max a w ≡ Is n → n ≤ max
+  digits_limit : digits_after b max a w ≡ Some n → n ≤ max
   unfolding digits_after
   digits_limit =
-      by_test (λ (v : Amount). v ≡ Is n → n ≤ max) (all_digits b w) _ Not
+      by_test (λ (v : Option ℕ). v ≡ Some n → n ≤ max) (all_digits b w) _ None
       (λ _ e. let z = was_is max (value_after b a w) n e in omega arith)
       (λ _ e. no_is n e)
 
 module _ (max a : ℕ) (w : List ℕ) where
-  pub some_none : length w ≡ 0 → some_digits max a w ≡ Not
+  pub some_none : length w ≡ 0 → some_digits max a w ≡ None
   unfolding some_digits
   some_none e = rw (eq-eqb (length w) 0 e)
 
-  pub some_is : (length w ≡ 0 → ⊥) → some_digits max a w ≡ digits_after 10 max a w
-  unfolding some_digits
-  some_is f = rw (ne_eqb (length w) 0 f)
-
-  pub some_limit : (n : ℕ) → some_digits max a w ≡ Is n → n ≤ max
+  pub some_limit : (n : ℕ) → some_digits max a w ≡ Some n → n ≤ max
   unfolding some_digits
   some_limit n =
-      by_test (λ (v : Amount). v ≡ Is n → n ≤ max) (eqb (length w) 0) Not _
+      by_test (λ (v : Option ℕ). v ≡ Some n → n ≤ max) (eqb (length w) 0) None _
       (λ _ e. no_is n e)
       (λ _ e. digits_limit 10 max a w n e)
 
 module _ (v w : List ℕ) where
-  pub mantissa_long : 18 < length v + length w → mantissa_of v w ≡ Not
-  unfolding mantissa_of
-  mantissa_long h = rw (lt-leb (length v + length w) 18 h)
-
-  pub mantissa_is : (a : ℕ) → length v + length w ≤ 18 → some_digits 999999999999999999 0 v ≡ Is a
-      → mantissa_of v w ≡ some_digits 999999999999999999 a w
-  unfolding mantissa_of digits_behind
-  mantissa_is a h e = rw (le-leb (length v + length w) 18 h, e)
-
-  pub mantissa_not : length v + length w ≤ 18 → some_digits 999999999999999999 0 v ≡ Not → mantissa_of v w ≡ Not
-  unfolding mantissa_of digits_behind
-  mantissa_not h e = rw (le-leb (length v + length w) 18 h, e)
-
-  behind_limit : (x : Amount) (m : ℕ) → digits_behind x w ≡ Is m → m ≤ 999999999999999999
+  behind_limit : (x : Option ℕ) (m : ℕ) → digits_behind x w ≡ Some m → m ≤ 999999999999999999
   unfolding digits_behind
-  behind_limit (Is a) m e = some_limit 999999999999999999 a w m e
-  behind_limit Not m e = no_is m e
+  behind_limit (Some a) m e = some_limit 999999999999999999 a w m e
+  behind_limit None m e = no_is m e
 
   -- a mantissa has at most eighteen digits
-  pub mantissa_fits : (m : ℕ) → mantissa_of v w ≡ Is m → (length v + length w ≤ 18) × (m ≤ 999999999999999999)
+  pub mantissa_fits : (m : ℕ) → mantissa_of v w ≡ Some m → (length v + length w ≤ 18) × (m ≤ 999999999999999999)
   unfolding mantissa_of
   mantissa_fits m =
-      by_test (λ (x : Amount). x ≡ Is m → (length v + length w ≤ 18) × (m ≤ 999999999999999999)) (leb (length v + length w) 18) _ Not
+      by_test (λ (x : Option ℕ). x ≡ Some m → (length v + length w ≤ 18) × (m ≤ 999999999999999999)) (leb (length v + length w) 18) _ None
       (λ t e. (leb-true (length v + length w) 18 t, behind_limit (some_digits 999999999999999999 0 v) m e))
       (λ _ e. no_is m e)
 
 -- the digits behind the dot are at most eighteen
-pub fraction_short : (s v : List ℕ) (d x m : ℕ) → d ≤ x → x ≤ length s → mantissa_of v (take (x - d) (drop d s)) ≡ Is m → x - d ≤ 18
+pub fraction_short : (s v : List ℕ) (d x m : ℕ) → d ≤ x → x ≤ length s → mantissa_of v (take (x - d) (drop d s)) ≡ Some m → x - d ≤ 18
 fraction_short s v d x m h l e =
     let z = mantissa_fits v (take (x - d) (drop d s)) m e in
     let n : length (take (x - d) (drop d s)) ≡ x - d = length-take-le (x - d) (drop d s) (rw (length-drop d s) (omega arith)) in
@@ -155,16 +115,8 @@ fraction_short s v d x m h l e =
 
 -- ---- the exponent
 
-pub power_of_is : (b : Bool) (x : Amount) (m e : ℕ) → x ≡ Is m → Times b m e ≡ power_of b x e
-unfolding power_of
-power_of_is b x m e h = sym (ap (λ (y : Amount). power_of b y e) h)
-
-pub power_of_not : (b : Bool) (x : Amount) (e : ℕ) → x ≡ Not → None ≡ power_of b x e
-unfolding power_of
-power_of_not b x e h = sym (ap (λ (y : Amount). power_of b y e) h)
-
 module _ (s : List ℕ) (x r : ℕ) where
-  pub power_none : x ≡ r → power_at s x r ≡ Times false 0 r
+  pub power_none : x ≡ r → power_at s x r ≡ times false 0 r
   unfolding power_at
   power_none e = rw (eq-eqb x r e)
 
@@ -178,19 +130,19 @@ module _ (s : List ℕ) (x r : ℕ) where
   power_unsigned f t = rw (ne_eqb x r f, t)
 
 -- an exponent is at most 64, and the float ends at or behind r and inside the text
-abbrev pub PowerOk : List ℕ → ℕ → Power → Type 0
-PowerOk s r (Times b m e) = (m ≤ 64) × (r ≤ e) × (e ≤ length s)
+abbrev pub PowerOk : List ℕ → ℕ → Option Power → Type 0
+PowerOk s r (Some x) = (x.amount ≤ 64) × (r ≤ x.end) × (x.end ≤ length s)
 PowerOk s r None = Unit {0}
 
-power_of_ok : (s : List ℕ) (r : ℕ) (b : Bool) (w : List ℕ) (e : ℕ) → r ≤ e → e ≤ length s → (v : Amount) → some_digits 64 0 w ≡ v → PowerOk s r (power_of b v e)
+power_of_ok : (s : List ℕ) (r : ℕ) (b : Bool) (w : List ℕ) (e : ℕ) → r ≤ e → e ≤ length s → (v : Option ℕ) → some_digits 64 0 w ≡ v → PowerOk s r (power_of b v e)
 unfolding power_of
-power_of_ok s r b w e h l (Is m) q = (some_limit 64 0 w m q, h, l)
-power_of_ok s r b w e h l Not q = tt
+power_of_ok s r b w e h l (Some m) q = (some_limit 64 0 w m q, h, l)
+power_of_ok s r b w e h l None q = tt
 
 pub power_ok : (s : List ℕ) (x r : ℕ) → r ≤ length s → PowerOk s r (power_at s x r)
 unfolding power_at
 power_ok s x r l =
-    by_test (PowerOk s r) (eqb x r) (Times false 0 r) _ (λ _. (omega arith, omega arith, l))
+    by_test (PowerOk s r) (eqb x r) (times false 0 r) _ (λ _. (omega arith, omega arith, l))
     (λ _. by_test (PowerOk s r) (is_signed s x r) _ _
     (λ t.
     let i = signed_inside s x r t in
@@ -199,15 +151,5 @@ power_ok s x r l =
     (word_high s (r + 1) (omega arith)) (some_digits 64 0 (take (word_end s (r + 1) - (r + 1)) (drop (r + 1) s))) refl)
     (λ _. power_of_ok s r false (take (r - (x + 1)) (drop (x + 1) s)) r (omega arith) l (some_digits 64 0 (take (r - (x + 1)) (drop (x + 1) s))) refl))
 
-pub power_fits : (s : List ℕ) (x r : ℕ) → r ≤ length s → (b : Bool) (m e : ℕ) → power_at s x r ≡ Times b m e → (m ≤ 64) × (r ≤ e) × (e ≤ length s)
-power_fits s x r l b m e q = subst (PowerOk s r) q (power_ok s x r l)
-
--- ---- the scale
-
-pub scale_below : (b : Bool) (m n : ℕ) → b ≡ true → 82 - n - m ≡ scale_of b m n
-unfolding scale_of
-scale_below b m n e = sym (ap (λ (t : Bool). scale_of t m n) e)
-
-pub scale_above : (b : Bool) (m n : ℕ) → b ≡ false → 82 - n + m ≡ scale_of b m n
-unfolding scale_of
-scale_above b m n e = sym (ap (λ (t : Bool). scale_of t m n) e)
+pub power_fits : (s : List ℕ) (x r : ℕ) → r ≤ length s → (y : Power) → power_at s x r ≡ Some y → (y.amount ≤ 64) × (r ≤ y.end) × (y.end ≤ length s)
+power_fits s x r l y q = subst (PowerOk s r) q (power_ok s x r l)

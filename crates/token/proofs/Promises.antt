@@ -7,7 +7,9 @@ use mathlib.Core.Bool.{Bool, true, false}
 use lib.Dec.{eqb, ltb}
 use lib.ListN.{length, take, drop}
 use Rattle.token.specs.Find.{pick, byte}
-use Rattle.token.specs.Bytes.{Class, letter, digit, blank, plus_minus, quote, punctuator, dot, slash, other, class_of, pair_at, find_byte, word_end, is_dotted}
+use Rattle.token.specs.declared.scan.Class.{Class}
+use Rattle.token.specs.declared.scan.Class.TheVariants.{Letter as letter, Digit as digit, Blank as blank, Sign as plus_minus, Quote as quote, Punctuator as punctuator, Dot as dot, Slash as slash, Other as other}
+use Rattle.token.specs.Bytes.{class_of, pair_at, find_byte, word_end, is_dotted}
 use Rattle.token.specs.Gaps.{skip}
 use Rattle.token.specs.Words.{code_of}
 use Rattle.token.specs.Numbers.{numeral}
@@ -17,12 +19,8 @@ use Rattle.token.specs.declared.Cursor.{Cursor}
 use Rattle.token.specs.declared.Token.{Token}
 use Rattle.token.specs.declared.Sort.{Sort}
 use Rattle.token.specs.declared.Sort.TheVariants.{Word, Number, String, Punctuator, Float}
-use Rattle.token.specs.declared.Skip.{Skip}
-use Rattle.token.specs.declared.Skip.TheVariants.{At, Open}
+use Rattle.std.specs.Prelude.{Option, Some, None, Result, Ok, Err}
 use Rattle.token.specs.declared.Power.{Power}
-use Rattle.token.specs.declared.Power.TheVariants.{Times, None}
-use Rattle.token.specs.declared.Amount.{Amount}
-use Rattle.token.specs.declared.Amount.TheVariants.{Is, Not}
 use Rattle.token.specs.Lexing.{Lexed, more, ended, refused, after_step, lex_n, lex_from}
 use Rattle.token.specs.declared.Step.{Step}
 use Rattle.token.specs.declared.Step.TheVariants.{Found, Refused, End}
@@ -67,17 +65,16 @@ by_pick : (s : List ℕ) (b : Bool) (x y : Step) → StepCode s x → StepCode s
 by_pick s true x y h k = h
 by_pick s false x y h k = k
 
-number_code : (s : List ℕ) (m : Bool) (a : Amount) (p e : ℕ) → StepCode s (number_of m a p e)
+number_code : (s : List ℕ) (m : Bool) (a : Option ℕ) (p e : ℕ) → StepCode s (number_of m a p e)
 unfolding found
-number_code s m (Is n) p e = tt
-number_code s m Not p e = tt
+number_code s m (Some n) p e = tt
+number_code s m None p e = tt
 
-float_code : (s : List ℕ) (m : Bool) (a : Amount) (w : Power) (n p : ℕ) → StepCode s (float_of m a w n p)
+float_code : (s : List ℕ) (m : Bool) (a : Option ℕ) (w : Option Power) (n p : ℕ) → StepCode s (float_of m a w n p)
 unfolding found
-float_code s m (Is a) (Times b x e) n p = tt
-float_code s m (Is a) None n p = tt
-float_code s m Not (Times b x e) n p = tt
-float_code s m Not None n p = tt
+float_code s m (Some a) (Some x) n p = tt
+float_code s m (Some a) None n p = tt
+float_code s m None x n p = tt
 
 number_by_code : (s : List ℕ) (p q : ℕ) (b : Bool) → StepCode s (number_by b s p q)
 unfolding number_by whole_at float_at float_by
@@ -96,10 +93,10 @@ class_code s p dot = by_pick s (pair_at s p 46 46) _ (Refused p) tt tt
 class_code s p slash = tt
 class_code s p other = tt
 
-skip_code : (s : List ℕ) (k : Skip) → StepCode s (after_skip s k)
+skip_code : (s : List ℕ) (k : Result ℕ ℕ) → StepCode s (after_skip s k)
 unfolding token_at
-skip_code s (At p) = by_pick s (ltb p (length s)) _ (End (length s)) (class_code s p (class_of (byte s p))) tt
-skip_code s (Open p) = tt
+skip_code s (Ok p) = by_pick s (ltb p (length s)) _ (End (length s)) (class_code s p (class_of (byte s p))) tt
+skip_code s (Err p) = tt
 
 step_code : (s : List ℕ) (p : ℕ) → StepCode s (step_at s p)
 unfolding step_at

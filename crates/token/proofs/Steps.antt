@@ -11,7 +11,10 @@ use lib.ListN.{length}
 use lib.Dec.{ltb, eqb}
 use borrow.Author.Tests.{lt-ltb, ltb-true}
 use Rattle.token.specs.Find.{byte}
-use Rattle.token.specs.Bytes.{Class, letter, digit, blank, plus_minus, quote, punctuator, dot, slash, other, class_of, class_code, is_word_byte, word_end, find_byte, pair_at, is_dotted, find_mark}
+use Rattle.token.specs.declared.scan.Class.{Class}
+use Rattle.token.specs.declared.scan.Class.TheVariants.{Letter as letter, Digit as digit, Blank as blank, Sign as plus_minus, Quote as quote, Punctuator as punctuator, Dot as dot, Slash as slash, Other as other}
+use Rattle.token.specs.Bytes.{class_of, is_word_byte, word_end, find_byte, pair_at, is_dotted, find_mark}
+use Rattle.token.proofs.Bytes.{class_code}
 use Rattle.token.specs.Gaps.{gap_at, after_gap, skip_n, skip}
 use Rattle.token.specs.Numbers.{numeral}
 use Rattle.token.specs.Floats.{mantissa_of, power_at, scale_of}
@@ -23,16 +26,10 @@ use Rattle.token.specs.declared.Sort.{Sort}
 use Rattle.token.specs.declared.Sort.TheVariants.{Number, String, Punctuator, Float}
 use Rattle.token.specs.declared.Step.{Step}
 use Rattle.token.specs.declared.Step.TheVariants.{Found, Refused, End}
-use Rattle.token.specs.declared.Gap.{Gap}
-use Rattle.token.specs.declared.Gap.TheVariants.{Nothing, Past, Unended}
-use Rattle.token.specs.declared.Skip.{Skip}
-use Rattle.token.specs.declared.Skip.TheVariants.{At, Open}
-use Rattle.token.specs.declared.Amount.{Amount}
-use Rattle.token.specs.declared.Amount.TheVariants.{Is, Not}
+use Rattle.std.specs.Prelude.{Option, Some, None, Result, Ok, Err}
 use Rattle.token.proofs.Find.{by_test, find_next, find_low}
 use Rattle.token.proofs.Bytes.{word_byte, word_low, word_high, byte_low, pair_inside}
 use Rattle.token.specs.declared.Power.{Power}
-use Rattle.token.specs.declared.Power.TheVariants.{Times, None}
 use Rattle.token.proofs.Decimals.{PowerOk, power_ok, dotted_inside}
 use Rattle.token.proofs.Gaps.{GapOk, gap_ok, gap_past, skip_here, skip_open}
 use Rattle.token.proofs.Lexemes.{token_end, step_token, step_open}
@@ -40,19 +37,19 @@ use Rattle.token.proofs.Lexemes.{token_end, step_token, step_open}
 -- ---- skipping
 
 -- where skipping from p can end
-abbrev pub SkipOk : List ℕ → ℕ → Skip → Type 0
-SkipOk s p (At q) = (p ≤ q) × (gap_at s q ≡ Nothing)
-SkipOk s p (Open q) = (p ≤ q) × (q < length s) × (gap_at s q ≡ Unended)
+abbrev pub SkipOk : List ℕ → ℕ → Result ℕ ℕ → Type 0
+SkipOk s p (Ok q) = (p ≤ q) × (gap_at s q ≡ Ok None)
+SkipOk s p (Err q) = (p ≤ q) × (q < length s) × (gap_at s q ≡ Err q)
 
-later : (s : List ℕ) (p q : ℕ) (k : Skip) → p ≤ q → SkipOk s q k → SkipOk s p k
-later s p q (At r) h o = (le_trans h o.0, o.1)
-later s p q (Open r) h o = (le_trans h o.0, o.1, o.2)
+later : (s : List ℕ) (p q : ℕ) (k : Result ℕ ℕ) → p ≤ q → SkipOk s q k → SkipOk s p k
+later s p q (Ok r) h o = (le_trans h o.0, o.1)
+later s p q (Err r) h o = (le_trans h o.0, o.1, o.2)
 
-by_gap : (s : List ℕ) (p : ℕ) (k : ℕ → Skip) → ((q : ℕ) → p < q → q ≤ length s → SkipOk s q (k q)) → (g : Gap) → gap_at s p ≡ g →
+by_gap : (s : List ℕ) (p : ℕ) (k : ℕ → Result ℕ ℕ) → ((q : ℕ) → p < q → q ≤ length s → SkipOk s q (k q)) → (g : Result (Option ℕ) ℕ) → gap_at s p ≡ g →
     GapOk p (length s) g → SkipOk s p (after_gap g p k)
-by_gap s p k f Nothing e o = (omega arith, e)
-by_gap s p k f (Past q) e o = later s p q (k q) (omega arith) (f q o.0 o.1)
-by_gap s p k f Unended e o = (omega arith, o, e)
+by_gap s p k f (Ok None) e o = (omega arith, e)
+by_gap s p k f (Ok (Some q)) e o = later s p q (k q) (omega arith) (f q o.0 o.1)
+by_gap s p k f (Err q) e o = subst (λ (r : ℕ). SkipOk s p (Err r)) o.0 (omega arith, o.1, e ∙ ap Err (sym o.0))
 
 skip_n_lem : (n : ℕ) (s : List ℕ) (p : ℕ) → length s ≤ p + n → SkipOk s p (skip_n n s p)
 unfolding skip_n
@@ -84,9 +81,9 @@ word_goes_on s p h k =
     let l = find_low t (length s) (p + 1) in
     omega arith
 
-number_ok : (s : List ℕ) (p e : ℕ) (m : Bool) (v : Amount) → p < e → e ≤ length s → TokenOk s p (number_of m v p e)
-number_ok s p e m (Is n) h l = found_ok s (Number (is_negative m n) n) p e h l
-number_ok s p e m Not h l = (refl, omega arith)
+number_ok : (s : List ℕ) (p e : ℕ) (m : Bool) (v : Option ℕ) → p < e → e ≤ length s → TokenOk s p (number_of m v p e)
+number_ok s p e m (Some n) h l = found_ok s (Number (is_negative m n) n) p e h l
+number_ok s p e m None h l = (refl, omega arith)
 
 whole_ok : (s : List ℕ) (p q : ℕ) → p < word_end s q → word_end s q ≤ length s → TokenOk s p (whole_at s p q)
 unfolding whole_at
@@ -94,11 +91,10 @@ whole_ok s p q =
     number_ok s p (word_end s q) (eqb (byte s p) 45)
     (numeral (ltb p q) (limit_of (eqb (byte s p) 45)) (bytes_between s q (word_end s q)))
 
-float_of_ok : (s : List ℕ) (p r : ℕ) → p < r → r ≤ length s → (m : Bool) (n : ℕ) (v : Amount) (w : Power) → PowerOk s r w → TokenOk s p (float_of m v w n p)
-float_of_ok s p r h l m n (Is a) (Times b x e) o = found_ok s (Float (is_negative m a) a (scale_of b x n)) p e (omega arith) o.2
-float_of_ok s p r h l m n (Is a) None o = (refl, omega arith)
-float_of_ok s p r h l m n Not (Times b x e) o = (refl, omega arith)
-float_of_ok s p r h l m n Not None o = (refl, omega arith)
+float_of_ok : (s : List ℕ) (p r : ℕ) → p < r → r ≤ length s → (m : Bool) (n : ℕ) (v : Option ℕ) (w : Option Power) → PowerOk s r w → TokenOk s p (float_of m v w n p)
+float_of_ok s p r h l m n (Some a) (Some x) o = found_ok s (Float (is_negative m a) a (scale_of x.below x.amount n)) p x.end (omega arith) o.2
+float_of_ok s p r h l m n (Some a) None o = (refl, omega arith)
+float_of_ok s p r h l m n None x o = (refl, omega arith)
 
 float_ok : (s : List ℕ) (p q d : ℕ) → p < d → d + 1 < length s → TokenOk s p (float_at s p q d)
 unfolding float_at float_by
@@ -176,9 +172,9 @@ step_later s p q (Found t c) h o = record { after = omega arith; long = o.1; nex
 step_later s p q (Refused r) h o = (omega arith, o.1)
 step_later s p q (End n) h o = o
 
-by_skip : (s : List ℕ) (p : ℕ) (k : Skip) → SkipOk s p k → StepOk s p (after_skip s k)
-by_skip s p (At q) o = step_later s p q (token_at s q) o.0 (token_ok s q)
-by_skip s p (Open q) o = (o.0, o.1)
+by_skip : (s : List ℕ) (p : ℕ) (k : Result ℕ ℕ) → SkipOk s p k → StepOk s p (after_skip s k)
+by_skip s p (Ok q) o = step_later s p q (token_at s q) o.0 (token_ok s q)
+by_skip s p (Err q) o = (o.0, o.1)
 
 pub step_ok : (s : List ℕ) (p : ℕ) → StepOk s p (step_at s p)
 unfolding step_at
@@ -194,22 +190,22 @@ bad_fits s p q e = subst (StepOk s p) e (step_ok s p)
 pub end_fits : (s : List ℕ) (p n : ℕ) → step_at s p ≡ End n → n ≡ length s
 end_fits s p n e = subst (StepOk s p) e (step_ok s p)
 
-again : (s : List ℕ) (p : ℕ) (t : Token) (c : Cursor) (k : Skip) → SkipOk s p k → after_skip s k ≡ Found t c → step_at s t.at ≡ Found t c
-again s p t c (At q) o e =
+again : (s : List ℕ) (p : ℕ) (t : Token) (c : Cursor) (k : Result ℕ ℕ) → SkipOk s p k → after_skip s k ≡ Found t c → step_at s t.at ≡ Found t c
+again s p t c (Ok q) o e =
     let place : t.at ≡ q = (subst (TokenOk s q) e (token_ok s q)).0 in
     ap (step_at s) place ∙ step_token s q q (skip_here s q o.1) ∙ e
-again s p t c (Open q) o e = absurd (let z : ◌≡◌ {A = ℕ} 0 1 = cc in omega arith)
+again s p t c (Err q) o e = absurd (let z : ◌≡◌ {A = ℕ} 0 1 = cc in omega arith)
 
 -- a step from a token's own place finds the token again
 pub step_again : (s : List ℕ) (p : ℕ) (t : Token) (c : Cursor) → step_at s p ≡ Found t c → step_at s t.at ≡ Found t c
 unfolding step_at
 step_again s p t c e = again s p t c (skip s p) (skip_ok s p) e
 
-bad_place : (s : List ℕ) (p q : ℕ) (k : Skip) → SkipOk s p k → after_skip s k ≡ Refused q → step_at s q ≡ Refused q
-bad_place s p q (At r) o e =
+bad_place : (s : List ℕ) (p q : ℕ) (k : Result ℕ ℕ) → SkipOk s p k → after_skip s k ≡ Refused q → step_at s q ≡ Refused q
+bad_place s p q (Ok r) o e =
     let place : r ≡ q = (subst (TokenOk s r) e (token_ok s r)).0 in
     ap (step_at s) (sym place) ∙ step_token s r r (skip_here s r o.1) ∙ e
-bad_place s p q (Open r) o e =
+bad_place s p q (Err r) o e =
     let place : r ≡ q = cc in
     ap (step_at s) (sym place) ∙ step_open s r r (skip_open s r o.2) ∙ e
 

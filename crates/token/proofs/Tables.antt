@@ -1,13 +1,14 @@
 -- A table that holds the values of a function, and a test that antt computes at each number below a bound.
 -- Assumes nothing.
-use mathlib.Core.Path.{◌≡◌, ◌∙◌, ap, subst, sym}
+use mathlib.Core.Path.{◌≡◌, refl, ◌∙◌, ap, subst, sym}
 use mathlib.Core.Bool.{Bool, true, false}
 use mathlib.Core.List.{List, [], ◌∷◌}
 use mathlib.Core.Logic.{⊎_elim}
 use Prim.Native.Nat.{ℕ, zero, suc, ◌+◌, ◌<◌}
 use native.Mathlib.Nat.{add-zero, zero-add, add-suc, suc-add, le_of_suc-le-suc, not-suc-le-zero, eq-or-lt_of_le}
 use lib.Dec.{T}
-use lib.ListN.{get_or}
+use lib.ListN.{get_or, length}
+use Rattle.std.proofs.Common.{Bor}
 use Rattle.token.specs.Find.{both}
 
 -- the n values of f from i on
@@ -43,3 +44,13 @@ below f (suc n) t k h =
     ⊎_elim (λ e. subst (λ (m : ℕ). T (f m)) (sym e) (both_left (f n) (up_to f n) t))
     (λ l. below f n (both_right (f n) (up_to f n) t) k l)
     (eq-or-lt_of_le (le_of_suc-le-suc h))
+
+-- the words that a table of references points to
+abbrev pub words_of : List (Bor (List ℕ)) → List (List ℕ)
+words_of [] = []
+words_of (x ∷ xs) = x.now ∷ words_of xs
+
+pub now_at : (xs : List (Bor (List ℕ))) (k : ℕ) (d : Bor (List ℕ)) → k < length xs → (get_or xs k d).now ≡ get_or (words_of xs) k []
+now_at [] k d h = absurd (not-suc-le-zero h)
+now_at (x ∷ xs) zero d h = refl
+now_at (x ∷ xs) (suc k) d h = now_at xs k d (le_of_suc-le-suc h)

@@ -2,6 +2,8 @@
 -- Assumes nothing.
 use Rattle.std.specs.Prelude.{ℕ, ◌+◌, Bool, not, List, length, leb, ltb, eqb}
 use Rattle.token.specs.Find.{pick, both, either, byte, find}
+use Rattle.token.specs.declared.scan.Class.{Class}
+use Rattle.token.specs.declared.scan.Class.TheVariants.{Letter as letter, Digit as digit, Blank as blank, Sign as plus_minus, Quote as quote, Punctuator as punctuator, Dot as dot, Slash as slash, Other as other}
 
 abbrev pub between : ℕ → ℕ → ℕ → Bool
 between lo hi b = both (leb lo b) (leb b hi)
@@ -32,19 +34,6 @@ is_punctuator b =
     either (either (eqb b 123) (eqb b 125))
     (either (either (eqb b 91) (eqb b 93)) (either (either (eqb b 61) (eqb b 59)) (either (eqb b 58) (eqb b 44))))
 
--- what a byte begins: a word, a number, nothing but a gap, a number after its sign, a string, a punctuator of one byte, `..`, a comment,
--- nothing
-pub data Class : Type 0 where
-  letter : Class
-  digit : Class
-  blank : Class
-  plus_minus : Class
-  quote : Class
-  punctuator : Class
-  dot : Class
-  slash : Class
-  other : Class
-
 -- what a byte can begin, by the rules of "Tokens"
 unfoldable pub class_of : ℕ → Class
 class_of b =
@@ -53,18 +42,6 @@ class_of b =
     (pick (is_blank b) blank
     (pick (is_plus_minus b) plus_minus
     (pick (eqb b 34) quote (pick (is_punctuator b) punctuator (pick (eqb b 46) dot (pick (eqb b 47) slash other)))))))
-
--- the number by which the code knows a class
-abbrev pub class_code : Class → ℕ
-class_code letter = 0
-class_code digit = 1
-class_code blank = 2
-class_code plus_minus = 3
-class_code quote = 4
-class_code punctuator = 5
-class_code dot = 6
-class_code slash = 7
-class_code other = 8
 
 -- "letters, digits, underscores"
 unfoldable pub is_word_byte : ℕ → Bool

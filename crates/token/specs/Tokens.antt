@@ -1,8 +1,10 @@
 -- The token at a place: document 01, section "Tokens", and the last sentence of its section "Meaning".
 -- Assumes nothing.
-use Rattle.std.specs.Prelude.{ℕ, ◌+◌, ◌-◌, List, [], Bool, true, false, length, take, drop, leb, ltb, eqb}
+use Rattle.std.specs.Prelude.{ℕ, ◌+◌, ◌-◌, List, [], Bool, true, false, length, take, drop, leb, ltb, eqb, Option, Some, None, Result, Ok, Err}
 use Rattle.token.specs.Find.{pick, both, byte}
-use Rattle.token.specs.Bytes.{Class, letter, digit, blank, plus_minus, quote, punctuator, dot, slash, other, class_of, word_end, find_byte, pair_at, is_dotted, find_mark}
+use Rattle.token.specs.declared.scan.Class.{Class}
+use Rattle.token.specs.declared.scan.Class.TheVariants.{Letter as letter, Digit as digit, Blank as blank, Sign as plus_minus, Quote as quote, Punctuator as punctuator, Dot as dot, Slash as slash, Other as other}
+use Rattle.token.specs.Bytes.{class_of, word_end, find_byte, pair_at, is_dotted, find_mark}
 use Rattle.token.specs.Gaps.{skip}
 use Rattle.token.specs.Words.{code_of}
 use Rattle.token.specs.Numbers.{least_amount, greatest_amount, numeral}
@@ -11,12 +13,7 @@ use Rattle.token.specs.declared.Sort.{Sort}
 use Rattle.token.specs.declared.Sort.TheVariants.{Word, Number, String, Punctuator, Float}
 use Rattle.token.specs.declared.Step.{Step}
 use Rattle.token.specs.declared.Step.TheVariants.{Found, Refused, End}
-use Rattle.token.specs.declared.Skip.{Skip}
-use Rattle.token.specs.declared.Skip.TheVariants.{At, Open}
 use Rattle.token.specs.declared.Power.{Power}
-use Rattle.token.specs.declared.Power.TheVariants.{Times, None}
-use Rattle.token.specs.declared.Amount.{Amount}
-use Rattle.token.specs.declared.Amount.TheVariants.{Is, Not}
 
 -- the bytes from p up to e
 abbrev pub bytes_between : List ℕ → ℕ → ℕ → List ℕ
@@ -40,9 +37,9 @@ unfoldable pub is_negative : Bool → ℕ → Bool
 is_negative minus m = both minus (ltb 0 m)
 
 -- "Else there is no token at its first byte."
-abbrev pub number_of : Bool → Amount → ℕ → ℕ → Step
-number_of minus (Is m) p e = found (Number (is_negative minus m) m) p e
-number_of minus Not p e = Refused p
+abbrev pub number_of : Bool → Option ℕ → ℕ → ℕ → Step
+number_of minus (Some m) p e = found (Number (is_negative minus m) m) p e
+number_of minus None p e = Refused p
 
 -- "Number: an optional sign (`+` or `-`), then the longest run of letters, digits and underscores." It begins at p and its run at q: at p
 -- itself, or after a sign
@@ -51,11 +48,10 @@ whole_at s p q =
     number_of (eqb (byte s p) 45) (numeral (ltb p q) (limit_of (eqb (byte s p) 45)) (bytes_between s q (word_end s q))) p (word_end s q)
 
 -- Q-4: "a malformed or larger one is no token at its first byte": with n digits after the dot. -0.0 is not negative
-abbrev pub float_of : Bool → Amount → Power → ℕ → ℕ → Step
-float_of minus (Is m) (Times below x e) n p = found (Float (is_negative minus m) m (scale_of below x n)) p e
-float_of minus (Is m) None n p = Refused p
-float_of minus Not (Times below x e) n p = Refused p
-float_of minus Not None n p = Refused p
+abbrev pub float_of : Bool → Option ℕ → Option Power → ℕ → ℕ → Step
+float_of minus (Some m) (Some x) n p = found (Float (is_negative minus m) m (scale_of x.below x.amount n)) p x.end
+float_of minus (Some m) None n p = Refused p
+float_of minus None x n p = Refused p
 
 -- Q-4: "the longest run after the dot belongs to it, through one sign right after its first e or E." It begins at p and its first run at q,
 -- its dot stands at d, the run after the dot ends at r, with its first e or E at x
@@ -100,9 +96,9 @@ unfoldable pub token_at : List ℕ → ℕ → Step
 token_at s p = pick (ltb p (length s)) (token_of (class_of (byte s p)) s p) (End (length s))
 
 -- a comment that is not ended is refused at its first byte
-abbrev pub after_skip : List ℕ → Skip → Step
-after_skip s (At p) = token_at s p
-after_skip s (Open p) = Refused p
+abbrev pub after_skip : List ℕ → Result ℕ ℕ → Step
+after_skip s (Ok p) = token_at s p
+after_skip s (Err p) = Refused p
 
 -- "It is given the text and a place, and hands back the token and the place after it, or the refusal."
 unfoldable pub step_at : List ℕ → ℕ → Step

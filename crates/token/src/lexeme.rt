@@ -3,17 +3,19 @@ ghost use Rattle.std.specs.Prelude.{◌≡◌, ◌≤◌, ◌<◌, ◌+◌, leng
 ghost use Rattle.token.specs.Bytes.{word_end};
 ghost use Rattle.token.specs.Tokens.{found, limit_of, is_negative, word_at, whole_at, float_at, number_at, string_at, dots_at, token_at};
 
-use super::{Amount, Cursor, Power, Sort, Step, Token, floats, numbers, scan, words};
+use super::scan::Class;
+use super::{Cursor, Sort, Step, Token, floats, numbers, scan, words};
 
 // The token from at to end.
+#[tactic(auto, unfolding(crate::specs::Tokens::found))]
 fn found(sort: Sort, at: usize, end: usize) -> Step
     requires { at ≤ end }
     ensures { result ≡ found sort at end }
 {
     Step::Found(
         Token {
-            sort: sort,
-            at: at,
+            sort,
+            at,
             len: end - at,
         },
         Cursor { at: end },
@@ -21,6 +23,7 @@ fn found(sort: Sort, at: usize, end: usize) -> Step
 }
 
 // The word at a place.
+#[tactic(auto, using(crate::proofs::Bytes::word_low, crate::proofs::Bytes::word_high), unfolding(crate::specs::Tokens::word_at))]
 fn word_at(text: &[u8], at: usize) -> Step
     requires { at ≤ length text.now }
     ensures { result ≡ word_at text.now at }
@@ -31,6 +34,7 @@ fn word_at(text: &[u8], at: usize) -> Step
 }
 
 // The largest amount after a minus, and after none.
+#[tactic(auto, unfolding(crate::specs::Tokens::limit_of))]
 fn limit(minus: bool) -> u64
     ensures { result ≡ limit_of minus }
 {
@@ -42,13 +46,15 @@ fn limit(minus: bool) -> u64
 }
 
 // Whether a number is negative: 0 is not, whatever its sign.
+#[tactic(auto, unfolding(crate::specs::Tokens::is_negative))]
 fn is_negative(minus: bool, m: u64) -> bool
     ensures { result ≡ is_negative minus m }
 {
-    if minus { 0 < m } else { false }
+    minus && 0 < m
 }
 
 // The whole number at a place, whose run begins at from and ends at end.
+#[tactic(auto, using(crate::proofs::Bytes::word_low, crate::proofs::Bytes::word_high), unfolding(crate::specs::Tokens::whole_at))]
 fn whole_at(text: &[u8], at: usize, from: usize, end: usize) -> Step
     requires { (at < length text.now) × ((at ≤ from) × ((from ≤ length text.now) × (end ≡ word_end text.now from))) }
     ensures { result ≡ whole_at text.now at from }
@@ -56,15 +62,16 @@ fn whole_at(text: &[u8], at: usize, from: usize, end: usize) -> Step
     let minus = text[at] == b'-';
     let max = limit(minus);
     match numbers::numeral(&text[from..end], at < from, max) {
-        Amount::Is(m) => {
+        Some(m) => {
             let negative = is_negative(minus, m);
             found(Sort::Number(negative, m), at, end)
         }
-        Amount::Not => Step::Refused(at),
+        None => Step::Refused(at),
     }
 }
 
 // The float at a place, whose first run begins at from and ends at its dot, with a digit after it.
+#[tactic(auto, using(crate::proofs::Bytes::word_low, crate::proofs::Bytes::word_high, crate::proofs::Decimals::mark_low, crate::proofs::Decimals::mark_high, crate::proofs::Decimals::power_fits, crate::proofs::Decimals::fraction_short), unfolding(crate::specs::Tokens::float_at, crate::specs::Tokens::float_by))]
 fn float_at(text: &[u8], at: usize, from: usize, dot: usize) -> Step
     requires { (at ≤ from) × ((from ≤ dot) × (dot + 1 < length text.now)) }
     ensures { result ≡ float_at text.now at from dot }
@@ -75,56 +82,58 @@ fn float_at(text: &[u8], at: usize, from: usize, dot: usize) -> Step
     let minus = text[at] == b'-';
     let digits = floats::mantissa(&text[from..dot], &text[start..mark]);
     let power = floats::power_at(text, mark, end);
-    match digits {
-        Amount::Is(m) => {
-            match power {
-                Power::Times(below, x, last) => {
-                    let negative = is_negative(minus, m);
-                    let scale = floats::scale(below, x, mark - start);
-                    found(Sort::Float(negative, m, scale), at, last)
-                }
-                Power::None => Step::Refused(at),
-            }
+    match (digits, power) {
+        (Some(m), Some(x)) => {
+            let negative = is_negative(minus, m);
+            let scale = floats::scale(x.below, x.amount, mark - start);
+            found(Sort::Float(negative, m, scale), at, x.end)
         }
-        Amount::Not => Step::Refused(at),
+        _ => Step::Refused(at),
     }
 }
 
 // The number or float at a place, whose run begins at from.
+#[tactic(auto, using(crate::proofs::Decimals::dotted_inside, crate::proofs::Bytes::word_low), unfolding(crate::specs::Tokens::number_at, crate::specs::Tokens::number_by))]
 fn number_at(text: &[u8], at: usize, from: usize) -> Step
     requires { (at < length text.now) × ((at ≤ from) × (from ≤ length text.now)) }
     ensures { result ≡ number_at text.now at from }
 {
     let end = scan::word_end(text, from);
     if scan::dotted(text, end) {
-        return float_at(text, at, from, end);
+        float_at(text, at, from, end)
+    } else {
+        whole_at(text, at, from, end)
     }
-    whole_at(text, at, from, end)
 }
 
 // The string at a place.
+#[tactic(auto, using(crate::proofs::Bytes::byte_low), unfolding(crate::specs::Tokens::string_at))]
 fn string_at(text: &[u8], at: usize) -> Step
     requires { at < length text.now }
     ensures { result ≡ string_at text.now at }
 {
     let close = scan::find_byte(text, at + 1, b'"');
     if close < text.len() {
-        return found(Sort::String, at, close + 1);
+        found(Sort::String, at, close + 1)
+    } else {
+        Step::Refused(at)
     }
-    Step::Refused(at)
 }
 
 // `..` at a place.
+#[tactic(auto, using(crate::proofs::Bytes::pair_inside), unfolding(crate::specs::Tokens::dots_at))]
 fn dots_at(text: &[u8], at: usize) -> Step
     ensures { result ≡ dots_at text.now at }
 {
     if scan::pair(text, at, b'.', b'.') {
-        return found(Sort::Punctuator(b'.'), at, at + 2);
+        found(Sort::Punctuator(b'.'), at, at + 2)
+    } else {
+        Step::Refused(at)
     }
-    Step::Refused(at)
 }
 
 // The token at a place.
+#[tactic(auto, unfolding(crate::specs::Tokens::token_at, crate::specs::Tokens::token_of))]
 pub fn token_at(text: &[u8], at: usize) -> Step
     ensures { result ≡ token_at text.now at }
 {
@@ -132,14 +141,13 @@ pub fn token_at(text: &[u8], at: usize) -> Step
         return Step::End(text.len());
     }
     let b = text[at];
-    let class = scan::class(b);
-    match class {
-        0 => word_at(text, at),
-        1 => number_at(text, at, at),
-        3 => number_at(text, at, at + 1),
-        4 => string_at(text, at),
-        5 => found(Sort::Punctuator(b), at, at + 1),
-        6 => dots_at(text, at),
-        _ => Step::Refused(at),
+    match scan::class_of(b) {
+        Class::Letter => word_at(text, at),
+        Class::Digit => number_at(text, at, at),
+        Class::Sign => number_at(text, at, at + 1),
+        Class::Quote => string_at(text, at),
+        Class::Punctuator => found(Sort::Punctuator(b), at, at + 1),
+        Class::Dot => dots_at(text, at),
+        Class::Blank | Class::Slash | Class::Other => Step::Refused(at),
     }
 }

@@ -11,6 +11,8 @@ mod scan;
 mod skipping;
 mod words;
 
+pub use scan::{find_byte, find_close, pair};
+
 // The most bytes of a text.
 pub const LONGEST: usize = 65535;
 
@@ -45,7 +47,7 @@ pub struct Token {
     pub len: usize,
 }
 
-// What a step finds.
+// What a step finds. Three things, each with a place, so neither an Option nor a Result is plainer; `Lexing` and the theorems above name them.
 #[derive(Clone, Copy)]
 pub enum Step {
     // A token, and the cursor after it.
@@ -56,40 +58,12 @@ pub enum Step {
     End(usize),
 }
 
-// What stands at a place, as far as it parts tokens.
+// The exponent of a float: whether it is below 0, its amount, and the place after the float.
 #[derive(Clone, Copy)]
-enum Gap {
-    // Neither a blank nor a comment.
-    Nothing,
-    // A blank or a comment, and the place after it.
-    Past(usize),
-    // `/*` with no `*/` after it.
-    Unended,
-}
-
-// Where the blanks and comments from a place on end.
-#[derive(Clone, Copy)]
-enum Skip {
-    At(usize),
-    // A comment that is not ended begins at the place.
-    Open(usize),
-}
-
-// The value of a numeral.
-#[derive(Clone, Copy)]
-pub enum Amount {
-    Is(u64),
-    // It is none, or its value is too large.
-    Not,
-}
-
-// The exponent of a float.
-#[derive(Clone, Copy)]
-pub enum Power {
-    // Whether it is below 0, its amount, and the place after the float.
-    Times(bool, u64, usize),
-    // It is none, or its amount is too large.
-    None,
+pub struct Power {
+    pub below: bool,
+    pub amount: u64,
+    pub end: usize,
 }
 
 impl Cursor {
@@ -100,19 +74,20 @@ impl Cursor {
     }
 
     // The token at the cursor and the cursor after it, or the refusal, or the end.
+    #[tactic(auto, unfolding(crate::specs::Tokens::step_at))]
     pub fn step(self, text: &[u8]) -> Step
         ensures { result ≡ step_at text.now self.at }
     {
-        let at = self.at;
-        match skipping::skip_gaps(text, at) {
-            Skip::At(q) => lexeme::token_at(text, q),
-            Skip::Open(q) => Step::Refused(q),
+        match skipping::skip_gaps(text, self.at) {
+            Ok(q) => lexeme::token_at(text, q),
+            Err(q) => Step::Refused(q),
         }
     }
 }
 
 // A part of the text itself; where it does not lie inside, the empty part at the start. A slice points to a block of memory and to a place in it:
 // the part's block is the text's, and its place is so many bytes after the text's.
+#[tactic(auto, unfolding(crate::specs::Tokens::part_of, crate::specs::Tokens::part_place))]
 pub fn part(text: &[u8], at: usize, len: usize) -> &[u8]
     ensures bytes { result.now ≡ part_of text.now at len }
     ensures block { result.ref_ptr.0 ≡ text.entry.ref_ptr.0 }

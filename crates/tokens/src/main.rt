@@ -3,7 +3,6 @@
 #![tactic(auto)]
 
 use console::arguments::Asked;
-use console::inputs::Input;
 use console::{Page, arguments, errors, inputs, whole, write, write_number};
 use token::{Cursor, LONGEST, Sort, Step, Token};
 
@@ -75,9 +74,8 @@ fn write_bytes(rt: HostRuntime, page: &mut Page, text: &[u8]) {
 // The answer to the text of the file named, or of standard input.
 fn answer(rt: HostRuntime, page: &mut Page, names: usize) {
     let mut buffer = [0u8; token::PLACES];
-    match inputs::read_asked(rt, names, &mut buffer) {
-        Input::Text(n) => write_bytes(rt, page, token::part(&buffer, 0, n)),
-        Input::Failed(_) => {}
+    if let Ok(n) = inputs::read_asked(rt, names, &mut buffer) {
+        write_bytes(rt, page, token::part(&buffer, 0, n));
     }
 }
 

@@ -20,10 +20,8 @@ fn onward(sum: usize, byte: u8) -> usize
 // A number that changes with each byte and its place.
 fn checksum(bytes: &[u8]) -> usize {
     let mut sum = 0;
-    let mut i = 0;
-    while i < bytes.len() {
-        sum = onward(sum, bytes[i]);
-        i += 1;
+    for byte in bytes {
+        sum = onward(sum, *byte);
     }
     sum
 }
@@ -111,10 +109,8 @@ fn write_vector(rt: HostRuntime, page: &mut Page, number: usize) {
 }
 
 fn write_vectors(rt: HostRuntime, page: &mut Page) {
-    let mut number = 0;
-    while number < 1000 {
+    for number in 0..1000 {
         write_vector(rt, page, number);
-        number += 1;
     }
 }
 

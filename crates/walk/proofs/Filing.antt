@@ -24,6 +24,8 @@ use Rattle.walk.specs.Whole.{Rooms, Stands, Tells, Few, Whole, ApplicationRows}
 use Rattle.grammar.specs.Machine.{Stream}
 use Rattle.walk.proofs.Tallying.{tallied}
 use Rattle.walk.proofs.Fewer.{few_rows}
+use Rattle.std.specs.Prelude.{Option as Perhaps, None}
+use Rattle.std.specs.Option.{unwrap_or}
 use Rattle.walk.proofs.Placing.{none_noted, all_places, first_again}
 
 -- A table that was filled from its first row on.
@@ -73,15 +75,15 @@ few {s} {v} c d = record { trees = d.trees; split = d.split; holds = (d.holds, f
 
 -- The whole text.
 module _ {s : List ℕ} {a : Look} {x y : Rooms} {r : Walked} where
-  pub file_there : {marks : List ℕ} {found : ℕ} {b c : Look} → a ≡ look_at s 0 0 → Fills 1 (version ▸ ∎) s a b (λ m. Stands m.0 r.version_at r.version_len)
+  pub file_there : {marks : List ℕ} {again : Perhaps ℕ} {b c : Look} → a ≡ look_at s 0 0 → Fills 1 (version ▸ ∎) s a b (λ m. Stands m.0 r.version_at r.version_len)
       → Walks FillSpecs 1 (implementation ▸ ∎) (λ w m. ImplementationRows r.implementation_at r.implementation_len w m.0) s b c
-      (record { marks = replicate 13 0; places = replicate 13 0; again = 0; found = 0 }, ((x.definitions, 0), (x.enumerators, 0)))
-      (record { marks = marks; places = r.places; again = r.again; found = found }, ((y.definitions, r.definitions), (y.enumerators, r.enumerators)))
+      (record { marks = replicate 13 0; places = replicate 13 0; again = None }, ((x.definitions, 0), (x.enumerators, 0)))
+      (record { marks = marks; places = r.places; again = again }, ((y.definitions, r.definitions), (y.enumerators, r.enumerators)))
       → Walks FillAll 1 (application ▸ ∎) (λ w m. ApplicationRows r.cpu_at r.cpu_len w m.0) s c r.look
       (replicate 13 0, ((x.parts, 0), (x.statements, 0))) (r.counts, ((y.parts, r.parts), (y.statements, r.statements)))
-      → Whole s x y r
+      → r.again ≡ unwrap_or again 0 → Whole s x y r
   unfolding means front_of behind ImplementationRows ApplicationRows
-  file_there {b} e v i p =
+  file_there {b} e v i p g =
       let v' : Fills 1 (version ▸ ∎) s (look_at s 0 0) b (λ m. Stands m.0 r.version_at r.version_len) =
       subst (λ (a : Look). Fills 1 (version ▸ ∎) s a b (λ m. Stands m.0 r.version_at r.version_len)) e v in
       let f = v' ▻ i.fills ▻ p.fills in
@@ -123,7 +125,7 @@ module _ {s : List ℕ} {a : Look} {x y : Rooms} {r : Walked} where
                   p.does.1.table (omega (arith, h, lo, ko)) (omega (arith, h', ls, ks)) ∙ ap (λ (l : List (List ℕ)). sets x.parts 0 (join l)) (sym pa.2);
               statement_table = λ h. table_is (all_statement_rows os 0) p.does.1.lines.1 pa.3 (omega (arith, h, ls));
               places = ap (λ (n : Noted). n.places) i.does.0 ∙ ap (λ (h : List (ℕ × ℕ)). (note_all none_noted h).places) (sym im.0) ∙ all_places xs;
-              again = ap (λ (n : Noted). n.again) i.does.0 ∙ ap (λ (h : List (ℕ × ℕ)). (note_all none_noted h).again) (sym im.0) ∙ first_again xs;
+              again = g ∙ ap (λ (n : Noted). unwrap_or n.again 0) i.does.0 ∙ ap (λ (h : List (ℕ × ℕ)). unwrap_or (note_all none_noted h).again 0) (sym im.0) ∙ first_again xs;
               counted = λ h. p.does.0 ∙ ap (count_on (replicate 13 0)) (sym pa.1) ∙ tallied os h;
             })));
       }

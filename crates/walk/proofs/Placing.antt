@@ -16,8 +16,10 @@ use Rattle.meaning.specs.Kinds.{kind_number, same_kind}
 use Rattle.meaning.specs.Defining.{specified}
 use Rattle.layout.specs.Kept.{kind_place, again_place}
 use Rattle.layout.proofs.Codes.{kind_low}
-use Rattle.implementation.specs.Places.{Noted, placed, again_after, found_after, note, note_all, heads}
+use Rattle.implementation.specs.Places.{Noted, placed, again_after, note, note_all, heads}
 use Rattle.walk.specs.Whole.{kind_places}
+use Rattle.std.specs.Prelude.{Option, Some, None}
+use Rattle.std.specs.Option.{option_or, unwrap_or}
 
 placed_other : (l : List ℕ) (m j p k : ℕ) → (k ≡ j → ⊥) → get_or (placed l m j p) k 0 ≡ get_or l k 0
 placed_other l m j p k h = go (eqb m 0)
@@ -94,7 +96,7 @@ place_of k l (s ∷ xs) x z h g = go (place_of k l xs (note x (kind_number s.kin
         (placed_other x.places (get_or x.marks (kind_number s.kind) 0) (kind_number s.kind) s.word.place k i ∙ g)
 
 abbrev pub none_noted : Noted
-none_noted = record { marks = replicate 13 0; places = replicate 13 0; again = 0; found = 0 }
+none_noted = record { marks = replicate 13 0; places = replicate 13 0; again = None }
 
 pub each_place : (xs : List Spec) (i : ℕ) → i < 13 → kind_place i xs ≡ get_or (kind_places xs) i 0
 each_place xs zero h = refl
@@ -123,19 +125,15 @@ all_places xs =
 -- The first that comes again ---------------------------------------------------------------------------------------------------------------
 
 -- Once one is found it stays.
-again_stays : (xs : List Spec) (x : Noted) → (x.found ≡ 0 → ⊥) → (note_all x (heads xs)).again ≡ x.again
+again_stays : (xs : List Spec) (x : Noted) (p : ℕ) → x.again ≡ Some p → (note_all x (heads xs)).again ≡ Some p
 unfolding note_all heads note
-again_stays [] x h = refl
-again_stays (s ∷ xs) x h =
-    again_stays xs (note x (kind_number s.kind) s.word.place) (go (eqb (get_or x.marks (kind_number s.kind) 0) 0))
-    ∙ ap (λ (c : Bool). pick (eqb (get_or x.marks (kind_number s.kind) 0) 0) x.again (pick c s.word.place x.again)) (ne_eqb x.found 0 h)
-    ∙ same (eqb (get_or x.marks (kind_number s.kind) 0) 0)
+again_stays [] x p h = h
+again_stays (s ∷ xs) x p h =
+    again_stays xs (note x (kind_number s.kind) s.word.place) p
+    (ap (λ (a : Option ℕ). pick (eqb (get_or x.marks (kind_number s.kind) 0) 0) a (option_or a (Some s.word.place))) h
+    ∙ same (eqb (get_or x.marks (kind_number s.kind) 0) 0))
   where
-    go : (b : Bool) → pick b x.found 1 ≡ 0 → ⊥
-    go true e = h e
-    go false e = absurd (omega (arith, e))
-
-    same : (b : Bool) → pick b x.again x.again ≡ x.again
+    same : (b : Bool) → ◌≡◌ {A = Option ℕ} (pick b (Some p) (Some p)) (Some p)
     same true = refl
     same false = refl
 
@@ -167,28 +165,25 @@ marked_on s before x z m t = specified_snoc t s before ∙ go (eqb (kind_number 
         ap (either (specified t before)) e ∙ either_false (specified t before) ∙ m t
         ∙ sym (ap (λ (n : ℕ). not (eqb n 0)) (get_or-set_other x.marks (kind_number s.kind) (kind_number t.kind) 1 0 i))
 
-again_of : (xs before : List Spec) (x : Noted) → Sized x → Marked x before → x.found ≡ 0 → x.again ≡ 0 → (note_all x (heads xs)).again ≡ again_place before xs
+again_of : (xs before : List Spec) (x : Noted) → Sized x → Marked x before → x.again ≡ None → unwrap_or (note_all x (heads xs)).again 0 ≡ again_place before xs
 unfolding note_all heads note again_place
-again_of [] before x z m f g = g
-again_of (s ∷ xs) before x z m f g =
+again_of [] before x z m g = ap (λ (a : Option ℕ). unwrap_or a 0) g
+again_of (s ∷ xs) before x z m g =
     go (again_of xs (before ++ (s ∷ [])) (note x (kind_number s.kind) s.word.place) (sized x (kind_number s.kind) s.word.place z) (marked_on s before x z m)) (eqb (get_or x.marks (kind_number s.kind) 0) 0) refl
   where
-    go : (found_after (get_or x.marks (kind_number s.kind) 0) x.found ≡ 0
-        → again_after (get_or x.marks (kind_number s.kind) 0) x.found x.again s.word.place ≡ 0
-        → (note_all (note x (kind_number s.kind) s.word.place) (heads xs)).again ≡ again_place (before ++ (s ∷ [])) xs)
+    go : (again_after (get_or x.marks (kind_number s.kind) 0) x.again s.word.place ≡ None
+        → unwrap_or (note_all (note x (kind_number s.kind) s.word.place) (heads xs)).again 0 ≡ again_place (before ++ (s ∷ [])) xs)
         → (b : Bool) → eqb (get_or x.marks (kind_number s.kind) 0) 0 ≡ b
-        → (note_all (note x (kind_number s.kind) s.word.place) (heads xs)).again ≡ pick (specified s before) s.word.place (again_place (before ++ (s ∷ [])) xs)
+        → unwrap_or (note_all (note x (kind_number s.kind) s.word.place) (heads xs)).again 0 ≡ pick (specified s before) s.word.place (again_place (before ++ (s ∷ [])) xs)
     go ih true e =
-        ih
-        (ap (λ (b : Bool). pick b x.found 1) e ∙ f)
-        (ap (λ (b : Bool). pick b x.again (pick (eqb x.found 0) s.word.place x.again)) e ∙ g)
+        ih (ap (λ (b : Bool). pick b x.again (option_or x.again (Some s.word.place))) e ∙ g)
         ∙ sym (ap (λ (b : Bool). pick b s.word.place (again_place (before ++ (s ∷ [])) xs)) (m s ∙ ap not e))
     go ih false e =
-        again_stays xs (note x (kind_number s.kind) s.word.place) (λ q. let o : 1 ≡ 0 = sym (ap (λ (b : Bool). pick b x.found 1) e) ∙ q in absurd (omega (arith, o)))
-        ∙ ap (λ (b : Bool). pick b x.again (pick (eqb x.found 0) s.word.place x.again)) e
-        ∙ ap (λ (b : Bool). pick b s.word.place x.again) (eq-eqb x.found 0 f)
+        ap (λ (a : Option ℕ). unwrap_or a 0)
+        (again_stays xs (note x (kind_number s.kind) s.word.place) s.word.place
+        (ap (λ (b : Bool). pick b x.again (option_or x.again (Some s.word.place))) e ∙ ap (λ (a : Option ℕ). option_or a (Some s.word.place)) g))
         ∙ sym (ap (λ (b : Bool). pick b s.word.place (again_place (before ++ (s ∷ [])) xs)) (m s ∙ ap not e))
 
-pub first_again : (xs : List Spec) → (note_all none_noted (heads xs)).again ≡ again_place [] xs
+pub first_again : (xs : List Spec) → unwrap_or (note_all none_noted (heads xs)).again 0 ≡ again_place [] xs
 unfolding specified
-first_again xs = again_of xs [] none_noted (refl, refl) (λ t. sym (ap (λ (n : ℕ). not (eqb n 0)) (blank 13 (kind_number t.kind)))) refl refl
+first_again xs = again_of xs [] none_noted (refl, refl) (λ t. sym (ap (λ (n : ℕ). not (eqb n 0)) (blank 13 (kind_number t.kind)))) refl

@@ -10,7 +10,7 @@ ghost use Rattle.object_parts.specs.Rows.{FillAll};
 ghost use Rattle.walk.specs.Whole.{Stands, ApplicationRows, Whole};
 
 use grammar::lookahead::{CPU, EQUALS, LBRACE, OIL_VERSION, QUOTED};
-use grammar::{Answer, Look, lookahead, parts};
+use grammar::{Look, Refusal, lookahead, parts};
 use rows::counts;
 
 // What a walk tells beside the tables: the look after the file, spans of the version, the implementation and the CPU's name, the numbers of
@@ -64,7 +64,7 @@ fn version(text: &[u8], a: Look) -> Versioned
     Versioned {
         look: f,
         at: c.at,
-        len: len,
+        len,
     }
 }
 
@@ -81,10 +81,10 @@ fn application(text: &[u8], p: &mut [usize], s: &mut [usize], a: Look) -> Applie
     Applied {
         look: f,
         at: b.at,
-        len: len,
+        len,
         parts: x.parts,
         statements: x.statements,
-        counts: counts,
+        counts,
     }
 }
 
@@ -104,9 +104,10 @@ pub fn walk(
     let y = application(text, p, s, i.look);
     let look = y.look;
     let places = i.places;
+    let again = i.again.unwrap_or(0);
     let counts = y.counts;
     Walked {
-        look: look,
+        look,
         version_at: v.at,
         version_len: v.len,
         implementation_at: i.at,
@@ -117,14 +118,14 @@ pub fn walk(
         enumerators: i.enumerators,
         parts: y.parts,
         statements: y.statements,
-        places: places,
-        again: i.again,
-        counts: counts,
+        places,
+        again,
+        counts,
     }
 }
 
 // The grammar stage: refusals 3 to 5, for any bytes. It is the walk, whose rows are not kept.
-pub fn stage(text: &[u8]) -> Answer
+pub fn stage(text: &[u8]) -> Result<(), Refusal>
     ensures answers { Answers text.now result }
     ensures demand_3 { Demand-3 text.now result }
 {

@@ -15,14 +15,12 @@ const CAP: usize = 0x8000_0000_0000_0000;
 fn store(out: &mut [u8], at: usize, bytes: &[u8])
     ensures { out.new ≡ sets out.old at bytes.now }
 {
-    let mut i = 0;
     let mut j = at;
-    while i < bytes.len() {
+    for byte in bytes {
         if out.len() <= j {
             return;
         }
-        out[j] = bytes[i];
-        i += 1;
+        out[j] = *byte;
         j += 1;
     }
 }

@@ -57,14 +57,12 @@ pub fn put_objects(
 ) -> usize
     ensures { PutsObjects text.now d.now o.now v.now m n out.old at out.new result }
 {
-    let mut i = 0;
     let mut k = 0;
     let mut e = at;
-    while i < m {
+    for i in 0..m {
         let s = put_object(text, d, o, v, n, i, k, out, e);
         k = s.next;
         e = s.place;
-        i += 1;
     }
     e
 }

@@ -103,6 +103,7 @@ pub fn put_lines(
 {
     let mut k = i;
     let mut e = at;
+    // A `while`: the next row is the one after those that the line before it has.
     while has_owner(v, n, k, sort, row) {
         let s = put_line(text, d, v, n, k, out, e);
         k = s.next;

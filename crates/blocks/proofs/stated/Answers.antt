@@ -10,20 +10,8 @@ use Rattle.blocks.proofs.stated.Goals as goal
 pub loop-k-init : goal.loop-k-init
 loop-k-init c = looking_start _ _ _ _ _ _
 
-pub cell_of-place-requires : goal.cell_of-place-requires
-cell_of-place-requires c = tt
-
-pub cell_of-size-requires : goal.cell_of-size-requires
-cell_of-size-requires c = tt
-
-pub same_part-requires : goal.same_part-requires
-same_part-requires c = tt
-
 pub returns-then-same_part : goal.returns-then-same_part
 returns-then-same_part c = looking_stop _ _ _ _ _ c.loop-k.invariant (omega arith) (sym (ap₂ (λ p n. same (part_of c.args.text.now c.args.at c.args.len) (part_of c.args.text.now p n)) c.cell_of-place.ensures c.cell_of-size.ensures) ∙ sym c.same_part.ensures ∙ c.if-same_part.true)
-
-pub after-k-requires : goal.after-k-requires
-after-k-requires c = tt
 
 pub loop-k-smaller : goal.loop-k-smaller
 loop-k-smaller c = omega (arith, c.after-k.ensures, after_later c.args.st.now c.loop-k.k c.args.end (omega arith), after_inside c.args.st.now c.loop-k.k c.args.end)

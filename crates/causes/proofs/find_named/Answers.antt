@@ -1,19 +1,10 @@
 use native.Mathlib.Omega.{arith}
-use mathlib.Core.Path.{refl, sym, ◌∙◌}
+use mathlib.Core.Path.{sym, ◌∙◌}
 use Rattle.causes.proofs.Rows.{find_here, find_on, find_none}
 use Rattle.causes.proofs.find_named.Goals as goal
 
-pub loop-i-init : goal.loop-i-init
-loop-i-init c = refl
-
 pub returns-then-is_named : goal.returns-then-is_named
 returns-then-is_named c = sym (find_here _ _ _ _ _ _ _ _ _ c.loop-i.i (omega arith) (sym c.is_named.ensures ∙ c.if-is_named.true)) ∙ c.loop-i.invariant
-
-pub overflow_add-i : goal.overflow_add-i
-overflow_add-i c = omega arith
-
-pub loop-i-smaller : goal.loop-i-smaller
-loop-i-smaller c = omega arith
 
 pub loop-i-preserved : goal.loop-i-preserved
 loop-i-preserved c = sym (find_on _ _ _ _ _ _ _ _ _ c.loop-i.i (omega arith) (sym c.is_named.ensures ∙ c.if-is_named.false)) ∙ c.loop-i.invariant

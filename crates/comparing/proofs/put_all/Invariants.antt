@@ -1,5 +1,5 @@
 -- `comparing::put_all`: the first k records are stored.
-use Prim.Native.Nat.{◌-◌, ◌≤◌}
+use Prim.Native.Nat.{◌≤◌}
 use mathlib.Core.Path.{◌≡◌}
 use lib.ListN.{take}
 use Rattle.comparing.specs.Lists.{overwrite}
@@ -7,6 +7,3 @@ use Rattle.comparing.proofs.put_all.Given as goal
 
 abbrev pub invariant-loop-k : goal.invariant-loop-k
 invariant-loop-k l = (l.k ≤ l.n) × (l.list ≡ overwrite (take l.k l.found.records) l.initial.list)
-
-abbrev pub decreases-loop-k : goal.decreases-loop-k
-decreases-loop-k l = l.n - l.k

@@ -1,14 +1,10 @@
-use Rattle.decimals.proofs.Powers.{power_none, power_less}
-use mathlib.Core.Path.{refl, sym, ◌∙◌}
+use Rattle.decimals.proofs.Powers.{power_less}
+use Prim.Native.Nat.{◌+◌, ◌-◌}
+use mathlib.Core.Path.{◌≡◌, sym, ◌∙◌}
 use native.Mathlib.Omega.{arith}
-use borrow.Author.Rules.{rules}
 use Rattle.decimals.proofs.scaled_at_most.Goals as goal
 
-pub loop-left-init : goal.loop-left-init
-loop-left-init c = refl
-
-pub loop-left-preserved : goal.loop-left-preserved
-loop-left-preserved c = sym (power_less _ c.loop-left.left _ (search rules)) ∙ c.loop-left.invariant
-
-pub returns : goal.returns
-returns c = sym (power_none _ c.loop-left.left _ (omega arith)) ∙ c.loop-left.invariant
+pub loop-preserved : goal.loop-preserved
+loop-preserved c =
+    let e : c.args.power - (c.loop.counter + 1) ≡ c.args.power - c.loop.counter - 1 = omega arith in
+    rw e (sym (power_less c.args.m (c.args.power - c.loop.counter) c.loop.bound (omega arith)) ∙ c.loop.invariant)

@@ -33,30 +33,30 @@ pub definition-returns-then-code-eq-BOOLEAN : goal.definition-returns-then-code-
 unfolding sort_at
 definition-returns-then-code-eq-BOOLEAN t c = boolean_defined _ c.if-code-eq-BOOLEAN.true c.advance-b.ensures c.auto-w.ensures (truths_there c.args.a c.if-c-ne-LSQUARE.false c.advance-f.ensures (true_is c.expect-g.ensures) c.length-truth.ensures c.parameters-p.ensures c.description-i.ensures (comma_is c.expect-j.ensures) (false_is c.expect-k.ensures) c.length-width.ensures c.parameters-q.ensures c.description-l.ensures (rsquare_is c.expect-o.ensures) c.through-extent.ensures c.with_list-h.ensures) (typed_list c.args.a c.with_list-h.ensures) c.named-x-then-code-eq-BOOLEAN.ensures
 
-pub definition-enumerator-v-requires : goal.definition-enumerator-v-requires
-definition-enumerator-v-requires t c = (twice_one_less _ 41 tt c.decreases c.if-code-eq-ENUM.true c.advance-b-then-code-eq-ENUM.ensures (c.auto-w-then-code-eq-ENUM.ensures.meets ⊳ lsquare_is c.expect-f.ensures), tt)
+pub definition-enumerator-spot-requires : goal.definition-enumerator-spot-requires
+definition-enumerator-spot-requires t c = (twice_one_less _ 41 tt c.decreases c.if-code-eq-ENUM.true c.advance-b-then-code-eq-ENUM.ensures (c.auto-w-then-code-eq-ENUM.ensures.meets ⊳ lsquare_is c.expect-f.ensures), tt)
 
-pub definition-loop-g-init : goal.definition-loop-g-init
-definition-loop-g-init t c = going tables enumerators (ValueRows _)
+pub definition-loop-spot-init : goal.definition-loop-spot-init
+definition-loop-spot-init t c = going tables enumerators (ValueRows _)
 
-pub definition-enumerator-y-requires : goal.definition-enumerator-y-requires
-definition-enumerator-y-requires t c = (comma_one_less _ (twice_less _ 41 tt c.decreases c.if-code-eq-ENUM.true c.advance-b-then-code-eq-ENUM.ensures (c.auto-w-then-code-eq-ENUM.ensures.meets ⊳ lsquare_is c.expect-f.ensures ⊳ c.enumerator-v.ensures.fills.meets)) c.loop-g.invariant.still c.loop-g-test.true c.advance-k.ensures, tt)
+pub definition-enumerator-spot-requires-in-loop-spot : goal.definition-enumerator-spot-requires-in-loop-spot
+definition-enumerator-spot-requires-in-loop-spot t c = (comma_one_less _ (twice_less _ 41 tt c.decreases c.if-code-eq-ENUM.true c.advance-b-then-code-eq-ENUM.ensures (c.auto-w-then-code-eq-ENUM.ensures.meets ⊳ lsquare_is c.expect-f.ensures ⊳ c.enumerator-spot.ensures.fills.meets)) c.loop-spot.invariant.still c.loop-spot-test.true c.advance-k.ensures, tt)
 
-pub definition-loop-g-smaller : goal.definition-loop-g-smaller
-definition-loop-g-smaller t c = comma_less c.loop-g-test.true (enumerators_item c.loop-g-test.true c.advance-k.ensures c.enumerator-y.ensures.fills.meets)
+pub definition-loop-spot-smaller : goal.definition-loop-spot-smaller
+definition-loop-spot-smaller t c = comma_less c.loop-spot-test.true (enumerators_item c.loop-spot-test.true c.advance-k.ensures c.enumerator-spot-in-loop-spot.ensures.fills.meets)
 
-pub definition-loop-g-preserved : goal.definition-loop-g-preserved
-definition-loop-g-preserved t c = enumerators_on _ c.loop-g.invariant c.loop-g-test.true c.advance-k.ensures c.enumerator-y.ensures
+pub definition-loop-spot-preserved : goal.definition-loop-spot-preserved
+definition-loop-spot-preserved t c = enumerators_on _ c.loop-spot.invariant c.loop-spot-test.true c.advance-k.ensures c.enumerator-spot-in-loop-spot.ensures
 
 pub definition-shape_of-d-then-code-eq-ENUM : goal.definition-shape_of-d-then-code-eq-ENUM
-definition-shape_of-d-then-code-eq-ENUM t c = c.named-x-then-code-eq-ENUM.ensures.does.size ∙ c.loop-g.invariant.does.0.size ∙ c.enumerator-v.ensures.does.0.size
+definition-shape_of-d-then-code-eq-ENUM t c = c.named-x-then-code-eq-ENUM.ensures.does.size ∙ c.loop-spot.invariant.does.0.size ∙ c.enumerator-spot.ensures.does.0.size
 
 pub definition-shape_of-e-then-code-eq-ENUM : goal.definition-shape_of-e-then-code-eq-ENUM
-definition-shape_of-e-then-code-eq-ENUM t c = c.loop-g.invariant.does.1.size ∙ c.enumerator-v.ensures.does.1.size
+definition-shape_of-e-then-code-eq-ENUM t c = c.loop-spot.invariant.does.1.size ∙ c.enumerator-spot.ensures.does.1.size
 
 pub definition-returns-then-code-eq-ENUM : goal.definition-returns-then-code-eq-ENUM
 unfolding sort_at
-definition-returns-then-code-eq-ENUM t c = enum_defined _ c.if-code-eq-ENUM.true c.advance-b-then-code-eq-ENUM.ensures c.auto-w-then-code-eq-ENUM.ensures (lsquare_is c.expect-f.ensures) c.enumerator-v.ensures c.loop-g.invariant c.loop-g-test.false (rsquare_is c.expect-o-then-code-eq-ENUM.ensures) c.through-extent-then-code-eq-ENUM.ensures c.with_list-h-then-code-eq-ENUM.ensures c.named-x-then-code-eq-ENUM.ensures
+definition-returns-then-code-eq-ENUM t c = enum_defined _ c.if-code-eq-ENUM.true c.advance-b-then-code-eq-ENUM.ensures c.auto-w-then-code-eq-ENUM.ensures (lsquare_is c.expect-f.ensures) c.enumerator-spot.ensures c.loop-spot.invariant c.loop-spot-test.false (rsquare_is c.expect-o-then-code-eq-ENUM.ensures) c.through-extent-then-code-eq-ENUM.ensures c.with_list-h-then-code-eq-ENUM.ensures c.named-x-then-code-eq-ENUM.ensures
 
 pub definition-shape_of-d-then-code-eq-STRING : goal.definition-shape_of-d-then-code-eq-STRING
 definition-shape_of-d-then-code-eq-STRING t c = c.string-x.ensures.does.size
@@ -88,14 +88,14 @@ definition-returns t c = definition_none _ (definition_no c.if-code-eq-BOOLEAN.f
 pub definitions-loop-under-init : goal.definitions-loop-under-init
 definitions-loop-under-init t c = going tables definitions (Rows _)
 
-pub definitions-definition-y-requires : goal.definitions-definition-y-requires
-definitions-definition-y-requires t c = (omega arith, tt)
+pub definitions-definition-spot-requires : goal.definitions-definition-spot-requires
+definitions-definition-spot-requires t c = (omega arith, tt)
 
 pub definitions-loop-under-smaller : goal.definitions-loop-under-smaller
-definitions-loop-under-smaller t c = definitions_less (sym c.is_definition.ensures ∙ c.loop-under-test.true) c.definition-y.ensures.fills.meets
+definitions-loop-under-smaller t c = definitions_less (sym c.is_definition.ensures ∙ c.loop-under-test.true) c.definition-spot.ensures.fills.meets
 
 pub definitions-loop-under-preserved : goal.definitions-loop-under-preserved
-definitions-loop-under-preserved t c = definitions_on _ c.loop-under.invariant (sym c.is_definition.ensures ∙ c.loop-under-test.true) c.definition-y.ensures
+definitions-loop-under-preserved t c = definitions_on _ c.loop-under.invariant (sym c.is_definition.ensures ∙ c.loop-under-test.true) c.definition-spot.ensures
 
 pub definitions-shape_of-d : goal.definitions-shape_of-d
 definitions-shape_of-d t c = c.loop-under.invariant.does.0.size

@@ -58,35 +58,17 @@ drop_one-shape_of-marks-then-next-k t c = omega (arith, c.drop_alone.auto)
 pub drop_one-returns-then-next-k : goal.drop_one-returns-then-next-k
 drop_one-returns-then-next-k t c = one_alone _ _ _ _ _ _ _ _ _ _ _ _ _ (omega (arith, c.requires.0, c.if-next-k.true)) c.drop_alone.ensures
 
-pub drop_one-verdict_on-v-requires : goal.drop_one-verdict_on-v-requires
-drop_one-verdict_on-v-requires t c = (c.requires.1, c.requires.2)
+pub drop_one-verdict_on-requires : goal.drop_one-verdict_on-requires
+drop_one-verdict_on-requires t c = (c.requires.1, c.requires.2)
 
-pub drop_one-overflow_add-k-then-v-eq0 : goal.drop_one-overflow_add-k-then-v-eq0
-drop_one-overflow_add-k-then-v-eq0 t c = omega (arith, c.requires.0, c.ranges.next)
+pub drop_one-returns-in-Ok : goal.drop_one-returns-in-Ok
+drop_one-returns-in-Ok t c = one_inside _ _ _ _ _ _ _ _ _ _ _ c.in-Ok.under c.in-Ok.ensures _ _ c.drop_block.ensures
 
-pub drop_one-drop_block-requires : goal.drop_one-drop_block-requires
-drop_one-drop_block-requires t c = (omega (arith, c.decreases, c.requires.0), c.requires.1)
+pub drop_one-returns-then-number-gt-STATED_AGAIN : goal.drop_one-returns-then-number-gt-STATED_AGAIN
+drop_one-returns-then-number-gt-STATED_AGAIN t c = one_kept _ _ _ _ _ _ _ _ _ _ _ c.in-Err.number c.in-Err.ensures _ (omega (arith, c.if-number-gt-STATED_AGAIN.true))
 
-pub drop_one-shape_of-marks-then-v-eq0 : goal.drop_one-shape_of-marks-then-v-eq0
-drop_one-shape_of-marks-then-v-eq0 t c = omega (arith, c.drop_block.auto)
-
-pub drop_one-returns-then-v-eq0 : goal.drop_one-returns-then-v-eq0
-drop_one-returns-then-v-eq0 t c = one_inside _ _ _ _ _ _ _ _ _ _ _ c.verdict_on-v.result c.verdict_on-v.ensures _ _ c.if-v-eq0.true c.drop_block.ensures
-
-pub drop_one-returns-then-v-gt-STATED_AGAIN : goal.drop_one-returns-then-v-gt-STATED_AGAIN
-drop_one-returns-then-v-gt-STATED_AGAIN t c = one_kept _ _ _ _ _ _ _ _ _ _ _ c.verdict_on-v.result c.verdict_on-v.ensures _ (omega (arith, c.if-v-gt-STATED_AGAIN.true))
-
-pub drop_one-cell_of-name-requires : goal.drop_one-cell_of-name-requires
-drop_one-cell_of-name-requires t c = tt
-
-pub drop_one-mark-requires : goal.drop_one-mark-requires
-drop_one-mark-requires t c = tt
-
-pub drop_one-shape_of-marks : goal.drop_one-shape_of-marks
-drop_one-shape_of-marks t c = omega (arith, c.mark.auto)
-
-pub drop_one-returns : goal.drop_one-returns
-drop_one-returns t c = one_marked _ _ _ _ _ _ _ _ _ _ _ c.verdict_on-v.result c.verdict_on-v.ensures _ _ c.cell_of-name.result c.cell_of-name.ensures c.if-v-eq0.false (omega (arith, c.if-v-gt-STATED_AGAIN.false)) c.mark.ensures
+pub drop_one-returns-else-number-gt-STATED_AGAIN : goal.drop_one-returns-else-number-gt-STATED_AGAIN
+drop_one-returns-else-number-gt-STATED_AGAIN t c = one_marked _ _ _ _ _ _ _ _ _ _ _ c.in-Err.number c.in-Err.ensures _ _ c.cell_of-name.result c.cell_of-name.ensures (omega (arith, c.if-number-gt-STATED_AGAIN.false)) c.mark.ensures
 
 pub drop_statements-loop-k-init : goal.drop_statements-loop-k-init
 drop_statements-loop-k-init t c = (omega arith, refl, dropping_start _ _ _ _ _ _ _ _ _ _)

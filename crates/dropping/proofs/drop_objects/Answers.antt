@@ -9,12 +9,6 @@ loop-i-init c = (refl, objects_start _ _ _ _ _ _ c.args.places.now _)
 pub drop_object-requires : goal.drop_object-requires
 drop_object-requires c = c.requires
 
-pub overflow_add-i : goal.overflow_add-i
-overflow_add-i c = omega arith
-
-pub loop-i-smaller : goal.loop-i-smaller
-loop-i-smaller c = omega arith
-
 pub loop-i-preserved : goal.loop-i-preserved
 loop-i-preserved c = (omega (arith, c.drop_object.auto, c.loop-i.invariant.0), objects_more _ _ _ _ _ _ c.args.places.now c.loop-i.i _ _ _ (omega arith) c.drop_object.ensures c.loop-i.invariant.1)
 

@@ -6,6 +6,3 @@ use Rattle.dropping.proofs.drop_objects.Given as goal
 
 abbrev pub invariant-loop-i : goal.invariant-loop-i
 invariant-loop-i l = (length l.marks ≡ length l.initial.marks) × DroppingObjects l.text l.d l.e l.o l.st l.z l.places l.i l.initial.marks l.marks
-
-abbrev pub decreases-loop-i : goal.decreases-loop-i
-decreases-loop-i l = l.z.objects - l.i

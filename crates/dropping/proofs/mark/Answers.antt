@@ -1,5 +1,3 @@
--- `dropping::mark` meets its contract.
--- Assumes nothing.
 use mathlib.Core.Path.{sym}
 use lib.Seq.{set_out}
 use Rattle.dropping.proofs.mark.Goals as goal

@@ -14,15 +14,6 @@ loop-i-init c = (omega arith, omega arith, refl, refl, c.goes_on-named.ensures, 
 pub is_expected-requires : goal.is_expected-requires
 is_expected-requires c = (c.requires.1.0, omega (arith, c.loop-i.invariant.3, c.requires.1.1), omega arith)
 
-pub bounds-flags-i : goal.bounds-flags-i
-bounds-flags-i c = omega arith
-
-pub overflow_add-i : goal.overflow_add-i
-overflow_add-i c = omega arith
-
-pub loop-i-smaller : goal.loop-i-smaller
-loop-i-smaller c = omega arith
-
 pub loop-i-preserved : goal.loop-i-preserved
 loop-i-preserved c = (omega arith, omega arith, simp length-set (c.loop-i.invariant.2), omega (arith, c.loop-i.invariant.3), c.loop-i.invariant.4, told_more (omega (arith, c.loop-i.invariant.2)) c.loop-i.invariant.0 c.requires.0.1 c.loop-i.invariant.4 c.is_expected.ensures c.loop-i.invariant.5)
 

@@ -7,6 +7,3 @@ use Rattle.expecting.proofs.flags.Given as goal
 
 abbrev pub invariant-loop-i : goal.invariant-loop-i
 invariant-loop-i l = (1 ≤ l.i) × (l.i ≤ 28) × (length l.flags ≡ 29) × (length l.scratch ≡ length l.initial.scratch) × AdmitsLast (asking l.text l.place 0) (l.place + 1) l.named × Told l.text l.place l.flags l.i
-
-abbrev pub decreases-loop-i : goal.decreases-loop-i
-decreases-loop-i l = 28 - l.i

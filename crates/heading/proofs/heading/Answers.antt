@@ -7,17 +7,17 @@ use Rattle.heading.proofs.heading.Goals as goal
 pub returns-then-text-gt-LONGEST : goal.returns-then-text-gt-LONGEST
 returns-then-text-gt-LONGEST c = let e = too_long c.if-text-gt-LONGEST.true in record { heads = e; q_7 = q_7 _ _ e }
 
-pub overflow_add-place : goal.overflow_add-place
-overflow_add-place c = let w = string_fits (ahead c.look_at-a.ensures c.expect-b.ensures c.expect-c.ensures c.expect-d.ensures c.finish-e.ensures c.expect-f.ensures c.expect_name-g.ensures) c.if-g-eq-LBRACE.true in let x = w.0 in let y = w.1 in omega (arith, x, y, c.if-text-gt-LONGEST.false)
+pub overflow_add-told : goal.overflow_add-told
+overflow_add-told c = let w = string_fits (ahead c.look_at-a.ensures c.expect-b.ensures c.expect-c.ensures c.expect-d.ensures c.finish-e.ensures c.expect-f.ensures c.expect_name-g.ensures) c.if-g-eq-LBRACE.true in let x = w.0 in let y = w.1 in omega (arith, x, y, c.if-text-gt-LONGEST.false)
 
-pub overflow_sub-length : goal.overflow_sub-length
-overflow_sub-length c = let w = string_fits (ahead c.look_at-a.ensures c.expect-b.ensures c.expect-c.ensures c.expect-d.ensures c.finish-e.ensures c.expect-f.ensures c.expect_name-g.ensures) c.if-g-eq-LBRACE.true in let x = w.0 in omega (arith, x)
+pub overflow_sub-told : goal.overflow_sub-told
+overflow_sub-told c = let w = string_fits (ahead c.look_at-a.ensures c.expect-b.ensures c.expect-c.ensures c.expect-d.ensures c.finish-e.ensures c.expect-f.ensures c.expect_name-g.ensures) c.if-g-eq-LBRACE.true in let x = w.0 in omega (arith, x)
 
-pub overflow_sub-length-then-g-eq-LBRACE : goal.overflow_sub-length-then-g-eq-LBRACE
-overflow_sub-length-then-g-eq-LBRACE c = let w = string_fits (ahead c.look_at-a.ensures c.expect-b.ensures c.expect-c.ensures c.expect-d.ensures c.finish-e.ensures c.expect-f.ensures c.expect_name-g.ensures) c.if-g-eq-LBRACE.true in let x = w.0 in omega (arith, x)
+pub overflow_sub-told-then-g-eq-LBRACE : goal.overflow_sub-told-then-g-eq-LBRACE
+overflow_sub-told-then-g-eq-LBRACE c = let w = string_fits (ahead c.look_at-a.ensures c.expect-b.ensures c.expect-c.ensures c.expect-d.ensures c.finish-e.ensures c.expect-f.ensures c.expect_name-g.ensures) c.if-g-eq-LBRACE.true in let x = w.0 in omega (arith, x)
 
-pub overflow_sub-name_length : goal.overflow_sub-name_length
-overflow_sub-name_length c = name_fits (ahead c.look_at-a.ensures c.expect-b.ensures c.expect-c.ensures c.expect-d.ensures c.finish-e.ensures c.expect-f.ensures c.expect_name-g.ensures) c.if-g-eq-LBRACE.true
+pub overflow_sub-told-then-g-eq-LBRACE-2 : goal.overflow_sub-told-then-g-eq-LBRACE-2
+overflow_sub-told-then-g-eq-LBRACE-2 c = name_fits (ahead c.look_at-a.ensures c.expect-b.ensures c.expect-c.ensures c.expect-d.ensures c.finish-e.ensures c.expect-f.ensures c.expect_name-g.ensures) c.if-g-eq-LBRACE.true
 
 pub returns-then-g-eq-LBRACE : goal.returns-then-g-eq-LBRACE
 returns-then-g-eq-LBRACE c = let e = told (ahead c.look_at-a.ensures c.expect-b.ensures c.expect-c.ensures c.expect-d.ensures c.finish-e.ensures c.expect-f.ensures c.expect_name-g.ensures) c.if-g-eq-LBRACE.true c.if-text-gt-LONGEST.false in record { heads = e; q_7 = q_7 _ _ e }

@@ -11,10 +11,10 @@ pub loop-kind-init : goal.loop-kind-init
 loop-kind-init c = going all specs AllRows
 
 pub loop-kind-smaller : goal.loop-kind-smaller
-loop-kind-smaller c = kind_less (sym c.is_kind.ensures ∙ c.loop-kind-test.true) c.spec-y.ensures.fills.meets
+loop-kind-smaller c = kind_less (sym c.is_kind.ensures ∙ c.loop-kind-test.true) c.spec-spot.ensures.fills.meets
 
 pub loop-kind-preserved : goal.loop-kind-preserved
-loop-kind-preserved c = specs_on c.loop-kind.invariant (sym c.is_kind.ensures ∙ c.loop-kind-test.true) c.kind_number-kind.ensures (noted _ _ (record { marks = c.loop-kind.marks; places = c.loop-kind.places; again = c.loop-kind.again; found = c.loop-kind.found }) c.cell-mark.ensures c.with_place-p.ensures c.again_at-g.ensures c.found_by-f.ensures c.with_cell-q.ensures) c.spec-y.ensures
+loop-kind-preserved c = specs_on c.loop-kind.invariant (sym c.is_kind.ensures ∙ c.loop-kind-test.true) c.kind_number-kind.ensures (noted _ _ (record { marks = c.loop-kind.marks; places = c.loop-kind.places; again = c.loop-kind.again }) c.cell-mark.ensures c.with_place-p.ensures c.again_at-g.ensures c.with_cell-q.ensures) c.spec-spot.ensures
 
 pub shape_of-d : goal.shape_of-d
 shape_of-d c = c.loop-kind.invariant.does.1.0.size

@@ -6,7 +6,7 @@ use Rattle.grammar.specs.Grammar.{specs}
 use Rattle.implementation.proofs.specs.Given as goal
 
 abbrev pub invariant-loop-kind : goal.invariant-loop-kind
-invariant-loop-kind l = Going beside FillAll specs AllRows l.text l.initial.a l.a (record { marks = l.initial.marks; places = l.initial.places; again = l.initial.again; found = l.initial.found }, ((l.initial.d, l.initial.n), (l.initial.e, l.initial.m))) (record { marks = l.marks; places = l.places; again = l.again; found = l.found }, ((l.d, l.n), (l.e, l.m)))
+invariant-loop-kind l = Going beside FillAll specs AllRows l.text l.initial.spot.look l.spot.look (record { marks = l.initial.marks; places = l.initial.places; again = l.initial.again }, ((l.initial.d, l.initial.spot.definitions), (l.initial.e, l.initial.spot.enumerators))) (record { marks = l.marks; places = l.places; again = l.again }, ((l.d, l.spot.definitions), (l.e, l.spot.enumerators)))
 
 abbrev pub decreases-loop-kind : goal.decreases-loop-kind
-decreases-loop-kind l = left l.text l.a
+decreases-loop-kind l = left l.text l.spot.look

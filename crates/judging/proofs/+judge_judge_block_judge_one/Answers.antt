@@ -11,14 +11,8 @@ use Rattle.judging.proofs.+judge_judge_block_judge_one.Goals as goal
 pub judge-loop-k-init : goal.judge-loop-k-init
 judge-loop-k-init t c = (omega arith, judging_start _ _ _ _ _ _ _ _ _ _)
 
-pub judge-after-next-requires : goal.judge-after-next-requires
-judge-after-next-requires t c = tt
-
 pub judge-judge_one-f-requires : goal.judge-judge_one-f-requires
 judge-judge_one-f-requires t c = (omega (arith, c.after-next.ensures, after_later c.args.st.now c.loop-k.k c.args.end c.loop-k-test.true, after_inside c.args.st.now c.loop-k.k c.args.end, c.loop-k.invariant.0, c.decreases), (omega (arith, c.after-next.ensures, after_later c.args.st.now c.loop-k.k c.args.end c.loop-k-test.true, after_inside c.args.st.now c.loop-k.k c.args.end, c.loop-k.invariant.0, c.decreases), c.requires.0, c.requires.1))
-
-pub judge-sooner-best-requires : goal.judge-sooner-best-requires
-judge-sooner-best-requires t c = tt
 
 pub judge-loop-k-smaller : goal.judge-loop-k-smaller
 judge-loop-k-smaller t c = omega (arith, c.after-next.ensures, after_later c.args.st.now c.loop-k.k c.args.end c.loop-k-test.true, after_inside c.args.st.now c.loop-k.k c.args.end)
@@ -34,9 +28,6 @@ judge_block-lack_fault-requires t c = (c.requires.named.ranks, firsts_empty _ _ 
 
 pub judge_block-returns-then-end-from : goal.judge_block-returns-then-end-from
 judge_block-returns-then-end-from t c = block_empty _ _ _ _ _ _ _ _ _ _ _ c.lack_fault.result c.if-end-from.true c.lack_fault.ensures
-
-pub judge_block-overflow_sub-end : goal.judge_block-overflow_sub-end
-judge_block-overflow_sub-end t c = omega arith
 
 pub judge_block-lack_fault-a-requires : goal.judge_block-lack_fault-a-requires
 judge_block-lack_fault-a-requires t c = (c.requires.named.ranks, firsts_empty _ _ _ _ _ refl, c.requires.owners)
@@ -59,9 +50,6 @@ judge_block-lack_fault-a-requires-then-z-lt-FEW t c = (c.requires.named.ranks, c
 pub judge_block-judge-b-requires-then-z-lt-FEW : goal.judge_block-judge-b-requires-then-z-lt-FEW
 judge_block-judge-b-requires-then-z-lt-FEW t c = (omega (arith, c.decreases), (c.requires, c.fill_firsts.ensures))
 
-pub judge_block-sooner-requires-then-z-lt-FEW : goal.judge_block-sooner-requires-then-z-lt-FEW
-judge_block-sooner-requires-then-z-lt-FEW t c = tt
-
 pub judge_block-returns-then-z-lt-FEW : goal.judge_block-returns-then-z-lt-FEW
 judge_block-returns-then-z-lt-FEW t c = block_by _ _ _ _ _ _ _ _ _ _ _ c.lack_fault-a-then-z-lt-FEW.result c.judge-b-then-z-lt-FEW.result c.sooner-then-z-lt-FEW.result c.sooner-then-z-lt-FEW.ensures c.lack_fault-a-then-z-lt-FEW.ensures c.judge-b-then-z-lt-FEW.ensures
 
@@ -74,17 +62,8 @@ judge_block-lack_fault-a-requires-2 t c = (c.requires.named.ranks, c.fill_firsts
 pub judge_block-judge-b-requires-2 : goal.judge_block-judge-b-requires-2
 judge_block-judge-b-requires-2 t c = (omega (arith, c.decreases), (c.requires, c.fill_firsts-2.ensures))
 
-pub judge_block-sooner-requires-2 : goal.judge_block-sooner-requires-2
-judge_block-sooner-requires-2 t c = tt
-
 pub judge_block-returns : goal.judge_block-returns
 judge_block-returns t c = block_by _ _ _ _ _ _ _ _ _ _ _ c.lack_fault-a-2.result c.judge-b-2.result c.sooner-2.result c.sooner-2.ensures c.lack_fault-a-2.ensures c.judge-b-2.ensures
-
-pub judge_one-cell_of-name-requires : goal.judge_one-cell_of-name-requires
-judge_one-cell_of-name-requires t c = tt
-
-pub judge_one-cell_of-size-requires : goal.judge_one-cell_of-size-requires
-judge_one-cell_of-size-requires t c = tt
 
 pub judge_one-find_definition-requires : goal.judge_one-find_definition-requires
 judge_one-find_definition-requires t c = c.requires.1.named.definitions
@@ -92,23 +71,14 @@ judge_one-find_definition-requires t c = c.requires.1.named.definitions
 pub judge_one-returns-in_default : goal.judge_one-returns-in_default
 judge_one-returns-in_default t c = one_undefined _ _ _ _ _ _ _ _ _ _ _ _ c.cell_of-name.result c.cell_of-size.result c.cell_of-name.ensures c.cell_of-size.ensures (subst (λ r. FindsDefinition c.args.text.now c.args.d.now c.args.z.definitions c.args.key c.cell_of-name.result c.cell_of-size.result r) c.in_default.is c.find_definition.ensures)
 
-pub judge_one-cell_of-at-requires : goal.judge_one-cell_of-at-requires
-judge_one-cell_of-at-requires t c = tt
-
-pub judge_one-cell_of-len-requires : goal.judge_one-cell_of-len-requires
-judge_one-cell_of-len-requires t c = tt
-
 pub judge_one-word_under-under-requires : goal.judge_one-word_under-under-requires
 judge_one-word_under-under-requires t c = c.requires.1.named.enumerators
 
 pub judge_one-own_fault-f-requires : goal.judge_one-own_fault-f-requires
 judge_one-own_fault-f-requires t c = (c.requires.1.known, c.requires.1.named, c.requires.2, under_at _ _ _ c.args.st.now _ _ c.args.k _ _ _ c.cell_of-at.ensures c.cell_of-len.ensures c.word_under-under.ensures)
 
-pub judge_one-is_fault-requires : goal.judge_one-is_fault-requires
-judge_one-is_fault-requires t c = tt
-
-pub judge_one-returns-then-is_fault : goal.judge_one-returns-then-is_fault
-judge_one-returns-then-is_fault t c = one_fault _ _ _ _ _ _ _ _ _ _ _ _ c.cell_of-name.result c.cell_of-size.result c.cell_of-name.ensures c.cell_of-size.ensures _ c.own_fault-f.result (subst (λ r. FindsDefinition c.args.text.now c.args.d.now c.args.z.definitions c.args.key c.cell_of-name.result c.cell_of-size.result r) c.in-At.is c.find_definition.ensures) c.own_fault-f.ensures (sym c.is_fault.ensures ∙ c.if-is_fault.true)
+pub judge_one-returns-then-is_some : goal.judge_one-returns-then-is_some
+judge_one-returns-then-is_some t c = one_fault _ _ _ _ _ _ _ _ _ _ _ _ c.cell_of-name.result c.cell_of-size.result c.cell_of-name.ensures c.cell_of-size.ensures _ c.own_fault-f.result (subst (λ r. FindsDefinition c.args.text.now c.args.d.now c.args.z.definitions c.args.key c.cell_of-name.result c.cell_of-size.result r) c.in-Some.is c.find_definition.ensures) c.own_fault-f.ensures (sym c.is_some.ensures ∙ c.if-is_some.true)
 
 pub judge_one-overflow_add-k : goal.judge_one-overflow_add-k
 judge_one-overflow_add-k t c = omega (arith, c.requires, c.ranges.next)
@@ -117,4 +87,4 @@ pub judge_one-judge_block-requires : goal.judge_one-judge_block-requires
 judge_one-judge_block-requires t c = (omega (arith, c.decreases, c.requires), c.requires.1)
 
 pub judge_one-returns : goal.judge_one-returns
-judge_one-returns t c = one_inside _ _ _ _ _ _ _ _ _ _ _ _ c.cell_of-name.result c.cell_of-size.result c.cell_of-name.ensures c.cell_of-size.ensures _ c.cell_of-at.result c.cell_of-len.result c.word_under-under.result c.own_fault-f.result c.judge_block.result (subst (λ r. FindsDefinition c.args.text.now c.args.d.now c.args.z.definitions c.args.key c.cell_of-name.result c.cell_of-size.result r) c.in-At.is c.find_definition.ensures) c.own_fault-f.ensures (sym c.is_fault.ensures ∙ c.if-is_fault.false) c.cell_of-at.ensures c.cell_of-len.ensures c.word_under-under.ensures c.judge_block.ensures
+judge_one-returns t c = one_inside _ _ _ _ _ _ _ _ _ _ _ _ c.cell_of-name.result c.cell_of-size.result c.cell_of-name.ensures c.cell_of-size.ensures _ c.cell_of-at.result c.cell_of-len.result c.word_under-under.result c.own_fault-f.result c.judge_block.result (subst (λ r. FindsDefinition c.args.text.now c.args.d.now c.args.z.definitions c.args.key c.cell_of-name.result c.cell_of-size.result r) c.in-Some.is c.find_definition.ensures) c.own_fault-f.ensures (sym c.is_some.ensures ∙ c.if-is_some.false) c.cell_of-at.ensures c.cell_of-len.ensures c.word_under-under.ensures c.judge_block.ensures

@@ -10,15 +10,6 @@ loop-i-init c = objects_start _ _ _ _ _ c.args.known.now _ c.args.places.now
 pub judge_object-f-requires : goal.judge_object-f-requires
 judge_object-f-requires c = c.requires
 
-pub sooner-best-requires : goal.sooner-best-requires
-sooner-best-requires c = tt
-
-pub overflow_add-i : goal.overflow_add-i
-overflow_add-i c = omega arith
-
-pub loop-i-smaller : goal.loop-i-smaller
-loop-i-smaller c = omega arith
-
 pub loop-i-preserved : goal.loop-i-preserved
 loop-i-preserved c = objects_step _ _ _ _ _ c.args.known.now _ c.args.places.now c.loop-i.i c.loop-i.best c.judge_object-f.result c.sooner-best.result c.sooner-best.ensures (omega arith) c.judge_object-f.ensures c.loop-i.invariant
 

@@ -6,6 +6,3 @@ use Rattle.judging.proofs.judge_objects.Given as goal
 
 abbrev pub invariant-loop-i : goal.invariant-loop-i
 invariant-loop-i l = JudgingObjects l.text l.d l.e l.o l.st l.known l.z l.places l.i l.best
-
-abbrev pub decreases-loop-i : goal.decreases-loop-i
-decreases-loop-i l = l.z.objects - l.i

@@ -3,4 +3,4 @@ use borrow.Author.Rules.{rules}
 use Rattle.lent_texts.proofs.refused.Goals as goal
 
 pub returns : goal.returns
-returns c = refused_is _ _ _ _ _ _ c.renumbered-n.ensures c.place_refused-p.ensures
+returns c = refused_is _ _ _ _ _ _ c.renumbered-number.ensures c.place_refused-place.ensures

@@ -15,4 +15,4 @@ pub returns-then-h-end : goal.returns-then-h-end
 returns-then-h-end c = λ st. begins_here st _ _ _ _ _ _
 
 pub returns : goal.returns
-returns c = λ st. begins_next st _ _ _ _ _ _ _ _ c.get-row.ensures c.if-row-eq0.false (omega arith) c.if-h-last-2.false (omega arith) c.least.ensures
+returns c = λ st. begins_next st _ _ _ _ _ _ _ _ c.get-row.ensures c.if-row-eq0.false (omega arith) c.if-h-last-2.false (omega arith) c.min.ensures

@@ -3,38 +3,8 @@ use native.Mathlib.Omega.{arith}
 use mathlib.Core.Path.{refl, ◌∙◌}
 use Rattle.lookups.proofs.note_firsts.Goals as goal
 
-pub least-requires : goal.least-requires
-least-requires c = tt
-
-pub least-limit-requires : goal.least-limit-requires
-least-limit-requires c = tt
-
 pub loop-k-init : goal.loop-k-init
-loop-k-init c = ((omega (arith, c.least.ensures, c.least-limit.ensures), omega (arith, c.least.ensures, c.least-limit.ensures), omega (arith, c.least.ensures, c.least-limit.ensures)), refl, c.requires)
-
-pub offset_bounds-h-k : goal.offset_bounds-h-k
-offset_bounds-h-k c = omega arith
-
-pub bounds-h-k : goal.bounds-h-k
-bounds-h-k c = omega arith
-
-pub note_first-requires : goal.note_first-requires
-note_first-requires c = tt
-
-pub overflow_mul-k : goal.overflow_mul-k
-overflow_mul-k c = omega arith
-
-pub overflow_add-k : goal.overflow_add-k
-overflow_add-k c = omega arith
-
-pub offset_bounds-st-k : goal.offset_bounds-st-k
-offset_bounds-st-k c = omega arith
-
-pub bounds-st-k : goal.bounds-st-k
-bounds-st-k c = omega arith
-
-pub next_row-k-requires : goal.next_row-k-requires
-next_row-k-requires c = tt
+loop-k-init c = ((omega (arith, c.min.ensures, c.min-limit.ensures), omega (arith, c.min.ensures, c.min-limit.ensures), omega (arith, c.min.ensures, c.min-limit.ensures)), refl, c.requires)
 
 pub loop-k-smaller : goal.loop-k-smaller
 loop-k-smaller c = omega (arith, next_later c.args.st.now c.loop-k.k c.args.end _ c.next_row-k.ensures (omega arith))

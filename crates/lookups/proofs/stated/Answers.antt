@@ -2,29 +2,11 @@ use Rattle.lookups.proofs.Blocks.{onward_start, onward_stop, onward_more, onward
 use native.Mathlib.Omega.{arith}
 use Rattle.lookups.proofs.stated.Goals as goal
 
-pub skip-k-requires : goal.skip-k-requires
-skip-k-requires c = tt
-
 pub loop-k-init : goal.loop-k-init
 loop-k-init c = onward_start _ _ _ _ _ _ _ _ _ c.skip-k.ensures
 
-pub cell_of-place-requires : goal.cell_of-place-requires
-cell_of-place-requires c = tt
-
-pub cell_of-size-requires : goal.cell_of-size-requires
-cell_of-size-requires c = tt
-
-pub same_part-requires : goal.same_part-requires
-same_part-requires c = tt
-
 pub returns-then-same_part : goal.returns-then-same_part
 returns-then-same_part c = onward_stop _ _ _ _ _ _ _ _ _ _ _ c.loop-k.invariant (omega arith) _ c.cell_of-place.ensures c.cell_of-size.ensures c.same_part.ensures c.if-same_part.true
-
-pub after-requires : goal.after-requires
-after-requires c = tt
-
-pub skip-k-requires-in-loop-k : goal.skip-k-requires-in-loop-k
-skip-k-requires-in-loop-k c = tt
 
 pub loop-k-smaller : goal.loop-k-smaller
 loop-k-smaller c = omega (arith, skips_later c.args.st.now c.args.h.now c.loop-k.k c.args.end _ _ _ (omega arith) c.after.ensures c.skip-k-in-loop-k.ensures)

@@ -13,4 +13,4 @@ pub returns-in_default : goal.returns-in_default
 returns-in_default c = none-indexed _ _ _ _ _ _ _ _ c.cell_of-code.ensures c.if-code-ne-ENUM.false _ c.find_enumerator.ensures c.in_default.is
 
 pub returns : goal.returns
-returns c = word-indexed _ _ _ _ _ _ _ _ c.cell_of-code.ensures c.if-code-ne-ENUM.false _ c.find_enumerator.ensures _ _ c.in-At.is c.cell_of.ensures
+returns c = word-indexed _ _ _ _ _ _ _ _ c.cell_of-code.ensures c.if-code-ne-ENUM.false _ c.find_enumerator.ensures _ _ c.in-Some.is c.cell_of.ensures

@@ -1,6 +1,5 @@
 use Rattle.masks.proofs.ByRules.{checks_rules}
 use Rattle.masks.proofs.Accepting.{check_refused, check_accepted}
-use borrow.Author.Rules.{rules}
 use Rattle.masks.proofs.check_masks.Goals as goal
 
 pub returns-in-Refused : goal.returns-in-Refused

@@ -1,6 +1,5 @@
 use Rattle.masks.proofs.ByRules.{plans_rules}
 use Rattle.masks.proofs.Accepting.{plan_refused, plan_accepted}
-use borrow.Author.Rules.{rules}
 use Rattle.masks.proofs.plan_masks.Goals as goal
 
 pub returns-in-Refused : goal.returns-in-Refused

@@ -8,8 +8,8 @@ returns-then-list-e c = list_short array_wide c.event_rows-e.ensures _ c.if-list
 pub returns-then-e-gt-MOST : goal.returns-then-e-gt-MOST
 returns-then-e-gt-MOST c = too_many_planned array_wide c.event_rows-e.ensures _ _ _ c.if-e-gt-MOST.true
 
-pub slice_bounds-hand_out-end-4 : goal.slice_bounds-hand_out-end-4
-slice_bounds-hand_out-end-4 c = front_long _ c.if-e-gt-MOST.false
+pub slice_bounds-hand_out-end-2 : goal.slice_bounds-hand_out-end-2
+slice_bounds-hand_out-end-2 c = front_long _ c.if-e-gt-MOST.false
 
 pub hand_out-requires : goal.hand_out-requires
 hand_out-requires c = front_within _ _ c.if-e-gt-MOST.false c.if-list-e.false

@@ -1,18 +1,9 @@
-use Rattle.masks_texts.proofs.Told.{check_refused, check_not_plannable, check_wrong_length, check_breaks, check_accepts}
+use Rattle.masks_texts.proofs.Told.{check_told, check_refused}
 use borrow.Author.Rules.{rules}
 use Rattle.masks_texts.proofs.check_expanded.Goals as goal
 
-pub returns-in-Refused : goal.returns-in-Refused
-returns-in-Refused c = check_refused c.check_masks-answer.ensures.rules c.in-Refused.is c.refused-r.ensures
+pub returns-in-Ok : goal.returns-in-Ok
+returns-in-Ok c = check_told c.check_masks.ensures.rules c.in-Ok.is
 
-pub returns-in-NotPlannable : goal.returns-in-NotPlannable
-returns-in-NotPlannable c = check_not_plannable c.check_masks-answer.ensures.rules c.in-NotPlannable.is
-
-pub returns-in-WrongLength : goal.returns-in-WrongLength
-returns-in-WrongLength c = check_wrong_length c.check_masks-answer.ensures.rules c.in-WrongLength.is
-
-pub returns-in-Breaks : goal.returns-in-Breaks
-returns-in-Breaks c = check_breaks c.check_masks-answer.ensures.rules c.in-Breaks.is
-
-pub returns-in-Accepted : goal.returns-in-Accepted
-returns-in-Accepted c = check_accepts c.check_masks-answer.ensures.rules c.in-Accepted.is
+pub returns-in-Err : goal.returns-in-Err
+returns-in-Err c = check_refused c.check_masks.ensures.rules c.in-Err.is c.refused.ensures

@@ -1,5 +1,4 @@
 use Rattle.mending.proofs.Wholes.{answers_to}
-use borrow.Author.Rules.{rules}
 use Rattle.mending.proofs.answer_to.Goals as goal
 
 pub returns : goal.returns

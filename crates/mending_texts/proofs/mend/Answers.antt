@@ -1,17 +1,9 @@
+use Rattle.lent_texts.proofs.Told.{passed_on}
 use Rattle.mending_texts.proofs.Told.{stopped_mends, text_mends}
-use Rattle.lent_texts.proofs.Told.{inside}
-use lib.Seq.{length-take-le}
-use mathlib.Core.Path.{sym}
 use Rattle.mending_texts.proofs.mend.Goals as goal
 
-pub slice_bounds-mend_expanded-end : goal.slice_bounds-mend_expanded-end
-slice_bounds-mend_expanded-end c = inside c.expand-lent.ensures c.in-Text.is
+pub returns-in_err-e : goal.returns-in_err-e
+returns-in_err-e c = stopped_mends c.expand.ensures c.in_err-e.was (passed_on c.from_residual.ensures.1)
 
-pub slice_bounds-mend_expanded-end-in-Text : goal.slice_bounds-mend_expanded-end-in-Text
-slice_bounds-mend_expanded-end-in-Text c = sym (length-take-le _ _ (inside c.expand-lent.ensures c.in-Text.is))
-
-pub returns-in-Stopped : goal.returns-in-Stopped
-returns-in-Stopped c = stopped_mends _ c.expand-lent.ensures c.in-Stopped.is
-
-pub returns-in-Text : goal.returns-in-Text
-returns-in-Text c = text_mends c.expand-lent.ensures c.in-Text.is c.mend_expanded.ensures
+pub returns : goal.returns
+returns c = text_mends c.expand.ensures c.in_ok-e.was c.mend_expanded.ensures

@@ -2,11 +2,11 @@ use Rattle.mending_texts.proofs.Told.{refused_expanded, not_mended_expanded, don
 use borrow.Author.Rules.{rules}
 use Rattle.mending_texts.proofs.mend_expanded.Goals as goal
 
-pub returns-in-Refused : goal.returns-in-Refused
-returns-in-Refused c = refused_expanded c.mend-answer.ensures.rules c.in-Refused.is c.refused-r.ensures
+pub returns-in-Ok : goal.returns-in-Ok
+returns-in-Ok c = done_expanded c.mend.ensures.rules c.in-Ok.is
 
-pub returns-in-NotMended : goal.returns-in-NotMended
-returns-in-NotMended c = not_mended_expanded c.mend-answer.ensures.rules c.in-NotMended.is c.place_refused-p.ensures
+pub returns-in-Err-Refused : goal.returns-in-Err-Refused
+returns-in-Err-Refused c = refused_expanded c.mend.ensures.rules c.in-Err-Refused.is c.in-Err-Refused.field-0-is c.refused.ensures
 
-pub returns-in-Done : goal.returns-in-Done
-returns-in-Done c = done_expanded c.mend-answer.ensures.rules c.in-Done.is
+pub returns-in-Err-NotMended : goal.returns-in-Err-NotMended
+returns-in-Err-NotMended c = not_mended_expanded c.mend.ensures.rules c.in-Err-NotMended.is c.in-Err-NotMended.field-0-is c.place_refused.ensures

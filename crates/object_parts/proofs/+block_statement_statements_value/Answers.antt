@@ -30,14 +30,14 @@ statement-returns t c = statement_there _ c.expect_name-b.ensures (equals_is c.e
 pub statements-loop-s-init : goal.statements-loop-s-init
 statements-loop-s-init t c = going lines statements StatementRows
 
-pub statements-statement-y-requires : goal.statements-statement-y-requires
-statements-statement-y-requires t c = (omega arith, tt)
+pub statements-statement-spot-requires : goal.statements-statement-spot-requires
+statements-statement-spot-requires t c = (omega arith, tt)
 
 pub statements-loop-s-smaller : goal.statements-loop-s-smaller
-statements-loop-s-smaller t c = name_less (sym c.is_name.ensures ∙ c.loop-s-test.true) c.statement-y.ensures.fills.meets
+statements-loop-s-smaller t c = name_less (sym c.is_name.ensures ∙ c.loop-s-test.true) c.statement-spot.ensures.fills.meets
 
 pub statements-loop-s-preserved : goal.statements-loop-s-preserved
-statements-loop-s-preserved t c = statements_on c.loop-s.invariant (sym c.is_name.ensures ∙ c.loop-s-test.true) c.statement-y.ensures
+statements-loop-s-preserved t c = statements_on c.loop-s.invariant (sym c.is_name.ensures ∙ c.loop-s-test.true) c.statement-spot.ensures
 
 pub statements-shape_of-s : goal.statements-shape_of-s
 statements-shape_of-s t c = c.loop-s.invariant.does.1.size

@@ -16,10 +16,10 @@ abbrev pub decreases-statements : goal.decreases-statements
 decreases-statements l = 4 * left l.text.now l.from + 2
 
 abbrev pub invariant-statements-loop-s : goal.invariant-statements-loop-s
-invariant-statements-loop-s l = Going then Fill statements StatementRows l.text l.initial.a l.a (l.initial.s, l.initial.i) (l.s, l.i)
+invariant-statements-loop-s l = Going then Fill statements StatementRows l.text l.initial.spot.look l.spot.look (l.initial.s, l.initial.spot.statements) (l.s, l.spot.statements)
 
 abbrev pub decreases-statements-loop-s : goal.decreases-statements-loop-s
-decreases-statements-loop-s l = left l.text l.a
+decreases-statements-loop-s l = left l.text l.spot.look
 
 abbrev pub decreases-value : goal.decreases-value
 decreases-value l = 4 * left l.text.now l.a

@@ -10,10 +10,10 @@ pub loop-kind-init : goal.loop-kind-init
 loop-kind-init c = going all objects AllRows
 
 pub loop-kind-smaller : goal.loop-kind-smaller
-loop-kind-smaller c = kind_less (sym c.is_kind.ensures ∙ c.loop-kind-test.true) c.part-y.ensures.fills.meets
+loop-kind-smaller c = kind_less (sym c.is_kind.ensures ∙ c.loop-kind-test.true) c.part-passed.ensures.fills.meets
 
 pub loop-kind-preserved : goal.loop-kind-preserved
-loop-kind-preserved c = parts_on c.loop-kind.invariant (sym c.is_kind.ensures ∙ c.loop-kind-test.true) c.kind_number-kind.ensures c.one_more-more.ensures c.part-y.ensures
+loop-kind-preserved c = parts_on c.loop-kind.invariant (sym c.is_kind.ensures ∙ c.loop-kind-test.true) c.kind_number-kind.ensures c.one_more-more.ensures c.part-passed.ensures
 
 pub shape_of-p : goal.shape_of-p
 shape_of-p c = c.loop-kind.invariant.does.1.size

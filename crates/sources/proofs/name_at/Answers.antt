@@ -24,13 +24,13 @@ pub named-requires : goal.named-requires
 named-requires c = let h = byte_high 10 c.args.text.now c.args.hash (omega arith) in let k = byte_low c.args.text.now c.args.hash 10 in let n = length_between c.args.text.now c.line_start-start.result c.find_byte-end.result (omega arith) in omega arith
 
 pub overflow_add-result : goal.overflow_add-result
-overflow_add-result c = let h = byte_high 10 c.args.text.now c.args.hash (omega arith) in let k = byte_low c.args.text.now c.args.hash 10 in let n = length_between c.args.text.now c.line_start-start.result c.find_byte-end.result (omega arith) in let o = named_ok _ _ _ _ (sym c.named.ensures ∙ c.in-Is.is) in omega arith
+overflow_add-result c = let h = byte_high 10 c.args.text.now c.args.hash (omega arith) in let k = byte_low c.args.text.now c.args.hash 10 in let n = length_between c.args.text.now c.line_start-start.result c.find_byte-end.result (omega arith) in let o = named_ok _ _ _ _ (sym c.named.ensures ∙ c.in-Some.is) in omega arith
 
-pub overflow_add-result-in-Is : goal.overflow_add-result-in-Is
-overflow_add-result-in-Is c = let h = byte_high 10 c.args.text.now c.args.hash (omega arith) in let k = byte_low c.args.text.now c.args.hash 10 in let n = length_between c.args.text.now c.line_start-start.result c.find_byte-end.result (omega arith) in let o = named_ok _ _ _ _ (sym c.named.ensures ∙ c.in-Is.is) in omega arith
+pub overflow_add-result-in-Some : goal.overflow_add-result-in-Some
+overflow_add-result-in-Some c = let h = byte_high 10 c.args.text.now c.args.hash (omega arith) in let k = byte_low c.args.text.now c.args.hash 10 in let n = length_between c.args.text.now c.line_start-start.result c.find_byte-end.result (omega arith) in let o = named_ok _ _ _ _ (sym c.named.ensures ∙ c.in-Some.is) in omega arith
 
-pub returns-in-Is : goal.returns-in-Is
-returns-in-Is c = name_there _ _ _ _ _ _ (omega arith) c.line_start-start.ensures c.find_byte-end.ensures (sym c.named.ensures ∙ c.in-Is.is)
+pub returns-in-Some : goal.returns-in-Some
+returns-in-Some c = name_there _ _ _ _ _ _ (omega arith) c.line_start-start.ensures c.find_byte-end.ensures (sym c.named.ensures ∙ c.in-Some.is)
 
-pub returns-in-Not : goal.returns-in-Not
-returns-in-Not c = name_none _ _ _ _ (omega arith) c.line_start-start.ensures c.find_byte-end.ensures (sym c.named.ensures ∙ c.in-Not.is)
+pub returns-in-None : goal.returns-in-None
+returns-in-None c = name_none _ _ _ _ (omega arith) c.line_start-start.ensures c.find_byte-end.ensures (sym c.named.ensures ∙ c.in-None.is)

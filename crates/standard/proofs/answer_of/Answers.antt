@@ -1,5 +1,4 @@
 use Rattle.standard.proofs.Accepting.{answers_text}
-use borrow.Author.Rules.{rules}
 use Rattle.standard.proofs.answer_of.Goals as goal
 
 pub returns : goal.returns

@@ -1,6 +1,5 @@
 use Rattle.standard.proofs.ByRules.{checks_rules}
 use Rattle.standard.proofs.Accepting.{check_refused, check_accepts}
-use borrow.Author.Rules.{rules}
 use Rattle.standard.proofs.check_standard.Goals as goal
 
 pub returns-in-Refused : goal.returns-in-Refused

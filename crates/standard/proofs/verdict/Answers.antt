@@ -1,8 +1,11 @@
-use Rattle.standard.proofs.Accepting.{tells_nothing, tells_wrong}
+use mathlib.Core.Path.{sym, ap}
+use Rattle.standard.specs.Checking.{verdict_of}
 use Rattle.standard.proofs.verdict.Goals as goal
 
-pub returns-then-t-eq0 : goal.returns-then-t-eq0
-returns-then-t-eq0 c = tells_nothing _ c.if-t-eq0.true
+pub returns-in-Some : goal.returns-in-Some
+unfolding verdict_of
+returns-in-Some c = sym (ap verdict_of c.in-Some.is)
 
-pub returns : goal.returns
-returns c = tells_wrong _ c.if-t-eq0.false
+pub returns-in-None : goal.returns-in-None
+unfolding verdict_of
+returns-in-None c = sym (ap verdict_of c.in-None.is)

@@ -7,20 +7,8 @@ use Rattle.statement_causes.proofs.+seek.Goals as goal
 pub loop-k-init : goal.loop-k-init
 loop-k-init t c = (omega arith, seeking_start _ _ _ _ _ _ _ _ _)
 
-pub touches-requires : goal.touches-requires
-touches-requires t c = tt
-
 pub returns-then-touches : goal.returns-then-touches
 returns-then-touches t c = seeking_stop _ _ _ _ _ _ _ _ _ c.loop-k.k c.loop-k-test.true c.loop-k.invariant.1 (sym c.touches.ensures ∙ c.if-touches.true)
-
-pub after-next-requires : goal.after-next-requires
-after-next-requires t c = tt
-
-pub scope_inside-under-requires : goal.scope_inside-under-requires
-scope_inside-under-requires t c = c.requires
-
-pub overflow_add-k : goal.overflow_add-k
-overflow_add-k t c = omega arith
 
 pub seek-inner-requires : goal.seek-inner-requires
 seek-inner-requires t c = (omega (arith, c.after-next.ensures, after_later c.args.st.now c.loop-k.k c.args.end c.loop-k-test.true, after_inside c.args.st.now c.loop-k.k c.args.end, c.loop-k.invariant.0, c.decreases), c.requires)

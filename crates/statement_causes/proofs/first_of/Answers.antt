@@ -9,4 +9,4 @@ pub returns-in_default : goal.returns-in_default
 returns-in_default c = first_nothing _ _ c.args.spot (turned_false _ c.if-not-spot.false) c.cell_of-name.result c.cell_of-size.result c.cell_of-name.ensures c.cell_of-size.ensures c.stated.result c.stated.ensures c.in_default.is
 
 pub returns : goal.returns
-returns c = first_found _ _ c.args.spot (turned_false _ c.if-not-spot.false) c.cell_of-name.result c.cell_of-size.result c.cell_of-name.ensures c.cell_of-size.ensures c.stated.result c.stated.ensures _ c.cell_of.result c.in-At.is c.cell_of.ensures
+returns c = first_found _ _ c.args.spot (turned_false _ c.if-not-spot.false) c.cell_of-name.result c.cell_of-size.result c.cell_of-name.ensures c.cell_of-size.ensures c.stated.result c.stated.ensures _ c.cell_of.result c.in-Some.is c.cell_of.ensures

@@ -1,6 +1,5 @@
 use mathlib.Core.Path.{refl}
-use native.Mathlib.Omega.{arith}
-use Rattle.statement_causes.proofs.Telling.{looked, tells_kept, kept_few_definitions, kept_few_enumerators, kept_few_objects}
+use Rattle.statement_causes.proofs.Telling.{tells_kept, kept_few_definitions, kept_few_enumerators, kept_few_objects}
 use Rattle.statement_causes.proofs.tell_kept.Goals as goal
 
 pub returns-then-z-gt-MOST : goal.returns-then-z-gt-MOST
@@ -11,9 +10,6 @@ returns-then-z-gt-MOST-2 c = kept_few_enumerators _ _ _ refl refl refl c.if-z-gt
 
 pub returns-then-z-gt-MOST-3 : goal.returns-then-z-gt-MOST-3
 returns-then-z-gt-MOST-3 c = kept_few_objects _ _ _ refl refl refl c.if-z-gt-MOST-3.true
-
-pub tell_rows-requires : goal.tell_rows-requires
-tell_rows-requires c = looked c.note.ensures (omega (arith, c.if-z-gt-MOST.false)) (omega (arith, c.if-z-gt-MOST-2.false)) (omega (arith, c.if-z-gt-MOST-3.false))
 
 pub returns : goal.returns
 returns c = tells_kept _ _ _ refl refl refl c.tell_rows.ensures

@@ -1,9 +1,5 @@
 use Rattle.statement_causes.proofs.Telling.{tells_rows}
-use borrow.Author.Rules.{rules}
 use Rattle.statement_causes.proofs.tell_rows.Goals as goal
-
-pub slice_bounds-missing_at-end : goal.slice_bounds-missing_at-end
-slice_bounds-missing_at-end c = search (rules, c.well_formed)
 
 pub returns : goal.returns
 returns c = tells_rows _ _ _ _ _ _ c.args.places c.args.place c.seek_all-spot.result c.attribute_of-attribute.result c.first_of-first.result c.missing_at-missing.result c.seek_all-spot.ensures c.attribute_of-attribute.ensures c.first_of-first.ensures c.missing_at-missing.ensures

@@ -1,26 +1,10 @@
 -- `amounts::defaults::note_defaults` meets its contract.
 -- Assumes nothing.
-use native.Mathlib.Omega.{arith}
 use Rattle.amounts.proofs.Remembering.{rows_start, rows_more}
 use Rattle.amounts.proofs.defaults.note_defaults.Goals as goal
 
 pub loop-j-init : goal.loop-j-init
 loop-j-init c = rows_start _ _ _
-
-pub shape_of-t-then-j-ge-MOST : goal.shape_of-t-then-j-ge-MOST
-shape_of-t-then-j-ge-MOST c = c.loop-j.invariant.size
-
-pub returns-then-j-ge-MOST : goal.returns-then-j-ge-MOST
-returns-then-j-ge-MOST c = c.loop-j.invariant.known
-
-pub note_default-requires : goal.note_default-requires
-note_default-requires c = tt
-
-pub overflow_add-j : goal.overflow_add-j
-overflow_add-j c = omega arith
-
-pub loop-j-smaller : goal.loop-j-smaller
-loop-j-smaller c = omega arith
 
 pub loop-j-preserved : goal.loop-j-preserved
 loop-j-preserved c = rows_more _ _ _ _ _ c.loop-j.invariant c.note_default.ensures

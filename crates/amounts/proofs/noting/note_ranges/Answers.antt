@@ -8,24 +8,6 @@ use Rattle.amounts.proofs.noting.note_ranges.Goals as goal
 pub loop-j-init : goal.loop-j-init
 loop-j-init c = (rows_start _ _ _, refl)
 
-pub shape_of-t-then-j-ge-MOST : goal.shape_of-t-then-j-ge-MOST
-shape_of-t-then-j-ge-MOST c = c.loop-j.invariant.0.size
-
-pub shape_of-spare-then-j-ge-MOST : goal.shape_of-spare-then-j-ge-MOST
-shape_of-spare-then-j-ge-MOST c = c.loop-j.invariant.1
-
-pub returns-then-j-ge-MOST : goal.returns-then-j-ge-MOST
-returns-then-j-ge-MOST c = rows_end _ _ _ _ _ c.loop-j.invariant.0
-
-pub note_range-used-requires : goal.note_range-used-requires
-note_range-used-requires c = tt
-
-pub overflow_add-j : goal.overflow_add-j
-overflow_add-j c = omega arith
-
-pub loop-j-smaller : goal.loop-j-smaller
-loop-j-smaller c = omega arith
-
 pub loop-j-preserved : goal.loop-j-preserved
 loop-j-preserved c = (rows_more _ _ _ _ _ _ _ c.loop-j.invariant.0 c.note_range-used.ensures, omega (arith, c.note_range-used.auto, c.loop-j.invariant.1))
 

@@ -8,20 +8,11 @@ use Rattle.amounts.proofs.noting.put_rest.Goals as goal
 pub loop-at-init : goal.loop-at-init
 loop-at-init c = start _ _ _ _ _ c.requires
 
-pub comma_at-s-requires : goal.comma_at-s-requires
-comma_at-s-requires c = tt
-
 pub shape_of-l-then-s-ne44 : goal.shape_of-l-then-s-ne44
 shape_of-l-then-s-ne44 c = c.loop-at.invariant.size
 
 pub returns-then-s-ne44 : goal.returns-then-s-ne44
 returns-then-s-ne44 c = stop _ _ _ _ _ _ _ _ c.loop-at.invariant _ c.comma_at-s.ensures c.if-s-ne44.true
-
-pub item_at-x-requires : goal.item_at-x-requires
-item_at-x-requires c = tt
-
-pub has_key-requires : goal.has_key-requires
-has_key-requires c = tt
 
 pub shape_of-l-then-not-has_key : goal.shape_of-l-then-not-has_key
 shape_of-l-then-not-has_key c = c.loop-at.invariant.size
@@ -35,17 +26,11 @@ shape_of-l-then-l-i c = c.loop-at.invariant.size
 pub returns-then-l-i : goal.returns-then-l-i
 returns-then-l-i c = fails _ _ _ _ _ _ _ _ c.loop-at.invariant
 
-pub key-requires : goal.key-requires
-key-requires c = tt
-
 pub offset_bounds-l-i : goal.offset_bounds-l-i
 offset_bounds-l-i c = omega (arith, c.loop-at.invariant.size, c.loop-at.invariant.inside)
 
 pub bounds-l-i : goal.bounds-l-i
 bounds-l-i c = omega (arith, c.if-l-i.false)
-
-pub overflow_add-i : goal.overflow_add-i
-overflow_add-i c = omega arith
 
 pub loop-at-smaller : goal.loop-at-smaller
 loop-at-smaller c = omega (arith, turn_on _ _ _ _ c.comma_at-s.ensures c.if-s-ne44.false c.item_at-x.ensures, c.loop-at-test.true)

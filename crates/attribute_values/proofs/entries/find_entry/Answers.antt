@@ -13,8 +13,5 @@ slice_bounds-find_named-count c = omega (arith, c.find_byte-q.ensures, found_hig
 pub slice_bounds-find_named-start : goal.slice_bounds-find_named-start
 slice_bounds-find_named-start c = omega (arith, c.find_byte-q.ensures, found_high 91 c.args.step.now 0 (omega arith))
 
-pub slice_bounds-find_named-end-2 : goal.slice_bounds-find_named-end-2
-slice_bounds-find_named-end-2 c = omega arith
-
 pub returns : goal.returns
 returns c = entry_is _ _ _ _ _ _ _ _ _ _ c.find_byte-q.ensures c.find_named.ensures

@@ -3,20 +3,8 @@ use Rattle.rows.proofs.Searches.{find_stop, find_more, find_end}
 use mathlib.Core.Path.{refl, sym, ◌∙◌}
 use Rattle.attribute_values.proofs.objects.find_object.Goals as goal
 
-pub loop-i-init : goal.loop-i-init
-loop-i-init c = refl
-
-pub is_called-requires : goal.is_called-requires
-is_called-requires c = tt
-
 pub returns-then-is_called : goal.returns-then-is_called
 returns-then-is_called c = sym (find_stop _ _ c.loop-i.i (omega arith) (sym c.is_called.ensures ∙ c.if-is_called.true)) ∙ c.loop-i.invariant
-
-pub overflow_add-i : goal.overflow_add-i
-overflow_add-i c = omega arith
-
-pub loop-i-smaller : goal.loop-i-smaller
-loop-i-smaller c = omega arith
 
 pub loop-i-preserved : goal.loop-i-preserved
 loop-i-preserved c = sym (find_more _ _ c.loop-i.i (omega arith) (sym c.is_called.ensures ∙ c.if-is_called.false)) ∙ c.loop-i.invariant

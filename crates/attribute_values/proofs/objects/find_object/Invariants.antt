@@ -6,6 +6,3 @@ use Rattle.attribute_values.proofs.objects.find_object.Given as goal
 
 abbrev pub invariant-loop-i : goal.invariant-loop-i
 invariant-loop-i l = find_from (called_at l.text l.o l.kind l.name) l.m l.i ≡ find_from (called_at l.text l.o l.kind l.name) l.m 0
-
-abbrev pub decreases-loop-i : goal.decreases-loop-i
-decreases-loop-i l = l.m - l.i

@@ -6,6 +6,3 @@ use Rattle.attribute_values.proofs.paths.find_byte.Given as goal
 
 abbrev pub invariant-loop-i : goal.invariant-loop-i
 invariant-loop-i l = find_byte l.b l.path l.i ≡ find_byte l.b l.path l.from
-
-abbrev pub decreases-loop-i : goal.decreases-loop-i
-decreases-loop-i l = length l.path - l.i

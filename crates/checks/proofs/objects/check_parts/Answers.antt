@@ -3,19 +3,10 @@ use native.Mathlib.Omega.{arith}
 use Rattle.checks.proofs.objects.check_parts.Goals as goal
 
 pub loop-j-init : goal.loop-j-init
-loop-j-init c = (omega arith, omega arith, λ s f N. met_start f)
-
-pub check_one-y-requires : goal.check_one-y-requires
-check_one-y-requires c = omega arith
-
-pub overflow_add-j : goal.overflow_add-j
-overflow_add-j c = omega arith
-
-pub loop-j-smaller : goal.loop-j-smaller
-loop-j-smaller c = omega arith
+loop-j-init c = (omega arith, λ s f N. met_start f)
 
 pub loop-j-preserved : goal.loop-j-preserved
-loop-j-preserved c = (omega arith, omega (arith, c.check_one-y.ensures.0), λ s f N. c.check_one-y.ensures.1 s _ f N (omega arith) (c.loop-j.invariant.2 s f N))
+loop-j-preserved c = (omega (arith, c.check_one-y.ensures.0), λ s f N. c.check_one-y.ensures.1 s _ f N (omega arith) (c.loop-j.invariant.1 s f N))
 
 pub returns : goal.returns
-returns c = λ s f N. met_end (omega arith) (omega arith) (c.loop-j.invariant.2 s f N)
+returns c = λ s f N. met_end (omega arith) (omega arith) (c.loop-j.invariant.1 s f N)

@@ -5,29 +5,8 @@ use Rattle.rows.proofs.Orders.{found_some, found_none}
 use Rattle.checks.proofs.Turns.{lacks_here, lacks_more, lacks_end}
 use Rattle.checks.proofs.objects.too_few.Goals as goal
 
-pub loop-i-init : goal.loop-i-init
-loop-i-init c = refl
-
-pub of-kind-requires : goal.of-kind-requires
-of-kind-requires c = tt
-
-pub offset_bounds-counts-i : goal.offset_bounds-counts-i
-offset_bounds-counts-i c = omega arith
-
-pub bounds-counts-i : goal.bounds-counts-i
-bounds-counts-i c = omega arith
-
-pub least-requires : goal.least-requires
-least-requires c = tt
-
 pub returns-then-counts-i : goal.returns-then-counts-i
 returns-then-counts-i c = found_some _ (c.loop-i.i) _ _ (sym (c.loop-i.invariant) ∙ lacks_here _ (c.loop-i.i) _ (omega arith) (c.least.ensures ∙ ap fewest (c.of-kind.ensures)) (c.if-counts-i.true))
-
-pub overflow_add-i : goal.overflow_add-i
-overflow_add-i c = omega arith
-
-pub loop-i-smaller : goal.loop-i-smaller
-loop-i-smaller c = omega arith
 
 pub loop-i-preserved : goal.loop-i-preserved
 loop-i-preserved c = sym (lacks_more _ (c.loop-i.i) _ (omega arith) (c.least.ensures ∙ ap fewest (c.of-kind.ensures)) (c.if-counts-i.false)) ∙ c.loop-i.invariant

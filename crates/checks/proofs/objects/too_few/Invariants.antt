@@ -5,6 +5,3 @@ use Rattle.checks.proofs.objects.too_few.Given as goal
 
 abbrev pub invariant-loop-i : goal.invariant-loop-i
 invariant-loop-i l = lacking_from l.counts l.i ≡ lacking_from l.counts 0
-
-abbrev pub decreases-loop-i : goal.decreases-loop-i
-decreases-loop-i l = 13 - l.i

@@ -1,13 +1,7 @@
 -- `comparing::columns::copy_names` meets its contract.
 -- Assumes nothing.
-use mathlib.Core.Path.{◌≡◌}
-use Prim.Native.Nat.{◌≤◌, ◌+◌, ◌-◌}
-use lib.ListN.{length}
 use Rattle.comparing.specs.Columns.{Holds, name_from}
 use Rattle.comparing.proofs.columns.copy_names.Given as goal
 
 abbrev pub invariant-loop-i : goal.invariant-loop-i
-invariant-loop-i l = (l.i ≤ length l.out) × (length l.out ≡ length l.initial.out) × (l.r + length l.initial.out ≤ 65536) × Holds (name_from l.v l.h l.r) l.i l.out
-
-abbrev pub decreases-loop-i : goal.decreases-loop-i
-decreases-loop-i l = length l.initial.out - l.i
+invariant-loop-i l = Holds (name_from l.v l.h l.r) l.i l.out

@@ -4,17 +4,8 @@ use Rattle.comparing.proofs.Lined.{columned, bounded_names, orderable_kept}
 use native.Mathlib.Omega.{arith}
 use Rattle.comparing.proofs.columns.object_columns.Goals as goal
 
-pub copy_owners-requires : goal.copy_owners-requires
-copy_owners-requires c = omega (arith, c.requires.0.few, c.requires.0.owners)
-
-pub copy_names-requires : goal.copy_names-requires
-copy_names-requires c = omega (arith, c.requires.0.few, c.requires.0.owners, c.requires.0.names)
-
 pub find_positions-requires : goal.find_positions-requires
 find_positions-requires c = ((bounded_names _ _ _ _ _ c.copy_owners.ensures c.copy_names.ensures (omega (arith, c.copy_owners.auto.out, c.copy_names.auto.out, c.requires.0.names)) (omega (arith, c.copy_owners.auto.out, c.requires.0.owners)), orderable_kept _ _ _ _ c.requires.1 c.copy_owners.auto.out), omega (arith, c.copy_owners.auto.out, c.requires.0.places))
-
-pub make_steps-requires : goal.make_steps-requires
-make_steps-requires c = omega (arith, c.requires.0.few, c.requires.0.owners, c.requires.0.steps)
 
 pub returns : goal.returns
 returns c = columned _ _ _ _ _ _ _ _ _ c.copy_owners.ensures c.copy_names.ensures c.find_positions.ensures c.make_steps.ensures (omega (arith, c.copy_owners.auto.out)) (omega (arith, c.copy_names.auto.out, c.requires.0.names)) (omega (arith, c.make_steps.auto.out, c.requires.0.steps))

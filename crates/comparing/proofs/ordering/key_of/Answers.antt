@@ -10,11 +10,5 @@ returns-then-a-ge-OWNERS c = record { key = key_wide _ _ c.if-a-ge-OWNERS.true; 
 pub returns-then-b-ge-STEPS : goal.returns-then-b-ge-STEPS
 returns-then-b-ge-STEPS c = record { key = key_wide_second _ _ c.if-b-ge-STEPS.true; most = omega arith }
 
-pub overflow_mul-result : goal.overflow_mul-result
-overflow_mul-result c = omega arith
-
-pub overflow_add-result : goal.overflow_add-result
-overflow_add-result c = omega arith
-
 pub returns : goal.returns
 returns c = record { key = key_low _ _ c.if-a-ge-OWNERS.false c.if-b-ge-STEPS.false; most = omega arith }

@@ -4,11 +4,5 @@ use Rattle.comparing.proofs.Sought.{ordered_of}
 use native.Mathlib.Omega.{arith}
 use Rattle.comparing.proofs.ordering.order.Goals as goal
 
-pub fill-requires : goal.fill-requires
-fill-requires c = (c.requires.0, c.requires.1.cells)
-
-pub sort-requires : goal.sort-requires
-sort-requires c = tt
-
 pub returns : goal.returns
 returns c = ordered_of _ _ _ _ _ c.requires.0 (omega (arith, c.fill.auto.x, c.requires.1.cells)) c.requires.1.beside c.fill.ensures c.sort.ensures

@@ -1,11 +1,9 @@
 -- `comparing::pairs::first_values` meets its contract.
 -- Assumes nothing.
-use Prim.Native.Nat.{◌-◌}
+use lib.ListN.{length}
 use Rattle.comparing.proofs.Pairing.{Gathering}
 use Rattle.comparing.proofs.pairs.first_values.Given as goal
 
 abbrev pub invariant-loop-k : goal.invariant-loop-k
-invariant-loop-k l = Gathering l.first l.d l.v l.second l.d2 l.v2 l.x l.y l.back l.n l.r l.initial.all l.all l.k
-
-abbrev pub decreases-loop-k : goal.decreases-loop-k
-decreases-loop-k l = l.n - l.k
+invariant-loop-k l =
+    Gathering l.fn.a.side.text.now l.fn.a.side.definitions.now l.fn.a.side.values.now l.fn.b.side.text.now l.fn.b.side.definitions.now l.fn.b.side.values.now l.fn.a.number l.fn.b.number l.back (length l.back) l.fn.a.from l.initial.all l.all l.k

@@ -4,23 +4,11 @@ use Rattle.comparing.proofs.Partnering.{found_top, found_none, found_under}
 use native.Mathlib.Omega.{arith}
 use Rattle.comparing.proofs.partners.partner_of.Goals as goal
 
-pub find_step-requires : goal.find_step-requires
-find_step-requires c = tt
-
 pub returns-then-owner-eq0 : goal.returns-then-owner-eq0
 returns-then-owner-eq0 c = found_top _ _ _ _ _ c.if-owner-eq0.true c.find_step.ensures
 
-pub overflow_sub-owner : goal.overflow_sub-owner
-overflow_sub-owner c = omega arith
-
-pub get-p-requires : goal.get-p-requires
-get-p-requires c = tt
-
 pub returns-then-p-eq0 : goal.returns-then-p-eq0
 returns-then-p-eq0 c = found_none _ _ _ _ _ (omega arith) c.get-p.ensures c.if-p-eq0.true
-
-pub find_step-requires-2 : goal.find_step-requires-2
-find_step-requires-2 c = tt
 
 pub returns : goal.returns
 returns c = found_under _ _ _ _ _ _ (omega arith) c.get-p.ensures c.if-p-eq0.false c.find_step-2.ensures

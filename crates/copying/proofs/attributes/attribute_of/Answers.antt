@@ -9,4 +9,4 @@ returns-in_default c = ap row_of (sym c.in_default.is ∙ c.find_row.ensures)
 
 pub returns : goal.returns
 unfolding row_of attribute_of
-returns c = ap row_of (sym c.in-At.is ∙ c.find_row.ensures)
+returns c = ap row_of (sym c.in-Some.is ∙ c.find_row.ensures)

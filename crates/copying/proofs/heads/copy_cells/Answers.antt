@@ -13,24 +13,6 @@ shape_of-to-then-to-j c = c.loop-i.invariant.0
 pub returns-then-to-j : goal.returns-then-to-j
 returns-then-to-j c = cells_past _ _ c.loop-i.j c.args.at c.args.count c.loop-i.i (omega arith) ∙ c.loop-i.invariant.1
 
-pub cell-v-requires : goal.cell-v-requires
-cell-v-requires c = tt
-
-pub offset_bounds-to-j : goal.offset_bounds-to-j
-offset_bounds-to-j c = omega arith
-
-pub bounds-to-j : goal.bounds-to-j
-bounds-to-j c = omega arith
-
-pub overflow_add-i : goal.overflow_add-i
-overflow_add-i c = omega arith
-
-pub overflow_add-j : goal.overflow_add-j
-overflow_add-j c = omega arith
-
-pub loop-i-smaller : goal.loop-i-smaller
-loop-i-smaller c = omega arith
-
 pub loop-i-preserved : goal.loop-i-preserved
 loop-i-preserved c = (simp length-set c.loop-i.invariant.0, cells_turn _ _ c.loop-i.j c.args.at c.args.count c.loop-i.i _ _ (omega arith) c.cell-v.ensures c.loop-i.invariant.1)
 

@@ -1,8 +1,11 @@
-use Rattle.defining_checks.proofs.Defaulting.{late_no, late_yes}
+use mathlib.Core.Path.{sym, ap}
+use Rattle.std.specs.Prelude.{is_some, unwrap_or}
+use Rattle.token.specs.Find.{both}
+use lib.Dec.{leb}
 use Rattle.defining_checks.proofs.definitions.is_late.Goals as goal
 
-pub returns-then-full : goal.returns-then-full
-returns-then-full c = late_yes _ c.args.limit c.args.at c.if-full.true
+pub returns-in-Some : goal.returns-in-Some
+returns-in-Some c = sym (ap (λ o. both (is_some o) (leb (unwrap_or o 0) c.args.at)) c.in-Some.is)
 
-pub returns : goal.returns
-returns c = late_no _ c.args.limit c.args.at c.if-full.false
+pub returns-in-None : goal.returns-in-None
+returns-in-None c = sym (ap (λ o. both (is_some o) (leb (unwrap_or o 0) c.args.at)) c.in-None.is)

@@ -10,4 +10,4 @@ pub returns-in_default : goal.returns-in_default
 returns-in_default c = through_one (λ k new. type_none _ _ _ _ c.cell_of-outer.ensures c.if-outer-eq0.false _ _ c.cell_of-at.ensures c.cell_of-len.ensures _ k new c.in_default.is) (through_found _ _ _ _ _ _ _ _ _ _ _ c.find_before.ensures)
 
 pub returns : goal.returns
-returns c = through_one (λ k new. type_some _ _ _ _ c.cell_of-outer.ensures c.if-outer-eq0.false _ _ c.cell_of-at.ensures c.cell_of-len.ensures _ k new _ c.in-At.is _ _ _ _ _ _ c.cell_of-word.ensures c.cell_of-size.ensures c.cell_of-first.ensures c.cell_of-size2.ensures c.same_part-same.ensures c.fault_if.ensures) (through_found _ _ _ _ _ _ _ _ _ _ _ c.find_before.ensures)
+returns c = through_one (λ k new. type_some _ _ _ _ c.cell_of-outer.ensures c.if-outer-eq0.false _ _ c.cell_of-at.ensures c.cell_of-len.ensures _ k new _ c.in-Some.is _ _ _ _ _ _ c.cell_of-word.ensures c.cell_of-size.ensures c.cell_of-first.ensures c.cell_of-size2.ensures c.same_part-same.ensures c.fault_if.ensures) (through_found _ _ _ _ _ _ _ _ _ _ _ c.find_before.ensures)

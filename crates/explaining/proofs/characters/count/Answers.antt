@@ -5,23 +5,11 @@ use lib.ListN.{get_or}
 use native.Mathlib.Omega.{arith}
 use Rattle.explaining.proofs.characters.count.Goals as goal
 
-pub loop-i-init : goal.loop-i-init
-loop-i-init c = (omega arith, omega arith)
-
-pub bounds-bytes-i : goal.bounds-bytes-i
-bounds-bytes-i c = omega arith
-
 pub overflow_add-n : goal.overflow_add-n
-overflow_add-n c = omega (arith, start_most (get_or c.args.bytes.now c.loop-i.i 0))
+overflow_add-n c = omega (arith, start_most (get_or c.args.bytes.now c.loop-b.b-index 0))
 
-pub overflow_add-i : goal.overflow_add-i
-overflow_add-i c = omega arith
-
-pub loop-i-smaller : goal.loop-i-smaller
-loop-i-smaller c = omega arith
-
-pub loop-i-preserved : goal.loop-i-preserved
-loop-i-preserved c = (omega (arith, start_most (get_or c.args.bytes.now c.loop-i.i 0)), omega (arith, starts_more c.args.bytes.now c.loop-i.i (omega arith)))
+pub loop-b-preserved : goal.loop-b-preserved
+loop-b-preserved c = (omega (arith, start_most (get_or c.args.bytes.now c.loop-b.b-index 0)), omega (arith, starts_more c.args.bytes.now c.loop-b.b-index (omega arith)))
 
 pub returns : goal.returns
-returns c = omega (arith, starts_end c.args.bytes.now c.loop-i.i (omega arith))
+returns c = omega (arith, starts_end c.args.bytes.now c.loop-b.b-index (omega arith))

@@ -1,13 +1,10 @@
 -- `explaining::characters::count` meets its contract: what is counted and what is left to count are the whole.
 -- Assumes nothing.
 use Rattle.explaining.specs.Characters.{starts}
-use lib.ListN.{length, drop}
+use lib.ListN.{drop}
 use mathlib.Core.Path.{◌≡◌}
-use Prim.Native.Nat.{◌≤◌, ◌+◌, ◌-◌}
+use Prim.Native.Nat.{◌≤◌, ◌+◌}
 use Rattle.explaining.proofs.characters.count.Given as goal
 
-abbrev pub invariant-loop-i : goal.invariant-loop-i
-invariant-loop-i l = (l.n ≤ l.i) × (l.n + starts (drop l.i l.bytes) ≡ starts l.bytes)
-
-abbrev pub decreases-loop-i : goal.decreases-loop-i
-decreases-loop-i l = length l.bytes - l.i
+abbrev pub invariant-loop-b : goal.invariant-loop-b
+invariant-loop-b l = (l.n ≤ l.b-index) × (l.n + starts (drop l.b-index l.bytes) ≡ starts l.bytes)

@@ -1,40 +1,9 @@
 -- `explaining::drawing::put` meets its contract: what is left to store decides the whole.
 -- Assumes nothing.
-use mathlib.Core.Path.{refl, sym, ◌∙◌}
-use lib.ListN.{length-set}
-use Rattle.explaining.proofs.Stores.{puts_more, puts_past, puts_end}
+use mathlib.Core.Path.{◌∙◌}
+use Rattle.explaining.proofs.Stores.{puts_past}
 use native.Mathlib.Omega.{arith}
 use Rattle.explaining.proofs.drawing.put.Goals as goal
 
-pub loop-i-init : goal.loop-i-init
-loop-i-init c = (omega arith, refl, refl)
-
-pub shape_of-out-then-out-j : goal.shape_of-out-then-out-j
-shape_of-out-then-out-j c = c.loop-i.invariant.1
-
 pub returns-then-out-j : goal.returns-then-out-j
-returns-then-out-j c = puts_past _ c.loop-i.j _ _ c.loop-i.i (omega arith) ∙ c.loop-i.invariant.2
-
-pub bounds-bytes-i : goal.bounds-bytes-i
-bounds-bytes-i c = omega arith
-
-pub bounds-out-j : goal.bounds-out-j
-bounds-out-j c = omega arith
-
-pub overflow_add-i : goal.overflow_add-i
-overflow_add-i c = omega arith
-
-pub overflow_add-j : goal.overflow_add-j
-overflow_add-j c = omega arith
-
-pub loop-i-smaller : goal.loop-i-smaller
-loop-i-smaller c = omega arith
-
-pub loop-i-preserved : goal.loop-i-preserved
-loop-i-preserved c = (omega arith, simp length-set c.loop-i.invariant.1, sym (puts_more _ c.loop-i.j _ _ c.loop-i.i _ c.draw.ensures (omega arith)) ∙ c.loop-i.invariant.2)
-
-pub shape_of-out : goal.shape_of-out
-shape_of-out c = c.loop-i.invariant.1
-
-pub returns : goal.returns
-returns c = puts_end _ c.loop-i.j _ _ c.loop-i.i (omega arith) ∙ c.loop-i.invariant.2
+returns-then-out-j c = puts_past _ c.loop-b.j _ _ c.loop-b.b-index (omega arith) ∙ c.loop-b.invariant

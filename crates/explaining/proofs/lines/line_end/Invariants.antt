@@ -1,13 +1,8 @@
 -- `explaining::lines::line_end` meets its contract: the line of each place passed ends where the place's own does.
 -- Assumes nothing.
 use Rattle.explaining.specs.Places.{line_end}
-use lib.ListN.{length}
 use mathlib.Core.Path.{◌≡◌}
-use Prim.Native.Nat.{◌-◌}
 use Rattle.explaining.proofs.lines.line_end.Given as goal
 
 abbrev pub invariant-loop-i : goal.invariant-loop-i
 invariant-loop-i l = line_end l.text l.i ≡ line_end l.text l.at
-
-abbrev pub decreases-loop-i : goal.decreases-loop-i
-decreases-loop-i l = length l.text - l.i

@@ -4,11 +4,7 @@ use Rattle.explaining.proofs.Counting.{feeds_most, line_is_of}
 use lib.Seq.{length-take-le}
 use lib.ListN.{take}
 use native.Mathlib.Omega.{arith}
-use mathlib.Core.Path.{sym}
 use Rattle.explaining.proofs.lines.line_of.Goals as goal
-
-pub slice_bounds-line_feeds-end : goal.slice_bounds-line_feeds-end
-slice_bounds-line_feeds-end c = sym (length-take-le _ _ (omega arith))
 
 pub overflow_add-result : goal.overflow_add-result
 overflow_add-result c = omega (arith, feeds_most (take c.args.at c.args.text.now), length-take-le c.args.at c.args.text.now (omega arith))

@@ -2,11 +2,7 @@
 -- Assumes nothing.
 use Rattle.explaining.specs.Places.{line_start}
 use mathlib.Core.Path.{◌≡◌}
-use Prim.Native.Nat.{◌≤◌}
 use Rattle.explaining.proofs.lines.line_start.Given as goal
 
 abbrev pub invariant-loop-i : goal.invariant-loop-i
-invariant-loop-i l = (l.i ≤ l.at) × (line_start l.text l.i ≡ line_start l.text l.at)
-
-abbrev pub decreases-loop-i : goal.decreases-loop-i
-decreases-loop-i l = l.i
+invariant-loop-i l = line_start l.text l.i ≡ line_start l.text l.at

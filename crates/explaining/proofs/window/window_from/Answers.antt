@@ -12,7 +12,7 @@ pub returns-then-last-start : goal.returns-then-last-start
 returns-then-last-start c = from_short _ c.args.end c.args.at (omega arith)
 
 pub returns-then-near-last : goal.returns-then-near-last
-returns-then-near-last c = c.less-near.ensures ∙ from_near _ c.args.end c.args.at (omega arith) (omega arith)
+returns-then-near-last c = c.saturating_sub-near.ensures ∙ from_near _ c.args.end c.args.at (omega arith) (omega arith)
 
 pub returns : goal.returns
-returns c = c.less-last.ensures ∙ from_last _ c.args.end c.args.at (omega arith) (omega arith)
+returns c = c.saturating_sub-last.ensures ∙ from_last _ c.args.end c.args.at (omega arith) (omega arith)

@@ -5,14 +5,8 @@ use native.Mathlib.Omega.{arith}
 use mathlib.Core.Path.{refl, sym, ◌∙◌}
 use Rattle.judging.proofs.marking.find_under.Goals as goal
 
-pub find_row-requires : goal.find_row-requires
-find_row-requires c = tt
-
 pub returns-then-n-gt-MOST : goal.returns-then-n-gt-MOST
 returns-then-n-gt-MOST c = c.find_row.ensures
-
-pub find_row-requires-then-d-lt-MOST_CELLS : goal.find_row-requires-then-d-lt-MOST_CELLS
-find_row-requires-then-d-lt-MOST_CELLS c = tt
 
 pub returns-then-d-lt-MOST_CELLS : goal.returns-then-d-lt-MOST_CELLS
 returns-then-d-lt-MOST_CELLS c = c.find_row-then-d-lt-MOST_CELLS.ensures
@@ -20,32 +14,17 @@ returns-then-d-lt-MOST_CELLS c = c.find_row-then-d-lt-MOST_CELLS.ensures
 pub returns-then-n-i : goal.returns-then-n-i
 returns-then-n-i c = sym (row_end _ _ _ _ _ _ c.if-n-i.true)
 
-pub overflow_mul-p : goal.overflow_mul-p
-overflow_mul-p c = omega arith
-
 pub loop-k-init : goal.loop-k-init
-loop-k-init c = (omega arith, omega arith, refl, omega arith, refl)
-
-pub offset_bounds-d-p : goal.offset_bounds-d-p
-offset_bounds-d-p c = omega arith
+loop-k-init c = (omega arith, omega arith, refl, refl)
 
 pub bounds-d-p : goal.bounds-d-p
 bounds-d-p c = omega arith
 
 pub returns-then-d-p : goal.returns-then-d-p
-returns-then-d-p c = sym (under_stop _ _ _ c.loop-k.k c.loop-k.p (omega arith) c.loop-k.invariant.0 c.loop-k.invariant.1 c.loop-k.invariant.2 c.if-d-p.true) ∙ c.loop-k.invariant.4
-
-pub overflow_add-p : goal.overflow_add-p
-overflow_add-p c = omega arith
-
-pub overflow_add-k : goal.overflow_add-k
-overflow_add-k c = omega arith
-
-pub loop-k-smaller : goal.loop-k-smaller
-loop-k-smaller c = omega arith
+returns-then-d-p c = sym (under_stop _ _ _ c.loop-k.k c.loop-k.p (omega arith) c.loop-k.invariant.0 c.loop-k.invariant.1 c.loop-k.invariant.2 c.if-d-p.true) ∙ c.loop-k.invariant.3
 
 pub loop-k-preserved : goal.loop-k-preserved
-loop-k-preserved c = (c.loop-k.invariant.0, c.loop-k.invariant.1, omega arith, omega arith, sym (under_more _ _ _ c.loop-k.k c.loop-k.p (omega arith) c.loop-k.invariant.0 c.loop-k.invariant.1 c.loop-k.invariant.2 c.if-d-p.false) ∙ c.loop-k.invariant.4)
+loop-k-preserved c = (c.loop-k.invariant.0, c.loop-k.invariant.1, omega arith, sym (under_more _ _ _ c.loop-k.k c.loop-k.p (omega arith) c.loop-k.invariant.0 c.loop-k.invariant.1 c.loop-k.invariant.2 c.if-d-p.false) ∙ c.loop-k.invariant.3)
 
 pub returns : goal.returns
-returns c = sym (row_end _ _ _ _ _ c.loop-k.k (omega arith)) ∙ c.loop-k.invariant.4
+returns c = sym (row_end _ _ _ _ _ c.loop-k.k (omega arith)) ∙ c.loop-k.invariant.3

@@ -19,17 +19,8 @@ slice_bounds-needs-end c = sym c.loop-j.invariant.0
 pub needs-m-requires : goal.needs-m-requires
 needs-m-requires c = c.requires
 
-pub offset_bounds-missing-j : goal.offset_bounds-missing-j
-offset_bounds-missing-j c = omega arith
-
 pub bounds-missing-j : goal.bounds-missing-j
 bounds-missing-j c = omega arith
-
-pub overflow_add-j : goal.overflow_add-j
-overflow_add-j c = omega arith
-
-pub loop-j-smaller : goal.loop-j-smaller
-loop-j-smaller c = omega arith
 
 pub loop-j-preserved : goal.loop-j-preserved
 loop-j-preserved c =

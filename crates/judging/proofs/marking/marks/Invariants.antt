@@ -11,6 +11,3 @@ use Rattle.judging.proofs.marking.marks.Given as goal
 
 abbrev pub invariant-loop-j : goal.invariant-loop-j
 invariant-loop-j l = (length l.missing ≡ 512) × ((o : List ℕ) (f : File) → Given l.text l.d l.e o l.st l.z f → Marked f l.missing l.j)
-
-abbrev pub decreases-loop-j : goal.decreases-loop-j
-decreases-loop-j l = l.z.definitions - l.j

@@ -4,8 +4,5 @@ use lib.ListN.{length}
 use mathlib.Core.Path.{◌≡◌}
 use Rattle.lookups.proofs.links.note_next.Given as goal
 
-abbrev pub invariant-loop-k : goal.invariant-loop-k
-invariant-loop-k l = (length l.rows ≡ 513) × ((l.k ≤ length l.h) × LinkedFrom l.st l.h l.next l.k l.rows)
-
-abbrev pub decreases-loop-k : goal.decreases-loop-k
-decreases-loop-k l = l.k
+abbrev pub invariant-loop-i : goal.invariant-loop-i
+invariant-loop-i l = (length l.rows ≡ 513) × ((l.i ≤ length l.h) × LinkedFrom l.st l.h l.next l.i l.rows)

@@ -2,4 +2,4 @@ use Rattle.lookups.proofs.Naming.{firsts_in}
 use Rattle.lookups.proofs.names.firsts.Goals as goal
 
 pub returns : goal.returns
-returns c = firsts_in _ c.args.names.now _ _ _ _ c.statement_ranks.ensures c.firsts.ensures
+returns g c = firsts_in _ c.args.names.now _ _ _ _ c.statement_ranks.ensures c.firsts.ensures

@@ -7,21 +7,6 @@ use Rattle.lookups.proofs.owners.note_owners.Goals as goal
 pub loop-i-init : goal.loop-i-init
 loop-i-init c = (refl, owners_start _ _ _)
 
-pub owner-requires : goal.owner-requires
-owner-requires c = tt
-
-pub offset_bounds-owners-i : goal.offset_bounds-owners-i
-offset_bounds-owners-i c = omega arith
-
-pub bounds-owners-i : goal.bounds-owners-i
-bounds-owners-i c = omega arith
-
-pub overflow_add-i : goal.overflow_add-i
-overflow_add-i c = omega arith
-
-pub loop-i-smaller : goal.loop-i-smaller
-loop-i-smaller c = omega arith
-
 pub loop-i-preserved : goal.loop-i-preserved
 loop-i-preserved c = (simp length-set c.loop-i.invariant.0, owners_more _ _ _ c.loop-i.i c.owner.result (omega arith) c.owner.ensures c.loop-i.invariant.1)
 

@@ -8,12 +8,6 @@ loop-i-init c = putting_start _ _ _
 pub put_event-e-requires : goal.put_event-e-requires
 put_event-e-requires c = omega (arith, c.loop-i.invariant.high)
 
-pub overflow_add-i : goal.overflow_add-i
-overflow_add-i c = omega arith
-
-pub loop-i-smaller : goal.loop-i-smaller
-loop-i-smaller c = omega arith
-
 pub loop-i-preserved : goal.loop-i-preserved
 loop-i-preserved c = putting_more (omega arith) c.put_event-e.auto.rows c.put_event-e.ensures c.loop-i.invariant
 

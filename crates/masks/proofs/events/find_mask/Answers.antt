@@ -1,22 +1,10 @@
-use mathlib.Core.Path.{sym, ◌∙◌, refl}
+use mathlib.Core.Path.{sym, ◌∙◌}
 use native.Mathlib.Omega.{arith}
 use Rattle.masks.proofs.Storing.{seek_stop, seek_more, seek_end}
 use Rattle.masks.proofs.events.find_mask.Goals as goal
 
-pub loop-k-init : goal.loop-k-init
-loop-k-init c = refl
-
-pub is_mask-requires : goal.is_mask-requires
-is_mask-requires c = tt
-
 pub returns-then-is_mask : goal.returns-then-is_mask
 returns-then-is_mask c = seek_stop _ _ c.loop-k.k (omega arith) (sym c.is_mask.ensures ∙ c.if-is_mask.true) c.loop-k.invariant
-
-pub overflow_add-k : goal.overflow_add-k
-overflow_add-k c = omega arith
-
-pub loop-k-smaller : goal.loop-k-smaller
-loop-k-smaller c = omega arith
 
 pub loop-k-preserved : goal.loop-k-preserved
 loop-k-preserved c = seek_more _ _ c.loop-k.k (omega arith) (sym c.is_mask.ensures ∙ c.if-is_mask.false) c.loop-k.invariant

@@ -9,17 +9,8 @@ returns-then-place-eq0 c = no_place _ _ _ _ c.if-place-eq0.true
 pub loop-j-init : goal.loop-j-init
 loop-j-init c = seeks_start _ _ _ _ c.if-place-eq0.false
 
-pub is_mask_row-requires : goal.is_mask_row-requires
-is_mask_row-requires c = tt
-
 pub returns-then-is_mask_row : goal.returns-then-is_mask_row
 returns-then-is_mask_row c = seeks_stop _ _ _ _ c.loop-j.j (omega arith) (sym c.if-is_mask_row.true ∙ c.is_mask_row.ensures) c.loop-j.invariant
-
-pub overflow_add-j : goal.overflow_add-j
-overflow_add-j c = omega arith
-
-pub loop-j-smaller : goal.loop-j-smaller
-loop-j-smaller c = omega arith
 
 pub loop-j-preserved : goal.loop-j-preserved
 loop-j-preserved c = seeks_more _ _ _ _ c.loop-j.j (omega arith) (sym c.if-is_mask_row.false ∙ c.is_mask_row.ensures) c.loop-j.invariant

@@ -5,20 +5,8 @@ use Rattle.masks.proofs.members.fill_given.Goals as goal
 pub loop-j-init : goal.loop-j-init
 loop-j-init c = filled_none _ _ _ _ _ _
 
-pub get-requires : goal.get-requires
-get-requires c = tt
-
-pub find_mask-found-requires : goal.find_mask-found-requires
-find_mask-found-requires c = tt
-
 pub put_given-requires : goal.put_given-requires
 put_given-requires c = omega (arith, c.loop-j.invariant.size, c.requires)
-
-pub overflow_add-j : goal.overflow_add-j
-overflow_add-j c = omega arith
-
-pub loop-j-smaller : goal.loop-j-smaller
-loop-j-smaller c = omega arith
 
 pub loop-j-preserved : goal.loop-j-preserved
 loop-j-preserved c = filled_more _ _ c.get.ensures c.find_mask-found.ensures c.put_given.ensures c.loop-j.invariant

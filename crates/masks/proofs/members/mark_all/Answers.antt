@@ -6,17 +6,8 @@ use Rattle.masks.proofs.members.mark_all.Goals as goal
 pub loop-k-init : goal.loop-k-init
 loop-k-init c = marking_start _ _ _ _
 
-pub object_of-last-requires : goal.object_of-last-requires
-object_of-last-requires c = tt
-
 pub mark_one-requires : goal.mark_one-requires
 mark_one-requires c = c.loop-k.invariant.size ∙ c.requires
-
-pub overflow_add-k : goal.overflow_add-k
-overflow_add-k c = omega arith
-
-pub loop-k-smaller : goal.loop-k-smaller
-loop-k-smaller c = omega arith
 
 pub loop-k-preserved : goal.loop-k-preserved
 loop-k-preserved c = marking_more (omega arith) c.object_of-last.ensures c.mark_one.ensures c.loop-k.invariant

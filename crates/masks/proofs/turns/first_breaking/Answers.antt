@@ -6,23 +6,8 @@ use Rattle.masks.proofs.turns.first_breaking.Goals as goal
 pub loop-i-init : goal.loop-i-init
 loop-i-init c = left_start _ _ _
 
-pub offset_bounds-list-i : goal.offset_bounds-list-i
-offset_bounds-list-i c = omega arith
-
-pub bounds-list-i : goal.bounds-list-i
-bounds-list-i c = omega arith
-
-pub keeps_rule-requires : goal.keeps_rule-requires
-keeps_rule-requires c = tt
-
 pub returns-then-not-keeps_rule : goal.returns-then-not-keeps_rule
 returns-then-not-keeps_rule c = left_stop _ _ _ c.loop-i.i _ (omega arith) (sym c.keeps_rule.ensures ∙ c.if-not-keeps_rule.true) c.loop-i.invariant
-
-pub overflow_add-i : goal.overflow_add-i
-overflow_add-i c = omega arith
-
-pub loop-i-smaller : goal.loop-i-smaller
-loop-i-smaller c = omega arith
 
 pub loop-i-preserved : goal.loop-i-preserved
 loop-i-preserved c = left_more _ _ _ c.loop-i.i _ (omega arith) (sym c.keeps_rule.ensures ∙ c.if-not-keeps_rule.false) c.loop-i.invariant

@@ -8,8 +8,8 @@ returns-then-cell_of-eq-NUMBER c = rule_given _ _ _ _ _ _ c.cell_of.ensures _ c.
 pub returns-then-not-is_single : goal.returns-then-not-is_single
 returns-then-not-is_single c = rule_many _ _ _ _ _ _ c.cell_of.ensures c.if-cell_of-eq-NUMBER.false (sym c.is_single.ensures ∙ c.if-not-is_single.true)
 
-pub clashes-requires : goal.clashes-requires
-clashes-requires c = single_positive _ (sym c.is_single.ensures ∙ c.if-not-is_single.false)
+pub has_power-requires : goal.has_power-requires
+has_power-requires c = single_positive _ (sym c.is_single.ensures ∙ c.if-not-is_single.false)
 
 pub returns : goal.returns
-returns c = rule_clash _ _ _ _ _ _ c.cell_of.ensures c.if-cell_of-eq-NUMBER.false (sym c.is_single.ensures ∙ c.if-not-is_single.false) _ c.clashes.ensures
+returns c = rule_clash _ _ _ _ _ _ c.cell_of.ensures c.if-cell_of-eq-NUMBER.false (sym c.is_single.ensures ∙ c.if-not-is_single.false) _ _ c.taken_bits.ensures c.has_power.ensures

@@ -5,21 +5,6 @@ use Rattle.masks.proofs.turns.start_masks.Goals as goal
 pub loop-i-init : goal.loop-i-init
 loop-i-init c = none_started _ _
 
-pub start_of-requires : goal.start_of-requires
-start_of-requires c = tt
-
-pub offset_bounds-masks-i : goal.offset_bounds-masks-i
-offset_bounds-masks-i c = omega arith
-
-pub bounds-masks-i : goal.bounds-masks-i
-bounds-masks-i c = omega arith
-
-pub overflow_add-i : goal.overflow_add-i
-overflow_add-i c = omega arith
-
-pub loop-i-smaller : goal.loop-i-smaller
-loop-i-smaller c = omega (arith, c.loop-i.invariant.size)
-
 pub loop-i-preserved : goal.loop-i-preserved
 loop-i-preserved c = started_more c.loop-i.masks c.loop-i.i _ (omega (arith, c.loop-i.invariant.size)) c.start_of.ensures c.loop-i.invariant
 

@@ -8,9 +8,6 @@ loop-p-init c = copying_start _ _ _
 pub put_kept-at-requires : goal.put_kept-at-requires
 put_kept-at-requires c = (c.loop-p-test.true, c.loop-p.invariant.low)
 
-pub loop-p-smaller : goal.loop-p-smaller
-loop-p-smaller c = omega (arith, next_after _ _ _ _ c.loop-p-test.true c.next-p.ensures, c.loop-p-test.true)
-
 pub loop-p-preserved : goal.loop-p-preserved
 loop-p-preserved c = copying_on c.loop-p.invariant c.loop-p-test.true _ c.next-p.ensures _ _ c.put_kept-at.ensures
 
@@ -19,3 +16,6 @@ shape_of-out c = c.loop-p.invariant.size
 
 pub returns : goal.returns
 returns c = copying_past c.loop-p.invariant c.loop-p-test.false
+
+pub loop-p-smaller : goal.loop-p-smaller
+loop-p-smaller c = omega (arith, next_after _ _ _ _ c.loop-p-test.true c.next-p.ensures, c.loop-p-test.true)

@@ -6,8 +6,5 @@ use Rattle.merging.proofs.objects.gather_one.Goals as goal
 pub returns-then-get-i : goal.returns-then-get-i
 returns-then-get-i c = (omega arith, gather_none _ _ _ _ _ _ _ _ (λ e. c.if-get-i.true (c.get.ensures ∙ e)))
 
-pub overflow_add-result : goal.overflow_add-result
-overflow_add-result c = omega arith
-
 pub returns : goal.returns
 returns c = (omega arith, gather_some _ _ _ _ _ _ _ _ _ _ _ _ (sym c.get.ensures ∙ c.if-get-i.false) c.cell_of-from.ensures c.cell_of-end.ensures c.move_rows-row.ensures)

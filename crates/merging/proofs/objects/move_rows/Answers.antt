@@ -10,25 +10,10 @@ pub returns-then-to-gt-ROWS : goal.returns-then-to-gt-ROWS
 returns-then-to-gt-ROWS c = λ a b. absurd (omega arith)
 
 pub loop-k-init : goal.loop-k-init
-loop-k-init c = (omega arith, omega arith, omega arith, refl, refl)
-
-pub move_row-requires : goal.move_row-requires
-move_row-requires c = tt
-
-pub overflow_add-k : goal.overflow_add-k
-overflow_add-k c = omega arith
-
-pub overflow_add-row : goal.overflow_add-row
-overflow_add-row c = omega arith
-
-pub loop-k-smaller : goal.loop-k-smaller
-loop-k-smaller c = omega arith
+loop-k-init c = (omega arith, omega arith, refl)
 
 pub loop-k-preserved : goal.loop-k-preserved
-loop-k-preserved c = (omega arith, omega arith, omega arith, omega arith, move_more _ _ _ _ _ _ _ (c.loop-k.k) (c.loop-k.row) (omega arith) c.move_row.ensures (c.loop-k.invariant.4))
-
-pub shape_of-out : goal.shape_of-out
-shape_of-out c = omega arith
+loop-k-preserved c = (omega arith, omega arith, move_more _ _ _ _ _ _ _ (c.loop-k.k) (c.loop-k.row) (omega arith) c.move_row.ensures (c.loop-k.invariant.2))
 
 pub returns : goal.returns
-returns c = λ a b. record { table = move_end _ _ _ _ _ _ (c.loop-k.k) (c.loop-k.row) (omega arith) (c.loop-k.invariant.4); row = omega arith }
+returns c = λ a b. record { table = move_end _ _ _ _ _ _ (c.loop-k.k) (c.loop-k.row) (omega arith) (c.loop-k.invariant.2); row = omega arith }

@@ -5,17 +5,8 @@ use Rattle.releases.proofs.matching.first_objects.Goals as goal
 pub loop-i-init : goal.loop-i-init
 loop-i-init c = first_start _ _ _ _ _ _ _ _ _ _ _ _ _ _ _
 
-pub one_object-next-requires : goal.one_object-next-requires
-one_object-next-requires c = omega arith
-
-pub overflow_add-i : goal.overflow_add-i
-overflow_add-i c = omega (arith, c.ranges.m)
-
-pub loop-i-smaller : goal.loop-i-smaller
-loop-i-smaller c = omega arith
-
 pub loop-i-preserved : goal.loop-i-preserved
-loop-i-preserved c = first_next _ _ _ _ _ _ _ _ _ _ _ _ _ _ _ c.loop-i.all c.one_object-next.result c.loop-i.i c.loop-i.invariant (omega arith) c.one_object-next.ensures
+loop-i-preserved c = first_next _ _ _ _ _ _ _ _ _ _ _ _ _ _ _ c.loop-i.all c.one_object-all.result c.loop-i.i c.loop-i.invariant (omega arith) c.one_object-all.ensures
 
 pub returns : goal.returns
 returns c = first_end _ _ _ _ _ _ _ _ _ _ _ _ _ _ _ _ c.loop-i.i c.loop-i.invariant (omega arith)

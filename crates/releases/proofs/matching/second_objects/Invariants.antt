@@ -1,9 +1,5 @@
 use Rattle.releases.proofs.Telling.{SecondGoing}
-use Prim.Native.Nat.{◌-◌}
 use Rattle.releases.proofs.matching.second_objects.Given as goal
 
 abbrev pub invariant-loop-j : goal.invariant-loop-j
-invariant-loop-j l = SecondGoing l.first l.o l.y l.second l.o2 l.m l.initial.all l.all l.j
-
-abbrev pub decreases-loop-j : goal.decreases-loop-j
-decreases-loop-j l = l.m - l.j
+invariant-loop-j l = SecondGoing l.fn.a.side.text.now l.fn.a.side.objects.now l.fn.a.objects.now l.fn.b.side.text.now l.fn.b.side.objects.now l.fn.b.many l.initial.all l.all l.j

@@ -1,12 +1,7 @@
 use Rattle.releases.specs.Starts.{start_at}
 use Rattle.comparing.specs.Columns.{Holds}
-use lib.ListN.{length}
-use Prim.Native.Nat.{◌-◌, ◌≤◌}
 use mathlib.Core.Path.{◌≡◌}
 use Rattle.releases.proofs.starts.fill_starts.Given as goal
 
 abbrev pub invariant-loop-i : goal.invariant-loop-i
-invariant-loop-i l = (l.i ≤ length l.st) × (length l.st ≡ length l.initial.st) × ((l.k ≡ start_at l.v l.n l.i) × Holds (start_at l.v l.n) l.i l.st)
-
-abbrev pub decreases-loop-i : goal.decreases-loop-i
-decreases-loop-i l = length l.initial.st - l.i
+invariant-loop-i l = (l.k ≡ start_at l.v l.n l.i) × Holds (start_at l.v l.n) l.i l.st

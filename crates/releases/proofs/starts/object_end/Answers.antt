@@ -1,25 +1,16 @@
 use native.Mathlib.Omega.{arith}
-use Rattle.releases.proofs.Starting.{end_here, end_next, end_past, end_start}
+use Rattle.releases.proofs.Starting.{end_here, end_next, end_walked, end_start}
 use mathlib.Core.Path.{sym, ◌∙◌}
 use Rattle.releases.proofs.starts.object_end.Goals as goal
 
 pub loop-j-init : goal.loop-j-init
 loop-j-init c = end_start _ _ _ _
 
-pub is_other-requires : goal.is_other-requires
-is_other-requires c = omega arith
-
 pub returns-then-is_other : goal.returns-then-is_other
 returns-then-is_other c = end_here _ _ _ _ c.loop-j.j (omega arith) (sym c.if-is_other.true ∙ c.is_other.ensures) c.loop-j.invariant
-
-pub overflow_add-j : goal.overflow_add-j
-overflow_add-j c = omega arith
-
-pub loop-j-smaller : goal.loop-j-smaller
-loop-j-smaller c = omega arith
 
 pub loop-j-preserved : goal.loop-j-preserved
 loop-j-preserved c = end_next _ _ _ _ c.loop-j.j (omega arith) (sym c.if-is_other.false ∙ c.is_other.ensures) c.loop-j.invariant
 
 pub returns : goal.returns
-returns c = end_past _ _ _ _ c.loop-j.j (omega arith) c.loop-j.invariant
+returns c = c.max.ensures ∙ end_walked _ _ _ _ c.loop-j.j c.loop-j-test.false c.loop-j.auto.j-end c.loop-j.invariant

@@ -14,35 +14,14 @@ enter-returns-then-n-gt-MOST t c = enter_full c.if-n-gt-MOST.true
 pub enter-put_value-requires : goal.enter-put_value-requires
 enter-put_value-requires t c = (omega arith, (c.requires.defaults, c.requires.indexes))
 
-pub enter-word_of-key-requires : goal.enter-word_of-key-requires
-enter-word_of-key-requires t c = tt
-
-pub enter-overflow_add-n : goal.enter-overflow_add-n
-enter-overflow_add-n t c = omega arith
-
 pub enter-resolve-requires : goal.enter-resolve-requires
 enter-resolve-requires t c = (omega arith, c.requires)
-
-pub enter-shape_of-v : goal.enter-shape_of-v
-enter-shape_of-v t c = omega arith
 
 pub enter-returns : goal.enter-returns
 enter-returns t c = enter_more (omega arith) c.put_value.ensures (word_is c.requires.indexes c.word_of-key.ensures) c.resolve.ensures
 
-pub enter_stated-cell_of-at-requires : goal.enter_stated-cell_of-at-requires
-enter_stated-cell_of-at-requires t c = tt
-
-pub enter_stated-cell_of-len-requires : goal.enter_stated-cell_of-len-requires
-enter_stated-cell_of-len-requires t c = tt
-
-pub enter_stated-cell_of-code-requires : goal.enter_stated-cell_of-code-requires
-enter_stated-cell_of-code-requires t c = tt
-
 pub enter_stated-enter-requires : goal.enter_stated-enter-requires
 enter_stated-enter-requires t c = (omega arith, c.requires)
-
-pub enter_stated-shape_of-v : goal.enter_stated-shape_of-v
-enter_stated-shape_of-v t c = omega arith
 
 pub enter_stated-returns : goal.enter_stated-returns
 enter_stated-returns t c = stated_this c.cell_of-at.ensures c.cell_of-len.ensures c.cell_of-code.ensures c.enter.ensures
@@ -56,17 +35,11 @@ resolve-returns-then-limit-gt-MOST t c = resolves_past (omega arith)
 pub resolve-returns-then-n-gt-MOST : goal.resolve-returns-then-n-gt-MOST
 resolve-returns-then-n-gt-MOST t c = resolves_full (omega arith)
 
-pub resolve-is_quiet-requires : goal.resolve-is_quiet-requires
-resolve-is_quiet-requires t c = tt
-
 pub resolve-returns-then-is_quiet : goal.resolve-returns-then-is_quiet
 resolve-returns-then-is_quiet t c = resolves_quiet c.if-key-eq0.false (omega arith) c.requires.owners c.is_quiet.ensures c.if-is_quiet.true
 
 pub resolve-resolve_scope-requires : goal.resolve-resolve_scope-requires
 resolve-resolve_scope-requires t c = (omega (arith, c.decreases), (omega (arith, c.if-key-eq0.false), (omega (arith, c.if-limit-gt-MOST.false), (c.requires, firsts_empty _ _ _ _ _ refl))))
-
-pub resolve-shape_of-v-then-end-from : goal.resolve-shape_of-v-then-end-from
-resolve-shape_of-v-then-end-from t c = omega arith
 
 pub resolve-returns-then-end-from : goal.resolve-returns-then-end-from
 resolve-returns-then-end-from t c = c.resolve_scope.ensures
@@ -74,59 +47,29 @@ resolve-returns-then-end-from t c = c.resolve_scope.ensures
 pub resolve-fill_firsts-requires : goal.resolve-fill_firsts-requires
 resolve-fill_firsts-requires t c = firsts_none _ _ _ _ 64
 
-pub resolve-resolve_scope-requires-then-z-lt-FEW : goal.resolve-resolve_scope-requires-then-z-lt-FEW
-resolve-resolve_scope-requires-then-z-lt-FEW t c = (omega (arith, c.decreases), (omega (arith, c.if-key-eq0.false), (omega (arith, c.if-limit-gt-MOST.false), (c.requires, c.fill_firsts.ensures))))
-
-pub resolve-shape_of-v-then-z-lt-FEW : goal.resolve-shape_of-v-then-z-lt-FEW
-resolve-shape_of-v-then-z-lt-FEW t c = omega arith
-
-pub resolve-returns-then-z-lt-FEW : goal.resolve-returns-then-z-lt-FEW
-resolve-returns-then-z-lt-FEW t c = c.resolve_scope-then-z-lt-FEW.ensures
-
 pub resolve-fill_firsts-requires-2 : goal.resolve-fill_firsts-requires-2
 resolve-fill_firsts-requires-2 t c = firsts_none _ _ _ _ 513
 
 pub resolve-resolve_scope-requires-2 : goal.resolve-resolve_scope-requires-2
 resolve-resolve_scope-requires-2 t c = (omega (arith, c.decreases), (omega (arith, c.if-key-eq0.false), (omega (arith, c.if-limit-gt-MOST.false), (c.requires, c.fill_firsts-2.ensures))))
 
-pub resolve-shape_of-v : goal.resolve-shape_of-v
-resolve-shape_of-v t c = omega arith
-
 pub resolve-returns : goal.resolve-returns
 resolve-returns t c = c.resolve_scope-2.ensures
-
-pub resolve_default-cell_of-len-requires : goal.resolve_default-cell_of-len-requires
-resolve_default-cell_of-len-requires t c = tt
 
 pub resolve_default-returns-then-len-eq0 : goal.resolve_default-returns-then-len-eq0
 resolve_default-returns-then-len-eq0 t c = default_none c.cell_of-len.ensures c.if-len-eq0.true
 
-pub resolve_default-cell_of-code-requires : goal.resolve_default-cell_of-code-requires
-resolve_default-cell_of-code-requires t c = tt
-
 pub resolve_default-returns-then-code-eq-NO_DEFAULT : goal.resolve_default-returns-then-code-eq-NO_DEFAULT
 resolve_default-returns-then-code-eq-NO_DEFAULT t c = default_not c.cell_of-code.ensures c.if-code-eq-NO_DEFAULT.true
-
-pub resolve_default-cell_of-at-requires : goal.resolve_default-cell_of-at-requires
-resolve_default-cell_of-at-requires t c = tt
 
 pub resolve_default-enter-requires : goal.resolve_default-enter-requires
 resolve_default-enter-requires t c = (omega arith, c.requires)
 
-pub resolve_default-shape_of-v : goal.resolve_default-shape_of-v
-resolve_default-shape_of-v t c = omega arith
-
 pub resolve_default-returns : goal.resolve_default-returns
 resolve_default-returns t c = default_taken c.cell_of-len.ensures c.if-len-eq0.false c.cell_of-code.ensures c.if-code-eq-NO_DEFAULT.false c.cell_of-at.ensures c.enter.ensures
 
-pub resolve_row-row_stated-requires : goal.resolve_row-row_stated-requires
-resolve_row-row_stated-requires t c = tt
-
 pub resolve_row-resolve_default-requires : goal.resolve_row-resolve_default-requires
 resolve_row-resolve_default-requires t c = (omega arith, c.requires.0)
-
-pub resolve_row-shape_of-v-in_default : goal.resolve_row-shape_of-v-in_default
-resolve_row-shape_of-v-in_default t c = omega arith
 
 pub resolve_row-returns-in_default : goal.resolve_row-returns-in_default
 resolve_row-returns-in_default t c = row_missing (finds_ranked c.requires.0.ranks _ _ _ _ _ c.requires.1 c.row_stated.ensures) c.in_default.is c.resolve_default.ensures
@@ -134,11 +77,8 @@ resolve_row-returns-in_default t c = row_missing (finds_ranked c.requires.0.rank
 pub resolve_row-resolve_stated-requires : goal.resolve_row-resolve_stated-requires
 resolve_row-resolve_stated-requires t c = (omega arith, c.requires.0)
 
-pub resolve_row-shape_of-v : goal.resolve_row-shape_of-v
-resolve_row-shape_of-v t c = omega arith
-
 pub resolve_row-returns : goal.resolve_row-returns
-resolve_row-returns t c = row_found (finds_ranked c.requires.0.ranks _ _ _ _ _ c.requires.1 c.row_stated.ensures) c.in-At.is c.resolve_stated.ensures
+resolve_row-returns t c = row_found (finds_ranked c.requires.0.ranks _ _ _ _ _ c.requires.1 c.row_stated.ensures) c.in-Some.is c.resolve_stated.ensures
 
 pub resolve_scope-next_row-j-requires : goal.resolve_scope-next_row-j-requires
 resolve_scope-next_row-j-requires t c = (c.requires.1.0, (omega arith, (c.requires.1.1.0.ranks, c.requires.1.1.1)))
@@ -174,25 +114,16 @@ pub resolve_stated-shape_of-v-then-i-k : goal.resolve_stated-shape_of-v-then-i-k
 resolve_stated-shape_of-v-then-i-k t c = c.loop-k.invariant.0
 
 pub resolve_stated-returns-then-i-k : goal.resolve_stated-returns-then-i-k
-resolve_stated-returns-then-i-k t c = states_out refl refl c.loop-k.invariant.1.0 (finds_after c.requires.ranks c.requires.links c.loop-k.invariant.1.1 c.stated_after.ensures) c.in-At.is (λ q. omega arith)
+resolve_stated-returns-then-i-k t c = states_out refl refl c.loop-k.invariant.1.0 (finds_after c.requires.ranks c.requires.links c.loop-k.invariant.1.1 c.stated_after.ensures) c.in-Some.is (λ q. omega arith)
 
 pub resolve_stated-shape_of-v-then-end-i : goal.resolve_stated-shape_of-v-then-end-i
 resolve_stated-shape_of-v-then-end-i t c = c.loop-k.invariant.0
 
 pub resolve_stated-returns-then-end-i : goal.resolve_stated-returns-then-end-i
-resolve_stated-returns-then-end-i t c = states_out refl refl c.loop-k.invariant.1.0 (finds_after c.requires.ranks c.requires.links c.loop-k.invariant.1.1 c.stated_after.ensures) c.in-At.is (λ q. omega arith)
-
-pub resolve_stated-after-next-requires : goal.resolve_stated-after-next-requires
-resolve_stated-after-next-requires t c = tt
-
-pub resolve_stated-overflow_add-i : goal.resolve_stated-overflow_add-i
-resolve_stated-overflow_add-i t c = omega arith
+resolve_stated-returns-then-end-i t c = states_out refl refl c.loop-k.invariant.1.0 (finds_after c.requires.ranks c.requires.links c.loop-k.invariant.1.1 c.stated_after.ensures) c.in-Some.is (λ q. omega arith)
 
 pub resolve_stated-enter_stated-m-requires : goal.resolve_stated-enter_stated-m-requires
 resolve_stated-enter_stated-m-requires t c = (omega (arith, c.decreases), c.requires)
-
-pub resolve_stated-stated_after-requires : goal.resolve_stated-stated_after-requires
-resolve_stated-stated_after-requires t c = tt
 
 pub resolve_stated-shape_of-v-in_default : goal.resolve_stated-shape_of-v-in_default
 resolve_stated-shape_of-v-in_default t c = c.loop-k.invariant.0
@@ -204,7 +135,7 @@ pub resolve_stated-loop-k-smaller : goal.resolve_stated-loop-k-smaller
 resolve_stated-loop-k-smaller t c = omega (arith, after_grows _ _ _ _ c.after-next.ensures (omega arith))
 
 pub resolve_stated-loop-k-preserved : goal.resolve_stated-loop-k-preserved
-resolve_stated-loop-k-preserved t c = (omega arith, (states_more refl refl c.loop-k.invariant.1.0 (finds_after c.requires.ranks c.requires.links c.loop-k.invariant.1.1 c.stated_after.ensures) c.in-At.is c.after-next.ensures refl c.enter_stated-m.ensures, record { inside = λ q. omega arith; after = λ q. c.after-next.ensures }))
+resolve_stated-loop-k-preserved t c = (omega arith, (states_more refl refl c.loop-k.invariant.1.0 (finds_after c.requires.ranks c.requires.links c.loop-k.invariant.1.1 c.stated_after.ensures) c.in-Some.is c.after-next.ensures refl c.enter_stated-m.ensures, record { inside = λ q. omega arith; after = λ q. c.after-next.ensures }))
 
 pub resolve_stated-shape_of-v : goal.resolve_stated-shape_of-v
 resolve_stated-shape_of-v t c = c.loop-k.invariant.0

@@ -8,29 +8,14 @@ use Rattle.resolving.proofs.entering.resolve_objects.Goals as goal
 pub loop-i-init : goal.loop-i-init
 loop-i-init c = (refl, does_start)
 
-pub cell_of-kind-requires : goal.cell_of-kind-requires
-cell_of-kind-requires c = tt
-
 pub shape_of-v-then-kind-ge-KINDS : goal.shape_of-v-then-kind-ge-KINDS
 shape_of-v-then-kind-ge-KINDS c = c.loop-i.invariant.0
 
 pub returns-then-kind-ge-KINDS : goal.returns-then-kind-ge-KINDS
 returns-then-kind-ge-KINDS c = does_stop (omega arith) c.cell_of-kind.ensures c.loop-i.invariant.1 (omega arith)
 
-pub cell_of-from-requires : goal.cell_of-from-requires
-cell_of-from-requires c = tt
-
-pub cell_of-end-requires : goal.cell_of-end-requires
-cell_of-end-requires c = tt
-
 pub resolve-n-requires : goal.resolve-n-requires
 resolve-n-requires c = (c.requires)
-
-pub overflow_add-i : goal.overflow_add-i
-overflow_add-i c = omega arith
-
-pub loop-i-smaller : goal.loop-i-smaller
-loop-i-smaller c = omega arith
 
 pub loop-i-preserved : goal.loop-i-preserved
 loop-i-preserved c = (omega arith, does_more (omega arith) c.cell_of-kind.ensures c.loop-i.invariant.1 refl c.cell_of-from.ensures c.cell_of-end.ensures c.resolve-n.ensures)

@@ -11,17 +11,11 @@ next_under-i-requires c = (c.requires.0, (c.requires.1.0, c.requires.1.1.0.room)
 pub loop-i-init : goal.loop-i-init
 loop-i-init c = (c.next_under-i.ensures.low, (c.next_under-i.ensures.high, (passes_start c.next_under-i.ensures, c.next_under-i.ensures.here)))
 
-pub overflow_mul-i : goal.overflow_mul-i
-overflow_mul-i c = omega arith
-
 pub stirs-requires : goal.stirs-requires
 stirs-requires c = (omega (arith, c.requires.1.1.0.room), c.requires.1.1.0, c.requires.1.1.1)
 
 pub returns-then-stirs : goal.returns-then-stirs
 returns-then-stirs c = row_here c.loop-i.invariant.0 c.loop-i.invariant.1.0 c.loop-i.invariant.1.1.0 c.loop-i.invariant.1.1.1
-
-pub overflow_add-i : goal.overflow_add-i
-overflow_add-i c = omega arith
 
 pub next_under-i-requires-in-loop-i : goal.next_under-i-requires-in-loop-i
 next_under-i-requires-in-loop-i c = (c.requires.0, (omega arith, c.requires.1.1.0.room))

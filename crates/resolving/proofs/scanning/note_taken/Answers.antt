@@ -7,21 +7,6 @@ use Rattle.resolving.proofs.scanning.note_taken.Goals as goal
 pub loop-i-init : goal.loop-i-init
 loop-i-init c = (refl, taken_start _ _)
 
-pub taken-requires : goal.taken-requires
-taken-requires c = tt
-
-pub offset_bounds-marks-i : goal.offset_bounds-marks-i
-offset_bounds-marks-i c = omega arith
-
-pub bounds-marks-i : goal.bounds-marks-i
-bounds-marks-i c = omega arith
-
-pub overflow_add-i : goal.overflow_add-i
-overflow_add-i c = omega arith
-
-pub loop-i-smaller : goal.loop-i-smaller
-loop-i-smaller c = omega arith
-
 pub loop-i-preserved : goal.loop-i-preserved
 loop-i-preserved c = (simp length-set c.loop-i.invariant.0, taken_more _ _ c.loop-i.i c.taken.result (omega arith) c.taken.ensures c.loop-i.invariant.1)
 

@@ -9,8 +9,5 @@ returns-then-has_default c = stirs_yes
 pub returns-then-end-from : goal.returns-then-end-from
 returns-then-end-from c = stirs_none c.has_default.ensures c.if-has_default.false (omega arith)
 
-pub returns-then-rd-j : goal.returns-then-rd-j
-returns-then-rd-j c = stirs_yes
-
 pub returns : goal.returns
 returns c = stirs_stated c.requires.1 c.has_default.ensures c.if-has_default.false (omega arith) refl _ c.requires.2 c.may_state.ensures

@@ -10,4 +10,4 @@ pub returns-then-i-ge65536 : goal.returns-then-i-ge65536
 returns-then-i-ge65536 c = notes_none
 
 pub returns : goal.returns
-returns c = notes_found _ _ _ _ c.cell_of-at.ensures c.cell_of-len.ensures c.find_enumerator.ensures c.in-At.is
+returns c = notes_found _ _ _ _ c.cell_of-at.ensures c.cell_of-len.ensures c.find_enumerator.ensures c.in-Some.is

@@ -9,21 +9,6 @@ use Rattle.resolving.proofs.words.note_words.Goals as goal
 pub loop-i-init : goal.loop-i-init
 loop-i-init c = (omega arith, (refl, notes_start))
 
-pub note_word-requires : goal.note_word-requires
-note_word-requires c = tt
-
-pub offset_bounds-t-i : goal.offset_bounds-t-i
-offset_bounds-t-i c = omega arith
-
-pub bounds-t-i : goal.bounds-t-i
-bounds-t-i c = omega arith
-
-pub overflow_add-i : goal.overflow_add-i
-overflow_add-i c = omega arith
-
-pub loop-i-smaller : goal.loop-i-smaller
-loop-i-smaller c = omega arith
-
 pub loop-i-preserved : goal.loop-i-preserved
 loop-i-preserved c = (simp length-set (omega arith), (simp length-set c.loop-i.invariant.1.0, notes_more c.loop-i.invariant.1.1 (omega arith) c.note_word.ensures))
 

@@ -10,4 +10,4 @@ pub returns-in_default : goal.returns-in_default
 returns-in_default c = word_nothing c.cell_of.ensures c.if-cell_of-ne-ENUM.false c.enumerator_of.ensures c.in_default.is
 
 pub returns : goal.returns
-returns c = word_found c.cell_of.ensures c.if-cell_of-ne-ENUM.false c.enumerator_of.ensures c.in-At.is c.cell_of-2.ensures
+returns c = word_found c.cell_of.ensures c.if-cell_of-ne-ENUM.false c.enumerator_of.ensures c.in-Some.is c.cell_of-2.ensures

@@ -1,18 +1,12 @@
--- `rows::counts::one_more` meets its contract: at each `return` the tests that led there say which case of `one_more` holds.
+-- `rows::counts::one_more` meets its contract: a kind past the thirteen has no cell, and a full cell stays.
 -- Assumes nothing.
 use native.Mathlib.Omega.{arith}
-use Rattle.rows.proofs.Tallies.{one_more_past, one_more_full, one_more_next}
+use Rattle.rows.proofs.Tallies.{one_more_past, one_more_kept}
 use mathlib.Core.Path.{sym}
 use Rattle.rows.proofs.counts.one_more.Goals as goal
 
-pub returns-then-kind-ge-KINDS : goal.returns-then-kind-ge-KINDS
-returns-then-kind-ge-KINDS c = sym (one_more_past _ _ (omega arith))
+pub returns-then-kind-lt-KINDS : goal.returns-then-kind-lt-KINDS
+returns-then-kind-lt-KINDS c = rw c.saturating_add.ensures (one_more_kept c.args.counts c.args.kind (omega arith))
 
-pub returns-then-c-kind-ge18446744073709551615 : goal.returns-then-c-kind-ge18446744073709551615
-returns-then-c-kind-ge18446744073709551615 c = sym (one_more_full _ _ c.if-c-kind-ge18446744073709551615.true)
-
-pub overflow_add-c : goal.overflow_add-c
-overflow_add-c c = omega arith
-
-pub returns : goal.returns
-returns c = sym (one_more_next _ _ (omega arith))
+pub returns-else-kind-lt-KINDS : goal.returns-else-kind-lt-KINDS
+returns-else-kind-lt-KINDS c = sym (one_more_past _ _ (omega arith))

@@ -7,5 +7,5 @@ use Rattle.rows.proofs.faults.fault_if.Goals as goal
 pub returns-then-test : goal.returns-then-test
 returns-then-test c = sym (fault_if_true _ _ _ c.if-test.true)
 
-pub returns : goal.returns
-returns c = sym (fault_if_false _ _ _ c.if-test.false)
+pub returns-else-test : goal.returns-else-test
+returns-else-test c = sym (fault_if_false _ _ _ c.if-test.false)

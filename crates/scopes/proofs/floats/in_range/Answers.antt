@@ -1,6 +1,5 @@
 use Rattle.scopes.proofs.Floating.{floats_zero, floats_in, floats_below}
 use mathlib.Core.Path.{refl}
-use borrow.Author.Rules.{rules}
 use Rattle.scopes.proofs.floats.in_range.Goals as goal
 
 pub returns-then-range-eq0 : goal.returns-then-range-eq0

@@ -1,6 +1,5 @@
 use native.Mathlib.Omega.{arith}
 use Rattle.scopes.proofs.Deciding.{greatest_signed, greatest_plain, half_fits}
-use borrow.Author.Rules.{rules}
 use Rattle.scopes.proofs.numbers.greatest_of.Goals as goal
 
 pub overflow_sub-result : goal.overflow_sub-result

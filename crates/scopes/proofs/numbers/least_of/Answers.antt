@@ -1,5 +1,4 @@
 use Rattle.scopes.proofs.Deciding.{least_signed, least_plain}
-use borrow.Author.Rules.{rules}
 use Rattle.scopes.proofs.numbers.least_of.Goals as goal
 
 pub returns-then-negatives : goal.returns-then-negatives

@@ -23,19 +23,19 @@ pub expand_text-one-requires : goal.expand_text-one-requires
 expand_text-one-requires t c = (omega arith, (record { told = c.requires.0.told; number = c.requires.0.number; limit = c.requires.0.limit; bytes = omega arith; origins = omega arith; place = c.loop-after.invariant.3.room; notes = c.requires.0.notes; noted = c.requires.0.noted }, c.loop-after.invariant.0))
 
 pub expand_text-loop-after-smaller : goal.expand_text-loop-after-smaller
-expand_text-loop-after-smaller t c = let v = stepped _ c.one.ensures c.in-On.is in let x = v.later in let y = v.inside in omega arith
+expand_text-loop-after-smaller t c = let v = stepped _ c.one.ensures c.in-Continue.is in let x = v.later in let y = v.inside in omega arith
 
 pub expand_text-loop-after-preserved : goal.expand_text-loop-after-preserved
-expand_text-loop-after-preserved t c = let v = stepped _ c.one.ensures c.in-On.is in (record { short = c.loop-after.invariant.0.short; inside = v.inside; noted = v.noted }, omega arith, omega arith, goes_then _ c.loop-after.invariant.3 v.goes)
+expand_text-loop-after-preserved t c = let v = stepped _ c.one.ensures c.in-Continue.is in (record { short = c.loop-after.invariant.0.short; inside = v.inside; noted = v.noted }, omega arith, omega arith, goes_then _ c.loop-after.invariant.3 v.goes)
 
-pub expand_text-shape_of-out-in-Done : goal.expand_text-shape_of-out-in-Done
-expand_text-shape_of-out-in-Done t c = omega arith
+pub expand_text-shape_of-out-in-Break : goal.expand_text-shape_of-out-in-Break
+expand_text-shape_of-out-in-Break t c = omega arith
 
-pub expand_text-shape_of-origins-in-Done : goal.expand_text-shape_of-origins-in-Done
-expand_text-shape_of-origins-in-Done t c = omega arith
+pub expand_text-shape_of-origins-in-Break : goal.expand_text-shape_of-origins-in-Break
+expand_text-shape_of-origins-in-Break t c = omega arith
 
-pub expand_text-returns-in-Done : goal.expand_text-returns-in-Done
-expand_text-returns-in-Done t c = loop_done _ _ _ _ _ _ _ _ _ _ _ _ _ _ _ _ _ c.if-frame-eq0.false c.loop-after.invariant.3 (finished _ _ _ _ _ _ _ _ _ _ _ _ c.one.ensures c.in-Done.is)
+pub expand_text-returns-in-Break : goal.expand_text-returns-in-Break
+expand_text-returns-in-Break t c = loop_done _ _ _ _ _ _ _ _ _ _ _ _ _ _ _ _ _ c.if-frame-eq0.false c.loop-after.invariant.3 (finished _ _ _ _ _ _ _ _ _ _ _ _ c.one.ensures c.in-Break.is)
 
 pub one-event_noted-requires : goal.one-event_noted-requires
 one-event_noted-requires t c = ((told _ _ c.requires.0.told).fit, (c.requires.0.number, (omega arith, c.requires.0.notes)))

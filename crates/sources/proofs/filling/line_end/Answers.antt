@@ -8,8 +8,8 @@ count_up-requires c = omega arith
 
 pub returns-then-at-limit : goal.returns-then-at-limit
 unfolding up_from
-returns-then-at-limit c = record { next = end_full _ _ _ _ c.if-at-limit.true c.too_long.ensures; bytes = c.store.ensures; origins = c.count_up.ensures }
+returns-then-at-limit c = record { next = end_full _ _ _ _ c.if-at-limit.true c.too_long.ensures; bytes = c.put_cells.ensures; origins = c.count_up.ensures }
 
 pub returns : goal.returns
 unfolding up_from
-returns c = record { next = end_on _ _ _ c.if-at-limit.false; bytes = c.store.ensures; origins = c.count_up.ensures }
+returns c = record { next = end_on _ _ _ c.if-at-limit.false; bytes = c.put_cells.ensures; origins = c.count_up.ensures }

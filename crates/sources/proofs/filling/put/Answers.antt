@@ -4,4 +4,4 @@ use Rattle.sources.proofs.filling.put.Goals as goal
 
 pub returns : goal.returns
 unfolding origin
-returns c = record { next = refl; bytes = c.store.ensures; origins = c.count_up.ensures }
+returns c = record { next = refl; bytes = c.put_cells.ensures; origins = c.count_up.ensures }

@@ -1,58 +1,29 @@
-use mathlib.Core.Path.{refl, sym, ◌∙◌}
-use mathlib.Core.Bool.{true}
+use Prim.Native.Nat.{◌*◌}
+use mathlib.Core.Path.{refl, sym, ◌∙◌, ap}
 use native.Mathlib.Omega.{arith}
-use Rattle.sources.specs.Texts.{find_name}
-use Rattle.sources.proofs.Tellings.{fits, find_here, find_on, find_none}
+use Rattle.sources.specs.Texts.{fitting, find_name}
+use Rattle.token.proofs.Codes.{same_pointwise}
+use Rattle.sources.proofs.Tellings.{fits, find_here, find_next, find_last, on_two}
 use Rattle.sources.proofs.finding.find_name.Goals as goal
 
-pub loop-i-init : goal.loop-i-init
+pub loop-number-init : goal.loop-number-init
 unfolding find_name
-loop-i-init c = (omega arith, omega arith, c.requires, refl)
-
-pub bounds-lengths-i : goal.bounds-lengths-i
-bounds-lengths-i c = omega arith
+loop-number-init c = (omega arith, c.requires, refl)
 
 pub overflow_add-from : goal.overflow_add-from
-overflow_add-from c = let f = fits _ c.loop-i.at _ c.loop-i.i (omega arith) c.loop-i.invariant.2 in omega arith
+overflow_add-from c = let f = fits _ c.loop-number.at _ (c.loop-number.number * 2) (omega arith) c.loop-number.invariant.1 in omega arith
 
-pub overflow_add-to : goal.overflow_add-to
-overflow_add-to c = let f = fits _ c.loop-i.at _ c.loop-i.i (omega arith) c.loop-i.invariant.2 in omega arith
+pub overflow_add-to-in-loop-number : goal.overflow_add-to-in-loop-number
+overflow_add-to-in-loop-number c = let f = fits _ c.loop-number.at _ (c.loop-number.number * 2) (omega arith) c.loop-number.invariant.1 in omega arith
 
-pub offset_bounds-lengths-i-in-loop-i : goal.offset_bounds-lengths-i-in-loop-i
-offset_bounds-lengths-i-in-loop-i c = let f = fits _ c.loop-i.at _ c.loop-i.i (omega arith) c.loop-i.invariant.2 in omega arith
+pub slice_bounds-eq-end : goal.slice_bounds-eq-end
+slice_bounds-eq-end c = let f = fits _ c.loop-number.at _ (c.loop-number.number * 2) (omega arith) c.loop-number.invariant.1 in omega arith
 
-pub bounds-lengths-i-in-loop-i : goal.bounds-lengths-i-in-loop-i
-bounds-lengths-i-in-loop-i c = let f = fits _ c.loop-i.at _ c.loop-i.i (omega arith) c.loop-i.invariant.2 in omega arith
+pub returns-then-eq : goal.returns-then-eq
+returns-then-eq c = let f = fits _ c.loop-number.at _ (c.loop-number.number * 2) (omega arith) c.loop-number.invariant.1 in sym (find_here _ c.loop-number.number c.loop-number.at _ (c.loop-number.number * 2) _ f.two_left (sym (same_pointwise _ _) ∙ sym c.eq.ensures ∙ c.if-eq.true)) ∙ c.loop-number.invariant.2
 
-pub overflow_add-to-in-loop-i : goal.overflow_add-to-in-loop-i
-overflow_add-to-in-loop-i c = let f = fits _ c.loop-i.at _ c.loop-i.i (omega arith) c.loop-i.invariant.2 in omega arith
-
-pub slice_bounds-same-count : goal.slice_bounds-same-count
-slice_bounds-same-count c = omega arith
-
-pub slice_bounds-same-start : goal.slice_bounds-same-start
-slice_bounds-same-start c = omega arith
-
-pub slice_bounds-same-end : goal.slice_bounds-same-end
-slice_bounds-same-end c = let f = fits _ c.loop-i.at _ c.loop-i.i (omega arith) c.loop-i.invariant.2 in omega arith
-
-pub same-requires : goal.same-requires
-same-requires c = tt
-
-pub returns-then-same : goal.returns-then-same
-returns-then-same c = let f = fits _ c.loop-i.at _ c.loop-i.i (omega arith) c.loop-i.invariant.2 in sym (find_here _ c.loop-i.number c.loop-i.at _ c.loop-i.i _ f.two_left (sym c.same.ensures ∙ c.if-same.true)) ∙ c.loop-i.invariant.3
-
-pub overflow_add-i : goal.overflow_add-i
-overflow_add-i c = let f = fits _ c.loop-i.at _ c.loop-i.i (omega arith) c.loop-i.invariant.2 in omega arith
-
-pub overflow_add-number : goal.overflow_add-number
-overflow_add-number c = let f = fits _ c.loop-i.at _ c.loop-i.i (omega arith) c.loop-i.invariant.2 in omega arith
-
-pub loop-i-smaller : goal.loop-i-smaller
-loop-i-smaller c = let f = fits _ c.loop-i.at _ c.loop-i.i (omega arith) c.loop-i.invariant.2 in omega arith
-
-pub loop-i-preserved : goal.loop-i-preserved
-loop-i-preserved c = let f = fits _ c.loop-i.at _ c.loop-i.i (omega arith) c.loop-i.invariant.2 in (omega arith, omega arith, f.more, sym (find_on _ c.loop-i.number c.loop-i.at _ c.loop-i.i _ f.two_left (sym c.same.ensures ∙ c.if-same.false)) ∙ c.loop-i.invariant.3)
+pub loop-number-preserved : goal.loop-number-preserved
+loop-number-preserved c = let f = fits _ c.loop-number.at _ (c.loop-number.number * 2) (omega arith) c.loop-number.invariant.1 in (omega arith, ap (fitting c.args.buffer.now _) (on_two _ c.loop-number.number) ∙ f.more, sym (find_next _ c.loop-number.at _ c.loop-number.number _ f.two_left (sym (same_pointwise _ _) ∙ sym c.eq.ensures ∙ c.if-eq.false)) ∙ c.loop-number.invariant.2)
 
 pub returns : goal.returns
-returns c = sym (find_none _ c.loop-i.number c.loop-i.at _ c.loop-i.i _ (omega arith)) ∙ c.loop-i.invariant.3
+returns c = sym (find_last _ c.loop-number.number c.loop-number.at c.args.lengths.now _ (omega arith) c.loop-number.invariant.1) ∙ c.loop-number.invariant.2

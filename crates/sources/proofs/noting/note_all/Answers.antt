@@ -4,22 +4,13 @@ use mathlib.Core.Path.{refl}
 use Rattle.sources.proofs.noting.note_all.Goals as goal
 
 pub loop-number-init : goal.loop-number-init
-loop-number-init c = (omega arith, refl, all_none _ _ _)
+loop-number-init c = (refl, all_none _ _ _)
 
 pub note_number-requires : goal.note_number-requires
 note_number-requires c = (c.requires.0, (omega arith, omega arith))
 
-pub overflow_add-number : goal.overflow_add-number
-overflow_add-number c = omega arith
-
-pub loop-number-smaller : goal.loop-number-smaller
-loop-number-smaller c = omega arith
-
 pub loop-number-preserved : goal.loop-number-preserved
-loop-number-preserved c = (omega arith, omega arith, c.note_number.ensures c.loop-number.invariant.2)
-
-pub shape_of-notes : goal.shape_of-notes
-shape_of-notes c = omega arith
+loop-number-preserved c = (omega arith, c.note_number.ensures c.loop-number.invariant.1)
 
 pub returns : goal.returns
-returns c = all_eight _ _ _ _ (omega arith) c.loop-number.invariant.2
+returns c = all_eight _ _ _ _ (omega arith) c.loop-number.invariant.1

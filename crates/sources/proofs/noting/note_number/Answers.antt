@@ -9,19 +9,19 @@ pub span_of-requires : goal.span_of-requires
 span_of-requires c = (told _ _ c.requires.0).fit
 
 pub slice_bounds-note_text-count : goal.slice_bounds-note_text-count
-slice_bounds-note_text-count c = (span_ok _ _ _ _ _ _ c.requires.0 (sym c.span_of.ensures ∙ c.in-Present.is)).0
+slice_bounds-note_text-count c = (span_ok _ _ _ _ _ _ c.requires.0 (sym c.span_of.ensures ∙ c.in-Some.is)).0
 
 pub slice_bounds-note_text-start : goal.slice_bounds-note_text-start
-slice_bounds-note_text-start c = let o = span_ok _ _ _ _ _ _ c.requires.0 (sym c.span_of.ensures ∙ c.in-Present.is) in omega arith
+slice_bounds-note_text-start c = let o = span_ok _ _ _ _ _ _ c.requires.0 (sym c.span_of.ensures ∙ c.in-Some.is) in omega arith
 
 pub slice_bounds-note_text-end : goal.slice_bounds-note_text-end
-slice_bounds-note_text-end c = let o = span_ok _ _ _ _ _ _ c.requires.0 (sym c.span_of.ensures ∙ c.in-Present.is) in omega arith
+slice_bounds-note_text-end c = let o = span_ok _ _ _ _ _ _ c.requires.0 (sym c.span_of.ensures ∙ c.in-Some.is) in omega arith
 
 pub note_text-requires : goal.note_text-requires
-note_text-requires c = record { told = c.requires.0; short = span_length _ _ _ _ _ _ c.requires.0 (sym c.span_of.ensures ∙ c.in-Present.is); number = c.requires.1.0; room = c.requires.1.1 }
+note_text-requires c = record { told = c.requires.0; short = span_length _ _ _ _ _ _ c.requires.0 (sym c.span_of.ensures ∙ c.in-Some.is); number = c.requires.1.0; room = c.requires.1.1 }
 
-pub returns-in-Present : goal.returns-in-Present
-returns-in-Present c = λ a. all_next _ _ _ _ c.requires.0 a _ _ _ _ (sym c.span_of.ensures ∙ c.in-Present.is) c.note_text.ensures
+pub returns-in-Some : goal.returns-in-Some
+returns-in-Some c = λ a. all_next _ _ _ _ c.requires.0 a _ _ _ _ (sym c.span_of.ensures ∙ c.in-Some.is) c.note_text.ensures
 
-pub returns-in-Absent : goal.returns-in-Absent
-returns-in-Absent c = λ a. all_absent _ _ _ _ c.requires.0 a (sym c.span_of.ensures ∙ c.in-Absent.is)
+pub returns-in-None : goal.returns-in-None
+returns-in-None c = λ a. all_absent _ _ _ _ c.requires.0 a (sym c.span_of.ensures ∙ c.in-None.is)

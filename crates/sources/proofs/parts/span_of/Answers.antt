@@ -1,47 +1,25 @@
-use mathlib.Core.Path.{refl, sym, ◌∙◌}
-use mathlib.Core.Bool.{true}
+use Prim.Native.Nat.{◌*◌}
+use mathlib.Core.Path.{sym, ◌∙◌, ap}
 use native.Mathlib.Omega.{arith}
-use Rattle.sources.specs.Numbering.{span_of}
-use Rattle.sources.proofs.Tellings.{fits}
-use Rattle.sources.proofs.Numberings.{span_here, span_on, span_none}
+use Rattle.sources.specs.Texts.{fitting}
+use Rattle.sources.proofs.Tellings.{fits, on_two}
+use Rattle.sources.proofs.Numberings.{span_first, span_here, span_next, span_last}
 use Rattle.sources.proofs.parts.span_of.Goals as goal
 
-pub loop-i-init : goal.loop-i-init
-unfolding span_of
-loop-i-init c = (omega arith, c.requires, refl)
-
-pub bounds-lengths-i : goal.bounds-lengths-i
-bounds-lengths-i c = omega arith
+pub loop-k-init : goal.loop-k-init
+loop-k-init c = (omega arith, omega arith, c.requires, span_first _ _)
 
 pub overflow_add-from : goal.overflow_add-from
-overflow_add-from c = let f = fits _ c.loop-i.at _ c.loop-i.i (omega arith) c.loop-i.invariant.1 in omega arith
+overflow_add-from c = let f = fits _ c.loop-k.at _ (c.loop-k.k * 2) (omega arith) c.loop-k.invariant.2 in omega arith
 
-pub overflow_add-to : goal.overflow_add-to
-overflow_add-to c = let f = fits _ c.loop-i.at _ c.loop-i.i (omega arith) c.loop-i.invariant.1 in omega arith
+pub overflow_add-to-in-loop-k : goal.overflow_add-to-in-loop-k
+overflow_add-to-in-loop-k c = let f = fits _ c.loop-k.at _ (c.loop-k.k * 2) (omega arith) c.loop-k.invariant.2 in omega arith
 
-pub offset_bounds-lengths-i-in-loop-i : goal.offset_bounds-lengths-i-in-loop-i
-offset_bounds-lengths-i-in-loop-i c = let f = fits _ c.loop-i.at _ c.loop-i.i (omega arith) c.loop-i.invariant.1 in omega arith
+pub returns-then-k-number : goal.returns-then-k-number
+returns-then-k-number c = let f = fits _ c.loop-k.at _ (c.loop-k.k * 2) (omega arith) c.loop-k.invariant.2 in sym (span_here _ c.loop-k.at _ (c.loop-k.k * 2) _ f.two_left (omega arith)) ∙ c.loop-k.invariant.3
 
-pub bounds-lengths-i-in-loop-i : goal.bounds-lengths-i-in-loop-i
-bounds-lengths-i-in-loop-i c = let f = fits _ c.loop-i.at _ c.loop-i.i (omega arith) c.loop-i.invariant.1 in omega arith
-
-pub overflow_add-to-in-loop-i : goal.overflow_add-to-in-loop-i
-overflow_add-to-in-loop-i c = let f = fits _ c.loop-i.at _ c.loop-i.i (omega arith) c.loop-i.invariant.1 in omega arith
-
-pub returns-then-left-eq0 : goal.returns-then-left-eq0
-returns-then-left-eq0 c = let f = fits _ c.loop-i.at _ c.loop-i.i (omega arith) c.loop-i.invariant.1 in sym (span_here _ c.loop-i.at _ c.loop-i.i c.loop-i.left f.two_left c.if-left-eq0.true) ∙ c.loop-i.invariant.2
-
-pub overflow_add-i : goal.overflow_add-i
-overflow_add-i c = let f = fits _ c.loop-i.at _ c.loop-i.i (omega arith) c.loop-i.invariant.1 in omega arith
-
-pub overflow_sub-left : goal.overflow_sub-left
-overflow_sub-left c = omega arith
-
-pub loop-i-smaller : goal.loop-i-smaller
-loop-i-smaller c = let f = fits _ c.loop-i.at _ c.loop-i.i (omega arith) c.loop-i.invariant.1 in omega arith
-
-pub loop-i-preserved : goal.loop-i-preserved
-loop-i-preserved c = let f = fits _ c.loop-i.at _ c.loop-i.i (omega arith) c.loop-i.invariant.1 in (omega arith, f.more, sym (span_on _ c.loop-i.at _ c.loop-i.i c.loop-i.left f.two_left c.if-left-eq0.false) ∙ c.loop-i.invariant.2)
+pub loop-k-preserved : goal.loop-k-preserved
+loop-k-preserved c = let f = fits _ c.loop-k.at _ (c.loop-k.k * 2) (omega arith) c.loop-k.invariant.2 in (omega arith, omega arith, ap (fitting c.args.buffer.now _) (on_two _ c.loop-k.k) ∙ f.more, sym (span_next _ c.loop-k.at _ c.loop-k.k (omega arith) f.two_left) ∙ c.loop-k.invariant.3)
 
 pub returns : goal.returns
-returns c = sym (span_none _ c.loop-i.at _ c.loop-i.i c.loop-i.left (omega arith)) ∙ c.loop-i.invariant.2
+returns c = sym (span_last _ _ c.loop-k.at c.args.lengths.now _ c.loop-k.k (omega arith) c.loop-k.invariant.2) ∙ c.loop-k.invariant.3

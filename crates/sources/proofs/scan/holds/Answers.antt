@@ -4,10 +4,10 @@ use mathlib.Core.Path.{◌∙◌}
 use Rattle.sources.proofs.scan.holds.Goals as goal
 
 pub loop-i-init : goal.loop-i-init
-loop-i-init c = (omega arith, holds_none _ c.args.text.now)
+loop-i-init c = holds_none _ c.args.text.now
 
 pub loop-i-preserved : goal.loop-i-preserved
-loop-i-preserved c = (omega arith, holds_next _ _ c.loop-i.i c.loop-i.seen _ (omega arith) c.loop-i.invariant.1 c.either-seen.ensures)
+loop-i-preserved c = holds_next _ _ c.loop-i.i c.loop-i.seen _ (omega arith) c.loop-i.invariant c.either-seen.ensures
 
 pub returns : goal.returns
-returns c = c.loop-i.invariant.1 ∙ holds_all _ _ c.loop-i.i (omega arith)
+returns c = c.loop-i.invariant ∙ holds_all _ _ c.loop-i.i (omega arith)

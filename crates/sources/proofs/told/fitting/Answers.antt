@@ -1,52 +1,24 @@
-use mathlib.Core.Path.{refl, sym, ◌∙◌}
+use Prim.Native.Nat.{◌*◌}
+use mathlib.Core.Path.{refl, sym, ◌∙◌, ap}
 use native.Mathlib.Omega.{arith}
-use Rattle.sources.proofs.Tellings.{fit_end, fit_one, fit_name, fit_text, fit_long, fit_more}
+use Rattle.sources.specs.Texts.{fitting}
+use Rattle.sources.proofs.Tellings.{fit_last, fit_name, fit_text, fit_long, fit_more, on_two}
 use Rattle.sources.proofs.told.fitting.Goals as goal
 
-pub loop-i-init : goal.loop-i-init
-loop-i-init c = (omega arith, refl)
-
-pub overflow_sub-lengths : goal.overflow_sub-lengths
-overflow_sub-lengths c = omega arith
-
-pub returns-then-lengths-i-lt2 : goal.returns-then-lengths-i-lt2
-returns-then-lengths-i-lt2 c = sym (fit_one _ c.loop-i.at _ c.loop-i.i (omega arith)) ∙ c.loop-i.invariant.1
-
-pub bounds-lengths-i : goal.bounds-lengths-i
-bounds-lengths-i c = omega arith
-
-pub bounds-lengths-i-in-loop-i : goal.bounds-lengths-i-in-loop-i
-bounds-lengths-i-in-loop-i c = omega arith
-
-pub overflow_sub-buffer : goal.overflow_sub-buffer
-overflow_sub-buffer c = omega arith
+pub loop-k-init : goal.loop-k-init
+loop-k-init c = (omega arith, refl)
 
 pub returns-then-buffer-at : goal.returns-then-buffer-at
-returns-then-buffer-at c = sym (fit_name _ c.loop-i.at _ c.loop-i.i (omega arith) (omega arith)) ∙ c.loop-i.invariant.1
-
-pub overflow_sub-buffer-in-loop-i : goal.overflow_sub-buffer-in-loop-i
-overflow_sub-buffer-in-loop-i c = omega arith
-
-pub overflow_sub-buffer-in-loop-i-2 : goal.overflow_sub-buffer-in-loop-i-2
-overflow_sub-buffer-in-loop-i-2 c = omega arith
+returns-then-buffer-at c = sym (fit_name _ c.loop-k.at _ (c.loop-k.k * 2) (omega arith) (omega arith)) ∙ c.loop-k.invariant.1
 
 pub returns-then-buffer-at-2 : goal.returns-then-buffer-at-2
-returns-then-buffer-at-2 c = sym (fit_text _ c.loop-i.at _ c.loop-i.i (omega arith) (omega arith)) ∙ c.loop-i.invariant.1
+returns-then-buffer-at-2 c = sym (fit_text _ c.loop-k.at _ (c.loop-k.k * 2) (omega arith) (omega arith)) ∙ c.loop-k.invariant.1
 
 pub returns-then-t-gt-LONGEST : goal.returns-then-t-gt-LONGEST
-returns-then-t-gt-LONGEST c = sym (fit_long _ c.loop-i.at _ c.loop-i.i (omega arith) (omega arith) (omega arith) (omega arith)) ∙ c.loop-i.invariant.1
+returns-then-t-gt-LONGEST c = sym (fit_long _ c.loop-k.at _ (c.loop-k.k * 2) (omega arith) (omega arith) (omega arith) (omega arith)) ∙ c.loop-k.invariant.1
 
-pub overflow_add-at : goal.overflow_add-at
-overflow_add-at c = omega arith
-
-pub overflow_add-at-in-loop-i : goal.overflow_add-at-in-loop-i
-overflow_add-at-in-loop-i c = omega arith
-
-pub loop-i-smaller : goal.loop-i-smaller
-loop-i-smaller c = omega arith
-
-pub loop-i-preserved : goal.loop-i-preserved
-loop-i-preserved c = (omega arith, sym (fit_more _ c.loop-i.at _ c.loop-i.i (omega arith) (omega arith) (omega arith) (omega arith)) ∙ c.loop-i.invariant.1)
+pub loop-k-preserved : goal.loop-k-preserved
+loop-k-preserved c = (omega arith, ap (fitting c.args.buffer.now _) (on_two _ c.loop-k.k) ∙ sym (fit_more _ c.loop-k.at _ (c.loop-k.k * 2) (omega arith) (omega arith) (omega arith) (omega arith)) ∙ c.loop-k.invariant.1)
 
 pub returns : goal.returns
-returns c = sym (fit_end _ c.loop-i.at _ c.loop-i.i (omega arith)) ∙ c.loop-i.invariant.1
+returns c = fit_last _ c.loop-k.at _ c.loop-k.k (omega arith) ∙ c.loop-k.invariant.1

@@ -1,5 +1,3 @@
-use mathlib.Core.Bool.{not}
-use mathlib.Core.Path.{ap}
 use Rattle.standard.proofs.Choosing.{other_key, its_key}
 use mathlib.Core.Path.{sym, ◌∙◌}
 use Rattle.standard.proofs.choices.is_extra.Goals as goal

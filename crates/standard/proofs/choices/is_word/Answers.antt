@@ -1,23 +1,12 @@
 use native.Mathlib.Omega.{arith}
-use borrow.Author.Rules.{rules}
 use Rattle.standard.proofs.Choosing.{word_here, word_on, word_past}
-use mathlib.Core.Path.{refl}
 use Rattle.standard.proofs.choices.is_word.Goals as goal
 
-pub loop-k-init : goal.loop-k-init
-loop-k-init c = refl
-
 pub returns-then-same_bytes : goal.returns-then-same_bytes
-returns-then-same_bytes c = word_here _ _ _ _ _ _ c.loop-k.invariant _ _ _ _ c.loop-k-test.true c.cell_of-at.ensures c.cell_of-len.ensures c.part.ensures.bytes c.same_bytes.ensures c.if-same_bytes.true
-
-pub overflow_add-k : goal.overflow_add-k
-overflow_add-k c = search (rules, arith)
-
-pub loop-k-smaller : goal.loop-k-smaller
-loop-k-smaller c = omega (arith, c.loop-k-test.true)
+returns-then-same_bytes c = word_here _ _ _ _ _ _ c.loop-k.invariant _ _ _ _ (omega arith) c.cell_of-at.ensures c.cell_of-len.ensures c.part.ensures.bytes c.same_bytes.ensures c.if-same_bytes.true
 
 pub loop-k-preserved : goal.loop-k-preserved
-loop-k-preserved c = word_on _ _ _ _ _ _ c.loop-k.invariant _ _ _ _ c.loop-k-test.true c.cell_of-at.ensures c.cell_of-len.ensures c.part.ensures.bytes c.same_bytes.ensures c.if-same_bytes.false
+loop-k-preserved c = word_on _ _ _ _ _ _ c.loop-k.invariant _ _ _ _ (omega arith) c.cell_of-at.ensures c.cell_of-len.ensures c.part.ensures.bytes c.same_bytes.ensures c.if-same_bytes.false
 
 pub returns : goal.returns
-returns c = word_past _ _ _ _ _ _ c.loop-k.invariant c.loop-k-test.false
+returns c = word_past _ _ _ _ _ _ c.loop-k.invariant (omega arith)

@@ -1,10 +1,6 @@
 use Rattle.standard.specs.Choices.{find_word}
-use Prim.Native.Nat.{◌-◌}
 use mathlib.Core.Path.{◌≡◌}
 use Rattle.standard.proofs.choices.is_word.Given as goal
 
 abbrev pub invariant-loop-k : goal.invariant-loop-k
 invariant-loop-k l = find_word l.section l.words l.end l.name l.k ≡ find_word l.section l.words l.end l.name l.first
-
-abbrev pub decreases-loop-k : goal.decreases-loop-k
-decreases-loop-k l = l.end - l.k

@@ -3,6 +3,3 @@ use Rattle.standard.proofs.findings.foremost.Given as goal
 
 abbrev pub invariant-loop-i : goal.invariant-loop-i
 invariant-loop-i l = Telling l.section l.rows l.words l.text l.d l.e l.x l.i l.best
-
-abbrev pub decreases-loop-i : goal.decreases-loop-i
-decreases-loop-i l = l.i

@@ -1,20 +1,16 @@
--- src/naming.rt:64:9
 use mathlib.Core.Path.{◌∙◌}
 use mathlib.Core.Bool.{true, false}
 use Rattle.standard.proofs.Valued.{true_named, false_named, part_same}
 use Rattle.standard.proofs.naming.truth_named.Goals as goal
 
--- src/naming.rt:67:9
 pub returns-then-same_bytes : goal.returns-then-same_bytes
 returns-then-same_bytes c = true_named _ _ _ _ _ _ c.cell_of-first.ensures c.cell_of-size.ensures (part_same _ c.part.ensures.bytes c.same_bytes.ensures ∙ c.if-same_bytes.true)
 
--- src/naming.rt:72:9
 pub returns-then-same_bytes-2 : goal.returns-then-same_bytes-2
 returns-then-same_bytes-2 c =
     false_named _ _ _ _ _ _ _ _ c.cell_of-first.ensures c.cell_of-size.ensures c.cell_of-second.ensures c.cell_of-size2.ensures
     (part_same _ c.part.ensures.bytes c.same_bytes.ensures ∙ c.if-same_bytes.false) true (part_same _ c.part-2.ensures.bytes c.same_bytes-2.ensures ∙ c.if-same_bytes-2.true)
 
--- src/naming.rt:61:1
 pub returns : goal.returns
 returns c =
     false_named _ _ _ _ _ _ _ _ c.cell_of-first.ensures c.cell_of-size.ensures c.cell_of-second.ensures c.cell_of-size2.ensures

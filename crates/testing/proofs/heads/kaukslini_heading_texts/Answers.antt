@@ -1,8 +1,8 @@
 use Rattle.testing.proofs.TellingQuestions.{tells_front, tells_no_front}
 use Rattle.testing.proofs.heads.kaukslini_heading_texts.Goals as goal
 
-pub returns-in-VersionAndName : goal.returns-in-VersionAndName
-returns-in-VersionAndName c = tells_front _ _ _ _ c.heading.ensures.heads c.in-VersionAndName.is c.put_cells.ensures
+pub returns-in-Ok : goal.returns-in-Ok
+returns-in-Ok c = tells_front _ _ _ _ c.heading.ensures.heads c.in-Ok.is c.put_cells.ensures
 
-pub returns-in-Refused : goal.returns-in-Refused
-returns-in-Refused c = tells_no_front _ _ _ _ c.heading.ensures.heads c.in-Refused.is c.put_cells-in-Refused.ensures
+pub returns-in-Err : goal.returns-in-Err
+returns-in-Err c = tells_no_front _ _ _ _ c.heading.ensures.heads c.in-Err.is c.put_cells-in-Err.ensures

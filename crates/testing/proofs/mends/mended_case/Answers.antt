@@ -2,10 +2,10 @@ use Rattle.testing.specs.Mendings.{mended_case}
 use mathlib.Core.Path.{sym, ap}
 use Rattle.testing.proofs.mends.mended_case.Goals as goal
 
-pub returns-in-Refused : goal.returns-in-Refused
+pub returns-in-Err : goal.returns-in-Err
 unfolding mended_case
-returns-in-Refused c = sym (ap mended_case c.in-Refused.is)
+returns-in-Err c = sym (ap mended_case c.in-Err.is)
 
-pub returns-in-Done : goal.returns-in-Done
+pub returns-in-Ok : goal.returns-in-Ok
 unfolding mended_case
-returns-in-Done c = sym (ap mended_case c.in-Done.is)
+returns-in-Ok c = sym (ap mended_case c.in-Ok.is)

@@ -1,15 +1,16 @@
 use Rattle.testing.specs.Standards.{told_case}
 use mathlib.Core.Path.{sym, ap}
+use Rattle.testing.proofs.Variants.{ok_of}
 use Rattle.testing.proofs.standards.told_case.Goals as goal
 
-pub returns-in-Refused : goal.returns-in-Refused
+pub returns-in-Err : goal.returns-in-Err
 unfolding told_case
-returns-in-Refused c = sym (ap told_case c.in-Refused.is)
+returns-in-Err c = sym (ap told_case c.in-Err.is)
 
-pub returns-in-NothingWrong : goal.returns-in-NothingWrong
+pub returns-in-None : goal.returns-in-None
 unfolding told_case
-returns-in-NothingWrong c = sym (ap told_case c.in-NothingWrong.is)
+returns-in-None c = sym (ap told_case (ok_of c.in-Ok.is c.in-None.is))
 
-pub returns-in-Wrong : goal.returns-in-Wrong
+pub returns-in-Some : goal.returns-in-Some
 unfolding told_case
-returns-in-Wrong c = sym (ap told_case c.in-Wrong.is)
+returns-in-Some c = sym (ap told_case (ok_of c.in-Ok.is c.in-Some.is))

@@ -1,13 +1,8 @@
 -- `token::scan::find_byte` meets its contract: the place to be found from i on is that to be found from the start.
 -- Assumes nothing.
-use Prim.Native.Nat.{◌-◌}
 use mathlib.Core.Path.{◌≡◌}
-use lib.ListN.{length}
 use Rattle.token.specs.Bytes.{find_byte}
 use Rattle.token.proofs.scan.find_byte.Given as goal
 
 abbrev pub invariant-loop-i : goal.invariant-loop-i
 invariant-loop-i l = find_byte l.b l.text l.i ≡ find_byte l.b l.text l.from
-
-abbrev pub decreases-loop-i : goal.decreases-loop-i
-decreases-loop-i l = length l.text - l.i

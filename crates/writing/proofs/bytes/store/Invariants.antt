@@ -4,8 +4,5 @@ use lib.ListN.{length, drop}
 use lib.Seq.{sets}
 use Rattle.writing.proofs.bytes.store.Given as goal
 
-abbrev pub invariant-loop-i : goal.invariant-loop-i
-invariant-loop-i l = (l.i ≤ length l.bytes) × (length l.out ≡ length l.initial.out) × (sets l.out l.j (drop l.i l.bytes) ≡ sets l.initial.out l.at l.bytes)
-
-abbrev pub decreases-loop-i : goal.decreases-loop-i
-decreases-loop-i l = length l.bytes - l.i
+abbrev pub invariant-loop-byte : goal.invariant-loop-byte
+invariant-loop-byte l = (l.byte-index ≤ length l.bytes) × (length l.out ≡ length l.initial.out) × (sets l.out l.j (drop l.byte-index l.bytes) ≡ sets l.initial.out l.at l.bytes)

@@ -4,6 +4,3 @@ use Rattle.writing.proofs.objects.put_objects.Given as goal
 
 abbrev pub invariant-loop-i : goal.invariant-loop-i
 invariant-loop-i l = GoingObjects l.text l.d l.o l.v l.m l.n l.initial.out l.at l.i l.k l.out l.e
-
-abbrev pub decreases-loop-i : goal.decreases-loop-i
-decreases-loop-i l = l.m - l.i

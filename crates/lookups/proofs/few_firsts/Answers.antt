@@ -1,5 +1,0 @@
-use Rattle.lookups.proofs.Blocks.{firsts_none}
-use Rattle.lookups.proofs.few_firsts.Goals as goal
-
-pub fill_firsts-requires : goal.fill_firsts-requires
-fill_firsts-requires c = firsts_none _ _ _ _ 64

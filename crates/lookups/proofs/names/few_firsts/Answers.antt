@@ -1,5 +1,0 @@
-use Rattle.lookups.proofs.Naming.{firsts_in}
-use Rattle.lookups.proofs.names.few_firsts.Goals as goal
-
-pub returns : goal.returns
-returns c = firsts_in _ c.args.names.now _ _ _ _ c.statement_ranks.ensures c.few_firsts.ensures
