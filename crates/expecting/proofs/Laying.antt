@@ -1,10 +1,10 @@
 -- The bytes of the texts by which the stage is asked, and the words. Assumes nothing.
 use Prim.Native.Nat.{ℕ, suc, ◌+◌, ◌-◌, ◌≤◌, ◌<◌}
 use mathlib.Core.Path.{◌≡◌, sym, ◌∙◌, ap, ap₂}
-use mathlib.Core.List.{List, [], ◌∷◌, ◌++◌}
+use mathlib.Core.List.{List, [], ◌∷◌, ◌++◌, append-nil}
 use native.Mathlib.Omega.{arith}
-use lib.ListN.{length, get_or, set, take, drop, replicate, length-append, get_or-eq_default}
-use lib.Seq.{length-take-le, set-append_seam, take-append_seam, take-append-add, drop-cons}
+use lib.ListN.{length, get_or, set, take, drop, replicate, length-append, length-set, length-drop, get_or-eq_default, drop_of_length-le}
+use lib.Seq.{sets, sets-eq, length-take-le, set-append_seam, take-append_seam, take-append-add, drop-cons}
 use lib.Dec.{eqb, eqb→eq}
 use borrow.Rule.Slice.PartMut.{put_mid, post_of}
 use Rattle.std.proofs.Common.{append_assoc, map}
@@ -22,6 +22,25 @@ sample_at i d h = get_or_default samples i d [] h
 sample_long : (i : ℕ) → i < 29 → length (sample_of i) ≡ 16
 unfolding sample_of
 sample_long i h = eqb→eq (length (get_or samples i [])) 16 (below (λ n. eqb (length (get_or samples n [])) 16) 29 tt i h)
+
+-- What is as long as the room is stored whole.
+pub whole_stored : (l vs : List ℕ) → length l ≡ length vs → sets l 0 vs ≡ vs
+whole_stored l vs e =
+    sets-eq vs l 0 (omega (arith, e)) ∙ ap (λ (r : List ℕ). vs ++ r) (drop_of_length-le l (omega (arith, e))) ∙ append-nil vs
+
+-- The room before the line feed, and that of a sample behind it.
+pub text_room : (p : ℕ) (l s : List ℕ) → p ≤ length s → p + 17 ≤ length l → length (take p l) ≡ length (take p s)
+text_room p l s h k = length-take-le p l (omega arith) ∙ sym (length-take-le p s h)
+
+pub sample_room : (i p : ℕ) (x l v : List ℕ) → length x ≡ p → p + 17 ≤ length l → v ≡ sample_of i → i < 29
+    → length (take (p + 17 - (p + 1)) (drop (p + 1) (set (x ++ drop p l) p 10))) ≡ length v
+sample_room i p x l v e h g k =
+    let a = length-set (x ++ drop p l) p 10 in
+    let b = length-append x (drop p l) in
+    let c = length-drop p l in
+    let d = length-drop (p + 1) (set (x ++ drop p l) p 10) in
+    let n : p + 17 - (p + 1) ≡ 16 = omega arith in
+    length-take-le (p + 17 - (p + 1)) (drop (p + 1) (set (x ++ drop p l) p 10)) (omega (arith, a, b, c, d, e, h)) ∙ n ∙ sym (ap length g ∙ sample_long i k)
 
 -- A text x, a line feed and sixteen bytes v, written one after another over l.
 laid : (x l v : List ℕ) → length v ≡ 16 → length x < length l

@@ -2,6 +2,8 @@
 ghost use Rattle.std.specs.Prelude.{◌≡◌, ◌+◌, length, take};
 ghost use Rattle.expecting.specs.Samples.{asking, Room};
 
+use rows::cells;
+
 // A token of each terminal, in the order of the flags, and none.
 const SAMPLES: [[u8; WIDTH]; super::TERMINALS] = [
     *b"x               ",
@@ -45,7 +47,7 @@ pub fn lay(text: &[u8], place: usize, i: usize, scratch: &mut [u8])
     requires { Room text.now place i (length scratch.old) }
     ensures { take (place + 17) scratch.new ≡ asking text.now place i }
 {
-    scratch[..place].copy_from_slice(&text[..place]);
+    cells::put_cells(&mut scratch[..place], 0, &text[..place]);
     scratch[place] = b'\n';
-    scratch[place + 1..place + ROOM].copy_from_slice(&SAMPLES[i]);
+    cells::put_cells(&mut scratch[place + 1..place + ROOM], 0, &SAMPLES[i]);
 }

@@ -88,7 +88,7 @@ fn put_masks(masks: &[u64], list: &mut [u64])
     requires { length masks.now ≤ length list.old }
     ensures { list.new ≡ sets list.old 0 masks.now }
 {
-    list[..masks.len()].copy_from_slice(masks);
+    cells::put_cells(list, 0, masks);
 }
 
 // The planner's answer by what was found; a plan goes to the front of the list.

@@ -2,13 +2,13 @@
 -- Assumes nothing.
 use Prim.Native.Nat.{ℕ, suc, ◌+◌, ◌-◌, ◌<◌, ◌≤◌, min}
 use mathlib.Core.Path.{◌≡◌, refl, sym, ap, ◌∙◌}
-use mathlib.Core.List.{List, [], ◌∷◌, ◌++◌, append_assoc}
+use mathlib.Core.List.{List, [], ◌∷◌, ◌++◌, append_assoc, append-nil}
 use native.Mathlib.Nat.{add-zero}
 use native.Mathlib.Omega.{arith}
 use native.Mathlib.Numerals.{add-one}
 use native.Mathlib.Decide.{dec_le}
-use lib.ListN.{length, take, drop, get_or, set, take-append-drop, drop_of_length-le}
-use lib.Seq.{sets, sets-eq, length-sets, set_out, take-set-le, drop-set-lt, drop-set-add, drop-drop, take_at, take_all, drop_at, length-take-le, drop-cons}
+use lib.ListN.{length, take, drop, get_or, set, replicate, take-append-drop, drop_of_length-le}
+use lib.Seq.{take-suc, sets, sets-eq, length-sets, set_out, take-set-le, drop-set-lt, drop-set-add, drop-drop, take_at, take_all, drop_at, length-take-le, drop-cons}
 use Rattle.rows.specs.Table.{part}
 
 pub sets_append : {A : Type 0} (l : List A) (i : ℕ) (xs ys : List A) → sets l i (xs ++ ys) ≡ sets (sets l i xs) (i + length xs) ys
@@ -55,6 +55,16 @@ module _ (l : List ℕ) (j : ℕ) (vs : List ℕ) (i : ℕ) where
   pub stores_end : length vs ≤ i → l ≡ sets l j (drop i vs)
   stores_end h = rw (drop_of_length-le vs h)
 
+-- cells that are stored one after another, as many as there is room for from a place inside on
+module _ {A : Type 0} (l : List A) (j : ℕ) (vs : List A) where
+  -- a turn
+  pub stored_next : (i : ℕ) (v : A) → i < length vs → v ≡ get_or vs i v → set (sets l j (take i vs)) (j + i) v ≡ sets l j (take (i + 1) vs)
+  stored_next i v h e =
+      let k : length (take i vs) ≡ i = length-take-le i vs (omega arith) in
+      let t : take (i + 1) vs ≡ take i vs ++ (v ∷ []) =
+      ap (λ (n : ℕ). take n vs) (add-one i) ∙ take-suc vs i v h ∙ ap (λ (x : A). take i vs ++ (x ∷ [])) (sym e) in
+      sym (ap (sets l j) t ∙ sets_append l j (take i vs) (v ∷ []) ∙ ap (λ (n : ℕ). set (sets l j (take i vs)) (j + n) v) k)
+
 -- cells that are stored at once: as many as there is room for from a place inside on
 module _ {A : Type 0} (l : List A) (i : ℕ) where
   stored_all : (vs : List A) → i + length vs ≤ length l → take i l ++ (vs ++ drop (length vs) (drop i l)) ≡ sets l i vs
@@ -81,3 +91,18 @@ module _ {A : Type 0} (l : List A) (i : ℕ) where
 
   pub stored : (vs : List A) (n : ℕ) → i < length l → n ≡ min (length vs) (length l - i) → take i l ++ (take n vs ++ drop n (drop i l)) ≡ sets l i vs
   stored vs n h = stored_by vs n h (dec_le (length vs) (length l - i))
+
+-- where as many are stored as there is room for, the others are not
+module _ {A : Type 0} (l : List A) (j : ℕ) (vs : List A) (i : ℕ) where
+  stored_up : Dec (length vs ≤ length l - j) → i ≡ min (length vs) (length l - j) → sets l j (take i vs) ≡ sets l j vs
+  stored_up (yes d) e = ap (sets l j) (take_all i vs (omega arith))
+  stored_up (no d) e = stored_some l j vs i (omega arith) (omega arith)
+
+  pub stored_end : i ≡ min (length vs) (length l - j) → sets l j (take i vs) ≡ sets l j vs
+  stored_end e = stored_up (dec_le (length vs) (length l - j)) e
+
+-- a loop that clears one cell a turn
+pub cleared : (l : List ℕ) (i : ℕ) → i ≡ length l → replicate i 0 ++ drop i l ≡ replicate (length l) 0
+cleared l i e =
+    let h : length l ≤ i = omega arith in
+    rw (drop_of_length-le l h, append-nil {A = ℕ} (replicate i 0), e)

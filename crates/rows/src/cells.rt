@@ -7,9 +7,12 @@ ghost use Rattle.std.proofs.lemmas.List.Edits.{sets};
 pub fn put_cells<T: Copy>(t: &mut [T], at: usize, cells: &[T])
     ensures { t.new ≡ sets t.old at cells.now }
 {
+    // Not `copy_from_slice`, which calls `memmove`: the archive for C needs nothing from outside but `memcpy` and `memset`.
     if at < t.len() {
         let n = cells.len().min(t.len() - at);
-        t[at..at + n].copy_from_slice(&cells[..n]);
+        for i in 0..n {
+            t[at + i] = cells[i];
+        }
     }
 }
 
