@@ -22,13 +22,14 @@ use Rattle.std.specs.Prelude.{Some, None}
 use Rattle.rows.specs.Order as order
 use Rattle.rows.proofs.Walks as table
 use Rattle.rows.specs.Search.{is_found}
+use Rattle.meaning.proofs.Numbered.{of_few}
 use Rattle.meaning.specs.Syntax.{Word, Statement, Statements, done, state, Object, File, statements_in}
 use Rattle.meaning.specs.Words.{choose}
 use Rattle.meaning.specs.Kinds.{kinds, kind_number, same_kind, fewest, most}
 use Rattle.meaning.specs.Merging.{same_object, used, merged, merge_from, merge}
 use Rattle.meaning.specs.Faults.{Fault, faults_if, first, sooner}
 use Rattle.meaning.specs.Applying.{how_many, counts_of, counts, too_few, full, statement_faults, each_object, each_part, elsewhere, each_name, object_faults}
-use Rattle.meaning.proofs.Merges.{Alike, same_alike, used_more, used_none}
+use Rattle.meaning.proofs.Merges.{same_alike, used_more, used_none}
 use Rattle.meaning.proofs.Order.{InOrder, sub_behind, sub_all, drop, ordered_sub}
 use Rattle.meaning.proofs.Sooner.{left_of}
 use Rattle.meaning.proofs.Sites.{statement_words, object_words, spec_words}
@@ -45,13 +46,13 @@ use Rattle.kinds.specs.Kinds.{kind_at, most_of}
 use Rattle.merging.proofs.Places.{row_is, new_by, old_by}
 use Rattle.checks.specs.declared.objects.Checked.{Checked}
 use Rattle.checks.specs.Cells.{lacking_from, full_of, room_fault}
-use Rattle.checks.specs.Promises.{Noted, numbers, Met, ChecksParts, Titled, Unclashed, Clashes, clash, no_clash, NameFault, Checks, ObjectFaults}
-use Rattle.scopes.proofs.Firsts.{Has, here, there, has_none, has_left, has_right, has_split, in_if, if_in, Covered, covered, covered_by, first_same, fault_append, fault_one}
-use Rattle.merging.specs.Parts.{row_or, first_row, FirstRows}
+use Rattle.checks.specs.Promises.{Noted, numbers, Met, ChecksParts, Clashes, clash, no_clash, NameFault, ObjectFaults}
+use Rattle.scopes.proofs.Firsts.{Has, here, there, has_none, has_left, has_right, has_split, in_if, Covered, covered, covered_by, first_same, Real, real, real_none, real_append, real_if, fault_append, fault_one}
+use Rattle.merging.specs.Parts.{row_or, FirstRows}
 use Rattle.merging.proofs.Storing.{cells_of}
 use Rattle.checks.proofs.Names.{each_name_append}
 use Rattle.checks.proofs.Tallying.{alike, cell, tallied}
-use Rattle.checks.proofs.Rows.{get_at, nth_fault, fault_nth, room_code, numbers_of, numbered, numbered_append, numbers_append as codes-append, numbered_is}
+use Rattle.checks.proofs.Rows.{get_at, nth_fault, fault_nth, real_nth, room_code, numbers_of, numbered, numbered_append, numbers_append as codes-append, numbered_is}
 
 -- Kinds ------------------------------------------------------------------------------------------------------------------------------------
 
@@ -133,6 +134,12 @@ too_few_is os cpu cs p e h =
 unfoldable own_faults : List Object → (k : ℕ) → Object → List Fault
 own_faults os k x = faults_if (eqb k 256) x.word 11 ++ faults_if (full (most x.kind) (how_many x.kind os)) x.word 17
 
+own_real : (os : List Object) (k : ℕ) (x : Object) → Real (own_faults os k x)
+unfolding own_faults
+own_real os k x =
+    real_append (faults_if (eqb k 256) x.word 11) (faults_if (full (most x.kind) (how_many x.kind os)) x.word 17)
+    (real_if (eqb k 256) x.word 11 (omega arith)) (real_if (full (most x.kind) (how_many x.kind os)) x.word 17 (omega arith))
+
 each_behind : (before a b : List Object) → each_object before (a ++ b) ≡ each_object before a ++ each_object (before ++ a) b
 unfolding each_object
 each_behind before [] b = ap (λ (l : List Object). each_object l b) (sym (append-nil before))
@@ -144,6 +151,16 @@ each_behind before (x ∷ a) b =
 each_one : (os : List Object) (z : Object) (k : ℕ) (rest : List Object) → each_object os (merged z k rest ∷ []) ≡ own_faults os k z
 unfolding each_object merged own_faults
 each_one os z k rest = append-nil (faults_if (eqb k 256) z.word 11 ++ faults_if (full (most z.kind) (how_many z.kind os)) z.word 17)
+
+each_real : (before xs : List Object) → Real (each_object before xs)
+unfolding each_object
+each_real before [] = real_none
+each_real before (x ∷ xs) =
+    let a = faults_if (eqb x.row 256) x.word 11 in
+    let b = faults_if (full (most x.kind) (how_many x.kind before)) x.word 17 in
+    real_append (a ++ b) (each_object (before ++ (x ∷ [])) xs)
+    (real_append a b (real_if (eqb x.row 256) x.word 11 (omega arith)) (real_if (full (most x.kind) (how_many x.kind before)) x.word 17 (omega arith)))
+    (each_real (before ++ (x ∷ [])) xs)
 
 numbers_append : (a b : List Object) → numbers (a ++ b) ≡ numbers a ++ numbers b
 unfolding numbers
@@ -175,7 +192,8 @@ own_code : (os : List Object) (k : ℕ) (x : Object) (a b : MaybeFault) → a �
 unfolding own_faults
 own_code os k x a b e g =
     ap₂ order.sooner e g
-    ∙ sym (fault_append (faults_if (eqb k 256) x.word 11) (faults_if (full (most x.kind) (how_many x.kind os)) x.word 17))
+    ∙ sym (fault_append (faults_if (eqb k 256) x.word 11) (faults_if (full (most x.kind) (how_many x.kind os)) x.word 17)
+    (real_if (eqb k 256) x.word 11 (omega arith)) (real_if (full (most x.kind) (how_many x.kind os)) x.word 17 (omega arith)))
 
 -- The cells of a part's row.
 module _ (f : File) (p : List ℕ) (e : p ≡ kept_parts f) (j : ℕ) (z : Object) (q : Nth f.parts j z) (h : j < 513) where
@@ -271,7 +289,7 @@ module _ {s p x : List ℕ} {n : ℕ} {f : File} (N : Noted s p x n f) {j : ℕ}
             ∙ sym (count_on_append (replicate 13 0) (numbers os) (kind_number z.kind ∷ []))
             ∙ ap (count_on (replicate 13 0)) (ap (λ (v : List ℕ). numbers os ++ v) (sym (numbers_one z k rest)) ∙ sym (numbers_append os (y ∷ [])));
         found = e₆ ∙ ap₂ order.sooner M.found c'
-            ∙ sym (fault_append (each_object [] os) (own_faults os k z))
+            ∙ sym (fault_append (each_object [] os) (own_faults os k z) (each_real [] os) (own_real os k z))
             ∙ ap (λ (v : List Fault). fault_of (first v)) (ap (λ (v : List Fault). each_object [] os ++ v) (sym (each_one os z k rest)) ∙ sym (each_behind [] os (y ∷ [])));
       }
 
@@ -667,6 +685,11 @@ module _ (s : List ℕ) (f : File) (K : Situation s f) where
   clashes (clash front z rest w c h e) = record { place = z.name.place; number = 24 } ∷ []
   clashes (no_clash u e) = []
 
+  clashes_real : {n : ℕ} {r : MaybeFault} (Q : Clashes f n r) → Real (clashes Q)
+  unfolding clashes faults_if
+  clashes_real (clash front z rest w c h e) = real_if true z.name 24 (omega arith)
+  clashes_real (no_clash u e) = real_none
+
   clashes_code : {n : ℕ} {r : MaybeFault} (Q : Clashes f n r) → r ≡ fault_of (first (clashes Q))
   unfolding clashes fault_of first sooner
   clashes_code (clash front z rest w c h e) = e
@@ -800,6 +823,9 @@ module _ (s : List ℕ) (f : File) (K : Situation s f) where
     stage_is : first (object_faults f) ≡ first found
     stage_is = first_same (object_faults f) found found_in_stage stage_in_found
 
+real_few : (ks : List Kind) (os : List Object) (cpu : Word) → Real (too_few ks os cpu)
+real_few ks os cpu = real (of_few ks os cpu)
+
 part_word : (p : List ℕ) (f : File) → p ≡ kept_parts f → (x : Object) → Nth f.parts 512 x → cell_of p 10 512 1 ≡ x.word.place
 part_word p f e x q = word_cell f p e 512 x q (omega arith)
 
@@ -829,11 +855,28 @@ objects_answer s p st x xn n m cs cpu l a b c d v y w z r t e₁ e₂ e₃ e₀ 
     let qB : b ≡ fault_of (first B) = e₀ ∙ M.found in
     let qC : c ≡ fault_of (first C₀) = e₄ ∙ room_code (λ (x : Object). x.word) 11 p 10 512 1 n f.parts h₃ (λ x q. part_word p f h₁ x q) in
     let qD : d ≡ fault_of (first D₀) = e₅ ∙ room_code (λ (x : Statement). x.name) 11 st 7 2048 0 m (flat f.parts) (h₄ ∙ sym (length_flat f.parts)) (λ x q. statement_cell f st x h₂ q) in
-    let qy : y ≡ fault_of (first (C₀ ++ D₀)) = e₆ ∙ ap₂ order.sooner qC qD ∙ sym (fault_append C₀ D₀) in
-    let qw : w ≡ fault_of (first ((C₀ ++ D₀) ++ E₀)) = j₃ ∙ ap₂ order.sooner qy (clashes_code s f K Q) ∙ sym (fault_append (C₀ ++ D₀) E₀) in
-    let qz : z ≡ fault_of (first (B ++ ((C₀ ++ D₀) ++ E₀))) = e₇ ∙ ap₂ order.sooner qB qw ∙ sym (fault_append B ((C₀ ++ D₀) ++ E₀)) in
+    let rE = clashes_real s f K Q in
+    let whole_length : length f.parts ≡ length M.before + length M.left = ap (λ (v : List Object). length v) M.whole ∙ length-append M.before M.left in
+    let pl = M.place in
+    let A = too_few kinds f.objects f.cpu in
+    let B = each_object [] M.so_far in
+    let C₀ = nth_fault (λ (x : Object). x.word) 11 512 f.parts in
+    let D₀ = nth_fault (λ (x : Statement). x.name) 11 2048 (flat f.parts) in
+    let rB = each_real [] M.so_far in
+    let rC = real_nth (λ (x : Object). x.word) 11 (omega arith) f.parts 512 in
+    let rD = real_nth (λ (x : Statement). x.name) 11 (omega arith) (flat f.parts) 2048 in
+    let same-few : too_few kinds f.objects f.cpu ≡ too_few kinds f.parts f.cpu = ap (λ (os : List Object). too_few kinds os f.cpu) (whole K).merged ∙ too_few_same kinds f.parts f.cpu in
+    let qA : a ≡ fault_of (first A) = e₁ ∙ too_few_is f.parts f.cpu cs cpu h₅ h₆ ∙ ap (λ (v : List Fault). fault_of (first v)) (sym same-few) in
+    let qB : b ≡ fault_of (first B) = e₀ ∙ M.found in
+    let qC : c ≡ fault_of (first C₀) = e₄ ∙ room_code (λ (x : Object). x.word) 11 p 10 512 1 n f.parts h₃ (λ x q. part_word p f h₁ x q) in
+    let qD : d ≡ fault_of (first D₀) = e₅ ∙ room_code (λ (x : Statement). x.name) 11 st 7 2048 0 m (flat f.parts) (h₄ ∙ sym (length_flat f.parts)) (λ x q. statement_cell f st x h₂ q) in
+    let qy : y ≡ fault_of (first (C₀ ++ D₀)) = e₆ ∙ ap₂ order.sooner qC qD ∙ sym (fault_append C₀ D₀ rC rD) in
+    let rCD = real_append C₀ D₀ rC rD in
+    let qw : w ≡ fault_of (first ((C₀ ++ D₀) ++ E₀)) = j₃ ∙ ap₂ order.sooner qy (clashes_code s f K Q) ∙ sym (fault_append (C₀ ++ D₀) E₀ rCD rE) in
+    let rCE = real_append (C₀ ++ D₀) E₀ rCD rE in
+    let qz : z ≡ fault_of (first (B ++ ((C₀ ++ D₀) ++ E₀))) = e₇ ∙ ap₂ order.sooner qB qw ∙ sym (fault_append B ((C₀ ++ D₀) ++ E₀) rB rCE) in
     let qr : r.fault ≡ fault_of (first (A ++ (B ++ ((C₀ ++ D₀) ++ E₀)))) =
-    e₈ ∙ ap₂ order.sooner qA qz ∙ sym (fault_append A (B ++ ((C₀ ++ D₀) ++ E₀))) in
+    e₈ ∙ ap₂ order.sooner qA qz ∙ sym (fault_append A (B ++ ((C₀ ++ D₀) ++ E₀)) (real_few kinds f.objects f.cpu) (real_append B ((C₀ ++ D₀) ++ E₀) rB rCE)) in
     let all : length f.parts ≤ 513 → M.so_far ≡ f.objects =
     λ h. sym (append-nil M.so_far) ∙ ap (λ (v : List Object). M.so_far ++ v) (sym (merge_none M.before M.left t.objects (none_left_over M.left (omega (arith, h, e₂, h₃, whole_length, pl))))) ∙ M.merged_so ∙ sym (whole K).merged in
     let nb = M.number in

@@ -16,7 +16,7 @@ use Rattle.meaning.proofs.Numbering.{Counts, counts_more}
 use Rattle.scopes.specs.Situations.{Nth}
 use Rattle.scopes.specs.Promises.{fault_of}
 use Rattle.checks.specs.Cells.{room_fault}
-use Rattle.scopes.proofs.Firsts.{Has, here, there, has_none}
+use Rattle.scopes.proofs.Firsts.{Has, Real, real_none, here, there, has_none}
 
 -- Lists ------------------------------------------------------------------------------------------------------------------------------------
 
@@ -66,6 +66,17 @@ module _ {A : Type 0} (w : A → Word) (n : ℕ) where
 
   pub fault_nth : {g : Fault} {l : List A} {j : ℕ} {x : A} → Nth l j x → record { place = (w x).place; number = n } ≡ g → Has g (nth_fault j l)
   fault_nth {g} q e = subst (Has g) (sym (fault_at q)) (here e)
+
+  pub real_nth : 0 < n → (l : List A) (j : ℕ) → Real (nth_fault j l)
+  real_nth h l j = by (dec_lt j (length l))
+    where
+      by : Dec (j < length l) → Real (nth_fault j l)
+      by (yes k) = let r = nth_of l j k in subst Real (sym (fault_at r.nth)) (λ g m. only g m)
+        where
+          only : {p : ℕ} (g : Fault) → Has g (record { place = p; number = n } ∷ []) → 0 < g.number
+          only g (here e) = let z : n ≡ g.number = ap (λ (y : Fault). y.number) e in omega (arith, z)
+          only g (there m) = absurd (has_none m)
+      by (no k) = subst Real (sym (fault_past l j (omega arith))) real_none
 
   -- What the code has of it.
   pub room_code : (t : List ℕ) (wide last c rows : ℕ) (l : List A) → rows ≡ length l → ((x : A) → Nth l last x → cell_of t wide last c ≡ (w x).place)

@@ -16,6 +16,7 @@ use Rattle.rows.specs.Order as order
 use Rattle.meaning.specs.Syntax.{AttributeType, Bounds, Definition, Values, Spec, File}
 use Rattle.meaning.specs.Faults.{Fault, faults_if, sooner, first}
 use Rattle.meaning.specs.Defining.{range_faults, default_faults, specified, spec_faults, definition_faults}
+use Rattle.meaning.proofs.Numbered.{of_range, of_default, of_name, of_word}
 use Rattle.meaning.proofs.Sooner.{first_append}
 use Rattle.meaning.proofs.Standing.{Run}
 use Rattle.meaning.proofs.Order.{ahead_left}
@@ -28,7 +29,7 @@ use Rattle.scopes.specs.Listing.{each}
 use Rattle.defining_checks.specs.Listing.{others_for, under_of, row_name_faults, judged, judged_faults, kept_row_faults, list_of, choice_faults}
 use Rattle.defining_checks.proofs.Rowwise.{row_faults, again_faults, all_rows}
 use Rattle.defining_checks.specs.Promises.{Room}
-use Rattle.scopes.proofs.Firsts.{fault_append, fault_one}
+use Rattle.scopes.proofs.Firsts.{Real, real, real_none, real_append, real_if, fault_append, fault_one, real_each}
 use Rattle.defining_checks.proofs.Telling.{text_apart}
 use Rattle.defining_checks.proofs.Rising.{rise_specs, ascend_specs}
 use Rattle.defining_checks.proofs.Covers.{kept_same}
@@ -91,6 +92,39 @@ option_code p = by (eqb p 0)
     by true = refl
     by false = refl
 
+-- No fault has the number 0 ------------------------------------------------------------------------------------------------------------------
+
+pub real_range : (y : AttributeType) (b : Bounds) → Real (range_faults y b)
+real_range y b = real (of_range y b)
+
+real_pick : (b : Bool) (l : List Fault) → Real l → Real (pick b l [])
+real_pick true l r = r
+real_pick false l r = real_none
+
+pub real_judged : (full : Bool) (limit : ℕ) (d : Definition) (vs : Values) → Real (judged_faults full limit d vs)
+unfolding judged_faults
+real_judged full limit d vs = real_pick (judged full limit d.default) (default_faults d vs d.default) (real (of_default d vs d.default))
+
+pub real_row_name : (before : List Entry) (x : Entry) → Real (row_name_faults before x)
+unfolding row_name_faults
+real_row_name before x = real (of_name x.definition (others_for x.outer x.under.place before) (under_of x.under.place before))
+
+pub real_row : (full : Bool) (limit : ℕ) (before : List Entry) (x : Entry) → Real (kept_row_faults full limit before x)
+unfolding kept_row_faults
+real_row full limit before x =
+    real_append (range_faults x.definition.type x.definition.bounds) (row_name_faults before x ++ judged_faults full limit x.definition x.values)
+    (real_range x.definition.type x.definition.bounds)
+    (real_append (row_name_faults before x) (judged_faults full limit x.definition x.values) (real_row_name before x) (real_judged full limit x.definition x.values))
+
+pub real_choice : (before : List Choice) (c : Choice) → Real (choice_faults before c)
+unfolding choice_faults
+real_choice before c = real (of_word true (length before) c.word (list_of c.list before))
+
+real_again : (before xs : List Spec) → Real (again_faults before xs)
+unfolding again_faults
+real_again before [] = real_none
+real_again before (x ∷ xs) = real_append (faults_if (specified x before) x.word 8) (again_faults (before ++ (x ∷ [])) xs) (real_if _ x.word 8 (omega arith)) (real_again (before ++ (x ∷ [])) xs)
+
 -- The stage ------------------------------------------------------------------------------------------------------------------------------------
 
 pub stage_is : {s : List ℕ} (f : File) (m : ℕ) (full : Bool) (limit : ℕ) (E₀ E₁ : List Entry) (C₀ C₁ : List Choice) (again : ℕ) (v a r c : MaybeFault) → Situation s f
@@ -114,7 +148,11 @@ stage_is {s} f m full limit E₀ E₁ C₀ C₁ again v a r c k room wE nE wC nC
     ∙ kept_same f m full limit 1 z.hi E₀ E₁ C₀ C₁ wE nE wC nC (rise_specs s f.specs 1 z.hi z.run y.facts.formed) (ascend_specs f.specs 1 z.hi z.run) y.rows room) in
     let e₂ : first (W ++ spec_faults [] f.specs) ≡ first (W ++ (A ++ (R ++ K))) =
     first_append W (spec_faults [] f.specs) ∙ ap (sooner (first W)) (e₁ ∙ sym (first_append A (R ++ K))) ∙ sym (first_append W (A ++ (R ++ K))) in
+    let rV = real_if (not (same f.version.bytes (bytes_of "\"2.5\""))) f.version 6 (omega arith) in
+    let rA = real_again [] f.specs in
+    let rR = real_each (kept_row_faults full limit) (real_row full limit) [] E₀ in
+    let rK = real_each choice_faults real_choice [] C₀ in
     let hV : v ≡ fault_of (first W) = hv ∙ sym (fault_one (not (same f.version.bytes (bytes_of "\"2.5\""))) f.version 6) in
     let hA : a ≡ fault_of (first A) = ha ∙ ap (λ (p : ℕ). order.fault_if (not (eqb p 0)) 8 p) ea ∙ sym (option_code (again_place [] f.specs)) ∙ ap fault_of (sym g.is) in
-    sym (ap fault_of e₂ ∙ fault_append W (A ++ (R ++ K))
-    ∙ ap₂ order.sooner (sym hV) (fault_append A (R ++ K) ∙ ap₂ order.sooner (sym hA) (fault_append R K ∙ ap₂ order.sooner (sym hr) (sym hc))))
+    sym (ap fault_of e₂ ∙ fault_append W (A ++ (R ++ K)) rV (real_append A (R ++ K) rA (real_append R K rR rK))
+    ∙ ap₂ order.sooner (sym hV) (fault_append A (R ++ K) rA (real_append R K rR rK) ∙ ap₂ order.sooner (sym hA) (fault_append R K rR rK ∙ ap₂ order.sooner (sym hr) (sym hc))))

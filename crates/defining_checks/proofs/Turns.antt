@@ -35,11 +35,11 @@ use Rattle.scopes.specs.Listing.{each}
 use Rattle.defining_checks.specs.Listing.{others_for, under_of, row_name_faults, judged_faults, kept_row_faults, word_if, list_of, choice_faults}
 use Rattle.defining_checks.specs.Promises.{Room, one_too_many, first_again, NewTypeFault, NameFault, DefaultFault, RowFault, RowsFault, EnumeratorFault, EnumeratorsFault, version_code, DefinitionFaults}
 use Rattle.defining_checks.proofs.Naming.{AgainFault, again_is}
-use Rattle.scopes.proofs.Firsts.{fault_append, fault_one, each_snoc}
+use Rattle.scopes.proofs.Firsts.{real_append, real_if, fault_append, fault_one, each_snoc, real_each}
 use Rattle.defining_checks.proofs.Reaching.{last_of}
 use Rattle.defining_checks.proofs.Covers.{row_is}
 use Rattle.rows.proofs.Orders.{found_some, found_none, none_sooner}
-use Rattle.defining_checks.proofs.Stages.{stage_is}
+use Rattle.defining_checks.proofs.Stages.{real_range, real_judged, real_row_name, real_row, real_choice, stage_is}
 
 -- A row of a definition --------------------------------------------------------------------------------------------------------------------------
 
@@ -70,8 +70,10 @@ module _ (s d : List ℕ) (j at : ℕ) (a : MaybeFault) (e : at ≡ get_or d (j 
       let g₇ : a ≡ fault_of (first W₇) = ha ∙ ap₂ (λ (i p : ℕ). fault_if (eqb i 512) 7 p) k n ∙ sym (fault_one (eqb y.row 512) y.name 7) in
       let g₈ : b ≡ fault_of (first W₈) = hb ∙ sym (fault_one (defined_in y.name u) y.name 8) in
       let g₉ : c ≡ fault_of (first W₉) = hc ∙ sym (fault_one (differs y o) y.name 9) in
-      hr ∙ ap₂ sooner g₇ (ap₂ sooner g₈ g₉ ∙ sym (fault_append W₈ W₉))
-      ∙ sym (fault_append W₇ (W₈ ++ W₉))
+      let r₈ = real_if (defined_in y.name u) y.name 8 (omega arith) in
+      let r₉ = real_if (differs y o) y.name 9 (omega arith) in
+      hr ∙ ap₂ sooner g₇ (ap₂ sooner g₈ g₉ ∙ sym (fault_append W₈ W₉ r₈ r₉))
+      ∙ sym (fault_append W₇ (W₈ ++ W₉) (real_if (eqb y.row 512) y.name 7 (omega arith)) (real_append W₈ W₉ r₈ r₉))
 
   again_at : (z : Found) → z ≡ first_again s d j → AgainFault s d j (fault_if (is_found z) 8 at)
   unfolding first_again
@@ -105,8 +107,10 @@ row_all s d e xe full limit j a b c t r ha hb hc ht hr f m x st hd he hx room q 
     let nf = row_name_faults q.front x in
     let jf = judged_faults full limit y x.values in
     let ga : a ≡ fault_of (first rg) = ha f (record { definition = y; values = x.values }) st hd (record { under = x.under; outer = x.outer; nth = q }) l in
-    hr ∙ ap₂ sooner ga (ht ∙ ap₂ sooner (hb f x st hd q l) (hc f m x st hd he hx room q l) ∙ sym (fault_append nf jf))
-    ∙ sym (fault_append rg (nf ++ jf))
+    let rn = real_row_name q.front x in
+    let rj = real_judged full limit y x.values in
+    hr ∙ ap₂ sooner ga (ht ∙ ap₂ sooner (hb f x st hd q l) (hc f m x st hd he hx room q l) ∙ sym (fault_append nf jf rn rj))
+    ∙ sym (fault_append rg (nf ++ jf) (real_range y.type y.bounds) (real_append nf jf rn rj))
 
 -- Rows one after the other.
 module _ (s d e xe : List ℕ) (full : Bool) (limit : ℕ) where
@@ -124,7 +128,7 @@ module _ (s d e xe : List ℕ) (full : Bool) (limit : ℕ) where
       let c = k f m a.last st hd he hx room (record { front = a.front; rest = rest; whole = v; place = a.many }) (omega (arith, l)) in
       z ∙ ap₂ sooner b c
       ∙ sym (ap (λ i. fault_of (first (each R [] i))) a.whole ∙ ap (λ i. fault_of (first i)) (each_snoc R a.front a.last)
-      ∙ fault_append (each R [] a.front) (R a.front a.last))
+      ∙ fault_append (each R [] a.front) (R a.front a.last) (real_each R (real_row full limit) [] a.front) (real_row full limit a.front a.last))
 
   pub rows_end : (j n : ℕ) (best : MaybeFault) → j ≤ n → n ≤ j → RowsFault s d e xe full limit j best → RowsFault s d e xe full limit n best
   rows_end j n best h k r = let i : j ≡ n = omega (arith, h, k) in subst (λ (x : ℕ). RowsFault s d e xe full limit x best) i r
@@ -210,7 +214,7 @@ enumerator_is s e j u at len a b z r e₀ e₁ e₂ ha k hb hr f x st he q l =
     let W₈ = faults_if w x.word 8 in
     let g₇ : a ≡ fault_of (first W₇) = ha ∙ ap₂ (λ (i n : ℕ). fault_if (eqb i 1024) 7 n) (sym q.place) c₁ ∙ sym (fault_one t x.word 7) in
     let g₈ : b ≡ fault_of (first W₈) = hb ∙ ap₂ (λ (i : Bool) (n : ℕ). fault_if i 8 n) v c₁ ∙ sym (fault_one w x.word 8) in
-    hr ∙ ap₂ sooner g₇ g₈ ∙ sym (fault_append W₇ W₈)
+    hr ∙ ap₂ sooner g₇ g₈ ∙ sym (fault_append W₇ W₈ (real_if t x.word 7 (omega arith)) (real_if w x.word 8 (omega arith)))
 
 module _ (s e : List ℕ) where
   pub choices_start : EnumeratorsFault s e 0 None
@@ -226,7 +230,7 @@ module _ (s e : List ℕ) where
       let c = k f a.last st he (record { front = a.front; rest = rest; whole = v; place = a.many }) (omega (arith, l)) in
       z ∙ ap₂ sooner b c
       ∙ sym (ap (λ i. fault_of (first (each choice_faults [] i))) a.whole ∙ ap (λ i. fault_of (first i)) (each_snoc choice_faults a.front a.last)
-      ∙ fault_append (each choice_faults [] a.front) (choice_faults a.front a.last))
+      ∙ fault_append (each choice_faults [] a.front) (choice_faults a.front a.last) (real_each choice_faults real_choice [] a.front) (real_choice a.front a.last))
 
   pub choices_end : (j n : ℕ) (best : MaybeFault) → j ≤ n → n ≤ j → EnumeratorsFault s e j best → EnumeratorsFault s e n best
   choices_end j n best h k r = let i : j ≡ n = omega (arith, h, k) in subst (λ (x : ℕ). EnumeratorsFault s e x best) i r

@@ -11,12 +11,13 @@ use lib.Dec.{eqb, leb}
 use borrow.Author.Tests.{eq-eqb, ne_eqb, le-leb}
 use Rattle.std.specs.Prelude.{Some, None, is_some}
 use Rattle.meaning.proofs.Rooms.{no_first}
+use Rattle.meaning.proofs.Numbered.{of_reference, of_brace, of_type, of_judged, of_judge, of_object, of_objects_judged}
 use Rattle.meaning.proofs.Entries.{then_assoc}
 use Rattle.meaning.specs.Merging.{then}
 use Rattle.rows.proofs.Orders.{none_is}
 use Rattle.token.specs.Find.{pick, both, bit, is_there}
 use Rattle.token.specs.Tokens.{part_of}
-use Rattle.grammar.specs.Grammar.{Class, Kind, word}
+use Rattle.grammar.specs.Grammar.{Class, Kind}
 use Rattle.rows.specs.Found.{Found}
 use Rattle.std.specs.Prelude.{Some, None}
 use Rattle.rows.specs.Search.{is_found, row_of}
@@ -42,7 +43,7 @@ use Rattle.lookups.proofs.Attributes.{read_at, AttributeRow, stands_below, reach
 use Rattle.sorting.specs.Sorted.{Tells}
 use Rattle.lookups.specs.Owners.{Owners}
 use Rattle.judging.proofs.Lacking.{unowned}
-use Rattle.scopes.proofs.Firsts.{fault_append, fault_at, none_there}
+use Rattle.scopes.proofs.Firsts.{real, real_if, fault_append, fault_at, none_there}
 use Rattle.blocks.proofs.Ranges.{first_cell, first_name, first_value, first_brace, first_after, inside_at, in_then, then_done, back_at}
 use Rattle.layout.proofs.Codes.{kind_low, integer_low}
 
@@ -229,7 +230,8 @@ module _ {s d e o st : List ℕ} {z : Sizes} {k j : ℕ} {f : File} {x : Stateme
           r f q x.value a.given.tables.situation a.given.tables.in_objects a.given.tables.objects (omega arith) n (v.bytes ∙ sym (ap₂ (part_of s) (pa ∙ value_place) (pl ∙ value_size)))
           (sym (pa ∙ value_place)) (sym (pc ∙ value_code)) in
           ap₂ sooner-of g-is (brace_fault x.brace brace (pb ∙ brace_place) (first_brace a.block))
-          ∙ sym (fault_append (reference_faults f.objects q (sort_of x.value.class) x.value) (brace_faults x.brace))
+          ∙ sym (fault_append (reference_faults f.objects q (sort_of x.value.class) x.value) (brace_faults x.brace)
+          (real (of_reference f.objects q (sort_of x.value.class) x.value)) (real (of_brace x.brace)))
           ∙ unfolded q t
 
   -- From 35 on it is not.
@@ -290,7 +292,7 @@ module _ {s d e o st : List ℕ} {z : Sizes} {k j : ℕ} {f : File} {x : Stateme
   own_by name r g before n e q =
       let t = both (not y.definition.list) (among x.name (names before)) in
       ap₂ sooner-of (ap (λ b. fault_if b 14 name) e ∙ fault_at t x.name 14 name (sym (n ∙ name_place))) q
-      ∙ sym (fault_append (faults_if t x.name 14) (faults_as y.definition.type f.objects x y))
+      ∙ sym (fault_append (faults_if t x.name 14) (faults_as y.definition.type f.objects x y) (real_if t x.name 14 (omega arith)) (real (of_type y.definition.type f.objects x y)))
 
 -- 16 ---------------------------------------------------------------------------------------------------------------------------------------
 
@@ -435,7 +437,7 @@ pub block_by : (s d e o st ms : List ℕ) (z : Sizes) (key m n owner : ℕ) (a b
 block_by s d e o st ms z key m n owner a b r i g h f ds ss w c t p =
     i
     ∙ ap₂ sooner-of (g e o f ds ss w c t p) (h f ds ss c t)
-    ∙ sym (fault_append (faults_if (lacks ds (names ss)) w 16) (judge ss f.objects ds []))
+    ∙ sym (fault_append (faults_if (lacks ds (names ss)) w 16) (judge ss f.objects ds []) (real_if (lacks ds (names ss)) w 16 (omega arith)) (real (of_judge ss f.objects ds [])))
 
 -- An empty one.
 pub block_empty : (s d e o st ms : List ℕ) (z : Sizes) (key m n owner : ℕ) (r : MaybeFault) → n ≤ m → LackFault s d st ms z key m n owner r → JudgesBlock s d e o st ms z key m n owner r
@@ -495,7 +497,8 @@ module _ (s d e o st ms : List ℕ) (z : Sizes) (key m n : ℕ) where
             whole = p ∙ sym (then_assoc front (state x inside done) rest);
             row = omega arith;
             found = ap₂ sooner-of t v
-                ∙ sym (fault_append (judge front f.objects ds []) j)
+                ∙ sym (fault_append (judge front f.objects ds []) j (real (of_judge front f.objects ds []))
+                (real (of_judged (find_definition ds x.name) f.objects x (names front) (names inside) (λ us. judge inside f.objects us []) (λ us. of_judge inside f.objects us []))))
                 ∙ ap (λ r. fault_of (first (judge front f.objects ds [] ++ r))) (sym one)
                 ∙ ap (λ r. fault_of (first r)) (sym (judge_then front (state x inside done) f.objects ds []));
           }
@@ -578,7 +581,7 @@ module _ (s d e o st ms : List ℕ) (z : Sizes) (ps : List ℕ) where
             whole = p ∙ sym (append_assoc front (x ∷ []) rest);
             row = omega arith;
             found = ap₂ sooner-of t (w f front x rest c mk pl p q)
-                ∙ sym (fault_append (judge_objects f front) j)
+                ∙ sym (fault_append (judge_objects f front) j (real (of_objects_judged f front)) (real (of_object f x (of_kind x.kind f.specs))))
                 ∙ ap (λ r. fault_of (first r)) (sym (objects_append f front x));
           }
 

@@ -8,11 +8,11 @@ use mathlib.Core.List.{List, [], ◌∷◌, ◌++◌}
 use mathlib.Core.Logic.{◌⊎◌, inl, inr, ⊎_elim}
 use native.Mathlib.Omega.{arith}
 use native.Mathlib.Decide.{ℕ_discrete, dec_lt, dec_le}
-use lib.Dec.{ltb, eqb}
+use lib.Dec.{ltb}
 use borrow.Author.Tests.{lt-ltb, le-ltb, eq-eqb, ne_eqb}
 use Rattle.std.specs.Prelude.{Some, None, is_some}
 use Rattle.std.specs.Ordering.{partial_lt}
-use Rattle.token.specs.Find.{pick, either}
+use Rattle.token.specs.Find.{either}
 use Rattle.rows.specs.contracts.FaultPartialOrd.TheImpl as FaultPartialOrd
 use Rattle.rows.specs.declared.Fault.{Fault}
 use Rattle.rows.specs.Found.{Found}
@@ -27,13 +27,25 @@ soonest a (f ∷ fs) = soonest (sooner a f) fs
 
 -- the cases of `before`
 module _ (a b : Fault) where
-  pub before_here : a.place ≡ b.place → before a b ≡ ltb a.number b.number
+  pub before_nones : a.number ≡ 0 → b.number ≡ 0 → before a b ≡ ltb b.place a.place
   unfolding before
-  before_here e = rw (eq-eqb a.place b.place e)
+  before_nones x y = rw (eq-eqb a.number 0 x, eq-eqb b.number 0 y)
 
-  pub before_apart : (a.place ≡ b.place → ⊥) → before a b ≡ ltb a.place b.place
+  pub before_none : a.number ≡ 0 → (b.number ≡ 0 → ⊥) → before a b ≡ false
   unfolding before
-  before_apart e = rw (ne_eqb a.place b.place e)
+  before_none x y = rw (eq-eqb a.number 0 x, ne_eqb b.number 0 y)
+
+  pub before_any : (a.number ≡ 0 → ⊥) → b.number ≡ 0 → before a b ≡ true
+  unfolding before
+  before_any x y = rw (ne_eqb a.number 0 x, eq-eqb b.number 0 y)
+
+  pub before_here : (a.number ≡ 0 → ⊥) → (b.number ≡ 0 → ⊥) → a.place ≡ b.place → before a b ≡ ltb a.number b.number
+  unfolding before
+  before_here x y e = rw (ne_eqb a.number 0 x, ne_eqb b.number 0 y, eq-eqb a.place b.place e)
+
+  pub before_apart : (a.number ≡ 0 → ⊥) → (b.number ≡ 0 → ⊥) → (a.place ≡ b.place → ⊥) → before a b ≡ ltb a.place b.place
+  unfolding before
+  before_apart x y e = rw (ne_eqb a.number 0 x, ne_eqb b.number 0 y, ne_eqb a.place b.place e)
 
   -- the cases of `sooner`
   pub sooner_second : before b a ≡ true → sooner (Some a) (Some b) ≡ Some b
@@ -44,9 +56,9 @@ module _ (a b : Fault) where
   unfolding sooner
   sooner_first e = rw e
 
-  -- the derived `<` of faults is `before`
-  pub before_derived : partial_lt FaultPartialOrd.partial_cmp-value.it a b ≡ before a b
-  before_derived = by (dec_lt a.place b.place) (ℕ_discrete a.place b.place) (dec_lt a.number b.number) (ℕ_discrete a.number b.number)
+  -- the derived `<` of faults is `before`, where none has the number 0
+  pub before_derived : (a.number ≡ 0 → ⊥) → (b.number ≡ 0 → ⊥) → partial_lt FaultPartialOrd.partial_cmp-value.it a b ≡ before a b
+  before_derived u v = by (dec_lt a.place b.place) (ℕ_discrete a.place b.place) (dec_lt a.number b.number) (ℕ_discrete a.number b.number)
     where
       derived : Bool → Type 0
       derived t = partial_lt FaultPartialOrd.partial_cmp-value.it a b ≡ t
@@ -67,51 +79,90 @@ module _ (a b : Fault) where
       same h e k n = rw (le-ltb a.place b.place (omega arith), eq-eqb a.place b.place e, le-ltb a.number b.number (omega arith), eq-eqb a.number b.number n)
 
       by : Dec (a.place < b.place) → Dec (a.place ≡ b.place) → Dec (a.number < b.number) → Dec (a.number ≡ b.number) → derived (before a b)
-      by (yes h) _ _ _ = left_of h ∙ sym (before_apart (λ e. omega arith) ∙ lt-ltb a.place b.place h)
-      by (no h) (no d) _ _ = right_of h d ∙ sym (before_apart d ∙ le-ltb a.place b.place (omega arith))
-      by (no h) (yes e) (yes k) _ = below h e k ∙ sym (before_here e ∙ lt-ltb a.number b.number k)
-      by (no h) (yes e) (no k) (no n) = above h e k n ∙ sym (before_here e ∙ le-ltb a.number b.number (omega arith))
-      by (no h) (yes e) (no k) (yes n) = same h e k n ∙ sym (before_here e ∙ le-ltb a.number b.number (omega arith))
+      by (yes h) _ _ _ = left_of h ∙ sym (before_apart u v (λ e. omega arith) ∙ lt-ltb a.place b.place h)
+      by (no h) (no d) _ _ = right_of h d ∙ sym (before_apart u v d ∙ le-ltb a.place b.place (omega arith))
+      by (no h) (yes e) (yes k) _ = below h e k ∙ sym (before_here u v e ∙ lt-ltb a.number b.number k)
+      by (no h) (yes e) (no k) (no n) = above h e k n ∙ sym (before_here u v e ∙ le-ltb a.number b.number (omega arith))
+      by (no h) (yes e) (no k) (yes n) = same h e k n ∙ sym (before_here u v e ∙ le-ltb a.number b.number (omega arith))
 
 -- b does not answer rather than a
 data Keeps (a b : Fault) : Type 0 where
-  left : a.place < b.place → Keeps a b
-  here : a.place ≡ b.place → a.number ≤ b.number → Keeps a b
+  nones : a.number ≡ 0 → b.number ≡ 0 → b.place ≤ a.place → Keeps a b
+  any : 0 < a.number → b.number ≡ 0 → Keeps a b
+  left : 0 < a.number → 0 < b.number → a.place < b.place → Keeps a b
+  here : 0 < a.number → 0 < b.number → a.place ≡ b.place → a.number ≤ b.number → Keeps a b
 
 keeps_before : (a b : Fault) → Keeps a b → before b a ≡ false
-keeps_before a b (left h) = before_apart b a (λ e. omega arith) ∙ le-ltb b.place a.place (omega arith)
-keeps_before a b (here e h) = before_here b a (sym e) ∙ le-ltb b.number a.number h
+keeps_before a b (nones x y h) = before_nones b a y x ∙ le-ltb a.place b.place h
+keeps_before a b (any x y) = before_none b a y (λ e. absurd (omega arith))
+keeps_before a b (left x y h) = before_apart b a (λ e. omega arith) (λ e. omega arith) (λ e. omega arith) ∙ le-ltb b.place a.place (omega arith)
+keeps_before a b (here x y e h) = before_here b a (λ e. omega arith) (λ e. omega arith) (sym e) ∙ le-ltb b.number a.number h
 
 equal : (a b : Fault) → a.number ≡ b.number → a.place ≡ b.place → a ≡ b
 equal a b n e = ap₂ (λ (x y : ℕ). record { number = x; place = y }) n e
 
 before_self : (a : Fault) → before a a ≡ false
-before_self a = before_here a a refl ∙ le-ltb a.number a.number (omega arith)
+before_self a = by (ℕ_discrete a.number 0)
+  where
+    by : Dec (a.number ≡ 0) → before a a ≡ false
+    by (yes x) = before_nones a a x x ∙ le-ltb a.place a.place (omega arith)
+    by (no x) = before_here a a x x refl ∙ le-ltb a.number a.number (omega arith)
 
 -- a answers rather than b, or is b
 keeps_or : (a b : Fault) → Keeps a b → (before a b ≡ true) ⊎ (a ≡ b)
-keeps_or a b (left h) = inl (before_apart a b (λ e. omega arith) ∙ lt-ltb a.place b.place h)
-keeps_or a b (here e h) = by (ℕ_discrete a.number b.number)
+keeps_or a b (any x y) = inl (before_any a b (λ e. omega arith) y)
+keeps_or a b (left x y h) = inl (before_apart a b (λ e. omega arith) (λ e. omega arith) (λ e. omega arith) ∙ lt-ltb a.place b.place h)
+keeps_or a b (nones x y h) = by (ℕ_discrete a.place b.place)
+  where
+    by : Dec (a.place ≡ b.place) → (before a b ≡ true) ⊎ (a ≡ b)
+    by (yes e) = inr (equal a b (x ∙ sym y) e)
+    by (no d) = inl (before_nones a b x y ∙ lt-ltb b.place a.place (omega arith))
+keeps_or a b (here x y e h) = by (ℕ_discrete a.number b.number)
   where
     by : Dec (a.number ≡ b.number) → (before a b ≡ true) ⊎ (a ≡ b)
     by (yes n) = inr (equal a b n e)
-    by (no d) = inl (before_here a b e ∙ lt-ltb a.number b.number (omega arith))
+    by (no d) = inl (before_here a b (λ e. omega arith) (λ e. omega arith) e ∙ lt-ltb a.number b.number (omega arith))
 
 -- one of two keeps
 order : (a b : Fault) → Keeps a b ⊎ Keeps b a
-order a b = by (dec_lt a.place b.place) (dec_lt b.place a.place) (dec_le a.number b.number)
+order a b = by (ℕ_discrete a.number 0) (ℕ_discrete b.number 0)
   where
-    by : Dec (a.place < b.place) → Dec (b.place < a.place) → Dec (a.number ≤ b.number) → Keeps a b ⊎ Keeps b a
-    by (yes h) k m = inl (left h)
-    by (no h) (yes k) m = inr (left k)
-    by (no h) (no k) (yes m) = inl (here (omega arith) m)
-    by (no h) (no k) (no m) = inr (here (omega arith) (omega arith))
+    numbers : 0 < a.number → 0 < b.number → a.place ≡ b.place → Dec (a.number ≤ b.number) → Keeps a b ⊎ Keeps b a
+    numbers x y e (yes h) = inl (here x y e h)
+    numbers x y e (no h) = inr (here y x (sym e) (omega arith))
+
+    places : 0 < a.number → 0 < b.number → Dec (a.place < b.place) → Dec (b.place < a.place) → Keeps a b ⊎ Keeps b a
+    places x y (yes h) k = inl (left x y h)
+    places x y (no h) (yes k) = inr (left y x k)
+    places x y (no h) (no k) = numbers x y (omega arith) (dec_le a.number b.number)
+
+    none_none : a.number ≡ 0 → b.number ≡ 0 → Dec (b.place ≤ a.place) → Keeps a b ⊎ Keeps b a
+    none_none x y (yes h) = inl (nones x y h)
+    none_none x y (no h) = inr (nones y x (omega arith))
+
+    by : Dec (a.number ≡ 0) → Dec (b.number ≡ 0) → Keeps a b ⊎ Keeps b a
+    by (yes x) (yes y) = none_none x y (dec_le b.place a.place)
+    by (yes x) (no y) = inr (any (omega arith) x)
+    by (no x) (yes y) = inl (any (omega arith) y)
+    by (no x) (no y) = places (omega arith) (omega arith) (dec_lt a.place b.place) (dec_lt b.place a.place)
 
 keeps_trans : (a b c : Fault) → Keeps a b → Keeps b c → Keeps a c
-keeps_trans a b c (left h) (left k) = left (omega arith)
-keeps_trans a b c (left h) (here e k) = left (omega arith)
-keeps_trans a b c (here d h) (left k) = left (omega arith)
-keeps_trans a b c (here d h) (here e k) = here (omega arith) (omega arith)
+keeps_trans a b c (nones x y h) (nones y' z k) = nones x z (omega arith)
+keeps_trans a b c (nones x y h) (any y' z) = absurd (omega arith)
+keeps_trans a b c (nones x y h) (left y' z k) = absurd (omega arith)
+keeps_trans a b c (nones x y h) (here y' z e k) = absurd (omega arith)
+keeps_trans a b c (any x y) (nones y' z k) = any x z
+keeps_trans a b c (any x y) (any y' z) = any x z
+keeps_trans a b c (any x y) (left y' z k) = absurd (omega arith)
+keeps_trans a b c (any x y) (here y' z e k) = absurd (omega arith)
+keeps_trans a b c (left x y h) (nones y' z k) = any x z
+keeps_trans a b c (left x y h) (any y' z) = any x z
+keeps_trans a b c (left x y h) (left y' z k) = left x z (omega arith)
+keeps_trans a b c (left x y h) (here y' z e k) = left x z (omega arith)
+keeps_trans a b c (here x y d h) (nones y' z k) = any x z
+keeps_trans a b c (here x y d h) (any y' z) = any x z
+keeps_trans a b c (here x y d h) (left y' z k) = left x z (omega arith)
+keeps_trans a b c (here x y d h) (here y' z e k) = here x z (omega arith) (omega arith)
 
 keeps_first : (a b : Fault) → Keeps a b → sooner (Some a) (Some b) ≡ Some a
 keeps_first a b k = sooner_first a b (keeps_before a b k)

@@ -5,10 +5,16 @@ ghost use Rattle.rows.specs.Search.{is_found};
 
 use super::Fault;
 
-// Whether a answers rather than b.
+// Whether a answers rather than b. Any fault answers rather than one of number 0, which is none.
 pub fn comes_before(a: Fault, b: Fault) -> bool
     ensures { result ≡ before a b }
 {
+    if a.number == 0 {
+        return b.number == 0 && b.place < a.place;
+    }
+    if b.number == 0 {
+        return true;
+    }
     a < b
 }
 

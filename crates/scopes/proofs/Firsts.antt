@@ -9,7 +9,7 @@ use Prim.Native.Nat.{ℕ, ◌<◌}
 use native.Mathlib.Omega.{arith}
 use lib.ListN.{length}
 use borrow.Author.Tests.{lt-ltb, le-ltb}
-use Rattle.meaning.proofs.Numbered.{Numbered, no_fault, a_fault, NumberedOne}
+use Rattle.meaning.proofs.Numbered.{Numbered, no_fault, a_fault}
 use Rattle.std.specs.Prelude.{Some, None, is_none}
 use Rattle.token.specs.Find.{pick}
 use Rattle.rows.specs.declared.Fault.{Fault as Code}
@@ -120,34 +120,61 @@ first_same l m p q = same_least l m p q (first l) (first m) (first_least l) (fir
 
 -- Faults as structs --------------------------------------------------------------------------------------------------------------------------
 
+-- No fault has the number 0.
+abbrev pub Real : List Fault → Type 0
+Real l = (g : Fault) → Has g l → 0 < g.number
+
+pub real_none : Real []
+real_none g m = absurd (has_none m)
+
+pub real_append : (a b : List Fault) → Real a → Real b → Real (a ++ b)
+real_append a b p q g m = ⊎_elim (λ n. p g n) (λ n. q g n) (has_split a b m)
+
+pub real_if : (b : Bool) (t : Word) (n : ℕ) → 0 < n → Real (faults_if b t n)
+real_if b t n h g m = let e = (in_if b t n m).1 in let k : n ≡ g.number = ap (λ (x : Fault). x.number) e in omega (arith, k)
+
+-- Those of the stages have none.
+pub real : {l : List Fault} → Numbered l → Real l
+real no_fault g m = absurd (has_none m)
+real (a_fault h p) g (here e) = let k = ap (λ (x : Fault). x.number) e in omega (arith, h, k)
+real (a_fault h p) g (there m) = real p g m
+
+abbrev Positive : Option Fault → Type 0
+Positive none = Unit {0}
+Positive (some a) = 0 < a.number
+
+by_least : (l : List Fault) (o : Option Fault) → Least l o → Real l → Positive o
+by_least l none x r = tt
+by_least l (some a) (least h k) r = r a h
+
 unfoldable code : Fault → Code
 code a = record { number = a.number; place = a.place }
 
 -- Which of two structs answers is which of the two faults does.
-before_le : (a b : Fault) → Le a b → order.before (code b) (code a) ≡ false
+before_le : (a b : Fault) → 0 < a.number → 0 < b.number → Le a b → order.before (code b) (code a) ≡ false
 unfolding code
-before_le a b (left_of h) = orders.before_apart (code b) (code a) (λ e. omega arith) ∙ le-ltb b.place a.place (omega arith)
-before_le a b (not_above e h) = orders.before_here (code b) (code a) (sym e) ∙ le-ltb b.number a.number h
+before_le a b x y (left_of h) = orders.before_apart (code b) (code a) (λ e. omega arith) (λ e. omega arith) (λ e. omega arith) ∙ le-ltb b.place a.place (omega arith)
+before_le a b x y (not_above e h) = orders.before_here (code b) (code a) (λ e. omega arith) (λ e. omega arith) (sym e) ∙ le-ltb b.number a.number h
 
-before_lt : (a b : Fault) → Lt b a → order.before (code b) (code a) ≡ true
+before_lt : (a b : Fault) → 0 < a.number → 0 < b.number → Lt b a → order.before (code b) (code a) ≡ true
 unfolding code
-before_lt a b (left h) = orders.before_apart (code b) (code a) (λ e. omega arith) ∙ lt-ltb b.place a.place h
-before_lt a b (below e h) = orders.before_here (code b) (code a) e ∙ lt-ltb b.number a.number h
+before_lt a b x y (left h) = orders.before_apart (code b) (code a) (λ e. omega arith) (λ e. omega arith) (λ e. omega arith) ∙ lt-ltb b.place a.place h
+before_lt a b x y (below e h) = orders.before_here (code b) (code a) (λ e. omega arith) (λ e. omega arith) e ∙ lt-ltb b.number a.number h
 
-pick_code : (a b : Fault) (t : Bool) → ahead a b ≡ t → fault_of (some (pick t a b)) ≡ order.sooner (Some (code a)) (Some (code b))
+pick_code : (a b : Fault) → 0 < a.number → 0 < b.number → (t : Bool) → ahead a b ≡ t → fault_of (some (pick t a b)) ≡ order.sooner (Some (code a)) (Some (code b))
 unfolding fault_of code
-pick_code a b true e = sym (orders.sooner_first (code a) (code b) (before_le a b (ahead_le a b e)))
-pick_code a b false e = sym (orders.sooner_second (code a) (code b) (before_lt a b (not_ahead a b e)))
+pick_code a b x y true e = sym (orders.sooner_first (code a) (code b) (before_le a b x y (ahead_le a b e)))
+pick_code a b x y false e = sym (orders.sooner_second (code a) (code b) (before_lt a b x y (not_ahead a b e)))
 
-join_options : (o r : Option Fault) → fault_of (sooner o r) ≡ order.sooner (fault_of o) (fault_of r)
+join_options : (o r : Option Fault) → Positive o → Positive r → fault_of (sooner o r) ≡ order.sooner (fault_of o) (fault_of r)
 unfolding sooner fault_of code
-join_options none r = sym (orders.none_sooner (fault_of r))
-join_options (some a) none = sym (orders.sooner_none (Some (code a)))
-join_options (some a) (some b) = pick_code a b (ahead a b) refl
+join_options none r p q = sym (orders.none_sooner (fault_of r))
+join_options (some a) none p q = sym (orders.sooner_none (Some (code a)))
+join_options (some a) (some b) p q = pick_code a b p q (ahead a b) refl
 
 -- The struct of two lists is the sooner of their structs.
-pub fault_append : (a b : List Fault) → fault_of (first (a ++ b)) ≡ order.sooner (fault_of (first a)) (fault_of (first b))
-fault_append a b = ap fault_of (first_append a b) ∙ join_options (first a) (first b)
+pub fault_append : (a b : List Fault) → Real a → Real b → fault_of (first (a ++ b)) ≡ order.sooner (fault_of (first a)) (fault_of (first b))
+fault_append a b p q = ap fault_of (first_append a b) ∙ join_options (first a) (first b) (by_least a (first a) (first_least a) p) (by_least b (first b) (first_least b) q)
 
 pub fault_one : (b : Bool) (t : Word) (n : ℕ) → fault_of (first (faults_if b t n)) ≡ order.fault_if b n t.place
 unfolding faults_if first sooner fault_of order.fault_if
@@ -176,6 +203,11 @@ module _ {A : Type 0} (F : List A → A → List Fault) where
   pub each_snoc : (a : List A) (x : A) → each F [] (a ++ (x ∷ [])) ≡ each F [] a ++ F a x
   unfolding each
   each_snoc a x = each_append [] a (x ∷ []) ∙ ap (λ (l : List Fault). each F [] a ++ l) (append-nil (F a x))
+
+  pub real_each : ((p : List A) (x : A) → Real (F p x)) → (p l : List A) → Real (each F p l)
+  unfolding each
+  real_each r p [] = real_none
+  real_each r p (x ∷ l) = real_append (F p x) (each F (p ++ (x ∷ [])) l) (r p x) (real_each r (p ++ (x ∷ [])) l)
 
   -- The row that a fault is found at.
   pub record From (l : List A) (g : Fault) : Type 0 where
