@@ -96,6 +96,10 @@ sort_at Truth = booleans
 sort_at Enumerator = enums
 sort_at OfFloat = floats
 
+-- The sorts of attributes by number.
+unfoldable pub sort_numbered : ℕ → Sort
+sort_numbered n = pick (eqb n 0) integers (pick (eqb n 1) strings (pick (eqb n 2) booleans (pick (eqb n 4) floats enums)))
+
 unfoldable pub fitting : Sort → ℕ → Bool
 unfolding matches class_at
 fitting integers n = eqb n 43

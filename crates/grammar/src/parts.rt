@@ -2,7 +2,7 @@
 ghost use Rattle.std.specs.Prelude.{◌≡◌};
 ghost use Rattle.grammar.specs.Grammar.{◌·◌, ◌▸◌, ∎, sg, semicolon, rbrace, D, numbers, own};
 ghost use Rattle.grammar.specs.Factored.{span};
-ghost use Rattle.grammar.specs.Readers.{Meets, Reads, sort_at, fitting};
+ghost use Rattle.grammar.specs.Readers.{Meets, Reads, sort_at, sort_numbered, fitting};
 
 use super::lookahead::{
     AUTO, COLON, COMMA, DOTS, FALSE, FLOATING, NO_DEFAULT, NUMERAL, QUOTED, RBRACE, SEMICOLON, TRUE,
@@ -75,6 +75,22 @@ pub enum Sort {
     Truth,
     Enumerator,
     Float,
+}
+
+impl Sort {
+    // The sort of a number: 0 to 4 in the order above, and an enumerator for any number past them.
+    #[tactic(auto, unfolding(crate::specs::Readers::sort_at, crate::specs::Readers::sort_numbered))]
+    pub fn of(number: u8) -> Sort
+        ensures { sort_at result ≡ sort_numbered number }
+    {
+        match number {
+            0 => Sort::Integer,
+            1 => Sort::Text,
+            2 => Sort::Truth,
+            4 => Sort::Float,
+            _ => Sort::Enumerator,
+        }
+    }
 }
 
 // Whether the token is the own form of a default.
