@@ -72,11 +72,18 @@ InNotes n =
     Noted n.tables.text.now n.tables.definitions.now n.tables.enumerators.now n.tables.objects.now n.tables.statements.now n.tables.sizes
     n.known.now n.words.now n.enumerator_index.now n.object_index.now n.statement_ranks.now n.next_rows.now n.definition_ranks.now n.owners.now
 
+-- The part of it by which a number is told.
+abbrev pub InKnown : Notes → Type 0
+InKnown n = KnownDefaults n.tables.text.now n.tables.definitions.now n.known.now
+
+-- The part of it by which a name is told.
+abbrev pub InIndexes : Notes → Type 0
+InIndexes n =
+    Indexes n.tables.text.now n.tables.definitions.now n.tables.enumerators.now n.tables.objects.now n.tables.sizes n.words.now n.enumerator_index.now n.object_index.now
+
 -- The part of it by which a value is told.
 abbrev pub InDefaults : Notes → Type 0
-InDefaults n =
-    KnownDefaults n.tables.text.now n.tables.definitions.now n.known.now
-    × Indexes n.tables.text.now n.tables.definitions.now n.tables.enumerators.now n.tables.objects.now n.tables.sizes n.words.now n.enumerator_index.now n.object_index.now
+InDefaults n = InKnown n × InIndexes n
 
 -- The part of it by which a row is found.
 abbrev pub InRanks : Notes → Type 0

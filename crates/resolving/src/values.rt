@@ -4,7 +4,7 @@ ghost use Rattle.meaning.specs.Resolving.{number};
 ghost use Rattle.meaning.specs.Actions.{num_of_step};
 ghost use Rattle.token.specs.Tokens.{step_at};
 ghost use Rattle.resolving.specs.Written.{Holds};
-ghost use Rattle.resolving.specs.Noted.{InDefaults};
+ghost use Rattle.resolving.specs.Noted.{InKnown, InIndexes, InDefaults};
 ghost use Rattle.resolving.specs.Promises.{NamedValue, ValueOf, PutValue};
 
 use super::{Held, Notes, Owner, words};
@@ -14,7 +14,7 @@ use rows::cells;
 
 // The number at a place, of the attribute of row j.
 fn number_value(t: Notes, j: usize, at: usize) -> Held
-    requires { InDefaults t }
+    requires { InKnown t }
     ensures { Holds result (number (num_of_step (step_at t.entry.tables.text.now at))) }
 {
     let n = defaults::number_at(t.tables.text, t.tables.definitions, t.known, j, at);
@@ -23,7 +23,7 @@ fn number_value(t: Notes, j: usize, at: usize) -> Held
 
 // The value of the name at a place, for the attribute of row j.
 fn named_value(t: Notes, j: usize, at: usize, len: usize) -> Held
-    requires { InDefaults t }
+    requires { InIndexes t }
     ensures { let x = t.entry.tables in NamedValue x.text.now x.definitions.now x.enumerators.now x.objects.now x.sizes j at len result }
 {
     let code = cells::cell_of(t.tables.definitions, definition::WIDTH, j, definition::CODE);
