@@ -16,32 +16,48 @@ use Rattle.standard.specs.Section.{standard}
 use Rattle.standard.specs.Findings.{Knows, RowsAre, told_as, first_told, Finds, as_told, sooner, TellsForemost}
 use Rattle.standard.specs.declared.Known.{Known}
 use Rattle.standard.specs.declared.Told.{Told}
+use Rattle.standard.proofs.Members.{Has, here, later, split_by, has_none}
+use Rattle.standard.proofs.Theorem.{least_told}
 use Rattle.standard.proofs.Sound.{asked_many}
 
 -- One attribute has one finding at most ------------------------------------------------------------------------------------------------------------
 
-pub data Single : List Finding → Type 0 where
-  nothing : Single []
-  single : {x : Finding} → Single (x ∷ [])
+pub data Single (n : ℕ) : List Finding → Type 0 where
+  nothing : Single n []
+  single : {x : Finding} → x.attribute ≡ n → 0 < x.number → Single n (x ∷ [])
 
-single_if : (b : Bool) (p k n : ℕ) → Single (finding_if b p k n)
+single_if : (b : Bool) (p k n : ℕ) → 0 < k → Single n (finding_if b p k n)
 unfolding finding_if
-single_if true p k n = single
-single_if false p k n = nothing
+single_if true p k n h = single refl h
+single_if false p k n h = nothing
 
-single_found : (u : Word) (w : Defined) (o : Option Defined) → Single (found u w o)
+single_found : (u : Word) (w : Defined) (o : Option Defined) → Single w.definition.row (found u w o)
 unfolding found
-single_found u w none = single_if true u.place 25 w.definition.row
-single_found u w (some d) = single_if (differs w d) d.definition.name.place 26 w.definition.row
+single_found u w none = single_if true u.place 25 w.definition.row (omega arith)
+single_found u w (some d) = single_if (differs w d) d.definition.name.place 26 w.definition.row (omega arith)
 
-single_scope : (w : Defined) (o : Option Scope) → Single (in_scope w o)
+single_scope : (w : Defined) (o : Option Scope) → Single w.definition.row (in_scope w o)
 unfolding in_scope
 single_scope w none = nothing
 single_scope w (some x) = single_found x.word w (find_definition x.definitions w.definition.name)
 
-pub single_finding : (f : File) (a : Asked) → Single (finding f a)
+pub single_finding : (f : File) (a : Asked) → Single a.wanted.definition.row (finding f a)
 unfolding finding
 single_finding f a = single_scope a.wanted (along (scope_of f a.kind) a.path)
+
+-- Each finding has a number.
+single_number : {n : ℕ} {l : List Finding} {y : Finding} → Single n l → Has y l → 0 < y.number
+single_number nothing m = absurd (has_none m refl)
+single_number (single e h) here = h
+single_number (single e h) (later m) = absurd (has_none m refl)
+
+numbered : (f : File) (l : List Asked) {y : Finding} → Has y (findings_of f l) → 0 < y.number
+unfolding findings_of
+numbered f [] m = absurd (has_none m refl)
+numbered f (a ∷ l) m = split_by (finding f a) (findings_of f l) m (λ n. single_number (single_finding f a) n) (λ n. numbered f l n)
+
+pub foremost_number : (f : File) (l : List Asked) {y : Finding} → foremost (findings_of f l) ≡ some y → 0 < y.number
+foremost_number f l {y} e = numbered f l (least_told (findings_of f l) y e).is_one
 
 -- What is sooner -----------------------------------------------------------------------------------------------------------------------------------
 
@@ -56,10 +72,10 @@ sooner_of (some x) (some y) = by (not_behind x y)
     by false = refl
 
 -- One more attribute.
-step_told : (l r : List Finding) → Single l → sooner (first_told l) (as_told (foremost r)) ≡ as_told (foremost (l ++ r))
+step_told : {n : ℕ} (l r : List Finding) → Single n l → sooner (first_told l) (as_told (foremost r)) ≡ as_told (foremost (l ++ r))
 unfolding first_told foremost as_told
 step_told l r nothing = refl
-step_told l r (single {x}) = sooner_of (some x) (foremost r)
+step_told l r (single {x} e h) = sooner_of (some x) (foremost r)
 
 -- The loop -------------------------------------------------------------------------------------------------------------------------------------------
 
